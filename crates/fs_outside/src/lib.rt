@@ -1,13 +1,9 @@
-// A library with one function.
+//! What is outside the engine, for real: the standard input and output of the program. Stands on `tsdb_outside`.
 #![tactic(auto)]
 
-ghost use Rattle.std.specs.Prelude.{◌≡◌};
-ghost use Rattle.fs_outside.specs.Echo.{echo_of};
+mod streams;
 
-// The `ensures` clause is the contract: what `echo` returns is `echo_of` of its argument, a definition
-// in `specs/Echo.antt`, which a caller's clause can cite too.
-pub fn echo(x: usize) -> usize
-    ensures { result ≡ echo_of x }
-{
-    x
-}
+pub use streams::{StdSink, StdSource};
+
+#[cfg(test)]
+mod tests;

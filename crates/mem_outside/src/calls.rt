@@ -29,8 +29,10 @@ impl Calls {
     pub fn make(&mut self) -> Result<(), Failed>
         ensures fails { IsErr result ↔ NextFails self.old }
         ensures ok { OnOk result (self.new ≡ record self.old { made = next_call self.old }) }
-        ensures err { OnErr result (self.new ≡ record self.old { made = next_call self.old;
-            faults = min (self.old.faults + 1) (2 ^ 64 - 1) }) }
+        ensures err { OnErr result (self.new ≡ record self.old {
+          made = next_call self.old;
+          faults = min (self.old.faults + 1) (2 ^ 64 - 1);
+        }) }
         ensures cause { HasCause self.old.faults self.new.faults result }
     {
         self.made = self.made.saturating_add(1);

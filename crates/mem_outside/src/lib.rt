@@ -6,3 +6,6 @@ mod calls;
 mod streams;
 
 pub use streams::{MemSink, MemSource, SteadySink, SteadySource};
+
+#[cfg(test)]
+mod tests;
