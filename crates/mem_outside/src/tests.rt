@@ -1,12 +1,21 @@
+ghost use Rattle.std.specs.Prelude.{IsOk};
+
 use super::*;
 use std::test::Fail;
-use tsdb_outside::{Failed, Sink, Source, StoreFault};
+use tsdb_outside::{Failed, Sink, Source, Steady, StoreFault};
 
 // What one call of a source answers and moves, with room for four bytes.
 fn take_four<S: Source>(source: &mut S) -> (Result<usize, Failed>, [u8; 4]) {
     let mut into = [0; 4];
     let answer = source.take(&mut into);
     (answer, into)
+}
+
+// A steady source never fails.
+fn take_surely<S: Source + Steady>(source: &mut S, into: &mut [u8]) -> Result<usize, Failed>
+    ensures { IsOk result }
+{
+    source.take(into)
 }
 
 fn put_one<K: Sink>(sink: &mut K, bytes: &[u8]) -> Result<usize, StoreFault> {
@@ -30,8 +39,9 @@ fn source_fails_at_its_numbers_and_loses_nothing(rt: HostRuntime) -> Result<(), 
         assert!(rt; into == moved);
     }
     let mut steady = SteadySource::new(vec![in alloc; 7]?);
-    let (got, into) = take_four(&mut steady);
-    assert!(rt; got == Ok(1) && into == [7, 0, 0, 0]);
+    let mut into = [0; 4];
+    assert!(rt; take_surely(&mut steady, &mut into) == Ok(1));
+    assert!(rt; into == [7, 0, 0, 0]);
     Ok(())
 }
 

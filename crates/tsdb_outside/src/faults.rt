@@ -1,5 +1,5 @@
 // How a call to the outside fails, and how its faults are counted.
-ghost use Rattle.std.specs.Prelude.{◌≡◌, ℕ};
+ghost use Rattle.std.specs.Prelude.{◌≡◌, ℕ, Some, codes};
 ghost use Rattle.tsdb_outside.specs.declared.faults.StoreFault.TheVariants.{Failed, Memory};
 
 use std::alloc::{AllocError, AllocFailed};
@@ -11,6 +11,8 @@ use std::fmt;
 pub struct Failed;
 
 impl fmt::Display for Failed {
+    ghost output = { λ _. Some (codes "failed") };
+
     fn fmt<W: fmt::Write>(&self, f: &mut fmt::Formatter<W>) -> fmt::Result {
         write!(f, "failed")
     }
@@ -28,6 +30,10 @@ pub enum StoreFault {
 }
 
 impl fmt::Display for StoreFault {
+    ghost use Rattle.tsdb_outside.specs.Texts.{fault_text};
+
+    ghost output = { λ fault. Some (fault_text fault) };
+
     fn fmt<W: fmt::Write>(&self, f: &mut fmt::Formatter<W>) -> fmt::Result {
         match self {
             StoreFault::Failed => write!(f, "failed"),
