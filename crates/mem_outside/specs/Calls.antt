@@ -1,0 +1,11 @@
+-- Calls that fail by their number.
+use Rattle.std.specs.Prelude.{ℕ, ◌+◌, ◌-◌, ◌^◌, min, Contains}
+use Rattle.mem_outside.specs.declared.calls.Calls.{Calls}
+
+-- the number of the next call, from 1
+abbrev pub next_call : Calls → ℕ
+next_call c = min (c.made + 1) (2 ^ 64 - 1)
+
+-- the next call is one of those that fail
+abbrev pub NextFails : Calls → Type 0
+NextFails c = Contains c.fails.items (next_call c)

@@ -1,0 +1,11 @@
+//! What is outside the engine, in memory: sources and sinks whose calls fail by number, and steady ones that never
+//! fail. Stands on `tsdb_outside`.
+#![tactic(auto)]
+
+mod calls;
+mod streams;
+
+pub use streams::{MemSink, MemSource, SteadySink, SteadySource};
+
+#[cfg(test)]
+mod tests;

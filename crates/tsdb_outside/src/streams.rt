@@ -1,0 +1,36 @@
+// Where the script comes from, and where the output goes.
+ghost use Rattle.std.specs.Prelude.{ℕ, List, ◌<◌, length, IfOk};
+ghost use Rattle.std.specs.declared.option.Option.{Option};
+ghost use Rattle.std.specs.Io.{ReadsAtMost, WritesAtMost};
+ghost use Rattle.std.specs.Io.KnownBytes.{ReadConsumes, WriteAppends};
+ghost use Rattle.tsdb_outside.specs.Causes.{HasCause, HasStoreCause};
+
+use crate::{Counted, Failed, StoreFault};
+
+/// Where bytes come from.
+pub trait Source: Counted {
+    /// The bytes that are left, or none where it does not tell.
+    ghost left: { Self → Option (List ℕ) };
+
+    /// Moves bytes from the front of what is left into the front of `into`, and answers how many: at least one, or 0
+    /// where `into` is empty or nothing is left. After `Failed` the same is left as before. What then stands in the
+    /// rest of `into`, and in all of it after `Failed`, is open.
+    fn take(&mut self, into: &mut [u8]) -> Result<usize, Failed>
+        ensures bound { ReadsAtMost result into.new }
+        ensures bytes { ReadConsumes (left self.old) (left self.new) result into.new }
+        ensures cause { HasCause (Self.faults self.old) (Self.faults self.new) result };
+}
+
+/// Where bytes go to.
+pub trait Sink: Counted {
+    /// The bytes that it holds, or none where it does not tell.
+    ghost held: { Self → Option (List ℕ) };
+
+    /// Appends bytes from the front of `bytes`, and answers how many: at least one where `bytes` is not empty. After
+    /// an error it holds what it held before.
+    fn put(&mut self, bytes: &[u8]) -> Result<usize, StoreFault>
+        ensures bound { WritesAtMost result bytes.now }
+        ensures moves { IfOk result (λ count. 0 < length bytes.now → 0 < count) }
+        ensures bytes { WriteAppends (held self.old) (held self.new) result bytes.now }
+        ensures cause { HasStoreCause (Self.faults self.old) (Self.faults self.new) result };
+}
