@@ -1,6 +1,6 @@
 -- Why bytes are refused, and where: of the reasons in their order the first that holds. Each is a fact on all of
 -- the bytes and on their parts between dots, and each leaves out those before it.
-use Rattle.std.specs.Prelude.{◌≡◌, ◌⊎◌, ℕ, ◌+◌, ◌<◌, ◌≤◌, List, [], ◌∷◌, ◌++◌, length, sum_by, All}
+use Rattle.std.specs.Prelude.{◌≡◌, ◌≢◌, ◌⊎◌, Result, Err, IfErr, ℕ, ◌+◌, ◌<◌, ◌≤◌, List, [], ◌∷◌, ◌++◌, length, sum_by, All}
 use Rattle.tsdb_path.specs.declared.fault.PathFault.{PathFault}
 use Rattle.tsdb_path.specs.declared.fault.PathFault.TheVariants.{Empty, NotRoot, BadNode, TooLong, Memory}
 use Rattle.tsdb_path.specs.Nodes.{IsNode, IsName, IsPath, IsRooted, parts, node_count, child_of}
@@ -81,3 +81,11 @@ RefusesChild path name NotRoot = ⊥
 RefusesChild path name (BadNode at) = ⊥
 RefusesChild path name (TooLong at) = IsTooLong (child_of path name) at ⊎ IsFull path name at
 RefusesChild path name Memory = IsPath (child_of path name)
+
+-- each of these reasons, but want of memory, is the answer wherever it holds
+abbrev pub AnswersEach : {T : Type 0} → (PathFault → Type 0) → Result T PathFault → Type 0
+AnswersEach reasons result = (fault : PathFault) → reasons fault → fault ≢ Memory → result ≡ Err fault
+
+-- no reason is answered but want of memory
+abbrev pub AnswersMemoryAlone : {T : Type 0} → Result T PathFault → Type 0
+AnswersMemoryAlone result = IfErr result (λ fault. fault ≡ Memory)

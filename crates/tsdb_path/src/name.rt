@@ -1,8 +1,7 @@
 //! The name of one node. Stands on `scan`.
-ghost use Rattle.std.specs.Prelude.{◌≡◌, ◌≢◌, IfOk, IfErr};
+ghost use Rattle.std.specs.Prelude.{◌≡◌, IfOk, IfErr};
 ghost use Rattle.tsdb_path.specs.Nodes.{IsName};
-ghost use Rattle.tsdb_path.specs.declared.fault.PathFault.{PathFault};
-ghost use Rattle.tsdb_path.specs.Refusals.{RefusesName};
+ghost use Rattle.tsdb_path.specs.Refusals.{RefusesName, AnswersEach, AnswersMemoryAlone};
 
 use crate::PathFault;
 use crate::scan::check_name;
@@ -34,8 +33,8 @@ impl Name {
     pub fn read(alloc: Global, bytes: &[u8]) -> Result<Name, PathFault>
         ensures ok { IfOk result (λ name. IsName bytes.now × (name ≡ bytes.now)) }
         ensures err { IfErr result (RefusesName bytes.now) }
-        ensures good { IsName bytes.now → IfErr result (λ fault. fault ≡ PathFault.Memory) }
-        ensures refused { (fault : PathFault) → RefusesName bytes.now fault → fault ≢ PathFault.Memory → result ≡ Err fault }
+        ensures good { IsName bytes.now → AnswersMemoryAlone result }
+        ensures refused { AnswersEach (RefusesName bytes.now) result }
     {
         check_name(bytes)?;
         let bytes = Vec::from_slice(alloc, bytes)?;

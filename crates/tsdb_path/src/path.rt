@@ -1,8 +1,7 @@
 //! The path of a series or a device. Stands on `scan` and `name`.
-ghost use Rattle.std.specs.Prelude.{◌≡◌, ◌+◌, ◌≤◌, ◌↔◌, ◌++◌, ◌∷◌, ◌≢◌, List, ℕ, length, All, IsTrue, IfOk, IfErr};
+ghost use Rattle.std.specs.Prelude.{◌≡◌, ◌+◌, ◌≤◌, ◌↔◌, ◌++◌, ◌∷◌, List, ℕ, length, All, IsTrue, IfOk, IfErr};
 ghost use Rattle.tsdb_path.specs.Nodes.{is_path_byte, IsName, IsPath, IsPathOf, node_count, device_of, measurement_of, child_of};
-ghost use Rattle.tsdb_path.specs.declared.fault.PathFault.{PathFault};
-ghost use Rattle.tsdb_path.specs.Refusals.{RefusesPath, RefusesChild};
+ghost use Rattle.tsdb_path.specs.Refusals.{RefusesPath, RefusesChild, AnswersEach, AnswersMemoryAlone};
 
 use crate::scan::{DOT, check_child, check_path, count_nodes, last_dot};
 use crate::{Memory, Name, PathFault};
@@ -28,6 +27,18 @@ impl Model for Path {
     ghost invariant = { λ path. IsPath path.bytes.items };
 }
 
+/// Both, with a dot between.
+fn joined(alloc: Global, path: &[u8], name: &[u8]) -> Result<Vec<u8>, AllocError>
+    requires { length path.now + length name.now ≤ 255 }
+    ensures { IfOk result (λ bytes. bytes.items ≡ child_of path.now name.now) }
+{
+    let mut bytes = Vec::with_capacity(alloc, path.len() + 1 + name.len())?;
+    bytes.extend_from_slice(path)?;
+    bytes.push(DOT)?;
+    bytes.extend_from_slice(name)?;
+    Ok(bytes)
+}
+
 impl Path {
     /// Reads a path.
     ///
@@ -37,8 +48,8 @@ impl Path {
     pub fn read(alloc: Global, bytes: &[u8]) -> Result<Path, PathFault>
         ensures ok { IfOk result (λ path. IsPath bytes.now × (path ≡ bytes.now)) }
         ensures err { IfErr result (RefusesPath bytes.now) }
-        ensures good { IsPath bytes.now → IfErr result (λ fault. fault ≡ PathFault.Memory) }
-        ensures refused { (fault : PathFault) → RefusesPath bytes.now fault → fault ≢ PathFault.Memory → result ≡ Err fault }
+        ensures good { IsPath bytes.now → AnswersMemoryAlone result }
+        ensures refused { AnswersEach (RefusesPath bytes.now) result }
     {
         check_path(bytes)?;
         let bytes = Vec::from_slice(alloc, bytes)?;
@@ -68,6 +79,7 @@ impl Path {
     pub fn device(&self) -> Result<Path, Memory>
         requires { 2 ≤ node_count self.now }
         ensures value { IfOk result (λ device. device ≡ device_of self.now) }
+        ensures nodes { IfOk result (λ device. node_count device + 1 ≡ node_count self.now) }
         ensures again { IfOk result (λ device. child_of device (measurement_of self.now) ≡ self.now) }
     {
         let end = last_dot(self.bytes.as_slice());
@@ -92,16 +104,15 @@ impl Path {
     /// `TooLong` at its first byte.
     pub fn child(&self, name: &Name) -> Result<Path, PathFault>
         ensures ok { IfOk result (λ child. child ≡ child_of self.now name.now) }
+        ensures nodes { IfOk result (λ child. node_count child ≡ node_count self.now + 1) }
         ensures err { IfErr result (RefusesChild self.now name.now) }
-        ensures good { IsPath (child_of self.now name.now) → IfErr result (λ fault. fault ≡ PathFault.Memory) }
-        ensures refused { (fault : PathFault) → RefusesChild self.now name.now fault → fault ≢ PathFault.Memory → result ≡ Err fault }
+        ensures as_read { IfErr result (RefusesPath (child_of self.now name.now)) }
+        ensures good { IsPath (child_of self.now name.now) → AnswersMemoryAlone result }
+        ensures refused { AnswersEach (RefusesChild self.now name.now) result }
     {
-        let length = self.bytes.len() + 1 + name.bytes().len();
-        check_child(self.bytes.as_slice(), length)?;
-        let mut bytes = Vec::with_capacity(*self.bytes.allocator(), length)?;
-        bytes.extend_from_slice(self.bytes.as_slice())?;
-        bytes.push(DOT).map_err(AllocError::from)?;
-        bytes.extend_from_slice(name.bytes())?;
+        check_child(self.bytes.as_slice(), name.bytes())?;
+        let alloc = *self.bytes.allocator();
+        let bytes = joined(alloc, self.bytes.as_slice(), name.bytes())?;
         Ok(Path { bytes })
     }
 
