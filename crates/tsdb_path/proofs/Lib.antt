@@ -1,0 +1,5 @@
+pub mod Bytes
+pub mod Parts
+pub mod Dots
+pub mod Walk
+pub mod Reasons

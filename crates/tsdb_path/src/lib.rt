@@ -1,0 +1,18 @@
+//! Paths of series and the names of their nodes: nodes joined by dots, as `root.plant.pump.speed`. It stands on
+//! std alone.
+//!
+//! A node is one or more ASCII letters, digits and `_`, not all of them digits. A path has 1 to 16 nodes, the
+//! first of them `root`, and at most 255 bytes. Contracts see a [`Path`] and a [`Name`] as the list of its bytes.
+#![tactic(auto)]
+
+mod fault;
+mod keys;
+mod name;
+mod path;
+mod scan;
+#[cfg(test)]
+mod tests;
+
+pub use fault::{Memory, PathFault};
+pub use name::Name;
+pub use path::Path;
