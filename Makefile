@@ -1,0 +1,18 @@
+# make demo   runs the example script, by a program that is built without proofs
+# make build  proves the program and leaves it at bin/tsdb
+# make test   proves every crate and runs every test and program
+.PHONY: demo build test
+
+demo:
+	@echo 'Building the program without proofs, and running examples/first.tsdb ...' >&2
+	@folder=$$(mktemp -d) && trap 'rm -rf "$$folder"' EXIT && cd crates/tsdb_cli && \
+	if rt try -- run "$$folder/store" < ../../examples/first.tsdb 2> "$$folder/notes"; \
+	then :; else status=$$?; cat "$$folder/notes" >&2; exit $$status; fi
+
+build:
+	@mkdir -p bin
+	@folder=$$(mktemp -d) && trap 'rm -rf "$$folder"' EXIT && cd crates/tsdb_cli && \
+	rt run -- run "$$folder/store" < /dev/null > /dev/null && cp out/tsdb_cli ../../bin/tsdb
+
+test:
+	@rt ci
