@@ -1,1 +1,3 @@
 mod Moves
+mod RecordLemmas
+mod JournalLemmas

@@ -3,8 +3,12 @@
 #![tactic(auto)]
 
 mod calls;
+mod journal;
+mod record;
 mod streams;
 
+pub use journal::MemJournal;
+pub use record::StopKind;
 pub use streams::{MemSink, MemSource, SteadySink, SteadySource};
 
 #[cfg(test)]
