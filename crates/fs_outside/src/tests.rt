@@ -1,7 +1,22 @@
 use super::*;
+use std::fs;
 use std::io;
 use std::test::Fail;
-use tsdb_outside::{Failed, Sink, Source, StoreFault};
+use tsdb_outside::{Failed, Journal, Place, Sink, Slot, Source, StoreFault};
+
+// What the first byte and the length of a slot are.
+fn first_and_length<J: Journal>(journal: &mut J, slot: Slot) -> Result<(u8, u64), Failed>
+    requires { (image : _) → J.seen journal.old ≡ Some image → 1 ≤ length (in_slot slot image) }
+{
+    let mut first = [7];
+    let length = journal.length(slot)?;
+    journal.read_at(slot, 0, &mut first)?;
+    Ok((first[0], length))
+}
+
+fn open<P: Place>(place: &mut P, dir: &[u8]) -> Result<P::Journal, StoreFault> {
+    place.take_up(dir)
+}
 
 // What one call of a source answers and moves, with room for four bytes.
 fn take_four<S: Source>(source: &mut S) -> (Result<usize, Failed>, [u8; 4]) {

@@ -54,13 +54,17 @@ impl Calls {
         Failed
     }
 
-    /// Counts its faults from 0 again, and answers how many there were.
-    pub fn take_faults(&mut self) -> u64
-        ensures faults { result ≡ self.old.faults }
-        ensures counts { self.new ≡ record self.old { faults = 0 } }
+    /// How many calls have failed.
+    pub fn faults(&self) -> u64
+        ensures { result ≡ self.now.faults }
     {
-        let faults = self.faults;
+        self.faults
+    }
+
+    /// Counts its faults from 0 again.
+    pub fn take_faults(&mut self)
+        ensures { self.new ≡ record self.old { faults = 0 } }
+    {
         self.faults = 0;
-        faults
     }
 }

@@ -1,5 +1,5 @@
 // The journal in memory.
-ghost use Rattle.std.specs.Prelude.{◌≡◌, ◌↔◌, ◌+◌, ◌^◌, ◌<◌, [], length, Some, IfOk, IsTrue};
+ghost use Rattle.std.specs.Prelude.{◌≡◌, ◌↔◌, ◌+◌, ◌^◌, ◌<◌, ◌≤◌, [], length, take, Some, IfOk, IsTrue};
 ghost use Rattle.mem_outside.specs.Laws.{left_now, only_left_now, left_earlier};
 
 use crate::calls::Calls;
@@ -26,7 +26,8 @@ pub struct MemJournal {
 
 impl MemJournal {
     ghost use Rattle.mem_outside.specs.Slots.{pair_image};
-    ghost use Rattle.mem_outside.specs.Journal.{journal_seen, journal_first, journal_calls, journal_numbers};
+    ghost use Rattle.mem_outside.specs.Record.{stopped};
+    ghost use Rattle.mem_outside.specs.Journal.{journal_seen, journal_first, journal_calls, journal_numbers, journal_faults};
 
     // Two slots with these bytes, all of them synced.
     pub(crate) fn new(alloc: Global, slots: Pair, fails: Vec<u64>) -> Result<MemJournal, AllocError>
@@ -38,6 +39,43 @@ impl MemJournal {
         Ok(MemJournal {
             disk: Recorded::new(alloc, slots)?,
             numbers: Calls::new(fails),
+        })
+    }
+
+    // How many calls were counted.
+    pub(crate) fn count(&self) -> u64
+        ensures calls { result ≡ length (journal_calls self.now) }
+        ensures limit { result < 2 ^ 63 }
+    {
+        self.disk.count() as u64
+    }
+
+    // How often it has failed.
+    pub(crate) fn faults(&self) -> u64
+        ensures { result ≡ journal_faults self.now }
+    {
+        self.numbers.faults()
+    }
+
+    // Counts its faults from 0 again.
+    pub(crate) fn take_faults(&mut self)
+        ensures faults { journal_faults self.new ≡ 0 }
+        ensures seen { journal_seen self.new ≡ journal_seen self.old }
+        ensures first { journal_first self.new ≡ journal_first self.old }
+        ensures calls { journal_calls self.new ≡ journal_calls self.old }
+    {
+        self.numbers.take_faults();
+    }
+
+    // What a stop of this kind leaves behind the first `moment` calls.
+    pub(crate) fn after_stop(&self, moment: usize, stop: StopKind) -> Result<Pair, AllocError>
+        requires { moment ≤ length (journal_calls self.now) }
+        ensures { IfOk result (λ slots. pair_image slots ≡
+            stopped stop (journal_first self.now) (take moment (journal_calls self.now))) }
+    {
+        Ok(Pair {
+            a: self.disk.after_stop(Slot::A, moment, stop)?,
+            b: self.disk.after_stop(Slot::B, moment, stop)?,
         })
     }
 }

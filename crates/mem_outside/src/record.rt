@@ -1,7 +1,8 @@
 // Two slots in memory, with a record of each write and sync that was asked for.
-ghost use Rattle.std.specs.Prelude.{◌≡◌, ◌≤◌, [], length, IfOk, OnOk, OnErr, vec_len};
+ghost use Rattle.std.specs.Prelude.{◌≡◌, ◌≤◌, ◌<◌, ◌^◌, [], length, take, IfOk, OnOk, OnErr, vec_len};
 ghost use Rattle.tsdb_outside.specs.Disk.{in_slot, with_slot, written};
-ghost use Rattle.mem_outside.specs.Record.{after_write, after_sync, seen_after};
+ghost use Rattle.mem_outside.specs.Record.{Kept, after_write, after_sync, after_kind, after_call, seen_after, inverted, laid, stopped_slot};
+ghost use Rattle.mem_outside.specs.Replay.{Shows};
 ghost use Rattle.mem_outside.specs.Slots.{pair_image};
 
 use std::alloc::{AllocError, Global};
@@ -33,6 +34,28 @@ pub struct Call {
     pub kind: Kind,
 }
 
+impl Call {
+    // Replays a call of this slot; one of the other changes nothing.
+    fn replay_in(
+        &self,
+        slot: Slot,
+        alloc: Global,
+        stop: StopKind,
+        seen: &mut Vec<u8>,
+        left: &mut Vec<u8>,
+    ) -> Result<(), AllocError>
+        ensures { OnOk result ((s : Kept) → Shows stop s seen.old.items left.old.items
+            → Shows stop (after_call slot s self.now) seen.new.items left.new.items) }
+    {
+        match (slot, self.slot) {
+            (Slot::A, Slot::A) | (Slot::B, Slot::B) => {
+                self.kind.replay(alloc, self.done, stop, seen, left)
+            }
+            _ => Ok(()),
+        }
+    }
+}
+
 // The bytes of both slots.
 #[derive(Drop)]
 pub struct Pair {
@@ -50,6 +73,57 @@ fn overwrite(into: &mut Vec<u8>, at: usize, bytes: &[u8]) -> Result<(), AllocErr
     into.extend_from_slice(&bytes[inside..])?;
     into[at..at + inside].copy_from_slice(&bytes[..inside]);
     Ok(())
+}
+
+// Each byte turned over.
+fn invert(alloc: Global, bytes: &[u8]) -> Result<Vec<u8>, AllocError>
+    ensures { IfOk result (λ turned. turned.items ≡ inverted bytes.now) }
+{
+    bytes.iter().map(|byte| u8::MAX - *byte).collect(alloc)
+}
+
+// Lays a pending write as a stop of this kind leaves it.
+fn lay(alloc: Global, kind: StopKind, at: usize, bytes: &[u8], left: &mut Vec<u8>) -> Result<(), AllocError>
+    ensures { OnOk result (left.new.items ≡ laid kind (at, bytes.now) left.old.items) }
+{
+    let at = at.min(left.len());
+    match kind {
+        StopKind::Written => overwrite(left, at, bytes),
+        StopKind::Unwritten => Ok(()),
+        StopKind::Scrambled => overwrite(left, at, &invert(alloc, bytes)?),
+    }
+}
+
+impl Kind {
+    // Does to what a read gives and to what a stop leaves what this call did.
+    fn replay(
+        &self,
+        alloc: Global,
+        done: bool,
+        stop: StopKind,
+        seen: &mut Vec<u8>,
+        left: &mut Vec<u8>,
+    ) -> Result<(), AllocError>
+        ensures { OnOk result ((s : Kept) → Shows stop s seen.old.items left.old.items
+            → Shows stop (after_kind self.now done s) seen.new.items left.new.items) }
+    {
+        match self {
+            Kind::Write { at, bytes } => {
+                let at = (*at).min(seen.len());
+                lay(alloc, stop, at, bytes, left)?;
+                if done {
+                    overwrite(seen, at, bytes)?;
+                }
+                Ok(())
+            }
+            Kind::Sync => {
+                if done {
+                    *left = seen.to_vec(alloc)?;
+                }
+                Ok(())
+            }
+        }
+    }
 }
 
 impl Pair {
@@ -121,9 +195,24 @@ impl Recorded {
 
     /// How many calls were counted.
     pub fn count(&self) -> usize
-        ensures { result ≡ length (recorded_calls self.now) }
+        ensures calls { result ≡ length (recorded_calls self.now) }
+        ensures limit { result < 2 ^ 63 }
     {
-        self.calls.len()
+        self.calls.as_slice().len()
+    }
+
+    /// What a stop of this kind leaves of the slot behind the first `moment` calls.
+    pub fn after_stop(&self, slot: Slot, moment: usize, stop: StopKind) -> Result<Vec<u8>, AllocError>
+        requires { moment ≤ length (recorded_calls self.now) }
+        ensures { IfOk result (λ left. left.items ≡
+            stopped_slot stop slot (in_slot slot (recorded_first self.now)) (take moment (recorded_calls self.now))) }
+    {
+        let mut seen = self.first.slot(slot).to_vec(self.alloc)?;
+        let mut left = self.first.slot(slot).to_vec(self.alloc)?;
+        for call in &self.calls[..moment] {
+            call.replay_in(slot, self.alloc, stop, &mut seen, &mut left)?;
+        }
+        Ok(left)
     }
 
     /// Records a write, and makes it where it is to succeed. Without room nothing changes.
