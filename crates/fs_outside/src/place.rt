@@ -14,6 +14,7 @@ use tsdb_outside::{Counted, Disk, Failed, Journal, Place, Slot, StoreFault};
 const MAX_LENGTH: u64 = 0x7fff_ffff_ffff_ffff;
 
 const SLOT_A: &str = "slot0";
+
 const SLOT_B: &str = "slot1";
 
 /// The two slots of a store as open files. It tells no content, since nobody knows what a real disk holds.
@@ -135,9 +136,16 @@ fn path_of(alloc: Global, dir: &str, name: &str) -> Result<String, AllocError> {
     Ok(path)
 }
 
-fn open_slot<R: Files<File = File> + AllocGlobal>(rt: &R, dir: &str, name: &str) -> io::Result<File> {
+fn open_slot<R: Files<File = File> + AllocGlobal>(
+    rt: &R,
+    dir: &str,
+    name: &str,
+) -> io::Result<File> {
     let path = path_of(rt.alloc(), dir, name)?;
-    OpenOptions::new().read(true).write(true).open(rt, path.as_str())
+    OpenOptions::new()
+        .read(true)
+        .write(true)
+        .open(rt, path.as_str())
 }
 
 fn sync_directory<R: Files<File = File>>(rt: &R, dir: &str) -> io::Result<()> {
@@ -157,7 +165,10 @@ fn make_directory<R: Files<File = File>>(rt: &R, dir: &str) -> io::Result<()> {
 }
 
 // Whether the directory has a file of a store.
-fn has_files<R: Files<File = File> + AllocGlobal + Clone + Drop>(rt: &R, dir: &str) -> io::Result<bool> {
+fn has_files<R: Files<File = File> + AllocGlobal + Clone + Drop>(
+    rt: &R,
+    dir: &str,
+) -> io::Result<bool> {
     for entry in fs::read_dir(rt, dir)? {
         if entry?.file_name().ends_with(".tsfile") {
             return Ok(true);
@@ -167,7 +178,12 @@ fn has_files<R: Files<File = File> + AllocGlobal + Clone + Drop>(rt: &R, dir: &s
 }
 
 // Makes a slot with one synced byte 0, first under another name, so that a stop leaves it whole or not at all.
-fn make_slot<R: Files<File = File> + AllocGlobal>(rt: &R, dir: &str, name: &str, unfinished: &str) -> io::Result<()> {
+fn make_slot<R: Files<File = File> + AllocGlobal>(
+    rt: &R,
+    dir: &str,
+    name: &str,
+    unfinished: &str,
+) -> io::Result<()> {
     let unfinished = path_of(rt.alloc(), dir, unfinished)?;
     let path = path_of(rt.alloc(), dir, name)?;
     let mut file = File::create(rt, unfinished.as_str())?;
@@ -177,7 +193,10 @@ fn make_slot<R: Files<File = File> + AllocGlobal>(rt: &R, dir: &str, name: &str,
 }
 
 // Makes a new store, `slot0` last: while it is missing the store is not finished, and is made again.
-fn make_store<R: Files<File = File> + AllocGlobal + Clone + Drop>(rt: &R, dir: &str) -> io::Result<()> {
+fn make_store<R: Files<File = File> + AllocGlobal + Clone + Drop>(
+    rt: &R,
+    dir: &str,
+) -> io::Result<()> {
     make_directory(rt, dir)?;
     if has_files(rt, dir)? {
         return Err(io::Error::from(ErrorKind::NotFound));
@@ -188,7 +207,10 @@ fn make_store<R: Files<File = File> + AllocGlobal + Clone + Drop>(rt: &R, dir: &
 }
 
 // Opens the store of the directory, which it makes where there is none.
-fn open_store<R: Files<File = File> + AllocGlobal + Clone + Drop>(rt: &R, dir: &[u8]) -> io::Result<(File, File)> {
+fn open_store<R: Files<File = File> + AllocGlobal + Clone + Drop>(
+    rt: &R,
+    dir: &[u8],
+) -> io::Result<(File, File)> {
     let Ok(dir) = str::from_utf8(dir) else {
         return Err(io::Error::from(ErrorKind::InvalidInput));
     };

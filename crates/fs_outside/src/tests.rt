@@ -1,21 +1,87 @@
 use super::*;
-use std::fs;
-use std::io;
 use std::test::Fail;
+use std::{fs, io};
 use tsdb_outside::{Failed, Journal, Place, Sink, Slot, Source, StoreFault};
 
-// What the first byte and the length of a slot are.
-fn first_and_length<J: Journal>(journal: &mut J, slot: Slot) -> Result<(u8, u64), Failed>
-    requires { (image : _) → J.seen journal.old ≡ Some image → 1 ≤ length (in_slot slot image) }
-{
+// The first byte of a slot and how many bytes it has.
+fn first_and_length<J: Journal>(journal: &mut J, slot: Slot) -> Result<(u8, u64), Failed> {
     let mut first = [7];
     let length = journal.length(slot)?;
+    if length == 0 {
+        return Err(Failed);
+    }
     journal.read_at(slot, 0, &mut first)?;
     Ok((first[0], length))
 }
 
-fn open<P: Place>(place: &mut P, dir: &[u8]) -> Result<P::Journal, StoreFault> {
-    place.take_up(dir)
+// Writes three bytes at the start of a slot, and syncs it.
+fn write_three<J: Journal>(journal: &mut J, slot: Slot) -> Result<(), Failed> {
+    journal.write_at(slot, 0, &[3, 2, 1])?;
+    journal.sync(slot)
+}
+
+// Opens the store of a directory through the trait, and gives it back.
+fn opens_as_new<P: Place>(place: &mut P, dir: &[u8]) -> Result<bool, StoreFault> {
+    let mut journal = place.take_up(dir)?;
+    let a = first_and_length(&mut journal, Slot::A);
+    let b = first_and_length(&mut journal, Slot::B);
+    place.put_down(journal);
+    Ok(a? == (0, 1) && b? == (0, 1))
+}
+
+#[test]
+fn store_is_made_new_and_opened_again(rt: HostRuntime) -> Result<(), Fail> {
+    let mut place = FsPlace::new(rt.clone()?);
+    assert!(rt; opens_as_new(&mut place, b"made")?);
+    let mut journal = place.take_up(b"made")?;
+    write_three(&mut journal, Slot::B)?;
+    place.put_down(journal);
+    let mut journal = place.take_up(b"made")?;
+    assert!(rt; first_and_length(&mut journal, Slot::A)? == (0, 1));
+    assert!(rt; first_and_length(&mut journal, Slot::B)? == (3, 3));
+    place.put_down(journal);
+    Ok(())
+}
+
+// What each moment of the making of a store leaves is opened as a new store.
+#[test]
+fn unfinished_store_is_opened_as_new(rt: HostRuntime) -> Result<(), Fail> {
+    let moments: [(&str, &[&str]); 4] = [
+        ("m0", &[]),
+        ("m1", &["m1/slot1.new"]),
+        ("m2", &["m2/slot1"]),
+        ("m3", &["m3/slot1", "m3/slot0.new"]),
+    ];
+    for (dir, names) in moments {
+        fs::create_dir(&rt, dir)?;
+        for name in names {
+            fs::write(&rt, *name, "")?;
+        }
+        let mut place = FsPlace::new(rt.clone()?);
+        assert!(rt; opens_as_new(&mut place, dir.as_bytes())?);
+    }
+    Ok(())
+}
+
+#[test]
+fn damaged_directory_counts_a_fault(rt: HostRuntime) -> Result<(), Fail> {
+    for dir in ["whole", "folder", "files"] {
+        fs::create_dir(&rt, dir)?;
+    }
+    fs::write(&rt, "whole/slot0", "0")?;
+    fs::create_dir(&rt, "folder/slot0")?;
+    fs::write(&rt, "files/7.tsfile", "")?;
+    let mut place = FsPlace::new(rt.clone()?);
+    for dir in [
+        b"whole".as_slice(),
+        b"folder",
+        b"files",
+        b"\xff",
+        b"no/parent",
+    ] {
+        assert!(rt; matches!(place.take_up(dir), Err(StoreFault::Failed)));
+    }
+    Ok(())
 }
 
 // What one call of a source answers and moves, with room for four bytes.

@@ -55,8 +55,9 @@ kept_by_call : (P : Kept → Type 0) → ((kind : Kind) (done : Bool) (s : Kept)
     → (slot : Slot) (s : Kept) (call : Call) → P s → P (after_call slot s call)
 kept_by_call P step slot s call holds =
     elim (is_slot slot call.slot) as (λ mine. P (if mine then after_kind call.kind call.done s else s)) [
-      true ↦ step call.kind call.done s holds
-    | false ↦ holds ]
+      | true ↦ step call.kind call.done s holds
+      | false ↦ holds
+    ]
 
 kept_by_calls : (P : Kept → Type 0) → ((kind : Kind) (done : Bool) (s : Kept) → P s → P (after_kind kind done s))
     → (slot : Slot) (s : Kept) (calls : List Call) → P s → P (fold (after_call slot) s calls)
@@ -83,7 +84,7 @@ laid_left at bytes others seen c synced older same left as_long =
     let start : min (min at (length seen)) (length c) ≡ min at (length seen) = omega arith in
     let torn : Torn (min at (length seen)) (length others) c (written (min at (length seen)) others c) = torn_written (min at (length seen)) others c (omega arith) in
     let cut : Torn (min at (length seen)) (length bytes) c (written (min (min at (length seen)) (length c)) others c) =
-        subst (λ n. Torn (min at (length seen)) (length bytes) c (written n others c)) (sym start) (subst (λ n. Torn (min at (length seen)) n c (written (min at (length seen)) others c)) same torn) in
+    subst (λ n. Torn (min at (length seen)) (length bytes) c (written n others c)) (sym start) (subst (λ n. Torn (min at (length seen)) n c (written (min at (length seen)) others c)) same torn) in
     (c, left, cut)
 
 laid_long : (at : ℕ) (bytes others seen c : List ℕ) (done : Bool) → length others ≡ length bytes → length seen ≤ length c
@@ -147,8 +148,9 @@ module _ (first : Image) (calls : List Call) (call : Call) where
   } where
     since : (t : ℕ) (image : Image) → LeftSince first (calls ++ call ∷ []) t image → LeftSince first calls t image ⊎ LeavesOf first (calls ++ call ∷ []) image
     since t image left = elim (cases_lt (length calls) left.0) [
-        inl over ↦ inr (subst (λ l. LeavesOf first l image) (take_all left.0 (calls ++ call ∷ []) (omega (arith, longer, over))) left.3)
-      | inr within ↦ inl (left.0, left.1, within, subst (λ l. LeavesOf first l image) (shorter left.0 within) left.3) ]
+      | inl over ↦ inr (subst (λ l. LeavesOf first l image) (take_all left.0 (calls ++ call ∷ []) (omega (arith, longer, over))) left.3)
+      | inr within ↦ inl (left.0, left.1, within, subst (λ l. LeavesOf first l image) (shorter left.0 within) left.3)
+    ]
 
 -- no time goes by
 pub elapses_still : (now : ℕ) (since : ℕ → Image → Type 0) (may_leave : Image → Type 0) → Elapses now now since since may_leave
@@ -181,25 +183,25 @@ module _ (first : Image) (calls : List Call) (call : Call) (at : ℕ) (bytes : L
     (does : (s : Kept) → after_kind call.kind call.done s ≡ after_write at bytes done s) where
   cut_at : (s : Kept) (before new : List ℕ) → at ≤ length s.seen → Torn (min at (length s.seen)) (length bytes) before new → Torn at (length bytes) before new
   cut_at s before new within torn =
-    let start : min at (length s.seen) ≡ at = omega arith in
-    subst (λ n. Torn n (length bytes) before new) start torn
+      let start : min at (length s.seen) ≡ at = omega arith in
+      subst (λ n. Torn n (length bytes) before new) start torn
 
   pub write_follows : (slot : Slot) → call.slot ≡ slot → at ≤ length (in_slot slot (seen_after first calls))
       → Follows (TornIn slot at (length bytes)) (LeavesOf first calls) (LeavesOf first (calls ++ call ∷ []))
   write_follows A own within image left =
-    let s : Kept = after_calls A first.a calls in
-    let a : Leaves ((min at (length s.seen), bytes) ∷ s.pending) s.synced image.a =
+      let s : Kept = after_calls A first.a calls in
+      let a : Leaves ((min at (length s.seen), bytes) ∷ s.pending) s.synced image.a =
       subst (λ (t : Kept). Leaves t.pending t.synced image.a) (own_after first calls call (after_write at bytes done) does A first.a own) left.0 in
-    let b : Leaves (after_calls B first.b calls).pending (after_calls B first.b calls).synced image.b =
+      let b : Leaves (after_calls B first.b calls).pending (after_calls B first.b calls).synced image.b =
       subst (λ (t : Kept). Leaves t.pending t.synced image.b) (b_stays first calls call (after_write at bytes done) does first.b own) left.1 in
-    (record { a = a.0; b = image.b }, (a.1, b), record { here = cut_at s a.0 image.a within a.2; elsewhere = refl })
+      (record { a = a.0; b = image.b }, (a.1, b), record { here = cut_at s a.0 image.a within a.2; elsewhere = refl })
   write_follows B own within image left =
-    let s : Kept = after_calls B first.b calls in
-    let b : Leaves ((min at (length s.seen), bytes) ∷ s.pending) s.synced image.b =
+      let s : Kept = after_calls B first.b calls in
+      let b : Leaves ((min at (length s.seen), bytes) ∷ s.pending) s.synced image.b =
       subst (λ (t : Kept). Leaves t.pending t.synced image.b) (own_after first calls call (after_write at bytes done) does B first.b own) left.1 in
-    let a : Leaves (after_calls A first.a calls).pending (after_calls A first.a calls).synced image.a =
+      let a : Leaves (after_calls A first.a calls).pending (after_calls A first.a calls).synced image.a =
       subst (λ (t : Kept). Leaves t.pending t.synced image.a) (a_stays first calls call (after_write at bytes done) does first.a own) left.0 in
-    (record { a = image.a; b = b.0 }, (a, b.1), record { here = cut_at s b.0 image.b within b.2; elsewhere = refl })
+      (record { a = image.a; b = b.0 }, (a, b.1), record { here = cut_at s b.0 image.b within b.2; elsewhere = refl })
 
 -- a sync
 module _ (first : Image) (calls : List Call) (call : Call) (done : Bool)
@@ -211,14 +213,16 @@ module _ (first : Image) (calls : List Call) (call : Call) (done : Bool)
     synced_left_by false s bytes seen left = left
 
   pub sync_nothing_new : (slot : Slot) → call.slot ≡ slot → NothingNew (LeavesOf first calls) (LeavesOf first (calls ++ call ∷ []))
-  sync_nothing_new A own image left =
-    (synced_left (after_calls A first.a calls) image.a (seen_left A first.a calls)
-      (subst (λ (t : Kept). Leaves t.pending t.synced image.a) (own_after first calls call (after_sync done) does A first.a own) left.0)
-    , subst (λ (t : Kept). Leaves t.pending t.synced image.b) (b_stays first calls call (after_sync done) does first.b own) left.1)
-  sync_nothing_new B own image left =
-    (subst (λ (t : Kept). Leaves t.pending t.synced image.a) (a_stays first calls call (after_sync done) does first.a own) left.0
-    , synced_left (after_calls B first.b calls) image.b (seen_left B first.b calls)
-      (subst (λ (t : Kept). Leaves t.pending t.synced image.b) (own_after first calls call (after_sync done) does B first.b own) left.1))
+  sync_nothing_new A own image left = (
+    synced_left (after_calls A first.a calls) image.a (seen_left A first.a calls)
+        (subst (λ (t : Kept). Leaves t.pending t.synced image.a) (own_after first calls call (after_sync done) does A first.a own) left.0),
+    subst (λ (t : Kept). Leaves t.pending t.synced image.b) (b_stays first calls call (after_sync done) does first.b own) left.1,
+  )
+  sync_nothing_new B own image left = (
+    subst (λ (t : Kept). Leaves t.pending t.synced image.a) (a_stays first calls call (after_sync done) does first.a own) left.0,
+    synced_left (after_calls B first.b calls) image.b (seen_left B first.b calls)
+        (subst (λ (t : Kept). Leaves t.pending t.synced image.b) (own_after first calls call (after_sync done) does B first.b own) left.1),
+  )
 
 -- a sync that succeeds
 module _ (first : Image) (calls : List Call) (call : Call)

@@ -16,4 +16,3 @@ only_left_now first calls image left = subst (λ l. LeavesOf first l image) (tak
 
 pub left_earlier : (first : Image) (calls : List Call) (t u : ℕ) (image : Image) → t ≤ u → LeftSince first calls u image → LeftSince first calls t image
 left_earlier first calls t u image le left = (left.0, omega (arith, le, left.1), left.2, left.3)
-

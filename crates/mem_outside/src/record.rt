@@ -83,7 +83,13 @@ fn invert(alloc: Global, bytes: &[u8]) -> Result<Vec<u8>, AllocError>
 }
 
 // Lays a pending write as a stop of this kind leaves it.
-fn lay(alloc: Global, kind: StopKind, at: usize, bytes: &[u8], left: &mut Vec<u8>) -> Result<(), AllocError>
+fn lay(
+    alloc: Global,
+    kind: StopKind,
+    at: usize,
+    bytes: &[u8],
+    left: &mut Vec<u8>,
+) -> Result<(), AllocError>
     ensures { OnOk result (left.new.items ≡ laid kind (at, bytes.now) left.old.items) }
 {
     let at = at.min(left.len());
@@ -202,7 +208,12 @@ impl Recorded {
     }
 
     /// What a stop of this kind leaves of the slot behind the first `moment` calls.
-    pub fn after_stop(&self, slot: Slot, moment: usize, stop: StopKind) -> Result<Vec<u8>, AllocError>
+    pub fn after_stop(
+        &self,
+        slot: Slot,
+        moment: usize,
+        stop: StopKind,
+    ) -> Result<Vec<u8>, AllocError>
         requires { moment ≤ length (recorded_calls self.now) }
         ensures { IfOk result (λ left. left.items ≡
             stopped_slot stop slot (in_slot slot (recorded_first self.now)) (take moment (recorded_calls self.now))) }
@@ -216,7 +227,13 @@ impl Recorded {
     }
 
     /// Records a write, and makes it where it is to succeed. Without room nothing changes.
-    pub fn write(&mut self, slot: Slot, at: usize, bytes: &[u8], done: bool) -> Result<(), AllocError>
+    pub fn write(
+        &mut self,
+        slot: Slot,
+        at: usize,
+        bytes: &[u8],
+        done: bool,
+    ) -> Result<(), AllocError>
         requires { at ≤ length (in_slot slot (recorded_seen self.old)) }
         ensures ok { OnOk result (Adds slot (after_write at bytes.now done) self.old self.new) }
         ensures err { OnErr result (SameRecorded self.old self.new) }

@@ -1,6 +1,6 @@
 -- The disk under the journal: two slots of bytes under one clock. Until a slot is synced, a stop may leave any bytes
 -- where it was written, and past its old end; bytes outside stay.
-use Rattle.std.specs.Prelude.{◌≡◌, ◌⊎◌, ℕ, ◌+◌, ◌≤◌, max, List, ◌++◌, length, take, drop, ⊤, None, Some}
+use Rattle.std.specs.Prelude.{◌≡◌, ◌⊎◌, ℕ, ◌+◌, ◌≤◌, max, List, ◌++◌, length, take, drop, None, Some}
 use Rattle.std.specs.declared.option.Option.{Option}
 use Rattle.tsdb_outside.specs.declared.disk.Slot.{Slot}
 use Rattle.tsdb_outside.specs.declared.disk.Slot.TheVariants.{A, B}
@@ -36,15 +36,11 @@ pub record TornIn (slot : Slot) (at n : ℕ) (old new : Image) : Type 0 where
   pub here : Torn at n (in_slot slot old) (in_slot slot new)
   pub elsewhere : new ≡ with_slot slot (in_slot slot new) old
 
--- a relation of two contents, where the first is told; then the second is told too
+-- a relation of two contents where they are told; what is not told stays untold
 abbrev pub WhereTold : (Image → Image → Type 0) → Option Image → Option Image → Type 0
-WhereTold relation None new = ⊤
+WhereTold relation None new = new ≡ None
 WhereTold relation (Some old) None = ⊥
 WhereTold relation (Some old) (Some new) = relation old new
-
--- a told content stays as it was
-abbrev pub StaysTold : Option Image → Option Image → Type 0
-StaysTold old new = WhereTold (λ before after. after ≡ before) old new
 
 -- what a stop may leave after a step is what it might have left before it, after that step
 abbrev pub Follows : (Image → Image → Type 0) → (Image → Type 0) → (Image → Type 0) → Type 0

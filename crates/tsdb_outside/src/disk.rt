@@ -33,13 +33,13 @@ pub trait Disk: Counted {
 /// Two slots of bytes, read and written at any place. Between two syncs of a slot a stop may leave any bytes where it
 /// was written, and past its old end. A slot has at most 2^63 - 1 bytes.
 pub trait Journal: Disk {
-    ghost use Rattle.tsdb_outside.specs.Disk.{Image, in_slot, with_slot, written, TornIn, WhereTold, StaysTold, Follows, NothingNew, Durable, Elapses};
+    ghost use Rattle.tsdb_outside.specs.Disk.{Image, in_slot, with_slot, written, TornIn, WhereTold, Follows, NothingNew, Durable, Elapses};
 
     /// How many bytes the slot has.
     fn length(&mut self, slot: Slot) -> Result<u64, Failed>
         ensures length { IfOk result (λ n. IfSome (Self.seen self.old) (λ image. n ≡ length (in_slot slot image))) }
         ensures limit { IfOk result (λ n. n < 2 ^ 63) }
-        ensures seen { StaysTold (Self.seen self.old) (Self.seen self.new) }
+        ensures seen { Self.seen self.new ≡ Self.seen self.old }
         ensures crash { NothingNew (Self.may_leave self.old) (Self.may_leave self.new) }
         ensures time { Elapses (Self.moment self.old) (Self.moment self.new) (Self.left_since self.old) (Self.left_since self.new) (Self.may_leave self.new) }
         ensures cause { HasCause (Self.faults self.old) (Self.faults self.new) result };
@@ -48,7 +48,7 @@ pub trait Journal: Disk {
     fn read_at(&mut self, slot: Slot, at: u64, into: &mut [u8]) -> Result<(), Failed>
         requires { ForSome (Self.seen self.old) (λ image. at + length into.old ≤ length (in_slot slot image)) }
         ensures bytes { OnOk result (IfSome (Self.seen self.old) (λ image. into.new ≡ take (length into.new) (drop at (in_slot slot image)))) }
-        ensures seen { StaysTold (Self.seen self.old) (Self.seen self.new) }
+        ensures seen { Self.seen self.new ≡ Self.seen self.old }
         ensures crash { NothingNew (Self.may_leave self.old) (Self.may_leave self.new) }
         ensures time { Elapses (Self.moment self.old) (Self.moment self.new) (Self.left_since self.old) (Self.left_since self.new) (Self.may_leave self.new) }
         ensures cause { HasCause (Self.faults self.old) (Self.faults self.new) result };
@@ -68,7 +68,7 @@ pub trait Journal: Disk {
     /// After it a stop leaves in this slot what a read gives. One that fails makes nothing sure.
     fn sync(&mut self, slot: Slot) -> Result<(), Failed>
         ensures durable { OnOk result (IfSome (Self.seen self.old) (λ image. Durable slot (in_slot slot image) (Self.may_leave self.new))) }
-        ensures seen { StaysTold (Self.seen self.old) (Self.seen self.new) }
+        ensures seen { Self.seen self.new ≡ Self.seen self.old }
         ensures crash { NothingNew (Self.may_leave self.old) (Self.may_leave self.new) }
         ensures time { Elapses (Self.moment self.old) (Self.moment self.new) (Self.left_since self.old) (Self.left_since self.new) (Self.may_leave self.new) }
         ensures cause { HasCause (Self.faults self.old) (Self.faults self.new) result };
@@ -85,7 +85,7 @@ pub trait Journal: Disk {
 
 /// Where a store lies. It tells its content while its journal is in it.
 pub trait Place: Disk {
-    ghost use Rattle.tsdb_outside.specs.Disk.{Image, StaysTold, NothingNew, Elapses};
+    ghost use Rattle.tsdb_outside.specs.Disk.{Image, NothingNew, Elapses};
 
     type Journal: Journal;
 
@@ -93,12 +93,12 @@ pub trait Place: Disk {
     /// Where the directory has no store it makes one, whose slots have one synced byte 0 each. After an error the
     /// place means what it meant before.
     fn take_up(&mut self, dir: &[u8]) -> Result<Self::Journal, StoreFault>
-        ensures seen { IfOk result (λ journal. StaysTold (Self.seen self.old) (Self.Journal.seen journal)) }
+        ensures seen { IfOk result (λ journal. Self.Journal.seen journal ≡ Self.seen self.old) }
         ensures crash { IfOk result (λ journal. NothingNew (Self.may_leave self.old) (Self.Journal.may_leave journal)) }
         ensures time { IfOk result (λ journal. Elapses (Self.moment self.old) (Self.Journal.moment journal) (Self.left_since self.old)
             (Self.Journal.left_since journal) (Self.Journal.may_leave journal)) }
         ensures unused { IfOk result (λ journal. Self.Journal.faults journal ≡ 0) }
-        ensures refused_seen { OnErr result (StaysTold (Self.seen self.old) (Self.seen self.new)) }
+        ensures refused_seen { OnErr result (Self.seen self.new ≡ Self.seen self.old) }
         ensures refused_crash { OnErr result (NothingNew (Self.may_leave self.old) (Self.may_leave self.new)) }
         ensures refused_time { OnErr result (Elapses (Self.moment self.old) (Self.moment self.new) (Self.left_since self.old)
             (Self.left_since self.new) (Self.may_leave self.new)) }
@@ -106,7 +106,7 @@ pub trait Place: Disk {
 
     /// Takes the journal back. The place then means what the journal meant, and counts its faults too.
     fn put_down(&mut self, journal: Self::Journal)
-        ensures seen { StaysTold (Self.Journal.seen journal) (Self.seen self.new) }
+        ensures seen { Self.seen self.new ≡ Self.Journal.seen journal }
         ensures crash { NothingNew (Self.Journal.may_leave journal) (Self.may_leave self.new) }
         ensures time { Elapses (Self.Journal.moment journal) (Self.moment self.new) (Self.Journal.left_since journal)
             (Self.left_since self.new) (Self.may_leave self.new) }

@@ -40,4 +40,3 @@ returns-in-Err-clause-crash c = write_crash c.args.slot c.args.at c.args.bytes.n
 
 pub returns-in-Err-clause-time : goal.returns-in-Err-clause-time
 returns-in-Err-clause-time c = goes_elapses c.args.slot (after_write c.args.at c.args.bytes.now false) c.args.self.now.disk c.write-in-Err.new.self (goes c.args.slot (after_write c.args.at c.args.bytes.now false) c.args.self.now.disk c.write-in-Err.new.self c.write-in-Err.result c.write-in-Err.ensures.ok c.write-in-Err.ensures.err)
-

@@ -10,5 +10,5 @@ pub returns : goal.returns
 returns c =
     let over : length (take c.args.moment c.deref.result.now) ≤ c.loop-call.call-index = omega arith in
     sym c.loop-call.invariant.left_is
-      ∙ ap (λ (l : List Call). stopped_slot c.args.stop c.args.slot (in_slot c.args.slot (recorded_first c.args.self.now)) l)
-          (take_all c.loop-call.call-index (take c.args.moment c.deref.result.now) over ∙ ap (λ (l : List Call). take c.args.moment l) c.deref.ensures.value)
+    ∙ ap (λ (l : List Call). stopped_slot c.args.stop c.args.slot (in_slot c.args.slot (recorded_first c.args.self.now)) l)
+    (take_all c.loop-call.call-index (take c.args.moment c.deref.result.now) over ∙ ap (λ (l : List Call). take c.args.moment l) c.deref.ensures.value)
