@@ -1,13 +1,15 @@
 use super::*;
 use std::test::Fail;
-use std::{fs, io};
+use std::fs::{self, File};
+use std::io;
+use std::rt::Files;
 use tsdb_outside::{Failed, Journal, Place, Sink, Slot, Source, StoreFault};
 
 // The first byte of a slot and how many bytes it has.
 fn first_and_length<J: Journal>(journal: &mut J, slot: Slot) -> Result<(u8, u64), Failed> {
     let mut first = [7];
     let length = journal.length(slot)?;
-    if length == 0 {
+    if length < 1 {
         return Err(Failed);
     }
     journal.read_at(slot, 0, &mut first)?;
@@ -29,37 +31,51 @@ fn opens_as_new<P: Place>(place: &mut P, dir: &[u8]) -> Result<bool, StoreFault>
     Ok(a? == (0, 1) && b? == (0, 1))
 }
 
+// Whether a slot that was written and synced is found in the store when it is opened again.
+fn keeps_what_was_synced<P: Place>(place: &mut P, dir: &[u8]) -> Result<bool, StoreFault> {
+    let mut journal = place.take_up(dir)?;
+    let answer = write_three(&mut journal, Slot::B);
+    place.put_down(journal);
+    answer?;
+    let mut journal = place.take_up(dir)?;
+    let a = first_and_length(&mut journal, Slot::A);
+    let b = first_and_length(&mut journal, Slot::B);
+    place.put_down(journal);
+    Ok(a? == (0, 1) && b? == (3, 3))
+}
+
+fn is_made_and_opened_again<R: Files<File = File> + AllocGlobal + Clone + Drop>(rt: &R) -> Result<bool, Fail> {
+    let mut place = FsPlace::new(rt.clone()?);
+    Ok(opens_as_new(&mut place, b"made")? && keeps_what_was_synced(&mut place, b"made")?)
+}
+
+// A store as it is left behind some steps of its making.
+fn is_opened_as_new<R: Files<File = File> + AllocGlobal + Clone + Drop>(rt: &R, dir: &str, names: &[&str]) -> Result<bool, Fail> {
+    fs::create_dir(rt, dir)?;
+    for name in names {
+        fs::write(rt, *name, "")?;
+    }
+    let mut place = FsPlace::new(rt.clone()?);
+    Ok(opens_as_new(&mut place, dir.as_bytes())?)
+}
+
+fn is_refused<R: Files<File = File> + AllocGlobal + Clone + Drop>(rt: &R, dir: &[u8]) -> Result<bool, Fail> {
+    let mut place = FsPlace::new(rt.clone()?);
+    Ok(matches!(opens_as_new(&mut place, dir), Err(StoreFault::Failed)))
+}
+
 #[test]
 fn store_is_made_new_and_opened_again(rt: HostRuntime) -> Result<(), Fail> {
-    let mut place = FsPlace::new(rt.clone()?);
-    assert!(rt; opens_as_new(&mut place, b"made")?);
-    let mut journal = place.take_up(b"made")?;
-    write_three(&mut journal, Slot::B)?;
-    place.put_down(journal);
-    let mut journal = place.take_up(b"made")?;
-    assert!(rt; first_and_length(&mut journal, Slot::A)? == (0, 1));
-    assert!(rt; first_and_length(&mut journal, Slot::B)? == (3, 3));
-    place.put_down(journal);
+    assert!(rt; is_made_and_opened_again(&rt)?);
     Ok(())
 }
 
-// What each moment of the making of a store leaves is opened as a new store.
 #[test]
 fn unfinished_store_is_opened_as_new(rt: HostRuntime) -> Result<(), Fail> {
-    let moments: [(&str, &[&str]); 4] = [
-        ("m0", &[]),
-        ("m1", &["m1/slot1.new"]),
-        ("m2", &["m2/slot1"]),
-        ("m3", &["m3/slot1", "m3/slot0.new"]),
-    ];
-    for (dir, names) in moments {
-        fs::create_dir(&rt, dir)?;
-        for name in names {
-            fs::write(&rt, *name, "")?;
-        }
-        let mut place = FsPlace::new(rt.clone()?);
-        assert!(rt; opens_as_new(&mut place, dir.as_bytes())?);
-    }
+    assert!(rt; is_opened_as_new(&rt, "m0", &[])?);
+    assert!(rt; is_opened_as_new(&rt, "m1", &["m1/slot1.new"])?);
+    assert!(rt; is_opened_as_new(&rt, "m2", &["m2/slot1"])?);
+    assert!(rt; is_opened_as_new(&rt, "m3", &["m3/slot1", "m3/slot0.new"])?);
     Ok(())
 }
 
@@ -71,15 +87,8 @@ fn damaged_directory_counts_a_fault(rt: HostRuntime) -> Result<(), Fail> {
     fs::write(&rt, "whole/slot0", "0")?;
     fs::create_dir(&rt, "folder/slot0")?;
     fs::write(&rt, "files/7.tsfile", "")?;
-    let mut place = FsPlace::new(rt.clone()?);
-    for dir in [
-        b"whole".as_slice(),
-        b"folder",
-        b"files",
-        b"\xff",
-        b"no/parent",
-    ] {
-        assert!(rt; matches!(place.take_up(dir), Err(StoreFault::Failed)));
+    for dir in [b"whole".as_slice(), b"folder", b"files", b"\xff", b"no/parent"] {
+        assert!(rt; is_refused(&rt, dir)?);
     }
     Ok(())
 }

@@ -1,12 +1,12 @@
 -- Each call of the journal in memory keeps the meaning of a disk.
-use Rattle.std.proofs.Common.{◌≡◌, ◌⊎◌, ℕ, ◌+◌, ◌≤◌, min, Bool, true, false, List, [], ◌∷◌, ◌++◌, length, refl, sym, ap, ◌∙◌, inl, inr, ⊎_elim, arith, subst}
+use Rattle.std.proofs.Common.{◌≡◌, ◌⊎◌, ℕ, ◌≤◌, min, Bool, true, false, List, [], ◌∷◌, ◌++◌, length, refl, sym, ap, ◌∙◌, inl, inr, arith, subst}
 use Rattle.std.specs.Prelude.{if◌then◌else◌, Result, Ok, Err, OnOk, OnErr}
 use Rattle.tsdb_outside.specs.Disk.{Image, in_slot, with_slot, written, Torn, TornIn, Follows, NothingNew, Durable, Elapses}
 use Rattle.tsdb_outside.specs.declared.disk.Slot.{Slot}
 use Rattle.tsdb_outside.specs.declared.disk.Slot.TheVariants.{A, B}
 use Rattle.mem_outside.specs.declared.record.Call.{Call}
 use Rattle.mem_outside.specs.declared.record.Recorded.{Recorded}
-use Rattle.mem_outside.specs.Record.{Kept, after_write, after_sync, after_kind, after_calls, seen_after, LeavesOf, LeftSince}
+use Rattle.mem_outside.specs.Record.{Kept, after_write, after_sync, after_calls, seen_after, LeavesOf, LeftSince}
 use Rattle.mem_outside.specs.Recorded.{recorded_seen, recorded_first, recorded_calls, Adds, SameRecorded}
 use Rattle.mem_outside.proofs.RecordLemmas.{torn_same, torn_written, elapses_by_call, elapses_still, seen_after_call, write_follows, sync_nothing_new, sync_durable}
 

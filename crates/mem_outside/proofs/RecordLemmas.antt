@@ -1,8 +1,8 @@
 -- Each call that is recorded keeps the meaning of a disk.
-use Rattle.std.proofs.Common.{◌≡◌, ◌⊎◌, ℕ, ◌+◌, ◌-◌, ◌≤◌, ◌<◌, min, max, Bool, true, false, List, [], ◌∷◌, ◌++◌, length, take, drop, map, refl, sym, ap, ◌∙◌, inl, inr, arith, subst}
+use Rattle.std.proofs.Common.{◌≡◌, ◌⊎◌, ℕ, ◌+◌, ◌-◌, ◌≤◌, min, max, Bool, true, false, List, [], ◌∷◌, ◌++◌, length, take, refl, sym, ◌∙◌, inl, inr, arith, subst}
 use Rattle.std.specs.Prelude.{if◌then◌else◌}
 use Rattle.std.specs.List.{fold}
-use Rattle.std.proofs.lemmas.List.{take-append-drop, take_at, take-append-le, length-take-le, length-append, length-drop, drop_at, take_all, length-map}
+use Rattle.std.proofs.lemmas.List.{take-append-le, take_all, length-map}
 use Rattle.std.proofs.lemmas.Bool.{cases_lt}
 use Rattle.std.proofs.lemmas.List.Sums.{fold-append}
 use Rattle.std.proofs.lemmas.Grind.{common_steps}
@@ -14,7 +14,7 @@ use Rattle.mem_outside.specs.declared.record.Kind.{Kind}
 use Rattle.mem_outside.specs.declared.record.Kind.TheVariants.{Write, Sync}
 use Rattle.mem_outside.specs.declared.record.StopKind.{StopKind}
 use Rattle.mem_outside.specs.declared.record.StopKind.TheVariants.{Written, Unwritten, Scrambled}
-use Rattle.mem_outside.specs.Record.{Kept, fresh, after_write, after_sync, after_kind, is_slot, after_call, after_calls, Leaves, inverted, laid, overlaid, seen_after, LeavesOf, LeftSince, stopped_slot, stopped}
+use Rattle.mem_outside.specs.Record.{Kept, fresh, after_write, after_sync, after_kind, is_slot, after_call, after_calls, Leaves, inverted, overlaid, seen_after, LeavesOf, LeftSince, stopped_slot, stopped}
 
 -- a write that is cut short may leave all as it was
 pub torn_same : (at n : ℕ) (old : List ℕ) → Torn at n old old

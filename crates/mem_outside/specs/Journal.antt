@@ -1,5 +1,5 @@
 -- What the journal in memory means.
-use Rattle.std.specs.Prelude.{ℕ, List, length}
+use Rattle.std.specs.Prelude.{ℕ, List}
 use Rattle.tsdb_outside.specs.Disk.{Image}
 use Rattle.mem_outside.specs.declared.record.Call.{Call}
 use Rattle.mem_outside.specs.declared.journal.MemJournal.{MemJournal}

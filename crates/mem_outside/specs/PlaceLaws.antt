@@ -5,7 +5,7 @@ use Rattle.tsdb_outside.specs.Disk.{Image}
 use Rattle.mem_outside.specs.declared.journal.MemJournal.{MemJournal}
 use Rattle.mem_outside.specs.Journal.{journal_first, journal_calls}
 use Rattle.mem_outside.specs.Laws.{left_now, only_left_now, left_earlier}
-use Rattle.mem_outside.specs.Place.{held_seen, HeldLeaves, held_moment, HeldLeftSince}
+use Rattle.mem_outside.specs.Place.{HeldLeaves, held_moment, HeldLeftSince}
 
 pub held_left_now : (journal : Option MemJournal) (t : ℕ) (image : Image) → t ≤ held_moment journal → HeldLeaves journal image → HeldLeftSince journal t image
 held_left_now None t image le left = left

@@ -1,5 +1,4 @@
 -- The bytes of a pair of slots.
-use Rattle.std.specs.Prelude.{List}
 use Rattle.tsdb_outside.specs.Disk.{Image}
 use Rattle.mem_outside.specs.declared.record.Pair.{Pair}
 

@@ -37,7 +37,7 @@ pub trait Journal: Disk {
 
     /// How many bytes the slot has.
     fn length(&mut self, slot: Slot) -> Result<u64, Failed>
-        ensures length { IfOk result (λ n. IfSome (Self.seen self.old) (λ image. n ≡ length (in_slot slot image))) }
+        ensures length { IfOk result (λ n. ForSome (Self.seen self.old) (λ image. n ≡ length (in_slot slot image))) }
         ensures limit { IfOk result (λ n. n < 2 ^ 63) }
         ensures seen { Self.seen self.new ≡ Self.seen self.old }
         ensures crash { NothingNew (Self.may_leave self.old) (Self.may_leave self.new) }

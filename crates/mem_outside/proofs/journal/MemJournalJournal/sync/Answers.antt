@@ -1,4 +1,4 @@
-use Rattle.std.proofs.Common.{true, false, inl, Some, ap, ◌≡◌, ◌≤◌, ◌∙◌, sym, subst, arith}
+use Rattle.std.proofs.Common.{true, false, inl, Some, ap, ◌≤◌, subst}
 use Rattle.tsdb_outside.specs.Causes.{Rose}
 use Rattle.tsdb_outside.specs.Disk.{Image}
 use Rattle.mem_outside.specs.Record.{after_sync}

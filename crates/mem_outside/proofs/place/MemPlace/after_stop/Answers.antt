@@ -1,5 +1,5 @@
-use Rattle.std.proofs.Common.{rules, ◌≡◌, IfOk}
-use Rattle.mem_outside.specs.Place.{held, held_seen, held_stopped}
+use Rattle.std.proofs.Common.{rules}
+use Rattle.mem_outside.specs.Place.{held}
 use Rattle.mem_outside.proofs.PlaceLemmas.{allowed_after}
 use Rattle.mem_outside.proofs.place.MemPlace.after_stop.Goals as goal
 
