@@ -1,8 +1,8 @@
 use super::*;
-use std::test::Fail;
 use std::fs::{self, File};
 use std::io;
 use std::rt::Files;
+use std::test::Fail;
 use tsdb_outside::{Failed, Journal, Place, Sink, Slot, Source, StoreFault};
 
 // The first byte of a slot and how many bytes it has.
@@ -44,13 +44,19 @@ fn keeps_what_was_synced<P: Place>(place: &mut P, dir: &[u8]) -> Result<bool, St
     Ok(a? == (0, 1) && b? == (3, 3))
 }
 
-fn is_made_and_opened_again<R: Files<File = File> + AllocGlobal + Clone + Drop>(rt: &R) -> Result<bool, Fail> {
+fn is_made_and_opened_again<R: Files<File = File> + AllocGlobal + Clone + Drop>(
+    rt: &R,
+) -> Result<bool, Fail> {
     let mut place = FsPlace::new(rt.clone()?);
     Ok(opens_as_new(&mut place, b"made")? && keeps_what_was_synced(&mut place, b"made")?)
 }
 
 // A store as it is left behind some steps of its making.
-fn is_opened_as_new<R: Files<File = File> + AllocGlobal + Clone + Drop>(rt: &R, dir: &str, names: &[&str]) -> Result<bool, Fail> {
+fn is_opened_as_new<R: Files<File = File> + AllocGlobal + Clone + Drop>(
+    rt: &R,
+    dir: &str,
+    names: &[&str],
+) -> Result<bool, Fail> {
     fs::create_dir(rt, dir)?;
     for name in names {
         fs::write(rt, *name, "")?;
@@ -59,7 +65,10 @@ fn is_opened_as_new<R: Files<File = File> + AllocGlobal + Clone + Drop>(rt: &R, 
     Ok(opens_as_new(&mut place, dir.as_bytes())?)
 }
 
-fn is_refused<R: Files<File = File> + AllocGlobal + Clone + Drop>(rt: &R, dir: &[u8]) -> Result<bool, Fail> {
+fn is_refused<R: Files<File = File> + AllocGlobal + Clone + Drop>(
+    rt: &R,
+    dir: &[u8],
+) -> Result<bool, Fail> {
     let mut place = FsPlace::new(rt.clone()?);
     Ok(matches!(opens_as_new(&mut place, dir), Err(StoreFault::Failed)))
 }
@@ -87,7 +96,13 @@ fn damaged_directory_counts_a_fault(rt: HostRuntime) -> Result<(), Fail> {
     fs::write(&rt, "whole/slot0", "0")?;
     fs::create_dir(&rt, "folder/slot0")?;
     fs::write(&rt, "files/7.tsfile", "")?;
-    for dir in [b"whole".as_slice(), b"folder", b"files", b"\xff", b"no/parent"] {
+    for dir in [
+        b"whole".as_slice(),
+        b"folder",
+        b"files",
+        b"\xff",
+        b"no/parent",
+    ] {
         assert!(rt; is_refused(&rt, dir)?);
     }
     Ok(())
