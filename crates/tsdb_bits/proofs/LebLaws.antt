@@ -1,7 +1,7 @@
 -- The laws of LEB128.
-use Rattle.std.proofs.Common.{◌≡◌, ℕ, zero, suc, ◌+◌, ◌-◌, ◌*◌, ◌/◌, ◌%◌, ◌^◌, ◌<◌, ◌≤◌, List, [], ◌∷◌, ◌++◌, length, get_or, take, drop, refl, sym, ap, subst, ◌∙◌, inl, inr, arith, ltb}
+use Rattle.std.proofs.Common.{◌≡◌, ℕ, zero, suc, ◌+◌, ◌/◌, ◌%◌, ◌<◌, ◌≤◌, List, [], ◌∷◌, ◌++◌, refl, sym, ap, inl, inr, arith}
 use Rattle.std.proofs.lemmas.Bool.{cases_lt, lt-ltb, le-ltb}
-use Rattle.tsdb_bits.specs.Leb.{leb_within, leb, IsCut}
+use Rattle.tsdb_bits.specs.Leb.{leb_within, leb}
 
 turns_do : (f g n : ℕ) → n < f → n < g → leb_within f n ≡ leb_within g n
 unfolding leb_within
@@ -31,16 +31,16 @@ prefix_free_within zero a b x y h e = absurd (omega arith)
 prefix_free_within (suc f) a b x y h e =
     elim (cases_lt a 128) [
       | inl p ↦ elim (cases_lt b 128) [
-          | inl q ↦ heads a b x y (rw (leb_small a p, leb_small b q) at e)
-          | inr q ↦ let k = heads a (b % 128 + 128) x (leb (b / 128) ++ y) (rw (leb_small a p, leb_large b q) at e) in absurd (omega (arith, k.0))
-        ]
+        | inl q ↦ heads a b x y (rw (leb_small a p, leb_small b q) at e)
+        | inr q ↦ let k = heads a (b % 128 + 128) x (leb (b / 128) ++ y) (rw (leb_small a p, leb_large b q) at e) in absurd (omega (arith, k.0))
+      ]
       | inr p ↦ elim (cases_lt b 128) [
-          | inl q ↦ let k = heads (a % 128 + 128) b (leb (a / 128) ++ x) y (rw (leb_large a p, leb_small b q) at e) in absurd (omega (arith, k.0))
-          | inr q ↦
-              let k = heads (a % 128 + 128) (b % 128 + 128) (leb (a / 128) ++ x) (leb (b / 128) ++ y) (rw (leb_large a p, leb_large b q) at e) in
-              let r = prefix_free_within f (a / 128) (b / 128) x y (omega arith) k.1 in
-              (omega (arith, k.0, r.0), r.1)
-        ]
+        | inl q ↦ let k = heads (a % 128 + 128) b (leb (a / 128) ++ x) y (rw (leb_large a p, leb_small b q) at e) in absurd (omega (arith, k.0))
+        | inr q ↦
+            let k = heads (a % 128 + 128) (b % 128 + 128) (leb (a / 128) ++ x) (leb (b / 128) ++ y) (rw (leb_large a p, leb_large b q) at e) in
+            let r = prefix_free_within f (a / 128) (b / 128) x y (omega arith) k.1 in
+            (omega (arith, k.0, r.0), r.1)
+      ]
     ]
 
 -- no spelling begins another

@@ -1,11 +1,10 @@
 -- Moving a packed list through words, as the packing and unpacking loops do.
-use Rattle.std.proofs.Common.{◌≡◌, ℕ, zero, suc, ◌+◌, ◌-◌, ◌*◌, ◌/◌, ◌%◌, ◌^◌, ◌<◌, ◌≤◌, List, [], ◌∷◌, ◌++◌, length, get_or, take, drop, refl, sym, ap, subst, ◌∙◌, inl, inr, arith, All}
+use Rattle.std.proofs.Common.{◌≡◌, ℕ, suc, ◌+◌, ◌-◌, ◌*◌, ◌/◌, ◌%◌, ◌^◌, ◌<◌, ◌≤◌, List, [], ◌∷◌, ◌++◌, length, take, refl, sym, ap, ◌∙◌, arith}
 use Rattle.std.specs.Int.{w64, to_le_bytes}
-use Rattle.std.proofs.Math.Nat.{mul_assoc, mul-zero, add-mul-div_left, zero-mul, div-add-mod}
-use Rattle.std.proofs.lemmas.Nat.{pow-add, pow_pos, mul-le, shr_below, shl_whole}
-use Rattle.std.proofs.lemmas.List.{drop_more, drop_all}
-use Rattle.tsdb_bits.specs.Packing.{joined, number_of_bytes, low_bytes, bytes_for, packed, binary_digits}
-use Rattle.tsdb_bits.proofs.PackingLaws.{scale_suc, pow_le, joined-nil, joined-cons, joined_push, joined-lt, low_bytes_cat, low_bytes_above, take-low_bytes, low_bytes_of_word}
+use Rattle.std.proofs.Math.Nat.{mul_assoc, add-mul-div_left, zero-mul, div-add-mod}
+use Rattle.std.proofs.lemmas.Nat.{pow-add, mul-le}
+use Rattle.tsdb_bits.specs.Packing.{joined, number_of_bytes, low_bytes, bytes_for, packed}
+use Rattle.tsdb_bits.proofs.PackingLaws.{scale_suc, pow_le, joined-nil, joined-cons, joined_push, low_bytes_cat, low_bytes_above, take-low_bytes, low_bytes_of_word}
 
 -- ---- packing
 
@@ -25,7 +24,7 @@ unfolding pending joined
 pending_value filled word w v vs =
     let b : filled + suc (length vs) * w ≡ filled + w + length vs * w = omega arith in
     let n : word + 2 ^ filled * (v + 2 ^ w * joined w vs) ≡ word + v * 2 ^ filled + 2 ^ (filled + w) * joined w vs =
-        rw (pow-add 2 filled w) (omega (arith, mul_assoc (2 ^ filled) (2 ^ w) (joined w vs))) in
+    rw (pow-add 2 filled w) (omega (arith, mul_assoc (2 ^ filled) (2 ^ w) (joined w vs))) in
     rw (b, n) refl
 
 -- a full word goes
@@ -40,7 +39,7 @@ pending_word filled word w vs le =
     let s : 2 ^ filled * j ≡ 2 ^ 64 * (2 ^ f * j) = ap (λ (i : ℕ). 2 ^ i * j) e ∙ rw (pow-add 2 64 f) (mul_assoc (2 ^ 64) (2 ^ f) j) in
     let n : word + 2 ^ filled * j ≡ word + 2 ^ 64 * (2 ^ f * j) = ap (λ (t : ℕ). word + t) s in
     let low : low_bytes 8 (word + 2 ^ 64 * (2 ^ f * j)) ≡ to_le_bytes w64 (word % 2 ^ 64) =
-        low_bytes_above 8 word (2 ^ f * j) ∙ low_of_word word in
+    low_bytes_above 8 word (2 ^ f * j) ∙ low_of_word word in
     let high : (word + 2 ^ 64 * (2 ^ f * j)) / 2 ^ 64 ≡ word / 2 ^ 64 + 2 ^ f * j = add-mul-div_left word (2 ^ f * j) (omega arith) in
     ap (λ (t : ℕ). low_bytes t (word + 2 ^ filled * j)) bytes
     ∙ ap (λ (t : ℕ). low_bytes (8 + k) t) n
@@ -91,7 +90,7 @@ value_moves w counter filled word more stream vs len le e =
     let rest = word / 2 ^ w + 2 ^ (filled - w) * more in
     let c : (counter + 1) * w ≡ suc counter * w = omega arith in
     let s : 2 ^ ((counter + 1) * w) * rest ≡ 2 ^ (counter * w) * (2 ^ w * rest) =
-        ap (λ (i : ℕ). 2 ^ i * rest) c ∙ rw (scale_suc counter w) (omega (arith, mul_assoc (2 ^ w) (2 ^ (counter * w)) rest, mul_assoc (2 ^ (counter * w)) (2 ^ w) rest)) in
+    ap (λ (i : ℕ). 2 ^ i * rest) c ∙ rw (scale_suc counter w) (omega (arith, mul_assoc (2 ^ w) (2 ^ (counter * w)) rest, mul_assoc (2 ^ (counter * w)) (2 ^ w) rest)) in
     let push : joined w (vs ++ word % 2 ^ w ∷ []) ≡ joined w vs + 2 ^ (counter * w) * (word % 2 ^ w) = rw (← len) (joined_push w vs (word % 2 ^ w)) in
     let t : 2 ^ (counter * w) * (word + 2 ^ filled * more) ≡ 2 ^ (counter * w) * (word % 2 ^ w + 2 ^ w * rest) = ap (λ (k : ℕ). 2 ^ (counter * w) * k) (taken filled word w more le) in
     omega (arith, e, push, s, t)

@@ -1,11 +1,10 @@
 -- The laws of packing.
-use Rattle.std.proofs.Common.{◌≡◌, ℕ, zero, suc, ◌+◌, ◌-◌, ◌*◌, ◌/◌, ◌%◌, ◌^◌, ◌<◌, ◌≤◌, List, [], ◌∷◌, ◌++◌, length, get_or, take, drop, refl, sym, ap, subst, ◌∙◌, inl, inr, arith, All}
+use Rattle.std.proofs.Common.{◌≡◌, ℕ, zero, suc, ◌+◌, ◌*◌, ◌/◌, ◌%◌, ◌^◌, ◌<◌, ◌≤◌, List, [], ◌∷◌, ◌++◌, length, take, refl, sym, ap, ◌∙◌, inl, inr, arith, All}
 use Rattle.std.specs.Int.{w64, to_le_bytes}
-use Rattle.std.proofs.Math.Nat.{div-div-eq-div-mul, mul-suc, suc-mul, zero-mul, mul-zero, pow-le-pow_right, add-mul-mod_self_left, add-mul-div_left, mod-eq_of_lt, div-one, eq_of_mul-eq-mul_left, mul_assoc, pow-succ'}
-use Rattle.std.proofs.lemmas.Nat.{pow-add, pow_pos, shr_high, mod_low}
+use Rattle.std.proofs.Math.Nat.{div-div-eq-div-mul, suc-mul, zero-mul, mul-zero, pow-le-pow_right, add-mul-mod_self_left, add-mul-div_left, mod-eq_of_lt, div-one, eq_of_mul-eq-mul_left, mul_assoc, pow-succ'}
+use Rattle.std.proofs.lemmas.Nat.{pow-add}
 use Rattle.std.proofs.lemmas.Bool.{cases_lt, cases_eq}
-use Rattle.std.proofs.lemmas.List.{length-append, append_assoc}
-use Rattle.std.proofs.lemmas.List.Elements.{All-head, All-tail, All-nil}
+use Rattle.std.proofs.lemmas.List.Elements.{All-head, All-tail}
 use Rattle.tsdb_bits.specs.Packing.{joined, number_of_bytes, low_bytes, bytes_for, packed, digits_within, binary_digits}
 
 -- ---- powers
@@ -169,9 +168,9 @@ within_has (suc f) (suc n) h =
         record {
           below = omega (arith, half.below, e);
           reached = λ _. elim (cases_lt 0 (n / 2)) [
-              | inl q ↦ omega (arith, half.reached q, e)
-              | inr q ↦ let z : d ≡ 0 = half.none (omega arith) in rw z (omega arith)
-            ];
+            | inl q ↦ omega (arith, half.reached q, e)
+            | inr q ↦ let z : d ≡ 0 = half.none (omega arith) in rw z (omega arith)
+          ];
           none = λ q. absurd (omega arith);
         }
 

@@ -1,8 +1,8 @@
 -- Reading a LEB128 number group by group.
-use Rattle.std.proofs.Common.{◌≡◌, ℕ, zero, suc, ◌+◌, ◌-◌, ◌*◌, ◌/◌, ◌%◌, ◌^◌, ◌<◌, ◌≤◌, List, [], ◌∷◌, ◌++◌, length, get_or, take, drop, refl, sym, ap, subst, ◌∙◌, inl, inr, arith, All}
+use Rattle.std.proofs.Common.{◌≡◌, ℕ, ◌+◌, ◌-◌, ◌*◌, ◌/◌, ◌%◌, ◌^◌, ◌<◌, ◌≤◌, List, ◌∷◌, ◌++◌, length, get_or, drop, refl, sym, ap, subst, ◌∙◌, inl, inr, arith}
 use Rattle.std.proofs.Math.Nat.{mul_assoc}
-use Rattle.std.proofs.lemmas.Nat.{pow-add, pow_pos, mul-le}
-use Rattle.std.proofs.lemmas.Bool.{cases_lt, cases_eq}
+use Rattle.std.proofs.lemmas.Nat.{pow-add, mul-le}
+use Rattle.std.proofs.lemmas.Bool.{cases_lt}
 use Rattle.std.proofs.lemmas.List.{drop_more, drop_all, get_or_default}
 use Rattle.tsdb_bits.specs.Leb.{leb, IsCut}
 use Rattle.tsdb_bits.proofs.LebLaws.{leb_small, leb_large, leb_first, leb_next, leb-some}
@@ -35,9 +35,9 @@ more_groups bytes i low b g lt e top byte =
       long = omega arith;
       below = let m = mul-le (b - 128) (2 ^ (7 * i)) 127 (2 ^ (7 * i)) (omega arith) (omega arith) in omega (arith, g.below);
       tops = λ k d h. elim (cases_lt k i) [
-          | inl p ↦ g.tops k d p
-          | inr p ↦ let q : k ≡ i = omega arith in rw q (at_default bytes i d b lt e top)
-        ];
+        | inl p ↦ g.tops k d p
+        | inr p ↦ let q : k ≡ i = omega arith in rw q (at_default bytes i d b lt e top)
+      ];
       builds = λ h x p d.
           let h' = b - 128 + 128 * h in
           let some : 0 < h = p (omega arith) in
@@ -52,7 +52,7 @@ more_groups bytes i low b g lt e top byte =
           let k = leb_next t.0 x b (drop (i + 1) bytes) top byte (sym here ∙ t.2) in
           let whole : t.0 ≡ b - 128 + 128 * (t.0 / 128) = omega (arith, k.1) in
           let n : v ≡ low + (b - 128) * 2 ^ (7 * i) + 2 ^ (7 * (i + 1)) * (t.0 / 128) =
-              t.1 ∙ ap (λ (m : ℕ). low + 2 ^ (7 * i) * m) whole ∙ rw s (omega (arith, mul_assoc (2 ^ (7 * i)) 128 (t.0 / 128))) in
+          t.1 ∙ ap (λ (m : ℕ). low + 2 ^ (7 * i) * m) whole ∙ rw s (omega (arith, mul_assoc (2 ^ (7 * i)) 128 (t.0 / 128))) in
           (t.0 / 128, n, k.2, λ _. omega (arith, k.0));
     }
   where

@@ -1,5 +1,5 @@
 -- What each fault says of the bytes.
-use Rattle.std.specs.Prelude.{◌≡◌, ℕ, ◌+◌, ◌-◌, ◌*◌, ◌<◌, ◌≤◌, ◌^◌, ◌⊎◌, List, length, drop, All}
+use Rattle.std.specs.Prelude.{◌≡◌, ℕ, ◌+◌, ◌<◌, ◌≤◌, ◌^◌, ◌⊎◌, List, length, drop, All}
 use Rattle.tsdb_bits.specs.Leb.{IsCut}
 use Rattle.tsdb_bits.specs.Packing.{bytes_for, packed, HasFillingBit}
 use Rattle.tsdb_bits.specs.declared.fault.BitFault.{BitFault}

@@ -1,5 +1,5 @@
 -- LEB128: groups of seven bits, the lowest first. Each byte but the last has its top bit set.
-use Rattle.std.specs.Prelude.{◌≡◌, ℕ, suc, zero, ◌+◌, ◌/◌, ◌%◌, ◌<◌, ◌≤◌, List, [], ◌∷◌, length, nat_lt, if◌then◌else◌, All}
+use Rattle.std.specs.Prelude.{ℕ, suc, zero, ◌+◌, ◌/◌, ◌%◌, ◌<◌, ◌≤◌, List, [], ◌∷◌, length, nat_lt, if◌then◌else◌, All}
 
 -- the groups of a number, where `turns` is more than how often it can be divided by 128
 unfoldable pub leb_within : ℕ → ℕ → List ℕ

@@ -62,12 +62,7 @@ fn low_bits(word: u128, width: u8) -> u64
 /// The `count` values whose packing at the width the bytes are.
 ///
 /// `Short` comes where there are too few bytes, `Overlong` where a filling bit is set or bytes follow.
-pub fn unpack(
-    alloc: Global,
-    bytes: &[u8],
-    count: u64,
-    width: u8,
-) -> Result<Vec<u64>, UnpackFault>
+pub fn unpack(alloc: Global, bytes: &[u8], count: u64, width: u8) -> Result<Vec<u64>, UnpackFault>
     requires width_fits { width ≤ 64 }
     requires few { count ≤ 1000 }
     ensures values { IfOk result (λ values. IsPacking width count bytes.now values.items) }

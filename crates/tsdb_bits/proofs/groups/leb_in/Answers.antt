@@ -1,4 +1,4 @@
-use Rattle.std.proofs.Common.{◌≡◌, ◌+◌, ◌-◌, ◌*◌, ◌/◌, ◌%◌, ◌^◌, ◌<◌, ◌≤◌, List, ◌++◌, ◌∷◌, [], ℕ, length, take, drop, get_or, rules, arith, ap, sym, subst, ◌∙◌, inl, inr}
+use Rattle.std.proofs.Common.{◌≡◌, ◌+◌, ◌-◌, ◌*◌, ◌%◌, ◌^◌, ◌<◌, ◌++◌, ℕ, drop, rules, arith, ap, sym, subst, ◌∙◌, inl, inr}
 use Rattle.std.proofs.lemmas.Nat.{shl_whole}
 use Rattle.tsdb_bits.specs.Leb.{leb}
 use Rattle.tsdb_bits.proofs.Reading.{Groups, more_groups, ends_with, ended, none_here, tenth_high}
@@ -22,7 +22,7 @@ returns-then-byte-lt128-clause-read c =
     let is : b ≡ c.in-Some.field-0.now = c.from.ensures in
     let some : 0 < c.loop-i.i → 0 < b = λ h. elim c.else-byte-eq0.either [ inl p ↦ absurd (omega (arith, p.1)) | inr ne ↦ omega (arith, ne) ] in
     subst (λ (t : ℕ). c.args.bytes.now ≡ leb (c.loop-i.low + t) ++ drop (c.loop-i.i + 1) c.args.bytes.now) (whole b c.loop-i.i (omega arith) (omega arith))
-        (ends_with c.args.bytes.now c.loop-i.i c.loop-i.low b c.loop-i.invariant (search rules) (search rules) (omega arith) some)
+    (ends_with c.args.bytes.now c.loop-i.i c.loop-i.low b c.loop-i.invariant (search rules) (search rules) (omega arith) some)
 
 pub loop-i-preserved : goal.loop-i-preserved
 loop-i-preserved c =

@@ -1,4 +1,4 @@
-use Rattle.std.proofs.Common.{◌≡◌, ◌+◌, ◌*◌, ◌++◌, ◌<◌, ◌≤◌, ◌^◌, ◌⊎◌, length, take, drop, vec_len, All}
+use Rattle.std.proofs.Common.{◌≡◌, ◌+◌, ◌*◌, ◌<◌, ◌^◌, ◌⊎◌, length, All}
 use Rattle.tsdb_bits.specs.Packing.{joined, number_of_bytes}
 use Rattle.tsdb_bits.proofs.packing.values_in.Given as goal
 

@@ -1,9 +1,10 @@
-use Rattle.std.proofs.Common.{◌≡◌, ℕ, ◌+◌, ◌-◌, ◌*◌, ◌^◌, ◌<◌, ◌≤◌, arith, rules, inl, inr, sym, add-one}
+use Rattle.std.proofs.Common.{◌≡◌, ℕ, ◌+◌, ◌-◌, ◌*◌, ◌^◌, ◌<◌, ◌≤◌, arith, inl, inr, add-one, ◌∙◌}
+use lib.Count.{count_leading_zeros}
 use Rattle.std.proofs.Math.Nat.{pow-succ'}
 use Rattle.std.proofs.lemmas.Nat.{leading_length}
 use Rattle.std.proofs.lemmas.Bool.{cases_lt}
 use Rattle.tsdb_bits.specs.Packing.{binary_digits}
-use Rattle.tsdb_bits.proofs.PackingLaws.{HasDigits, digits_of_number, digits_least, pow_le}
+use Rattle.tsdb_bits.proofs.PackingLaws.{digits_of_number, digits_least, pow_le}
 use Rattle.tsdb_bits.proofs.packing.width.Goals as goal
 
 -- both are the least power above n
@@ -22,4 +23,5 @@ pub returns : goal.returns
 returns c =
     let value = c.args.value in
     let k = leading_length 64 value (omega arith) in
-    ?
+    let e : 64 - count_leading_zeros 64 value ≡ k.0 = omega (arith, k.1) in
+    e ∙ same_digits value k.0 k.2 k.3
