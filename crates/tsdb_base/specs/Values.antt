@@ -1,0 +1,32 @@
+-- The type of a value, and which encodings suit a type.
+use Rattle.std.specs.Prelude.{Bool, true, false}
+use Rattle.tsdb_base.specs.declared.value.DataType.{DataType}
+use Rattle.tsdb_base.specs.declared.value.DataType.TheVariants.{Boolean, Int32, Int64, Text as TextType}
+use Rattle.tsdb_base.specs.declared.value.Encoding.{Encoding}
+use Rattle.tsdb_base.specs.declared.value.Encoding.TheVariants.{Plain, Dictionary, Rle, Ts2diff}
+use Rattle.tsdb_base.specs.declared.value.Value.{Value}
+use Rattle.tsdb_base.specs.declared.value.Value.TheVariants as value
+
+-- the type that a value has
+abbrev pub type_of : Value → DataType
+type_of (value.Bool b) = Boolean
+type_of (value.I32 n) = Int32
+type_of (value.I64 n) = Int64
+type_of (value.Text bytes) = TextType
+
+-- every type may be written plainly, runs are of booleans and numbers, differences of numbers,
+-- and a dictionary of texts
+abbrev pub is_suitable : DataType → Encoding → Bool
+is_suitable t Plain = true
+is_suitable Boolean Rle = true
+is_suitable Int32 Rle = true
+is_suitable Int64 Rle = true
+is_suitable TextType Rle = false
+is_suitable Boolean Ts2diff = false
+is_suitable Int32 Ts2diff = true
+is_suitable Int64 Ts2diff = true
+is_suitable TextType Ts2diff = false
+is_suitable Boolean Dictionary = false
+is_suitable Int32 Dictionary = false
+is_suitable Int64 Dictionary = false
+is_suitable TextType Dictionary = true
