@@ -34,17 +34,17 @@ returns-clause-only c =
     let some : 0 < c.in-Some.count = omega (arith, c.if-count-eq0.false) in
     let found = rw (c.deref.ensures.value, c.deref-2.ensures.value) at c.texts_at.ensures.found in
     IfOk-weaker c.texts_at.result (λ read. read.items ≡ map (λ place. slice_index_or c.in_ok-read.read.texts.items place []) c.in_ok-read.read.places.items)
-        (λ read. (values : List (List ℕ)) → length values ≤ 1000 → All IsText values → c.args.bytes.now ≡ spelling values → values ≡ read.items)
-        (λ read is values few is_text spelled.
-            values_back values c.in_ok-read.read.texts.items c.in_ok-read.read.places.items
-                (read_back values c.in_ok-read.read.texts.items c.in_ok-read.read.places.items c.in-Some.count c.args.bytes.now c.in-Some.rest.now some c.in-Some.ensures.found
-                    c.in_ok-read.ensures.found c.in_ok-read.ensures.counted c.in_ok-read.ensures.texts c.in_ok-read.ensures.fitting is_text spelled)
-                ∙ sym is)
-        found
+    (λ read. (values : List (List ℕ)) → length values ≤ 1000 → All IsText values → c.args.bytes.now ≡ spelling values → values ≡ read.items)
+    (λ read is values few is_text spelled.
+    values_back values c.in_ok-read.read.texts.items c.in_ok-read.read.places.items
+    (read_back values c.in_ok-read.read.texts.items c.in_ok-read.read.places.items c.in-Some.count c.args.bytes.now c.in-Some.rest.now some c.in-Some.ensures.found
+    c.in_ok-read.ensures.found c.in_ok-read.ensures.counted c.in_ok-read.ensures.texts c.in_ok-read.ensures.fitting is_text spelled)
+    ∙ sym is)
+    found
 
 pub returns-clause-bad : goal.returns-clause-bad
 returns-clause-bad c = λ is_bad values few is_text spelled.
     let some : 0 < c.in-Some.count = omega (arith, c.if-count-eq0.false) in
     let same = read_back values c.in_ok-read.read.texts.items c.in_ok-read.read.places.items c.in-Some.count c.args.bytes.now c.in-Some.rest.now some c.in-Some.ensures.found
-        c.in_ok-read.ensures.found c.in_ok-read.ensures.counted c.in_ok-read.ensures.texts c.in_ok-read.ensures.fitting is_text spelled in
+    c.in_ok-read.ensures.found c.in_ok-read.ensures.counted c.in_ok-read.ensures.texts c.in_ok-read.ensures.fitting is_text spelled in
     c.texts_at.ensures.bad is_bad (rw (c.deref.ensures.value, c.deref-2.ensures.value) (within_back values c.in_ok-read.read.texts.items c.in_ok-read.read.places.items same))
