@@ -81,7 +81,7 @@ fn texts_at(alloc: Global, texts: &[Text], places: &[u64]) -> Result<Vec<Text>, 
 /// The one list that the bytes may be the spelling of. It is `Bad` where they are surely of none.
 fn candidate(alloc: Global, bytes: &[u8]) -> Result<Vec<Text>, DecodeFault>
     ensures few { IfOk result (λ read. vec_len read ≤ 1000) }
-    ensures only { IfOk result (λ read. (values : List (List ℕ)) → length values ≤ 1000 → All IsText values → bytes.now ≡ spelling values → values ≡ read.items) }
+    ensures only { IfOk result (λ read. (values : List (List ℕ)) → All IsText values → bytes.now ≡ spelling values → values ≡ read.items) }
     ensures bad { IsErrOf result DecodeFault.Bad → (values : List (List ℕ)) → length values ≤ 1000 → All IsText values → bytes.now ≡ spelling values → ⊥ }
 {
     let Some((count, rest)) = number_at(bytes) else {
@@ -105,6 +105,8 @@ fn candidate(alloc: Global, bytes: &[u8]) -> Result<Vec<Text>, DecodeFault>
 pub fn decode_text(alloc: Global, bytes: &[u8]) -> Result<Vec<Text>, DecodeFault>
     ensures few { IfOk result (λ values. vec_len values ≤ 1000) }
     ensures found { IfOk result (λ values. bytes.now ≡ spelling values.items) }
+    // No other list is written so.
+    ensures only { IfOk result (λ read. (values : List (List ℕ)) → All IsText values → bytes.now ≡ spelling values → values ≡ read.items) }
     ensures bad { IsErrOf result DecodeFault.Bad → (values : List (List ℕ)) → length values ≤ 1000 → All IsText values → bytes.now ≡ spelling values → ⊥ }
 {
     let values = candidate(alloc, bytes)?;

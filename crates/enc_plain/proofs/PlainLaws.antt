@@ -25,3 +25,10 @@ pub nothing_behind : {A : Type 0} (each : A → List ℕ) (IsValue : A → Type 
 nothing_behind each IsValue free xs values count bytes middle rest e parted counted is_x is_v spelled =
     let behind = behind_count each values count bytes middle e spelled in
     (same_values each IsValue free xs values rest [] (counted ∙ sym behind.0) is_x is_v (sym parted ∙ behind.1)).1
+
+-- and no other list is
+pub only_these : {A : Type 0} (each : A → List ℕ) (IsValue : A → Type 0) (free : IsPrefixFree each IsValue) (xs values : List A) (count : ℕ) (bytes middle rest : List ℕ) → bytes ≡ leb count ++ middle → middle ≡ flat_map each xs ++ rest → length xs ≡ count
+    → All IsValue xs → All IsValue values → bytes ≡ spelling each values → values ≡ xs
+only_these each IsValue free xs values count bytes middle rest e parted counted is_x is_v spelled =
+    let behind = behind_count each values count bytes middle e spelled in
+    sym (same_values each IsValue free xs values rest [] (counted ∙ sym behind.0) is_x is_v (sym parted ∙ behind.1)).0

@@ -42,6 +42,7 @@ fn counted(bytes: &[u8]) -> Result<(usize, &[u8]), DecodeFault>
 fn decode<T: PlainValue>(alloc: Global, bytes: &[u8]) -> Result<Vec<T>, DecodeFault>
     ensures few { IfOk result (λ values. vec_len values ≤ 1000) }
     ensures found { IfOk result (λ values. bytes.now ≡ spelling T.spelled values.items) }
+    ensures only { IfOk result (λ read. (values : List T) → All T.is_value values → bytes.now ≡ spelling T.spelled values → values ≡ read.items) }
     ensures bad { IsErrOf result DecodeFault.Bad → (values : List T) → length values ≤ 1000 → All T.is_value values → bytes.now ≡ spelling T.spelled values → ⊥ }
 {
     let (count, rest) = counted(bytes)?;
@@ -89,6 +90,8 @@ pub fn encode_text(alloc: Global, values: &[Text]) -> Result<Vec<u8>, Memory>
 pub fn decode_bool(alloc: Global, bytes: &[u8]) -> Result<Vec<bool>, DecodeFault>
     ensures few { IfOk result (λ values. vec_len values ≤ 1000) }
     ensures found { IfOk result (λ values. bytes.now ≡ spelling plain_bool values.items) }
+    // No other list is written so.
+    ensures only { IfOk result (λ read. (values : List Bool) → bytes.now ≡ spelling plain_bool values → values ≡ read.items) }
     ensures bad { IsErrOf result DecodeFault.Bad → (values : List Bool) → length values ≤ 1000 → bytes.now ≡ spelling plain_bool values → ⊥ }
 {
     decode(alloc, bytes)
@@ -99,6 +102,8 @@ pub fn decode_bool(alloc: Global, bytes: &[u8]) -> Result<Vec<bool>, DecodeFault
 pub fn decode_i32(alloc: Global, bytes: &[u8]) -> Result<Vec<i32>, DecodeFault>
     ensures few { IfOk result (λ values. vec_len values ≤ 1000) }
     ensures found { IfOk result (λ values. bytes.now ≡ spelling plain_i32 values.items) }
+    // No other list is written so.
+    ensures only { IfOk result (λ read. (values : List ℤ) → All (FitsSigned w32) values → bytes.now ≡ spelling plain_i32 values → values ≡ read.items) }
     ensures bad { IsErrOf result DecodeFault.Bad → (values : List ℤ) → length values ≤ 1000 → All (FitsSigned w32) values → bytes.now ≡ spelling plain_i32 values → ⊥ }
 {
     decode(alloc, bytes)
@@ -109,6 +114,8 @@ pub fn decode_i32(alloc: Global, bytes: &[u8]) -> Result<Vec<i32>, DecodeFault>
 pub fn decode_i64(alloc: Global, bytes: &[u8]) -> Result<Vec<i64>, DecodeFault>
     ensures few { IfOk result (λ values. vec_len values ≤ 1000) }
     ensures found { IfOk result (λ values. bytes.now ≡ spelling plain_i64 values.items) }
+    // No other list is written so.
+    ensures only { IfOk result (λ read. (values : List ℤ) → All (FitsSigned w64) values → bytes.now ≡ spelling plain_i64 values → values ≡ read.items) }
     ensures bad { IsErrOf result DecodeFault.Bad → (values : List ℤ) → length values ≤ 1000 → All (FitsSigned w64) values → bytes.now ≡ spelling plain_i64 values → ⊥ }
 {
     decode(alloc, bytes)
@@ -119,6 +126,8 @@ pub fn decode_i64(alloc: Global, bytes: &[u8]) -> Result<Vec<i64>, DecodeFault>
 pub fn decode_text(alloc: Global, bytes: &[u8]) -> Result<Vec<Text>, DecodeFault>
     ensures few { IfOk result (λ values. vec_len values ≤ 1000) }
     ensures found { IfOk result (λ values. bytes.now ≡ spelling plain_text values.items) }
+    // No other list is written so.
+    ensures only { IfOk result (λ read. (values : List (List ℕ)) → All IsText values → bytes.now ≡ spelling plain_text values → values ≡ read.items) }
     ensures bad { IsErrOf result DecodeFault.Bad → (values : List (List ℕ)) → length values ≤ 1000 → All IsText values → bytes.now ≡ spelling plain_text values → ⊥ }
 {
     decode(alloc, bytes)

@@ -1,4 +1,4 @@
-use Rattle.std.proofs.Common.{◌≡◌, ◌<◌, ◌≤◌, ℕ, List, [], Err, length, sym, ap, ◌∙◌, arith}
+use Rattle.std.proofs.Common.{◌≡◌, ◌<◌, ℕ, List, [], Err, sym, ap, ◌∙◌, arith}
 use Rattle.std.specs.Prelude.{map, All, slice_index_or}
 use Rattle.std.proofs.lemmas.List.{nil_from_length}
 use Rattle.std.proofs.lemmas.Result.{err_from_is_err_and, IfOk-weaker}
@@ -17,7 +17,7 @@ returns-then-count-gt-MAX_VALUES-clause-bad c = λ is_bad values few is_text spe
     omega (arith, number, few, c.if-count-gt-MAX_VALUES.true)
 
 pub returns-then-count-eq0-clause-only : goal.returns-then-count-eq0-clause-only
-returns-then-count-eq0-clause-only c = λ values few is_text spelled.
+returns-then-count-eq0-clause-only c = λ values is_text spelled.
     let number = counted values c.in-Some.count c.args.bytes.now c.in-Some.rest.now c.in-Some.ensures.found spelled in
     nil_from_length values (number ∙ c.if-count-eq0.true) ∙ sym c.new.ensures.items
 
@@ -34,8 +34,8 @@ returns-clause-only c =
     let some : 0 < c.in-Some.count = omega (arith, c.if-count-eq0.false) in
     let found = rw (c.deref.ensures.value, c.deref-2.ensures.value) at c.texts_at.ensures.found in
     IfOk-weaker c.texts_at.result (λ read. read.items ≡ map (λ place. slice_index_or c.in_ok-read.read.texts.items place []) c.in_ok-read.read.places.items)
-    (λ read. (values : List (List ℕ)) → length values ≤ 1000 → All IsText values → c.args.bytes.now ≡ spelling values → values ≡ read.items)
-    (λ read is values few is_text spelled.
+    (λ read. (values : List (List ℕ)) → All IsText values → c.args.bytes.now ≡ spelling values → values ≡ read.items)
+    (λ read is values is_text spelled.
     values_back values c.in_ok-read.read.texts.items c.in_ok-read.read.places.items
     (read_back values c.in_ok-read.read.texts.items c.in_ok-read.read.places.items c.in-Some.count c.args.bytes.now c.in-Some.rest.now some c.in-Some.ensures.found
     c.in_ok-read.ensures.found c.in_ok-read.ensures.counted c.in_ok-read.ensures.texts c.in_ok-read.ensures.fitting is_text spelled)

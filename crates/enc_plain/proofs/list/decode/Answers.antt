@@ -2,7 +2,7 @@ use Rattle.std.proofs.Common.{◌≡◌, Err, [], length, ap, rules}
 use Rattle.std.proofs.lemmas.Result.{err_from_is_err_and}
 use Rattle.std.specs.List.{flat_map}
 use Rattle.tsdb_base.specs.declared.fault.DecodeFault.TheVariants.{Bad}
-use Rattle.enc_plain.proofs.PlainLaws.{behind_count, nothing_behind}
+use Rattle.enc_plain.proofs.PlainLaws.{behind_count, nothing_behind, only_these}
 use Rattle.enc_plain.proofs.list.decode.Goals as goal
 
 pub returns-in_err-count-clause-bad : goal.returns-in_err-count-clause-bad
@@ -23,3 +23,8 @@ returns-then-not-is_empty-clause-bad g c = λ is_bad values few valued spelled.
     c.in_ok-count.rest.now c.in_ok-values.rest.now c.in_ok-count.ensures.found c.in_ok-values.ensures.found c.in_ok-values.ensures.counted c.in_ok-values.ensures.valued valued spelled in
     let none = ap length nothing in
     search rules
+
+pub returns-clause-only : goal.returns-clause-only
+returns-clause-only g c = λ values valued spelled.
+    only_these g.T.PlainValue.spelled g.T.PlainValue.is_value g.met.T.PlainValue.prefix_free c.in_ok-values.values.items values c.in_ok-count.count c.args.bytes.now
+    c.in_ok-count.rest.now c.in_ok-values.rest.now c.in_ok-count.ensures.found c.in_ok-values.ensures.found c.in_ok-values.ensures.counted c.in_ok-values.ensures.valued valued spelled
