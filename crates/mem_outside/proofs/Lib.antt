@@ -1,1 +1,4 @@
 mod Moves
+mod RecordLemmas
+mod JournalLemmas
+mod PlaceLemmas

@@ -1,2 +1,11 @@
 pub mod Calls
+pub mod Journal
+pub mod Laws
+pub mod Place
+pub mod PlaceLaws
+pub mod Record
+pub mod Recorded
+pub mod Replay
+pub mod Slots
+pub mod Steady
 pub mod Streams

@@ -1,6 +1,6 @@
 // Calls that fail by their number.
-ghost use Rattle.std.specs.Prelude.{◌≡◌, ◌↔◌, ◌+◌, ◌-◌, ◌^◌, min, IsErr, OnOk, OnErr};
-ghost use Rattle.tsdb_outside.specs.Causes.{HasCause};
+ghost use Rattle.std.specs.Prelude.{◌≡◌, ◌↔◌, ◌+◌, ◌-◌, ◌^◌, ◌≤◌, min, IsErr, OnOk, OnErr};
+ghost use Rattle.tsdb_outside.specs.Causes.{HasCause, Rose};
 
 use tsdb_outside::Failed;
 
@@ -33,6 +33,7 @@ impl Calls {
           made = next_call self.old;
           faults = min (self.old.faults + 1) (2 ^ 64 - 1);
         }) }
+        ensures count { OnOk result (self.new.faults ≡ self.old.faults) }
         ensures cause { HasCause self.old.faults self.new.faults result }
     {
         self.made = self.made.saturating_add(1);
@@ -41,5 +42,29 @@ impl Calls {
             return Err(Failed);
         }
         Ok(())
+    }
+
+    /// Counts a call that failed for another reason.
+    pub fn fail(&mut self) -> Failed
+        ensures numbers { self.new ≡ record self.old { faults = min (self.old.faults + 1) (2 ^ 64 - 1) } }
+        ensures later { self.old.faults ≤ self.new.faults }
+        ensures rose { Rose self.old.faults self.new.faults }
+    {
+        self.faults = self.faults.saturating_add(1);
+        Failed
+    }
+
+    /// How many calls have failed.
+    pub fn faults(&self) -> u64
+        ensures { result ≡ self.now.faults }
+    {
+        self.faults
+    }
+
+    /// Counts its faults from 0 again.
+    pub fn take_faults(&mut self)
+        ensures { self.new ≡ record self.old { faults = 0 } }
+    {
+        self.faults = 0;
     }
 }

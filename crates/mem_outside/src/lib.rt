@@ -3,8 +3,14 @@
 #![tactic(auto)]
 
 mod calls;
+mod journal;
+mod place;
+mod record;
 mod streams;
 
+pub use journal::MemJournal;
+pub use place::{Fails, MemPlace, SteadyPlace};
+pub use record::StopKind;
 pub use streams::{MemSink, MemSource, SteadySink, SteadySource};
 
 #[cfg(test)]

@@ -1,12 +1,12 @@
 // Sources and sinks in memory.
-ghost use Rattle.std.specs.Prelude.{◌≡◌, ◌↔◌, ◌≤◌, ◌<◌, ◌++◌, [], min, length, take, Some, IsErr, IfOk, OnErr, refl, vec_len};
+ghost use Rattle.std.specs.Prelude.{◌≡◌, ◌↔◌, ◌≤◌, ◌<◌, ◌++◌, [], min, length, take, Some, IsErr, IfOk, OnOk, OnErr, refl, vec_len};
 ghost use Rattle.std.specs.Io.{ReadsAtMost, WritesAtMost};
 ghost use Rattle.std.specs.Io.KnownBytes.{ReadConsumes, WriteAppends};
 ghost use Rattle.tsdb_outside.specs.Causes.{HasCause, HasStoreCause};
 ghost use Rattle.mem_outside.specs.Calls.{NextFails};
 
 use crate::calls::Calls;
-use std::alloc::Global;
+use std::alloc::{AllocError, Global};
 use tsdb_outside::{Counted, Failed, Sink, Source, Steady, StoreFault};
 
 // Bytes of which some have been taken.
@@ -114,6 +114,16 @@ impl Source for SteadySource {
     }
 }
 
+// Puts the whole piece behind what is held.
+fn append(held: &mut Vec<u8>, bytes: &[u8]) -> Result<usize, AllocError>
+    ensures count { IfOk result (λ count. count ≡ length bytes.now) }
+    ensures ok { OnOk result (held.new.items ≡ held.old.items ++ bytes.now) }
+    ensures err { OnErr result (held.new.items ≡ held.old.items) }
+{
+    held.extend_from_slice(bytes)?;
+    Ok(bytes.len())
+}
+
 /// A sink in memory some of whose calls fail. It takes the whole piece that it is given.
 #[derive(Drop)]
 pub struct MemSink {
@@ -165,8 +175,7 @@ impl Sink for MemSink {
         ensures fails { (result ≡ Err StoreFault.Failed) ↔ NextFails (mem_sink_calls self.old) }
     {
         self.calls.make()?;
-        self.bytes.extend_from_slice(bytes)?;
-        Ok(bytes.len())
+        Ok(append(&mut self.bytes, bytes)?)
     }
 }
 
@@ -218,7 +227,6 @@ impl Sink for SteadySink {
         // It takes the whole piece.
         ensures whole { IfOk result (λ count. count ≡ length bytes.now) }
     {
-        self.bytes.extend_from_slice(bytes)?;
-        Ok(bytes.len())
+        Ok(append(&mut self.bytes, bytes)?)
     }
 }

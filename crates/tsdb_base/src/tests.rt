@@ -61,3 +61,28 @@ fn values_and_lists(rt: HostRuntime) -> Result<(), Fail> {
     assert_eq!(rt; list.into_vec().as_slice(), [3, 1, 3].as_slice());
     Ok(())
 }
+
+#[test]
+fn values_by_themselves(rt: HostRuntime) -> Result<(), Fail> {
+    let alloc = rt.alloc();
+    let mut bytes = Vec::new(alloc);
+    put_all(&[true, false], &mut bytes)?;
+    put_all(&[1, -1], &mut bytes)?;
+    put_all(&[i64::MIN], &mut bytes)?;
+    Text::new(alloc, b"a")?.put(&mut bytes)?;
+    assert_eq!(rt;
+        bytes.as_slice(),
+        b"\x01\x00\x00\x00\x00\x01\xff\xff\xff\xff\x80\x00\x00\x00\x00\x00\x00\x00\x00\x01a".as_slice()
+    );
+    let (flags, rest) = take_all::<bool>(alloc, 2, &bytes)?;
+    let (numbers, rest) = take_all::<i32>(alloc, 2, rest)?;
+    let (least, rest) = i64::take(alloc, rest)?;
+    let (text, rest) = Text::take(alloc, rest)?;
+    assert_eq!(rt; flags.as_slice(), [true, false].as_slice());
+    assert_eq!(rt; numbers.as_slice(), [1, -1].as_slice());
+    assert_eq!(rt; least, i64::MIN);
+    assert_eq!(rt; text.bytes(), b"a".as_slice());
+    assert!(rt; rest.is_empty());
+    assert!(rt; matches!(Text::take(alloc, &[0, 2, 7]), Err(DecodeFault::Bad)));
+    Ok(())
+}

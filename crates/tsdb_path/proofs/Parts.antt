@@ -163,18 +163,20 @@ IsPath-child device name path node few short =
       short = short;
     })
 
-abbrev IsPathByte : ℕ → Type 0
+-- a byte of a path, as a fact
+abbrev pub IsPathByte : ℕ → Type 0
 IsPathByte b = IsTrue (is_path_byte b)
 
-node_path_bytes : (node : List ℕ) → IsNode node → All IsPathByte node
-node_path_bytes node h = All-weaker (λ b. IsTrue (is_node_byte b)) IsPathByte is_path_byte-node node h.letters
+-- a node has bytes of paths alone
+pub IsNode-bytes : (node : List ℕ) → IsNode node → All IsPathByte node
+IsNode-bytes node h = All-weaker (λ b. IsTrue (is_node_byte b)) IsPathByte is_path_byte-node node h.letters
 
 joined_bytes : (nodes : List (List ℕ)) → All IsNode nodes → All IsPathByte (join_with_byte dot nodes)
 joined_bytes [] good = All-nil IsPathByte
-joined_bytes (x ∷ []) good = node_path_bytes x (All-head IsNode x [] good)
+joined_bytes (x ∷ []) good = IsNode-bytes x (All-head IsNode x [] good)
 joined_bytes (x ∷ y ∷ nodes) good =
     All-append IsPathByte x (dot ∷ join_with_byte dot (y ∷ nodes))
-    (node_path_bytes x (All-head IsNode x (y ∷ nodes) good))
+    (IsNode-bytes x (All-head IsNode x (y ∷ nodes) good))
     (All-cons IsPathByte dot (join_with_byte dot (y ∷ nodes)) refl (joined_bytes (y ∷ nodes) (All-tail IsNode x (y ∷ nodes) good)))
 
 -- a path has bytes of nodes and dots alone

@@ -56,6 +56,14 @@ fn split_first(bytes: &[u8]) -> (&[u8], Option<&[u8]>)
     }
 }
 
+/// Where `rest`, which is the end of `bytes`, begins.
+fn place(bytes: &[u8], rest: &[u8]) -> u64
+    requires { length rest.now ≤ length bytes.now }
+    ensures { result ≡ length bytes.now - length rest.now }
+{
+    (bytes.len() - rest.len()) as u64
+}
+
 /// The bytes behind the first node of `rest`, which is the end of `bytes`, and its dot.
 fn next_node<'a>(bytes: &[u8], rest: &'a [u8]) -> Result<Option<&'a [u8]>, PathFault>
     requires { length rest.now ≤ length bytes.now }
@@ -67,7 +75,7 @@ fn next_node<'a>(bytes: &[u8], rest: &'a [u8]) -> Result<Option<&'a [u8]>, PathF
     if is_node(node) {
         Ok(more)
     } else {
-        let at = (bytes.len() - rest.len()) as u64;
+        let at = place(bytes, rest);
         Err(PathFault::BadNode { at })
     }
 }
@@ -87,10 +95,12 @@ fn check_nodes(bytes: &[u8]) -> Result<(), PathFault>
         }
     }
     next_node(bytes, rest)?;
-    let at = (bytes.len() - rest.len()) as u64;
-    Err(PathFault::TooLong { at })
+    Err(PathFault::TooLong {
+        at: place(bytes, rest),
+    })
 }
 
+/// Whether there are 1 to 255 bytes.
 fn check_length(bytes: &[u8]) -> Result<(), PathFault>
     ensures ok { OnOk result (HasFittingLength bytes.now) }
     ensures err { IfErr result (RefusesLength bytes.now) }

@@ -1,0 +1,265 @@
+// Two slots in memory, with a record of each write and sync that was asked for.
+ghost use Rattle.std.specs.Prelude.{◌≡◌, ◌≤◌, ◌<◌, ◌^◌, [], length, take, IfOk, OnOk, OnErr, vec_len};
+ghost use Rattle.tsdb_outside.specs.Disk.{in_slot, with_slot, written};
+ghost use Rattle.mem_outside.specs.Record.{Kept, after_write, after_sync, after_kind, after_call, seen_after, inverted, laid, stopped_slot};
+ghost use Rattle.mem_outside.specs.Replay.{Shows};
+ghost use Rattle.mem_outside.specs.Slots.{pair_image};
+
+use std::alloc::{AllocError, Global};
+use tsdb_outside::Slot;
+
+/// What a stop does to each range that was written and not synced since.
+#[derive(Clone, Copy, Debug, PartialEq, Eq)]
+pub enum StopKind {
+    /// It has what was written.
+    Written,
+    /// It has what was there before.
+    Unwritten,
+    /// It has each byte of what was written turned over.
+    Scrambled,
+}
+
+// What a counted call asked for.
+#[derive(Drop)]
+pub enum Kind {
+    Write { at: usize, bytes: Vec<u8> },
+    Sync,
+}
+
+// A counted call, and whether it succeeded.
+#[derive(Drop)]
+pub struct Call {
+    pub slot: Slot,
+    pub done: bool,
+    pub kind: Kind,
+}
+
+impl Call {
+    // Replays a call of this slot; one of the other changes nothing.
+    fn replay_in(
+        &self,
+        slot: Slot,
+        alloc: Global,
+        stop: StopKind,
+        seen: &mut Vec<u8>,
+        left: &mut Vec<u8>,
+    ) -> Result<(), AllocError>
+        ensures { OnOk result ((s : Kept) → Shows stop s seen.old.items left.old.items
+            → Shows stop (after_call slot s self.now) seen.new.items left.new.items) }
+    {
+        match (slot, self.slot) {
+            (Slot::A, Slot::A) | (Slot::B, Slot::B) => {
+                self.kind.replay(alloc, self.done, stop, seen, left)
+            }
+            _ => Ok(()),
+        }
+    }
+}
+
+// The bytes of both slots.
+#[derive(Drop)]
+pub struct Pair {
+    pub a: Vec<u8>,
+    pub b: Vec<u8>,
+}
+
+// Writes over what is there, and past the end; or leaves it as it was.
+fn overwrite(into: &mut Vec<u8>, at: usize, bytes: &[u8]) -> Result<(), AllocError>
+    requires { at ≤ vec_len into.old }
+    ensures ok { OnOk result (into.new.items ≡ written at bytes.now into.old.items) }
+    ensures err { OnErr result (into.new.items ≡ into.old.items) }
+{
+    let inside = bytes.len().min(into.len() - at);
+    into.extend_from_slice(&bytes[inside..])?;
+    into[at..at + inside].copy_from_slice(&bytes[..inside]);
+    Ok(())
+}
+
+// Each byte turned over.
+fn invert(alloc: Global, bytes: &[u8]) -> Result<Vec<u8>, AllocError>
+    ensures { IfOk result (λ turned. turned.items ≡ inverted bytes.now) }
+{
+    bytes.iter().map(|byte| u8::MAX - *byte).collect(alloc)
+}
+
+// Lays a pending write as a stop of this kind leaves it.
+fn lay(
+    alloc: Global,
+    kind: StopKind,
+    at: usize,
+    bytes: &[u8],
+    left: &mut Vec<u8>,
+) -> Result<(), AllocError>
+    ensures { OnOk result (left.new.items ≡ laid kind (at, bytes.now) left.old.items) }
+{
+    let at = at.min(left.len());
+    match kind {
+        StopKind::Written => overwrite(left, at, bytes),
+        StopKind::Unwritten => Ok(()),
+        StopKind::Scrambled => overwrite(left, at, &invert(alloc, bytes)?),
+    }
+}
+
+impl Kind {
+    // Does to what a read gives and to what a stop leaves what this call did.
+    fn replay(
+        &self,
+        alloc: Global,
+        done: bool,
+        stop: StopKind,
+        seen: &mut Vec<u8>,
+        left: &mut Vec<u8>,
+    ) -> Result<(), AllocError>
+        ensures { OnOk result ((s : Kept) → Shows stop s seen.old.items left.old.items
+            → Shows stop (after_kind self.now done s) seen.new.items left.new.items) }
+    {
+        match self {
+            Kind::Write { at, bytes } => {
+                let at = (*at).min(seen.len());
+                lay(alloc, stop, at, bytes, left)?;
+                if done {
+                    overwrite(seen, at, bytes)?;
+                }
+                Ok(())
+            }
+            Kind::Sync => {
+                if done {
+                    *left = seen.to_vec(alloc)?;
+                }
+                Ok(())
+            }
+        }
+    }
+}
+
+impl Pair {
+    fn write(&mut self, slot: Slot, at: usize, bytes: &[u8]) -> Result<(), AllocError>
+        requires { at ≤ length (in_slot slot (pair_image self.old)) }
+        ensures ok { OnOk result (pair_image self.new ≡
+            with_slot slot (written at bytes.now (in_slot slot (pair_image self.old))) (pair_image self.old)) }
+        ensures err { OnErr result (pair_image self.new ≡ pair_image self.old) }
+    {
+        match slot {
+            Slot::A => overwrite(&mut self.a, at, bytes),
+            Slot::B => overwrite(&mut self.b, at, bytes),
+        }
+    }
+
+    pub fn slot(&self, slot: Slot) -> &[u8]
+        ensures { result.now ≡ in_slot slot (pair_image self.now) }
+    {
+        match slot {
+            Slot::A => &self.a,
+            Slot::B => &self.b,
+        }
+    }
+
+    pub fn copy(&self, alloc: Global) -> Result<Pair, AllocError>
+        ensures { IfOk result (λ copy. pair_image copy ≡ pair_image self.now) }
+    {
+        Ok(Pair {
+            a: self.a.to_vec(alloc)?,
+            b: self.b.to_vec(alloc)?,
+        })
+    }
+}
+
+/// Two slots, and a record of each counted call since they were made.
+#[derive(Drop)]
+pub struct Recorded {
+    alloc: Global,
+    first: Pair,
+    current: Pair,
+    calls: Vec<Call>,
+    // What reads give is what the record makes of the first bytes.
+    ghost tied: { pair_image current ≡ seen_after (pair_image first) calls.items },
+}
+
+impl Recorded {
+    ghost use Rattle.mem_outside.specs.Recorded.{recorded_seen, recorded_first, recorded_calls, Adds, SameRecorded};
+
+    /// Two slots with these bytes, all of them synced.
+    pub fn new(alloc: Global, first: Pair) -> Result<Recorded, AllocError>
+        ensures first { IfOk result (λ disk. recorded_first disk ≡ pair_image first) }
+        ensures seen { IfOk result (λ disk. recorded_seen disk ≡ pair_image first) }
+        ensures calls { IfOk result (λ disk. recorded_calls disk ≡ []) }
+    {
+        let current = first.copy(alloc)?;
+        Ok(Recorded {
+            alloc,
+            first,
+            current,
+            calls: Vec::new(alloc),
+        })
+    }
+
+    pub fn slot(&self, slot: Slot) -> &[u8]
+        ensures { result.now ≡ in_slot slot (recorded_seen self.now) }
+    {
+        self.current.slot(slot)
+    }
+
+    /// How many calls were counted.
+    pub fn count(&self) -> usize
+        ensures calls { result ≡ length (recorded_calls self.now) }
+        ensures limit { result < 2 ^ 63 }
+    {
+        self.calls.as_slice().len()
+    }
+
+    /// What a stop of this kind leaves of the slot behind the first `moment` calls.
+    pub fn after_stop(
+        &self,
+        slot: Slot,
+        moment: usize,
+        stop: StopKind,
+    ) -> Result<Vec<u8>, AllocError>
+        requires { moment ≤ length (recorded_calls self.now) }
+        ensures { IfOk result (λ left. left.items ≡
+            stopped_slot stop slot (in_slot slot (recorded_first self.now)) (take moment (recorded_calls self.now))) }
+    {
+        let mut seen = self.first.slot(slot).to_vec(self.alloc)?;
+        let mut left = self.first.slot(slot).to_vec(self.alloc)?;
+        for call in &self.calls[..moment] {
+            call.replay_in(slot, self.alloc, stop, &mut seen, &mut left)?;
+        }
+        Ok(left)
+    }
+
+    /// Records a write, and makes it where it is to succeed. Without room nothing changes.
+    pub fn write(
+        &mut self,
+        slot: Slot,
+        at: usize,
+        bytes: &[u8],
+        done: bool,
+    ) -> Result<(), AllocError>
+        requires { at ≤ length (in_slot slot (recorded_seen self.old)) }
+        ensures ok { OnOk result (Adds slot (after_write at bytes.now done) self.old self.new) }
+        ensures err { OnErr result (SameRecorded self.old self.new) }
+    {
+        let kind = Kind::Write {
+            at,
+            bytes: bytes.to_vec(self.alloc)?,
+        };
+        self.calls.push(Call { slot, done, kind })?;
+        if done && self.current.write(slot, at, bytes).is_err() {
+            self.calls.pop();
+            return Err(AllocError);
+        }
+        Ok(())
+    }
+
+    /// Records a sync. Without room nothing changes.
+    pub fn sync(&mut self, slot: Slot, done: bool) -> Result<(), AllocError>
+        ensures ok { OnOk result (Adds slot (after_sync done) self.old self.new) }
+        ensures err { OnErr result (SameRecorded self.old self.new) }
+    {
+        self.calls.push(Call {
+            slot,
+            done,
+            kind: Kind::Sync,
+        })?;
+        Ok(())
+    }
+}

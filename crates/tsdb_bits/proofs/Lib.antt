@@ -1,0 +1,5 @@
+pub mod LebLaws
+pub mod ZigzagLaws
+pub mod PackingLaws
+pub mod Reading
+pub mod Moving

@@ -1,0 +1,4 @@
+pub mod Leb
+pub mod Zigzag
+pub mod Packing
+pub mod Faults
