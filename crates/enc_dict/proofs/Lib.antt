@@ -1,0 +1,2 @@
+pub mod FirstUses
+pub mod SpellingLaws
