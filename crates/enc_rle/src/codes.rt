@@ -9,7 +9,7 @@ use std::alloc::Global;
 use tsdb_base::{DecodeFault, Memory};
 use tsdb_bits::{get_leb, put_leb};
 
-/// More values than any list has.
+/// The most values that a list may have.
 const LIMIT: u64 = 1000;
 
 /// The bytes of a list of codes.

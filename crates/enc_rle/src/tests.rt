@@ -1,4 +1,5 @@
 use super::*;
+use std::alloc::Global;
 use std::test::*;
 
 #[test]
@@ -101,28 +102,60 @@ fn long_lists(rt: HostRuntime) -> Result<(), Fail> {
     Ok(())
 }
 
-/// Up to two bytes spell the list without values alone, and three bytes that begin with the count 1
-/// one value: a run of length 1 and a code of one byte.
+/// The code of each value of the list that up to three bytes spell, if any: none, or one code of one
+/// byte in a run of length 1.
+fn plain(bytes: &[u8]) -> Option<Option<u8>> {
+    match bytes {
+        [0] => Some(None),
+        [1, 1, code] if *code < 128 => Some(Some(*code)),
+        _ => None,
+    }
+}
+
+fn unfolded(code: u8) -> i8 {
+    let half = (code / 2) as i8;
+    if code % 2 == 0 { half } else { -1 - half }
+}
+
+/// Whether a decoder answered the list wanted, or `Bad` where there is none.
+fn is_answer<T: PartialEq + Drop>(
+    read: Result<Vec<T>, DecodeFault>,
+    wanted: Option<Option<T>>,
+) -> bool {
+    match (read, wanted) {
+        (Ok(values), Some(list)) => values.iter().eq(list.iter()),
+        (Err(DecodeFault::Bad), None) => true,
+        _ => false,
+    }
+}
+
+/// Whether each decoder answers as the plain program.
+fn agrees(alloc: Global, bytes: &[u8]) -> bool {
+    let codes = plain(bytes);
+    let truths = codes.filter(|list| list.is_none_or(|code| code < 2));
+    let numbers = codes.map(|list| list.map(unfolded));
+    is_answer(
+        decode_bool(alloc, bytes),
+        truths.map(|list| list.map(|code| code == 1)),
+    ) && is_answer(
+        decode_i64(alloc, bytes),
+        numbers.map(|list| list.map(i64::from)),
+    ) && is_answer(
+        decode_i32(alloc, bytes),
+        numbers.map(|list| list.map(i32::from)),
+    )
+}
+
+/// Of three bytes, those that begin with 1.
 #[test]
-fn all_short_byte_strings(rt: HostRuntime) {
-    for code in 0..=u16::MAX {
-        let [first, second] = code.to_be_bytes();
-        let spells_none = first == 0 && second == 0;
-        for bytes in [[first].as_slice(), [first, second].as_slice()] {
-            let is_list = spells_none && bytes.len() == 1;
-            if bytes.len() == 2 || second == 0 {
-                assert_eq!(rt; decode_i64(rt.alloc(), bytes).is_ok(), is_list);
-                assert_eq!(rt; decode_bool(rt.alloc(), bytes).is_ok(), is_list);
-            }
+fn every_string_of_two_bytes(rt: HostRuntime) {
+    let alloc = rt.alloc();
+    assert!(rt; agrees(alloc, &[]));
+    for first in 0..=255 {
+        assert!(rt; agrees(alloc, &[first]), "{first}");
+        for second in 0..=255 {
+            assert!(rt; agrees(alloc, &[first, second]), "{first} {second}");
+            assert!(rt; agrees(alloc, &[1, first, second]), "1 {first} {second}");
         }
-        let one = [1, first, second];
-        assert_eq!(rt;
-            decode_i64(rt.alloc(), &one).is_ok(),
-            first == 1 && second < 128
-        );
-        assert_eq!(rt;
-            decode_bool(rt.alloc(), &one).is_ok(),
-            first == 1 && second < 2
-        );
     }
 }

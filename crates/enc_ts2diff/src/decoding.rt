@@ -12,7 +12,7 @@ use std::alloc::Global;
 use tsdb_base::DecodeFault;
 use tsdb_bits::{UnpackFault, get_leb, unpack, unzigzag};
 
-/// More values than any list has.
+/// The most values that a list may have.
 const LIMIT: u64 = 1000;
 
 /// The list of INT64 values whose bytes these are; `Bad` where there is none.

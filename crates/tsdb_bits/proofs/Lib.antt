@@ -3,3 +3,4 @@ pub mod ZigzagLaws
 pub mod PackingLaws
 pub mod Reading
 pub mod Moving
+pub mod BitOrder

@@ -1,6 +1,7 @@
 //! The laws of the spellings. No body uses them: they say that the definitions mean what they are for.
 
-ghost use Rattle.std.specs.Prelude.{◌≡◌, ℕ, ℤ, ◌^◌, ◌<◌, ◌≤◌, List, ◌++◌, length, All};
+ghost use Rattle.std.specs.Prelude.{◌≡◌, ℕ, ℤ, ◌*◌, ◌/◌, ◌%◌, ◌^◌, ◌<◌, ◌≤◌, List, ◌++◌, length, slice_index, All};
+ghost use Rattle.std.specs.Int.{bit_at};
 ghost use Rattle.tsdb_bits.specs.Leb.{leb};
 ghost use Rattle.tsdb_bits.specs.Zigzag.{zigzag, unzigzag};
 ghost use Rattle.tsdb_bits.specs.Packing.{packed, binary_digits};
@@ -19,6 +20,11 @@ pub fn zigzag_is_one_to_one()
 /// Two lists of one length with one packing are equal.
 pub fn packing_is_one_to_one()
     ensures { (width : ℕ) (xs ys : List ℕ) → length xs ≡ length ys → All (λ x. x < 2 ^ width) xs → All (λ y. y < 2 ^ width) ys → packed width xs ≡ packed width ys → xs ≡ ys }
+{}
+
+/// Bit k of the stream is bit `k % 8` of byte `k / 8`, and bit `k % width` of value `k / width`.
+pub fn bits_stand_in_order()
+    ensures { (width : ℕ) (values : List ℕ) (k : ℕ) → All (λ value. value < 2 ^ width) values → k < length values * width → bit_at (slice_index (packed width values) (k / 8)) (k % 8) ≡ bit_at (slice_index values (k / width)) (k % width) }
 {}
 
 /// A number is below 2 to its number of binary digits, and that is the least such power.

@@ -10,7 +10,10 @@ mod signed;
 
 pub use fault::{BitFault, Memory, UnpackFault};
 pub use groups::{get_leb, put_leb};
-pub use laws::{leb_is_prefix_free, packing_is_one_to_one, width_is_least, zigzag_is_one_to_one};
+pub use laws::{
+    bits_stand_in_order, leb_is_prefix_free, packing_is_one_to_one, width_is_least,
+    zigzag_is_one_to_one,
+};
 pub use packing::{pack, unpack, width};
 pub use signed::{unzigzag, zigzag};
 
