@@ -1,0 +1,49 @@
+//! The program `tsdb`: it hands the words of the command line, standard input and standard output to the top call,
+//! says on standard error how the run ended, and ends with its exit code. Stands on tsdb_run and fs_outside.
+#![tactic(auto)]
+
+use fs_outside::{StdSink, StdSource};
+use std::alloc::Global;
+use std::io::Write;
+use std::process::ExitCode;
+use std::rt::Env;
+use std::{env, io};
+use tsdb_run::{Status, Word, run};
+
+/// The words behind the program's name. Words that are no text are a faulty command line.
+fn words<R: Env + Alloc<A = Global>>(rt: &R) -> Result<Vec<Word>, Status> {
+    let Ok(arguments) = env::args(rt) else {
+        return Err(Status::Words);
+    };
+    let mut words = Vec::new(rt.alloc());
+    for argument in arguments.skip(1) {
+        let Ok(word) = Word::new(rt.alloc(), argument.as_bytes()) else {
+            return Err(Status::Memory);
+        };
+        if words.push(word).is_err() {
+            return Err(Status::Memory);
+        }
+    }
+    Ok(words)
+}
+
+/// The whole run.
+fn start<R: Env + Input + Print + Alloc<A = Global>>(rt: &R) -> Status {
+    match words(rt) {
+        Ok(words) => {
+            let mut script = StdSource::new(rt.reader());
+            let mut out = StdSink::new(io::writer(rt));
+            run(rt.alloc(), &words, &mut script, &mut out).status
+        }
+        Err(status) => status,
+    }
+}
+
+fn main(rt: HostRuntime) -> ExitCode {
+    let status = start(&rt);
+    if let Ok(text) = status.text(rt.alloc()) {
+        // Where standard error takes nothing, the exit code still tells.
+        let _ = rt.stderr().write_all(&text);
+    }
+    ExitCode::from(status.code())
+}

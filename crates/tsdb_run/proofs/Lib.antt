@@ -1,0 +1,16 @@
+pub mod KeptLemmas
+pub mod HistoryLemmas
+pub mod OutputLemmas
+pub mod TextLemmas
+pub mod CutLemmas
+pub mod InputLemmas
+pub mod SeriesLemmas
+pub mod IntegerLemmas
+pub mod LineLemmas
+pub mod SpellLemmas
+pub mod LinesLemmas
+pub mod ScriptLemmas
+pub mod WordLemmas
+pub mod RunLemmas
+pub mod PrefixLemmas
+pub mod LawLemmas

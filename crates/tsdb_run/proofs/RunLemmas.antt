@@ -1,0 +1,63 @@
+-- What the parts of a run say of the whole.
+use Rattle.std.proofs.Common.{◌≡◌, inl, ℕ, ◌≤◌, zero, suc, List, [], ◌∷◌, length, Option, None, Some, refl, arith}
+use Rattle.std.specs.Prelude.{All}
+use Rattle.std.specs.List.{AllByRecursion, slice_get}
+use Rattle.std.specs.FinMap as map
+use Rattle.std.specs.Io.KnownBytes.{Keeps}
+use Rattle.std.proofs.lemmas.List.Elements.{All-from_recursion}
+use Rattle.tsdb_path.specs.Nodes.{node_count}
+use Rattle.tsdb_run.specs.declared.command.Command.{Command}
+use Rattle.tsdb_run.specs.declared.command.Command.TheVariants.{Create, Insert, Select}
+use Rattle.tsdb_run.specs.declared.command.Numbered.{Numbered}
+use Rattle.tsdb_run.specs.declared.command.Told.{Told}
+use Rattle.tsdb_run.specs.declared.status.Status.{Status}
+use Rattle.tsdb_run.specs.declared.status.Status.TheVariants.{Done, Memory, Words, Script, Source, Sink}
+use Rattle.tsdb_run.specs.History.{IsComplete, IsLegal}
+use Rattle.tsdb_run.specs.Headline.{Headline, IsWritten}
+use Rattle.tsdb_run.specs.Reading.{Spells, IsScript}
+use Rattle.tsdb_run.specs.Text.{series_of, output_text}
+use Rattle.tsdb_run.proofs.ScriptLemmas.{there}
+
+-- what holds at each place holds of each element
+each : {X : Type 0} (P : X → Type 0) (xs : List X) → ((k : ℕ) (x : X) → slice_get xs k ≡ Some x → P x) → AllByRecursion P xs
+each P [] h = tt
+each P (x ∷ xs) h = (h 0 x refl, each P xs (λ k y e. h (suc k) y e))
+
+module _ (bytes : List ℕ) (script : List Numbered) (is : IsScript bytes script) where
+  -- the commands of a script are of session 1
+  pub one_session : AllByRecursion (λ numbered. numbered.session ≡ 1) script
+  one_session = each (λ numbered. numbered.session ≡ 1) script (λ k numbered e. (is.good k numbered e).0)
+
+  pub all_one_session : All (λ numbered. numbered.session ≡ 1) script
+  all_one_session = All-from_recursion (λ numbered. numbered.session ≡ 1) script one_session
+
+  -- and no more than a script may have
+  pub few_commands : length script ≤ 1000000
+  few_commands = few (length script) refl where
+    few : (n : ℕ) → length script ≡ n → length script ≤ 1000000
+    few zero e = omega arith
+    few (suc n) e = let last = there script n (omega arith) in omega (arith, (is.good n last.0 last.1).1.good.commands)
+
+named : (line : List ℕ) (command : Command) → Spells line command → 2 ≤ node_count (series_of command)
+named line (Create series) spells = omega (arith, spells.0.nodes)
+named line (Insert series time value) spells = omega (arith, spells.0.nodes)
+named line (Select series) spells = omega (arith, spells.0.nodes)
+
+-- each names a series
+pub all_named : (bytes : List ℕ) (script : List Numbered) → IsScript bytes script → AllByRecursion (λ numbered. 2 ≤ node_count (series_of numbered.command)) script
+all_named bytes script is = each (λ numbered. 2 ≤ node_count (series_of numbered.command)) script (λ k numbered e. named _ numbered.command ((is.good k numbered e).1.good.spells))
+
+pub Keeps-same : (held : Option (List ℕ)) → Keeps held held
+Keeps-same None = tt
+Keeps-same (Some bytes) = refl
+
+-- a script that was served, and what was written of its output
+pub Headline-written : (status : Status) (bytes : List ℕ) (script : List Numbered) (history : List Told) (old new : Option (List ℕ))
+    → IsScript bytes script → IsComplete script history → IsLegal script map.empty history → IsWritten status old new (output_text script history)
+    → Headline status (Some bytes) history old new
+Headline-written Done bytes script history old new is complete legal written = (script, record { read = is; complete = complete; legal = legal }, written)
+Headline-written Sink bytes script history old new is complete legal written = (script, record { read = is; complete = complete; legal = legal }, written)
+Headline-written Memory bytes script history old new is complete legal written = inl (script, record { read = is; complete = complete; legal = legal }, written)
+Headline-written Words bytes script history old new is complete legal written = absurd written
+Headline-written (Script line kind) bytes script history old new is complete legal written = absurd written
+Headline-written Source bytes script history old new is complete legal written = absurd written

@@ -1,0 +1,10 @@
+pub mod World
+pub mod History
+pub mod Reading
+pub mod Text
+pub mod Kept
+pub mod Output
+pub mod Input
+pub mod Cut
+pub mod Ends
+pub mod Headline

@@ -1,0 +1,70 @@
+//! How a run ends.
+ghost use Rattle.std.specs.Prelude.{◌≡◌, IfOk};
+ghost use Rattle.tsdb_run.specs.Ends.{status_code, status_text};
+
+use crate::command::Told;
+use std::alloc::Global;
+use tsdb_base::{List, Memory};
+
+/// How a run ended.
+#[derive(Clone, Copy, Debug, PartialEq, Eq)]
+pub enum Status {
+    /// The script was served, and the whole output was written.
+    Done,
+    /// Memory was wanted and refused.
+    Memory,
+    /// The words of the command line are none that the program knows.
+    Words,
+    /// The first line of the script that is not good, and what kind of fault it has.
+    Script { line: u32, kind: u8 },
+    /// The source of the script failed.
+    Source,
+    /// The sink of the output failed.
+    Sink,
+}
+
+/// What a run leaves: how it ended, and each command in the order in which they took place, with its reply. The
+/// history is empty where no command was carried out.
+#[derive(Drop)]
+pub struct Ended {
+    pub status: Status,
+    pub history: List<Told>,
+}
+
+impl Status {
+    /// The exit code of the program.
+    pub fn code(&self) -> u8
+        ensures { result ≡ status_code self.now }
+    {
+        match self {
+            Status::Done => 0,
+            Status::Memory => 1,
+            Status::Words => 2,
+            Status::Script { .. } => 3,
+            Status::Source => 4,
+            Status::Sink => 5,
+        }
+    }
+
+    /// What the program says on standard error, a line or nothing.
+    pub fn text(&self, alloc: Global) -> Result<Vec<u8>, Memory>
+        ensures { IfOk result (λ text. text.items ≡ status_text self.now) }
+    {
+        let text: &[u8] = match self {
+            Status::Done => b"",
+            Status::Memory => b"memory\n",
+            Status::Words => b"usage: tsdb run DIR\n",
+            Status::Script { line, kind } => return script_text(alloc, *line, *kind),
+            Status::Source => b"source\n",
+            Status::Sink => b"sink\n",
+        };
+        Ok(Vec::from_slice(alloc, text)?)
+    }
+}
+
+fn script_text(alloc: Global, line: u32, kind: u8) -> Result<Vec<u8>, Memory>
+    ensures { IfOk result (λ text. text.items ≡ status_text (Status.Script line kind)) }
+{
+    let text = format!(in alloc; "line {line} kind {kind}\n")?;
+    Ok(Vec::from_slice(alloc, text.as_bytes())?)
+}
