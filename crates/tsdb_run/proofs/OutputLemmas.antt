@@ -1,6 +1,7 @@
 -- Texts that are put one after another.
 use Rattle.std.proofs.lemmas.Bool.{false≢true}
-use Rattle.std.proofs.Common.{◌≡◌, ℕ, zero, suc, false, eqb, ◌≤◌, ◌<◌, List, [], ◌++◌, Option, None, Some, Result, Ok, Err, OnOk, refl, sym, ap, ◌∙◌, subst, append_assoc, append-nil, arith}
+use Rattle.std.proofs.Common.{◌≡◌, ℕ, zero, suc, false, eqb, ◌≤◌, ◌<◌, List, [], ◌++◌, Option, None, Some, Result, Ok, Err, OnOk, refl, sym, ap, ◌∙◌, subst, append_assoc, append-nil, arith, take, drop}
+use Rattle.std.proofs.lemmas.List.{take-append-drop}
 use Rattle.std.specs.Io.KnownBytes.{Appends, Keeps}
 use Rattle.tsdb_outside.specs.Causes.{Rose}
 use Rattle.tsdb_outside.specs.declared.faults.StoreFault.{StoreFault}
@@ -21,6 +22,10 @@ pub Appends-kept : (old new : Option (List ℕ)) → Keeps old new → Appends o
 Appends-kept None new k = tt
 Appends-kept (Some xs) None k = absurd k
 Appends-kept (Some xs) (Some ys) k = k ∙ sym (append-nil xs)
+
+-- a text is what a count takes of it, and the rest
+pub begins : (count : ℕ) (text rest : List ℕ) → rest ≡ drop count text → text ≡ take count text ++ rest
+begins count text rest back = sym (take-append-drop count text) ∙ ap (λ l. take count text ++ l) (sym back)
 
 -- so far the front of a text has been put, with no fault taken back
 pub record HasPut (old new : Option (List ℕ)) (text rest : List ℕ) (before now : ℕ) : Type 0 where

@@ -46,6 +46,7 @@ fn status_of(alloc: Global, script: &[u8]) -> Result<Status, Fail> {
     Ok(ended.status)
 }
 
+/// Refuses the wrong body `always_memory` too, which no contract can: memory may always be wanting.
 #[test]
 fn worked_example_prints_its_output(rt: HostRuntime) -> Result<(), Fail> {
     let alloc = rt.alloc();

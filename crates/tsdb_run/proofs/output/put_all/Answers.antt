@@ -1,6 +1,5 @@
-use Rattle.std.proofs.Common.{◌++◌, ap, sym, ◌∙◌, take}
-use Rattle.std.proofs.lemmas.List.{take-append-drop}
-use Rattle.tsdb_run.proofs.OutputLemmas.{HasPut-more}
+use Rattle.std.proofs.Common.{take}
+use Rattle.tsdb_run.proofs.OutputLemmas.{HasPut-more, begins}
 use Rattle.tsdb_run.proofs.output.put_all.Goals as goal
 
 pub loop-rest-preserved : goal.loop-rest-preserved
@@ -8,5 +7,5 @@ loop-rest-preserved g c =
     let count = c.in_ok-count.count in
     let rest = c.loop-rest.rest.now in
     HasPut-more _ c.args.bytes.now _ _ _ (take count rest) rest _ _ _ c.loop-rest.invariant
-    (sym (take-append-drop count rest) ∙ ap (λ l. take count rest ++ l) (sym c.split_at.ensures.back))
+    (begins count rest _ c.split_at.ensures.back)
     c.in_ok-count.ensures.bytes c.in_ok-count.ensures.cause.later
