@@ -1,18 +1,20 @@
-//! The values that the engine stores, and the small types that its crates share. It stands on std
-//! alone.
+//! The values that the engine stores, and the small types that its crates share. It depends on
+//! std alone.
 #![tactic(auto)]
 
+mod answers;
 mod fault;
+mod ids;
 mod list;
-mod name;
 mod plain;
 mod point;
 mod text;
 mod value;
 
+pub use answers::{Aggregate, Answer};
 pub use fault::{DecodeFault, Memory};
+pub use ids::{FileNumber, SeriesId, Space, Stamp};
 pub use list::List;
-pub use name::{Aggregate, Answer, FileNumber, SeriesId, Space, Stamp};
 pub use plain::{PlainValue, put_all, take_all};
 pub use point::{Point, Range, Stats, Time};
 pub use text::{Text, TextFault};

@@ -1,7 +1,7 @@
 -- Histories: the commands in the order in which they took place, each with its reply.
 use Rattle.std.specs.Prelude.{◌≡◌, ℕ, suc, ◌==◌, ◌⊎◌, List, [], ◌∷◌, Option, Some, map, filter, length, slice_get}
 use Rattle.std.specs.List.{AllByRecursion}
-use Rattle.tsdb_base.specs.declared.name.Answer.TheVariants as answer
+use Rattle.tsdb_base.specs.declared.answers.Answer.TheVariants as answer
 use Rattle.tsdb_run.specs.declared.command.Command.{Command}
 use Rattle.tsdb_run.specs.declared.command.Numbered.{Numbered}
 use Rattle.tsdb_run.specs.declared.command.Reply.{Reply}

@@ -3,7 +3,7 @@ use Rattle.std.specs.Prelude.{ℤ, ℕ, List, Option, None, Some, map, if◌then
 use Rattle.std.specs.Ordering.{nat_cmp, int_cmp}
 use Rattle.std.specs.Cmp.Lexicographic.{slice_cmp}
 use Rattle.std.specs.FinMap.{FinMap, entries, get, contains_key, insert, empty}
-use Rattle.tsdb_base.specs.declared.name.Answer.TheVariants as answer
+use Rattle.tsdb_base.specs.declared.answers.Answer.TheVariants as answer
 use Rattle.tsdb_base.specs.declared.point.Point.{Point}
 use Rattle.tsdb_base.specs.declared.value.Value.{Value}
 use Rattle.tsdb_run.specs.declared.command.Command.{Command}
