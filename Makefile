@@ -1,7 +1,8 @@
 # make demo   runs the example script, by a program that is built without proofs
 # make build  proves the program and leaves it at bin/tsdb
+# make bench  proves the program tsdb_bench and prints its table; GROUP=name measures one group
 # make test   proves every crate and runs every test and program
-.PHONY: demo build test
+.PHONY: demo build bench test
 
 demo:
 	@echo 'Building the program without proofs, and running examples/first.tsdb ...' >&2
@@ -13,6 +14,10 @@ build:
 	@mkdir -p bin
 	@folder=$$(mktemp -d) && trap 'rm -rf "$$folder"' EXIT && cd crates/tsdb_cli && \
 	rt run -- run "$$folder/store" < /dev/null > /dev/null && cp out/tsdb_cli ../../bin/tsdb
+
+bench:
+	@echo 'Proving and building the program ...' >&2
+	@cd crates/tsdb_bench && rt run -- quick >&2 && out/tsdb_bench $(GROUP)
 
 test:
 	@rt ci

@@ -1,0 +1,45 @@
+//! The program `tsdb_bench` measures the speed of the engine's parts and prints one table. The word
+//! `quick` runs every group for one round and prints nothing; the name of a group measures that one;
+//! no word measures all. It depends on the crates that it measures.
+#![tactic(auto)]
+
+mod encodings;
+mod table;
+
+use anyhow::{Result, bail};
+use std::env;
+use table::Rounds;
+
+/// Measures the group of this name, or all where it is empty. The result depends on all that was
+/// computed, so that no compiler leaves the work out.
+fn measure(rt: &HostRuntime, group: &str, rounds: Rounds) -> Result<u64> {
+    let mut check = 0u64;
+    let is_all = group.is_empty();
+    if is_all || group == "encodings" {
+        check = check.wrapping_add(encodings::encodings(rt, rounds)?);
+    }
+    if check == 0 {
+        bail!("there is no group {group:?}");
+    }
+    Ok(check)
+}
+
+fn main(rt: HostRuntime) -> Result<()> {
+    let words = env::args(&rt)?;
+    match words.skip(1).next() {
+        None => {
+            table::head(&rt)?;
+            let check = measure(&rt, "", Rounds::Many)?;
+            println!(rt; "check {check}")?;
+        }
+        Some(word) if word.as_str() == "quick" => {
+            measure(&rt, "", Rounds::One)?;
+        }
+        Some(word) => {
+            table::head(&rt)?;
+            let check = measure(&rt, word.as_str(), Rounds::Many)?;
+            println!(rt; "check {check}")?;
+        }
+    }
+    Ok(())
+}

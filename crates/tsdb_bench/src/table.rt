@@ -1,0 +1,50 @@
+//! Timing, and the rows of the table. It depends on std alone.
+
+ghost use Rattle.std.specs.Prelude.{◌<◌, ◌≤◌};
+
+use std::io;
+use std::time::Instant;
+
+/// How often a thing is done.
+#[derive(Clone, Copy, PartialEq, Eq)]
+pub enum Rounds {
+    /// Once, and no row is printed.
+    One,
+    /// As often as its group says, and its row is printed.
+    Many,
+}
+
+impl Rounds {
+    /// The number of rounds, where a group wants `many`.
+    pub fn of(self, many: u64) -> u64
+        requires { 0 < many }
+        ensures { result ≤ many }
+    {
+        match self {
+            Rounds::One => 1,
+            Rounds::Many => many,
+        }
+    }
+}
+
+/// Prints the head of the table.
+pub fn head(rt: &HostRuntime) -> io::Result<()> {
+    println!(rt; "{:<50} {:<10} {:>10}", "what", "step", "million/s")
+}
+
+/// Prints how many millions of values were done in a second since `start`.
+pub fn row(
+    rt: &HostRuntime,
+    rounds: Rounds,
+    what: &str,
+    step: &str,
+    done: u64,
+    start: Instant,
+) -> io::Result<()> {
+    let nanos = start.elapsed(rt)?.as_nanos().max(1);
+    if rounds == Rounds::One {
+        return Ok(());
+    }
+    let tenths = u128::from(done) * 10_000 / nanos;
+    println!(rt; "{what:<50} {step:<10} {:>8}.{}", tenths / 10, tenths % 10)
+}
