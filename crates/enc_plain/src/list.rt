@@ -13,7 +13,7 @@ use tsdb_bits::{get_leb, put_leb};
 const MAX_VALUES: u64 = 1000;
 
 fn encode<T: PlainValue>(alloc: Global, values: &[T]) -> Result<Vec<u8>, Memory>
-    ensures { IfOk result (λ bytes. bytes.items ≡ spelling T.spelled values.now) }
+    ensures { IfOk result (λ bytes. bytes.items ≡ spelling T.spelling values.now) }
 {
     let mut bytes = Vec::new(alloc);
     if put_leb(values.len() as u64, &mut bytes).is_err() {
@@ -41,9 +41,9 @@ fn counted(bytes: &[u8]) -> Result<(usize, &[u8]), DecodeFault>
 
 fn decode<T: PlainValue>(alloc: Global, bytes: &[u8]) -> Result<Vec<T>, DecodeFault>
     ensures few { IfOk result (λ values. vec_len values ≤ 1000) }
-    ensures found { IfOk result (λ values. bytes.now ≡ spelling T.spelled values.items) }
-    ensures only { IfOk result (λ read. (values : List T) → All T.is_value values → bytes.now ≡ spelling T.spelled values → values ≡ read.items) }
-    ensures bad { IsErrOf result DecodeFault.Bad → (values : List T) → length values ≤ 1000 → All T.is_value values → bytes.now ≡ spelling T.spelled values → ⊥ }
+    ensures found { IfOk result (λ values. bytes.now ≡ spelling T.spelling values.items) }
+    ensures only { IfOk result (λ read. (values : List T) → All T.is_value values → bytes.now ≡ spelling T.spelling values → values ≡ read.items) }
+    ensures bad { IsErrOf result DecodeFault.Bad → (values : List T) → length values ≤ 1000 → All T.is_value values → bytes.now ≡ spelling T.spelling values → ⊥ }
 {
     let (count, rest) = counted(bytes)?;
     let (values, rest) = take_all(alloc, count, rest)?;

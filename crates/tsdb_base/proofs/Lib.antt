@@ -1,1 +1,2 @@
 pub mod PlainLists
+pub mod GrowthLemmas

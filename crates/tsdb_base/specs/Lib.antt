@@ -1,3 +1,6 @@
+pub mod Limits
 pub mod Values
 pub mod Plain
 pub mod PlainLaws
+pub mod Texts
+pub mod Growth

@@ -1,6 +1,7 @@
 -- The bytes of one value by itself, as the encodings, the index and the log write it.
-use Rattle.std.specs.Prelude.{ℕ, ℤ, Bool, true, false, ◌≤◌, List, [], ◌∷◌, ◌++◌, length}
+use Rattle.std.specs.Prelude.{◌≡◌, ℕ, ℤ, Bool, true, false, ◌≤◌, List, [], ◌∷◌, ◌++◌, length, All}
 use Rattle.std.specs.Int.{w16, w32, w64, to_be_bytes, cast_unsigned}
+use Rattle.tsdb_base.specs.Limits.{max_text_bytes}
 
 -- one byte, 0 or 1
 abbrev pub plain_bool : Bool → List ℕ
@@ -21,4 +22,12 @@ plain_text text = to_be_bytes w16 (length text) ++ text
 
 -- the bytes of a text
 abbrev pub IsText : List ℕ → Type 0
-IsText text = length text ≤ 65535
+IsText text = length text ≤ max_text_bytes
+
+-- the bytes begin with those of no value
+abbrev pub BeginsWithNone : {A : Type 0} → (A → List ℕ) → (A → Type 0) → List ℕ → Type 0
+BeginsWithNone {A} spelling IsValue bytes = (value : A) (rest : List ℕ) → IsValue value → bytes ≡ spelling value ++ rest → ⊥
+
+-- so many values
+abbrev pub AreValues : {A : Type 0} → (A → Type 0) → ℕ → List A → Type 0
+AreValues IsValue count values = (length values ≡ count) × All IsValue values

@@ -1,4 +1,4 @@
-//! Want of memory, and why bytes could not be decoded.
+//! Out of memory, and why bytes could not be decoded. It depends on std alone.
 ghost use Rattle.std.specs.Prelude.{◌≡◌};
 ghost use Rattle.std.specs.Prelude.{Some, codes};
 
@@ -6,16 +6,16 @@ use std::alloc::{AllocError, AllocFailed};
 use std::error::Error;
 use std::fmt;
 
-/// Memory was wanted and refused. It says nothing else.
+/// Out of memory. It says nothing else.
 #[derive(Clone, Copy, Debug, PartialEq, Eq)]
 pub struct Memory;
 
 /// Why bytes could not be decoded.
 #[derive(Clone, Copy, Debug, PartialEq, Eq)]
 pub enum DecodeFault {
-    /// No list of at most 1,000 values is written so.
+    /// No list of at most 1,000 values has these bytes.
     Bad,
-    /// Memory was wanted and refused.
+    /// Out of memory.
     Memory,
 }
 
@@ -77,7 +77,7 @@ impl From<Memory> for DecodeFault {
 impl fmt::Display for DecodeFault {
     fn fmt<W: fmt::Write>(&self, f: &mut fmt::Formatter<W>) -> fmt::Result {
         match self {
-            DecodeFault::Bad => f.write_str("no list is written so"),
+            DecodeFault::Bad => f.write_str("no list has these bytes"),
             DecodeFault::Memory => f.write_str("memory"),
         }
     }

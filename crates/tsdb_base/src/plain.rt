@@ -1,8 +1,9 @@
-//! Values by themselves as bytes, one by one and one after another.
-ghost use Rattle.std.specs.Prelude.{◌≡◌, ℕ, List, ◌++◌, length, All, OnOk, IfOk, IsErrOf, FitsSigned};
+//! Values by themselves as bytes, one by one and one after another. It depends on texts and faults.
+ghost use Rattle.std.specs.Prelude.{◌≡◌, ℕ, List, ◌++◌, length, All, OnOk, OnErr, IfOk, IsErrOf, FitsSigned};
 ghost use Rattle.std.specs.List.{flat_map};
 ghost use Rattle.std.specs.Int.{w32, w64};
-ghost use Rattle.tsdb_base.specs.Plain.{plain_bool, plain_i32, plain_i64, plain_text, IsText};
+ghost use Rattle.tsdb_base.specs.Growth.{GrewByPrefix};
+ghost use Rattle.tsdb_base.specs.Plain.{plain_bool, plain_i32, plain_i64, plain_text, IsText, AreValues, BeginsWithNone};
 ghost use Rattle.tsdb_base.specs.PlainLaws.{plain_bool-prefix_free, plain_i32-prefix_free, plain_i64-prefix_free, plain_text-prefix_free};
 
 use crate::fault::{DecodeFault, Memory};
@@ -12,28 +13,29 @@ use std::alloc::Global;
 /// A type whose values are each written by themselves.
 pub trait PlainValue: Drop + Sized {
     /// The bytes of a value.
-    ghost spelled: { Self → List ℕ };
+    ghost spelling: { Self → List ℕ };
 
     /// What has a spelling: each value of the type.
     ghost is_value: { Self → Type 0 };
 
-    /// Appends the bytes of the value. After `Memory` some of them may have been appended.
+    /// Appends the bytes of the value. After `Memory` it has appended a prefix of them at most.
     fn put(&self, into: &mut Vec<u8>) -> Result<(), Memory>
-        ensures { OnOk result (into.new.items ≡ into.old.items ++ spelled self.now) };
+        ensures ok { OnOk result (into.new.items ≡ into.old.items ++ spelling self.now) }
+        ensures memory { OnErr result (GrewByPrefix into.old.items (spelling self.now) into.new.items) };
 
     /// The value that the bytes begin with, and the bytes behind it. It is `Bad` where they begin
     /// with none.
     fn take(alloc: Global, bytes: &[u8]) -> Result<(Self, &[u8]), DecodeFault>
-        ensures found { IfOk result (λ r. bytes.now ≡ spelled r.0 ++ r.1.now) }
-        ensures valued { IfOk result (λ r. is_value r.0) }
-        ensures bad { IsErrOf result DecodeFault.Bad → (value : Self) (rest : List ℕ) → is_value value → bytes.now ≡ spelled value ++ rest → ⊥ };
+        ensures found { IfOk result (λ r. bytes.now ≡ spelling r.0 ++ r.1.now) }
+        ensures value { IfOk result (λ r. is_value r.0) }
+        ensures bad { IsErrOf result DecodeFault.Bad → BeginsWithNone spelling is_value bytes.now };
 
     /// No value's bytes begin those of another value.
-    ghost prefix_free: { (a b : Self) (x y : List ℕ) → is_value a → is_value b → spelled a ++ x ≡ spelled b ++ y → (a ≡ b) × (x ≡ y) };
+    ghost prefix_free: { (a b : Self) (x y : List ℕ) → is_value a → is_value b → spelling a ++ x ≡ spelling b ++ y → (a ≡ b) × (x ≡ y) };
 }
 
 impl PlainValue for bool {
-    ghost spelled = { plain_bool };
+    ghost spelling = { plain_bool };
 
     ghost is_value = { λ _. Unit {0} };
 
@@ -54,7 +56,7 @@ impl PlainValue for bool {
 }
 
 impl PlainValue for i32 {
-    ghost spelled = { plain_i32 };
+    ghost spelling = { plain_i32 };
 
     ghost is_value = { FitsSigned w32 };
 
@@ -78,7 +80,7 @@ impl PlainValue for i32 {
 }
 
 impl PlainValue for i64 {
-    ghost spelled = { plain_i64 };
+    ghost spelling = { plain_i64 };
 
     ghost is_value = { FitsSigned w64 };
 
@@ -102,7 +104,7 @@ impl PlainValue for i64 {
 }
 
 impl PlainValue for Text {
-    ghost spelled = { plain_text };
+    ghost spelling = { plain_text };
 
     ghost is_value = { IsText };
 
@@ -133,10 +135,11 @@ impl PlainValue for Text {
     }
 }
 
-/// Appends the bytes of the values, one after another. After `Memory` some of them may have been
-/// appended.
+/// Appends the bytes of the values, one after another. After `Memory` it has appended a prefix of
+/// them at most.
 pub fn put_all<T: PlainValue>(values: &[T], into: &mut Vec<u8>) -> Result<(), Memory>
-    ensures { OnOk result (into.new.items ≡ into.old.items ++ flat_map T.spelled values.now) }
+    ensures ok { OnOk result (into.new.items ≡ into.old.items ++ flat_map T.spelling values.now) }
+    ensures memory { OnErr result (GrewByPrefix into.old.items (flat_map T.spelling values.now) into.new.items) }
 {
     for value in values {
         value.put(into)?;
@@ -151,10 +154,10 @@ pub fn take_all<T: PlainValue>(
     count: usize,
     bytes: &[u8],
 ) -> Result<(Vec<T>, &[u8]), DecodeFault>
-    ensures counted { IfOk result (λ r. length r.0.items ≡ count) }
-    ensures found { IfOk result (λ r. bytes.now ≡ flat_map T.spelled r.0.items ++ r.1.now) }
-    ensures valued { IfOk result (λ r. All T.is_value r.0.items) }
-    ensures bad { IsErrOf result DecodeFault.Bad → (values : List T) (rest : List ℕ) → length values ≡ count → All T.is_value values → bytes.now ≡ flat_map T.spelled values ++ rest → ⊥ }
+    ensures count { IfOk result (λ r. length r.0.items ≡ count) }
+    ensures found { IfOk result (λ r. bytes.now ≡ flat_map T.spelling r.0.items ++ r.1.now) }
+    ensures values { IfOk result (λ r. All T.is_value r.0.items) }
+    ensures bad { IsErrOf result DecodeFault.Bad → BeginsWithNone (flat_map T.spelling) (AreValues T.is_value count) bytes.now }
 {
     let mut values = Vec::new(alloc);
     let mut rest = bytes;

@@ -1,4 +1,4 @@
-//! Texts: at most 65,535 bytes of any value.
+//! Texts: at most 65,535 bytes of any value. It depends on std alone.
 ghost use Rattle.std.specs.Prelude.{◌≡◌, ◌↔◌, ◌<◌, ◌≤◌, length, IfOk, Err, nat_eq, refl};
 ghost use Rattle.std.specs.Ordering.{nat_cmp, on, as_partial_cmp};
 ghost use Rattle.std.specs.Hash as fed;
@@ -6,6 +6,7 @@ ghost use Rattle.std.specs.Cmp.Lexicographic.{pointwise, slice_cmp};
 ghost use Rattle.std.specs.Cmp.{partial_order_from_own_ties};
 ghost use Rattle.std.specs.Cmp.Rules.{comparing, hashing};
 ghost use Rattle.std.proofs.Common.{rules};
+ghost use Rattle.tsdb_base.specs.Limits.{max_text_bytes};
 
 use std::alloc::{AllocError, Global};
 use std::cmp::Ordering;
@@ -17,20 +18,32 @@ use std::marker::Model;
 /// The most bytes that a text has.
 pub const MAX_TEXT_BYTES: usize = 65535;
 
+/// The most bytes of a text that is kept without memory of its own.
+const MAX_SHORT: usize = 22;
+
+/// How the bytes of a text are kept.
+#[derive(Drop)]
+enum Bytes {
+    /// The first so many bytes of the room.
+    Short(u8, [u8; MAX_SHORT]),
+    Long(Vec<u8>),
+}
+
 /// At most 65,535 bytes of any value. A contract sees it as the list of its bytes.
 #[derive(Drop)]
 pub struct Text {
-    bytes: Vec<u8>,
+    bytes: Bytes,
 }
 
 impl Model for Text {
-    ghost use Rattle.std.specs.Prelude.{List, ℕ, ◌≤◌, length};
+    ghost use Rattle.std.specs.Prelude.{List, ℕ};
+    ghost use Rattle.tsdb_base.specs.Texts.{bytes_kept, IsKept};
 
     ghost Value = { List ℕ };
 
-    ghost view = { λ t. t.bytes.items };
+    ghost view = { λ t. bytes_kept t.bytes };
 
-    ghost invariant = { λ t. length t.bytes.items ≤ 65535 };
+    ghost invariant = { λ t. IsKept t.bytes };
 }
 
 /// Why a text could not be made.
@@ -38,7 +51,7 @@ impl Model for Text {
 pub enum TextFault {
     /// There are more than 65,535 bytes.
     TooLong,
-    /// Memory was wanted and refused.
+    /// Out of memory.
     Memory,
 }
 
@@ -46,22 +59,32 @@ impl Text {
     /// The text of these bytes. It is `TooLong` exactly where there are more than 65,535.
     pub fn new(alloc: Global, bytes: &[u8]) -> Result<Text, TextFault>
         ensures same { IfOk result (λ text. text ≡ bytes.now) }
-        ensures too_long { (result ≡ Err TextFault.TooLong) ↔ (65535 < length bytes.now) }
+        ensures too_long { (result ≡ Err TextFault.TooLong) ↔ (max_text_bytes < length bytes.now) }
     {
         if bytes.len() > MAX_TEXT_BYTES {
             return Err(TextFault::TooLong);
         }
+        if bytes.len() <= MAX_SHORT {
+            let mut room = [0; MAX_SHORT];
+            room[..bytes.len()].copy_from_slice(bytes);
+            return Ok(Text {
+                bytes: Bytes::Short(bytes.len() as u8, room),
+            });
+        }
         Ok(Text {
-            bytes: Vec::from_slice(alloc, bytes)?,
+            bytes: Bytes::Long(Vec::from_slice(alloc, bytes)?),
         })
     }
 
     /// The bytes, in their order.
     pub fn bytes(&self) -> &[u8]
         ensures same { result.now ≡ self.now }
-        ensures short { length result.now ≤ 65535 }
+        ensures short { length result.now ≤ max_text_bytes }
     {
-        self.bytes.as_slice()
+        match &self.bytes {
+            Bytes::Short(len, room) => &room[..*len as usize],
+            Bytes::Long(bytes) => bytes.as_slice(),
+        }
     }
 }
 
@@ -80,9 +103,11 @@ impl Clone for Text {
     ghost is_clone = { λ text copy. copy ≡ text };
 
     fn clone(&self) -> Result<Text, AllocError> {
-        Ok(Text {
-            bytes: self.bytes.clone()?,
-        })
+        let bytes = match &self.bytes {
+            Bytes::Short(len, room) => Bytes::Short(*len, *room),
+            Bytes::Long(bytes) => Bytes::Long(bytes.clone()?),
+        };
+        Ok(Text { bytes })
     }
 }
 
@@ -92,7 +117,7 @@ impl PartialEq for Text {
     ghost laws = { Prim.search (comparing, rules) };
 
     fn eq(&self, other: &Text) -> bool {
-        self.bytes == other.bytes
+        self.bytes() == other.bytes()
     }
 }
 
@@ -120,7 +145,7 @@ impl Ord for Text {
     ghost matches_eq = { Prim.search (comparing, rules) };
 
     fn cmp(&self, other: &Text) -> Ordering {
-        self.bytes.cmp(&other.bytes)
+        self.bytes().cmp(other.bytes())
     }
 }
 
@@ -130,7 +155,7 @@ impl Hash for Text {
     ghost respects_eq = { Prim.search (hashing, rules) };
 
     fn hash<H: Hasher>(&self, state: &mut H) {
-        self.bytes.hash(state);
+        self.bytes().hash(state);
     }
 }
 

@@ -2,8 +2,8 @@
 
 ghost use Rattle.std.specs.Prelude.{◌≤◌, length, vec_len, IfOk};
 
+use crate::fault::Fault;
 use crate::table::{Rounds, row};
-use anyhow::Result;
 use std::time::Instant;
 use tsdb_base::Text;
 
@@ -17,7 +17,7 @@ fn next(seed: u64) -> u64 {
 }
 
 /// A page of numbers: of any 64 bits, or times about 1,000 apart.
-fn page(rt: &HostRuntime, is_time: bool) -> Result<Vec<i64>>
+fn page(rt: &HostRuntime, is_time: bool) -> Result<Vec<i64>, Fault>
     ensures { IfOk result (λ values. vec_len values ≤ 1000) }
 {
     let mut values = Vec::new(rt.alloc());
@@ -33,7 +33,7 @@ fn page(rt: &HostRuntime, is_time: bool) -> Result<Vec<i64>>
 }
 
 /// A page of texts of eight bytes, of which `different` differ.
-fn texts(rt: &HostRuntime, different: u64) -> Result<Vec<Text>>
+fn texts(rt: &HostRuntime, different: u64) -> Result<Vec<Text>, Fault>
     ensures { IfOk result (λ values. vec_len values ≤ 1000) }
 {
     let mut values = Vec::new(rt.alloc());
@@ -49,7 +49,7 @@ fn texts(rt: &HostRuntime, different: u64) -> Result<Vec<Text>>
 }
 
 /// The rows of the encodings.
-pub fn encodings(rt: &HostRuntime, rounds: Rounds) -> Result<u64> {
+pub fn encodings(rt: &HostRuntime, rounds: Rounds) -> Result<u64, Fault> {
     let wide = page(rt, false)?;
     let times = page(rt, true)?;
     let texts = texts(rt, 100)?;
@@ -69,7 +69,7 @@ pub fn encodings(rt: &HostRuntime, rounds: Rounds) -> Result<u64> {
 }
 
 /// PLAIN, of numbers.
-fn plain_i64(rt: &HostRuntime, rounds: Rounds, what: &str, values: &[i64]) -> Result<u64>
+fn plain_i64(rt: &HostRuntime, rounds: Rounds, what: &str, values: &[i64]) -> Result<u64, Fault>
     requires { length values.now ≤ 1000 }
 {
     let many = rounds.of(2000);
@@ -91,7 +91,7 @@ fn plain_i64(rt: &HostRuntime, rounds: Rounds, what: &str, values: &[i64]) -> Re
 }
 
 /// PLAIN, of texts.
-fn plain_text(rt: &HostRuntime, rounds: Rounds, what: &str, values: &[Text]) -> Result<u64>
+fn plain_text(rt: &HostRuntime, rounds: Rounds, what: &str, values: &[Text]) -> Result<u64, Fault>
     requires { length values.now ≤ 1000 }
 {
     let many = rounds.of(2000);
@@ -113,7 +113,7 @@ fn plain_text(rt: &HostRuntime, rounds: Rounds, what: &str, values: &[Text]) -> 
 }
 
 /// Runs.
-fn rle(rt: &HostRuntime, rounds: Rounds, what: &str, values: &[i64]) -> Result<u64>
+fn rle(rt: &HostRuntime, rounds: Rounds, what: &str, values: &[i64]) -> Result<u64, Fault>
     requires { length values.now ≤ 1000 }
 {
     let many = rounds.of(2000);
@@ -135,7 +135,7 @@ fn rle(rt: &HostRuntime, rounds: Rounds, what: &str, values: &[i64]) -> Result<u
 }
 
 /// Differences.
-fn ts2diff(rt: &HostRuntime, rounds: Rounds, what: &str, values: &[i64]) -> Result<u64>
+fn ts2diff(rt: &HostRuntime, rounds: Rounds, what: &str, values: &[i64]) -> Result<u64, Fault>
     requires { length values.now ≤ 1000 }
 {
     let many = rounds.of(2000);
@@ -157,7 +157,7 @@ fn ts2diff(rt: &HostRuntime, rounds: Rounds, what: &str, values: &[i64]) -> Resu
 }
 
 /// A dictionary.
-fn dictionary(rt: &HostRuntime, rounds: Rounds, what: &str, values: &[Text]) -> Result<u64>
+fn dictionary(rt: &HostRuntime, rounds: Rounds, what: &str, values: &[Text]) -> Result<u64, Fault>
     requires { length values.now ≤ 1000 }
 {
     let many = rounds.of(2000);

@@ -4,27 +4,28 @@
 #![tactic(auto)]
 
 mod encodings;
+mod fault;
 mod table;
 
-use anyhow::{Result, bail};
+use fault::Fault;
 use std::env;
 use table::Rounds;
 
 /// Measures the group of this name, or all where it is empty. The result depends on all that was
 /// computed, so that no compiler leaves the work out.
-fn measure(rt: &HostRuntime, group: &str, rounds: Rounds) -> Result<u64> {
+fn measure(rt: &HostRuntime, group: &str, rounds: Rounds) -> Result<u64, Fault> {
     let mut check = 0u64;
     let is_all = group.is_empty();
     if is_all || group == "encodings" {
         check = check.wrapping_add(encodings::encodings(rt, rounds)?);
     }
     if check == 0 {
-        bail!("there is no group {group:?}");
+        return Err(Fault::NoGroup);
     }
     Ok(check)
 }
 
-fn main(rt: HostRuntime) -> Result<()> {
+fn main(rt: HostRuntime) -> Result<(), Fault> {
     let words = env::args(&rt)?;
     match words.skip(1).next() {
         None => {

@@ -1,0 +1,9 @@
+use Rattle.std.proofs.Common.{rules}
+use Rattle.tsdb_base.proofs.GrowthLemmas.{grew_at}
+use Rattle.tsdb_base.proofs.plain.put_all.Goals as goal
+
+pub returns-in_err-put-clause-memory : goal.returns-in_err-put-clause-memory
+returns-in_err-put-clause-memory g c =
+    let grew = grew_at g.T.PlainValue.spelling c.args.values.now c.loop-value.value-index c.value-item.result c.args.into.now.items c.loop-value.into.items c.put.new.into.items
+    c.loop-value-test.true c.value-item.is c.loop-value.invariant c.in_err-put.ensures.memory in
+    search (rules, grew)

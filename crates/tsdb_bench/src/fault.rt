@@ -1,0 +1,56 @@
+//! Why a benchmark stops. It depends on std and on the faults of the crates that are measured.
+
+use std::alloc::{AllocError, AllocFailed};
+use std::io;
+use tsdb_base::{DecodeFault, Memory, TextFault};
+
+#[derive(Debug, Drop)]
+pub enum Fault {
+    /// No group has the name.
+    NoGroup,
+    /// Out of memory.
+    Memory,
+    /// What was written was not read back.
+    Unread,
+    /// The clock, the words or standard output failed.
+    Io(io::Error),
+}
+
+impl From<AllocError> for Fault {
+    fn from(_error: AllocError) -> Fault {
+        Fault::Memory
+    }
+}
+
+impl<T: Drop> From<AllocFailed<T>> for Fault {
+    fn from(_error: AllocFailed<T>) -> Fault {
+        Fault::Memory
+    }
+}
+
+impl From<Memory> for Fault {
+    fn from(_error: Memory) -> Fault {
+        Fault::Memory
+    }
+}
+
+impl From<TextFault> for Fault {
+    fn from(_error: TextFault) -> Fault {
+        Fault::Memory
+    }
+}
+
+impl From<DecodeFault> for Fault {
+    fn from(error: DecodeFault) -> Fault {
+        match error {
+            DecodeFault::Memory => Fault::Memory,
+            DecodeFault::Bad => Fault::Unread,
+        }
+    }
+}
+
+impl From<io::Error> for Fault {
+    fn from(error: io::Error) -> Fault {
+        Fault::Io(error)
+    }
+}
