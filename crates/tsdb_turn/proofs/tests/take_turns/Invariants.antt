@@ -1,0 +1,9 @@
+use Rattle.std.proofs.Common.{◌≡◌}
+use Rattle.tsdb_turn.specs.Passes.{IsOutside}
+use Rattle.tsdb_turn.proofs.tests.take_turns.Given as goal
+
+abbrev pub invariant-loop-place : goal.invariant-loop-place
+invariant-loop-place g l = record {
+  outside : IsOutside l.turn.id l.pass;
+  number : l.pass.number ≡ l.by;
+}
