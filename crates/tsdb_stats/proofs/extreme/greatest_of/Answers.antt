@@ -1,0 +1,9 @@
+use Rattle.std.proofs.Common.{sym, ◌∙◌}
+use Rattle.tsdb_map.specs.Folds.{greater}
+use Rattle.tsdb_stats.proofs.Extremes.{next}
+use Rattle.tsdb_stats.proofs.extreme.greatest_of.Goals as goal
+
+pub loop-point-preserved : goal.loop-point-preserved
+loop-point-preserved c =
+    let more = next greater c.args.points.now c.loop-point.point-index c.point-item.result c.loop-point-test.true c.point-item.is in
+    (rw (c.loop-point.invariant, c.of.ensures) at c.greater_of-greatest.ensures) ∙ sym more

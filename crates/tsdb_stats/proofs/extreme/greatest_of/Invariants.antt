@@ -1,0 +1,9 @@
+use Rattle.std.proofs.Common.{◌≡◌, take}
+use Rattle.std.specs.Prelude.{option_map}
+use Rattle.std.specs.List.{reduce}
+use Rattle.tsdb_map.specs.Folds.{greater, numbers}
+use Rattle.tsdb_stats.specs.Steps.{as_value}
+use Rattle.tsdb_stats.proofs.extreme.greatest_of.Given as goal
+
+abbrev pub invariant-loop-point : goal.invariant-loop-point
+invariant-loop-point l = option_map as_value l.greatest ≡ reduce greater (numbers (take l.point-index l.points))

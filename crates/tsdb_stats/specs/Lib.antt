@@ -1,0 +1,2 @@
+pub mod Statistics
+pub mod Steps

@@ -1,0 +1,22 @@
+-- How the least and the greatest are found, value by value. No public clause speaks of these.
+use Rattle.std.specs.Prelude.{Option, None, Some}
+use Rattle.tsdb_base.specs.declared.value.Value.{Value}
+use Rattle.tsdb_base.specs.declared.value.Value.TheVariants as value
+use Rattle.tsdb_map.specs.Folds.{if_number, number_of}
+use Rattle.tsdb_stats.specs.declared.extreme.Number.{Number}
+use Rattle.tsdb_stats.specs.declared.extreme.Number.TheVariants as number
+
+-- a value that is a number
+abbrev pub number_in : Value → Option Value
+number_in value = if_number (number_of value) value
+
+-- f of two, where both are there, and else the one that is
+abbrev pub joined : {A : Type 0} → (A → A → A) → Option A → Option A → Option A
+joined f None b = b
+joined f (Some a) None = Some a
+joined f (Some a) (Some b) = Some (f a b)
+
+-- the value that a number is
+abbrev pub as_value : Number → Value
+as_value (number.I32 n) = value.I32 n
+as_value (number.I64 n) = value.I64 n

@@ -1,0 +1,77 @@
+//! The statistics of points. Depends on `extreme`.
+ghost use Rattle.std.specs.Prelude.{◌≡◌, ◌≢◌, ◌+◌, ◌<◌, ◌^◌, List, ◌++◌, All, IfOk, IsOk, length, option_and_then, option_map};
+ghost use Rattle.tsdb_base.specs.declared.point.Point.{Point};
+ghost use Rattle.tsdb_base.specs.Values.{type_of};
+ghost use Rattle.tsdb_stats.specs.Statistics.{AreStatsOf};
+ghost use Rattle.tsdb_stats.specs.Steps.{as_value, number_in};
+
+use crate::extreme::{Number, greater_of, greatest_of, least_of, lesser_of};
+use tsdb_base::{DataType, Memory, Point, Stats, Value};
+
+/// The same value once more. A number and a boolean take no memory.
+fn copied(value: &Value) -> Result<Value, Memory>
+    ensures same { IfOk result (λ copy. copy ≡ value.now) }
+    ensures fixed { type_of value.now ≢ DataType.Text → IsOk result }
+{
+    match value {
+        Value::Bool(truth) => Ok(Value::Bool(*truth)),
+        Value::I32(number) => Ok(Value::I32(*number)),
+        Value::I64(number) => Ok(Value::I64(*number)),
+        Value::Text(text) => Ok(Value::Text(text.clone()?)),
+    }
+}
+
+/// The number as a value, if there is one.
+fn value_of(number: Option<Number>) -> Option<Value>
+    ensures { result ≡ option_map as_value number }
+{
+    number.map(|number| number.value())
+}
+
+/// The statistics of points, of which there is one at least, in order of time. Where no value is a text, it takes no
+/// memory.
+pub fn stats_of(points: &[Point]) -> Result<Stats, Memory>
+    requires { 0 < length points.now }
+    ensures found { IfOk result (λ stats. AreStatsOf points.now stats) }
+    ensures fixed { All (λ point. type_of point.value ≢ DataType.Text) points.now → IsOk result }
+{
+    let first = &points[0];
+    let last = &points[points.len() - 1];
+    Ok(Stats {
+        count: points.len() as u64,
+        start: first.time,
+        end: last.time,
+        first: copied(&first.value)?,
+        last: copied(&last.value)?,
+        least: value_of(least_of(points)),
+        greatest: value_of(greatest_of(points)),
+    })
+}
+
+/// The least or the greatest of the two that a pair of statistics keeps, if there is one.
+fn number(value: &Option<Value>) -> Option<Number>
+    ensures { option_map as_value result ≡ option_and_then number_in value.now }
+{
+    value.as_ref().and_then(Number::of)
+}
+
+/// The statistics of two lists of points, one behind the other, from the statistics of each. Where no value is a
+/// text, it takes no memory.
+pub fn join(left: &Stats, right: &Stats) -> Result<Stats, Memory>
+    requires { left.now.count + right.now.count < 2 ^ 64 }
+    ensures found { IfOk result (λ stats. (before behind : List Point) →
+        AreStatsOf before left.now → AreStatsOf behind right.now → AreStatsOf (before ++ behind) stats) }
+    ensures fixed { type_of left.now.first ≢ DataType.Text → type_of right.now.last ≢ DataType.Text → IsOk result }
+{
+    let least = lesser_of(number(&left.least), number(&right.least));
+    let greatest = greater_of(number(&left.greatest), number(&right.greatest));
+    Ok(Stats {
+        count: left.count + right.count,
+        start: left.start,
+        end: right.end,
+        first: copied(&left.first)?,
+        last: copied(&right.last)?,
+        least: value_of(least),
+        greatest: value_of(greatest),
+    })
+}
