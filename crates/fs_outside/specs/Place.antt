@@ -1,10 +1,6 @@
--- How often a place in the file system and its journal have failed. They tell nothing else.
+-- How often a place in the file system has failed. It tells nothing else.
 use Rattle.std.specs.Prelude.{ℕ}
-use Rattle.fs_outside.specs.declared.place.FsJournal.{FsJournal}
 use Rattle.fs_outside.specs.declared.place.FsPlace.{FsPlace}
-
-abbrev pub journal_faults : FsJournal → ℕ
-journal_faults j = j.faults
 
 abbrev pub place_faults : {R : Type 0} → FsPlace R → ℕ
 place_faults p = p.faults

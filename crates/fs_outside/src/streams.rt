@@ -1,4 +1,4 @@
-// A source over a reader and a sink over a writer. They tell what those tell; the standard streams tell nothing.
+//! A source over a reader and a sink over a writer. They tell what those tell; the standard streams tell nothing.
 ghost use Rattle.std.specs.Prelude.{◌≡◌};
 
 use std::io::{Read, Write};

@@ -1,6 +1,14 @@
+//! The real streams and directories, and a journal over files that tell what they hold.
+ghost use Rattle.std.specs.Prelude.{◌≡◌, ◌+◌, ◌-◌, ◌^◌, ◌≤◌, min, OnOk, OnErr, vec_len};
+ghost use Rattle.std.proofs.Common.{rules};
+ghost use Rattle.tsdb_outside.specs.Causes.{Rose};
+ghost use Rattle.tsdb_outside.specs.Disk.{overwrite};
+
 use super::*;
+use std::alloc::{AllocError, Global};
 use std::fs::{self, File};
-use std::io;
+use std::io::{self, ErrorKind};
+use std::os::unix;
 use std::rt::Files;
 use std::test::Fail;
 use tsdb_outside::{Failed, Journal, Place, Sink, Slot, Source, StoreFault};
@@ -55,11 +63,11 @@ fn is_made_and_opened_again<R: Files<File = File> + AllocGlobal + Clone + Drop>(
 fn is_opened_as_new<R: Files<File = File> + AllocGlobal + Clone + Drop>(
     rt: &R,
     dir: &str,
-    names: &[&str],
+    files: &[(&str, &str)],
 ) -> Result<bool, Fail> {
     fs::create_dir(rt, dir)?;
-    for name in names {
-        fs::write(rt, *name, "")?;
+    for (name, bytes) in files {
+        fs::write(rt, *name, *bytes)?;
     }
     let mut place = FsPlace::new(rt.clone()?);
     Ok(opens_as_new(&mut place, dir.as_bytes())?)
@@ -82,33 +90,176 @@ fn store_is_made_new_and_opened_again(rt: HostRuntime) -> Result<(), Fail> {
 #[test]
 fn unfinished_store_is_opened_as_new(rt: HostRuntime) -> Result<(), Fail> {
     assert!(rt; is_opened_as_new(&rt, "m0", &[])?);
-    assert!(rt; is_opened_as_new(&rt, "m1", &["m1/slot1.new"])?);
-    assert!(rt; is_opened_as_new(&rt, "m2", &["m2/slot1"])?);
-    assert!(rt; is_opened_as_new(&rt, "m3", &["m3/slot1", "m3/slot0.new"])?);
+    assert!(rt; is_opened_as_new(&rt, "m1", &[("m1/slot1.new", "")])?);
+    assert!(rt; is_opened_as_new(&rt, "m2", &[("m2/slot1", "\0")])?);
+    assert!(rt; is_opened_as_new(&rt, "m3", &[("m3/slot1", "\0"), ("m3/slot0.new", "ab")])?);
     Ok(())
 }
 
 #[test]
-fn damaged_directory_counts_a_fault(rt: HostRuntime) -> Result<(), Fail> {
-    for dir in ["whole", "folder", "files"] {
+fn directory_without_its_log_counts_a_fault(rt: HostRuntime) -> Result<(), Fail> {
+    for dir in ["whole", "folder", "files", "longer", "other", "empty"] {
         fs::create_dir(&rt, dir)?;
     }
     fs::write(&rt, "whole/slot0", "0")?;
     fs::create_dir(&rt, "folder/slot0")?;
     fs::write(&rt, "files/7.tsfile", "")?;
+    fs::write(&rt, "longer/slot1", "\0\0")?;
+    fs::write(&rt, "other/slot1", "1")?;
+    fs::write(&rt, "empty/slot1", "")?;
     for dir in [
         b"whole".as_slice(),
         b"folder",
         b"files",
+        b"longer",
+        b"other",
+        b"empty",
         b"\xff",
         b"no/parent",
+        b"",
     ] {
         assert!(rt; is_refused(&rt, dir)?);
     }
     Ok(())
 }
 
-// What one call of a source answers and moves, with room for four bytes.
+#[test]
+fn unfinished_slot_is_not_followed_through_a_link(rt: HostRuntime) -> Result<(), Fail> {
+    fs::create_dir(&rt, "linked")?;
+    fs::write(&rt, "kept", "kept")?;
+    unix::fs::symlink(&rt, "../kept", "linked/slot0.new")?;
+    let mut place = FsPlace::new(rt.clone()?);
+    assert!(rt; opens_as_new(&mut place, b"linked")?);
+    assert_eq!(rt; fs::read_to_string(&rt, "kept")?.as_str(), "kept");
+    Ok(())
+}
+
+// Whether one place has the store at a time.
+fn is_alone<P: Place>(one: &mut P, two: &mut P, dir: &[u8]) -> Result<bool, StoreFault> {
+    let journal = one.take_up(dir)?;
+    let refused = match two.take_up(dir) {
+        Ok(other) => {
+            two.put_down(other);
+            false
+        }
+        Err(fault) => fault == StoreFault::Failed,
+    };
+    one.put_down(journal);
+    let journal = two.take_up(dir)?;
+    two.put_down(journal);
+    Ok(refused)
+}
+
+fn is_opened_once<R: Files<File = File> + AllocGlobal + Clone + Drop>(
+    rt: &R,
+) -> Result<bool, Fail> {
+    let mut one = FsPlace::new(rt.clone()?);
+    let mut two = FsPlace::new(rt.clone()?);
+    Ok(is_alone(&mut one, &mut two, b"twice")?)
+}
+
+#[test]
+fn one_program_has_a_store_at_a_time(rt: HostRuntime) -> Result<(), Fail> {
+    assert!(rt; is_opened_once(&rt)?);
+    Ok(())
+}
+
+// A file in memory that tells what it holds. What is written is durable at once; its syncs fail where it is told so.
+#[derive(Drop)]
+struct ToldFile {
+    bytes: Vec<u8>,
+    fails_sync: bool,
+    faults: u64,
+}
+
+impl ToldFile {
+    // Counts a fault.
+    fn fail(&mut self) -> io::Error
+        ensures fault { self.new ≡ record self.old { faults = min (self.old.faults + 1) (2 ^ 64 - 1) } }
+        ensures later { self.old.faults ≤ self.new.faults }
+        ensures rose { Rose self.old.faults self.new.faults }
+    {
+        self.faults = self.faults.saturating_add(1);
+        io::Error::from(ErrorKind::Other)
+    }
+}
+
+fn write_over(into: &mut Vec<u8>, at: usize, bytes: &[u8]) -> Result<(), AllocError>
+    requires { at ≤ vec_len into.old }
+    ensures ok { OnOk result (into.new.items ≡ overwrite at bytes.now into.old.items) }
+    ensures err { OnErr result (into.new.items ≡ into.old.items) }
+{
+    let inside = bytes.len().min(into.len() - at);
+    into.extend_from_slice(&bytes[inside..])?;
+    into[at..at + inside].copy_from_slice(&bytes[..inside]);
+    Ok(())
+}
+
+impl SlotFile for ToldFile {
+    ghost use Rattle.fs_outside.specs.FileState.{durable_file};
+
+    ghost state = { λ f. durable_file f.bytes.items f.faults };
+
+    fn length(&mut self) -> io::Result<u64> {
+        Ok(self.bytes.as_slice().len() as u64)
+    }
+
+    fn read_at(&mut self, at: u64, into: &mut [u8]) -> io::Result<()> {
+        let at = at as usize;
+        if at > self.bytes.len() || into.len() > self.bytes.len() - at {
+            return Err(self.fail());
+        }
+        into.copy_from_slice(&self.bytes[at..at + into.len()]);
+        Ok(())
+    }
+
+    fn write_at(&mut self, at: u64, bytes: &[u8]) -> io::Result<()> {
+        let at = at as usize;
+        if at > self.bytes.len() {
+            return Err(self.fail());
+        }
+        match write_over(&mut self.bytes, at, bytes) {
+            Ok(()) => Ok(()),
+            Err(AllocError) => Err(self.fail()),
+        }
+    }
+
+    fn sync(&mut self) -> io::Result<()> {
+        if self.fails_sync {
+            return Err(self.fail());
+        }
+        Ok(())
+    }
+
+    ghost seen_may_stay = { Prim.search rules };
+}
+
+fn told_file(alloc: Global, fails_sync: bool) -> Result<ToldFile, AllocError> {
+    Ok(ToldFile {
+        bytes: vec![in alloc; 0]?,
+        fails_sync,
+        faults: 0,
+    })
+}
+
+#[test]
+fn slot_whose_sync_failed_is_given_up(rt: HostRuntime) -> Result<(), Fail> {
+    let alloc = rt.alloc();
+    let mut journal = FsJournal::new(told_file(alloc, true)?, told_file(alloc, false)?, ());
+    assert!(rt; write_three(&mut journal, Slot::B) == Ok(()));
+    assert!(rt; journal.write_at(Slot::A, 1, &[5]) == Ok(()));
+    assert!(rt; journal.sync(Slot::A) == Err(Failed));
+    assert!(rt; journal.faults() == 1);
+    assert!(rt; journal.write_at(Slot::A, 0, &[7]) == Err(Failed));
+    assert!(rt; journal.sync(Slot::A) == Err(Failed));
+    assert!(rt; journal.faults() == 3);
+    assert!(rt; first_and_length(&mut journal, Slot::A) == Ok((0, 2)));
+    assert!(rt; write_three(&mut journal, Slot::B) == Ok(()));
+    assert!(rt; first_and_length(&mut journal, Slot::B) == Ok((3, 3)));
+    Ok(())
+}
+
+// What one call of a source returns and moves, with room for four bytes.
 fn take_four<S: Source>(source: &mut S) -> (Result<usize, Failed>, [u8; 4]) {
     let mut into = [0; 4];
     let answer = source.take(&mut into);

@@ -1,4 +1,3 @@
 mod Moves
-mod RecordLemmas
+mod StopLemmas
 mod JournalLemmas
-mod PlaceLemmas

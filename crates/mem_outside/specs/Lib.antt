@@ -4,7 +4,7 @@ pub mod Laws
 pub mod Place
 pub mod PlaceLaws
 pub mod Record
-pub mod Recorded
+pub mod RecordedDisk
 pub mod Replay
 pub mod Slots
 pub mod Steady

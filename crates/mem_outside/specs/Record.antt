@@ -1,7 +1,7 @@
 -- What a record of writes and syncs stands for in one slot, and what a stop may leave of it.
-use Rattle.std.specs.Prelude.{◌≡◌, ℕ, ◌-◌, ◌≤◌, min, Bool, true, false, List, [], ◌∷◌, length, take, map, if◌then◌else◌}
+use Rattle.std.specs.Prelude.{◌≡◌, ℕ, ◌-◌, ◌≤◌, min, Bool, true, false, List, [], ◌∷◌, length, take, map, Some, if◌then◌else◌}
 use Rattle.std.specs.List.{fold}
-use Rattle.tsdb_outside.specs.Disk.{Image, written, Torn}
+use Rattle.tsdb_outside.specs.Disk.{Image, State, overwrite, Torn}
 use Rattle.tsdb_outside.specs.declared.disk.Slot.{Slot}
 use Rattle.tsdb_outside.specs.declared.disk.Slot.TheVariants.{A, B}
 use Rattle.mem_outside.specs.declared.record.Call.{Call}
@@ -10,32 +10,32 @@ use Rattle.mem_outside.specs.declared.record.Kind.TheVariants.{Write, Sync}
 use Rattle.mem_outside.specs.declared.record.StopKind.{StopKind}
 use Rattle.mem_outside.specs.declared.record.StopKind.TheVariants.{Written, Unwritten, Scrambled}
 
--- a slot: what a read gives, what its last sync made sure of, and the writes since then, the newest first
-pub record Kept : Type 0 where
+-- a slot: what a read gives, what its last sync made durable, and the writes since then, the newest first
+pub record SlotState : Type 0 where
   pub seen : List ℕ
-  pub synced : List ℕ
+  pub durable : List ℕ
   pub pending : List (ℕ × List ℕ)
 
--- a slot with these bytes, all of them synced
-abbrev pub fresh : List ℕ → Kept
-fresh bytes = record { seen = bytes; synced = bytes; pending = [] }
+-- a slot with these bytes, all of them durable
+abbrev pub new_slot : List ℕ → SlotState
+new_slot bytes = record { seen = bytes; durable = bytes; pending = [] }
 
 -- after a write, which begins at the end of the slot at the latest; one that failed is pending all the same
-abbrev pub after_write : ℕ → List ℕ → Bool → Kept → Kept
-after_write at bytes done s = record {
-  seen = if done then written (min at (length s.seen)) bytes s.seen else s.seen;
-  synced = s.synced;
+abbrev pub after_write : ℕ → List ℕ → Bool → SlotState → SlotState
+after_write at bytes succeeded s = record {
+  seen = if succeeded then overwrite (min at (length s.seen)) bytes s.seen else s.seen;
+  durable = s.durable;
   pending = (min at (length s.seen), bytes) ∷ s.pending;
 }
 
--- after a sync; one that failed makes nothing sure
-abbrev pub after_sync : Bool → Kept → Kept
-after_sync true s = fresh s.seen
+-- after a sync; one that failed makes nothing durable
+abbrev pub after_sync : Bool → SlotState → SlotState
+after_sync true s = new_slot s.seen
 after_sync false s = s
 
-abbrev pub after_kind : Kind → Bool → Kept → Kept
-after_kind (Write at bytes) done s = after_write at bytes.items done s
-after_kind Sync done s = after_sync done s
+abbrev pub after_kind : Kind → Bool → SlotState → SlotState
+after_kind (Write at bytes) succeeded s = after_write at bytes.items succeeded s
+after_kind Sync succeeded s = after_sync succeeded s
 
 abbrev pub is_slot : Slot → Slot → Bool
 is_slot A A = true
@@ -44,32 +44,33 @@ is_slot B A = false
 is_slot B B = true
 
 -- a slot after a call, which changes its own slot alone
-abbrev pub after_call : Slot → Kept → Call → Kept
-after_call slot s call = if is_slot slot call.slot then after_kind call.kind call.done s else s
+abbrev pub after_call : Slot → SlotState → Call → SlotState
+after_call slot s call = if is_slot slot call.slot then after_kind call.kind call.succeeded s else s
 
 -- a slot after these calls
-abbrev pub after_calls : Slot → List ℕ → List Call → Kept
-after_calls slot first calls = fold (after_call slot) (fresh first) calls
+abbrev pub after_calls : Slot → List ℕ → List Call → SlotState
+after_calls slot first calls = fold (after_call slot) (new_slot first) calls
 
--- bytes that a stop may leave: what was synced, with each write since cut short somehow
+-- bytes that a stop may leave: what is durable, with each write since then cut short somehow
 abbrev pub Leaves : List (ℕ × List ℕ) → List ℕ → List ℕ → Type 0
-Leaves [] synced bytes = bytes ≡ synced
-Leaves (write ∷ older) synced bytes = (before : List ℕ) × Leaves older synced before × Torn write.0 (length write.1) before bytes
+Leaves [] durable bytes = bytes ≡ durable
+Leaves (write ∷ older) durable bytes =
+    (before : List ℕ) × Leaves older durable before × Torn write.0 (length write.1) before bytes
 
--- each byte turned over
-abbrev pub inverted : List ℕ → List ℕ
-inverted bytes = map (λ byte. 255 - byte) bytes
+-- each byte with all of its bits turned over
+abbrev pub invert : List ℕ → List ℕ
+invert bytes = map (λ byte. 255 - byte) bytes
 
 -- a pending write as a stop of this kind leaves it
-abbrev pub laid : StopKind → ℕ × List ℕ → List ℕ → List ℕ
-laid Written write bytes = written (min write.0 (length bytes)) write.1 bytes
-laid Unwritten write bytes = bytes
-laid Scrambled write bytes = written (min write.0 (length bytes)) (inverted write.1) bytes
+abbrev pub apply_pending : StopKind → ℕ × List ℕ → List ℕ → List ℕ
+apply_pending Written write bytes = overwrite (min write.0 (length bytes)) write.1 bytes
+apply_pending Unwritten write bytes = bytes
+apply_pending Scrambled write bytes = overwrite (min write.0 (length bytes)) (invert write.1) bytes
 
--- what a stop of this kind leaves of the synced bytes and the pending writes
-abbrev pub overlaid : StopKind → List (ℕ × List ℕ) → List ℕ → List ℕ
-overlaid kind [] synced = synced
-overlaid kind (write ∷ older) synced = laid kind write (overlaid kind older synced)
+-- what a stop of this kind leaves of the durable bytes and the pending writes
+abbrev pub apply_all : StopKind → List (ℕ × List ℕ) → List ℕ → List ℕ
+apply_all kind [] durable = durable
+apply_all kind (write ∷ older) durable = apply_pending kind write (apply_all kind older durable)
 
 -- both slots after these calls, as reads give them
 abbrev pub seen_after : Image → List Call → Image
@@ -78,17 +79,28 @@ seen_after first calls = record { a = (after_calls A first.a calls).seen; b = (a
 -- a stop after these calls may leave this
 abbrev pub LeavesOf : Image → List Call → Image → Type 0
 LeavesOf first calls image =
-    Leaves (after_calls A first.a calls).pending (after_calls A first.a calls).synced image.a
-    × Leaves (after_calls B first.b calls).pending (after_calls B first.b calls).synced image.b
+    Leaves (after_calls A first.a calls).pending (after_calls A first.a calls).durable image.a
+    × Leaves (after_calls B first.b calls).pending (after_calls B first.b calls).durable image.b
 
 -- a stop after the first t calls, or after more of them, may have left this
 abbrev pub LeftSince : Image → List Call → ℕ → Image → Type 0
 LeftSince first calls t image = (k : ℕ) × (t ≤ k) × (k ≤ length calls) × LeavesOf first (take k calls) image
 
+-- what the disk means after these calls
+abbrev pub state_after : Image → List Call → State
+state_after first calls = record {
+  seen = Some (seen_after first calls);
+  may_leave = LeavesOf first calls;
+  moment = length calls;
+  left_since = LeftSince first calls;
+}
+
 -- what a stop of this kind leaves of one slot after these calls
-abbrev pub stopped_slot : StopKind → Slot → List ℕ → List Call → List ℕ
-stopped_slot kind slot first calls = overlaid kind (after_calls slot first calls).pending (after_calls slot first calls).synced
+abbrev pub slot_after_stop : StopKind → Slot → List ℕ → List Call → List ℕ
+slot_after_stop kind slot first calls =
+    apply_all kind (after_calls slot first calls).pending (after_calls slot first calls).durable
 
 -- what a stop of this kind leaves after these calls
-abbrev pub stopped : StopKind → Image → List Call → Image
-stopped kind first calls = record { a = stopped_slot kind A first.a calls; b = stopped_slot kind B first.b calls }
+abbrev pub image_after_stop : StopKind → Image → List Call → Image
+image_after_stop kind first calls =
+    record { a = slot_after_stop kind A first.a calls; b = slot_after_stop kind B first.b calls }

@@ -1,10 +1,10 @@
-// Calls that fail by their number.
-ghost use Rattle.std.specs.Prelude.{◌≡◌, ◌↔◌, ◌+◌, ◌-◌, ◌^◌, ◌≤◌, min, IsErr, OnOk, OnErr};
+//! Calls that fail by their number. Depends on `tsdb_outside`.
+ghost use Rattle.std.specs.Prelude.{◌≡◌, ◌↔◌, ◌≤◌, IsErr, OnOk, OnErr};
 ghost use Rattle.tsdb_outside.specs.Causes.{HasCause, Rose};
 
 use tsdb_outside::Failed;
 
-/// How many calls were made, which of them fail, by number from 1, and how many have failed.
+/// How many calls were made, which of them fail, by number from 1, and how many faults were counted.
 #[derive(Drop)]
 pub struct Calls {
     fails: Vec<u64>,
@@ -13,7 +13,7 @@ pub struct Calls {
 }
 
 impl Calls {
-    ghost use Rattle.mem_outside.specs.Calls.{next_call, NextFails};
+    ghost use Rattle.mem_outside.specs.Calls.{NextFails, with_call, with_fault, without_faults};
 
     pub fn new(fails: Vec<u64>) -> Self
         ensures { result ≡ record { fails = fails; made = 0; faults = 0 } }
@@ -28,25 +28,21 @@ impl Calls {
     /// Makes the next call, which may be one that fails.
     pub fn make(&mut self) -> Result<(), Failed>
         ensures fails { IsErr result ↔ NextFails self.old }
-        ensures ok { OnOk result (self.new ≡ record self.old { made = next_call self.old }) }
-        ensures err { OnErr result (self.new ≡ record self.old {
-          made = next_call self.old;
-          faults = min (self.old.faults + 1) (2 ^ 64 - 1);
-        }) }
-        ensures count { OnOk result (self.new.faults ≡ self.old.faults) }
+        ensures ok { OnOk result (self.new ≡ with_call self.old) }
+        ensures err { OnErr result (self.new ≡ with_fault (with_call self.old)) }
+        ensures no_fault { OnOk result (self.new.faults ≡ self.old.faults) }
         ensures cause { HasCause self.old.faults self.new.faults result }
     {
         self.made = self.made.saturating_add(1);
         if self.fails.contains(&self.made) {
-            self.faults = self.faults.saturating_add(1);
-            return Err(Failed);
+            return Err(self.fail());
         }
         Ok(())
     }
 
-    /// Counts a call that failed for another reason.
+    /// Counts a fault.
     pub fn fail(&mut self) -> Failed
-        ensures numbers { self.new ≡ record self.old { faults = min (self.old.faults + 1) (2 ^ 64 - 1) } }
+        ensures fault { self.new ≡ with_fault self.old }
         ensures later { self.old.faults ≤ self.new.faults }
         ensures rose { Rose self.old.faults self.new.faults }
     {
@@ -54,7 +50,7 @@ impl Calls {
         Failed
     }
 
-    /// How many calls have failed.
+    /// How many faults were counted.
     pub fn faults(&self) -> u64
         ensures { result ≡ self.now.faults }
     {
@@ -62,8 +58,8 @@ impl Calls {
     }
 
     /// Counts its faults from 0 again.
-    pub fn take_faults(&mut self)
-        ensures { self.new ≡ record self.old { faults = 0 } }
+    pub fn reset_faults(&mut self)
+        ensures { self.new ≡ without_faults self.old }
     {
         self.faults = 0;
     }

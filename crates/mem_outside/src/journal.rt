@@ -1,9 +1,12 @@
-// The journal in memory.
-ghost use Rattle.std.specs.Prelude.{◌≡◌, ◌↔◌, ◌+◌, ◌^◌, ◌<◌, ◌≤◌, [], length, take, Some, IfOk, IsTrue};
-ghost use Rattle.mem_outside.specs.Laws.{left_now, only_left_now, left_earlier};
+//! The journal in memory. Depends on `calls` and `record`.
+ghost use Rattle.std.specs.Prelude.{◌≡◌, ◌↔◌, ◌+◌, ◌^◌, ◌<◌, ◌≤◌, [], length, take, drop, IfOk, IfSome, IsErr, IsOk, IsTrue, OnErr, OnOk};
+ghost use Rattle.std.specs.Option.{ForSome};
+ghost use Rattle.tsdb_outside.specs.Causes.{HasCause};
+ghost use Rattle.tsdb_outside.specs.Limits.{FitsSlot};
+ghost use Rattle.mem_outside.specs.Laws.{state_is_lawful};
 
 use crate::calls::Calls;
-use crate::record::{Pair, Recorded, StopKind};
+use crate::record::{Pair, RecordedDisk, StopKind};
 use std::alloc::{AllocError, Global};
 use tsdb_outside::{Counted, Disk, Failed, Journal, Slot};
 
@@ -11,7 +14,7 @@ use tsdb_outside::{Counted, Disk, Failed, Journal, Slot};
 const MAX_LENGTH: u64 = 0x7fff_ffff_ffff_ffff;
 
 fn is_within_limit(at: u64, length: usize) -> bool
-    ensures { IsTrue result ↔ (at + length < 2 ^ 63) }
+    ensures { IsTrue result ↔ FitsSlot (at + length) }
 {
     at <= MAX_LENGTH && length as u64 <= MAX_LENGTH - at
 }
@@ -20,24 +23,24 @@ fn is_within_limit(at: u64, length: usize) -> bool
 /// each moment. Some of those calls fail, by number; so does one for which there is no room.
 #[derive(Drop)]
 pub struct MemJournal {
-    disk: Recorded,
+    disk: RecordedDisk,
     numbers: Calls,
 }
 
 impl MemJournal {
     ghost use Rattle.mem_outside.specs.Slots.{pair_image};
-    ghost use Rattle.mem_outside.specs.Record.{stopped};
-    ghost use Rattle.mem_outside.specs.Journal.{journal_seen, journal_first, journal_calls, journal_numbers, journal_faults};
+    ghost use Rattle.mem_outside.specs.Record.{image_after_stop};
+    ghost use Rattle.mem_outside.specs.Journal.{journal_first, journal_calls, journal_numbers, journal_faults, with_no_faults};
 
-    // Two slots with these bytes, all of them synced.
+    // Two slots with these bytes, all of them durable.
     pub(crate) fn new(alloc: Global, slots: Pair, fails: Vec<u64>) -> Result<MemJournal, AllocError>
-        ensures seen { IfOk result (λ journal. journal_seen journal ≡ pair_image slots) }
         ensures first { IfOk result (λ journal. journal_first journal ≡ pair_image slots) }
         ensures calls { IfOk result (λ journal. journal_calls journal ≡ []) }
-        ensures numbers { IfOk result (λ journal. journal_numbers journal ≡ record { fails = fails; made = 0; faults = 0 }) }
+        ensures numbers { IfOk result (λ journal. journal_numbers journal
+            ≡ record { fails = fails; made = 0; faults = 0 }) }
     {
         Ok(MemJournal {
-            disk: Recorded::new(alloc, slots)?,
+            disk: RecordedDisk::new(alloc, slots)?,
             numbers: Calls::new(fails),
         })
     }
@@ -58,20 +61,17 @@ impl MemJournal {
     }
 
     // Counts its faults from 0 again.
-    pub(crate) fn take_faults(&mut self)
-        ensures faults { journal_faults self.new ≡ 0 }
-        ensures seen { journal_seen self.new ≡ journal_seen self.old }
-        ensures first { journal_first self.new ≡ journal_first self.old }
-        ensures calls { journal_calls self.new ≡ journal_calls self.old }
+    pub(crate) fn reset_faults(&mut self)
+        ensures { self.new ≡ with_no_faults self.old }
     {
-        self.numbers.take_faults();
+        self.numbers.reset_faults();
     }
 
     // What a stop of this kind leaves behind the first `moment` calls.
     pub(crate) fn after_stop(&self, moment: usize, stop: StopKind) -> Result<Pair, AllocError>
         requires { moment ≤ length (journal_calls self.now) }
         ensures { IfOk result (λ slots. pair_image slots ≡
-            stopped stop (journal_first self.now) (take moment (journal_calls self.now))) }
+            image_after_stop stop (journal_first self.now) (take moment (journal_calls self.now))) }
     {
         Ok(Pair {
             a: self.disk.after_stop(Slot::A, moment, stop)?,
@@ -87,63 +87,89 @@ impl Counted for MemJournal {
 }
 
 impl Disk for MemJournal {
-    ghost use Rattle.mem_outside.specs.Journal.{journal_seen, journal_calls, JournalLeaves, JournalLeftSince};
+    ghost use Rattle.mem_outside.specs.Journal.{journal_first, journal_calls, journal_state};
 
-    ghost seen = { λ j. Some (journal_seen j) };
+    ghost state = { journal_state };
 
-    ghost may_leave = { JournalLeaves };
-
-    ghost moment = { λ j. length (journal_calls j) };
-
-    ghost left_since = { JournalLeftSince };
+    ghost lawful = { λ j. state_is_lawful (journal_first j) (journal_calls j) };
 }
 
 impl Journal for MemJournal {
-    ghost use Rattle.mem_outside.specs.Journal.{journal_first, journal_calls};
+    ghost use Rattle.tsdb_outside.specs.Disk.{in_slot, Overwrites, WhereTold, Durable, Keeps, MayWrite};
+    ghost use Rattle.mem_outside.specs.Calls.{NextFails};
+    ghost use Rattle.mem_outside.specs.Record.{after_write, after_sync};
+    ghost use Rattle.mem_outside.specs.Journal.{journal_state, journal_numbers, journal_faults, Succeeds, FailsByNumber, FailsWithoutRoom};
 
-    fn length(&mut self, slot: Slot) -> Result<u64, Failed> {
+    fn length(&mut self, slot: Slot) -> Result<u64, Failed>
+        ensures length { IfOk result (λ n. ForSome (journal_state self.old).seen
+            (λ image. n ≡ length (in_slot slot image))) }
+        ensures limit { IfOk result FitsSlot }
+        ensures keeps { Keeps (journal_state self.old) (journal_state self.new) }
+        ensures cause { HasCause (journal_faults self.old) (journal_faults self.new) result }
+
+        // It never fails, and is no counted call.
+        ensures ok { IsOk result }
+        ensures same { self.new ≡ self.old }
+    {
         Ok(self.disk.slot(slot).len() as u64)
     }
 
-    fn read_at(&mut self, slot: Slot, at: u64, into: &mut [u8]) -> Result<(), Failed> {
+    fn read_at(&mut self, slot: Slot, at: u64, into: &mut [u8]) -> Result<(), Failed>
+        requires { ForSome (journal_state self.old).seen (λ image. at + length into.old ≤ length (in_slot slot image)) }
+        ensures bytes { OnOk result (IfSome (journal_state self.old).seen
+            (λ image. into.new ≡ take (length into.new) (drop at (in_slot slot image)))) }
+        ensures keeps { Keeps (journal_state self.old) (journal_state self.new) }
+        ensures cause { HasCause (journal_faults self.old) (journal_faults self.new) result }
+
+        // It never fails, and is no counted call.
+        ensures ok { IsOk result }
+        ensures same { self.new ≡ self.old }
+    {
         let at = at as usize;
         into.copy_from_slice(&self.disk.slot(slot)[at..at + into.len()]);
         Ok(())
     }
 
-    fn write_at(&mut self, slot: Slot, at: u64, bytes: &[u8]) -> Result<(), Failed> {
-        let fits = is_within_limit(at, bytes.len());
-        let at = at as usize;
-        match self.numbers.make() {
-            Ok(()) if !fits => Err(self.numbers.fail()),
-            Ok(()) => match self.disk.write(slot, at, bytes, true) {
-                Ok(()) => Ok(()),
-                Err(AllocError) => Err(self.numbers.fail()),
-            },
-            Err(Failed) => {
-                // What fails is pending all the same, where there is room to record it.
-                let _ = self.disk.write(slot, at, bytes, false);
-                Err(Failed)
-            }
+    fn write_at(&mut self, slot: Slot, at: u64, bytes: &[u8]) -> Result<(), Failed>
+        requires { ForSome (journal_state self.old).seen (λ image. at ≤ length (in_slot slot image)) }
+        ensures bytes { OnOk result (WhereTold (Overwrites slot at bytes.now)
+            (journal_state self.old).seen (journal_state self.new).seen) }
+        ensures limit { OnOk result (FitsSlot (at + length bytes.now)) }
+        ensures writes { MayWrite slot at (length bytes.now) (journal_state self.old) (journal_state self.new) }
+        ensures cause { HasCause (journal_faults self.old) (journal_faults self.new) result }
+
+        // It fails at the calls with these numbers, and otherwise only without room.
+        ensures ok { OnOk result (Succeeds slot (after_write at bytes.now) self.old self.new) }
+        ensures fails { NextFails (journal_numbers self.old)
+            → IsErr result × FailsByNumber slot (after_write at bytes.now) self.old self.new }
+        ensures no_room { ¬ NextFails (journal_numbers self.old) → OnErr result (FailsWithoutRoom self.old self.new) }
+    {
+        let outcome = self.numbers.make();
+        if !is_within_limit(at, bytes.len()) {
+            return Err(self.numbers.fail());
+        }
+        match self.disk.write(slot, at as usize, bytes, outcome.is_ok()) {
+            Ok(()) => outcome,
+            Err(AllocError) => Err(self.numbers.fail()),
         }
     }
 
-    fn sync(&mut self, slot: Slot) -> Result<(), Failed> {
-        match self.numbers.make() {
-            Ok(()) => match self.disk.sync(slot, true) {
-                Ok(()) => Ok(()),
-                Err(AllocError) => Err(self.numbers.fail()),
-            },
-            Err(Failed) => {
-                let _ = self.disk.sync(slot, false);
-                Err(Failed)
-            }
+    fn sync(&mut self, slot: Slot) -> Result<(), Failed>
+        ensures durable { OnOk result (IfSome (journal_state self.old).seen
+            (λ image. Durable slot (in_slot slot image) (journal_state self.new).may_leave)) }
+        ensures keeps { Keeps (journal_state self.old) (journal_state self.new) }
+        ensures cause { HasCause (journal_faults self.old) (journal_faults self.new) result }
+
+        // It fails at the calls with these numbers, and otherwise only without room.
+        ensures ok { OnOk result (Succeeds slot after_sync self.old self.new) }
+        ensures fails { NextFails (journal_numbers self.old)
+            → IsErr result × FailsByNumber slot after_sync self.old self.new }
+        ensures no_room { ¬ NextFails (journal_numbers self.old) → OnErr result (FailsWithoutRoom self.old self.new) }
+    {
+        let outcome = self.numbers.make();
+        match self.disk.sync(slot, outcome.is_ok()) {
+            Ok(()) => outcome,
+            Err(AllocError) => Err(self.numbers.fail()),
         }
     }
-
-    ghost counts_now = { λ j t image le left. left_now (journal_first j) (journal_calls j) t image le left };
-
-    ghost only_now = { λ j image left. only_left_now (journal_first j) (journal_calls j) image left };
-
-    ghost since_earlier = { λ j t u image le left. left_earlier (journal_first j) (journal_calls j) t u image le left };
 }

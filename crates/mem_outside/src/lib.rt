@@ -1,5 +1,6 @@
-//! What is outside the engine, in memory: sources and sinks whose calls fail by number, and steady ones that never
-//! fail. Stands on `tsdb_outside`.
+//! What is outside the engine, in memory: sources and sinks whose calls fail by number, steady ones that never fail,
+//! and places for a store, with calls that fail by number and stops at every moment. Depends on `tsdb_base` and
+//! `tsdb_outside`.
 #![tactic(auto)]
 
 mod calls;

@@ -1,6 +1,7 @@
-// The places in memory.
-ghost use Rattle.std.specs.Prelude.{◌≡◌, ◌<◌, [], Some, IfOk, IfSome};
-ghost use Rattle.mem_outside.specs.PlaceLaws.{held_left_now, held_only_now, held_left_earlier};
+//! The places in memory. Depends on `journal`.
+ghost use Rattle.std.specs.Prelude.{◌≡◌, ◌↔◌, ◌+◌, ◌-◌, ◌^◌, ◌<◌, ◌≤◌, [], min, None, Some, IfOk, IfSome, IsOk, IsSome, OnErr, OnOk};
+ghost use Rattle.tsdb_outside.specs.Causes.{HasStoreCause};
+ghost use Rattle.mem_outside.specs.PlaceLaws.{place_is_lawful};
 
 use crate::journal::MemJournal;
 use crate::record::{Pair, StopKind};
@@ -24,14 +25,17 @@ pub struct MemPlace {
 }
 
 impl MemPlace {
-    ghost use Rattle.mem_outside.specs.Place.{held, held_seen, HeldOnly, held_moment, held_moments, HeldLeftAt, held_stopped, place_faults, slots_image};
+    ghost use Rattle.mem_outside.specs.Journal.{journal_numbers};
+    ghost use Rattle.mem_outside.specs.Place.{journal_of, place_faults, place_state, moments_of, LeftAt, stop_image, IsDurable, slots_image};
 
-    /// A place with these slots, all of their bytes synced.
+    /// A place with these slots, all of their bytes durable.
     pub fn new(alloc: Global, slots: [Vec<u8>; 2], fails: Fails) -> Result<MemPlace, Memory>
-        ensures seen { IfOk result (λ place. held_seen (held place) ≡ Some (slots_image slots)) }
-        ensures synced { IfOk result (λ place. HeldOnly (slots_image slots) (held place)) }
-        ensures moment { IfOk result (λ place. held_moment (held place) ≡ 0) }
-        ensures faults { IfOk result (λ place. place_faults place ≡ 0) }
+        ensures seen { IfOk result (λ place. (place_state place).seen ≡ Some (slots_image slots)) }
+        ensures durable { IfOk result (λ place. IsDurable (slots_image slots) (place_state place)) }
+        ensures moment { IfOk result (λ place. (place_state place).moment ≡ 0) }
+        ensures numbers { IfOk result (λ place. IfSome (journal_of place)
+            (λ journal. journal_numbers journal ≡ record { fails = fails.journal; made = 0; faults = 0 })) }
+        ensures no_faults { IfOk result (λ place. place_faults place ≡ 0) }
     {
         let [a, b] = slots;
         Ok(MemPlace {
@@ -44,7 +48,7 @@ impl MemPlace {
     /// How many moments it can be stopped at: one before the first counted call, and one behind each. None while its
     /// journal is out.
     pub fn moments(&self) -> u64
-        ensures { result ≡ held_moments (held self.now) }
+        ensures { result ≡ moments_of (journal_of self.now) }
     {
         match &self.journal {
             Some(journal) => journal.count() + 1,
@@ -52,14 +56,17 @@ impl MemPlace {
         }
     }
 
-    /// A place with what a stop of this kind leaves behind the first `moment` counted calls.
+    /// A place with what a stop of this kind leaves behind the first `moment` counted calls. None of its calls fails.
     pub fn after_stop(&self, moment: u64, kind: StopKind) -> Result<MemPlace, Memory>
-        requires { moment < held_moments (held self.now) }
-        ensures seen { IfOk result (λ place. held_seen (held place) ≡ held_stopped kind (held self.now) moment) }
-        ensures allowed { IfOk result (λ place. IfSome (held_seen (held place)) (HeldLeftAt (held self.now) moment)) }
-        ensures synced { IfOk result (λ place. IfSome (held_seen (held place)) (λ image. HeldOnly image (held place))) }
-        ensures moment { IfOk result (λ place. held_moment (held place) ≡ 0) }
-        ensures faults { IfOk result (λ place. place_faults place ≡ 0) }
+        requires { moment < moments_of (journal_of self.now) }
+        ensures seen { IfOk result (λ place. (place_state place).seen ≡ stop_image kind (journal_of self.now) moment) }
+        ensures allowed { IfOk result (λ place. IfSome (place_state place).seen (LeftAt (journal_of self.now) moment)) }
+        ensures durable { IfOk result (λ place. IfSome (place_state place).seen
+            (λ image. IsDurable image (place_state place))) }
+        ensures moment { IfOk result (λ place. (place_state place).moment ≡ 0) }
+        ensures numbers { IfOk result (λ place. IfSome (journal_of place)
+            (λ journal. (journal_numbers journal).fails.items ≡ [])) }
+        ensures no_faults { IfOk result (λ place. place_faults place ≡ 0) }
     {
         match &self.journal {
             Some(journal) => {
@@ -81,27 +88,36 @@ impl Counted for MemPlace {
 }
 
 impl Disk for MemPlace {
-    ghost use Rattle.mem_outside.specs.Place.{held, held_seen, HeldLeaves, held_moment, HeldLeftSince};
+    ghost use Rattle.mem_outside.specs.Place.{journal_of, place_state};
 
-    ghost seen = { λ place. held_seen (held place) };
+    ghost state = { place_state };
 
-    ghost may_leave = { λ place image. HeldLeaves (held place) image };
-
-    ghost moment = { λ place. held_moment (held place) };
-
-    ghost left_since = { λ place t image. HeldLeftSince (held place) t image };
+    ghost lawful = { λ place. place_is_lawful (journal_of place) };
 }
 
 impl Place for MemPlace {
-    ghost use Rattle.mem_outside.specs.Place.{held};
+    ghost use Rattle.tsdb_outside.specs.Disk.{Keeps};
+    ghost use Rattle.mem_outside.specs.Journal.{journal_state, journal_faults, with_no_faults};
+    ghost use Rattle.mem_outside.specs.Place.{journal_of, place_faults, place_state};
 
     type Journal = MemJournal;
 
     /// It has one store, whatever the directory. While its journal is out a further one is refused with a fault.
-    fn take_up(&mut self, _dir: &[u8]) -> Result<MemJournal, StoreFault> {
+    fn take_up(&mut self, _dir: &[u8]) -> Result<MemJournal, StoreFault>
+        ensures keeps { IfOk result (λ journal. Keeps (place_state self.old) (journal_state journal)) }
+        ensures no_faults { IfOk result (λ journal. journal_faults journal ≡ 0) }
+        ensures err { OnErr result (Keeps (place_state self.old) (place_state self.new)) }
+        ensures cause { HasStoreCause (place_faults self.old) (place_faults self.new) result }
+
+        // It succeeds exactly where the journal is in it.
+        ensures ok { IsOk result ↔ IsSome (journal_of self.old) }
+        ensures journal { IfOk result (λ journal. IfSome (journal_of self.old) (λ j. journal ≡ with_no_faults j)) }
+        ensures out { journal_of self.new ≡ None }
+        ensures no_fault { OnOk result (place_faults self.new ≡ place_faults self.old) }
+    {
         match self.journal.take() {
             Some(mut journal) => {
-                journal.take_faults();
+                journal.reset_faults();
                 Ok(journal)
             }
             None => {
@@ -111,34 +127,39 @@ impl Place for MemPlace {
         }
     }
 
-    fn put_down(&mut self, journal: MemJournal) {
+    fn put_down(&mut self, journal: MemJournal)
+        ensures keeps { Keeps (journal_state journal) (place_state self.new) }
+        ensures later { place_faults self.old ≤ place_faults self.new }
+        ensures faults { min (place_faults self.old + journal_faults journal) (2 ^ 64 - 1) ≤ place_faults self.new }
+
+        // It has this journal again, and no further fault.
+        ensures journal { journal_of self.new ≡ Some journal }
+        ensures no_more { place_faults self.new ≡ min (place_faults self.old + journal_faults journal) (2 ^ 64 - 1) }
+    {
         self.faults = self.faults.saturating_add(journal.faults());
         self.journal = Some(journal);
     }
-
-    ghost counts_now = { λ place t image le left. held_left_now (held place) t image le left };
-
-    ghost only_now = { λ place image left. held_only_now (held place) image left };
-
-    ghost since_earlier = { λ place t u image le left. held_left_earlier (held place) t u image le left };
 }
 
-/// A place in memory for a store whose calls fail only for want of room.
+/// A place in memory for a store whose calls fail only without room.
 #[derive(Drop)]
 pub struct SteadyPlace {
     place: MemPlace,
 }
 
 impl SteadyPlace {
-    ghost use Rattle.mem_outside.specs.Place.{held, held_seen, HeldOnly, held_moment, place_faults, slots_image};
+    ghost use Rattle.mem_outside.specs.Journal.{journal_numbers};
+    ghost use Rattle.mem_outside.specs.Place.{journal_of, place_faults, place_state, IsDurable, slots_image};
     ghost use Rattle.mem_outside.specs.Steady.{inner_place};
 
-    /// A place with these slots, all of their bytes synced.
+    /// A place with these slots, all of their bytes durable.
     pub fn new(alloc: Global, slots: [Vec<u8>; 2]) -> Result<SteadyPlace, Memory>
-        ensures seen { IfOk result (λ place. held_seen (held (inner_place place)) ≡ Some (slots_image slots)) }
-        ensures synced { IfOk result (λ place. HeldOnly (slots_image slots) (held (inner_place place))) }
-        ensures moment { IfOk result (λ place. held_moment (held (inner_place place)) ≡ 0) }
-        ensures faults { IfOk result (λ place. place_faults (inner_place place) ≡ 0) }
+        ensures seen { IfOk result (λ place. (place_state (inner_place place)).seen ≡ Some (slots_image slots)) }
+        ensures durable { IfOk result (λ place. IsDurable (slots_image slots) (place_state (inner_place place))) }
+        ensures moment { IfOk result (λ place. (place_state (inner_place place)).moment ≡ 0) }
+        ensures numbers { IfOk result (λ place. IfSome (journal_of (inner_place place))
+            (λ journal. (journal_numbers journal).fails.items ≡ [])) }
+        ensures no_faults { IfOk result (λ place. place_faults (inner_place place) ≡ 0) }
     {
         let fails = Fails {
             journal: Vec::new(alloc),
@@ -157,35 +178,50 @@ impl Counted for SteadyPlace {
 }
 
 impl Disk for SteadyPlace {
-    ghost use Rattle.mem_outside.specs.Place.{held, held_seen, HeldLeaves, held_moment, HeldLeftSince};
+    ghost use Rattle.mem_outside.specs.Place.{journal_of, place_state};
     ghost use Rattle.mem_outside.specs.Steady.{inner_place};
 
-    ghost seen = { λ place. held_seen (held (inner_place place)) };
+    ghost state = { λ place. place_state (inner_place place) };
 
-    ghost may_leave = { λ place image. HeldLeaves (held (inner_place place)) image };
-
-    ghost moment = { λ place. held_moment (held (inner_place place)) };
-
-    ghost left_since = { λ place t image. HeldLeftSince (held (inner_place place)) t image };
+    ghost lawful = { λ place. place_is_lawful (journal_of (inner_place place)) };
 }
 
 impl Place for SteadyPlace {
-    ghost use Rattle.mem_outside.specs.Place.{held};
+    ghost use Rattle.tsdb_outside.specs.Disk.{Keeps};
+    ghost use Rattle.mem_outside.specs.Journal.{journal_state, journal_faults, with_no_faults};
+    ghost use Rattle.mem_outside.specs.Place.{journal_of, place_faults, place_state};
     ghost use Rattle.mem_outside.specs.Steady.{inner_place};
 
     type Journal = MemJournal;
 
-    fn take_up(&mut self, dir: &[u8]) -> Result<MemJournal, StoreFault> {
+    fn take_up(&mut self, dir: &[u8]) -> Result<MemJournal, StoreFault>
+        ensures keeps { IfOk result (λ journal. Keeps (place_state (inner_place self.old)) (journal_state journal)) }
+        ensures no_faults { IfOk result (λ journal. journal_faults journal ≡ 0) }
+        ensures err { OnErr result (Keeps (place_state (inner_place self.old)) (place_state (inner_place self.new))) }
+        ensures cause { HasStoreCause
+            (place_faults (inner_place self.old)) (place_faults (inner_place self.new)) result }
+
+        // It succeeds exactly where the journal is in it.
+        ensures ok { IsOk result ↔ IsSome (journal_of (inner_place self.old)) }
+        ensures journal { IfOk result (λ journal. IfSome (journal_of (inner_place self.old))
+            (λ j. journal ≡ with_no_faults j)) }
+        ensures out { journal_of (inner_place self.new) ≡ None }
+        ensures no_fault { OnOk result (place_faults (inner_place self.new) ≡ place_faults (inner_place self.old)) }
+    {
         self.place.take_up(dir)
     }
 
-    fn put_down(&mut self, journal: MemJournal) {
+    fn put_down(&mut self, journal: MemJournal)
+        ensures keeps { Keeps (journal_state journal) (place_state (inner_place self.new)) }
+        ensures later { place_faults (inner_place self.old) ≤ place_faults (inner_place self.new) }
+        ensures faults { min (place_faults (inner_place self.old) + journal_faults journal) (2 ^ 64 - 1)
+            ≤ place_faults (inner_place self.new) }
+
+        // It has this journal again, and no further fault.
+        ensures journal { journal_of (inner_place self.new) ≡ Some journal }
+        ensures no_more { place_faults (inner_place self.new)
+            ≡ min (place_faults (inner_place self.old) + journal_faults journal) (2 ^ 64 - 1) }
+    {
         self.place.put_down(journal)
     }
-
-    ghost counts_now = { λ place t image le left. held_left_now (held (inner_place place)) t image le left };
-
-    ghost only_now = { λ place image left. held_only_now (held (inner_place place)) image left };
-
-    ghost since_earlier = { λ place t u image le left. held_left_earlier (held (inner_place place)) t u image le left };
 }

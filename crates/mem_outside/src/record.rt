@@ -1,8 +1,8 @@
-// Two slots in memory, with a record of each write and sync that was asked for.
+//! Two slots in memory, with a record of each write and sync that was asked for. Depends on `tsdb_outside`.
 ghost use Rattle.std.specs.Prelude.{◌≡◌, ◌≤◌, ◌<◌, ◌^◌, [], length, take, IfOk, OnOk, OnErr, vec_len};
-ghost use Rattle.tsdb_outside.specs.Disk.{in_slot, with_slot, written};
-ghost use Rattle.mem_outside.specs.Record.{Kept, after_write, after_sync, after_kind, after_call, seen_after, inverted, laid, stopped_slot};
-ghost use Rattle.mem_outside.specs.Replay.{Shows};
+ghost use Rattle.tsdb_outside.specs.Disk.{in_slot, with_slot, overwrite};
+ghost use Rattle.mem_outside.specs.Record.{SlotState, after_write, after_sync, after_kind, after_call, seen_after, invert, apply_pending, slot_after_stop};
+ghost use Rattle.mem_outside.specs.Replay.{IsReplayOf};
 ghost use Rattle.mem_outside.specs.Slots.{pair_image};
 
 use std::alloc::{AllocError, Global};
@@ -15,7 +15,7 @@ pub enum StopKind {
     Written,
     /// It has what was there before.
     Unwritten,
-    /// It has each byte of what was written turned over.
+    /// It has each byte of what was written with all bits turned over.
     Scrambled,
 }
 
@@ -30,7 +30,7 @@ pub enum Kind {
 #[derive(Drop)]
 pub struct Call {
     pub slot: Slot,
-    pub done: bool,
+    pub succeeded: bool,
     pub kind: Kind,
 }
 
@@ -44,12 +44,12 @@ impl Call {
         seen: &mut Vec<u8>,
         left: &mut Vec<u8>,
     ) -> Result<(), AllocError>
-        ensures { OnOk result ((s : Kept) → Shows stop s seen.old.items left.old.items
-            → Shows stop (after_call slot s self.now) seen.new.items left.new.items) }
+        ensures { OnOk result ((s : SlotState) → IsReplayOf stop s seen.old.items left.old.items
+            → IsReplayOf stop (after_call slot s self.now) seen.new.items left.new.items) }
     {
         match (slot, self.slot) {
             (Slot::A, Slot::A) | (Slot::B, Slot::B) => {
-                self.kind.replay(alloc, self.done, stop, seen, left)
+                self.kind.replay(alloc, self.succeeded, stop, seen, left)
             }
             _ => Ok(()),
         }
@@ -64,9 +64,9 @@ pub struct Pair {
 }
 
 // Writes over what is there, and past the end; or leaves it as it was.
-fn overwrite(into: &mut Vec<u8>, at: usize, bytes: &[u8]) -> Result<(), AllocError>
+fn write_over(into: &mut Vec<u8>, at: usize, bytes: &[u8]) -> Result<(), AllocError>
     requires { at ≤ vec_len into.old }
-    ensures ok { OnOk result (into.new.items ≡ written at bytes.now into.old.items) }
+    ensures ok { OnOk result (into.new.items ≡ overwrite at bytes.now into.old.items) }
     ensures err { OnErr result (into.new.items ≡ into.old.items) }
 {
     let inside = bytes.len().min(into.len() - at);
@@ -75,28 +75,28 @@ fn overwrite(into: &mut Vec<u8>, at: usize, bytes: &[u8]) -> Result<(), AllocErr
     Ok(())
 }
 
-// Each byte turned over.
-fn invert(alloc: Global, bytes: &[u8]) -> Result<Vec<u8>, AllocError>
-    ensures { IfOk result (λ turned. turned.items ≡ inverted bytes.now) }
+// Each byte with all of its bits turned over.
+fn inverse(alloc: Global, bytes: &[u8]) -> Result<Vec<u8>, AllocError>
+    ensures { IfOk result (λ bits. bits.items ≡ invert bytes.now) }
 {
     bytes.iter().map(|byte| u8::MAX - *byte).collect(alloc)
 }
 
-// Lays a pending write as a stop of this kind leaves it.
-fn lay(
+// Makes a pending write as a stop of this kind leaves it.
+fn replay_write(
     alloc: Global,
     kind: StopKind,
     at: usize,
     bytes: &[u8],
     left: &mut Vec<u8>,
 ) -> Result<(), AllocError>
-    ensures { OnOk result (left.new.items ≡ laid kind (at, bytes.now) left.old.items) }
+    ensures { OnOk result (left.new.items ≡ apply_pending kind (at, bytes.now) left.old.items) }
 {
     let at = at.min(left.len());
     match kind {
-        StopKind::Written => overwrite(left, at, bytes),
+        StopKind::Written => write_over(left, at, bytes),
         StopKind::Unwritten => Ok(()),
-        StopKind::Scrambled => overwrite(left, at, &invert(alloc, bytes)?),
+        StopKind::Scrambled => write_over(left, at, &inverse(alloc, bytes)?),
     }
 }
 
@@ -105,25 +105,25 @@ impl Kind {
     fn replay(
         &self,
         alloc: Global,
-        done: bool,
+        succeeded: bool,
         stop: StopKind,
         seen: &mut Vec<u8>,
         left: &mut Vec<u8>,
     ) -> Result<(), AllocError>
-        ensures { OnOk result ((s : Kept) → Shows stop s seen.old.items left.old.items
-            → Shows stop (after_kind self.now done s) seen.new.items left.new.items) }
+        ensures { OnOk result ((s : SlotState) → IsReplayOf stop s seen.old.items left.old.items
+            → IsReplayOf stop (after_kind self.now succeeded s) seen.new.items left.new.items) }
     {
         match self {
             Kind::Write { at, bytes } => {
                 let at = (*at).min(seen.len());
-                lay(alloc, stop, at, bytes, left)?;
-                if done {
-                    overwrite(seen, at, bytes)?;
+                replay_write(alloc, stop, at, bytes, left)?;
+                if succeeded {
+                    write_over(seen, at, bytes)?;
                 }
                 Ok(())
             }
             Kind::Sync => {
-                if done {
+                if succeeded {
                     *left = seen.to_vec(alloc)?;
                 }
                 Ok(())
@@ -136,12 +136,12 @@ impl Pair {
     fn write(&mut self, slot: Slot, at: usize, bytes: &[u8]) -> Result<(), AllocError>
         requires { at ≤ length (in_slot slot (pair_image self.old)) }
         ensures ok { OnOk result (pair_image self.new ≡
-            with_slot slot (written at bytes.now (in_slot slot (pair_image self.old))) (pair_image self.old)) }
+            with_slot slot (overwrite at bytes.now (in_slot slot (pair_image self.old))) (pair_image self.old)) }
         ensures err { OnErr result (pair_image self.new ≡ pair_image self.old) }
     {
         match slot {
-            Slot::A => overwrite(&mut self.a, at, bytes),
-            Slot::B => overwrite(&mut self.b, at, bytes),
+            Slot::A => write_over(&mut self.a, at, bytes),
+            Slot::B => write_over(&mut self.b, at, bytes),
         }
     }
 
@@ -166,7 +166,7 @@ impl Pair {
 
 /// Two slots, and a record of each counted call since they were made.
 #[derive(Drop)]
-pub struct Recorded {
+pub struct RecordedDisk {
     alloc: Global,
     first: Pair,
     current: Pair,
@@ -175,17 +175,16 @@ pub struct Recorded {
     ghost tied: { pair_image current ≡ seen_after (pair_image first) calls.items },
 }
 
-impl Recorded {
-    ghost use Rattle.mem_outside.specs.Recorded.{recorded_seen, recorded_first, recorded_calls, Adds, SameRecorded};
+impl RecordedDisk {
+    ghost use Rattle.mem_outside.specs.RecordedDisk.{disk_seen, disk_first, disk_calls, RecordsCall, SameRecord};
 
-    /// Two slots with these bytes, all of them synced.
-    pub fn new(alloc: Global, first: Pair) -> Result<Recorded, AllocError>
-        ensures first { IfOk result (λ disk. recorded_first disk ≡ pair_image first) }
-        ensures seen { IfOk result (λ disk. recorded_seen disk ≡ pair_image first) }
-        ensures calls { IfOk result (λ disk. recorded_calls disk ≡ []) }
+    /// Two slots with these bytes, all of them durable.
+    pub fn new(alloc: Global, first: Pair) -> Result<RecordedDisk, AllocError>
+        ensures first { IfOk result (λ disk. disk_first disk ≡ pair_image first) }
+        ensures calls { IfOk result (λ disk. disk_calls disk ≡ []) }
     {
         let current = first.copy(alloc)?;
-        Ok(Recorded {
+        Ok(RecordedDisk {
             alloc,
             first,
             current,
@@ -194,14 +193,14 @@ impl Recorded {
     }
 
     pub fn slot(&self, slot: Slot) -> &[u8]
-        ensures { result.now ≡ in_slot slot (recorded_seen self.now) }
+        ensures { result.now ≡ in_slot slot (disk_seen self.now) }
     {
         self.current.slot(slot)
     }
 
     /// How many calls were counted.
     pub fn count(&self) -> usize
-        ensures calls { result ≡ length (recorded_calls self.now) }
+        ensures calls { result ≡ length (disk_calls self.now) }
         ensures limit { result < 2 ^ 63 }
     {
         self.calls.as_slice().len()
@@ -214,9 +213,9 @@ impl Recorded {
         moment: usize,
         stop: StopKind,
     ) -> Result<Vec<u8>, AllocError>
-        requires { moment ≤ length (recorded_calls self.now) }
+        requires { moment ≤ length (disk_calls self.now) }
         ensures { IfOk result (λ left. left.items ≡
-            stopped_slot stop slot (in_slot slot (recorded_first self.now)) (take moment (recorded_calls self.now))) }
+            slot_after_stop stop slot (in_slot slot (disk_first self.now)) (take moment (disk_calls self.now))) }
     {
         let mut seen = self.first.slot(slot).to_vec(self.alloc)?;
         let mut left = self.first.slot(slot).to_vec(self.alloc)?;
@@ -232,18 +231,22 @@ impl Recorded {
         slot: Slot,
         at: usize,
         bytes: &[u8],
-        done: bool,
+        succeeded: bool,
     ) -> Result<(), AllocError>
-        requires { at ≤ length (in_slot slot (recorded_seen self.old)) }
-        ensures ok { OnOk result (Adds slot (after_write at bytes.now done) self.old self.new) }
-        ensures err { OnErr result (SameRecorded self.old self.new) }
+        requires { at ≤ length (in_slot slot (disk_seen self.old)) }
+        ensures ok { OnOk result (RecordsCall slot (after_write at bytes.now succeeded) self.old self.new) }
+        ensures err { OnErr result (SameRecord self.old self.new) }
     {
         let kind = Kind::Write {
             at,
             bytes: bytes.to_vec(self.alloc)?,
         };
-        self.calls.push(Call { slot, done, kind })?;
-        if done && self.current.write(slot, at, bytes).is_err() {
+        self.calls.push(Call {
+            slot,
+            succeeded,
+            kind,
+        })?;
+        if succeeded && self.current.write(slot, at, bytes).is_err() {
             self.calls.pop();
             return Err(AllocError);
         }
@@ -251,13 +254,13 @@ impl Recorded {
     }
 
     /// Records a sync. Without room nothing changes.
-    pub fn sync(&mut self, slot: Slot, done: bool) -> Result<(), AllocError>
-        ensures ok { OnOk result (Adds slot (after_sync done) self.old self.new) }
-        ensures err { OnErr result (SameRecorded self.old self.new) }
+    pub fn sync(&mut self, slot: Slot, succeeded: bool) -> Result<(), AllocError>
+        ensures ok { OnOk result (RecordsCall slot (after_sync succeeded) self.old self.new) }
+        ensures err { OnErr result (SameRecord self.old self.new) }
     {
         self.calls.push(Call {
             slot,
-            done,
+            succeeded,
             kind: Kind::Sync,
         })?;
         Ok(())

@@ -1,9 +1,9 @@
-// Sources and sinks in memory.
-ghost use Rattle.std.specs.Prelude.{◌≡◌, ◌↔◌, ◌≤◌, ◌<◌, ◌++◌, [], min, length, take, Some, IsErr, IfOk, OnOk, OnErr, refl, vec_len};
+//! Sources and sinks in memory. Depends on `calls`.
+ghost use Rattle.std.specs.Prelude.{◌≡◌, ◌≢◌, ◌↔◌, ◌≤◌, ◌<◌, ◌++◌, [], min, length, take, Some, IsErr, IfOk, OnOk, OnErr, refl, vec_len};
 ghost use Rattle.std.specs.Io.{ReadsAtMost, WritesAtMost};
 ghost use Rattle.std.specs.Io.KnownBytes.{ReadConsumes, WriteAppends};
 ghost use Rattle.tsdb_outside.specs.Causes.{HasCause, HasStoreCause};
-ghost use Rattle.mem_outside.specs.Calls.{NextFails};
+ghost use Rattle.mem_outside.specs.Calls.{NextFails, with_call, with_fault};
 
 use crate::calls::Calls;
 use std::alloc::{AllocError, Global};
@@ -67,10 +67,15 @@ impl Source for MemSource {
     fn take(&mut self, into: &mut [u8]) -> Result<usize, Failed>
         ensures bound { ReadsAtMost result into.new }
         ensures bytes { ReadConsumes (Some (mem_left self.old)) (Some (mem_left self.new)) result into.new }
+        ensures no_fault { OnOk result (self.new.calls.faults ≡ self.old.calls.faults) }
         ensures cause { HasCause self.old.calls.faults self.new.calls.faults result }
 
         // It fails at the calls with these numbers, and at no others.
         ensures fails { IsErr result ↔ NextFails (mem_source_calls self.old) }
+
+        // Each call uses up a number.
+        ensures ok { OnOk result (mem_source_calls self.new ≡ with_call (mem_source_calls self.old)) }
+        ensures err { OnErr result (mem_source_calls self.new ≡ with_fault (with_call (mem_source_calls self.old))) }
     {
         self.calls.make()?;
         Ok(self.unread.take(into))
@@ -173,6 +178,11 @@ impl Sink for MemSink {
 
         // It fails at the calls with these numbers, and at no others.
         ensures fails { (result ≡ Err StoreFault.Failed) ↔ NextFails (mem_sink_calls self.old) }
+
+        // Each call uses up a number.
+        ensures ok { result ≢ Err StoreFault.Failed → mem_sink_calls self.new ≡ with_call (mem_sink_calls self.old) }
+        ensures err { result ≡ Err StoreFault.Failed
+            → mem_sink_calls self.new ≡ with_fault (with_call (mem_sink_calls self.old)) }
     {
         self.calls.make()?;
         Ok(append(&mut self.bytes, bytes)?)

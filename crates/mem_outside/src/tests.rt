@@ -1,10 +1,11 @@
+//! The sources, sinks and places in memory as their callers meet them, and stops beside a plain model.
 ghost use Rattle.std.specs.Prelude.{IsOk};
 
 use super::*;
 use std::test::Fail;
 use tsdb_outside::{Failed, Journal, Place, Sink, Slot, Source, Steady, StoreFault};
 
-// What one call of a source answers and moves, with room for four bytes.
+// What one call of a source returns and moves, with room for four bytes.
 fn take_four<S: Source>(source: &mut S) -> (Result<usize, Failed>, [u8; 4]) {
     let mut into = [0; 4];
     let answer = source.take(&mut into);

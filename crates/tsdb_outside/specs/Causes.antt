@@ -1,18 +1,18 @@
--- When a call may answer that something outside failed: only where the count of faults of an object rose in that call.
+-- When a call may return that something outside failed: only where the count of faults of an object rose in that call.
 use Rattle.std.specs.Prelude.{ℕ, ◌+◌, ◌-◌, ◌^◌, ◌≤◌, min, Result, OnErr, IsErrOf}
 use Rattle.tsdb_outside.specs.declared.faults.StoreFault.{StoreFault}
 use Rattle.tsdb_outside.specs.declared.faults.StoreFault.TheVariants.{Failed}
 
--- the count has risen; one that stands at the end of its type stays there
+-- the count has risen; one that is at the end of its type stays there
 abbrev pub Rose : ℕ → ℕ → Type 0
 Rose before now = min (before + 1) (2 ^ 64 - 1) ≤ now
 
--- the count never falls, and the call answers its error only where the count has risen; for a call with no other error
+-- the count never falls, and the call returns its error only where the count has risen; for a call with no other error
 pub record HasCause {T E : Type 0} (before now : ℕ) (result : Result T E) : Type 0 where
   pub later : before ≤ now
   pub failed : OnErr result (Rose before now)
 
--- the count never falls, and the call answers `Failed` only where the count has risen; want of memory is free
+-- the count never falls, and the call returns `Failed` only where the count has risen; `Memory` is free
 pub record HasStoreCause {T : Type 0} (before now : ℕ) (result : Result T StoreFault) : Type 0 where
   pub later : before ≤ now
   pub failed : IsErrOf result Failed → Rose before now

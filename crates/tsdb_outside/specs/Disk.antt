@@ -1,5 +1,4 @@
--- The disk under the journal: two slots of bytes under one clock. Until a slot is synced, a stop may leave any bytes
--- where it was written, and past its old end; bytes outside stay.
+-- What a disk means: two slots of bytes under one clock. The rules stand at the head of src/disk.rt.
 use Rattle.std.specs.Prelude.{◌≡◌, ◌⊎◌, ℕ, ◌+◌, ◌≤◌, max, List, ◌++◌, length, take, drop, None, Some}
 use Rattle.std.specs.declared.option.Option.{Option}
 use Rattle.tsdb_outside.specs.declared.disk.Slot.{Slot}
@@ -20,9 +19,39 @@ abbrev pub with_slot : Slot → List ℕ → Image → Image
 with_slot A bytes image = record { a = bytes; b = image.b }
 with_slot B bytes image = record { a = image.a; b = bytes }
 
--- old with these bytes at this offset, which go over what is there and past its end
-abbrev pub written : ℕ → List ℕ → List ℕ → List ℕ
-written at bytes old = take at old ++ bytes ++ drop (at + length bytes) old
+-- What a disk means at one moment.
+pub record State : Type 1 where
+  -- what reads of both slots give, or none where it does not tell
+  pub seen : Option Image
+  -- what a stop at this moment may leave
+  pub may_leave : Image → Type 0
+  -- the moment, as a number that never falls
+  pub moment : ℕ
+  -- what a stop at some moment from that one on may have left, during a call or between two
+  pub left_since : ℕ → Image → Type 0
+
+-- a disk that tells nothing: a stop may leave anything
+abbrev pub silent_state : State
+silent_state = record { seen = None; may_leave = λ _. Unit {0}; moment = 0; left_since = λ _ _. Unit {0} }
+
+-- The laws of a disk.
+pub record IsLawful (disk : State) : Type 0 where
+  -- a stop may leave what reads give
+  pub seen_may_stay : (image : Image) → disk.seen ≡ Some image → disk.may_leave image
+  -- a stop at this moment is one since an earlier one
+  pub counts_now : (t : ℕ) (image : Image) → t ≤ disk.moment → disk.may_leave image → disk.left_since t image
+  -- since this moment there is no other
+  pub only_now : (image : Image) → disk.left_since disk.moment image → disk.may_leave image
+  -- what a stop since a moment may have left, one since an earlier moment may have left too
+  pub since_earlier : (t u : ℕ) (image : Image) → t ≤ u → disk.left_since u image → disk.left_since t image
+
+-- the old bytes with these over them from that place on, and past their end
+abbrev pub overwrite : ℕ → List ℕ → List ℕ → List ℕ
+overwrite at bytes old = take at old ++ bytes ++ drop (at + length bytes) old
+
+-- one slot is written over, and the other stays
+abbrev pub Overwrites : Slot → ℕ → List ℕ → Image → Image → Type 0
+Overwrites slot at bytes old new = new ≡ with_slot slot (overwrite at bytes (in_slot slot old)) old
 
 -- after a write of n bytes that a stop cuts short: any bytes in the range and past the old end, the same elsewhere
 pub record Torn (at n : ℕ) (old new : List ℕ) : Type 0 where
@@ -36,33 +65,39 @@ pub record TornIn (slot : Slot) (at n : ℕ) (old new : Image) : Type 0 where
   pub here : Torn at n (in_slot slot old) (in_slot slot new)
   pub elsewhere : new ≡ with_slot slot (in_slot slot new) old
 
--- a relation of two contents where they are told; what is not told stays untold
-abbrev pub WhereTold : (Image → Image → Type 0) → Option Image → Option Image → Type 0
+-- a relation of two contents where they are told; a disk that tells nothing goes on to tell nothing
+abbrev pub WhereTold : {X : Type 0} → (X → X → Type 0) → Option X → Option X → Type 0
 WhereTold relation None new = new ≡ None
 WhereTold relation (Some old) None = ⊥
 WhereTold relation (Some old) (Some new) = relation old new
 
 -- what a stop may leave after a step is what it might have left before it, after that step
-abbrev pub Follows : (Image → Image → Type 0) → (Image → Type 0) → (Image → Type 0) → Type 0
-Follows step old new = (image : Image) → new image → (before : Image) × old before × step before image
+abbrev pub Follows : {X : Type 0} → (X → X → Type 0) → (X → Type 0) → (X → Type 0) → Type 0
+Follows {X} step old new = (image : X) → new image → (before : X) × old before × step before image
 
 -- a stop leaves nothing that it could not have left before
-abbrev pub NothingNew : (Image → Type 0) → (Image → Type 0) → Type 0
-NothingNew old new = (image : Image) → new image → old image
+abbrev pub NothingNew : {X : Type 0} → (X → Type 0) → (X → Type 0) → Type 0
+NothingNew {X} old new = (image : X) → new image → old image
 
 -- whatever a stop leaves has these bytes in this slot
 abbrev pub Durable : Slot → List ℕ → (Image → Type 0) → Type 0
 Durable slot bytes may_leave = (image : Image) → may_leave image → in_slot slot image ≡ bytes
 
--- Time goes on: a stop since t might have left what it might have left before, or what it may leave now.
-pub record Elapses (before now : ℕ) (past since : ℕ → Image → Type 0) (may_leave : Image → Type 0) : Type 0 where
-  pub later : before ≤ now
-  pub nothing_else : (t : ℕ) (image : Image) → t ≤ before → since t image → past t image ⊎ may_leave image
-  pub keeps : (t : ℕ) (image : Image) → t ≤ before → past t image → since t image
+-- Time goes on: a stop since t may have left what it might have left before, or what it may leave now.
+pub record Elapses (old new : State) : Type 0 where
+  pub later : old.moment ≤ new.moment
+  pub nothing_else : (t : ℕ) (image : Image) → t ≤ old.moment → new.left_since t image
+      → old.left_since t image ⊎ new.may_leave image
+  pub keeps : (t : ℕ) (image : Image) → t ≤ old.moment → old.left_since t image → new.left_since t image
 
--- Whatever a stop since `before` leaves has P.
-pub record LeavesOnly (before now : ℕ) (past since : ℕ → Image → Type 0) (P : Image → Type 0) : Type 0 where
-  pub later : before ≤ now
-  pub each : (image : Image) → since before image → P image
-  -- for a run that began earlier
-  pub earlier : (t : ℕ) (image : Image) → t ≤ before → since t image → past t image ⊎ P image
+-- What a call that writes nothing leaves as it was.
+pub record Keeps (old new : State) : Type 0 where
+  pub seen : new.seen ≡ old.seen
+  pub crash : NothingNew old.may_leave new.may_leave
+  pub time : Elapses old new
+
+-- What a write of n bytes may do, whether it succeeds or fails.
+pub record MayWrite (slot : Slot) (at n : ℕ) (old new : State) : Type 0 where
+  pub torn : WhereTold (TornIn slot at n) old.seen new.seen
+  pub crash : Follows (TornIn slot at n) old.may_leave new.may_leave
+  pub time : Elapses old new

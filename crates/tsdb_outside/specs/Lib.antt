@@ -1,3 +1,5 @@
 pub mod Causes
 pub mod Disk
+pub mod Laws
+pub mod Limits
 pub mod Texts

@@ -1,8 +1,23 @@
-// The disk under the journal: what reads give, what a stop may leave, and the place where it lies.
+//! The disk under the journal, and the place where a store lies. A disk has two slots of bytes under one clock, and
+//! keeps these rules, whoever implements it:
+//!
+//! - A slot is written at any place up to its end, and has at most 2^63 - 1 bytes.
+//! - Until the slot is synced, a stop may leave any bytes where it was written, and any part of what is past its old
+//!   end. The bytes outside these ranges stay, and so does the other slot.
+//! - A write that fails leaves its range pending, as one that succeeds does.
+//! - After a sync that succeeds, a stop leaves in this slot what a read gives. A sync that fails makes nothing durable.
+//! - Reads and syncs change nothing that reads give.
+//! - A moment is a time at which a stop may come. Its number never falls, and what a stop may have left since an
+//!   earlier moment is kept.
+//! - What reads give is always one of the things that a stop may leave.
+//! - A disk that does not tell its content may leave anything.
+//!
+//! Depends on `faults`.
 ghost use Rattle.std.specs.Prelude.{◌≡◌, ℕ, List, ◌+◌, ◌-◌, ◌^◌, ◌<◌, ◌≤◌, min, length, take, drop, IfOk, OnOk, OnErr, IfSome};
 ghost use Rattle.std.specs.declared.option.Option.{Option};
 ghost use Rattle.std.specs.Option.{ForSome};
 ghost use Rattle.tsdb_outside.specs.Causes.{HasCause, HasStoreCause};
+ghost use Rattle.tsdb_outside.specs.Limits.{FitsSlot};
 
 use crate::{Counted, Failed, StoreFault};
 
@@ -13,79 +28,57 @@ pub enum Slot {
     B,
 }
 
-/// The meaning of a disk with two slots under one clock. Where it does not tell its content, no clause speaks of it.
+/// The meaning of a disk with two slots.
 pub trait Disk: Counted {
-    ghost use Rattle.tsdb_outside.specs.Disk.{Image};
+    ghost use Rattle.tsdb_outside.specs.Disk.{State, IsLawful};
 
-    /// What reads of both slots give, or none where it does not tell.
-    ghost seen: { Self → Option Image };
+    /// What reads give, what a stop may leave, and what it may have left at earlier moments.
+    ghost state: { Self → State };
 
-    /// What a stop at this moment may leave.
-    ghost may_leave: { Self → Image → Type 0 };
-
-    /// The moment, as a number that never falls.
-    ghost moment: { Self → ℕ };
-
-    /// What a stop at some moment from that one on might have left, during a call or between two.
-    ghost left_since: { Self → ℕ → Image → Type 0 };
+    /// The laws of its state.
+    ghost lawful: { (disk : Self) → IsLawful (state disk) };
 }
 
-/// Two slots of bytes, read and written at any place. Between two syncs of a slot a stop may leave any bytes where it
-/// was written, and past its old end. A slot has at most 2^63 - 1 bytes.
+/// The slots of a store, read and written at any place.
 pub trait Journal: Disk {
-    ghost use Rattle.tsdb_outside.specs.Disk.{Image, in_slot, with_slot, written, TornIn, WhereTold, Follows, NothingNew, Durable, Elapses};
+    ghost use Rattle.tsdb_outside.specs.Disk.{in_slot, Overwrites, WhereTold, Durable, Keeps, MayWrite};
 
     /// How many bytes the slot has.
     fn length(&mut self, slot: Slot) -> Result<u64, Failed>
-        ensures length { IfOk result (λ n. ForSome (Self.seen self.old) (λ image. n ≡ length (in_slot slot image))) }
-        ensures limit { IfOk result (λ n. n < 2 ^ 63) }
-        ensures seen { Self.seen self.new ≡ Self.seen self.old }
-        ensures crash { NothingNew (Self.may_leave self.old) (Self.may_leave self.new) }
-        ensures time { Elapses (Self.moment self.old) (Self.moment self.new) (Self.left_since self.old) (Self.left_since self.new) (Self.may_leave self.new) }
+        ensures length { IfOk result (λ n. ForSome (Self.state self.old).seen
+            (λ image. n ≡ length (in_slot slot image))) }
+        ensures limit { IfOk result FitsSlot }
+        ensures keeps { Keeps (Self.state self.old) (Self.state self.new) }
         ensures cause { HasCause (Self.faults self.old) (Self.faults self.new) result };
 
     /// Fills `into` with the bytes of the slot from `at` on. After `Failed` it may hold any bytes.
     fn read_at(&mut self, slot: Slot, at: u64, into: &mut [u8]) -> Result<(), Failed>
-        requires { ForSome (Self.seen self.old) (λ image. at + length into.old ≤ length (in_slot slot image)) }
-        ensures bytes { OnOk result (IfSome (Self.seen self.old) (λ image. into.new ≡ take (length into.new) (drop at (in_slot slot image)))) }
-        ensures seen { Self.seen self.new ≡ Self.seen self.old }
-        ensures crash { NothingNew (Self.may_leave self.old) (Self.may_leave self.new) }
-        ensures time { Elapses (Self.moment self.old) (Self.moment self.new) (Self.left_since self.old) (Self.left_since self.new) (Self.may_leave self.new) }
+        requires { ForSome (Self.state self.old).seen (λ image. at + length into.old ≤ length (in_slot slot image)) }
+        ensures bytes { OnOk result (IfSome (Self.state self.old).seen
+            (λ image. into.new ≡ take (length into.new) (drop at (in_slot slot image)))) }
+        ensures keeps { Keeps (Self.state self.old) (Self.state self.new) }
         ensures cause { HasCause (Self.faults self.old) (Self.faults self.new) result };
 
-    /// Writes over what is there, and past the end. Until the slot is synced a stop may leave any bytes in the range,
-    /// also where the write failed; a slot that would grow past its limit fails.
+    /// Writes over what is there, and past the end. A slot that would grow past its limit fails.
     fn write_at(&mut self, slot: Slot, at: u64, bytes: &[u8]) -> Result<(), Failed>
-        requires { ForSome (Self.seen self.old) (λ image. at ≤ length (in_slot slot image)) }
-        ensures written { OnOk result (WhereTold (λ old new. new ≡ with_slot slot (written at bytes.now (in_slot slot old)) old)
-            (Self.seen self.old) (Self.seen self.new)) }
-        ensures torn { WhereTold (TornIn slot at (length bytes.now)) (Self.seen self.old) (Self.seen self.new) }
-        ensures limit { OnOk result (at + length bytes.now < 2 ^ 63) }
-        ensures crash { Follows (TornIn slot at (length bytes.now)) (Self.may_leave self.old) (Self.may_leave self.new) }
-        ensures time { Elapses (Self.moment self.old) (Self.moment self.new) (Self.left_since self.old) (Self.left_since self.new) (Self.may_leave self.new) }
+        requires { ForSome (Self.state self.old).seen (λ image. at ≤ length (in_slot slot image)) }
+        ensures bytes { OnOk result (WhereTold (Overwrites slot at bytes.now)
+            (Self.state self.old).seen (Self.state self.new).seen) }
+        ensures limit { OnOk result (FitsSlot (at + length bytes.now)) }
+        ensures writes { MayWrite slot at (length bytes.now) (Self.state self.old) (Self.state self.new) }
         ensures cause { HasCause (Self.faults self.old) (Self.faults self.new) result };
 
-    /// After it a stop leaves in this slot what a read gives. One that fails makes nothing sure.
+    /// Makes the slot durable: after it a stop leaves in this slot what a read gives.
     fn sync(&mut self, slot: Slot) -> Result<(), Failed>
-        ensures durable { OnOk result (IfSome (Self.seen self.old) (λ image. Durable slot (in_slot slot image) (Self.may_leave self.new))) }
-        ensures seen { Self.seen self.new ≡ Self.seen self.old }
-        ensures crash { NothingNew (Self.may_leave self.old) (Self.may_leave self.new) }
-        ensures time { Elapses (Self.moment self.old) (Self.moment self.new) (Self.left_since self.old) (Self.left_since self.new) (Self.may_leave self.new) }
+        ensures durable { OnOk result (IfSome (Self.state self.old).seen
+            (λ image. Durable slot (in_slot slot image) (Self.state self.new).may_leave)) }
+        ensures keeps { Keeps (Self.state self.old) (Self.state self.new) }
         ensures cause { HasCause (Self.faults self.old) (Self.faults self.new) result };
-
-    /// A stop at this moment is one since an earlier one.
-    ghost counts_now: { (disk : Self) (t : ℕ) (image : Image) → t ≤ Self.moment disk → Self.may_leave disk image → Self.left_since disk t image };
-
-    /// Since this moment there is no other.
-    ghost only_now: { (disk : Self) (image : Image) → Self.left_since disk (Self.moment disk) image → Self.may_leave disk image };
-
-    /// What a stop since a moment might have left, one since an earlier moment might have left too.
-    ghost since_earlier: { (disk : Self) (t u : ℕ) (image : Image) → t ≤ u → Self.left_since disk u image → Self.left_since disk t image };
 }
 
 /// Where a store lies. It tells its content while its journal is in it.
 pub trait Place: Disk {
-    ghost use Rattle.tsdb_outside.specs.Disk.{Image, NothingNew, Elapses};
+    ghost use Rattle.tsdb_outside.specs.Disk.{Keeps};
 
     type Journal: Journal;
 
@@ -93,31 +86,15 @@ pub trait Place: Disk {
     /// Where the directory has no store it makes one, whose slots have one synced byte 0 each. After an error the
     /// place means what it meant before.
     fn take_up(&mut self, dir: &[u8]) -> Result<Self::Journal, StoreFault>
-        ensures seen { IfOk result (λ journal. Self.Journal.seen journal ≡ Self.seen self.old) }
-        ensures crash { IfOk result (λ journal. NothingNew (Self.may_leave self.old) (Self.Journal.may_leave journal)) }
-        ensures time { IfOk result (λ journal. Elapses (Self.moment self.old) (Self.Journal.moment journal) (Self.left_since self.old)
-            (Self.Journal.left_since journal) (Self.Journal.may_leave journal)) }
-        ensures unused { IfOk result (λ journal. Self.Journal.faults journal ≡ 0) }
-        ensures refused_seen { OnErr result (Self.seen self.new ≡ Self.seen self.old) }
-        ensures refused_crash { OnErr result (NothingNew (Self.may_leave self.old) (Self.may_leave self.new)) }
-        ensures refused_time { OnErr result (Elapses (Self.moment self.old) (Self.moment self.new) (Self.left_since self.old)
-            (Self.left_since self.new) (Self.may_leave self.new)) }
+        ensures keeps { IfOk result (λ journal. Keeps (Self.state self.old) (Self.Journal.state journal)) }
+        ensures no_faults { IfOk result (λ journal. Self.Journal.faults journal ≡ 0) }
+        ensures err { OnErr result (Keeps (Self.state self.old) (Self.state self.new)) }
         ensures cause { HasStoreCause (Self.faults self.old) (Self.faults self.new) result };
 
-    /// Takes the journal back. The place then means what the journal meant, and counts its faults too.
+    /// Takes the journal back. The place then means what the journal meant, and its count rises by at least the
+    /// journal's.
     fn put_down(&mut self, journal: Self::Journal)
-        ensures seen { Self.seen self.new ≡ Self.Journal.seen journal }
-        ensures crash { NothingNew (Self.Journal.may_leave journal) (Self.may_leave self.new) }
-        ensures time { Elapses (Self.Journal.moment journal) (Self.moment self.new) (Self.Journal.left_since journal)
-            (Self.left_since self.new) (Self.may_leave self.new) }
-        ensures count { min (Self.faults self.old + Self.Journal.faults journal) (2 ^ 64 - 1) ≤ Self.faults self.new };
-
-    /// A stop at this moment is one since an earlier one.
-    ghost counts_now: { (disk : Self) (t : ℕ) (image : Image) → t ≤ Self.moment disk → Self.may_leave disk image → Self.left_since disk t image };
-
-    /// Since this moment there is no other.
-    ghost only_now: { (disk : Self) (image : Image) → Self.left_since disk (Self.moment disk) image → Self.may_leave disk image };
-
-    /// What a stop since a moment might have left, one since an earlier moment might have left too.
-    ghost since_earlier: { (disk : Self) (t u : ℕ) (image : Image) → t ≤ u → Self.left_since disk u image → Self.left_since disk t image };
+        ensures keeps { Keeps (Self.Journal.state journal) (Self.state self.new) }
+        ensures later { Self.faults self.old ≤ Self.faults self.new }
+        ensures faults { min (Self.faults self.old + Self.Journal.faults journal) (2 ^ 64 - 1) ≤ Self.faults self.new };
 }

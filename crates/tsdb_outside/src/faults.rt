@@ -1,10 +1,11 @@
-// How a call to the outside fails, and how its faults are counted.
+//! How a call to the outside fails, and how its faults are counted. Depends on `tsdb_base` for `Memory`.
 ghost use Rattle.std.specs.Prelude.{◌≡◌, ℕ, Some, codes};
 ghost use Rattle.tsdb_outside.specs.declared.faults.StoreFault.TheVariants.{Failed, Memory};
 
 use std::alloc::{AllocError, AllocFailed};
 use std::error::Error;
 use std::fmt;
+use tsdb_base::Memory;
 
 /// Something outside failed in this call, and its count of faults has risen.
 #[derive(Clone, Copy, Debug, PartialEq, Eq)]
@@ -20,12 +21,12 @@ impl fmt::Display for Failed {
 
 impl Error for Failed {}
 
-/// Why a call that may also want memory did not succeed.
+/// Why a call that may also run out of memory failed.
 #[derive(Clone, Copy, Debug, PartialEq, Eq)]
 pub enum StoreFault {
     /// Something outside failed in this call, and its count of faults has risen.
     Failed,
-    /// There was no memory for it.
+    /// Out of memory.
     Memory,
 }
 
@@ -52,6 +53,16 @@ impl From<Failed> for StoreFault {
     }
 }
 
+impl From<Memory> for StoreFault {
+    ghost use Rattle.tsdb_outside.specs.declared.faults.StoreFault.TheVariants as fault;
+
+    ghost from_gives = { λ _ e. e ≡ fault.Memory };
+
+    fn from(_: Memory) -> Self {
+        StoreFault::Memory
+    }
+}
+
 impl From<AllocError> for StoreFault {
     ghost from_gives = { λ _ e. e ≡ Memory };
 
@@ -68,7 +79,7 @@ impl<T: Drop> From<AllocFailed<T>> for StoreFault {
     }
 }
 
-/// An object outside whose faults are counted. The count never falls, and one that comes to 2^64 - 1 stays there.
+/// An object outside that counts its faults. The count never falls, and one that comes to 2^64 - 1 stays there.
 pub trait Counted {
     /// How often it has failed.
     ghost faults: { Self → ℕ };

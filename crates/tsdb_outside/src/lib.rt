@@ -1,7 +1,7 @@
 //! What the engine meets outside itself: the source of a script, the sink of the output, the journal on a disk and the
 //! place where it lies. Each is a trait whose meaning contracts can name (what is left, what is held, what a stop may
 //! leave, how often it has failed), so that code above it is proved once for objects in memory and for real ones.
-//! Stands on std alone.
+//! Depends on `tsdb_base`.
 #![tactic(auto)]
 
 mod disk;

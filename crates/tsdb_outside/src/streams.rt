@@ -1,5 +1,5 @@
-// Where the script comes from, and where the output goes.
-ghost use Rattle.std.specs.Prelude.{ℕ, List, ◌<◌, length, IfOk};
+//! Where the script comes from, and where the output goes. Depends on `faults`.
+ghost use Rattle.std.specs.Prelude.{ℕ, List, ◌≡◌, ◌<◌, length, IfOk, OnOk};
 ghost use Rattle.std.specs.declared.option.Option.{Option};
 ghost use Rattle.std.specs.Io.{ReadsAtMost, WritesAtMost};
 ghost use Rattle.std.specs.Io.KnownBytes.{ReadConsumes, WriteAppends};
@@ -12,12 +12,13 @@ pub trait Source: Counted {
     /// The bytes that are left, or none where it does not tell.
     ghost left: { Self → Option (List ℕ) };
 
-    /// Moves bytes from the front of what is left into the front of `into`, and answers how many: at least one, or 0
-    /// where `into` is empty or nothing is left. After `Failed` the same is left as before. What then stands in the
-    /// rest of `into`, and in all of it after `Failed`, is open.
+    /// Moves a prefix of what is left to the beginning of `into`, and returns its length: at least one byte, or 0
+    /// where `into` is empty or nothing is left. After `Failed` the same is left as before. The rest of `into`, and
+    /// all of it after `Failed`, may hold any bytes. Where it returns `Ok` its count of faults is as before.
     fn take(&mut self, into: &mut [u8]) -> Result<usize, Failed>
         ensures bound { ReadsAtMost result into.new }
         ensures bytes { ReadConsumes (left self.old) (left self.new) result into.new }
+        ensures no_fault { OnOk result (Self.faults self.new ≡ Self.faults self.old) }
         ensures cause { HasCause (Self.faults self.old) (Self.faults self.new) result };
 }
 
@@ -26,8 +27,8 @@ pub trait Sink: Counted {
     /// The bytes that it holds, or none where it does not tell.
     ghost held: { Self → Option (List ℕ) };
 
-    /// Appends bytes from the front of `bytes`, and answers how many: at least one where `bytes` is not empty. After
-    /// an error it holds what it held before.
+    /// Appends a prefix of `bytes`, and returns its length: at least one byte where `bytes` is not empty. After an
+    /// error it holds what it held before.
     fn put(&mut self, bytes: &[u8]) -> Result<usize, StoreFault>
         ensures bound { WritesAtMost result bytes.now }
         ensures moves { IfOk result (λ count. 0 < length bytes.now → 0 < count) }

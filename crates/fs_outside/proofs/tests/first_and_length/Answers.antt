@@ -4,5 +4,5 @@ use Rattle.fs_outside.proofs.tests.first_and_length.Goals as goal
 
 pub read_at-requires : goal.read_at-requires
 read_at-requires g c = λ image told.
-    let all : c.in_ok-length.length ≡ length (in_slot c.args.slot image) = c.in_ok-length.ensures.length image (sym c.length.ensures.seen ∙ told) in
+    let all : c.in_ok-length.length ≡ length (in_slot c.args.slot image) = c.in_ok-length.ensures.length image (sym c.length.ensures.keeps.seen ∙ told) in
     omega (arith, all)

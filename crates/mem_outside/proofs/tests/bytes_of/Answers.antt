@@ -8,5 +8,5 @@ within xs n m le same = omega (arith, length-take-le n xs le, same)
 
 pub read_at-requires : goal.read_at-requires
 read_at-requires g c = λ image told.
-    let all : c.in_ok-length.length ≡ length (in_slot c.args.slot image) = c.in_ok-length.ensures.length image (sym c.length.ensures.seen ∙ told) in
+    let all : c.in_ok-length.length ≡ length (in_slot c.args.slot image) = c.in_ok-length.ensures.length image (sym c.length.ensures.keeps.seen ∙ told) in
     omega (arith, within (0 ∷ 0 ∷ 0 ∷ 0 ∷ []) c.in_ok-length.length (length (in_slot c.args.slot image)) (omega arith) all)

@@ -1,0 +1,7 @@
+use Rattle.fs_outside.proofs.FileLemmas.{MayWriteFile-durable}
+use Rattle.fs_outside.proofs.tests.ToldFileSlotFile.write_at.Goals as goal
+
+pub returns-in-Ok-clause-writes : goal.returns-in-Ok-clause-writes
+returns-in-Ok-clause-writes c =
+    MayWriteFile-durable c.args.at c.args.bytes.now c.args.self.now.bytes.items c.write_over.new.into.items c.args.self.now.faults
+    c.in-Ok.ensures.ok

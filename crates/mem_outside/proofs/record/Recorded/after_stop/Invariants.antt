@@ -1,9 +1,0 @@
-use Rattle.std.proofs.Common.{take}
-use Rattle.tsdb_outside.specs.Disk.{in_slot}
-use Rattle.mem_outside.specs.Record.{after_calls}
-use Rattle.mem_outside.specs.Recorded.{recorded_first}
-use Rattle.mem_outside.specs.Replay.{Shows}
-use Rattle.mem_outside.proofs.record.Recorded.after_stop.Given as goal
-
-abbrev pub invariant-loop-call : goal.invariant-loop-call
-invariant-loop-call l = Shows l.stop (after_calls l.slot (in_slot l.slot (recorded_first l.self)) (take l.call-index l.call-items)) l.seen.items l.left.items
