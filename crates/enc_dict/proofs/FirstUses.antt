@@ -13,17 +13,17 @@ use Rattle.tsdb_base.specs.Plain.{plain_text}
 use Rattle.enc_dict.specs.Spelling.{first_uses, place_in}
 
 -- a test is true or false
-cases : (b : Bool) → (b ≡ true) ⊎ (b ≡ false)
+pub cases : (b : Bool) → (b ≡ true) ⊎ (b ≡ false)
 cases true = inl refl
 cases false = inr refl
 
-same_text : (a b : List ℕ) → bytes_eq a b ≡ true → a ≡ b
+pub same_text : (a b : List ℕ) → bytes_eq a b ≡ true → a ≡ b
 same_text a b e = (bytes_decides a b).0 e
 
-text_itself : (a : List ℕ) → bytes_eq a a ≡ true
+pub text_itself : (a : List ℕ) → bytes_eq a a ≡ true
 text_itself a = (bytes_decides a a).1 refl
 
-apart_back : (a b : List ℕ) → bytes_eq a b ≡ false → bytes_eq b a ≡ false
+pub apart_back : (a b : List ℕ) → bytes_eq a b ≡ false → bytes_eq b a ≡ false
 apart_back a b apart = elim (cases (bytes_eq b a)) [
   | inl same ↦
       let e : bytes_eq a b ≡ true = ap (bytes_eq a) (same_text b a same) ∙ text_itself a in
@@ -36,7 +36,7 @@ abbrev pub others : List ℕ → List (List ℕ) → List (List ℕ)
 others text texts = filter (λ other. not (bytes_eq text other)) texts
 
 -- leaving out a text changes nothing for another one
-any-others : (text u : List ℕ) (texts : List (List ℕ)) → bytes_eq u text ≡ false → list_any (bytes_eq u) (others text texts) ≡ list_any (bytes_eq u) texts
+pub any-others : (text u : List ℕ) (texts : List (List ℕ)) → bytes_eq u text ≡ false → list_any (bytes_eq u) (others text texts) ≡ list_any (bytes_eq u) texts
 any-others text u [] apart = refl
 any-others text u (x ∷ xs) apart = elim (cases (bytes_eq text x)) [
   | inl same ↦
@@ -117,7 +117,7 @@ place_last (k ∷ ks) t = elim (cases (bytes_eq t k)) [
 place_stays : (ks : List (List ℕ)) (t u : List ℕ) → list_any (bytes_eq u) ks ≡ true → place_in (insert_key bytes_eq ks t) u ≡ place_in ks u
 place_stays ks t u h = elim (cases (list_any (bytes_eq t) ks)) [ inl here ↦ rw here refl | inr absent ↦ rw absent (place_before ks t u h) ]
 
-place_of_new : (ks : List (List ℕ)) (t : List ℕ) → place_in (insert_key bytes_eq ks t) t ≡ place_in ks t
+pub place_of_new : (ks : List (List ℕ)) (t : List ℕ) → place_in (insert_key bytes_eq ks t) t ≡ place_in ks t
 place_of_new ks t = elim (cases (list_any (bytes_eq t) ks)) [ inl here ↦ rw here refl | inr absent ↦ rw absent (place_last ks t) ]
 
 places_stay : (ks : List (List ℕ)) (t : List ℕ) (us : List (List ℕ)) → AreAmong ks us → map (place_in (insert_key bytes_eq ks t)) us ≡ map (place_in ks) us
@@ -135,9 +135,17 @@ places_push xs t =
     let new = place_of_new (first_uses xs) t in
     rw first_uses_push (one ∙ rw (old, new) refl)
 
+-- a list's last text is among its different texts
+pub last_among : (xs : List (List ℕ)) (w : List ℕ) → list_any (bytes_eq w) (first_uses (xs ++ w ∷ [])) ≡ true
+last_among xs w = among_last (first_uses (xs ++ w ∷ [])) xs w (all_used (xs ++ w ∷ []))
+  where
+    among_last : (ks xs : List (List ℕ)) (w : List ℕ) → AreAmong ks (xs ++ w ∷ []) → list_any (bytes_eq w) ks ≡ true
+    among_last ks [] w h = h.0
+    among_last ks (x ∷ xs) w h = among_last ks xs w h.1
+
 -- ---- what stands at a place
 
-place_within : (ks : List (List ℕ)) (u d : List ℕ) → list_any (bytes_eq u) ks ≡ true → (place_in ks u < length ks) × (get_or ks (place_in ks u) d ≡ u)
+pub place_within : (ks : List (List ℕ)) (u d : List ℕ) → list_any (bytes_eq u) ks ≡ true → (place_in ks u < length ks) × (get_or ks (place_in ks u) d ≡ u)
 place_within [] u d h = absurd cc
 place_within (k ∷ ks) u d h = elim (cases (bytes_eq u k)) [
   | inl same ↦ rw same (omega arith, sym (same_text u k same))
@@ -212,7 +220,7 @@ numbered_push v keys new_keys k place is_new texts new_texts places new_places x
       places_are = places_e ∙ rw (place_is, old.places_are) (sym (places_push xs (v k)));
     }
 
-filter_le : (p : List ℕ → Bool) (xs : List (List ℕ)) → length (filter p xs) ≤ length xs
+pub filter_le : (p : List ℕ → Bool) (xs : List (List ℕ)) → length (filter p xs) ≤ length xs
 filter_le p [] = omega arith
 filter_le p (x ∷ xs) =
     let shorter : length (filter p xs) ≤ length xs = filter_le p xs in

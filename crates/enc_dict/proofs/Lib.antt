@@ -1,2 +1,3 @@
 pub mod FirstUses
 pub mod SpellingLaws
+pub mod Different

@@ -1,19 +1,22 @@
 -- How a spelling is put together.
-use Rattle.std.proofs.Common.{◌≡◌, ℕ, ◌-◌, ◌^◌, ◌<◌, ◌≤◌, Bool, true, false, not, cond, List, [], ◌∷◌, ◌++◌, length, refl, sym, ap, subst, ◌∙◌, append_assoc, arith}
+use Rattle.std.proofs.Common.{◌≡◌, ℕ, ◌-◌, ◌*◌, ◌^◌, ◌<◌, ◌≤◌, Bool, true, false, not, cond, List, [], ◌∷◌, ◌++◌, length, refl, sym, ap, subst, ◌∙◌, append_assoc, arith}
 use Rattle.std.specs.Prelude.{map, filter, All, slice_index_or}
 use Rattle.std.specs.List.{flat_map, AllByRecursion}
 use Rattle.std.specs.Str.{bytes_eq}
-use Rattle.std.proofs.lemmas.List.{append-nil, length-map}
+use Rattle.std.proofs.lemmas.Nat.{mul-le}
+use Rattle.std.proofs.lemmas.List.{append-nil, length-map, length-append, nil_from_length}
 use Rattle.std.proofs.lemmas.List.Elements.{All-weaker, All-from_recursion, recursion_from_All}
 use Rattle.tsdb_bits.specs.Leb.{leb}
 use Rattle.tsdb_bits.specs.Packing.{packed, binary_digits}
-use Rattle.tsdb_bits.proofs.LebLaws.{leb_prefix_free}
-use Rattle.tsdb_bits.proofs.PackingLaws.{digits_of_number, digits_least, same_from_packed}
+use Rattle.tsdb_bits.proofs.LebLaws.{leb_prefix_free, length-leb}
+use Rattle.tsdb_bits.proofs.PackingLaws.{digits_of_number, digits_least, same_from_packed, length-packed}
 use Rattle.tsdb_base.specs.Plain.{plain_text, IsText}
 use Rattle.tsdb_base.specs.PlainLaws.{plain_text-prefix_free}
 use Rattle.tsdb_base.proofs.PlainLists.{same_values}
+use Rattle.enc_list.specs.Lists.{IsListOf, IsSpelling, HasOneSpelling}
+use Rattle.enc_dict.specs.Steps.{AreParts, AreUses}
 use Rattle.enc_dict.specs.Spelling.{first_uses, place_in, place_width, parts, spelling}
-use Rattle.enc_dict.proofs.FirstUses.{places_within, length-first_uses, texts_back}
+use Rattle.enc_dict.proofs.FirstUses.{AreAmong, all_used, place_within, places_within, length-first_uses, texts_back}
 
 pub spelling-none : (values : List (List ℕ)) → length values ≡ 0 → spelling values ≡ leb (length values)
 unfolding spelling
@@ -39,15 +42,15 @@ pub width_fits : (count : ℕ) → count ≤ 2 ^ 64 → place_width count ≤ 64
 width_fits count le = digits_least (count - 1) (binary_digits (count - 1)) 64 (digits_of_number (count - 1)) (omega arith)
 
 -- the bytes as they are put together
-pub put_together : (count : List ℕ) (texts places : List ℕ) (front : List ℕ) → ((count ++ front) ++ texts) ++ places ≡ count ++ (front ++ (texts ++ places))
-put_together count texts places front = simp append_assoc
+pub put_together : (out count texts places front : List ℕ) → (((out ++ count) ++ front) ++ texts) ++ places ≡ out ++ (count ++ (front ++ (texts ++ places)))
+put_together out count texts places front = simp append_assoc
 
 -- what stands behind the number of values
-tail_of : List (List ℕ) → List ℕ
+pub tail_of : List (List ℕ) → List ℕ
 tail_of [] = []
 tail_of (x ∷ xs) = parts (first_uses (x ∷ xs)) (map (place_in (first_uses (x ∷ xs))) (x ∷ xs))
 
-spelling-tail : (values : List (List ℕ)) → spelling values ≡ leb (length values) ++ tail_of values
+pub spelling-tail : (values : List (List ℕ)) → spelling values ≡ leb (length values) ++ tail_of values
 unfolding spelling tail_of
 spelling-tail [] = sym (append-nil (leb 0))
 spelling-tail (x ∷ xs) = refl
@@ -61,9 +64,13 @@ tail-some (x ∷ xs) some = refl
 pub counted : (values : List (List ℕ)) (count : ℕ) (bytes rest : List ℕ) → bytes ≡ leb count ++ rest → bytes ≡ spelling values → length values ≡ count
 counted values count bytes rest e spelled = sym (leb_prefix_free count (length values) rest (tail_of values) (sym e ∙ spelled ∙ spelling-tail values)).0
 
--- no list is spelled where no number begins
-pub uncounted : (values : List (List ℕ)) (bytes : List ℕ) → length values ≤ 1000 → ((number : ℕ) (rest : List ℕ) → number < 2 ^ 64 → bytes ≡ leb number ++ rest → ⊥) → bytes ≡ spelling values → ⊥
-uncounted values bytes few none spelled = none (length values) (tail_of values) (omega arith) (spelled ∙ spelling-tail values)
+-- nothing stands behind a count of 0
+pub nothing_behind : (values : List (List ℕ)) (count : ℕ) (bytes rest : List ℕ) → count ≡ 0 → bytes ≡ leb count ++ rest → bytes ≡ spelling values → rest ≡ []
+unfolding tail_of
+nothing_behind values count bytes rest zero e has =
+    let same = leb_prefix_free count (length values) rest (tail_of values) (sym e ∙ has ∙ spelling-tail values) in
+    let none : values ≡ [] = nil_from_length values (sym same.0 ∙ zero) in
+    same.1 ∙ ap tail_of none
 
 -- behind the number of values stand their parts
 pub parts_behind : (values : List (List ℕ)) (count : ℕ) (bytes rest : List ℕ) → 0 < count → bytes ≡ leb count ++ rest → bytes ≡ spelling values → rest ≡ parts (first_uses values) (map (place_in (first_uses values)) values)
@@ -113,16 +120,24 @@ read_back values texts places count bytes rest some e read len is_t fit is_v spe
 pub values_back : (values texts : List (List ℕ)) (places : List ℕ) → (texts ≡ first_uses values) × (places ≡ map (place_in (first_uses values)) values) → values ≡ map (λ place. slice_index_or texts place []) places
 values_back values texts places same = rw (same.0, same.1) (sym (texts_back values []))
 
--- and each place is one of a text
-pub within_back : (values texts : List (List ℕ)) (places : List ℕ) → (texts ≡ first_uses values) × (places ≡ map (place_in (first_uses values)) values) → All (λ place. place < length texts) places
-within_back values texts places same = rw (same.0, same.1) (places_within values)
+-- the texts and places that were read are those of a list with the bytes
+pub uses_back : (values texts : List (List ℕ)) (places : List ℕ) (count : ℕ) (bytes rest : List ℕ) → 0 < count → bytes ≡ leb count ++ rest → rest ≡ parts texts places → AreParts count texts places → IsSpelling spelling IsText bytes values → AreUses texts places values
+uses_back values texts places count bytes rest some e read are is =
+    let same = read_back values texts places count bytes rest some e read are.size are.typed are.fit is.list.typed is.bytes-are in
+    record { texts-are = sym same.0; places-are = sym same.1 }
 
 -- where no parts were read, no list is spelled
-pub no_parts : (values : List (List ℕ)) (count : ℕ) (bytes rest : List ℕ) → length values ≤ 1000 → All IsText values → 0 < count → bytes ≡ leb count ++ rest → bytes ≡ spelling values
-    → ((texts : List (List ℕ)) (places : List ℕ) → length texts < 2 ^ 64 → All IsText texts → length places ≡ count → All (λ place. place < 2 ^ place_width (length texts)) places → rest ≡ parts texts places → ⊥) → ⊥
-no_parts values count bytes rest few is_v some e spelled none =
-    none (first_uses values) (map (place_in (first_uses values)) values) (omega (arith, few, length-first_uses values)) (uses_are_texts values is_v)
-    (length-places values ∙ counted values count bytes rest e spelled) (places_fit values) (parts_behind values count bytes rest some e spelled)
+pub no_parts : (values : List (List ℕ)) (count : ℕ) (bytes rest : List ℕ) → IsSpelling spelling IsText bytes values → 0 < count → bytes ≡ leb count ++ rest
+    → ((texts : List (List ℕ)) (places : List ℕ) → AreParts count texts places → rest ≡ parts texts places → ⊥) → ⊥
+no_parts values count bytes rest is some e none =
+    let number = counted values count bytes rest e is.bytes-are in
+    let are : AreParts count (first_uses values) (map (place_in (first_uses values)) values) = record {
+      few = omega (arith, number, length-first_uses values);
+      size = length-places values ∙ number;
+      typed = uses_are_texts values is.list.typed;
+      fit = places_fit values;
+    } in
+    none (first_uses values) (map (place_in (first_uses values)) values) are (parts_behind values count bytes rest some e is.bytes-are)
 
 -- behind texts that were read stands what is packed
 pub packed_behind : (texts read : List (List ℕ)) (places : List ℕ) (different : ℕ) (bytes middle rest : List ℕ) → bytes ≡ leb different ++ middle → middle ≡ flat_map plain_text read ++ rest → length read ≡ different → All IsText read → All IsText texts → bytes ≡ parts texts places
@@ -138,12 +153,72 @@ texts_behind texts places different bytes middle e whole =
     let front = leb_prefix_free different (length texts) middle (flat_map plain_text texts ++ packed (place_width (length texts)) places) (sym e ∙ whole) in
     (sym front.0, front.1)
 
-pub same_from_spelling : (xs ys : List (List ℕ)) → All IsText xs → All IsText ys → spelling xs ≡ spelling ys → xs ≡ ys
-same_from_spelling [] [] is_x is_y e = refl
-same_from_spelling [] (y ∷ ys) is_x is_y e = absurd (omega (arith, counted [] (length (y ∷ ys)) (spelling []) (tail_of (y ∷ ys)) (e ∙ spelling-tail (y ∷ ys)) refl))
-same_from_spelling (x ∷ xs) ys is_x is_y e =
+by_cases : (xs ys : List (List ℕ)) → All IsText xs → All IsText ys → spelling xs ≡ spelling ys → xs ≡ ys
+by_cases [] [] is_x is_y e = refl
+by_cases [] (y ∷ ys) is_x is_y e = absurd (omega (arith, counted [] (length (y ∷ ys)) (spelling []) (tail_of (y ∷ ys)) (e ∙ spelling-tail (y ∷ ys)) refl))
+by_cases (x ∷ xs) ys is_x is_y e =
     let start = spelling-tail (x ∷ xs) in
     let count = counted ys (length (x ∷ xs)) (spelling (x ∷ xs)) (tail_of (x ∷ xs)) start e in
     let mine = (tail-some (x ∷ xs) (omega arith)) in
     let same = read_back ys (first_uses (x ∷ xs)) (map (place_in (first_uses (x ∷ xs))) (x ∷ xs)) (length (x ∷ xs)) (spelling (x ∷ xs)) (tail_of (x ∷ xs)) (omega arith) start mine (length-places (x ∷ xs)) (uses_are_texts (x ∷ xs) is_x) (places_fit (x ∷ xs)) is_y e in
     sym (texts_back (x ∷ xs) []) ∙ sym (values_back ys (first_uses (x ∷ xs)) (map (place_in (first_uses (x ∷ xs))) (x ∷ xs)) same)
+
+pub same_from_spelling : HasOneSpelling spelling IsText
+same_from_spelling xs ys is_x is_y e = by_cases xs ys is_x.typed is_y.typed e
+
+-- ---- values from their texts and places
+
+typed_by_recursion : (ks us : List (List ℕ)) → All IsText ks → AreAmong ks us → AllByRecursion IsText us
+typed_by_recursion ks [] typed h = tt
+typed_by_recursion ks (u ∷ us) typed h =
+    let at = place_within ks u [] h.0 in
+    (subst IsText at.1 (typed (place_in ks u) [] at.0), typed_by_recursion ks us typed h.1)
+
+-- the list whose texts and places were read has the bytes
+pub is_spelling : (values texts : List (List ℕ)) (places : List ℕ) (count : ℕ) (bytes rest : List ℕ) → 0 < count → count ≤ 1000 → bytes ≡ leb count ++ rest → rest ≡ parts texts places → AreParts count texts places → AreUses texts places values
+    → IsSpelling spelling IsText bytes values
+is_spelling values texts places count bytes rest some few e read are is =
+    let number : length values ≡ count = sym (length-places values) ∙ ap length is.places-are ∙ are.size in
+    let typed : All IsText (first_uses values) = subst (λ (l : List (List ℕ)). All IsText l) (sym is.texts-are) are.typed in
+    record {
+      list = record { few = omega (arith, number, few); typed = All-from_recursion IsText values (typed_by_recursion (first_uses values) values typed (all_used values)) };
+      bytes-are = e ∙ ap (λ (n : ℕ). leb n ++ rest) (sym number)
+          ∙ ap (λ (t : List ℕ). leb (length values) ++ t) (read ∙ ap (λ (ts : List (List ℕ)). parts ts places) (sym is.texts-are) ∙ ap (parts (first_uses values)) (sym is.places-are))
+          ∙ sym (spelling-some values (omega (arith, number, some)));
+    }
+
+-- ---- the number of bytes
+
+length-texts : (texts : List (List ℕ)) → AllByRecursion IsText texts → length (flat_map plain_text texts) ≤ 65537 * length texts
+length-texts [] h = omega arith
+length-texts (t ∷ ts) h = omega (arith, length-texts ts h.1, h.0, length-append (plain_text t) (flat_map plain_text ts))
+
+length-tail : (values : List (List ℕ)) → IsListOf IsText values → length (tail_of values) < 2 ^ 31
+unfolding tail_of
+length-tail [] is = omega arith
+length-tail (x ∷ xs) is =
+    let values = x ∷ xs in
+    let texts = first_uses values in
+    let places = map (place_in texts) values in
+    let few : length texts ≤ 1000 = omega (arith, length-first_uses values, is.few) in
+    let width : place_width (length texts) ≤ 64 = width_fits (length texts) (omega arith) in
+    let number : length places ≤ 1000 = omega (arith, length-places values, is.few) in
+    let bits = mul-le (length places) (place_width (length texts)) 1000 64 number width in
+    let body = length-texts texts (recursion_from_All IsText texts (uses_are_texts values is.typed)) in
+    let head : length (leb (length texts)) ≤ 10 = length-leb 9 (length texts) (omega arith) in
+    omega (
+      arith,
+      length-append (leb (length texts)) (flat_map plain_text texts ++ packed (place_width (length texts)) places),
+      length-append (flat_map plain_text texts) (packed (place_width (length texts)) places),
+      length-packed (place_width (length texts)) places,
+      bits,
+      body,
+      head,
+      few,
+    )
+
+pub length-spelling : (values : List (List ℕ)) → IsListOf IsText values → length (spelling values) < 2 ^ 32
+length-spelling values is =
+    let count : length (leb (length values)) ≤ 10 = length-leb 9 (length values) (omega (arith, is.few)) in
+    let whole = length-append (leb (length values)) (tail_of values) in
+    omega (arith, ap length (spelling-tail values), whole, count, length-tail values is)

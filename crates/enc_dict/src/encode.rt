@@ -1,7 +1,7 @@
-//! A list of texts as bytes.
-ghost use Rattle.std.specs.Prelude.{◌≡◌, ℕ, ◌≤◌, List, ◌++◌, length, map, IfOk, OnOk, if◌then◌else◌};
+//! From lists to bytes. It depends on `tsdb_base`, `tsdb_bits` and `indexmap`.
+ghost use Rattle.std.specs.Prelude.{◌≡◌, ℕ, ◌≤◌, List, ◌++◌, length, map, take, vec_len, IfOk, OnOk, OnErr, if◌then◌else◌};
 ghost use Rattle.std.specs.List.{flat_map};
-ghost use Rattle.tsdb_bits.specs.Leb.{leb};
+ghost use Rattle.tsdb_base.specs.Limits.{max_values};
 ghost use Rattle.tsdb_base.specs.Plain.{plain_text};
 ghost use Rattle.enc_dict.specs.Spelling.{first_uses, place_in, spelling};
 
@@ -12,9 +12,9 @@ use tsdb_bits::{pack, put_leb, width};
 
 /// The different texts of a list, in the order of their first use, and the places of its values.
 #[derive(Drop)]
-struct Uses {
+pub struct Uses {
     /// How many different texts there are.
-    different: u64,
+    pub different: u64,
     /// Their bytes, one after another.
     texts: Vec<u8>,
     /// For each value its text's place.
@@ -31,7 +31,8 @@ fn put_first_use(text: &Text, is_new: bool, into: &mut Vec<u8>) -> Result<(), Me
     Ok(())
 }
 
-fn uses_of(alloc: Global, values: &[Text]) -> Result<Uses, Memory>
+/// Numbers the texts in the order of their first use.
+pub fn uses_of(alloc: Global, values: &[Text]) -> Result<Uses, Memory>
     ensures different { IfOk result (λ uses. uses.different ≡ length (first_uses values.now)) }
     ensures texts { IfOk result (λ uses. uses.texts.items ≡ flat_map plain_text (first_uses values.now)) }
     ensures places { IfOk result (λ uses. uses.places.items ≡ map (place_in (first_uses values.now)) values.now) }
@@ -51,35 +52,44 @@ fn uses_of(alloc: Global, values: &[Text]) -> Result<Uses, Memory>
     })
 }
 
-/// Appends a number as LEB128.
-fn put_count(count: u64, into: &mut Vec<u8>) -> Result<(), Memory>
-    ensures { OnOk result (into.new.items ≡ into.old.items ++ leb count) }
+/// Appends the bytes of at most 1,000 TEXT values. After `Memory` the list is as it was.
+pub fn encode_text_into(alloc: Global, values: &[Text], into: &mut Vec<u8>) -> Result<(), Memory>
+    requires { length values.now ≤ max_values }
+    ensures ok { OnOk result (into.new.items ≡ into.old.items ++ spelling values.now) }
+    ensures memory { OnErr result (into.new.items ≡ into.old.items) }
 {
-    match put_leb(count, into) {
-        Ok(()) => Ok(()),
-        Err(_) => Err(Memory),
+    let start = into.len();
+    let outcome = append(alloc, values, into);
+    if outcome.is_err() {
+        into.truncate(start);
     }
+    outcome
 }
 
-/// The spelling of at most 1,000 texts.
+/// The bytes of at most 1,000 TEXT values.
 pub fn encode_text(alloc: Global, values: &[Text]) -> Result<Vec<u8>, Memory>
-    requires { length values.now ≤ 1000 }
+    requires { length values.now ≤ max_values }
     ensures { IfOk result (λ bytes. bytes.items ≡ spelling values.now) }
 {
     let mut bytes = Vec::new(alloc);
-    put_count(values.len() as u64, &mut bytes)?;
+    encode_text_into(alloc, values, &mut bytes)?;
+    Ok(bytes)
+}
+
+/// Appends the bytes. After `Memory` some of them may stand behind what was there.
+#[tactic(auto, using(std::proofs::lemmas::Grind::common_steps))]
+fn append(alloc: Global, values: &[Text], into: &mut Vec<u8>) -> Result<(), Memory>
+    requires { length values.now ≤ max_values }
+    ensures ok { OnOk result (into.new.items ≡ into.old.items ++ spelling values.now) }
+    ensures kept { take (vec_len into.old) into.new.items ≡ into.old.items }
+{
+    put_leb(values.len() as u64, into)?;
     if values.is_empty() {
-        return Ok(bytes);
+        return Ok(());
     }
     let uses = uses_of(alloc, values)?;
-    put_count(uses.different, &mut bytes)?;
-    bytes.extend_from_slice(&uses.texts)?;
-    match pack(
-        &uses.places,
-        width(uses.different.saturating_sub(1)),
-        &mut bytes,
-    ) {
-        Ok(()) => Ok(bytes),
-        Err(_) => Err(Memory),
-    }
+    put_leb(uses.different, into)?;
+    into.extend_from_slice(&uses.texts)?;
+    pack(&uses.places, width(uses.different.saturating_sub(1)), into)?;
+    Ok(())
 }

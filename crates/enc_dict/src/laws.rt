@@ -1,9 +1,14 @@
-//! The law of the spelling: two lists with one spelling are equal. No body uses it.
-ghost use Rattle.std.specs.Prelude.{◌≡◌, ℕ, List, All};
+//! The laws of the spelling. No body uses them. It depends on the definitions alone.
 ghost use Rattle.tsdb_base.specs.Plain.{IsText};
+ghost use Rattle.enc_list.specs.Lists.{HasOneSpelling, IsShort};
 ghost use Rattle.enc_dict.specs.Spelling.{spelling};
 
-/// Two lists of texts with one spelling are equal.
+/// Two lists of texts with the same bytes are equal.
 pub fn one_spelling()
-    ensures { (xs ys : List (List ℕ)) → All IsText xs → All IsText ys → spelling xs ≡ spelling ys → xs ≡ ys }
+    ensures { HasOneSpelling spelling IsText }
+{}
+
+/// A list has fewer than 2^32 bytes.
+pub fn spelling_is_short()
+    ensures { IsShort spelling IsText }
 {}

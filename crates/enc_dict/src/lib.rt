@@ -1,5 +1,5 @@
 //! The DICTIONARY encoding of texts: the different texts in the order of their first use, and the
-//! place of each value among them. It stands on `tsdb_base`, `tsdb_bits` and `indexmap`.
+//! place of each value among them. It depends on `tsdb_base`, `tsdb_bits`, `enc_list` and `indexmap`.
 #![tactic(auto)]
 
 mod decode;
@@ -7,8 +7,8 @@ mod encode;
 mod laws;
 
 pub use decode::decode_text;
-pub use encode::encode_text;
-pub use laws::one_spelling;
+pub use encode::{encode_text, encode_text_into};
+pub use laws::{one_spelling, spelling_is_short};
 pub use tsdb_base::{DecodeFault, Memory};
 
 #[cfg(test)]

@@ -1,13 +1,22 @@
-//! The law of the spelling: two lists with one spelling are equal. No body uses it.
-ghost use Rattle.std.specs.Prelude.{◌≡◌, ℕ, ℤ, Bool, List, All, FitsSigned};
+//! The laws of the spelling. No body uses them. It depends on the definitions alone.
+ghost use Rattle.std.specs.Prelude.{FitsSigned};
 ghost use Rattle.std.specs.Int.{w32, w64};
 ghost use Rattle.tsdb_base.specs.Plain.{plain_bool, plain_i32, plain_i64, plain_text, IsText};
+ghost use Rattle.enc_list.specs.Lists.{HasOneSpelling, IsShort};
 ghost use Rattle.enc_plain.specs.Spelling.{spelling};
 
-/// Two lists of values of one type with one spelling are equal.
+/// Two lists of values of one type with the same bytes are equal.
 pub fn one_spelling()
-    ensures booleans { (xs ys : List Bool) → spelling plain_bool xs ≡ spelling plain_bool ys → xs ≡ ys }
-    ensures int32 { (xs ys : List ℤ) → All (FitsSigned w32) xs → All (FitsSigned w32) ys → spelling plain_i32 xs ≡ spelling plain_i32 ys → xs ≡ ys }
-    ensures int64 { (xs ys : List ℤ) → All (FitsSigned w64) xs → All (FitsSigned w64) ys → spelling plain_i64 xs ≡ spelling plain_i64 ys → xs ≡ ys }
-    ensures texts { (xs ys : List (List ℕ)) → All IsText xs → All IsText ys → spelling plain_text xs ≡ spelling plain_text ys → xs ≡ ys }
+    ensures booleans { HasOneSpelling (spelling plain_bool) (λ _. Unit {0}) }
+    ensures int32 { HasOneSpelling (spelling plain_i32) (FitsSigned w32) }
+    ensures int64 { HasOneSpelling (spelling plain_i64) (FitsSigned w64) }
+    ensures texts { HasOneSpelling (spelling plain_text) IsText }
+{}
+
+/// A list has fewer than 2^32 bytes.
+pub fn spelling_is_short()
+    ensures booleans { IsShort (spelling plain_bool) (λ _. Unit {0}) }
+    ensures int32 { IsShort (spelling plain_i32) (FitsSigned w32) }
+    ensures int64 { IsShort (spelling plain_i64) (FitsSigned w64) }
+    ensures texts { IsShort (spelling plain_text) IsText }
 {}

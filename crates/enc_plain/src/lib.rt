@@ -1,15 +1,17 @@
-//! The PLAIN encoding: how many values there are, and then each value by itself. It stands on
-//! `tsdb_base` and `tsdb_bits`.
+//! The PLAIN encoding: how many values there are, and then each value by itself. It depends on
+//! `tsdb_base`, `tsdb_bits` and `enc_list`.
 #![tactic(auto)]
 
+mod decode;
+mod encode;
 mod laws;
-mod list;
 
-pub use laws::one_spelling;
-pub use list::{
-    decode_bool, decode_i32, decode_i64, decode_text, encode_bool, encode_i32, encode_i64,
-    encode_text,
+pub use decode::{decode_bool, decode_i32, decode_i64, decode_text};
+pub use encode::{
+    encode_bool, encode_bool_into, encode_i32, encode_i32_into, encode_i64, encode_i64_into,
+    encode_text, encode_text_into,
 };
+pub use laws::{one_spelling, spelling_is_short};
 pub use tsdb_base::{DecodeFault, Memory};
 
 #[cfg(test)]

@@ -1,3 +1,2 @@
 pub mod Runs
-pub mod Reading
-pub mod Coded
+pub mod Progress

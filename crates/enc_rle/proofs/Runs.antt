@@ -1,12 +1,14 @@
 -- Runs, and the lists that they stand for.
-use Rattle.std.proofs.Common.{◌≡◌, ℕ, zero, suc, ◌+◌, ◌-◌, ◌≤◌, Bool, true, false, ℤ, List, [], ◌∷◌, ◌++◌, length, replicate, refl, sym, ap, subst, ◌∙◌, inl, inr, arith, append_assoc, add-one}
-use Rattle.std.specs.List.{flat_map}
+use Rattle.std.proofs.Common.{◌≡◌, ℕ, zero, suc, ◌+◌, ◌-◌, ◌*◌, ◌^◌, ◌<◌, ◌≤◌, List, [], ◌∷◌, ◌++◌, length, replicate, refl, sym, ap, subst, ◌∙◌, inl, inr, arith, append_assoc, add-one}
+use Rattle.std.specs.Prelude.{map}
+use Rattle.std.specs.List.{flat_map, AllByRecursion}
+use Rattle.std.proofs.lemmas.List.{length-map, length-append, length-replicate}
+use Rattle.std.proofs.lemmas.List.Elements.{recursion_from_All}
+use Rattle.enc_list.specs.Lists.{IsListOf}
 use Rattle.std.proofs.lemmas.Bool.{cases_eq, eq-eqb, ne_eqb}
 use Rattle.tsdb_bits.specs.Leb.{leb}
-use Rattle.tsdb_bits.specs.Zigzag.{zigzag}
-use Rattle.tsdb_bits.proofs.LebLaws.{leb_prefix_free, leb-some}
-use Rattle.tsdb_bits.proofs.ZigzagLaws.{same_from_zigzag}
-use Rattle.enc_rle.specs.Spelling.{Run, before, runs_of, expanded, run_bytes, spelling, bool_code, bool_codes, int_codes, IsJoined}
+use Rattle.tsdb_bits.proofs.LebLaws.{leb_prefix_free, leb-some, length-leb}
+use Rattle.enc_rle.specs.Spelling.{Run, before, runs_of, expanded, run_bytes, codes_spelling, spelling, IsJoined}
 
 -- ---- one more value in front
 
@@ -118,6 +120,9 @@ first_run run rest bytes behind count code e f =
     let q = leb_prefix_free run.code code rest behind p.1 in
     (p.0, q.0, q.1)
 
+pub run_split : (count code : ℕ) (bytes behind : List ℕ) → bytes ≡ (leb count ++ leb code) ++ behind → bytes ≡ leb count ++ (leb code ++ behind)
+run_split count code bytes behind e = e ∙ append_assoc (leb count) (leb code) behind
+
 pub run_bytes-some : (run : Run) (rest : List ℕ) → [] ≡ run_bytes run ++ rest → ⊥
 run_bytes-some run rest e = leb-some run.count (leb run.code ++ rest) (e ∙ append_assoc (leb run.count) (leb run.code) rest)
 
@@ -130,40 +135,94 @@ same_runs (run ∷ p) (next ∷ q) e =
     let r = same_runs p q t.2 in
     ap (λ (k : ℕ). record { count = k; code = run.code } ∷ p) t.0 ∙ ap (λ (k : ℕ). record { count = next.count; code = k } ∷ p) t.1 ∙ ap (λ (s : List Run). next ∷ s) r
 
-pub spelling_parts : (codes : List ℕ) (bytes rest : List ℕ) (n : ℕ) → spelling codes ≡ bytes → bytes ≡ leb n ++ rest → (length codes ≡ n) × (rest ≡ flat_map run_bytes (runs_of codes))
-unfolding spelling
+pub spelling_parts : (codes : List ℕ) (bytes rest : List ℕ) (n : ℕ) → codes_spelling codes ≡ bytes → bytes ≡ leb n ++ rest → (length codes ≡ n) × (rest ≡ flat_map run_bytes (runs_of codes))
+unfolding codes_spelling
 spelling_parts codes bytes rest n e f =
     let p = leb_prefix_free (length codes) n (flat_map run_bytes (runs_of codes)) rest (e ∙ f) in
     (p.0, sym p.1)
 
 -- ---- one spelling, one list
 
-pub same_codes : (xs ys : List ℕ) → spelling xs ≡ spelling ys → xs ≡ ys
-unfolding spelling
+same_codes : (xs ys : List ℕ) → codes_spelling xs ≡ codes_spelling ys → xs ≡ ys
+unfolding codes_spelling
 same_codes xs ys e =
     let p = leb_prefix_free (length xs) (length ys) (flat_map run_bytes (runs_of xs)) (flat_map run_bytes (runs_of ys)) e in
     sym (expanded-runs_of xs) ∙ ap expanded (same_runs (runs_of xs) (runs_of ys) p.1) ∙ expanded-runs_of ys
 
-pub same_ints : (xs ys : List ℤ) → int_codes xs ≡ int_codes ys → xs ≡ ys
-same_ints [] [] e = refl
-same_ints [] (y ∷ ys) e = absurd cc
-same_ints (x ∷ xs) [] e = absurd cc
-same_ints (x ∷ xs) (y ∷ ys) e =
-    let f : zigzag x ≡ zigzag y = cc in
-    let g : int_codes xs ≡ int_codes ys = cc in
-    ap (λ (z : ℤ). z ∷ xs) (same_from_zigzag x y f) ∙ ap (λ (zs : List ℤ). y ∷ zs) (same_ints xs ys g)
+-- two lists with the same codes are equal
+pub same_from_codes : {A : Type 0} (code : A → ℕ) (one : (a b : A) → code a ≡ code b → a ≡ b) (xs ys : List A) → map code xs ≡ map code ys → xs ≡ ys
+same_from_codes code one [] [] e = refl
+same_from_codes code one [] (y ∷ ys) e = absurd cc
+same_from_codes code one (x ∷ xs) [] e = absurd cc
+same_from_codes {A} code one (x ∷ xs) (y ∷ ys) e =
+    let f : code x ≡ code y = cc in
+    let g : map code xs ≡ map code ys = cc in
+    ap (λ (z : A). z ∷ xs) (one x y f) ∙ ap (λ (zs : List A). y ∷ zs) (same_from_codes code one xs ys g)
 
-same_bool : (x y : Bool) → bool_code x ≡ bool_code y → x ≡ y
-same_bool true true e = refl
-same_bool true false e = absurd (omega arith)
-same_bool false true e = absurd (omega arith)
-same_bool false false e = refl
+pub same_from_spelling : {A : Type 0} (code : A → ℕ) (one : (a b : A) → code a ≡ code b → a ≡ b) (xs ys : List A) → spelling code xs ≡ spelling code ys → xs ≡ ys
+same_from_spelling code one xs ys e = same_from_codes code one xs ys (same_codes (map code xs) (map code ys) e)
 
-pub same_bools : (xs ys : List Bool) → bool_codes xs ≡ bool_codes ys → xs ≡ ys
-same_bools [] [] e = refl
-same_bools [] (y ∷ ys) e = absurd cc
-same_bools (x ∷ xs) [] e = absurd cc
-same_bools (x ∷ xs) (y ∷ ys) e =
-    let f : bool_code x ≡ bool_code y = cc in
-    let g : bool_codes xs ≡ bool_codes ys = cc in
-    ap (λ (z : Bool). z ∷ xs) (same_bool x y f) ∙ ap (λ (zs : List Bool). y ∷ zs) (same_bools xs ys g)
+-- ---- the number of bytes
+
+sum_of_counts : (runs : List Run) → IsJoined runs → length runs ≤ length (expanded runs)
+unfolding expanded
+sum_of_counts [] j = omega arith
+sum_of_counts (run ∷ runs) j =
+    let t = joined_tail run runs j in
+    omega (arith, t.0, sum_of_counts runs t.1, length-append (replicate run.count run.code) (expanded runs), length-replicate run.count run.code)
+
+-- each run has a count and a code of 64 bits
+abbrev pub IsShort : Run → Type 0
+IsShort run = (run.count < 2 ^ 64) × (run.code < 2 ^ 64)
+
+length-runs : (runs : List Run) → AllByRecursion IsShort runs → length (flat_map run_bytes runs) ≤ 20 * length runs
+length-runs [] h = omega arith
+length-runs (run ∷ runs) h =
+    omega (
+      arith,
+      length-runs runs h.1,
+      length-leb 9 run.count (omega (arith, h.0.0)),
+      length-leb 9 run.code (omega (arith, h.0.1)),
+      length-append (run_bytes run) (flat_map run_bytes runs),
+      length-append (leb run.count) (leb run.code),
+    )
+
+-- a run of at most so many values, with a code of 64 bits
+abbrev IsBelow : ℕ → Run → Type 0
+IsBelow n run = (run.count ≤ n) × (run.code < 2 ^ 64)
+
+one_more : (n : ℕ) (runs : List Run) → AllByRecursion (IsBelow n) runs → AllByRecursion (IsBelow (suc n)) runs
+one_more n [] h = tt
+one_more n (run ∷ runs) h = ((omega (arith, h.0.0), h.0.1), one_more n runs h.1)
+
+below_before : (n code : ℕ) (runs : List Run) → code < 2 ^ 64 → AllByRecursion (IsBelow n) runs → AllByRecursion (IsBelow (suc n)) (before code runs)
+below_before n code [] small h = ((omega arith, small), tt)
+below_before n code (run ∷ runs) small h =
+    elim (cases_eq code run.code) [
+      | inl e ↦ rw (before_same code run runs e) ((omega (arith, h.0.0), small), one_more n runs h.1)
+      | inr ne ↦ rw (before_other code run runs ne) ((omega arith, small), ((omega (arith, h.0.0), h.0.1), one_more n runs h.1))
+    ]
+
+below_runs : (codes : List ℕ) → AllByRecursion (λ code. code < 2 ^ 64) codes → AllByRecursion (IsBelow (length codes)) (runs_of codes)
+unfolding runs_of
+below_runs [] h = tt
+below_runs (code ∷ codes) h = below_before (length codes) code (runs_of codes) h.0 (below_runs codes h.1)
+
+shorter : (n : ℕ) (runs : List Run) → n ≤ 1000 → AllByRecursion (IsBelow n) runs → AllByRecursion IsShort runs
+shorter n [] le h = tt
+shorter n (run ∷ runs) le h = ((omega (arith, h.0.0), h.0.1), shorter n runs le h.1)
+
+small_codes : {A : Type 0} (code : A → ℕ) (IsValue : A → Type 0) (small : (a : A) → IsValue a → code a < 2 ^ 64) (xs : List A) → AllByRecursion IsValue xs → AllByRecursion (λ c. c < 2 ^ 64) (map code xs)
+small_codes code IsValue small [] h = tt
+small_codes code IsValue small (x ∷ xs) h = (small x h.0, small_codes code IsValue small xs h.1)
+
+pub length-spelling : {A : Type 0} (code : A → ℕ) (IsValue : A → Type 0) (small : (a : A) → IsValue a → code a < 2 ^ 64) (xs : List A) → IsListOf IsValue xs → length (spelling code xs) < 2 ^ 32
+unfolding codes_spelling
+length-spelling code IsValue small xs is =
+    let codes = map code xs in
+    let number : length codes ≡ length xs = length-map xs code in
+    let few : length codes ≤ 1000 = omega (arith, is.few) in
+    let runs = runs_of codes in
+    let number_of_runs = sum_of_counts runs (joined-runs_of codes) in
+    let all = shorter (length codes) runs few (below_runs codes (small_codes code IsValue small xs (recursion_from_All IsValue xs is.typed))) in
+    omega (arith, ap length (expanded-runs_of codes), number_of_runs, length-runs runs all, length-leb 9 (length codes) (omega arith), length-append (leb (length codes)) (flat_map run_bytes runs))

@@ -1,2 +1,3 @@
 pub mod Spelling
-pub mod Decoding
+pub mod CodeLaws
+pub mod Steps

@@ -1,11 +1,9 @@
 -- The spelling of a list by run-length encoding: the number of values, and then the runs of equal
--- neighbours, each as its length and its value. A value is spelled as a number, its code: a truth value
+-- neighbours, each as its length and its value. A value is written as a number, its code: a truth value
 -- as 0 or 1, a signed number by zigzag.
-use Rattle.std.specs.Prelude.{◌≡◌, ℕ, ◌+◌, ◌^◌, ◌<◌, ◌≤◌, Bool, true, false, ℤ, List, [], ◌∷◌, ◌++◌, length, map, replicate, ◌==◌, if◌then◌else◌, FitsSigned, All}
+use Rattle.std.specs.Prelude.{◌≡◌, ℕ, ◌+◌, ◌≤◌, Bool, true, false, List, [], ◌∷◌, ◌++◌, length, map, replicate, ◌==◌, if◌then◌else◌}
 use Rattle.std.specs.List.{flat_map}
-use Rattle.std.specs.Int.{Width}
 use Rattle.tsdb_bits.specs.Leb.{leb}
-use Rattle.tsdb_bits.specs.Zigzag.{zigzag}
 
 -- equal neighbours: how many, and what
 pub record Run : Type 0 where
@@ -31,30 +29,18 @@ expanded (run ∷ runs) = replicate run.count run.code ++ expanded runs
 abbrev pub run_bytes : Run → List ℕ
 run_bytes run = leb run.count ++ leb run.code
 
--- the spelling of a list of codes
-unfoldable pub spelling : List ℕ → List ℕ
-spelling codes = leb (length codes) ++ flat_map run_bytes (runs_of codes)
+-- the bytes of a list of codes
+unfoldable pub codes_spelling : List ℕ → List ℕ
+codes_spelling codes = leb (length codes) ++ flat_map run_bytes (runs_of codes)
 
--- the codes of truth values and of signed numbers
+-- the spelling of a list of values, where `code` gives the code of one
+abbrev pub spelling : {A : Type 0} → (A → ℕ) → List A → List ℕ
+spelling code values = codes_spelling (map code values)
+
+-- the code of a truth value; that of a signed number is its zigzag
 abbrev pub bool_code : Bool → ℕ
 bool_code true = 1
 bool_code false = 0
-
-abbrev pub bool_codes : List Bool → List ℕ
-bool_codes values = map bool_code values
-
-abbrev pub int_codes : List ℤ → List ℕ
-int_codes values = map zigzag values
-
--- a list that may be spelled: at most 1,000 values, here by codes of 64 bits
-pub record IsCodes (codes : List ℕ) : Type 0 where
-  pub few : length codes ≤ 1000
-  pub small : All (λ code. code < 2 ^ 64) codes
-
--- at most 1,000 signed numbers of the type
-pub record IsListOf (width : Width) (values : List ℤ) : Type 0 where
-  pub few : length values ≤ 1000
-  pub fits : All (FitsSigned width) values
 
 -- each run has a value, and neighbours differ
 abbrev pub IsJoined : List Run → Type 0

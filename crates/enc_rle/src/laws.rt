@@ -1,7 +1,10 @@
-//! The laws of the spelling. No body uses them.
+//! The laws of the spelling. No body uses them. It depends on the definitions alone.
 
-ghost use Rattle.std.specs.Prelude.{◌≡◌, ◌≤◌, ℕ, ℤ, Bool, List};
-ghost use Rattle.enc_rle.specs.Spelling.{Run, runs_of, expanded, spelling, bool_codes, int_codes, IsJoined};
+ghost use Rattle.std.specs.Prelude.{◌≡◌, ℕ, ℤ, Bool, List, FitsSigned};
+ghost use Rattle.std.specs.Int.{w64};
+ghost use Rattle.tsdb_bits.specs.Zigzag.{zigzag};
+ghost use Rattle.enc_list.specs.Lists.{IsShort};
+ghost use Rattle.enc_rle.specs.Spelling.{Run, runs_of, expanded, spelling, bool_code, IsJoined};
 
 /// The runs of a list expand to it, have at least one value each, and neighbours differ; no other runs do.
 pub fn runs_are_joined()
@@ -10,8 +13,14 @@ pub fn runs_are_joined()
     ensures only { (runs : List Run) → IsJoined runs → runs_of (expanded runs) ≡ runs }
 {}
 
-/// Two lists with one spelling are equal.
+/// Two lists with the same bytes are equal.
 pub fn one_spelling()
-    ensures bool { (xs ys : List Bool) → spelling (bool_codes xs) ≡ spelling (bool_codes ys) → xs ≡ ys }
-    ensures int { (xs ys : List ℤ) → spelling (int_codes xs) ≡ spelling (int_codes ys) → xs ≡ ys }
+    ensures bool { (xs ys : List Bool) → spelling bool_code xs ≡ spelling bool_code ys → xs ≡ ys }
+    ensures int { (xs ys : List ℤ) → spelling zigzag xs ≡ spelling zigzag ys → xs ≡ ys }
+{}
+
+/// A list has fewer than 2^32 bytes.
+pub fn spelling_is_short()
+    ensures bool { IsShort (spelling bool_code) (λ _. Unit {0}) }
+    ensures int { IsShort (spelling zigzag) (FitsSigned w64) }
 {}

@@ -1,14 +1,18 @@
-//! Run-length encoding of lists of BOOLEAN, INT32 and INT64 values. Stands on `tsdb_base` and
-//! `tsdb_bits`.
+//! Run-length encoding of lists of BOOLEAN, INT32 and INT64 values. It depends on `tsdb_base`,
+//! `tsdb_bits` and `enc_list`.
 #![tactic(auto)]
 
-mod codes;
+mod coded;
+mod decode;
+mod encode;
 mod laws;
-mod values;
 
-pub use laws::{one_spelling, runs_are_joined};
+pub use decode::{decode_bool, decode_i32, decode_i64};
+pub use encode::{
+    encode_bool, encode_bool_into, encode_i32, encode_i32_into, encode_i64, encode_i64_into,
+};
+pub use laws::{one_spelling, runs_are_joined, spelling_is_short};
 pub use tsdb_base::{DecodeFault, Memory};
-pub use values::{decode_bool, decode_i32, decode_i64, encode_bool, encode_i32, encode_i64};
 
 #[cfg(test)]
 mod tests;

@@ -9,7 +9,7 @@ use Rattle.std.proofs.lemmas.List.Elements.{All-head, All-tail, All-nil, All-con
 use Rattle.tsdb_bits.specs.Zigzag.{zigzag}
 use Rattle.tsdb_bits.proofs.PackingLaws.{digits_of_number, digits_least}
 use Rattle.enc_ts2diff.specs.Spelling.{differences, least, offsets, width_of}
-use Rattle.enc_ts2diff.specs.Decoding.{Continues}
+use Rattle.enc_ts2diff.specs.Steps.{Continues}
 
 -- ---- the greatest of numbers
 

@@ -11,8 +11,9 @@ use Rattle.tsdb_bits.specs.Faults.{IsPacking}
 use Rattle.tsdb_bits.proofs.LebLaws.{leb_prefix_free}
 use Rattle.tsdb_bits.proofs.ZigzagLaws.{same_from_zigzag}
 use Rattle.tsdb_bits.proofs.PackingLaws.{same_from_packed}
-use Rattle.enc_ts2diff.specs.Spelling.{differences, least, offsets, width_of, at_width, block, content, spelling, IsListOf}
-use Rattle.enc_ts2diff.specs.Decoding.{IsBlockOf, Continues}
+use Rattle.enc_list.specs.Lists.{IsListOf}
+use Rattle.enc_ts2diff.specs.Spelling.{differences, least, offsets, width_of, at_width, block, content, spelling}
+use Rattle.enc_ts2diff.specs.Steps.{IsBlockOf, Continues}
 use Rattle.enc_ts2diff.proofs.Numbers.{fits_width, width_within, least_of_fits, least_bounds, length-differences, offsets-lt, same_values}
 
 -- ---- the whole
@@ -36,9 +37,9 @@ numbers_packed above digits rest e =
     let w : width_of above ≡ digits = cc in
     let r : packed (width_of above) above ≡ rest = cc in
     record {
-      counted = refl;
+      size = refl;
       below = subst (λ (t : ℕ). All (λ x. x < 2 ^ t) above) w (fits_width above);
-      spelled = ap (λ (t : ℕ). packed t above) (sym w) ∙ r;
+      bytes-are = sym (ap (λ (t : ℕ). packed t above) (sym w) ∙ r);
     }
 
 pub digits_within_64 : (d : ℤ) (ds : List ℤ) (digits : ℕ) (rest : List ℕ) → All (FitsSigned w64) (d ∷ ds) → at_width (offsets (least d ds) (d ∷ ds)) ≡ digits ∷ rest → digits ≤ 64
@@ -48,7 +49,7 @@ digits_within_64 d ds digits rest h e =
 
 -- one packing, one list
 pub same_packing : (width count : ℕ) (bytes xs ys : List ℕ) → IsPacking width count bytes xs → IsPacking width count bytes ys → xs ≡ ys
-same_packing width count bytes xs ys p q = same_from_packed width xs ys (p.counted ∙ sym q.counted) p.below q.below (p.spelled ∙ sym q.spelled)
+same_packing width count bytes xs ys p q = same_from_packed width xs ys (p.size ∙ sym q.size) p.below q.below (sym p.bytes-are ∙ q.bytes-are)
 
 -- ---- the list behind its first value and its block
 
@@ -79,7 +80,7 @@ same_block (d ∷ ds) (f ∷ fs) l e =
     let s : os ≡ ps = same_packing (width_of ps) (length os) (packed (width_of ps) ps) os ps j (subst (λ (t : ℕ). IsPacking (width_of ps) t (packed (width_of ps) ps) ps) n k) in
     (least d ds, os, (refl, refl), (b, s ∙ ap (λ (t : ℤ). offsets t (f ∷ fs)) (sym b)))
 
-pub same_from_spelling : (xs ys : List ℤ) → IsListOf w64 xs → IsListOf w64 ys → spelling xs ≡ spelling ys → xs ≡ ys
+pub same_from_spelling : (xs ys : List ℤ) → IsListOf (FitsSigned w64) xs → IsListOf (FitsSigned w64) ys → spelling xs ≡ spelling ys → xs ≡ ys
 unfolding spelling content
 same_from_spelling [] [] p q e = refl
 same_from_spelling [] (y ∷ ys) p q e = let k = leb_prefix_free 0 (length (y ∷ ys)) [] (content (y ∷ ys)) e in absurd (omega (arith, k.0))
@@ -90,7 +91,7 @@ same_from_spelling (x ∷ xs) (y ∷ ys) p q e =
     let first : x ≡ y = same_from_zigzag x y t.0 in
     let len : length (differences x xs) ≡ length (differences y ys) = omega (arith, k.0, length-differences x xs, length-differences y ys) in
     let b = same_block (differences x xs) (differences y ys) len t.1 in
-    let j : Continues b.0 x b.1 xs = list_continues x xs b.0 b.1 (All-tail (FitsSigned w64) x xs p.fits) b.2 in
-    let m : Continues b.0 y b.1 ys = list_continues y ys b.0 b.1 (All-tail (FitsSigned w64) y ys q.fits) b.3 in
+    let j : Continues b.0 x b.1 xs = list_continues x xs b.0 b.1 (All-tail (FitsSigned w64) x xs p.typed) b.2 in
+    let m : Continues b.0 y b.1 ys = list_continues y ys b.0 b.1 (All-tail (FitsSigned w64) y ys q.typed) b.3 in
     let r : xs ≡ ys = same_values b.0 x b.1 xs ys j (subst (λ (z : ℤ). Continues b.0 z b.1 ys) (sym first) m) in
     ap (λ (z : ℤ). z ∷ xs) first ∙ ap (λ (zs : List ℤ). y ∷ zs) r

@@ -1,7 +1,7 @@
 -- The spelling of a list of signed numbers by TS_2DIFF: their number, the first one, and of the
 -- differences of neighbours the least one and by how much each is above it.
-use Rattle.std.specs.Prelude.{ℕ, ◌≤◌, max, ℤ, ◌-ℤ◌, List, [], ◌∷◌, ◌++◌, length, map, fold, FitsSigned, All}
-use Rattle.std.specs.Int.{Width, w64, int_wrap, int_min}
+use Rattle.std.specs.Prelude.{ℕ, max, ℤ, ◌-ℤ◌, List, [], ◌∷◌, ◌++◌, length, map, fold}
+use Rattle.std.specs.Int.{w64, int_wrap, int_min}
 use Rattle.std.specs.Int.RustNames.{unsigned_abs}
 use Rattle.tsdb_bits.specs.Leb.{leb}
 use Rattle.tsdb_bits.specs.Zigzag.{zigzag}
@@ -41,8 +41,3 @@ content (value ∷ values) = leb (zigzag value) ++ block (differences value valu
 -- the spelling of a list
 unfoldable pub spelling : List ℤ → List ℕ
 spelling values = leb (length values) ++ content values
-
--- a list that may be spelled: at most 1,000 values of the type
-pub record IsListOf (width : Width) (values : List ℤ) : Type 0 where
-  pub few : length values ≤ 1000
-  pub fits : All (FitsSigned width) values

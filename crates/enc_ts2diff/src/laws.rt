@@ -1,10 +1,16 @@
-//! The law of the spelling. No body uses it.
+//! The laws of the spelling. No body uses them. It depends on the definitions alone.
 
-ghost use Rattle.std.specs.Prelude.{◌≡◌, ℤ, List};
+ghost use Rattle.std.specs.Prelude.{FitsSigned};
 ghost use Rattle.std.specs.Int.{w64};
-ghost use Rattle.enc_ts2diff.specs.Spelling.{spelling, IsListOf};
+ghost use Rattle.enc_list.specs.Lists.{HasOneSpelling, IsShort};
+ghost use Rattle.enc_ts2diff.specs.Spelling.{spelling};
 
-/// Two lists with one spelling are equal.
+/// Two lists with the same bytes are equal.
 pub fn one_spelling()
-    ensures { (xs ys : List ℤ) → IsListOf w64 xs → IsListOf w64 ys → spelling xs ≡ spelling ys → xs ≡ ys }
+    ensures { HasOneSpelling spelling (FitsSigned w64) }
+{}
+
+/// A list has fewer than 2^32 bytes.
+pub fn spelling_is_short()
+    ensures { IsShort spelling (FitsSigned w64) }
 {}

@@ -1,14 +1,14 @@
-//! TS_2DIFF: lists of INT32 and INT64 values by the differences of neighbours. Stands on `tsdb_base`
-//! and `tsdb_bits`.
+//! TS_2DIFF: lists of INT32 and INT64 values by the differences of neighbours. It depends on
+//! `tsdb_base`, `tsdb_bits` and `enc_list`.
 #![tactic(auto)]
 
-mod decoding;
-mod encoding;
+mod decode;
+mod encode;
 mod laws;
 
-pub use decoding::{decode_i32, decode_i64};
-pub use encoding::{encode_i32, encode_i64};
-pub use laws::one_spelling;
+pub use decode::{decode_i32, decode_i64};
+pub use encode::{encode_i32, encode_i32_into, encode_i64, encode_i64_into};
+pub use laws::{one_spelling, spelling_is_short};
 pub use tsdb_base::{DecodeFault, Memory};
 
 #[cfg(test)]

@@ -1,5 +1,6 @@
 -- The laws of LEB128.
-use Rattle.std.proofs.Common.{◌≡◌, ℕ, zero, suc, ◌+◌, ◌/◌, ◌%◌, ◌<◌, ◌≤◌, List, [], ◌∷◌, ◌++◌, refl, sym, ap, inl, inr, arith}
+use Rattle.std.proofs.Common.{◌≡◌, ℕ, zero, suc, ◌+◌, ◌*◌, ◌/◌, ◌%◌, ◌^◌, ◌<◌, ◌≤◌, List, [], ◌∷◌, ◌++◌, length, refl, sym, ap, ◌∙◌, inl, inr, arith}
+use Rattle.std.proofs.lemmas.Nat.{pow-add}
 use Rattle.std.proofs.lemmas.Bool.{cases_lt, lt-ltb, le-ltb}
 use Rattle.tsdb_bits.specs.Leb.{leb_within, leb}
 
@@ -58,6 +59,20 @@ leb_next h x b tail le lt e =
     elim (cases_lt h 128) [
       | inl p ↦ let k = heads b h tail x (rw (leb_small h p) at e) in absurd (omega (arith, k.0))
       | inr p ↦ let k = heads b (h % 128 + 128) tail (leb (h / 128) ++ x) (rw (leb_large h p) at e) in (p, sym k.0, k.1)
+    ]
+
+-- the number of bytes
+pub length-leb : (k n : ℕ) → n < 128 * 2 ^ (7 * k) → length (leb n) ≤ k + 1
+length-leb zero n lt =
+    let small : n < 128 = omega arith in
+    rw (leb_small n small) (omega arith)
+length-leb (suc k) n lt =
+    elim (cases_lt n 128) [
+      | inl small ↦ rw (leb_small n small) (omega arith)
+      | inr large ↦
+          let e : 7 * suc k ≡ 7 + 7 * k = omega arith in
+          let s : 2 ^ (7 * suc k) ≡ 128 * 2 ^ (7 * k) = ap (λ (i : ℕ). 2 ^ i) e ∙ pow-add 2 7 (7 * k) in
+          rw (leb_large n large) (omega (arith, length-leb k (n / 128) (omega (arith, s))))
     ]
 
 -- a spelling has a first byte

@@ -67,9 +67,6 @@ word_with filled word w v p q =
     let m = mul-le (v + 1) (2 ^ filled) (2 ^ w) (2 ^ filled) (omega arith) (omega arith) in
     rw (pow-add 2 filled w) (omega (arith, m))
 
-pub word_fits_128 : (filled word w v : ℕ) → word < 2 ^ filled → v < 2 ^ w → filled + w ≤ 128 → word + v * 2 ^ filled < 2 ^ 128
-word_fits_128 filled word w v p q le = omega (arith, word_with filled word w v p q, pow_le (filled + w) 128 le)
-
 -- ---- unpacking
 
 -- the next bytes go into the word

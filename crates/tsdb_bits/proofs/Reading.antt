@@ -4,7 +4,7 @@ use Rattle.std.proofs.Math.Nat.{mul_assoc}
 use Rattle.std.proofs.lemmas.Nat.{pow-add, mul-le}
 use Rattle.std.proofs.lemmas.Bool.{cases_lt}
 use Rattle.std.proofs.lemmas.List.{drop_more, drop_all, get_or_default}
-use Rattle.tsdb_bits.specs.Leb.{leb, IsCut}
+use Rattle.tsdb_bits.specs.Leb.{leb}
 use Rattle.tsdb_bits.proofs.LebLaws.{leb_small, leb_large, leb_first, leb_next, leb-some}
 
 -- the first i bytes all have the top bit, and hold the lowest groups of the number: `low`
@@ -17,15 +17,6 @@ pub record Groups (bytes : List ℕ) (i low : ℕ) : Type 0 where
 
 pub group_scale : (i : ℕ) → 2 ^ (7 * (i + 1)) ≡ 2 ^ (7 * i) * 128
 group_scale i = let e : 7 * (i + 1) ≡ 7 * i + 7 = omega arith in ap (λ (k : ℕ). 2 ^ k) e ∙ pow-add 2 (7 * i) 7
-
-pub no_groups : (bytes : List ℕ) → Groups bytes 0 0
-no_groups bytes = record {
-  long = omega arith;
-  below = omega arith;
-  tops = λ k d h. absurd (omega arith);
-  builds = λ h x p e. let n : 0 + 1 * h ≡ h = omega arith in rw n e;
-  splits = λ v x e. (v, omega arith, e, λ h. absurd (omega arith));
-}
 
 pub more_groups : (bytes : List ℕ) (i low b : ℕ) → Groups bytes i low → i < length bytes → b ≡ get_or bytes i 0 → 128 ≤ b → b < 256 → Groups bytes (i + 1) (low + (b - 128) * 2 ^ (7 * i))
 more_groups bytes i low b g lt e top byte =
@@ -74,21 +65,10 @@ ended bytes i low b v x g lt e small d =
     let k = leb_first t.0 x b (drop (i + 1) bytes) small (sym here ∙ t.2) in
     (t.1 ∙ rw k.0 (omega arith), λ p. rw (← k.0) (t.3 p))
 
--- bytes that end here are cut, and spell no number
-pub cut_here : (bytes : List ℕ) (i low : ℕ) → Groups bytes i low → length bytes ≤ i → i < 10 → IsCut bytes
-cut_here bytes i low g le few = record {
-  few = omega (arith, g.long);
-  open_ended = λ k d h. g.tops k d (omega arith);
-}
-
 pub none_here : (bytes : List ℕ) (i low : ℕ) → Groups bytes i low → length bytes ≤ i → (v : ℕ) (x : List ℕ) → bytes ≡ leb v ++ x → ⊥
 none_here bytes i low g le v x d =
     let t = g.splits v x d in
     leb-some t.0 x (sym (drop_all i bytes le) ∙ t.2)
-
--- a byte without the top bit stands there
-pub not_cut : (bytes : List ℕ) (i b : ℕ) → i < length bytes → b ≡ get_or bytes i 0 → b < 128 → IsCut bytes → ⊥
-not_cut bytes i b lt e small cut = absurd (omega (arith, cut.open_ended i 0 lt))
 
 -- the tenth byte, where it is any but 1
 pub tenth_high : (bytes : List ℕ) (low b v : ℕ) (x : List ℕ) → Groups bytes 9 low → 9 < length bytes → b ≡ get_or bytes 9 0 → b < 256 → (b ≡ 1 → ⊥) → v < 2 ^ 64 → bytes ≡ leb v ++ x → ⊥
@@ -105,6 +85,3 @@ tenth_high bytes low b v x g lt e byte other small d =
           let some : 0 < t.0 = t.3 (omega arith) in
           absurd (omega (arith, t.1))
     ]
-
-pub tenth_not_cut : (bytes : List ℕ) → 9 < length bytes → IsCut bytes → ⊥
-tenth_not_cut bytes lt cut = absurd (omega (arith, cut.few))

@@ -6,17 +6,18 @@ use Rattle.tsdb_bits.specs.declared.fault.BitFault.{BitFault}
 use Rattle.tsdb_bits.specs.declared.fault.BitFault.TheVariants as bit_faults
 use Rattle.tsdb_bits.specs.declared.fault.UnpackFault.{UnpackFault}
 use Rattle.tsdb_bits.specs.declared.fault.UnpackFault.TheVariants as unpack_faults
-use Rattle.tsdb_bits.specs.declared.groups.Unread.{Unread}
-use Rattle.tsdb_bits.specs.declared.groups.Unread.TheVariants as unread
+use Rattle.tsdb_bits.specs.declared.leb.GroupFault.{GroupFault}
+use Rattle.tsdb_bits.specs.declared.leb.GroupFault.TheVariants as group_faults
 
 -- why no LEB128 spelling begins at a place
 abbrev pub ExplainsLeb : List ℕ → ℕ → BitFault → Type 0
 ExplainsLeb bytes start (bit_faults.Short at) = (at ≡ length bytes) × IsCut (drop start bytes)
 ExplainsLeb bytes start (bit_faults.Overlong at) = (at ≡ start) × ¬ IsCut (drop start bytes)
 
-abbrev pub ExplainsUnread : List ℕ → Unread → Type 0
-ExplainsUnread bytes unread.Cut = IsCut bytes
-ExplainsUnread bytes unread.Overlong = ¬ IsCut bytes
+-- the same, where the number is to begin at the first byte
+abbrev pub ExplainsGroups : List ℕ → GroupFault → Type 0
+ExplainsGroups bytes group_faults.Cut = IsCut bytes
+ExplainsGroups bytes group_faults.Overlong = ¬ IsCut bytes
 
 -- the first byte that no packing of so many bits has there: the last of its bytes, where a filling
 -- bit is set, or else the byte behind it
@@ -32,6 +33,10 @@ ExplainsPacking bits bytes unpack_faults.Memory = Unit {0}
 
 -- the values are a list of so many numbers below 2 ^ width whose packing the bytes are
 pub record IsPacking (width count : ℕ) (bytes values : List ℕ) : Type 0 where
-  pub counted : length values ≡ count
+  pub size : length values ≡ count
   pub below : All (λ value. value < 2 ^ width) values
-  pub spelled : packed width values ≡ bytes
+  pub bytes-are : bytes ≡ packed width values
+
+-- a fault but out of memory: no list is packed so
+abbrev pub IsNoPacking : ℕ → ℕ → List ℕ → UnpackFault → Type 0
+IsNoPacking width count bytes fault = (fault ≡ unpack_faults.Memory → ⊥) → (values : List ℕ) → IsPacking width count bytes values → ⊥

@@ -1,6 +1,7 @@
 -- Numbers packed at a width: bit b of number i is bit `i * width + b` of the stream, and bit k of the
 -- stream is bit `k % 8` of byte `k / 8`. Zeros fill the last byte.
-use Rattle.std.specs.Prelude.{ℕ, suc, zero, ◌+◌, ◌*◌, ◌/◌, ◌%◌, ◌^◌, ◌≤◌, List, [], ◌∷◌, length, take}
+use Rattle.std.specs.Prelude.{◌≡◌, ◌<◌, All, slice_index, ℕ, suc, zero, ◌+◌, ◌*◌, ◌/◌, ◌%◌, ◌^◌, ◌≤◌, List, [], ◌∷◌, length, take}
+use Rattle.std.specs.Int.{bit_at}
 
 -- the stream of a list as one number: each item takes `width` bits, the first item the lowest ones
 unfoldable pub joined : ℕ → List ℕ → ℕ
@@ -37,3 +38,15 @@ digits_within (suc turns) (suc number) = suc (digits_within turns (suc number / 
 -- how many binary digits a number has: none for 0
 unfoldable pub binary_digits : ℕ → ℕ
 binary_digits number = digits_within number number
+
+-- two lists of one length with one packing are equal
+abbrev pub IsOneToOne : ℕ → Type 0
+IsOneToOne width =
+    (xs ys : List ℕ) → length xs ≡ length ys → All (λ x. x < 2 ^ width) xs → All (λ y. y < 2 ^ width) ys
+    → packed width xs ≡ packed width ys → xs ≡ ys
+
+-- bit k of the stream is a bit of byte `k / 8`, and a bit of value `k / width`
+abbrev pub StandsInOrder : ℕ → List ℕ → Type 0
+StandsInOrder width values =
+    (k : ℕ) → All (λ value. value < 2 ^ width) values → k < length values * width
+    → bit_at (slice_index (packed width values) (k / 8)) (k % 8) ≡ bit_at (slice_index values (k / width)) (k % width)

@@ -1,11 +1,14 @@
-//! Lists of numbers packed at a width. The bytes move by whole words of 64 bits.
+//! Lists of numbers packed at a width. The bytes move by whole words of 64 bits. It depends on this
+//! crate's faults.
 
 ghost use Rattle.std.specs.Prelude.{◌≡◌, ℕ, ◌+◌, ◌-◌, ◌*◌, ◌/◌, ◌%◌, ◌^◌, ◌<◌, ◌≤◌, List, ◌++◌, length, take, drop, vec_len, All, IfOk, IfErr, OnOk, OnErr};
+ghost use Rattle.tsdb_base.specs.Limits.{max_values};
 ghost use Rattle.tsdb_bits.specs.Packing.{joined, number_of_bytes, packed, bytes_for, binary_digits};
-ghost use Rattle.tsdb_bits.specs.Faults.{ExplainsPacking, IsPacking};
+ghost use Rattle.tsdb_bits.specs.Faults.{ExplainsPacking, IsPacking, IsNoPacking};
 
-use crate::fault::{Memory, UnpackFault};
+use crate::fault::UnpackFault;
 use std::alloc::Global;
+use tsdb_base::Memory;
 
 /// How many binary digits `value` has; none for 0.
 pub fn width(value: u64) -> u8
@@ -14,13 +17,14 @@ pub fn width(value: u64) -> u8
     (64 - value.leading_zeros()) as u8
 }
 
-/// Appends the values packed at the width. After `Memory` the bytes are as they were.
+/// Appends the values packed at the width. After `Memory` the list is as it was.
 pub fn pack(values: &[u64], width: u8, into: &mut Vec<u8>) -> Result<(), Memory>
     requires width_fits { width ≤ 64 }
     requires values_fit { All (λ value. value < 2 ^ width) values.now }
     ensures ok { OnOk result (into.new.items ≡ into.old.items ++ packed width values.now) }
-    ensures err { OnErr result (into.new.items ≡ into.old.items) }
+    ensures memory { OnErr result (into.new.items ≡ into.old.items) }
 {
+    into.reserve(values.len().saturating_mul(width as usize).div_ceil(8))?;
     let start = into.len();
     let outcome = append_packed(values, width, into);
     if outcome.is_err() {
@@ -61,14 +65,15 @@ fn low_bits(word: u128, width: u8) -> u64
 
 /// The `count` values whose packing at the width the bytes are.
 ///
-/// `Short` comes where there are too few bytes, `Overlong` where a filling bit is set or bytes follow.
+/// It is `Short` where there are too few bytes, and `Overlong` where a filling bit is set or bytes
+/// follow.
 pub fn unpack(alloc: Global, bytes: &[u8], count: u64, width: u8) -> Result<Vec<u64>, UnpackFault>
     requires width_fits { width ≤ 64 }
-    requires few { count ≤ 1000 }
+    requires few { count ≤ max_values }
     ensures values { IfOk result (λ values. IsPacking width count bytes.now values.items) }
     ensures fault { IfErr result (ExplainsPacking (count * width) bytes.now) }
-    // Where there is a fault but want of memory, no list is packed so.
-    ensures none { IfErr result (λ fault. (fault ≡ UnpackFault.Memory → ⊥) → (values : List ℕ) → IsPacking width count bytes.now values → ⊥) }
+    // No list is packed so, unless memory ran out.
+    ensures none { IfErr result (IsNoPacking width count bytes.now) }
 {
     let len = bytes.len() as u64;
     let needed = (count * u64::from(width)).div_ceil(8);
@@ -85,7 +90,7 @@ pub fn unpack(alloc: Global, bytes: &[u8], count: u64, width: u8) -> Result<Vec<
     Ok(values)
 }
 
-/// The values at the front of the stream of the bytes, and what stands behind them in it.
+/// The values that the stream of the bytes begins with, and what stands behind them in it.
 fn values_in(
     alloc: Global,
     bytes: &[u8],
@@ -93,7 +98,7 @@ fn values_in(
     width: u8,
 ) -> Result<(Vec<u64>, u128), UnpackFault>
     requires width_fits { width ≤ 64 }
-    requires few { count ≤ 1000 }
+    requires few { count ≤ max_values }
     requires needed { length bytes.now ≡ bytes_for (count * width) }
     ensures count { IfOk result (λ r. length r.0.items ≡ count) }
     ensures below { IfOk result (λ r. All (λ value. value < 2 ^ width) r.0.items) }

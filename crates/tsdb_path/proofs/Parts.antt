@@ -14,9 +14,9 @@ use Rattle.tsdb_path.proofs.Bytes.{IsNode-dotless, is_path_byte-node}
 pub parts_some : (bytes : List ℕ) → 0 < length (parts bytes)
 parts_some bytes = omega (arith, length-slice_split (λ b. eqb b dot) bytes)
 
-onto_first-append : (x : ℕ) (front back : List (List ℕ)) → 0 < length front → onto_first x (front ++ back) ≡ onto_first x front ++ back
+onto_first-append : (x : ℕ) (prefix back : List (List ℕ)) → 0 < length prefix → onto_first x (prefix ++ back) ≡ onto_first x prefix ++ back
 onto_first-append x [] back h = absurd (omega (arith, h))
-onto_first-append x (part ∷ front) back h = refl
+onto_first-append x (part ∷ prefix) back h = refl
 
 -- bytes without a dot behind a dot are the last part
 pub parts-child : (device name : List ℕ) → All (λ b. eqb b dot ≡ false) name → parts (child_of device name) ≡ parts device ++ name ∷ []
@@ -93,11 +93,11 @@ measurement_of-child device name h =
 pub node_count-child : (device name : List ℕ) → All (λ b. eqb b dot ≡ false) name → node_count (child_of device name) ≡ node_count device + 1
 node_count-child device name h = ap length (parts-child device name h) ∙ length-append (parts device) (name ∷ [])
 
-join-push : (front : List (List ℕ)) (name : List ℕ) → 0 < length front → join_with_byte dot (front ++ name ∷ []) ≡ child_of (join_with_byte dot front) name
+join-push : (prefix : List (List ℕ)) (name : List ℕ) → 0 < length prefix → join_with_byte dot (prefix ++ name ∷ []) ≡ child_of (join_with_byte dot prefix) name
 join-push [] name some = absurd (omega (arith, some))
 join-push (x ∷ []) name some = refl
-join-push (x ∷ y ∷ front) name some =
-    ap (λ l. x ++ dot ∷ l) (join-push (y ∷ front) name (omega arith)) ∙ sym (append_assoc x (dot ∷ join_with_byte dot (y ∷ front)) (dot ∷ name))
+join-push (x ∷ y ∷ prefix) name some =
+    ap (λ l. x ++ dot ∷ l) (join-push (y ∷ prefix) name (omega arith)) ∙ sym (append_assoc x (dot ∷ join_with_byte dot (y ∷ prefix)) (dot ∷ name))
 
 -- the parts are those of the device, and the measurement
 parts_are : (bytes : List ℕ) → parts bytes ≡ take (node_count bytes - 1) (parts bytes) ++ measurement_of bytes ∷ []

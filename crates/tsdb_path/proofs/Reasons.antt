@@ -12,20 +12,6 @@ use Rattle.tsdb_path.specs.Steps.{RefusesLength}
 use Rattle.tsdb_path.proofs.Bytes.{IsNode-dotless}
 use Rattle.tsdb_path.proofs.Parts.{HasGoodParts, parts_from_path, parts-child, rooted-append, IsPath-child, length_by_parts}
 
-pub path_from_length : (bytes : List ℕ) (fault : PathFault) → RefusesLength bytes fault → RefusesPath bytes fault
-path_from_length bytes Empty h = h
-path_from_length bytes NotRoot h = absurd h
-path_from_length bytes (BadNode at) h = absurd h
-path_from_length bytes (TooLong at) h = inl h
-path_from_length bytes Memory h = absurd h
-
-pub name_from_length : (bytes : List ℕ) (fault : PathFault) → RefusesLength bytes fault → RefusesName bytes fault
-name_from_length bytes Empty h = h
-name_from_length bytes NotRoot h = absurd h
-name_from_length bytes (BadNode at) h = absurd h
-name_from_length bytes (TooLong at) h = h
-name_from_length bytes Memory h = absurd h
-
 -- a path has 1 to 255 bytes
 pub path_fits : (bytes : List ℕ) → IsPath bytes → HasFittingLength bytes
 path_fits [] path = absurd (cc_root (parts_from_path [] path).rooted)
@@ -61,7 +47,7 @@ same_front : (ps f g : List (List ℕ)) (m n : List ℕ) (b c : List (List ℕ))
 same_front ps f g m n b c p q same =
     sym (take-append_seam f (m ∷ b)) ∙ ap (take (length f)) (sym p) ∙ ap (λ k. take k ps) same ∙ ap (take (length g)) q ∙ take-append_seam g (n ∷ c)
 
--- the parts in front are nodes
+-- the parts before are nodes
 good_below : (ps f : List (List ℕ)) (rest : List (List ℕ)) (i : ℕ) → ps ≡ f ++ rest → All IsNode f → i < length f → IsNode (get_or ps i [])
 good_below ps f rest i p good below =
     subst IsNode (sym (ap (λ l. get_or l i []) p ∙ get_or-append f rest [] i below)) (All-get_or IsNode f i [] below good)
@@ -84,11 +70,11 @@ not_both : (bytes : List ℕ) (i j : ℕ) → HasBadNodeAt bytes i → HasNodeTo
 not_both bytes i j bad many =
     let s = bad.stands in
     let t = many.stands in
-    let g : List (List ℕ) = many.front ++ many.next ∷ [] in
-    no_node_below (parts bytes) bad.front g bad.next s.back t.back s.parted bad.bad
-    (t.parted ∙ sym (append_assoc many.front (many.next ∷ []) t.back))
-    (All-push IsNode many.front many.next t.good many.good)
-    (omega (arith, bad.few, many.full, length-append many.front (many.next ∷ [])))
+    let g : List (List ℕ) = many.prefix ++ many.next ∷ [] in
+    no_node_below (parts bytes) bad.prefix g bad.next s.back t.back s.parted bad.bad
+    (t.parted ∙ sym (append_assoc many.prefix (many.next ∷ []) t.back))
+    (All-push IsNode many.prefix many.next t.good many.good)
+    (omega (arith, bad.few, many.full, length-append many.prefix (many.next ∷ [])))
 
 by_bad : (bytes : List ℕ) (i : ℕ) (fault : PathFault) → HasBadNodeAt bytes i → RefusesPath bytes fault → fault ≡ BadNode i
 by_bad bytes i Empty bad h = absurd (omega (arith, ap length h, bad.stands.fits.some))
@@ -96,14 +82,14 @@ by_bad bytes i NotRoot bad h = absurd (h.unrooted bad.stands.rooted)
 by_bad bytes i (BadNode j) bad h =
     let s = bad.stands in
     let t = h.stands in
-    let below : ¬ (length bad.front < length h.front) = no_node_below (parts bytes) bad.front h.front bad.next s.back (h.next ∷ t.back) s.parted bad.bad t.parted t.good in
-    let above : ¬ (length h.front < length bad.front) = no_node_below (parts bytes) h.front bad.front h.next t.back (bad.next ∷ s.back) t.parted h.bad s.parted s.good in
-    ap BadNode (same_place bytes h.front bad.front h.next bad.next j i t s (omega (arith, below, above)))
+    let below : ¬ (length bad.prefix < length h.prefix) = no_node_below (parts bytes) bad.prefix h.prefix bad.next s.back (h.next ∷ t.back) s.parted bad.bad t.parted t.good in
+    let above : ¬ (length h.prefix < length bad.prefix) = no_node_below (parts bytes) h.prefix bad.prefix h.next t.back (bad.next ∷ s.back) t.parted h.bad s.parted s.good in
+    ap BadNode (same_place bytes h.prefix bad.prefix h.next bad.next j i t s (omega (arith, below, above)))
 by_bad bytes i (TooLong j) bad h = elim h [ inl l ↦ absurd (omega (arith, bad.stands.fits.short, l.long)) | inr many ↦ absurd (not_both bytes i j bad many) ]
 by_bad bytes i Memory bad h =
     let s = bad.stands in
     let good : All IsNode (parts bytes) = (parts_from_path bytes h).good in
-    absurd (bad.bad (subst IsNode (next_is (parts bytes) bad.front bad.next s.back s.parted) (All-get_or IsNode (parts bytes) (length bad.front) [] (omega (arith, ap length s.parted, length-append bad.front (bad.next ∷ s.back))) good)))
+    absurd (bad.bad (subst IsNode (next_is (parts bytes) bad.prefix bad.next s.back s.parted) (All-get_or IsNode (parts bytes) (length bad.prefix) [] (omega (arith, ap length s.parted, length-append bad.prefix (bad.next ∷ s.back))) good)))
 
 by_many : (bytes : List ℕ) (i : ℕ) (fault : PathFault) → HasNodeTooManyAt bytes i → RefusesPath bytes fault → fault ≡ TooLong i
 by_many bytes i Empty many h = absurd (omega (arith, ap length h, many.stands.fits.some))
@@ -111,11 +97,11 @@ by_many bytes i NotRoot many h = absurd (h.unrooted many.stands.rooted)
 by_many bytes i (BadNode j) many h = absurd (not_both bytes j i h many)
 by_many bytes i (TooLong j) many h = elim h [
   | inl l ↦ absurd (omega (arith, many.stands.fits.short, l.long))
-  | inr other ↦ ap TooLong (same_place bytes other.front many.front other.next many.next j i other.stands many.stands (other.full ∙ sym many.full))
+  | inr other ↦ ap TooLong (same_place bytes other.prefix many.prefix other.next many.next j i other.stands many.stands (other.full ∙ sym many.full))
 ]
 by_many bytes i Memory many h =
     let s = many.stands in
-    absurd (omega (arith, (parts_from_path bytes h).few, ap length s.parted, length-append many.front (many.next ∷ s.back), many.full))
+    absurd (omega (arith, (parts_from_path bytes h).few, ap length s.parted, length-append many.prefix (many.next ∷ s.back), many.full))
 
 by_path : (bytes : List ℕ) (fault : PathFault) → RefusesPath bytes fault → IsPath bytes → Memory ≡ fault
 by_path bytes Empty h path = by_none bytes Memory h path
@@ -166,21 +152,13 @@ name_by_name bytes (BadNode i) name h = absurd (h.bad name.node)
 name_by_name bytes (TooLong i) name h = absurd (omega (arith, name.short, h.long))
 name_by_name bytes Memory name h = refl
 
--- of the reasons why bytes are no name one holds at most
-pub one_name_reason : (bytes : List ℕ) (fault other : PathFault) → RefusesName bytes fault → RefusesName bytes other → fault ≡ other
-one_name_reason bytes Empty other h k = sym (name_by_none bytes other h k)
-one_name_reason bytes NotRoot other h k = absurd h
-one_name_reason bytes (BadNode i) other h k = sym (name_by_node bytes i other h k)
-one_name_reason bytes (TooLong i) other h k = ap TooLong h.place ∙ sym (name_by_length bytes other h.long k)
-one_name_reason bytes Memory other h k = sym (name_by_name bytes other h k)
-
 -- behind 16 nodes a name is the 17th
 too_many_child : (path name : List ℕ) (i : ℕ) → IsPath path → IsNode name → IsFull path name i → HasNodeTooManyAt (child_of path name) i
 too_many_child path name i good node full =
     let h : HasGoodParts path = parts_from_path path good in
     let e : parts (child_of path name) ≡ parts path ++ name ∷ [] = parts-child path name (IsNode-dotless name node) in
     record {
-      front = parts path;
+      prefix = parts path;
       next = name;
       stands = record {
         fits = record { some = omega (arith, length-append path (dot ∷ name)); short = full.short };
@@ -193,10 +171,6 @@ too_many_child path name i good node full =
       good = node;
       full = full.full;
     }
-
--- more than 255 bytes with the name
-pub child_too_long : (path name : List ℕ) → 255 < length path + 1 + length name → RefusesChild path name (TooLong 255)
-child_too_long path name long = inl (record { long = omega (arith, length-append path (dot ∷ name), long); place = refl })
 
 pub child_full : (path name : List ℕ) → length path + 1 + length name ≤ 255 → node_count path ≡ 16 → RefusesChild path name (TooLong (length path + 1))
 child_full path name short full = inr (record { short = omega (arith, length-append path (dot ∷ name), short); full = full; place = refl })
@@ -219,12 +193,12 @@ one_child_reason path name good node fault other h k =
     one_path_reason (child_of path name) fault other (child_as_path path name fault good node h) (child_as_path path name other good node k)
 
 module _ {T : Type 0} (R : PathFault → Type 0) (one : (fault other : PathFault) → R fault → R other → fault ≡ other) where
-  -- where want of memory is the reason, no other is
+  -- where out of memory is the reason, no other is
   pub memory_alone : (r : Result T PathFault) → IfErr r R → R Memory → IfErr r (λ fault. fault ≡ Memory)
   memory_alone (Ok x) h good = tt
   memory_alone (Err e) h good = one e Memory h good
 
-  -- each reason but want of memory is the answer where it holds
+  -- each reason but out of memory is the answer where it holds
   pub reason_is_answer : (r : Result T PathFault) → IfOk r (λ _. R Memory) → IfErr r R → (fault : PathFault) → R fault → fault ≢ Memory → r ≡ Err fault
   reason_is_answer (Ok x) good h fault is other = absurd (other (one fault Memory is good))
   reason_is_answer (Err e) good h fault is other = ap Err (one e fault h is)

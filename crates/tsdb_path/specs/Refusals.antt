@@ -20,33 +20,33 @@ pub record IsNotRooted (bytes : List ℕ) : Type 0 where
   pub fits : HasFittingLength bytes
   pub unrooted : ¬ IsRooted (parts bytes)
 
--- the parts are `front`, all of them nodes, then `next`, whose first byte is at `at`, and some more:
--- each part in front takes its bytes and a dot
-pub record StandsAfterNodes (front : List (List ℕ)) (next : List ℕ) (bytes : List ℕ) (at : ℕ) : Type 0 where
+-- the parts are `prefix`, all of them nodes, then `next`, whose first byte is at `at`, and some more:
+-- each part before takes its bytes and a dot
+pub record StandsAfterNodes (prefix : List (List ℕ)) (next : List ℕ) (bytes : List ℕ) (at : ℕ) : Type 0 where
   pub fits : HasFittingLength bytes
   pub rooted : IsRooted (parts bytes)
   pub back : List (List ℕ)
-  pub parted : parts bytes ≡ front ++ next ∷ back
-  pub good : All IsNode front
-  pub place : at ≡ sum_by (λ part. length part + 1) front
+  pub parted : parts bytes ≡ prefix ++ next ∷ back
+  pub good : All IsNode prefix
+  pub place : at ≡ sum_by (λ part. length part + 1) prefix
 
 -- the first part that is no node begins at `at`, and at most 16 nodes stand before it
 pub record HasBadNodeAt (bytes : List ℕ) (at : ℕ) : Type 0 where
-  pub front : List (List ℕ)
+  pub prefix : List (List ℕ)
   pub next : List ℕ
-  pub stands : StandsAfterNodes front next bytes at
+  pub stands : StandsAfterNodes prefix next bytes at
   pub bad : ¬ IsNode next
-  pub few : length front ≤ 16
+  pub few : length prefix ≤ 16
 
 -- a 17th node begins at `at`
 pub record HasNodeTooManyAt (bytes : List ℕ) (at : ℕ) : Type 0 where
-  pub front : List (List ℕ)
+  pub prefix : List (List ℕ)
   pub next : List ℕ
-  pub stands : StandsAfterNodes front next bytes at
+  pub stands : StandsAfterNodes prefix next bytes at
   pub good : IsNode next
-  pub full : length front ≡ 16
+  pub full : length prefix ≡ 16
 
--- why bytes that are no path are refused; want of memory is answered for a path alone
+-- why bytes that are no path are refused; out of memory is answered for a path alone
 abbrev pub RefusesPath : List ℕ → PathFault → Type 0
 RefusesPath bytes Empty = bytes ≡ []
 RefusesPath bytes NotRoot = IsNotRooted bytes
@@ -60,7 +60,7 @@ pub record IsNoNode (bytes : List ℕ) (at : ℕ) : Type 0 where
   pub bad : ¬ IsNode bytes
   pub place : at ≡ 0
 
--- why bytes that are no name are refused; want of memory is answered for a name alone
+-- why bytes that are no name are refused; out of memory is answered for a name alone
 abbrev pub RefusesName : List ℕ → PathFault → Type 0
 RefusesName bytes Empty = bytes ≡ []
 RefusesName bytes NotRoot = ⊥
@@ -74,7 +74,7 @@ pub record IsFull (path name : List ℕ) (at : ℕ) : Type 0 where
   pub full : node_count path ≡ 16
   pub place : at ≡ length path + 1
 
--- why a path takes no further node of this name; want of memory is answered alone where it could take it
+-- why a path takes no further node of this name; out of memory is answered alone where it could take it
 abbrev pub RefusesChild : List ℕ → List ℕ → PathFault → Type 0
 RefusesChild path name Empty = ⊥
 RefusesChild path name NotRoot = ⊥
@@ -82,10 +82,10 @@ RefusesChild path name (BadNode at) = ⊥
 RefusesChild path name (TooLong at) = IsTooLong (child_of path name) at ⊎ IsFull path name at
 RefusesChild path name Memory = IsPath (child_of path name)
 
--- each of these reasons, but want of memory, is the answer wherever it holds
+-- each of these reasons, but out of memory, is the answer wherever it holds
 abbrev pub AnswersEach : {T : Type 0} → (PathFault → Type 0) → Result T PathFault → Type 0
 AnswersEach reasons result = (fault : PathFault) → reasons fault → fault ≢ Memory → result ≡ Err fault
 
--- no reason is answered but want of memory
+-- no reason is answered but out of memory
 abbrev pub AnswersMemoryAlone : {T : Type 0} → Result T PathFault → Type 0
 AnswersMemoryAlone result = IfErr result (λ fault. fault ≡ Memory)

@@ -18,7 +18,7 @@ pub record IsFirstSplit (bytes first : List ℕ) (more : Option (List ℕ)) : Ty
   pub parted : MatchOption more (parts bytes ≡ first ∷ []) (λ rest. parts bytes ≡ first ∷ parts rest)
   pub lengths : MatchOption more (length bytes ≡ length first) (λ rest. length bytes ≡ length first + 1 + length rest)
 
--- a node stands in front, and `more` is what stands behind its dot, where there is one
+-- a node stands before, and `more` is what stands behind its dot, where there is one
 pub record TakesNode (bytes : List ℕ) (more : Option (List ℕ)) : Type 0 where
   pub first : List ℕ
   pub node : IsNode first
@@ -37,8 +37,8 @@ pub record BeginsBadly (bytes : List ℕ) : Type 0 where
 
 -- `rest` is what stands behind the first `count` nodes and their dots
 pub record IsBehindNodes (bytes rest : List ℕ) (count : ℕ) : Type 0 where
-  pub front : List (List ℕ)
-  pub parted : parts bytes ≡ front ++ parts rest
-  pub good : All IsNode front
-  pub counted : length front ≡ count
-  pub lengths : sum_by (λ part. length part + 1) front + length rest ≡ length bytes
+  pub prefix : List (List ℕ)
+  pub parted : parts bytes ≡ prefix ++ parts rest
+  pub good : All IsNode prefix
+  pub size : length prefix ≡ count
+  pub lengths : sum_by (λ part. length part + 1) prefix + length rest ≡ length bytes

@@ -1,4 +1,4 @@
-//! Why bytes are no path or name, and want of memory alone. Stands on std.
+//! Why bytes are no path or name, and out of memory alone. It depends on std alone.
 use std::alloc::AllocError;
 use std::error::Error;
 use std::fmt;

@@ -1,4 +1,4 @@
-//! Paths of series and the names of their nodes: nodes joined by dots, as `root.plant.pump.speed`. It stands on
+//! Paths of series and the names of their nodes: nodes joined by dots, as `root.plant.pump.speed`. It depends on
 //! std alone.
 //!
 //! A node is one or more ASCII letters, digits and `_`, not all of them digits. A path has 1 to 16 nodes, the

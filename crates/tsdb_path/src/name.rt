@@ -1,4 +1,4 @@
-//! The name of one node. Stands on `scan`.
+//! The name of one node. It depends on `scan`.
 ghost use Rattle.std.specs.Prelude.{◌≡◌, IfOk, IfErr};
 ghost use Rattle.tsdb_path.specs.Nodes.{IsName};
 ghost use Rattle.tsdb_path.specs.Refusals.{RefusesName, AnswersEach, AnswersMemoryAlone};

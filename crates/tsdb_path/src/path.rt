@@ -1,4 +1,4 @@
-//! The path of a series or a device. Stands on `scan` and `name`.
+//! The path of a series or a device. It depends on `scan` and `name`.
 ghost use Rattle.std.specs.Prelude.{◌≡◌, ◌+◌, ◌≤◌, ◌↔◌, ◌++◌, ◌∷◌, List, ℕ, length, All, IsTrue, IfOk, IfErr};
 ghost use Rattle.tsdb_path.specs.Nodes.{is_path_byte, IsName, IsPath, IsPathOf, node_count, device_of, measurement_of, child_of};
 ghost use Rattle.tsdb_path.specs.Refusals.{RefusesPath, RefusesChild, AnswersEach, AnswersMemoryAlone};
@@ -28,7 +28,7 @@ impl Model for Path {
 }
 
 /// Both, with a dot between.
-fn joined(alloc: Global, path: &[u8], name: &[u8]) -> Result<Vec<u8>, AllocError>
+fn join(alloc: Global, path: &[u8], name: &[u8]) -> Result<Vec<u8>, AllocError>
     requires { length path.now + length name.now ≤ 255 }
     ensures { IfOk result (λ bytes. bytes.items ≡ child_of path.now name.now) }
 {
@@ -112,7 +112,7 @@ impl Path {
     {
         check_child(self.bytes.as_slice(), name.bytes())?;
         let alloc = *self.bytes.allocator();
-        let bytes = joined(alloc, self.bytes.as_slice(), name.bytes())?;
+        let bytes = join(alloc, self.bytes.as_slice(), name.bytes())?;
         Ok(Path { bytes })
     }
 

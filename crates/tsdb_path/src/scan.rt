@@ -1,4 +1,4 @@
-//! The reading of bytes: from the left, part by part between the dots. Stands on `fault`.
+//! The reading of bytes: from the left, part by part between the dots. It depends on `fault`.
 ghost use Rattle.std.specs.Prelude.{◌≡◌, ◌≢◌, ℕ, ◌+◌, ◌-◌, ◌<◌, ◌≤◌, ◌↔◌, ◌==◌, length, take, drop, slice_index, count_by, IsTrue, IfSome, IfNone, IfOk, OnOk, IfErr, OnErr, All};
 ghost use Rattle.std.specs.Char.{is_ascii_digit};
 ghost use Rattle.std.specs.Option.{option_copied};

@@ -6,13 +6,13 @@ use Rattle.enc_plain.proofs.PlainLaws.{same_from_spelling}
 use Rattle.enc_plain.proofs.laws.one_spelling.Goals as goal
 
 pub returns-clause-booleans : goal.returns-clause-booleans
-returns-clause-booleans c = λ xs ys e. same_from_spelling plain_bool (λ _. Unit {0}) plain_bool-prefix_free xs ys (λ k d lt. tt) (λ k d lt. tt) e
+returns-clause-booleans c = same_from_spelling plain_bool (λ _. Unit {0}) plain_bool-prefix_free
 
 pub returns-clause-int32 : goal.returns-clause-int32
-returns-clause-int32 c = λ xs ys is_x is_y e. same_from_spelling plain_i32 (FitsSigned w32) plain_i32-prefix_free xs ys is_x is_y e
+returns-clause-int32 c = same_from_spelling plain_i32 (FitsSigned w32) plain_i32-prefix_free
 
 pub returns-clause-int64 : goal.returns-clause-int64
-returns-clause-int64 c = λ xs ys is_x is_y e. same_from_spelling plain_i64 (FitsSigned w64) plain_i64-prefix_free xs ys is_x is_y e
+returns-clause-int64 c = same_from_spelling plain_i64 (FitsSigned w64) plain_i64-prefix_free
 
 pub returns-clause-texts : goal.returns-clause-texts
-returns-clause-texts c = λ xs ys is_x is_y e. same_from_spelling plain_text IsText plain_text-prefix_free xs ys is_x is_y e
+returns-clause-texts c = same_from_spelling plain_text IsText plain_text-prefix_free

@@ -16,10 +16,10 @@ record IsExact (bits : ℕ) (bytes : List ℕ) : Type 0 where
 
 exact_when_packed : (w count : ℕ) (bytes values : List ℕ) → IsPacking w count bytes values → IsExact (count * w) bytes
 exact_when_packed w count bytes values p =
-    let below : joined w values < 2 ^ (count * w) = rw (← p.counted) (joined-lt w values p.below) in
+    let below : joined w values < 2 ^ (count * w) = rw (← p.size) (joined-lt w values p.below) in
     record {
-      size = sym (ap length p.spelled) ∙ length-packed w values ∙ ap (λ (t : ℕ). bytes_for (t * w)) p.counted;
-      unfilled = rw (← p.spelled) (rw (number-packed w values p.below) below);
+      size = ap length p.bytes-are ∙ length-packed w values ∙ ap (λ (t : ℕ). bytes_for (t * w)) p.size;
+      unfilled = rw p.bytes-are (rw (number-packed w values p.below) below);
     }
 
 wrong_size : (w count : ℕ) (bytes values : List ℕ) → (length bytes ≡ bytes_for (count * w) → ⊥) → IsPacking w count bytes values → ⊥
@@ -61,12 +61,12 @@ packs w count filling bytes values z size are_bytes counted below e =
     let all : take (bytes_for (count * w)) bytes ≡ bytes = take_all (bytes_for (count * w)) bytes (omega (arith, size)) in
     let n : number_of_bytes bytes ≡ joined w values = sym (ap number_of_bytes all) ∙ e ∙ rw z (omega arith) in
     record {
-      counted = counted;
+      size = counted;
       below = below;
-      spelled = ap (λ (t : ℕ). low_bytes (bytes_for (t * w)) (joined w values)) counted
+      bytes-are = sym (ap (λ (t : ℕ). low_bytes (bytes_for (t * w)) (joined w values)) counted
           ∙ ap (λ (t : ℕ). low_bytes t (joined w values)) (sym size)
           ∙ ap (λ (t : ℕ). low_bytes (length bytes) t) (sym n)
-          ∙ low_bytes-number bytes are_bytes;
+          ∙ low_bytes-number bytes are_bytes);
     }
 
 pub returns-then-len-needed-clause-none : goal.returns-then-len-needed-clause-none

@@ -1,0 +1,116 @@
+//! From lists to bytes. It depends on `tsdb_bits` and on the codes.
+
+ghost use Rattle.std.specs.Prelude.{◌≡◌, ◌≤◌, ◌++◌, length, map, take, vec_len, IfOk, OnOk, OnErr};
+ghost use Rattle.tsdb_base.specs.Limits.{max_values};
+ghost use Rattle.tsdb_bits.specs.Leb.{leb};
+ghost use Rattle.tsdb_bits.specs.Zigzag.{zigzag};
+ghost use Rattle.enc_rle.specs.Spelling.{bool_code, spelling};
+
+use crate::coded::Coded;
+use std::alloc::Global;
+use tsdb_base::Memory;
+use tsdb_bits::put_leb;
+
+/// Appends the bytes of at most 1,000 BOOLEAN values. After `Memory` the list is as it was.
+pub fn encode_bool_into(values: &[bool], into: &mut Vec<u8>) -> Result<(), Memory>
+    requires { length values.now ≤ max_values }
+    ensures ok { OnOk result (into.new.items ≡ into.old.items ++ spelling bool_code values.now) }
+    ensures memory { OnErr result (into.new.items ≡ into.old.items) }
+{
+    encode_into(values, into)
+}
+
+/// Appends the bytes of at most 1,000 INT32 values. After `Memory` the list is as it was.
+pub fn encode_i32_into(values: &[i32], into: &mut Vec<u8>) -> Result<(), Memory>
+    requires { length values.now ≤ max_values }
+    ensures ok { OnOk result (into.new.items ≡ into.old.items ++ spelling zigzag values.now) }
+    ensures memory { OnErr result (into.new.items ≡ into.old.items) }
+{
+    encode_into(values, into)
+}
+
+/// Appends the bytes of at most 1,000 INT64 values. After `Memory` the list is as it was.
+pub fn encode_i64_into(values: &[i64], into: &mut Vec<u8>) -> Result<(), Memory>
+    requires { length values.now ≤ max_values }
+    ensures ok { OnOk result (into.new.items ≡ into.old.items ++ spelling zigzag values.now) }
+    ensures memory { OnErr result (into.new.items ≡ into.old.items) }
+{
+    encode_into(values, into)
+}
+
+/// The bytes of at most 1,000 BOOLEAN values.
+pub fn encode_bool(alloc: Global, values: &[bool]) -> Result<Vec<u8>, Memory>
+    requires { length values.now ≤ max_values }
+    ensures { IfOk result (λ bytes. bytes.items ≡ spelling bool_code values.now) }
+{
+    let mut bytes = Vec::new(alloc);
+    encode_bool_into(values, &mut bytes)?;
+    Ok(bytes)
+}
+
+/// The bytes of at most 1,000 INT32 values.
+pub fn encode_i32(alloc: Global, values: &[i32]) -> Result<Vec<u8>, Memory>
+    requires { length values.now ≤ max_values }
+    ensures { IfOk result (λ bytes. bytes.items ≡ spelling zigzag values.now) }
+{
+    let mut bytes = Vec::new(alloc);
+    encode_i32_into(values, &mut bytes)?;
+    Ok(bytes)
+}
+
+/// The bytes of at most 1,000 INT64 values.
+pub fn encode_i64(alloc: Global, values: &[i64]) -> Result<Vec<u8>, Memory>
+    requires { length values.now ≤ max_values }
+    ensures { IfOk result (λ bytes. bytes.items ≡ spelling zigzag values.now) }
+{
+    let mut bytes = Vec::new(alloc);
+    encode_i64_into(values, &mut bytes)?;
+    Ok(bytes)
+}
+
+fn encode_into<T: Coded>(values: &[T], into: &mut Vec<u8>) -> Result<(), Memory>
+    ensures ok { OnOk result (into.new.items ≡ into.old.items ++ spelling T.code_of values.now) }
+    ensures memory { OnErr result (into.new.items ≡ into.old.items) }
+{
+    let start = into.len();
+    let outcome = append(values, into);
+    if outcome.is_err() {
+        into.truncate(start);
+    }
+    outcome
+}
+
+/// Appends the bytes. After `Memory` some of them may stand behind what was there.
+#[tactic(auto, using(std::proofs::lemmas::Grind::common_steps))]
+fn append<T: Coded>(values: &[T], into: &mut Vec<u8>) -> Result<(), Memory>
+    ensures ok { OnOk result (into.new.items ≡ into.old.items ++ spelling T.code_of values.now) }
+    ensures kept { take (vec_len into.old) into.new.items ≡ into.old.items }
+{
+    put_leb(values.len() as u64, into)?;
+    let mut count: u64 = 0;
+    let mut last: u64 = 0;
+    for value in values {
+        let code = value.code();
+        if count > 0 && code != last {
+            put_run(count, last, into)?;
+            count = 0;
+        }
+        last = code;
+        count += 1;
+    }
+    if count > 0 {
+        put_run(count, last, into)?;
+    }
+    Ok(())
+}
+
+/// Appends a run's length and code.
+#[tactic(auto, using(std::proofs::lemmas::Grind::common_steps))]
+fn put_run(count: u64, code: u64, into: &mut Vec<u8>) -> Result<(), Memory>
+    ensures ok { OnOk result (into.new.items ≡ into.old.items ++ (leb count ++ leb code)) }
+    ensures kept { take (vec_len into.old) into.new.items ≡ into.old.items }
+{
+    put_leb(count, into)?;
+    put_leb(code, into)?;
+    Ok(())
+}
