@@ -2,6 +2,8 @@ pub mod Apply
 pub mod Commands
 pub mod Folds
 pub mod History
+pub mod Kept
+pub mod Laws
 pub mod Limits
 pub mod State
 pub mod World

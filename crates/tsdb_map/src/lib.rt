@@ -2,8 +2,22 @@
 //! replies. Depends on tsdb_base and tsdb_path.
 #![tactic(auto)]
 
+mod catalog;
 mod command;
+mod fold;
+mod laws;
+mod literal;
+mod plain;
 mod reply;
+mod row;
+mod rows;
+mod select;
+mod series;
 
 pub use command::{Cell, Command, Item, Literal, Row, Schema};
+pub use laws::{
+    deletion_keeps_the_rest, deletion_removes_its_range, last_write_wins, other_values_stay,
+    refused_insert_changes_nothing,
+};
+pub use plain::Plain;
 pub use reply::{FileLine, Line, Listing, Reply};

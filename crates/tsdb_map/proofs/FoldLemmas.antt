@@ -1,0 +1,84 @@
+-- Aggregates of a list of points, as a walk along it finds them.
+use Rattle.std.proofs.Common.{◌≡◌, ℕ, suc, ◌+◌, ◌-◌, ℤ, Bool, true, false, List, [], ◌∷◌, ◌++◌, map, length, Option, None, Some, refl, sym, ap, ◌∙◌, arith}
+use Rattle.std.specs.Prelude.{slice_get, option_map, MatchOption}
+use Rattle.std.specs.List.{fold, reduce, filter_map, cons_option}
+use Rattle.std.specs.Map.Iter.{TakesFirst, TakesLast, deref_pair}
+use Rattle.std.proofs.lemmas.List.{length-append, map-append}
+use Rattle.std.specs.FinMap.{entries}
+use denote.Bor.{Bor}
+use Rattle.tsdb_base.specs.declared.answers.Aggregate.{Aggregate}
+use Rattle.tsdb_base.specs.declared.point.Point.{Point}
+use Rattle.tsdb_base.specs.declared.value.Value.{Value}
+use Rattle.tsdb_map.specs.World.{Points}
+use Rattle.tsdb_map.specs.Folds.{aggregate_of, if_number, in_order, number_of, numbers}
+use Rattle.tsdb_map.specs.Kept.{better, listed}
+
+abbrev Seen : Type 0
+Seen = Bor ℤ × Bor Value
+
+abbrev Choose : Type 0
+Choose = Value → Value → Value
+
+fold-push : (f : Choose) (a : Value) (xs : List Value) (x : Value) → fold f a (xs ++ x ∷ []) ≡ f (fold f a xs) x
+fold-push f a [] x = refl
+fold-push f a (y ∷ xs) x = fold-push f (f a y) xs x
+
+-- one more number
+reduce-push : (f : Choose) (xs : List Value) (n : Option ℤ) (x : Value) → reduce f (xs ++ filter_map (λ y. if_number n y) (x ∷ [])) ≡ better f n (reduce f xs) x
+reduce-push f [] None x = refl
+reduce-push f [] (Some n) x = refl
+reduce-push f (y ∷ xs) None x = ap (λ l. reduce f (y ∷ l)) (append-none xs)
+  where
+    append-none : (xs : List Value) → xs ++ [] ≡ xs
+    append-none [] = refl
+    append-none (x ∷ xs) = ap (λ l. x ∷ l) (append-none xs)
+reduce-push f (y ∷ xs) (Some n) x = ap Some (fold-push f y xs x)
+
+cons-append : (o : Option Value) (xs ys : List Value) → cons_option o (xs ++ ys) ≡ cons_option o xs ++ ys
+cons-append None xs ys = refl
+cons-append (Some x) xs ys = refl
+
+filter_map-append : (h : Point → Option Value) (xs ys : List Point) → filter_map h (xs ++ ys) ≡ filter_map h xs ++ filter_map h ys
+filter_map-append h [] ys = refl
+filter_map-append h (x ∷ xs) ys = ap (cons_option (h x)) (filter_map-append h xs ys) ∙ cons-append (h x) (filter_map h xs) (filter_map h ys)
+
+pub reduce-more : (f : Choose) (xs : List Seen) (x : Seen)
+    → reduce f (numbers (listed (map deref_pair (xs ++ x ∷ [])))) ≡ better f (number_of x.1.now) (reduce f (numbers (listed (map deref_pair xs)))) x.1.now
+reduce-more f xs x =
+    ap (λ (l : List (ℤ × Value)). reduce f (numbers (listed l))) (map-append deref_pair xs (x ∷ []))
+    ∙ ap (λ l. reduce f (numbers l)) (map-append (λ (e : ℤ × Value). record { time = e.0; value = e.1 }) (map deref_pair xs) (map deref_pair (x ∷ [])))
+    ∙ ap (reduce f) (filter_map-append (λ (p : Point). if_number (number_of p.value) p.value) (listed (map deref_pair xs)) (listed (map deref_pair (x ∷ []))))
+    ∙ reduce-push f (numbers (listed (map deref_pair xs))) (number_of x.1.now) x.1.now
+
+-- the first point, and the last
+pub first_of : (g : ℤ → Value → Value) (s t : List (ℤ × Value)) (r : Option Seen) → TakesFirst deref_pair s r t
+    → option_map (λ p. g p.0.now p.1.now) r ≡ option_map (λ (p : Point). g p.time p.value) (slice_get (listed s) 0)
+first_of g s t None h = sym (ap (λ (s : List (ℤ × Value)). option_map (λ (p : Point). g p.time p.value) (slice_get (listed s) 0)) h.0)
+first_of g s t (Some x) h = sym (ap (λ (s : List (ℤ × Value)). option_map (λ (p : Point). g p.time p.value) (slice_get (listed s) 0)) h)
+
+at_end : (xs : List Point) (x : Point) → slice_get (xs ++ x ∷ []) (length xs) ≡ Some x
+at_end [] x = refl
+at_end (y ∷ xs) x = at_end xs x
+
+last_point : (xs : List Point) (x : Point) → slice_get (xs ++ x ∷ []) (length (xs ++ x ∷ []) - 1) ≡ Some x
+last_point xs x = ap (slice_get (xs ++ x ∷ [])) (one_less (length (xs ++ x ∷ [])) (length xs) (length-append xs (x ∷ []))) ∙ at_end xs x
+  where
+    one_less : (n m : ℕ) → n ≡ m + 1 → n - 1 ≡ m
+    one_less n m e = omega arith
+
+pub last_of : (g : ℤ → Value → Value) (s t : List (ℤ × Value)) (r : Option Seen) → TakesLast deref_pair s r t
+    → option_map (λ p. g p.0.now p.1.now) r ≡ option_map (λ (p : Point). g p.time p.value) (slice_get (listed s) (length (listed s) - 1))
+last_of g s t None h =
+    sym (ap (λ (s : List (ℤ × Value)). option_map (λ (p : Point). g p.time p.value) (slice_get (listed s) (length (listed s) - 1))) h.0)
+last_of g s t (Some x) h =
+    sym (ap (λ (s : List (ℤ × Value)). option_map (λ (p : Point). g p.time p.value) (slice_get (listed s) (length (listed s) - 1))) h
+    ∙ ap (λ (l : List Point). option_map (λ (p : Point). g p.time p.value) (slice_get l (length l - 1))) (map-append (λ (e : ℤ × Value). record { time = e.0; value = e.1 }) t (deref_pair x ∷ []))
+    ∙ ap (option_map (λ (p : Point). g p.time p.value)) (last_point (listed t) (record { time = x.0.now; value = x.1.now })))
+
+pub length-listed : (es : List (ℤ × Value)) → length (listed es) ≡ length es
+length-listed [] = refl
+length-listed (e ∷ es) = ap (λ n. suc n) (length-listed es)
+
+-- the aggregate of the points that were walked
+pub of_range : (a b : Aggregate) (es : List (ℤ × Value)) (p : Points) → a ≡ b → es ≡ entries p → aggregate_of b (listed es) ≡ aggregate_of a (in_order p)
+of_range a b es p is same = ap (λ a. aggregate_of a (listed es)) (sym is) ∙ ap (λ (es : List (ℤ × Value)). aggregate_of a (listed es)) same

@@ -1,0 +1,7 @@
+pub mod FoldLemmas
+pub mod LawLemmas
+pub mod PlainLemmas
+pub mod PointLemmas
+pub mod RowLemmas
+pub mod TimeLemmas
+pub mod WorldLemmas

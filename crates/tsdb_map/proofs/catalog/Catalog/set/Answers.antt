@@ -1,0 +1,62 @@
+use Rattle.std.proofs.Common.{◌≡◌, ◌⊎◌, ap, sym, ◌∙◌, subst, is_some, w64, to_z, of_z, Some}
+use Rattle.std.proofs.lemmas.Int.{to_z-of_z}
+use Rattle.std.proofs.lemmas.Result.{IfOk-weaker, on_err_weaker, on_ok_weaker}
+use Rattle.std.specs.Prelude.{IsNone, IsSome}
+use Rattle.std.specs.FinMap.{get, insert}
+use Rattle.std.specs.Option.{option_copied_mut}
+use Rattle.tsdb_map.specs.World.{cut, points_of}
+use Rattle.tsdb_map.specs.Kept.{set_at}
+use Rattle.tsdb_map.proofs.WorldLemmas.{change-there, dotless-same, get-world, in_names, insert-same, IsDotless-name, kept-found, kept-set, nothing, world-set}
+use Rattle.tsdb_path.specs.Nodes.{child_of}
+use Rattle.tsdb_map.proofs.catalog.Catalog.set.Goals as goal
+
+pub returns-in_default : goal.returns-in_default
+returns-in_default c =
+    nothing _ c.requires
+    (get-world c.self.inside.devices _ c.self.invariant c.self.view_is c.args.device.now c.args.name.now (IsDotless-name _ c.bytes.ensures.name)
+    ∙ ap (λ o. in_names o c.args.name.now) (sym c.get_mut.ensures.value ∙ ap option_copied_mut c.in_default.is))
+
+pub invariant_of-self-in_default-get_mut : goal.invariant_of-self-in_default-get_mut
+invariant_of-self-in_default-get_mut c =
+    nothing _ c.requires
+    (get-world c.self.inside.devices _ c.self.invariant c.self.view_is c.args.device.now c.args.name.now (IsDotless-name _ c.bytes.ensures.name)
+    ∙ ap (λ o. in_names o c.args.name.now) (sym c.get_mut.ensures.value ∙ ap option_copied_mut c.in-Some.is)
+    ∙ (sym c.get_mut-2.ensures.value ∙ ap option_copied_mut c.in_default-get_mut.is))
+
+pub returns-in_default-get_mut : goal.returns-in_default-get_mut
+returns-in_default-get_mut c =
+    nothing _ c.requires
+    (get-world c.self.inside.devices _ c.self.invariant c.self.view_is c.args.device.now c.args.name.now (IsDotless-name _ c.bytes.ensures.name)
+    ∙ ap (λ o. in_names o c.args.name.now) (sym c.get_mut.ensures.value ∙ ap option_copied_mut c.in-Some.is)
+    ∙ (sym c.get_mut-2.ensures.value ∙ ap option_copied_mut c.in_default-get_mut.is))
+
+pub invariant_of-self-2 : goal.invariant_of-self-2
+invariant_of-self-2 c =
+    let found = sym c.get_mut.ensures.value ∙ ap option_copied_mut c.in-Some.is in
+    let outer = c.get_mut.follows.holds (c.get_mut-2.follows.lender c.set.new.self) in
+    let inner = c.get_mut-2.follows.holds c.set.new.self in
+    kept-set c.self.inside.devices (c.get_mut.follows.lender (c.get_mut-2.follows.lender c.set.new.self)) c.self.invariant c.args.device.now (c.get_mut-2.follows.lender c.set.new.self) outer.0 outer.4
+    (dotless-same c.in-Some.names.now (c.get_mut-2.follows.lender c.set.new.self) (kept-found c.self.inside.devices c.self.invariant c.args.device.now c.in-Some.names.now found) inner.1)
+
+pub returns : goal.returns
+returns c =
+    let world = c.args.self.now in
+    let path = child_of c.args.device.now c.args.name.now in
+    let dotless = IsDotless-name _ c.bytes.ensures.name in
+    let found = sym c.get_mut.ensures.value ∙ ap option_copied_mut c.in-Some.is in
+    let series = sym c.get_mut-2.ensures.value ∙ ap option_copied_mut c.in-Some-get_mut.is in
+    let there : get world path ≡ Some c.in-Some-get_mut.series.now =
+    get-world c.self.inside.devices _ c.self.invariant c.self.view_is c.args.device.now c.args.name.now dotless ∙ ap (λ o. in_names o c.args.name.now) found ∙ series in
+    let outer = c.get_mut.follows.holds (c.get_mut-2.follows.lender c.set.new.self) in
+    let inner = c.get_mut-2.follows.holds c.set.new.self in
+    let time : to_z w64 (of_z w64 c.args.time) ≡ c.args.time = to_z-of_z w64 c.args.time c.ranges.time in
+    let after = world-set c.self.inside.devices (c.get_mut.follows.lender (c.get_mut-2.follows.lender c.set.new.self)) world c.self.invariant c.self.view_is
+    c.args.device.now c.args.name.now dotless c.in-Some.names.now (c.get_mut-2.follows.lender c.set.new.self) c.set.new.self found ((inner.3 (ap is_some series)).0) outer.0 in
+    record {
+      set = on_ok_weaker c.set.result (λ e. after ∙ change-there world path (set_at c.args.time c.args.value) c.in-Some-get_mut.series.now c.set.new.self there
+          (e ∙ ap (λ z. set_at z c.args.value c.in-Some-get_mut.series.now) time)) c.set.ensures.set;
+      old = IfOk-weaker c.set.result _ _ (λ old e. e ∙ ap (get c.in-Some-get_mut.series.now.points) time ∙ sym (ap (λ o. get (points_of o) c.args.time) there)) c.set.ensures.old;
+      memory = on_err_weaker c.set.result (λ e. after ∙ ap (insert world path) e ∙ insert-same world path c.in-Some-get_mut.series.now there) c.set.ensures.memory;
+      fits = λ h. c.set.ensures.fits (subst (λ o. IsNone c.args.value ⊎ IsSome o)
+          (ap (λ o. get (points_of o) c.args.time) there ∙ ap (get c.in-Some-get_mut.series.now.points) (sym time)) h);
+    }

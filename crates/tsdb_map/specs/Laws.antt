@@ -1,0 +1,9 @@
+-- What the laws of the plain model speak of.
+use Rattle.std.specs.Prelude.{◌≡◌, ◌⊎◌, ℕ, List, [], ◌∷◌}
+use Rattle.tsdb_map.specs.declared.command.Cell.{Cell}
+use Rattle.tsdb_path.specs.Nodes.{child_of}
+
+-- a path is that of one of the cells
+abbrev pub IsNamed : List ℕ → List Cell → List ℕ → Type 0
+IsNamed device [] path = ⊥
+IsNamed device (cell ∷ cells) path = (path ≡ child_of device cell.measurement) ⊎ IsNamed device cells path

@@ -1,0 +1,117 @@
+//! What a select returns: rows, or aggregates. Depends on `catalog` and `rows`.
+ghost use Rattle.std.specs.Prelude.{◌≡◌, IfOk, IfSome, IfNone, map, if◌then◌else◌, true, false};
+ghost use Rattle.tsdb_map.specs.declared.reply.Reply.{Reply};
+ghost use Rattle.tsdb_base.specs.declared.answers.Answer.{Answer};
+ghost use Rattle.tsdb_map.specs.Apply as apply;
+ghost use Rattle.tsdb_map.specs.World.{points_of};
+ghost use Rattle.tsdb_map.specs.Folds.{within};
+ghost use Rattle.tsdb_map.specs.Kept.{is_number_aggregate};
+
+use crate::catalog::Catalog;
+use crate::command::Item;
+use crate::reply::Reply;
+use crate::rows::rows;
+use crate::series::Series;
+use std::alloc::Global;
+use tsdb_base::{Aggregate, Answer, DataType, List, Memory, Range, Value};
+use tsdb_path::Path;
+
+/// The rows, or the aggregates, of items over the range.
+pub fn select(
+    alloc: Global,
+    catalog: &Catalog,
+    device: &Path,
+    items: &[Item],
+    range: &Range,
+) -> Result<Reply, Memory>
+    ensures { IfOk result (λ reply. reply ≡ apply.select_reply catalog.now device.now items.now range.now) }
+{
+    let Some(columns) = find_columns(alloc, catalog, device, items)? else {
+        return Ok(Reply::Plain(Answer::NoPath));
+    };
+    if ask_aggregates(items) {
+        return aggregates(alloc, catalog, device, items, range);
+    }
+    let lines = rows(alloc, columns.as_slice(), range)?;
+    Ok(Reply::Lines(List::of(lines)))
+}
+
+/// Whether an item asks for an aggregate.
+fn ask_aggregates(items: &[Item]) -> bool
+    ensures { result ≡ apply.ask_aggregates items.now }
+{
+    for item in items {
+        if item.aggregate.is_some() {
+            return true;
+        }
+    }
+    false
+}
+
+/// The series of the items, where all of them are there.
+fn find_columns<'a>(
+    alloc: Global,
+    catalog: &'a Catalog,
+    device: &Path,
+    items: &[Item],
+) -> Result<Option<Vec<&'a Series>>, Memory>
+    ensures none { IfOk result (λ found. IfNone found (apply.are_there catalog.now device.now (map (λ item. item.measurement) items.now) ≡ false)) }
+    ensures there { IfOk result (λ found. IfSome found (λ columns. apply.are_there catalog.now device.now (map (λ item. item.measurement) items.now) ≡ true)) }
+    ensures columns { IfOk result (λ found. IfSome found (λ columns. map (λ column. column.now.points) columns.items
+        ≡ map (λ item. points_of (apply.series_of catalog.now device.now item.measurement)) items.now)) }
+{
+    let mut columns = Vec::with_capacity(alloc, items.len())?;
+    for item in items {
+        let Some(series) = catalog.get(device, &item.measurement) else {
+            return Ok(None);
+        };
+        columns.push(series)?;
+    }
+    Ok(Some(columns))
+}
+
+/// The aggregates of the items, whose series are all there.
+fn aggregates(
+    alloc: Global,
+    catalog: &Catalog,
+    device: &Path,
+    items: &[Item],
+    range: &Range,
+) -> Result<Reply, Memory>
+    requires { apply.are_there catalog.now device.now (map (λ item. item.measurement) items.now) ≡ true }
+    ensures { IfOk result (λ reply. reply ≡ (if apply.any_unfit catalog.now device.now items.now then Reply.Plain Answer.WrongType else Reply.Values (apply.item_values catalog.now device.now items.now range.now))) }
+{
+    let mut values = Vec::with_capacity(alloc, items.len())?;
+    for item in items {
+        let Some(series) = catalog.get(device, &item.measurement) else {
+            return Ok(Reply::Plain(Answer::NoPath));
+        };
+        if is_unfit(item.aggregate, series.data_type()) {
+            return Ok(Reply::Plain(Answer::WrongType));
+        }
+        values.push(item_value(item.aggregate, series, range)?)?;
+    }
+    Ok(Reply::Values(List::of(values)))
+}
+
+/// The least or the greatest value is asked of a series that has no numbers.
+fn is_unfit(aggregate: Option<Aggregate>, data_type: DataType) -> bool
+    ensures { result ≡ (if is_number_aggregate aggregate then apply.is_unordered data_type else false) }
+{
+    matches!(aggregate, Some(Aggregate::MinValue | Aggregate::MaxValue))
+        && matches!(data_type, DataType::Boolean | DataType::Text)
+}
+
+/// The aggregate that an item asks for, over the points in the range.
+fn item_value(
+    aggregate: Option<Aggregate>,
+    series: &Series,
+    range: &Range,
+) -> Result<Option<Value>, Memory>
+    ensures { IfOk result (λ value. value ≡ apply.item_value aggregate (within range.now series.now.points)) }
+{
+    match aggregate {
+        None => Ok(None),
+        Some(aggregate) => series.aggregate(aggregate, range),
+    }
+}
