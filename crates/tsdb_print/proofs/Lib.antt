@@ -1,0 +1,5 @@
+pub mod Pieces
+pub mod Words
+pub mod Cells
+pub mod Listings
+pub mod Replies

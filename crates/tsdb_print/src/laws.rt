@@ -1,0 +1,19 @@
+//! Laws of the definitions that printing rests on. The functions do nothing; their contracts are the laws.
+ghost use Rattle.std.specs.Prelude.{◌≡◌};
+ghost use Rattle.tsdb_map.specs.Commands.{IsWellFormed};
+ghost use Rattle.tsdb_map.specs.History.{IsAllowed};
+ghost use Rattle.tsdb_map.specs.State.{State};
+ghost use Rattle.tsdb_map.specs.declared.command.Command.{Command};
+ghost use Rattle.tsdb_map.specs.declared.reply.Reply.{Reply};
+ghost use Rattle.tsdb_print.specs.Alike.{IsInRange, shown};
+ghost use Rattle.tsdb_print.specs.Text.{reply_text};
+
+/// Two replies that a command may have, each in some state, print alike exactly where they show the same. They show
+/// the same where they are the same but for the counter of `full`, the width of whole numbers, and the order of
+/// files of different spaces in a listing.
+pub fn replies_that_print_alike()
+    ensures apart { (command : Command) (a b : Reply) (state other : State) → IsWellFormed command
+        → IsAllowed state command a → IsAllowed other command b → IsInRange a → IsInRange b
+        → reply_text command a ≡ reply_text command b → shown a ≡ shown b }
+    ensures alike { (command : Command) (a b : Reply) → shown a ≡ shown b → reply_text command a ≡ reply_text command b }
+{}

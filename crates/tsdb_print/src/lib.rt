@@ -1,0 +1,16 @@
+//! The text of the output: replies, the headings of sessions, and the order of the commands. Depends on tsdb_base,
+//! tsdb_path and tsdb_map.
+#![tactic(auto)]
+
+mod append;
+mod laws;
+mod listing;
+mod order;
+mod reply;
+
+pub use laws::replies_that_print_alike;
+pub use order::{print_order, print_session};
+pub use reply::print_reply;
+
+#[cfg(test)]
+mod tests;
