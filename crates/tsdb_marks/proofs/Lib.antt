@@ -1,0 +1,5 @@
+pub mod Order
+pub mod TopLemmas
+pub mod IndexLemmas
+pub mod PointLemmas
+pub mod KeptLemmas

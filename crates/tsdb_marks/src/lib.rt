@@ -1,0 +1,11 @@
+//! Deletion marks, and which points of files and frozen pairs they cover. It depends on `tsdb_base` and `tsdb_path`.
+#![tactic(auto)]
+
+mod index;
+mod marks;
+mod stretches;
+
+pub use marks::{Mark, Marks};
+
+#[cfg(test)]
+mod tests;

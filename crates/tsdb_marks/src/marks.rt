@@ -1,0 +1,182 @@
+//! The deletion marks of a store, in the order of their versions. It depends on `index`.
+ghost use Rattle.std.specs.Prelude.{◌≡◌, ℕ, ℤ, ◌+◌, ◌<◌, ◌≤◌, ◌≤ℤ◌, ◌↔◌, List, [], ◌∷◌, ◌++◌, IsTrue, IfOk, IfErr, OnOk};
+ghost use Rattle.std.specs.List.{All, filter};
+ghost use Rattle.tsdb_marks.specs.Moments.{moment as moment_of};
+ghost use Rattle.tsdb_marks.specs.Survival.{Survives, Meets};
+ghost use Rattle.tsdb_marks.specs.Lists.{is_of, purged};
+ghost use Rattle.tsdb_marks.specs.Index.{HasRoom};
+ghost use Rattle.tsdb_marks.specs.Kept.{HasTimes, IsIndexOf};
+
+use crate::index::Index;
+use crate::stretches::Stretch;
+use std::alloc::Global;
+use std::marker::Model;
+use tsdb_base::{Memory, Range, Stamp, Time};
+use tsdb_path::Path;
+
+/// The points of a series from `from` to `to`, both included, are deleted, in whatever is older than the version. It
+/// marks nothing where `from` is greater than `to`.
+#[derive(Drop)]
+pub struct Mark {
+    pub path: Path,
+    pub from: Time,
+    pub to: Time,
+    pub version: Stamp,
+}
+
+impl Mark {
+    /// The same mark once more.
+    pub fn copy(&self) -> Result<Mark, Memory>
+        ensures { IfOk result (λ copy. copy ≡ self.now) }
+    {
+        let Ok(path) = self.path.copy() else {
+            return Err(Memory);
+        };
+        Ok(Mark {
+            path,
+            from: self.from,
+            to: self.to,
+            version: self.version,
+        })
+    }
+}
+
+/// Deletion marks, in the order of their versions, with places for more. A contract sees the list of the marks and
+/// the number of spare places.
+#[derive(Drop)]
+pub struct Marks {
+    marks: Vec<Mark>,
+    index: Index,
+    spare: usize,
+}
+
+impl Model for Marks {
+    ghost use Rattle.tsdb_marks.specs.Lists.{Marks};
+
+    ghost Value = { Marks };
+
+    ghost use Rattle.tsdb_marks.specs.Kept.{IsKept, shown};
+
+    ghost view = { shown };
+
+    ghost invariant = { IsKept };
+}
+
+/// How far the time is from the least one.
+fn moment(time: Time) -> u64
+    ensures { result ≡ moment_of time }
+{
+    time.abs_diff(Time::MIN)
+}
+
+/// Adds a mark to the index.
+fn lay(index: &mut Index, mark: &Mark)
+    requires { HasRoom index.old 1 }
+    ensures times { HasTimes mark.now }
+    ensures exact { (marks : List Mark) → IsIndexOf marks index.old → All (λ kept. kept.version.0 < mark.now.version.0) marks → IsIndexOf (marks ++ mark.now ∷ []) index.new }
+    ensures room { (n : ℕ) → HasRoom index.old (n + 1) → HasRoom index.new n }
+{
+    let (from, to) = (mark.from, mark.to);
+    if to < from {
+        return;
+    }
+    let stretch = Stretch {
+        from: moment(from),
+        to: moment(to),
+        version: mark.version.0,
+    };
+    index.add(&mark.path, stretch);
+}
+
+impl Marks {
+    /// No mark, and no spare place.
+    pub fn new(alloc: Global) -> Marks
+        ensures { result ≡ record { marks = []; spare = 0 } }
+    {
+        Marks {
+            marks: Vec::new(alloc),
+            index: Index::new(alloc),
+            spare: 0,
+        }
+    }
+
+    /// The marks, in the order of their versions.
+    pub fn marks(&self) -> &[Mark]
+        ensures { result.now ≡ self.now.marks }
+    {
+        self.marks.as_slice()
+    }
+
+    /// Makes one more spare place.
+    pub fn reserve(&mut self) -> Result<(), Memory>
+        ensures marks { self.new.marks ≡ self.old.marks }
+        ensures ok { OnOk result (self.new.spare ≡ self.old.spare + 1) }
+        ensures err { IfErr result (λ _. self.new.spare ≡ self.old.spare) }
+    {
+        self.marks.reserve(self.spare + 1)?;
+        self.index.reserve(self.spare + 1)?;
+        self.spare += 1;
+        Ok(())
+    }
+
+    /// Adds a mark, with a version greater than all. It takes no memory.
+    pub fn add(&mut self, mark: Mark)
+        requires spare { 0 < self.old.spare }
+        requires newer { All (λ kept. kept.version.0 < mark.version.0) self.old.marks }
+        ensures marks { self.new.marks ≡ self.old.marks ++ mark ∷ [] }
+        ensures spare { self.new.spare + 1 ≡ self.old.spare }
+    {
+        self.spare -= 1;
+        lay(&mut self.index, &mark);
+        let Ok(()) = self.marks.push(mark) else {
+            unreachable!()
+        };
+    }
+
+    /// Whether no mark covers the point: none that is newer than `born` marks this time of the series. It takes no
+    /// memory.
+    pub fn survives(&self, series: &Path, time: Time, born: Stamp) -> bool
+        ensures { IsTrue result ↔ Survives self.now.marks series.now time born.0 }
+    {
+        let at = moment(time);
+        !self.index.meets(series, at, at, born.0)
+    }
+
+    /// Whether a mark covers a point of the series at some time of the range. It takes no memory.
+    pub fn meets(&self, series: &Path, range: &Range, born: Stamp) -> bool
+        ensures { IsTrue result ↔ Meets self.now.marks series.now range.now born.0 }
+    {
+        range.from <= range.to
+            && self
+                .index
+                .meets(series, moment(range.from), moment(range.to), born.0)
+    }
+
+    /// Drops every mark whose version is at most `min_born`, and all marks where there is none. It takes no memory.
+    pub fn purge(&mut self, min_born: Option<Stamp>)
+        ensures marks { self.new.marks ≡ purged min_born self.old.marks }
+        ensures spare { self.new.spare ≡ self.old.spare }
+    {
+        let Some(Stamp(version)) = min_born else {
+            self.marks.clear();
+            self.index.clear();
+            return;
+        };
+        self.marks.retain(|mark| mark.version.0 > version);
+        self.index.keep_newer(version);
+    }
+
+    /// The marks of these series alone, in their order.
+    pub fn only(&self, series: &[Path]) -> Result<Marks, Memory>
+        ensures { IfOk result (λ only. only.marks ≡ filter (is_of series.now) self.now.marks) }
+    {
+        let mut only = Marks::new(*self.marks.allocator());
+        for mark in &self.marks {
+            if series.contains(&mark.path) {
+                only.reserve()?;
+                only.add(mark.copy()?);
+            }
+        }
+        Ok(only)
+    }
+}
