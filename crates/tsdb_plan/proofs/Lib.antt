@@ -1,0 +1,6 @@
+pub mod CrossSteps
+pub mod Hulls
+pub mod ListFacts
+pub mod PlaceLemmas
+pub mod Rows
+pub mod Walk

@@ -1,0 +1,105 @@
+-- First and last places of two properties together.
+use Rattle.std.proofs.Common.{◌≡◌, ℕ, ◌+◌, ◌-◌, ◌<◌, ◌≤◌, min, max, List, length, take, drop, get_or, ◌⊎◌, ⊎_elim, sym, ap, ◌∙◌, subst, arith}
+use Rattle.std.proofs.lemmas.Bool.{cases_lt}
+use Rattle.std.proofs.lemmas.List.{get_or-take, get_or-drop, length-take-le, length-drop}
+use Rattle.tsdb_plan.specs.Places.{IsFirstPlace, IsPastLast}
+
+-- the same property told in other words
+pub IsFirstPlace-same : {X : Type 0} (P Q : X → Type 0) → ((x : X) → P x → Q x) → ((x : X) → Q x → P x) → (xs : List X) (i : ℕ) → IsFirstPlace P xs i → IsFirstPlace Q xs i
+IsFirstPlace-same P Q f g xs i h = record {
+  within = h.within;
+  none_before = λ k d low high q. h.none_before k d low high (g (get_or xs k d) q);
+  there = λ l d. f (get_or xs i d) (h.there l d);
+}
+
+pub IsPastLast-same : {X : Type 0} (P Q : X → Type 0) → ((x : X) → P x → Q x) → ((x : X) → Q x → P x) → (xs : List X) (i : ℕ) → IsPastLast P xs i → IsPastLast Q xs i
+IsPastLast-same P Q f g xs i h = record {
+  within = h.within;
+  none_behind = λ k d low high q. h.none_behind k d low high (g (get_or xs k d) q);
+  there = λ l d. f (get_or xs (i - 1) d) (h.there l d);
+}
+
+-- there is one such place alone
+pub IsFirstPlace-one : {X : Type 0} (P : X → Type 0) (xs : List X) (d : X) (i k : ℕ) → IsFirstPlace P xs i → IsFirstPlace P xs k → i ≤ k
+IsFirstPlace-one P xs d i k h g =
+    ⊎_elim
+    (λ (l : k < i). let m : k < length xs = omega (arith, h.within) in absurd (h.none_before k d (omega arith) l (g.there m d)))
+    (λ (l : i ≤ k). l)
+    (cases_lt k i)
+
+pub IsPastLast-one : {X : Type 0} (P : X → Type 0) (xs : List X) (d : X) (i k : ℕ) → IsPastLast P xs i → IsPastLast P xs k → i ≤ k
+IsPastLast-one P xs d i k h g =
+    ⊎_elim
+    (λ (l : k < i). let some : 0 < i = omega arith in absurd (g.none_behind (i - 1) d (omega arith) (omega (arith, h.within)) (h.there some d)))
+    (λ (l : i ≤ k). l)
+    (cases_lt k i)
+
+-- the first place of either is the lesser of both
+pub IsFirstPlace-either : {X : Type 0} (P Q R : X → Type 0) → ((x : X) → R x → P x ⊎ Q x) → ((x : X) → P x → R x) → ((x : X) → Q x → R x) → (xs : List X) (i k : ℕ) → IsFirstPlace P xs i → IsFirstPlace Q xs k → IsFirstPlace R xs (min i k)
+IsFirstPlace-either P Q R which f g xs i k h m = record {
+  within = omega (arith, h.within);
+  none_before = λ j d low high r. ⊎_elim (λ p. h.none_before j d low (omega arith) p) (λ q. m.none_before j d low (omega arith) q) (which (get_or xs j d) r);
+  there = λ l d. ⊎_elim
+      (λ (less : i < k). let e : min i k ≡ i = omega arith in subst (λ n. R (get_or xs n d)) (sym e) (f (get_or xs i d) (h.there (omega arith) d)))
+      (λ (more : k ≤ i). let e : min i k ≡ k = omega arith in subst (λ n. R (get_or xs n d)) (sym e) (g (get_or xs k d) (m.there (omega arith) d)))
+      (cases_lt i k);
+}
+
+pub IsPastLast-either : {X : Type 0} (P Q R : X → Type 0) → ((x : X) → R x → P x ⊎ Q x) → ((x : X) → P x → R x) → ((x : X) → Q x → R x) → (xs : List X) (i k : ℕ) → IsPastLast P xs i → IsPastLast Q xs k → IsPastLast R xs (max i k)
+IsPastLast-either P Q R which f g xs i k h m = record {
+  within = omega (arith, h.within, m.within);
+  none_behind = λ j d low high r. ⊎_elim (λ p. h.none_behind j d (omega arith) high p) (λ q. m.none_behind j d (omega arith) high q) (which (get_or xs j d) r);
+  there = λ l d. ⊎_elim
+      (λ (less : i < k). let e : max i k ≡ k = omega arith in subst (λ n. R (get_or xs (n - 1) d)) (sym e) (g (get_or xs (k - 1) d) (m.there (omega arith) d)))
+      (λ (more : k ≤ i). let e : max i k ≡ i = omega arith in subst (λ n. R (get_or xs (n - 1) d)) (sym e) (f (get_or xs (i - 1) d) (h.there (omega arith) d)))
+      (cases_lt i k);
+}
+
+-- a property that nothing has
+pub IsFirstPlace-none : {X : Type 0} (P : X → Type 0) → ((x : X) → P x → ⊥) → (xs : List X) → IsFirstPlace P xs (length xs)
+IsFirstPlace-none P never xs = record { within = omega arith; none_before = λ k d low high p. never (get_or xs k d) p; there = λ l d. absurd (omega arith) }
+
+pub IsPastLast-none : {X : Type 0} (P : X → Type 0) → ((x : X) → P x → ⊥) → (xs : List X) → IsPastLast P xs 0
+IsPastLast-none P never xs = record { within = omega arith; none_behind = λ k d low high p. never (get_or xs k d) p; there = λ l d. absurd (omega arith) }
+
+-- the first place of all, found among the items before one place alone
+pub IsFirstPlace-before : {X : Type 0} (Q : X → Type 0) (xs : List X) (i k : ℕ) → i ≤ length xs → IsFirstPlace Q (take i xs) k → k < i → IsFirstPlace Q xs k
+IsFirstPlace-before Q xs i k within h l = record {
+  within = omega arith;
+  none_before = λ j d low high q. h.none_before j d low high (subst Q (sym (get_or-take i xs j d (omega arith))) q);
+  there = λ m d. subst Q (get_or-take i xs k d l) (h.there (omega (arith, length-take-le i xs within)) d);
+}
+
+-- the lesser of a first place and of one found before it
+pub IsFirstPlace-further : {X : Type 0} (P Q R : X → Type 0) → ((x : X) → R x → P x ⊎ Q x) → ((x : X) → P x → R x) → ((x : X) → Q x → R x) → (xs : List X) (i k : ℕ) → IsFirstPlace P xs i → IsFirstPlace Q (take i xs) k → IsFirstPlace R xs k
+IsFirstPlace-further P Q R which f g xs i k h m =
+    let len : length (take i xs) ≡ i = length-take-le i xs h.within in
+    let top : k ≤ i = omega (arith, m.within) in
+    record {
+      within = omega (arith, h.within);
+      none_before = λ j d low high r. ⊎_elim
+          (λ p. h.none_before j d low (omega arith) p)
+          (λ q. m.none_before j d low high (subst Q (sym (get_or-take i xs j d (omega arith))) q))
+          (which (get_or xs j d) r);
+      there = λ l d. ⊎_elim
+          (λ (less : k < i). g (get_or xs k d) (subst Q (get_or-take i xs k d less) (m.there (omega arith) d)))
+          (λ (more : i ≤ k). let e : i ≡ k = omega arith in subst (λ n. R (get_or xs n d)) e (f (get_or xs i d) (h.there (omega arith) d)))
+          (cases_lt k i);
+    }
+
+-- the greater of one past a last place and of one found behind it
+pub IsPastLast-further : {X : Type 0} (P Q R : X → Type 0) → ((x : X) → R x → P x ⊎ Q x) → ((x : X) → P x → R x) → ((x : X) → Q x → R x) → (xs : List X) (i k : ℕ) → IsPastLast P xs i → IsPastLast Q (drop i xs) k → IsPastLast R xs (i + k)
+IsPastLast-further P Q R which f g xs i k h m =
+    let len : length (drop i xs) ≡ length xs - i = length-drop i xs in
+    let in_range : i ≤ length xs = h.within in
+    record {
+      within = omega (arith, m.within);
+      none_behind = λ j d low high r. ⊎_elim
+          (λ p. h.none_behind j d (omega arith) high p)
+          (λ q. let e : i + (j - i) ≡ j = omega arith in m.none_behind (j - i) d (omega arith) (omega arith) (subst Q (sym (get_or-drop i xs (j - i) d ∙ ap (λ n. get_or xs n d) e)) q))
+          (which (get_or xs j d) r);
+      there = λ l d. ⊎_elim
+          (λ (some : 0 < k). let e : i + (k - 1) ≡ i + k - 1 = omega arith in g (get_or xs (i + k - 1) d) (subst Q (get_or-drop i xs (k - 1) d ∙ ap (λ n. get_or xs n d) e) (m.there some d)))
+          (λ (none : k ≤ 0). let e : i ≡ i + k = omega arith in subst (λ n. R (get_or xs (n - 1) d)) e (f (get_or xs (i - 1) d) (h.there (omega arith) d)))
+          (cases_lt 0 k);
+    }
