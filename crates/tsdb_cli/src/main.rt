@@ -1,6 +1,9 @@
 //! The program `tsdb`: it hands the words of the command line, standard input and standard output to the top call,
-//! says on standard error how the run ended, and ends with its exit code. Stands on tsdb_run and fs_outside.
+//! says on standard error how the run ended, and ends with its exit code. Depends on tsdb_run and fs_outside.
 #![tactic(auto)]
+
+ghost use Rattle.std.specs.Prelude.{◌≡◌};
+ghost use Rattle.tsdb_run.specs.Status.{status_code};
 
 use fs_outside::{StdSink, StdSource};
 use std::alloc::Global;
@@ -39,11 +42,21 @@ fn start<R: Env + Input + Print + Alloc<A = Global>>(rt: &R) -> Status {
     }
 }
 
+/// Says how the run ended, and returns the exit code.
+fn report<W: Write>(alloc: Global, status: Status, err: &mut W) -> u8
+    ensures { result ≡ status_code status }
+{
+    if let Ok(text) = status.text(alloc) {
+        // Where standard error takes nothing, the exit code still tells.
+        let _ = err.write_all(&text);
+    }
+    status.code()
+}
+
 fn main(rt: HostRuntime) -> ExitCode {
     let status = start(&rt);
-    if let Ok(text) = status.text(rt.alloc()) {
-        // Where standard error takes nothing, the exit code still tells.
-        let _ = rt.stderr().write_all(&text);
-    }
-    ExitCode::from(status.code())
+    ExitCode::from(report(rt.alloc(), status, &mut rt.stderr()))
 }
+
+#[cfg(test)]
+mod tests;

@@ -8,16 +8,17 @@ use Rattle.tsdb_run.specs.declared.command.Command.{Command}
 use Rattle.tsdb_run.specs.declared.command.Numbered.{Numbered}
 use Rattle.tsdb_run.specs.declared.command.Told.{Told}
 use Rattle.tsdb_run.specs.World.{World}
-use Rattle.tsdb_run.specs.History.{commands_of, command_of, IsComplete, Answers, LeadsTo, CountsFrom, IsInLineOrder}
+use Rattle.tsdb_run.specs.History.{commands_of, command_of, IsComplete, Answers, IsLegal}
+use Rattle.tsdb_run.specs.Steps.{CountsFrom, IsInLineOrder}
 
 -- a history that leads to a world goes on by one entry
-pub LeadsTo-push : (script : List Numbered) (world middle after : World) (history : List Told) (told : Told) (command : Command)
-    → LeadsTo script world history middle → command_of script told ≡ Some command → Answers middle command told.reply after
-    → LeadsTo script world (history ++ told ∷ []) after
-LeadsTo-push script world middle after [] told command leads is answers =
+pub IsLegal-push : (script : List Numbered) (world middle after : World) (history : List Told) (told : Told) (command : Command)
+    → IsLegal script world history middle → command_of script told ≡ Some command → Answers middle command told.reply after
+    → IsLegal script world (history ++ told ∷ []) after
+IsLegal-push script world middle after [] told command leads is answers =
     (command, after, is, subst (λ w. Answers w command told.reply after) leads answers, refl)
-LeadsTo-push script world middle after (t ∷ history) told command leads is answers =
-    (leads.0, leads.1, leads.2, leads.3, LeadsTo-push script leads.1 middle after history told command leads.4 is answers)
+IsLegal-push script world middle after (t ∷ history) told command leads is answers =
+    (leads.0, leads.1, leads.2, leads.3, IsLegal-push script leads.1 middle after history told command leads.4 is answers)
 
 module _ {X : Type 0} (number : X → ℕ) (session : ℕ) where
   none_or_all : (b : Bool) (x : X) (xs found : List X) → found ≡ cond b xs [] → cond b (x ∷ found) found ≡ cond b (x ∷ xs) []
@@ -85,7 +86,7 @@ read_at (y ∷ xs) (suc i) x lt e = read_at xs i x (omega arith) e
 pub record IsToldSoFar (script : List Numbered) (world : World) (history : List Told) (after : World) : Type 0 where
   pub ones : AllByRecursion (λ told. told.session ≡ 1) history
   pub up : CountsFrom 0 history
-  pub leads : LeadsTo script world history after
+  pub leads : IsLegal script world history after
 
 AllByRecursion-push : {X : Type 0} (P : X → Type 0) (xs : List X) (x : X) → AllByRecursion P xs → P x → AllByRecursion P (xs ++ x ∷ [])
 AllByRecursion-push P [] x h p = (p, tt)
@@ -98,5 +99,17 @@ pub one_more : (script : List Numbered) (world middle after : World) (history : 
 one_more script world middle after history told numbered ones so_far one at is answers = record {
   ones = AllByRecursion-push (λ told. told.session ≡ 1) history told so_far.ones one;
   up = CountsFrom-push 0 history told so_far.up (omega arith);
-  leads = LeadsTo-push script world middle after history told numbered.command so_far.leads (command_of-one script told (length history) numbered ones one at is) answers;
+  leads = IsLegal-push script world middle after history told numbered.command so_far.leads (command_of-one script told (length history) numbered ones one at is) answers;
 }
+
+-- the sessions of a history in the order of the lines are those of the lines
+pub same_sessions : (script : List Numbered) (history : List Told) → length history ≡ length script
+    → AllByRecursion (λ numbered. numbered.session ≡ 1) script → AllByRecursion (λ told. told.session ≡ 1) history
+    → map (λ told. told.session) history ≡ map (λ numbered. numbered.session) script
+same_sessions [] [] long ones told = refl
+same_sessions [] (t ∷ history) long ones told = absurd (omega arith)
+same_sessions (n ∷ script) [] long ones told = absurd (omega arith)
+same_sessions (n ∷ script) (t ∷ history) long ones told =
+    let head : t.session ≡ n.session = told.0 ∙ sym ones.0 in
+    ap (λ l. t.session ∷ l) (same_sessions script history (omega arith) ones.1 told.1)
+    ∙ ap (λ h. h ∷ map (λ numbered. numbered.session) script) head

@@ -1,4 +1,4 @@
-pub mod KeptLemmas
+pub mod MapLemmas
 pub mod HistoryLemmas
 pub mod OutputLemmas
 pub mod TextLemmas

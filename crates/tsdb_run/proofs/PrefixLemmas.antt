@@ -10,8 +10,9 @@ use Rattle.tsdb_run.specs.declared.command.Numbered.{Numbered}
 use Rattle.tsdb_run.specs.declared.command.Told.{Told}
 use Rattle.tsdb_run.specs.declared.status.Status.{Status}
 use Rattle.tsdb_run.specs.declared.status.Status.TheVariants.{Done, Memory, Words, Script, Source, Sink}
-use Rattle.tsdb_run.specs.Headline.{Headline, Blames, AnswersBad, AnswersGood, HasServed}
-use Rattle.tsdb_run.specs.Output.{AppendsFront}
+use Rattle.tsdb_run.specs.Headline.{Headline, IsBadAt, IsDoneOrMemory, IsExecuted, ReportsBad}
+use Rattle.tsdb_outside.specs.Causes.{Rose}
+use Rattle.tsdb_run.specs.Output.{AppendsPrefix}
 use Rattle.tsdb_run.specs.Input.{TakesScript}
 use Rattle.tsdb_run.specs.Reading.{lines_of, before_lines, IsGoodLine, IsGood, IsScript, IsFirstBad}
 use Rattle.tsdb_run.proofs.ScriptLemmas.{there}
@@ -199,22 +200,21 @@ module _ (left new : Option (List ℕ)) (bytes : List ℕ) (taken : TakesScript 
     same (Some all) None consumes end = absurd consumes
     same (Some all) (Some rest) consumes end = subst (λ l. IsScript l script) (sym (consumes ∙ ap (λ r. bytes ++ r) end ∙ append-nil bytes)) is
 
-  pub HasServed-left : (history : List Told) (puts : List ℕ → Type 0) → HasServed (Some bytes) history puts → HasServed left history puts
-  HasServed-left history puts served = (served.0, record { read = read-script served.0 served.1.read; complete = served.1.complete; legal = served.1.legal }, served.2)
+  pub IsExecuted-left : (history : List Told) (puts : List ℕ → Type 0) → IsExecuted (Some bytes) history puts → IsExecuted left history puts
+  IsExecuted-left history puts done = record {
+    script = done.script;
+    start = done.start;
+    after = done.after;
+    read = read-script done.script done.read;
+    new = done.new;
+    complete = done.complete;
+    legal = done.legal;
+    in_line_order = done.in_line_order;
+    printed = done.printed;
+  }
 
-  pub Headline-left : (status : Status) (history : List Told) (held now : Option (List ℕ)) → Headline status (Some bytes) history held now → Headline status left history held now
-  Headline-left Done history held now h = HasServed-left history (Appends held now) h
-  Headline-left Sink history held now h = HasServed-left history (AppendsFront held now) h
-  Headline-left Memory history held now h = elim h [ inl s ↦ inl (HasServed-left history (AppendsFront held now) s) | inr u ↦ inr u ]
-  Headline-left Words history held now h = h
-  Headline-left (Script line kind) history held now h = h
-  Headline-left Source history held now h = h
-
-  pub whole-done : (status : Status) (history : List Told) (held now : Option (List ℕ)) → Headline status (Some bytes) history held now → status ≡ Done → IsAtEnd new
-  whole-done status history held now h is = (let served = subst (λ s. Headline s (Some bytes) history held now) is h in whole-script served.0 served.1.read)
-
-  blames-line : (line : ℕ) → IsFirstBad bytes line → IfSome left (λ all. IsFirstBad all line)
-  blames-line line is = at left new taken.taken taken.whole where
+  bad-line : (line : ℕ) → IsFirstBad bytes line → IfSome left (λ all. IsFirstBad all line)
+  bad-line line is = at left new taken.taken taken.whole where
     at : (left new : Option (List ℕ)) → Consumes left new bytes → (length bytes ≤ 67108864 → IsAtEnd new) → IfSome left (λ all. IsFirstBad all line)
     at None new consumes whole = tt
     at (Some all) None consumes whole = absurd consumes
@@ -223,13 +223,19 @@ module _ (left new : Option (List ℕ)) (bytes : List ℕ) (taken : TakesScript 
       longer_or_same rest whole (inl fits) = subst (λ l. IsFirstBad l line) (sym (ap (λ r. bytes ++ r) (whole fits) ∙ append-nil bytes)) is
       longer_or_same rest whole (inr long) = IsFirstBad-longer bytes rest line long is
 
-  pub Blames-left : (status : Status) → Blames status bytes → IfSome left (Blames status)
-  Blames-left Done blames = unblamed left tt
-  Blames-left Memory blames = unblamed left tt
-  Blames-left Words blames = unblamed left tt
-  Blames-left (Script line kind) blames = both left (λ all. IsFirstBad all line) (blames-line line blames.0) blames.1
-  Blames-left Source blames = unblamed left tt
-  Blames-left Sink blames = unblamed left tt
+  IsBadAt-left : (line kind : ℕ) → IsBadAt (Some bytes) line kind → IsBadAt left line kind
+  IsBadAt-left line kind bad = both left (λ all. IsFirstBad all line) (bad-line line bad.0) bad.1
+
+  pub Headline-left : (status : Status) (history : List Told) (held now : Option (List ℕ)) → Headline status (Some bytes) history held now → Headline status left history held now
+  Headline-left Done history held now h = IsExecuted-left history (Appends held now) h
+  Headline-left Sink history held now h = IsExecuted-left history (AppendsPrefix held now) h
+  Headline-left Memory history held now h = elim h [ inl s ↦ inl (IsExecuted-left history (AppendsPrefix held now) s) | inr u ↦ inr u ]
+  Headline-left Words history held now h = h
+  Headline-left (Script line kind) history held now h = (IsBadAt-left line kind h.0, h.1)
+  Headline-left Source history held now h = h
+
+  pub whole-done : (status : Status) (history : List Told) (held now : Option (List ℕ)) → Headline status (Some bytes) history held now → status ≡ Done → IsAtEnd new
+  whole-done status history held now h is = (let done = subst (λ s. Headline s (Some bytes) history held now) is h in whole-script done.script done.read)
 
 -- a script is good or first bad at one line
 script_or_bad : (bytes : List ℕ) (script : List Numbered) (line : ℕ) → IsScript bytes script → ¬ IsFirstBad bytes line
@@ -246,32 +252,36 @@ one_line bytes line first a b = elim (cases_lt a.before b.before) [
   ]
 ]
 
--- so a bad script is answered as bad
-pub AnswersBad-first : (status : Status) (bytes : List ℕ) (history : List Told) (held now : Option (List ℕ)) (line : ℕ)
-    → Headline status (Some bytes) history held now → Blames status bytes → status ≢ Words → IsFirstBad bytes line → AnswersBad status line
-AnswersBad-first Done bytes history held now line h blames words bad = script_or_bad bytes h.0 line h.1.read bad
-AnswersBad-first Memory bytes history held now line h blames words bad = tt
-AnswersBad-first Words bytes history held now line h blames words bad = words refl
-AnswersBad-first (Script at kind) bytes history held now line h blames words bad = (one_line bytes at line blames.0 bad, blames.1)
-AnswersBad-first Source bytes history held now line h blames words bad = tt
-AnswersBad-first Sink bytes history held now line h blames words bad = script_or_bad bytes h.0 line h.1.read bad
+-- so a bad script is reported
+reports : (status : Status) (bytes : List ℕ) (history : List Told) (held now : Option (List ℕ)) (line : ℕ)
+    → Headline status (Some bytes) history held now → status ≢ Words → IsFirstBad bytes line → ReportsBad status line
+reports Done bytes history held now line h words bad = script_or_bad bytes h.script line h.read bad
+reports Memory bytes history held now line h words bad = tt
+reports Words bytes history held now line h words bad = words refl
+reports (Script at kind) bytes history held now line h words bad = (one_line bytes at line h.0.0 bad, h.0.1)
+reports Source bytes history held now line h words bad = tt
+reports Sink bytes history held now line h words bad = script_or_bad bytes h.script line h.read bad
 
--- and a good one is not
-pub AnswersGood-script : (status : Status) (bytes : List ℕ) (script : List Numbered) → Blames status bytes → status ≢ Words → IsScript bytes script → AnswersGood status
-AnswersGood-script Done bytes script blames words is = tt
-AnswersGood-script Memory bytes script blames words is = tt
-AnswersGood-script Words bytes script blames words is = words refl
-AnswersGood-script (Script at kind) bytes script blames words is = script_or_bad bytes script at is blames.0
-AnswersGood-script Source bytes script blames words is = tt
-AnswersGood-script Sink bytes script blames words is = tt
+pub first_bad_clause : (left : Option (List ℕ)) (status : Status) (history : List Told) (held now : Option (List ℕ))
+    → Headline status left history held now → status ≢ Words
+    → IfSome left (λ bytes. (line : ℕ) → IsFirstBad bytes line → ReportsBad status line)
+first_bad_clause None status history held now h words = tt
+first_bad_clause (Some bytes) status history held now h words = λ line bad. reports status bytes history held now line h words bad
 
-pub bad_clause : (left : Option (List ℕ)) (status : Status) (history : List Told) (held now : Option (List ℕ))
-    → Headline status left history held now → IfSome left (Blames status) → status ≢ Words
-    → IfSome left (λ bytes. (line : ℕ) → IsFirstBad bytes line → AnswersBad status line)
-bad_clause None status history held now h blames words = tt
-bad_clause (Some bytes) status history held now h blames words = λ line bad. AnswersBad-first status bytes history held now line h blames words bad
+-- and the output of a good one is written
+writes : (status : Status) (bytes : List ℕ) (history : List Told) (held now : Option (List ℕ)) (script : List Numbered) (f g p q : ℕ)
+    → Headline status (Some bytes) history held now → status ≢ Words → (status ≡ Source → Rose f g) → (status ≡ Sink → Rose p q)
+    → IsScript bytes script → ¬ Rose f g → ¬ Rose p q → IsDoneOrMemory status
+writes Done bytes history held now script f g p q h words source sink is no_source no_sink = tt
+writes Memory bytes history held now script f g p q h words source sink is no_source no_sink = tt
+writes Words bytes history held now script f g p q h words source sink is no_source no_sink = words refl
+writes (Script at kind) bytes history held now script f g p q h words source sink is no_source no_sink = script_or_bad bytes script at is h.0.0
+writes Source bytes history held now script f g p q h words source sink is no_source no_sink = no_source (source refl)
+writes Sink bytes history held now script f g p q h words source sink is no_source no_sink = no_sink (sink refl)
 
-pub good_clause : (left : Option (List ℕ)) (status : Status) → IfSome left (Blames status) → status ≢ Words
-    → IfSome left (λ bytes. (script : List Numbered) → IsScript bytes script → AnswersGood status)
-good_clause None status blames words = tt
-good_clause (Some bytes) status blames words = λ script is. AnswersGood-script status bytes script blames words is
+pub complete_clause : (left : Option (List ℕ)) (status : Status) (history : List Told) (held now : Option (List ℕ)) (f g p q : ℕ)
+    → Headline status left history held now → status ≢ Words → (status ≡ Source → Rose f g) → (status ≡ Sink → Rose p q)
+    → IfSome left (λ bytes. (script : List Numbered) → IsScript bytes script → ¬ Rose f g → ¬ Rose p q → IsDoneOrMemory status)
+complete_clause None status history held now f g p q h words source sink = tt
+complete_clause (Some bytes) status history held now f g p q h words source sink =
+    λ script is no_source no_sink. writes status bytes history held now script f g p q h words source sink is no_source no_sink

@@ -1,6 +1,6 @@
 -- What the parts of a run say of the whole.
 use Rattle.std.proofs.Common.{◌≡◌, inl, ℕ, ◌≤◌, zero, suc, List, [], ◌∷◌, length, Option, None, Some, refl, arith}
-use Rattle.std.specs.Prelude.{All}
+use Rattle.std.specs.Prelude.{All, map as map_list}
 use Rattle.std.specs.List.{AllByRecursion, slice_get}
 use Rattle.std.specs.FinMap as map
 use Rattle.std.specs.Io.KnownBytes.{Keeps}
@@ -13,8 +13,11 @@ use Rattle.tsdb_run.specs.declared.command.Told.{Told}
 use Rattle.tsdb_run.specs.declared.status.Status.{Status}
 use Rattle.tsdb_run.specs.declared.status.Status.TheVariants.{Done, Memory, Words, Script, Source, Sink}
 use Rattle.tsdb_run.specs.History.{IsComplete, IsLegal}
-use Rattle.tsdb_run.specs.Headline.{Headline, IsWritten}
+use Rattle.tsdb_run.specs.Headline.{Headline}
+use Rattle.tsdb_run.specs.Steps.{IsWritten}
+use Rattle.tsdb_run.specs.World.{World}
 use Rattle.tsdb_run.specs.Reading.{Spells, IsScript}
+use Rattle.tsdb_run.specs.Limits.{max_commands}
 use Rattle.tsdb_run.specs.Text.{series_of, output_text}
 use Rattle.tsdb_run.proofs.ScriptLemmas.{there}
 
@@ -32,9 +35,9 @@ module _ (bytes : List ℕ) (script : List Numbered) (is : IsScript bytes script
   all_one_session = All-from_recursion (λ numbered. numbered.session ≡ 1) script one_session
 
   -- and no more than a script may have
-  pub few_commands : length script ≤ 1000000
+  pub few_commands : length script ≤ max_commands
   few_commands = few (length script) refl where
-    few : (n : ℕ) → length script ≡ n → length script ≤ 1000000
+    few : (n : ℕ) → length script ≡ n → length script ≤ max_commands
     few zero e = omega arith
     few (suc n) e = let last = there script n (omega arith) in omega (arith, (is.good n last.0 last.1).1.good.commands)
 
@@ -51,13 +54,44 @@ pub Keeps-same : (held : Option (List ℕ)) → Keeps held held
 Keeps-same None = tt
 Keeps-same (Some bytes) = refl
 
--- a script that was served, and what was written of its output
-pub Headline-written : (status : Status) (bytes : List ℕ) (script : List Numbered) (history : List Told) (old new : Option (List ℕ))
-    → IsScript bytes script → IsComplete script history → IsLegal script map.empty history → IsWritten status old new (output_text script history)
-    → Headline status (Some bytes) history old new
-Headline-written Done bytes script history old new is complete legal written = (script, record { read = is; complete = complete; legal = legal }, written)
-Headline-written Sink bytes script history old new is complete legal written = (script, record { read = is; complete = complete; legal = legal }, written)
-Headline-written Memory bytes script history old new is complete legal written = inl (script, record { read = is; complete = complete; legal = legal }, written)
-Headline-written Words bytes script history old new is complete legal written = absurd written
-Headline-written (Script line kind) bytes script history old new is complete legal written = absurd written
-Headline-written Source bytes script history old new is complete legal written = absurd written
+-- a script that was executed, and what was written of its output
+pub Headline-written : (status : Status) (bytes : List ℕ) (script : List Numbered) (history : List Told) (after : World) (old new : Option (List ℕ))
+    → IsScript bytes script → IsComplete script history → IsLegal script map.empty history after
+    → map_list (λ told. told.session) history ≡ map_list (λ numbered. numbered.session) script
+    → IsWritten status old new (output_text script history) → Headline status (Some bytes) history old new
+Headline-written Done bytes script history after old new is complete legal order written = record {
+  script = script;
+  start = map.empty;
+  after = after;
+  read = is;
+  new = refl;
+  complete = complete;
+  legal = legal;
+  in_line_order = order;
+  printed = written;
+}
+Headline-written Sink bytes script history after old new is complete legal order written = record {
+  script = script;
+  start = map.empty;
+  after = after;
+  read = is;
+  new = refl;
+  complete = complete;
+  legal = legal;
+  in_line_order = order;
+  printed = written;
+}
+Headline-written Memory bytes script history after old new is complete legal order written = inl (record {
+  script = script;
+  start = map.empty;
+  after = after;
+  read = is;
+  new = refl;
+  complete = complete;
+  legal = legal;
+  in_line_order = order;
+  printed = written;
+})
+Headline-written Words bytes script history after old new is complete legal order written = absurd written
+Headline-written (Script line kind) bytes script history after old new is complete legal order written = absurd written
+Headline-written Source bytes script history after old new is complete legal order written = absurd written

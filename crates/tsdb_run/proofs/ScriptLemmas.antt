@@ -47,9 +47,6 @@ there [] k lt = absurd (omega arith)
 there (x ∷ xs) zero lt = (x, refl)
 there (x ∷ xs) (suc k) lt = there xs k (omega arith)
 
-pub nothing_read : (bytes : List ℕ) → IsReadSoFar bytes [] bytes
-nothing_read bytes = record { front = []; lines = refl; whole = refl; long = refl; few = omega arith; spelled = λ k numbered e. cc }
-
 module _ (bytes : List ℕ) (script : List Numbered) (rest line others : List ℕ) (so_far : IsReadSoFar bytes script rest)
     (splits : rest ≡ line ++ others) (first : lines_of rest ≡ line ∷ lines_of others) where
   all_lines : lines_of bytes ≡ so_far.front ++ line ∷ lines_of others

@@ -6,7 +6,8 @@ use Rattle.std.specs.Prelude.{codes}
 use Rattle.tsdb_run.specs.declared.command.Command.{Command}
 use Rattle.tsdb_run.specs.declared.command.Numbered.{Numbered}
 use Rattle.tsdb_run.specs.declared.command.Told.{Told}
-use Rattle.tsdb_run.specs.History.{command_of, CountsFrom, IsInLineOrder}
+use Rattle.tsdb_run.specs.History.{command_of}
+use Rattle.tsdb_run.specs.Steps.{CountsFrom, IsInLineOrder}
 use Rattle.tsdb_run.specs.Text.{line, reply_text, told_text, sessions_of, session_text, sessions_text, replies_text}
 use Rattle.tsdb_run.proofs.HistoryLemmas.{of_session, command_of-one}
 

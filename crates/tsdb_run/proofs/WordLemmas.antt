@@ -3,7 +3,7 @@ use Rattle.std.proofs.Common.{◌≡◌, ℕ, ◌<◌, ◌≤◌, Bool, true, fa
 use Rattle.std.specs.Prelude.{IsTrue, ◌↔◌}
 use Rattle.std.specs.Cmp.Lexicographic.{pointwise}
 use Rattle.std.proofs.lemmas.Bool.{eqb-true}
-use Rattle.tsdb_run.specs.Reading.{IsDirectory, AreWords}
+use Rattle.tsdb_run.specs.Words.{IsDirectory, AreWords}
 
 first_yes : (a b : Bool) → true ≡ (a && b) → a ≡ true
 first_yes true b e = refl

@@ -1,11 +1,11 @@
--- What stands between the fixed parts of a line, as the reader of lines finds it.
+-- What stands between the fixed parts of a line, as the reader of lines finds it. No public clause cites it.
 use Rattle.std.specs.Prelude.{ℕ, ◌==◌, List, [], ◌∷◌, Option, None, Some, if◌then◌else◌, codes}
 
--- what is behind a front, where the list begins with it
+-- what is behind a prefix, where the list begins with it
 abbrev pub strip : List ℕ → List ℕ → Option (List ℕ)
 strip [] bytes = Some bytes
-strip (f ∷ front) [] = None
-strip (f ∷ front) (b ∷ bytes) = if b == f then strip front bytes else None
+strip (f ∷ prefix) [] = None
+strip (f ∷ prefix) (b ∷ bytes) = if b == f then strip prefix bytes else None
 
 abbrev pub onto_first : ℕ → Option (List ℕ × List ℕ) → Option (List ℕ × List ℕ)
 onto_first b None = None

@@ -1,6 +1,5 @@
 -- Histories: the commands in the order in which they took place, each with its reply.
-use Rattle.std.specs.Prelude.{◌≡◌, ℕ, suc, ◌==◌, ◌⊎◌, List, [], ◌∷◌, Option, Some, map, filter, length, slice_get}
-use Rattle.std.specs.List.{AllByRecursion}
+use Rattle.std.specs.Prelude.{◌≡◌, ℕ, ◌==◌, ◌⊎◌, List, [], ◌∷◌, Option, Some, map, filter, length, slice_get}
 use Rattle.tsdb_base.specs.declared.answers.Answer.TheVariants as answer
 use Rattle.tsdb_run.specs.declared.command.Command.{Command}
 use Rattle.tsdb_run.specs.declared.command.Numbered.{Numbered}
@@ -11,7 +10,8 @@ use Rattle.tsdb_run.specs.World.{World, reply_of, world_after}
 
 -- the commands of a session, in its order
 abbrev pub commands_of : List Numbered → ℕ → List Command
-commands_of script session = map (λ numbered. numbered.command) (filter (λ numbered. numbered.session == session) script)
+commands_of script session =
+    map (λ numbered. numbered.command) (filter (λ numbered. numbered.session == session) script)
 
 -- the entries of a session, in their order
 abbrev pub entries_of : List Told → ℕ → List Told
@@ -27,29 +27,16 @@ IsComplete script history = (session : ℕ) →
 abbrev pub command_of : List Numbered → Told → Option Command
 command_of script told = slice_get (commands_of script told.session) told.index
 
--- a command may be answered that memory was wanted, and then changed nothing; else the map answers it
+-- memory may run out, which changes nothing; else the map replies to the command
 abbrev pub Answers : World → Command → Reply → World → Type 0
 Answers world command reply after =
     ((reply ≡ Plain answer.Memory) × (after ≡ world))
     ⊎ ((reply ≡ reply_of world command) × (after ≡ world_after world command))
 
--- each entry in turn answers its command in the world at its place, and the last leaves the world after
-abbrev pub LeadsTo : List Numbered → World → List Told → World → Type 0
-LeadsTo script world [] after = after ≡ world
-LeadsTo script world (told ∷ history) after = (command : Command) × (next : World)
-    × (command_of script told ≡ Some command) × Answers world command told.reply next × LeadsTo script next history after
-
--- a history that the map could have from this world on
-abbrev pub IsLegal : List Numbered → World → List Told → Type 0
-IsLegal script world history = (after : World) × LeadsTo script world history after
-
--- the entries count from n
-abbrev pub CountsFrom : ℕ → List Told → Type 0
-CountsFrom n [] = Unit {0}
-CountsFrom n (told ∷ history) = (told.index ≡ n) × CountsFrom (suc n) history
-
--- the commands of a script of session 1 took place in the order of its lines
-pub record IsInLineOrder (script : List Numbered) (history : List Told) : Type 0 where
-  pub whole : length history ≡ length script
-  pub one_session : AllByRecursion (λ told. told.session ≡ 1) history
-  pub counted : CountsFrom 0 history
+-- a history that the map may have: each entry in turn replies to its command in the world at its place, and the last
+-- leaves the world after
+abbrev pub IsLegal : List Numbered → World → List Told → World → Type 0
+IsLegal script world [] after = after ≡ world
+IsLegal script world (told ∷ history) after = (command : Command) × (next : World)
+    × (command_of script told ≡ Some command) × Answers world command told.reply next
+    × IsLegal script next history after

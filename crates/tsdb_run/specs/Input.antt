@@ -1,13 +1,14 @@
--- What was taken from a source.
-use Rattle.std.specs.Prelude.{ℕ, ◌≤◌, List, Option, length}
+-- What is taken from a source.
+use Rattle.std.specs.Prelude.{ℕ, ◌+◌, ◌≤◌, List, Option, length}
 use Rattle.std.specs.Io.KnownBytes.{Consumes, IsAtEnd}
+use Rattle.tsdb_run.specs.Limits.{max_script_bytes}
 
--- a front of what was left, of at most one byte more than a script has
-abbrev pub TakesFront : Option (List ℕ) → Option (List ℕ) → Type 0
-TakesFront old new = (front : List ℕ) × (length front ≤ 67108865) × Consumes old new front
+-- a prefix of what was left, of at most one byte more than a script may have
+abbrev pub TakesPrefix : Option (List ℕ) → Option (List ℕ) → Type 0
+TakesPrefix old new = (prefix : List ℕ) × (length prefix ≤ max_script_bytes + 1) × Consumes old new prefix
 
--- the bytes were taken: to the end, where a script may be so long
+-- these bytes, and the source to its end, where a script may be so long
 pub record TakesScript (old new : Option (List ℕ)) (bytes : List ℕ) : Type 0 where
   pub taken : Consumes old new bytes
-  pub short : length bytes ≤ 67108865
-  pub whole : length bytes ≤ 67108864 → IsAtEnd new
+  pub short : length bytes ≤ max_script_bytes + 1
+  pub whole : length bytes ≤ max_script_bytes → IsAtEnd new

@@ -1,10 +1,13 @@
+pub mod Limits
 pub mod World
 pub mod History
+pub mod Words
 pub mod Reading
 pub mod Text
-pub mod Kept
+pub mod Maps
 pub mod Output
 pub mod Input
-pub mod Cut
-pub mod Ends
+pub mod Status
 pub mod Headline
+pub mod Cut
+pub mod Steps

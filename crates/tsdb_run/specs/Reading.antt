@@ -1,23 +1,16 @@
--- What the words and the script mean, as relations between bytes and what they spell. Nothing here scans.
+-- What a script means, as relations between bytes and what they spell. Nothing here scans.
 use Rattle.std.specs.Prelude.{◌≡◌, ◌≢◌, ℕ, ◌+◌, ◌<◌, ◌≤◌, ◌==◌, ℤ, FitsSigned, List, [], ◌∷◌, ◌++◌, Some, length, take, slice_get, slice_index, codes, if◌then◌else◌}
 use Rattle.std.specs.Int.{w64}
 use Rattle.std.specs.List.{concat}
 use Rattle.std.specs.Str.Parse.{IsNumeral, without_leading_sign, signed_digits_value}
 use Rattle.tsdb_base.specs.declared.value.Value.TheVariants.{I64}
 use Rattle.tsdb_path.specs.Nodes.{IsPath, node_count, device_of, measurement_of}
+use Rattle.tsdb_run.specs.Limits.{max_commands, max_line_bytes, max_script_bytes}
 use Rattle.tsdb_run.specs.declared.command.Command.{Command}
 use Rattle.tsdb_run.specs.declared.command.Command.TheVariants.{Create, Insert, Select}
 use Rattle.tsdb_run.specs.declared.command.Numbered.{Numbered}
 use Rattle.tsdb_run.specs.declared.script.ScriptFault.{ScriptFault}
 use Rattle.tsdb_run.specs.declared.script.ScriptFault.TheVariants.{Bad, Memory}
-
--- a word that can name the directory of a store: it is not empty, and does not begin with `-`
-abbrev pub IsDirectory : List ℕ → Type 0
-IsDirectory word = (0 < length word) × (slice_index word 0 ≢ 45)
-
--- the words of the command line: `run`, and the directory of the store
-abbrev pub AreWords : List (List ℕ) → Type 0
-AreWords words = (directory : List ℕ) × (words ≡ codes "run" ∷ directory ∷ []) × IsDirectory directory
 
 -- a path of at least 3 nodes: a device of at least 2, and a measurement
 pub record IsSeries (bytes : List ℕ) : Type 0 where
@@ -41,8 +34,10 @@ abbrev pub Spells : List ℕ → Command → Type 0
 Spells line (Create series) = IsSeries series
     × (line ≡ codes "1 create timeseries " ++ series ++ codes " with datatype=INT64,encoding=PLAIN")
 Spells line (Insert series time value) = IsSeries series
-    × (moment number : List ℕ) × (integer : ℤ) × IsInteger moment time × IsInteger number integer × (value ≡ I64 integer)
-    × (line ≡ codes "1 insert into " ++ device_of series ++ codes "(timestamp," ++ measurement_of series ++ codes ") values(" ++ moment ++ codes "," ++ number ++ codes ")")
+    × (moment number : List ℕ) × (integer : ℤ) × IsInteger moment time
+    × IsInteger number integer × (value ≡ I64 integer)
+    × (line ≡ codes "1 insert into " ++ device_of series ++ codes "(timestamp," ++ measurement_of series
+    ++ codes ") values(" ++ moment ++ codes "," ++ number ++ codes ")")
 Spells line (Select series) = IsSeries series
     × (line ≡ codes "1 select " ++ measurement_of series ++ codes " from " ++ device_of series)
 
@@ -65,9 +60,9 @@ without_end (byte ∷ bytes) = if byte == 10 then [] else byte ∷ without_end b
 -- and passes no limit
 pub record IsGoodLine (line : List ℕ) (before end : ℕ) (command : Command) : Type 0 where
   pub spells : Spells (without_end line) command
-  pub line_bytes : length line ≤ 1048576
-  pub commands : before < 1000000
-  pub script_bytes : end ≤ 67108864
+  pub line_bytes : length line ≤ max_line_bytes
+  pub commands : before < max_commands
+  pub script_bytes : end ≤ max_script_bytes
 
 -- line k, counted from 0, is good and spells this command
 pub record IsGood (lines : List (List ℕ)) (k : ℕ) (command : Command) : Type 0 where
@@ -89,7 +84,7 @@ pub record IsFirstBad (bytes : List ℕ) (number : ℕ) : Type 0 where
   pub good : (k : ℕ) → k < before → (command : Command) × IsGood (lines_of bytes) k command
   pub bad : (command : Command) → ¬ IsGood (lines_of bytes) before command
 
--- why bytes are refused as a script; want of memory is free
+-- why bytes are refused as a script; memory may run out at any place
 abbrev pub RefusesScript : List ℕ → ScriptFault → Type 0
 RefusesScript bytes (Bad line kind) = IsFirstBad bytes line × (kind ≡ 0)
 RefusesScript bytes Memory = Unit {0}

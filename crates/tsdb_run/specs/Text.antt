@@ -70,7 +70,8 @@ told_text (Some command) told = reply_text command told.reply
 -- the sessions in the order in which they first appear
 abbrev pub sessions_of : List Numbered → List ℕ
 sessions_of [] = []
-sessions_of (numbered ∷ script) = numbered.session ∷ filter (λ session. not (session == numbered.session)) (sessions_of script)
+sessions_of (numbered ∷ script) = numbered.session ∷
+    filter (λ session. not (session == numbered.session)) (sessions_of script)
 
 -- a session's replies, in its order
 abbrev pub session_text : List Numbered → List Told → ℕ → List ℕ
@@ -86,7 +87,8 @@ sessions_text script history = flat_map (session_text script history) (sessions_
 abbrev pub replies_text : List Numbered → List Told → List ℕ
 replies_text [] history = []
 replies_text (numbered ∷ script) [] = []
-replies_text (numbered ∷ script) (told ∷ history) = reply_text numbered.command told.reply ++ replies_text script history
+replies_text (numbered ∷ script) (told ∷ history) = reply_text numbered.command told.reply
+    ++ replies_text script history
 
 -- the session of each command, in the order in which they took place
 abbrev pub order_text : List Told → List ℕ

@@ -1,4 +1,4 @@
-//! Commands, their replies, and histories of both.
+//! Commands, their replies, and histories of both. Depends on nothing here.
 
 use tsdb_base::{Answer, List, Point, Time, Value};
 use tsdb_path::Path;

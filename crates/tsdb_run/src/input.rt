@@ -1,7 +1,7 @@
-//! Takes a script from its source, up to one byte more than a script may have.
-ghost use Rattle.std.specs.Prelude.{IfOk};
+//! Takes a script from its source, up to one byte more than a script may have. Depends on nothing here.
+ghost use Rattle.std.specs.Prelude.{◌≡◌, IfOk, IsErrOf};
 ghost use Rattle.tsdb_outside.specs.Causes.{HasStoreCause};
-ghost use Rattle.tsdb_run.specs.Input.{TakesFront, TakesScript};
+ghost use Rattle.tsdb_run.specs.Input.{TakesPrefix, TakesScript};
 
 use std::alloc::Global;
 use tsdb_outside::{Source, StoreFault};
@@ -15,7 +15,8 @@ const PIECE_BYTES: usize = 65_536;
 /// The bytes of the script, or of a script that is too long the first ones up to the one that is too many.
 pub fn take_script<S: Source>(alloc: Global, script: &mut S) -> Result<Vec<u8>, StoreFault>
     ensures script { IfOk result (λ bytes. TakesScript (S.left script.old) (S.left script.new) bytes.items) }
-    ensures front { TakesFront (S.left script.old) (S.left script.new) }
+    ensures prefix { TakesPrefix (S.left script.old) (S.left script.new) }
+    ensures count { ¬ IsErrOf result StoreFault.Failed → S.faults script.new ≡ S.faults script.old }
     ensures cause { HasStoreCause (S.faults script.old) (S.faults script.new) result }
 {
     let mut bytes = Vec::new(alloc);

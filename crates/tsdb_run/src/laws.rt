@@ -19,6 +19,7 @@ pub fn last_write_wins()
 
 /// A write leaves every other series, and every other time of its series, as it was.
 pub fn other_values_stay()
-    ensures { (world : World) (series other : List ℕ) (time moment : ℤ) (value : Value) → (other ≢ series) ⊎ (moment ≢ time)
+    ensures { (world : World) (series other : List ℕ) (time moment : ℤ) (value : Value) →
+        (other ≢ series) ⊎ (moment ≢ time)
         → value_at (world_after world (Command.Insert series time value)) other moment ≡ value_at world other moment }
 {}

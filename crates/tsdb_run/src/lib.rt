@@ -1,8 +1,9 @@
-//! The top call of the engine: it takes the words of the command line and a script, serves the script's commands
-//! in their order, and writes the replies. Stands on tsdb_base, tsdb_path and tsdb_outside.
+//! The top call of the engine: it takes the words of the command line and a script, executes the script's commands
+//! in the order of its lines, and writes the replies. Depends on tsdb_base, tsdb_path and tsdb_outside.
 #![tactic(auto)]
 
 mod command;
+mod execute;
 mod input;
 mod laws;
 mod line;
@@ -11,7 +12,6 @@ mod output;
 mod plain;
 mod print;
 mod script;
-mod serve;
 mod status;
 mod top_call;
 mod word;

@@ -1,4 +1,4 @@
-//! Reads a line of a script as the command that it spells.
+//! Reads a line of a script as the command that it spells. Depends on `command`.
 ghost use Rattle.std.specs.Prelude.{◌≡◌, ℕ, ℤ, IfOk, IfSome, IfNone, option_map, List};
 ghost use Rattle.std.specs.Int.{w64};
 ghost use Rattle.tsdb_base.specs.declared.value.Value.{Value};
@@ -42,7 +42,8 @@ fn read_create(alloc: Global, line: &[u8]) -> Result<Option<Command>, Memory>
 
 fn read_insert(alloc: Global, line: &[u8]) -> Result<Option<Command>, Memory>
     ensures found { IfOk result (λ found. IfSome found (Spells line.now)) }
-    ensures none { IfOk result (λ found. IfNone found ((series : List ℕ) (time : ℤ) (value : Value) → ¬ Spells line.now (Command.Insert series time value))) }
+    ensures none { IfOk result (λ found. IfNone found (
+        (series : List ℕ) (time : ℤ) (value : Value) → ¬ Spells line.now (Command.Insert series time value))) }
 {
     let Some((device, measurement, time, value)) = insert_parts(line) else {
         return Ok(None);
@@ -77,11 +78,11 @@ fn read_select(alloc: Global, line: &[u8]) -> Result<Option<Command>, Memory>
     Ok(Some(Command::Select { series }))
 }
 
-/// The bytes behind a front, where they begin with it.
-fn stripped<'a>(bytes: &'a [u8], front: &[u8]) -> Option<&'a [u8]>
-    ensures { option_map (λ rest. rest.now) result ≡ strip front.now bytes.now }
+/// The bytes behind a prefix, where they begin with it.
+fn behind<'a>(bytes: &'a [u8], prefix: &[u8]) -> Option<&'a [u8]>
+    ensures { option_map (λ rest. rest.now) result ≡ strip prefix.now bytes.now }
 {
-    bytes.strip_prefix(front)
+    bytes.strip_prefix(prefix)
 }
 
 /// The bytes before the first such byte, and those behind it.
@@ -108,9 +109,9 @@ fn ended(bytes: &[u8]) -> Option<()>
 fn create_parts(line: &[u8]) -> Option<&[u8]>
     ensures { option_map (λ series. series.now) result ≡ create_word line.now }
 {
-    let rest = stripped(line, b"1 create timeseries ")?;
+    let rest = behind(line, b"1 create timeseries ")?;
     let (series, rest) = cut_at(rest, b' ')?;
-    let end = stripped(rest, b"with datatype=INT64,encoding=PLAIN")?;
+    let end = behind(rest, b"with datatype=INT64,encoding=PLAIN")?;
     ended(end)?;
     Some(series)
 }
@@ -120,11 +121,11 @@ fn create_parts(line: &[u8]) -> Option<&[u8]>
 fn insert_parts(line: &[u8]) -> Option<(&[u8], &[u8], &[u8], &[u8])>
     ensures { option_map (λ w. (w.0.now, w.1.now, w.2.now, w.3.now)) result ≡ insert_words line.now }
 {
-    let rest = stripped(line, b"1 insert into ")?;
+    let rest = behind(line, b"1 insert into ")?;
     let (device, rest) = cut_at(rest, b'(')?;
-    let rest = stripped(rest, b"timestamp,")?;
+    let rest = behind(rest, b"timestamp,")?;
     let (measurement, rest) = cut_at(rest, b')')?;
-    let rest = stripped(rest, b" values(")?;
+    let rest = behind(rest, b" values(")?;
     let (time, rest) = cut_at(rest, b',')?;
     let (value, end) = cut_at(rest, b')')?;
     ended(end)?;
@@ -136,9 +137,9 @@ fn insert_parts(line: &[u8]) -> Option<(&[u8], &[u8], &[u8], &[u8])>
 fn select_parts(line: &[u8]) -> Option<(&[u8], &[u8])>
     ensures { option_map (λ w. (w.0.now, w.1.now)) result ≡ select_words line.now }
 {
-    let rest = stripped(line, b"1 select ")?;
+    let rest = behind(line, b"1 select ")?;
     let (measurement, rest) = cut_at(rest, b' ')?;
-    let device = stripped(rest, b"from ")?;
+    let device = behind(rest, b"from ")?;
     Some((measurement, device))
 }
 
@@ -158,7 +159,8 @@ fn read_series(alloc: Global, bytes: &[u8]) -> Result<Option<Path>, Memory>
 /// The series of this device and measurement, if there can be one.
 fn join_series(alloc: Global, device: &[u8], measurement: &[u8]) -> Result<Option<Path>, Memory>
     ensures found { IfOk result (λ found. IfSome found (λ path. IsSeriesOf device.now measurement.now path)) }
-    ensures none { IfOk result (λ found. IfNone found ((path : List ℕ) → ¬ IsSeriesOf device.now measurement.now path)) }
+    ensures none { IfOk result (λ found.
+        IfNone found ((path : List ℕ) → ¬ IsSeriesOf device.now measurement.now path)) }
 {
     if measurement.contains(&b'.') {
         return Ok(None);

@@ -1,4 +1,4 @@
-//! Cuts a text into its lines.
+//! Cuts a text into its lines. Depends on nothing here.
 ghost use Rattle.std.specs.Prelude.{◌≡◌, ◌<◌, ◌++◌, ◌∷◌, length};
 ghost use Rattle.tsdb_run.specs.Reading.{lines_of};
 

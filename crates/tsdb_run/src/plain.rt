@@ -1,8 +1,8 @@
-//! The plain map from series to their points, which serves the commands.
+//! The plain map from series to their points, which executes the commands. Depends on `command`.
 ghost use Rattle.std.specs.Prelude.{◌≡◌, OnErr, IfOk};
 ghost use Rattle.std.specs.FinMap as map;
 ghost use Rattle.tsdb_run.specs.World.{lines_of, reply_of, rows, world_after};
-ghost use Rattle.tsdb_run.specs.Kept.{points_of};
+ghost use Rattle.tsdb_run.specs.Maps.{points_of};
 ghost use Rattle.tsdb_run.specs.History.{Answers};
 
 use crate::command::{Command, Reply};
@@ -21,7 +21,7 @@ pub struct Plain {
 
 impl Model for Plain {
     ghost use Rattle.tsdb_run.specs.World.{World};
-    ghost use Rattle.tsdb_run.specs.Kept.{world_of};
+    ghost use Rattle.tsdb_run.specs.Maps.{world_of};
     ghost use Rattle.std.specs.FinMap as map;
     ghost use Rattle.std.specs.Coded.{coded_list, coded_ℕ, coded_ℤ};
     ghost use Rattle.tsdb_base.specs.contracts.value.Value as value;
@@ -44,7 +44,7 @@ impl Plain {
         }
     }
 
-    /// Carries a command out. Want of memory changes nothing.
+    /// Executes a command. Out of memory changes nothing.
     pub fn apply(&mut self, command: &Command) -> Result<Reply, Memory>
         ensures reply { IfOk result (λ reply. reply ≡ reply_of self.old command.now) }
         ensures after { IfOk result (λ reply. self.new ≡ world_after self.old command.now) }
@@ -61,7 +61,7 @@ impl Plain {
         }
     }
 
-    /// Carries a command out, and answers it even where memory was wanted.
+    /// Executes a command. Out of memory the reply is `memory`, and nothing changes.
     pub fn answer(&mut self, command: &Command) -> Reply
         ensures { Answers self.old command.now result self.new }
     {
@@ -90,7 +90,8 @@ impl Plain {
     /// Writes a value at a time, where the series is there.
     fn insert(&mut self, series: &Path, time: Time, value: &Value) -> Result<Reply, Memory>
         ensures reply { IfOk result (λ reply. reply ≡ reply_of self.old (Command.Insert series.now time value.now)) }
-        ensures after { IfOk result (λ reply. self.new ≡ world_after self.old (Command.Insert series.now time value.now)) }
+        ensures after { IfOk result (λ reply.
+            self.new ≡ world_after self.old (Command.Insert series.now time value.now)) }
         ensures memory { OnErr result (self.new ≡ self.old) }
     {
         let Some(points) = self.series.get_mut(series) else {

@@ -1,4 +1,4 @@
-//! The texts of the output: a session's heading, a reply, and the order in which the commands took place.
+//! The texts of the output: a session's heading, a reply, and the order of the commands. Depends on `command`.
 ghost use Rattle.std.specs.Prelude.{◌≡◌, ◌≤◌, ◌++◌, IfOk, OnOk, codes, ℤ};
 ghost use Rattle.std.specs.Fmt.{decimal, signed_decimal};
 ghost use Rattle.tsdb_path.specs.Nodes.{node_count};

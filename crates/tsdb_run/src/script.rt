@@ -1,4 +1,4 @@
-//! Reads a script, line by line, as the commands that it spells.
+//! Reads a script, line by line, as the commands that it spells. Depends on `command`, `line` and `lines`.
 ghost use Rattle.std.specs.Prelude.{◌≡◌, ◌≤◌, length, IfOk, IfErr, IfSome, IfNone};
 ghost use Rattle.tsdb_run.specs.declared.command.Command.{Command};
 ghost use Rattle.tsdb_run.specs.Reading.{IsGoodLine, IsScript, RefusesScript, without_end};
@@ -21,7 +21,7 @@ pub const MAX_LINE_BYTES: usize = 1_048_576;
 pub enum ScriptFault {
     /// The first line that is not good, counted from 1, and what kind of fault it has; today all are of kind 0.
     Bad { line: u32, kind: u8 },
-    /// Memory was wanted and refused.
+    /// Out of memory.
     Memory,
 }
 
@@ -77,8 +77,10 @@ fn read_numbered(
     before: usize,
     end: usize,
 ) -> Result<Option<Numbered>, Memory>
-    ensures found { IfOk result (λ found. IfSome found (λ numbered. (numbered.session ≡ 1) × IsGoodLine line.now before end numbered.command)) }
-    ensures none { IfOk result (λ found. IfNone found ((command : Command) → ¬ IsGoodLine line.now before end command)) }
+    ensures found { IfOk result (λ found. IfSome found (λ numbered.
+        (numbered.session ≡ 1) × IsGoodLine line.now before end numbered.command)) }
+    ensures none { IfOk result (λ found.
+        IfNone found ((command : Command) → ¬ IsGoodLine line.now before end command)) }
 {
     if line.len() > MAX_LINE_BYTES || before >= MAX_COMMANDS || end > MAX_SCRIPT_BYTES {
         return Ok(None);

@@ -1,6 +1,6 @@
-//! How a run ends.
+//! How a run ends. Depends on `command`.
 ghost use Rattle.std.specs.Prelude.{◌≡◌, IfOk};
-ghost use Rattle.tsdb_run.specs.Ends.{status_code, status_text};
+ghost use Rattle.tsdb_run.specs.Status.{status_code, status_text};
 
 use crate::command::Told;
 use std::alloc::Global;
@@ -9,13 +9,13 @@ use tsdb_base::{List, Memory};
 /// How a run ended.
 #[derive(Clone, Copy, Debug, PartialEq, Eq)]
 pub enum Status {
-    /// The script was served, and the whole output was written.
+    /// The script was executed, and the whole output was written.
     Done,
-    /// Memory was wanted and refused.
+    /// Out of memory.
     Memory,
-    /// The words of the command line are none that the program knows.
+    /// The words of the command line are not those that the program knows.
     Words,
-    /// The first line of the script that is not good, and what kind of fault it has.
+    /// The first bad line of the script, counted from 1, and the kind of its fault.
     Script { line: u32, kind: u8 },
     /// The source of the script failed.
     Source,
@@ -24,7 +24,7 @@ pub enum Status {
 }
 
 /// What a run leaves: how it ended, and each command in the order in which they took place, with its reply. The
-/// history is empty where no command was carried out.
+/// history is empty where no command was executed.
 #[derive(Drop)]
 pub struct Ended {
     pub status: Status,

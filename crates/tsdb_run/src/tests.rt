@@ -46,7 +46,7 @@ fn status_of(alloc: Global, script: &[u8]) -> Result<Status, Fail> {
     Ok(ended.status)
 }
 
-/// Refuses the wrong body `always_memory` too, which no contract can: memory may always be wanting.
+/// Refuses the wrong body `always_memory` too, which no contract can: memory may run out at any place.
 #[test]
 fn worked_example_prints_its_output(rt: HostRuntime) -> Result<(), Fail> {
     let alloc = rt.alloc();
@@ -131,7 +131,7 @@ fn refusals_of_the_map(rt: HostRuntime) -> Result<(), Fail> {
 }
 
 /// Lines that are none of the three forms.
-const BAD_LINES: [&str; 24] = [
+const BAD_LINES: [&str; 26] = [
     "",
     " ",
     "# no comments yet",
@@ -152,6 +152,8 @@ const BAD_LINES: [&str; 24] = [
     "1 insert into root.g.d(timestamp,s) values(9223372036854775808,5)",
     "1 insert into root.g.d(timestamp,s) values(1,-9223372036854775809)",
     "1 insert into root.g.d(timestamp,s) values(1,5.0)",
+    "1 insert into root.g.d(timestamp,s) values(+,5)",
+    "1 insert into root.g.d(timestamp,s) values(1,-)",
     "1 insert into root.g.d(timestamp,d.s) values(1,5)",
     "1 insert into root(timestamp,s) values(1,5)",
     "1 select s,t from root.g.d",
@@ -171,6 +173,29 @@ fn first_bad_line_by_its_number(rt: HostRuntime) -> Result<(), Fail> {
         "{CREATE}1 insert into root.g.d(timestamp,s) values(+007,-0)\n1 select s from root.g.d"
     )?;
     assert_eq!(rt; status_of(alloc, good.as_bytes())?, Status::Done);
+    Ok(())
+}
+
+#[test]
+fn extremes_of_whole_numbers(rt: HostRuntime) -> Result<(), Fail> {
+    let alloc = rt.alloc();
+    let script = format!(in alloc;
+        "{CREATE}1 insert into root.g.d(timestamp,s) values(-9223372036854775808,9223372036854775807)
+1 insert into root.g.d(timestamp,s) values(+9223372036854775807,-9223372036854775808)\n{SELECT}"
+    )?;
+    let (ended, sink) = steady(alloc, script.as_bytes())?;
+    assert_eq!(rt; ended.status, Status::Done);
+    let printed = "session 1
+ok
+ok
+ok
+time,s
+-9223372036854775808,9223372036854775807
+9223372036854775807,-9223372036854775808
+rows 2
+order 1 1 1 1
+";
+    assert_eq!(rt; sink.bytes(), printed.as_bytes());
     Ok(())
 }
 

@@ -1,102 +1,100 @@
-//! The top call: words, source and sink in, status and history out.
+//! The top call: words, source and sink in, status and history out. Depends on all other modules.
 ghost use Rattle.std.specs.Prelude.{◌≡◌, ◌≢◌, ◌↔◌, ◌≤◌, ℕ, List, [], Some, IfSome};
 ghost use Rattle.std.specs.Io.KnownBytes.{IsAtEnd};
 ghost use Rattle.std.specs.List.{AllByRecursion};
-ghost use Rattle.tsdb_path.specs.Nodes.{node_count};
-ghost use Rattle.tsdb_run.specs.History.{IsInLineOrder};
-ghost use Rattle.tsdb_run.specs.Text.{output_text, series_of};
 ghost use Rattle.tsdb_outside.specs.Causes.{Rose};
+ghost use Rattle.tsdb_path.specs.Nodes.{node_count};
 ghost use Rattle.tsdb_run.specs.declared.command.Numbered.{Numbered};
-ghost use Rattle.tsdb_run.specs.Headline.{AnswersBad, AnswersGood, Blames, Headline, IsOfScript, IsWritten};
-ghost use Rattle.tsdb_run.specs.Input.{TakesFront};
-ghost use Rattle.tsdb_run.specs.Reading.{AreWords, IsFirstBad, IsScript};
+ghost use Rattle.tsdb_run.specs.Headline.{Headline, IsBeforeOutput, IsDoneOrMemory, ReportsBad};
+ghost use Rattle.tsdb_run.specs.Input.{TakesPrefix};
+ghost use Rattle.tsdb_run.specs.Reading.{IsFirstBad, IsScript};
+ghost use Rattle.tsdb_run.specs.Steps.{IsInLineOrder, IsOfScript, IsWritten};
+ghost use Rattle.tsdb_run.specs.Text.{output_text, series_of};
+ghost use Rattle.tsdb_run.specs.Words.{AreWords};
 
 use crate::command::{Numbered, Told};
+use crate::execute::execute;
 use crate::input::take_script;
 use crate::output::put_output;
 use crate::script::{ScriptFault, read_script};
-use crate::serve::serve;
 use crate::status::{Ended, Status};
 use crate::word::{Word, are_good};
 use std::alloc::Global;
 use tsdb_base::List;
 use tsdb_outside::{Sink, Source, StoreFault};
 
-/// Serves the script that the source gives, and writes the output into the sink.
+/// Executes the script that the source gives, and writes the output into the sink.
 ///
 /// The words are `run` and a directory. The script is read to its end, up to one byte more than it may have, then
-/// read as commands; the commands are carried out in the order of its lines, and then the output is written, line by
-/// line. Want of memory is answered as `Memory` at any place.
+/// read as commands. The commands are executed in the order of its lines. Then the output is written, line by line.
+/// It may run out of memory at any place.
 pub fn run<S: Source, K: Sink>(alloc: Global, words: &[Word], script: &mut S, out: &mut K) -> Ended
     ensures headline { Headline result.status (S.left script.old) result.history (K.held out.old) (K.held out.new) }
     ensures whole_source { result.status ≡ Status.Done → IsAtEnd (S.left script.new) }
-    ensures budget { TakesFront (S.left script.old) (S.left script.new) }
+    ensures budget { TakesPrefix (S.left script.old) (S.left script.new) }
 
-    // When each answer may come.
+    // When each status may come.
     ensures words { (result.status ≡ Status.Words) ↔ ¬ AreWords words.now }
     ensures good_words { result.status ≢ Status.Words → AreWords words.now }
     ensures source { result.status ≡ Status.Source → Rose (S.faults script.old) (S.faults script.new) }
     ensures sink { result.status ≡ Status.Sink → Rose (K.faults out.old) (K.faults out.new) }
-    ensures blames { IfSome (S.left script.old) (Blames result.status) }
 
-    // What must be answered.
-    ensures bad { AreWords words.now → IfSome (S.left script.old) (λ bytes. (line : ℕ) → IsFirstBad bytes line → AnswersBad result.status line) }
-    ensures good { AreWords words.now → IfSome (S.left script.old) (λ bytes. (commands : List Numbered) → IsScript bytes commands → AnswersGood result.status) }
-
-    // The counts of faults never fall.
+    // What stays as it was.
+    ensures source_untouched { result.status ≡ Status.Words → script.new ≡ script.old }
+    ensures source_count { result.status ≢ Status.Source → S.faults script.new ≡ S.faults script.old }
     ensures source_later { S.faults script.old ≤ S.faults script.new }
+    ensures sink_untouched { IsBeforeOutput result.status → out.new ≡ out.old }
     ensures sink_later { K.faults out.old ≤ K.faults out.new }
-{
-    attempt(alloc, words, script, out)
-}
 
-/// The run, with what it may answer.
-fn attempt<S: Source, K: Sink>(alloc: Global, words: &[Word], script: &mut S, out: &mut K) -> Ended
-    ensures headline { Headline result.status (S.left script.old) result.history (K.held out.old) (K.held out.new) }
-    ensures whole_source { result.status ≡ Status.Done → IsAtEnd (S.left script.new) }
-    ensures budget { TakesFront (S.left script.old) (S.left script.new) }
-    ensures words { (result.status ≡ Status.Words) ↔ ¬ AreWords words.now }
-    ensures good_words { result.status ≢ Status.Words → AreWords words.now }
-    ensures source { result.status ≡ Status.Source → Rose (S.faults script.old) (S.faults script.new) }
-    ensures sink { result.status ≡ Status.Sink → Rose (K.faults out.old) (K.faults out.new) }
-    ensures blames { IfSome (S.left script.old) (Blames result.status) }
-    ensures source_later { S.faults script.old ≤ S.faults script.new }
-    ensures sink_later { K.faults out.old ≤ K.faults out.new }
+    // The first bad line is reported, unless memory or the source failed first. The output of a good script is
+    // written, unless memory runs out or a count of faults rises.
+    ensures first_bad { AreWords words.now → IfSome (S.left script.old) (λ bytes.
+        (line : ℕ) → IsFirstBad bytes line → ReportsBad result.status line) }
+    ensures complete { AreWords words.now → IfSome (S.left script.old) (λ bytes.
+        (commands : List Numbered) → IsScript bytes commands
+        → ¬ Rose (S.faults script.old) (S.faults script.new) → ¬ Rose (K.faults out.old) (K.faults out.new)
+        → IsDoneOrMemory result.status) }
 {
     if !are_good(words) {
-        return unserved(alloc, Status::Words);
+        return end_without_commands(alloc, Status::Words);
     }
     match take_script(alloc, script) {
-        Ok(bytes) => obey(alloc, &bytes, out),
-        Err(StoreFault::Failed) => unserved(alloc, Status::Source),
-        Err(StoreFault::Memory) => unserved(alloc, Status::Memory),
+        Ok(bytes) => run_script(alloc, bytes, out),
+        Err(StoreFault::Failed) => end_without_commands(alloc, Status::Source),
+        Err(StoreFault::Memory) => end_without_commands(alloc, Status::Memory),
     }
 }
 
-/// Serves the script of these bytes.
-fn obey<K: Sink>(alloc: Global, bytes: &[u8], out: &mut K) -> Ended
-    ensures headline { Headline result.status (Some bytes.now) result.history (K.held out.old) (K.held out.new) }
-    ensures never { IsOfScript result.status }
+/// Runs the script of these bytes.
+fn run_script<K: Sink>(alloc: Global, bytes: Vec<u8>, out: &mut K) -> Ended
+    ensures headline { Headline result.status (Some bytes.items) result.history (K.held out.old) (K.held out.new) }
+    ensures statuses { IsOfScript result.status }
     ensures sink { result.status ≡ Status.Sink → Rose (K.faults out.old) (K.faults out.new) }
-    ensures blames { Blames result.status bytes.now }
+    ensures sink_untouched { IsBeforeOutput result.status → out.new ≡ out.old }
     ensures sink_later { K.faults out.old ≤ K.faults out.new }
 {
-    let script = match read_script(alloc, bytes) {
+    let script = match read_script(alloc, &bytes) {
         Ok(script) => script,
         Err(ScriptFault::Bad { line, kind }) => {
-            return unserved(alloc, Status::Script { line, kind });
+            return end_without_commands(alloc, Status::Script { line, kind });
         }
-        Err(ScriptFault::Memory) => return unserved(alloc, Status::Memory),
+        Err(ScriptFault::Memory) => return end_without_commands(alloc, Status::Memory),
     };
-    let Ok(history) = serve(alloc, script.items()) else {
-        return unserved(alloc, Status::Memory);
+    drop(bytes);
+    let Ok(history) = execute(alloc, script.items()) else {
+        return end_without_commands(alloc, Status::Memory);
     };
-    let status = put_status(alloc, out, script.items(), history.items());
+    let status = write_output(alloc, out, script.items(), history.items());
     Ended { status, history }
 }
 
-/// How a run ends that puts the output of a script and its history.
-fn put_status<K: Sink>(alloc: Global, out: &mut K, script: &[Numbered], history: &[Told]) -> Status
+/// How a run ends that writes the output of a script and its history.
+fn write_output<K: Sink>(
+    alloc: Global,
+    out: &mut K,
+    script: &[Numbered],
+    history: &[Told],
+) -> Status
     requires one { AllByRecursion (λ numbered. numbered.session ≡ 1) script.now }
     requires series { AllByRecursion (λ numbered. 2 ≤ node_count (series_of numbered.command)) script.now }
     requires told { IsInLineOrder script.now history.now }
@@ -111,8 +109,8 @@ fn put_status<K: Sink>(alloc: Global, out: &mut K, script: &[Numbered], history:
     }
 }
 
-/// The end of a run that carried no command out.
-fn unserved(alloc: Global, status: Status) -> Ended
+/// The end of a run that executed no command.
+fn end_without_commands(alloc: Global, status: Status) -> Ended
     ensures status { result.status ≡ status }
     ensures history { result.history ≡ [] }
 {

@@ -1,6 +1,6 @@
-//! The words of the command line.
+//! The words of the command line. Depends on nothing here.
 ghost use Rattle.std.specs.Prelude.{◌≡◌, ◌↔◌, IfOk, IsTrue};
-ghost use Rattle.tsdb_run.specs.Reading.{AreWords, IsDirectory};
+ghost use Rattle.tsdb_run.specs.Words.{AreWords, IsDirectory};
 
 use std::alloc::Global;
 use std::marker::Model;

@@ -2,8 +2,8 @@ use Rattle.std.proofs.Common.{◌++◌, length-append, length-take, take, arith}
 use Rattle.tsdb_run.proofs.InputLemmas.{Consumes-twice}
 use Rattle.tsdb_run.proofs.input.take_script.Goals as goal
 
-pub returns-in_err-extend_from_slice-clause-front : goal.returns-in_err-extend_from_slice-clause-front
-returns-in_err-extend_from_slice-clause-front g c =
+pub returns-in_err-extend_from_slice-clause-prefix : goal.returns-in_err-extend_from_slice-clause-prefix
+returns-in_err-extend_from_slice-clause-prefix g c =
     let before = c.loop-piece.bytes.items in
     let next = take c.in_ok-count.count c.take.new.into in
     let few = c.in_ok-count.ensures.bound in

@@ -1,6 +1,6 @@
 use Rattle.std.proofs.Common.{ap, sym, ◌∙◌, Err}
 use Rattle.std.proofs.lemmas.Result.{err_from_is_err_and}
-use Rattle.tsdb_run.proofs.OutputLemmas.{HasPut-more, Puts-failed, AppendsFront-more}
+use Rattle.tsdb_run.proofs.OutputLemmas.{HasPut-more, Puts-failed, AppendsPrefix-more}
 use Rattle.tsdb_run.proofs.output.put_lines.Goals as goal
 
 pub returns-in_err-put_all : goal.returns-in_err-put_all
@@ -8,7 +8,7 @@ returns-in_err-put_all g c =
     let p = err_from_is_err_and c.from_residual.result c.from_residual.ensures.1 in
     let was = c.in_err-put_all.was in
     rw p.1 (Puts-failed _ c.args.text.now _ _ _ c.loop-rest.rest.now _ _ p.0 c.loop-rest.invariant
-    (AppendsFront-more _ _ c.loop-rest.rest.now _ _ c.first_line.ensures.whole c.put_all.ensures.front)
+    (AppendsPrefix-more _ _ c.loop-rest.rest.now _ _ c.first_line.ensures.whole c.put_all.ensures.prefix)
     c.put_all.ensures.cause.later (λ failed. c.put_all.ensures.cause.failed (was ∙ ap Err (sym p.2 ∙ failed))))
 
 pub loop-rest-preserved : goal.loop-rest-preserved

@@ -1,7 +1,7 @@
 use Rattle.std.proofs.Common.{◌≡◌, ap, sym, ◌∙◌, map, rules}
 use Rattle.std.specs.Map.Iter.{deref_pair}
 use Rattle.std.proofs.lemmas.Map.Iter.{iter_end}
-use Rattle.tsdb_run.proofs.KeptLemmas.{entries-points_of}
+use Rattle.tsdb_run.proofs.MapLemmas.{entries-points_of}
 use Rattle.tsdb_run.proofs.plain.copied.Goals as goal
 
 pub returns : goal.returns

@@ -1,7 +1,7 @@
 use Rattle.std.proofs.Common.{◌≡◌, eqb, true, subst}
 use Rattle.std.specs.Prelude.{IsTrue, ◌↔◌}
 use Rattle.std.specs.Cmp.Lexicographic.{pointwise}
-use Rattle.tsdb_run.specs.Reading.{IsDirectory}
+use Rattle.tsdb_run.specs.Words.{IsDirectory}
 use Rattle.tsdb_run.proofs.WordLemmas.{AreWords-two}
 use Rattle.tsdb_run.proofs.word.are_good.Goals as goal
 

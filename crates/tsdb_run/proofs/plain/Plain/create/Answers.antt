@@ -1,6 +1,6 @@
 use Rattle.std.proofs.Common.{◌≡◌, sym, ◌∙◌, true, false}
 use Rattle.std.specs.FinMap as map
-use Rattle.tsdb_run.proofs.KeptLemmas.{contains_key-world, world_of-created}
+use Rattle.tsdb_run.proofs.MapLemmas.{contains_key-world, world_of-created}
 use Rattle.tsdb_run.proofs.plain.Plain.create.Goals as goal
 
 pub returns-then-contains_key-clause-reply : goal.returns-then-contains_key-clause-reply

@@ -6,8 +6,8 @@ use Rattle.std.specs.FinMap as map
 use Rattle.std.specs.FinMap.{from_entries}
 use Rattle.std.specs.Option.{option_copied_mut}
 use Rattle.tsdb_run.specs.World.{written}
-use Rattle.tsdb_run.specs.Kept.{world_of}
-use Rattle.tsdb_run.proofs.KeptLemmas.{contains_key-world, get-world, world-same, world-inserted, points_of-inserted}
+use Rattle.tsdb_run.specs.Maps.{world_of}
+use Rattle.tsdb_run.proofs.MapLemmas.{contains_key-world, get-world, world-same, world-inserted, points_of-inserted}
 use Rattle.tsdb_run.proofs.plain.Plain.insert.Goals as goal
 
 pub returns-in_default-clause-reply : goal.returns-in_default-clause-reply

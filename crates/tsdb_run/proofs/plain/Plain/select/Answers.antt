@@ -3,7 +3,7 @@ use Rattle.std.proofs.Common.{ap, sym, ◌∙◌}
 use Rattle.std.specs.Option.{option_copied}
 use Rattle.tsdb_run.specs.World.{lines_of}
 use Rattle.tsdb_run.specs.declared.command.Reply.TheVariants.{Lines}
-use Rattle.tsdb_run.proofs.KeptLemmas.{get-world}
+use Rattle.tsdb_run.proofs.MapLemmas.{get-world}
 use Rattle.tsdb_run.proofs.plain.Plain.select.Goals as goal
 
 pub returns-in-None : goal.returns-in-None

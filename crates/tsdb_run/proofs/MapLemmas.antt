@@ -17,7 +17,7 @@ use Rattle.tsdb_base.specs.declared.value.Value.{Value}
 use Rattle.std.proofs.lemmas.Map.Views.{tells_apart}
 use Rattle.std.proofs.lemmas.Map.Lookups.{exact_bytes}
 use Rattle.tsdb_run.specs.World.{Points, World, written}
-use Rattle.tsdb_run.specs.Kept.{points_of, entry_of, world_of}
+use Rattle.tsdb_run.specs.Maps.{points_of, entry_of, world_of}
 
 abbrev path_cmp : List ℕ → List ℕ → Ordering
 path_cmp = slice_cmp nat_cmp

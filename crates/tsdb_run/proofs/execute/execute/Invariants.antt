@@ -2,7 +2,7 @@
 use Rattle.std.proofs.Common.{◌≡◌, length}
 use Rattle.std.specs.FinMap as map
 use Rattle.tsdb_run.proofs.HistoryLemmas.{IsToldSoFar}
-use Rattle.tsdb_run.proofs.serve.serve.Given as goal
+use Rattle.tsdb_run.proofs.execute.execute.Given as goal
 
 abbrev pub invariant-loop-numbered : goal.invariant-loop-numbered
 invariant-loop-numbered l = record {

@@ -4,10 +4,12 @@ use Rattle.std.proofs.lemmas.List.{length-append}
 use Rattle.std.proofs.lemmas.List.Elements.{recursion_from_All}
 use Rattle.std.specs.List.{slice_get}
 use Rattle.std.specs.FinMap as map
-use Rattle.tsdb_run.specs.History.{IsInLineOrder, IsLegal}
+use Rattle.tsdb_run.specs.History.{IsLegal}
+use Rattle.tsdb_run.specs.Steps.{IsInLineOrder}
+use Rattle.tsdb_run.specs.World.{World}
 use Rattle.tsdb_run.specs.declared.command.Told.{Told}
 use Rattle.tsdb_run.proofs.HistoryLemmas.{IsToldSoFar, one_more, read_at, IsComplete-in_line_order}
-use Rattle.tsdb_run.proofs.serve.serve.Goals as goal
+use Rattle.tsdb_run.proofs.execute.execute.Goals as goal
 
 pub loop-numbered-preserved : goal.loop-numbered-preserved
 loop-numbered-preserved c =
@@ -33,4 +35,4 @@ returns-clause-complete c =
     IsComplete-in_line_order c.args.script.now c.of.result ones (returns-clause-in_order c)
 
 pub returns-clause-legal : goal.returns-clause-legal
-returns-clause-legal c = subst (λ h. IsLegal c.args.script.now map.empty h) (sym c.of.ensures) (c.loop-numbered.plain, c.loop-numbered.invariant.told.leads)
+returns-clause-legal c = subst (λ h. (after : World) × IsLegal c.args.script.now map.empty h after) (sym c.of.ensures) (c.loop-numbered.plain, c.loop-numbered.invariant.told.leads)

@@ -1,0 +1,20 @@
+//! What no clause says: the texts on standard error.
+
+use crate::report;
+use std::test::Fail;
+use tsdb_run::Status;
+
+#[test]
+fn codes_and_their_texts(rt: HostRuntime) -> Result<(), Fail> {
+    let alloc = rt.alloc();
+    let ends = [
+        (Status::Words, 2, "usage: tsdb run DIR\n"),
+        (Status::Script { line: 2, kind: 5 }, 3, "line 2 kind 5\n"),
+    ];
+    for (status, code, text) in ends {
+        let mut err = Vec::new(alloc);
+        assert_eq!(rt; report(alloc, status, &mut err), code);
+        assert_eq!(rt; err.as_slice(), text.as_bytes());
+    }
+    Ok(())
+}
