@@ -6,18 +6,30 @@
 mod encodings;
 mod fault;
 mod table;
+mod turns;
 
 use fault::Fault;
 use std::env;
+use std::sync::Wait;
+use std::thread::Threads;
 use table::Rounds;
 
 /// Measures the group of this name, or all where it is empty. The result depends on all that was
-/// computed, so that no compiler leaves the work out.
-fn measure(rt: &HostRuntime, group: &str, rounds: Rounds) -> Result<u64, Fault> {
+/// computed, so that no compiler leaves the work out. `handle` is the runtime again, as the right to
+/// start threads and to wait.
+fn measure<R: Threads + Wait + Sync>(
+    rt: &HostRuntime,
+    handle: &R,
+    group: &str,
+    rounds: Rounds,
+) -> Result<u64, Fault> {
     let mut check = 0u64;
     let is_all = group.is_empty();
     if is_all || group == "encodings" {
         check = check.wrapping_add(encodings::encodings(rt, rounds)?);
+    }
+    if is_all || group == "turns" {
+        check = check.wrapping_add(turns::turns(rt, handle, rounds)?);
     }
     if check == 0 {
         return Err(Fault::NoGroup);
@@ -30,15 +42,15 @@ fn main(rt: HostRuntime) -> Result<(), Fault> {
     match words.skip(1).next() {
         None => {
             table::head(&rt)?;
-            let check = measure(&rt, "", Rounds::Many)?;
+            let check = measure(&rt, &rt, "", Rounds::Many)?;
             println!(rt; "check {check}")?;
         }
         Some(word) if word.as_str() == "quick" => {
-            measure(&rt, "", Rounds::One)?;
+            measure(&rt, &rt, "", Rounds::One)?;
         }
         Some(word) => {
             table::head(&rt)?;
-            let check = measure(&rt, word.as_str(), Rounds::Many)?;
+            let check = measure(&rt, &rt, word.as_str(), Rounds::Many)?;
             println!(rt; "check {check}")?;
         }
     }
