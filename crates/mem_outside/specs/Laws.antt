@@ -53,9 +53,12 @@ seen_stays slot first calls = kept_by_calls SeenMayStay stays_after_kind slot (n
 -- a stop now is a stop since now, and since now there is no other
 left_now : (first : Image) (calls : List Call) (t : ℕ) (image : Image) → t ≤ length calls → LeavesOf first calls image
     → LeftSince first calls t image
-left_now first calls t image le left =
-    (length calls, le, omega arith,
-    subst (λ l. LeavesOf first l image) (sym (take_all (length calls) calls (omega arith))) left)
+left_now first calls t image le left = (
+  length calls,
+  le,
+  omega arith,
+  subst (λ l. LeavesOf first l image) (sym (take_all (length calls) calls (omega arith))) left,
+)
 
 only_left_now : (first : Image) (calls : List Call) (image : Image) → LeftSince first calls (length calls) image
     → LeavesOf first calls image
