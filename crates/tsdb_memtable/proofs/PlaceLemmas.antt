@@ -4,9 +4,8 @@ use Rattle.std.specs.Prelude.{ℤ, IsSome, is_some}
 use Rattle.std.specs.Ordering.{is_eq, nat_cmp}
 use Rattle.std.specs.Cmp.Lexicographic.{slice_cmp}
 use Rattle.std.specs.declared.cmp.Ordering.TheVariants.{Less, Equal, Greater}
-use Rattle.std.proofs.lemmas.Bool.{false_from_ne_true, cases_Bool, false≢true}
+use Rattle.std.proofs.lemmas.Bool.{false_from_ne_true, false≢true}
 use Rattle.std.proofs.lemmas.Map.Lookups.{exact_bytes}
-use Rattle.std.proofs.Common.{⊎_elim}
 use Rattle.tsdb_memtable.specs.Watermarks.{flat, is_device}
 
 is_eq-equal : (o : Ordering) → is_eq o ≡ true → o ≡ Equal

@@ -1,5 +1,5 @@
-use Rattle.std.proofs.Common.{◌≡◌, List, ℕ, Option, None, refl, ap, sym, subst, ◌∙◌}
-use Rattle.std.specs.Prelude.{ℤ, IsSome}
+use Rattle.std.proofs.Common.{◌≡◌, List, ℕ, None, refl, ap, sym, subst, ◌∙◌}
+use Rattle.std.specs.Prelude.{IsSome}
 use Rattle.std.specs.Map.{lookup}
 use Rattle.tsdb_memtable.specs.Watermarks.{Watermarks, is_device, watermark}
 use Rattle.tsdb_memtable.proofs.PlaceLemmas.{flat-added, still-some, none-from}
