@@ -1,11 +1,10 @@
 -- The laws of the plain model.
-use Rattle.std.proofs.Common.{◌≡◌, ◌≢◌, ◌⊎◌, ◌&&◌, inl, inr, ℕ, ℤ, zero, suc, Bool, true, false, cond, not, List, [], ◌∷◌, map, Option, None, Some, is_some, refl, sym, ap, ◌∙◌, subst, arith}
+use Rattle.std.proofs.Common.{◌≡◌, ◌≢◌, ◌⊎◌, ◌&&◌, inl, inr, ℕ, ℤ, zero, suc, Bool, true, false, cond, not, List, [], ◌∷◌, map, Option, None, Some, is_some, refl, sym, ap, ◌∙◌, arith}
 use Rattle.std.specs.Prelude.{slice_get}
 use Rattle.std.specs.Ordering.{int_cmp, nat_cmp, eq_by_cmp}
-use Rattle.std.specs.Cmp.{eq_by_cmp_equiv, int_cmp_total}
+use Rattle.std.specs.Cmp.{int_cmp_total}
 use Rattle.std.specs.Cmp.Lexicographic.{slice_cmp, nat_list_cmp_total}
-use Rattle.std.specs.FinMap.{get, insert, retain_keys, get-empty, get-insert, get-retain_keys, int_cmp-IsAntisymmetric}
-use Rattle.std.proofs.lemmas.Bool.{false≢true}
+use Rattle.std.specs.FinMap.{get, get-empty, get-insert, get-retain_keys, int_cmp-IsAntisymmetric}
 use Rattle.std.proofs.lemmas.Map.Views.{tells_apart}
 use Rattle.std.proofs.lemmas.Map.Lookups.{exact_bytes, exact_signed}
 use Rattle.std.specs.declared.cmp.Ordering.TheVariants.{Equal}
@@ -14,17 +13,15 @@ use Rattle.tsdb_base.specs.declared.answers.Answer.TheVariants.{Done, NoPath, Wr
 use Rattle.tsdb_base.specs.declared.point.Range.{Range}
 use Rattle.tsdb_base.specs.declared.value.Value.{Value}
 use Rattle.tsdb_map.specs.declared.command.Cell.{Cell}
-use Rattle.tsdb_map.specs.declared.command.Command.{Command}
 use Rattle.tsdb_map.specs.declared.command.Command.TheVariants.{Delete, Insert}
 use Rattle.tsdb_map.specs.declared.command.Literal.{Literal}
 use Rattle.tsdb_map.specs.declared.command.Row.{Row}
-use Rattle.tsdb_map.specs.declared.reply.Reply.{Reply}
 use Rattle.tsdb_map.specs.declared.reply.Reply.TheVariants.{Plain}
-use Rattle.tsdb_map.specs.World.{change, changed, cut, is_in, points_of, put, value_at, Points, Series, World}
-use Rattle.tsdb_map.specs.Apply.{after_reply, all_fit, delete_answer, fits_series, insert_answer, put_cells, put_literal, put_value, reply_of, series_of, value_of, world_after}
+use Rattle.tsdb_map.specs.World.{change, changed, cut, is_in, points_of, put, value_at, Series, World}
+use Rattle.tsdb_map.specs.Apply.{after_reply, all_fit, fits_series, insert_answer, put_cells, put_literal, put_value, reply_of, series_of, value_of, world_after}
 use Rattle.tsdb_map.specs.Commands.{AreDifferent, IsRow}
 use Rattle.tsdb_map.specs.Laws.{IsNamed}
-use Rattle.tsdb_map.proofs.PlainLemmas.{cell-put, done_fits, Fits, fits, here, here_at, not_done, rest_fits}
+use Rattle.tsdb_map.proofs.PlainLemmas.{cell-put, done_fits, fits, here, here_at, not_done, rest_fits}
 use Rattle.tsdb_map.proofs.WorldLemmas.{behind, behind-child}
 use Rattle.tsdb_path.specs.Nodes.{child_of}
 

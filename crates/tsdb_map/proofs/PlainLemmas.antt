@@ -1,5 +1,5 @@
 -- What a command answers, and what a row that is written, or taken back, leaves.
-use Rattle.std.proofs.Common.{◌≡◌, ◌≢◌, ℕ, zero, suc, ◌-◌, ◌<◌, ◌≤◌, length, take, drop, get_or, Result, Ok, Err, is_err, arith, ℤ, Bool, true, false, cond, ◌&&◌, List, [], ◌∷◌, map, Option, None, Some, is_some, refl, sym, ap, ◌∙◌, subst, Ordering}
+use Rattle.std.proofs.Common.{◌≡◌, ℕ, zero, suc, ◌-◌, ◌<◌, ◌≤◌, length, take, drop, get_or, Result, Ok, Err, is_err, arith, ℤ, Bool, true, false, cond, ◌&&◌, List, [], ◌∷◌, map, Option, None, Some, is_some, refl, sym, ap, ◌∙◌, subst}
 use Rattle.std.specs.Prelude.{IfSome, IsSome, OnErr}
 use Rattle.std.specs.List.{list_all}
 use Rattle.std.specs.Ordering.{nat_cmp, int_cmp, eq_by_cmp}
@@ -256,7 +256,3 @@ moved f catalog world p path same joined = ap (λ w. f w p) same ∙ ap (f world
 
 pub insert_kept : (world : World) (device : List ℕ) (row : Row) → (insert_answer world device row.cells ≡ Done → ⊥) → world ≡ world_after world (Insert device row)
 insert_kept world device row h = sym (not_done world (Insert device row) (insert_answer world device row.cells) h)
-
-pub insert_done : (world after : World) (device : List ℕ) (row : Row) → insert_answer world device row.cells ≡ Done → after ≡ put_cells world device row.time row.cells
-    → after ≡ world_after world (Insert device row)
-insert_done world after device row e is = is ∙ sym (ap (λ a. after_reply world (Insert device row) (Plain a)) e)

@@ -1,12 +1,11 @@
 -- The rows and the aggregates of several series, as they are collected item by item.
-use Rattle.std.proofs.Common.{◌≡◌, ℕ, suc, ◌+◌, ◌<◌, ◌≤◌, ℤ, Bool, true, false, cond, ◌&&◌, ◌||◌, List, [], ◌∷◌, ◌++◌, map, length, take, get_or, Option, None, Some, is_some, refl, sym, ap, ◌∙◌, arith}
-use Rattle.std.specs.List.{flat_map, list_all, list_any}
+use Rattle.std.proofs.Common.{◌≡◌, ℕ, ◌+◌, ◌<◌, ◌≤◌, ℤ, Bool, true, false, cond, ◌||◌, List, [], ◌∷◌, ◌++◌, map, length, take, get_or, Option, None, is_some, refl, sym, ap, ◌∙◌}
+use Rattle.std.specs.List.{flat_map, list_all}
 use Rattle.std.specs.Ordering.{int_cmp}
 use Rattle.std.specs.FinMap.{entries, get, keys, from_entries}
 use Rattle.std.specs.FinMap.Entries.{find}
 use Rattle.std.specs.BTreeSet as set
 use Rattle.std.specs.BTreeSet.{BTreeSet}
-use Rattle.std.specs.Map.Iter.{deref}
 use Rattle.std.proofs.lemmas.List.{take_more}
 use Rattle.std.proofs.lemmas.List.Concat.{flat_map-append}
 use Rattle.std.proofs.lemmas.List.Folds.{list_all_at, list_all-map}
@@ -18,7 +17,7 @@ use Rattle.tsdb_base.specs.declared.answers.Answer.TheVariants.{NoPath, WrongTyp
 use Rattle.tsdb_map.specs.declared.reply.Line.{Line}
 use Rattle.tsdb_map.specs.declared.reply.Reply.TheVariants.{Lines, Plain, Values}
 use Rattle.tsdb_map.specs.World.{points_of, Points, Series, World}
-use Rattle.tsdb_map.specs.Folds.{line_at, rows, times_of, within}
+use Rattle.tsdb_map.specs.Folds.{line_at, rows, within}
 use Rattle.tsdb_map.specs.Apply.{any_unfit, are_there, ask_aggregates, columns_of, item_values, select_reply, series_of}
 use Rattle.tsdb_map.proofs.PlainLemmas.{whole}
 use Rattle.tsdb_map.proofs.TimeLemmas.{Entries, has-append, keys-set}

@@ -1,9 +1,9 @@
 -- The times of several series, as an ordered set collects them.
-use Rattle.std.proofs.Common.{◌≡◌, ℕ, ℤ, Bool, true, false, cond, ◌&&◌, ◌||◌, List, [], ◌∷◌, ◌++◌, map, Option, None, Some, is_some, refl, sym, ap, ◌∙◌, subst}
+use Rattle.std.proofs.Common.{◌≡◌, ℤ, Bool, true, false, cond, ◌&&◌, ◌||◌, List, [], ◌∷◌, ◌++◌, map, Option, None, Some, is_some, refl, sym, ap, ◌∙◌, subst}
 use Rattle.std.specs.Prelude.{T}
 use Rattle.std.specs.Ordering.{int_cmp, is_lt, eq_by_cmp}
 use Rattle.std.specs.Cmp.{eq_by_cmp_equiv, int_cmp_total}
-use Rattle.std.specs.FinMap.{FinMap, keys, entries, from_entries, from_sorted, get-from_entries, get-from_sorted, get-entries, entries-from_sorted, entries_sorted, same_map, int_cmp-IsAntisymmetric}
+use Rattle.std.specs.FinMap.{keys, entries, from_entries, from_sorted, get-from_entries, get-from_sorted, get-entries, entries-from_sorted, entries_sorted, same_map, int_cmp-IsAntisymmetric}
 use Rattle.std.specs.FinMap.Entries.{find, below_all, is_sorted}
 use Rattle.std.specs.List.{AllByRecursion, list_any}
 use Rattle.std.specs.List.Sorted.{IsStrictlySortedBy}

@@ -1,5 +1,5 @@
 -- The series of all devices as one world: what is found there, and what a write to one series leaves.
-use Rattle.std.proofs.Common.{◌≡◌, ◌≢◌, ℕ, Bool, true, false, cond, List, [], ◌∷◌, ◌++◌, map, Option, None, Some, is_some, refl, sym, ap, ◌∙◌, subst, Ordering, eqb}
+use Rattle.std.proofs.Common.{◌≡◌, ◌≢◌, ℕ, Bool, true, false, cond, List, [], ◌∷◌, ◌++◌, map, Option, None, Some, is_some, refl, sym, ap, ◌∙◌, subst, Ordering}
 use Rattle.std.specs.Prelude.{All, IfSome, IsSome}
 use Rattle.std.specs.List.{flat_map, AllByRecursion}
 use Rattle.std.specs.List.Sorted.{IsStrictlySortedBy}
@@ -18,7 +18,6 @@ use Rattle.std.proofs.lemmas.Map.Views.{tells_apart, All-values-set_value, All-v
 use Rattle.std.proofs.lemmas.Map.Lookups.{exact_bytes}
 use Rattle.tsdb_map.specs.World.{change, changed, Series, World}
 use Rattle.tsdb_map.specs.Kept.{AreKept, IsDotless, device_entries, world_of}
-use Rattle.tsdb_map.proofs.PointLemmas.{find-lookup}
 use Rattle.tsdb_path.specs.Nodes.{child_of, device_of, dot, IsName}
 use Rattle.tsdb_path.proofs.Bytes.{IsNode-dotless}
 use Rattle.tsdb_path.proofs.Parts.{device_of-child}

@@ -1,8 +1,8 @@
 -- What the ordered maps of the program stand for in the plain model.
-use Rattle.std.specs.Prelude.{◌≡◌, ℕ, ℤ, Bool, true, false, List, Option, None, Some, map, flat_map, All, ◌==◌, refl}
+use Rattle.std.specs.Prelude.{◌≡◌, ℕ, ℤ, Bool, true, false, List, Option, None, Some, map, flat_map, All, ◌==◌}
 use Rattle.std.proofs.Common.{ap}
 use Rattle.std.specs.BTreeMap.{BTreeMap, IsOrdered, keys, values}
-use Rattle.std.specs.Ordering.{nat_cmp, int_cmp}
+use Rattle.std.specs.Ordering.{nat_cmp}
 use Rattle.std.specs.Cmp.Lexicographic.{slice_cmp}
 use Rattle.std.specs.Coded.{coded_list, coded_ℕ, coded_ℤ}
 use Rattle.std.specs.FinMap.{from_entries, remove}

@@ -86,7 +86,8 @@ pub fn greatest(points: btree_map::Range<'_, Time, Value>) -> Result<Option<Valu
 
 /// The lesser of two numbers, of which the first may not be there; another value is passed over.
 fn lesser<'a>(least: Option<&'a Value>, value: &'a Value) -> Option<&'a Value>
-    ensures { option_copied result ≡ better folds.lesser (folds.number_of value.now) (option_copied least.entry) value.now }
+    ensures { option_copied result
+        ≡ better folds.lesser (folds.number_of value.now) (option_copied least.entry) value.now }
 {
     if number_of(value).is_none() {
         return least;
@@ -99,7 +100,8 @@ fn lesser<'a>(least: Option<&'a Value>, value: &'a Value) -> Option<&'a Value>
 
 /// The greater of two numbers, of which the first may not be there; another value is passed over.
 fn greater<'a>(greatest: Option<&'a Value>, value: &'a Value) -> Option<&'a Value>
-    ensures { option_copied result ≡ better folds.greater (folds.number_of value.now) (option_copied greatest.entry) value.now }
+    ensures { option_copied result
+        ≡ better folds.greater (folds.number_of value.now) (option_copied greatest.entry) value.now }
 {
     if number_of(value).is_none() {
         return greatest;

@@ -23,13 +23,15 @@ pub fn last_write_wins()
 
 /// A write leaves every series that it does not name, and every other time, as it was.
 pub fn other_values_stay()
-    ensures { (world : World) (device path : List ℕ) (row : Row) (time : ℤ) → (¬ IsNamed device row.cells path) ⊎ (time ≢ row.time)
+    ensures { (world : World) (device path : List ℕ) (row : Row) (time : ℤ)
+        → (¬ IsNamed device row.cells path) ⊎ (time ≢ row.time)
         → value_at (world_after world (Command.Insert device row)) path time ≡ value_at world path time }
 {}
 
 /// An insert that is refused changes no series.
 pub fn refused_insert_changes_nothing()
-    ensures { (world : World) (device : List ℕ) (row : Row) → reply_of world (Command.Insert device row) ≢ Reply.Plain Answer.Done
+    ensures { (world : World) (device : List ℕ) (row : Row)
+        → reply_of world (Command.Insert device row) ≢ Reply.Plain Answer.Done
         → world_after world (Command.Insert device row) ≡ world }
 {}
 
@@ -41,6 +43,7 @@ pub fn deletion_removes_its_range()
 
 /// A deletion leaves every other series, and every time outside its range, as it was.
 pub fn deletion_keeps_the_rest()
-    ensures { (world : World) (series path : List ℕ) (range : Range) (time : ℤ) → (path ≢ series) ⊎ (is_in range time ≡ false)
+    ensures { (world : World) (series path : List ℕ) (range : Range) (time : ℤ)
+        → (path ≢ series) ⊎ (is_in range time ≡ false)
         → value_at (world_after world (Command.Delete series range)) path time ≡ value_at world path time }
 {}

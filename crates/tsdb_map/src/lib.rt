@@ -21,3 +21,6 @@ pub use laws::{
 };
 pub use plain::Plain;
 pub use reply::{FileLine, Line, Listing, Reply};
+
+#[cfg(test)]
+mod tests;

@@ -10,7 +10,8 @@ use tsdb_base::{List, Memory, Range, Time};
 
 /// The rows of the columns: a line for each time in the range at which one has a value.
 pub fn rows(alloc: Global, columns: &[&Series], range: &Range) -> Result<Vec<Line>, Memory>
-    ensures { IfOk result (λ lines. lines.items ≡ folds.rows (map (λ column. folds.within range.now column.now.points) columns.now)) }
+    ensures { IfOk result (λ lines. lines.items
+        ≡ folds.rows (map (λ column. folds.within range.now column.now.points) columns.now)) }
 {
     let mut times = BTreeSet::new(alloc);
     for column in columns {
@@ -25,7 +26,8 @@ pub fn rows(alloc: Global, columns: &[&Series], range: &Range) -> Result<Vec<Lin
 
 /// What the columns have at a time, if it is in the range.
 fn line_at(alloc: Global, columns: &[&Series], range: &Range, time: Time) -> Result<Line, Memory>
-    ensures { IfOk result (λ line. line ≡ folds.line_at (map (λ column. folds.within range.now column.now.points) columns.now) time) }
+    ensures { IfOk result (λ line. line
+        ≡ folds.line_at (map (λ column. folds.within range.now column.now.points) columns.now) time) }
 {
     let mut values = Vec::with_capacity(alloc, columns.len())?;
     for column in columns {

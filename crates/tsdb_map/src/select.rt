@@ -55,8 +55,10 @@ fn find_columns<'a>(
     device: &Path,
     items: &[Item],
 ) -> Result<Option<Vec<&'a Series>>, Memory>
-    ensures none { IfOk result (λ found. IfNone found (apply.are_there catalog.now device.now (map (λ item. item.measurement) items.now) ≡ false)) }
-    ensures there { IfOk result (λ found. IfSome found (λ columns. apply.are_there catalog.now device.now (map (λ item. item.measurement) items.now) ≡ true)) }
+    ensures none { IfOk result (λ found. IfNone found (
+        apply.are_there catalog.now device.now (map (λ item. item.measurement) items.now) ≡ false)) }
+    ensures there { IfOk result (λ found. IfSome found (λ columns.
+        apply.are_there catalog.now device.now (map (λ item. item.measurement) items.now) ≡ true)) }
     ensures columns { IfOk result (λ found. IfSome found (λ columns. map (λ column. column.now.points) columns.items
         ≡ map (λ item. points_of (apply.series_of catalog.now device.now item.measurement)) items.now)) }
 {
@@ -79,7 +81,9 @@ fn aggregates(
     range: &Range,
 ) -> Result<Reply, Memory>
     requires { apply.are_there catalog.now device.now (map (λ item. item.measurement) items.now) ≡ true }
-    ensures { IfOk result (λ reply. reply ≡ (if apply.any_unfit catalog.now device.now items.now then Reply.Plain Answer.WrongType else Reply.Values (apply.item_values catalog.now device.now items.now range.now))) }
+    ensures { IfOk result (λ reply. reply ≡ (
+        if apply.any_unfit catalog.now device.now items.now then Reply.Plain Answer.WrongType
+        else Reply.Values (apply.item_values catalog.now device.now items.now range.now))) }
 {
     let mut values = Vec::with_capacity(alloc, items.len())?;
     for item in items {

@@ -1,4 +1,4 @@
-//! Paths and names as keys of maps: compared by the order of their bytes and hashed as their bytes. It depends on `path`
+//! Paths and names as keys of maps: compared by the order of their bytes, and hashed as their bytes. Depends on `path`
 //! and `name`.
 ghost use Rattle.std.specs.Prelude.{◌≡◌, Some, refl, nat_eq};
 ghost use Rattle.std.proofs.Common.{rules};

@@ -4,21 +4,6 @@ use Rattle.std.proofs.lemmas.Bool.{cases_lt}
 use Rattle.std.proofs.lemmas.List.{get_or-take, get_or-drop, length-take-le, length-drop}
 use Rattle.tsdb_plan.specs.Places.{IsFirstPlace, IsPastLast}
 
--- the same property told in other words
-pub IsFirstPlace-same : {X : Type 0} (P Q : X → Type 0) → ((x : X) → P x → Q x) → ((x : X) → Q x → P x) → (xs : List X) (i : ℕ) → IsFirstPlace P xs i → IsFirstPlace Q xs i
-IsFirstPlace-same P Q f g xs i h = record {
-  within = h.within;
-  none_before = λ k d low high q. h.none_before k d low high (g (get_or xs k d) q);
-  there = λ l d. f (get_or xs i d) (h.there l d);
-}
-
-pub IsPastLast-same : {X : Type 0} (P Q : X → Type 0) → ((x : X) → P x → Q x) → ((x : X) → Q x → P x) → (xs : List X) (i : ℕ) → IsPastLast P xs i → IsPastLast Q xs i
-IsPastLast-same P Q f g xs i h = record {
-  within = h.within;
-  none_behind = λ k d low high q. h.none_behind k d low high (g (get_or xs k d) q);
-  there = λ l d. f (get_or xs (i - 1) d) (h.there l d);
-}
-
 -- there is one such place alone
 pub IsFirstPlace-one : {X : Type 0} (P : X → Type 0) (xs : List X) (d : X) (i k : ℕ) → IsFirstPlace P xs i → IsFirstPlace P xs k → i ≤ k
 IsFirstPlace-one P xs d i k h g =
@@ -61,14 +46,6 @@ IsFirstPlace-none P never xs = record { within = omega arith; none_before = λ k
 
 pub IsPastLast-none : {X : Type 0} (P : X → Type 0) → ((x : X) → P x → ⊥) → (xs : List X) → IsPastLast P xs 0
 IsPastLast-none P never xs = record { within = omega arith; none_behind = λ k d low high p. never (get_or xs k d) p; there = λ l d. absurd (omega arith) }
-
--- the first place of all, found among the items before one place alone
-pub IsFirstPlace-before : {X : Type 0} (Q : X → Type 0) (xs : List X) (i k : ℕ) → i ≤ length xs → IsFirstPlace Q (take i xs) k → k < i → IsFirstPlace Q xs k
-IsFirstPlace-before Q xs i k within h l = record {
-  within = omega arith;
-  none_before = λ j d low high q. h.none_before j d low high (subst Q (sym (get_or-take i xs j d (omega arith))) q);
-  there = λ m d. subst Q (get_or-take i xs k d l) (h.there (omega (arith, length-take-le i xs within)) d);
-}
 
 -- the lesser of a first place and of one found before it
 pub IsFirstPlace-further : {X : Type 0} (P Q R : X → Type 0) → ((x : X) → R x → P x ⊎ Q x) → ((x : X) → P x → R x) → ((x : X) → Q x → R x) → (xs : List X) (i k : ℕ) → IsFirstPlace P xs i → IsFirstPlace Q (take i xs) k → IsFirstPlace R xs k

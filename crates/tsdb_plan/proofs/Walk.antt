@@ -139,17 +139,6 @@ not_rising hulls n x y some l ex ey never rising =
     let first : IsBefore x (get_or hulls n x) = subst (λ (h : Hull). IsBefore h (get_or hulls n x)) (sym ex) step in
     never (subst (λ (h : Hull). IsBefore x h) (sym (get_or_read hulls n y l ey x)) first)
 
--- where no hull begins before a time, whatever reaches them ends at or after it, and the other way round
-pub ends_from_least : (late early : List Hull) (least : ℤ) → All (λ b. least ≤ℤ b.from) early → Reaches late early → Any (λ a. least ≤ℤ a.to) late
-ends_from_least late early least all (k, a, l, e, (n, b, m, f, (same, low))) =
-    let h : least ≤ℤ b.from = subst (λ (x : Hull). least ≤ℤ x.from) f (all n b m) in
-    (k, a, l, e, omega (arith, ints))
-
-pub begins_up_to_greatest : (late early : List Hull) (greatest : ℤ) → All (λ a. a.to ≤ℤ greatest) late → Reaches late early → Any (λ b. b.from ≤ℤ greatest) early
-begins_up_to_greatest late early greatest all (k, a, l, e, (n, b, m, f, (same, low))) =
-    let h : a.to ≤ℤ greatest = subst (λ (x : Hull). x.to ≤ℤ greatest) e (all k a l) in
-    (n, b, m, f, omega (arith, ints))
-
 -- a bound of a prefix, and of one hull more
 pub least_more : (hulls : List Hull) (n : ℕ) (hull : Hull) (old new : ℤ) → n < length hulls → hull ≡ get_or hulls n hull → All (λ h. old ≤ℤ h.from) (take n hulls) → new ≤ℤ old → new ≤ℤ hull.from → All (λ h. new ≤ℤ h.from) (take (n + 1) hulls)
 least_more hulls n hull old new l e all below here =

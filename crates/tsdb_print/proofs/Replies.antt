@@ -24,7 +24,7 @@ use Rattle.tsdb_map.specs.History.{IsAllowed}
 use Rattle.tsdb_map.specs.State.{State}
 use Rattle.tsdb_map.specs.World.{World}
 use Rattle.tsdb_print.specs.Alike.{IsInRange, IsRowInRange, IsCellInRange, shown, shown_answer, shown_value, shown_values, shown_row}
-use Rattle.tsdb_print.specs.Text.{aggregate_name, answer_text, cell_text, column_text, item_text, items_of, joined, line, reply_text, row_text, rows_text, values_text}
+use Rattle.tsdb_print.specs.Text.{aggregate_name, answer_text, cell_text, column_text, item_text, items_of, join_with_commas, line, reply_text, row_text, rows_text, values_text}
 use Rattle.tsdb_print.proofs.Words.{Begins, IsWord, Stops, apart_by_stop}
 use Rattle.tsdb_print.proofs.Cells.{rows_lines, same_rows, same_values}
 use Rattle.tsdb_print.proofs.Listings.{listing_begins, listing_shown, same_listing}
@@ -131,13 +131,13 @@ values_begin (item ∷ items) values are ask =
       | inr all ↦
           let found = first_aggregate item.aggregate (recursion_from_All (λ i. IsSome i.aggregate) (item ∷ items) all).0 in
           let others = flat_map (λ other. 44 ∷ other) (map item_text items) in
-          let begins = item_begins item (others ++ (10 ∷ line (joined (map cell_text values)))) found.0 found.1 in
+          let begins = item_begins item (others ++ (10 ∷ line (join_with_commas (map cell_text values)))) found.0 found.1 in
           record {
             word = begins.word;
             rest = begins.rest;
             letters = begins.letters;
-            is = append_assoc (item_text item ++ others) (10 ∷ []) (line (joined (map cell_text values)))
-                ∙ append_assoc (item_text item) others (10 ∷ line (joined (map cell_text values))) ∙ begins.is;
+            is = append_assoc (item_text item ++ others) (10 ∷ []) (line (join_with_commas (map cell_text values)))
+                ∙ append_assoc (item_text item) others (10 ∷ line (join_with_commas (map cell_text values))) ∙ begins.is;
           }
     ]
 
@@ -186,12 +186,12 @@ behind_rows rows = codes "ows " ++ decimal (length rows) ++ 10 ∷ []
 rows_apart : (items : List Item) (a b : List Line) → AllByRecursion IsRowInRange a → AllByRecursion IsRowInRange b → rows_text items a ≡ rows_text items b → map shown_row a ≡ map shown_row b
 unfolding behind_rows
 rows_apart items a b ra rb e =
-    let heading = line (joined (codes "time" ∷ map item_text items)) in
+    let heading = line (join_with_commas (codes "time" ∷ map item_text items)) in
     let whole = sym (append_assoc heading (rows_lines a) (114 ∷ behind_rows a)) ∙ e ∙ append_assoc heading (rows_lines b) (114 ∷ behind_rows b) in
     same_rows a b (behind_rows a) (behind_rows b) ra rb (append_cancel_left heading (rows_lines a ++ 114 ∷ behind_rows a) (rows_lines b ++ 114 ∷ behind_rows b) whole)
 
 values_apart : (items : List Item) (a b : List (Option Value)) → AllByRecursion IsCellInRange a → AllByRecursion IsCellInRange b → values_text items a ≡ values_text items b → shown_values a ≡ shown_values b
-values_apart items a b ra rb e = same_values a b ra rb (append_cancel_left (line (joined (map item_text items))) (line (joined (map cell_text a))) (line (joined (map cell_text b))) e)
+values_apart items a b ra rb e = same_values a b ra rb (append_cancel_left (line (join_with_commas (map item_text items))) (line (join_with_commas (map cell_text a))) (line (join_with_commas (map cell_text b))) e)
 
 pub apart : (command : Command) (a b : Reply) (state other : State) → IsWellFormed command → IsAllowed state command a → IsAllowed other command b → IsInRange a → IsInRange b
     → reply_text command a ≡ reply_text command b → shown a ≡ shown b
@@ -216,13 +216,13 @@ cells_shown (v ∷ values) = let head = shown_cell-text v in let tail = cells_sh
 rows_shown : (rows : List Line) → rows_lines (map shown_row rows) ≡ rows_lines rows
 rows_shown [] = refl
 rows_shown (row ∷ rows) =
-    ap (λ cells. line (joined (signed_decimal row.time ∷ cells)) ++ rows_lines (map shown_row rows)) (cells_shown row.values)
+    ap (λ cells. line (join_with_commas (signed_decimal row.time ∷ cells)) ++ rows_lines (map shown_row rows)) (cells_shown row.values)
     ∙ ap (λ l. line (row_text row) ++ l) (rows_shown rows)
 
 rows_text_shown : (items : List Item) (rows : List Line) → rows_text items (map shown_row rows) ≡ rows_text items rows
 rows_text_shown items rows =
-    ap (λ l. line (joined (codes "time" ∷ map item_text items)) ++ l ++ line (codes "rows " ++ decimal (length (map shown_row rows)))) (rows_shown rows)
-    ∙ ap (λ n. line (joined (codes "time" ∷ map item_text items)) ++ rows_lines rows ++ line (codes "rows " ++ decimal n)) (length-map rows shown_row)
+    ap (λ l. line (join_with_commas (codes "time" ∷ map item_text items)) ++ l ++ line (codes "rows " ++ decimal (length (map shown_row rows)))) (rows_shown rows)
+    ∙ ap (λ n. line (join_with_commas (codes "time" ∷ map item_text items)) ++ rows_lines rows ++ line (codes "rows " ++ decimal n)) (length-map rows shown_row)
 
 answer_shown : (answer : Answer) → answer_text (shown_answer answer) ≡ answer_text answer
 answer_shown Done = refl
@@ -236,7 +236,7 @@ answer_shown (Full counter) = refl
 text_shown : (command : Command) (a : Reply) → reply_text command (shown a) ≡ reply_text command a
 text_shown command (Plain answer) = ap line (answer_shown answer)
 text_shown command (Lines rows) = rows_text_shown (items_of command) rows
-text_shown command (Values values) = ap (λ cells. line (joined (map item_text (items_of command))) ++ line (joined cells)) (cells_shown values)
+text_shown command (Values values) = ap (λ cells. line (join_with_commas (map item_text (items_of command))) ++ line (join_with_commas cells)) (cells_shown values)
 text_shown command (Files listing) = listing_shown listing
 
 pub alike : (command : Command) (a b : Reply) → shown a ≡ shown b → reply_text command a ≡ reply_text command b

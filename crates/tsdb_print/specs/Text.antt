@@ -24,9 +24,9 @@ abbrev pub line : List ℕ → List ℕ
 line text = text ++ 10 ∷ []
 
 -- texts with commas between them
-abbrev pub joined : List (List ℕ) → List ℕ
-joined [] = []
-joined (text ∷ texts) = text ++ flat_map (λ other. 44 ∷ other) texts
+abbrev pub join_with_commas : List (List ℕ) → List ℕ
+join_with_commas [] = []
+join_with_commas (text ∷ texts) = text ++ flat_map (λ other. 44 ∷ other) texts
 
 -- what a command answers that returns no lines
 abbrev pub answer_text : Answer → List ℕ
@@ -39,12 +39,12 @@ answer_text answer.Memory = codes "memory"
 answer_text (answer.Full counter) = codes "full"
 
 -- a byte of a text, twice where it is a quote
-abbrev pub doubled : ℕ → List ℕ
-doubled byte = if byte == 39 then 39 ∷ 39 ∷ [] else byte ∷ []
+abbrev pub escape : ℕ → List ℕ
+escape byte = if byte == 39 then 39 ∷ 39 ∷ [] else byte ∷ []
 
 -- a text between quotes
-abbrev pub quoted : List ℕ → List ℕ
-quoted bytes = 39 ∷ flat_map doubled bytes ++ 39 ∷ []
+abbrev pub quote : List ℕ → List ℕ
+quote bytes = 39 ∷ flat_map escape bytes ++ 39 ∷ []
 
 abbrev pub truth_text : Bool → List ℕ
 truth_text true = codes "true"
@@ -54,7 +54,7 @@ abbrev pub value_text : Value → List ℕ
 value_text (value.Bool b) = truth_text b
 value_text (value.I32 number) = signed_decimal number
 value_text (value.I64 number) = signed_decimal number
-value_text (value.Text bytes) = quoted bytes
+value_text (value.Text bytes) = quote bytes
 
 -- a value, or `null` where there is none
 abbrev pub cell_text : Option Value → List ℕ
@@ -81,16 +81,16 @@ item_text item = column_text item.aggregate item.measurement
 
 -- a row: its time and its values
 abbrev pub row_text : Line → List ℕ
-row_text row = joined (signed_decimal row.time ∷ map cell_text row.values)
+row_text row = join_with_commas (signed_decimal row.time ∷ map cell_text row.values)
 
 -- the rows of a select: a heading, a line for each row, and their number
 abbrev pub rows_text : List Item → List Line → List ℕ
-rows_text items rows = line (joined (codes "time" ∷ map item_text items))
+rows_text items rows = line (join_with_commas (codes "time" ∷ map item_text items))
     ++ flat_map (λ row. line (row_text row)) rows ++ line (codes "rows " ++ decimal (length rows))
 
 -- the aggregates of a select: a heading, and a line with their values
 abbrev pub values_text : List Item → List (Option Value) → List ℕ
-values_text items values = line (joined (map item_text items)) ++ line (joined (map cell_text values))
+values_text items values = line (join_with_commas (map item_text items)) ++ line (join_with_commas (map cell_text values))
 
 abbrev pub space_name : Space → List ℕ
 space_name Sequence = codes "sequence"

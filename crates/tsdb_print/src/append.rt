@@ -2,7 +2,7 @@
 ghost use Rattle.std.specs.Prelude.{◌≡◌, ℕ, ◌+◌, ◌<◌, List, [], ◌∷◌, ◌++◌, OnOk, map};
 ghost use Rattle.std.specs.Fmt.{decimal, signed_decimal};
 ghost use Rattle.std.specs.List.{flat_map};
-ghost use Rattle.tsdb_print.specs.Text.{aggregate_name, cell_text, doubled, item_text, joined, quoted, truth_text, value_text};
+ghost use Rattle.tsdb_print.specs.Text.{aggregate_name, cell_text, escape, item_text, join_with_commas, quote, truth_text, value_text};
 
 use std::alloc::AllocError;
 use tsdb_base::{Aggregate, Value};
@@ -41,8 +41,8 @@ impl Printed for Item {
 }
 
 /// Appends the texts of the items, with commas between them.
-pub fn append_joined<T: Printed>(items: &[T], into: &mut Vec<u8>) -> Result<(), AllocError>
-    ensures { OnOk result (into.new.items ≡ into.old.items ++ joined (map T.text items.now)) }
+pub fn append_list<T: Printed>(items: &[T], into: &mut Vec<u8>) -> Result<(), AllocError>
+    ensures { OnOk result (into.new.items ≡ into.old.items ++ join_with_commas (map T.text items.now)) }
 {
     match items {
         [] => Ok(()),
@@ -98,7 +98,8 @@ fn append_aggregate(
     measurement: &[u8],
     into: &mut Vec<u8>,
 ) -> Result<(), AllocError>
-    ensures { OnOk result (into.new.items ≡ into.old.items ++ item_text (record { measurement = measurement.now; aggregate = Some aggregate })) }
+    ensures { OnOk result (into.new.items ≡ into.old.items
+        ++ item_text (record { measurement = measurement.now; aggregate = Some aggregate })) }
 {
     into.extend_from_slice(name_of(aggregate))?;
     into.push(b'(')?;
@@ -129,24 +130,24 @@ fn append_value(value: &Value, into: &mut Vec<u8>) -> Result<(), AllocError>
         Value::Bool(false) => into.extend_from_slice(b"false"),
         Value::I32(number) => append_signed(i64::from(*number), into),
         Value::I64(number) => append_signed(*number, into),
-        Value::Text(text) => append_quoted(text.bytes(), into),
+        Value::Text(text) => append_quote(text.bytes(), into),
     }
 }
 
 /// Appends bytes between quotes, each quote among them doubled.
-fn append_quoted(bytes: &[u8], into: &mut Vec<u8>) -> Result<(), AllocError>
-    ensures { OnOk result (into.new.items ≡ into.old.items ++ quoted bytes.now) }
+fn append_quote(bytes: &[u8], into: &mut Vec<u8>) -> Result<(), AllocError>
+    ensures { OnOk result (into.new.items ≡ into.old.items ++ quote bytes.now) }
 {
     into.push(b'\'')?;
     for byte in bytes {
-        append_doubled(*byte, into)?;
+        append_escape(*byte, into)?;
     }
     into.push(b'\'')?;
     Ok(())
 }
 
-fn append_doubled(byte: u8, into: &mut Vec<u8>) -> Result<(), AllocError>
-    ensures { OnOk result (into.new.items ≡ into.old.items ++ doubled byte) }
+fn append_escape(byte: u8, into: &mut Vec<u8>) -> Result<(), AllocError>
+    ensures { OnOk result (into.new.items ≡ into.old.items ++ escape byte) }
 {
     if byte == b'\'' {
         return into.extend_from_slice(b"''");

@@ -15,5 +15,6 @@ pub fn replies_that_print_alike()
     ensures apart { (command : Command) (a b : Reply) (state other : State) → IsWellFormed command
         → IsAllowed state command a → IsAllowed other command b → IsInRange a → IsInRange b
         → reply_text command a ≡ reply_text command b → shown a ≡ shown b }
-    ensures alike { (command : Command) (a b : Reply) → shown a ≡ shown b → reply_text command a ≡ reply_text command b }
+    ensures alike { (command : Command) (a b : Reply) → shown a ≡ shown b
+        → reply_text command a ≡ reply_text command b }
 {}

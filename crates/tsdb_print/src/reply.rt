@@ -2,7 +2,7 @@
 ghost use Rattle.std.specs.Prelude.{◌≡◌, ◌++◌, IfOk, OnOk};
 ghost use Rattle.tsdb_print.specs.Text.{answer_text, items_of, line, reply_text, row_text, rows_text, values_text};
 
-use crate::append::{append_after_commas, append_joined, append_signed, append_unsigned};
+use crate::append::{append_after_commas, append_list, append_signed, append_unsigned};
 use crate::listing::append_listing;
 use std::alloc::{AllocError, Global};
 use tsdb_base::{Answer, Memory, Value};
@@ -77,9 +77,9 @@ fn append_values(
 ) -> Result<(), AllocError>
     ensures { OnOk result (into.new.items ≡ into.old.items ++ values_text items.now values.now) }
 {
-    append_joined(items, into)?;
+    append_list(items, into)?;
     into.push(b'\n')?;
-    append_joined(values, into)?;
+    append_list(values, into)?;
     into.push(b'\n')?;
     Ok(())
 }

@@ -1,4 +1,4 @@
-use Rattle.std.proofs.Common.{◌≡◌, ◌∷◌, ◌-◌, ap, sym, ◌∙◌, true, take, drop, length, rules}
+use Rattle.std.proofs.Common.{◌≡◌, ◌∷◌, ◌-◌, ap, ◌∙◌, true, take, drop, length, rules}
 use Rattle.tsdb_map.specs.Apply.{all_fit}
 use Rattle.tsdb_map.proofs.PlainLemmas.{first_fits, on_err, put_there, rest_fits, split_first, taken_back}
 use Rattle.tsdb_map.proofs.row.+put_cells.Goals as goal

@@ -1,4 +1,4 @@
-use Rattle.std.proofs.Common.{◌≡◌, ap, sym, ◌∙◌, cond}
+use Rattle.std.proofs.Common.{ap, sym, ◌∙◌, cond}
 use Rattle.std.specs.Option.{option_copied}
 use Rattle.tsdb_base.specs.declared.answers.Answer.TheVariants.{Done, WrongType}
 use Rattle.tsdb_map.proofs.PlainLemmas.{answered, no_path}

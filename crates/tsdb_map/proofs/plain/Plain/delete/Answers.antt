@@ -1,4 +1,4 @@
-use Rattle.std.proofs.Common.{sym, ◌∙◌, refl, true, false}
+use Rattle.std.proofs.Common.{◌∙◌, refl, true, false}
 use Rattle.tsdb_map.specs.World.{change, cut}
 use Rattle.tsdb_map.proofs.PlainLemmas.{delete_after, delete_reply, there_is, moved}
 use Rattle.tsdb_map.proofs.plain.Plain.delete.Goals as goal

@@ -1,4 +1,4 @@
-use Rattle.std.proofs.Common.{◌≡◌, ap, ◌∙◌}
+use Rattle.std.proofs.Common.{ap, ◌∙◌}
 use Rattle.tsdb_map.specs.Apply.{insert_answer}
 use Rattle.tsdb_map.proofs.PlainLemmas.{insert_kept}
 use Rattle.tsdb_map.proofs.plain.Plain.insert.Goals as goal

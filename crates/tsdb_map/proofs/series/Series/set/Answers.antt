@@ -1,4 +1,4 @@
-use Rattle.std.proofs.Common.{w64, ap, sym, ◌∙◌}
+use Rattle.std.proofs.Common.{w64, sym, ◌∙◌}
 use Rattle.std.proofs.lemmas.Int.{to_z-of_z}
 use Rattle.tsdb_map.proofs.PointLemmas.{get-series, no_room, set-put, set-removed}
 use Rattle.tsdb_map.proofs.series.Series.set.Goals as goal

@@ -1,4 +1,4 @@
-use Rattle.std.proofs.Common.{◌≡◌, ap, sym, ◌∙◌, subst, rules, w64, to_z, of_z}
+use Rattle.std.proofs.Common.{◌≡◌, sym, ◌∙◌, subst, rules, w64, to_z, of_z}
 use Rattle.std.specs.Prelude.{IfOk}
 use Rattle.std.proofs.lemmas.Int.{to_z-of_z}
 use Rattle.tsdb_map.proofs.PointLemmas.{get-series, lt-bits, within-before, within-behind, within-there}
