@@ -1,0 +1,3 @@
+pub mod MergeLemmas
+pub mod Pulls
+pub mod RisingLemmas

@@ -1,0 +1,4 @@
+pub mod Causes
+pub mod Merging
+pub mod Steps
+pub mod Winners

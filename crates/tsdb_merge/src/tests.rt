@@ -1,0 +1,212 @@
+//! Merges beside a plain slow one, and sources that fail.
+ghost use Rattle.std.specs.Prelude.{◌≡◌, ◌<◌, ◌^◌, ◌≤◌};
+ghost use Rattle.std.specs.Vec.Iter.{into_iter_items};
+
+use super::*;
+use std::alloc::{AllocError, Global};
+use std::test::Fail;
+use tsdb_base::{Point, Value};
+
+fn crosses_threads<T: Send>(_value: &T) {}
+
+/// A point whose value says which source it is of.
+fn point(time: i64, source: i64) -> Point {
+    Point {
+        time,
+        value: Value::I64(source),
+    }
+}
+
+fn source(points: Vec<Point>) -> Result<ListPoints, Fail> {
+    if is_rising(&points) {
+        Ok(ListPoints::new(points))
+    } else {
+        Err(Fail::from("times do not rise"))
+    }
+}
+
+/// The sources of a table: a point for each pair of a source and a time, in the order of the sources.
+fn sources(alloc: Global, table: &[(u8, i64)], count: u8) -> Result<Vec<ListPoints>, Fail> {
+    let mut list = Vec::new(alloc);
+    for k in 0..count {
+        let mut points = Vec::new(alloc);
+        for (place, time) in table {
+            if *place == k {
+                points
+                    .push(point(*time, i64::from(k)))
+                    .map_err(AllocError::from)?;
+            }
+        }
+        list.push(source(points)?).map_err(AllocError::from)?;
+    }
+    Ok(list)
+}
+
+/// For each time from the least to the greatest, the last source that has it.
+fn slow_merge(alloc: Global, table: &[(u8, i64)], count: u8) -> Result<Vec<Point>, AllocError> {
+    let mut merged = Vec::new(alloc);
+    for time in 0..4i64 {
+        for k in (0..count).rev() {
+            if table.iter().any(|(place, at)| *place == k && *at == time) {
+                merged
+                    .push(point(time, i64::from(k)))
+                    .map_err(AllocError::from)?;
+                break;
+            }
+        }
+    }
+    Ok(merged)
+}
+
+fn merged(alloc: Global, sources: Vec<ListPoints>) -> Result<Vec<Point>, Fail> {
+    let mut merge = Merge::new(alloc, sources)?;
+    crosses_threads(&merge);
+    let mut points = Vec::new(alloc);
+    for _ in 0..100 {
+        match merge.pull() {
+            Ok(Some(point)) => points.push(point).map_err(AllocError::from)?,
+            Ok(None) => return Ok(points),
+            Err(_) => return Err(Fail::from("a fault of a list")),
+        }
+    }
+    Err(Fail::from("no end"))
+}
+
+#[test]
+fn the_last_source_wins(rt: HostRuntime) -> Result<(), Fail> {
+    let alloc = rt.alloc();
+    let table = [(0, 1), (1, 2), (2, 2)];
+    let wanted = vec![in alloc; point(1, 0), point(2, 2)]?;
+    assert_eq!(rt; merged(alloc, sources(alloc, &table, 3)?)?, wanted);
+    let ends = [(0, i64::MIN), (1, i64::MIN), (0, i64::MAX), (1, i64::MAX)];
+    let wanted = vec![in alloc; point(i64::MIN, 1), point(i64::MAX, 1)]?;
+    assert_eq!(rt; merged(alloc, sources(alloc, &ends, 2)?)?, wanted);
+    assert_eq!(rt; merged(alloc, Vec::new(alloc))?, Vec::new(alloc));
+    assert!(rt; !is_rising(&[point(1, 0), point(1, 0)]));
+    assert!(rt; is_rising(&[point(1, 0), point(2, 0)]));
+    Ok(())
+}
+
+/// Up to `count` sources, each with any of the times below `times`, beside the slow merge.
+fn all_tables(alloc: Global, count: u8, times: u8) -> Result<bool, Fail> {
+    let bits = count.saturating_mul(times).min(16);
+    for chosen in 0..1u32 << bits {
+        let mut table = Vec::new(alloc);
+        for bit in 0..bits {
+            if chosen >> bit & 1 == 1 {
+                let time = i64::from(bit.checked_rem(times).unwrap_or(0));
+                let place = bit.checked_div(times).unwrap_or(0);
+                table.push((place, time)).map_err(AllocError::from)?;
+            }
+        }
+        let found = merged(alloc, sources(alloc, &table, count)?)?;
+        if found != slow_merge(alloc, &table, count)? {
+            return Ok(false);
+        }
+    }
+    Ok(true)
+}
+
+#[test]
+fn all_small_tables(rt: HostRuntime) -> Result<(), Fail> {
+    let alloc = rt.alloc();
+    for (count, times) in [(1, 4), (2, 4), (3, 4), (4, 3), (5, 2)] {
+        assert!(rt; all_tables(alloc, count, times)?, "{count} sources");
+    }
+    Ok(())
+}
+
+/// A list that answers a fault behind some points, and then goes on.
+#[derive(Drop)]
+struct Failing {
+    points: ListPoints,
+    before: u64,
+    fault: PullFault,
+    failures: u64,
+    damages: u64,
+}
+
+impl Points for Failing {
+    ghost left = { λ f. into_iter_items f.points.left };
+
+    ghost failures = { λ f. f.failures };
+
+    ghost damages = { λ f. f.damages };
+
+    fn pull(&mut self) -> Result<Option<Point>, PullFault> {
+        self.before = self.before.wrapping_sub(1);
+        if self.before != u64::MAX {
+            return self.points.pull();
+        }
+        match self.fault {
+            PullFault::Failed => self.failures = self.failures.saturating_add(1),
+            PullFault::Damaged { at: _ } => self.damages = self.damages.saturating_add(1),
+            PullFault::Memory => {}
+        }
+        Err(self.fault)
+    }
+
+    ghost rising = { λ f. f.points.rising };
+}
+
+/// Three sources of three points each, of which one fails behind some points.
+fn make_failing(
+    alloc: Global,
+    which: u8,
+    before: u64,
+    fault: PullFault,
+) -> Result<Merge<Failing>, Fail> {
+    let mut list = Vec::new(alloc);
+    for k in 0..3u8 {
+        let first = i64::from(k);
+        let points = vec![in alloc;
+            point(first, first),
+            point(10, first),
+            point(20 + first, first),
+        ]?;
+        let one = Failing {
+            points: source(points)?,
+            before: if k == which { before } else { 100 },
+            fault,
+            failures: 0,
+            damages: 0,
+        };
+        list.push(one).map_err(AllocError::from)?;
+    }
+    Ok(Merge::new(alloc, list)?)
+}
+
+/// The answers of a merge from its first fault on, up to the tenth pull.
+fn faults(alloc: Global, merge: &mut Merge<Failing>) -> Result<Vec<PullFault>, AllocError> {
+    let mut found = Vec::new(alloc);
+    for _ in 0..10 {
+        if let Err(fault) = merge.pull() {
+            found.push(fault).map_err(AllocError::from)?;
+        }
+    }
+    Ok(found)
+}
+
+#[test]
+fn a_fault_is_repeated(rt: HostRuntime) -> Result<(), Fail> {
+    let alloc = rt.alloc();
+    for fault in [
+        PullFault::Failed,
+        PullFault::Damaged { at: 7 },
+        PullFault::Memory,
+    ] {
+        for which in 0..3u8 {
+            for before in 0..4u64 {
+                let mut merge = make_failing(alloc, which, before, fault)?;
+                let found = faults(alloc, &mut merge)?;
+                assert!(rt; !found.is_empty());
+                assert!(rt; found.iter().all(|one| *one == fault));
+                assert_eq!(rt; merge.pull(), Err(fault));
+            }
+        }
+        // No pull asks the source for a fifth time.
+        let mut merge = make_failing(alloc, 2, 4, fault)?;
+        assert!(rt; faults(alloc, &mut merge)?.is_empty());
+    }
+    Ok(())
+}
