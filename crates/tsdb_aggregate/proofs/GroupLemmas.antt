@@ -1,0 +1,256 @@
+-- The statistics of the winners of one group, of a group behind others, and of all entries.
+use Rattle.std.proofs.Common.{◌≡◌, ℕ, zero, suc, ◌+◌, ◌<◌, ◌≤◌, Bool, true, false, not, cond, List, [], ◌∷◌, ◌++◌, length, get_or, take, drop, Option, Some, inl, inr, ⊎_elim, refl, sym, ap, ◌∙◌, subst, map, filter, sum_by, arith}
+use Rattle.std.specs.Prelude.{ℤ, ◌≢◌, ◌<ℤ◌, ◌&&◌, ◌||◌, All, AllPairs, Contains, IsTrue}
+use Rattle.std.specs.List.Sorted.{IsPermutation}
+use Rattle.std.proofs.lemmas.Bool.{false≢true}
+use Rattle.std.proofs.lemmas.Int.{ints}
+use Rattle.std.proofs.lemmas.List.{map-append, take-append-drop, take_more}
+use Rattle.std.proofs.lemmas.List.Elements.{All-contains, All-filter, All-head, All-tail, filter_passes, Contains-append_cases}
+use Rattle.std.proofs.lemmas.List.Kept.{AllPairs-filter}
+use Rattle.std.proofs.lemmas.List.Sorted.{All-permutation, IsPermutation-map, IsPermutation-sym, sum_by-IsPermutation}
+use Rattle.std.proofs.lemmas.List.Sums.{sum_by-append, sum_by-cons}
+use Rattle.tsdb_base.specs.declared.answers.Aggregate.{Aggregate}
+use Rattle.tsdb_base.specs.declared.point.Point.{Point}
+use Rattle.tsdb_base.specs.declared.point.Range.{Range}
+use Rattle.tsdb_base.specs.declared.point.Stats.{Stats}
+use Rattle.tsdb_base.specs.declared.value.Value.{Value}
+use Rattle.tsdb_map.specs.Folds.{aggregate_of}
+use Rattle.tsdb_map.specs.World.{is_in}
+use Rattle.tsdb_merge.specs.Winners.{HasNoneAt, IsMergeOf, IsRising}
+use Rattle.tsdb_merge.proofs.MergeLemmas.{All-from_contains, All-left, All-right, Contains-head}
+use Rattle.tsdb_aggregate.specs.Loads.{Held, held_at}
+use Rattle.tsdb_aggregate.specs.Pieces.{AreApart, AreSound, HasOrder, IsCleanIn, Part, cost_in, hull, overlap, most_loads}
+use Rattle.tsdb_aggregate.specs.Steps.{AreTotal, End, HasTotal, IsCut, IsGroup, IsMergeWithin, cost_of, part_of, parts_of}
+use Rattle.tsdb_aggregate.specs.Winners.{AreWinners, IsAggregate}
+use Rattle.tsdb_aggregate.specs.declared.entry.Entry.{Entry}
+use Rattle.tsdb_aggregate.proofs.ListFacts.{AllPairs-left, AllPairs-right, All-of_map, AllPairs-map, AllPairs-of_map, AllPairs-permutation, Contains-from_drop, Contains-from_take, Contains-of_map, drop_two, take_two}
+use Rattle.tsdb_aggregate.proofs.WinnerLemmas.{Before, IsBelow, same_filtered, same_permuted, winners_append, winners_clean, winners_of_merge, winners_of_same}
+
+-- ---- one group
+
+apart_both : (a b : Part) → AreApart a b → AreApart b a
+apart_both a b h = record {
+  times = λ same. All-from_contains (λ p. HasNoneAt p.time a.1.points) b.1.points (λ p hp.
+      All-from_contains (λ q. q.time ≢ p.time) a.1.points (λ q hq e.
+      All-contains (λ r. r.time ≢ q.time) b.1.points p (All-contains (λ r. HasNoneAt r.time b.1.points) a.1.points q (h.times (sym same)) hq) hp (sym e)));
+  hulls = λ c. other (is_in (hull a.0) b.0.stats.start && is_in (hull b.0) b.0.stats.start) (is_in (hull b.0) a.0.stats.start && is_in (hull a.0) a.0.stats.start) (h.hulls (other_true (b.0.clean) (a.0.clean) c));
+}
+  where
+    other : (p q : Bool) → (p || q) ≡ false → (q || p) ≡ false
+    other true q e = absurd (false≢true (sym e))
+    other false true e = e
+    other false false e = e
+
+    other_true : (p q : Bool) → (p || q) ≡ true → (q || p) ≡ true
+    other_true true true e = refl
+    other_true true false e = refl
+    other_true false true e = refl
+    other_true false false e = e
+
+pub apart_permuted : (xs ys : List Part) → IsPermutation xs ys → AllPairs AreApart xs → AllPairs AreApart ys
+apart_permuted xs ys perm h = AllPairs-permutation AreApart apart_both xs ys perm h
+
+pub total_of_merge : (held : List Held) (range : Range) (group entries : List Entry) (lists : List (List Point)) (points : List Point) (total : Option Stats)
+    → IsPermutation group entries → AllPairs (λ a b. a.piece.now.source ≤ b.piece.now.source) entries → AllPairs AreApart (parts_of held group)
+    → lists ≡ map (λ part. part.1.points) (parts_of held entries) → IsMergeWithin lists range points → AreTotal points total → HasTotal held range group total
+total_of_merge held range group entries lists points total perm sources apart same merge statistics =
+    let moved : IsPermutation (parts_of held group) (parts_of held entries) = IsPermutation-map (part_of held) group entries perm in
+    let pairs = AllPairs-of_map AreApart (part_of held) entries (apart_permuted (parts_of held group) (parts_of held entries) moved apart) in
+    let below : AllPairs IsBelow (parts_of held entries) = AllPairs-map IsBelow (part_of held) entries (λ i j d l m. record { source = sources i j d l m; times = (pairs i j d l m).times }) in
+    let whole : IsMergeOf (map (λ part. part.1.points) (parts_of held entries)) merge.all = subst (λ ls. IsMergeOf ls merge.all) same merge.merge in
+    let winners : AreWinners (parts_of held entries) range points = subst (λ ps. AreWinners (parts_of held entries) range ps) (sym merge.is) (winners_of_merge range (parts_of held entries) merge.all below whole) in
+    record {
+      points = points;
+      winners = winners_of_same range (parts_of held entries) (parts_of held group) points (same_permuted range (parts_of held entries) (parts_of held group) (IsPermutation-sym (parts_of held group) (parts_of held entries) moved)) winners;
+      statistics = statistics;
+    }
+
+pub cost_permuted : (held : List Held) (group entries : List Entry) → IsPermutation group entries → sum_by (λ part. part.1.cost) (parts_of held entries) ≡ sum_by (λ part. part.1.cost) (parts_of held group)
+cost_permuted held group entries perm = sum_by-IsPermutation (λ part. part.1.cost) (parts_of held group) (parts_of held entries) (IsPermutation-map (part_of held) group entries perm)
+
+pub all_permuted : (P : Part → Type 0) (held : List Held) (group entries : List Entry) → IsPermutation group entries → All P (parts_of held group) → All P (parts_of held entries)
+all_permuted P held group entries perm all = All-permutation P (parts_of held group) (parts_of held entries) (IsPermutation-map (part_of held) group entries perm) all
+
+-- ---- a clean piece alone
+
+pub total_of_clean : (held : List Held) (range : Range) (group : List Entry) (x : Entry) (stats : Stats) → IsGroup group → AreSound range (parts_of held group) → IsTrue (get_or group 0 x).piece.now.clean
+    → stats ≡ (get_or group 0 x).piece.now.stats → HasTotal held range group (Some stats)
+total_of_clean held range [] x stats some sound clean is = absurd (omega (arith, some.0))
+total_of_clean held range (y ∷ []) x stats some sound clean is =
+    let order : HasOrder (part_of held y) = All-contains HasOrder (part_of held y ∷ []) (part_of held y) sound.order (Contains-head (part_of held y) []) in
+    let own : IsCleanIn range (part_of held y) = All-contains (λ part. IsTrue part.0.clean → IsCleanIn range part) (part_of held y ∷ []) (part_of held y) sound.clean (Contains-head (part_of held y) []) clean in
+    record {
+      points = (part_of held y).1.points;
+      winners = winners_clean range (part_of held y) order own;
+      statistics = rw is own.statistics;
+    }
+total_of_clean held range (y ∷ z ∷ zs) x stats (some, inl one) sound clean is = absurd (omega (arith, one))
+total_of_clean held range (y ∷ z ∷ zs) x stats (some, inr unclean) sound clean is = absurd (false≢true (sym (All-head (λ (e : Entry). e.piece.now.clean ≡ false) y (z ∷ zs) unclean) ∙ clean))
+
+cost_unclean : (held : List Held) (group : List Entry) → All (λ entry. entry.piece.now.clean ≡ false) group → sum_by (λ part. part.1.cost) (parts_of held group) ≡ sum_by cost_of (parts_of held group)
+cost_unclean held [] all = refl
+cost_unclean held (y ∷ ys) all =
+    let own : cost_of (part_of held y) ≡ (part_of held y).1.cost = ap (λ b. cond b 0 (part_of held y).1.cost) (All-head (λ (e : Entry). e.piece.now.clean ≡ false) y ys all) in
+    let rest = cost_unclean held ys (All-tail (λ (e : Entry). e.piece.now.clean ≡ false) y ys all) in
+    sum_by-cons (λ part. part.1.cost) (part_of held y) (parts_of held ys) ∙ ap (λ n. (part_of held y).1.cost + n) rest ∙ ap (λ n. n + sum_by cost_of (parts_of held ys)) (sym own) ∙ sym (sum_by-cons cost_of (part_of held y) (parts_of held ys))
+
+pub cost_of_group : (held : List Held) (group : List Entry) (x : Entry) → IsGroup group → (get_or group 0 x).piece.now.clean ≡ false → sum_by (λ part. part.1.cost) (parts_of held group) ≡ sum_by cost_of (parts_of held group)
+cost_of_group held [] x some e = refl
+cost_of_group held (y ∷ []) x some e = cost_unclean held (y ∷ []) (λ k d l. first k d l)
+  where
+    first : (k : ℕ) (d : Entry) → k < length (y ∷ []) → (get_or (y ∷ []) k d).piece.now.clean ≡ false
+    first zero d l = e
+    first (suc k) d l = absurd (omega arith)
+cost_of_group held (y ∷ z ∷ zs) x (some, inl one) e = absurd (omega (arith, one))
+cost_of_group held (y ∷ z ∷ zs) x (some, inr unclean) e = cost_unclean held (y ∷ z ∷ zs) unclean
+
+-- ---- a group behind others
+
+before_from_end : (held : List Held) (xs ys : List Entry) → All HasOrder (parts_of held xs) → All HasOrder (parts_of held ys) → End xs ys → Before (parts_of held xs) (parts_of held ys)
+before_from_end held xs ys ox oy end s t p q hp hq =
+    let a = Contains-of_map (part_of held) xs hp.part hp.among in
+    let b = Contains-of_map (part_of held) ys hq.part hq.among in
+    let inside : IsTrue (is_in (hull hp.part.0) p.time) = All-contains (λ r. IsTrue (is_in (hull hp.part.0) r.time)) hp.part.1.points p (All-contains HasOrder (parts_of held xs) hp.part ox hp.among).within hp.has in
+    let within : IsTrue (is_in (hull hq.part.0) q.time) = All-contains (λ r. IsTrue (is_in (hull hq.part.0) r.time)) hq.part.1.points q (All-contains HasOrder (parts_of held ys) hq.part oy hq.among).within hq.has in
+    let first : IsTrue (is_in (hull a.0.piece.now) p.time) = subst (λ (x : Part). IsTrue (is_in (hull x.0) p.time)) (sym a.2) inside in
+    let second : IsTrue (is_in (hull b.0.piece.now) q.time) = subst (λ (x : Part). IsTrue (is_in (hull x.0) q.time)) (sym b.2) within in
+    between (hull a.0.piece.now) (hull b.0.piece.now) p.time q.time first second (end a.0 b.0 a.1 b.1)
+  where
+    between : (a b : Range) (t u : ℤ) → IsTrue (is_in a t) → IsTrue (is_in b u) → a.to <ℤ b.from → t <ℤ u
+    between a b t u x y l = grind (arith, ints)
+
+parts_two : (held : List Held) (m n : ℕ) (entries : List Entry) → parts_of held (take (m + n) entries) ≡ parts_of held (take m entries) ++ parts_of held (take n (drop m entries))
+parts_two held m n entries = ap (parts_of held) (take_two m n entries) ∙ map-append (part_of held) (take m entries) (take n (drop m entries))
+
+parts_split : (held : List Held) (m : ℕ) (entries : List Entry) → parts_of held (take m entries) ++ parts_of held (drop m entries) ≡ parts_of held entries
+parts_split held m entries = sym (map-append (part_of held) (take m entries) (drop m entries)) ∙ ap (parts_of held) (take-append-drop m entries)
+
+-- what is so of all entries is so of those of a group
+pub order_of_first : (held : List Held) (m : ℕ) (entries : List Entry) → All HasOrder (parts_of held entries) → All HasOrder (parts_of held (take m entries))
+order_of_first held m entries all = All-left HasOrder (parts_of held (take m entries)) (parts_of held (drop m entries)) (subst (λ ps. All HasOrder ps) (sym (parts_split held m entries)) all)
+
+pub sound_first : (range : Range) (held : List Held) (m : ℕ) (entries : List Entry) → AreSound range (parts_of held entries) → AreSound range (parts_of held (take m entries))
+sound_first range held m entries sound =
+    let e = sym (parts_split held m entries) in
+    record {
+      order = order_of_first held m entries sound.order;
+      clean = All-left (λ part. IsTrue part.0.clean → IsCleanIn range part) (parts_of held (take m entries)) (parts_of held (drop m entries)) (subst (λ ps. All (λ part. IsTrue part.0.clean → IsCleanIn range part) ps) e sound.clean);
+      apart = AllPairs-left AreApart (parts_of held (take m entries)) (parts_of held (drop m entries)) (subst (λ ps. AllPairs AreApart ps) e sound.apart);
+    }
+
+pub sound_rest : (range : Range) (held : List Held) (m : ℕ) (entries : List Entry) → AreSound range (parts_of held entries) → AreSound range (parts_of held (drop m entries))
+sound_rest range held m entries sound =
+    let e = sym (parts_split held m entries) in
+    record {
+      order = All-right HasOrder (parts_of held (take m entries)) (parts_of held (drop m entries)) (subst (λ ps. All HasOrder ps) e sound.order);
+      clean = All-right (λ part. IsTrue part.0.clean → IsCleanIn range part) (parts_of held (take m entries)) (parts_of held (drop m entries)) (subst (λ ps. All (λ part. IsTrue part.0.clean → IsCleanIn range part) ps) e sound.clean);
+      apart = AllPairs-right AreApart (parts_of held (take m entries)) (parts_of held (drop m entries)) (subst (λ ps. AllPairs AreApart ps) e sound.apart);
+    }
+
+pub total_more : (held : List Held) (range : Range) (m n : ℕ) (entries : List Entry) (total next joined : Option Stats) → AreSound range (parts_of held entries) → IsCut m entries
+    → HasTotal held range (take m entries) total → HasTotal held range (take n (drop m entries)) next
+    → ((xs ys : List Point) → AreTotal xs total → AreTotal ys next → AreTotal (xs ++ ys) joined) → HasTotal held range (take (m + n) entries) joined
+total_more held range m n entries total next joined sound cut first second join =
+    let before : Before (parts_of held (take m entries)) (parts_of held (take n (drop m entries))) =
+    before_from_end held (take m entries) (take n (drop m entries)) (sound_first range held m entries sound).order (sound_first range held n (drop m entries) (sound_rest range held m entries sound)).order
+    (λ a b ha hb. cut a b ha (Contains-from_take n (drop m entries) b hb)) in
+    record {
+      points = first.points ++ second.points;
+      winners = subst (λ ps. AreWinners ps range (first.points ++ second.points)) (sym (parts_two held m n entries))
+          (winners_append (parts_of held (take m entries)) (parts_of held (take n (drop m entries))) range first.points second.points before first.winners second.winners);
+      statistics = join first.points second.points first.statistics second.statistics;
+    }
+
+pub cut_more : (m n : ℕ) (entries : List Entry) → IsCut m entries → IsCut n (drop m entries) → IsCut (m + n) entries
+cut_more m n entries first second a b ha hb =
+    let late : Contains (drop n (drop m entries)) b = subst (λ es. Contains es b) (drop_two m n entries) hb in
+    ⊎_elim
+    (λ early. first a b early (Contains-from_drop n (drop m entries) b late))
+    (λ own. second a b own late)
+    (Contains-append_cases (take m entries) (take n (drop m entries)) a (subst (λ es. Contains es a) (take_two m n entries) ha))
+
+pub cost_more : (held : List Held) (m n : ℕ) (entries : List Entry) → sum_by cost_of (parts_of held (take (m + n) entries)) ≡ sum_by cost_of (parts_of held (take m entries)) + sum_by cost_of (parts_of held (take n (drop m entries)))
+cost_more held m n entries = ap (λ ps. sum_by cost_of ps) (parts_two held m n entries) ∙ sum_by-append cost_of (parts_of held (take m entries)) (parts_of held (take n (drop m entries)))
+
+-- ---- all pieces
+
+cost_each : (b c : Bool) (n : ℕ) → cond b (cond c 0 n) 0 ≡ cond (b && not c) n 0
+cost_each true true n = refl
+cost_each true false n = refl
+cost_each false true n = refl
+cost_each false false n = refl
+
+cost_kept : (b : Bool) (part : Part) (rest : List Part) → sum_by cost_of (cond b (part ∷ rest) rest) ≡ cond b (cost_of part) 0 + sum_by cost_of rest
+cost_kept true part rest = sum_by-cons cost_of part rest
+cost_kept false part rest = omega arith
+
+cost_filtered : (range : Range) (parts : List Part) → sum_by cost_of (filter (λ part. overlap range (hull part.0)) parts) ≡ most_loads range parts
+cost_filtered range [] = refl
+cost_filtered range (part ∷ parts) =
+    let b = overlap range (hull part.0) in
+    let rest = filter (λ (x : Part). overlap range (hull x.0)) parts in
+    cost_kept b part rest
+    ∙ ap (λ n. n + sum_by cost_of rest) (cost_each b part.0.clean part.1.cost)
+    ∙ ap (λ n. cost_in range part + n) (cost_filtered range parts)
+    ∙ sym (sum_by-cons (cost_in range) part parts)
+
+pub cost_of_all : (range : Range) (parts : List Part) (held : List Held) (entries : List Entry) → IsPermutation (filter (λ part. overlap range (hull part.0)) parts) (parts_of held entries)
+    → sum_by cost_of (parts_of held entries) ≡ most_loads range parts
+cost_of_all range parts held entries perm = sum_by-IsPermutation cost_of (filter (λ part. overlap range (hull part.0)) parts) (parts_of held entries) perm ∙ cost_filtered range parts
+
+pub sound_entries : (range : Range) (parts : List Part) (held : List Held) (entries : List Entry) → IsPermutation (filter (λ part. overlap range (hull part.0)) parts) (parts_of held entries)
+    → AreSound range parts → AreSound range (parts_of held entries)
+sound_entries range parts held entries perm sound =
+    let test : Part → Bool = λ part. overlap range (hull part.0) in
+    record {
+      order = All-permutation HasOrder (filter test parts) (parts_of held entries) perm (All-filter test HasOrder parts sound.order);
+      clean = All-permutation (λ part. IsTrue part.0.clean → IsCleanIn range part) (filter test parts) (parts_of held entries) perm (All-filter test (λ part. IsTrue part.0.clean → IsCleanIn range part) parts sound.clean);
+      apart = apart_permuted (filter test parts) (parts_of held entries) perm (AllPairs-filter AreApart test parts sound.apart);
+    }
+
+pub meet_entries : (range : Range) (parts : List Part) (held : List Held) (entries : List Entry) → IsPermutation (filter (λ part. overlap range (hull part.0)) parts) (parts_of held entries)
+    → All (λ part. overlap range (hull part.0) ≡ true) (parts_of held entries)
+meet_entries range parts held entries perm =
+    let test : Part → Bool = λ part. overlap range (hull part.0) in
+    All-permutation (λ part. test part ≡ true) (filter test parts) (parts_of held entries) perm (filter_passes test parts)
+
+pub aggregate_of_all : (range : Range) (parts : List Part) (held : List Held) (entries : List Entry) (total : Option Stats) (name : Aggregate) (answer : Option Value)
+    → IsPermutation (filter (λ part. overlap range (hull part.0)) parts) (parts_of held entries) → AreSound range parts → HasTotal held range entries total
+    → ((points : List Point) → AreTotal points total → answer ≡ aggregate_of name points) → IsAggregate parts range name answer
+aggregate_of_all range parts held entries total name answer perm sound found read =
+    let test : Part → Bool = λ part. overlap range (hull part.0) in
+    let kept = winners_of_same range (parts_of held entries) (filter test parts) found.points
+    (same_permuted range (parts_of held entries) (filter test parts) (IsPermutation-sym (filter test parts) (parts_of held entries) perm)) found.winners in
+    record {
+      points = found.points;
+      winners = winners_of_same range (filter test parts) parts found.points (same_filtered range parts sound.order) kept;
+      is = read found.points found.statistics;
+    }
+
+-- ---- loads one by one
+
+pub load_cost : (held : List Held) (group : List Entry) (n : ℕ) (x : Entry) → n < length group → x ≡ get_or group n x
+    → sum_by (λ part. part.1.cost) (parts_of held (take n group)) + (held_at held (get_or group n x).place).cost ≡ sum_by (λ part. part.1.cost) (parts_of held (take (n + 1) group))
+load_cost held group n x l is =
+    let cost : Part → ℕ = λ part. part.1.cost in
+    let split : parts_of held (take (n + 1) group) ≡ parts_of held (take n group) ++ part_of held (get_or group n x) ∷ [] =
+    ap (parts_of held) (take_more group n x l) ∙ map-append (part_of held) (take n group) (get_or group n x ∷ []) in
+    let one : sum_by cost (part_of held (get_or group n x) ∷ []) ≡ (held_at held (get_or group n x).place).cost = omega arith in
+    sym (ap (sum_by cost) split ∙ sum_by-append cost (parts_of held (take n group)) (part_of held (get_or group n x) ∷ []) ∙ ap (λ k. sum_by cost (parts_of held (take n group)) + k) one)
+
+pub load_cost-le : (held : List Held) (group : List Entry) (n : ℕ) → sum_by (λ part. part.1.cost) (parts_of held (take n group)) ≤ sum_by (λ part. part.1.cost) (parts_of held group)
+load_cost-le held group n =
+    let cost : Part → ℕ = λ part. part.1.cost in
+    let split = ap (sum_by cost) (parts_split held n group) in
+    let both = sum_by-append cost (parts_of held (take n group)) (parts_of held (drop n group)) in
+    omega (arith, split, both)
+
+pub load_rising : (held : List Held) (group : List Entry) (n : ℕ) (x : Entry) (points : List Point) → n < length group → All (λ part. IsRising part.1.points) (parts_of held group)
+    → points ≡ (held_at held (get_or group n x).place).points → IsRising points
+load_rising held group n x points l rising is = subst (λ ps. IsRising ps) (sym is) (All-of_map (λ (part : Part). IsRising part.1.points) (part_of held) group rising n x l)
+
+pub cost_of-le : (held : List Held) (entries : List Entry) (n : ℕ) → sum_by cost_of (parts_of held (take n entries)) ≤ sum_by cost_of (parts_of held entries)
+cost_of-le held entries n =
+    let split = ap (sum_by cost_of) (parts_split held n entries) in
+    let both = sum_by-append cost_of (parts_of held (take n entries)) (parts_of held (drop n entries)) in
+    omega (arith, split, both)

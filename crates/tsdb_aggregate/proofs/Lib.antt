@@ -1,0 +1,6 @@
+pub mod ListFacts
+pub mod WinnerLemmas
+pub mod GroupLemmas
+pub mod EntryLemmas
+pub mod SpendLemmas
+pub mod WalkLemmas

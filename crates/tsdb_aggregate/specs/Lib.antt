@@ -1,0 +1,4 @@
+pub mod Loads
+pub mod Pieces
+pub mod Winners
+pub mod Steps

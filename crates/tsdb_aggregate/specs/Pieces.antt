@@ -1,0 +1,50 @@
+-- Pieces with what a loader holds of them: their hulls, what has to be so of them, and what may be loaded.
+use Rattle.std.specs.Prelude.{◌≡◌, ℕ, Bool, false, not, ◌&&◌, ◌||◌, List, All, AllPairs, IsTrue, if◌then◌else◌, sum_by}
+use Rattle.tsdb_base.specs.declared.point.Range.{Range}
+use Rattle.tsdb_map.specs.World.{is_in}
+use Rattle.tsdb_merge.specs.Winners.{HasNoneAt, IsRising}
+use Rattle.tsdb_stats.specs.Statistics.{AreStatsOf}
+use Rattle.tsdb_aggregate.specs.Loads.{Held}
+use Rattle.tsdb_aggregate.specs.declared.piece.Piece.{Piece}
+
+-- a piece, and what is held of it
+abbrev pub Part : Type 0
+Part = Piece × Held
+
+-- the times from the start to the end of a piece
+abbrev pub hull : Piece → Range
+hull piece = record { from = piece.stats.start; to = piece.stats.end }
+
+-- two ranges have a time in common: the start of one of them is in both
+abbrev pub overlap : Range → Range → Bool
+overlap a b = (is_in a b.from && is_in b b.from) || (is_in b a.from && is_in a a.from)
+
+-- the points of a piece stand in order of time, within its hull
+pub record HasOrder (part : Part) : Type 0 where
+  pub rising : IsRising part.1.points
+  pub within : All (λ point. IsTrue (is_in (hull part.0) point.time)) part.1.points
+
+-- a piece that is clean has the statistics of its points, and its hull is in the range
+pub record IsCleanIn (range : Range) (part : Part) : Type 0 where
+  pub statistics : AreStatsOf part.1.points part.0.stats
+  pub from : IsTrue (is_in range part.0.stats.start)
+  pub to : IsTrue (is_in range part.0.stats.end)
+
+-- two pieces of one source have no time in common, and nothing lies over a clean piece
+pub record AreApart (a b : Part) : Type 0 where
+  pub times : a.0.source ≡ b.0.source → All (λ point. HasNoneAt point.time b.1.points) a.1.points
+  pub hulls : IsTrue (a.0.clean || b.0.clean) → overlap (hull a.0) (hull b.0) ≡ false
+
+-- what has to be so of the pieces
+pub record AreSound (range : Range) (parts : List Part) : Type 0 where
+  pub order : All HasOrder parts
+  pub clean : All (λ part. IsTrue part.0.clean → IsCleanIn range part) parts
+  pub apart : AllPairs AreApart parts
+
+-- a piece that meets the range and is not clean may be loaded
+abbrev pub cost_in : Range → Part → ℕ
+cost_in range part = if overlap range (hull part.0) && not part.0.clean then part.1.cost else 0
+
+-- the most that all loads together may cost
+abbrev pub most_loads : Range → List Part → ℕ
+most_loads range parts = sum_by (cost_in range) parts
