@@ -8,7 +8,7 @@ use Rattle.std.proofs.lemmas.Bool.{false_from_ne_true, false≢true}
 use Rattle.std.proofs.lemmas.Map.Lookups.{exact_bytes}
 use Rattle.tsdb_memtable.specs.Watermarks.{flat, is_device}
 
-is_eq-equal : (o : Ordering) → is_eq o ≡ true → o ≡ Equal
+pub is_eq-equal : (o : Ordering) → is_eq o ≡ true → o ≡ Equal
 is_eq-equal Less h = absurd (false≢true h)
 is_eq-equal Equal h = refl
 is_eq-equal Greater h = absurd (false≢true h)

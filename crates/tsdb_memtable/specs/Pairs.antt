@@ -1,0 +1,78 @@
+-- A pair: for each series that has room its points in both spaces.
+use Rattle.std.specs.Prelude.{ℕ, ◌+◌, ◌-◌, Bool, not, ◌==◌, List, [], map, length}
+use Rattle.std.specs.Map.{lookup, set_value, values_of}
+use Rattle.std.specs.Option.{unwrap_or}
+use Rattle.std.specs.Ordering.{nat_cmp, is_eq}
+use Rattle.std.specs.List.{filter, sum_by}
+use Rattle.tsdb_base.specs.declared.ids.Space.{Space}
+use Rattle.tsdb_base.specs.declared.ids.Space.TheVariants.{Sequence, Unsequence}
+use Rattle.tsdb_base.specs.declared.point.Point.{Point}
+use Rattle.tsdb_base.specs.declared.point.Range.{Range}
+use Rattle.tsdb_memtable.specs.Points.{placed, is_outside, bytes_of}
+
+-- the points of a series in each space, in order of time, and for how many more there is room
+pub record SeriesPoints : Type 0 where
+  pub sequence : List Point
+  pub unsequence : List Point
+  pub spare : ℕ
+
+-- the series that have room or points, in order of their numbers
+abbrev pub Pair : Type 0
+Pair = List (ℕ × SeriesPoints)
+
+-- without a point, and without room
+abbrev pub blank : SeriesPoints
+blank = record { sequence = []; unsequence = []; spare = 0 }
+
+abbrev pub points_in : Space → SeriesPoints → List Point
+points_in Sequence series = series.sequence
+points_in Unsequence series = series.unsequence
+
+abbrev pub is_series : ℕ → ℕ → Bool
+is_series series other = is_eq (nat_cmp series other)
+
+abbrev pub series_at : ℕ → Pair → SeriesPoints
+series_at series pair = unwrap_or (lookup (is_series series) pair) blank
+
+-- the points of a series in a space
+abbrev pub points_of : Space → ℕ → Pair → List Point
+points_of space series pair = points_in space (series_at series pair)
+
+-- for how many points of a series there is room in either space
+abbrev pub spare_of : ℕ → Pair → ℕ
+spare_of series pair = (series_at series pair).spare
+
+-- the point in this space, in place of one at its time; it uses up room for one
+abbrev pub put_in : Space → Point → SeriesPoints → SeriesPoints
+put_in Sequence point series =
+    record { sequence = placed point series.sequence; unsequence = series.unsequence; spare = series.spare - 1 }
+put_in Unsequence point series =
+    record { sequence = series.sequence; unsequence = placed point series.unsequence; spare = series.spare - 1 }
+
+-- without the points of both spaces in the range
+abbrev pub erased : Range → SeriesPoints → SeriesPoints
+erased range series = record {
+  sequence = filter (is_outside range) series.sequence;
+  unsequence = filter (is_outside range) series.unsequence;
+  spare = series.spare;
+}
+
+-- the pair where one series has become another, and the others stay
+abbrev pub changed : ℕ → (SeriesPoints → SeriesPoints) → Pair → Pair
+changed series f pair = set_value (is_series series) pair (f (series_at series pair))
+
+-- the series with points in the space, and their points there
+abbrev pub table : Space → Pair → List (ℕ × List Point)
+table space pair = filter (λ entry. not (length entry.1 == 0)) (map (λ entry. (entry.0, points_in space entry.1)) pair)
+
+-- how many points are in the space
+abbrev pub count : Space → Pair → ℕ
+count space pair = sum_by (λ series. length (points_in space series)) (values_of pair)
+
+-- how many bytes a series' points count
+abbrev pub series_bytes : SeriesPoints → ℕ
+series_bytes series = bytes_of series.sequence + bytes_of series.unsequence
+
+-- how many bytes the points of both spaces count
+abbrev pub byte_count : Pair → ℕ
+byte_count pair = sum_by series_bytes (values_of pair)
