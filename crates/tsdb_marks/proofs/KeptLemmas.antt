@@ -1,13 +1,13 @@
 -- What the index tells of the marks, and how they change together.
-use Rattle.std.proofs.Common.{◌≡◌, ◌≢◌, ℕ, ◌+◌, ◌<◌, ◌≤◌, ◌⊎◌, ◌↔◌, inl, inr, ⊎_elim, max, Bool, true, false, cond, not, List, [], ◌∷◌, ◌++◌, length, take, get_or, append-nil, get_or-take, length-take, refl, sym, ap, ◌∙◌, subst, arith}
-use Rattle.std.specs.Prelude.{ℤ, pos, negsuc, ◌≤ℤ◌, ◌<ℤ◌, FitsSigned, nat_eq}
+use Rattle.std.proofs.Common.{◌≡◌, ◌≢◌, ℕ, suc, ◌+◌, ◌<◌, ◌≤◌, ◌⊎◌, ◌↔◌, inl, inr, ⊎_elim, max, Bool, true, false, cond, not, List, [], ◌∷◌, ◌++◌, length, take, get_or, append-nil, get_or-take, length-take, refl, sym, ap, ◌∙◌, subst, arith}
+use Rattle.std.specs.Prelude.{ℤ, pos, negsuc, ◌≤ℤ◌, ◌<ℤ◌, FitsSigned, nat_eq, ◌||◌}
 use Rattle.std.specs.Int.{w64}
 use Rattle.std.specs.Cmp.Lexicographic.{pointwise, bytes_decides}
 use Rattle.std.specs.List.{All, AllPairs, filter}
 use Rattle.std.proofs.lemmas.List.{get_or_default}
 use Rattle.std.proofs.lemmas.Int.{ints, by_lt_z}
 use Rattle.std.proofs.lemmas.Bool.{cases_lt, lt-ltb, le-ltb, cases_Bool, false≢true, true_from_ne_false}
-use Rattle.std.proofs.lemmas.List.Elements.{All-head, All-tail, All-cons, All-nil, All-filter, filter_more}
+use Rattle.std.proofs.lemmas.List.Elements.{All-head, All-tail, All-cons, All-nil, All-filter, All-from_get_or, filter_more}
 use Rattle.tsdb_base.specs.declared.point.Range.{Range}
 use Rattle.tsdb_marks.specs.declared.marks.Mark.{Mark}
 use Rattle.tsdb_marks.specs.declared.stretches.Stretch.{Stretch}
@@ -195,11 +195,34 @@ meets-is marks index p range b f t met times exact o ff ft le ef et is =
       λ meets. true_from_ne_false met (λ q. meets-to marks index p range b exact meets (λ h. false≢true (sym q ∙ is.1 (back h)))),
     )
 
-pub meets-none : (marks : List Mark) (p : List ℕ) (range : Range) (b : ℕ) → range.to <ℤ range.from → Meets marks p range b → ⊥
-meets-none marks p range b lt meets = let f = meets.from in let t = meets.to in omega (arith, ints)
-
 pub kept-room : (a b : Index) (n : ℕ) → KeepsRoom a b → HasRoom a n → HasRoom b n
 kept-room a b n k h = record { places = omega (arith, k.places, h.places); keys = omega (arith, k.keys, h.keys); blank = k.blank h.blank; forks = omega (arith, k.forks, h.forks) }
+
+-- where the first mark is newer, all are, and none is dropped
+
+all-newer : (version : ℕ) (marks : List Mark) → All (λ mark. version < mark.version.0) marks → filter (is_newer_than version) marks ≡ marks
+all-newer version [] all = refl
+all-newer version (x ∷ xs) all =
+    let P : Mark → Type 0 = λ mark. version < mark.version.0 in
+    rw (lt-ltb version x.version.0 (All-head P x xs all)) (ap (λ kept. x ∷ kept) (all-newer version xs (All-tail P x xs all)))
+
+pub none-old : (version : ℕ) (marks : List Mark) (x : Mark) → AllPairs (λ (a b : Mark). a.version.0 < b.version.0) marks → 0 < length marks → x ≡ get_or marks 0 x → version < x.version.0
+    → filter (is_newer_than version) marks ≡ marks
+none-old version [] x rising some first newer = refl
+none-old version (y ∷ ys) x rising some first newer =
+    let P : Mark → Type 0 = λ mark. version < mark.version.0 in
+    let lt : version < y.version.0 = subst P first newer in
+    all-newer version (y ∷ ys) (All-cons P y ys lt (All-from_get_or P ys y (λ i within. let later = rising 0 (suc i) y (omega arith) (omega arith) in omega (arith, lt, later))))
+
+pub no-mark : (version : ℕ) (marks : List Mark) → length marks ≡ 0 → filter (is_newer_than version) marks ≡ marks
+no-mark version [] none = refl
+no-mark version (x ∷ xs) none = absurd (omega (arith, none))
+
+pub cond-or : (a b : Bool) → cond a true b ≡ (b || a)
+cond-or true true = refl
+cond-or true false = refl
+cond-or false true = refl
+cond-or false false = refl
 
 -- what stands before a mark has lesser versions
 pub below-front : (test : Mark → Bool) (marks : List Mark) (i : ℕ) (x : Mark) → AllPairs (λ (a b : Mark). a.version.0 < b.version.0) marks → i < length marks → x ≡ get_or marks i x

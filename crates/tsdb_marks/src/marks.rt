@@ -1,15 +1,19 @@
 //! The deletion marks of a store, in the order of their versions. It depends on `index`.
-ghost use Rattle.std.specs.Prelude.{◌≡◌, ℕ, ℤ, ◌+◌, ◌<◌, ◌≤◌, ◌≤ℤ◌, ◌↔◌, List, [], ◌∷◌, ◌++◌, IsTrue, IfOk, IfErr, OnOk};
-ghost use Rattle.std.specs.List.{All, filter};
+ghost use Rattle.std.specs.Prelude.{◌≡◌, ℕ, ℤ, ◌+◌, ◌<◌, ◌≤◌, ◌≤ℤ◌, ◌↔◌, List, [], ◌∷◌, ◌++◌, IsTrue, IfOk, IfErr, OnOk, nat_eq, false};
+ghost use Rattle.std.specs.List.{All, AllPairs, filter, list_any};
+ghost use denote.Ref.{Bor};
+ghost use Rattle.std.specs.HashSet.{contains_by};
+ghost use Rattle.std.specs.Cmp.Lexicographic.{pointwise};
 ghost use Rattle.tsdb_marks.specs.Moments.{moment as moment_of};
 ghost use Rattle.tsdb_marks.specs.Survival.{Survives, Meets};
-ghost use Rattle.tsdb_marks.specs.Lists.{is_of, purged};
+ghost use Rattle.tsdb_marks.specs.Lists.{is_newer_than, is_of, purged};
 ghost use Rattle.tsdb_marks.specs.Index.{HasRoom};
 ghost use Rattle.tsdb_marks.specs.Kept.{HasTimes, IsIndexOf};
 
 use crate::index::Index;
 use crate::stretches::Stretch;
 use std::alloc::Global;
+use std::collections::HashSet;
 use std::marker::Model;
 use tsdb_base::{Memory, Range, Stamp, Time};
 use tsdb_path::Path;
@@ -73,7 +77,8 @@ fn moment(time: Time) -> u64
 fn lay(index: &mut Index, mark: &Mark)
     requires { HasRoom index.old 1 }
     ensures times { HasTimes mark.now }
-    ensures exact { (marks : List Mark) → IsIndexOf marks index.old → All (λ kept. kept.version.0 < mark.now.version.0) marks → IsIndexOf (marks ++ mark.now ∷ []) index.new }
+    ensures exact { (marks : List Mark) → IsIndexOf marks index.old → All (λ kept. kept.version.0 < mark.now.version.0) marks
+        → IsIndexOf (marks ++ mark.now ∷ []) index.new }
     ensures room { (n : ℕ) → HasRoom index.old (n + 1) → HasRoom index.new n }
 {
     let (from, to) = (mark.from, mark.to);
@@ -86,6 +91,29 @@ fn lay(index: &mut Index, mark: &Mark)
         version: mark.version.0,
     };
     index.add(&mark.path, stretch);
+}
+
+/// Whether a mark has at most this version: the first has, where one has, since versions rise.
+fn has_old(marks: &[Mark], version: u64) -> bool
+    requires { AllPairs (λ a b. a.version.0 < b.version.0) marks.now }
+    ensures { result ≡ false → filter (is_newer_than version) marks.now ≡ marks.now }
+{
+    match marks.first() {
+        Some(mark) => mark.version.0 <= version,
+        None => false,
+    }
+}
+
+/// The bytes of all the paths, to be looked up by their hash.
+fn bytes_of_all(alloc: Global, paths: &[Path]) -> Result<HashSet<&[u8]>, Memory>
+    ensures { IfOk result (λ set. (path : Bor (List ℕ)) → contains_by (λ bytes. pointwise nat_eq path.now bytes.now) set
+        ≡ list_any (λ other. pointwise nat_eq other path.now) paths.now) }
+{
+    let mut set = HashSet::new(alloc);
+    for path in paths {
+        set.insert(path.bytes())?;
+    }
+    Ok(set)
 }
 
 impl Marks {
@@ -162,6 +190,9 @@ impl Marks {
             self.index.clear();
             return;
         };
+        if !has_old(self.marks.as_slice(), version) {
+            return;
+        }
         self.marks.retain(|mark| mark.version.0 > version);
         self.index.keep_newer(version);
     }
@@ -170,9 +201,11 @@ impl Marks {
     pub fn only(&self, series: &[Path]) -> Result<Marks, Memory>
         ensures { IfOk result (λ only. only.marks ≡ filter (is_of series.now) self.now.marks) }
     {
-        let mut only = Marks::new(*self.marks.allocator());
+        let alloc = *self.marks.allocator();
+        let paths = bytes_of_all(alloc, series)?;
+        let mut only = Marks::new(alloc);
         for mark in &self.marks {
-            if series.contains(&mark.path) {
+            if paths.contains(mark.path.bytes()) {
                 only.reserve()?;
                 only.add(mark.copy()?);
             }

@@ -1,5 +1,7 @@
 use Rattle.std.proofs.Common.{◌≡◌, ◌<◌, List, take, ap, sym, subst, ◌∙◌, arith}
-use Rattle.std.specs.List.{All, AllPairs, filter}
+use Rattle.std.specs.Cmp.Lexicographic.{pointwise}
+use Rattle.std.specs.List.{All, AllPairs, filter, list_any}
+use Rattle.std.specs.Prelude.{nat_eq}
 use Rattle.std.proofs.lemmas.List.{take_all}
 use Rattle.tsdb_marks.specs.declared.marks.Mark.{Mark}
 use Rattle.tsdb_marks.specs.Lists.{Marks, is_of}
@@ -21,7 +23,9 @@ add-requires-clause-newer c =
 
 pub loop-mark-preserved : goal.loop-mark-preserved
 loop-mark-preserved c =
-    let step = filter-step (is_of c.args.series.now) c.deref-mark-items.result.now c.loop-mark.only.marks c.loop-mark.mark-index c.mark-item.result c.contains.result c.loop-mark-test.true c.mark-item.is c.contains.ensures.value c.loop-mark.invariant in
+    let passes : c.contains.result ≡ is_of c.args.series.now c.mark-item.result = c.contains.ensures ∙ c.in_ok-paths.ensures c.bytes.result
+    ∙ ap (λ path. list_any (λ other. pointwise nat_eq other path) c.args.series.now) c.bytes.ensures.value in
+    let step = filter-step (is_of c.args.series.now) c.deref-mark-items.result.now c.loop-mark.only.marks c.loop-mark.mark-index c.mark-item.result c.contains.result c.loop-mark-test.true c.mark-item.is passes c.loop-mark.invariant in
     elim c.if-contains.branch [
       | then-contains+in_ok-reserve+in_ok-copy w ↦
           ap (λ (v : Marks). v.marks) w.only-is ∙ w.add.ensures.marks ∙ rw (w.reserve.ensures.marks, w.in_ok-copy.ensures) (rw w.if-contains.true at step)
