@@ -1,13 +1,14 @@
 -- Differences, offsets and their widths.
-use Rattle.std.proofs.Common.{◌≡◌, ℕ, suc, ◌^◌, ◌<◌, ◌≤◌, max, List, [], ◌∷◌, length, fold, refl, sym, ap, subst, ◌∙◌, inl, inr, arith, All, ℤ, pos, negsuc, ◌+ℤ◌, ◌-ℤ◌, ◌≤ℤ◌, FitsSigned, cond, true, false, int_lt, ◌⊎◌}
+use Rattle.std.proofs.Common.{◌≡◌, ℕ, suc, ◌^◌, ◌<◌, ◌≤◌, max, List, [], ◌∷◌, length, get_or, fold, refl, sym, ap, subst, ◌∙◌, inl, inr, arith, All, ℤ, pos, negsuc, ◌+ℤ◌, ◌-ℤ◌, ◌≤ℤ◌, FitsSigned, cond, true, false, int_lt, ◌⊎◌}
 use Rattle.std.proofs.Math.IntN.{neg_ℤ}
-use Rattle.std.specs.Int.{w64, int_wrap, int_min}
+use Rattle.std.specs.Int.{w32, w64, int_wrap, int_min}
 use Rattle.std.specs.Int.RustNames.{unsigned_abs}
 use Rattle.std.proofs.Math.Nat.{le-max_left, le-max_right}
 use Rattle.std.proofs.lemmas.Int.{ints, int_wrap_fits, int_wrap-add_right, SFits-int_wrap, fold-int_min_bounds}
 use Rattle.std.proofs.lemmas.List.Elements.{All-head, All-tail, All-nil, All-cons, All-weaker}
 use Rattle.tsdb_bits.specs.Zigzag.{zigzag}
 use Rattle.tsdb_bits.proofs.PackingLaws.{digits_of_number, digits_least}
+use Rattle.enc_list.specs.Lists.{IsListOf}
 use Rattle.enc_ts2diff.specs.Spelling.{differences, least, offsets, width_of}
 use Rattle.enc_ts2diff.specs.Steps.{Continues}
 
@@ -144,3 +145,12 @@ same_values base previous (offset ∷ more) xs ys j k =
     let v : q.value ≡ p.value = q.value-is ∙ sym p.value-is in
     let r = same_values base p.value more p.rest q.rest p.goes_on (subst (λ (t : ℤ). Continues base t more q.rest) v q.goes_on) in
     p.values-are ∙ ap (λ (t : List ℤ). p.value ∷ t) r ∙ ap (λ (t : ℤ). t ∷ q.rest) (sym v) ∙ sym q.values-are
+
+-- ---- numbers of 32 bits as numbers of 64 bits
+
+wider : (z : ℤ) → FitsSigned w32 z → FitsSigned w64 z
+wider (pos n) f = let h : n < 2 ^ 31 = f.sfits in record { sfits = omega arith }
+wider (negsuc n) f = let h : n < 2 ^ 31 = f.sfits in record { sfits = omega arith }
+
+pub wider_list : (values : List ℤ) → IsListOf (FitsSigned w32) values → IsListOf (FitsSigned w64) values
+wider_list values is = record { few = is.few; typed = λ k d lt. wider (get_or values k d) (is.typed k d lt) }

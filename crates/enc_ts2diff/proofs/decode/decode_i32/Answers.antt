@@ -8,6 +8,7 @@ use Rattle.std.proofs.lemmas.List.{take_all}
 use Rattle.std.proofs.lemmas.List.Elements.{All-push}
 use Rattle.enc_list.specs.Lists.{IsListOf, IsSpelling}
 use Rattle.enc_ts2diff.specs.Spelling.{spelling}
+use Rattle.enc_ts2diff.proofs.Numbers.{wider_list}
 use Rattle.enc_ts2diff.proofs.decode.decode_i32.Goals as goal
 
 pub loop-value-preserved : goal.loop-value-preserved
@@ -21,13 +22,9 @@ loop-value-preserved c =
       fits = rw items (All-push (FitsSigned w32) l.values.items c.in-Ok.value l.invariant.fits f);
     }
 
-wider : (z : ℤ) → FitsSigned w32 z → FitsSigned w64 z
-wider (pos n) f = let h : n < 2 ^ 31 = f.sfits in record { sfits = omega arith }
-wider (negsuc n) f = let h : n < 2 ^ 31 = f.sfits in record { sfits = omega arith }
-
 wider_spelling : (bytes : List ℕ) (values : List ℤ) → IsSpelling spelling (FitsSigned w32) bytes values → IsSpelling spelling (FitsSigned w64) bytes values
 wider_spelling bytes values is = record {
-  list = record { few = is.list.few; typed = λ k d lt. wider (get_or values k d) (is.list.typed k d lt) };
+  list = wider_list values is.list;
   bytes-are = is.bytes-are;
 }
 
