@@ -4,9 +4,8 @@ use Rattle.std.specs.Prelude.{map, filter}
 use Rattle.std.specs.List.{list_any}
 use Rattle.std.specs.Str.{bytes_eq}
 use Rattle.std.proofs.lemmas.List.{append-nil, take_more, take_all, take-append-drop, drop_more, take-map, length-take-le, length-map, map_push, get_or-map}
-use Rattle.indexmap.specs.IndexSet.{insert_key}
 use Rattle.enc_dict.specs.Spelling.{first_uses, place_in}
-use Rattle.enc_dict.specs.Steps.{AreUses}
+use Rattle.enc_dict.specs.Steps.{with_text, AreUses}
 use Rattle.enc_dict.proofs.FirstUses.{cases, text_itself, apart_back, others, filter_le, length-first_uses, first_uses_push, places_push, place_of_new, last_among, texts_back, places_within}
 
 -- each text differs from those behind it
@@ -129,10 +128,10 @@ place_le : (ks : List (List ℕ)) (u : List ℕ) → place_in ks u ≤ length ks
 place_le [] u = omega arith
 place_le (k ∷ ks) u = elim (cases (bytes_eq u k)) [ inl same ↦ rw same (omega arith) | inr apart ↦ let rest = place_le ks u in rw apart (omega (arith, rest)) ]
 
-insert_old : (ks : List (List ℕ)) (t : List ℕ) → list_any (bytes_eq t) ks ≡ true → insert_key bytes_eq ks t ≡ ks
+insert_old : (ks : List (List ℕ)) (t : List ℕ) → list_any (bytes_eq t) ks ≡ true → with_text ks t ≡ ks
 insert_old ks t h = rw h refl
 
-insert_new : (ks : List (List ℕ)) (t : List ℕ) → list_any (bytes_eq t) ks ≡ false → insert_key bytes_eq ks t ≡ ks ++ t ∷ []
+insert_new : (ks : List (List ℕ)) (t : List ℕ) → list_any (bytes_eq t) ks ≡ false → with_text ks t ≡ ks ++ t ∷ []
 insert_new ks t h = rw h refl
 
 -- the values so far use the first texts, at these places
@@ -147,9 +146,9 @@ unfolding first_uses
 using_none texts values none = rw none (record { uses = refl; places-are = refl; within = omega arith; back = refl })
 
 go_on : (texts : List (List ℕ)) (places : List ℕ) (used next place : ℕ) (values now : List (List ℕ)) (t : List ℕ) (more : List ℕ) → Using texts places used values → t ≡ get_or texts place [] → now ≡ values ++ t ∷ [] → more ≡ places ++ place ∷ []
-    → insert_key bytes_eq (take used texts) t ≡ take next texts → place_in (take used texts) t ≡ place → next ≤ length texts → Using texts more next now
+    → with_text (take used texts) t ≡ take next texts → place_in (take used texts) t ≡ place → next ≤ length texts → Using texts more next now
 go_on texts places used next place values now t more u at n m ins pl within =
-    let pushed : first_uses now ≡ take next texts = ap first_uses n ∙ first_uses_push values t ∙ ap (λ (ks : List (List ℕ)). insert_key bytes_eq ks t) u.uses ∙ ins in
+    let pushed : first_uses now ≡ take next texts = ap first_uses n ∙ first_uses_push values t ∙ ap (λ (ks : List (List ℕ)). with_text ks t) u.uses ∙ ins in
     let one : place_in (first_uses values) t ≡ place = ap (λ (ks : List (List ℕ)). place_in ks t) u.uses ∙ pl in
     record {
       uses = pushed;
@@ -176,7 +175,7 @@ using_new texts places used place values now t more differ u same within at n m 
     let below : used < length texts = omega arith in
     let at_used : t ≡ get_or texts used [] = at ∙ ap (λ (p : ℕ). get_or texts p []) same in
     let new : list_any (bytes_eq t) (take used texts) ≡ false = rw at_used (not_in_take texts used [] differ below) in
-    let ins : insert_key bytes_eq (take used texts) t ≡ take (used + 1) texts =
+    let ins : with_text (take used texts) t ≡ take (used + 1) texts =
     insert_new (take used texts) t new ∙ ap (λ (x : List ℕ). take used texts ++ x ∷ []) at_used ∙ sym (take_more texts used [] below) in
     let pl : place_in (take used texts) t ≡ place = place_new (take used texts) t new ∙ omega (arith, length-take-le used texts u.within) in
     go_on texts places used (used + 1) place values now t more u at n m ins pl (omega arith)
@@ -198,7 +197,7 @@ first_uses_more : (xs ys : List (List ℕ)) → (more : List (List ℕ)) × (fir
 first_uses_more xs [] = ([], ap first_uses (append-nil xs) ∙ sym (append-nil (first_uses xs)))
 first_uses_more xs (y ∷ ys) =
     let rest = first_uses_more (xs ++ y ∷ []) ys in
-    let whole : first_uses (xs ++ y ∷ ys) ≡ insert_key bytes_eq (first_uses xs) y ++ rest.0 =
+    let whole : first_uses (xs ++ y ∷ ys) ≡ with_text (first_uses xs) y ++ rest.0 =
     ap first_uses (sym (append_assoc xs (y ∷ []) ys)) ∙ rest.1 ∙ ap (λ (ks : List (List ℕ)). ks ++ rest.0) (first_uses_push xs y) in
     elim (cases (list_any (bytes_eq y) (first_uses xs))) [
       | inl old ↦ (rest.0, whole ∙ ap (λ (ks : List (List ℕ)). ks ++ rest.0) (insert_old (first_uses xs) y old))

@@ -1,16 +1,16 @@
 -- The different texts of a list, one text more, and what stands at a text's place.
 use Rattle.std.proofs.Common.{◌≡◌, ℕ, ◌+◌, ◌<◌, ◌≤◌, Bool, true, false, not, ◌||◌, ◌⊎◌, cond, List, [], ◌∷◌, ◌++◌, length, get_or, refl, sym, ap, ◌∙◌, inl, inr, arith}
 use Rattle.std.specs.Prelude.{map, filter, All}
-use Rattle.std.specs.List.{list_any, position_or_len, flat_map, AllByRecursion}
+use Rattle.std.specs.List.{list_any, flat_map, AllByRecursion}
 use Rattle.std.specs.Str.{bytes_eq}
 use Rattle.std.proofs.Common.{one-add}
 use Rattle.std.proofs.lemmas.List.{append-nil, map_push}
 use Rattle.std.proofs.lemmas.List.Elements.{All-from_recursion, filter-append}
 use Rattle.std.proofs.lemmas.List.Concat.{flat_map-append}
-use Rattle.indexmap.specs.IndexSet.{insert_key}
 use lib.Pointwise.{bytes_decides}
 use Rattle.tsdb_base.specs.Plain.{plain_text}
 use Rattle.enc_dict.specs.Spelling.{first_uses, place_in}
+use Rattle.enc_dict.specs.Steps.{with_text}
 
 -- a test is true or false
 pub cases : (b : Bool) → (b ≡ true) ⊎ (b ≡ false)
@@ -47,7 +47,7 @@ any-others text u (x ∷ xs) apart = elim (cases (bytes_eq text x)) [
 ]
 
 -- inserting a text commutes with leaving out another one
-first_insert : (text t : List ℕ) (ks : List (List ℕ)) → text ∷ others text (insert_key bytes_eq ks t) ≡ insert_key bytes_eq (text ∷ others text ks) t
+first_insert : (text t : List ℕ) (ks : List (List ℕ)) → text ∷ others text (with_text ks t) ≡ with_text (text ∷ others text ks) t
 first_insert text t ks = elim (cases (bytes_eq t text)) [
   | inl same ↦
       let left_out : bytes_eq text t ≡ true = ap (bytes_eq text) (same_text t text same) ∙ text_itself text in
@@ -73,7 +73,7 @@ first_insert text t ks = elim (cases (bytes_eq t text)) [
 ]
 
 -- the different texts with one text more
-pub first_uses_push : (xs : List (List ℕ)) (t : List ℕ) → first_uses (xs ++ t ∷ []) ≡ insert_key bytes_eq (first_uses xs) t
+pub first_uses_push : (xs : List (List ℕ)) (t : List ℕ) → first_uses (xs ++ t ∷ []) ≡ with_text (first_uses xs) t
 unfolding first_uses
 first_uses_push [] t = refl
 first_uses_push (x ∷ xs) t = ap (λ (ks : List (List ℕ)). x ∷ others x ks) (first_uses_push xs t) ∙ first_insert x t (first_uses xs)
@@ -98,7 +98,7 @@ unfolding first_uses
 all_used [] = tt
 all_used (x ∷ xs) = (rw (text_itself x) refl, still_among x (first_uses xs) xs (all_used xs))
 
-place_before : (ks : List (List ℕ)) (t u : List ℕ) → list_any (bytes_eq u) ks ≡ true → place_in (ks ++ t ∷ []) u ≡ place_in ks u
+pub place_before : (ks : List (List ℕ)) (t u : List ℕ) → list_any (bytes_eq u) ks ≡ true → place_in (ks ++ t ∷ []) u ≡ place_in ks u
 place_before [] t u h = absurd cc
 place_before (k ∷ ks) t u h = elim (cases (bytes_eq u k)) [
   | inl same ↦ rw same refl
@@ -107,20 +107,20 @@ place_before (k ∷ ks) t u h = elim (cases (bytes_eq u k)) [
       rw apart (ap (λ (n : ℕ). 1 + n) (place_before ks t u later))
 ]
 
-place_last : (ks : List (List ℕ)) (t : List ℕ) → place_in (ks ++ t ∷ []) t ≡ place_in ks t
+pub place_last : (ks : List (List ℕ)) (t : List ℕ) → place_in (ks ++ t ∷ []) t ≡ place_in ks t
 place_last [] t = rw (text_itself t) refl
 place_last (k ∷ ks) t = elim (cases (bytes_eq t k)) [
   | inl same ↦ rw same refl
   | inr apart ↦ rw apart (ap (λ (n : ℕ). 1 + n) (place_last ks t))
 ]
 
-place_stays : (ks : List (List ℕ)) (t u : List ℕ) → list_any (bytes_eq u) ks ≡ true → place_in (insert_key bytes_eq ks t) u ≡ place_in ks u
+place_stays : (ks : List (List ℕ)) (t u : List ℕ) → list_any (bytes_eq u) ks ≡ true → place_in (with_text ks t) u ≡ place_in ks u
 place_stays ks t u h = elim (cases (list_any (bytes_eq t) ks)) [ inl here ↦ rw here refl | inr absent ↦ rw absent (place_before ks t u h) ]
 
-pub place_of_new : (ks : List (List ℕ)) (t : List ℕ) → place_in (insert_key bytes_eq ks t) t ≡ place_in ks t
+pub place_of_new : (ks : List (List ℕ)) (t : List ℕ) → place_in (with_text ks t) t ≡ place_in ks t
 place_of_new ks t = elim (cases (list_any (bytes_eq t) ks)) [ inl here ↦ rw here refl | inr absent ↦ rw absent (place_last ks t) ]
 
-places_stay : (ks : List (List ℕ)) (t : List ℕ) (us : List (List ℕ)) → AreAmong ks us → map (place_in (insert_key bytes_eq ks t)) us ≡ map (place_in ks) us
+places_stay : (ks : List (List ℕ)) (t : List ℕ) (us : List (List ℕ)) → AreAmong ks us → map (place_in (with_text ks t)) us ≡ map (place_in ks) us
 places_stay ks t [] h = refl
 places_stay ks t (u ∷ us) h =
     let first = place_stays ks t u h.0 in
@@ -130,7 +130,7 @@ places_stay ks t (u ∷ us) h =
 -- the places with one text more
 pub places_push : (xs : List (List ℕ)) (t : List ℕ) → map (place_in (first_uses (xs ++ t ∷ []))) (xs ++ t ∷ []) ≡ map (place_in (first_uses xs)) xs ++ place_in (first_uses xs) t ∷ []
 places_push xs t =
-    let one : map (place_in (insert_key bytes_eq (first_uses xs) t)) (xs ++ t ∷ []) ≡ map (place_in (insert_key bytes_eq (first_uses xs) t)) xs ++ place_in (insert_key bytes_eq (first_uses xs) t) t ∷ [] = map_push (place_in (insert_key bytes_eq (first_uses xs) t)) xs t in
+    let one : map (place_in (with_text (first_uses xs) t)) (xs ++ t ∷ []) ≡ map (place_in (with_text (first_uses xs) t)) xs ++ place_in (with_text (first_uses xs) t) t ∷ [] = map_push (place_in (with_text (first_uses xs) t)) xs t in
     let old = places_stay (first_uses xs) t xs (all_used xs) in
     let new = place_of_new (first_uses xs) t in
     rw first_uses_push (one ∙ rw (old, new) refl)
@@ -174,51 +174,29 @@ texts_back xs d = back_by_recursion (first_uses xs) xs d (all_used xs)
 pub places_within : (xs : List (List ℕ)) → All (λ place. place < length (first_uses xs)) (map (place_in (first_uses xs)) xs)
 places_within xs = All-from_recursion (λ place. place < length (first_uses xs)) (map (place_in (first_uses xs)) xs) (within_by_recursion (first_uses xs) xs (all_used xs))
 
--- ---- a set of values that are seen as texts
-
-any-view : {A : Type 0} (v : A → List ℕ) (ks : List A) (t : List ℕ) → list_any (λ x. bytes_eq t (v x)) ks ≡ list_any (bytes_eq t) (map v ks)
-any-view v [] t = refl
-any-view v (k ∷ ks) t = ap (λ b. bytes_eq t (v k) || b) (any-view v ks t)
-
-place-view : {A : Type 0} (v : A → List ℕ) (ks : List A) (t : List ℕ) → position_or_len (λ x. bytes_eq t (v x)) ks ≡ place_in (map v ks) t
-place-view v [] t = refl
-place-view v (k ∷ ks) t = ap (λ (n : ℕ). cond (not (bytes_eq t (v k))) (1 + n) 0) (place-view v ks t)
-
-insert-view : {A : Type 0} (v : A → List ℕ) (ks : List A) (k : A) → map v (insert_key (λ a b. bytes_eq (v a) (v b)) ks k) ≡ insert_key bytes_eq (map v ks) (v k)
-insert-view v ks k = elim (cases (list_any (bytes_eq (v k)) (map v ks))) [
-  | inl here ↦ rw (any-view v ks (v k), here) refl
-  | inr absent ↦ rw (any-view v ks (v k), absent) (map_push v ks k)
-]
-
 -- the texts' bytes with one text more
-texts_insert : (ks : List (List ℕ)) (t : List ℕ) → flat_map plain_text (insert_key bytes_eq ks t) ≡ cond (not (list_any (bytes_eq t) ks)) (flat_map plain_text ks ++ plain_text t) (flat_map plain_text ks)
+texts_insert : (ks : List (List ℕ)) (t : List ℕ) → flat_map plain_text (with_text ks t) ≡ cond (not (list_any (bytes_eq t) ks)) (flat_map plain_text ks ++ plain_text t) (flat_map plain_text ks)
 texts_insert ks t = elim (cases (list_any (bytes_eq t) ks)) [
   | inl here ↦ rw here refl
   | inr absent ↦ rw absent (flat_map-append plain_text ks (t ∷ []) ∙ ap (λ (l : List ℕ). flat_map plain_text ks ++ l) (append-nil (plain_text t)))
 ]
 
--- the different texts so far, their bytes, and the places of the values so far
-pub record Numbered (keys : List (List ℕ)) (texts places : List ℕ) (xs : List (List ℕ)) : Type 0 where
-  pub keys_are : keys ≡ first_uses xs
+-- the bytes of the different texts so far, and the places of the values so far
+pub record Numbered (texts places : List ℕ) (xs : List (List ℕ)) : Type 0 where
   pub texts_are : texts ≡ flat_map plain_text (first_uses xs)
   pub places_are : places ≡ map (place_in (first_uses xs)) xs
 
-pub numbered_none : Numbered [] [] [] []
+pub numbered_none : Numbered [] [] []
 unfolding first_uses
-numbered_none = record { keys_are = refl; texts_are = refl; places_are = refl }
+numbered_none = record { texts_are = refl; places_are = refl }
 
 -- one value more
-pub numbered_push : {A : Type 0} (v : A → List ℕ) (keys new_keys : List A) (k : A) (place : ℕ) (is_new : Bool) (texts new_texts places new_places : List ℕ) (xs : List (List ℕ)) → Numbered (map v keys) texts places xs
-    → new_keys ≡ insert_key (λ a b. bytes_eq (v a) (v b)) keys k → place ≡ position_or_len (λ x. bytes_eq (v k) (v x)) keys → is_new ≡ not (list_any (λ x. bytes_eq (v k) (v x)) keys)
-    → new_texts ≡ cond is_new (texts ++ plain_text (v k)) texts → new_places ≡ places ++ place ∷ [] → Numbered (map v new_keys) new_texts new_places (xs ++ v k ∷ [])
-numbered_push v keys new_keys k place is_new texts new_texts places new_places xs old keys_e place_e new_e texts_e places_e =
-    let any_is : list_any (λ x. bytes_eq (v k) (v x)) keys ≡ list_any (bytes_eq (v k)) (first_uses xs) = any-view v keys (v k) ∙ ap (list_any (bytes_eq (v k))) old.keys_are in
-    let place_is : place ≡ place_in (first_uses xs) (v k) = place_e ∙ place-view v keys (v k) ∙ ap (λ (ks : List (List ℕ)). place_in ks (v k)) old.keys_are in
-    record {
-      keys_are = ap (map v) keys_e ∙ insert-view v keys k ∙ ap (λ (ks : List (List ℕ)). insert_key bytes_eq ks (v k)) old.keys_are ∙ sym (first_uses_push xs (v k));
-      texts_are = texts_e ∙ rw (new_e, any_is, old.texts_are) (sym (texts_insert (first_uses xs) (v k)) ∙ ap (flat_map plain_text) (sym (first_uses_push xs (v k))));
-      places_are = places_e ∙ rw (place_is, old.places_are) (sym (places_push xs (v k)));
-    }
+pub numbered_push : (t : List ℕ) (place : ℕ) (is_new : Bool) (texts new_texts places new_places : List ℕ) (xs : List (List ℕ)) → Numbered texts places xs → place ≡ place_in (first_uses xs) t → is_new ≡ not (list_any (bytes_eq t) (first_uses xs))
+    → new_texts ≡ cond is_new (texts ++ plain_text t) texts → new_places ≡ places ++ place ∷ [] → Numbered new_texts new_places (xs ++ t ∷ [])
+numbered_push t place is_new texts new_texts places new_places xs old place_e new_e texts_e places_e = record {
+  texts_are = texts_e ∙ rw (new_e, old.texts_are) (sym (texts_insert (first_uses xs) t) ∙ ap (flat_map plain_text) (sym (first_uses_push xs t)));
+  places_are = places_e ∙ rw (place_e, old.places_are) (sym (places_push xs t));
+}
 
 pub filter_le : (p : List ℕ → Bool) (xs : List (List ℕ)) → length (filter p xs) ≤ length xs
 filter_le p [] = omega arith

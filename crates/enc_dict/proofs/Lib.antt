@@ -1,3 +1,4 @@
 pub mod FirstUses
 pub mod SpellingLaws
 pub mod Different
+pub mod DictionaryLaws

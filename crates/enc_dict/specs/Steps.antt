@@ -1,5 +1,11 @@
 -- Steps of the proofs: the texts and places of a list.
-use Rattle.std.specs.Prelude.{◌≡◌, ℕ, ◌^◌, ◌<◌, ◌≤◌, List, length, map, All}
+use Rattle.std.specs.Prelude.{◌≡◌, ℕ, ◌^◌, ◌<◌, ◌≤◌, Bool, true, not, List, [], ◌∷◌, ◌++◌, length, map, get_or, All, Option, None, Some, if◌then◌else◌}
+use denote.Ref.{Bor}
+use Rattle.std.specs.BTreeMap.{BTreeMap, get_by, btree_map_len}
+use Rattle.std.specs.Cmp.Lexicographic.{slice_cmp}
+use Rattle.std.specs.List.{list_any}
+use Rattle.std.specs.Ordering.{nat_cmp}
+use Rattle.std.specs.Str.{bytes_eq}
 use Rattle.tsdb_base.specs.Plain.{IsText}
 use Rattle.enc_dict.specs.Spelling.{first_uses, place_in, place_width, parts}
 
@@ -18,3 +24,34 @@ pub record AreUses (texts : List (List ℕ)) (places : List ℕ) (values : List 
 -- the bytes are the parts of no list of so many values
 abbrev pub HaveNoParts : ℕ → List ℕ → Type 0
 HaveNoParts count bytes = (texts : List (List ℕ)) (places : List ℕ) → AreParts count texts places → bytes ≡ parts texts places → ⊥
+
+-- the texts, and this one behind them where it is none of them
+abbrev pub with_text : List (List ℕ) → List ℕ → List (List ℕ)
+with_text texts text = if list_any (bytes_eq text) texts then texts else texts ++ text ∷ []
+
+-- the place of a text, where it is one of the texts
+abbrev pub place_among : List (List ℕ) → List ℕ → Option ℕ
+place_among texts text = if list_any (bytes_eq text) texts then Some (place_in texts text) else None
+
+-- the map has the place of each text, and nothing else
+pub record IsDictionary (texts : List (List ℕ)) (dictionary : BTreeMap (Bor (List ℕ)) ℕ) : Type 0 where
+  pub size : btree_map_len dictionary ≡ length texts
+  pub places : (text : List ℕ) → get_by (λ key. slice_cmp nat_cmp text key.now) dictionary ≡ place_among texts text
+
+-- the text is one of the texts, at this place
+pub record IsPlaceOf (texts : List (List ℕ)) (text : List ℕ) (place : ℕ) : Type 0 where
+  pub among : list_any (bytes_eq text) texts ≡ true
+  pub place-is : place ≡ place_in texts text
+
+-- some value is the text, and its place is this one
+pub record IsKnown (values : List (List ℕ)) (places : List ℕ) (text : List ℕ) (place : ℕ) : Type 0 where
+  pub index : ℕ
+  pub within : index < length places
+  pub value-is : get_or values index text ≡ text
+  pub place-is : place ≡ get_or places index place
+
+-- what the texts, with this one, make of a dictionary of the texts
+pub record Enters (texts : List (List ℕ)) (text : List ℕ) (place : ℕ) (is_new : Bool) (new : BTreeMap (Bor (List ℕ)) ℕ) : Type 0 where
+  pub place-is : place ≡ place_in texts text
+  pub new-is : is_new ≡ not (list_any (bytes_eq text) texts)
+  pub dictionary-is : IsDictionary (with_text texts text) new

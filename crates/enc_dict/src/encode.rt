@@ -1,12 +1,13 @@
-//! From lists to bytes. It depends on `tsdb_base`, `tsdb_bits` and `indexmap`.
+//! From lists to bytes. It depends on `tsdb_base`, `tsdb_bits` and the dictionary.
 ghost use Rattle.std.specs.Prelude.{◌≡◌, ℕ, ◌≤◌, List, ◌++◌, length, map, take, vec_len, IfOk, OnOk, OnErr, if◌then◌else◌};
 ghost use Rattle.std.specs.List.{flat_map};
 ghost use Rattle.tsdb_base.specs.Limits.{max_values};
 ghost use Rattle.tsdb_base.specs.Plain.{plain_text};
 ghost use Rattle.enc_dict.specs.Spelling.{first_uses, place_in, spelling};
 
-use indexmap::IndexSet;
+use crate::dictionary::{HINTS, hint_of, known_place, place_of};
 use std::alloc::Global;
+use std::collections::BTreeMap;
 use tsdb_base::{Memory, PlainValue, Text};
 use tsdb_bits::{pack, put_leb, width};
 
@@ -37,13 +38,17 @@ pub fn uses_of(alloc: Global, values: &[Text]) -> Result<Uses, Memory>
     ensures texts { IfOk result (λ uses. uses.texts.items ≡ flat_map plain_text (first_uses values.now)) }
     ensures places { IfOk result (λ uses. uses.places.items ≡ map (place_in (first_uses values.now)) values.now) }
 {
-    let mut dictionary = IndexSet::new(alloc);
+    let mut dictionary = BTreeMap::new(alloc);
     let mut texts = Vec::new(alloc);
-    let mut places = Vec::new(alloc);
+    let mut places = Vec::with_capacity(alloc, values.len())?;
+    let mut hints = [0; HINTS];
     for text in values {
-        let (place, is_new) = dictionary.insert_full(text)?;
+        let hint = hint_of(text);
+        let known = known_place(values, &places, hints[hint], text);
+        hints[hint] = places.len();
+        let (place, is_new) = place_of(text, known, &mut dictionary)?;
         put_first_use(text, is_new, &mut texts)?;
-        places.push(place as u64)?;
+        places.push(place)?;
     }
     Ok(Uses {
         different: dictionary.len() as u64,

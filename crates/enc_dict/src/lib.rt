@@ -1,8 +1,9 @@
 //! The DICTIONARY encoding of texts: the different texts in the order of their first use, and the
-//! place of each value among them. It depends on `tsdb_base`, `tsdb_bits`, `enc_list` and `indexmap`.
+//! place of each value among them. It depends on `tsdb_base`, `tsdb_bits` and `enc_list`.
 #![tactic(auto)]
 
 mod decode;
+mod dictionary;
 mod encode;
 mod laws;
 

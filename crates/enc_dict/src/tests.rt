@@ -96,6 +96,27 @@ fn round_trips(rt: HostRuntime) -> Result<(), Fail> {
     Ok(())
 }
 
+/// Texts whose first and last bytes are the same, so that they all have one hint.
+#[test]
+fn texts_with_one_hint(rt: HostRuntime) -> Result<(), Fail> {
+    let alloc = rt.alloc();
+    let mut values = Vec::new(alloc);
+    for round in 0..2 {
+        for middle in 0..=255 {
+            let mut bytes = [7u8; 24];
+            bytes[12] = middle;
+            bytes[13] = middle / 2 * round;
+            values.push(Text::new(alloc, &bytes)?)?;
+        }
+    }
+    assert!(rt; values.len() <= 1000);
+    let bytes = encode_text(alloc, &values)?;
+    // 256 texts in the first round, and 254 in the second, where two have a middle of 0 and 1.
+    assert_eq!(rt; bytes.get(..4), Some([0x80, 4, 0xfe, 3].as_slice()));
+    assert_eq!(rt; decode_text(alloc, &bytes)?.as_slice(), values.as_slice());
+    Ok(())
+}
+
 /// Of at most two bytes only a single 0 is a spelling, of the empty list.
 fn agrees(alloc: Global, bytes: &[u8]) -> bool {
     match decode_text(alloc, bytes) {

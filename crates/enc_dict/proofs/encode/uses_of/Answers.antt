@@ -1,15 +1,29 @@
-use Rattle.std.proofs.Common.{◌≡◌, ◌+◌, take, ◌++◌, ◌∷◌, [], sym, ap, ◌∙◌}
+use Rattle.std.proofs.Common.{◌≡◌, ◌+◌, take, ◌++◌, ◌∷◌, [], sym, ap, ◌∙◌, arith}
 use Rattle.std.proofs.lemmas.List.{take_more}
-use Rattle.enc_dict.proofs.FirstUses.{numbered_none, numbered_push}
+use Rattle.std.proofs.lemmas.Option.{IfSome_then}
+use Rattle.enc_dict.specs.Spelling.{first_uses}
+use Rattle.enc_dict.proofs.DictionaryLaws.{empty_dictionary, known_is_place}
+use Rattle.enc_dict.proofs.FirstUses.{first_uses_push, numbered_none, numbered_push}
 use Rattle.enc_dict.proofs.encode.uses_of.Goals as goal
 
 pub loop-text-init : goal.loop-text-init
-loop-text-init c = rw (c.new-dictionary.ensures.empty, c.new-texts.ensures.items, c.new-places.ensures.items) numbered_none
+loop-text-init c = record {
+  numbered = rw (c.new-texts.ensures.items, c.in_ok-places.ensures.items) numbered_none;
+  dictionary = empty_dictionary c.new-dictionary.result c.new-dictionary.ensures.empty c.new-dictionary.ensures.len;
+}
 
 pub loop-text-preserved : goal.loop-text-preserved
 loop-text-preserved c =
-    let more : take (c.loop-text.text-index + 1) c.args.values.now ≡ take c.loop-text.text-index c.args.values.now ++ c.text-item.result ∷ [] =
-    take_more c.args.values.now c.loop-text.text-index c.text-item.result c.loop-text-test.true ∙ ap (λ x. take c.loop-text.text-index c.args.values.now ++ x ∷ []) (sym c.text-item.is) in
-    rw more (numbered_push (λ key. key.now) c.loop-text.dictionary.keys c.insert_full.new.self.keys _ c.in_ok-place.place c.in_ok-place.is_new c.loop-text.texts.items c.put_first_use.new.into.items
-    c.loop-text.places.items c.push.new.self.items (take c.loop-text.text-index c.args.values.now) c.loop-text.invariant
-    c.in_ok-place.ensures.keys c.in_ok-place.ensures.index c.in_ok-place.ensures.added c.in_ok-put_first_use.ensures c.in_ok-push.ensures.items)
+    let l = c.loop-text in
+    let values = c.args.values.now in
+    let t = c.text-item.result in
+    let xs = take l.text-index values in
+    let more : take (l.text-index + 1) values ≡ xs ++ t ∷ [] = take_more values l.text-index t c.loop-text-test.true ∙ ap (λ x. xs ++ x ∷ []) (sym c.text-item.is) in
+    let known = IfSome_then c.known_place-known.result c.known_place-known.ensures
+    (λ place is. known_is_place values l.text-index c.deref.result.now t place (omega (arith, c.loop-text-test.true)) (c.deref.ensures.value ∙ l.invariant.numbered.places_are) is) in
+    let enters = c.in_ok-place.ensures (first_uses xs) l.invariant.dictionary known in
+    record {
+      numbered = rw more (numbered_push t c.in_ok-place.place c.in_ok-place.is_new l.texts.items c.put_first_use.new.into.items l.places.items c.push.new.self.items xs l.invariant.numbered enters.place-is enters.new-is
+          c.in_ok-put_first_use.ensures c.in_ok-push.ensures.items);
+      dictionary = rw (more, first_uses_push xs t) enters.dictionary-is;
+    }
