@@ -58,7 +58,8 @@ pub fn place_of<'a>(
     known: Option<u64>,
     dictionary: &mut BTreeMap<&'a Text, u64>,
 ) -> Result<(u64, bool), Memory>
-    ensures { IfOk result (λ r. (texts : List (List ℕ)) → IsDictionary texts dictionary.old → IfSome known (IsPlaceOf texts text.now) →
+    ensures { IfOk result (λ r. (texts : List (List ℕ)) →
+        IsDictionary texts dictionary.old → IfSome known (IsPlaceOf texts text.now) →
         Enters texts text.now r.0 r.1 dictionary.new) }
 {
     if let Some(place) = known {

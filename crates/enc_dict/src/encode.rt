@@ -24,7 +24,8 @@ pub struct Uses {
 
 /// Appends the bytes of a text that is used for the first time.
 fn put_first_use(text: &Text, is_new: bool, into: &mut Vec<u8>) -> Result<(), Memory>
-    ensures { OnOk result (into.new.items ≡ (if is_new then into.old.items ++ plain_text text.now else into.old.items)) }
+    ensures { OnOk result (into.new.items ≡
+        (if is_new then into.old.items ++ plain_text text.now else into.old.items)) }
 {
     if is_new {
         text.put(into)?;

@@ -93,9 +93,6 @@ joined_tail : (run : Run) (runs : List Run) → IsJoined (run ∷ runs) → (1 �
 joined_tail run [] j = (j, tt, tt)
 joined_tail run (next ∷ runs) j = (j.0, j.2, j.1)
 
-pub joined_rest : (run : Run) (runs : List Run) → IsJoined (run ∷ runs) → IsJoined runs
-joined_rest run runs j = (joined_tail run runs j).1
-
 pub joined_count : (run : Run) (runs : List Run) → IsJoined (run ∷ runs) → 1 ≤ run.count
 joined_count run runs j = (joined_tail run runs j).0
 

@@ -31,7 +31,8 @@ pub trait PlainValue: Drop + Sized {
         ensures bad { IsErrOf result DecodeFault.Bad → BeginsWithNone spelling is_value bytes.now };
 
     /// No value's bytes begin those of another value.
-    ghost prefix_free: { (a b : Self) (x y : List ℕ) → is_value a → is_value b → spelling a ++ x ≡ spelling b ++ y → (a ≡ b) × (x ≡ y) };
+    ghost prefix_free: { (a b : Self) (x y : List ℕ) → is_value a → is_value b →
+        spelling a ++ x ≡ spelling b ++ y → (a ≡ b) × (x ≡ y) };
 }
 
 impl PlainValue for bool {
@@ -157,7 +158,8 @@ pub fn take_all<T: PlainValue>(
     ensures count { IfOk result (λ r. length r.0.items ≡ count) }
     ensures found { IfOk result (λ r. bytes.now ≡ flat_map T.spelling r.0.items ++ r.1.now) }
     ensures values { IfOk result (λ r. All T.is_value r.0.items) }
-    ensures bad { IsErrOf result DecodeFault.Bad → BeginsWithNone (flat_map T.spelling) (AreValues T.is_value count) bytes.now }
+    ensures bad { IsErrOf result DecodeFault.Bad →
+        BeginsWithNone (flat_map T.spelling) (AreValues T.is_value count) bytes.now }
 {
     let mut values = Vec::new(alloc);
     let mut rest = bytes;
