@@ -1,115 +1,148 @@
--- Histories of scripts whose commands are all of session 1, in the order of the script.
-use Rattle.std.proofs.Common.{◌≡◌, ℕ, ◌+◌, ◌<◌, zero, suc, get_or, Bool, true, false, cond, List, [], ◌∷◌, ◌++◌, map, length, Some, eqb, refl, sym, ap, ◌∙◌, arith, subst}
-use Rattle.std.specs.List.{filter, AllByRecursion, slice_get}
+-- One more command of a script is answered: what that adds to the replies of each session, and to the entries.
+use Rattle.std.proofs.Common.{◌≡◌, ◌⊎◌, inl, inr, ℕ, ◌+◌, zero, suc, eqb, eq-eqb, subst, append-nil, Bool, true, false, cond, List, [], ◌∷◌, ◌++◌, map, length, Option, None, Some, refl, sym, ap, ◌∙◌, arith}
+use Rattle.std.specs.List.{filter, slice_get}
 use Rattle.std.specs.Option.{option_map}
-use Rattle.std.proofs.lemmas.List.{length-map}
-use Rattle.std.proofs.lemmas.Option.{slice_get-map}
-use Rattle.tsdb_run.specs.declared.command.Command.{Command}
-use Rattle.tsdb_run.specs.declared.command.Numbered.{Numbered}
-use Rattle.tsdb_run.specs.declared.command.Told.{Told}
-use Rattle.tsdb_run.specs.World.{World}
-use Rattle.tsdb_run.specs.History.{commands_of, command_of, IsComplete, Answers, IsLegal}
-use Rattle.tsdb_run.specs.Steps.{CountsFrom, IsInLineOrder}
+use Rattle.std.proofs.lemmas.Bool.{eqb-true}
+use Rattle.std.proofs.lemmas.List.{length-append, map-append}
+use Rattle.std.proofs.lemmas.List.Elements.{filter-append}
+use Rattle.std.proofs.lemmas.Option.{same_Some}
+use Rattle.tsdb_map.specs.declared.command.Command.{Command}
+use Rattle.tsdb_map.specs.History.{Entry}
+use Rattle.tsdb_script.specs.declared.numbered.Numbered.{Numbered}
+use Rattle.tsdb_run.specs.History.{AreEntries, IsComplete, command_of, commands_of, entry_of, replies_to}
+use Rattle.tsdb_run.specs.declared.status.Told.{Told}
 
--- a history that leads to a world goes on by one entry
-pub IsLegal-push : (script : List Numbered) (world middle after : World) (history : List Told) (told : Told) (command : Command)
-    → IsLegal script world history middle → command_of script told ≡ Some command → Answers middle command told.reply after
-    → IsLegal script world (history ++ told ∷ []) after
-IsLegal-push script world middle after [] told command leads is answers =
-    (command, after, is, subst (λ w. Answers w command told.reply after) leads answers, refl)
-IsLegal-push script world middle after (t ∷ history) told command leads is answers =
-    (leads.0, leads.1, leads.2, leads.3, IsLegal-push script leads.1 middle after history told command leads.4 is answers)
+-- an element keeps its place as the list grows
+get-append : {X : Type 0} (xs ys : List X) (k : ℕ) (x : X) → slice_get xs k ≡ Some x → slice_get (xs ++ ys) k ≡ Some x
+get-append [] ys k x is = cc
+get-append (y ∷ xs) ys zero x is = is
+get-append (y ∷ xs) ys (suc k) x is = get-append xs ys k x is
 
-module _ {X : Type 0} (number : X → ℕ) (session : ℕ) where
-  none_or_all : (b : Bool) (x : X) (xs found : List X) → found ≡ cond b xs [] → cond b (x ∷ found) found ≡ cond b (x ∷ xs) []
-  none_or_all true x xs found e = ap (λ l. x ∷ l) e
-  none_or_all false x xs found e = e
+get-last : {X : Type 0} (xs : List X) (x : X) → slice_get (xs ++ x ∷ []) (length xs) ≡ Some x
+get-last [] x = refl
+get-last (y ∷ xs) x = get-last xs x
 
-  -- where all are of session 1, a session has all of them or none
-  pub of_session : (xs : List X) → AllByRecursion (λ x. number x ≡ 1) xs → filter (λ x. eqb (number x) session) xs ≡ cond (eqb 1 session) xs []
-  of_session [] h = elim (eqb 1 session) as (λ b. ◌≡◌ {A = List X} [] (cond b [] [])) [ true ↦ refl | false ↦ refl ]
-  of_session (x ∷ xs) h =
-      ap (λ n. cond (eqb n session) (x ∷ filter (λ x. eqb (number x) session) xs) (filter (λ x. eqb (number x) session) xs)) h.0
-      ∙ none_or_all (eqb 1 session) x xs (filter (λ x. eqb (number x) session) xs) (of_session xs h.1)
+-- an element of a longer list is one of the list, or the last
+before_or_last : {X : Type 0} (xs : List X) (x : X) (k : ℕ) (y : X) → slice_get (xs ++ x ∷ []) k ≡ Some y
+    → (slice_get xs k ≡ Some y) ⊎ ((k ≡ length xs) × (x ≡ y))
+before_or_last [] x zero y is = inr (refl, same_Some x y is)
+before_or_last [] x (suc k) y is = cc
+before_or_last (z ∷ xs) x zero y is = inl is
+before_or_last (z ∷ xs) x (suc k) y is = elim (before_or_last xs x k y is) [ inl h ↦ inl h | inr h ↦ inr (omega (arith, h.0), h.1) ]
 
--- one more entry counts on
-pub CountsFrom-push : (n : ℕ) (history : List Told) (told : Told) → CountsFrom n history → told.index ≡ n + length history → CountsFrom n (history ++ told ∷ [])
-CountsFrom-push n [] told up at = (omega arith, tt)
-CountsFrom-push n (t ∷ history) told up at = (up.0, CountsFrom-push (suc n) history told up.1 (omega arith))
+map-one : {X Y : Type 0} (f : X → Y) (b : Bool) (x : X) → map f (cond b (x ∷ []) []) ≡ cond b (f x ∷ []) []
+map-one f true x = refl
+map-one f false x = refl
 
-some_is : (t told : Told) → Some t ≡ Some told → t ≡ told
-some_is t told e = cc
+length-one : {X : Type 0} (b : Bool) (x : X) → length (cond b (x ∷ []) []) ≡ cond b 1 0
+length-one true x = refl
+length-one false x = refl
 
-abbrev CountsUp : List Told → Type 0
-CountsUp history = (k : ℕ) (told : Told) → slice_get history k ≡ Some told → told.index ≡ k
+-- the commands of a session, with one more
+pub commands_of-push : (script : List Numbered) (numbered : Numbered) (session : ℕ)
+    → commands_of (script ++ numbered ∷ []) session
+    ≡ commands_of script session ++ cond (eqb numbered.session session) (numbered.command ∷ []) []
+commands_of-push script numbered session =
+    ap (map (λ n. n.command)) (filter-append (λ n. eqb n.session session) script (numbered ∷ []))
+    ∙ map-append (λ n. n.command) (filter (λ n. eqb n.session session) script) (cond (eqb numbered.session session) (numbered ∷ []) [])
+    ∙ ap (λ l. commands_of script session ++ l) (map-one (λ n. n.command) (eqb numbered.session session) numbered)
 
-place : (n : ℕ) (history : List Told) (k : ℕ) (told : Told) → CountsFrom n history → slice_get history k ≡ Some told → told.index ≡ n + k
-place n [] k told up is = cc
-place n (t ∷ history) zero told up is = ap (λ t. t.index) (sym (some_is t told is)) ∙ up.0 ∙ omega arith
-place n (t ∷ history) (suc k) told up is = place (suc n) history k told up.1 is ∙ omega arith
+pub length-commands_of-push : (script : List Numbered) (numbered : Numbered) (session : ℕ)
+    → length (commands_of (script ++ numbered ∷ []) session) ≡ length (commands_of script session) + cond (eqb numbered.session session) 1 0
+length-commands_of-push script numbered session =
+    ap length (commands_of-push script numbered session)
+    ∙ length-append (commands_of script session) (cond (eqb numbered.session session) (numbered.command ∷ []) [])
+    ∙ ap (λ n. length (commands_of script session) + n) (length-one (eqb numbered.session session) numbered.command)
 
-counts_up : (b : Bool) (history : List Told) → CountsUp history → CountsUp (cond b history [])
-counts_up true history h = h
-counts_up false history h = λ k told e. cc
+replies_to-push : (history : List Told) (told : Told) (session : ℕ)
+    → replies_to (history ++ told ∷ []) session ≡ replies_to history session ++ cond (eqb told.session session) (told ∷ []) []
+replies_to-push history told session = filter-append (λ t. eqb t.session session) history (told ∷ [])
 
-lengths : (b : Bool) (history : List Told) (script : List Numbered) → length history ≡ length script
-    → length (cond b history []) ≡ length (map (λ numbered. numbered.command) (cond b script []))
-lengths true history script e = e ∙ sym (length-map script (λ numbered. numbered.command))
-lengths false history script e = refl
+abbrev CountUp : List Told → Type 0
+CountUp replies = (k : ℕ) (told : Told) → slice_get replies k ≡ Some told → told.index ≡ k
 
--- a history in the order of the lines is complete
-pub IsComplete-in_line_order : (script : List Numbered) (history : List Told)
-    → AllByRecursion (λ numbered. numbered.session ≡ 1) script → IsInLineOrder script history → IsComplete script history
-IsComplete-in_line_order script history ones told = λ session.
-    let entries = of_session (λ told. told.session) session history told.one_session in
-    let commands = of_session (λ numbered. numbered.session) session script ones in (
-      ap length entries ∙ lengths (eqb 1 session) history script told.whole ∙ sym (ap (λ l. length (map (λ numbered. numbered.command) l)) commands),
-      λ k t is. counts_up (eqb 1 session) history (λ k t is. place 0 history k t told.counted is ∙ omega arith) k t (sym (ap (λ l. slice_get l k) entries) ∙ is),
-    )
+CountUp-push : (replies : List Told) (told : Told) → told.index ≡ length replies → CountUp replies → CountUp (replies ++ told ∷ [])
+CountUp-push replies told at up = λ k other is. elim (before_or_last replies told k other is) [
+  | inl h ↦ up k other h
+  | inr h ↦ ap (λ t. t.index) (sym h.1) ∙ at ∙ sym h.0
+]
 
--- the entry of session 1 with this index answers the command in its place
-pub command_of-one : (script : List Numbered) (told : Told) (k : ℕ) (numbered : Numbered)
-    → AllByRecursion (λ numbered. numbered.session ≡ 1) script → told.session ≡ 1 → told.index ≡ k → slice_get script k ≡ Some numbered
-    → command_of script told ≡ Some numbered.command
-command_of-one script told k numbered ones one at is =
-    ap (λ s. slice_get (commands_of script s) told.index) one ∙ ap (λ l. slice_get (map (λ numbered. numbered.command) l) told.index) (of_session (λ numbered. numbered.session) 1 script ones)
-    ∙ ap (slice_get (map (λ numbered. numbered.command) script)) at ∙ slice_get-map (λ numbered. numbered.command) script k
-    ∙ ap (option_map (λ numbered. numbered.command)) is
+CountUp-one : (b : Bool) (replies : List Told) (told : Told) → (b ≡ true → told.index ≡ length replies) → CountUp replies
+    → CountUp (replies ++ cond b (told ∷ []) [])
+CountUp-one true replies told at up = CountUp-push replies told (at refl) up
+CountUp-one false replies told at up = rw append-nil up
 
--- the item that a loop reads at a place
-pub read_at : {X : Type 0} (xs : List X) (i : ℕ) (x : X) → i < length xs → x ≡ get_or xs i x → slice_get xs i ≡ Some x
-read_at [] i x lt e = absurd (omega arith)
-read_at (y ∷ xs) zero x lt e = ap Some (sym e)
-read_at (y ∷ xs) (suc i) x lt e = read_at xs i x (omega arith) e
+module _ (script : List Numbered) (history : List Told) (numbered : Numbered) (told : Told)
+    (same : told.session ≡ numbered.session) (at : told.index ≡ length (commands_of script numbered.session)) where
+  pub IsComplete-push : IsComplete script history → IsComplete (script ++ numbered ∷ []) (history ++ told ∷ [])
+  IsComplete-push is = λ session. (
+    ap length (replies_to-push history told session)
+        ∙ length-append (replies_to history session) (cond (eqb told.session session) (told ∷ []) [])
+        ∙ ap (λ n. length (replies_to history session) + n) (length-one (eqb told.session session) told)
+        ∙ ap (λ n. n + cond (eqb told.session session) 1 0) (is session).0
+        ∙ ap (λ s. length (commands_of script session) + cond (eqb s session) 1 0) same
+        ∙ sym (length-commands_of-push script numbered session),
+    counts session,
+  ) where
+    its_index : (session : ℕ) → eqb told.session session ≡ true → told.index ≡ length (replies_to history session)
+    its_index session e =
+        at ∙ ap (λ s. length (commands_of script s)) (sym same ∙ eqb-true told.session session e) ∙ sym (is session).0
 
--- the loop's step: one more command has been answered
-pub record IsToldSoFar (script : List Numbered) (world : World) (history : List Told) (after : World) : Type 0 where
-  pub ones : AllByRecursion (λ told. told.session ≡ 1) history
-  pub up : CountsFrom 0 history
-  pub leads : IsLegal script world history after
+    counts : (session : ℕ) → CountUp (replies_to (history ++ told ∷ []) session)
+    counts session = subst CountUp (sym (replies_to-push history told session))
+        (CountUp-one (eqb told.session session) (replies_to history session) told (its_index session) (is session).1)
 
-AllByRecursion-push : {X : Type 0} (P : X → Type 0) (xs : List X) (x : X) → AllByRecursion P xs → P x → AllByRecursion P (xs ++ x ∷ [])
-AllByRecursion-push P [] x h p = (p, tt)
-AllByRecursion-push P (y ∷ xs) x h p = (h.0, AllByRecursion-push P xs x h.1 p)
+  pub command_of-last : command_of (script ++ numbered ∷ []) told ≡ Some numbered.command
+  command_of-last =
+      ap (λ s. slice_get (commands_of (script ++ numbered ∷ []) s) told.index) same
+      ∙ ap (slice_get (commands_of (script ++ numbered ∷ []) numbered.session)) at
+      ∙ ap (λ l. slice_get l (length (commands_of script numbered.session))) (commands_of-push script numbered numbered.session
+      ∙ ap (λ b. commands_of script numbered.session ++ cond b (numbered.command ∷ []) []) (eq-eqb numbered.session numbered.session refl))
+      ∙ get-last (commands_of script numbered.session) numbered.command
 
-pub one_more : (script : List Numbered) (world middle after : World) (history : List Told) (told : Told) (numbered : Numbered)
-    → AllByRecursion (λ numbered. numbered.session ≡ 1) script → IsToldSoFar script world history middle
-    → told.session ≡ 1 → told.index ≡ length history → slice_get script (length history) ≡ Some numbered
-    → Answers middle numbered.command told.reply after → IsToldSoFar script world (history ++ told ∷ []) after
-one_more script world middle after history told numbered ones so_far one at is answers = record {
-  ones = AllByRecursion-push (λ told. told.session ≡ 1) history told so_far.ones one;
-  up = CountsFrom-push 0 history told so_far.up (omega arith);
-  leads = IsLegal-push script world middle after history told numbered.command so_far.leads (command_of-one script told (length history) numbered ones one at is) answers;
-}
+-- what was answered is so in a longer script
+command_of-longer : (script : List Numbered) (numbered : Numbered) (told : Told) (command : Command)
+    → command_of script told ≡ Some command → command_of (script ++ numbered ∷ []) told ≡ Some command
+command_of-longer script numbered told command is =
+    ap (λ l. slice_get l told.index) (commands_of-push script numbered told.session)
+    ∙ get-append (commands_of script told.session) (cond (eqb numbered.session told.session) (numbered.command ∷ []) []) told.index command is
 
--- the sessions of a history in the order of the lines are those of the lines
-pub same_sessions : (script : List Numbered) (history : List Told) → length history ≡ length script
-    → AllByRecursion (λ numbered. numbered.session ≡ 1) script → AllByRecursion (λ told. told.session ≡ 1) history
-    → map (λ told. told.session) history ≡ map (λ numbered. numbered.session) script
-same_sessions [] [] long ones told = refl
-same_sessions [] (t ∷ history) long ones told = absurd (omega arith)
-same_sessions (n ∷ script) [] long ones told = absurd (omega arith)
-same_sessions (n ∷ script) (t ∷ history) long ones told =
-    let head : t.session ≡ n.session = told.0 ∙ sym ones.0 in
-    ap (λ l. t.session ∷ l) (same_sessions script history (omega arith) ones.1 told.1)
-    ∙ ap (λ h. h ∷ map (λ numbered. numbered.session) script) head
+made : {X Y : Type 0} (f : X → Y) (o : Option X) (y : Y) → option_map f o ≡ Some y → (x : X) × (o ≡ Some x) × (f x ≡ y)
+made f None y e = cc
+made f (Some x) y e = (x, refl, same_Some (f x) y e)
+
+abbrev with_reply : Told → Command → Entry
+with_reply told command = record { command = command; reply = told.reply }
+
+-- an entry has the command that its reply answers
+pub command_of-entry : (script : List Numbered) (told : Told) (entry : Entry) → entry_of script told ≡ Some entry → command_of script told ≡ Some entry.command
+command_of-entry script told entry is = (let m = made (with_reply told) (command_of script told) entry is in m.1 ∙ ap (λ (e : Entry). Some e.command) m.2)
+
+entry_of-longer : (script : List Numbered) (numbered : Numbered) (told : Told) (entry : Entry)
+    → entry_of script told ≡ Some entry → entry_of (script ++ numbered ∷ []) told ≡ Some entry
+entry_of-longer script numbered told entry is =
+    let m = made (with_reply told) (command_of script told) entry is in
+    ap (option_map (with_reply told)) (command_of-longer script numbered told m.0 m.1) ∙ ap Some m.2
+
+pub heads : {X : Type 0} (x y : X) (xs ys : List X) → x ∷ xs ≡ y ∷ ys → (x ≡ y) × (xs ≡ ys)
+heads x y xs ys e = (cc, cc)
+
+AreEntries-longer : (script : List Numbered) (numbered : Numbered) (history : List Told) (entries : List Entry)
+    → AreEntries script history entries → AreEntries (script ++ numbered ∷ []) history entries
+AreEntries-longer script numbered [] [] are = refl
+AreEntries-longer script numbered [] (e ∷ entries) are = cc
+AreEntries-longer script numbered (t ∷ history) [] are = cc
+AreEntries-longer script numbered (t ∷ history) (e ∷ entries) are =
+    let h = heads (entry_of script t) (Some e) (map (entry_of script) history) (map Some entries) are in
+    ap (λ o. o ∷ map (entry_of (script ++ numbered ∷ [])) history) (entry_of-longer script numbered t e h.0)
+    ∙ ap (λ l. Some e ∷ l) (AreEntries-longer script numbered history entries h.1)
+
+-- one more entry
+pub AreEntries-push : (script : List Numbered) (numbered : Numbered) (history : List Told) (told : Told) (entries : List Entry)
+    → AreEntries script history entries → command_of (script ++ numbered ∷ []) told ≡ Some numbered.command
+    → AreEntries (script ++ numbered ∷ []) (history ++ told ∷ []) (entries ++ with_reply told numbered.command ∷ [])
+AreEntries-push script numbered history told entries are is =
+    map-append (entry_of (script ++ numbered ∷ [])) history (told ∷ [])
+    ∙ ap (λ l. l ++ entry_of (script ++ numbered ∷ []) told ∷ []) (AreEntries-longer script numbered history entries are)
+    ∙ ap (λ o. map Some entries ++ o ∷ []) (ap (option_map (with_reply told)) is)
+    ∙ sym (map-append Some entries (with_reply told numbered.command ∷ []))

@@ -1,61 +1,149 @@
--- The text of a history that is in the order of its script's lines.
-use Rattle.std.proofs.Common.{◌≡◌, ℕ, ◌+◌, ◌<◌, zero, suc, get_or, not, List, [], ◌∷◌, ◌++◌, length, Option, Some, eqb, refl, ap, ◌∙◌, arith, append-nil, drop, add-one}
-use Rattle.std.specs.List.{filter, flat_map, AllByRecursion, slice_get}
-use Rattle.std.specs.Fmt.{decimal}
-use Rattle.std.specs.Prelude.{codes}
-use Rattle.tsdb_run.specs.declared.command.Command.{Command}
-use Rattle.tsdb_run.specs.declared.command.Numbered.{Numbered}
-use Rattle.tsdb_run.specs.declared.command.Told.{Told}
-use Rattle.tsdb_run.specs.History.{command_of}
-use Rattle.tsdb_run.specs.Steps.{CountsFrom, IsInLineOrder}
-use Rattle.tsdb_run.specs.Text.{line, reply_text, told_text, sessions_of, session_text, sessions_text, replies_text}
-use Rattle.tsdb_run.proofs.HistoryLemmas.{of_session, command_of-one}
+-- The text of the output, by its parts.
+use Rattle.std.proofs.Common.{◌≡◌, ℕ, ◌+◌, ◌<◌, zero, suc, add-one, arith, eqb, eq-eqb, get_or, Bool, true, false, cond, not, ◌||◌, List, [], ◌∷◌, ◌++◌, append-nil, append_assoc, drop, length, map, Some, refl, sym, ap, ◌∙◌}
+use Rattle.std.specs.List.{filter, flat_map, list_any}
+use Rattle.std.proofs.lemmas.Bool.{eqb-true, false≢true}
+use Rattle.std.proofs.lemmas.List.{length-map}
+use Rattle.std.proofs.lemmas.List.Elements.{filter-append}
+use Rattle.std.proofs.lemmas.Map.Views.{any-filter_same}
+use Rattle.tsdb_map.specs.History.{Entry}
+use Rattle.tsdb_print.specs.Text.{reply_text}
+use Rattle.tsdb_script.specs.declared.numbered.Numbered.{Numbered}
+use Rattle.tsdb_run.specs.History.{AreEntries, command_of, entry_of}
+use Rattle.tsdb_run.specs.Output.{replies_text, sessions_of, told_text}
+use Rattle.tsdb_run.specs.Steps.{IsAnswered, reply_text_of, with_session}
+use Rattle.tsdb_run.specs.declared.status.Told.{Told}
+use Rattle.tsdb_run.proofs.HistoryLemmas.{command_of-entry, heads}
 
--- a script of one session has that one
-one_session : (script : List Numbered) → AllByRecursion (λ numbered. numbered.session ≡ 1) script → 0 < length script → sessions_of script ≡ 1 ∷ []
-one_session [] ones some = absurd (omega arith)
-one_session (numbered ∷ []) ones some = ap (λ n. n ∷ []) ones.0
-one_session (numbered ∷ next ∷ script) ones some =
-    ap (λ n. n ∷ filter (λ session. not (eqb session n)) (sessions_of (next ∷ script))) ones.0
-    ∙ ap (λ l. 1 ∷ filter (λ session. not (eqb session 1)) l) (one_session (next ∷ script) ones.1 (omega arith))
+abbrev is_other : ℕ → ℕ → Bool
+is_other session other = not (eqb other session)
 
-told_one : (command : Option Command) (told : Told) (numbered : Numbered) → command ≡ Some numbered.command → told_text command told ≡ reply_text numbered.command told.reply
-told_one command told numbered is = ap (λ c. told_text c told) is
+different : (a b : ℕ) → eqb a b ≡ false → (t : Bool) → eqb b a ≡ t → not t ≡ true
+different a b e true h = absurd (false≢true (sym e ∙ eq-eqb a b (sym (eqb-true b a h))))
+different a b e false h = refl
 
--- what the entries say from the n-th on, in the words of the output's definition
-replies_from : (script : List Numbered) → AllByRecursion (λ numbered. numbered.session ≡ 1) script
-    → (n : ℕ) (rest : List Numbered) (history : List Told) → ((k m : ℕ) → m ≡ n + k → slice_get script m ≡ slice_get rest k)
-    → length history ≡ length rest → AllByRecursion (λ told. told.session ≡ 1) history → CountsFrom n history
-    → flat_map (λ told. told_text (command_of script told) told) history ≡ replies_text rest history
-replies_from script ones n [] [] same long one counted = refl
-replies_from script ones n [] (told ∷ history) same long one counted = absurd (omega arith)
-replies_from script ones n (numbered ∷ rest) [] same long one counted = absurd (omega arith)
-replies_from script ones n (numbered ∷ rest) (told ∷ history) same long one counted =
-    ap (λ l. l ++ flat_map (λ told. told_text (command_of script told) told) history)
-    (told_one (command_of script told) told numbered (command_of-one script told n numbered ones one.0 counted.0 (same 0 n (omega arith))))
-    ∙ ap (λ l. reply_text numbered.command told.reply ++ l)
-    (replies_from script ones (suc n) rest history (λ k m e. same (suc k) m (omega arith)) (omega arith) one.1 counted.1)
+with_session-there : (sessions : List ℕ) (session : ℕ) → list_any (λ other. eqb other session) sessions ≡ true → with_session sessions session ≡ sessions
+with_session-there sessions session e = ap (λ b. cond b sessions (sessions ++ session ∷ [])) e
 
--- the text before the order, of a script with commands
-pub sessions_text-some : (script : List Numbered) (history : List Told)
-    → AllByRecursion (λ numbered. numbered.session ≡ 1) script → IsInLineOrder script history → 0 < length script
-    → sessions_text script history ≡ line (codes "session " ++ decimal 1) ++ replies_text script history
-sessions_text-some script history ones told some =
-    ap (λ s. flat_map (session_text script history) s) (one_session script ones some)
-    ∙ append-nil (session_text script history 1)
-    ∙ ap (λ h. line (codes "session " ++ decimal 1) ++ flat_map (λ told. told_text (command_of script told) told) h) (of_session (λ told. told.session) 1 history told.one_session)
-    ∙ ap (λ l. line (codes "session " ++ decimal 1) ++ l) (replies_from script ones 0 script history (λ k m e. ap (slice_get script) (e ∙ omega arith)) told.whole told.one_session told.counted)
+with_session-new : (sessions : List ℕ) (session : ℕ) → list_any (λ other. eqb other session) sessions ≡ false → with_session sessions session ≡ sessions ++ session ∷ []
+with_session-new sessions session e = ap (λ b. cond b sessions (sessions ++ session ∷ [])) e
 
-next_reply : (script : List Numbered) (history : List Told) (i : ℕ) (numbered : Numbered) (told : Told) → i < length script → i < length history
-    → replies_text (drop i script) (drop i history)
-    ≡ reply_text (get_or script i numbered).command (get_or history i told).reply ++ replies_text (drop (suc i) script) (drop (suc i) history)
-next_reply [] history i numbered told a b = absurd (omega arith)
-next_reply (m ∷ script) [] i numbered told a b = absurd (omega arith)
-next_reply (m ∷ script) (u ∷ history) zero numbered told a b = refl
-next_reply (m ∷ script) (u ∷ history) (suc i) numbered told a b = next_reply script history i numbered told (omega arith) (omega arith)
+module _ (first session : ℕ) (sessions : List ℕ) where
+  others-longer : filter (is_other first) (sessions ++ session ∷ []) ≡ filter (is_other first) sessions ++ cond (is_other first session) (session ∷ []) []
+  others-longer = filter-append (is_other first) sessions (session ∷ [])
+
+  no_other : eqb first session ≡ true → is_other first session ≡ false
+  no_other e = ap not (eq-eqb session first (sym (eqb-true first session e)))
+
+  behind_first : (t u : Bool) → eqb first session ≡ t → list_any (λ other. eqb other session) sessions ≡ u
+      → first ∷ filter (is_other first) (with_session sessions session) ≡ with_session (first ∷ filter (is_other first) sessions) session
+  behind_first true true e there =
+      ap (λ l. first ∷ filter (is_other first) l) (with_session-there sessions session there)
+      ∙ sym (with_session-there (first ∷ filter (is_other first) sessions) session (ap (λ b. b || list_any (λ other. eqb other session) (filter (is_other first) sessions)) e))
+  behind_first true false e new =
+      ap (λ l. first ∷ filter (is_other first) l) (with_session-new sessions session new)
+      ∙ ap (λ l. first ∷ l) (others-longer ∙ ap (λ b. filter (is_other first) sessions ++ cond b (session ∷ []) []) (no_other e) ∙ append-nil (filter (is_other first) sessions))
+      ∙ sym (with_session-there (first ∷ filter (is_other first) sessions) session (ap (λ b. b || list_any (λ other. eqb other session) (filter (is_other first) sessions)) e))
+  behind_first false true e there =
+      ap (λ l. first ∷ filter (is_other first) l) (with_session-there sessions session there)
+      ∙ sym (with_session-there (first ∷ filter (is_other first) sessions) session
+      (ap (λ b. b || list_any (λ other. eqb other session) (filter (is_other first) sessions)) e ∙ found ∙ there))
+    where
+      found : list_any (λ other. eqb other session) (filter (is_other first) sessions) ≡ list_any (λ other. eqb other session) sessions
+      found = any-filter_same (λ other. eqb other session) (is_other first) true
+          (λ k h. ap (is_other first) (eqb-true k session h) ∙ different first session e (eqb session first) refl) sessions
+  behind_first false false e new =
+      ap (λ l. first ∷ filter (is_other first) l) (with_session-new sessions session new)
+      ∙ ap (λ l. first ∷ l) (others-longer ∙ ap (λ b. filter (is_other first) sessions ++ cond b (session ∷ []) []) (different first session e (eqb session first) refl))
+      ∙ sym (with_session-new (first ∷ filter (is_other first) sessions) session
+      (ap (λ b. b || list_any (λ other. eqb other session) (filter (is_other first) sessions)) e ∙ found ∙ new))
+    where
+      found : list_any (λ other. eqb other session) (filter (is_other first) sessions) ≡ list_any (λ other. eqb other session) sessions
+      found = any-filter_same (λ other. eqb other session) (is_other first) true
+          (λ k h. ap (is_other first) (eqb-true k session h) ∙ different first session e (eqb session first) refl) sessions
+
+-- the sessions of a script with one more command
+pub sessions_of-push : (script : List Numbered) (numbered : Numbered)
+    → sessions_of (script ++ numbered ∷ []) ≡ with_session (sessions_of script) numbered.session
+sessions_of-push [] numbered = refl
+sessions_of-push (first ∷ script) numbered =
+    ap (λ l. first.session ∷ filter (is_other first.session) l) (sessions_of-push script numbered)
+    ∙ behind_first first.session numbered.session (sessions_of script) (eqb first.session numbered.session)
+    (list_any (λ other. eqb other numbered.session) (sessions_of script)) refl refl
+
+-- each command has a reply
+pub length-answered : (script : List Numbered) (history : List Told) → IsAnswered script history → length history ≡ length script
+length-answered script history is =
+    sym (length-map history (λ told. told.session)) ∙ ap length is.in_line_order ∙ length-map script (λ numbered. numbered.session)
+
+-- the replies to a session, of commands and their replies side by side
+abbrev pub side_by_side : ℕ → List Numbered → List Told → List ℕ
+side_by_side session [] history = []
+side_by_side session (numbered ∷ script) [] = []
+side_by_side session (numbered ∷ script) (told ∷ history) = reply_text_of session numbered told ++ side_by_side session script history
+
+beside : (all script : List Numbered) (history : List Told) (session : ℕ) → map (command_of all) history ≡ map (λ numbered. Some numbered.command) script
+    → flat_map (λ told. told_text (command_of all told) told) (filter (λ told. eqb told.session session) history) ≡ side_by_side session script history
+beside all [] [] session same = refl
+beside all [] (t ∷ history) session same = cc
+beside all (n ∷ script) [] session same = refl
+beside all (n ∷ script) (t ∷ history) session same =
+    let h = heads (command_of all t) (Some n.command) (map (command_of all) history) (map (λ numbered. Some numbered.command) script) same in
+    let more = beside all script history session h.1 in
+    elim (eqb t.session session) as (λ b.
+    flat_map (λ told. told_text (command_of all told) told) (cond b (t ∷ filter (λ told. eqb told.session session) history) (filter (λ told. eqb told.session session) history))
+    ≡ cond b (reply_text n.command t.reply) [] ++ side_by_side session script history) [
+      | true ↦ ap (λ c. told_text c t ++ flat_map (λ told. told_text (command_of all told) told) (filter (λ told. eqb told.session session) history)) h.0
+          ∙ ap (λ l. reply_text n.command t.reply ++ l) more
+      | false ↦ more
+    ]
+
+their_commands : (script : List Numbered) (history : List Told) (entries : List Entry) → AreEntries script history entries
+    → map (command_of script) history ≡ map (λ entry. Some entry.command) entries
+their_commands script [] [] are = refl
+their_commands script [] (e ∷ entries) are = cc
+their_commands script (t ∷ history) [] are = cc
+their_commands script (t ∷ history) (e ∷ entries) are =
+    let h = heads (entry_of script t) (Some e) (map (entry_of script) history) (map Some entries) are in
+    ap (λ c. c ∷ map (command_of script) history) (command_of-entry script t e h.0)
+    ∙ ap (λ l. Some e.command ∷ l) (their_commands script history entries h.1)
+
+map-Some : {X Y : Type 0} (f : X → Y) (xs : List X) → map (λ x. Some (f x)) xs ≡ map Some (map f xs)
+map-Some f [] = refl
+map-Some f (x ∷ xs) = ap (λ l. Some (f x) ∷ l) (map-Some f xs)
+
+-- the replies to a session are those of its commands, each in its place
+pub replies_text-answered : (script : List Numbered) (history : List Told) (session : ℕ) → IsAnswered script history
+    → replies_text script history session ≡ side_by_side session script history
+replies_text-answered script history session is =
+    beside script script history session (their_commands script history is.entries is.answers
+    ∙ map-Some (λ entry. entry.command) is.entries ∙ ap (map Some) is.commands ∙ sym (map-Some (λ numbered. numbered.command) script))
+
+next_reply : (session : ℕ) (script : List Numbered) (history : List Told) (i : ℕ) (numbered : Numbered) (told : Told) → i < length script → i < length history
+    → side_by_side session (drop i script) (drop i history)
+    ≡ reply_text_of session (get_or script i numbered) (get_or history i told) ++ side_by_side session (drop (suc i) script) (drop (suc i) history)
+next_reply session [] history i numbered told a b = absurd (omega arith)
+next_reply session (m ∷ script) [] i numbered told a b = absurd (omega arith)
+next_reply session (m ∷ script) (u ∷ history) zero numbered told a b = refl
+next_reply session (m ∷ script) (u ∷ history) (suc i) numbered told a b = next_reply session script history i numbered told (omega arith) (omega arith)
 
 -- the replies from a place on begin with the one there
-pub replies_text-drop : (script : List Numbered) (history : List Told) (i : ℕ) (numbered : Numbered) (told : Told) → i < length script → i < length history
-    → replies_text (drop i script) (drop i history)
-    ≡ reply_text (get_or script i numbered).command (get_or history i told).reply ++ replies_text (drop (i + 1) script) (drop (i + 1) history)
-replies_text-drop script history i numbered told a b = rw add-one (next_reply script history i numbered told a b)
+pub side_by_side-drop : (session : ℕ) (script : List Numbered) (history : List Told) (i : ℕ) (numbered : Numbered) (told : Told)
+    → i < length script → i < length history → numbered ≡ get_or script i numbered → told ≡ get_or history i told
+    → side_by_side session (drop i script) (drop i history)
+    ≡ reply_text_of session numbered told ++ side_by_side session (drop (i + 1) script) (drop (i + 1) history)
+side_by_side-drop session script history i numbered told a b its is = rw add-one
+    (next_reply session script history i numbered told a b
+    ∙ ap (λ n. reply_text_of session n (get_or history i told) ++ side_by_side session (drop (suc i) script) (drop (suc i) history)) (sym its)
+    ∙ ap (λ t. reply_text_of session numbered t ++ side_by_side session (drop (suc i) script) (drop (suc i) history)) (sym is))
+
+next_part : (f : ℕ → List ℕ) (sessions : List ℕ) (i session : ℕ) → i < length sessions
+    → flat_map f (drop i sessions) ≡ f (get_or sessions i session) ++ flat_map f (drop (suc i) sessions)
+next_part f [] i session a = absurd (omega arith)
+next_part f (s ∷ sessions) zero session a = refl
+next_part f (s ∷ sessions) (suc i) session a = next_part f sessions i session (omega arith)
+
+-- the parts from a session on begin with its part
+pub flat_map-drop : (f : ℕ → List ℕ) (sessions : List ℕ) (last : List ℕ) (i session : ℕ) → i < length sessions
+    → flat_map f (drop i sessions) ++ last ≡ f (get_or sessions i session) ++ (flat_map f (drop (i + 1) sessions) ++ last)
+flat_map-drop f sessions last i session a = rw add-one
+    (ap (λ l. l ++ last) (next_part f sessions i session a) ∙ append_assoc (f (get_or sessions i session)) (flat_map f (drop (suc i) sessions)) last)

@@ -1,13 +1,8 @@
 pub mod Limits
-pub mod World
-pub mod History
 pub mod Words
-pub mod Reading
-pub mod Text
-pub mod Maps
-pub mod Output
 pub mod Input
+pub mod History
+pub mod Output
 pub mod Status
 pub mod Headline
-pub mod Cut
 pub mod Steps

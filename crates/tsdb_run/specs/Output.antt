@@ -1,6 +1,37 @@
--- What a sink holds after a text was put into it, whole or in part.
-use Rattle.std.specs.Prelude.{◌≡◌, ℕ, List, Option, ◌++◌}
+-- The text of the output, one function of a script and its history, and what a sink holds of it.
+use Rattle.std.specs.Prelude.{◌≡◌, ℕ, ◌==◌, not, List, [], ◌∷◌, ◌++◌, Option, None, Some, map, filter}
+use Rattle.std.specs.List.{flat_map}
 use Rattle.std.specs.Io.KnownBytes.{Appends}
+use Rattle.tsdb_map.specs.declared.command.Command.{Command}
+use Rattle.tsdb_print.specs.Text.{order_text, reply_text, session_text}
+use Rattle.tsdb_script.specs.declared.numbered.Numbered.{Numbered}
+use Rattle.tsdb_run.specs.History.{command_of, replies_to}
+use Rattle.tsdb_run.specs.declared.status.Told.{Told}
+
+-- the text of a reply, where it answers a command
+abbrev pub told_text : Option Command → Told → List ℕ
+told_text None told = []
+told_text (Some command) told = reply_text command told.reply
+
+-- the sessions of a script, in the order in which they first appear
+abbrev pub sessions_of : List Numbered → List ℕ
+sessions_of [] = []
+sessions_of (numbered ∷ script) =
+    numbered.session ∷ filter (λ session. not (session == numbered.session)) (sessions_of script)
+
+-- the replies to a session, in their order
+abbrev pub replies_text : List Numbered → List Told → ℕ → List ℕ
+replies_text script history session =
+    flat_map (λ told. told_text (command_of script told) told) (replies_to history session)
+
+-- the heading of a session, and the replies to it
+abbrev pub part_text : List Numbered → List Told → ℕ → List ℕ
+part_text script history session = session_text session ++ replies_text script history session
+
+-- all that a run prints: the sessions, then the order of the commands
+abbrev pub output_text : List Numbered → List Told → List ℕ
+output_text script history =
+    flat_map (part_text script history) (sessions_of script) ++ order_text (map (λ told. told.session) history)
 
 -- what was held has grown by a prefix of the text, which may be none of it or all
 abbrev pub AppendsPrefix : Option (List ℕ) → Option (List ℕ) → List ℕ → Type 0

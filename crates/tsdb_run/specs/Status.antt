@@ -1,9 +1,9 @@
 -- What the program ends with.
 use Rattle.std.specs.Prelude.{ℕ, List, [], ◌++◌, codes}
 use Rattle.std.specs.Fmt.{decimal}
+use Rattle.tsdb_print.specs.Text.{line}
 use Rattle.tsdb_run.specs.declared.status.Status.{Status}
 use Rattle.tsdb_run.specs.declared.status.Status.TheVariants as status
-use Rattle.tsdb_run.specs.Text.{line}
 
 -- the exit code
 abbrev pub status_code : Status → ℕ

@@ -1,5 +1,6 @@
 //! Takes a script from its source, up to one byte more than a script may have. Depends on nothing here.
-ghost use Rattle.std.specs.Prelude.{◌≡◌, IfOk, IsErrOf};
+ghost use Rattle.std.specs.Prelude.{◌≡◌, IfOk, Err};
+ghost use Rattle.std.specs.Result.{IsErrOf};
 ghost use Rattle.tsdb_outside.specs.Causes.{HasStoreCause};
 ghost use Rattle.tsdb_run.specs.Input.{TakesPrefix, TakesScript};
 
@@ -7,7 +8,7 @@ use std::alloc::Global;
 use tsdb_outside::{Source, StoreFault};
 
 /// The most bytes that a script has.
-pub const MAX_SCRIPT_BYTES: usize = 67_108_864;
+const MAX_SCRIPT_BYTES: usize = 67_108_864;
 
 /// The bytes that are asked for at a time.
 const PIECE_BYTES: usize = 65_536;

@@ -1,10 +1,10 @@
-//! How a run ends. Depends on `command`.
+//! How a run ends. Depends on nothing here.
 ghost use Rattle.std.specs.Prelude.{◌≡◌, IfOk};
 ghost use Rattle.tsdb_run.specs.Status.{status_code, status_text};
 
-use crate::command::Told;
 use std::alloc::Global;
 use tsdb_base::{List, Memory};
+use tsdb_map::Reply;
 
 /// How a run ended.
 #[derive(Clone, Copy, Debug, PartialEq, Eq)]
@@ -23,7 +23,15 @@ pub enum Status {
     Sink,
 }
 
-/// What a run leaves: how it ended, and each command in the order in which they took place, with its reply. The
+/// A reply, with the session of its command and the command's place in that session, counted from 0.
+#[derive(Drop)]
+pub struct Told {
+    pub session: u16,
+    pub index: u32,
+    pub reply: Reply,
+}
+
+/// What a run leaves: how it ended, and the reply to each command, in the order in which the commands took place. The
 /// history is empty where no command was executed.
 #[derive(Drop)]
 pub struct Ended {

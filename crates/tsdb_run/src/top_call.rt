@@ -1,27 +1,24 @@
 //! The top call: words, source and sink in, status and history out. Depends on all other modules.
 ghost use Rattle.std.specs.Prelude.{◌≡◌, ◌≢◌, ◌↔◌, ◌≤◌, ℕ, List, [], Some, IfSome};
 ghost use Rattle.std.specs.Io.KnownBytes.{IsAtEnd};
-ghost use Rattle.std.specs.List.{AllByRecursion};
 ghost use Rattle.tsdb_outside.specs.Causes.{Rose};
-ghost use Rattle.tsdb_path.specs.Nodes.{node_count};
-ghost use Rattle.tsdb_run.specs.declared.command.Numbered.{Numbered};
+ghost use Rattle.tsdb_script.specs.Reading.{IsFirstBad, IsScript};
+ghost use Rattle.tsdb_script.specs.declared.numbered.Numbered.{Numbered};
 ghost use Rattle.tsdb_run.specs.Headline.{Headline, IsBeforeOutput, IsDoneOrMemory, ReportsBad};
 ghost use Rattle.tsdb_run.specs.Input.{TakesPrefix};
-ghost use Rattle.tsdb_run.specs.Reading.{IsFirstBad, IsScript};
-ghost use Rattle.tsdb_run.specs.Steps.{IsInLineOrder, IsOfScript, IsWritten};
-ghost use Rattle.tsdb_run.specs.Text.{output_text, series_of};
+ghost use Rattle.tsdb_run.specs.Output.{output_text};
+ghost use Rattle.tsdb_run.specs.Steps.{IsAnswered, IsOfScript, IsWritten};
 ghost use Rattle.tsdb_run.specs.Words.{AreWords};
 
-use crate::command::{Numbered, Told};
 use crate::execute::execute;
 use crate::input::take_script;
 use crate::output::put_output;
-use crate::script::{ScriptFault, read_script};
-use crate::status::{Ended, Status};
+use crate::status::{Ended, Status, Told};
 use crate::word::{Word, are_good};
 use std::alloc::Global;
 use tsdb_base::List;
 use tsdb_outside::{Sink, Source, StoreFault};
+use tsdb_script::{Numbered, ScriptFault, read_script};
 
 /// Executes the script that the source gives, and writes the output into the sink.
 ///
@@ -46,10 +43,10 @@ pub fn run<S: Source, K: Sink>(alloc: Global, words: &[Word], script: &mut S, ou
     ensures sink_untouched { IsBeforeOutput result.status → out.new ≡ out.old }
     ensures sink_later { K.faults out.old ≤ K.faults out.new }
 
-    // The first bad line is reported, unless memory or the source failed first. The output of a good script is
-    // written, unless memory runs out or a count of faults rises.
+    // What must be returned: the first bad line, unless memory or the source failed first; and for a good script
+    // `Done`, unless memory ran out or a count of faults rose.
     ensures first_bad { AreWords words.now → IfSome (S.left script.old) (λ bytes.
-        (line : ℕ) → IsFirstBad bytes line → ReportsBad result.status line) }
+        (line kind : ℕ) → IsFirstBad bytes line kind → ReportsBad result.status line kind) }
     ensures complete { AreWords words.now → IfSome (S.left script.old) (λ bytes.
         (commands : List Numbered) → IsScript bytes commands
         → ¬ Rose (S.faults script.old) (S.faults script.new) → ¬ Rose (K.faults out.old) (K.faults out.new)
@@ -81,23 +78,21 @@ fn run_script<K: Sink>(alloc: Global, bytes: Vec<u8>, out: &mut K) -> Ended
         Err(ScriptFault::Memory) => return end_without_commands(alloc, Status::Memory),
     };
     drop(bytes);
-    let Ok(history) = execute(alloc, script.items()) else {
+    let Ok(history) = execute(alloc, &script) else {
         return end_without_commands(alloc, Status::Memory);
     };
-    let status = write_output(alloc, out, script.items(), history.items());
+    let status = write_output(alloc, out, &script, history.items());
     Ended { status, history }
 }
 
-/// How a run ends that writes the output of a script and its history.
+/// The status of a run that writes the output of a script and its history.
 fn write_output<K: Sink>(
     alloc: Global,
     out: &mut K,
     script: &[Numbered],
     history: &[Told],
 ) -> Status
-    requires one { AllByRecursion (λ numbered. numbered.session ≡ 1) script.now }
-    requires series { AllByRecursion (λ numbered. 2 ≤ node_count (series_of numbered.command)) script.now }
-    requires told { IsInLineOrder script.now history.now }
+    requires { IsAnswered script.now history.now }
     ensures written { IsWritten result (K.held out.old) (K.held out.new) (output_text script.now history.now) }
     ensures sink { result ≡ Status.Sink → Rose (K.faults out.old) (K.faults out.new) }
     ensures sink_later { K.faults out.old ≤ K.faults out.new }

@@ -1,14 +1,14 @@
 -- The tokens of a line, as the reader finds them.
-use Rattle.std.proofs.Common.{◌≡◌, ◌≤◌, ◌<◌, ℕ, Bool, true, false, cond, eqb, leb, ◌||◌, inl, inr, List, [], ◌∷◌, ◌++◌, length, Option, None, Some, option_map, refl, sym, ap, ◌∙◌, subst, append_assoc, length-append, arith}
+use Rattle.std.proofs.Common.{◌≡◌, ◌≤◌, ◌<◌, ℕ, Bool, true, false, cond, eqb, leb, ◌||◌, inl, inr, List, [], ◌∷◌, ◌++◌, length, Option, None, Some, option_map, refl, sym, ap, ◌∙◌, subst, length-append, arith}
 use Rattle.std.specs.Prelude.{All, IsTrue, MatchBool, option_and_then}
 use Rattle.std.proofs.lemmas.Bool.{eqb-true, false≢true, or_cases, cases_Bool, leb-true, le-leb, eq-eqb}
-use Rattle.std.proofs.lemmas.List.Elements.{All-nil, All-cons, All-head, All-tail, All-append}
+use Rattle.std.proofs.lemmas.List.Elements.{All-nil, All-cons, All-head, All-tail}
 use Rattle.tsdb_script.specs.declared.token.Token.{Token}
 use Rattle.tsdb_script.specs.declared.token.Token.TheVariants.{Word, Text, Open, Close, Comma, Semicolon, Equal, Less, LessEqual, Greater, GreaterEqual}
 use Rattle.tsdb_script.specs.declared.fault.LineFault.{LineFault}
 use Rattle.tsdb_script.specs.declared.fault.LineFault.TheVariants.{Bad}
 use Rattle.tsdb_script.specs.Steps.{FaultsWith, after_blanks, word_parts, onto, content_parts, short_text, text_at, less_at, greater_at, mark_at, token_at}
-use Rattle.tsdb_script.specs.Tokens.{is_blank, is_word_byte, is_quote, is_mark, starts, doubled, AreWordAnd, BeginsWith, AreBlanksAnd, AreTokensAnd, IsStray, IsBadText, HasNoTokens}
+use Rattle.tsdb_script.specs.Tokens.{is_blank, is_word_byte, is_quote, is_mark, starts, escape, AreWordAnd, BeginsWith, AreBlanksAnd, AreTokensAnd, IsStray, IsBadText, HasNoTokens}
 use Rattle.tsdb_script.proofs.TextLemmas.{content_parts-other, content_parts-pair, content_parts-end}
 
 some_is : {A : Type 0} (x y : A) → Some x ≡ Some y → x ≡ y
@@ -45,13 +45,6 @@ blanks_go (b ∷ blanks) rest blank =
 
 pub blanks_unique : (bytes rest : List ℕ) → AreBlanksAnd bytes rest → starts is_blank rest ≡ false → rest ≡ after_blanks bytes
 blanks_unique bytes rest h solid = sym (ap after_blanks h.whole ∙ blanks_go h.blanks rest h.blank ∙ solid_stays rest solid)
-
-pub blanks_more : (bytes between rest : List ℕ) → AreBlanksAnd bytes between → AreBlanksAnd between rest → AreBlanksAnd bytes rest
-blanks_more bytes between rest h k = record {
-  blanks = h.blanks ++ k.blanks;
-  whole = h.whole ∙ ap (λ l. h.blanks ++ l) k.whole ∙ sym (append_assoc h.blanks k.blanks rest);
-  blank = All-append (λ b. IsTrue (is_blank b)) h.blanks k.blanks h.blank k.blank;
-}
 
 -- marks
 
@@ -149,18 +142,18 @@ word_again (b ∷ word) rest letters longest =
 -- texts
 
 pub record IsContent (quote : ℕ) (bytes content rest : List ℕ) : Type 0 where
-  pub whole : bytes ≡ doubled quote content ++ quote ∷ rest
+  pub whole : bytes ≡ escape quote content ++ quote ∷ rest
   pub longest : starts (λ b. eqb b quote) rest ≡ false
 
 content_onto : (quote b : ℕ) (bytes content rest : List ℕ) → eqb b quote ≡ false → IsContent quote bytes content rest → IsContent quote (b ∷ bytes) (b ∷ content) rest
 content_onto quote b bytes content rest other h = record {
-  whole = ap (λ l. b ∷ l) h.whole ∙ ap (λ t. (cond t (b ∷ b ∷ []) (b ∷ []) ++ doubled quote content) ++ quote ∷ rest) (sym other);
+  whole = ap (λ l. b ∷ l) h.whole ∙ ap (λ t. (cond t (b ∷ b ∷ []) (b ∷ []) ++ escape quote content) ++ quote ∷ rest) (sym other);
   longest = h.longest;
 }
 
 content_twice : (quote b : ℕ) (bytes content rest : List ℕ) → eqb b quote ≡ true → IsContent quote bytes content rest → IsContent quote (b ∷ b ∷ bytes) (b ∷ content) rest
 content_twice quote b bytes content rest same h = record {
-  whole = ap (λ l. b ∷ b ∷ l) h.whole ∙ ap (λ t. (cond t (b ∷ b ∷ []) (b ∷ []) ++ doubled quote content) ++ quote ∷ rest) (sym same);
+  whole = ap (λ l. b ∷ b ∷ l) h.whole ∙ ap (λ t. (cond t (b ∷ b ∷ []) (b ∷ []) ++ escape quote content) ++ quote ∷ rest) (sym same);
   longest = h.longest;
 }
 
@@ -194,12 +187,12 @@ content_found quote (b ∷ c ∷ bytes) =
       | false ↦ λ e. content_onto_in quote b (c ∷ bytes) (content_parts quote (c ∷ bytes)) e (content_found quote (c ∷ bytes))
     ] refl
 
-content_again : (quote : ℕ) (content rest : List ℕ) → starts (λ b. eqb b quote) rest ≡ false → content_parts quote (doubled quote content ++ quote ∷ rest) ≡ Some (content, rest)
+content_again : (quote : ℕ) (content rest : List ℕ) → starts (λ b. eqb b quote) rest ≡ false → content_parts quote (escape quote content ++ quote ∷ rest) ≡ Some (content, rest)
 content_again quote [] rest longest = content_parts-end quote quote rest (eq-eqb quote quote refl) longest
 content_again quote (b ∷ content) rest longest =
-    elim (eqb b quote) as (λ t. eqb b quote ≡ t → content_parts quote ((cond t (b ∷ b ∷ []) (b ∷ []) ++ doubled quote content) ++ quote ∷ rest) ≡ Some (b ∷ content, rest)) [
-      | true ↦ λ e. content_parts-pair quote b b (doubled quote content ++ quote ∷ rest) e e ∙ ap (option_map (onto b)) (content_again quote content rest longest)
-      | false ↦ λ e. content_parts-other quote b (doubled quote content ++ quote ∷ rest) e ∙ ap (option_map (onto b)) (content_again quote content rest longest)
+    elim (eqb b quote) as (λ t. eqb b quote ≡ t → content_parts quote ((cond t (b ∷ b ∷ []) (b ∷ []) ++ escape quote content) ++ quote ∷ rest) ≡ Some (b ∷ content, rest)) [
+      | true ↦ λ e. content_parts-pair quote b b (escape quote content ++ quote ∷ rest) e e ∙ ap (option_map (onto b)) (content_again quote content rest longest)
+      | false ↦ λ e. content_parts-other quote b (escape quote content ++ quote ∷ rest) e ∙ ap (option_map (onto b)) (content_again quote content rest longest)
     ] refl
 
 begins_short : (quote : ℕ) (bytes : List ℕ) (o : Option (List ℕ × List ℕ)) (r : Token × List ℕ) → is_quote quote ≡ true → IsContentIn quote bytes o → option_and_then short_text o ≡ Some r → Begins r (quote ∷ bytes)
@@ -251,9 +244,9 @@ word_token (b ∷ word) rest some letters longest =
     ∙ ap (λ (r : List ℕ × List ℕ). Some (Word r.0, r.1)) (word_again (b ∷ word) rest letters longest)
 
 text_token : (content rest : List ℕ) → length content ≤ 65535 → (quote : ℕ) → is_quote quote ≡ true → starts (λ b. eqb b quote) rest ≡ false
-    → token_at (quote ∷ (doubled quote content ++ quote ∷ rest)) ≡ Some (Text content, rest)
+    → token_at (quote ∷ (escape quote content ++ quote ∷ rest)) ≡ Some (Text content, rest)
 text_token content rest short =
-    quote_cases (λ quote. starts (λ b. eqb b quote) rest ≡ false → token_at (quote ∷ (doubled quote content ++ quote ∷ rest)) ≡ Some (Text content, rest))
+    quote_cases (λ quote. starts (λ b. eqb b quote) rest ≡ false → token_at (quote ∷ (escape quote content ++ quote ∷ rest)) ≡ Some (Text content, rest))
     (λ longest. ap (option_and_then short_text) (content_again 39 content rest longest) ∙ ap (λ t. cond t (Some (Text content, rest)) None) (le-leb (length content) 65535 short))
     (λ longest. ap (option_and_then short_text) (content_again 34 content rest longest) ∙ ap (λ t. cond t (Some (Text content, rest)) None) (le-leb (length content) 65535 short))
 
@@ -282,7 +275,7 @@ token_again GreaterEqual bytes rest h = ap token_at h
 -- a token has bytes
 pub token_shorter : (token : Token) (bytes rest : List ℕ) → BeginsWith token bytes rest → length rest < length bytes
 token_shorter (Word word) bytes rest h = omega (arith, ap length h.whole, length-append word rest, h.some)
-token_shorter (Text content) bytes rest h = omega (arith, ap length h.whole, length-append (doubled h.quote content) (h.quote ∷ rest))
+token_shorter (Text content) bytes rest h = omega (arith, ap length h.whole, length-append (escape h.quote content) (h.quote ∷ rest))
 token_shorter Open bytes rest h = omega (arith, ap length h)
 token_shorter Close bytes rest h = omega (arith, ap length h)
 token_shorter Comma bytes rest h = omega (arith, ap length h)

@@ -1,143 +1,335 @@
--- A line has one reading.
-use Rattle.std.proofs.Common.{◌≡◌, ℕ, ◌<◌, true, false, cond, ◌||◌, inl, inr, List, [], ◌∷◌, ◌++◌, length, Option, None, Some, refl, sym, ap, ◌∙◌, subst, arith}
-use Rattle.std.specs.Prelude.{◌⊎◌, All, IsTrue}
-use Rattle.std.proofs.lemmas.Bool.{eqb-true, false≢true, or_cases, or_parts, cases_Bool}
-use Rattle.std.proofs.lemmas.List.Elements.{All-head}
-use Rattle.tsdb_script.specs.declared.token.Token.{Token}
-use Rattle.tsdb_script.specs.declared.token.Token.TheVariants.{Word, Text, Open, Close, Comma, Semicolon, Equal, Less, LessEqual, Greater, GreaterEqual}
-use Rattle.tsdb_script.specs.Steps.{token_at, mark_at, text_at, word_parts}
-use Rattle.tsdb_script.specs.Tokens.{is_blank, is_word_byte, is_quote, is_mark, starts, BeginsWith, AreTokensAnd, AreTokens, AreTextAnd, IsStray, IsBadText, HasNoTokens}
-use Rattle.tsdb_script.proofs.LexLemmas.{blanks_unique, token_again, token_found, word_no_quote}
+-- Bytes are one script, or have one first bad line, and not both. What every script keeps to.
+use Rattle.std.proofs.Common.{◌≡◌, ℕ, ◌+◌, ◌<◌, ◌≤◌, true≢false, List, [], ◌∷◌, ◌++◌, length, refl, sym, ap, ◌∙◌, arith, subst, inl, inr, append_assoc, append-nil, length-append}
+use Rattle.std.specs.Prelude.{◌⊎◌, ◌↔◌, All}
+use Rattle.std.specs.List.{concat}
+use Rattle.std.proofs.lemmas.List.Elements.{All-nil, All-push}
+use Rattle.std.proofs.lemmas.List.Folds.{concat-append}
+use Rattle.tsdb_map.specs.Commands.{IsWellFormed}
+use Rattle.tsdb_script.specs.declared.numbered.Numbered.{Numbered}
+use Rattle.tsdb_script.specs.Reading.{Line, line_behind, lines_of, sessions_of, session_count, Give, no_line, skipped_line, command_line, IsBad, IsBuilt, IsCommand, IsFirstBad, IsScript, IsSkipped, IsWithinLimits}
+use Rattle.tsdb_script.proofs.LineLemmas.{one_line_command, one_line_fault, command_not_bad, skipped_not_bad, past_limit, built_command}
+use Rattle.tsdb_script.proofs.LinesLemmas.{concat-lines_of, goes_on, GoesOn}
+use Rattle.tsdb_script.proofs.MeaningLaws.{well_formed as well_formed_meaning}
+use Rattle.tsdb_script.proofs.SessionLemmas.{as_many, session_number, sessions-push}
 
--- a blank begins no token
-token_solid : (bytes : List ℕ) (r : Token × List ℕ) → token_at bytes ≡ Some r → starts is_blank bytes ≡ false
-token_solid [] r e = refl
-token_solid (b ∷ bytes) r e = elim (cases_Bool (is_blank b)) [
-  | inl blank ↦ elim (or_cases _ _ blank) [
-    | inl h ↦ (let none : token_at (b ∷ bytes) ≡ None = ap (λ b. token_at (b ∷ bytes)) (eqb-true b 32 h) in cc)
-    | inr h ↦ (let none : token_at (b ∷ bytes) ≡ None = ap (λ b. token_at (b ∷ bytes)) (eqb-true b 9 h) in cc)
-  ]
-  | inr solid ↦ solid
-]
+-- ---- the last of some lines
 
--- no blank and no token begins here
-record IsFinal (bytes : List ℕ) : Type 0 where
-  solid : starts is_blank bytes ≡ false
-  none : token_at bytes ≡ None
+-- what the last line is
+abbrev Last : List (List ℕ) → List ℕ → List Numbered → Type 0
+Last front line script = (Give front script × IsSkipped (line_behind front script line))
+    ⊎ ((before : List Numbered) × (numbered : Numbered) × (script ≡ before ++ numbered ∷ []) × Give front before × IsCommand (line_behind front before line) numbered)
 
-final_end : IsFinal []
-final_end = record { solid = refl; none = refl }
+record HasLast (lines : List (List ℕ)) (script : List Numbered) : Type 0 where
+  front : List (List ℕ)
+  line : List ℕ
+  whole : lines ≡ front ++ line ∷ []
+  last : Last front line script
 
-final_stray : (bytes : List ℕ) → IsStray bytes → IsFinal bytes
-final_stray bytes h = subst IsFinal (sym h.begins) (record { solid = h.solid; none = none h.first h.more h.no_token })
+some_last : (lines : List (List ℕ)) (script : List Numbered) → Give lines script → ((lines ≡ []) × (script ≡ [])) ⊎ HasLast lines script
+some_last lines script no_line = inl (refl, refl)
+some_last lines script (skipped_line front before line gives is) = inr (record { front = front; line = line; whole = refl; last = inl (gives, is) })
+some_last lines script (command_line front before line numbered gives is) = inr (record { front = front; line = line; whole = refl; last = inr (before, numbered, refl, gives, is) })
+
+same_last : {X : Type 0} (xs ys : List X) (x y : X) → xs ++ x ∷ [] ≡ ys ++ y ∷ [] → (xs ≡ ys) × (x ≡ y)
+same_last [] [] x y e = (refl, cc)
+same_last [] (z ∷ ys) x y e = absurd (omega (arith, ap length e, length-append ys (y ∷ [])))
+same_last (z ∷ xs) [] x y e = absurd (omega (arith, ap length e, length-append xs (x ∷ [])))
+same_last {X} (z ∷ xs) (w ∷ ys) x y e =
+    let first : z ≡ w = cc in
+    let rest : xs ++ x ∷ [] ≡ ys ++ y ∷ [] = cc in
+    let more = same_last xs ys x y rest in
+    (ap (λ (a : X). a ∷ xs) first ∙ ap (λ l. w ∷ l) more.0, more.1)
+
+last_of : (front : List (List ℕ)) (line : List ℕ) (script : List Numbered) → Give (front ++ line ∷ []) script → Last front line script
+last_of front line script gives = by_cases (some_last (front ++ line ∷ []) script gives)
   where
-    none : (b : ℕ) (more : List ℕ) → (is_word_byte b || (is_quote b || is_mark b)) ≡ false → token_at (b ∷ more) ≡ None
-    none b more neither =
-        let one = or_parts (is_word_byte b) (is_quote b || is_mark b) neither in
-        let two = or_parts (is_quote b) (is_mark b) one.1 in
-        let word : Option (Token × List ℕ) = Some (Word (word_parts (b ∷ more)).0, (word_parts (b ∷ more)).1) in
-        ap (λ t. cond t (Some (mark_at b more)) (cond (is_quote b) (text_at b more) (cond (is_word_byte b) word None))) two.1
-        ∙ ap (λ t. cond t (text_at b more) (cond (is_word_byte b) word None)) two.0
-        ∙ ap (λ t. cond t word None) one.0
+    by_cases : ((front ++ line ∷ [] ≡ []) × (script ≡ [])) ⊎ HasLast (front ++ line ∷ []) script → Last front line script
+    by_cases (inl none) = absurd (omega (arith, ap length none.0, length-append front (line ∷ [])))
+    by_cases (inr has) =
+        let same = same_last front has.front line has.line has.whole in
+        subst (λ f. Last f line script) (sym same.0) (subst (λ l. Last has.front l script) (sym same.1) has.last)
 
-quote_solid : (bytes : List ℕ) → starts is_quote bytes ≡ true → starts is_blank bytes ≡ false
-quote_solid [] h = refl
-quote_solid (b ∷ bytes) h = elim (or_cases _ _ h) [
-  | inl h ↦ ap is_blank (eqb-true b 39 h)
-  | inr h ↦ ap is_blank (eqb-true b 34 h)
-]
+-- ---- lines give one list of commands
 
--- no token but a text begins with a quote
-quoted_token : (token : Token) (bytes rest : List ℕ) → starts is_quote bytes ≡ true → ((content rest : List ℕ) → ¬ AreTextAnd content bytes rest) → BeginsWith token bytes rest → ⊥
-quoted_token (Word word) bytes rest quote no_text h = by_word word h.some h.letters (ap (starts is_quote) (sym h.whole) ∙ quote)
+no_lines : (script : List Numbered) → Give [] script → script ≡ []
+no_lines script gives = by_cases (some_last [] script gives)
   where
-    by_word : (word : List ℕ) → 0 < length word → All (λ b. IsTrue (is_word_byte b)) word → starts is_quote (word ++ rest) ≡ true → ⊥
-    by_word [] some letters quote = absurd (omega (arith, some))
-    by_word (b ∷ word) some letters quote = false≢true (sym (word_no_quote b (All-head (λ b. IsTrue (is_word_byte b)) b word letters)) ∙ quote)
-quoted_token (Text content) bytes rest quote no_text h = no_text content rest h
-quoted_token Open bytes rest quote no_text h = false≢true (ap (starts is_quote) (sym h) ∙ quote)
-quoted_token Close bytes rest quote no_text h = false≢true (ap (starts is_quote) (sym h) ∙ quote)
-quoted_token Comma bytes rest quote no_text h = false≢true (ap (starts is_quote) (sym h) ∙ quote)
-quoted_token Semicolon bytes rest quote no_text h = false≢true (ap (starts is_quote) (sym h) ∙ quote)
-quoted_token Equal bytes rest quote no_text h = false≢true (ap (starts is_quote) (sym h) ∙ quote)
-quoted_token Less bytes rest quote no_text h = false≢true (ap (starts is_quote) (sym h.0) ∙ quote)
-quoted_token LessEqual bytes rest quote no_text h = false≢true (ap (starts is_quote) (sym h) ∙ quote)
-quoted_token Greater bytes rest quote no_text h = false≢true (ap (starts is_quote) (sym h.0) ∙ quote)
-quoted_token GreaterEqual bytes rest quote no_text h = false≢true (ap (starts is_quote) (sym h) ∙ quote)
+    by_cases : ((◌≡◌ {A = List (List ℕ)} [] []) × (script ≡ [])) ⊎ HasLast [] script → script ≡ []
+    by_cases (inl none) = none.1
+    by_cases (inr has) = absurd (omega (arith, ap length has.whole, length-append has.front (has.line ∷ [])))
 
-final_bad : (bytes : List ℕ) → IsBadText bytes → IsFinal bytes
-final_bad bytes h = record { solid = quote_solid bytes h.begins; none = by_found (token_at bytes) refl }
+skips : (line : Line) (numbered : Numbered) → IsSkipped line → IsCommand line numbered → ⊥
+skips line numbered skipped is = true≢false (sym skipped.says_nothing ∙ is.says_something)
+
+same_commands : (lines : List (List ℕ)) (script other : List Numbered) → Give lines script → Give lines other → script ≡ other
+same_commands lines script other no_line again = sym (no_lines other again)
+same_commands lines script other (skipped_line front before line gives skipped) again =
+    by_last (last_of front line other again) (λ others again. same_commands front before others gives again)
   where
-    by_found : (o : Option (Token × List ℕ)) → token_at bytes ≡ o → token_at bytes ≡ None
-    by_found None e = e
-    by_found (Some r) e = absurd (quoted_token r.0 bytes r.1 h.begins h.no_text (token_found bytes r e))
-
-final_stuck : (rest : List ℕ) (kind : ℕ) → (IsStray rest × (kind ≡ 3)) ⊎ (IsBadText rest × (kind ≡ 6)) → IsFinal rest
-final_stuck rest kind (inl h) = final_stray rest h.0
-final_stuck rest kind (inr h) = final_bad rest h.0
-
-some_is : {A : Type 0} (x y : A) → Some x ≡ Some y → x ≡ y
-some_is x y e = cc
-
--- up to where no token begins the tokens are the only ones
-only_one : (one other : List Token) (line rest rest' : List ℕ) → IsFinal rest → IsFinal rest' → AreTokensAnd one line rest → AreTokensAnd other line rest' → (one ≡ other) × (rest ≡ rest')
-only_one [] [] line rest rest' f f' h k = (refl, blanks_unique line rest h f.solid ∙ sym (blanks_unique line rest' k f'.solid))
-only_one [] (u ∷ us) line rest rest' f f' h k =
-    let found : token_at k.0 ≡ Some (u, k.1) = token_again u k.0 k.1 k.3 in
-    let same : rest ≡ k.0 = blanks_unique line rest h f.solid ∙ sym (blanks_unique line k.0 k.2 (token_solid k.0 (u, k.1) found)) in
-    let none : token_at k.0 ≡ None = ap token_at (sym same) ∙ f.none in
-    absurd (clash (u, k.1) (sym none ∙ found))
+    by_last : Last front line other → ((others : List Numbered) → Give front others → before ≡ others) → before ≡ other
+    by_last (inl h) same = same other h.0
+    by_last (inr h) same = absurd (skips (line_behind front before line) h.1 skipped
+        (subst (λ s. IsCommand (line_behind front s line) h.1) (sym (same h.0 h.3)) h.4))
+same_commands lines script other (command_line front before line numbered gives is) again =
+    by_last (last_of front line other again) (λ others again. same_commands front before others gives again)
   where
-    clash : (r : Token × List ℕ) → None ≡ Some r → ⊥
-    clash r e = cc
-only_one (t ∷ ts) [] line rest rest' f f' h k =
-    let found : token_at h.0 ≡ Some (t, h.1) = token_again t h.0 h.1 h.3 in
-    let same : rest' ≡ h.0 = blanks_unique line rest' k f'.solid ∙ sym (blanks_unique line h.0 h.2 (token_solid h.0 (t, h.1) found)) in
-    let none : token_at h.0 ≡ None = ap token_at (sym same) ∙ f'.none in
-    absurd (clash (t, h.1) (sym none ∙ found))
+    by_last : Last front line other → ((others : List Numbered) → Give front others → before ≡ others) → before ++ numbered ∷ [] ≡ other
+    by_last (inl h) same = absurd (skips (line_behind front before line) numbered
+        (subst (λ s. IsSkipped (line_behind front s line)) (sym (same other h.0)) h.1) is)
+    by_last (inr h) same =
+        let first = same h.0 h.3 in
+        let second = one_line_command (line_behind front before line) numbered h.1 is (subst (λ s. IsCommand (line_behind front s line) h.1) (sym first) h.4) in
+        ap (λ s. s ++ numbered ∷ []) first ∙ ap (λ (n : Numbered). h.0 ++ n ∷ []) second ∙ sym h.2
+
+-- ---- a first part of lines gives commands too
+
+snoc : {X : Type 0} (x : X) (xs : List X) → (front : List X) × (last : X) × (x ∷ xs ≡ front ++ last ∷ [])
+snoc x [] = ([], x, refl)
+snoc x (y ∷ xs) = let more = snoc y xs in (x ∷ more.0, more.1, ap (λ l. x ∷ l) more.2)
+
+abbrev Front : List (List ℕ) → Type 0
+Front front = (script : List Numbered) × Give front script
+
+-- either the whole, or a part of the lines before the last
+shorter : (lines front behind : List (List ℕ)) (line : List ℕ) (script : List Numbered) → Give (lines ++ line ∷ []) script
+    → ((front behind : List (List ℕ)) → lines ≡ front ++ behind → Front front) → lines ++ line ∷ [] ≡ front ++ behind → Front front
+shorter lines front [] line script gives more e = (script, subst (λ l. Give l script) (e ∙ append-nil front) gives)
+shorter lines front (b ∷ behind) line script gives more e =
+    let back = snoc b behind in
+    let same = same_last lines (front ++ back.0) line back.1 (e ∙ ap (λ l. front ++ l) back.2 ∙ sym (append_assoc front back.0 (back.1 ∷ []))) in
+    more front back.0 same.0
+
+nothing_before : {X : Type 0} (front behind : List X) → [] ≡ front ++ behind → front ≡ []
+nothing_before [] behind e = refl
+nothing_before (x ∷ front) behind e = absurd cc
+
+front_gives : (lines front behind : List (List ℕ)) (script : List Numbered) → Give lines script → lines ≡ front ++ behind → Front front
+front_gives lines front behind script no_line e = ([], subst (λ l. Give l []) (sym (nothing_before front behind e)) no_line)
+front_gives lines front behind script (skipped_line before said line gives is) e =
+    shorter before front behind line said (skipped_line before said line gives is) (λ front behind e. front_gives before front behind said gives e) e
+front_gives lines front behind script (command_line before said line numbered gives is) e =
+    shorter before front behind line (said ++ numbered ∷ []) (command_line before said line numbered gives is) (λ front behind e. front_gives before front behind said gives e) e
+
+-- ---- a bad line
+
+-- lines among which a bad one stands give no commands
+clash : (before : List (List ℕ)) (line : List ℕ) (behind : List (List ℕ)) (script said : List Numbered) (kind : ℕ)
+    → Give (before ++ line ∷ behind) said → Give before script → ¬ IsBad (line_behind before script line) kind
+clash before line behind script said kind gives good bad =
+    let part = front_gives (before ++ line ∷ behind) (before ++ line ∷ []) behind said gives (sym (append_assoc before (line ∷ []) behind)) in
+    by_last part.0 (last_of before line part.0 part.1)
   where
-    clash : (r : Token × List ℕ) → None ≡ Some r → ⊥
-    clash r e = cc
-only_one (t ∷ ts) (u ∷ us) line rest rest' f f' h k =
-    let found : token_at h.0 ≡ Some (t, h.1) = token_again t h.0 h.1 h.3 in
-    let found' : token_at k.0 ≡ Some (u, k.1) = token_again u k.0 k.1 k.3 in
-    let same : h.0 ≡ k.0 = blanks_unique line h.0 h.2 (token_solid h.0 (t, h.1) found) ∙ sym (blanks_unique line k.0 k.2 (token_solid k.0 (u, k.1) found')) in
-    let both : ◌≡◌ {A = Token × List ℕ} (t, h.1) (u, k.1) = some_is (t, h.1) (u, k.1) (sym found ∙ ap token_at same ∙ found') in
-    let token : t ≡ u = ap (λ (r : Token × List ℕ). r.0) both in
-    let more : h.1 ≡ k.1 = ap (λ (r : Token × List ℕ). r.1) both in
-    let rec = only_one ts us k.1 rest rest' f f' (subst (λ l. AreTokensAnd ts l rest) more h.4) k.4 in
-    (ap (λ t. t ∷ ts) token ∙ ap (λ l. u ∷ l) rec.0, rec.1)
+    by_last : (s : List Numbered) → Last before line s → ⊥
+    by_last s (inl h) = let same = same_commands before s script h.0 good in skipped_not_bad (line_behind before script line) kind (subst (λ s. IsSkipped (line_behind before s line)) same h.1) bad
+    by_last s (inr h) = let same = same_commands before h.0 script h.3 good in command_not_bad (line_behind before script line) h.1 kind (subst (λ s. IsCommand (line_behind before s line) h.1) same h.4) bad
 
-pub same_tokens : (line : List ℕ) (one other : List Token) → AreTokens line one → AreTokens line other → one ≡ other
-same_tokens line one other h k = (only_one one other line [] [] final_end final_end h k).0
+-- which of two places of a list stands first
+abbrev Order : {X : Type 0} → List X → X → List X → X → Type 0
+Order {X} a x b y = ((more : List X) × (b ≡ a ++ x ∷ more)) ⊎ (((more : List X) × (a ≡ b ++ y ∷ more)) ⊎ ((a ≡ b) × (x ≡ y)))
 
-stray_quote : (bytes : List ℕ) → IsStray bytes → IsBadText bytes → ⊥
-stray_quote bytes h k =
-    let one = or_parts (is_word_byte h.first) (is_quote h.first || is_mark h.first) h.no_token in
-    let two = or_parts (is_quote h.first) (is_mark h.first) one.1 in
-    false≢true (sym two.0 ∙ ap (starts is_quote) (sym h.begins) ∙ k.begins)
+order : {X : Type 0} (a : List X) (x : X) (xs b : List X) (y : X) (ys : List X) → a ++ x ∷ xs ≡ b ++ y ∷ ys → Order a x b y
+order [] x xs [] y ys e = inr (inr (refl, cc))
+order {X} [] x xs (c ∷ b) y ys e = let first : x ≡ c = cc in inl (b, ap (λ (z : X). z ∷ b) (sym first))
+order {X} (c ∷ a) x xs [] y ys e = let first : c ≡ y = cc in inr (inl (a, ap (λ (z : X). z ∷ a) first))
+order {X} (c ∷ a) x xs (d ∷ b) y ys e =
+    let first : c ≡ d = cc in
+    let rest : a ++ x ∷ xs ≡ b ++ y ∷ ys = cc in
+    elim (order a x xs b y ys rest) [
+      | inl h ↦ inl (h.0, ap (λ (z : X). z ∷ b) (sym first) ∙ ap (λ l. c ∷ l) h.1)
+      | inr h ↦ elim h [
+        | inl h ↦ inr (inl (h.0, ap (λ (z : X). z ∷ a) first ∙ ap (λ l. d ∷ l) h.1))
+        | inr h ↦ inr (inr (ap (λ (z : X). z ∷ a) first ∙ ap (λ l. d ∷ l) h.0, h.1))
+      ]
+    ]
 
-pub same_kind : (line : List ℕ) (one other : ℕ) → HasNoTokens line one → HasNoTokens line other → one ≡ other
-same_kind line one other h k =
-    by_cases h.stuck (subst (λ r. (IsStray r × (other ≡ 3)) ⊎ (IsBadText r × (other ≡ 6))) (sym same) k.stuck)
+-- ---- the laws
+
+pub same_script : (bytes : List ℕ) (one other : List Numbered) → IsScript bytes one → IsScript bytes other → one ≡ other
+same_script bytes one other is again = same_commands (lines_of bytes) one other is again
+
+pub not_both : (bytes : List ℕ) (script : List Numbered) (line kind : ℕ) → IsScript bytes script → ¬ IsFirstBad bytes line kind
+not_both bytes script line kind is bad =
+    clash bad.before bad.line bad.behind bad.script script kind (subst (λ l. Give l script) bad.lines is) bad.good bad.bad
+
+pub same_first_bad : (bytes : List ℕ) (line kind other_line other_kind : ℕ) → IsFirstBad bytes line kind → IsFirstBad bytes other_line other_kind
+    → (line ≡ other_line) × (kind ≡ other_kind)
+same_first_bad bytes line kind other_line other_kind a b =
+    elim (order a.before a.line a.behind b.before b.line b.behind (sym a.lines ∙ b.lines)) [
+      | inl h ↦ absurd (clash a.before a.line h.0 a.script b.script kind (subst (λ l. Give l b.script) h.1 b.good) a.good a.bad)
+      | inr h ↦ elim h [
+        | inl h ↦ absurd (clash b.before b.line h.0 b.script a.script other_kind (subst (λ l. Give l a.script) h.1 a.good) b.good b.bad)
+        | inr h ↦ same h.0 h.1
+      ]
+    ]
   where
-    same : h.rest ≡ k.rest
-    same = (only_one h.tokens k.tokens line h.rest k.rest (final_stuck h.rest one h.stuck) (final_stuck k.rest other k.stuck) h.front k.front).1
+    same : a.before ≡ b.before → a.line ≡ b.line → (line ≡ other_line) × (kind ≡ other_kind)
+    same before here =
+        let script = same_commands a.before a.script b.script a.good (subst (λ l. Give l b.script) (sym before) b.good) in
+        let bad : IsBad (line_behind b.before b.script b.line) kind =
+        subst (λ f. IsBad (line_behind f b.script b.line) kind) before
+        (subst (λ s. IsBad (line_behind a.before s b.line) kind) script (subst (λ l. IsBad (line_behind a.before a.script l) kind) here a.bad)) in
+        (a.counted ∙ ap (λ (l : List (List ℕ)). length l + 1) before ∙ sym b.counted, one_line_fault (line_behind b.before b.script b.line) kind other_kind bad b.bad)
 
-    by_cases : (IsStray h.rest × (one ≡ 3)) ⊎ (IsBadText h.rest × (one ≡ 6)) → (IsStray h.rest × (other ≡ 3)) ⊎ (IsBadText h.rest × (other ≡ 6)) → one ≡ other
-    by_cases (inl a) (inl b) = a.1 ∙ sym b.1
-    by_cases (inl a) (inr b) = absurd (stray_quote h.rest a.0 b.0)
-    by_cases (inr a) (inl b) = absurd (stray_quote h.rest b.0 a.0)
-    by_cases (inr a) (inr b) = a.1 ∙ sym b.1
+-- ---- what every script keeps to
 
-pub not_both : (line : List ℕ) (tokens : List Token) (kind : ℕ) → AreTokens line tokens → ¬ HasNoTokens line kind
-not_both line tokens kind h k =
-    let same : [] ≡ k.rest = (only_one tokens k.tokens line [] k.rest final_end (final_stuck k.rest kind k.stuck) h k.front).1 in
-    by_cases (subst (λ r. (IsStray r × (kind ≡ 3)) ⊎ (IsBadText r × (kind ≡ 6))) (sym same) k.stuck)
+lines_short : (lines : List (List ℕ)) (script : List Numbered) → Give lines script → length (concat lines) ≤ 67108864
+lines_short lines script no_line = omega arith
+lines_short lines script (skipped_line front before line gives is) = omega (arith, is.script_bytes, ap length (concat-append front (line ∷ [])), length-append (concat front) (line ++ []), length-append line [])
+lines_short lines script (command_line front before line numbered gives is) = omega (arith, is.script_bytes, ap length (concat-append front (line ∷ [])), length-append (concat front) (line ++ []), length-append line [])
+
+lines_commands : (lines : List (List ℕ)) (script : List Numbered) → Give lines script → length (sessions_of script) ≤ 1000000
+lines_commands lines script no_line = omega arith
+lines_commands lines script (skipped_line front before line gives is) = lines_commands front before gives
+lines_commands lines script (command_line front before line numbered gives is) = omega (arith, is.commands, ap length (sessions-push before numbered), length-append (sessions_of before) (numbered.session ∷ []))
+
+lines_sessions : (lines : List (List ℕ)) (script : List Numbered) → Give lines script → session_count (sessions_of script) ≤ 8
+lines_sessions lines script no_line = omega arith
+lines_sessions lines script (skipped_line front before line gives is) = lines_sessions front before gives
+lines_sessions lines script (command_line front before line numbered gives is) = subst (λ s. session_count s ≤ 8) (sym (sessions-push before numbered)) is.sessions
+
+abbrev IsNumber : ℕ → Type 0
+IsNumber session = (1 ≤ session) × (session ≤ 999)
+
+lines_numbers : (lines : List (List ℕ)) (script : List Numbered) → Give lines script → All IsNumber (sessions_of script)
+lines_numbers lines script no_line = All-nil IsNumber
+lines_numbers lines script (skipped_line front before line gives is) = lines_numbers front before gives
+lines_numbers lines script (command_line front before line numbered gives is) =
+    subst (All IsNumber) (sym (sessions-push before numbered)) (All-push IsNumber (sessions_of before) numbered.session (lines_numbers front before gives) (session_number is.tokens.word numbered.session is.tokens.number))
+
+pub well_formed_lines : (lines : List (List ℕ)) (script : List Numbered) → Give lines script → All (λ numbered. IsWellFormed numbered.command) script
+well_formed_lines lines script no_line = All-nil (λ (numbered : Numbered). IsWellFormed numbered.command)
+well_formed_lines lines script (skipped_line front before line gives is) = well_formed_lines front before gives
+well_formed_lines lines script (command_line front before line numbered gives is) =
+    All-push (λ (numbered : Numbered). IsWellFormed numbered.command) before numbered (well_formed_lines front before gives) (well_formed_meaning is.syntax numbered.command is.fits.parts is.means)
+
+built_lines : (lines : List (List ℕ)) (script : List Numbered) → Give lines script → All (λ numbered. IsBuilt numbered.command) script
+built_lines lines script no_line = All-nil (λ (numbered : Numbered). IsBuilt numbered.command)
+built_lines lines script (skipped_line front before line gives is) = built_lines front before gives
+built_lines lines script (command_line front before line numbered gives is) =
+    All-push (λ (numbered : Numbered). IsBuilt numbered.command) before numbered (built_lines front before gives) (built_command is.syntax numbered.command is.built is.means.says)
+
+pub within_limits : (bytes : List ℕ) (script : List Numbered) → IsScript bytes script → IsWithinLimits bytes script
+within_limits bytes script is = record {
+  short = omega (arith, lines_short (lines_of bytes) script is, ap length (concat-lines_of bytes));
+  commands = omega (arith, lines_commands (lines_of bytes) script is, as_many script);
+  sessions = lines_sessions (lines_of bytes) script is;
+  numbers = lines_numbers (lines_of bytes) script is;
+}
+
+pub well_formed : (bytes : List ℕ) (script : List Numbered) → IsScript bytes script → All (λ numbered. IsWellFormed numbered.command) script
+well_formed bytes script is = well_formed_lines (lines_of bytes) script is
+
+pub built : (bytes : List ℕ) (script : List Numbered) → IsScript bytes script → All (λ numbered. IsBuilt numbered.command) script
+built bytes script is = built_lines (lines_of bytes) script is
+
+-- ---- a script that is too long
+
+-- no script begins with so many bytes
+pub cut_long : (front rest : List ℕ) (script : List Numbered) → 67108864 < length front → ¬ IsScript (front ++ rest) script
+cut_long front rest script long is = omega (arith, (within_limits (front ++ rest) script is).short, length-append front rest)
+
+-- the bytes in which the limit is passed end in this line, which is not behind a bad one
+module _ (front : List (List ℕ)) (last more : List ℕ) (long : 67108864 < length (concat (front ++ last ∷ []))) where
+  ends : length (concat (front ++ last ∷ [])) ≡ length (concat front) + length last
+  ends = ap length (concat-append front (last ∷ [])) ∙ length-append (concat front) (last ++ []) ∙ ap (λ l. length (concat front) + length l) (append-nil last)
+
+  past : (script : List Numbered) → 67108864 < (line_behind front script (last ++ more)).end
+  past script = omega (arith, long, ends, length-append last more)
+
+  -- where the lines before a bad one are good, it is not behind the last
+  not_behind : (before others : List (List ℕ)) (script : List Numbered) → before ≡ front ++ (last ++ more) ∷ others → ¬ Give before script
+  not_behind before others script e gives =
+      let part = front_gives before (front ++ (last ++ more) ∷ []) others script gives (e ∙ sym (append_assoc front ((last ++ more) ∷ []) others)) in
+      omega (
+        arith,
+        long,
+        ends,
+        lines_short (front ++ (last ++ more) ∷ []) part.0 part.1,
+        ap length (concat-append front ((last ++ more) ∷ [])),
+        length-append (concat front) ((last ++ more) ++ []),
+        length-append (last ++ more) [],
+        length-append last more,
+      )
+
+-- the kind of a line in which the limit is passed
+nine : (line : Line) (kind : ℕ) → 67108864 < line.end → IsBad line kind → kind ≡ 9
+nine line kind long bad = one_line_fault line kind 9 bad (past_limit line long)
+
+-- a line that is bad in lines is bad where the last goes on
+goes_on_bad : (bytes rest : List ℕ) (line kind : ℕ) (g : GoesOn bytes rest) → 67108864 < length (concat (g.front ++ g.last ∷ [])) → IsFirstBad bytes line kind → IsFirstBad (bytes ++ rest) line kind
+goes_on_bad bytes rest line kind g long bad =
+    elim (order g.front g.last [] bad.before bad.line bad.behind (sym g.short ∙ bad.lines)) [
+      | inl h ↦ absurd (not_behind g.front g.last [] long bad.before h.0 bad.script (h.1 ∙ ap (λ l. g.front ++ l ∷ h.0) (sym (append-nil g.last))) bad.good)
+      | inr h ↦ elim h [
+        | inl h ↦ record {
+          before = bad.before;
+          line = bad.line;
+          behind = h.0 ++ (g.last ++ g.more) ∷ g.others;
+          lines = g.long ∙ ap (λ l. l ++ (g.last ++ g.more) ∷ g.others) h.1 ∙ append_assoc bad.before (bad.line ∷ h.0) ((g.last ++ g.more) ∷ g.others);
+          counted = bad.counted;
+          script = bad.script;
+          good = bad.good;
+          bad = bad.bad;
+        }
+        | inr h ↦ record {
+          before = g.front;
+          line = g.last ++ g.more;
+          behind = g.others;
+          lines = g.long;
+          counted = bad.counted ∙ ap (λ (l : List (List ℕ)). length l + 1) (sym h.0);
+          script = bad.script;
+          good = subst (λ l. Give l bad.script) (sym h.0) bad.good;
+          bad = subst (IsBad (line_behind g.front bad.script (g.last ++ g.more))) (sym (kind_is h.0 h.1)) (past_limit (line_behind g.front bad.script (g.last ++ g.more)) (past g.front g.last g.more long bad.script));
+        }
+      ]
+    ]
   where
-    empty : (b : ℕ) (more : List ℕ) → [] ≡ b ∷ more → ⊥
-    empty b more e = cc
+    kind_is : g.front ≡ bad.before → g.last ≡ bad.line → kind ≡ 9
+    kind_is front last =
+        nine (line_behind g.front bad.script g.last) kind (omega (arith, long, ends g.front g.last [] long))
+        (subst (λ f. IsBad (line_behind f bad.script g.last) kind) (sym front) (subst (λ l. IsBad (line_behind bad.before bad.script l) kind) (sym last) bad.bad))
 
-    by_cases : (IsStray [] × (kind ≡ 3)) ⊎ (IsBadText [] × (kind ≡ 6)) → ⊥
-    by_cases (inl a) = empty a.0.first a.0.more a.0.begins
-    by_cases (inr b) = false≢true b.0.begins
+-- and the other way round
+goes_back_bad : (bytes rest : List ℕ) (line kind : ℕ) (g : GoesOn bytes rest) → 67108864 < length (concat (g.front ++ g.last ∷ [])) → IsFirstBad (bytes ++ rest) line kind → IsFirstBad bytes line kind
+goes_back_bad bytes rest line kind g long bad =
+    elim (order g.front (g.last ++ g.more) g.others bad.before bad.line bad.behind (sym g.long ∙ bad.lines)) [
+      | inl h ↦ absurd (not_behind g.front g.last g.more long bad.before h.0 bad.script h.1 bad.good)
+      | inr h ↦ elim h [
+        | inl h ↦ record {
+          before = bad.before;
+          line = bad.line;
+          behind = h.0 ++ g.last ∷ [];
+          lines = g.short ∙ ap (λ l. l ++ g.last ∷ []) h.1 ∙ append_assoc bad.before (bad.line ∷ h.0) (g.last ∷ []);
+          counted = bad.counted;
+          script = bad.script;
+          good = bad.good;
+          bad = bad.bad;
+        }
+        | inr h ↦ record {
+          before = g.front;
+          line = g.last;
+          behind = [];
+          lines = g.short;
+          counted = bad.counted ∙ ap (λ (l : List (List ℕ)). length l + 1) (sym h.0);
+          script = bad.script;
+          good = subst (λ l. Give l bad.script) (sym h.0) bad.good;
+          bad = subst (IsBad (line_behind g.front bad.script g.last)) (sym (kind_is h.0 h.1))
+              (past_limit (line_behind g.front bad.script g.last) (omega (arith, long, ends g.front g.last g.more long)));
+        }
+      ]
+    ]
+  where
+    kind_is : g.front ≡ bad.before → g.last ++ g.more ≡ bad.line → kind ≡ 9
+    kind_is front last =
+        nine (line_behind g.front bad.script (g.last ++ g.more)) kind (past g.front g.last g.more long bad.script)
+        (subst (λ f. IsBad (line_behind f bad.script (g.last ++ g.more)) kind) (sym front) (subst (λ l. IsBad (line_behind bad.before bad.script l) kind) (sym last) bad.bad))
+
+-- the first bad line of a script that is too long stands in what is read of it
+pub cut_bad : (front rest : List ℕ) (line kind : ℕ) → 67108864 < length front → IsFirstBad front line kind ↔ IsFirstBad (front ++ rest) line kind
+cut_bad [] rest line kind long = absurd (omega arith)
+cut_bad (b ∷ front) rest line kind long = both (goes_on b front rest)
+  where
+    both : GoesOn (b ∷ front) rest → IsFirstBad (b ∷ front) line kind ↔ IsFirstBad ((b ∷ front) ++ rest) line kind
+    both g =
+        let passed : 67108864 < length (concat (g.front ++ g.last ∷ [])) = subst (λ l. 67108864 < length l) (sym (ap concat (sym g.short) ∙ concat-lines_of (b ∷ front))) long in
+        (goes_on_bad (b ∷ front) rest line kind g passed, goes_back_bad (b ∷ front) rest line kind g passed)

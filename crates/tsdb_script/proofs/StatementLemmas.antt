@@ -19,3 +19,7 @@ pub statement_err : (tokens : List Token) (result : Result Syntax LineFault) →
 statement_err tokens (Ok syntax) found = tt
 statement_err tokens (Err (Bad kind)) found = (λ syntax fits. (let e : Some syntax ≡ None = sym (statement_again tokens syntax fits) ∙ found.0 in cc), found.1)
 statement_err tokens (Err Memory) found = tt
+
+-- tokens fit the form of at most one statement
+pub same_statement : (tokens : List Token) (one other : Syntax) → Fits tokens one → Fits tokens other → one ≡ other
+same_statement tokens one other h k = let e : Some one ≡ Some other = sym (statement_again tokens one h) ∙ statement_again tokens other k in cc

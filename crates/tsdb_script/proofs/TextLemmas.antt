@@ -1,10 +1,10 @@
 -- What stands between two quotes, and its content.
-use Rattle.std.proofs.Common.{◌≡◌, ◌≤◌, ◌<◌, ◌+◌, ℕ, true, false, cond, eqb, List, [], ◌∷◌, ◌++◌, length, take, drop, get_or, Bool, inl, inr, Option, None, Some, option_map, refl, sym, ap, ◌∙◌, append_assoc, append-nil, length-append, arith}
+use Rattle.std.proofs.Common.{◌≡◌, ◌<◌, ◌+◌, ℕ, true, false, cond, eqb, List, [], ◌∷◌, ◌++◌, length, take, drop, get_or, Bool, inl, inr, Option, None, Some, option_map, refl, sym, ap, ◌∙◌, append_assoc, append-nil, length-append, arith}
 use Rattle.std.proofs.lemmas.Bool.{eqb-true, false≢true, cases_lt}
 use Rattle.std.proofs.lemmas.List.{take_more, drop_more, drop_all}
 use Rattle.std.proofs.lemmas.List.Concat.{flat_map-append}
-use Rattle.tsdb_script.specs.Steps.{content_parts, undoubled, onto}
-use Rattle.tsdb_script.specs.Tokens.{doubled, starts}
+use Rattle.tsdb_script.specs.Steps.{content_parts, unescape, onto}
+use Rattle.tsdb_script.specs.Tokens.{escape, starts}
 
 abbrev pub with_front : List ℕ → List ℕ × List ℕ → List ℕ × List ℕ
 with_front front parts = (front ++ parts.0, parts.1)
@@ -12,20 +12,20 @@ with_front front parts = (front ++ parts.0, parts.1)
 -- the bytes in front are this content with each quote doubled, and what is read behind them goes on with it
 pub record IsContentSoFar (quote : ℕ) (bytes : List ℕ) (at count : ℕ) : Type 0 where
   pub content : List ℕ
-  pub front : take at bytes ≡ doubled quote content
+  pub front : take at bytes ≡ escape quote content
   pub counted : count ≡ length content
   pub parts : content_parts quote bytes ≡ option_map (with_front content) (content_parts quote (drop at bytes))
 
 -- a byte that is no quote is doubled to itself, and a quote to two
-doubled-one : (quote b : ℕ) (content : List ℕ) → eqb b quote ≡ false → doubled quote (content ++ b ∷ []) ≡ doubled quote content ++ b ∷ []
-doubled-one quote b content other =
+escape-one : (quote b : ℕ) (content : List ℕ) → eqb b quote ≡ false → escape quote (content ++ b ∷ []) ≡ escape quote content ++ b ∷ []
+escape-one quote b content other =
     flat_map-append (λ b. cond (eqb b quote) (b ∷ b ∷ []) (b ∷ [])) content (b ∷ [])
-    ∙ ap (λ t. doubled quote content ++ (cond t (b ∷ b ∷ []) (b ∷ []) ++ [])) other
+    ∙ ap (λ t. escape quote content ++ (cond t (b ∷ b ∷ []) (b ∷ []) ++ [])) other
 
-doubled-two : (quote b : ℕ) (content : List ℕ) → eqb b quote ≡ true → doubled quote (content ++ b ∷ []) ≡ doubled quote content ++ b ∷ b ∷ []
-doubled-two quote b content same =
+escape-two : (quote b : ℕ) (content : List ℕ) → eqb b quote ≡ true → escape quote (content ++ b ∷ []) ≡ escape quote content ++ b ∷ b ∷ []
+escape-two quote b content same =
     flat_map-append (λ b. cond (eqb b quote) (b ∷ b ∷ []) (b ∷ [])) content (b ∷ [])
-    ∙ ap (λ t. doubled quote content ++ (cond t (b ∷ b ∷ []) (b ∷ []) ++ [])) same
+    ∙ ap (λ t. escape quote content ++ (cond t (b ∷ b ∷ []) (b ∷ []) ++ [])) same
 
 with_front-onto : (content : List ℕ) (b : ℕ) (o : Option (List ℕ × List ℕ)) → option_map (with_front content) (option_map (onto b) o) ≡ option_map (with_front (content ++ b ∷ [])) o
 with_front-onto content b None = refl
@@ -53,19 +53,19 @@ content_parts-end quote b (c ∷ bytes) same other =
     ∙ ap (λ t. cond t (option_map (onto b) (content_parts quote bytes)) (Some ([], c ∷ bytes))) other
 
 -- undoubling undoes doubling
-undoubled-other : (quote b : ℕ) (bytes : List ℕ) → eqb b quote ≡ false → undoubled quote (b ∷ bytes) ≡ b ∷ undoubled quote bytes
-undoubled-other quote b [] other = refl
-undoubled-other quote b (c ∷ bytes) other = ap (λ t. cond t (b ∷ undoubled quote bytes) (b ∷ undoubled quote (c ∷ bytes))) other
+unescape-other : (quote b : ℕ) (bytes : List ℕ) → eqb b quote ≡ false → unescape quote (b ∷ bytes) ≡ b ∷ unescape quote bytes
+unescape-other quote b [] other = refl
+unescape-other quote b (c ∷ bytes) other = ap (λ t. cond t (b ∷ unescape quote bytes) (b ∷ unescape quote (c ∷ bytes))) other
 
-undoubled-pair : (quote b : ℕ) (bytes : List ℕ) → eqb b quote ≡ true → undoubled quote (b ∷ b ∷ bytes) ≡ b ∷ undoubled quote bytes
-undoubled-pair quote b bytes same = ap (λ t. cond t (b ∷ undoubled quote bytes) (b ∷ undoubled quote (b ∷ bytes))) same
+unescape-pair : (quote b : ℕ) (bytes : List ℕ) → eqb b quote ≡ true → unescape quote (b ∷ b ∷ bytes) ≡ b ∷ unescape quote bytes
+unescape-pair quote b bytes same = ap (λ t. cond t (b ∷ unescape quote bytes) (b ∷ unescape quote (b ∷ bytes))) same
 
-pub undoubled-doubled : (quote : ℕ) (content : List ℕ) → undoubled quote (doubled quote content) ≡ content
-undoubled-doubled quote [] = refl
-undoubled-doubled quote (b ∷ content) =
-    elim (eqb b quote) as (λ t. eqb b quote ≡ t → undoubled quote (cond t (b ∷ b ∷ []) (b ∷ []) ++ doubled quote content) ≡ b ∷ content) [
-      | true ↦ λ e. undoubled-pair quote b (doubled quote content) e ∙ ap (λ l. b ∷ l) (undoubled-doubled quote content)
-      | false ↦ λ e. undoubled-other quote b (doubled quote content) e ∙ ap (λ l. b ∷ l) (undoubled-doubled quote content)
+pub unescape-escape : (quote : ℕ) (content : List ℕ) → unescape quote (escape quote content) ≡ content
+unescape-escape quote [] = refl
+unescape-escape quote (b ∷ content) =
+    elim (eqb b quote) as (λ t. eqb b quote ≡ t → unescape quote (cond t (b ∷ b ∷ []) (b ∷ []) ++ escape quote content) ≡ b ∷ content) [
+      | true ↦ λ e. unescape-pair quote b (escape quote content) e ∙ ap (λ l. b ∷ l) (unescape-escape quote content)
+      | false ↦ λ e. unescape-other quote b (escape quote content) e ∙ ap (λ l. b ∷ l) (unescape-escape quote content)
     ] refl
 
 -- the first byte of what is left
@@ -80,7 +80,7 @@ content_more_other quote bytes at count within other so_far =
     let is : eqb b quote ≡ false = sym (first_is bytes at (λ b. eqb b quote) within) ∙ other in
     record {
       content = so_far.content ++ b ∷ [];
-      front = take_more bytes at 0 within ∙ ap (λ l. l ++ b ∷ []) so_far.front ∙ sym (doubled-one quote b so_far.content is);
+      front = take_more bytes at 0 within ∙ ap (λ l. l ++ b ∷ []) so_far.front ∙ sym (escape-one quote b so_far.content is);
       counted = omega (arith, so_far.counted, length-append so_far.content (b ∷ []));
       parts = so_far.parts
           ∙ ap (λ l. option_map (with_front so_far.content) (content_parts quote l)) (drop_more bytes at 0 within)
@@ -104,7 +104,7 @@ content_more_pair quote bytes at count within same again within' so_far =
           ∙ ap (λ l. l ++ c ∷ []) (take_more bytes at 0 within)
           ∙ append_assoc (take at bytes) (b ∷ []) (c ∷ [])
           ∙ ap (λ c. take at bytes ++ b ∷ c ∷ []) twin
-          ∙ ap (λ l. l ++ b ∷ b ∷ []) so_far.front ∙ sym (doubled-two quote b so_far.content is);
+          ∙ ap (λ l. l ++ b ∷ b ∷ []) so_far.front ∙ sym (escape-two quote b so_far.content is);
       counted = omega (arith, so_far.counted, length-append so_far.content (b ∷ []));
       parts = so_far.parts
           ∙ ap (λ l. option_map (with_front so_far.content) (content_parts quote l)) (drop_more bytes at 0 within ∙ ap (λ l. b ∷ l) (drop_more bytes (at + 1) 0 within'))
@@ -123,11 +123,11 @@ some_left bytes at test is =
 
 -- the quote that ends the text
 pub content_ended : (quote : ℕ) (bytes : List ℕ) (at count : ℕ) → at < length bytes → starts (λ b. eqb b quote) (drop at bytes) ≡ true → starts (λ b. eqb b quote) (drop (at + 1) bytes) ≡ false
-    → IsContentSoFar quote bytes at count → (Some (undoubled quote (take at bytes), drop (at + 1) bytes) ≡ content_parts quote bytes) × (count ≡ length (undoubled quote (take at bytes)))
+    → IsContentSoFar quote bytes at count → (Some (unescape quote (take at bytes), drop (at + 1) bytes) ≡ content_parts quote bytes) × (count ≡ length (unescape quote (take at bytes)))
 content_ended quote bytes at count within same other so_far =
     let b : ℕ = get_or bytes at 0 in
     let is : eqb b quote ≡ true = sym (first_is bytes at (λ b. eqb b quote) within) ∙ same in
-    let content : undoubled quote (take at bytes) ≡ so_far.content = ap (undoubled quote) so_far.front ∙ undoubled-doubled quote so_far.content in (
+    let content : unescape quote (take at bytes) ≡ so_far.content = ap (unescape quote) so_far.front ∙ unescape-escape quote so_far.content in (
       ap (λ l. Some (l, drop (at + 1) bytes)) content
           ∙ ap (λ l. Some (l, drop (at + 1) bytes)) (sym (append-nil so_far.content))
           ∙ sym (so_far.parts
@@ -135,11 +135,6 @@ content_ended quote bytes at count within same other so_far =
           ∙ ap (option_map (with_front so_far.content)) (content_parts-end quote b (drop (at + 1) bytes) is other)),
       so_far.counted ∙ sym (ap length content),
     )
-
--- the text is not closed
-pub content_unclosed : (quote : ℕ) (bytes : List ℕ) (at count : ℕ) → length bytes ≤ at → IsContentSoFar quote bytes at count → None ≡ content_parts quote bytes
-content_unclosed quote bytes at count past so_far =
-    sym (so_far.parts ∙ ap (λ l. option_map (with_front so_far.content) (content_parts quote l)) (drop_all at bytes past))
 
 pub content_none : (quote : ℕ) (bytes : List ℕ) → IsContentSoFar quote bytes 0 0
 content_none quote bytes = record { content = []; front = refl; counted = refl; parts = with_front-nil (content_parts quote bytes) }

@@ -1,5 +1,8 @@
 pub mod Forms
+pub mod LineSteps
 pub mod Limits
+pub mod Meaning
 pub mod Parse
+pub mod Reading
 pub mod Steps
 pub mod Tokens

@@ -13,10 +13,10 @@ behind_first [] = []
 behind_first (b ∷ bytes) = bytes
 
 -- the content of what stands between two quotes
-abbrev pub undoubled : ℕ → List ℕ → List ℕ
-undoubled quote [] = []
-undoubled quote (b ∷ []) = b ∷ []
-undoubled quote (b ∷ c ∷ bytes) = if b == quote then b ∷ undoubled quote bytes else b ∷ undoubled quote (c ∷ bytes)
+abbrev pub unescape : ℕ → List ℕ → List ℕ
+unescape quote [] = []
+unescape quote (b ∷ []) = b ∷ []
+unescape quote (b ∷ c ∷ bytes) = if b == quote then b ∷ unescape quote bytes else b ∷ unescape quote (c ∷ bytes)
 
 -- what stands behind the blanks
 abbrev pub after_blanks : List ℕ → List ℕ

@@ -29,8 +29,8 @@ starts test [] = false
 starts test (b ∷ bytes) = test b
 
 -- the bytes of a text's content, with each quote doubled
-abbrev pub doubled : ℕ → List ℕ → List ℕ
-doubled quote content = flat_map (λ b. if b == quote then b ∷ b ∷ [] else b ∷ []) content
+abbrev pub escape : ℕ → List ℕ → List ℕ
+escape quote content = flat_map (λ b. if b == quote then b ∷ b ∷ [] else b ∷ []) content
 
 -- a word is this keyword, in any ASCII case
 abbrev pub is_keyword : List ℕ → List ℕ → Bool
@@ -47,7 +47,7 @@ pub record AreWordAnd (word bytes rest : List ℕ) : Type 0 where
 pub record AreTextAnd (content bytes rest : List ℕ) : Type 0 where
   pub quote : ℕ
   pub quotes : IsTrue (is_quote quote)
-  pub whole : bytes ≡ quote ∷ (doubled quote content ++ quote ∷ rest)
+  pub whole : bytes ≡ quote ∷ (escape quote content ++ quote ∷ rest)
   pub longest : starts (λ b. b == quote) rest ≡ false
   pub short : length content ≤ max_text_bytes
 

@@ -1,6 +1,6 @@
 //! Cuts a line into its tokens, in one pass. Depends on `token` and `fault`.
 ghost use Rattle.std.specs.Prelude.{◌≡◌, ◌==◌, length, Some, None, IfOk, IfErr, IfSome, drop, option_map, if◌then◌else◌};
-ghost use Rattle.tsdb_script.specs.Steps.{after_blanks, content_parts, greater_at, less_at, mark_at, text_at, token_at, undoubled, word_parts, FaultsWith};
+ghost use Rattle.tsdb_script.specs.Steps.{after_blanks, content_parts, greater_at, less_at, mark_at, text_at, token_at, unescape, word_parts, FaultsWith};
 ghost use Rattle.tsdb_script.specs.Tokens.{is_blank, is_mark, is_quote, is_word_byte, starts, AreTokens, HasNoTokens};
 
 use crate::fault::LineFault;
@@ -61,7 +61,7 @@ fn is_mark(byte: u8) -> bool
 }
 
 /// What stands behind the blanks.
-fn behind_blanks(bytes: &[u8]) -> &[u8]
+pub fn behind_blanks(bytes: &[u8]) -> &[u8]
     ensures { result.now ≡ after_blanks bytes.now }
 {
     for (at, byte) in bytes.iter().enumerate() {
@@ -156,8 +156,8 @@ fn text<'a>(quote: u8, bytes: &'a [u8]) -> Result<(Token<'a>, &'a [u8]), LineFau
 
 /// What stands before the quote that ends a text, the length of its content, and what stands behind the quote.
 fn closed(quote: u8, bytes: &[u8]) -> Option<(&[u8], usize, &[u8])>
-    ensures content { option_map (λ r. (undoubled quote r.0.now, r.2.now)) result ≡ content_parts quote bytes.now }
-    ensures length { IfSome result (λ r. r.1 ≡ length (undoubled quote r.0.now)) }
+    ensures content { option_map (λ r. (unescape quote r.0.now, r.2.now)) result ≡ content_parts quote bytes.now }
+    ensures length { IfSome result (λ r. r.1 ≡ length (unescape quote r.0.now)) }
 {
     let mut at = 0;
     let mut length = 0;

@@ -1,20 +1,26 @@
-//! The grammar of scripts: cuts a line into its tokens, and finds the form of a statement that tokens fit. Depends on
-//! tsdb_base.
+//! Scripts: reads the bytes of a script as commands of sessions, or finds the first bad line and the kind of its fault.
+//! Depends on tsdb_base, tsdb_path and tsdb_map.
 #![tactic(auto)]
 
+mod conditions;
 mod fault;
 mod laws;
 mod lexer;
+mod line;
+mod lines;
+mod meaning;
+mod numbered;
 mod parser;
+mod script;
 mod syntax;
 mod token;
+mod words;
 
-pub use fault::LineFault;
-pub use laws::{one_reading, one_statement};
-pub use lexer::tokens;
-pub use parser::{Tokens, statement};
-pub use syntax::{Column, Comparison, Condition, Operand, Syntax};
-pub use token::{Quoted, Token, Word};
+pub use fault::ScriptFault;
+pub use laws::{cut_script, good_script, one_reading, one_script, one_statement};
+pub use line::MAX_SCRIPT_BYTES;
+pub use numbered::Numbered;
+pub use script::read_script;
 
 #[cfg(test)]
 mod tests;

@@ -1,5 +1,23 @@
-use crate::{Comparison, LineFault, Syntax, Token, statement, tokens};
+//! Tokens and forms of a line, and whole scripts.
+mod commands;
+mod limits;
+mod scripts;
+
+use crate::fault::{LineFault, ScriptFault};
+use crate::lexer::tokens;
+use crate::parser::statement;
+use crate::read_script;
+use crate::syntax::{Comparison, Syntax};
+use crate::token::Token;
 use std::alloc::Global;
+
+/// The number of a script's commands, or its fault.
+fn read(alloc: Global, script: &[u8]) -> Result<usize, ScriptFault> {
+    match read_script(alloc, script) {
+        Ok(script) => Ok(script.len()),
+        Err(fault) => Err(fault),
+    }
+}
 
 /// The kind of fault of a line without its session, or 255 where it is good.
 fn kind(alloc: Global, line: &[u8]) -> u8 {
@@ -14,83 +32,93 @@ fn kind(alloc: Global, line: &[u8]) -> u8 {
     }
 }
 
-#[test]
-fn lines_and_their_kinds(rt: HostRuntime) {
-    let table: [(&[u8], u8); 54] = [
-        // each form
-        (
-            b"create timeseries root.g.d.s with datatype=INT64,encoding=PLAIN",
-            255,
-        ),
-        (
-            b"\tCREATE TimeSeries p WITH DataType = text , ENCODING = Dictionary ;",
-            255,
-        ),
-        (b"insert into root.g.d(time,s)values(1,5)", 255),
-        (
-            b"insert into root.g.d ( timestamp , s , t ) values ( -1 , TRUE , 'it''s' );",
-            255,
-        ),
-        (b"insert into d(TIME,time,values)values(x,\"a'b\")", 255),
-        (b"delete from root.g.d.s", 255),
-        (b"delete from where", 255),
-        (b"delete from p where time>=1 and time<=2 AND Time=+2;", 255),
-        (b"select s,s from root.g.d where time>1 and time < 9", 255),
-        (b"select COUNT(s) , max_value ( s ),x from root.g", 255),
-        (b"select from from from", 255),
-        (b"flush;", 255),
-        (b"compact inner sequence", 255),
-        (b"Compact Inner UNSEQUENCE ;", 255),
-        (b"compact cross", 255),
-        (b"show files", 255),
-        // a byte that begins no token, before what stands behind it
-        (b"select s from root.d`", 3),
-        (b"flush\x80", 3),
-        (b"select s/2 from root.d", 3),
-        (b"select ! 'a", 3),
-        (b"flush\r", 3),
-        (b"\x00", 3),
-        // a text that is not closed
-        (b"select 's", 6),
-        (b"\"", 6),
-        (b"'a'' `", 6),
-        (b"insert into d(time,s) values(1,\"a'", 6),
-        // no form
-        (b"", 3),
-        (b";", 3),
-        (b"drop", 3),
-        (b"(flush)", 3),
-        (b"'flush'", 3),
-        (b"create timeseries p with datatype=INT64", 3),
-        (b"create timeseries p with encoding=PLAIN,datatype=INT64", 3),
-        (
-            b"create timeseries p with datatype=INT64,encoding='PLAIN'",
-            3,
-        ),
-        (b"insert into d(time) values(1)", 3),
-        (b"insert into d(time,s) values(1)", 3),
-        (b"insert into d(time,s,) values(1,2)", 3),
-        (b"insert into d(s,time) values(1,2)", 3),
-        (b"insert into d(time,s) values('1',2)", 3),
-        (b"insert into d(time,s) values(1,2", 3),
-        (b"insert into d(time,s) values(1,2));", 3),
-        (b"delete timeseries p", 3),
-        (b"delete from p where timestamp>1", 3),
-        (b"delete from p where", 3),
-        (b"delete from p where time>1 or time<3", 3),
-        (b"delete from p where time=>1", 3),
-        (b"select s from d;;", 3),
-        (b"select s, from d", 3),
-        (b"select from d", 3),
-        (b"select count(s from d", 3),
-        (b"select s from d last", 3),
-        (b"compact inner", 3),
-        (b"show file", 3),
-        (b"flush now", 3),
-    ];
-    for (case, (line, wanted)) in table.iter().enumerate() {
-        assert_eq!(rt; kind(rt.alloc(), line), *wanted, "case {case}");
+/// The first of the lines whose fault is not of this kind.
+fn first_wrong(alloc: Global, wanted: u8, lines: &[&[u8]]) -> Option<usize> {
+    for (case, line) in lines.iter().enumerate() {
+        if kind(alloc, line) != wanted {
+            return Some(case);
+        }
     }
+    None
+}
+
+#[test]
+fn each_form(rt: HostRuntime) {
+    let lines: [&[u8]; 16] = [
+        b"create timeseries root.g.d.s with datatype=INT64,encoding=PLAIN",
+        b"\tCREATE TimeSeries p WITH DataType = text , ENCODING = Dictionary ;",
+        b"insert into root.g.d(time,s)values(1,5)",
+        b"insert into root.g.d ( timestamp , s , t ) values ( -1 , TRUE , 'it''s' );",
+        b"insert into d(TIME,time,values)values(x,\"a'b\")",
+        b"delete from root.g.d.s",
+        b"delete from where",
+        b"delete from p where time>=1 and time<=2 AND Time=+2;",
+        b"select s,s from root.g.d where time>1 and time < 9",
+        b"select COUNT(s) , max_value ( s ),x from root.g",
+        b"select from from from",
+        b"flush;",
+        b"compact inner sequence",
+        b"Compact Inner UNSEQUENCE ;",
+        b"compact cross",
+        b"show files",
+    ];
+    assert_eq!(rt; first_wrong(rt.alloc(), 255, &lines), None);
+}
+
+#[test]
+fn what_is_no_token(rt: HostRuntime) {
+    // A byte that begins no token comes before what stands behind it.
+    let stray: [&[u8]; 6] = [
+        b"select s from root.d`",
+        b"flush\x80",
+        b"select s/2 from root.d",
+        b"select ! 'a",
+        b"flush\r",
+        b"\x00",
+    ];
+    assert_eq!(rt; first_wrong(rt.alloc(), 3, &stray), None);
+    let not_closed: [&[u8]; 4] = [
+        b"select 's",
+        b"\"",
+        b"'a'' `",
+        b"insert into d(time,s) values(1,\"a'",
+    ];
+    assert_eq!(rt; first_wrong(rt.alloc(), 6, &not_closed), None);
+}
+
+#[test]
+fn no_form(rt: HostRuntime) {
+    let lines: [&[u8]; 28] = [
+        b"",
+        b";",
+        b"drop",
+        b"(flush)",
+        b"'flush'",
+        b"create timeseries p with datatype=INT64",
+        b"create timeseries p with encoding=PLAIN,datatype=INT64",
+        b"create timeseries p with datatype=INT64,encoding='PLAIN'",
+        b"insert into d(time) values(1)",
+        b"insert into d(time,s) values(1)",
+        b"insert into d(time,s,) values(1,2)",
+        b"insert into d(s,time) values(1,2)",
+        b"insert into d(time,s) values('1',2)",
+        b"insert into d(time,s) values(1,2",
+        b"insert into d(time,s) values(1,2));",
+        b"delete timeseries p",
+        b"delete from p where timestamp>1",
+        b"delete from p where",
+        b"delete from p where time>1 or time<3",
+        b"delete from p where time=>1",
+        b"select s from d;;",
+        b"select s, from d",
+        b"select from d",
+        b"select count(s from d",
+        b"select s from d last",
+        b"compact inner",
+        b"show file",
+        b"flush now",
+    ];
+    assert_eq!(rt; first_wrong(rt.alloc(), 3, &lines), None);
 }
 
 #[test]

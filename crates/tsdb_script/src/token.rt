@@ -1,7 +1,7 @@
 //! Tokens: words and texts, lent from the line, and marks. Depends on tsdb_base.
 ghost use Rattle.std.specs.Prelude.{◌≡◌, ◌≤◌, length, IfOk};
 ghost use Rattle.tsdb_script.specs.Limits.{max_text_bytes};
-ghost use Rattle.tsdb_script.specs.Steps.{undoubled, behind_first};
+ghost use Rattle.tsdb_script.specs.Steps.{unescape, behind_first};
 ghost use Rattle.tsdb_script.specs.Tokens.{is_keyword};
 
 use std::alloc::Global;
@@ -59,18 +59,18 @@ impl<'a> Model for Quoted<'a> {
 
     ghost use Rattle.std.specs.Prelude.{◌≤◌, length};
     ghost use Rattle.tsdb_script.specs.Limits.{max_text_bytes};
-    ghost use Rattle.tsdb_script.specs.Steps.{undoubled};
+    ghost use Rattle.tsdb_script.specs.Steps.{unescape};
 
-    ghost view = { λ text. undoubled text.quote text.inside.now };
+    ghost view = { λ text. unescape text.quote text.inside.now };
 
-    ghost invariant = { λ text. length (undoubled text.quote text.inside.now) ≤ max_text_bytes };
+    ghost invariant = { λ text. length (unescape text.quote text.inside.now) ≤ max_text_bytes };
 }
 
 impl<'a> Quoted<'a> {
     /// The text with this inside, whose content is short enough.
     pub fn of(quote: u8, inside: &'a [u8]) -> Quoted<'a>
-        requires { length (undoubled quote inside.now) ≤ max_text_bytes }
-        ensures { result ≡ undoubled quote inside.now }
+        requires { length (unescape quote inside.now) ≤ max_text_bytes }
+        ensures { result ≡ unescape quote inside.now }
     {
         Quoted { quote, inside }
     }

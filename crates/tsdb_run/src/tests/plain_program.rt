@@ -1,127 +1,211 @@
-//! A plain, slow program for scripts of up to three lines: it keeps the lines and looks back over all of them.
+//! A plain, slow program for short scripts: it keeps the lines, and looks back over all of them for each reply.
 
 use std::alloc::{AllocError, Global};
 
-/// The lines of which the scripts are made: what each does, the series that it names, a time and a value.
-const LINES: [(Kind, &str, &str, i64); 8] = [
-    (Kind::Create, "s", "", 0),
-    (Kind::Create, "t", "", 0),
-    (Kind::Insert, "s", "1", 5),
-    (Kind::Insert, "s", "1", 6),
-    (Kind::Insert, "s", "-2", 7),
-    (Kind::Insert, "t", "1", 8),
-    (Kind::Select, "s", "", 0),
-    (Kind::Select, "t", "", 0),
+/// The series `root.g.d.s` of whole numbers, and `root.g.d.t` of texts.
+#[derive(Clone, Copy, PartialEq, Eq)]
+enum Series {
+    Numbers,
+    Texts,
+}
+
+/// What a statement does.
+#[derive(Clone, Copy)]
+enum Act {
+    Create(Series),
+    /// Writes at a time: a number or none, and a text or none, as they are printed.
+    Insert(&'static str, Option<&'static str>, Option<&'static str>),
+    /// Removes the numbers at times up to 0.
+    Delete,
+    /// Returns the rows of both series.
+    Rows,
+    /// Returns the count of the numbers and the greatest.
+    Aggregates,
+}
+
+const STATEMENTS: [(&str, Act); 8] = [
+    (
+        "create timeseries root.g.d.s with datatype=INT64,encoding=PLAIN",
+        Act::Create(Series::Numbers),
+    ),
+    (
+        "create timeseries root.g.d.t with datatype=TEXT,encoding=PLAIN",
+        Act::Create(Series::Texts),
+    ),
+    (
+        "insert into root.g.d(timestamp,s) values(1,5)",
+        Act::Insert("1", Some("5"), None),
+    ),
+    (
+        "insert into root.g.d(timestamp,s) values(-2,7)",
+        Act::Insert("-2", Some("7"), None),
+    ),
+    (
+        "insert into root.g.d(timestamp,t,s) values(1,'x',8)",
+        Act::Insert("1", Some("8"), Some("'x'")),
+    ),
+    ("delete from root.g.d.s where time<=0", Act::Delete),
+    ("select s,t from root.g.d", Act::Rows),
+    (
+        "select count(s),max_value(s) from root.g.d",
+        Act::Aggregates,
+    ),
 ];
 
-/// How many scripts of none to three of these lines there are.
-pub const SCRIPTS: usize = 1 + 8 + 64 + 512;
+/// A line: its session, and what its statement does.
+type Line = (u8, Act);
 
-#[derive(Clone, Copy, PartialEq, Eq)]
-enum Kind {
-    Create,
-    Insert,
-    Select,
-}
+/// How many scripts of none to three lines there are, with each statement in two sessions.
+const SHORT_SCRIPTS: usize = 1 + 16 + 256 + 4096;
 
-/// The lines of the script with this number.
-fn lines_of(
-    alloc: Global,
-    number: usize,
-) -> Result<Vec<(Kind, &'static str, &'static str, i64)>, AllocError> {
+/// How many scripts there are: each short one, alone and behind two lines that create the series.
+pub const SCRIPTS: usize = 2 * SHORT_SCRIPTS;
+
+/// The script with this number, and what it prints.
+pub fn output_of(alloc: Global, number: usize) -> Result<(String, String), AllocError> {
+    let mut script = String::new(alloc);
     let mut lines = Vec::new(alloc);
-    let mut rest = number;
+    if number % 2 == 1 {
+        add_line(&mut script, &mut lines, alloc, 0)?;
+        add_line(&mut script, &mut lines, alloc, 9)?;
+    }
+    let mut rest = number / 2;
     for _ in 0..3 {
         if rest > 0 {
-            lines.push(LINES[(rest - 1) % 8])?;
-            rest = (rest - 1) / 8;
+            add_line(&mut script, &mut lines, alloc, (rest - 1) % 16)?;
+            rest = (rest - 1) / 16;
         }
     }
-    Ok(lines)
+    let printed = printed(alloc, &lines)?;
+    Ok((script, printed))
 }
 
-/// Whether one of these lines creates the series.
-fn is_created(lines: &[(Kind, &str, &str, i64)], series: &str) -> bool {
-    lines
-        .iter()
-        .any(|line| line.0 == Kind::Create && line.1 == series)
+/// Adds a line by its number: the first eight are of session 1, the others of session 2.
+fn add_line(
+    script: &mut String,
+    lines: &mut Vec<Line>,
+    alloc: Global,
+    number: usize,
+) -> Result<(), AllocError> {
+    let session = if number < 8 { 1 } else { 2 };
+    let (text, act) = STATEMENTS[number % 8];
+    script.push_str(&format!(in alloc; "{session} {text}\n")?)?;
+    lines.push((session, act))?;
+    Ok(())
 }
 
-/// The value that was written last at a time, behind the line that created the series.
-fn last_written(lines: &[(Kind, &str, &str, i64)], series: &str, time: &str) -> Option<i64> {
+/// The whole output: the session of the first line, the other one, and the order.
+fn printed(alloc: Global, lines: &[Line]) -> Result<String, AllocError> {
+    let mut text = String::new(alloc);
+    if let [(first, _), ..] = lines {
+        for session in [*first, 3u8.saturating_sub(*first)] {
+            text.push_str(&part(alloc, lines, session)?)?;
+        }
+    }
+    text.push_str("order")?;
+    for (session, _) in lines {
+        text.push_str(&format!(in alloc; " {session}")?)?;
+    }
+    text.push_str("\n")?;
+    Ok(text)
+}
+
+/// The heading of a session that has lines, and its replies.
+fn part(alloc: Global, lines: &[Line], session: u8) -> Result<String, AllocError> {
+    let mut text = String::new(alloc);
+    for (at, (other, act)) in lines.iter().enumerate() {
+        if *other == session {
+            if text.is_empty() {
+                text.push_str(&format!(in alloc; "session {session}\n")?)?;
+            }
+            text.push_str(&reply(alloc, &lines[..at], *act)?)?;
+        }
+    }
+    Ok(text)
+}
+
+/// The reply to a statement behind these lines.
+fn reply(alloc: Global, before: &[Line], act: Act) -> Result<String, AllocError> {
+    match act {
+        Act::Rows if are_there(before, true, true) => rows(alloc, before),
+        Act::Aggregates if are_there(before, true, false) => aggregates(alloc, before),
+        _ => String::from_str(alloc, answer(before, act)),
+    }
+}
+
+/// The answer to a statement that returns no values.
+fn answer(before: &[Line], act: Act) -> &'static str {
+    match act {
+        Act::Create(Series::Numbers) if are_there(before, true, false) => "exists\n",
+        Act::Create(Series::Texts) if are_there(before, false, true) => "exists\n",
+        Act::Create(_) => "ok\n",
+        Act::Insert(_, number, text) if are_there(before, number.is_some(), text.is_some()) => {
+            "ok\n"
+        }
+        Act::Delete if are_there(before, true, false) => "ok\n",
+        _ => "path\n",
+    }
+}
+
+/// Whether lines create the series that are asked for.
+fn are_there(lines: &[Line], numbers: bool, texts: bool) -> bool {
+    (!numbers || is_there(lines, Series::Numbers)) && (!texts || is_there(lines, Series::Texts))
+}
+
+fn is_there(lines: &[Line], series: Series) -> bool {
+    lines.iter().any(|line| matches!(line.1, Act::Create(other) if other == series))
+}
+
+/// What stands in a series at a time behind these lines.
+fn last_written(lines: &[Line], series: Series, time: &str) -> Option<&'static str> {
     let mut last = None;
-    for (at, line) in lines.iter().enumerate() {
-        if line.0 == Kind::Insert
-            && line.1 == series
-            && line.2 == time
-            && is_created(&lines[..at], series)
-        {
-            last = Some(line.3);
+    for (at, (_, act)) in lines.iter().enumerate() {
+        match *act {
+            Act::Insert(moment, number, text) if moment == time => {
+                let value = if series == Series::Numbers {
+                    number
+                } else {
+                    text
+                };
+                if value.is_some() && answer(&lines[..at], *act) == "ok\n" {
+                    last = value;
+                }
+            }
+            Act::Delete if series == Series::Numbers && time == "-2" => last = None,
+            _ => {}
         }
     }
     last
 }
 
-/// A script, and what it prints.
-pub fn output_of(alloc: Global, number: usize) -> Result<(String, String), AllocError> {
-    let lines = lines_of(alloc, number)?;
-    let mut script = String::new(alloc);
-    let mut printed = String::new(alloc);
-    for (at, (kind, series, time, value)) in lines.iter().enumerate() {
-        let before = &lines[..at];
-        let there = is_created(before, series);
-        match kind {
-            Kind::Create => {
-                let line = format!(in alloc;
-                    "1 create timeseries root.g.d.{series} with datatype=INT64,encoding=PLAIN\n"
-                )?;
-                script.push_str(&line)?;
-                printed.push_str(if there { "exists\n" } else { "ok\n" })?;
-            }
-            Kind::Insert => {
-                let line = format!(in alloc;
-                    "1 insert into root.g.d(timestamp,{series}) values({time},{value})\n"
-                )?;
-                script.push_str(&line)?;
-                printed.push_str(if there { "ok\n" } else { "path\n" })?;
-            }
-            Kind::Select => {
-                let line = format!(in alloc; "1 select {series} from root.g.d\n")?;
-                script.push_str(&line)?;
-                printed.push_str(&selected(alloc, before, series)?)?;
-            }
+fn rows(alloc: Global, before: &[Line]) -> Result<String, AllocError> {
+    let mut text = String::from_str(alloc, "time,s,t\n")?;
+    let mut count = 0u8;
+    for time in ["-2", "1"] {
+        let number = last_written(before, Series::Numbers, time);
+        let other = last_written(before, Series::Texts, time);
+        if number.is_some() || other.is_some() {
+            let number = number.unwrap_or("null");
+            let other = other.unwrap_or("null");
+            text.push_str(&format!(in alloc; "{time},{number},{other}\n")?)?;
+            count = count.saturating_add(1);
         }
     }
-    let order = match lines.len() {
-        0 => "order\n",
-        1 => "order 1\n",
-        2 => "order 1 1\n",
-        _ => "order 1 1 1\n",
-    };
-    let head = if lines.is_empty() { "" } else { "session 1\n" };
-    let printed = format!(in alloc; "{head}{printed}{order}")?;
-    Ok((script, printed))
+    text.push_str(&format!(in alloc; "rows {count}\n")?)?;
+    Ok(text)
 }
 
-/// What a select prints behind these lines.
-fn selected(
-    alloc: Global,
-    before: &[(Kind, &str, &str, i64)],
-    series: &str,
-) -> Result<String, AllocError> {
-    if !is_created(before, series) {
-        return String::from_str(alloc, "path\n");
-    }
-    let mut text = format!(in alloc; "time,{series}\n")?;
-    let mut rows = 0u8;
+/// All numbers have one digit, so that the greatest is that of the greatest byte.
+fn aggregates(alloc: Global, before: &[Line]) -> Result<String, AllocError> {
+    let mut count = 0u8;
+    let mut greatest = "null";
     for time in ["-2", "1"] {
-        if let Some(value) = last_written(before, series, time) {
-            let line = format!(in alloc; "{time},{value}\n")?;
-            text.push_str(&line)?;
-            rows = rows.saturating_add(1);
+        if let Some(number) = last_written(before, Series::Numbers, time) {
+            count = count.saturating_add(1);
+            if greatest == "null" || greatest.as_bytes() < number.as_bytes() {
+                greatest = number;
+            }
         }
     }
-    let count = format!(in alloc; "rows {rows}\n")?;
-    text.push_str(&count)?;
-    Ok(text)
+    format!(in alloc; "count(s),max_value(s)\n{count},{greatest}\n")
 }

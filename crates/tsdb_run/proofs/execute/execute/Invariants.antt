@@ -1,11 +1,11 @@
--- what the commands so far left, and that their entries count up
-use Rattle.std.proofs.Common.{◌≡◌, length}
-use Rattle.std.specs.FinMap as map
-use Rattle.tsdb_run.proofs.HistoryLemmas.{IsToldSoFar}
+-- The commands up to here are answered.
+use Rattle.std.proofs.Common.{◌≡◌, length, take}
+use Rattle.tsdb_run.specs.Limits.{session_numbers}
+use Rattle.tsdb_run.proofs.SoFarLemmas.{SoFar}
 use Rattle.tsdb_run.proofs.execute.execute.Given as goal
 
 abbrev pub invariant-loop-numbered : goal.invariant-loop-numbered
 invariant-loop-numbered l = record {
-  long : length l.history.items ≡ l.numbered-index;
-  told : IsToldSoFar l.script map.empty l.history.items l.plain;
+  long : length l.counts.items ≡ session_numbers;
+  so_far : SoFar (take l.numbered-index l.script) l.history.items l.plain l.counts.items;
 }

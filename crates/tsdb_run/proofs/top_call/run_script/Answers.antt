@@ -1,43 +1,33 @@
-use Rattle.std.proofs.Common.{sym, subst}
-use Rattle.std.specs.FinMap as map
-use Rattle.tsdb_run.specs.Text.{output_text}
-use Rattle.tsdb_run.specs.History.{IsComplete, IsLegal}
-use Rattle.tsdb_run.specs.Reading.{IsScript}
-use Rattle.tsdb_run.specs.Steps.{IsInLineOrder, IsWritten}
-use Rattle.tsdb_run.specs.World.{World}
-use Rattle.tsdb_run.proofs.HistoryLemmas.{same_sessions}
-use Rattle.tsdb_run.proofs.RunLemmas.{one_session, all_one_session, few_commands, all_named, Headline-written}
+use Rattle.std.proofs.Common.{length, subst, sym, ap, arith}
+use Rattle.tsdb_script.specs.Reading.{IsScript}
+use Rattle.tsdb_script.proofs.ReadingLemmas.{within_limits}
+use Rattle.tsdb_run.specs.Output.{output_text}
+use Rattle.tsdb_run.specs.Steps.{IsAnswered, IsWritten}
+use Rattle.tsdb_run.proofs.RunLemmas.{Headline-written, no_listing, small_sessions}
 use Rattle.tsdb_run.proofs.top_call.run_script.Goals as goal
 
 pub execute-requires-clause-few : goal.execute-requires-clause-few
 execute-requires-clause-few g c =
-    few_commands c.deref.result.now c.items.result.now (subst (λ s. IsScript c.deref.result.now s) (sym c.items.ensures) c.in-Ok.ensures.script)
+    omega (arith, (within_limits c.deref.result.now c.in-Ok.script.items c.in-Ok.ensures.found).commands, ap length c.deref-2.ensures.value)
 
-pub execute-requires-clause-session : goal.execute-requires-clause-session
-execute-requires-clause-session g c =
-    all_one_session c.deref.result.now c.items.result.now (subst (λ s. IsScript c.deref.result.now s) (sym c.items.ensures) c.in-Ok.ensures.script)
+pub execute-requires-clause-sessions : goal.execute-requires-clause-sessions
+execute-requires-clause-sessions g c =
+    small_sessions c.deref.result.now c.deref-2.result.now (subst (IsScript c.deref.result.now) (sym c.deref-2.ensures.value) c.in-Ok.ensures.found)
 
-pub write_output-status-requires-clause-one : goal.write_output-status-requires-clause-one
-write_output-status-requires-clause-one g c =
-    one_session c.deref.result.now c.items-2.result.now (subst (λ s. IsScript c.deref.result.now s) (sym c.items-2.ensures) c.in-Ok.ensures.script)
-
-pub write_output-status-requires-clause-series : goal.write_output-status-requires-clause-series
-write_output-status-requires-clause-series g c =
-    all_named c.deref.result.now c.items-2.result.now (subst (λ s. IsScript c.deref.result.now s) (sym c.items-2.ensures) c.in-Ok.ensures.script)
+pub execute-requires-clause-no_listing : goal.execute-requires-clause-no_listing
+execute-requires-clause-no_listing g c =
+    no_listing c.deref.result.now c.deref-2.result.now (subst (IsScript c.deref.result.now) (sym c.deref-2.ensures.value) c.in-Ok.ensures.found)
 
 pub returns-clause-headline : goal.returns-clause-headline
 returns-clause-headline g c =
     let bytes = c.args.bytes.items in
-    let script = c.in-Ok.script in
+    let script = c.in-Ok.script.items in
     let history = c.in-Ok-execute.history in
     let status = c.write_output-status.result in
     let old = g.K.Sink.held c.args.out.now in
     let new = g.K.Sink.held c.write_output-status.new.out in
-    let is = subst (λ b. IsScript b script) c.deref.ensures.value c.in-Ok.ensures.script in
-    let complete = subst (λ s. IsComplete s history) c.items.ensures c.in-Ok-execute.ensures.complete in
-    let legal = subst (λ s. (after : World) × IsLegal s map.empty history after) c.items.ensures c.in-Ok-execute.ensures.legal in
-    let order = subst (λ s. IsInLineOrder s history) c.items.ensures c.in-Ok-execute.ensures.in_order in
-    let written = subst (λ h. IsWritten status old new (output_text script h)) c.items-3.ensures
-    (subst (λ s. IsWritten status old new (output_text s c.items-3.result.now)) c.items-2.ensures c.write_output-status.ensures.written) in
-    Headline-written status bytes script history legal.0 old new is complete legal.1
-    (same_sessions script history order.whole (one_session bytes script is) order.one_session) written
+    let is = subst (λ b. IsScript b script) c.deref.ensures.value c.in-Ok.ensures.found in
+    let answered = subst (λ s. IsAnswered s history) c.deref-2.ensures.value c.in-Ok-execute.ensures in
+    let written = subst (λ h. IsWritten status old new (output_text script h)) c.items.ensures
+    (subst (λ s. IsWritten status old new (output_text s c.items.result.now)) c.deref-3.ensures.value c.write_output-status.ensures.written) in
+    Headline-written status bytes script history old new is answered written

@@ -1,4 +1,4 @@
-use Rattle.tsdb_script.proofs.ReadingLemmas.{same_tokens, same_kind, not_both}
+use Rattle.tsdb_script.proofs.TokenLemmas.{same_tokens, same_kind, not_both}
 use Rattle.tsdb_script.proofs.laws.one_reading.Goals as goal
 
 pub returns-clause-tokens : goal.returns-clause-tokens

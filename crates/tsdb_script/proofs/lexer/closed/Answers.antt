@@ -1,6 +1,6 @@
 use Rattle.std.proofs.Common.{◌≡◌, ◌+◌, ◌-◌, ◌<◌, length, take, drop, sym, ap, ◌∙◌, subst, arith, length-drop, Some}
 use Rattle.std.proofs.lemmas.List.{take_all}
-use Rattle.tsdb_script.specs.Steps.{undoubled}
+use Rattle.tsdb_script.specs.Steps.{unescape}
 use Rattle.tsdb_script.proofs.TextLemmas.{IsContentSoFar, content_none, content_ended, content_more_other, content_more_pair, some_left}
 use Rattle.tsdb_script.proofs.lexer.closed.Goals as goal
 use Rattle.tsdb_script.proofs.lexer.closed.Goals.{then-not-has, else-not-has+then-has}
@@ -13,7 +13,7 @@ returns-else-has-clause-content c =
     let bytes = c.args.bytes.now in
     let at = c.loop-at.at in
     let all : take (length bytes - (at + 1)) (drop (at + 1) bytes) ≡ drop (at + 1) bytes = take_all (length bytes - (at + 1)) (drop (at + 1) bytes) (omega (arith, length-drop (at + 1) bytes)) in
-    ap (λ l. Some (undoubled c.args.quote (take at bytes), l)) all
+    ap (λ l. Some (unescape c.args.quote (take at bytes), l)) all
     ∙ (content_ended c.args.quote bytes at c.loop-at.length c.loop-at-test.true (sym c.has.ensures ∙ c.if-not-has.false) (sym c.has-else-not-has.ensures ∙ c.if-has.false) c.loop-at.invariant.so_far).0
 
 pub returns-else-has-clause-length : goal.returns-else-has-clause-length

@@ -1,0 +1,133 @@
+-- The first commands of a script are answered: the invariant of the loop that executes them.
+use Rattle.std.proofs.Common.{◌≡◌, ◌≢◌, ℕ, ◌+◌, ◌<◌, ◌≤◌, suc, eqb, get_or, Bool, true, false, cond, List, [], ◌∷◌, ◌++◌, map, length, take, drop, append-nil, refl, sym, ap, ◌∙◌, arith}
+use Rattle.std.specs.Prelude.{slice_index, slice_set}
+use Rattle.std.specs.List.{AllByRecursion, filter}
+use Rattle.std.specs.FinMap.{empty}
+use Rattle.std.proofs.lemmas.Bool.{eqb-true, eq-eqb, false≢true}
+use Rattle.std.proofs.lemmas.List.{length-append, map-append, drop_all, get_or-set_same, get_or-set_other}
+use Rattle.std.proofs.Math.Seq.{take-length}
+use Rattle.std.proofs.lemmas.List.Elements.{All-from_recursion}
+use Rattle.tsdb_map.specs.declared.command.Command.TheVariants.{ShowFiles}
+use Rattle.tsdb_map.specs.History.{Entry, IsLegal}
+use Rattle.tsdb_map.specs.World.{World}
+use Rattle.tsdb_script.specs.Limits.{max_commands}
+use Rattle.tsdb_script.specs.declared.numbered.Numbered.{Numbered}
+use Rattle.tsdb_run.specs.Headline.{IsStoreless, new_state}
+use Rattle.tsdb_run.specs.History.{AreEntries, IsComplete, commands_of}
+use Rattle.tsdb_run.specs.Limits.{session_numbers}
+use Rattle.tsdb_run.specs.Steps.{IsAnswered, Replies}
+use Rattle.tsdb_run.specs.declared.status.Told.{Told}
+use Rattle.tsdb_run.proofs.HistoryLemmas.{AreEntries-push, IsComplete-push, command_of-last, length-commands_of-push}
+use Rattle.tsdb_run.proofs.LegalLemmas.{IsLegal-push, is_step}
+
+-- the numbers of commands of the sessions
+abbrev pub Count : List ℕ → List Numbered → Type 0
+Count counts script = (session : ℕ) → session < session_numbers → slice_index counts session ≡ length (commands_of script session)
+
+-- the commands are answered, the map holds this world, and the commands of each session are counted
+pub record SoFar (script : List Numbered) (history : List Told) (world : World) (counts : List ℕ) : Type 0 where
+  pub in_line_order : map (λ told. told.session) history ≡ map (λ numbered. numbered.session) script
+  pub complete : IsComplete script history
+  pub entries : List Entry
+  pub stamp : ℕ
+  pub answers : AreEntries script history entries
+  pub commands : map (λ entry. entry.command) entries ≡ map (λ numbered. numbered.command) script
+  pub legal : IsLegal new_state entries (record { world = world; stamp = stamp })
+  pub few : stamp ≤ length script
+  pub storeless : AllByRecursion (λ told. IsStoreless told.reply) history
+  pub counted : Count counts script
+
+pub SoFar-none : (counts : List ℕ) → ((at : ℕ) → slice_index counts at ≡ 0) → SoFar [] [] empty counts
+SoFar-none counts none = record {
+  in_line_order = refl;
+  complete = λ session. (refl, λ k told is. cc);
+  entries = [];
+  stamp = 0;
+  answers = refl;
+  commands = refl;
+  legal = refl;
+  few = omega arith;
+  storeless = tt;
+  counted = λ session lt. none session;
+}
+
+-- a slice that is changed whole is the vector's
+pub whole_slice : (n : ℕ) (new old : List ℕ) → n ≡ length new → length old ≡ n → take n (new ++ drop (length new) old) ≡ new
+whole_slice n new old here there =
+    ap (λ l. take n (new ++ l)) (drop_all (length new) old (omega arith)) ∙ ap (λ l. take n l) (append-nil new) ∙ ap (λ m. take m new) here ∙ take-length new
+
+-- a session has no more commands than the script
+pub few_of : (script : List Numbered) (session : ℕ) → length (commands_of script session) ≤ length script
+few_of [] session = omega arith
+few_of (n ∷ script) session =
+    elim (eqb n.session session) as (λ b. length (map (λ m. m.command) (cond b (n ∷ filter (λ m. eqb m.session session) script) (filter (λ m. eqb m.session session) script))) ≤ suc (length script)) [
+      | true ↦ omega (arith, few_of script session)
+      | false ↦ omega (arith, few_of script session)
+    ]
+
+Count-push : (counts after : List ℕ) (script : List Numbered) (numbered : Numbered) → length counts ≡ session_numbers → numbered.session < session_numbers
+    → after ≡ slice_set counts numbered.session (slice_index counts numbered.session + 1) → Count counts script → Count after (script ++ numbered ∷ [])
+Count-push counts after script numbered long within is counted = λ session lt.
+    elim (eqb numbered.session session) as (λ b. eqb numbered.session session ≡ b
+    → slice_index after session ≡ length (commands_of script session) + cond b 1 0 → slice_index after session ≡ length (commands_of (script ++ numbered ∷ []) session)) [
+      | true ↦ λ e h. h ∙ ap (λ b. length (commands_of script session) + cond b 1 0) (sym e) ∙ sym (length-commands_of-push script numbered session)
+      | false ↦ λ e h. h ∙ ap (λ b. length (commands_of script session) + cond b 1 0) (sym e) ∙ sym (length-commands_of-push script numbered session)
+    ] refl (one session lt (eqb numbered.session session) refl)
+  where
+    one : (session : ℕ) → session < session_numbers → (b : Bool) → eqb numbered.session session ≡ b → slice_index after session ≡ length (commands_of script session) + cond b 1 0
+    one session lt true e =
+        let same : numbered.session ≡ session = eqb-true numbered.session session e in
+        ap (λ l. get_or l session 0) is
+        ∙ ap (λ s. get_or (slice_set counts s (slice_index counts s + 1)) session 0) same
+        ∙ get_or-set_same counts session (slice_index counts session + 1) 0 (omega arith)
+        ∙ ap (λ n. n + 1) (counted session lt)
+    one session lt false e =
+        ap (λ l. get_or l session 0) is
+        ∙ get_or-set_other counts numbered.session session (slice_index counts numbered.session + 1) 0
+        (λ same. false≢true (sym e ∙ eq-eqb numbered.session session (sym same)))
+        ∙ counted session lt ∙ omega arith
+
+AllByRecursion-push : {X : Type 0} (P : X → Type 0) (xs : List X) (x : X) → AllByRecursion P xs → P x → AllByRecursion P (xs ++ x ∷ [])
+AllByRecursion-push P [] x h p = (p, tt)
+AllByRecursion-push P (y ∷ xs) x h p = (h.0, AllByRecursion-push P xs x h.1 p)
+
+pushed : {X Y N : Type 0} (f : X → N) (g : Y → N) (xs : List X) (ys : List Y) (x : X) (y : Y)
+    → map f xs ≡ map g ys → f x ≡ g y → map f (xs ++ x ∷ []) ≡ map g (ys ++ y ∷ [])
+pushed f g xs ys x y same last =
+    map-append f xs (x ∷ []) ∙ ap (λ l. l ++ f x ∷ []) same ∙ ap (λ n. map g ys ++ n ∷ []) last ∙ sym (map-append g ys (y ∷ []))
+
+-- one more command is answered
+pub SoFar-push : (script : List Numbered) (history : List Told) (world after : World) (counts next : List ℕ) (numbered : Numbered) (told : Told)
+    → SoFar script history world counts → length script < max_commands → length counts ≡ session_numbers → numbered.session < session_numbers
+    → numbered.command ≢ ShowFiles → Replies world numbered.command told.reply after
+    → told.session ≡ numbered.session → told.index ≡ slice_index counts numbered.session
+    → next ≡ slice_set counts numbered.session (slice_index counts numbered.session + 1)
+    → SoFar (script ++ numbered ∷ []) (history ++ told ∷ []) after next
+SoFar-push script history world after counts next numbered told so_far few long within no_listing replies same at is =
+    let index = at ∙ so_far.counted numbered.session within in
+    let step = is_step (record { world = world; stamp = so_far.stamp }) numbered.command told.reply after no_listing (omega (arith, so_far.few)) replies in
+    record {
+      in_line_order = pushed (λ t. t.session) (λ n. n.session) history script told numbered so_far.in_line_order same;
+      complete = IsComplete-push script history numbered told same index so_far.complete;
+      entries = so_far.entries ++ record { command = numbered.command; reply = told.reply } ∷ [];
+      stamp = step.next.stamp;
+      answers = AreEntries-push script numbered history told so_far.entries so_far.answers (command_of-last script history numbered told same index);
+      commands = pushed (λ e. e.command) (λ n. n.command) so_far.entries script (record { command = numbered.command; reply = told.reply }) numbered so_far.commands refl;
+      legal = IsLegal-push new_state (record { world = world; stamp = so_far.stamp }) (record { world = after; stamp = step.next.stamp }) so_far.entries
+          (record { command = numbered.command; reply = told.reply }) so_far.legal step.allows (sym step.next.after);
+      few = omega (arith, so_far.few, step.next.few, length-append script (numbered ∷ []));
+      storeless = AllByRecursion-push (λ t. IsStoreless t.reply) history told so_far.storeless step.storeless;
+      counted = Count-push counts next script numbered long within is so_far.counted;
+    }
+
+pub answered : (script : List Numbered) (history : List Told) (world : World) (counts : List ℕ) → SoFar script history world counts → IsAnswered script history
+answered script history world counts so_far = record {
+  in_line_order = so_far.in_line_order;
+  complete = so_far.complete;
+  entries = so_far.entries;
+  after = record { world = world; stamp = so_far.stamp };
+  answers = so_far.answers;
+  commands = so_far.commands;
+  legal = so_far.legal;
+  storeless = All-from_recursion (λ told. IsStoreless told.reply) history so_far.storeless;
+}

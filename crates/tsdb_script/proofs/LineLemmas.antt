@@ -1,0 +1,276 @@
+-- A line is read pass by pass.
+use Rattle.std.proofs.Common.{◌≡◌, ℕ, ◌<◌, ◌≤◌, ◌||◌, Bool, true, false, true≢false, List, [], ◌∷◌, ◌++◌, length, codes, refl, sym, ap, ◌∙◌, arith, subst, inl, inr}
+use Rattle.std.specs.Prelude.{◌⊎◌, Some, slice_get}
+use Rattle.std.specs.Str.Parse.{digits_value}
+use Rattle.std.specs.List.{AllZip, list_any}
+use Rattle.std.proofs.lemmas.Bool.{cases_lt, cases_Bool}
+use Rattle.tsdb_base.specs.declared.ids.Space.TheVariants.{Sequence, Unsequence}
+use Rattle.tsdb_map.specs.declared.command.Command.{Command}
+use Rattle.tsdb_map.specs.declared.command.Command.TheVariants as command
+use Rattle.tsdb_script.specs.declared.numbered.Numbered.{Numbered}
+use Rattle.tsdb_script.specs.declared.syntax.Syntax.{Syntax}
+use Rattle.tsdb_script.specs.declared.syntax.Syntax.TheVariants.{Create, Insert, Delete, Select, Flush, CompactInner, CompactCross, ShowFiles}
+use Rattle.tsdb_script.specs.declared.token.Token.{Token}
+use Rattle.tsdb_script.specs.declared.token.Token.TheVariants.{Word}
+use Rattle.tsdb_script.specs.Forms.{Fits, HasNoForm, Place, Stands, form, keyword}
+use Rattle.tsdb_script.specs.LineSteps.{HasNoSession, HasRoom, HasSession}
+use Rattle.tsdb_script.specs.Meaning.{Means, Objects, Says}
+use Rattle.tsdb_script.specs.Reading.{Line, content_of, first_words, is_skipped, session_count, passes, BeginsStatement, FirstObjects, IsBad, IsBuilt, IsCommand, IsNotBuilt, IsOfSession, IsSkipped, ObjectsIn}
+use Rattle.tsdb_script.specs.Reading.{Pass, Limits, Tokens, Session, Room, FirstWord, Form, Built, Meaning}
+use Rattle.tsdb_script.specs.Tokens.{is_keyword, AreTokens, HasNoTokens}
+use Rattle.tsdb_script.proofs.FormLemmas.{Stand}
+use Rattle.tsdb_script.proofs.TokenLemmas.{same_kind, same_tokens, not_both}
+use Rattle.tsdb_script.proofs.MeaningLaws.{one_command, one_objection, no_objection}
+use Rattle.tsdb_script.proofs.StatementLemmas.{same_statement}
+
+-- a line that says something, and is short enough
+pub record IsWithin (line : Line) : Type 0 where
+  pub says : is_skipped line.bytes ≡ false
+  pub line_bytes : length line.bytes ≤ 1048576
+  pub script_bytes : line.end ≤ 67108864
+
+pub within : (line : Line) → is_skipped line.bytes ≡ false → length line.bytes ≤ 1048576 → line.end ≤ 67108864 → IsWithin line
+within line says line_bytes script_bytes = record { says = says; line_bytes = line_bytes; script_bytes = script_bytes }
+
+-- a pass does not object
+abbrev pub Passes : Pass → Line → Type 0
+Passes pass line = (kind : ℕ) → ¬ ObjectsIn pass line kind
+
+heads : (a b : List ℕ) (xs ys : List Token) → ◌≡◌ {A = List Token} (Word a ∷ xs) (Word b ∷ ys) → (a ≡ b) × (xs ≡ ys)
+heads a b xs ys e = (cc, cc)
+
+-- a line is of one session, and has one statement
+pub one_session : (line : Line) (session other : ℕ) (statement others : List Token) → IsOfSession line session statement → IsOfSession line other others
+    → (session ≡ other) × (statement ≡ others)
+one_session line session other statement others h k =
+    let same = heads h.word k.word statement others (same_tokens (content_of line.bytes) (Word h.word ∷ statement) (Word k.word ∷ others) h.tokens k.tokens) in
+    (h.number.value ∙ ap (digits_value 10) same.0 ∙ sym k.number.value, same.1)
+
+-- ---- passes that do not object
+
+within_limits : (line : Line) → IsWithin line → Passes Limits line
+within_limits line is kind objects = elim objects.0 [ inl long ↦ omega (arith, is.line_bytes) | inr long ↦ omega (arith, is.script_bytes) ]
+
+has_tokens : (line : Line) (tokens : List Token) → AreTokens (content_of line.bytes) tokens → Passes Tokens line
+has_tokens line tokens are kind objects = not_both (content_of line.bytes) tokens kind are objects
+
+module _ (line : Line) (session : ℕ) (statement : List Token) (is : IsOfSession line session statement) where
+  has_session : Passes Session line
+  has_session kind objects = objects.0 session statement is
+
+  has_room : HasRoom line.sessions session → Passes Room line
+  has_room room kind objects =
+      let same = one_session line session objects.0 statement objects.1 is objects.2 in
+      elim objects.3.0 [
+        | inl many ↦ omega (arith, room.0)
+        | inr many ↦ omega (arith, room.1, ap (λ s. session_count (line.sessions ++ s ∷ [])) same.0)
+      ]
+
+  begins : BeginsStatement statement → Passes FirstWord line
+  begins begin kind objects = objects.3.0 (subst BeginsStatement (one_session line session objects.0 statement objects.1 is objects.2).1 begin)
+
+  fits : (syntax : Syntax) → Fits statement syntax → Passes Form line
+  fits syntax fit kind objects = objects.3.0 syntax (subst (λ s. Fits s syntax) (one_session line session objects.0 statement objects.1 is objects.2).1 fit)
+
+  built : (syntax : Syntax) → Fits statement syntax → ¬ IsNotBuilt syntax → Passes Built line
+  built syntax fit old kind objects =
+      let fit_again = subst (λ s. Fits s syntax) (one_session line session objects.0 statement objects.1 is objects.2).1 fit in
+      old (subst IsNotBuilt (sym (same_statement objects.1 syntax objects.3.0 fit_again objects.3.1)) objects.3.2)
+
+-- ---- the first pass that objects
+
+module _ (line : Line) (is : IsWithin line) where
+  bad : (kind : ℕ) → FirstObjects (Tokens ∷ Session ∷ Room ∷ FirstWord ∷ Form ∷ Built ∷ Meaning ∷ []) line kind → IsBad line kind
+  bad kind objects = inr (is.says, inr (within_limits line is, objects))
+
+  pub bad_tokens : (kind : ℕ) → HasNoTokens (content_of line.bytes) kind → IsBad line kind
+  bad_tokens kind none = bad kind (inl none)
+
+  module _ (tokens : List Token) (are : AreTokens (content_of line.bytes) tokens) where
+    pub bad_session : (kind : ℕ) → HasNoSession tokens kind → IsBad line kind
+    bad_session kind none = bad kind (inr (has_tokens line tokens are, inl ((λ session statement it. none.none statement session (again session statement it)), none.decides)))
+      where
+        again : (session : ℕ) (statement : List Token) → IsOfSession line session statement → HasSession tokens statement session
+        again session statement it = record { word = it.word; whole = same_tokens (content_of line.bytes) tokens (Word it.word ∷ statement) are it.tokens; number = it.number }
+
+    module _ (session : ℕ) (statement : List Token) (has : HasSession tokens statement session) where
+      pub of_session : IsOfSession line session statement
+      of_session = record { word = has.word; tokens = subst (AreTokens (content_of line.bytes)) has.whole are; number = has.number }
+
+      bad_behind : (kind : ℕ) → FirstObjects (Room ∷ FirstWord ∷ Form ∷ Built ∷ Meaning ∷ []) line kind → IsBad line kind
+      bad_behind kind objects = bad kind (inr (has_tokens line tokens are, inr (has_session line session statement of_session, objects)))
+
+      pub bad_room : ¬ HasRoom line.sessions session → IsBad line 9
+      bad_room full = bad_behind 9 (inl (session, statement, of_session, (passed, refl)))
+        where
+          passed : (1000000 ≤ length line.sessions) ⊎ (8 < session_count (line.sessions ++ session ∷ []))
+          passed = elim (cases_lt (length line.sessions) 1000000) [
+            | inr many ↦ inl many
+            | inl few ↦ elim (cases_lt 8 (session_count (line.sessions ++ session ∷ []))) [ inl many ↦ inr many | inr le ↦ absurd (full (few, le)) ]
+          ]
+
+      module _ (room : HasRoom line.sessions session) where
+        bad_statement : (kind : ℕ) → FirstObjects (FirstWord ∷ Form ∷ Built ∷ Meaning ∷ []) line kind → IsBad line kind
+        bad_statement kind objects = bad_behind kind (inr (has_room line session statement of_session room, objects))
+
+        pub bad_first_word : ¬ BeginsStatement statement → IsBad line 2
+        bad_first_word none = bad_statement 2 (inl (session, statement, of_session, (none, refl)))
+
+        module _ (begin : BeginsStatement statement) where
+          pub bad_form : (kind : ℕ) → HasNoForm statement kind → IsBad line kind
+          bad_form kind none = bad_statement kind (inr (begins line session statement of_session begin, inl (session, statement, of_session, none)))
+
+          module _ (syntax : Syntax) (fit : Fits statement syntax) where
+            bad_syntax : (kind : ℕ) → FirstObjects (Built ∷ Meaning ∷ []) line kind → IsBad line kind
+            bad_syntax kind objects = bad_statement kind (inr (begins line session statement of_session begin, inr (fits line session statement of_session syntax fit, objects)))
+
+            pub bad_built : IsNotBuilt syntax → IsBad line 0
+            bad_built later = bad_syntax 0 (inl (session, statement, of_session, (syntax, fit, later, refl)))
+
+            pub bad_meaning : ¬ IsNotBuilt syntax → (kind : ℕ) → Objects syntax kind → IsBad line kind
+            bad_meaning old kind objects =
+                bad_syntax kind (inr (built line session statement of_session syntax fit old, inl (session, statement, of_session, (syntax, fit, objects))))
+
+            pub is_command : ¬ IsNotBuilt syntax → (numbered : Numbered) → numbered.session ≡ session → Means syntax numbered.command → IsCommand line numbered
+            is_command old numbered same means = record {
+              says_something = is.says;
+              line_bytes = is.line_bytes;
+              script_bytes = is.script_bytes;
+              statement = statement;
+              tokens = subst (λ s. IsOfSession line s statement) (sym same) of_session;
+              commands = room.0;
+              sessions = subst (λ s. session_count (line.sessions ++ s ∷ []) ≤ 8) (sym same) room.1;
+              syntax = syntax;
+              fits = fit;
+              built = old;
+              means = means;
+            }
+
+-- ---- a line is one command, or has a fault of one kind, and not both
+
+same_numbered : (one other : Numbered) → one.session ≡ other.session → one.command ≡ other.command → one ≡ other
+same_numbered one other session command =
+    ap (λ s. numbered s one.command) session ∙ ap (numbered other.session) command
+  where
+    numbered : ℕ → Command → Numbered
+    numbered session command = record { session = session; command = command }
+
+pub one_line_command : (line : Line) (one other : Numbered) → IsCommand line one → IsCommand line other → one ≡ other
+one_line_command line one other is again =
+    let same = one_session line one.session other.session is.statement again.statement is.tokens again.tokens in
+    let syntax = same_statement again.statement is.syntax again.syntax (subst (λ s. Fits s is.syntax) same.1 is.fits) again.fits in
+    same_numbered one other same.0 (one_command again.syntax one.command other.command (subst (λ s. Means s one.command) syntax is.means) again.means)
+
+one_kind : (pass : Pass) (line : Line) (kind other : ℕ) → ObjectsIn pass line kind → ObjectsIn pass line other → kind ≡ other
+one_kind Limits line kind other h k = h.1 ∙ sym k.1
+one_kind Tokens line kind other h k = same_kind (content_of line.bytes) kind other h k
+one_kind Session line kind other h k = h.1 ∙ sym k.1
+one_kind Room line kind other h k = h.3.1 ∙ sym k.3.1
+one_kind FirstWord line kind other h k = h.3.1 ∙ sym k.3.1
+one_kind Form line kind other h k = h.3.1 ∙ sym k.3.1
+one_kind Built line kind other h k = h.3.3 ∙ sym k.3.3
+one_kind Meaning line kind other h k =
+    let same = one_session line h.0 k.0 h.1 k.1 h.2 k.2 in
+    let syntax = same_statement k.1 h.3.0 k.3.0 (subst (λ s. Fits s h.3.0) same.1 h.3.1) k.3.1 in
+    one_objection k.3.0 kind other (subst (λ s. Objects s kind) syntax h.3.2) k.3.2
+
+first_kind : (order : List Pass) (line : Line) (kind other : ℕ) → FirstObjects order line kind → FirstObjects order line other → kind ≡ other
+first_kind [] line kind other h k = absurd h
+first_kind (pass ∷ later) line kind other (inl h) (inl k) = one_kind pass line kind other h k
+first_kind (pass ∷ later) line kind other (inl h) (inr k) = absurd (k.0 kind h)
+first_kind (pass ∷ later) line kind other (inr h) (inl k) = absurd (h.0 other k)
+first_kind (pass ∷ later) line kind other (inr h) (inr k) = first_kind later line kind other h.1 k.1
+
+pub one_line_fault : (line : Line) (kind other : ℕ) → IsBad line kind → IsBad line other → kind ≡ other
+one_line_fault line kind other (inl h) (inl k) = h.2 ∙ sym k.2
+one_line_fault line kind other (inl h) (inr k) = absurd (true≢false (sym h.0 ∙ k.0))
+one_line_fault line kind other (inr h) (inl k) = absurd (true≢false (sym k.0 ∙ h.0))
+one_line_fault line kind other (inr h) (inr k) = first_kind passes line kind other h.1 k.1
+
+any_at : {X : Type 0} (p : X → Bool) (xs ys : List X) (x : X) → p x ≡ true → list_any p (xs ++ x ∷ ys) ≡ true
+any_at p [] ys x is = ap (λ t. t || list_any p ys) is
+any_at p (y ∷ xs) ys x is = ap (λ t. p y || t) (any_at p xs ys x is) ∙ or_true (p y)
+  where
+    or_true : (t : Bool) → (t || true) ≡ true
+    or_true true = refl
+    or_true false = refl
+
+keyword_begins : (before behind : List (List ℕ)) (name : List ℕ) (places : List Place) (statement : List Token) → before ++ name ∷ behind ≡ first_words
+    → Stand (keyword name ∷ places) statement → BeginsStatement statement
+keyword_begins before behind name places [] words h = absurd h.all
+keyword_begins before behind name places (Word word ∷ rest) words h = subst (λ ws. list_any (is_keyword word) ws ≡ true) words (any_at (is_keyword word) before behind name h.all.0)
+keyword_begins before behind name places (_ ∷ rest) words h = absurd h.all.0
+
+begins_by : (before behind : List (List ℕ)) (name : List ℕ) (all : List Place) (statement : List Token) → before ++ name ∷ behind ≡ first_words
+    → slice_get all 0 ≡ Some (keyword name) → AllZip Stands all statement → BeginsStatement statement
+begins_by before behind name [] statement words first stand = absurd cc
+begins_by before behind name (place ∷ places) statement words first stand =
+    let is : place ≡ keyword name = cc in
+    keyword_begins before behind name places statement words (record { all = subst (λ p. AllZip Stands (p ∷ places) statement) is stand })
+
+-- a form begins with one of the words that begin a statement
+fits_begins : (statement : List Token) (syntax : Syntax) → Fits statement syntax → BeginsStatement statement
+fits_begins statement (Create path data_type encoding) fit =
+    begins_by [] _ (codes "create") (form (Create path data_type encoding) fit.behind) statement refl refl fit.stand
+fits_begins statement (Insert device names time values) fit =
+    begins_by (codes "create" ∷ []) _ (codes "insert") (form (Insert device names time values) fit.behind) statement refl refl fit.stand
+fits_begins statement (Delete path conditions) fit =
+    begins_by (codes "create" ∷ codes "insert" ∷ []) _ (codes "delete") (form (Delete path conditions) fit.behind) statement refl refl fit.stand
+fits_begins statement (Select columns device conditions) fit =
+    begins_by (codes "create" ∷ codes "insert" ∷ codes "delete" ∷ []) _ (codes "select") (form (Select columns device conditions) fit.behind) statement refl refl fit.stand
+fits_begins statement Flush fit =
+    begins_by (codes "create" ∷ codes "insert" ∷ codes "delete" ∷ codes "select" ∷ []) _ (codes "flush") (form Flush fit.behind) statement refl refl fit.stand
+fits_begins statement (CompactInner Sequence) fit =
+    begins_by (codes "create" ∷ codes "insert" ∷ codes "delete" ∷ codes "select" ∷ codes "flush" ∷ []) _ (codes "compact") (form (CompactInner Sequence) fit.behind) statement refl refl fit.stand
+fits_begins statement (CompactInner Unsequence) fit =
+    begins_by (codes "create" ∷ codes "insert" ∷ codes "delete" ∷ codes "select" ∷ codes "flush" ∷ []) _ (codes "compact") (form (CompactInner Unsequence) fit.behind) statement refl refl fit.stand
+fits_begins statement CompactCross fit =
+    begins_by (codes "create" ∷ codes "insert" ∷ codes "delete" ∷ codes "select" ∷ codes "flush" ∷ []) _ (codes "compact") (form CompactCross fit.behind) statement refl refl fit.stand
+fits_begins statement ShowFiles fit =
+    begins_by (codes "create" ∷ codes "insert" ∷ codes "delete" ∷ codes "select" ∷ codes "flush" ∷ codes "compact" ∷ []) _ (codes "show") (form ShowFiles fit.behind) statement refl refl fit.stand
+
+-- no pass objects to a command
+command_passes : (line : Line) (numbered : Numbered) → IsCommand line numbered → (pass : Pass) → Passes pass line
+command_passes line numbered is Limits kind h = within_limits line (within line is.says_something is.line_bytes is.script_bytes) kind h
+command_passes line numbered is Tokens kind h = has_tokens line (Word is.tokens.word ∷ is.statement) is.tokens.tokens kind h
+command_passes line numbered is Session kind h = has_session line numbered.session is.statement is.tokens kind h
+command_passes line numbered is Room kind h = has_room line numbered.session is.statement is.tokens (is.commands, is.sessions) kind h
+command_passes line numbered is FirstWord kind h = begins line numbered.session is.statement is.tokens (fits_begins is.statement is.syntax is.fits) kind h
+command_passes line numbered is Form kind h = fits line numbered.session is.statement is.tokens is.syntax is.fits kind h
+command_passes line numbered is Built kind h = built line numbered.session is.statement is.tokens is.syntax is.fits is.built kind h
+command_passes line numbered is Meaning kind h =
+    let same = one_session line numbered.session h.0 is.statement h.1 is.tokens h.2 in
+    let syntax = same_statement h.1 is.syntax h.3.0 (subst (λ s. Fits s is.syntax) same.1 is.fits) h.3.1 in
+    no_objection h.3.0 numbered.command kind (subst (λ s. Means s numbered.command) syntax is.means) h.3.2
+
+none_first : (order : List Pass) (line : Line) (kind : ℕ) → ((pass : Pass) → Passes pass line) → ¬ FirstObjects order line kind
+none_first [] line kind none h = h
+none_first (pass ∷ later) line kind none (inl h) = none pass kind h
+none_first (pass ∷ later) line kind none (inr h) = none_first later line kind none h.1
+
+pub command_not_bad : (line : Line) (numbered : Numbered) (kind : ℕ) → IsCommand line numbered → ¬ IsBad line kind
+command_not_bad line numbered kind is (inl h) = true≢false (sym h.0 ∙ is.says_something)
+command_not_bad line numbered kind is (inr h) = none_first passes line kind (command_passes line numbered is) h.1
+
+pub skipped_not_bad : (line : Line) (kind : ℕ) → IsSkipped line → ¬ IsBad line kind
+skipped_not_bad line kind is (inl h) = omega (arith, is.script_bytes, h.1)
+skipped_not_bad line kind is (inr h) = true≢false (sym is.says_nothing ∙ h.0)
+
+-- a line in which the script's limit is passed has a fault of kind 9
+pub past_limit : (line : Line) → 67108864 < line.end → IsBad line 9
+past_limit line long = elim (cases_Bool (is_skipped line.bytes)) [
+  | inl skipped ↦ inl (skipped, long, refl)
+  | inr says ↦ inr (says, inl (inr long, refl))
+]
+
+-- what a statement that is built says is a command that is built
+pub built_command : (syntax : Syntax) (said : Command) → ¬ IsNotBuilt syntax → Says syntax said → IsBuilt said
+built_command (Create path data_type encoding) (command.Create schema) old says = tt
+built_command (Insert device names time values) (command.Insert path row) old says = tt
+built_command (Delete path conditions) (command.Delete series range) old says = tt
+built_command (Select columns device conditions) (command.Select path items range) old says = tt
+built_command Flush command.Flush old says = absurd (old tt)
+built_command (CompactInner space) (command.CompactInner one) old says = absurd (old tt)
+built_command CompactCross command.CompactCross old says = absurd (old tt)
+built_command ShowFiles command.ShowFiles old says = absurd (old tt)
+built_command syntax said old says = absurd says

@@ -1,0 +1,291 @@
+-- A statement says one command at most, or has an objection of one kind at most, and not both. What it says is well-formed.
+use Rattle.std.proofs.Common.{◌≡◌, ℕ, ℤ, ◌<◌, true, List, [], ◌∷◌, ◌++◌, Option, None, Some, Result, Ok, Err, length, map, inl, inr, refl, sym, ap, subst, ◌∙◌, true≢false, arith}
+use Rattle.std.specs.Prelude.{◌≤ℤ◌, FitsSigned, All, IfOk}
+use Rattle.std.specs.Int.{w64}
+use Rattle.std.specs.List.{AllByRecursion, AllZip}
+use Rattle.std.specs.Option.{IsSome}
+use Rattle.std.proofs.lemmas.Int.{ints}
+use Rattle.std.proofs.lemmas.List.{length-map}
+use Rattle.std.proofs.lemmas.List.Elements.{All-head, All-tail, All-cons, All-nil}
+use Rattle.std.proofs.lemmas.Slice.Zip.{AllZip-long}
+use Rattle.tsdb_base.specs.declared.answers.Aggregate.{Aggregate}
+use Rattle.tsdb_base.specs.declared.value.DataType.{DataType}
+use Rattle.tsdb_base.specs.declared.value.Encoding.{Encoding}
+use Rattle.tsdb_base.specs.Values.{is_suitable}
+use Rattle.tsdb_base.specs.declared.point.Range.{Range}
+use Rattle.tsdb_map.specs.declared.command.Cell.{Cell}
+use Rattle.tsdb_map.specs.declared.command.Command.{Command}
+use Rattle.tsdb_map.specs.declared.command.Command.TheVariants as command
+use Rattle.tsdb_map.specs.declared.command.Item.{Item}
+use Rattle.tsdb_map.specs.declared.command.Literal.{Literal}
+use Rattle.tsdb_map.specs.declared.command.Row.{Row}
+use Rattle.tsdb_map.specs.declared.command.Schema.{Schema}
+use Rattle.tsdb_map.specs.Commands.{AreDifferent, AreItems, IsDevice, IsRow, IsSeries, IsSchema, IsWellFormed}
+use Rattle.tsdb_map.specs.World.{is_in}
+use Rattle.tsdb_script.specs.declared.fault.LineFault.{LineFault}
+use Rattle.tsdb_script.specs.declared.syntax.Column.{Column}
+use Rattle.tsdb_script.specs.declared.syntax.Condition.{Condition}
+use Rattle.tsdb_script.specs.declared.syntax.Operand.{Operand}
+use Rattle.tsdb_script.specs.declared.syntax.Syntax.{Syntax}
+use Rattle.tsdb_script.specs.declared.syntax.Syntax.TheVariants.{Create, Insert, Delete, Select, Flush, CompactInner, CompactCross, ShowFiles}
+use Rattle.tsdb_script.specs.Forms.{HasParts}
+use Rattle.tsdb_script.specs.Meaning.{HasBadWord, AreAlike, ArePaired, IsGood, IsItem, IsLiteral, IsNamed, IsRangeOf, Means, Objects, Role, DeviceOf, Says, column_roles, condition_roles, measurements_of, roles}
+use Rattle.tsdb_script.proofs.Ranges.{not_before, not_behind, within}
+use Rattle.tsdb_script.proofs.WordLists.{AllByRecursion-split}
+use Rattle.tsdb_script.proofs.SameWords.{one_encoding, one_integer, one_literal, one_named, one_type}
+
+-- ---- lists
+
+one_each : {A B : Type 0} (Is : A → B → Type 0) → ((a : A) (b c : B) → Is a b → Is a c → b ≡ c) → (xs : List A) (ys zs : List B)
+    → AllZip Is xs ys → AllZip Is xs zs → ys ≡ zs
+one_each Is one [] [] [] each again = refl
+one_each Is one [] [] (z ∷ zs) each again = absurd again
+one_each Is one [] (y ∷ ys) zs each again = absurd each
+one_each Is one (x ∷ xs) [] zs each again = absurd each
+one_each Is one (x ∷ xs) (y ∷ ys) [] each again = absurd again
+one_each Is one (x ∷ xs) (y ∷ ys) (z ∷ zs) each again =
+    let first = one x y z each.0 again.0 in
+    let others = one_each Is one xs ys zs each.1 again.1 in
+    cc
+
+same_cell : (c d : Cell) → c.measurement ≡ d.measurement → c.value ≡ d.value → c ≡ d
+same_cell c d name value =
+    let cell : List ℕ → Literal → Cell = λ measurement value. record { measurement = measurement; value = value } in
+    let same : cell c.measurement c.value ≡ cell d.measurement d.value = cc in
+    same
+
+-- cells are their names and their values
+same_cells : (cells others : List Cell) → map (λ cell. cell.measurement) cells ≡ map (λ cell. cell.measurement) others
+    → map (λ cell. cell.value) cells ≡ map (λ cell. cell.value) others → cells ≡ others
+same_cells [] [] names values = refl
+same_cells [] (d ∷ others) names values = absurd cc
+same_cells (c ∷ cells) [] names values = absurd cc
+same_cells (c ∷ cells) (d ∷ others) names values =
+    let name : c.measurement ≡ d.measurement = cc in
+    let value : c.value ≡ d.value = cc in
+    let first : c ≡ d = same_cell c d name value in
+    let more_names : map (λ (cell : Cell). cell.measurement) cells ≡ map (λ cell. cell.measurement) others = cc in
+    let more_values : map (λ (cell : Cell). cell.value) cells ≡ map (λ cell. cell.value) others = cc in
+    let others_same = same_cells cells others more_names more_values in
+    cc
+
+one_item : (column : Column) (item other : Item) → IsItem column item → IsItem column other → item ≡ other
+one_item column item other is again =
+    let name : item.measurement ≡ other.measurement = is.0 ∙ sym again.0 in
+    let named : item.aggregate ≡ other.aggregate = one_named column.aggregate item.aggregate other.aggregate is.1 again.1 in
+    let made : List ℕ → Option Aggregate → Item = λ measurement aggregate. record { measurement = measurement; aggregate = aggregate } in
+    let same : made item.measurement item.aggregate ≡ made other.measurement other.aggregate = cc in
+    same
+
+-- ---- ranges
+
+module _ (conditions : List Condition) where
+  has_same_times : (range other : Range) → IsRangeOf conditions range → IsRangeOf conditions other → (time : ℤ) → FitsSigned w64 time → is_in range time ≡ true
+      → is_in other time ≡ true
+  has_same_times range other is again time fits inside = (again.times time fits).1 ((is.times time fits).0 inside)
+
+  -- a range that is not empty lies in any range of the same conditions
+  lies_in : (range other : Range) → IsRangeOf conditions range → IsRangeOf conditions other → range.from ≤ℤ range.to
+      → (other.from ≤ℤ range.from) × (range.from ≤ℤ other.to) × (range.to ≤ℤ other.to)
+  lies_in range other is again some =
+      let first = has_same_times range other is again range.from is.form.from (within range.from range.to range.from (omega (arith, ints)) some) in
+      let last = has_same_times range other is again range.to is.form.to (within range.from range.to range.to some (omega (arith, ints))) in
+      (not_before other.from other.to range.from first, not_behind other.from other.to range.from first, not_behind other.from other.to range.to last)
+
+  same_ends : (range other : Range) → range.from ≡ other.from → range.to ≡ other.to → range ≡ other
+  same_ends range other first last =
+      let made : ℤ → ℤ → Range = λ from to. record { from = from; to = to } in
+      let same : made range.from range.to ≡ made other.from other.to = cc in
+      same
+
+  one_range : (range other : Range) → IsRangeOf conditions range → IsRangeOf conditions other → range ≡ other
+  one_range range other is again =
+      elim is.form.form [
+        | inl some ↦ (let here = lies_in range other is again some in elim again.form.form [
+          | inl more ↦ (let there = lies_in other range again is more in same_ends range other (omega (arith, ints, here.0, there.0)) (omega (arith, ints, here.2, there.2)))
+          | inr none ↦ absurd (omega (arith, ints, here.0, here.1, none.0, none.1))
+        ])
+        | inr none ↦ elim again.form.form [
+          | inl more ↦ (let there = lies_in other range again is more in absurd (omega (arith, ints, there.0, there.1, none.0, none.1)))
+          | inr empty ↦ same_ends range other (none.0 ∙ sym empty.0) (none.1 ∙ sym empty.1)
+        ]
+      ]
+
+-- ---- words
+
+-- the first bad word is one
+one_bad : (before : List Role) (word : Role) (behind others : List Role) (another : Role) (rest : List Role) → before ++ word ∷ behind ≡ others ++ another ∷ rest
+    → AllByRecursion IsGood before → AllByRecursion IsGood others → ¬ IsGood word → ¬ IsGood another → word ≡ another
+one_bad [] word behind [] another rest same good well bad worse = cc
+one_bad [] word behind (r ∷ others) another rest same good well bad worse = let first : r ≡ word = cc in absurd (bad (subst IsGood first well.0))
+one_bad (r ∷ before) word behind [] another rest same good well bad worse = let first : r ≡ another = cc in absurd (worse (subst IsGood first good.0))
+one_bad (r ∷ before) word behind (s ∷ others) another rest same good well bad worse =
+    let more : before ++ word ∷ behind ≡ others ++ another ∷ rest = cc in one_bad before word behind others another rest more good.1 well.1 bad worse
+
+one_bad_word : (words : List Role) (kind other : ℕ) → HasBadWord words kind → HasBadWord words other → kind ≡ other
+one_bad_word words kind other h k =
+    let same = one_bad h.before h.word h.behind k.before k.word k.behind (sym h.stands ∙ k.stands) h.good k.good h.bad k.bad in
+    rw (h.decides, same, k.decides) refl
+
+among : (before : List Role) (word : Role) (behind : List Role) → AllByRecursion IsGood (before ++ word ∷ behind) → IsGood word
+among [] word behind good = good.0
+among (r ∷ before) word behind good = among before word behind good.1
+
+no_bad_word : (words : List Role) (kind : ℕ) → AllByRecursion IsGood words → ¬ HasBadWord words kind
+no_bad_word words kind good h = h.bad (among h.before h.word h.behind (subst (AllByRecursion IsGood) h.stands good))
+
+-- ---- statements
+
+same_schema : (one other : Schema) → one.path ≡ other.path → one.data_type ≡ other.data_type → one.encoding ≡ other.encoding → one ≡ other
+same_schema one other paths types encodings =
+    let made : List ℕ → DataType → Encoding → Schema = λ path data_type encoding. record { path = path; data_type = data_type; encoding = encoding } in
+    let same : made one.path one.data_type one.encoding ≡ made other.path other.data_type other.encoding = cc in
+    same
+
+same_row : (one other : Row) → one.time ≡ other.time → one.cells ≡ other.cells → one ≡ other
+same_row one other times cells =
+    let made : ℤ → List Cell → Row = λ time cells. record { time = time; cells = cells } in
+    let same : made one.time one.cells ≡ made other.time other.cells = cc in
+    same
+
+module _ (path data_type encoding : List ℕ) where
+  one_create : (schema : Schema) (other : Command) → Says (Create path data_type encoding) (command.Create schema) → Says (Create path data_type encoding) other
+      → command.Create schema ≡ other
+  one_create schema (command.Create other) says again =
+      ap command.Create (same_schema schema other (says.0 ∙ sym again.0) (one_type data_type schema.data_type other.data_type says.1 again.1)
+      (one_encoding encoding schema.encoding other.encoding says.2 again.2))
+  one_create schema other says again = absurd again
+
+module _ (device : List ℕ) (names : List (List ℕ)) (time : List ℕ) (values : List Operand) where
+  one_insert : (path : List ℕ) (row : Row) (other : Command) → Says (Insert device names time values) (command.Insert path row) → Says (Insert device names time values) other
+      → command.Insert path row ≡ other
+  one_insert path row (command.Insert other rows) says again =
+      let paths : path ≡ other = says.0 ∙ sym again.0 in
+      let literals = one_each IsLiteral one_literal values (map (λ cell. cell.value) row.cells) (map (λ cell. cell.value) rows.cells) says.3 again.3 in
+      let same = same_row row rows (one_integer time row.time rows.time says.1 again.1) (same_cells row.cells rows.cells (says.2 ∙ sym again.2) literals) in
+      cc
+  one_insert path row other says again = absurd again
+
+one_delete : (path : List ℕ) (conditions : List Condition) (series : List ℕ) (range : Range) (other : Command) → Says (Delete path conditions) (command.Delete series range)
+    → Says (Delete path conditions) other → command.Delete series range ≡ other
+one_delete path conditions series range (command.Delete other ranges) says again =
+    let paths : series ≡ other = says.0 ∙ sym again.0 in
+    let same = one_range conditions range ranges says.1 again.1 in
+    cc
+one_delete path conditions series range other says again = absurd again
+
+module _ (columns : List Column) (device : List ℕ) (conditions : List Condition) where
+  one_select : (path : List ℕ) (items : List Item) (range : Range) (other : Command) → Says (Select columns device conditions) (command.Select path items range)
+      → Says (Select columns device conditions) other → command.Select path items range ≡ other
+  one_select path items range (command.Select other others ranges) says again =
+      let paths : path ≡ other = says.0 ∙ sym again.0 in
+      let each = one_each IsItem one_item columns items others says.1 again.1 in
+      let same = one_range conditions range ranges says.2 again.2 in
+      cc
+  one_select path items range other says again = absurd again
+
+one_said : (syntax : Syntax) (command other : Command) → Says syntax command → Says syntax other → command ≡ other
+one_said (Create path data_type encoding) (command.Create schema) other says again = one_create path data_type encoding schema other says again
+one_said (Insert device names time values) (command.Insert path row) other says again = one_insert device names time values path row other says again
+one_said (Delete path conditions) (command.Delete series range) other says again = one_delete path conditions series range other says again
+one_said (Select columns device conditions) (command.Select path items range) other says again = one_select columns device conditions path items range other says again
+one_said Flush command.Flush command.Flush says again = refl
+one_said (CompactInner space) (command.CompactInner one) (command.CompactInner other) says again = ap command.CompactInner (says ∙ sym again)
+one_said CompactCross command.CompactCross command.CompactCross says again = refl
+one_said ShowFiles command.ShowFiles command.ShowFiles says again = refl
+one_said Flush command.Flush other says again = absurd again
+one_said (CompactInner space) (command.CompactInner one) other says again = absurd again
+one_said CompactCross command.CompactCross other says again = absurd again
+one_said ShowFiles command.ShowFiles other says again = absurd again
+one_said syntax command other says again = absurd says
+
+-- a statement means one command
+pub one_command : (syntax : Syntax) (command other : Command) → Means syntax command → Means syntax other → command ≡ other
+one_command syntax command other means again = one_said syntax command other means.says again.says
+
+-- what is objected to a statement is of one kind
+pub one_objection : (syntax : Syntax) (kind other : ℕ) → Objects syntax kind → Objects syntax other → kind ≡ other
+one_objection syntax kind other (inl h) (inl k) = one_bad_word (roles syntax) kind other h k
+one_objection syntax kind other (inl h) (inr k) = absurd (no_bad_word (roles syntax) kind k.0 h)
+one_objection syntax kind other (inr h) (inl k) = absurd (no_bad_word (roles syntax) other h.0 k)
+one_objection syntax kind other (inr h) (inr k) = h.2 ∙ sym k.2
+
+-- nothing is objected to a statement that means a command
+pub no_objection : (syntax : Syntax) (command : Command) (kind : ℕ) → Means syntax command → ¬ Objects syntax kind
+no_objection syntax command kind means (inl h) = no_bad_word (roles syntax) kind means.words h
+no_objection syntax command kind means (inr h) = h.1 means.balanced
+
+-- ---- what is said is well-formed
+
+well_formed_create : (path data_type encoding : List ℕ) (schema : Schema) → Means (Create path data_type encoding) (command.Create schema) → IsSchema schema
+well_formed_create path data_type encoding schema means =
+    let good = means.words in
+    let named = good.1.1.0 in
+    let same : named.0 ≡ schema.encoding = one_encoding encoding named.0 schema.encoding named.1 means.says.2 in
+    record {
+      series = subst IsSeries (sym means.says.0) good.0.1;
+      suits = subst (λ e. is_suitable schema.data_type e ≡ true) same (named.2 schema.data_type means.says.1);
+    }
+
+well_formed_row : (device : List ℕ) (names : List (List ℕ)) (time : List ℕ) (values : List Operand) (row : Row) → 0 < length names → ArePaired names values
+    → map (λ cell. cell.measurement) row.cells ≡ names → IsRow row
+well_formed_row device names time values row some paired same =
+    let long : length row.cells ≡ length names = sym (length-map row.cells (λ (cell : Cell). cell.measurement)) ∙ ap length same in
+    record { some = omega arith; few = omega (arith, paired.few); different = subst AreDifferent (sym same) paired.different }
+
+named_none : (word : Option (List ℕ)) (aggregate : Option Aggregate) → IsNamed word aggregate → word ≡ None → aggregate ≡ None
+named_none None None is none = refl
+named_none None (Some aggregate) is none = absurd is
+named_none (Some word) aggregate is none = absurd cc
+
+named_some : (word : Option (List ℕ)) (aggregate : Option Aggregate) → IsNamed word aggregate → IsSome word → IsSome aggregate
+named_some None aggregate is some = absurd (true≢false (sym some))
+named_some (Some word) None is some = absurd is
+named_some (Some word) (Some aggregate) is some = refl
+
+no_aggregates : (columns : List Column) (items : List Item) → AllZip IsItem columns items → All (λ column. column.aggregate ≡ None) columns → All (λ item. item.aggregate ≡ None) items
+no_aggregates [] [] each none = All-nil (λ item. item.aggregate ≡ None)
+no_aggregates [] (i ∷ items) each none = absurd each
+no_aggregates (c ∷ columns) [] each none = absurd each
+no_aggregates (c ∷ columns) (i ∷ items) each none =
+    All-cons (λ item. item.aggregate ≡ None) i items (named_none c.aggregate i.aggregate each.0.1 (All-head (λ column. column.aggregate ≡ None) c columns none))
+    (no_aggregates columns items each.1 (All-tail (λ column. column.aggregate ≡ None) c columns none))
+
+aggregates : (columns : List Column) (items : List Item) → AllZip IsItem columns items → All (λ column. IsSome column.aggregate) columns → All (λ item. IsSome item.aggregate) items
+aggregates [] [] each some = All-nil (λ item. IsSome item.aggregate)
+aggregates [] (i ∷ items) each some = absurd each
+aggregates (c ∷ columns) [] each some = absurd each
+aggregates (c ∷ columns) (i ∷ items) each some =
+    All-cons (λ item. IsSome item.aggregate) i items (named_some c.aggregate i.aggregate each.0.1 (All-head (λ column. IsSome column.aggregate) c columns some))
+    (aggregates columns items each.1 (All-tail (λ column. IsSome column.aggregate) c columns some))
+
+well_formed_items : (columns : List Column) (items : List Item) → 0 < length columns → AreAlike columns → AllZip IsItem columns items → AreItems items
+well_formed_items columns items some alike each =
+    let long : length items ≡ length columns = AllZip-long IsItem columns items each in
+    record {
+      some = omega arith;
+      few = omega (arith, alike.few);
+      alike = elim alike.alike [ inl none ↦ inl (no_aggregates columns items each none) | inr all ↦ inr (aggregates columns items each all) ];
+    }
+
+-- what a statement with its parts means is well-formed
+pub well_formed : (syntax : Syntax) (command : Command) → HasParts syntax → Means syntax command → IsWellFormed command
+well_formed (Create path data_type encoding) (command.Create schema) parts means = well_formed_create path data_type encoding schema means
+well_formed (Insert device names time values) (command.Insert path row) parts means =
+    (subst IsDevice (sym means.says.0) means.words.0.1, well_formed_row device names time values row parts.0 means.balanced means.says.2)
+well_formed (Delete path conditions) (command.Delete series range) parts means = subst IsSeries (sym means.says.0) means.words.0.1
+well_formed (Select columns device conditions) (command.Select path items range) parts means = (
+  subst IsDevice (sym means.says.0)
+      (AllByRecursion-split IsGood (column_roles columns) (DeviceOf (measurements_of columns) device ∷ condition_roles conditions) means.words).1.0.1,
+  well_formed_items columns items parts means.balanced means.says.1,
+)
+well_formed Flush command.Flush parts means = tt
+well_formed (CompactInner space) (command.CompactInner one) parts means = tt
+well_formed CompactCross command.CompactCross parts means = tt
+well_formed ShowFiles command.ShowFiles parts means = tt
+well_formed syntax command parts means = absurd means.says
+
+-- what is returned is
+pub well_formed_result : (syntax : Syntax) (result : Result Command LineFault) → HasParts syntax → IfOk result (Means syntax) → IfOk result IsWellFormed
+well_formed_result syntax (Ok command) parts means = well_formed syntax command parts means
+well_formed_result syntax (Err fault) parts means = tt

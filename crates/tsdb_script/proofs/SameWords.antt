@@ -1,0 +1,124 @@
+-- A word names one type, encoding or aggregate at most, and writes one value at most.
+use Rattle.std.proofs.Common.{◌≡◌, ◌⊎◌, ℕ, ℤ, ◌+◌, true, false, List, [], ◌∷◌, Option, None, Some, inl, inr, refl, sym, ap, ◌∙◌, true≢false, arith}
+use Rattle.std.specs.Prelude.{codes}
+use Rattle.std.specs.Char.{to_ascii_lowercase}
+use Rattle.std.specs.Str.{str_to_ascii_lowercase}
+use Rattle.std.proofs.lemmas.Bool.Decides.{nat_tests}
+use Rattle.std.proofs.lemmas.Slice.Eq.{bytes_eq-Decides}
+use Rattle.tsdb_base.specs.declared.answers.Aggregate.{Aggregate}
+use Rattle.tsdb_base.specs.declared.answers.Aggregate.TheVariants as aggregate
+use Rattle.tsdb_base.specs.declared.value.DataType.{DataType}
+use Rattle.tsdb_base.specs.declared.value.DataType.TheVariants as type
+use Rattle.tsdb_base.specs.declared.value.Encoding.{Encoding}
+use Rattle.tsdb_base.specs.declared.value.Encoding.TheVariants as encoding
+use Rattle.tsdb_map.specs.declared.command.Literal.{Literal}
+use Rattle.tsdb_map.specs.declared.command.Literal.TheVariants as literal
+use Rattle.tsdb_script.specs.declared.syntax.Operand.{Operand}
+use Rattle.tsdb_script.specs.declared.syntax.Operand.TheVariants as operand
+use Rattle.tsdb_script.specs.Meaning.{IsInteger, IsLiteral, IsNamed, Names, aggregate_name, encoding_name, type_name}
+use Rattle.tsdb_script.specs.Tokens.{is_keyword}
+
+lower_names : (word name : List ℕ) → Names word name → str_to_ascii_lowercase word ≡ str_to_ascii_lowercase name
+lower_names word name names = (bytes_eq-Decides (str_to_ascii_lowercase word) (str_to_ascii_lowercase name)).0 names
+
+-- two names of one word are one name in any case
+pub same_name : (word one other : List ℕ) → Names word one → Names word other → is_keyword one other ≡ true
+same_name word one other names again =
+    (bytes_eq-Decides (str_to_ascii_lowercase one) (str_to_ascii_lowercase other)).1 (sym (lower_names word one names) ∙ lower_names word other again)
+
+-- the names of two types differ
+types_differ : (one other : DataType) → is_keyword (type_name one) (type_name other) ≡ true → one ≡ other
+types_differ type.Boolean type.Boolean same = refl
+types_differ type.Int32 type.Int32 same = refl
+types_differ type.Int64 type.Int64 same = refl
+types_differ type.Text type.Text same = refl
+types_differ one other same = absurd (true≢false (sym same))
+
+-- the names of two encodings differ
+encodings_differ : (one other : Encoding) → is_keyword (encoding_name one) (encoding_name other) ≡ true → one ≡ other
+encodings_differ encoding.Plain encoding.Plain same = refl
+encodings_differ encoding.Dictionary encoding.Dictionary same = refl
+encodings_differ encoding.Rle encoding.Rle same = refl
+encodings_differ encoding.Ts2diff encoding.Ts2diff same = refl
+encodings_differ one other same = absurd (true≢false (sym same))
+
+-- the names of two aggregates differ
+aggregates_differ : (one other : Aggregate) → is_keyword (aggregate_name one) (aggregate_name other) ≡ true → one ≡ other
+aggregates_differ aggregate.Count aggregate.Count same = refl
+aggregates_differ aggregate.FirstValue aggregate.FirstValue same = refl
+aggregates_differ aggregate.LastValue aggregate.LastValue same = refl
+aggregates_differ aggregate.MinValue aggregate.MinValue same = refl
+aggregates_differ aggregate.MaxValue aggregate.MaxValue same = refl
+aggregates_differ aggregate.MinTime aggregate.MinTime same = refl
+aggregates_differ aggregate.MaxTime aggregate.MaxTime same = refl
+aggregates_differ one other same = absurd (true≢false (sym same))
+
+pub one_type : (word : List ℕ) (one other : DataType) → Names word (type_name one) → Names word (type_name other) → one ≡ other
+one_type word one other names again = types_differ one other (same_name word (type_name one) (type_name other) names again)
+
+pub one_encoding : (word : List ℕ) (one other : Encoding) → Names word (encoding_name one) → Names word (encoding_name other) → one ≡ other
+one_encoding word one other names again = encodings_differ one other (same_name word (encoding_name one) (encoding_name other) names again)
+
+one_aggregate : (word : List ℕ) (one other : Aggregate) → Names word (aggregate_name one) → Names word (aggregate_name other) → one ≡ other
+one_aggregate word one other names again = aggregates_differ one other (same_name word (aggregate_name one) (aggregate_name other) names again)
+
+-- an aggregate or none
+pub one_named : (word : Option (List ℕ)) (one other : Option Aggregate) → IsNamed word one → IsNamed word other → one ≡ other
+one_named None None None is again = refl
+one_named (Some word) (Some one) (Some other) is again = ap Some (one_aggregate word one other is again)
+one_named None None (Some other) is again = absurd again
+one_named None (Some one) other is again = absurd is
+one_named (Some word) (Some one) None is again = absurd again
+one_named (Some word) None other is again = absurd is
+
+pub one_integer : (word : List ℕ) (one other : ℤ) → IsInteger word one → IsInteger word other → one ≡ other
+one_integer word one other is again = is.value ∙ sym again.value
+
+-- a letter by its lower case
+letter : (b c : ℕ) → to_ascii_lowercase b ≡ c → (b ≡ c) ⊎ (b + 32 ≡ c)
+letter b c e = grind (arith, nat_tests)
+
+-- what begins with a T or an F is no integer
+no_integer_t : (b : ℕ) (word : List ℕ) (number : ℤ) → to_ascii_lowercase b ≡ 116 → ¬ IsInteger (b ∷ word) number
+no_integer_t b word number e is =
+    elim (letter b 116 e) [
+      | inl small ↦ (let digits = rw small at is.digits in omega (arith, digits.1.0))
+      | inr upper ↦ (let big : b ≡ 84 = omega arith in let digits = rw big at is.digits in omega (arith, digits.1.0))
+    ]
+
+no_integer_f : (b : ℕ) (word : List ℕ) (number : ℤ) → to_ascii_lowercase b ≡ 102 → ¬ IsInteger (b ∷ word) number
+no_integer_f b word number e is =
+    elim (letter b 102 e) [
+      | inl small ↦ (let digits = rw small at is.digits in omega (arith, digits.1.0))
+      | inr upper ↦ (let big : b ≡ 70 = omega arith in let digits = rw big at is.digits in omega (arith, digits.1.0))
+    ]
+
+no_true : (word : List ℕ) (number : ℤ) → Names word (codes "true") → ¬ IsInteger word number
+no_true [] number names is = omega (arith, is.digits.0)
+no_true (b ∷ word) number names is =
+    let lower = lower_names (b ∷ word) (codes "true") names in
+    let first : to_ascii_lowercase b ≡ 116 = cc in
+    no_integer_t b word number first is
+
+no_false : (word : List ℕ) (number : ℤ) → Names word (codes "false") → ¬ IsInteger word number
+no_false [] number names is = omega (arith, is.digits.0)
+no_false (b ∷ word) number names is =
+    let lower = lower_names (b ∷ word) (codes "false") names in
+    let first : to_ascii_lowercase b ≡ 102 = cc in
+    no_integer_f b word number first is
+
+pub one_literal : (operand : Operand) (one other : Literal) → IsLiteral operand one → IsLiteral operand other → one ≡ other
+one_literal (operand.Text content) (literal.Text one) (literal.Text other) is again = ap literal.Text (is ∙ sym again)
+one_literal (operand.Word word) (literal.Bool true) (literal.Bool true) is again = refl
+one_literal (operand.Word word) (literal.Bool false) (literal.Bool false) is again = refl
+one_literal (operand.Word word) (literal.Int one) (literal.Int other) is again = ap literal.Int (one_integer word one other is again)
+one_literal (operand.Word word) (literal.Bool true) (literal.Bool false) is again = absurd (true≢false (sym (same_name word (codes "true") (codes "false") is again)))
+one_literal (operand.Word word) (literal.Bool false) (literal.Bool true) is again = absurd (true≢false (sym (same_name word (codes "false") (codes "true") is again)))
+one_literal (operand.Word word) (literal.Bool true) (literal.Int number) is again = absurd (no_true word number is again)
+one_literal (operand.Word word) (literal.Bool false) (literal.Int number) is again = absurd (no_false word number is again)
+one_literal (operand.Word word) (literal.Int number) (literal.Bool true) is again = absurd (no_true word number again is)
+one_literal (operand.Word word) (literal.Int number) (literal.Bool false) is again = absurd (no_false word number again is)
+one_literal (operand.Text content) (literal.Text one) other is again = absurd again
+one_literal (operand.Text content) one other is again = absurd is
+one_literal (operand.Word word) one (literal.Text text) is again = absurd again
+one_literal (operand.Word word) (literal.Text text) other is again = absurd is

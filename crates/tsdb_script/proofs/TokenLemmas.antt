@@ -1,0 +1,143 @@
+-- A line has one reading.
+use Rattle.std.proofs.Common.{◌≡◌, ℕ, ◌<◌, true, false, cond, ◌||◌, inl, inr, List, [], ◌∷◌, ◌++◌, length, Option, None, Some, refl, sym, ap, ◌∙◌, subst, arith}
+use Rattle.std.specs.Prelude.{◌⊎◌, All, IsTrue}
+use Rattle.std.proofs.lemmas.Bool.{eqb-true, false≢true, or_cases, or_parts, cases_Bool}
+use Rattle.std.proofs.lemmas.List.Elements.{All-head}
+use Rattle.tsdb_script.specs.declared.token.Token.{Token}
+use Rattle.tsdb_script.specs.declared.token.Token.TheVariants.{Word, Text, Open, Close, Comma, Semicolon, Equal, Less, LessEqual, Greater, GreaterEqual}
+use Rattle.tsdb_script.specs.Steps.{token_at, mark_at, text_at, word_parts}
+use Rattle.tsdb_script.specs.Tokens.{is_blank, is_word_byte, is_quote, is_mark, starts, BeginsWith, AreTokensAnd, AreTokens, AreTextAnd, IsStray, IsBadText, HasNoTokens}
+use Rattle.tsdb_script.proofs.LexLemmas.{blanks_unique, token_again, token_found, word_no_quote}
+
+-- a blank begins no token
+token_solid : (bytes : List ℕ) (r : Token × List ℕ) → token_at bytes ≡ Some r → starts is_blank bytes ≡ false
+token_solid [] r e = refl
+token_solid (b ∷ bytes) r e = elim (cases_Bool (is_blank b)) [
+  | inl blank ↦ elim (or_cases _ _ blank) [
+    | inl h ↦ (let none : token_at (b ∷ bytes) ≡ None = ap (λ b. token_at (b ∷ bytes)) (eqb-true b 32 h) in cc)
+    | inr h ↦ (let none : token_at (b ∷ bytes) ≡ None = ap (λ b. token_at (b ∷ bytes)) (eqb-true b 9 h) in cc)
+  ]
+  | inr solid ↦ solid
+]
+
+-- no blank and no token begins here
+record IsFinal (bytes : List ℕ) : Type 0 where
+  solid : starts is_blank bytes ≡ false
+  none : token_at bytes ≡ None
+
+final_end : IsFinal []
+final_end = record { solid = refl; none = refl }
+
+final_stray : (bytes : List ℕ) → IsStray bytes → IsFinal bytes
+final_stray bytes h = subst IsFinal (sym h.begins) (record { solid = h.solid; none = none h.first h.more h.no_token })
+  where
+    none : (b : ℕ) (more : List ℕ) → (is_word_byte b || (is_quote b || is_mark b)) ≡ false → token_at (b ∷ more) ≡ None
+    none b more neither =
+        let one = or_parts (is_word_byte b) (is_quote b || is_mark b) neither in
+        let two = or_parts (is_quote b) (is_mark b) one.1 in
+        let word : Option (Token × List ℕ) = Some (Word (word_parts (b ∷ more)).0, (word_parts (b ∷ more)).1) in
+        ap (λ t. cond t (Some (mark_at b more)) (cond (is_quote b) (text_at b more) (cond (is_word_byte b) word None))) two.1
+        ∙ ap (λ t. cond t (text_at b more) (cond (is_word_byte b) word None)) two.0
+        ∙ ap (λ t. cond t word None) one.0
+
+quote_solid : (bytes : List ℕ) → starts is_quote bytes ≡ true → starts is_blank bytes ≡ false
+quote_solid [] h = refl
+quote_solid (b ∷ bytes) h = elim (or_cases _ _ h) [
+  | inl h ↦ ap is_blank (eqb-true b 39 h)
+  | inr h ↦ ap is_blank (eqb-true b 34 h)
+]
+
+-- no token but a text begins with a quote
+quoted_token : (token : Token) (bytes rest : List ℕ) → starts is_quote bytes ≡ true → ((content rest : List ℕ) → ¬ AreTextAnd content bytes rest) → BeginsWith token bytes rest → ⊥
+quoted_token (Word word) bytes rest quote no_text h = by_word word h.some h.letters (ap (starts is_quote) (sym h.whole) ∙ quote)
+  where
+    by_word : (word : List ℕ) → 0 < length word → All (λ b. IsTrue (is_word_byte b)) word → starts is_quote (word ++ rest) ≡ true → ⊥
+    by_word [] some letters quote = absurd (omega (arith, some))
+    by_word (b ∷ word) some letters quote = false≢true (sym (word_no_quote b (All-head (λ b. IsTrue (is_word_byte b)) b word letters)) ∙ quote)
+quoted_token (Text content) bytes rest quote no_text h = no_text content rest h
+quoted_token Open bytes rest quote no_text h = false≢true (ap (starts is_quote) (sym h) ∙ quote)
+quoted_token Close bytes rest quote no_text h = false≢true (ap (starts is_quote) (sym h) ∙ quote)
+quoted_token Comma bytes rest quote no_text h = false≢true (ap (starts is_quote) (sym h) ∙ quote)
+quoted_token Semicolon bytes rest quote no_text h = false≢true (ap (starts is_quote) (sym h) ∙ quote)
+quoted_token Equal bytes rest quote no_text h = false≢true (ap (starts is_quote) (sym h) ∙ quote)
+quoted_token Less bytes rest quote no_text h = false≢true (ap (starts is_quote) (sym h.0) ∙ quote)
+quoted_token LessEqual bytes rest quote no_text h = false≢true (ap (starts is_quote) (sym h) ∙ quote)
+quoted_token Greater bytes rest quote no_text h = false≢true (ap (starts is_quote) (sym h.0) ∙ quote)
+quoted_token GreaterEqual bytes rest quote no_text h = false≢true (ap (starts is_quote) (sym h) ∙ quote)
+
+final_bad : (bytes : List ℕ) → IsBadText bytes → IsFinal bytes
+final_bad bytes h = record { solid = quote_solid bytes h.begins; none = by_found (token_at bytes) refl }
+  where
+    by_found : (o : Option (Token × List ℕ)) → token_at bytes ≡ o → token_at bytes ≡ None
+    by_found None e = e
+    by_found (Some r) e = absurd (quoted_token r.0 bytes r.1 h.begins h.no_text (token_found bytes r e))
+
+final_stuck : (rest : List ℕ) (kind : ℕ) → (IsStray rest × (kind ≡ 3)) ⊎ (IsBadText rest × (kind ≡ 6)) → IsFinal rest
+final_stuck rest kind (inl h) = final_stray rest h.0
+final_stuck rest kind (inr h) = final_bad rest h.0
+
+some_is : {A : Type 0} (x y : A) → Some x ≡ Some y → x ≡ y
+some_is x y e = cc
+
+-- up to where no token begins the tokens are the only ones
+only_one : (one other : List Token) (line rest rest' : List ℕ) → IsFinal rest → IsFinal rest' → AreTokensAnd one line rest → AreTokensAnd other line rest' → (one ≡ other) × (rest ≡ rest')
+only_one [] [] line rest rest' f f' h k = (refl, blanks_unique line rest h f.solid ∙ sym (blanks_unique line rest' k f'.solid))
+only_one [] (u ∷ us) line rest rest' f f' h k =
+    let found : token_at k.0 ≡ Some (u, k.1) = token_again u k.0 k.1 k.3 in
+    let same : rest ≡ k.0 = blanks_unique line rest h f.solid ∙ sym (blanks_unique line k.0 k.2 (token_solid k.0 (u, k.1) found)) in
+    let none : token_at k.0 ≡ None = ap token_at (sym same) ∙ f.none in
+    absurd (clash (u, k.1) (sym none ∙ found))
+  where
+    clash : (r : Token × List ℕ) → None ≡ Some r → ⊥
+    clash r e = cc
+only_one (t ∷ ts) [] line rest rest' f f' h k =
+    let found : token_at h.0 ≡ Some (t, h.1) = token_again t h.0 h.1 h.3 in
+    let same : rest' ≡ h.0 = blanks_unique line rest' k f'.solid ∙ sym (blanks_unique line h.0 h.2 (token_solid h.0 (t, h.1) found)) in
+    let none : token_at h.0 ≡ None = ap token_at (sym same) ∙ f'.none in
+    absurd (clash (t, h.1) (sym none ∙ found))
+  where
+    clash : (r : Token × List ℕ) → None ≡ Some r → ⊥
+    clash r e = cc
+only_one (t ∷ ts) (u ∷ us) line rest rest' f f' h k =
+    let found : token_at h.0 ≡ Some (t, h.1) = token_again t h.0 h.1 h.3 in
+    let found' : token_at k.0 ≡ Some (u, k.1) = token_again u k.0 k.1 k.3 in
+    let same : h.0 ≡ k.0 = blanks_unique line h.0 h.2 (token_solid h.0 (t, h.1) found) ∙ sym (blanks_unique line k.0 k.2 (token_solid k.0 (u, k.1) found')) in
+    let both : ◌≡◌ {A = Token × List ℕ} (t, h.1) (u, k.1) = some_is (t, h.1) (u, k.1) (sym found ∙ ap token_at same ∙ found') in
+    let token : t ≡ u = ap (λ (r : Token × List ℕ). r.0) both in
+    let more : h.1 ≡ k.1 = ap (λ (r : Token × List ℕ). r.1) both in
+    let rec = only_one ts us k.1 rest rest' f f' (subst (λ l. AreTokensAnd ts l rest) more h.4) k.4 in
+    (ap (λ t. t ∷ ts) token ∙ ap (λ l. u ∷ l) rec.0, rec.1)
+
+pub same_tokens : (line : List ℕ) (one other : List Token) → AreTokens line one → AreTokens line other → one ≡ other
+same_tokens line one other h k = (only_one one other line [] [] final_end final_end h k).0
+
+stray_quote : (bytes : List ℕ) → IsStray bytes → IsBadText bytes → ⊥
+stray_quote bytes h k =
+    let one = or_parts (is_word_byte h.first) (is_quote h.first || is_mark h.first) h.no_token in
+    let two = or_parts (is_quote h.first) (is_mark h.first) one.1 in
+    false≢true (sym two.0 ∙ ap (starts is_quote) (sym h.begins) ∙ k.begins)
+
+pub same_kind : (line : List ℕ) (one other : ℕ) → HasNoTokens line one → HasNoTokens line other → one ≡ other
+same_kind line one other h k =
+    by_cases h.stuck (subst (λ r. (IsStray r × (other ≡ 3)) ⊎ (IsBadText r × (other ≡ 6))) (sym same) k.stuck)
+  where
+    same : h.rest ≡ k.rest
+    same = (only_one h.tokens k.tokens line h.rest k.rest (final_stuck h.rest one h.stuck) (final_stuck k.rest other k.stuck) h.front k.front).1
+
+    by_cases : (IsStray h.rest × (one ≡ 3)) ⊎ (IsBadText h.rest × (one ≡ 6)) → (IsStray h.rest × (other ≡ 3)) ⊎ (IsBadText h.rest × (other ≡ 6)) → one ≡ other
+    by_cases (inl a) (inl b) = a.1 ∙ sym b.1
+    by_cases (inl a) (inr b) = absurd (stray_quote h.rest a.0 b.0)
+    by_cases (inr a) (inl b) = absurd (stray_quote h.rest b.0 a.0)
+    by_cases (inr a) (inr b) = a.1 ∙ sym b.1
+
+pub not_both : (line : List ℕ) (tokens : List Token) (kind : ℕ) → AreTokens line tokens → ¬ HasNoTokens line kind
+not_both line tokens kind h k =
+    let same : [] ≡ k.rest = (only_one tokens k.tokens line [] k.rest final_end (final_stuck k.rest kind k.stuck) h k.front).1 in
+    by_cases (subst (λ r. (IsStray r × (kind ≡ 3)) ⊎ (IsBadText r × (kind ≡ 6))) (sym same) k.stuck)
+  where
+    empty : (b : ℕ) (more : List ℕ) → [] ≡ b ∷ more → ⊥
+    empty b more e = cc
+
+    by_cases : (IsStray [] × (kind ≡ 3)) ⊎ (IsBadText [] × (kind ≡ 6)) → ⊥
+    by_cases (inl a) = empty a.0.first a.0.more a.0.begins
+    by_cases (inr b) = false≢true b.0.begins

@@ -1,0 +1,8 @@
+use Rattle.tsdb_script.specs.declared.syntax.Syntax.TheVariants.{Select}
+use Rattle.tsdb_script.proofs.MeaningLaws.{well_formed_result}
+use Rattle.tsdb_script.proofs.meaning.command_of.Goals as goal
+
+pub returns-in-Select-clause-good : goal.returns-in-Select-clause-good
+returns-in-Select-clause-good c =
+    let parts = rw c.in-Select.is at c.requires in
+    well_formed_result (Select c.in-Select.columns c.in-Select.device c.in-Select.conditions) c.select.result parts c.select.ensures.found

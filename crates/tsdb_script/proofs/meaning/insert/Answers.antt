@@ -1,0 +1,66 @@
+use Rattle.std.proofs.Common.{◌≡◌, true, false, map, true≢false, sym, ◌∙◌, rules}
+use Rattle.std.specs.Prelude.{FitsSigned}
+use Rattle.std.specs.Int.{w64}
+use Rattle.std.proofs.lemmas.Int.{to_z-of_z}
+use Rattle.std.proofs.lemmas.Result.{err_from_is_err_and}
+use Rattle.tsdb_script.specs.declared.syntax.Syntax.TheVariants.{Insert}
+use Rattle.tsdb_script.specs.Meaning.{DevicePath, HasBadWord, IsBad, Measurement, Number, Objects, Scalar}
+use Rattle.tsdb_script.proofs.Objections.{insert_device, insert_names, insert_time, insert_values, insert_means, insert_whole}
+use Rattle.tsdb_script.proofs.WordLists.{faults}
+use Rattle.tsdb_script.proofs.meaning.insert.Goals as goal
+
+pub returns-in_err-device-clause-bad : goal.returns-in_err-device-clause-bad
+returns-in_err-device-clause-bad c =
+    let a = c.args in
+    let p = err_from_is_err_and c.from_residual.result c.from_residual.ensures.1 in
+    faults (IsBad (DevicePath a.device.now)) (Objects (Insert a.device.now a.names.now a.time.now a.values.now)) c.from_residual.result c.in_err-device.field-0.0 p.0 p.1 p.2
+    c.in_err-device.ensures.bad (insert_device a.device.now a.names.now a.time.now a.values.now)
+
+pub returns-in_err-names-clause-bad : goal.returns-in_err-names-clause-bad
+returns-in_err-names-clause-bad c =
+    let a = c.args in
+    let p = err_from_is_err_and c.from_residual-in_err-names.result c.from_residual-in_err-names.ensures.1 in
+    let bad = rw (c.items.ensures, c.in_ok-device.ensures.found.0) at c.in_err-names.ensures.bad in
+    faults (HasBadWord (map (Measurement a.device.now) a.names.now)) (Objects (Insert a.device.now a.names.now a.time.now a.values.now)) c.from_residual-in_err-names.result
+    c.in_err-names.field-0.0 p.0 p.1 p.2 bad (λ kind bad. insert_names a.device.now a.names.now a.time.now a.values.now kind c.in_ok-device.ensures.found.1 bad)
+
+pub returns-in_err-time-clause-bad : goal.returns-in_err-time-clause-bad
+returns-in_err-time-clause-bad c =
+    let a = c.args in
+    let p = err_from_is_err_and c.from_residual-in_err-time.result c.from_residual-in_err-time.ensures.1 in
+    let named = rw (c.items.ensures, c.in_ok-device.ensures.found.0) at c.in_ok-names.ensures.found.1 in
+    faults (IsBad (Number a.time.now)) (Objects (Insert a.device.now a.names.now a.time.now a.values.now)) c.from_residual-in_err-time.result c.in_err-time.field-0.0 p.0 p.1 p.2
+    c.in_err-time.ensures.bad (λ kind bad. insert_time a.device.now a.names.now a.time.now a.values.now kind c.in_ok-device.ensures.found.1 named bad)
+
+pub returns-in_err-literals-clause-bad : goal.returns-in_err-literals-clause-bad
+returns-in_err-literals-clause-bad c =
+    let a = c.args in
+    let p = err_from_is_err_and c.from_residual-in_err-literals.result c.from_residual-in_err-literals.ensures.1 in
+    let named = rw (c.items.ensures, c.in_ok-device.ensures.found.0) at c.in_ok-names.ensures.found.1 in
+    let bad = rw c.items-2.ensures at c.in_err-literals.ensures.bad in
+    faults (HasBadWord (map Scalar a.values.now)) (Objects (Insert a.device.now a.names.now a.time.now a.values.now)) c.from_residual-in_err-literals.result
+    c.in_err-literals.field-0.0 p.0 p.1 p.2 bad
+    (λ kind bad. insert_values a.device.now a.names.now a.time.now a.values.now kind c.in_ok-device.ensures.found.1 named (c.in_ok-time.time, c.in_ok-time.ensures.found) bad)
+
+pub returns-then-not-branch-clause-bad : goal.returns-then-not-branch-clause-bad
+returns-then-not-branch-clause-bad c =
+    let a = c.args in
+    let named = rw (c.items.ensures, c.in_ok-device.ensures.found.0) at c.in_ok-names.ensures.found.1 in
+    let said = rw c.items-2.ensures at c.in_ok-literals.ensures.found in
+    let paired = rw (c.as_slice.ensures.value, c.as_slice-2.ensures.value, c.in_ok-names.ensures.found.0, c.items.ensures) at c.in_ok-are_paired.ensures in
+    insert_whole a.device.now a.names.now a.time.now a.values.now c.in_ok-literals.literals.items c.in_ok-device.ensures.found.1 named (c.in_ok-time.time, c.in_ok-time.ensures.found) said
+    (λ is. (let unpaired : c.in_ok-are_paired.field-0 ≡ false = search rules in true≢false (sym (paired.1 is) ∙ unpaired)))
+
+pub returns-clause-found : goal.returns-clause-found
+returns-clause-found c =
+    let a = c.args in
+    let named = rw (c.items.ensures, c.in_ok-device.ensures.found.0) at c.in_ok-names.ensures.found.1 in
+    let said = rw c.items-2.ensures at c.in_ok-literals.ensures.found in
+    let paired = rw (c.as_slice.ensures.value, c.as_slice-2.ensures.value, c.in_ok-names.ensures.found.0, c.items.ensures) at c.in_ok-are_paired.ensures in
+    let is : c.in_ok-are_paired.field-0 ≡ true = search rules in
+    let fits : FitsSigned w64 c.in_ok-time.time = c.in_ok-time.ensures.found.fits in
+    let said = rw c.items-2.ensures at c.in_ok-literals.ensures.found in
+    let measured = rw (← c.of-cells.ensures, c.in_ok-names.ensures.found.0, c.items.ensures) at c.in_ok-cells.ensures.names in
+    let valued = rw (← c.of-cells.ensures) at c.in_ok-cells.ensures.literals in
+    simp to_z-of_z (insert_means a.device.now a.names.now a.time.now a.values.now c.in_ok-device.device c.in_ok-time.time c.in_ok-literals.literals.items c.of-cells.result
+    c.in_ok-device.ensures.found.0 c.in_ok-device.ensures.found.1 named c.in_ok-time.ensures.found said (paired.0 is) measured valued)

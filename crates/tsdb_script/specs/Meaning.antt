@@ -1,0 +1,257 @@
+-- What the words of a statement must be, and what the statement then says.
+use Rattle.std.specs.Prelude.{◌≡◌, ◌↔◌, ◌⊎◌, ℕ, ℤ, pos, negsuc, ◌≤◌, ◌≤ℤ◌, ◌<ℤ◌, FitsSigned, true, false, All, List, [], ◌∷◌, ◌++◌, Option, None, Some, length, map, codes}
+use Rattle.std.specs.Int.{w64}
+use Rattle.std.specs.List.{AllByRecursion, AllZip, flat_map}
+use Rattle.std.specs.Option.{IsSome}
+use Rattle.std.specs.Str.Parse.{IsNumeral, without_leading_sign, signed_digits_value}
+use Rattle.tsdb_base.specs.declared.answers.Aggregate.{Aggregate}
+use Rattle.tsdb_base.specs.declared.answers.Aggregate.TheVariants as aggregate
+use Rattle.tsdb_base.specs.declared.point.Range.{Range}
+use Rattle.tsdb_base.specs.declared.value.DataType.{DataType}
+use Rattle.tsdb_base.specs.declared.value.DataType.TheVariants as type
+use Rattle.tsdb_base.specs.declared.value.Encoding.{Encoding}
+use Rattle.tsdb_base.specs.declared.value.Encoding.TheVariants as encoding
+use Rattle.tsdb_base.specs.Values.{is_suitable}
+use Rattle.tsdb_map.specs.declared.command.Command.{Command}
+use Rattle.tsdb_map.specs.declared.command.Command.TheVariants as command
+use Rattle.tsdb_map.specs.declared.command.Item.{Item}
+use Rattle.tsdb_map.specs.declared.command.Literal.{Literal}
+use Rattle.tsdb_map.specs.declared.command.Literal.TheVariants as literal
+use Rattle.tsdb_map.specs.Commands.{AreDifferent, IsDevice, IsSeries}
+use Rattle.tsdb_map.specs.Limits.{max_names}
+use Rattle.tsdb_map.specs.World.{is_in}
+use Rattle.tsdb_path.specs.Nodes.{IsName, IsPath, child_of}
+use Rattle.tsdb_script.specs.declared.syntax.Column.{Column}
+use Rattle.tsdb_script.specs.declared.syntax.Comparison.{Comparison}
+use Rattle.tsdb_script.specs.declared.syntax.Comparison.TheVariants.{Less, LessEqual, Greater, GreaterEqual, Equal}
+use Rattle.tsdb_script.specs.declared.syntax.Condition.{Condition}
+use Rattle.tsdb_script.specs.declared.syntax.Operand.{Operand}
+use Rattle.tsdb_script.specs.declared.syntax.Operand.TheVariants as operand
+use Rattle.tsdb_script.specs.declared.syntax.Syntax.{Syntax}
+use Rattle.tsdb_script.specs.declared.syntax.Syntax.TheVariants.{Create, Insert, Delete, Select, Flush, CompactInner, CompactCross, ShowFiles}
+use Rattle.tsdb_script.specs.Tokens.{is_keyword}
+
+-- ---- words
+
+-- an integer of 64 bits: a sign or none, and one or more digits
+pub record IsInteger (word : List ℕ) (number : ℤ) : Type 0 where
+  pub digits : IsNumeral 10 (without_leading_sign word)
+  pub value : number ≡ signed_digits_value 10 word
+  pub fits : FitsSigned w64 number
+
+-- a word is this name, in any ASCII case
+abbrev pub Names : List ℕ → List ℕ → Type 0
+Names word name = is_keyword word name ≡ true
+
+-- the name of a type
+abbrev pub type_name : DataType → List ℕ
+type_name type.Boolean = codes "boolean"
+type_name type.Int32 = codes "int32"
+type_name type.Int64 = codes "int64"
+type_name type.Text = codes "text"
+
+-- the name of an encoding
+abbrev pub encoding_name : Encoding → List ℕ
+encoding_name encoding.Plain = codes "plain"
+encoding_name encoding.Dictionary = codes "dictionary"
+encoding_name encoding.Rle = codes "rle"
+encoding_name encoding.Ts2diff = codes "ts_2diff"
+
+-- the name of an aggregate
+abbrev pub aggregate_name : Aggregate → List ℕ
+aggregate_name aggregate.Count = codes "count"
+aggregate_name aggregate.FirstValue = codes "first_value"
+aggregate_name aggregate.LastValue = codes "last_value"
+aggregate_name aggregate.MinValue = codes "min_value"
+aggregate_name aggregate.MaxValue = codes "max_value"
+aggregate_name aggregate.MinTime = codes "min_time"
+aggregate_name aggregate.MaxTime = codes "max_time"
+
+-- a value: a text, `true` or `false` in any ASCII case, or an integer
+abbrev pub IsLiteral : Operand → Literal → Type 0
+IsLiteral (operand.Text content) (literal.Text text) = text ≡ content
+IsLiteral (operand.Word word) (literal.Bool true) = Names word (codes "true")
+IsLiteral (operand.Word word) (literal.Bool false) = Names word (codes "false")
+IsLiteral (operand.Word word) (literal.Int number) = IsInteger word number
+IsLiteral operand literal = ⊥
+
+-- ---- what each word must be (the objections of kinds 4, 5 and 8)
+
+-- a word in its place in a statement
+pub data Role : Type 0 where
+  -- the path of a series
+  SeriesPath : List ℕ → Role
+  -- the path of a device
+  DevicePath : List ℕ → Role
+  -- a measurement of this device
+  Measurement : List ℕ → List ℕ → Role
+  -- a measurement, whose device stands behind it
+  Node : List ℕ → Role
+  -- the path of the device of these measurements
+  DeviceOf : List (List ℕ) → List ℕ → Role
+  -- an integer
+  Number : List ℕ → Role
+  -- a value
+  Scalar : Operand → Role
+  -- the name of a type
+  TypeName : List ℕ → Role
+  -- the name of an encoding for the type of this name
+  EncodingName : List ℕ → List ℕ → Role
+  -- the name of an aggregate
+  AggregateName : List ℕ → Role
+
+-- the word is what its place asks for
+abbrev pub IsGood : Role → Type 0
+IsGood (SeriesPath word) = IsPath word × IsSeries word
+IsGood (DevicePath word) = IsPath word × IsDevice word
+IsGood (Measurement device word) = IsName word × IsPath (child_of device word)
+IsGood (Node word) = IsName word
+IsGood (DeviceOf names word) = IsPath word × IsDevice word × AllByRecursion (λ name. IsPath (child_of word name)) names
+IsGood (Number word) = (number : ℤ) × IsInteger word number
+IsGood (Scalar operand) = (literal : Literal) × IsLiteral operand literal
+IsGood (TypeName word) = (data_type : DataType) × Names word (type_name data_type)
+IsGood (EncodingName type word) = (encoding : Encoding) × Names word (encoding_name encoding)
+    × ((data_type : DataType) → Names type (type_name data_type) → is_suitable data_type encoding ≡ true)
+IsGood (AggregateName word) = (aggregate : Aggregate) × Names word (aggregate_name aggregate)
+
+-- the kind of the fault where it isn't
+abbrev pub kind_of : Role → ℕ
+kind_of (SeriesPath word) = 4
+kind_of (DevicePath word) = 4
+kind_of (Measurement device word) = 4
+kind_of (Node word) = 4
+kind_of (DeviceOf names word) = 4
+kind_of (Number word) = 5
+kind_of (Scalar operand) = 5
+kind_of (TypeName word) = 8
+kind_of (EncodingName type word) = 8
+kind_of (AggregateName word) = 8
+
+-- the word is not what its place asks for, which is a fault of this kind
+abbrev pub IsBad : Role → ℕ → Type 0
+IsBad role kind = (¬ IsGood role) × (kind ≡ kind_of role)
+
+abbrev pub condition_roles : List Condition → List Role
+condition_roles conditions = map (λ condition. Number condition.number) conditions
+
+abbrev pub aggregate_role : Option (List ℕ) → List Role
+aggregate_role None = []
+aggregate_role (Some word) = AggregateName word ∷ []
+
+abbrev pub column_role : Column → List Role
+column_role column = aggregate_role column.aggregate ++ Node column.measurement ∷ []
+
+abbrev pub column_roles : List Column → List Role
+column_roles columns = flat_map column_role columns
+
+-- the measurements that columns ask for
+abbrev pub measurements_of : List Column → List (List ℕ)
+measurements_of columns = map (λ column. column.measurement) columns
+
+-- the words of a statement, from the left
+abbrev pub roles : Syntax → List Role
+roles (Create path data_type encoding) = SeriesPath path ∷ TypeName data_type ∷ EncodingName data_type encoding ∷ []
+roles (Insert device names time values) = DevicePath device ∷ (map (Measurement device) names ++ Number time ∷ map Scalar values)
+roles (Delete path conditions) = SeriesPath path ∷ condition_roles conditions
+roles (Select columns device conditions) =
+    column_roles columns ++ DeviceOf (measurements_of columns) device ∷ condition_roles conditions
+roles Flush = []
+roles (CompactInner space) = []
+roles CompactCross = []
+roles ShowFiles = []
+
+-- the first word that is not what its place asks for decides the kind
+pub record HasBadWord (words : List Role) (kind : ℕ) : Type 0 where
+  pub before : List Role
+  pub word : Role
+  pub behind : List Role
+  pub stands : words ≡ before ++ word ∷ behind
+  pub good : AllByRecursion IsGood before
+  pub bad : ¬ IsGood word
+  pub decides : kind ≡ kind_of word
+
+-- ---- the whole statement (the objections of kind 7)
+
+-- at most 1,000 names, all different, each with a value
+pub record ArePaired {A : Type 0} (names : List (List ℕ)) (values : List A) : Type 0 where
+  pub few : length names ≤ max_names
+  pub each : length names ≡ length values
+  pub different : AreDifferent names
+
+-- at most 1,000 items, all with or all without an aggregate
+pub record AreAlike (columns : List Column) : Type 0 where
+  pub few : length columns ≤ max_names
+  pub alike : All (λ column. column.aggregate ≡ None) columns ⊎ All (λ column. IsSome column.aggregate) columns
+
+abbrev pub IsBalanced : Syntax → Type 0
+IsBalanced (Insert device names time values) = ArePaired names values
+IsBalanced (Select columns device conditions) = AreAlike columns
+IsBalanced syntax = Unit {0}
+
+-- ---- what a statement says
+
+-- a time is so to a number
+abbrev pub Compares : Comparison → ℤ → ℤ → Type 0
+Compares Less time number = time <ℤ number
+Compares LessEqual time number = time ≤ℤ number
+Compares Greater time number = number <ℤ time
+Compares GreaterEqual time number = number ≤ℤ time
+Compares Equal time number = time ≡ number
+
+-- a time meets a condition: it compares so to the number that the condition writes
+abbrev pub Meets : ℤ → Condition → Type 0
+Meets time condition = Compares condition.comparison time (signed_digits_value 10 condition.number)
+
+-- the least and the greatest time
+abbrev pub least_time : ℤ
+least_time = negsuc 9223372036854775807
+
+abbrev pub greatest_time : ℤ
+greatest_time = pos 9223372036854775807
+
+-- a range of times of 64 bits. No time is the range from the greatest to the least
+pub record HasRangeForm (range : Range) : Type 0 where
+  pub from : FitsSigned w64 range.from
+  pub to : FitsSigned w64 range.to
+  pub form : (range.from ≤ℤ range.to) ⊎ ((range.from ≡ greatest_time) × (range.to ≡ least_time))
+
+-- the range has exactly the times that meet all conditions
+pub record IsRangeOf (conditions : List Condition) (range : Range) : Type 0 where
+  pub times : (time : ℤ) → FitsSigned w64 time → (is_in range time ≡ true) ↔ AllByRecursion (Meets time) conditions
+  pub form : HasRangeForm range
+
+-- the word names the aggregate, where there is one
+abbrev pub IsNamed : Option (List ℕ) → Option Aggregate → Type 0
+IsNamed None None = Unit {0}
+IsNamed (Some word) (Some aggregate) = Names word (aggregate_name aggregate)
+IsNamed word aggregate = ⊥
+
+abbrev pub IsItem : Column → Item → Type 0
+IsItem column item = (item.measurement ≡ column.measurement) × IsNamed column.aggregate item.aggregate
+
+-- a statement says a command
+abbrev pub Says : Syntax → Command → Type 0
+Says (Create path data_type encoding) (command.Create schema) =
+    (schema.path ≡ path) × Names data_type (type_name schema.data_type) × Names encoding (encoding_name schema.encoding)
+Says (Insert device names time values) (command.Insert its_device row) =
+    (its_device ≡ device) × IsInteger time row.time
+    × (map (λ cell. cell.measurement) row.cells ≡ names) × AllZip IsLiteral values (map (λ cell. cell.value) row.cells)
+Says (Delete path conditions) (command.Delete series range) = (series ≡ path) × IsRangeOf conditions range
+Says (Select columns device conditions) (command.Select its_device items range) =
+    (its_device ≡ device) × AllZip IsItem columns items × IsRangeOf conditions range
+Says Flush command.Flush = Unit {0}
+Says (CompactInner space) (command.CompactInner its_space) = its_space ≡ space
+Says CompactCross command.CompactCross = Unit {0}
+Says ShowFiles command.ShowFiles = Unit {0}
+Says syntax command = ⊥
+
+-- nothing is objected to the statement, and it says this command
+pub record Means (syntax : Syntax) (command : Command) : Type 0 where
+  pub words : AllByRecursion IsGood (roles syntax)
+  pub balanced : IsBalanced syntax
+  pub says : Says syntax command
+
+-- what is objected to the statement: its first bad word, or else the whole
+abbrev pub Objects : Syntax → ℕ → Type 0
+Objects syntax kind = HasBadWord (roles syntax) kind
+    ⊎ (AllByRecursion IsGood (roles syntax) × (¬ IsBalanced syntax) × (kind ≡ 7))

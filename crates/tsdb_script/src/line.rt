@@ -1,0 +1,158 @@
+//! Reads a line as a command of a session: the passes over it, in their order. Depends on `lines`, `lexer`, `parser`,
+//! `meaning`, `numbered` and `fault`.
+ghost use Rattle.std.specs.Prelude.{◌≡◌, ◌↔◌, ◌≤◌, ℕ, length, false, IsTrue, IfOk, IfErr, IfSome, IfNone};
+ghost use Rattle.tsdb_map.specs.Commands.{IsWellFormed};
+ghost use Rattle.tsdb_script.specs.Limits.{max_commands, max_line_bytes, max_script_bytes};
+ghost use Rattle.tsdb_script.specs.Reading.{content_of, is_skipped, sessions_of, BeginsStatement, IsBad, IsCommand, IsNotBuilt, IsSession, IsSkipped};
+ghost use Rattle.tsdb_script.specs.LineSteps.{line_at, AreDifferentOf, HasNoSession, HasRoom, HasSession};
+ghost use Rattle.tsdb_script.specs.Steps.{FaultsWith};
+
+use crate::fault::LineFault;
+use crate::lexer::tokens;
+use crate::lines::{begins_with, content, is_skipped};
+use crate::meaning::command_of;
+use crate::numbered::Numbered;
+use crate::parser::{Tokens, statement};
+use crate::syntax::Syntax;
+use crate::token::{Token, Word};
+use std::alloc::Global;
+use std::str;
+
+/// The most bytes of a script.
+pub const MAX_SCRIPT_BYTES: usize = 67_108_864;
+
+/// The most bytes of a line, with its end.
+const MAX_LINE_BYTES: usize = 1_048_576;
+
+/// The most commands of a script.
+const MAX_COMMANDS: usize = 1_000_000;
+
+/// The most different sessions of a script.
+const MAX_SESSIONS: usize = 8;
+
+/// A limit is passed.
+const PAST_LIMIT: LineFault = LineFault::Bad { kind: 9 };
+
+/// The line does not begin with a session.
+const NO_SESSION: LineFault = LineFault::Bad { kind: 1 };
+
+/// No statement begins with what stands behind the session.
+const NO_STATEMENT: LineFault = LineFault::Bad { kind: 2 };
+
+/// The form is not built yet.
+const NOT_BUILT: LineFault = LineFault::Bad { kind: 0 };
+
+/// The command of a line, where it is not skipped. The line ends so many bytes behind the beginning of the script.
+/// The commands before it are `script`, and their sessions, each once, are `sessions`.
+pub fn read_line(
+    alloc: Global,
+    line: &[u8],
+    end: usize,
+    script: &[Numbered],
+    sessions: &[u16],
+) -> Result<Option<Numbered>, LineFault>
+    requires { AreDifferentOf sessions.now (sessions_of script.now) }
+    ensures command { IfOk result (λ said. IfSome said (IsCommand (line_at line.now script.now end))) }
+    ensures skipped { IfOk result (λ said. IfNone said (IsSkipped (line_at line.now script.now end))) }
+    ensures bad { IfErr result (FaultsWith (IsBad (line_at line.now script.now end))) }
+{
+    if end > MAX_SCRIPT_BYTES {
+        return Err(PAST_LIMIT);
+    }
+    if is_skipped(line) {
+        return Ok(None);
+    }
+    if line.len() > MAX_LINE_BYTES {
+        return Err(PAST_LIMIT);
+    }
+    let numbered = read_command(alloc, line, end, script, sessions)?;
+    Ok(Some(numbered))
+}
+
+/// The command of a line that is not skipped, and within its limits.
+fn read_command(
+    alloc: Global,
+    line: &[u8],
+    end: usize,
+    script: &[Numbered],
+    sessions: &[u16],
+) -> Result<Numbered, LineFault>
+    requires says { is_skipped line.now ≡ false }
+    requires line_bytes { length line.now ≤ max_line_bytes }
+    requires script_bytes { end ≤ max_script_bytes }
+    requires sessions { AreDifferentOf sessions.now (sessions_of script.now) }
+    ensures command { IfOk result (IsCommand (line_at line.now script.now end)) }
+    ensures bad { IfErr result (FaultsWith (IsBad (line_at line.now script.now end))) }
+{
+    let mut tokens = tokens(alloc, content(line))?;
+    let session = session(&mut tokens)?;
+    if !has_room(script, sessions, session) {
+        return Err(PAST_LIMIT);
+    }
+    if !begins_statement(&tokens) {
+        return Err(NO_STATEMENT);
+    }
+    let syntax = statement(alloc, &mut tokens)?;
+    if is_not_built(&syntax) {
+        return Err(NOT_BUILT);
+    }
+    let command = command_of(alloc, &syntax)?;
+    Ok(Numbered { session, command })
+}
+
+/// Takes the session that the tokens begin with.
+fn session(tokens: &mut Tokens) -> Result<u16, LineFault>
+    ensures found { IfOk result (HasSession tokens.old.items tokens.new.items) }
+    ensures bad { IfErr result (FaultsWith (HasNoSession tokens.old.items)) }
+{
+    match tokens.pop_front() {
+        Some(Token::Word(word)) => session_of(&word).ok_or(NO_SESSION),
+        _ => Err(NO_SESSION),
+    }
+}
+
+/// The session that a word names.
+fn session_of(word: &Word) -> Option<u16>
+    ensures found { IfSome result (IsSession word.now) }
+    ensures none { IfNone result ((session : ℕ) → ¬ IsSession word.now session) }
+{
+    let bytes = word.bytes();
+    if bytes.len() > 3 || begins_with(bytes, b'0') || begins_with(bytes, b'+') {
+        return None;
+    }
+    str::from_utf8(bytes).ok()?.parse().ok()
+}
+
+/// Whether a script of these commands may go on with one of this session.
+fn has_room(script: &[Numbered], sessions: &[u16], session: u16) -> bool
+    requires { AreDifferentOf sessions.now (sessions_of script.now) }
+    ensures { IsTrue result ↔ HasRoom (sessions_of script.now) session }
+{
+    script.len() < MAX_COMMANDS && (sessions.len() < MAX_SESSIONS || sessions.contains(&session))
+}
+
+/// Whether the tokens begin with a word that begins a statement.
+fn begins_statement(tokens: &Tokens) -> bool
+    ensures { IsTrue result ↔ BeginsStatement tokens.now.items }
+{
+    let Some(Token::Word(word)) = tokens.front() else {
+        return false;
+    };
+    word.is(b"create")
+        || word.is(b"insert")
+        || word.is(b"delete")
+        || word.is(b"select")
+        || word.is(b"flush")
+        || word.is(b"compact")
+        || word.is(b"show")
+}
+
+/// Whether a statement has a form that is not built yet.
+fn is_not_built(syntax: &Syntax) -> bool
+    ensures { IsTrue result ↔ IsNotBuilt syntax.now }
+{
+    matches!(
+        syntax,
+        Syntax::Flush | Syntax::CompactInner { .. } | Syntax::CompactCross | Syntax::ShowFiles
+    )
+}

@@ -1,0 +1,302 @@
+//! What a statement means: its words from the left, and then the whole. Depends on `words`, `conditions`, `syntax` and
+//! `fault`.
+ghost use Rattle.std.specs.Prelude.{◌≡◌, ◌≤◌, ◌↔◌, ◌∷◌, [], All, None, IsTrue, IfOk, IfErr, map, length};
+ghost use Rattle.std.specs.List.{AllByRecursion, AllZip};
+ghost use Rattle.std.specs.Option.{IsSome};
+ghost use Rattle.tsdb_map.specs.Commands.{AreDifferent, IsWellFormed};
+ghost use Rattle.tsdb_path.specs.Nodes.{IsPath, child_of};
+ghost use Rattle.tsdb_script.specs.Forms.{HasParts};
+ghost use Rattle.tsdb_script.specs.Meaning.{HasBadWord, AreAlike, IsBad, ArePaired, IsGood, IsItem, IsLiteral, IsNamed, Means, Objects, aggregate_role, column_role, column_roles, measurements_of};
+ghost use Rattle.tsdb_script.specs.Meaning.{DeviceOf, Measurement, Scalar};
+ghost use Rattle.tsdb_script.specs.Steps.{FaultsWith};
+
+use crate::conditions::range_of;
+use crate::fault::LineFault;
+use crate::syntax::{Column, Condition, Operand, Syntax};
+use crate::token::Word;
+use crate::words::{
+    NO_PATH, aggregate, data_type, device_path, encoding, literal, node, number, room_of,
+    series_path,
+};
+use std::alloc::Global;
+use std::collections::BTreeSet;
+use tsdb_base::{Aggregate, List, Memory};
+use tsdb_map::{Cell, Command, Item, Literal, Row, Schema};
+use tsdb_path::{Name, Path};
+
+/// The statement as a whole is bad.
+const UNBALANCED: LineFault = LineFault::Bad { kind: 7 };
+
+/// The most cells of a row, and the most items of a select.
+const MAX_NAMES: usize = 1000;
+
+/// The names of the measurements of a device.
+fn measurements(alloc: Global, device: &Path, words: &[Word]) -> Result<Vec<Name>, LineFault>
+    ensures found { IfOk result (λ names.
+        (names.items ≡ words.now) × AllByRecursion IsGood (map (Measurement device.now) words.now)) }
+    ensures bad { IfErr result (FaultsWith (HasBadWord (map (Measurement device.now) words.now))) }
+{
+    let room = room_of(device);
+    let mut names = Vec::with_capacity(alloc, words.len())?;
+    for word in words {
+        let name = node(alloc, word)?;
+        if name.bytes().len() > room {
+            return Err(NO_PATH);
+        }
+        names.push(name)?;
+    }
+    Ok(names)
+}
+
+/// The values of an insert.
+fn literals(alloc: Global, operands: &[Operand]) -> Result<Vec<Literal>, LineFault>
+    ensures found { IfOk result (λ literals. AllZip IsLiteral operands.now literals.items) }
+    ensures bad { IfErr result (FaultsWith (HasBadWord (map Scalar operands.now))) }
+{
+    let mut literals = Vec::with_capacity(alloc, operands.len())?;
+    for operand in operands {
+        literals.push(literal(alloc, operand)?)?;
+    }
+    Ok(literals)
+}
+
+/// The aggregate that a column asks for, if it does.
+fn aggregate_of(word: &Option<Word>) -> Result<Option<Aggregate>, LineFault>
+    ensures found { IfOk result (IsNamed word.now) }
+    ensures good { IfOk result (λ _. AllByRecursion IsGood (aggregate_role word.now)) }
+    ensures bad { IfErr result (FaultsWith (HasBadWord (aggregate_role word.now))) }
+{
+    match word {
+        Some(word) => Ok(Some(aggregate(word)?)),
+        None => Ok(None),
+    }
+}
+
+/// The item that a column asks for.
+fn item(alloc: Global, column: &Column) -> Result<Item, LineFault>
+    ensures found { IfOk result (IsItem column.now) }
+    ensures good { IfOk result (λ _. AllByRecursion IsGood (column_role column.now)) }
+    ensures bad { IfErr result (FaultsWith (HasBadWord (column_role column.now))) }
+{
+    let aggregate = aggregate_of(&column.aggregate)?;
+    let measurement = node(alloc, &column.measurement)?;
+    Ok(Item {
+        measurement,
+        aggregate,
+    })
+}
+
+/// The items of a select.
+fn items(alloc: Global, columns: &[Column]) -> Result<Vec<Item>, LineFault>
+    ensures found { IfOk result (λ items. AllZip IsItem columns.now items.items) }
+    ensures good { IfOk result (λ _. AllByRecursion IsGood (column_roles columns.now)) }
+    ensures bad { IfErr result (FaultsWith (HasBadWord (column_roles columns.now))) }
+{
+    let mut items = Vec::with_capacity(alloc, columns.len())?;
+    for column in columns {
+        items.push(item(alloc, column)?)?;
+    }
+    Ok(items)
+}
+
+/// Whether no name stands at two places.
+fn are_different(alloc: Global, names: &[Name]) -> Result<bool, Memory>
+    ensures { IfOk result (λ yes. IsTrue yes ↔ AreDifferent names.now) }
+{
+    if names.len() < 2 {
+        return Ok(true);
+    }
+    let mut seen = BTreeSet::new(alloc);
+    for name in names {
+        if !seen.insert(name.bytes())? {
+            return Ok(false);
+        }
+    }
+    Ok(true)
+}
+
+/// Whether an insert has at most 1,000 names, all different, each with a value.
+fn are_paired(alloc: Global, names: &[Name], literals: &[Literal]) -> Result<bool, Memory>
+    ensures { IfOk result (λ yes. IsTrue yes ↔ ArePaired names.now literals.now) }
+{
+    if names.len() > MAX_NAMES || names.len() != literals.len() {
+        return Ok(false);
+    }
+    are_different(alloc, names)
+}
+
+/// The cells of these names and values.
+fn cells(
+    alloc: Global,
+    mut names: Vec<Name>,
+    mut literals: Vec<Literal>,
+) -> Result<Vec<Cell>, Memory>
+    requires { length names.items ≡ length literals.items }
+    ensures names { IfOk result (λ cells. map (λ cell. cell.measurement) cells.items ≡ names.items) }
+    ensures literals { IfOk result (λ cells. map (λ cell. cell.value) cells.items ≡ literals.items) }
+{
+    let mut cells = Vec::with_capacity(alloc, names.len())?;
+    while let Some(measurement) = names.pop() {
+        let Some(value) = literals.pop() else {
+            unreachable!()
+        };
+        cells.push(Cell { measurement, value })?;
+    }
+    cells.reverse();
+    Ok(cells)
+}
+
+/// Whether no measurement has more bytes.
+fn are_short(columns: &[Column], room: usize) -> bool
+    ensures { IsTrue result ↔ All (λ column. length column.measurement ≤ room) columns.now }
+{
+    columns
+        .iter()
+        .all(|column| column.measurement.bytes().len() <= room)
+}
+
+/// The path of the device of the columns.
+fn device_of(alloc: Global, columns: &[Column], word: &Word) -> Result<Path, LineFault>
+    requires { AllByRecursion IsGood (column_roles columns.now) }
+    ensures found { IfOk result (λ path. (path ≡ word.now) × IsGood (DeviceOf (measurements_of columns.now) word.now)) }
+    ensures bad { IfErr result (FaultsWith (IsBad (DeviceOf (measurements_of columns.now) word.now))) }
+{
+    let device = device_path(alloc, word)?;
+    if are_short(columns, room_of(&device)) {
+        Ok(device)
+    } else {
+        Err(NO_PATH)
+    }
+}
+
+/// Whether no column asks for an aggregate.
+fn have_no_aggregate(columns: &[Column]) -> bool
+    ensures { IsTrue result ↔ All (λ column. column.aggregate ≡ None) columns.now }
+{
+    columns.iter().all(|column| column.aggregate.is_none())
+}
+
+/// Whether each column asks for an aggregate.
+fn have_aggregates(columns: &[Column]) -> bool
+    ensures { IsTrue result ↔ All (λ column. IsSome column.aggregate) columns.now }
+{
+    columns.iter().all(|column| column.aggregate.is_some())
+}
+
+/// Whether a select has at most 1,000 items, all with or all without an aggregate.
+fn are_alike(columns: &[Column]) -> bool
+    ensures { IsTrue result ↔ AreAlike columns.now }
+{
+    columns.len() <= MAX_NAMES && (have_no_aggregate(columns) || have_aggregates(columns))
+}
+
+/// The command of a create.
+fn create(
+    alloc: Global,
+    path: &Word,
+    type_word: &Word,
+    encoding_word: &Word,
+) -> Result<Command, LineFault>
+    ensures found { IfOk result (Means (Syntax.Create path.now type_word.now encoding_word.now)) }
+    ensures bad { IfErr result (FaultsWith (Objects (Syntax.Create path.now type_word.now encoding_word.now))) }
+{
+    let path = series_path(alloc, path)?;
+    let data_type = data_type(type_word)?;
+    let encoding = encoding(encoding_word, type_word, data_type)?;
+    Ok(Command::Create(Schema {
+        path,
+        data_type,
+        encoding,
+    }))
+}
+
+/// The command of an insert.
+fn insert(
+    alloc: Global,
+    device: &Word,
+    names: &List<Word>,
+    time: &Word,
+    values: &List<Operand>,
+) -> Result<Command, LineFault>
+    ensures found { IfOk result (Means (Syntax.Insert device.now names.now time.now values.now)) }
+    ensures bad { IfErr result (FaultsWith (Objects (Syntax.Insert device.now names.now time.now values.now))) }
+{
+    let device = device_path(alloc, device)?;
+    let names = measurements(alloc, &device, names.items())?;
+    let time = number(time)?;
+    let literals = literals(alloc, values.items())?;
+    if !are_paired(alloc, names.as_slice(), literals.as_slice())? {
+        return Err(UNBALANCED);
+    }
+    let cells = List::of(cells(alloc, names, literals)?);
+    Ok(Command::Insert {
+        device,
+        row: Row { time, cells },
+    })
+}
+
+/// The command of a delete.
+fn delete(alloc: Global, path: &Word, conditions: &List<Condition>) -> Result<Command, LineFault>
+    ensures found { IfOk result (Means (Syntax.Delete path.now conditions.now)) }
+    ensures bad { IfErr result (FaultsWith (Objects (Syntax.Delete path.now conditions.now))) }
+{
+    let series = series_path(alloc, path)?;
+    let range = range_of(conditions.items())?;
+    Ok(Command::Delete { series, range })
+}
+
+/// The command of a select.
+fn select(
+    alloc: Global,
+    columns: &List<Column>,
+    device: &Word,
+    conditions: &List<Condition>,
+) -> Result<Command, LineFault>
+    ensures found { IfOk result (Means (Syntax.Select columns.now device.now conditions.now)) }
+    ensures bad { IfErr result (FaultsWith (Objects (Syntax.Select columns.now device.now conditions.now))) }
+{
+    let items = items(alloc, columns.items())?;
+    let device = device_of(alloc, columns.items(), device)?;
+    let range = range_of(conditions.items())?;
+    if !are_alike(columns.items()) {
+        return Err(UNBALANCED);
+    }
+    let items = List::of(items);
+    Ok(Command::Select {
+        device,
+        items,
+        range,
+    })
+}
+
+/// The command that a statement says.
+pub fn command_of(alloc: Global, syntax: &Syntax) -> Result<Command, LineFault>
+    requires { HasParts syntax.now }
+    ensures found { IfOk result (Means syntax.now) }
+    ensures good { IfOk result IsWellFormed }
+    ensures bad { IfErr result (FaultsWith (Objects syntax.now)) }
+{
+    match syntax {
+        Syntax::Create {
+            path,
+            data_type,
+            encoding,
+        } => create(alloc, path, data_type, encoding),
+        Syntax::Insert {
+            device,
+            names,
+            time,
+            values,
+        } => insert(alloc, device, names, time, values),
+        Syntax::Delete { path, conditions } => delete(alloc, path, conditions),
+        Syntax::Select {
+            columns,
+            device,
+            conditions,
+        } => select(alloc, columns, device, conditions),
+        Syntax::Flush => Ok(Command::Flush),
+        Syntax::CompactInner { space } => Ok(Command::CompactInner(*space)),
+        Syntax::CompactCross => Ok(Command::CompactCross),
+        Syntax::ShowFiles => Ok(Command::ShowFiles),
+    }
+}

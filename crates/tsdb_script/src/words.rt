@@ -1,0 +1,183 @@
+//! What each word of a statement means. Depends on `syntax`, `token` and `fault`.
+ghost use Rattle.std.specs.Prelude.{◌≡◌, ◌≤◌, ◌↔◌, ℤ, ℕ, List, IfOk, IfErr, IfSome, IfNone, length};
+ghost use Rattle.tsdb_path.specs.Nodes.{IsName, IsPath, child_of, node_count};
+ghost use Rattle.tsdb_script.specs.Meaning.{IsBad, IsGood, IsInteger, IsLiteral, Names, aggregate_name, encoding_name, type_name};
+ghost use Rattle.tsdb_script.specs.Meaning.{SeriesPath, DevicePath, Node, Number, Scalar, TypeName, EncodingName, AggregateName};
+ghost use Rattle.tsdb_script.specs.Steps.{FaultsWith};
+
+use crate::fault::LineFault;
+use crate::syntax::Operand;
+use crate::token::Word;
+use std::alloc::Global;
+use tsdb_base::{Aggregate, DataType, Encoding, suits};
+use tsdb_map::Literal;
+use tsdb_path::{Name, Path, PathFault};
+
+/// The most nodes of a path.
+const MAX_NODES: u64 = 16;
+
+/// The most bytes of a path.
+const MAX_PATH_BYTES: usize = 255;
+
+/// A word is no path or no node.
+pub const NO_PATH: LineFault = LineFault::Bad { kind: 4 };
+
+/// A word is no integer.
+const NO_NUMBER: LineFault = LineFault::Bad { kind: 5 };
+
+/// A word is no name of a type, an encoding or an aggregate, or the encoding doesn't suit the type.
+const NO_NAME: LineFault = LineFault::Bad { kind: 8 };
+
+/// The integer that these bytes write, if they write one of 64 bits.
+fn integer_of(bytes: &[u8]) -> Option<i64>
+    ensures found { IfSome result (IsInteger bytes.now) }
+    ensures none { IfNone result ((number : ℤ) → ¬ IsInteger bytes.now number) }
+{
+    str::from_utf8(bytes).ok()?.parse().ok()
+}
+
+/// The path that a word is, of so many nodes at least.
+fn path_of(alloc: Global, word: &Word, least: u64) -> Result<Path, LineFault>
+    ensures found { IfOk result (λ path. (path ≡ word.now) × IsPath word.now × (least ≤ node_count word.now)) }
+    ensures bad { IfErr result (FaultsWith (λ kind.
+        (¬ (IsPath word.now × (least ≤ node_count word.now))) × (kind ≡ 4))) }
+{
+    match Path::read(alloc, word.bytes()) {
+        Ok(path) if least <= path.nodes() => Ok(path),
+        Err(PathFault::Memory) => Err(LineFault::Memory),
+        _ => Err(NO_PATH),
+    }
+}
+
+/// The path of a series.
+pub fn series_path(alloc: Global, word: &Word) -> Result<Path, LineFault>
+    ensures found { IfOk result (λ path. (path ≡ word.now) × IsGood (SeriesPath word.now)) }
+    ensures bad { IfErr result (FaultsWith (IsBad (SeriesPath word.now))) }
+{
+    path_of(alloc, word, 3)
+}
+
+/// The path of a device.
+pub fn device_path(alloc: Global, word: &Word) -> Result<Path, LineFault>
+    ensures found { IfOk result (λ path. (path ≡ word.now) × IsGood (DevicePath word.now)) }
+    ensures bad { IfErr result (FaultsWith (IsBad (DevicePath word.now))) }
+{
+    path_of(alloc, word, 2)
+}
+
+/// The node that a word is.
+pub fn node(alloc: Global, word: &Word) -> Result<Name, LineFault>
+    ensures found { IfOk result (λ name. (name ≡ word.now) × IsGood (Node word.now)) }
+    ensures bad { IfErr result (FaultsWith (IsBad (Node word.now))) }
+{
+    match Name::read(alloc, word.bytes()) {
+        Ok(name) => Ok(name),
+        Err(PathFault::Memory) => Err(LineFault::Memory),
+        Err(_) => Err(NO_PATH),
+    }
+}
+
+/// The most bytes of a measurement of the device.
+pub fn room_of(device: &Path) -> usize
+    ensures { (name : List ℕ) → IsName name → IsPath (child_of device.now name) ↔ (length name ≤ result) }
+{
+    if device.nodes() < MAX_NODES {
+        (MAX_PATH_BYTES - 1).saturating_sub(device.bytes().len())
+    } else {
+        0
+    }
+}
+
+/// The integer that a word is.
+pub fn number(word: &Word) -> Result<i64, LineFault>
+    ensures found { IfOk result (IsInteger word.now) }
+    ensures bad { IfErr result (FaultsWith (IsBad (Number word.now))) }
+{
+    integer_of(word.bytes()).ok_or(NO_NUMBER)
+}
+
+/// The value that an operand writes.
+pub fn literal(alloc: Global, operand: &Operand) -> Result<Literal, LineFault>
+    ensures found { IfOk result (IsLiteral operand.now) }
+    ensures bad { IfErr result (FaultsWith (IsBad (Scalar operand.now))) }
+{
+    match operand {
+        Operand::Text(text) => Ok(Literal::Text(text.content(alloc)?)),
+        Operand::Word(word) if word.is(b"true") => Ok(Literal::Bool(true)),
+        Operand::Word(word) if word.is(b"false") => Ok(Literal::Bool(false)),
+        Operand::Word(word) => Ok(Literal::Int(number(word)?)),
+    }
+}
+
+/// The type that a word names.
+pub fn data_type(word: &Word) -> Result<DataType, LineFault>
+    ensures found { IfOk result (λ found. Names word.now (type_name found)) }
+    ensures bad { IfErr result (FaultsWith (IsBad (TypeName word.now))) }
+{
+    if word.is(b"boolean") {
+        Ok(DataType::Boolean)
+    } else if word.is(b"int32") {
+        Ok(DataType::Int32)
+    } else if word.is(b"int64") {
+        Ok(DataType::Int64)
+    } else if word.is(b"text") {
+        Ok(DataType::Text)
+    } else {
+        Err(NO_NAME)
+    }
+}
+
+/// The encoding that a word names.
+fn encoding_of(word: &Word) -> Option<Encoding>
+    ensures found { IfSome result (λ found. Names word.now (encoding_name found)) }
+    ensures none { IfNone result ((found : Encoding) → ¬ Names word.now (encoding_name found)) }
+{
+    if word.is(b"plain") {
+        Some(Encoding::Plain)
+    } else if word.is(b"dictionary") {
+        Some(Encoding::Dictionary)
+    } else if word.is(b"rle") {
+        Some(Encoding::Rle)
+    } else if word.is(b"ts_2diff") {
+        Some(Encoding::Ts2diff)
+    } else {
+        None
+    }
+}
+
+/// The encoding that a word names, for the type that another word names.
+pub fn encoding(word: &Word, type_word: &Word, data_type: DataType) -> Result<Encoding, LineFault>
+    requires { Names type_word.now (type_name data_type) }
+    ensures found { IfOk result (λ found.
+        Names word.now (encoding_name found) × IsGood (EncodingName type_word.now word.now)) }
+    ensures bad { IfErr result (FaultsWith (IsBad (EncodingName type_word.now word.now))) }
+{
+    match encoding_of(word) {
+        Some(encoding) if suits(data_type, encoding) => Ok(encoding),
+        _ => Err(NO_NAME),
+    }
+}
+
+/// The aggregate that a word names.
+pub fn aggregate(word: &Word) -> Result<Aggregate, LineFault>
+    ensures found { IfOk result (λ found. Names word.now (aggregate_name found)) }
+    ensures bad { IfErr result (FaultsWith (IsBad (AggregateName word.now))) }
+{
+    if word.is(b"count") {
+        Ok(Aggregate::Count)
+    } else if word.is(b"first_value") {
+        Ok(Aggregate::FirstValue)
+    } else if word.is(b"last_value") {
+        Ok(Aggregate::LastValue)
+    } else if word.is(b"min_value") {
+        Ok(Aggregate::MinValue)
+    } else if word.is(b"max_value") {
+        Ok(Aggregate::MaxValue)
+    } else if word.is(b"min_time") {
+        Ok(Aggregate::MinTime)
+    } else if word.is(b"max_time") {
+        Ok(Aggregate::MaxTime)
+    } else {
+        Err(NO_NAME)
+    }
+}
