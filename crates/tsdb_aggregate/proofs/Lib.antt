@@ -4,3 +4,4 @@ pub mod GroupLemmas
 pub mod EntryLemmas
 pub mod SpendLemmas
 pub mod WalkLemmas
+pub mod CheckLemmas

@@ -1,5 +1,7 @@
 -- Private steps: entries in order of time, and the statistics of a list that may be empty.
 use Rattle.std.specs.Prelude.{◌≡◌, ◌⊎◌, ℕ, ◌<◌, ◌≤◌, ◌≤ℤ◌, ◌<ℤ◌, false, List, [], All, Contains, IsTrue, take, drop, filter, Option, Some, None, Ok, ⊤, length, map, sum_by, ◌||◌, if◌then◌else◌}
+use Rattle.std.specs.declared.alloc.Global.{Global}
+use Rattle.std.specs.declared.vec.Vec.{Vec}
 use Rattle.tsdb_base.specs.declared.point.Point.{Point}
 use Rattle.tsdb_base.specs.declared.point.Range.{Range}
 use Rattle.tsdb_base.specs.declared.point.Stats.{Stats}
@@ -7,7 +9,7 @@ use Rattle.tsdb_map.specs.World.{is_in}
 use Rattle.tsdb_merge.specs.Winners.{IsMergeOf}
 use Rattle.tsdb_stats.specs.Statistics.{AreStatsOf}
 use Rattle.tsdb_aggregate.specs.Loads.{Held, LoaderState, Spends, held_at}
-use Rattle.tsdb_aggregate.specs.Pieces.{Part}
+use Rattle.tsdb_aggregate.specs.Pieces.{HasOrder, IsCleanIn, Part}
 use Rattle.tsdb_aggregate.specs.Winners.{AreWinners}
 use Rattle.tsdb_aggregate.specs.declared.entry.Entry.{Entry}
 
@@ -62,3 +64,12 @@ pub record HasWalked (range : Range) (before now : LoaderState) (pages pages_now
   pub found : HasTotal before.held range (take m entries) total
   pub cut : IsCut m entries
   pub spends : Spends {T = ⊤} (sum_by cost_of (parts_of before.held (take m entries))) before now pages pages_now (Ok tt)
+
+-- lists in memory, whose loads cost nothing
+abbrev pub held_of : List (Vec Point Global) → List Held
+held_of lists = map (λ list. record { points = list.items; cost = 0 }) lists
+
+-- a piece is in order, and clean where it says so
+pub record IsSoundIn (range : Range) (part : Part) : Type 0 where
+  pub order : HasOrder part
+  pub clean : IsTrue part.0.clean → IsCleanIn range part

@@ -25,8 +25,10 @@ pub fn entries_in<'a>(
 ) -> Result<Vec<Entry<'a>>, Memory>
     ensures places { IfOk result (λ entries. All (λ entry. entry.place < length pieces.now) entries.items) }
     ensures all { IfOk result (λ entries. (held : List Held) → length held ≡ length pieces.now →
-        IsPermutation (filter (λ part. overlaps range.now (hull part.0)) (zip pieces.now held)) (parts_of held entries.items)) }
-    ensures order { IfOk result (λ entries. AllPairs (λ a b. a.piece.now.stats.start ≤ℤ b.piece.now.stats.start) entries.items) }
+        IsPermutation (filter (λ part. overlaps range.now (hull part.0)) (zip pieces.now held))
+        (parts_of held entries.items)) }
+    ensures order { IfOk result (λ entries.
+        AllPairs (λ a b. a.piece.now.stats.start ≤ℤ b.piece.now.stats.start) entries.items) }
 {
     let mut entries = Vec::new(alloc);
     for place in 0..pieces.len() {

@@ -20,7 +20,8 @@ use tsdb_merge::{ListPoints, Merge, PullFault};
 /// The entries in the order of their sources.
 fn by_source<'a>(alloc: Global, group: &[Entry<'a>]) -> Result<Vec<Entry<'a>>, Memory>
     ensures all { IfOk result (λ entries. IsPermutation group.now entries.items) }
-    ensures order { IfOk result (λ entries. AllPairs (λ a b. a.piece.now.source ≤ b.piece.now.source) entries.items) }
+    ensures order { IfOk result (λ entries.
+        AllPairs (λ a b. a.piece.now.source ≤ b.piece.now.source) entries.items) }
 {
     let mut entries = group.to_vec(alloc)?;
     entries.sort_by_key(|entry| entry.piece.source)?;
@@ -61,7 +62,8 @@ fn next(merge: &mut Merge<ListPoints>) -> Result<Option<Point>, Memory>
 
 /// The points of the merge of the lists that are in the range.
 fn merge_within(alloc: Global, lists: Vec<ListPoints>, range: &Range) -> Result<Vec<Point>, Memory>
-    ensures { IfOk result (λ points. IsMergeWithin (map (λ list. into_iter_items list.left) lists.items) range.now points.items) }
+    ensures { IfOk result (λ points.
+        IsMergeWithin (map (λ list. into_iter_items list.left) lists.items) range.now points.items) }
 {
     let mut merge = Merge::new(alloc, lists)?;
     let mut points = Vec::new(alloc);

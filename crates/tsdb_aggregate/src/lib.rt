@@ -12,6 +12,8 @@ mod group;
 mod loader;
 mod piece;
 mod steps;
+#[cfg(test)]
+mod tests;
 mod total;
 
 pub use fold::{aggregate, winners_are_one};

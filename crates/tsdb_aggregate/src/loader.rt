@@ -25,5 +25,6 @@ pub trait Loader {
         requires { piece < length (state self.old).held }
         ensures points { IfOk result (λ points. points.items ≡ (held_at (state self.old).held piece).points) }
         ensures cost { (state self.new).loads ≡ (state self.old).loads + (held_at (state self.old).held piece).cost }
-        ensures spends { Spends (held_at (state self.old).held piece).cost (state self.old) (state self.new) pages.old pages.new result };
+        ensures spends { Spends (held_at (state self.old).held piece).cost
+            (state self.old) (state self.new) pages.old pages.new result };
 }

@@ -60,7 +60,8 @@ pub fn join_totals(before: Option<Stats>, behind: Option<Stats>) -> Result<Optio
 
 /// The aggregate of points from their statistics. A count of 2^63 or more is out of memory.
 pub fn read_aggregate(name: Aggregate, total: Option<Stats>) -> Result<Option<Value>, Memory>
-    ensures { IfOk result (λ answer. (points : List Point) → AreTotal points total → answer ≡ aggregate_of name points) }
+    ensures { IfOk result (λ answer. (points : List Point) →
+        AreTotal points total → answer ≡ aggregate_of name points) }
 {
     let Some(stats) = total else {
         return Ok(match name {

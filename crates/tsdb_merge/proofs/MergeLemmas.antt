@@ -234,14 +234,6 @@ winner_cases p (first ∷ later) high (inl w) = ⊎_elim (λ a. inl a) (λ b. in
 winner_cases p (first ∷ later) high (inr w) =
     inr (inr (w.0, All-left (HasNoneAt p.time) later high w.1), All-right (HasNoneAt p.time) later high w.1)
 
--- the merge of one list
-pub merge_of_one : (points : List Point) → IsRising points → IsMergeOf (points ∷ []) points
-merge_of_one points rising = record {
-  rising = rising;
-  winners = All-from_contains (IsWinner (points ∷ [])) points (λ p h. inr (h, All-nil (HasNoneAt p.time)));
-  complete = λ p w. ⊎_elim (λ never. absurd never) (λ own. own.0) w;
-}
-
 -- the merge of two merges
 pub merge_of_both : (low high : List (List Point)) (xs ys : List Point) → IsMergeOf low xs → IsMergeOf high ys → IsMergeOf (low ++ high) (merge_two xs ys)
 merge_of_both low high xs ys mx my =
@@ -258,10 +250,7 @@ merge_of_both low high xs ys mx my =
           (winner_cases p low high w);
     }
 
--- no list has a merge but one
-pub merge_of_none : IsMergeOf [] []
-merge_of_none = record { rising = AllPairs-nil IsBefore; winners = All-nil (IsWinner []); complete = λ p w. absurd w }
-
+-- lists have one merge
 pub same_points : (xs ys : List Point) → IsRising xs → IsRising ys → ((p : Point) → Contains xs p → Contains ys p) → ((p : Point) → Contains ys p → Contains xs p) → xs ≡ ys
 same_points [] [] rx ry f g = refl
 same_points [] (y ∷ ys) rx ry f g = absurd (Contains-nil y (g y (Contains-head y ys)))

@@ -33,7 +33,8 @@ pub fn read_ahead(head: &mut Head, point: Option<Point>)
 /// Takes the point that was read ahead.
 fn take(head: &mut Head) -> Option<Point>
     requires { head.old ≢ Unread }
-    ensures { MatchOption result ((head.old ≡ End) × (head.new ≡ End)) (λ point. (head.old ≡ Next point) × (head.new ≡ Unread)) }
+    ensures { MatchOption result ((head.old ≡ End) × (head.new ≡ End))
+        (λ point. (head.old ≡ Next point) × (head.new ≡ Unread)) }
 {
     match mem::replace(head, Head::End) {
         Head::Next(point) => {

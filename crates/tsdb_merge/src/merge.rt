@@ -56,7 +56,8 @@ impl<P: Points> Merge<P> {
         ensures next { IfOk result (λ point. Takes self.old.left point self.new.left) }
         ensures working { OnOk result ((self.old.fault ≡ None) × (self.new.fault ≡ None)) }
         ensures failed { IfErr result (λ fault. self.new.fault ≡ Some fault) }
-        ensures again { (fault : PullFault) → self.old.fault ≡ Some fault → (result ≡ Err fault) × (self.new ≡ self.old) }
+        ensures again { (fault : PullFault) → self.old.fault ≡ Some fault →
+            (result ≡ Err fault) × (self.new ≡ self.old) }
         ensures failures { NoneFell self.old.failures self.new.failures }
         ensures damages { NoneFell self.old.damages self.new.damages }
         ensures cause { IfErr result (λ fault. self.old.fault ≡ None →

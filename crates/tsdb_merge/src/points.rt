@@ -82,7 +82,8 @@ pub trait Points: Drop {
     /// what is left.
     fn pull(&mut self) -> Result<Option<Point>, PullFault>
         ensures next { IfOk result (λ point. Takes (left self.old) point (left self.new)) }
-        ensures cause { HasPullCause (failures self.old) (failures self.new) (damages self.old) (damages self.new) result };
+        ensures cause { HasPullCause
+            (failures self.old) (failures self.new) (damages self.old) (damages self.new) result };
 
     /// Times rise from point to point.
     ghost rising: { (points : Self) → IsRising (left points) };
