@@ -4,3 +4,5 @@ pub mod Plain
 pub mod PlainLaws
 pub mod Texts
 pub mod Growth
+pub mod Fields
+pub mod FieldLaws

@@ -4,6 +4,7 @@
 
 mod answers;
 mod fault;
+mod field;
 mod ids;
 mod list;
 mod plain;

@@ -86,3 +86,23 @@ fn values_by_themselves(rt: HostRuntime) -> Result<(), Fail> {
     assert!(rt; matches!(Text::take(alloc, &[0, 2, 7]), Err(DecodeFault::Bad)));
     Ok(())
 }
+
+#[test]
+fn fields_by_themselves(rt: HostRuntime) -> Result<(), Fail> {
+    let alloc = rt.alloc();
+    let mut bytes = Vec::new(alloc);
+    (7u16, (258u32, 1u64)).put(&mut bytes)?;
+    (DataType::Text, Encoding::Ts2diff).put(&mut bytes)?;
+    assert_eq!(rt;
+        bytes.as_slice(),
+        b"\x00\x07\x00\x00\x01\x02\x00\x00\x00\x00\x00\x00\x00\x01\x05\x04".as_slice()
+    );
+    let (numbers, rest) = <(u16, (u32, u64))>::take(alloc, &bytes)?;
+    assert_eq!(rt; numbers, (7, (258, 1)));
+    let (kinds, rest) = <(DataType, Encoding)>::take(alloc, rest)?;
+    assert_eq!(rt; kinds, (DataType::Text, Encoding::Ts2diff));
+    assert!(rt; rest.is_empty());
+    assert!(rt; matches!(u32::take(alloc, &[0, 0, 1]), Err(DecodeFault::Bad)));
+    assert!(rt; matches!(Encoding::take(alloc, &[3]), Err(DecodeFault::Bad)));
+    Ok(())
+}

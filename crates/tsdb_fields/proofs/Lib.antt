@@ -1,0 +1,4 @@
+pub mod Counted
+pub mod Appending
+pub mod Laws
+pub mod Parts
