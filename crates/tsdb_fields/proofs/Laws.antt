@@ -1,12 +1,11 @@
 -- No value's bytes begin those of another value of its type.
-use Rattle.std.proofs.Common.{Some, None, refl, ap}
+use Rattle.std.proofs.Common.{ap}
 use Rattle.tsdb_base.specs.declared.value.DataType.{DataType}
 use Rattle.tsdb_base.specs.declared.value.Value.TheVariants as value
 use Rattle.tsdb_base.specs.Fields.{value_field}
 use Rattle.tsdb_base.specs.PlainLaws.{plain_bool-prefix_free, plain_i32-prefix_free, plain_i64-prefix_free, plain_text-prefix_free}
 use Rattle.tsdb_base.proofs.PlainLists.{IsPrefixFree}
 use Rattle.tsdb_fields.specs.Reading.{IsValueOf}
-use Rattle.tsdb_fields.specs.Statistics.{optional_field, IsExtremeOf}
 
 pub value_field-prefix_free : (data_type : DataType) → IsPrefixFree value_field (IsValueOf data_type)
 value_field-prefix_free t (value.Bool a) (value.Bool b) x y is_a is_b e = let same = plain_bool-prefix_free a b x y tt tt e in (ap value.Bool same.0, same.1)
@@ -25,9 +24,3 @@ value_field-prefix_free t (value.I64 a) (value.Text b) x y is_a is_b e = let u =
 value_field-prefix_free t (value.Text a) (value.Bool b) x y is_a is_b e = let u = is_a.typed in let v = is_b.typed in absurd cc
 value_field-prefix_free t (value.Text a) (value.I32 b) x y is_a is_b e = let u = is_a.typed in let v = is_b.typed in absurd cc
 value_field-prefix_free t (value.Text a) (value.I64 b) x y is_a is_b e = let u = is_a.typed in let v = is_b.typed in absurd cc
-
-pub optional_field-prefix_free : (data_type : DataType) → IsPrefixFree optional_field (IsExtremeOf data_type)
-optional_field-prefix_free t None None x y is_a is_b e = (refl, e)
-optional_field-prefix_free t None (Some b) x y is_a is_b e = let u = is_b.0 in absurd cc
-optional_field-prefix_free t (Some a) None x y is_a is_b e = let u = is_a.0 in absurd cc
-optional_field-prefix_free t (Some a) (Some b) x y is_a is_b e = let same = value_field-prefix_free t a b x y is_a.1 is_b.1 e in (ap (λ v. Some v) same.0, same.1)

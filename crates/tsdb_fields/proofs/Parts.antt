@@ -1,8 +1,7 @@
 -- Where a part of a field is missing, the field is.
-use Rattle.std.proofs.Common.{◌≡◌, ℕ, List, ◌++◌, Err, sym, ap, ◌∙◌, append_assoc}
+use Rattle.std.proofs.Common.{◌≡◌, ℕ, List, ◌++◌, Err, sym, ◌∙◌, append_assoc}
 use Rattle.std.specs.Prelude.{ℤ, ◌<◌, ◌^◌, Option, FitsSigned}
 use Rattle.std.specs.Int.{w64}
-use Rattle.tsdb_base.specs.declared.point.Stats.{Stats}
 use Rattle.tsdb_base.specs.declared.value.DataType.{DataType}
 use Rattle.tsdb_base.specs.declared.value.Value.{Value}
 use Rattle.tsdb_base.specs.Fields.{number64, value_field, pair_field, IsPair}
@@ -15,7 +14,7 @@ use Rattle.tsdb_fields.specs.declared.fault.FieldFault.TheVariants.{Bad, Memory}
 use Rattle.tsdb_fields.specs.declared.rest.Rest.{Rest}
 use Rattle.tsdb_fields.specs.Reading.{IsValueOf, Reads, ReadsParts}
 use Rattle.tsdb_fields.specs.Statistics.{optional_field, stats_field, IsExtremeOf, IsStatsOf}
-use Rattle.tsdb_fields.proofs.Laws.{value_field-prefix_free, optional_field-prefix_free}
+use Rattle.tsdb_fields.proofs.Laws.{value_field-prefix_free}
 
 -- the first of two is missing
 pub no_first : {A B : Type 0} (first : A → List ℕ) (second : B → List ℕ) (IsFirst : A → Type 0) (IsSecond : B → Type 0) (bytes : List ℕ)
@@ -70,9 +69,6 @@ extremes = pair_field optional_field optional_field
 abbrev pub AreExtremes : DataType → Option Value × Option Value → Type 0
 AreExtremes t = IsPair (IsExtremeOf t) (IsExtremeOf t)
 
-pub extremes-prefix_free : (t : DataType) → IsPrefixFree extremes (AreExtremes t)
-extremes-prefix_free t = pair_field-prefix_free optional_field optional_field (IsExtremeOf t) (IsExtremeOf t) (optional_field-prefix_free t) (optional_field-prefix_free t)
-
 -- no such parts, no such statistics
 no_stats : (t : DataType) (bytes : List ℕ) → BeginsWithNone (pair_field times (pair_field ends extremes)) (IsPair AreTimes (IsPair (AreEnds t) (AreExtremes t))) bytes → BeginsWithNone stats_field (IsStatsOf t) bytes
 no_stats t bytes none = λ stats behind is e.
@@ -92,15 +88,3 @@ pub no_extremes : (t : DataType) (a : ℕ × (ℤ × ℤ)) (b : Value × Value) 
 no_extremes t a b bytes middle behind is found is_ends found_ends none = no_stats t bytes
     (no_second times (pair_field ends extremes) AreTimes (IsPair (AreEnds t) (AreExtremes t)) times-prefix_free a bytes middle is found
     (no_second ends extremes (AreEnds t) (AreExtremes t) (ends-prefix_free t) b middle behind is_ends found_ends none))
-
-abbrev made : ℕ × (ℤ × ℤ) → Value × Value → Option Value × Option Value → Stats
-made a b c = record { count = a.0; start = a.1.0; end = a.1.1; first = b.0; last = b.1; least = c.0; greatest = c.1 }
-
-pub stats_field-prefix_free : (t : DataType) → IsPrefixFree stats_field (IsStatsOf t)
-stats_field-prefix_free t a b x y is_a is_b e =
-    let same = pair_field-prefix_free times (pair_field ends extremes) AreTimes (IsPair (AreEnds t) (AreExtremes t)) times-prefix_free
-    (pair_field-prefix_free ends extremes (AreEnds t) (AreExtremes t) (ends-prefix_free t) (extremes-prefix_free t))
-    ((a.count, (a.start, a.end)), ((a.first, a.last), (a.least, a.greatest))) ((b.count, (b.start, b.end)), ((b.first, b.last), (b.least, b.greatest))) x y
-    ((is_a.count, (is_a.start, is_a.end)), ((is_a.first, is_a.last), (is_a.least, is_a.greatest)))
-    ((is_b.count, (is_b.start, is_b.end)), ((is_b.first, is_b.last), (is_b.least, is_b.greatest))) e in
-    (ap (λ parts. made parts.0 parts.1.0 parts.1.1) same.0, same.1)

@@ -1,0 +1,21 @@
+//! The index of a TsFile: what it says of each chunk and each page of the file, and writing its bytes.
+//! Depends on tsdb_fields, tsdb_path and tsdb_base.
+//!
+//! ```text
+//! index   = leaf+ root                    the root behind the last leaf
+//! leaf    = 49 count:2 entry+             256 entries, in the last leaf 1 to 256
+//! entry   = device measurement type encoding place:8 statistics count:4 page*
+//! page    = place:8 statistics
+//! root    = 52 count:4 pointer+           a pointer for each leaf
+//! pointer = device measurement place:8    the names of the leaf's first entry, and the leaf's place
+//! ```
+#![tactic(auto)]
+
+mod index;
+mod writing;
+
+pub use index::{FileMeta, Index, IndexEntry, PageEntry};
+pub use writing::{write_index, write_leaves_and_root};
+
+#[cfg(test)]
+mod tests;
