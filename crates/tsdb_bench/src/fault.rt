@@ -3,6 +3,8 @@
 use std::alloc::{AllocError, AllocFailed};
 use std::io;
 use tsdb_base::{DecodeFault, Memory, TextFault};
+use tsdb_merge::PullFault;
+use tsdb_path::PathFault;
 
 #[derive(Debug, Drop)]
 pub enum Fault {
@@ -45,6 +47,24 @@ impl From<DecodeFault> for Fault {
         match error {
             DecodeFault::Memory => Fault::Memory,
             DecodeFault::Bad => Fault::Unread,
+        }
+    }
+}
+
+impl From<PathFault> for Fault {
+    fn from(error: PathFault) -> Fault {
+        match error {
+            PathFault::Memory => Fault::Memory,
+            _ => Fault::Unread,
+        }
+    }
+}
+
+impl From<PullFault> for Fault {
+    fn from(error: PullFault) -> Fault {
+        match error {
+            PullFault::Memory => Fault::Memory,
+            PullFault::Failed | PullFault::Damaged { .. } => Fault::Unread,
         }
     }
 }

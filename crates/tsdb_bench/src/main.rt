@@ -3,8 +3,12 @@
 //! no word measures all. It depends on the crates that it measures.
 #![tactic(auto)]
 
+mod aggregates;
 mod encodings;
 mod fault;
+mod merges;
+mod pieces;
+mod plans;
 mod table;
 mod turns;
 
@@ -30,6 +34,15 @@ fn measure<R: Threads + Wait + Sync>(
     }
     if is_all || group == "turns" {
         check = check.wrapping_add(turns::turns(rt, handle, rounds)?);
+    }
+    if is_all || group == "merges" {
+        check = check.wrapping_add(merges::merges(rt, rounds)?);
+    }
+    if is_all || group == "aggregates" {
+        check = check.wrapping_add(aggregates::aggregates(rt, rounds)?);
+    }
+    if is_all || group == "plans" {
+        check = check.wrapping_add(plans::plans(rt, rounds)?);
     }
     if check == 0 {
         return Err(Fault::NoGroup);
