@@ -248,9 +248,3 @@ load_cost-le held group n =
 pub load_rising : (held : List Held) (group : List Entry) (n : ℕ) (x : Entry) (points : List Point) → n < length group → All (λ part. IsRising part.1.points) (parts_of held group)
     → points ≡ (held_at held (get_or group n x).place).points → IsRising points
 load_rising held group n x points l rising is = subst (λ ps. IsRising ps) (sym is) (All-of_map (λ (part : Part). IsRising part.1.points) (part_of held) group rising n x l)
-
-pub cost_of-le : (held : List Held) (entries : List Entry) (n : ℕ) → sum_by cost_of (parts_of held (take n entries)) ≤ sum_by cost_of (parts_of held entries)
-cost_of-le held entries n =
-    let split = ap (sum_by cost_of) (parts_split held n entries) in
-    let both = sum_by-append cost_of (parts_of held (take n entries)) (parts_of held (drop n entries)) in
-    omega (arith, split, both)

@@ -75,14 +75,6 @@ winners_append xs ys range ps qs before wp wq =
           (winner_cases xs ys p w);
     }
 
--- of no pieces
-pub winners_none : (range : Range) → AreWinners [] range []
-winners_none range = record {
-  rising = λ i j d l m. absurd (omega arith);
-  only = λ k d l. absurd (omega arith);
-  complete = λ p w r. absurd (Contains-nil w.has.part w.has.among);
-}
-
 -- ---- the same points in the range
 
 -- two lists of pieces have the same points in the range

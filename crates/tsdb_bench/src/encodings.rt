@@ -3,18 +3,13 @@
 ghost use Rattle.std.specs.Prelude.{◌≤◌, length, vec_len, IfOk};
 
 use crate::fault::Fault;
+use crate::numbers::next;
 use crate::table::{Rounds, row};
 use std::time::Instant;
 use tsdb_base::Text;
 
 /// The values of a page.
 const PAGE: u64 = 1000;
-
-/// Numbers that look random: a step of a linear congruence.
-fn next(seed: u64) -> u64 {
-    seed.wrapping_mul(6_364_136_223_846_793_005)
-        .wrapping_add(1_442_695_040_888_963_407)
-}
 
 /// A page of numbers: of any 64 bits, or times about 1,000 apart.
 fn page(rt: &HostRuntime, is_time: bool) -> Result<Vec<i64>, Fault>

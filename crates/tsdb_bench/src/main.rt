@@ -6,7 +6,10 @@
 mod aggregates;
 mod encodings;
 mod fault;
+mod marks;
+mod memtable;
 mod merges;
+mod numbers;
 mod pieces;
 mod plans;
 mod table;
@@ -31,6 +34,12 @@ fn measure<R: Threads + Wait + Sync>(
     let is_all = group.is_empty();
     if is_all || group == "encodings" {
         check = check.wrapping_add(encodings::encodings(rt, rounds)?);
+    }
+    if is_all || group == "memtable" {
+        check = check.wrapping_add(memtable::memtable(rt, rounds)?);
+    }
+    if is_all || group == "marks" {
+        check = check.wrapping_add(marks::marks(rt, rounds)?);
     }
     if is_all || group == "turns" {
         check = check.wrapping_add(turns::turns(rt, handle, rounds)?);

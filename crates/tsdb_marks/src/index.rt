@@ -121,7 +121,8 @@ impl Index {
 
     /// Drops the stretches whose version is at most this one.
     pub(crate) fn keep_newer(&mut self, version: u64)
-        ensures stretches { (path : List ℕ) → at self.new.series path ≡ filter (is_newer version) (at self.old.series path) }
+        ensures stretches { (path : List ℕ)
+            → at self.new.series path ≡ filter (is_newer version) (at self.old.series path) }
         ensures kept { KeepsRoom self.old self.new }
     {
         self.series.retain(|_, stretches| {

@@ -77,8 +77,8 @@ fn moment(time: Time) -> u64
 fn lay(index: &mut Index, mark: &Mark)
     requires { HasRoom index.old 1 }
     ensures times { HasTimes mark.now }
-    ensures exact { (marks : List Mark) → IsIndexOf marks index.old → All (λ kept. kept.version.0 < mark.now.version.0) marks
-        → IsIndexOf (marks ++ mark.now ∷ []) index.new }
+    ensures exact { (marks : List Mark) → IsIndexOf marks index.old
+        → All (λ kept. kept.version.0 < mark.now.version.0) marks → IsIndexOf (marks ++ mark.now ∷ []) index.new }
     ensures room { (n : ℕ) → HasRoom index.old (n + 1) → HasRoom index.new n }
 {
     let (from, to) = (mark.from, mark.to);

@@ -172,7 +172,8 @@ impl Stretches {
 
     /// The top with what is beside it, where there is one.
     fn open(self) -> Option<Opened>
-        ensures { MatchOption result (self ≡ []) (λ opened. IsOpened self opened.left opened.stretch opened.newest opened.right) }
+        ensures { MatchOption result (self ≡ [])
+            (λ opened. IsOpened self opened.left opened.stretch opened.newest opened.right) }
     {
         match self.top {
             Top::Leaf => None,

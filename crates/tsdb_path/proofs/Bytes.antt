@@ -16,14 +16,6 @@ is_node_byte-other b c other node = elim (eqb b c) as (λ t. eqb b c ≡ t → t
 pub IsNode-dotless : (bytes : List ℕ) → IsNode bytes → All (λ b. eqb b dot ≡ false) bytes
 IsNode-dotless bytes node = All-weaker _ _ (λ b fits. is_node_byte-other b dot refl fits) bytes node.letters
 
--- a byte for which the test of a path's bytes fails, as a comma, a space or a parenthesis, stands in no path
-pub is_path_byte-other : (bytes : List ℕ) (c : ℕ) → is_path_byte c ≡ false → All (λ b. IsTrue (is_path_byte b)) bytes → All (λ b. b ≢ c) bytes
-is_path_byte-other bytes c other fit =
-    let P : ℕ → Type 0 = λ b. IsTrue (is_path_byte b) in
-    let Q : ℕ → Type 0 = λ b. b ≢ c in
-    let apart : (b : ℕ) → P b → Q b = λ b fits e. absurd (false≢true (subst (λ t. IsTrue t) (ap is_path_byte e ∙ other) fits)) in
-    All-weaker P Q apart bytes fit
-
 or_left : (s t : Bool) → IsTrue s → IsTrue (s || t)
 or_left true t h = refl
 or_left false t h = cc

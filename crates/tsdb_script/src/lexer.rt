@@ -75,7 +75,8 @@ pub fn behind_blanks(bytes: &[u8]) -> &[u8]
 /// The token that the bytes begin with, and what stands behind it.
 fn first_token<'a>(bytes: &'a [u8]) -> Result<(Token<'a>, &'a [u8]), LineFault>
     ensures found { IfOk result (λ r. token_at bytes.now ≡ Some (r.0, r.1.now)) }
-    ensures bad { IfErr result (λ f. (token_at bytes.now ≡ None) × (f ≡ (if starts is_quote bytes.now then BAD_TEXT else STRAY_BYTE))) }
+    ensures bad { IfErr result (λ f. (token_at bytes.now ≡ None)
+        × (f ≡ (if starts is_quote bytes.now then BAD_TEXT else STRAY_BYTE))) }
 {
     let Some((first, rest)) = bytes.split_first() else {
         return Err(STRAY_BYTE);

@@ -10,8 +10,8 @@ use crate::lines::first_line;
 use crate::numbered::Numbered;
 use std::alloc::Global;
 
-/// The commands of a script, in the order of its lines, all of them well formed. Where a line is bad, the first bad line
-/// and the kind of its fault:
+/// The commands of a script, in the order of its lines, all of them well formed. Where a line is bad, the first bad
+/// line and the kind of its fault:
 ///
 /// - 0: a form that is not built yet
 /// - 1: no session from 1 to 999

@@ -1,0 +1,7 @@
+//! Numbers that look random.
+
+/// The number after `seed`: a step of a linear congruence.
+pub fn next(seed: u64) -> u64 {
+    seed.wrapping_mul(6_364_136_223_846_793_005)
+        .wrapping_add(1_442_695_040_888_963_407)
+}
