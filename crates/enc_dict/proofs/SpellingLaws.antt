@@ -7,9 +7,9 @@ use Rattle.std.proofs.lemmas.Nat.{mul-le}
 use Rattle.std.proofs.lemmas.List.{append-nil, length-map, length-append, nil_from_length}
 use Rattle.std.proofs.lemmas.List.Elements.{All-weaker, All-from_recursion, recursion_from_All}
 use Rattle.tsdb_bits.specs.Leb.{leb}
-use Rattle.tsdb_bits.specs.Packing.{packed, binary_digits}
+use Rattle.tsdb_bits.specs.Packing.{pack_bytes, binary_digits}
 use Rattle.tsdb_bits.proofs.LebLaws.{leb_prefix_free, length-leb}
-use Rattle.tsdb_bits.proofs.PackingLaws.{digits_of_number, digits_least, same_from_packed, length-packed}
+use Rattle.tsdb_bits.proofs.PackingLaws.{digits_of_number, digits_least, same_from_packed, length-pack_bytes}
 use Rattle.tsdb_base.specs.Plain.{plain_text, IsText}
 use Rattle.tsdb_base.specs.PlainLaws.{plain_text-prefix_free}
 use Rattle.tsdb_base.proofs.PlainLists.{same_values}
@@ -96,11 +96,11 @@ uses_are_texts xs h = All-from_recursion IsText (first_uses xs) (uses_by_recursi
 pub same_parts : (texts others : List (List ℕ)) (places other_places : List ℕ) → All IsText texts → All IsText others → length places ≡ length other_places
     → All (λ place. place < 2 ^ place_width (length texts)) places → All (λ place. place < 2 ^ place_width (length others)) other_places → parts texts places ≡ parts others other_places → (texts ≡ others) × (places ≡ other_places)
 same_parts texts others places other_places is_t is_o len fit_t fit_o e =
-    let lengths = leb_prefix_free (length texts) (length others) (flat_map plain_text texts ++ packed (place_width (length texts)) places) (flat_map plain_text others ++ packed (place_width (length others)) other_places) e in
-    let both = same_values plain_text IsText plain_text-prefix_free texts others (packed (place_width (length texts)) places) (packed (place_width (length others)) other_places) lengths.0 is_t is_o lengths.1 in
+    let lengths = leb_prefix_free (length texts) (length others) (flat_map plain_text texts ++ pack_bytes (place_width (length texts)) places) (flat_map plain_text others ++ pack_bytes (place_width (length others)) other_places) e in
+    let both = same_values plain_text IsText plain_text-prefix_free texts others (pack_bytes (place_width (length texts)) places) (pack_bytes (place_width (length others)) other_places) lengths.0 is_t is_o lengths.1 in
     let back : length others ≡ length texts = sym lengths.0 in
     let fit : All (λ place. place < 2 ^ place_width (length texts)) other_places = subst (λ (n : ℕ). All (λ place. place < 2 ^ place_width n) other_places) back fit_o in
-    let packings : packed (place_width (length texts)) places ≡ packed (place_width (length texts)) other_places = both.1 ∙ ap (λ (n : ℕ). packed (place_width n) other_places) back in
+    let packings : pack_bytes (place_width (length texts)) places ≡ pack_bytes (place_width (length texts)) other_places = both.1 ∙ ap (λ (n : ℕ). pack_bytes (place_width n) other_places) back in
     (both.0, same_from_packed (place_width (length texts)) places other_places len fit_t fit packings)
 
 -- the places of a list's values: as many as the values
@@ -141,16 +141,16 @@ no_parts values count bytes rest is some e none =
 
 -- behind texts that were read stands what is packed
 pub packed_behind : (texts read : List (List ℕ)) (places : List ℕ) (different : ℕ) (bytes middle rest : List ℕ) → bytes ≡ leb different ++ middle → middle ≡ flat_map plain_text read ++ rest → length read ≡ different → All IsText read → All IsText texts → bytes ≡ parts texts places
-    → rest ≡ packed (place_width (length texts)) places
+    → rest ≡ pack_bytes (place_width (length texts)) places
 packed_behind texts read places different bytes middle rest e parted len is_r is_t whole =
-    let front = leb_prefix_free different (length texts) middle (flat_map plain_text texts ++ packed (place_width (length texts)) places) (sym e ∙ whole) in
-    (same_values plain_text IsText plain_text-prefix_free read texts rest (packed (place_width (length texts)) places) (len ∙ front.0) is_r is_t (sym parted ∙ front.1)).1
+    let front = leb_prefix_free different (length texts) middle (flat_map plain_text texts ++ pack_bytes (place_width (length texts)) places) (sym e ∙ whole) in
+    (same_values plain_text IsText plain_text-prefix_free read texts rest (pack_bytes (place_width (length texts)) places) (len ∙ front.0) is_r is_t (sym parted ∙ front.1)).1
 
 -- behind the number of texts stand these
 pub texts_behind : (texts : List (List ℕ)) (places : List ℕ) (different : ℕ) (bytes middle : List ℕ) → bytes ≡ leb different ++ middle → bytes ≡ parts texts places
-    → (length texts ≡ different) × (middle ≡ flat_map plain_text texts ++ packed (place_width (length texts)) places)
+    → (length texts ≡ different) × (middle ≡ flat_map plain_text texts ++ pack_bytes (place_width (length texts)) places)
 texts_behind texts places different bytes middle e whole =
-    let front = leb_prefix_free different (length texts) middle (flat_map plain_text texts ++ packed (place_width (length texts)) places) (sym e ∙ whole) in
+    let front = leb_prefix_free different (length texts) middle (flat_map plain_text texts ++ pack_bytes (place_width (length texts)) places) (sym e ∙ whole) in
     (sym front.0, front.1)
 
 by_cases : (xs ys : List (List ℕ)) → All IsText xs → All IsText ys → spelling xs ≡ spelling ys → xs ≡ ys
@@ -208,9 +208,9 @@ length-tail (x ∷ xs) is =
     let head : length (leb (length texts)) ≤ 10 = length-leb 9 (length texts) (omega arith) in
     omega (
       arith,
-      length-append (leb (length texts)) (flat_map plain_text texts ++ packed (place_width (length texts)) places),
-      length-append (flat_map plain_text texts) (packed (place_width (length texts)) places),
-      length-packed (place_width (length texts)) places,
+      length-append (leb (length texts)) (flat_map plain_text texts ++ pack_bytes (place_width (length texts)) places),
+      length-append (flat_map plain_text texts) (pack_bytes (place_width (length texts)) places),
+      length-pack_bytes (place_width (length texts)) places,
       bits,
       body,
       head,

@@ -4,7 +4,7 @@ use Rattle.std.specs.Prelude.{ℕ, ◌-◌, not, List, [], ◌∷◌, ◌++◌, 
 use Rattle.std.specs.List.{flat_map, position_or_len}
 use Rattle.std.specs.Str.{bytes_eq}
 use Rattle.tsdb_bits.specs.Leb.{leb}
-use Rattle.tsdb_bits.specs.Packing.{packed, binary_digits}
+use Rattle.tsdb_bits.specs.Packing.{pack_bytes, binary_digits}
 use Rattle.tsdb_base.specs.Plain.{plain_text}
 
 -- the different texts of a list, in the order of their first use
@@ -22,7 +22,7 @@ place_width count = binary_digits (count - 1)
 
 -- what stands behind the number of values: the texts, and a place among them for each value
 abbrev pub parts : List (List ℕ) → List ℕ → List ℕ
-parts texts places = leb (length texts) ++ (flat_map plain_text texts ++ packed (place_width (length texts)) places)
+parts texts places = leb (length texts) ++ (flat_map plain_text texts ++ pack_bytes (place_width (length texts)) places)
 
 unfoldable pub spelling : List (List ℕ) → List ℕ
 spelling [] = leb 0

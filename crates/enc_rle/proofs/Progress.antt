@@ -10,9 +10,9 @@ use Rattle.std.proofs.lemmas.List.Concat.{flat_map-append}
 use Rattle.std.proofs.lemmas.List.Elements.{All-nil, All-cons, All-head, All-tail, All-append}
 use Rattle.tsdb_bits.specs.Leb.{leb}
 use Rattle.enc_list.specs.Lists.{IsListOf, IsSpelling}
-use Rattle.enc_rle.specs.Spelling.{Run, runs_of, expanded, run_bytes, codes_spelling, spelling, IsJoined}
+use Rattle.enc_rle.specs.Spelling.{Run, runs_of, expand_runs, run_bytes, codes_spelling, spelling, IsJoined}
 use Rattle.enc_rle.specs.Steps.{MayFollow}
-use Rattle.enc_rle.proofs.Runs.{expanded-runs_of, joined-runs_of, runs_of-expanded, joined_count, run_bytes-some, first_run, spelling_parts}
+use Rattle.enc_rle.proofs.Runs.{expand_runs-runs_of, joined-runs_of, runs_of-expand_runs, joined_count, run_bytes-some, first_run, spelling_parts}
 
 -- the last of the runs, where there is one, has this code
 abbrev pub EndsIn : ℕ → List Run → Type 0
@@ -42,23 +42,23 @@ follows (r ∷ next ∷ runs) more run last j e =
     let k = follows (next ∷ runs) more run last j.2 e in
     (k.0, λ _. k.1 tt)
 
-expanded-append : (runs more : List Run) → expanded (runs ++ more) ≡ expanded runs ++ expanded more
-unfolding expanded
-expanded-append [] more = refl
-expanded-append (run ∷ runs) more = ap (λ (t : List ℕ). replicate run.count run.code ++ t) (expanded-append runs more) ∙ sym (append_assoc (replicate run.count run.code) (expanded runs) (expanded more))
+expand_runs-append : (runs more : List Run) → expand_runs (runs ++ more) ≡ expand_runs runs ++ expand_runs more
+unfolding expand_runs
+expand_runs-append [] more = refl
+expand_runs-append (run ∷ runs) more = ap (λ (t : List ℕ). replicate run.count run.code ++ t) (expand_runs-append runs more) ∙ sym (append_assoc (replicate run.count run.code) (expand_runs runs) (expand_runs more))
 
-expanded-one : (run : Run) (more : List Run) → expanded (run ∷ more) ≡ replicate run.count run.code ++ expanded more
-unfolding expanded
-expanded-one run more = refl
+expand_runs-one : (run : Run) (more : List Run) → expand_runs (run ∷ more) ≡ replicate run.count run.code ++ expand_runs more
+unfolding expand_runs
+expand_runs-one run more = refl
 
-expanded-none : expanded [] ≡ []
-unfolding expanded
-expanded-none = refl
+expand_runs-none : expand_runs [] ≡ []
+unfolding expand_runs
+expand_runs-none = refl
 
-some_values : (runs : List Run) → IsJoined runs → NotEmpty runs → 0 < length (expanded runs)
-unfolding expanded
+some_values : (runs : List Run) → IsJoined runs → NotEmpty runs → 0 < length (expand_runs runs)
+unfolding expand_runs
 some_values [] j h = absurd h
-some_values (run ∷ runs) j h = omega (arith, joined_count run runs j, length-append (replicate run.count run.code) (expanded runs), length-replicate run.count run.code)
+some_values (run ∷ runs) j h = omega (arith, joined_count run runs j, length-append (replicate run.count run.code) (expand_runs runs), length-replicate run.count run.code)
 
 map-replicate : {A : Type 0} (code : A → ℕ) (n : ℕ) (value : A) → map code (replicate n value) ≡ replicate n (code value)
 map-replicate code zero value = refl
@@ -73,7 +73,7 @@ pub record Progress {A : Type 0} (code : A → ℕ) (IsValue : A → Type 0) (st
   pub runs : List Run
   pub joined : IsJoined runs
   pub ends : EndsIn last runs
-  pub whole : map code values ≡ expanded runs
+  pub whole : map code values ≡ expand_runs runs
   pub read : start ≡ flat_map run_bytes runs ++ rest
   pub few : length values ≤ count
   pub typed : All IsValue values
@@ -83,7 +83,7 @@ no_progress code IsValue start count values none = record {
   runs = [];
   joined = tt;
   ends = tt;
-  whole = ap (map code) none ∙ sym expanded-none;
+  whole = ap (map code) none ∙ sym expand_runs-none;
   read = refl;
   few = rw none (omega arith);
   typed = rw none (All-nil IsValue);
@@ -93,7 +93,7 @@ pub one_run_more : {A : Type 0} (code : A → ℕ) (IsValue : A → Type 0) (sta
     → (0 < length values → is_first ≡ false) → room ≡ count - length values → rest ≡ run_bytes run ++ behind → MayFollow room is_first last run
     → run.code ≡ code value → IsValue value → now ≡ values ++ replicate run.count value → Progress code IsValue start behind count run.code now
 one_run_more code IsValue start rest behind count last room is_first run values now value p first r e may c is n =
-    let number : length values ≡ length (expanded p.runs) = sym (length-map values code) ∙ ap length p.whole in
+    let number : length values ≡ length (expand_runs p.runs) = sym (length-map values code) ∙ ap length p.whole in
     let differs : NotEmpty p.runs → run.code ≡ last → ⊥ = λ some. may.differs (first (omega (arith, some_values p.runs p.joined some))) in
     record {
       runs = p.runs ++ run ∷ [];
@@ -101,9 +101,9 @@ one_run_more code IsValue start rest behind count last room is_first run values 
       ends = ends_more p.runs run;
       whole = ap (map code) n ∙ map-append code values (replicate run.count value)
           ∙ ap (λ (t : List ℕ). t ++ map code (replicate run.count value)) p.whole
-          ∙ ap (λ (t : List ℕ). expanded p.runs ++ t) (map-replicate code run.count value ∙ ap (replicate run.count) (sym c))
-          ∙ ap (λ (t : List ℕ). expanded p.runs ++ t) (sym (expanded-one run [] ∙ ap (λ (t : List ℕ). replicate run.count run.code ++ t) expanded-none ∙ append-nil (replicate run.count run.code)))
-          ∙ sym (expanded-append p.runs (run ∷ []));
+          ∙ ap (λ (t : List ℕ). expand_runs p.runs ++ t) (map-replicate code run.count value ∙ ap (replicate run.count) (sym c))
+          ∙ ap (λ (t : List ℕ). expand_runs p.runs ++ t) (sym (expand_runs-one run [] ∙ ap (λ (t : List ℕ). replicate run.count run.code ++ t) expand_runs-none ∙ append-nil (replicate run.count run.code)))
+          ∙ sym (expand_runs-append p.runs (run ∷ []));
       read = p.read ∙ ap (λ (t : List ℕ). flat_map run_bytes p.runs ++ t) e ∙ sym (append_assoc (flat_map run_bytes p.runs) (run_bytes run) behind)
           ∙ ap (λ (t : List ℕ). (flat_map run_bytes p.runs ++ t) ++ behind) (sym (append-nil (run_bytes run)))
           ∙ ap (λ (t : List ℕ). t ++ behind) (sym (flat_map-append run_bytes p.runs (run ∷ [])));
@@ -117,7 +117,7 @@ pub all_read : {A : Type 0} (code : A → ℕ) (IsValue : A → Type 0) (bytes s
 unfolding codes_spelling
 all_read code IsValue bytes start rest count last values p e z done few =
     let number : count ≡ length (map code values) = omega (arith, p.few, length-map values code) in
-    let runs : runs_of (map code values) ≡ p.runs = ap runs_of p.whole ∙ runs_of-expanded p.runs p.joined in
+    let runs : runs_of (map code values) ≡ p.runs = ap runs_of p.whole ∙ runs_of-expand_runs p.runs p.joined in
     record {
       list = record { few = omega (arith, p.few); typed = p.typed };
       bytes-are = e ∙ ap (λ (n : ℕ). leb n ++ start) number
@@ -158,7 +158,7 @@ pub record Next {A : Type 0} (code : A → ℕ) (IsValue : A → Type 0) (room l
 record Whole {A : Type 0} (code : A → ℕ) (runs : List Run) (rest : List ℕ) (count : ℕ) (values : List A) : Type 0 where
   more : List Run
   joined : IsJoined (runs ++ more)
-  codes-are : map code values ≡ expanded runs ++ expanded more
+  codes-are : map code values ≡ expand_runs runs ++ expand_runs more
   rest-is : rest ≡ flat_map run_bytes more
   number : length (map code values) ≡ count
 
@@ -171,7 +171,7 @@ whole code IsValue bytes start rest count last values found p e is =
     record {
       more = b.0;
       joined = subst IsJoined b.1 (joined-runs_of codes);
-      codes-are = sym (expanded-runs_of codes) ∙ ap expanded b.1 ∙ expanded-append p.runs b.0;
+      codes-are = sym (expand_runs-runs_of codes) ∙ ap expand_runs b.1 ∙ expand_runs-append p.runs b.0;
       rest-is = b.2;
       number = parts.0;
     }
@@ -181,28 +181,28 @@ pub next_run_of : {A : Type 0} (code : A → ℕ) (IsValue : A → Type 0) (smal
     → (is_first ≡ false → 0 < length values) → room ≡ count - length values → Next code IsValue room last is_first rest
 next_run_of code IsValue small bytes start rest count last room is_first values found p e is less first r =
     let w = whole code IsValue bytes start rest count last values found p e is in
-    let number : length values ≡ length (expanded p.runs) = sym (length-map values code) ∙ ap length p.whole in
+    let number : length values ≡ length (expand_runs p.runs) = sym (length-map values code) ∙ ap length p.whole in
     go w.more w.joined w.codes-are w.rest-is w.number number
   where
-    not_empty : (runs : List Run) → 0 < length (expanded runs) → NotEmpty runs
-    not_empty [] lt = absurd (omega (arith, ap length expanded-none))
+    not_empty : (runs : List Run) → 0 < length (expand_runs runs) → NotEmpty runs
+    not_empty [] lt = absurd (omega (arith, ap length expand_runs-none))
     not_empty (r ∷ rs) lt = tt
 
-    go : (more : List Run) → IsJoined (p.runs ++ more) → map code found ≡ expanded p.runs ++ expanded more → rest ≡ flat_map run_bytes more → length (map code found) ≡ count → length values ≡ length (expanded p.runs) → Next code IsValue room last is_first rest
-    go [] j c b n number = absurd (omega (arith, ap length c, length-append (expanded p.runs) (expanded []), ap length expanded-none))
+    go : (more : List Run) → IsJoined (p.runs ++ more) → map code found ≡ expand_runs p.runs ++ expand_runs more → rest ≡ flat_map run_bytes more → length (map code found) ≡ count → length values ≡ length (expand_runs p.runs) → Next code IsValue room last is_first rest
+    go [] j c b n number = absurd (omega (arith, ap length c, length-append (expand_runs p.runs) (expand_runs []), ap length expand_runs-none))
     go (run ∷ more) j c b n number =
         let k = follows p.runs more run last j p.ends in
         let codes = map code found in
-        let sizes : length codes ≡ length (expanded p.runs) + (run.count + length (expanded more)) =
-        ap length c ∙ length-append (expanded p.runs) (expanded (run ∷ more)) ∙ ap (λ (t : List ℕ). length (expanded p.runs) + length t) (expanded-one run more)
-        ∙ ap (λ (t : ℕ). length (expanded p.runs) + t) (length-append (replicate run.count run.code) (expanded more) ∙ ap (λ (t : ℕ). t + length (expanded more)) (length-replicate run.count run.code)) in
-        let within : length (expanded p.runs) + 0 < length codes = omega (arith, k.0) in
-        let at : get_or codes (length (expanded p.runs) + 0) 0 ≡ run.code =
-        ap (λ (t : List ℕ). get_or t (length (expanded p.runs) + 0) 0) (c ∙ ap (λ (t : List ℕ). expanded p.runs ++ t) (expanded-one run more))
-        ∙ get_or-append-add (expanded p.runs) (replicate run.count run.code ++ expanded more) 0 0
-        ∙ get_or_append_left (replicate run.count run.code) (expanded more) 0 0 (omega (arith, length-replicate run.count run.code, k.0))
+        let sizes : length codes ≡ length (expand_runs p.runs) + (run.count + length (expand_runs more)) =
+        ap length c ∙ length-append (expand_runs p.runs) (expand_runs (run ∷ more)) ∙ ap (λ (t : List ℕ). length (expand_runs p.runs) + length t) (expand_runs-one run more)
+        ∙ ap (λ (t : ℕ). length (expand_runs p.runs) + t) (length-append (replicate run.count run.code) (expand_runs more) ∙ ap (λ (t : ℕ). t + length (expand_runs more)) (length-replicate run.count run.code)) in
+        let within : length (expand_runs p.runs) + 0 < length codes = omega (arith, k.0) in
+        let at : get_or codes (length (expand_runs p.runs) + 0) 0 ≡ run.code =
+        ap (λ (t : List ℕ). get_or t (length (expand_runs p.runs) + 0) 0) (c ∙ ap (λ (t : List ℕ). expand_runs p.runs ++ t) (expand_runs-one run more))
+        ∙ get_or-append-add (expand_runs p.runs) (replicate run.count run.code ++ expand_runs more) 0 0
+        ∙ get_or_append_left (replicate run.count run.code) (expand_runs more) 0 0 (omega (arith, length-replicate run.count run.code, k.0))
         ∙ get_or-replicate run.count 0 run.code 0 (omega (arith, k.0)) in
-        let has : HasValue code IsValue run.code = subst (HasValue code IsValue) at (have_values code IsValue found is.list.typed (length (expanded p.runs) + 0) 0 within) in
+        let has : HasValue code IsValue run.code = subst (HasValue code IsValue) at (have_values code IsValue found is.list.typed (length (expand_runs p.runs) + 0) 0 within) in
         record {
           run = run;
           behind = flat_map run_bytes more;
@@ -221,14 +221,14 @@ pub nothing_left : {A : Type 0} (code : A → ℕ) (IsValue : A → Type 0) (byt
     → bytes ≡ leb count ++ start → IsSpelling (spelling code) IsValue bytes found → count ≤ length values → rest ≡ []
 nothing_left code IsValue bytes start rest count last values found p e is done =
     let w = whole code IsValue bytes start rest count last values found p e is in
-    let number : length values ≡ length (expanded p.runs) = sym (length-map values code) ∙ ap length p.whole in
+    let number : length values ≡ length (expand_runs p.runs) = sym (length-map values code) ∙ ap length p.whole in
     go w.more w.joined w.codes-are w.rest-is w.number number
   where
-    go : (more : List Run) → IsJoined (p.runs ++ more) → map code found ≡ expanded p.runs ++ expanded more → rest ≡ flat_map run_bytes more → length (map code found) ≡ count → length values ≡ length (expanded p.runs) → rest ≡ []
+    go : (more : List Run) → IsJoined (p.runs ++ more) → map code found ≡ expand_runs p.runs ++ expand_runs more → rest ≡ flat_map run_bytes more → length (map code found) ≡ count → length values ≡ length (expand_runs p.runs) → rest ≡ []
     go [] j c b n number = b
     go (run ∷ more) j c b n number =
         let k = follows p.runs more run last j p.ends in
-        absurd (omega (arith, k.0, ap length c, length-append (expanded p.runs) (expanded (run ∷ more)), ap length (expanded-one run more), length-append (replicate run.count run.code) (expanded more), length-replicate run.count run.code))
+        absurd (omega (arith, k.0, ap length c, length-append (expand_runs p.runs) (expand_runs (run ∷ more)), ap length (expand_runs-one run more), length-append (replicate run.count run.code) (expand_runs more), length-replicate run.count run.code))
 
 -- a list that has the bytes has a count
 pub no_count : {A : Type 0} (code : A → ℕ) (IsValue : A → Type 0) (bytes : List ℕ) (found : List A) → IsSpelling (spelling code) IsValue bytes found → BeginsWithNone leb (λ count. count ≤ max_values) bytes → ⊥

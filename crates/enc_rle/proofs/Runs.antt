@@ -8,7 +8,7 @@ use Rattle.enc_list.specs.Lists.{IsListOf}
 use Rattle.std.proofs.lemmas.Bool.{cases_eq, eq-eqb, ne_eqb}
 use Rattle.tsdb_bits.specs.Leb.{leb}
 use Rattle.tsdb_bits.proofs.LebLaws.{leb_prefix_free, leb-some, length-leb}
-use Rattle.enc_rle.specs.Spelling.{Run, before, runs_of, expanded, run_bytes, codes_spelling, spelling, IsJoined}
+use Rattle.enc_rle.specs.Spelling.{Run, before, runs_of, expand_runs, run_bytes, codes_spelling, spelling, IsJoined}
 
 -- ---- one more value in front
 
@@ -18,22 +18,22 @@ before_same code run runs e = rw (eq-eqb code run.code e) refl
 before_other : (code : ℕ) (run : Run) (runs : List Run) → (code ≡ run.code → ⊥) → before code (run ∷ runs) ≡ record { count = 1; code = code } ∷ run ∷ runs
 before_other code run runs ne = rw (ne_eqb code run.code ne) refl
 
-expanded-before : (code : ℕ) (runs : List Run) → expanded (before code runs) ≡ code ∷ expanded runs
-unfolding expanded
-expanded-before code [] = refl
-expanded-before code (run ∷ runs) =
+expand_runs-before : (code : ℕ) (runs : List Run) → expand_runs (before code runs) ≡ code ∷ expand_runs runs
+unfolding expand_runs
+expand_runs-before code [] = refl
+expand_runs-before code (run ∷ runs) =
     elim (cases_eq code run.code) [
       | inl e ↦
-          ap expanded (before_same code run runs e)
-          ∙ ap (λ (n : ℕ). replicate n code ++ expanded runs) (add-one run.count)
-          ∙ ap (λ (k : ℕ). code ∷ replicate run.count k ++ expanded runs) e
-      | inr ne ↦ ap expanded (before_other code run runs ne)
+          ap expand_runs (before_same code run runs e)
+          ∙ ap (λ (n : ℕ). replicate n code ++ expand_runs runs) (add-one run.count)
+          ∙ ap (λ (k : ℕ). code ∷ replicate run.count k ++ expand_runs runs) e
+      | inr ne ↦ ap expand_runs (before_other code run runs ne)
     ]
 
-pub expanded-runs_of : (codes : List ℕ) → expanded (runs_of codes) ≡ codes
-unfolding expanded runs_of
-expanded-runs_of [] = refl
-expanded-runs_of (code ∷ codes) = expanded-before code (runs_of codes) ∙ ap (λ (t : List ℕ). code ∷ t) (expanded-runs_of codes)
+pub expand_runs-runs_of : (codes : List ℕ) → expand_runs (runs_of codes) ≡ codes
+unfolding expand_runs runs_of
+expand_runs-runs_of [] = refl
+expand_runs-runs_of (code ∷ codes) = expand_runs-before code (runs_of codes) ∙ ap (λ (t : List ℕ). code ∷ t) (expand_runs-runs_of codes)
 
 joined_before : (code : ℕ) (runs : List Run) → IsJoined runs → IsJoined (before code runs)
 joined_before code [] j = omega arith
@@ -96,17 +96,17 @@ joined_tail run (next ∷ runs) j = (j.0, j.2, j.1)
 pub joined_count : (run : Run) (runs : List Run) → IsJoined (run ∷ runs) → 1 ≤ run.count
 joined_count run runs j = (joined_tail run runs j).0
 
-pub runs_of-expanded : (runs : List Run) → IsJoined runs → runs_of (expanded runs) ≡ runs
-unfolding runs_of expanded
-runs_of-expanded [] j = refl
-runs_of-expanded (run ∷ runs) j =
+pub runs_of-expand_runs : (runs : List Run) → IsJoined runs → runs_of (expand_runs runs) ≡ runs
+unfolding runs_of expand_runs
+runs_of-expand_runs [] j = refl
+runs_of-expand_runs (run ∷ runs) j =
     let t = joined_tail run runs j in
-    let rest = runs_of-expanded runs t.1 in
-    let other : StartsOtherwise run.code (runs_of (expanded runs)) = subst (λ (r : List Run). StartsOtherwise run.code r) (sym rest) t.2 in
+    let rest = runs_of-expand_runs runs t.1 in
+    let other : StartsOtherwise run.code (runs_of (expand_runs runs)) = subst (λ (r : List Run). StartsOtherwise run.code r) (sym rest) t.2 in
     let n : run.count ≡ suc (run.count - 1) = omega (arith, t.0) in
-    ap (λ (k : ℕ). runs_of (replicate k run.code ++ expanded runs)) n
-    ∙ run_in_front (run.count - 1) run.code (expanded runs) other
-    ∙ ap (λ (k : ℕ). record { count = k; code = run.code } ∷ runs_of (expanded runs)) (sym n)
+    ap (λ (k : ℕ). runs_of (replicate k run.code ++ expand_runs runs)) n
+    ∙ run_in_front (run.count - 1) run.code (expand_runs runs) other
+    ∙ ap (λ (k : ℕ). record { count = k; code = run.code } ∷ runs_of (expand_runs runs)) (sym n)
     ∙ ap (λ (r : List Run). run ∷ r) rest
 
 -- ---- bytes
@@ -144,7 +144,7 @@ same_codes : (xs ys : List ℕ) → codes_spelling xs ≡ codes_spelling ys → 
 unfolding codes_spelling
 same_codes xs ys e =
     let p = leb_prefix_free (length xs) (length ys) (flat_map run_bytes (runs_of xs)) (flat_map run_bytes (runs_of ys)) e in
-    sym (expanded-runs_of xs) ∙ ap expanded (same_runs (runs_of xs) (runs_of ys) p.1) ∙ expanded-runs_of ys
+    sym (expand_runs-runs_of xs) ∙ ap expand_runs (same_runs (runs_of xs) (runs_of ys) p.1) ∙ expand_runs-runs_of ys
 
 -- two lists with the same codes are equal
 pub same_from_codes : {A : Type 0} (code : A → ℕ) (one : (a b : A) → code a ≡ code b → a ≡ b) (xs ys : List A) → map code xs ≡ map code ys → xs ≡ ys
@@ -161,12 +161,12 @@ same_from_spelling code one xs ys e = same_from_codes code one xs ys (same_codes
 
 -- ---- the number of bytes
 
-sum_of_counts : (runs : List Run) → IsJoined runs → length runs ≤ length (expanded runs)
-unfolding expanded
+sum_of_counts : (runs : List Run) → IsJoined runs → length runs ≤ length (expand_runs runs)
+unfolding expand_runs
 sum_of_counts [] j = omega arith
 sum_of_counts (run ∷ runs) j =
     let t = joined_tail run runs j in
-    omega (arith, t.0, sum_of_counts runs t.1, length-append (replicate run.count run.code) (expanded runs), length-replicate run.count run.code)
+    omega (arith, t.0, sum_of_counts runs t.1, length-append (replicate run.count run.code) (expand_runs runs), length-replicate run.count run.code)
 
 -- each run has a count and a code of 64 bits
 abbrev pub IsShort : Run → Type 0
@@ -222,4 +222,4 @@ length-spelling code IsValue small xs is =
     let runs = runs_of codes in
     let number_of_runs = sum_of_counts runs (joined-runs_of codes) in
     let all = shorter (length codes) runs few (below_runs codes (small_codes code IsValue small xs (recursion_from_All IsValue xs is.typed))) in
-    omega (arith, ap length (expanded-runs_of codes), number_of_runs, length-runs runs all, length-leb 9 (length codes) (omega arith), length-append (leb (length codes)) (flat_map run_bytes runs))
+    omega (arith, ap length (expand_runs-runs_of codes), number_of_runs, length-runs runs all, length-leb 9 (length codes) (omega arith), length-append (leb (length codes)) (flat_map run_bytes runs))

@@ -21,9 +21,9 @@ runs_of [] = []
 runs_of (code ∷ codes) = before code (runs_of codes)
 
 -- the list that runs stand for
-unfoldable pub expanded : List Run → List ℕ
-expanded [] = []
-expanded (run ∷ runs) = replicate run.count run.code ++ expanded runs
+unfoldable pub expand_runs : List Run → List ℕ
+expand_runs [] = []
+expand_runs (run ∷ runs) = replicate run.count run.code ++ expand_runs runs
 
 -- a run's length and value
 abbrev pub run_bytes : Run → List ℕ

@@ -4,13 +4,13 @@ ghost use Rattle.std.specs.Prelude.{◌≡◌, ℕ, ℤ, Bool, List, FitsSigned}
 ghost use Rattle.std.specs.Int.{w64};
 ghost use Rattle.tsdb_bits.specs.Zigzag.{zigzag};
 ghost use Rattle.enc_list.specs.Lists.{IsShort};
-ghost use Rattle.enc_rle.specs.Spelling.{Run, runs_of, expanded, spelling, bool_code, IsJoined};
+ghost use Rattle.enc_rle.specs.Spelling.{Run, runs_of, expand_runs, spelling, bool_code, IsJoined};
 
 /// The runs of a list expand to it, have at least one value each, and neighbours differ; no other runs do.
 pub fn runs_are_joined()
-    ensures expand { (codes : List ℕ) → expanded (runs_of codes) ≡ codes }
+    ensures expand { (codes : List ℕ) → expand_runs (runs_of codes) ≡ codes }
     ensures joined { (codes : List ℕ) → IsJoined (runs_of codes) }
-    ensures only { (runs : List Run) → IsJoined runs → runs_of (expanded runs) ≡ runs }
+    ensures only { (runs : List Run) → IsJoined runs → runs_of (expand_runs runs) ≡ runs }
 {}
 
 /// Two lists with the same bytes are equal.

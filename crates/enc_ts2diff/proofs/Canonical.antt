@@ -9,10 +9,10 @@ use Rattle.std.proofs.lemmas.List.{length-map, length-append, map_push}
 use Rattle.std.proofs.lemmas.List.Elements.{All-nil, All-cons, All-push, All-head, All-tail}
 use Rattle.tsdb_bits.specs.Leb.{leb}
 use Rattle.tsdb_bits.specs.Zigzag.{zigzag, unzigzag}
-use Rattle.tsdb_bits.specs.Packing.{packed}
+use Rattle.tsdb_bits.specs.Packing.{pack_bytes}
 use Rattle.tsdb_bits.specs.Faults.{IsPacking}
 use Rattle.tsdb_bits.proofs.LebLaws.{length-leb}
-use Rattle.tsdb_bits.proofs.PackingLaws.{length-packed}
+use Rattle.tsdb_bits.proofs.PackingLaws.{length-pack_bytes}
 use Rattle.tsdb_bits.proofs.ZigzagLaws.{zigzag-unzigzag}
 use Rattle.enc_list.specs.Lists.{IsListOf}
 use Rattle.enc_ts2diff.specs.Spelling.{differences, least, offsets, width_of, at_width, block, content, spelling}
@@ -103,7 +103,7 @@ block_back n (o ∷ os) digits count rest are packing =
     let zero : m +ℤ pos (fold min o os) ≡ m = ap (λ (t : ℕ). m +ℤ pos t) are.0 ∙ plus_zero m in
     let low : least (m +ℤ pos o) (steps_of m os) ≡ m = least_shift m o os ∙ zero in
     let numbers : offsets m (steps_of m (o ∷ os)) ≡ o ∷ os = offsets_back m (o ∷ os) in
-    let tail : at_width (o ∷ os) ≡ digits ∷ rest = ap (λ (t : ℕ). t ∷ packed t (o ∷ os)) are.1 ∙ ap (λ (t : List ℕ). digits ∷ t) (sym packing.bytes-are) in
+    let tail : at_width (o ∷ os) ≡ digits ∷ rest = ap (λ (t : ℕ). t ∷ pack_bytes t (o ∷ os)) are.1 ∙ ap (λ (t : List ℕ). digits ∷ t) (sym packing.bytes-are) in
     sym (ap (λ (t : ℤ). leb (zigzag t) ++ at_width (offsets t (steps_of m (o ∷ os)))) low
     ∙ ap (λ (t : List ℕ). leb (zigzag m) ++ at_width t) numbers
     ∙ ap (λ (t : ℕ). leb t ++ at_width (o ∷ os)) (zigzag-unzigzag n)
@@ -143,7 +143,7 @@ length-block (d ∷ ds) h few =
     let number : length os ≡ length (d ∷ ds) = length-map (d ∷ ds) (λ t. unsigned_abs (t -ℤ m)) in
     let bits = mul-le (length os) (width_of os) 1000 64 (omega arith) within in
     let head : length (leb (zigzag m)) ≤ 10 = length-leb 9 (zigzag m) (omega (arith, zigzag-lt m (least_of_fits d ds h))) in
-    omega (arith, length-append (leb (zigzag m)) (at_width os), length-packed (width_of os) os, bits, head)
+    omega (arith, length-append (leb (zigzag m)) (at_width os), length-pack_bytes (width_of os) os, bits, head)
 
 pub length-spelling : (values : List ℤ) → IsListOf (FitsSigned w64) values → length (spelling values) < 2 ^ 32
 unfolding spelling content

@@ -6,7 +6,7 @@ use Rattle.std.proofs.lemmas.List.Elements.{All-tail}
 use Rattle.std.proofs.lemmas.List.{length-map}
 use Rattle.tsdb_bits.specs.Leb.{leb}
 use Rattle.tsdb_bits.specs.Zigzag.{zigzag}
-use Rattle.tsdb_bits.specs.Packing.{packed}
+use Rattle.tsdb_bits.specs.Packing.{pack_bytes}
 use Rattle.tsdb_bits.specs.Faults.{IsPacking}
 use Rattle.tsdb_bits.proofs.LebLaws.{leb_prefix_free}
 use Rattle.tsdb_bits.proofs.ZigzagLaws.{same_from_zigzag}
@@ -35,11 +35,11 @@ block_parts d ds bytes rest n e f = leb_prefix_free (zigzag (least d ds)) n (at_
 pub numbers_packed : (above : List ℕ) (digits : ℕ) (rest : List ℕ) → at_width above ≡ digits ∷ rest → IsPacking digits (length above) rest above
 numbers_packed above digits rest e =
     let w : width_of above ≡ digits = cc in
-    let r : packed (width_of above) above ≡ rest = cc in
+    let r : pack_bytes (width_of above) above ≡ rest = cc in
     record {
       size = refl;
       below = subst (λ (t : ℕ). All (λ x. x < 2 ^ t) above) w (fits_width above);
-      bytes-are = sym (ap (λ (t : ℕ). packed t above) (sym w) ∙ r);
+      bytes-are = sym (ap (λ (t : ℕ). pack_bytes t above) (sym w) ∙ r);
     }
 
 pub digits_within_64 : (d : ℤ) (ds : List ℤ) (digits : ℕ) (rest : List ℕ) → All (FitsSigned w64) (d ∷ ds) → at_width (offsets (least d ds) (d ∷ ds)) ≡ digits ∷ rest → digits ≤ 64
@@ -74,10 +74,10 @@ same_block (d ∷ ds) (f ∷ fs) l e =
     let b : least d ds ≡ least f fs = same_from_zigzag (least d ds) (least f fs) p.0 in
     let os = offsets (least d ds) (d ∷ ds) in
     let ps = offsets (least f fs) (f ∷ fs) in
-    let j = numbers_packed os (width_of ps) (packed (width_of ps) ps) p.1 in
-    let k = numbers_packed ps (width_of ps) (packed (width_of ps) ps) refl in
+    let j = numbers_packed os (width_of ps) (pack_bytes (width_of ps) ps) p.1 in
+    let k = numbers_packed ps (width_of ps) (pack_bytes (width_of ps) ps) refl in
     let n : length ps ≡ length os = omega (arith, length-map (f ∷ fs) (λ t. unsigned_abs (t -ℤ least f fs)), length-map (d ∷ ds) (λ t. unsigned_abs (t -ℤ least d ds))) in
-    let s : os ≡ ps = same_packing (width_of ps) (length os) (packed (width_of ps) ps) os ps j (subst (λ (t : ℕ). IsPacking (width_of ps) t (packed (width_of ps) ps) ps) n k) in
+    let s : os ≡ ps = same_packing (width_of ps) (length os) (pack_bytes (width_of ps) ps) os ps j (subst (λ (t : ℕ). IsPacking (width_of ps) t (pack_bytes (width_of ps) ps) ps) n k) in
     (least d ds, os, (refl, refl), (b, s ∙ ap (λ (t : ℤ). offsets t (f ∷ fs)) (sym b)))
 
 pub same_from_spelling : (xs ys : List ℤ) → IsListOf (FitsSigned w64) xs → IsListOf (FitsSigned w64) ys → spelling xs ≡ spelling ys → xs ≡ ys

@@ -5,7 +5,7 @@ use Rattle.std.specs.Int.{w64, int_wrap, int_min}
 use Rattle.std.specs.Int.RustNames.{unsigned_abs}
 use Rattle.tsdb_bits.specs.Leb.{leb}
 use Rattle.tsdb_bits.specs.Zigzag.{zigzag}
-use Rattle.tsdb_bits.specs.Packing.{binary_digits, packed}
+use Rattle.tsdb_bits.specs.Packing.{binary_digits, pack_bytes}
 
 -- each value less the one before it, modulo 2 ^ 64, as a signed number
 unfoldable pub differences : ℤ → List ℤ → List ℤ
@@ -26,7 +26,7 @@ width_of numbers = binary_digits (fold max 0 numbers)
 
 -- numbers behind their width
 abbrev pub at_width : List ℕ → List ℕ
-at_width numbers = width_of numbers ∷ packed (width_of numbers) numbers
+at_width numbers = width_of numbers ∷ pack_bytes (width_of numbers) numbers
 
 -- the least difference and the offsets; nothing where there is no difference
 unfoldable pub block : List ℤ → List ℕ

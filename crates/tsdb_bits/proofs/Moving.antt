@@ -3,28 +3,28 @@ use Rattle.std.proofs.Common.{◌≡◌, ℕ, suc, ◌+◌, ◌-◌, ◌*◌, �
 use Rattle.std.specs.Int.{w64, to_le_bytes}
 use Rattle.std.proofs.Math.Nat.{mul_assoc, add-mul-div_left, zero-mul, div-add-mod}
 use Rattle.std.proofs.lemmas.Nat.{pow-add, mul-le}
-use Rattle.tsdb_bits.specs.Packing.{joined, number_of_bytes, low_bytes, bytes_for, packed}
-use Rattle.tsdb_bits.proofs.PackingLaws.{scale_suc, pow_le, joined-nil, joined-cons, joined_push, low_bytes_cat, low_bytes_above, take-low_bytes, low_bytes_of_word}
+use Rattle.tsdb_bits.specs.Packing.{from_digits, number_of_bytes, low_bytes, bytes_for, pack_bytes}
+use Rattle.tsdb_bits.proofs.PackingLaws.{scale_suc, pow_le, from_digits-nil, from_digits-cons, joined_push, low_bytes_cat, low_bytes_above, take-low_bytes, low_bytes_of_word}
 
 -- ---- packing
 
 -- the bytes still to come: what the word holds in its `filled` low bits, and then the values
 unfoldable pub pending : ℕ → ℕ → ℕ → List ℕ → List ℕ
-pending filled word w vs = low_bytes (bytes_for (filled + length vs * w)) (word + 2 ^ filled * joined w vs)
+pending filled word w vs = low_bytes (bytes_for (filled + length vs * w)) (word + 2 ^ filled * from_digits w vs)
 
-pub pending_all : (w : ℕ) (vs : List ℕ) → pending 0 0 w vs ≡ packed w vs
-unfolding pending packed
+pub pending_all : (w : ℕ) (vs : List ℕ) → pending 0 0 w vs ≡ pack_bytes w vs
+unfolding pending pack_bytes
 pending_all w vs =
-    let n : 0 + 1 * joined w vs ≡ joined w vs = omega arith in
+    let n : 0 + 1 * from_digits w vs ≡ from_digits w vs = omega arith in
     let b : 0 + length vs * w ≡ length vs * w = omega arith in
     rw (n, b) refl
 
 pub pending_value : (filled word w v : ℕ) (vs : List ℕ) → pending filled word w (v ∷ vs) ≡ pending (filled + w) (word + v * 2 ^ filled) w vs
-unfolding pending joined
+unfolding pending from_digits
 pending_value filled word w v vs =
     let b : filled + suc (length vs) * w ≡ filled + w + length vs * w = omega arith in
-    let n : word + 2 ^ filled * (v + 2 ^ w * joined w vs) ≡ word + v * 2 ^ filled + 2 ^ (filled + w) * joined w vs =
-    rw (pow-add 2 filled w) (omega (arith, mul_assoc (2 ^ filled) (2 ^ w) (joined w vs))) in
+    let n : word + 2 ^ filled * (v + 2 ^ w * from_digits w vs) ≡ word + v * 2 ^ filled + 2 ^ (filled + w) * from_digits w vs =
+    rw (pow-add 2 filled w) (omega (arith, mul_assoc (2 ^ filled) (2 ^ w) (from_digits w vs))) in
     rw (b, n) refl
 
 -- a full word goes
@@ -33,7 +33,7 @@ unfolding pending
 pending_word filled word w vs le =
     let f = filled - 64 in
     let k = bytes_for (f + length vs * w) in
-    let j = joined w vs in
+    let j = from_digits w vs in
     let bytes : bytes_for (filled + length vs * w) ≡ 8 + k = omega arith in
     let e : filled ≡ 64 + f = omega arith in
     let s : 2 ^ filled * j ≡ 2 ^ 64 * (2 ^ f * j) = ap (λ (i : ℕ). 2 ^ i * j) e ∙ rw (pow-add 2 64 f) (mul_assoc (2 ^ 64) (2 ^ f) j) in
@@ -57,7 +57,7 @@ pub pending_last : (filled word w : ℕ) → filled < 64 → word < 2 ^ filled �
 unfolding pending
 pending_last filled word w lt fits =
     let b : bytes_for (filled + 0 * w) ≡ bytes_for filled = rw (zero-mul w) (omega arith) in
-    let n : word + 2 ^ filled * joined w [] ≡ word = rw (joined-nil w) (omega arith) in
+    let n : word + 2 ^ filled * from_digits w [] ≡ word = rw (from_digits-nil w) (omega arith) in
     let small : word % 2 ^ 64 ≡ word = omega (arith, pow_le filled 64 (omega arith)) in
     rw (b, n, small, low_bytes_of_word word, take-low_bytes (bytes_for filled) 8 word (omega arith)) refl
 
@@ -81,16 +81,16 @@ taken filled word w more le =
     omega (arith, s, div-add-mod word (2 ^ w))
 
 pub value_moves : (w counter filled word more stream : ℕ) (vs : List ℕ) → length vs ≡ counter → w ≤ filled
-    → stream ≡ joined w vs + 2 ^ (counter * w) * (word + 2 ^ filled * more)
-    → stream ≡ joined w (vs ++ word % 2 ^ w ∷ []) + 2 ^ ((counter + 1) * w) * (word / 2 ^ w + 2 ^ (filled - w) * more)
+    → stream ≡ from_digits w vs + 2 ^ (counter * w) * (word + 2 ^ filled * more)
+    → stream ≡ from_digits w (vs ++ word % 2 ^ w ∷ []) + 2 ^ ((counter + 1) * w) * (word / 2 ^ w + 2 ^ (filled - w) * more)
 value_moves w counter filled word more stream vs len le e =
     let rest = word / 2 ^ w + 2 ^ (filled - w) * more in
     let c : (counter + 1) * w ≡ suc counter * w = omega arith in
     let s : 2 ^ ((counter + 1) * w) * rest ≡ 2 ^ (counter * w) * (2 ^ w * rest) =
     ap (λ (i : ℕ). 2 ^ i * rest) c ∙ rw (scale_suc counter w) (omega (arith, mul_assoc (2 ^ w) (2 ^ (counter * w)) rest, mul_assoc (2 ^ (counter * w)) (2 ^ w) rest)) in
-    let push : joined w (vs ++ word % 2 ^ w ∷ []) ≡ joined w vs + 2 ^ (counter * w) * (word % 2 ^ w) = rw (← len) (joined_push w vs (word % 2 ^ w)) in
+    let push : from_digits w (vs ++ word % 2 ^ w ∷ []) ≡ from_digits w vs + 2 ^ (counter * w) * (word % 2 ^ w) = rw (← len) (joined_push w vs (word % 2 ^ w)) in
     let t : 2 ^ (counter * w) * (word + 2 ^ filled * more) ≡ 2 ^ (counter * w) * (word % 2 ^ w + 2 ^ w * rest) = ap (λ (k : ℕ). 2 ^ (counter * w) * k) (taken filled word w more le) in
     omega (arith, e, push, s, t)
 
 pub number-cons : (b : ℕ) (bytes : List ℕ) → number_of_bytes (b ∷ bytes) ≡ b + 256 * number_of_bytes bytes
-number-cons b bytes = joined-cons 8 b bytes
+number-cons b bytes = from_digits-cons 8 b bytes

@@ -5,7 +5,7 @@ use Rattle.std.proofs.Math.Nat.{div-div-eq-div-mul, suc-mul, zero-mul, mul-zero,
 use Rattle.std.proofs.lemmas.Nat.{pow-add}
 use Rattle.std.proofs.lemmas.Bool.{cases_lt, cases_eq}
 use Rattle.std.proofs.lemmas.List.Elements.{All-head, All-tail}
-use Rattle.tsdb_bits.specs.Packing.{joined, number_of_bytes, low_bytes, bytes_for, packed, digits_within, binary_digits}
+use Rattle.tsdb_bits.specs.Packing.{from_digits, number_of_bytes, low_bytes, bytes_for, pack_bytes, digits_within, binary_digits}
 
 -- ---- powers
 
@@ -58,7 +58,7 @@ low_bytes_of_word n = simp (div-div-eq-div-mul) refl
 
 -- the bytes of a number that fits them give the number back
 pub number-low_bytes : (k n : ℕ) → n < 2 ^ (8 * k) → number_of_bytes (low_bytes k n) ≡ n
-unfolding low_bytes joined
+unfolding low_bytes from_digits
 number-low_bytes zero n h = let p : n < 1 = h in omega arith
 number-low_bytes (suc k) n h =
     let s = byte_scale k in
@@ -67,7 +67,7 @@ number-low_bytes (suc k) n h =
 
 -- and so do the bytes that a number is read from
 pub low_bytes-number : (bytes : List ℕ) → All (λ b. b < 256) bytes → low_bytes (length bytes) (number_of_bytes bytes) ≡ bytes
-unfolding low_bytes joined
+unfolding low_bytes from_digits
 low_bytes-number [] h = refl
 low_bytes-number (b ∷ bytes) h =
     let below : b < 256 = All-head (λ (x : ℕ). x < 256) b bytes h in
@@ -77,35 +77,35 @@ low_bytes-number (b ∷ bytes) h =
 
 -- ---- streams
 
-pub joined-nil : (w : ℕ) → joined w [] ≡ 0
-unfolding joined
-joined-nil w = refl
+pub from_digits-nil : (w : ℕ) → from_digits w [] ≡ 0
+unfolding from_digits
+from_digits-nil w = refl
 
-pub joined-cons : (w v : ℕ) (vs : List ℕ) → joined w (v ∷ vs) ≡ v + 2 ^ w * joined w vs
-unfolding joined
-joined-cons w v vs = refl
+pub from_digits-cons : (w v : ℕ) (vs : List ℕ) → from_digits w (v ∷ vs) ≡ v + 2 ^ w * from_digits w vs
+unfolding from_digits
+from_digits-cons w v vs = refl
 
-pub joined-append : (w : ℕ) (xs ys : List ℕ) → joined w (xs ++ ys) ≡ joined w xs + 2 ^ (length xs * w) * joined w ys
-unfolding joined
-joined-append w [] ys =
+pub from_digits-append : (w : ℕ) (xs ys : List ℕ) → from_digits w (xs ++ ys) ≡ from_digits w xs + 2 ^ (length xs * w) * from_digits w ys
+unfolding from_digits
+from_digits-append w [] ys =
     let e : 2 ^ (0 * w) ≡ 1 = rw (zero-mul w) refl in
     rw e (omega arith)
-joined-append w (x ∷ xs) ys =
-    rw (joined-append w xs ys, scale_suc (length xs) w) (omega (arith, mul_assoc (2 ^ w) (2 ^ (length xs * w)) (joined w ys)))
+from_digits-append w (x ∷ xs) ys =
+    rw (from_digits-append w xs ys, scale_suc (length xs) w) (omega (arith, mul_assoc (2 ^ w) (2 ^ (length xs * w)) (from_digits w ys)))
 
-pub joined_push : (w : ℕ) (xs : List ℕ) (v : ℕ) → joined w (xs ++ v ∷ []) ≡ joined w xs + 2 ^ (length xs * w) * v
+pub joined_push : (w : ℕ) (xs : List ℕ) (v : ℕ) → from_digits w (xs ++ v ∷ []) ≡ from_digits w xs + 2 ^ (length xs * w) * v
 joined_push w xs v =
-    let e : joined w (v ∷ []) ≡ v = rw (joined-cons w v [], joined-nil w) (omega (arith, mul-zero (2 ^ w))) in
-    joined-append w xs (v ∷ []) ∙ ap (λ (t : ℕ). joined w xs + 2 ^ (length xs * w) * t) e
+    let e : from_digits w (v ∷ []) ≡ v = rw (from_digits-cons w v [], from_digits-nil w) (omega (arith, mul-zero (2 ^ w))) in
+    from_digits-append w xs (v ∷ []) ∙ ap (λ (t : ℕ). from_digits w xs + 2 ^ (length xs * w) * t) e
 
 -- a stream is below 2 to its number of bits
-pub joined-lt : (w : ℕ) (vs : List ℕ) → All (λ v. v < 2 ^ w) vs → joined w vs < 2 ^ (length vs * w)
-unfolding joined
-joined-lt w [] h = rw (zero-mul w) (omega arith)
-joined-lt w (v ∷ vs) h =
+pub from_digits-lt : (w : ℕ) (vs : List ℕ) → All (λ v. v < 2 ^ w) vs → from_digits w vs < 2 ^ (length vs * w)
+unfolding from_digits
+from_digits-lt w [] h = rw (zero-mul w) (omega arith)
+from_digits-lt w (v ∷ vs) h =
     let below : v < 2 ^ w = All-head (λ (x : ℕ). x < 2 ^ w) v vs h in
-    let rest = joined-lt w vs (All-tail (λ (x : ℕ). x < 2 ^ w) v vs h) in
-    rw (scale_suc (length vs) w) (cat_lt (2 ^ w) (2 ^ (length vs * w)) v (joined w vs) below rest)
+    let rest = from_digits-lt w vs (All-tail (λ (x : ℕ). x < 2 ^ w) v vs h) in
+    rw (scale_suc (length vs) w) (cat_lt (2 ^ w) (2 ^ (length vs * w)) v (from_digits w vs) below rest)
   where
     cat_lt : (a b v j : ℕ) → v < a → j < b → v + a * j < a * b
     cat_lt a b v j p q = grind arith
@@ -117,35 +117,35 @@ parts_same s a b h k p q e =
     let t : s * h ≡ s * k = omega arith in
     (m, eq_of_mul-eq-mul_left s (omega arith) h k t)
 
-pub same_from_joined : (w : ℕ) (xs ys : List ℕ) → length xs ≡ length ys → All (λ x. x < 2 ^ w) xs → All (λ y. y < 2 ^ w) ys → joined w xs ≡ joined w ys → xs ≡ ys
-unfolding joined
+pub same_from_joined : (w : ℕ) (xs ys : List ℕ) → length xs ≡ length ys → All (λ x. x < 2 ^ w) xs → All (λ y. y < 2 ^ w) ys → from_digits w xs ≡ from_digits w ys → xs ≡ ys
+unfolding from_digits
 same_from_joined w [] [] l p q e = refl
 same_from_joined w [] (y ∷ ys) l p q e = absurd (omega arith)
 same_from_joined w (x ∷ xs) [] l p q e = absurd (omega arith)
 same_from_joined w (x ∷ xs) (y ∷ ys) l p q e =
-    let k = parts_same (2 ^ w) x y (joined w xs) (joined w ys) (All-head (λ (v : ℕ). v < 2 ^ w) x xs p) (All-head (λ (v : ℕ). v < 2 ^ w) y ys q) e in
+    let k = parts_same (2 ^ w) x y (from_digits w xs) (from_digits w ys) (All-head (λ (v : ℕ). v < 2 ^ w) x xs p) (All-head (λ (v : ℕ). v < 2 ^ w) y ys q) e in
     let r = same_from_joined w xs ys (omega arith) (All-tail (λ (v : ℕ). v < 2 ^ w) x xs p) (All-tail (λ (v : ℕ). v < 2 ^ w) y ys q) k.1 in
     rw (k.0, r) refl
 
 -- ---- packings
 
-pub length-packed : (w : ℕ) (vs : List ℕ) → length (packed w vs) ≡ bytes_for (length vs * w)
-unfolding packed
-length-packed w vs = length-low_bytes (bytes_for (length vs * w)) (joined w vs)
+pub length-pack_bytes : (w : ℕ) (vs : List ℕ) → length (pack_bytes w vs) ≡ bytes_for (length vs * w)
+unfolding pack_bytes
+length-pack_bytes w vs = length-low_bytes (bytes_for (length vs * w)) (from_digits w vs)
 
 -- the bits fit the bytes
 pub bits_fit : (bits : ℕ) → 2 ^ bits ≤ 2 ^ (8 * bytes_for bits)
 bits_fit bits = pow_le bits (8 * bytes_for bits) (omega arith)
 
-pub number-packed : (w : ℕ) (vs : List ℕ) → All (λ v. v < 2 ^ w) vs → number_of_bytes (packed w vs) ≡ joined w vs
-unfolding packed
-number-packed w vs h =
-    number-low_bytes (bytes_for (length vs * w)) (joined w vs) (omega (arith, joined-lt w vs h, bits_fit (length vs * w)))
+pub number-pack_bytes : (w : ℕ) (vs : List ℕ) → All (λ v. v < 2 ^ w) vs → number_of_bytes (pack_bytes w vs) ≡ from_digits w vs
+unfolding pack_bytes
+number-pack_bytes w vs h =
+    number-low_bytes (bytes_for (length vs * w)) (from_digits w vs) (omega (arith, from_digits-lt w vs h, bits_fit (length vs * w)))
 
 -- two lists of one length with one packing are equal
-pub same_from_packed : (w : ℕ) (xs ys : List ℕ) → length xs ≡ length ys → All (λ x. x < 2 ^ w) xs → All (λ y. y < 2 ^ w) ys → packed w xs ≡ packed w ys → xs ≡ ys
+pub same_from_packed : (w : ℕ) (xs ys : List ℕ) → length xs ≡ length ys → All (λ x. x < 2 ^ w) xs → All (λ y. y < 2 ^ w) ys → pack_bytes w xs ≡ pack_bytes w ys → xs ≡ ys
 same_from_packed w xs ys l p q e =
-    same_from_joined w xs ys l p q (sym (number-packed w xs p) ∙ ap number_of_bytes e ∙ number-packed w ys q)
+    same_from_joined w xs ys l p q (sym (number-pack_bytes w xs p) ∙ ap number_of_bytes e ∙ number-pack_bytes w ys q)
 
 -- ---- binary digits
 

@@ -1,7 +1,7 @@
 -- What each fault says of the bytes.
 use Rattle.std.specs.Prelude.{◌≡◌, ℕ, ◌+◌, ◌<◌, ◌≤◌, ◌^◌, ◌⊎◌, List, length, drop, All}
 use Rattle.tsdb_bits.specs.Leb.{IsCut}
-use Rattle.tsdb_bits.specs.Packing.{bytes_for, packed, HasFillingBit}
+use Rattle.tsdb_bits.specs.Packing.{bytes_for, pack_bytes, HasFillingBit}
 use Rattle.tsdb_bits.specs.declared.fault.BitFault.{BitFault}
 use Rattle.tsdb_bits.specs.declared.fault.BitFault.TheVariants as bit_faults
 use Rattle.tsdb_bits.specs.declared.fault.UnpackFault.{UnpackFault}
@@ -35,7 +35,7 @@ ExplainsPacking bits bytes unpack_faults.Memory = Unit {0}
 pub record IsPacking (width count : ℕ) (bytes values : List ℕ) : Type 0 where
   pub size : length values ≡ count
   pub below : All (λ value. value < 2 ^ width) values
-  pub bytes-are : bytes ≡ packed width values
+  pub bytes-are : bytes ≡ pack_bytes width values
 
 -- a fault but out of memory: no list is packed so
 abbrev pub IsNoPacking : ℕ → ℕ → List ℕ → UnpackFault → Type 0

@@ -4,13 +4,13 @@ use Rattle.std.specs.Prelude.{◌≡◌, ◌<◌, All, slice_index, ℕ, suc, ze
 use Rattle.std.specs.Int.{bit_at}
 
 -- the stream of a list as one number: each item takes `width` bits, the first item the lowest ones
-unfoldable pub joined : ℕ → List ℕ → ℕ
-joined width [] = 0
-joined width (value ∷ values) = value + 2 ^ width * joined width values
+unfoldable pub from_digits : ℕ → List ℕ → ℕ
+from_digits width [] = 0
+from_digits width (value ∷ values) = value + 2 ^ width * from_digits width values
 
 -- the number that bytes stand for, the lowest byte first
 abbrev pub number_of_bytes : List ℕ → ℕ
-number_of_bytes bytes = joined 8 bytes
+number_of_bytes bytes = from_digits 8 bytes
 
 -- the `count` lowest bytes of a number, the lowest first
 unfoldable pub low_bytes : ℕ → ℕ → List ℕ
@@ -22,8 +22,8 @@ abbrev pub bytes_for : ℕ → ℕ
 bytes_for bits = (bits + 7) / 8
 
 -- a list packed at a width
-unfoldable pub packed : ℕ → List ℕ → List ℕ
-packed width values = low_bytes (bytes_for (length values * width)) (joined width values)
+unfoldable pub pack_bytes : ℕ → List ℕ → List ℕ
+pack_bytes width values = low_bytes (bytes_for (length values * width)) (from_digits width values)
 
 -- a bit behind the first `bits` ones is set in the bytes that hold these
 abbrev pub HasFillingBit : ℕ → List ℕ → Type 0
@@ -43,10 +43,10 @@ binary_digits number = digits_within number number
 abbrev pub IsOneToOne : ℕ → Type 0
 IsOneToOne width =
     (xs ys : List ℕ) → length xs ≡ length ys → All (λ x. x < 2 ^ width) xs → All (λ y. y < 2 ^ width) ys
-    → packed width xs ≡ packed width ys → xs ≡ ys
+    → pack_bytes width xs ≡ pack_bytes width ys → xs ≡ ys
 
 -- bit k of the stream is a bit of byte `k / 8`, and a bit of value `k / width`
 abbrev pub StandsInOrder : ℕ → List ℕ → Type 0
 StandsInOrder width values =
     (k : ℕ) → All (λ value. value < 2 ^ width) values → k < length values * width
-    → bit_at (slice_index (packed width values) (k / 8)) (k % 8) ≡ bit_at (slice_index values (k / width)) (k % width)
+    → bit_at (slice_index (pack_bytes width values) (k / 8)) (k % 8) ≡ bit_at (slice_index values (k / width)) (k % width)

@@ -3,7 +3,7 @@
 
 ghost use Rattle.std.specs.Prelude.{◌≡◌, ℕ, ◌+◌, ◌-◌, ◌*◌, ◌/◌, ◌%◌, ◌^◌, ◌<◌, ◌≤◌, List, ◌++◌, length, take, drop, vec_len, All, IfOk, IfErr, OnOk, OnErr};
 ghost use Rattle.tsdb_base.specs.Limits.{max_values};
-ghost use Rattle.tsdb_bits.specs.Packing.{joined, number_of_bytes, packed, bytes_for, binary_digits};
+ghost use Rattle.tsdb_bits.specs.Packing.{from_digits, number_of_bytes, pack_bytes, bytes_for, binary_digits};
 ghost use Rattle.tsdb_bits.specs.Faults.{ExplainsPacking, IsPacking, IsNoPacking};
 
 use crate::fault::UnpackFault;
@@ -21,7 +21,7 @@ pub fn width(value: u64) -> u8
 pub fn pack(values: &[u64], width: u8, into: &mut Vec<u8>) -> Result<(), Memory>
     requires width_fits { width ≤ 64 }
     requires values_fit { All (λ value. value < 2 ^ width) values.now }
-    ensures ok { OnOk result (into.new.items ≡ into.old.items ++ packed width values.now) }
+    ensures ok { OnOk result (into.new.items ≡ into.old.items ++ pack_bytes width values.now) }
     ensures memory { OnErr result (into.new.items ≡ into.old.items) }
 {
     into.reserve(values.len().saturating_mul(width as usize).div_ceil(8))?;
@@ -36,7 +36,7 @@ pub fn pack(values: &[u64], width: u8, into: &mut Vec<u8>) -> Result<(), Memory>
 fn append_packed(values: &[u64], width: u8, into: &mut Vec<u8>) -> Result<(), Memory>
     requires width_fits { width ≤ 64 }
     requires values_fit { All (λ value. value < 2 ^ width) values.now }
-    ensures ok { OnOk result (into.new.items ≡ into.old.items ++ packed width values.now) }
+    ensures ok { OnOk result (into.new.items ≡ into.old.items ++ pack_bytes width values.now) }
     ensures kept { take (vec_len into.old) into.new.items ≡ into.old.items }
 {
     let mut word: u128 = 0;
@@ -102,7 +102,7 @@ fn values_in(
     requires needed { length bytes.now ≡ bytes_for (count * width) }
     ensures count { IfOk result (λ r. length r.0.items ≡ count) }
     ensures below { IfOk result (λ r. All (λ value. value < 2 ^ width) r.0.items) }
-    ensures stream { IfOk result (λ r. number_of_bytes bytes.now ≡ joined width r.0.items + 2 ^ (count * width) * r.1) }
+    ensures stream { IfOk result (λ r. number_of_bytes bytes.now ≡ from_digits width r.0.items + 2 ^ (count * width) * r.1) }
     ensures memory { IfErr result (λ fault. fault ≡ UnpackFault.Memory) }
 {
     let mut values = Vec::with_capacity(alloc, count as usize)?;

@@ -11,7 +11,7 @@ use Rattle.tsdb_base.specs.declared.point.Point.{Point}
 use Rattle.tsdb_base.specs.declared.value.Value.{Value}
 use Rattle.tsdb_map.specs.World.{Points}
 use Rattle.tsdb_map.specs.Folds.{aggregate_of, if_number, in_order, number_of, numbers}
-use Rattle.tsdb_map.specs.Kept.{better, listed}
+use Rattle.tsdb_map.specs.Model.{better, points_of_entries}
 
 abbrev Seen : Type 0
 Seen = Bor ℤ × Bor Value
@@ -43,18 +43,18 @@ filter_map-append h [] ys = refl
 filter_map-append h (x ∷ xs) ys = ap (cons_option (h x)) (filter_map-append h xs ys) ∙ cons-append (h x) (filter_map h xs) (filter_map h ys)
 
 pub reduce-more : (f : Choose) (xs : List Seen) (x : Seen)
-    → reduce f (numbers (listed (map deref_pair (xs ++ x ∷ [])))) ≡ better f (number_of x.1.now) (reduce f (numbers (listed (map deref_pair xs)))) x.1.now
+    → reduce f (numbers (points_of_entries (map deref_pair (xs ++ x ∷ [])))) ≡ better f (number_of x.1.now) (reduce f (numbers (points_of_entries (map deref_pair xs)))) x.1.now
 reduce-more f xs x =
-    ap (λ (l : List (ℤ × Value)). reduce f (numbers (listed l))) (map-append deref_pair xs (x ∷ []))
+    ap (λ (l : List (ℤ × Value)). reduce f (numbers (points_of_entries l))) (map-append deref_pair xs (x ∷ []))
     ∙ ap (λ l. reduce f (numbers l)) (map-append (λ (e : ℤ × Value). record { time = e.0; value = e.1 }) (map deref_pair xs) (map deref_pair (x ∷ [])))
-    ∙ ap (reduce f) (filter_map-append (λ (p : Point). if_number (number_of p.value) p.value) (listed (map deref_pair xs)) (listed (map deref_pair (x ∷ []))))
-    ∙ reduce-push f (numbers (listed (map deref_pair xs))) (number_of x.1.now) x.1.now
+    ∙ ap (reduce f) (filter_map-append (λ (p : Point). if_number (number_of p.value) p.value) (points_of_entries (map deref_pair xs)) (points_of_entries (map deref_pair (x ∷ []))))
+    ∙ reduce-push f (numbers (points_of_entries (map deref_pair xs))) (number_of x.1.now) x.1.now
 
 -- the first point, and the last
 pub first_of : (g : ℤ → Value → Value) (s t : List (ℤ × Value)) (r : Option Seen) → TakesFirst deref_pair s r t
-    → option_map (λ p. g p.0.now p.1.now) r ≡ option_map (λ (p : Point). g p.time p.value) (slice_get (listed s) 0)
-first_of g s t None h = sym (ap (λ (s : List (ℤ × Value)). option_map (λ (p : Point). g p.time p.value) (slice_get (listed s) 0)) h.0)
-first_of g s t (Some x) h = sym (ap (λ (s : List (ℤ × Value)). option_map (λ (p : Point). g p.time p.value) (slice_get (listed s) 0)) h)
+    → option_map (λ p. g p.0.now p.1.now) r ≡ option_map (λ (p : Point). g p.time p.value) (slice_get (points_of_entries s) 0)
+first_of g s t None h = sym (ap (λ (s : List (ℤ × Value)). option_map (λ (p : Point). g p.time p.value) (slice_get (points_of_entries s) 0)) h.0)
+first_of g s t (Some x) h = sym (ap (λ (s : List (ℤ × Value)). option_map (λ (p : Point). g p.time p.value) (slice_get (points_of_entries s) 0)) h)
 
 at_end : (xs : List Point) (x : Point) → slice_get (xs ++ x ∷ []) (length xs) ≡ Some x
 at_end [] x = refl
@@ -67,18 +67,18 @@ last_point xs x = ap (slice_get (xs ++ x ∷ [])) (one_less (length (xs ++ x ∷
     one_less n m e = omega arith
 
 pub last_of : (g : ℤ → Value → Value) (s t : List (ℤ × Value)) (r : Option Seen) → TakesLast deref_pair s r t
-    → option_map (λ p. g p.0.now p.1.now) r ≡ option_map (λ (p : Point). g p.time p.value) (slice_get (listed s) (length (listed s) - 1))
+    → option_map (λ p. g p.0.now p.1.now) r ≡ option_map (λ (p : Point). g p.time p.value) (slice_get (points_of_entries s) (length (points_of_entries s) - 1))
 last_of g s t None h =
-    sym (ap (λ (s : List (ℤ × Value)). option_map (λ (p : Point). g p.time p.value) (slice_get (listed s) (length (listed s) - 1))) h.0)
+    sym (ap (λ (s : List (ℤ × Value)). option_map (λ (p : Point). g p.time p.value) (slice_get (points_of_entries s) (length (points_of_entries s) - 1))) h.0)
 last_of g s t (Some x) h =
-    sym (ap (λ (s : List (ℤ × Value)). option_map (λ (p : Point). g p.time p.value) (slice_get (listed s) (length (listed s) - 1))) h
+    sym (ap (λ (s : List (ℤ × Value)). option_map (λ (p : Point). g p.time p.value) (slice_get (points_of_entries s) (length (points_of_entries s) - 1))) h
     ∙ ap (λ (l : List Point). option_map (λ (p : Point). g p.time p.value) (slice_get l (length l - 1))) (map-append (λ (e : ℤ × Value). record { time = e.0; value = e.1 }) t (deref_pair x ∷ []))
-    ∙ ap (option_map (λ (p : Point). g p.time p.value)) (last_point (listed t) (record { time = x.0.now; value = x.1.now })))
+    ∙ ap (option_map (λ (p : Point). g p.time p.value)) (last_point (points_of_entries t) (record { time = x.0.now; value = x.1.now })))
 
-pub length-listed : (es : List (ℤ × Value)) → length (listed es) ≡ length es
-length-listed [] = refl
-length-listed (e ∷ es) = ap (λ n. suc n) (length-listed es)
+pub length-points_of_entries : (es : List (ℤ × Value)) → length (points_of_entries es) ≡ length es
+length-points_of_entries [] = refl
+length-points_of_entries (e ∷ es) = ap (λ n. suc n) (length-points_of_entries es)
 
 -- the aggregate of the points that were walked
-pub of_range : (a b : Aggregate) (es : List (ℤ × Value)) (p : Points) → a ≡ b → es ≡ entries p → aggregate_of b (listed es) ≡ aggregate_of a (in_order p)
-of_range a b es p is same = ap (λ a. aggregate_of a (listed es)) (sym is) ∙ ap (λ (es : List (ℤ × Value)). aggregate_of a (listed es)) same
+pub of_range : (a b : Aggregate) (es : List (ℤ × Value)) (p : Points) → a ≡ b → es ≡ entries p → aggregate_of b (points_of_entries es) ≡ aggregate_of a (in_order p)
+of_range a b es p is same = ap (λ a. aggregate_of a (points_of_entries es)) (sym is) ∙ ap (λ (es : List (ℤ × Value)). aggregate_of a (points_of_entries es)) same

@@ -17,7 +17,7 @@ use Rattle.tsdb_map.specs.declared.command.Command.TheVariants.{Delete, Insert}
 use Rattle.tsdb_map.specs.declared.command.Literal.{Literal}
 use Rattle.tsdb_map.specs.declared.command.Row.{Row}
 use Rattle.tsdb_map.specs.declared.reply.Reply.TheVariants.{Plain}
-use Rattle.tsdb_map.specs.World.{change, changed, cut, is_in, points_of, put, value_at, Series, World}
+use Rattle.tsdb_map.specs.World.{change, change_series, cut, is_in, points_of, put, value_at, Series, World}
 use Rattle.tsdb_map.specs.Apply.{after_reply, all_fit, fits_series, insert_answer, put_cells, put_literal, put_value, reply_of, series_of, value_of, world_after}
 use Rattle.tsdb_map.specs.Commands.{AreDifferent, IsRow}
 use Rattle.tsdb_map.specs.Laws.{IsNamed}
@@ -33,7 +33,7 @@ not_same true p q apart e = absurd (apart (tells_apart exact_bytes p q e))
 not_same false p q apart e = refl
 
 -- another series is as it was
-elsewhere : (world : World) (p q : List ℕ) (f : Series → Series) (found : Option Series) → q ≢ p → get (changed world p f found) q ≡ get world q
+elsewhere : (world : World) (p q : List ℕ) (f : Series → Series) (found : Option Series) → q ≢ p → get (change_series world p f found) q ≡ get world q
 elsewhere world p q f None apart = refl
 elsewhere world p q f (Some s) apart =
     get-insert nat_list_cmp_total world p (f s) q ∙ ap (λ b. cond b (Some (f s)) (get world q)) (not_same _ q p apart refl)
@@ -43,7 +43,7 @@ other_series world p q f apart = elsewhere world p q f (get world p) apart
 
 -- a change that leaves a time alone in each series leaves it alone in the world
 at_time : (world : World) (p q : List ℕ) (f : Series → Series) (time : ℤ) → ((s : Series) → get (f s).points time ≡ get s.points time)
-    → (found : Option Series) → get world p ≡ found → value_at (changed world p f found) q time ≡ value_at world q time
+    → (found : Option Series) → get world p ≡ found → value_at (change_series world p f found) q time ≡ value_at world q time
 at_time world p q f time h None is = refl
 at_time world p q f time h (Some s) is =
     ap (λ o. get (points_of o) time) (get-insert nat_list_cmp_total world p (f s) q)
@@ -188,15 +188,15 @@ get-cut range s time = get-retain_keys s.points (λ t. not (is_in range t)) time
 
 -- a deletion cuts the series, where it is there
 deleted : (world : World) (series : List ℕ) (range : Range) (found : Option Series) → get world series ≡ found
-    → after_reply world (Delete series range) (Plain (cond (is_some found) Done NoPath)) ≡ changed world series (cut range) found
+    → after_reply world (Delete series range) (Plain (cond (is_some found) Done NoPath)) ≡ change_series world series (cut range) found
 deleted world series range None e = refl
-deleted world series range (Some s) e = ap (changed world series (cut range)) e
+deleted world series range (Some s) e = ap (change_series world series (cut range)) e
 
 pub delete_is : (world : World) (series : List ℕ) (range : Range) → world_after world (Delete series range) ≡ change world series (cut range)
 delete_is world series range = deleted world series range (get world series) refl
 
 removed_from : (world : World) (series : List ℕ) (range : Range) (time : ℤ) → is_in range time ≡ true → (found : Option Series) → get world series ≡ found
-    → value_at (changed world series (cut range) found) series time ≡ None
+    → value_at (change_series world series (cut range) found) series time ≡ None
 removed_from world series range time inside None e = ap (λ o. get (points_of o) time) e ∙ get-empty int_cmp time
 removed_from world series range time inside (Some s) e =
     ap (λ o. get (points_of o) time) (here world series (cut range s)) ∙ get-cut range s time

@@ -23,9 +23,9 @@ use Rattle.tsdb_map.specs.declared.command.Row.{Row}
 use Rattle.tsdb_map.specs.declared.command.Schema.{Schema}
 use Rattle.tsdb_map.specs.declared.command.Literal.{Literal}
 use Rattle.tsdb_map.specs.declared.reply.Reply.TheVariants.{Plain}
-use Rattle.tsdb_map.specs.World.{change, changed, points_of, put, value_at, Points, Series, World}
+use Rattle.tsdb_map.specs.World.{change, change_series, points_of, put, value_at, Points, Series, World}
 use Rattle.tsdb_map.specs.Apply.{after_reply, all_fit, are_there, fits_series, insert_answer, put_cells, put_literal, put_value, reply_of, series_of, value_of, world_after}
-use Rattle.tsdb_map.specs.Kept.{set_at}
+use Rattle.tsdb_map.specs.Model.{set_at}
 use Rattle.tsdb_map.proofs.WorldLemmas.{change-there, insert-same}
 use Rattle.tsdb_path.specs.Nodes.{child_of}
 
@@ -74,7 +74,7 @@ after_put false literal s t o kind found = refl
 fits-after : (world : World) (p q : List ℕ) (time : ℤ) (literal other : Literal) (s : Series) → get world p ≡ Some s
     → fits_series other (get (change world p (put_literal time literal)) q) ≡ fits_series other (get world q)
 fits-after world p q time literal other s there =
-    ap (λ w. fits_series other (get w q)) (ap (changed world p (put_literal time literal)) there)
+    ap (λ w. fits_series other (get w q)) (ap (change_series world p (put_literal time literal)) there)
     ∙ ap (fits_series other) (get-insert nat_list_cmp_total world p (put_literal time literal s) q)
     ∙ after_put (same q p) other s (put_literal time literal s) (get world q) (same_kind time (value_of literal s.data_type) s)
     (λ e. ap (get world) (tells_apart exact_bytes q p e) ∙ there)
@@ -101,7 +101,7 @@ put_is time o v s e = ap (λ o. put_value time o s) e
 pub cell-put : (world : World) (p : List ℕ) (time : ℤ) (literal : Literal) (fit : Fits literal (get world p))
     → change world p (put_literal time literal) ≡ insert world p (put time fit.value fit.series)
 cell-put world p time literal fit =
-    ap (changed world p (put_literal time literal)) fit.there ∙ ap (insert world p) (put_is time _ fit.value fit.series fit.is)
+    ap (change_series world p (put_literal time literal)) fit.there ∙ ap (insert world p) (put_is time _ fit.value fit.series fit.is)
 
 pub here : (world : World) (p : List ℕ) (s : Series) → get (insert world p s) p ≡ Some s
 here world p s = get-insert nat_list_cmp_total world p s p ∙ ap (λ b. cond b (Some s) (get world p)) ((eq_by_cmp_equiv nat_list_cmp_total).refl p)
@@ -227,11 +227,11 @@ on_err (Err y) e h = h
 pub there_is : (world catalog : World) (device name path : List ℕ) (found : Option (Bor Series)) (b : Bool) → catalog ≡ world → child_of device name ≡ path
     → option_copied found ≡ series_of catalog device name → is_some found ≡ b → contains_key world path ≡ b
 there_is world catalog device name path found b same joined is tested =
-    sym (ap is_some (is ∙ ap (λ w. get w (child_of device name)) same ∙ ap (get world) joined)) ∙ copied found ∙ tested
+    sym (ap is_some (is ∙ ap (λ w. get w (child_of device name)) same ∙ ap (get world) joined)) ∙ copy_option found ∙ tested
   where
-    copied : (o : Option (Bor Series)) → is_some (option_copied o) ≡ is_some o
-    copied None = refl
-    copied (Some x) = refl
+    copy_option : (o : Option (Bor Series)) → is_some (option_copied o) ≡ is_some o
+    copy_option None = refl
+    copy_option (Some x) = refl
 
 pub at_some : {A : Type 0} (P : A → Type 0) (o : Option A) (x : A) → IfSome o P → o ≡ Some x → P x
 at_some P o x h e = subst (λ o. IfSome o P) e h

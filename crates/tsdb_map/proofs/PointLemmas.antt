@@ -12,7 +12,7 @@ use Rattle.std.specs.declared.ops.Bound.TheVariants.{Included, Excluded}
 use Rattle.tsdb_base.specs.declared.point.Range.{Range}
 use Rattle.tsdb_base.specs.declared.value.DataType.{DataType}
 use Rattle.tsdb_map.specs.Folds.{within}
-use Rattle.tsdb_map.specs.Kept.{series_view, set_at}
+use Rattle.tsdb_map.specs.Model.{series_view, set_at}
 use Rattle.std.specs.Cmp.{eq_by_cmp_equiv, int_cmp_total}
 use Rattle.std.specs.FinMap.{len, len-entries, get, insert, remove, entries, from_entries, from_sorted, get-from_entries, get-from_sorted, entries-from_sorted, retain_keys, get-entries, entries_sorted, get-retain_keys, get-insert, get-remove, same_map, int_cmp-IsAntisymmetric}
 use Rattle.std.specs.FinMap.Entries.{find, below_all, is_sorted, where_key, is_sorted-where_key, find-where_key}

@@ -16,8 +16,8 @@ use Rattle.std.proofs.lemmas.Bool.{false≢true}
 use Rattle.std.proofs.lemmas.List.Elements.{recursion_from_All, All-from_recursion}
 use Rattle.std.proofs.lemmas.Map.Views.{tells_apart, All-values-set_value, All-values-insert_entry, All-keys-insert_entry, IfSome-lookup_from_All}
 use Rattle.std.proofs.lemmas.Map.Lookups.{exact_bytes}
-use Rattle.tsdb_map.specs.World.{change, changed, Series, World}
-use Rattle.tsdb_map.specs.Kept.{AreKept, IsDotless, device_entries, world_of}
+use Rattle.tsdb_map.specs.World.{change, change_series, Series, World}
+use Rattle.tsdb_map.specs.Model.{AreKept, IsDotless, device_entries, world_of}
 use Rattle.tsdb_path.specs.Nodes.{child_of, device_of, dot, IsName}
 use Rattle.tsdb_path.proofs.Bytes.{IsNode-dotless}
 use Rattle.tsdb_path.proofs.Parts.{device_of-child}
@@ -341,7 +341,7 @@ nothing found some none = absurd (false≢true (sym (ap is_some none) ∙ some))
 
 -- what was written to the series that was found is written to the world
 pub change-there : (world : World) (p : List ℕ) (f : Series → Series) (s t : Series) → get world p ≡ Some s → t ≡ f s → insert world p t ≡ change world p f
-change-there world p f s t there is = ap (insert world p) is ∙ sym (ap (changed world p f) there)
+change-there world p f s t there is = ap (insert world p) is ∙ sym (ap (change_series world p f) there)
 
 pub dotless-empty : (names : Names) → names.entries ≡ [] → All IsDotless (tree.keys names)
 dotless-empty names e = subst (λ es. All IsDotless (keys_of es)) (sym e) (All-from_recursion IsDotless [] tt)

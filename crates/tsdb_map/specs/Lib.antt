@@ -2,7 +2,7 @@ pub mod Apply
 pub mod Commands
 pub mod Folds
 pub mod History
-pub mod Kept
+pub mod Model
 pub mod Laws
 pub mod Limits
 pub mod State

@@ -37,12 +37,12 @@ abbrev pub cut : Range → Series → Series
 cut range series = record { data_type = series.data_type; points = retain_keys series.points (λ time. not (is_in range time)) }
 
 -- the world where a series, if it is there, has become another
-abbrev pub changed : World → List ℕ → (Series → Series) → Option Series → World
-changed world path f None = world
-changed world path f (Some series) = insert world path (f series)
+abbrev pub change_series : World → List ℕ → (Series → Series) → Option Series → World
+change_series world path f None = world
+change_series world path f (Some series) = insert world path (f series)
 
 abbrev pub change : World → List ℕ → (Series → Series) → World
-change world path f = changed world path f (get world path)
+change world path f = change_series world path f (get world path)
 
 -- the points of a series, and none where it is not there
 abbrev pub points_of : Option Series → Points

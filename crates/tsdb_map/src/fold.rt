@@ -4,7 +4,7 @@ ghost use Rattle.std.specs.Prelude.{◌≡◌, ◌<◌, ◌^◌, IfOk, length, o
 ghost use Rattle.std.specs.Option.{option_copied};
 ghost use Rattle.std.specs.List.{reduce};
 ghost use Rattle.tsdb_map.specs.Folds as folds;
-ghost use Rattle.tsdb_map.specs.Kept.{better, listed};
+ghost use Rattle.tsdb_map.specs.Model.{better, points_of_entries};
 
 use std::collections::btree_map;
 use tsdb_base::{Memory, Time, Value};
@@ -64,24 +64,24 @@ pub fn time(point: Option<(&Time, &Value)>) -> Option<Value>
 
 /// The least number among the values.
 pub fn least(points: btree_map::Range<'_, Time, Value>) -> Result<Option<Value>, Memory>
-    ensures { IfOk result (λ value. value ≡ reduce folds.lesser (folds.numbers (listed points.entry))) }
+    ensures { IfOk result (λ value. value ≡ reduce folds.lesser (folds.numbers (points_of_entries points.entry))) }
 {
     let mut least: Option<&Value> = None;
     for (_, value) in points {
         least = lesser(least, value);
     }
-    copied(least)
+    copy_option(least)
 }
 
 /// The greatest number among the values.
 pub fn greatest(points: btree_map::Range<'_, Time, Value>) -> Result<Option<Value>, Memory>
-    ensures { IfOk result (λ value. value ≡ reduce folds.greater (folds.numbers (listed points.entry))) }
+    ensures { IfOk result (λ value. value ≡ reduce folds.greater (folds.numbers (points_of_entries points.entry))) }
 {
     let mut greatest: Option<&Value> = None;
     for (_, value) in points {
         greatest = greater(greatest, value);
     }
-    copied(greatest)
+    copy_option(greatest)
 }
 
 /// The lesser of two numbers, of which the first may not be there; another value is passed over.
@@ -117,7 +117,7 @@ fn greater<'a>(greatest: Option<&'a Value>, value: &'a Value) -> Option<&'a Valu
 }
 
 /// The same value once more, if there is one.
-pub fn copied(value: Option<&Value>) -> Result<Option<Value>, Memory>
+pub fn copy_option(value: Option<&Value>) -> Result<Option<Value>, Memory>
     ensures { IfOk result (λ copy. copy ≡ option_copied value.entry) }
 {
     match value {

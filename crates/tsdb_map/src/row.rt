@@ -2,7 +2,7 @@
 ghost use Rattle.std.specs.Prelude.{◌≡◌, IfOk, OnOk, OnErr, IsSome, true};
 ghost use Rattle.tsdb_map.specs.Apply as apply;
 ghost use Rattle.tsdb_map.specs.World.{change, value_at};
-ghost use Rattle.tsdb_map.specs.Kept.{set_at};
+ghost use Rattle.tsdb_map.specs.Model.{set_at};
 ghost use Rattle.tsdb_path.specs.Nodes.{child_of};
 
 use crate::catalog::Catalog;

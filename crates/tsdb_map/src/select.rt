@@ -5,7 +5,7 @@ ghost use Rattle.tsdb_base.specs.declared.answers.Answer.{Answer};
 ghost use Rattle.tsdb_map.specs.Apply as apply;
 ghost use Rattle.tsdb_map.specs.World.{points_of};
 ghost use Rattle.tsdb_map.specs.Folds.{within};
-ghost use Rattle.tsdb_map.specs.Kept.{is_number_aggregate};
+ghost use Rattle.tsdb_map.specs.Model.{is_number_aggregate};
 
 use crate::catalog::Catalog;
 use crate::command::Item;

@@ -5,7 +5,7 @@ ghost use Rattle.std.specs.FinMap as map;
 ghost use Rattle.std.specs.BTreeSet as set;
 ghost use Rattle.tsdb_map.specs.World.{cut, new_series};
 ghost use Rattle.tsdb_map.specs.Folds.{aggregate_of, in_order, within};
-ghost use Rattle.tsdb_map.specs.Kept.{set_at};
+ghost use Rattle.tsdb_map.specs.Model.{set_at};
 
 use crate::fold;
 use std::alloc::Global;
@@ -22,7 +22,7 @@ pub struct Series {
 
 impl Model for Series {
     ghost use Rattle.tsdb_map.specs.World as world;
-    ghost use Rattle.tsdb_map.specs.Kept.{series_code, series_view};
+    ghost use Rattle.tsdb_map.specs.Model.{series_code, series_view};
     ghost use Rattle.std.specs.Ordering.{int_cmp};
     ghost use Rattle.std.specs.BTreeMap.{IsOrdered};
     ghost use Rattle.tsdb_base.specs.contracts.value.Value as value;
@@ -100,7 +100,7 @@ impl Series {
         if to < time {
             return Ok(None);
         }
-        fold::copied(self.points.get(&time))
+        fold::copy_option(self.points.get(&time))
     }
 
     /// The points in the range, in order of time.

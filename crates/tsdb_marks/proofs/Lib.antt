@@ -2,4 +2,4 @@ pub mod Order
 pub mod TopLemmas
 pub mod IndexLemmas
 pub mod PointLemmas
-pub mod KeptLemmas
+pub mod ModelLemmas

@@ -5,4 +5,4 @@ pub mod Index
 pub mod Moments
 pub mod Survival
 pub mod Lists
-pub mod Kept
+pub mod Model

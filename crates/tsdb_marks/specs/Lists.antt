@@ -15,9 +15,9 @@ abbrev pub is_newer_than : ℕ → Mark → Bool
 is_newer_than version mark = nat_lt version mark.version.0
 
 -- without the marks whose version is at most this; without all where there is none
-abbrev pub purged : Option Stamp → List Mark → List Mark
-purged None marks = []
-purged (Some version) marks = filter (is_newer_than version.0) marks
+abbrev pub purge_list : Option Stamp → List Mark → List Mark
+purge_list None marks = []
+purge_list (Some version) marks = filter (is_newer_than version.0) marks
 
 -- whether the mark is of one of these series
 abbrev pub is_of : List (List ℕ) → Mark → Bool

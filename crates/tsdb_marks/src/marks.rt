@@ -6,9 +6,9 @@ ghost use Rattle.std.specs.HashSet.{contains_by};
 ghost use Rattle.std.specs.Cmp.Lexicographic.{pointwise};
 ghost use Rattle.tsdb_marks.specs.Moments.{moment as moment_of};
 ghost use Rattle.tsdb_marks.specs.Survival.{Survives, Meets};
-ghost use Rattle.tsdb_marks.specs.Lists.{is_newer_than, is_of, purged};
+ghost use Rattle.tsdb_marks.specs.Lists.{is_newer_than, is_of, purge_list};
 ghost use Rattle.tsdb_marks.specs.Index.{HasRoom};
-ghost use Rattle.tsdb_marks.specs.Kept.{HasTimes, IsIndexOf};
+ghost use Rattle.tsdb_marks.specs.Model.{HasTimes, IsIndexOf};
 
 use crate::index::Index;
 use crate::stretches::Stretch;
@@ -59,9 +59,9 @@ impl Model for Marks {
 
     ghost Value = { Marks };
 
-    ghost use Rattle.tsdb_marks.specs.Kept.{IsKept, shown};
+    ghost use Rattle.tsdb_marks.specs.Model.{IsKept, marks_view};
 
-    ghost view = { shown };
+    ghost view = { marks_view };
 
     ghost invariant = { IsKept };
 }
@@ -182,7 +182,7 @@ impl Marks {
 
     /// Drops every mark whose version is at most `min_born`, and all marks where there is none. It takes no memory.
     pub fn purge(&mut self, min_born: Option<Stamp>)
-        ensures marks { self.new.marks ≡ purged min_born self.old.marks }
+        ensures marks { self.new.marks ≡ purge_list min_born self.old.marks }
         ensures spare { self.new.spare ≡ self.old.spare }
     {
         let Some(Stamp(version)) = min_born else {

@@ -97,7 +97,12 @@ impl Fork {
 }
 
 /// The tree with this stretch at its top.
-fn joined(mut memory: Box<Fork>, left: Stretches, stretch: Stretch, right: Stretches) -> Stretches
+fn join_halves(
+    mut memory: Box<Fork>,
+    left: Stretches,
+    stretch: Stretch,
+    right: Stretches,
+) -> Stretches
     requires { IsOrdered (left ++ stretch ∷ right) }
     ensures { result ≡ left ++ stretch ∷ right }
 {
@@ -202,7 +207,7 @@ impl Stretches {
                 None => self,
                 Some(top) => {
                     let left = self.merge(top.left);
-                    joined(top.memory, left, top.stretch, top.right)
+                    join_halves(top.memory, left, top.stretch, top.right)
                 }
             }
         } else {
@@ -210,7 +215,7 @@ impl Stretches {
                 None => others,
                 Some(top) => {
                     let right = top.right.merge(others);
-                    joined(top.memory, top.left, top.stretch, right)
+                    join_halves(top.memory, top.left, top.stretch, right)
                 }
             }
         }
@@ -228,18 +233,24 @@ impl Stretches {
         };
         if top.stretch.to < moment {
             let (before, behind) = top.right.split(moment, memory);
-            return (joined(top.memory, top.left, top.stretch, before), behind);
+            return (
+                join_halves(top.memory, top.left, top.stretch, before),
+                behind,
+            );
         }
         if moment <= top.stretch.from {
             let (before, behind) = top.left.split(moment, memory);
-            return (before, joined(top.memory, behind, top.stretch, top.right));
+            return (
+                before,
+                join_halves(top.memory, behind, top.stretch, top.right),
+            );
         }
         let Some(other) = memory.pop() else {
             unreachable!()
         };
         let (first, second) = cut(top.stretch, moment);
-        let before = joined(top.memory, top.left, first, Stretches::new());
-        let second = joined(other, Stretches::new(), second, Stretches::new());
+        let before = join_halves(top.memory, top.left, first, Stretches::new());
+        let second = join_halves(other, Stretches::new(), second, Stretches::new());
         (before, second.merge(top.right))
     }
 
@@ -296,7 +307,7 @@ impl Stretches {
         if top.stretch.version <= version {
             return left.merge(right);
         }
-        joined(top.memory, left, top.stretch, right)
+        join_halves(top.memory, left, top.stretch, right)
     }
 
     /// The stretches with this one over them, which takes memory for three of the list.
@@ -312,7 +323,7 @@ impl Stretches {
         let Some(top) = memory.pop() else {
             unreachable!()
         };
-        let middle = joined(top, Stretches::new(), stretch, Stretches::new());
+        let middle = join_halves(top, Stretches::new(), stretch, Stretches::new());
         before.merge(middle.merge(behind))
     }
 }

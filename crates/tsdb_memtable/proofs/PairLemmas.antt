@@ -17,12 +17,12 @@ use Rattle.tsdb_base.specs.declared.ids.Space.{Space}
 use Rattle.tsdb_base.specs.declared.ids.Space.TheVariants.{Sequence, Unsequence}
 use Rattle.tsdb_base.specs.declared.point.Point.{Point}
 use Rattle.tsdb_memtable.specs.declared.series.Totals.{Totals}
-use Rattle.tsdb_memtable.specs.Kept.{most_bytes, totals_of, with_room}
+use Rattle.tsdb_memtable.specs.Model.{most_bytes, totals_of, with_room}
 use Rattle.tsdb_memtable.specs.Limits.{max_bytes}
 use Rattle.tsdb_memtable.specs.Points.{point_bytes, bytes_of}
 use Rattle.tsdb_memtable.specs.Pairs.{Pair, SeriesPoints, blank, byte_count, is_series, points_in, series_bytes, table}
 use Rattle.tsdb_memtable.proofs.PlaceLemmas.{is_eq-equal}
-use Rattle.tsdb_memtable.specs.PairKept.{AreTotals, CanSwap, IsPart, IsSwap, most_of}
+use Rattle.tsdb_memtable.specs.PairModel.{AreTotals, CanSwap, IsPart, IsSwap, most_of}
 
 -- a point counts a byte at least
 

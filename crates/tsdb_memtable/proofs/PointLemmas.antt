@@ -10,7 +10,7 @@ use Rattle.std.proofs.lemmas.List.Elements.{All-head, All-tail, All-cons, All-ap
 use Rattle.std.proofs.lemmas.List.Kept.{AllPairs-filter, AllPairs-cons}
 use Rattle.tsdb_base.specs.declared.point.Point.{Point}
 use Rattle.tsdb_base.specs.declared.point.Range.{Range}
-use Rattle.tsdb_memtable.specs.Points.{IsRising, is_before, is_after, is_within, is_outside, placed}
+use Rattle.tsdb_memtable.specs.Points.{IsRising, is_before, is_after, is_within, is_outside, with_point}
 use Rattle.tsdb_memtable.specs.Steps.{is_from, is_until}
 
 -- times
@@ -57,8 +57,8 @@ append-rising (x ∷ xs) ys a b h =
     (All-append (λ y. x.time <ℤ y.time) xs ys (head-rising x xs a) (All-head P x xs h))
     (append-rising xs ys (tail-rising x xs a) b (All-tail P x xs h))
 
-pub placed-rising : (point : Point) (xs : List Point) → IsRising xs → IsRising (placed point xs)
-placed-rising point xs rising =
+pub with_point-rising : (point : Point) (xs : List Point) → IsRising xs → IsRising (with_point point xs)
+with_point-rising point xs rising =
     let t = point.time in
     let before = filter (is_before t) xs in
     let after = filter (is_after t) xs in
@@ -142,9 +142,9 @@ after-none time (x ∷ xs) rising from none =
 
 -- a put
 
-pub placed-inserted : (point : Point) (xs : List Point) (i : ℕ) → IsRising xs → i ≤ length xs → take i xs ≡ filter (is_before point.time) xs → drop i xs ≡ filter (is_from point.time) xs
-    → (i < length xs → (get_or xs i point).time ≢ point.time) → take i xs ++ point ∷ drop i xs ≡ placed point xs
-placed-inserted point xs i rising le front back none =
+pub with_point-inserted : (point : Point) (xs : List Point) (i : ℕ) → IsRising xs → i ≤ length xs → take i xs ≡ filter (is_before point.time) xs → drop i xs ≡ filter (is_from point.time) xs
+    → (i < length xs → (get_or xs i point).time ≢ point.time) → take i xs ++ point ∷ drop i xs ≡ with_point point xs
+with_point-inserted point xs i rising le front back none =
     let t = point.time in
     let from = filter (is_from t) xs in
     let R : Point → Point → Type 0 = λ a b. a.time <ℤ b.time in
@@ -156,9 +156,9 @@ placed-inserted point xs i rising le front back none =
     let behind : filter (is_after t) xs ≡ drop i xs = sym (after-from t xs) ∙ after-none t from (AllPairs-filter R (is_from t) xs rising) (filter_passes (is_from t) xs) apart ∙ sym back in
     rw (front, behind) refl
 
-pub placed-replaced : (point : Point) (xs : List Point) (i : ℕ) → IsRising xs → i < length xs → take i xs ≡ filter (is_before point.time) xs → drop i xs ≡ filter (is_from point.time) xs
-    → (get_or xs i point).time ≡ point.time → set xs i point ≡ placed point xs
-placed-replaced point xs i rising lt front back same =
+pub with_point-replaced : (point : Point) (xs : List Point) (i : ℕ) → IsRising xs → i < length xs → take i xs ≡ filter (is_before point.time) xs → drop i xs ≡ filter (is_from point.time) xs
+    → (get_or xs i point).time ≡ point.time → set xs i point ≡ with_point point xs
+with_point-replaced point xs i rising lt front back same =
     let t = point.time in
     let from = filter (is_from t) xs in
     let R : Point → Point → Type 0 = λ a b. a.time <ℤ b.time in

@@ -1,6 +1,6 @@
-pub mod Kept
+pub mod Model
 pub mod Limits
-pub mod PairKept
+pub mod PairModel
 pub mod Pairs
 pub mod Points
 pub mod Steps

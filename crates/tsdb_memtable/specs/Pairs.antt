@@ -8,7 +8,7 @@ use Rattle.tsdb_base.specs.declared.ids.Space.{Space}
 use Rattle.tsdb_base.specs.declared.ids.Space.TheVariants.{Sequence, Unsequence}
 use Rattle.tsdb_base.specs.declared.point.Point.{Point}
 use Rattle.tsdb_base.specs.declared.point.Range.{Range}
-use Rattle.tsdb_memtable.specs.Points.{placed, is_outside, bytes_of}
+use Rattle.tsdb_memtable.specs.Points.{with_point, is_outside, bytes_of}
 
 -- the points of a series in each space, in order of time, and for how many more there is room
 pub record SeriesPoints : Type 0 where
@@ -45,21 +45,21 @@ spare_of series pair = (series_at series pair).spare
 -- the point in this space, in place of one at its time; it uses up room for one
 abbrev pub put_in : Space → Point → SeriesPoints → SeriesPoints
 put_in Sequence point series =
-    record { sequence = placed point series.sequence; unsequence = series.unsequence; spare = series.spare - 1 }
+    record { sequence = with_point point series.sequence; unsequence = series.unsequence; spare = series.spare - 1 }
 put_in Unsequence point series =
-    record { sequence = series.sequence; unsequence = placed point series.unsequence; spare = series.spare - 1 }
+    record { sequence = series.sequence; unsequence = with_point point series.unsequence; spare = series.spare - 1 }
 
 -- without the points of both spaces in the range
-abbrev pub erased : Range → SeriesPoints → SeriesPoints
-erased range series = record {
+abbrev pub without_range : Range → SeriesPoints → SeriesPoints
+without_range range series = record {
   sequence = filter (is_outside range) series.sequence;
   unsequence = filter (is_outside range) series.unsequence;
   spare = series.spare;
 }
 
 -- the pair where one series has become another, and the others stay
-abbrev pub changed : ℕ → (SeriesPoints → SeriesPoints) → Pair → Pair
-changed series f pair = set_value (is_series series) pair (f (series_at series pair))
+abbrev pub change_points : ℕ → (SeriesPoints → SeriesPoints) → Pair → Pair
+change_points series f pair = set_value (is_series series) pair (f (series_at series pair))
 
 -- the series with points in the space, and their points there
 abbrev pub table : Space → Pair → List (ℕ × List Point)

@@ -27,8 +27,8 @@ abbrev pub is_outside : Range → Point → Bool
 is_outside range point = not (is_within range point)
 
 -- the points before its time, the point, and those after its time
-abbrev pub placed : Point → List Point → List Point
-placed point points = filter (is_before point.time) points ++ point ∷ filter (is_after point.time) points
+abbrev pub with_point : Point → List Point → List Point
+with_point point points = filter (is_before point.time) points ++ point ∷ filter (is_after point.time) points
 
 -- how many bytes a value counts
 abbrev pub value_bytes : Value → ℕ

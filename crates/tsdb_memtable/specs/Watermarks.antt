@@ -28,9 +28,9 @@ abbrev pub HasPlace : Watermarks → List ℕ → Type 0
 HasPlace watermarks device = IsSome (lookup (is_device device) watermarks)
 
 -- the greater of the two times
-abbrev pub raised : Option ℤ → ℤ → Option ℤ
-raised None time = Some time
-raised (Some last) time = cond (int_lt time last) (Some last) (Some time)
+abbrev pub later_time : Option ℤ → ℤ → Option ℤ
+later_time None time = Some time
+later_time (Some last) time = cond (int_lt time last) (Some last) (Some time)
 
 -- a point whose time is greater than the watermark, or whose device has none, is of the sequence space, every other of the unsequence space
 abbrev pub space_by : Option ℤ → ℤ → Space

@@ -4,8 +4,8 @@ ghost use Rattle.std.specs.List.{filter};
 ghost use Rattle.tsdb_base.specs.declared.ids.Space.{Space as SpaceOf};
 ghost use Rattle.tsdb_memtable.specs.Points.{is_within};
 ghost use Rattle.tsdb_memtable.specs.Watermarks.{watermark, space_by};
-ghost use Rattle.tsdb_memtable.specs.Pairs.{byte_count, changed, count, erased, points_of, put_in, spare_of, table};
-ghost use Rattle.tsdb_memtable.specs.PairKept.{CanSwap, IsSwap, HasRoomFor};
+ghost use Rattle.tsdb_memtable.specs.Pairs.{byte_count, change_points, count, without_range, points_of, put_in, spare_of, table};
+ghost use Rattle.tsdb_memtable.specs.PairModel.{CanSwap, IsSwap, HasRoomFor};
 
 use crate::series::{SeriesPoints, Totals};
 use crate::watermarks::{Watermarks, space_of};
@@ -33,7 +33,7 @@ impl Model for Pair {
 
     ghost Value = { Pair };
 
-    ghost use Rattle.tsdb_memtable.specs.PairKept.{IsKept};
+    ghost use Rattle.tsdb_memtable.specs.PairModel.{IsKept};
 
     ghost view = { λ pair. pair.series.entries };
 
@@ -135,7 +135,7 @@ impl Pair {
     ) -> Space
         requires { 0 < spare_of series.0 self.old }
         ensures space { result ≡ space_by (watermark marks.now device.now) point.time }
-        ensures pair { self.new ≡ changed series.0 (put_in result point) self.old }
+        ensures pair { self.new ≡ change_points series.0 (put_in result point) self.old }
     {
         let space = space_of(marks.get(device), point.time);
         let Some(points) = self.series.get_mut(&series.0) else {
@@ -149,7 +149,7 @@ impl Pair {
 
     /// Removes the points of the series in the range, from both spaces. It takes no memory.
     pub fn erase(&mut self, series: SeriesId, range: &Range)
-        ensures { self.new ≡ changed series.0 (erased range.now) self.old }
+        ensures { self.new ≡ change_points series.0 (without_range range.now) self.old }
     {
         let Some(points) = self.series.get_mut(&series.0) else {
             return;

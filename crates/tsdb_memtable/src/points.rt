@@ -2,7 +2,7 @@
 ghost use Rattle.std.specs.Prelude.{◌≡◌, ◌↔◌, IsTrue, ◌+◌, ◌<◌, ◌≤◌, length, take, drop, vec_len, vec_capacity};
 ghost use Rattle.std.specs.List.{filter};
 ghost use Rattle.tsdb_memtable.specs.Limits.{max_point_bytes, max_bytes};
-ghost use Rattle.tsdb_memtable.specs.Points.{IsRising, is_before, is_after, is_outside, is_within, placed, point_bytes as bytes_of_point, bytes_of as bytes_of_points};
+ghost use Rattle.tsdb_memtable.specs.Points.{IsRising, is_before, is_after, is_outside, is_within, with_point, point_bytes as bytes_of_point, bytes_of as bytes_of_points};
 ghost use Rattle.tsdb_memtable.specs.Steps.{is_from, is_until};
 
 use std::mem;
@@ -99,7 +99,7 @@ fn until_time(points: &[Point], time: Time) -> &[Point]
 pub(crate) fn put(points: &mut Vec<Point>, point: Point) -> u64
     requires rising { IsRising points.old.items }
     requires room { vec_len points.old < vec_capacity points.old }
-    ensures items { points.new.items ≡ placed point points.old.items }
+    ensures items { points.new.items ≡ with_point point points.old.items }
     ensures rising { IsRising points.new.items }
     ensures bytes { bytes_of_points points.new.items + result
         ≡ bytes_of_points points.old.items + bytes_of_point point }

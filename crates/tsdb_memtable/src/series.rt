@@ -3,8 +3,8 @@ ghost use Rattle.std.specs.Prelude.{◌≡◌, ◌==◌, ◌+◌, ◌*◌, ◌<�
 ghost use Rattle.std.specs.List.{filter};
 ghost use Rattle.tsdb_memtable.specs.Limits.{max_point_bytes, max_bytes};
 ghost use Rattle.tsdb_memtable.specs.Points.{is_within};
-ghost use Rattle.tsdb_memtable.specs.Pairs.{blank, erased, points_in, put_in, series_bytes};
-ghost use Rattle.tsdb_memtable.specs.Kept.{most_bytes, totals_of, with_room};
+ghost use Rattle.tsdb_memtable.specs.Pairs.{blank, without_range, points_in, put_in, series_bytes};
+ghost use Rattle.tsdb_memtable.specs.Model.{most_bytes, totals_of, with_room};
 
 use crate::points;
 use std::alloc::Global;
@@ -35,9 +35,9 @@ impl Model for SeriesPoints {
 
     ghost Value = { SeriesPoints };
 
-    ghost use Rattle.tsdb_memtable.specs.Kept.{shown, IsKept};
+    ghost use Rattle.tsdb_memtable.specs.Model.{points_view, IsKept};
 
-    ghost view = { shown };
+    ghost view = { points_view };
 
     ghost invariant = { IsKept };
 }
@@ -97,11 +97,11 @@ impl SeriesPoints {
 
     /// Removes the points of both spaces in the range.
     pub(crate) fn erase(&mut self, range: &Range)
-        ensures value { self.new ≡ erased range.now self.old }
+        ensures value { self.new ≡ without_range range.now self.old }
         ensures most { most_bytes self.new ≤ most_bytes self.old }
     {
-        let erased = points::erase(&mut self.sequence, range);
-        self.bytes -= erased + points::erase(&mut self.unsequence, range);
+        let sequence_bytes = points::erase(&mut self.sequence, range);
+        self.bytes -= sequence_bytes + points::erase(&mut self.unsequence, range);
     }
 
     /// Whether no point is in the space.

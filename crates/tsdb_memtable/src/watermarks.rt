@@ -1,6 +1,6 @@
 //! The last flushed time of each device. It depends on `tsdb_path`.
 ghost use Rattle.std.specs.Prelude.{◌≡◌, ◌≢◌, ℕ, List, [], OnOk, IsSome};
-ghost use Rattle.tsdb_memtable.specs.Watermarks.{watermark, HasPlace, raised, space_by};
+ghost use Rattle.tsdb_memtable.specs.Watermarks.{watermark, HasPlace, later_time, space_by};
 
 use std::alloc::Global;
 use std::collections::BTreeMap;
@@ -25,7 +25,7 @@ impl Model for Watermarks {
 
 /// The greater of the two.
 fn greater(last: Option<Time>, time: Time) -> Option<Time>
-    ensures { result ≡ raised last time }
+    ensures { result ≡ later_time last time }
 {
     match last {
         Some(last) if time < last => Some(last),
@@ -83,7 +83,7 @@ impl Watermarks {
     /// Raises the watermark of the device to the time, where it is none or less. It takes no memory.
     pub fn raise(&mut self, device: &Path, time: Time)
         requires { HasPlace self.old device.now }
-        ensures raised { watermark self.new device.now ≡ raised (watermark self.old device.now) time }
+        ensures later_time { watermark self.new device.now ≡ later_time (watermark self.old device.now) time }
         ensures others { (other : List ℕ) → device.now ≢ other → watermark self.new other ≡ watermark self.old other }
         ensures places { (other : List ℕ) → HasPlace self.old other → HasPlace self.new other }
     {

@@ -23,7 +23,7 @@ use Rattle.tsdb_map.specs.Commands.{AreItems, IsWellFormed}
 use Rattle.tsdb_map.specs.History.{IsAllowed}
 use Rattle.tsdb_map.specs.State.{State}
 use Rattle.tsdb_map.specs.World.{World}
-use Rattle.tsdb_print.specs.Alike.{IsInRange, IsRowInRange, IsCellInRange, shown, shown_answer, shown_value, shown_values, shown_row}
+use Rattle.tsdb_print.specs.Alike.{IsInRange, IsRowInRange, IsCellInRange, as_printed, shown_answer, shown_value, shown_values, shown_row}
 use Rattle.tsdb_print.specs.Text.{aggregate_name, answer_text, cell_text, column_text, item_text, items_of, join_with_commas, line, reply_text, row_text, rows_text, values_text}
 use Rattle.tsdb_print.proofs.Words.{Begins, IsWord, Stops, apart_by_stop}
 use Rattle.tsdb_print.proofs.Cells.{rows_lines, same_rows, same_values}
@@ -194,7 +194,7 @@ values_apart : (items : List Item) (a b : List (Option Value)) → AllByRecursio
 values_apart items a b ra rb e = same_values a b ra rb (append_cancel_left (line (join_with_commas (map item_text items))) (line (join_with_commas (map cell_text a))) (line (join_with_commas (map cell_text b))) e)
 
 pub apart : (command : Command) (a b : Reply) (state other : State) → IsWellFormed command → IsAllowed state command a → IsAllowed other command b → IsInRange a → IsInRange b
-    → reply_text command a ≡ reply_text command b → shown a ≡ shown b
+    → reply_text command a ≡ reply_text command b → as_printed a ≡ as_printed b
 unfolding stop_of
 apart command (Plain a) (Plain b) state other well allowed also ra rb e = ap Plain (same_answer a b e)
 apart command (Lines a) (Lines b) state other well allowed also ra rb e = ap Lines (rows_apart (items_of command) a b ra rb e)
@@ -233,11 +233,11 @@ answer_shown Device = refl
 answer_shown Memory = refl
 answer_shown (Full counter) = refl
 
-text_shown : (command : Command) (a : Reply) → reply_text command (shown a) ≡ reply_text command a
+text_shown : (command : Command) (a : Reply) → reply_text command (as_printed a) ≡ reply_text command a
 text_shown command (Plain answer) = ap line (answer_shown answer)
 text_shown command (Lines rows) = rows_text_shown (items_of command) rows
 text_shown command (Values values) = ap (λ cells. line (join_with_commas (map item_text (items_of command))) ++ line (join_with_commas cells)) (cells_shown values)
 text_shown command (Files listing) = listing_shown listing
 
-pub alike : (command : Command) (a b : Reply) → shown a ≡ shown b → reply_text command a ≡ reply_text command b
+pub alike : (command : Command) (a b : Reply) → as_printed a ≡ as_printed b → reply_text command a ≡ reply_text command b
 alike command a b e = sym (text_shown command a) ∙ ap (reply_text command) e ∙ text_shown command b

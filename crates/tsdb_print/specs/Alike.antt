@@ -47,11 +47,11 @@ shown_listing listing = record {
 }
 
 -- what a reply shows
-abbrev pub shown : Reply → Reply
-shown (Plain answer) = Plain (shown_answer answer)
-shown (Lines rows) = Lines (map shown_row rows)
-shown (Values values) = Values (shown_values values)
-shown (Files listing) = Files (shown_listing listing)
+abbrev pub as_printed : Reply → Reply
+as_printed (Plain answer) = Plain (shown_answer answer)
+as_printed (Lines rows) = Lines (map shown_row rows)
+as_printed (Values values) = Values (shown_values values)
+as_printed (Files listing) = Files (shown_listing listing)
 
 -- numbers are in the ranges of their types
 abbrev pub IsValueInRange : Value → Type 0

@@ -13,7 +13,7 @@ use Rattle.tsdb_script.specs.declared.syntax.Syntax.{Syntax}
 use Rattle.tsdb_script.specs.declared.syntax.Syntax.TheVariants.{Create, Insert, Delete, Select, Flush, CompactInner, CompactCross, ShowFiles}
 use Rattle.tsdb_script.specs.declared.token.Token.{Token}
 use Rattle.tsdb_script.specs.declared.token.Token.TheVariants.{Word, Open, Close, Comma, Semicolon, Equal}
-use Rattle.tsdb_script.specs.Forms.{Place, keyword, either, this, word, name_places, value_places, column_places, condition_places, listed, where_places, form, Fits}
+use Rattle.tsdb_script.specs.Forms.{Place, keyword, either, this, word, name_places, value_places, column_places, condition_places, each_of, where_places, form, Fits}
 use Rattle.tsdb_script.specs.Parse.{Tokens, ◌>>=◌, word_at, keyword_at, timestamp_at, open_at, close_at, comma_at, equal_at, end_at, operand_at, condition_at, is_comma, says, column_at, next_word, next_operand, next_column, next_condition, list_at, words_at, values_at, columns_at, conditions_at, create_at, insert_at, delete_at, select_at, flush_at, inner_at, cross_at, compact_at, show_at, space_at, form_at, statement_at}
 use Rattle.tsdb_script.specs.Tokens.{is_keyword}
 use Rattle.tsdb_script.proofs.FormLemmas.{Stand, insert_tail, insert_middle, leads, take_this, take_keyword, take_timestamp, word_again, TakesPart, Stops, calm_this, calm_keyword, calm_end, again_name, again_value, again_column, again_condition, again_next, again_next_condition, comma_goes_on, and_goes_on, again_list}
@@ -48,21 +48,21 @@ end_again behind tokens (inr e) h =
     one [] h = refl
     one (t ∷ rest) h = absurd h.all
 
-again_words : (names : List (List ℕ)) (places : List Place) (tokens : Tokens) → 0 < length names → Stand (listed name_places names (this Close ∷ places)) tokens → TakesPart (words_at tokens) names (this Close ∷ places)
+again_words : (names : List (List ℕ)) (places : List Place) (tokens : Tokens) → 0 < length names → Stand (each_of name_places names (this Close ∷ places)) tokens → TakesPart (words_at tokens) names (this Close ∷ places)
 unfolding words_at
 again_words [] places tokens some h = absurd (omega (arith, some))
 again_words (x ∷ xs) places tokens some h =
     again_list (λ x. this Comma ∷ name_places x) is_comma next_word (again_next name_places word_at again_name) (comma_goes_on name_places) (λ x behind. calm_this Comma (name_places x ++ behind) (λ rest. refl))
     (this Close ∷ places) (calm_this Close places (λ rest. refl)) (stops_this Close places (λ rest. refl)) (λ x. omega arith) name_places word_at again_name x xs tokens h
 
-again_values : (values : List Operand) (places : List Place) (tokens : Tokens) → 0 < length values → Stand (listed value_places values (this Close ∷ places)) tokens → TakesPart (values_at tokens) values (this Close ∷ places)
+again_values : (values : List Operand) (places : List Place) (tokens : Tokens) → 0 < length values → Stand (each_of value_places values (this Close ∷ places)) tokens → TakesPart (values_at tokens) values (this Close ∷ places)
 unfolding values_at
 again_values [] places tokens some h = absurd (omega (arith, some))
 again_values (x ∷ xs) places tokens some h =
     again_list (λ x. this Comma ∷ value_places x) is_comma next_operand (again_next value_places operand_at again_value) (comma_goes_on value_places) (λ x behind. calm_this Comma (value_places x ++ behind) (λ rest. refl))
     (this Close ∷ places) (calm_this Close places (λ rest. refl)) (stops_this Close places (λ rest. refl)) (λ x. omega arith) value_places operand_at again_value x xs tokens h
 
-again_columns : (columns : List Column) (places : List Place) (tokens : Tokens) → 0 < length columns → Stand (listed column_places columns (keyword (codes "from") ∷ places)) tokens → TakesPart (columns_at tokens) columns (keyword (codes "from") ∷ places)
+again_columns : (columns : List Column) (places : List Place) (tokens : Tokens) → 0 < length columns → Stand (each_of column_places columns (keyword (codes "from") ∷ places)) tokens → TakesPart (columns_at tokens) columns (keyword (codes "from") ∷ places)
 unfolding columns_at
 again_columns [] places tokens some h = absurd (omega (arith, some))
 again_columns (x ∷ xs) places tokens some h =
@@ -93,17 +93,17 @@ again_conditions (x ∷ xs) behind tokens ended h =
     says_it (_ ∷ more) rest e = cc
 
 module _ (behind : List Place) (ended : (behind ≡ []) ⊎ (behind ≡ this Semicolon ∷ [])) (rest : Tokens) (device : List ℕ) (names : List (List ℕ)) (time : List ℕ) (values : List Operand) (some : 0 < length values) where
-  tail_again : Stand (listed value_places values (this Close ∷ behind)) rest → insert_tail device names time rest ≡ Some (Insert device names time values)
+  tail_again : Stand (each_of value_places values (this Close ∷ behind)) rest → insert_tail device names time rest ≡ Some (Insert device names time values)
   tail_again h =
       let n = again_values values behind rest some h in
       let o = take_this Close behind n.rest n.stand in
       leads (values_at rest) (values, n.rest) _ _ n.is (leads (close_at n.rest) o.rest _ _ (ap close_at o.is) (leads {A = Unit {0}} (end_at o.rest) tt _ _ (end_again behind o.rest ended o.stand) refl))
 
 middle_again : (behind : List Place) (ended : (behind ≡ []) ⊎ (behind ≡ this Semicolon ∷ [])) (rest : Tokens) (device : List ℕ) (names : List (List ℕ)) (time : List ℕ) (values : List Operand) → 0 < length values
-    → Stand (this Close ∷ keyword (codes "values") ∷ this Open ∷ word time ∷ this Comma ∷ listed value_places values (this Close ∷ behind)) rest
+    → Stand (this Close ∷ keyword (codes "values") ∷ this Open ∷ word time ∷ this Comma ∷ each_of value_places values (this Close ∷ behind)) rest
     → insert_middle device names rest ≡ Some (Insert device names time values)
 middle_again behind ended rest device names time values some h =
-    let last : List Place = listed value_places values (this Close ∷ behind) in
+    let last : List Place = each_of value_places values (this Close ∷ behind) in
     let i = take_this Close (keyword (codes "values") ∷ this Open ∷ word time ∷ this Comma ∷ last) rest h in
     let j = take_keyword (codes "values") (this Open ∷ word time ∷ this Comma ∷ last) i.rest i.stand in
     let k = take_this Open (word time ∷ this Comma ∷ last) j.rest j.stand in
@@ -137,13 +137,13 @@ module _ (behind : List Place) (ended : (behind ≡ []) ⊎ (behind ≡ this Sem
       (leads {A = Unit {0}} (end_at l.rest) tt _ _ (end_again behind l.rest ended l.stand) refl))))))))))
 
   insert_again : (device : List ℕ) (names : List (List ℕ)) (time : List ℕ) (values : List Operand) → 0 < length names → 0 < length values
-      → Stand (keyword (codes "into") ∷ word device ∷ this Open ∷ either (codes "timestamp") (codes "time") ∷ this Comma ∷ listed name_places names (this Close
-      ∷ keyword (codes "values") ∷ this Open ∷ word time ∷ this Comma ∷ listed value_places values (this Close ∷ behind))) tokens
+      → Stand (keyword (codes "into") ∷ word device ∷ this Open ∷ either (codes "timestamp") (codes "time") ∷ this Comma ∷ each_of name_places names (this Close
+      ∷ keyword (codes "values") ∷ this Open ∷ word time ∷ this Comma ∷ each_of value_places values (this Close ∷ behind))) tokens
       → insert_at tokens ≡ Some (Insert device names time values)
   unfolding insert_at
   insert_again device names time values some_names some_values h =
-      let middle : List Place = keyword (codes "values") ∷ this Open ∷ word time ∷ this Comma ∷ listed value_places values (this Close ∷ behind) in
-      let first : List Place = listed name_places names (this Close ∷ middle) in
+      let middle : List Place = keyword (codes "values") ∷ this Open ∷ word time ∷ this Comma ∷ each_of value_places values (this Close ∷ behind) in
+      let first : List Place = each_of name_places names (this Close ∷ middle) in
       let a = take_keyword (codes "into") (word device ∷ this Open ∷ either (codes "timestamp") (codes "time") ∷ this Comma ∷ first) tokens h in
       let b = take_this (Word device) (this Open ∷ either (codes "timestamp") (codes "time") ∷ this Comma ∷ first) a.rest a.stand in
       let c = take_this Open (either (codes "timestamp") (codes "time") ∷ this Comma ∷ first) b.rest b.stand in
@@ -164,7 +164,7 @@ module _ (behind : List Place) (ended : (behind ≡ []) ⊎ (behind ≡ this Sem
       (leads {A = Unit {0}} (end_at c.rest) tt _ _ (end_again behind c.rest ended c.stand) refl)))
 
   select_again : (columns : List Column) (device : List ℕ) (conditions : List Condition) → 0 < length columns
-      → Stand (listed column_places columns (keyword (codes "from") ∷ word device ∷ where_places conditions behind)) tokens → select_at tokens ≡ Some (Select columns device conditions)
+      → Stand (each_of column_places columns (keyword (codes "from") ∷ word device ∷ where_places conditions behind)) tokens → select_at tokens ≡ Some (Select columns device conditions)
   unfolding select_at
   select_again columns device conditions some h =
       let a = again_columns columns (word device ∷ where_places conditions behind) tokens some h in

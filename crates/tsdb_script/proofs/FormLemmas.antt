@@ -15,7 +15,7 @@ use Rattle.tsdb_script.specs.declared.syntax.Syntax.{Syntax}
 use Rattle.tsdb_script.specs.declared.syntax.Syntax.TheVariants.{Create, Insert, Delete, Select, Flush, CompactInner, CompactCross, ShowFiles}
 use Rattle.tsdb_script.specs.declared.token.Token.{Token}
 use Rattle.tsdb_script.specs.declared.token.Token.TheVariants.{Word, Text, Open, Close, Comma, Semicolon, Equal, Less, LessEqual, Greater, GreaterEqual}
-use Rattle.tsdb_script.specs.Forms.{Place, keyword, either, this, word, Stands, operand_token, comparison_token, name_places, value_places, column_places, condition_places, listed, where_places, form, Fits}
+use Rattle.tsdb_script.specs.Forms.{Place, keyword, either, this, word, Stands, operand_token, comparison_token, name_places, value_places, column_places, condition_places, each_of, where_places, form, Fits}
 use Rattle.tsdb_script.specs.Parse.{Tokens, ◌>>=◌, word_at, keyword_at, timestamp_at, open_at, close_at, comma_at, equal_at, end_at, operand_at, comparison_at, condition_at, opens, is_comma, says, called_at, column_at, onto, parts_at, next_word, next_operand, next_column, next_condition, list_at, words_at, values_at, columns_at, conditions_at, create_at, insert_at, delete_at, select_at, flush_at, inner_at, cross_at, compact_at, show_at, space_at, form_at, statement_at}
 use Rattle.tsdb_script.specs.Tokens.{is_keyword}
 
@@ -237,9 +237,9 @@ put_list {X} places next_places more next first puts puts_next tokens r behind e
           stand = puts tokens part (flat_map next_places s.0 ++ behind) found (rec s behind refl (subst (λ (r : List X × Tokens). Stand behind r.1) (sym is) h));
         }
 
-listed_from : {X : Type 0} (places : X → List Place) (xs : List X) (behind : List Place) (tokens : Tokens) → PutList places (λ x. this Comma ∷ places x) xs behind tokens → (0 < length xs) × Stand (listed places xs behind) tokens
+listed_from : {X : Type 0} (places : X → List Place) (xs : List X) (behind : List Place) (tokens : Tokens) → PutList places (λ x. this Comma ∷ places x) xs behind tokens → (0 < length xs) × Stand (each_of places xs behind) tokens
 listed_from {X} places xs behind tokens h =
-    let P : List X → Type 0 = λ l. (0 < length l) × Stand (listed places l behind) tokens in
+    let P : List X → Type 0 = λ l. (0 < length l) × Stand (each_of places l behind) tokens in
     subst P h.whole (omega arith, h.stand)
 
 where_from : (conditions : List Condition) (behind : List Place) (tokens rest : Tokens) → keyword_at (codes "where") tokens ≡ Some rest
@@ -253,17 +253,17 @@ put_next_condition tokens r behind e h =
     let a = step _ _ _ e in
     put_keyword (codes "and") tokens a.0 (condition_places r.0 ++ behind) a.1 (put_condition a.0 r behind a.2 h)
 
-pub put_words : (tokens : Tokens) (r : List (List ℕ) × Tokens) (behind : List Place) → words_at tokens ≡ Some r → Stand behind r.1 → (0 < length r.0) × Stand (listed name_places r.0 behind) tokens
+pub put_words : (tokens : Tokens) (r : List (List ℕ) × Tokens) (behind : List Place) → words_at tokens ≡ Some r → Stand behind r.1 → (0 < length r.0) × Stand (each_of name_places r.0 behind) tokens
 unfolding words_at
 put_words tokens r behind e h =
     listed_from name_places r.0 behind tokens (put_list name_places (λ x. this Comma ∷ name_places x) is_comma next_word word_at put_name (put_next name_places word_at put_name) tokens r behind e h)
 
-pub put_values : (tokens : Tokens) (r : List Operand × Tokens) (behind : List Place) → values_at tokens ≡ Some r → Stand behind r.1 → (0 < length r.0) × Stand (listed value_places r.0 behind) tokens
+pub put_values : (tokens : Tokens) (r : List Operand × Tokens) (behind : List Place) → values_at tokens ≡ Some r → Stand behind r.1 → (0 < length r.0) × Stand (each_of value_places r.0 behind) tokens
 unfolding values_at
 put_values tokens r behind e h =
     listed_from value_places r.0 behind tokens (put_list value_places (λ x. this Comma ∷ value_places x) is_comma next_operand operand_at put_value (put_next value_places operand_at put_value) tokens r behind e h)
 
-pub put_columns : (tokens : Tokens) (r : List Column × Tokens) (behind : List Place) → columns_at tokens ≡ Some r → Stand behind r.1 → (0 < length r.0) × Stand (listed column_places r.0 behind) tokens
+pub put_columns : (tokens : Tokens) (r : List Column × Tokens) (behind : List Place) → columns_at tokens ≡ Some r → Stand behind r.1 → (0 < length r.0) × Stand (each_of column_places r.0 behind) tokens
 unfolding columns_at
 put_columns tokens r behind e h =
     listed_from column_places r.0 behind tokens (put_list column_places (λ x. this Comma ∷ column_places x) is_comma next_column column_at put_column (put_next column_places column_at put_column) tokens r behind e h)
@@ -309,7 +309,7 @@ record InsertTail (device : List ℕ) (names : List (List ℕ)) (time : List ℕ
   ended : (behind ≡ []) ⊎ (behind ≡ this Semicolon ∷ [])
   is : Insert device names time values ≡ syntax
   some : 0 < length values
-  stand : Stand (listed value_places values (this Close ∷ behind)) rest
+  stand : Stand (each_of value_places values (this Close ∷ behind)) rest
 
 record InsertMiddle (device : List ℕ) (names : List (List ℕ)) (syntax : Syntax) (rest : Tokens) : Type 0 where
   time : List ℕ
@@ -318,7 +318,7 @@ record InsertMiddle (device : List ℕ) (names : List (List ℕ)) (syntax : Synt
   ended : (behind ≡ []) ⊎ (behind ≡ this Semicolon ∷ [])
   is : Insert device names time values ≡ syntax
   some : 0 < length values
-  stand : Stand (this Close ∷ keyword (codes "values") ∷ this Open ∷ word time ∷ this Comma ∷ listed value_places values (this Close ∷ behind)) rest
+  stand : Stand (this Close ∷ keyword (codes "values") ∷ this Open ∷ word time ∷ this Comma ∷ each_of value_places values (this Close ∷ behind)) rest
 
 insert_ends : (device : List ℕ) (names : List (List ℕ)) (time : List ℕ) (syntax : Syntax) (rest : Tokens) → insert_tail device names time rest ≡ Some syntax → InsertTail device names time syntax rest
 insert_ends device names time syntax rest e =
@@ -336,7 +336,7 @@ insert_goes_on device names syntax rest e =
     let k = step _ _ _ j.2 in
     let l = step _ _ _ k.2 in
     let t = insert_ends device names k.0.0 syntax l.0 l.2 in
-    let last : List Place = listed value_places t.values (this Close ∷ t.behind) in
+    let last : List Place = each_of value_places t.values (this Close ∷ t.behind) in
     record {
       time = k.0.0;
       values = t.values;
@@ -389,9 +389,9 @@ module _ (w : List ℕ) (tokens : Tokens) (syntax : Syntax) where
       let f = step _ _ _ d.2 in
       let g = step _ _ _ f.2 in
       let m = insert_goes_on b.0.0 g.0.0 syntax g.0.1 g.2 in
-      let middle : List Place = this Close ∷ keyword (codes "values") ∷ this Open ∷ word m.time ∷ this Comma ∷ listed value_places m.values (this Close ∷ m.behind) in
+      let middle : List Place = this Close ∷ keyword (codes "values") ∷ this Open ∷ word m.time ∷ this Comma ∷ each_of value_places m.values (this Close ∷ m.behind) in
       let names = put_words f.0 g.0 middle g.1 m.stand in
-      let first : List Place = listed name_places g.0.0 middle in
+      let first : List Place = each_of name_places g.0.0 middle in
       subst (Fits (Word w ∷ tokens)) m.is (record {
         parts = (names.0, m.some);
         behind = m.behind;

@@ -57,9 +57,9 @@ abbrev pub condition_places : Condition → List Place
 condition_places condition = keyword (codes "time") ∷ this (comparison_token condition.comparison) ∷ word condition.number ∷ []
 
 -- parts with commas between them, and what stands behind
-abbrev pub listed : {X : Type 0} → (X → List Place) → List X → List Place → List Place
-listed places [] behind = behind
-listed places (x ∷ xs) behind = places x ++ (flat_map (λ x. this token.Comma ∷ places x) xs ++ behind)
+abbrev pub each_of : {X : Type 0} → (X → List Place) → List X → List Place → List Place
+each_of places [] behind = behind
+each_of places (x ∷ xs) behind = places x ++ (flat_map (λ x. this token.Comma ∷ places x) xs ++ behind)
 
 -- nothing, or `where` and conditions with `and` between them, and what stands behind
 abbrev pub where_places : List Condition → List Place → List Place
@@ -74,12 +74,12 @@ form (Create path type encoding) behind =
     ∷ keyword (codes "encoding") ∷ this token.Equal ∷ word encoding ∷ behind
 form (Insert device names time values) behind =
     keyword (codes "insert") ∷ keyword (codes "into") ∷ word device
-    ∷ this token.Open ∷ either (codes "timestamp") (codes "time") ∷ this token.Comma ∷ listed name_places names (this token.Close
-    ∷ keyword (codes "values") ∷ this token.Open ∷ word time ∷ this token.Comma ∷ listed value_places values (this token.Close ∷ behind))
+    ∷ this token.Open ∷ either (codes "timestamp") (codes "time") ∷ this token.Comma ∷ each_of name_places names (this token.Close
+    ∷ keyword (codes "values") ∷ this token.Open ∷ word time ∷ this token.Comma ∷ each_of value_places values (this token.Close ∷ behind))
 form (Delete path conditions) behind =
     keyword (codes "delete") ∷ keyword (codes "from") ∷ word path ∷ where_places conditions behind
 form (Select columns device conditions) behind =
-    keyword (codes "select") ∷ listed column_places columns (keyword (codes "from") ∷ word device ∷ where_places conditions behind)
+    keyword (codes "select") ∷ each_of column_places columns (keyword (codes "from") ∷ word device ∷ where_places conditions behind)
 form Flush behind = keyword (codes "flush") ∷ behind
 form (CompactInner Sequence) behind = keyword (codes "compact") ∷ keyword (codes "inner") ∷ keyword (codes "sequence") ∷ behind
 form (CompactInner Unsequence) behind = keyword (codes "compact") ∷ keyword (codes "inner") ∷ keyword (codes "unsequence") ∷ behind

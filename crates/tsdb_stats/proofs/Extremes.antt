@@ -8,25 +8,25 @@ use Rattle.tsdb_base.specs.declared.point.Point.{Point}
 use Rattle.tsdb_base.specs.declared.value.Value.{Value}
 use Rattle.tsdb_base.specs.declared.value.Value.TheVariants as value
 use Rattle.tsdb_map.specs.Folds.{numbers}
-use Rattle.tsdb_stats.specs.Steps.{joined, number_in}
+use Rattle.tsdb_stats.specs.Steps.{join_options, number_in}
 
 -- one more
-reduce-snoc : {A : Type 0} (f : A → A → A) (xs : List A) (x : A) → reduce f (xs ++ x ∷ []) ≡ joined f (reduce f xs) (Some x)
+reduce-snoc : {A : Type 0} (f : A → A → A) (xs : List A) (x : A) → reduce f (xs ++ x ∷ []) ≡ join_options f (reduce f xs) (Some x)
 reduce-snoc f [] x = refl
 reduce-snoc f (y ∷ ys) x = ap Some (fold-append f y ys (x ∷ []))
 
-joined-none : {A : Type 0} (f : A → A → A) (a : Option A) → joined f a None ≡ a
-joined-none f None = refl
-joined-none f (Some a) = refl
+join_options-none : {A : Type 0} (f : A → A → A) (a : Option A) → join_options f a None ≡ a
+join_options-none f None = refl
+join_options-none f (Some a) = refl
 
 -- one point more
-step : (f : Value → Value → Value) (points : List Point) (t : Point) (v : Value) → v ≡ t.value → reduce f (numbers (points ++ t ∷ [])) ≡ joined f (reduce f (numbers points)) (number_in v)
-step f points t (value.Bool b) e = rw (filter_map-append, ← e, append-nil) (sym (joined-none f (reduce f (numbers points))))
+step : (f : Value → Value → Value) (points : List Point) (t : Point) (v : Value) → v ≡ t.value → reduce f (numbers (points ++ t ∷ [])) ≡ join_options f (reduce f (numbers points)) (number_in v)
+step f points t (value.Bool b) e = rw (filter_map-append, ← e, append-nil) (sym (join_options-none f (reduce f (numbers points))))
 step f points t (value.I32 n) e = rw (filter_map-append, ← e) (reduce-snoc f (numbers points) (value.I32 n))
 step f points t (value.I64 n) e = rw (filter_map-append, ← e) (reduce-snoc f (numbers points) (value.I64 n))
-step f points t (value.Text bytes) e = rw (filter_map-append, ← e, append-nil) (sym (joined-none f (reduce f (numbers points))))
+step f points t (value.Text bytes) e = rw (filter_map-append, ← e, append-nil) (sym (join_options-none f (reduce f (numbers points))))
 
 -- the points before one more
 pub next : (f : Value → Value → Value) (points : List Point) (i : ℕ) (t : Point) → i < length points → t ≡ get_or points i t
-    → reduce f (numbers (take (i + 1) points)) ≡ joined f (reduce f (numbers (take i points))) (number_in t.value)
+    → reduce f (numbers (take (i + 1) points)) ≡ join_options f (reduce f (numbers (take i points))) (number_in t.value)
 next f points i t lt e = rw (add-one, take-suc points i t lt, ← e) (step f (take i points) t t.value refl)

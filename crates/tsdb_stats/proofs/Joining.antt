@@ -12,7 +12,7 @@ use Rattle.tsdb_base.specs.declared.value.Value.{Value}
 use Rattle.tsdb_base.specs.declared.value.Value.TheVariants as value
 use Rattle.tsdb_map.specs.Folds.{is_less, lesser, greater, number_of, numbers}
 use Rattle.tsdb_stats.specs.Statistics.{AreStatsOf}
-use Rattle.tsdb_stats.specs.Steps.{joined, number_in}
+use Rattle.tsdb_stats.specs.Steps.{join_options, number_in}
 
 -- ---- numbers
 
@@ -78,7 +78,7 @@ fold-number wins a [] na all = na
 fold-number wins a (v ∷ vs) na all = fold-number wins (pick wins a v) vs (pick-number wins a v na all.0) all.1
 
 reduce-append : (wins : Value → Value → Bool) → IsChoice wins → (us vs : List Value) → AllByRecursion IsNumber us → AllByRecursion IsNumber vs
-    → reduce (pick wins) (us ++ vs) ≡ joined (pick wins) (reduce (pick wins) us) (reduce (pick wins) vs)
+    → reduce (pick wins) (us ++ vs) ≡ join_options (pick wins) (reduce (pick wins) us) (reduce (pick wins) vs)
 reduce-append wins choice [] vs all_us all_vs = refl
 reduce-append wins choice (u ∷ us) [] all_us all_vs = ap Some (fold-append (pick wins) u us [])
 reduce-append wins choice (u ∷ us) (v ∷ vs) all_us all_vs =
@@ -91,7 +91,7 @@ reduce-self wins (v ∷ vs) all = number_in-self (fold (pick wins) v vs) (fold-n
 
 chosen-append : (wins : Value → Value → Bool) → IsChoice wins → (before behind : List Point) (l r s : Option Value)
     → reduce (pick wins) (numbers before) ≡ l → reduce (pick wins) (numbers behind) ≡ r
-    → s ≡ joined (pick wins) (option_and_then number_in l) (option_and_then number_in r) → reduce (pick wins) (numbers (before ++ behind)) ≡ s
+    → s ≡ join_options (pick wins) (option_and_then number_in l) (option_and_then number_in r) → reduce (pick wins) (numbers (before ++ behind)) ≡ s
 chosen-append wins choice before behind l r s is_l is_r is_s =
     rw (is_s, ← is_l, ← is_r, reduce-self wins (numbers before) (numbers-are before), reduce-self wins (numbers behind) (numbers-are behind), filter_map-append)
     (reduce-append wins choice (numbers before) (numbers behind) (numbers-are before) (numbers-are behind))
@@ -144,8 +144,8 @@ last-append read before (p ∷ behind) y e =
 -- the statistics of both lists
 pub stats-append : (before behind : List Point) (l r s : Stats) → AreStatsOf before l → AreStatsOf behind r
     → s.count ≡ l.count + r.count → s.start ≡ l.start → s.end ≡ r.end → s.first ≡ l.first → s.last ≡ r.last
-    → s.least ≡ joined lesser (option_and_then number_in l.least) (option_and_then number_in r.least)
-    → s.greatest ≡ joined greater (option_and_then number_in l.greatest) (option_and_then number_in r.greatest)
+    → s.least ≡ join_options lesser (option_and_then number_in l.least) (option_and_then number_in r.least)
+    → s.greatest ≡ join_options greater (option_and_then number_in l.greatest) (option_and_then number_in r.greatest)
     → AreStatsOf (before ++ behind) s
 stats-append before behind l r s p q count start end first last least greatest = record {
   count = omega (arith, count, p.count, q.count, length-append before behind);

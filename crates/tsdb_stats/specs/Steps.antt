@@ -11,10 +11,10 @@ abbrev pub number_in : Value → Option Value
 number_in value = if_number (number_of value) value
 
 -- f of two, where both are there, and else the one that is
-abbrev pub joined : {A : Type 0} → (A → A → A) → Option A → Option A → Option A
-joined f None b = b
-joined f (Some a) None = Some a
-joined f (Some a) (Some b) = Some (f a b)
+abbrev pub join_options : {A : Type 0} → (A → A → A) → Option A → Option A → Option A
+join_options f None b = b
+join_options f (Some a) None = Some a
+join_options f (Some a) (Some b) = Some (f a b)
 
 -- the value that a number is
 abbrev pub as_value : Number → Value

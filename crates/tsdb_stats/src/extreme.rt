@@ -2,7 +2,7 @@
 ghost use Rattle.std.specs.Prelude.{◌≡◌, option_map};
 ghost use Rattle.std.specs.List.{reduce};
 ghost use Rattle.tsdb_map.specs.Folds.{is_less, lesser, greater, numbers};
-ghost use Rattle.tsdb_stats.specs.Steps.{as_value, joined, number_in};
+ghost use Rattle.tsdb_stats.specs.Steps.{as_value, join_options, number_in};
 
 use tsdb_base::{Point, Value};
 
@@ -50,7 +50,7 @@ impl Number {
 
 /// The lesser of two, where both are there, and else the one that is. Of equal ones it is the first.
 pub fn lesser_of(a: Option<Number>, b: Option<Number>) -> Option<Number>
-    ensures { option_map as_value result ≡ joined lesser (option_map as_value a) (option_map as_value b) }
+    ensures { option_map as_value result ≡ join_options lesser (option_map as_value a) (option_map as_value b) }
 {
     match (a, b) {
         (Some(a), Some(b)) => Some(if b.is_less(a) { b } else { a }),
@@ -60,7 +60,7 @@ pub fn lesser_of(a: Option<Number>, b: Option<Number>) -> Option<Number>
 
 /// The greater of two, where both are there, and else the one that is. Of equal ones it is the first.
 pub fn greater_of(a: Option<Number>, b: Option<Number>) -> Option<Number>
-    ensures { option_map as_value result ≡ joined greater (option_map as_value a) (option_map as_value b) }
+    ensures { option_map as_value result ≡ join_options greater (option_map as_value a) (option_map as_value b) }
 {
     match (a, b) {
         (Some(a), Some(b)) => Some(if a.is_less(b) { b } else { a }),

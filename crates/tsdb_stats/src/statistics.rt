@@ -9,7 +9,7 @@ use crate::extreme::{Number, greater_of, greatest_of, least_of, lesser_of};
 use tsdb_base::{DataType, Memory, Point, Stats, Value};
 
 /// The same value once more. A number and a boolean take no memory.
-fn copied(value: &Value) -> Result<Value, Memory>
+fn copy_value(value: &Value) -> Result<Value, Memory>
     ensures same { IfOk result (λ copy. copy ≡ value.now) }
     ensures fixed { type_of value.now ≢ DataType.Text → IsOk result }
 {
@@ -41,8 +41,8 @@ pub fn stats_of(points: &[Point]) -> Result<Stats, Memory>
         count: points.len() as u64,
         start: first.time,
         end: last.time,
-        first: copied(&first.value)?,
-        last: copied(&last.value)?,
+        first: copy_value(&first.value)?,
+        last: copy_value(&last.value)?,
         least: value_of(least_of(points)),
         greatest: value_of(greatest_of(points)),
     })
@@ -69,8 +69,8 @@ pub fn join(left: &Stats, right: &Stats) -> Result<Stats, Memory>
         count: left.count + right.count,
         start: left.start,
         end: right.end,
-        first: copied(&left.first)?,
-        last: copied(&right.last)?,
+        first: copy_value(&left.first)?,
+        last: copy_value(&right.last)?,
         least: value_of(least),
         greatest: value_of(greatest),
     })

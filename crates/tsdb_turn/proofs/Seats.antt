@@ -12,7 +12,7 @@ use Rattle.atomic_table.specs.Table.{State, Me, opening, Splits, Joins, Seen, Fi
 use Rattle.atomic_table.proofs.Lists.{set_else, at_longer}
 use Rattle.tsdb_turn.specs.Passes.{PassState, IsLastOf, new_pass, new_passes}
 use Rattle.tsdb_turn.specs.Rule.{known, view, tickets, tickets_of, width_of, times, times_of, LeftAs, Stands, Knows, Rule}
-use Rattle.tsdb_turn.specs.Steps.{dealt, first_known, but_first, rest_of, first_of, joined, spent, known_of}
+use Rattle.tsdb_turn.specs.Steps.{dealt, first_known, but_first, rest_of, first_of, join_views, spent, known_of}
 use Rattle.tsdb_turn.specs.declared.view.Known.{Known}
 use Rattle.tsdb_turn.specs.declared.view.Stage.TheVariants.{Outside, Inside}
 use Rattle.tsdb_turn.specs.declared.view.View.{View}
@@ -179,9 +179,9 @@ module _ {T : Type 0} (fits : ℕ → T → T → T → Type 0) (numbered : T �
         entries = r.entries;
       }
 
-  pub joins : (id : ℕ) (v : View T) (other : ℕ) (w : View T) → v.stage ≡ Outside → w.stage ≡ Outside → Joins Holds id v other w (joined v w) spent
+  pub joins : (id : ℕ) (v : View T) (other : ℕ) (w : View T) → v.stage ≡ Outside → w.stage ≡ Outside → Joins Holds id v other w (join_views v w) spent
   joins id v other w out out' s r at apart there =
-      let both : View T = joined v w in
+      let both : View T = join_views v w in
       let gone : View T = spent in
       let mid : List (View T) = slice_set s.views id both in
       let there' : get_elem? s.views other ≡ some w = sym (set_else s.views id other both apart) ∙ there in

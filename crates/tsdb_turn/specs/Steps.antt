@@ -40,8 +40,8 @@ module _ {T : Type 0} where
   first_of v = view Outside (first_known v.known)
 
   -- a seat that is joined into another brings its numbers and is left with nothing
-  abbrev pub joined : View T → View T → View T
-  joined v w = view v.stage (w.known ++ v.known)
+  abbrev pub join_views : View T → View T → View T
+  join_views v w = view v.stage (w.known ++ v.known)
 
   abbrev pub spent : View T
   spent = view Outside []

@@ -2,7 +2,7 @@
 //! `atomic_table`.
 ghost use Rattle.std.specs.Prelude.{◌≡◌, ℕ};
 ghost use Rattle.tsdb_turn.specs.Rule.{Rule, view};
-ghost use Rattle.tsdb_turn.specs.Steps.{dealt, rest_of, first_of, joined, spent, Draws, Reads, Departs};
+ghost use Rattle.tsdb_turn.specs.Steps.{dealt, rest_of, first_of, join_views, spent, Draws, Reads, Departs};
 ghost use Rattle.tsdb_turn.specs.Values.{Follows, IsNumbered};
 ghost use Rattle.tsdb_turn.specs.declared.view.Stage.TheVariants.{Outside, Waiting};
 
@@ -80,7 +80,7 @@ impl<T> Split<View<T>> for Deal {
 pub struct Gather;
 
 impl<T> Join<View<T>> for Gather {
-    ghost both = { joined };
+    ghost both = { join_views };
 
     ghost spent = { spent };
 }

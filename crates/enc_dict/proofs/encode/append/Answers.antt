@@ -2,7 +2,7 @@ use Rattle.std.proofs.Common.{◌≡◌, ℕ, ◌<◌, List, ◌++◌, length, a
 use Rattle.std.specs.Prelude.{map}
 use Rattle.std.specs.List.{flat_map}
 use Rattle.tsdb_bits.specs.Leb.{leb}
-use Rattle.tsdb_bits.specs.Packing.{packed}
+use Rattle.tsdb_bits.specs.Packing.{pack_bytes}
 use Rattle.tsdb_base.specs.Plain.{plain_text}
 use Rattle.enc_dict.specs.Spelling.{first_uses, place_in, place_width}
 use Rattle.enc_dict.proofs.FirstUses.{length-first_uses}
@@ -39,5 +39,5 @@ returns-clause-ok c =
       c.in_ok-uses.ensures.texts,
       c.in_ok-uses.ensures.places,
     )
-    (put_together c.args.into.now.items (leb (length values)) (flat_map plain_text (first_uses values)) (packed (place_width (length (first_uses values))) (map (place_in (first_uses values)) values)) (leb (length (first_uses values)))
+    (put_together c.args.into.now.items (leb (length values)) (flat_map plain_text (first_uses values)) (pack_bytes (place_width (length (first_uses values))) (map (place_in (first_uses values)) values)) (leb (length (first_uses values)))
     ∙ ap (λ (bytes : List ℕ). c.args.into.now.items ++ bytes) (sym (spelling-some values some)))

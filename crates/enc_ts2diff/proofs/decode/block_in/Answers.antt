@@ -27,26 +27,26 @@ no_number (d ∷ ds) bytes some h e none =
     none (zigzag (least d ds)) (at_width (offsets (least d ds) (d ∷ ds))) (zigzag-lt (least d ds) (least_of_fits d ds h)) (sym e)
 
 -- behind the least difference stands the width
-record Behind (steps : List ℤ) (base count : ℕ) (digits : ℕ) (packed : List ℕ) : Type 0 where
+record Behind (steps : List ℤ) (base count : ℕ) (digits : ℕ) (pack_bytes : List ℕ) : Type 0 where
   within : digits ≤ 64
   numbers : List ℕ
-  packing : IsPacking digits count packed numbers
+  packing : IsPacking digits count pack_bytes numbers
   block : IsBlockOf (unzigzag base) numbers steps
   offsets : AreOffsets numbers digits
 
-behind : (steps : List ℤ) (bytes : List ℕ) (base count digits : ℕ) (packed : List ℕ) → (count ≡ 0 → ⊥) → length steps ≡ count → All (FitsSigned w64) steps → block steps ≡ bytes
-    → bytes ≡ leb base ++ digits ∷ packed → Behind steps base count digits packed
-behind [] bytes base count digits packed some l h e f = absurd (some (sym l))
-behind (d ∷ ds) bytes base count digits packed some l h e f =
-    let p = block_parts d ds bytes (digits ∷ packed) base e f in
+behind : (steps : List ℤ) (bytes : List ℕ) (base count digits : ℕ) (pack_bytes : List ℕ) → (count ≡ 0 → ⊥) → length steps ≡ count → All (FitsSigned w64) steps → block steps ≡ bytes
+    → bytes ≡ leb base ++ digits ∷ pack_bytes → Behind steps base count digits pack_bytes
+behind [] bytes base count digits pack_bytes some l h e f = absurd (some (sym l))
+behind (d ∷ ds) bytes base count digits pack_bytes some l h e f =
+    let p = block_parts d ds bytes (digits ∷ pack_bytes) base e f in
     let m = least d ds in
     let os = offsets m (d ∷ ds) in
     let n : length os ≡ count = length-map (d ∷ ds) (λ t. unsigned_abs (t -ℤ m)) ∙ l in
     let b : unzigzag base ≡ m = ap unzigzag (sym p.0) ∙ unzigzag-zigzag m in
     record {
-      within = digits_within_64 d ds digits packed h p.1;
+      within = digits_within_64 d ds digits pack_bytes h p.1;
       numbers = os;
-      packing = subst (λ (t : ℕ). IsPacking digits t packed os) n (numbers_packed os digits packed p.1);
+      packing = subst (λ (t : ℕ). IsPacking digits t pack_bytes os) n (numbers_packed os digits pack_bytes p.1);
       block = (b, ap (λ (t : ℤ). offsets t (d ∷ ds)) (sym b));
       offsets = let w : width_of os ≡ digits = let q = p.1 in cc in are_offsets d ds digits w;
     }
@@ -125,8 +125,8 @@ pub returns-clause-found : goal.returns-clause-found
 returns-clause-found c =
     let rest = c.in_ok-base.rest.now in
     let digits = get_or rest 0 0 in
-    let packed = take (length rest - 1) (drop 1 rest) in
+    let pack_bytes = take (length rest - 1) (drop 1 rest) in
     let yes : c.are_offsets.result ≡ true = search rules in
     let are : AreOffsets c.in_ok-above.above.items digits = subst (λ (t : List ℕ). AreOffsets t digits) c.deref.ensures.value (c.are_offsets.ensures.0 yes) in
     let base : to_z w64 (of_z w64 c.unzigzag.result) ≡ unzigzag c.in_ok-base.base = to_z-of_z w64 c.unzigzag.result (search rules) ∙ c.unzigzag.ensures in
-    rw base (parted c.args.bytes.now rest c.in_ok-base.base c.in_ok-base.ensures.found c.in-len1-up.len_at_least ∙ block_back c.in_ok-base.base c.in_ok-above.above.items digits c.args.count packed are c.in_ok-above.ensures.found)
+    rw base (parted c.args.bytes.now rest c.in_ok-base.base c.in_ok-base.ensures.found c.in-len1-up.len_at_least ∙ block_back c.in_ok-base.base c.in_ok-above.above.items digits c.args.count pack_bytes are c.in_ok-above.ensures.found)

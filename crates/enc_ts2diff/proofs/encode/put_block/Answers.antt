@@ -2,7 +2,7 @@ use Rattle.std.proofs.Common.{◌≡◌, ℕ, ◌-◌, ◌<◌, ◌≤◌, ◌^�
 use Rattle.std.specs.Int.{w64}
 use Rattle.std.proofs.lemmas.Int.{to_z-of_z}
 use Rattle.std.proofs.lemmas.List.{nil_from_length, take_rest, append-nil}
-use Rattle.tsdb_bits.specs.Packing.{binary_digits, packed}
+use Rattle.tsdb_bits.specs.Packing.{binary_digits, pack_bytes}
 use Rattle.tsdb_bits.specs.Leb.{leb}
 use Rattle.tsdb_bits.specs.Zigzag.{zigzag}
 use Rattle.enc_ts2diff.specs.Spelling.{least, offsets, width_of, at_width, block}
@@ -58,13 +58,13 @@ pack-requires-clause-values_fit c =
     (subst (λ (t : ℕ). All (λ v. v < 2 ^ t) above) (sym d) (fits_width above))
 
 joined_up : (into o1 o2 o3 above lent : List ℕ) (base base' : ℤ) (z digits : ℕ) (steps : List ℤ) → IsBlock base above steps → o1 ≡ into ++ leb z → z ≡ zigzag base' → base' ≡ base → o2 ≡ o1 ++ digits ∷ [] → digits ≡ width_of above → lent ≡ above
-    → o3 ≡ o2 ++ packed digits lent → o3 ≡ into ++ block steps
+    → o3 ≡ o2 ++ pack_bytes digits lent → o3 ≡ into ++ block steps
 joined_up into o1 o2 o3 above lent base base' z digits steps k e1 ez eb e2 ed el e3 =
-    e3 ∙ ap (λ (t : List ℕ). t ++ packed digits lent) (e2 ∙ ap (λ (t : List ℕ). t ++ digits ∷ []) (e1 ∙ ap (λ (t : ℕ). into ++ leb t) (ez ∙ ap zigzag eb)))
-    ∙ append_assoc (into ++ leb (zigzag base)) (digits ∷ []) (packed digits lent)
-    ∙ append_assoc into (leb (zigzag base)) (digits ∷ packed digits lent)
-    ∙ ap (λ (t : List ℕ). into ++ (leb (zigzag base) ++ digits ∷ packed digits t)) el
-    ∙ ap (λ (t : ℕ). into ++ (leb (zigzag base) ++ t ∷ packed t above)) ed
+    e3 ∙ ap (λ (t : List ℕ). t ++ pack_bytes digits lent) (e2 ∙ ap (λ (t : List ℕ). t ++ digits ∷ []) (e1 ∙ ap (λ (t : ℕ). into ++ leb t) (ez ∙ ap zigzag eb)))
+    ∙ append_assoc (into ++ leb (zigzag base)) (digits ∷ []) (pack_bytes digits lent)
+    ∙ append_assoc into (leb (zigzag base)) (digits ∷ pack_bytes digits lent)
+    ∙ ap (λ (t : List ℕ). into ++ (leb (zigzag base) ++ digits ∷ pack_bytes digits t)) el
+    ∙ ap (λ (t : ℕ). into ++ (leb (zigzag base) ++ t ∷ pack_bytes t above)) ed
     ∙ ap (λ (t : List ℕ). into ++ t) (sym k.whole)
 
 pub returns-clause-ok : goal.returns-clause-ok

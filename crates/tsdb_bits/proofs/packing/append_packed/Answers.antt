@@ -4,7 +4,7 @@ use Rattle.std.specs.Int.{w64, to_le_bytes}
 use Rattle.std.proofs.lemmas.Nat.{shl_whole, shr_below}
 use Rattle.std.proofs.lemmas.List.{drop_all, drop_more}
 use Rattle.std.proofs.lemmas.List.Elements.{All-get_or}
-use Rattle.tsdb_bits.specs.Packing.{packed, bytes_for}
+use Rattle.tsdb_bits.specs.Packing.{pack_bytes, bytes_for}
 use Rattle.tsdb_bits.proofs.Moving.{pending, pending_all, pending_value, pending_word, pending_last, word_with}
 use Rattle.tsdb_bits.proofs.packing.append_packed.Goals as goal
 use Rattle.tsdb_bits.proofs.packing.append_packed.Goals.{then-filled-ge64+in_ok-extend_from_slice, else-filled-ge64}
@@ -57,7 +57,7 @@ loop-value-preserved c =
     let i = c.loop-value.value-index in
     let v = c.from.result in
     let w = c.args.width in
-    let whole = c.args.into.now.items ++ packed w values in
+    let whole = c.args.into.now.items ++ pack_bytes w values in
     let filled = c.loop-value.filled + c.from-filled.result in
     let word = c.loop-value.word + v * 2 ^ c.loop-value.filled % 2 ^ 128 in
     let below : v < 2 ^ w = rw c.from.ensures (All-get_or (λ (x : ℕ). x < 2 ^ w) values i 0 (omega arith) c.requires.values_fit) in
@@ -93,5 +93,5 @@ closed out bytes now whole filled word w i last values done less fits l n so_far
 pub returns-clause-ok : goal.returns-clause-ok
 returns-clause-ok c =
     let l = c.loop-value in
-    closed l.into.items [] c.extend_from_slice-2.new.self.items (c.args.into.now.items ++ packed c.args.width c.args.values.now) l.filled l.word c.args.width l.value-index c.div_ceil-last.result c.args.values.now
+    closed l.into.items [] c.extend_from_slice-2.new.self.items (c.args.into.now.items ++ pack_bytes c.args.width c.args.values.now) l.filled l.word c.args.width l.value-index c.div_ceil-last.result c.args.values.now
     (omega arith) l.invariant.filled_less l.invariant.word_fits (search rules) (search rules) l.invariant.to_come

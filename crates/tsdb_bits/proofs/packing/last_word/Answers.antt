@@ -1,7 +1,7 @@
 use Rattle.std.proofs.Common.{◌≡◌, ℕ, ◌+◌, ◌-◌, ◌*◌, ◌^◌, ◌<◌, ◌≤◌, suc, List, ◌∷◌, length, drop, get_or, arith, rules, ap, sym, ◌∙◌}
 use Rattle.std.proofs.lemmas.List.{drop_all, drop_more}
 use Rattle.tsdb_bits.specs.Packing.{number_of_bytes}
-use Rattle.tsdb_bits.proofs.PackingLaws.{joined-nil, byte_scale, pow_le}
+use Rattle.tsdb_bits.proofs.PackingLaws.{from_digits-nil, byte_scale, pow_le}
 use Rattle.tsdb_bits.proofs.Moving.{number-cons}
 use Rattle.tsdb_bits.proofs.packing.last_word.Goals as goal
 
@@ -36,7 +36,7 @@ loop-i-init c =
     let z : 8 * (length bytes - length bytes) ≡ 0 = omega arith in
     record {
       below = rw z (omega arith);
-      number = sym (ap number_of_bytes (drop_all (length bytes) bytes (omega arith)) ∙ joined-nil 8);
+      number = sym (ap number_of_bytes (drop_all (length bytes) bytes (omega arith)) ∙ from_digits-nil 8);
     }
 
 pub overflow_mul-word : goal.overflow_mul-word

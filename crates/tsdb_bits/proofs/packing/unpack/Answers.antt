@@ -4,9 +4,9 @@ use Rattle.std.proofs.lemmas.List.Elements.{All-from_get_or}
 use Rattle.std.proofs.lemmas.Nat.{pow_pos}
 use Rattle.std.proofs.lemmas.Bool.{cases_eq}
 use Rattle.std.proofs.Math.Nat.{le-mul_of_pos_right}
-use Rattle.tsdb_bits.specs.Packing.{joined, number_of_bytes, packed, low_bytes, bytes_for, HasFillingBit}
+use Rattle.tsdb_bits.specs.Packing.{from_digits, number_of_bytes, pack_bytes, low_bytes, bytes_for, HasFillingBit}
 use Rattle.tsdb_bits.specs.Faults.{IsPacking}
-use Rattle.tsdb_bits.proofs.PackingLaws.{length-packed, number-packed, joined-lt, joined-nil, low_bytes-number}
+use Rattle.tsdb_bits.proofs.PackingLaws.{length-pack_bytes, number-pack_bytes, from_digits-lt, from_digits-nil, low_bytes-number}
 use Rattle.tsdb_bits.proofs.packing.unpack.Goals as goal
 
 -- a packing has just the bytes that it needs, and no filling bit
@@ -16,16 +16,16 @@ record IsExact (bits : ℕ) (bytes : List ℕ) : Type 0 where
 
 exact_when_packed : (w count : ℕ) (bytes values : List ℕ) → IsPacking w count bytes values → IsExact (count * w) bytes
 exact_when_packed w count bytes values p =
-    let below : joined w values < 2 ^ (count * w) = rw (← p.size) (joined-lt w values p.below) in
+    let below : from_digits w values < 2 ^ (count * w) = rw (← p.size) (from_digits-lt w values p.below) in
     record {
-      size = ap length p.bytes-are ∙ length-packed w values ∙ ap (λ (t : ℕ). bytes_for (t * w)) p.size;
-      unfilled = rw p.bytes-are (rw (number-packed w values p.below) below);
+      size = ap length p.bytes-are ∙ length-pack_bytes w values ∙ ap (λ (t : ℕ). bytes_for (t * w)) p.size;
+      unfilled = rw p.bytes-are (rw (number-pack_bytes w values p.below) below);
     }
 
 wrong_size : (w count : ℕ) (bytes values : List ℕ) → (length bytes ≡ bytes_for (count * w) → ⊥) → IsPacking w count bytes values → ⊥
 wrong_size w count bytes values ne p = ne (exact_when_packed w count bytes values p).size
 
-filled : (w count filling : ℕ) (bytes values : List ℕ) → (filling ≡ 0 → ⊥) → number_of_bytes (take (bytes_for (count * w)) bytes) ≡ joined w values + 2 ^ (count * w) * filling → HasFillingBit (count * w) bytes
+filled : (w count filling : ℕ) (bytes values : List ℕ) → (filling ≡ 0 → ⊥) → number_of_bytes (take (bytes_for (count * w)) bytes) ≡ from_digits w values + 2 ^ (count * w) * filling → HasFillingBit (count * w) bytes
 filled w count filling bytes values some e =
     let positive : 0 < filling = omega (arith, some) in
     let m : 2 ^ (count * w) ≤ 2 ^ (count * w) * filling = le-mul_of_pos_right (2 ^ (count * w)) positive in
@@ -42,29 +42,29 @@ some_byte : (bits : ℕ) (bytes : List ℕ) → HasFillingBit bits bytes → 1 �
 some_byte bits bytes has =
     elim (cases_eq (bytes_for bits) 0) [
       | inl z ↦
-          let n : number_of_bytes (take (bytes_for bits) bytes) ≡ 0 = ap (λ (t : ℕ). number_of_bytes (take t bytes)) z ∙ joined-nil 8 in
+          let n : number_of_bytes (take (bytes_for bits) bytes) ≡ 0 = ap (λ (t : ℕ). number_of_bytes (take t bytes)) z ∙ from_digits-nil 8 in
           absurd (omega (arith, pow_pos bits))
       | inr nz ↦ omega (arith, nz)
     ]
 
 unfilled : (w count filling : ℕ) (bytes values : List ℕ) → filling ≡ 0 → length values ≡ count → All (λ v. v < 2 ^ w) values
-    → number_of_bytes (take (bytes_for (count * w)) bytes) ≡ joined w values + 2 ^ (count * w) * filling → HasFillingBit (count * w) bytes → ⊥
+    → number_of_bytes (take (bytes_for (count * w)) bytes) ≡ from_digits w values + 2 ^ (count * w) * filling → HasFillingBit (count * w) bytes → ⊥
 unfilled w count filling bytes values z counted below e has =
-    let lt : joined w values < 2 ^ (count * w) = rw (← counted) (joined-lt w values below) in
-    let n : number_of_bytes (take (bytes_for (count * w)) bytes) ≡ joined w values = e ∙ rw z (omega arith) in
+    let lt : from_digits w values < 2 ^ (count * w) = rw (← counted) (from_digits-lt w values below) in
+    let n : number_of_bytes (take (bytes_for (count * w)) bytes) ≡ from_digits w values = e ∙ rw z (omega arith) in
     absurd (omega (arith, n))
 
 packs : (w count filling : ℕ) (bytes values : List ℕ) → filling ≡ 0 → length bytes ≡ bytes_for (count * w) → All (λ b. b < 256) bytes → length values ≡ count → All (λ v. v < 2 ^ w) values
-    → number_of_bytes (take (bytes_for (count * w)) bytes) ≡ joined w values + 2 ^ (count * w) * filling → IsPacking w count bytes values
-unfolding packed
+    → number_of_bytes (take (bytes_for (count * w)) bytes) ≡ from_digits w values + 2 ^ (count * w) * filling → IsPacking w count bytes values
+unfolding pack_bytes
 packs w count filling bytes values z size are_bytes counted below e =
     let all : take (bytes_for (count * w)) bytes ≡ bytes = take_all (bytes_for (count * w)) bytes (omega (arith, size)) in
-    let n : number_of_bytes bytes ≡ joined w values = sym (ap number_of_bytes all) ∙ e ∙ rw z (omega arith) in
+    let n : number_of_bytes bytes ≡ from_digits w values = sym (ap number_of_bytes all) ∙ e ∙ rw z (omega arith) in
     record {
       size = counted;
       below = below;
-      bytes-are = sym (ap (λ (t : ℕ). low_bytes (bytes_for (t * w)) (joined w values)) counted
-          ∙ ap (λ (t : ℕ). low_bytes t (joined w values)) (sym size)
+      bytes-are = sym (ap (λ (t : ℕ). low_bytes (bytes_for (t * w)) (from_digits w values)) counted
+          ∙ ap (λ (t : ℕ). low_bytes t (from_digits w values)) (sym size)
           ∙ ap (λ (t : ℕ). low_bytes (length bytes) t) (sym n)
           ∙ low_bytes-number bytes are_bytes);
     }

@@ -4,16 +4,16 @@ use Rattle.std.proofs.lemmas.Nat.{shl_whole, shr_below, mod_below, pow_pos}
 use Rattle.std.proofs.lemmas.Bool.{cases_lt}
 use Rattle.std.proofs.lemmas.List.{nil_from_length, length_push}
 use Rattle.std.proofs.lemmas.List.Elements.{All-nil, All-push}
-use Rattle.tsdb_bits.specs.Packing.{joined, number_of_bytes, bytes_for}
-use Rattle.tsdb_bits.proofs.PackingLaws.{joined-nil}
+use Rattle.tsdb_bits.specs.Packing.{from_digits, number_of_bytes, bytes_for}
+use Rattle.tsdb_bits.proofs.PackingLaws.{from_digits-nil}
 use Rattle.tsdb_bits.proofs.Moving.{filled_up, value_moves, word_with}
 use Rattle.tsdb_bits.proofs.packing.values_in.Goals as goal
 use Rattle.tsdb_bits.proofs.packing.values_in.Goals.{then-filled-width_bits, else-filled-width_bits}
 
-no_values : (w number : ℕ) (vs : List ℕ) → vs ≡ [] → number ≡ joined w vs + 2 ^ (0 * w) * (0 + 1 * number)
+no_values : (w number : ℕ) (vs : List ℕ) → vs ≡ [] → number ≡ from_digits w vs + 2 ^ (0 * w) * (0 + 1 * number)
 no_values w number vs e =
     let z : 2 ^ (0 * w) ≡ 1 = rw (zero-mul w) refl in
-    let j : joined w vs ≡ 0 = ap (joined w) e ∙ joined-nil w in
+    let j : from_digits w vs ≡ 0 = ap (from_digits w) e ∙ from_digits-nil w in
     rw (z, j) (omega arith)
 
 pub loop-init : goal.loop-init
@@ -33,12 +33,12 @@ record IsReady (w counter filled word : ℕ) (rest : List ℕ) (stream len : ℕ
   enough : w ≤ filled
   less : filled - w < 64
   fits : word < 2 ^ filled
-  whole : stream ≡ joined w values + 2 ^ (counter * w) * (word + 2 ^ filled * number_of_bytes rest)
+  whole : stream ≡ from_digits w values + 2 ^ (counter * w) * (word + 2 ^ filled * number_of_bytes rest)
   left : (length rest ≡ 0) ⊎ (8 * length rest + filled + counter * w ≡ 8 * len)
 
 refilled : (w counter filled word next : ℕ) (rest after : List ℕ) (stream len : ℕ) (values : List ℕ) → filled < w → w ≤ 64 → word < 2 ^ filled → next < 2 ^ 64
     → number_of_bytes rest ≡ next + 2 ^ 64 * number_of_bytes after → length after ≡ length rest - 8
-    → stream ≡ joined w values + 2 ^ (counter * w) * (word + 2 ^ filled * number_of_bytes rest)
+    → stream ≡ from_digits w values + 2 ^ (counter * w) * (word + 2 ^ filled * number_of_bytes rest)
     → (length rest ≡ 0) ⊎ (8 * length rest + filled + counter * w ≡ 8 * len)
     → IsReady w counter (filled + 64) (word + next * 2 ^ filled % 2 ^ 128) after stream len values
 refilled w counter filled word next rest after stream len values short wide fits small number cut so_far left =
@@ -47,8 +47,8 @@ refilled w counter filled word next rest after stream len values short wide fits
       enough = omega arith;
       less = omega arith;
       fits = rw s (word_with filled word 64 next fits small);
-      whole = rw s (so_far ∙ ap (λ (t : ℕ). joined w values + 2 ^ (counter * w) * (word + 2 ^ filled * t)) number
-          ∙ ap (λ (t : ℕ). joined w values + 2 ^ (counter * w) * t) (filled_up filled word next (number_of_bytes after)));
+      whole = rw s (so_far ∙ ap (λ (t : ℕ). from_digits w values + 2 ^ (counter * w) * (word + 2 ^ filled * t)) number
+          ∙ ap (λ (t : ℕ). from_digits w values + 2 ^ (counter * w) * t) (filled_up filled word next (number_of_bytes after)));
       left = elim left [
         | inl e ↦ inl (omega arith)
         | inr e ↦ elim (cases_lt 8 (length rest)) [
@@ -67,7 +67,7 @@ record IsTaken (w counter filled word : ℕ) (rest : List ℕ) (stream len : ℕ
   counted : length values ≡ counter + 1
   below : All (λ value. value < 2 ^ w) values
   fits : word < 2 ^ filled
-  whole : stream ≡ joined w values + 2 ^ ((counter + 1) * w) * (word + 2 ^ filled * number_of_bytes rest)
+  whole : stream ≡ from_digits w values + 2 ^ ((counter + 1) * w) * (word + 2 ^ filled * number_of_bytes rest)
   left : (length rest ≡ 0) ⊎ (8 * length rest + filled + (counter + 1) * w ≡ 8 * len)
 
 takes_value : (w counter filled word value : ℕ) (rest : List ℕ) (stream len : ℕ) (values now : List ℕ) → IsReady w counter filled word rest stream len values
@@ -114,7 +114,7 @@ loop-preserved c =
 is_done : (w count filled word : ℕ) (rest bytes : List ℕ) → length bytes ≡ bytes_for (count * w) → (length rest ≡ 0) ⊎ (8 * length rest + filled + count * w ≡ 8 * length bytes) → number_of_bytes rest ≡ 0
 is_done w count filled word rest bytes needed left =
     let none : length rest ≡ 0 = elim left [ inl e ↦ e | inr e ↦ omega arith ] in
-    ap number_of_bytes (nil_from_length rest none) ∙ joined-nil 8
+    ap number_of_bytes (nil_from_length rest none) ∙ from_digits-nil 8
 
 pub returns-clause-stream : goal.returns-clause-stream
 returns-clause-stream c =
@@ -125,5 +125,5 @@ returns-clause-stream c =
     subst (λ (t : ℕ). (length l.rest.now ≡ 0) ⊎ (8 * length l.rest.now + l.filled + t * w ≡ 8 * length c.args.bytes.now)) all l.invariant.left in
     let z = is_done w c.args.count l.filled l.word l.rest.now c.args.bytes.now c.requires.needed left in
     let n : l.word + 2 ^ l.filled * number_of_bytes l.rest.now ≡ l.word = rw z (omega arith) in
-    l.invariant.stream ∙ ap (λ (t : ℕ). joined w l.values.items + 2 ^ (t * w) * (l.word + 2 ^ l.filled * number_of_bytes l.rest.now)) all
-    ∙ ap (λ (t : ℕ). joined w l.values.items + 2 ^ (c.args.count * w) * t) n
+    l.invariant.stream ∙ ap (λ (t : ℕ). from_digits w l.values.items + 2 ^ (t * w) * (l.word + 2 ^ l.filled * number_of_bytes l.rest.now)) all
+    ∙ ap (λ (t : ℕ). from_digits w l.values.items + 2 ^ (c.args.count * w) * t) n

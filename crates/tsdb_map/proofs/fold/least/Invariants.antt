@@ -3,8 +3,8 @@ use Rattle.std.specs.List.{reduce}
 use Rattle.std.specs.Map.Iter.{deref_pair}
 use Rattle.std.specs.Option.{option_copied}
 use Rattle.tsdb_map.specs.Folds.{lesser, numbers}
-use Rattle.tsdb_map.specs.Kept.{listed}
+use Rattle.tsdb_map.specs.Model.{points_of_entries}
 use Rattle.tsdb_map.proofs.fold.least.Given as goal
 
 abbrev pub invariant-loop-value : goal.invariant-loop-value
-invariant-loop-value l = option_copied l.least ≡ reduce lesser (numbers (listed (map deref_pair l.yielded)))
+invariant-loop-value l = option_copied l.least ≡ reduce lesser (numbers (points_of_entries (map deref_pair l.yielded)))

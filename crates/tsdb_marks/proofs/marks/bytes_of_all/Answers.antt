@@ -3,7 +3,7 @@ use Rattle.std.proofs.lemmas.List.Folds.{list_any_more}
 use Rattle.std.specs.Cmp.Lexicographic.{pointwise}
 use Rattle.std.specs.List.{list_any}
 use Rattle.std.specs.Prelude.{nat_eq}
-use Rattle.tsdb_marks.proofs.KeptLemmas.{cond-or}
+use Rattle.tsdb_marks.proofs.ModelLemmas.{cond-or}
 use Rattle.tsdb_marks.proofs.marks.bytes_of_all.Goals as goal
 
 pub loop-path-preserved : goal.loop-path-preserved

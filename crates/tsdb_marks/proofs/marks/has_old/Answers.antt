@@ -1,5 +1,5 @@
 use Rattle.std.proofs.Common.{rules, ◌≡◌, ◌<◌, length}
-use Rattle.tsdb_marks.proofs.KeptLemmas.{none-old, no-mark}
+use Rattle.tsdb_marks.proofs.ModelLemmas.{none-old, no-mark}
 use Rattle.tsdb_marks.proofs.marks.has_old.Goals as goal
 
 pub returns-in-Some : goal.returns-in-Some

@@ -5,7 +5,7 @@ use Rattle.std.proofs.lemmas.Int.{to_z-of_z, ints}
 use Rattle.tsdb_marks.specs.Index.{at}
 use Rattle.tsdb_marks.specs.Moments.{moment}
 use Rattle.tsdb_marks.specs.Stretches.{overlay}
-use Rattle.tsdb_marks.proofs.KeptLemmas.{exact-added, exact-empty}
+use Rattle.tsdb_marks.proofs.ModelLemmas.{exact-added, exact-empty}
 use Rattle.tsdb_marks.proofs.marks.lay.Goals as goal
 
 pub returns-then-to-from-clause-exact : goal.returns-then-to-from-clause-exact

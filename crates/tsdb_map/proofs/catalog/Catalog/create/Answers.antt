@@ -5,7 +5,7 @@ use Rattle.std.proofs.lemmas.Result.{err_from_is_err_and}
 use Rattle.std.specs.FinMap.{insert}
 use Rattle.std.specs.Map.{keys_of}
 use Rattle.std.specs.Option.{option_copied_mut}
-use Rattle.tsdb_map.specs.Kept.{AreKept, world_of}
+use Rattle.tsdb_map.specs.Model.{AreKept, world_of}
 use Rattle.tsdb_map.proofs.WorldLemmas.{dotless-empty, dotless-put, dotless-same, IsDotless-name, kept-found, kept-new, kept-set, Names, path_cmp, world-new, world-same, world-set}
 use Rattle.tsdb_map.proofs.catalog.Catalog.create.Goals as goal
 use Rattle.tsdb_path.specs.Nodes.{child_of}

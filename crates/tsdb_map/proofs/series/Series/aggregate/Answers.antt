@@ -2,13 +2,13 @@ use Rattle.std.proofs.Common.{◌≡◌, ◌<◌, ◌^◌, w64, ap, sym, ◌∙�
 use Rattle.std.specs.Prelude.{IfOk}
 use Rattle.std.proofs.lemmas.Int.{to_z_pos}
 use Rattle.tsdb_base.specs.declared.value.Value.TheVariants.{I64}
-use Rattle.tsdb_map.proofs.FoldLemmas.{first_of, last_of, length-listed, of_range}
+use Rattle.tsdb_map.proofs.FoldLemmas.{first_of, last_of, length-points_of_entries, of_range}
 use Rattle.tsdb_map.proofs.series.Series.aggregate.Goals as goal
 
 pub returns-in-Count : goal.returns-in-Count
 returns-in-Count c =
     let small : c.count.result < 2 ^ 63 = omega (arith, c.points_in-points.ensures.fits, c.count.ensures) in
-    ap (λ z. Some (I64 z)) (to_z_pos w64 c.count.result small) ∙ ap (λ n. Some (I64 (pos n))) (c.count.ensures ∙ sym (length-listed c.points_in-points.result))
+    ap (λ z. Some (I64 z)) (to_z_pos w64 c.count.result small) ∙ ap (λ n. Some (I64 (pos n))) (c.count.ensures ∙ sym (length-points_of_entries c.points_in-points.result))
     ∙ of_range c.args.aggregate _ c.points_in-points.result _ c.in-Count.is c.points_in-points.ensures.points
 
 pub returns-in-FirstValue : goal.returns-in-FirstValue

@@ -4,7 +4,7 @@ use Rattle.std.proofs.lemmas.List.Elements.{All-push}
 use Rattle.std.proofs.lemmas.List.Quantifiers.{all_pairs_push}
 use Rattle.tsdb_marks.specs.declared.marks.Mark.{Mark}
 use Rattle.tsdb_marks.specs.Index.{HasRoom}
-use Rattle.tsdb_marks.specs.Kept.{HasTimes}
+use Rattle.tsdb_marks.specs.Model.{HasTimes}
 use Rattle.tsdb_marks.specs.Lists.{Marks}
 use Rattle.tsdb_marks.proofs.marks.Marks.add.Goals as goal
 

@@ -6,7 +6,7 @@ use Rattle.tsdb_marks.specs.declared.marks.Mark.{Mark}
 use Rattle.tsdb_marks.specs.Lists.{Marks}
 use Rattle.tsdb_marks.specs.Moments.{moment}
 use Rattle.tsdb_marks.specs.Survival.{Meets}
-use Rattle.tsdb_marks.proofs.KeptLemmas.{meets-is}
+use Rattle.tsdb_marks.proofs.ModelLemmas.{meets-is}
 use Rattle.tsdb_marks.proofs.marks.Marks.meets.Goals as goal
 
 pub returns-then-range : goal.returns-then-range

@@ -5,7 +5,7 @@ use Rattle.std.specs.Prelude.{nat_eq}
 use Rattle.std.proofs.lemmas.List.{take_all}
 use Rattle.tsdb_marks.specs.declared.marks.Mark.{Mark}
 use Rattle.tsdb_marks.specs.Lists.{Marks, is_of}
-use Rattle.tsdb_marks.proofs.KeptLemmas.{below-front, filter-step}
+use Rattle.tsdb_marks.proofs.ModelLemmas.{below-front, filter-step}
 use Rattle.tsdb_marks.proofs.marks.Marks.only.Goals as goal
 use Rattle.tsdb_marks.proofs.marks.Marks.only.Goals.{then-contains+in_ok-reserve+in_ok-copy, else-contains}
 

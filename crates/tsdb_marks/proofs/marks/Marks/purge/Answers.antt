@@ -4,9 +4,9 @@ use Rattle.std.proofs.lemmas.List.Elements.{All-filter}
 use Rattle.std.proofs.lemmas.Fn.{filter_same}
 use Rattle.std.proofs.lemmas.List.Kept.{AllPairs-filter}
 use Rattle.tsdb_marks.specs.declared.marks.Mark.{Mark}
-use Rattle.tsdb_marks.specs.Kept.{HasTimes, IsIndexOf}
-use Rattle.tsdb_marks.specs.Lists.{Marks, is_newer_than, purged}
-use Rattle.tsdb_marks.proofs.KeptLemmas.{exact-filtered, kept-room}
+use Rattle.tsdb_marks.specs.Model.{HasTimes, IsIndexOf}
+use Rattle.tsdb_marks.specs.Lists.{Marks, is_newer_than, purge_list}
+use Rattle.tsdb_marks.proofs.ModelLemmas.{exact-filtered, kept-room}
 use Rattle.tsdb_marks.proofs.marks.Marks.purge.Goals as goal
 
 pub invariant_of-self-2 : goal.invariant_of-self-2
@@ -26,4 +26,4 @@ pub returns-clause-marks : goal.returns-clause-marks
 returns-clause-marks c =
     let kept = filter_same _ (is_newer_than c.in-Some.version) _ (λ x b f' t. search rules) c.self.inside.marks.items c.retain.new.self.items c.retain.ensures.filtered in
     kept ∙ ap (λ (v : Marks). filter (is_newer_than c.in-Some.version) v.marks) c.self.view_is
-    ∙ ap (λ v. filter (is_newer_than v) c.args.self.now.marks) (sym c.in-Some.version-is) ∙ ap (λ o. purged o c.args.self.now.marks) (sym c.in-Some.is)
+    ∙ ap (λ v. filter (is_newer_than v) c.args.self.now.marks) (sym c.in-Some.version-is) ∙ ap (λ o. purge_list o c.args.self.now.marks) (sym c.in-Some.is)

@@ -5,7 +5,7 @@ use Rattle.tsdb_marks.specs.declared.marks.Mark.{Mark}
 use Rattle.tsdb_marks.specs.Lists.{Marks}
 use Rattle.tsdb_marks.specs.Moments.{moment}
 use Rattle.tsdb_marks.specs.Survival.{Survives}
-use Rattle.tsdb_marks.proofs.KeptLemmas.{survives-is}
+use Rattle.tsdb_marks.proofs.ModelLemmas.{survives-is}
 use Rattle.tsdb_marks.proofs.marks.Marks.survives.Goals as goal
 
 pub returns : goal.returns

@@ -8,5 +8,5 @@ returns-then-top-version t c = c.new-then-top-version.ensures ∙ sym (filter-al
 pub merge-requires : goal.merge-requires
 merge-requires t c = rw (c.keep_newer-left.ensures, c.keep_newer-right.ensures) (filter-sides _ _ _ _ _ _ c.in-Some.ensures c.if-top-version-2.true).1
 
-pub joined-requires : goal.joined-requires
-joined-requires t c = rw (c.keep_newer-left.ensures, c.keep_newer-right.ensures) (filter-top _ _ _ _ _ _ c.in-Some.ensures c.if-top-version-2.false).1
+pub join_halves-requires : goal.join_halves-requires
+join_halves-requires t c = rw (c.keep_newer-left.ensures, c.keep_newer-right.ensures) (filter-top _ _ _ _ _ _ c.in-Some.ensures c.if-top-version-2.false).1

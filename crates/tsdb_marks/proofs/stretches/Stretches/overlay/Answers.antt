@@ -7,16 +7,16 @@ pub merge-requires : goal.merge-requires
 merge-requires c =
     let s = c.args.stretch in
     let e = c.behind-behind.ensures.value ∙ ap (from_on (s.to + 1)) c.split-before.ensures.behind ∙ from_on-from_on s.from (s.to + 1) c.args.self (omega arith) in
-    rw (c.joined-middle.ensures, c.new.ensures, c.new-2.ensures, e) (ordered-back (before s.from c.args.self) (s ∷ from_on (s.to + 1) c.args.self) (ordered-overlay s c.args.self c.requires.range (omega arith) c.learn_order.ensures))
+    rw (c.join_halves-middle.ensures, c.new.ensures, c.new-2.ensures, e) (ordered-back (before s.from c.args.self) (s ∷ from_on (s.to + 1) c.args.self) (ordered-overlay s c.args.self c.requires.range (omega arith) c.learn_order.ensures))
 
 pub merge-requires-2 : goal.merge-requires-2
 merge-requires-2 c =
     let s = c.args.stretch in
     let e = c.behind-behind.ensures.value ∙ ap (from_on (s.to + 1)) c.split-before.ensures.behind ∙ from_on-from_on s.from (s.to + 1) c.args.self (omega arith) in
-    rw (c.merge.ensures, c.joined-middle.ensures, c.new.ensures, c.new-2.ensures, e, c.split-before.ensures.before) (ordered-overlay s c.args.self c.requires.range (omega arith) c.learn_order.ensures)
+    rw (c.merge.ensures, c.join_halves-middle.ensures, c.new.ensures, c.new-2.ensures, e, c.split-before.ensures.before) (ordered-overlay s c.args.self c.requires.range (omega arith) c.learn_order.ensures)
 
 pub returns-clause-value : goal.returns-clause-value
 returns-clause-value c =
     let s = c.args.stretch in
     let e = c.behind-behind.ensures.value ∙ ap (from_on (s.to + 1)) c.split-before.ensures.behind ∙ from_on-from_on s.from (s.to + 1) c.args.self (omega arith) in
-    rw (c.merge-2.ensures, c.merge.ensures, c.joined-middle.ensures, c.new.ensures, c.new-2.ensures, e, c.split-before.ensures.before) refl
+    rw (c.merge-2.ensures, c.merge.ensures, c.join_halves-middle.ensures, c.new.ensures, c.new-2.ensures, e, c.split-before.ensures.before) refl

@@ -1,9 +1,9 @@
 use Rattle.std.proofs.Common.{◌≡◌, ◌+◌, ◌≤◌, None, ap, sym, subst, ◌∙◌, arith}
 use Rattle.std.specs.Map.{lookup}
-use Rattle.tsdb_memtable.specs.Kept.{most_bytes}
+use Rattle.tsdb_memtable.specs.Model.{most_bytes}
 use Rattle.tsdb_memtable.specs.Limits.{max_bytes}
-use Rattle.tsdb_memtable.specs.Pairs.{Pair, erased, is_series, series_at}
-use Rattle.tsdb_memtable.specs.PairKept.{most_of}
+use Rattle.tsdb_memtable.specs.Pairs.{Pair, without_range, is_series, series_at}
+use Rattle.tsdb_memtable.specs.PairModel.{most_of}
 use Rattle.tsdb_memtable.proofs.PairLemmas.{can-swap, swapped, swapped-most, set-none}
 use Rattle.tsdb_memtable.proofs.pair.Pair.erase.Goals as goal
 
@@ -12,7 +12,7 @@ returns-in_default c =
     let Absent : Pair → Type 0 = λ pair. lookup (is_series c.args.series.0) pair ≡ None in
     let pair = c.args.self.now in
     ap (λ m. m.entries) c.get_mut.follows.holds-at-none ∙ c.self.view_is
-    ∙ sym (set-none c.args.series.0 pair (erased c.args.range.now (series_at c.args.series.0 pair)) (subst Absent c.self.view_is (sym c.in_default.ensures.value)))
+    ∙ sym (set-none c.args.series.0 pair (without_range c.args.range.now (series_at c.args.series.0 pair)) (subst Absent c.self.view_is (sym c.in_default.ensures.value)))
 
 pub swap-self-inside-requires : goal.swap-self-inside-requires
 swap-self-inside-requires c =

@@ -1,9 +1,9 @@
 use Rattle.std.proofs.Common.{◌+◌, ◌<◌, ◌≤◌, Option, sym, subst, arith}
 use Rattle.std.specs.Option.{unwrap_or}
-use Rattle.tsdb_memtable.specs.Kept.{most_bytes}
+use Rattle.tsdb_memtable.specs.Model.{most_bytes}
 use Rattle.tsdb_memtable.specs.Limits.{max_bytes}
 use Rattle.tsdb_memtable.specs.Pairs.{Pair, SeriesPoints, blank, spare_of}
-use Rattle.tsdb_memtable.specs.PairKept.{most_of}
+use Rattle.tsdb_memtable.specs.PairModel.{most_of}
 use Rattle.tsdb_memtable.proofs.PairLemmas.{can-swap, swapped, swapped-most}
 use Rattle.tsdb_memtable.proofs.pair.Pair.put.Goals as goal
 

@@ -2,10 +2,10 @@ use Rattle.std.proofs.Common.{rules, ◌≡◌, ◌+◌, ◌≤◌, Option, None
 use Rattle.std.specs.Map.{lookup, set_value}
 use Rattle.std.specs.Prelude.{IsSome}
 use Rattle.std.proofs.lemmas.Map.Steps.{set_value_same}
-use Rattle.tsdb_memtable.specs.Kept.{most_bytes, totals_of, with_room}
+use Rattle.tsdb_memtable.specs.Model.{most_bytes, totals_of, with_room}
 use Rattle.tsdb_memtable.specs.Limits.{max_bytes}
 use Rattle.tsdb_memtable.specs.Pairs.{Pair, SeriesPoints, blank, is_series, points_in, spare_of, table}
-use Rattle.tsdb_memtable.specs.PairKept.{AreTotals, HasRoomFor, most_of}
+use Rattle.tsdb_memtable.specs.PairModel.{AreTotals, HasRoomFor, most_of}
 use Rattle.tsdb_memtable.proofs.PairLemmas.{swapped, swapped-most, added, table-same, table-joined, other-spare, more-room, blank-points}
 use Rattle.tsdb_memtable.proofs.pair.Pair.reserve.Goals as goal
 use Rattle.tsdb_memtable.proofs.pair.Pair.reserve.Goals.{In_err-reserve-in-Some}

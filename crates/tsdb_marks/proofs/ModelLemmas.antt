@@ -17,7 +17,7 @@ use Rattle.tsdb_marks.specs.Moments.{moment}
 use Rattle.tsdb_marks.specs.Survival.{Covers, Survives, Meets}
 use Rattle.tsdb_marks.specs.Lists.{is_newer_than}
 use Rattle.tsdb_marks.specs.Stretches.{IsOrdered, IsMet, SomeMet, is_newer, overlay}
-use Rattle.tsdb_marks.specs.Kept.{SomeOver, HasTimes, IsIndexOf}
+use Rattle.tsdb_marks.specs.Model.{SomeOver, HasTimes, IsIndexOf}
 use Rattle.tsdb_marks.proofs.PointLemmas.{met-overlay, overlay-met_top, overlay-met, met-filter, filter-met, met-point, met-widen}
 
 -- moments and times are in the same order

@@ -55,8 +55,8 @@ set_at time None series = record { data_type = series.data_type; points = remove
 set_at time (Some value) series = put time value series
 
 -- the entries of a map of points, as points
-abbrev pub listed : List (ℤ × Value) → List Point
-listed entries = map (λ entry. record { time = entry.0; value = entry.1 }) entries
+abbrev pub points_of_entries : List (ℤ × Value) → List Point
+points_of_entries entries = map (λ entry. record { time = entry.0; value = entry.1 }) entries
 
 -- the best number so far, after one more value: a value that is none is passed over
 abbrev pub better : (Value → Value → Value) → Option ℤ → Option Value → Value → Option Value

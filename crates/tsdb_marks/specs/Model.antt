@@ -25,8 +25,8 @@ pub record HasTimes (mark : Mark) : Type 0 where
 abbrev pub IsIndexOf : List Mark → Index → Type 0
 IsIndexOf marks index = (series : List ℕ) (moment born : ℕ) → SomeMet (at index.series series) moment moment born ↔ SomeOver marks series moment born
 
-abbrev pub shown : Inside → Marks
-shown inside = record { marks = inside.marks.items; spare = inside.spare }
+abbrev pub marks_view : Inside → Marks
+marks_view inside = record { marks = inside.marks.items; spare = inside.spare }
 
 pub record IsKept (inside : Inside) : Type 0 where
   pub times : All HasTimes inside.marks.items

@@ -1,6 +1,6 @@
 use Rattle.std.proofs.Common.{arith}
 use Rattle.tsdb_marks.proofs.Order.{up_to-append, up_to-more}
-use Rattle.tsdb_marks.proofs.stretches.joined.Goals as goal
+use Rattle.tsdb_marks.proofs.stretches.join_halves.Goals as goal
 
 pub invariant_of-result : goal.invariant_of-result
 invariant_of-result c =

@@ -6,8 +6,8 @@ use Rattle.tsdb_memtable.specs.Limits.{max_point_bytes, max_bytes}
 use Rattle.tsdb_memtable.specs.Points.{IsRising}
 use Rattle.tsdb_memtable.specs.Pairs.{SeriesPoints, series_bytes}
 
-abbrev pub shown : Inside → SeriesPoints
-shown inside = record { sequence = inside.sequence.items; unsequence = inside.unsequence.items; spare = inside.spare }
+abbrev pub points_view : Inside → SeriesPoints
+points_view inside = record { sequence = inside.sequence.items; unsequence = inside.unsequence.items; spare = inside.spare }
 
 -- how many bytes there are where all room is used
 abbrev pub most_bytes : SeriesPoints → ℕ
@@ -31,5 +31,5 @@ pub record IsKept (inside : Inside) : Type 0 where
   pub unsequence_rising : IsRising inside.unsequence.items
   pub sequence_room : vec_len inside.sequence + inside.spare ≤ vec_capacity inside.sequence
   pub unsequence_room : vec_len inside.unsequence + inside.spare ≤ vec_capacity inside.unsequence
-  pub bytes : inside.bytes ≡ series_bytes (shown inside)
-  pub most : most_bytes (shown inside) ≤ max_bytes
+  pub bytes : inside.bytes ≡ series_bytes (points_view inside)
+  pub most : most_bytes (points_view inside) ≤ max_bytes
