@@ -13,7 +13,7 @@ returns c =
     let all : map deref_pair c.loop-value.yielded ≡ c.args.points =
     (iter_end deref_pair c.args.points c.loop-value.yielded c.into_iter-value-iterator.result c.loop-value.value-iterator c.next.new.self c.next.result
     c.into_iter-value-iterator.ensures.into_iter_gives c.loop-value.yielded_by c.in-None.is c.next.ensures.steps).0 in
-    subst (λ o. IfOk c.copied.result (λ v. v ≡ o)) (c.loop-value.invariant ∙ ap (λ es. reduce greater (numbers (points_of_entries es))) all) c.copied.ensures
+    subst (λ o. IfOk c.copy_option.result (λ v. v ≡ o)) (c.loop-value.invariant ∙ ap (λ es. reduce greater (numbers (points_of_entries es))) all) c.copy_option.ensures
 
 pub loop-value-preserved : goal.loop-value-preserved
 loop-value-preserved c =
