@@ -1,0 +1,5 @@
+pub mod LogLemmas
+pub mod MomentLemmas
+pub mod RecordLemmas
+pub mod ScanLemmas
+pub mod SlotLemmas

@@ -1,0 +1,9 @@
+use Rattle.std.proofs.Common.{length}
+use Rattle.tsdb_frames.specs.Steps.{HasRead}
+use Rattle.tsdb_frames.proofs.reading.read_records.Given as goal
+
+abbrev pub invariant-loop-rest : goal.invariant-loop-rest
+invariant-loop-rest l = HasRead l.frames.items l.at l.rest l.bytes
+
+abbrev pub decreases-loop-rest : goal.decreases-loop-rest
+decreases-loop-rest l = length l.rest

@@ -1,0 +1,7 @@
+pub mod Causes
+pub mod Frames
+pub mod Laws
+pub mod Log
+pub mod Moments
+pub mod Slots
+pub mod Steps

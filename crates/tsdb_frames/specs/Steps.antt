@@ -1,0 +1,27 @@
+-- What private calls cite: how far a slot has been read, and what one write leaves.
+use Rattle.std.specs.Prelude.{◌≡◌, ℕ, ◌≤◌, List, ◌++◌, length}
+use Rattle.std.specs.List.{All}
+use Rattle.tsdb_outside.specs.Disk.{Image, State, in_slot, overwrite, TornIn}
+use Rattle.tsdb_outside.specs.declared.disk.Slot.{Slot}
+use Rattle.tsdb_frames.specs.declared.record.Frame.{Frame}
+use Rattle.tsdb_frames.specs.Slots.{IsPayload, open_records, payloads_of, ArePlaced}
+
+-- these are the first records of the bytes, and the rest stands at this place and begins with a gate
+pub record HasRead (frames : List Frame) (at : ℕ) (rest bytes : List ℕ) : Type 0 where
+  pub fit : All IsPayload (payloads_of frames)
+  pub split : bytes ≡ open_records (payloads_of frames) ++ rest
+  pub place : at ≡ length (open_records (payloads_of frames))
+  pub places : ArePlaced frames
+  pub gate : 1 ≤ length rest
+
+-- what the disk might leave, after a write of n bytes to one slot that is cut short
+pub record IsTornFrom (slot : Slot) (at n : ℕ) (disk : State) (image : Image) : Type 0 where
+  pub before : Image
+  pub left : disk.may_leave before
+  pub torn : TornIn slot at n before image
+
+-- what the disk might leave, with these bytes over those of one slot
+pub record IsWrittenFrom (slot : Slot) (at : ℕ) (bytes : List ℕ) (disk : State) (image : Image) : Type 0 where
+  pub before : Image
+  pub left : disk.may_leave before
+  pub written : in_slot slot image ≡ overwrite at bytes (in_slot slot before)

@@ -1,0 +1,31 @@
+//! The gated log: records in a slot of a journal, each behind a gate that is opened by a write of its own. A stop at
+//! any moment of a call leaves the records from before the call, or these and one more. Depends on `tsdb_outside` and
+//! `tsdb_base`.
+//!
+//! ```text
+//! slot  = open* gate any*         this gate is closed: any byte but 01
+//! open  = 01 length:4 record      the length is from 1 to 4,294,967,295
+//! frame = length:4 record 00      what is written behind a closed gate: a record and the next gate
+//! ```
+//!
+//! With g the place of the closed gate, a record is added in four steps: the frame is written at g + 1; the slot is
+//! synced; 01 is written at g; the slot is synced. A fault in the first two steps leaves nothing in doubt, since the
+//! gate at g is closed in whatever a stop leaves. A fault in the last two leaves this gate in doubt: a stop may leave
+//! it open or closed. Before anything else is written, 00 is written at g and synced, since nothing may be torn behind
+//! a gate that a stop may leave open.
+#![tactic(auto)]
+
+mod fault;
+mod frames;
+mod framing;
+mod reading;
+mod record;
+mod writing;
+
+pub use fault::{FrameFault, ScanFault};
+pub use frames::{Frames, ScanRefused};
+pub use framing::frame;
+pub use record::Frame;
+
+#[cfg(test)]
+mod tests;
