@@ -1,0 +1,110 @@
+-- A fault that reading a part gave is that of the whole.
+use Rattle.std.proofs.Common.{◌≡◌, ℕ, suc, ◌<◌, List, [], ◌∷◌, ◌++◌, length, Err, refl, sym, ap, subst, ◌∙◌, append_assoc, inl, inr, arith}
+use Rattle.std.specs.Prelude.{All}
+use Rattle.std.specs.List.{flat_map}
+use Rattle.std.proofs.lemmas.List.Elements.{recursion_from_All}
+use Rattle.std.proofs.lemmas.Grind.{flat_map-append}
+use Rattle.std.proofs.lemmas.List.{append-nil, length-append}
+use Rattle.tsdb_base.specs.Plain.{AreValues}
+use Rattle.tsdb_base.proofs.PlainLists.{IsPrefixFree}
+use Rattle.tsdb_fields.specs.declared.fault.FieldFault.{FieldFault}
+use Rattle.tsdb_fields.specs.declared.fault.FieldFault.TheVariants.{Bad, Memory}
+use Rattle.tsdb_fields.specs.declared.rest.Rest.{Rest}
+use Rattle.tsdb_fields.specs.Reading.{Takes, Lacks, Reads}
+use Rattle.tsdb_log.specs.declared.record.LogRecord.{LogRecord}
+use Rattle.tsdb_log.specs.Spelling.{bytes_of, fields, spelling, IsRecord}
+use Rattle.tsdb_log.specs.Steps.{BeginsWith, IsMissing, Fails}
+use Rattle.tsdb_log.specs.Rows.{both, field, AreBoth}
+use Rattle.tsdb_log.proofs.Rows.{IsRow, bytes_append, alone, one_field, row_of_field, no_first, no_second}
+use Rattle.tsdb_log.proofs.Lists.{AreList, no_more_rows}
+use Rattle.tsdb_log.proofs.Views.{IsWrittenAs, IsOfKind, behind_kind, missing_as, no_record, values_as}
+
+no_field : {A : Type 0} (spelling : A → List ℕ) (IsA : A → Type 0) (old : Rest) (at : ℕ) (some : A) → IsA some → Lacks spelling IsA old at → IsMissing (field spelling) IsA old.at old.bytes.now at
+no_field {A} spelling IsA old at some is lacks = record {
+  none = λ a behind is_a e. lacks.none a behind is_a (e ∙ alone (spelling a) behind);
+  count = 0;
+  place = let place = lacks.place in omega arith;
+  furthest = record {
+    reached = record { whole = some; is = is; first = []; more = field spelling some; rest = old.bytes.now; begins = refl; splits = refl; place = refl };
+    none_beyond = λ j r. elim (one_field (spelling r.whole) r.first r.more r.begins) [
+      | inl none ↦ let size = ap (λ (l : List (List ℕ)). length (bytes_of l)) none in let place = r.place in omega arith
+      | inr one ↦ absurd (lacks.none r.whole r.rest r.is (r.splits ∙ ap (λ (l : List (List ℕ)). bytes_of l ++ r.rest) one ∙ alone (spelling r.whole) r.rest))
+    ];
+  };
+}
+
+pub field_fails : {A B : Type 0} (spelling : A → List ℕ) (IsA : A → Type 0) (old : Rest) (view : B → A) (fault : FieldFault) (some : A) → IsA some
+    → Reads spelling IsA old view (Err fault) → Fails (field spelling) IsA old.at old.bytes.now fault
+field_fails spelling IsA old view (Bad at) some is reads = no_field spelling IsA old at some is reads
+field_fails spelling IsA old view Memory some is reads = tt
+
+pub first_fails : {A B : Type 0} (first : A → List (List ℕ)) (second : B → List (List ℕ)) (IsFirst : A → Type 0) (IsSecond : A → B → Type 0) (start : ℕ) (bytes : List ℕ) (fault : FieldFault)
+    → ((a : A) → IsFirst a → (b : B) × IsSecond a b) → Fails first IsFirst start bytes fault → Fails (both first second) (AreBoth IsFirst IsSecond) start bytes fault
+first_fails first second IsFirst IsSecond start bytes (Bad at) some fails = no_first first second IsFirst IsSecond start bytes at some fails
+first_fails first second IsFirst IsSecond start bytes Memory some fails = tt
+
+pub second_fails : {A B : Type 0} (first : A → List (List ℕ)) (second : B → List (List ℕ)) (IsFirst : A → Type 0) (IsSecond : A → B → Type 0) (row : IsRow first IsFirst)
+    (a : A) (old new : Rest) (fault : FieldFault) → IsFirst a → Takes old (bytes_of (first a)) new
+    → Fails second (IsSecond a) new.at new.bytes.now fault → Fails (both first second) (AreBoth IsFirst IsSecond) old.at old.bytes.now fault
+second_fails first second IsFirst IsSecond row a old new (Bad at) is takes fails =
+    no_second first second IsFirst IsSecond row a old.at new.at old.bytes.now new.bytes.now at is takes.bytes takes.place fails
+second_fails first second IsFirst IsSecond row a old new Memory is takes fails = tt
+
+-- the bytes of one field
+pub one : (old new : Rest) (s : List ℕ) → Takes old s new → Takes old (bytes_of (s ∷ [])) new
+one old new s takes = record {
+  bytes = takes.bytes ∙ sym (alone s new.bytes.now);
+  place = let size = ap length (append-nil s) in let place = takes.place in omega arith;
+}
+
+pub behind_field : {A B : Type 0} (spelling : A → List ℕ) (second : B → List (List ℕ)) (IsFirst : A → Type 0) (IsSecond : A → B → Type 0) (free : IsPrefixFree spelling IsFirst)
+    (a : A) (old new : Rest) (fault : FieldFault) → IsFirst a → Takes old (spelling a) new
+    → Fails second (IsSecond a) new.at new.bytes.now fault → Fails (both (field spelling) second) (AreBoth IsFirst IsSecond) old.at old.bytes.now fault
+behind_field spelling second IsFirst IsSecond free a old new fault is takes fails =
+    second_fails (field spelling) second IsFirst IsSecond (row_of_field spelling IsFirst free) a old new fault is (one old new (spelling a) takes) fails
+
+pub fails_as : {A R : Type 0} (row : A → List (List ℕ)) (IsA : A → Type 0) (whole : R → List (List ℕ)) (IsR : R → Type 0) (start : ℕ) (bytes : List ℕ) (fault : FieldFault)
+    → IsWrittenAs row IsA whole IsR → Fails row IsA start bytes fault → Fails whole IsR start bytes fault
+fails_as row IsA whole IsR start bytes (Bad at) as_row fails = missing_as row IsA whole IsR start bytes at as_row fails
+fails_as row IsA whole IsR start bytes Memory as_row fails = tt
+
+pub record_fails : {A : Type 0} (kind : ℕ) (row : A → List (List ℕ)) (IsA : A → Type 0) (bytes : List ℕ) (fault : FieldFault)
+    → IsWrittenAs (behind_kind kind row) IsA fields (IsOfKind kind) → Fails row IsA 1 bytes fault → Fails fields IsRecord 0 (kind ∷ bytes) fault
+record_fails kind row IsA bytes (Bad at) as_row fails = no_record kind row IsA bytes at as_row fails
+record_fails kind row IsA bytes Memory as_row fails = tt
+
+pub kind_fails : {A : Type 0} (kind : ℕ) (row : A → List (List ℕ)) (IsA : A → Type 0) (rest : Rest) (fault : FieldFault) → rest.at ≡ 1
+    → IsWrittenAs (behind_kind kind row) IsA fields (IsOfKind kind) → Fails row IsA rest.at rest.bytes.now fault → Fails fields IsRecord 0 (kind ∷ rest.bytes.now) fault
+kind_fails kind row IsA rest (Bad at) first as_row fails = no_record kind row IsA rest.bytes.now at as_row (subst (λ (n : ℕ). IsMissing row IsA n rest.bytes.now at) first fails)
+kind_fails kind row IsA rest Memory first as_row fails = tt
+
+-- behind some rows the next one is missing
+pub rows_fail : {A : Type 0} (row : A → List (List ℕ)) (Is : A → Type 0) (rows : IsRow row Is) (so_far : List A) (n : ℕ) (old new : Rest) (fault : FieldFault)
+    → All Is so_far → length so_far < n → Takes old (bytes_of (flat_map row so_far)) new → Fails row Is new.at new.bytes.now fault → Fails (flat_map row) (AreValues Is n) old.at old.bytes.now fault
+rows_fail row Is rows so_far n old new (Bad at) all lt takes fails =
+    missing_as (flat_map row) (AreList Is n) (flat_map row) (AreValues Is n) old.at old.bytes.now at (values_as row Is n)
+    (no_more_rows row Is rows so_far n old.at new.at old.bytes.now new.bytes.now at (recursion_from_All Is so_far all) lt takes.bytes takes.place fails)
+rows_fail row Is rows so_far n old new Memory all lt takes fails = tt
+
+-- what was taken one behind another
+pub takes_both : (a b c : Rest) (s t : List ℕ) → Takes a s b → Takes b t c → Takes a (s ++ t) c
+takes_both a b c s t first second = record {
+  bytes = first.bytes ∙ ap (λ (l : List ℕ). s ++ l) second.bytes ∙ sym (append_assoc s t c.bytes.now);
+  place = let x = first.place in let y = second.place in let size = length-append s t in omega arith;
+}
+
+-- one row more was taken
+pub takes_more : {A : Type 0} (row : A → List (List ℕ)) (so_far all : List A) (a : A) (old middle new : Rest) → all ≡ so_far ++ a ∷ []
+    → Takes old (bytes_of (flat_map row so_far)) middle → Takes middle (bytes_of (row a)) new → Takes old (bytes_of (flat_map row all)) new
+takes_more {A} row so_far all a old middle new push first second =
+    let rows = ap (λ (l : List A). flat_map row l) push ∙ flat_map-append row so_far (a ∷ []) ∙ ap (λ (l : List (List ℕ)). flat_map row so_far ++ l) (append-nil (row a)) in
+    let bytes = ap (λ (l : List (List ℕ)). bytes_of l) rows ∙ bytes_append (flat_map row so_far) (row a) in
+    subst (λ (l : List ℕ). Takes old l new) (sym bytes) (takes_both old middle new (bytes_of (flat_map row so_far)) (bytes_of (row a)) first second)
+
+-- a record was taken behind its first byte
+pub takes_record : (kind : ℕ) (item : LogRecord) (row : List ℕ) (old new : Rest) → IsRecord item → spelling item ≡ kind ∷ row → old.at ≡ 1 → Takes old row new → BeginsWith (kind ∷ old.bytes.now) item new
+takes_record kind item row old new is same first takes = record {
+  is = is;
+  splits = ap (λ (l : List ℕ). kind ∷ l) takes.bytes ∙ ap (λ (l : List ℕ). l ++ new.bytes.now) (sym same);
+  place = let size : length (spelling item) ≡ suc (length row) = ap length same in let place = takes.place in omega arith;
+}

@@ -1,0 +1,4 @@
+pub mod Spelling
+pub mod Places
+pub mod Steps
+pub mod Rows

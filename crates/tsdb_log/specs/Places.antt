@@ -1,0 +1,36 @@
+-- How far bytes are those of fields.
+use Rattle.std.specs.Prelude.{◌≡◌, ℕ, ◌≤◌, List, ◌++◌, length, Result, Ok, Err}
+use Rattle.tsdb_log.specs.declared.fault.LogFault.{LogFault}
+use Rattle.tsdb_log.specs.declared.fault.LogFault.TheVariants.{Memory}
+use Rattle.tsdb_log.specs.declared.record.LogRecord.{LogRecord}
+use Rattle.tsdb_log.specs.Spelling.{bytes_of, fields, spelling, IsRecord}
+
+-- the bytes up to this place are the first fields of something that is written in such fields
+pub record Reaches {A : Type 0} (fields : A → List (List ℕ)) (Is : A → Type 0) (bytes : List ℕ) (at : ℕ) : Type 0 where
+  pub whole : A
+  pub is : Is whole
+  pub first : List (List ℕ)
+  pub more : List (List ℕ)
+  pub rest : List ℕ
+  pub begins : fields whole ≡ first ++ more
+  pub splits : bytes ≡ bytes_of first ++ rest
+  pub place : at ≡ length (bytes_of first)
+
+-- this is the furthest such place: there stands the first field that is none, or the first byte after the last field
+pub record IsFurthest {A : Type 0} (fields : A → List (List ℕ)) (Is : A → Type 0) (bytes : List ℕ) (at : ℕ) : Type 0 where
+  pub reached : Reaches fields Is bytes at
+  pub none_beyond : (place : ℕ) → Reaches fields Is bytes place → place ≤ at
+
+-- no record has these bytes
+abbrev pub SpellNone : List ℕ → Type 0
+SpellNone bytes = (item : LogRecord) → IsRecord item → bytes ≡ spelling item → ⊥
+
+-- no record has these bytes, and up to this place they are fields of a record
+pub record IsBad (bytes : List ℕ) (at : ℕ) : Type 0 where
+  pub none : SpellNone bytes
+  pub place : IsFurthest fields IsRecord bytes at
+
+-- the record was read, or memory ran out
+abbrev pub IsReadAs : LogRecord → Result LogRecord LogFault → Type 0
+IsReadAs item (Ok found) = found ≡ item
+IsReadAs item (Err fault) = fault ≡ Memory
