@@ -1,5 +1,6 @@
 pub mod FoldLemmas
 pub mod LawLemmas
+pub mod PendingLemmas
 pub mod PlainLemmas
 pub mod PointLemmas
 pub mod RowLemmas

@@ -1,5 +1,5 @@
 -- What a command answers, and what a row that is written, or taken back, leaves.
-use Rattle.std.proofs.Common.{◌≡◌, ℕ, zero, suc, ◌-◌, ◌<◌, ◌≤◌, length, take, drop, get_or, Result, Ok, Err, is_err, arith, ℤ, Bool, true, false, cond, ◌&&◌, List, [], ◌∷◌, map, Option, None, Some, is_some, refl, sym, ap, ◌∙◌, subst}
+use Rattle.std.proofs.Common.{◌≡◌, ℕ, zero, suc, ◌-◌, ◌<◌, ◌≤◌, ◌++◌, length, take, drop, get_or, Result, Ok, Err, is_err, arith, ℤ, Bool, true, false, cond, ◌&&◌, List, [], ◌∷◌, map, Option, None, Some, is_some, refl, sym, ap, ◌∙◌, subst}
 use Rattle.std.specs.Prelude.{IfSome, IsSome, OnErr}
 use Rattle.std.specs.List.{list_all}
 use Rattle.std.specs.Ordering.{nat_cmp, int_cmp, eq_by_cmp}
@@ -26,6 +26,7 @@ use Rattle.tsdb_map.specs.declared.reply.Reply.TheVariants.{Plain}
 use Rattle.tsdb_map.specs.World.{change, change_series, points_of, put, value_at, Points, Series, World}
 use Rattle.tsdb_map.specs.Apply.{after_reply, all_fit, are_there, fits_series, insert_answer, put_cells, put_literal, put_value, reply_of, series_of, value_of, world_after}
 use Rattle.tsdb_map.specs.Model.{set_at}
+use Rattle.tsdb_map.specs.Pending.{old_values}
 use Rattle.tsdb_map.proofs.WorldLemmas.{change-there, insert-same}
 use Rattle.tsdb_path.specs.Nodes.{child_of}
 
@@ -163,6 +164,31 @@ taken_back world after back p time literal old e put_so stood is =
     ∙ ap (insert (insert world p (put time fit.value fit.series)) p)
     (series-back fit.series time fit.value old (stood ∙ ap (λ o. get (points_of o) time) fit.there))
     ∙ insert-twice world p fit.series (put time fit.value fit.series) ∙ insert-same world p fit.series fit.there
+
+-- a list with one more at its end
+ends-same : {A : Type 0} (xs ys : List A) (a b : A) → xs ++ a ∷ [] ≡ ys ++ b ∷ [] → (xs ≡ ys) × (a ≡ b)
+ends-same [] [] a b e = (refl, ap (λ l. get_or l 0 a) e)
+ends-same [] (y ∷ []) a b e = cc
+ends-same [] (y ∷ z ∷ ys) a b e = cc
+ends-same (x ∷ []) [] a b e = cc
+ends-same (x ∷ z ∷ xs) [] a b e = cc
+ends-same (x ∷ xs) (y ∷ ys) a b e =
+    let rest = ends-same xs ys a b (ap (drop 1) e) in (ap (λ l. get_or l 0 x ∷ xs) e ∙ ap (λ l. y ∷ l) rest.0, rest.1)
+
+-- a row that was written and taken back, the last cell first, has changed nothing
+pub cells_back : (world catalog between back : World) (device : List ℕ) (time : ℤ) (cell : Cell) (cells : List Cell) (values : List (Option Value)) (old : Option Value)
+    → all_fit world device (cell ∷ cells) ≡ true → catalog ≡ put_cells world device time (cell ∷ cells)
+    → values ++ old ∷ [] ≡ old_values world device time (cell ∷ cells)
+    → ((before : World) → all_fit before device cells ≡ true → catalog ≡ put_cells before device time cells → values ≡ old_values before device time cells → between ≡ before)
+    → (IsSome (value_at between (child_of device cell.measurement) time) → back ≡ change between (child_of device cell.measurement) (set_at time old))
+    → back ≡ world
+cells_back world catalog between back device time cell cells values old fit put stood rest first =
+    let path = child_of device cell.measurement in
+    let after = change world path (put_literal time cell.value) in
+    let ends = ends-same values (old_values after device time cells) old (value_at world path time) stood in
+    let fits_first = first_fits world device cell cells fit in
+    let same : between ≡ after = rest after (rest_fits world after device time cell cells fit refl) put ends.0 in
+    taken_back world between back path time cell.value old fits_first same ends.1 (first (put_there world between path time cell.value fits_first same))
 
 -- Done is answered where all fit
 pub done_fits : (there fit : Bool) → cond there (cond fit Done WrongType) NoPath ≡ Done → fit ≡ true

@@ -6,15 +6,15 @@ use Rattle.std.specs.List.Sorted.{IsStrictlySortedBy}
 use Rattle.std.specs.Ordering.{nat_cmp, is_eq, eq_by_cmp, ordering_then, match_ordering}
 use Rattle.std.specs.Cmp.{eq_by_cmp_equiv, nat_cmp_total}
 use Rattle.std.specs.Cmp.Lexicographic.{slice_cmp, nat_list_cmp_total}
-use Rattle.std.specs.FinMap.{get, insert, from_entries, get-from_entries, get-insert, same_map, slice_cmp-IsAntisymmetric, nat_cmp-IsAntisymmetric}
+use Rattle.std.specs.FinMap.{get, insert, remove, from_entries, get-from_entries, get-insert, get-remove, same_map, slice_cmp-IsAntisymmetric, nat_cmp-IsAntisymmetric}
 use Rattle.std.specs.FinMap.Entries.{find}
-use Rattle.std.specs.Map.{lookup, set_value, keys_of, values_of}
+use Rattle.std.specs.Map.{lookup, set_value, remove_entry, keys_of, values_of}
 use Rattle.std.specs.BTreeMap.{BTreeMap, is_at, insert_entry}
 use Rattle.std.specs.BTreeMap as tree
 use Rattle.std.specs.declared.cmp.Ordering.TheVariants.{Less, Equal, Greater}
 use Rattle.std.proofs.lemmas.Bool.{false≢true}
 use Rattle.std.proofs.lemmas.List.Elements.{recursion_from_All, All-from_recursion}
-use Rattle.std.proofs.lemmas.Map.Views.{tells_apart, All-values-set_value, All-values-insert_entry, All-keys-insert_entry, IfSome-lookup_from_All}
+use Rattle.std.proofs.lemmas.Map.Views.{tells_apart, All-values-set_value, All-values-insert_entry, All-keys-insert_entry, All-map-remove_entry, IfSome-lookup_from_All}
 use Rattle.std.proofs.lemmas.Map.Lookups.{exact_bytes}
 use Rattle.tsdb_map.specs.World.{change, change_series, Series, World}
 use Rattle.tsdb_map.specs.Model.{AreKept, IsDotless, device_entries, world_of}
@@ -270,6 +270,57 @@ pub world-set : (m n : BTreeMap (List ℕ) Names) (world : World) → AreKept m 
 world-set m n world kept is d name a old new t found puts written =
     ap world_of written ∙ world-by-seek m.entries _ world (child_of d name) t is (seek-set m.entries (recursion_from_All _ _ kept.dotless) d name a old new t found puts)
 
+-- one set of names is another without a name
+abbrev pub Drops : Names → Names → List ℕ → Type 0
+Drops old new n = (r : List ℕ) → tree.get path_cmp new r ≡ cond (is_at (path_cmp n) r) None (tree.get path_cmp old r)
+
+looked-drop : (old new : Names) (n : List ℕ) → Drops old new n → (o : Option (List ℕ)) → ties o n ≡ false → looked new.entries o ≡ looked old.entries o
+looked-drop old new n drops None e = refl
+looked-drop old new n drops (Some r) e =
+    drops r ∙ ap (λ b. cond b None (tree.get path_cmp old r)) (sym ((eq_by_cmp_equiv nat_list_cmp_total).symm r n) ∙ e)
+
+-- at every other path stands what stood there
+seek-drop : (es : Devices) (d n : List ℕ) (old new : Names) → lookup (is_at (path_cmp d)) es ≡ Some old → Drops old new n
+    → (q : List ℕ) → same q (child_of d n) ≡ false → seek (set_value (is_at (path_cmp d)) es new) q ≡ seek es q
+seek-drop [] d n old new found drops q apart = none_is_not old found
+seek-drop (e ∷ es) d n old new found drops q apart =
+    elim (is_at (path_cmp d) e.0) as (λ b. is_at (path_cmp d) e.0 ≡ b → cond b (Some e.1) (lookup (is_at (path_cmp d)) es) ≡ Some old
+    → seek (cond b ((e.0, new) ∷ es) (e ∷ set_value (is_at (path_cmp d)) es new)) q ≡ seek (e ∷ es) q) [
+      | true ↦ λ tied found. ap (λ o. either o (seek es q))
+          (looked-drop old new n drops (behind e.0 q) (ap (λ k. ties (behind k q) n) (sym (tells_apart exact_bytes d e.0 tied)) ∙ sym (same-child q d n) ∙ apart)
+          ∙ ap (λ (o : Names). looked o.entries (behind e.0 q)) (sym (some_is e.1 old found)))
+      | false ↦ λ other found. ap (either (looked e.1.entries (behind e.0 q))) (seek-drop es d n old new found drops q apart)
+    ] refl found
+
+-- a series that is taken away
+pub world-drop : (m n : BTreeMap (List ℕ) Names) (world : World) → AreKept m → AreKept n → world_of m.entries ≡ world → (d name : List ℕ) → IsDotless name
+    → (old new : Names) → tree.get path_cmp m d ≡ Some old → tree.get path_cmp n d ≡ Some new → Drops old new name
+    → n.entries ≡ set_value (is_at (path_cmp d)) m.entries new → world_of n.entries ≡ remove world (child_of d name)
+world-drop m n world kept after is d name a old new found now drops written =
+    same_map nat_list_cmp_total (slice_cmp-IsAntisymmetric nat_cmp-IsAntisymmetric) _ _ (λ q.
+    elim (same q (child_of d name)) as (λ b. same q (child_of d name) ≡ b → get (world_of n.entries) q ≡ cond b None (get world q)) [
+      | true ↦ λ at. ap (get (world_of n.entries)) (tells_apart exact_bytes q (child_of d name) at)
+          ∙ get-world n (world_of n.entries) after refl d name a ∙ ap (λ o. in_names o name) now
+          ∙ drops name ∙ ap (λ b. cond b None (tree.get path_cmp old name)) (itself name)
+      | false ↦ λ apart. ap (λ es. get (world_of es) q) written ∙ get-seek _ q ∙ seek-drop m.entries d name old new found drops q apart
+          ∙ sym (get-seek m.entries q) ∙ ap (λ w. get w q) is
+    ] refl
+    ∙ sym (get-remove nat_list_cmp_total world (child_of d name) q))
+
+-- to take away what is not there changes nothing
+pub remove-absent : (world : World) (p : List ℕ) → get world p ≡ None → remove world p ≡ world
+remove-absent world p none = same_map nat_list_cmp_total (slice_cmp-IsAntisymmetric nat_cmp-IsAntisymmetric) _ _ (λ q.
+    get-remove nat_list_cmp_total world p q
+    ∙ elim (same q p) as (λ b. same q p ≡ b → cond b None (get world q) ≡ get world q)
+    [ true ↦ λ e. sym none ∙ ap (get world) (sym (tells_apart exact_bytes q p e)) | false ↦ λ e. refl ] refl)
+
+-- a series that was new is taken away again
+pub remove-insert : (world : World) (p : List ℕ) (s : Series) → get world p ≡ None → remove (insert world p s) p ≡ world
+remove-insert world p s none = same_map nat_list_cmp_total (slice_cmp-IsAntisymmetric nat_cmp-IsAntisymmetric) _ _ (λ q.
+    get-remove nat_list_cmp_total (insert world p s) p q ∙ ap (cond (same q p) None) (get-insert nat_list_cmp_total world p s q)
+    ∙ elim (same q p) as (λ b. same q p ≡ b → cond b None (cond b (Some s) (get world q)) ≡ get world q)
+    [ true ↦ λ e. sym none ∙ ap (get world) (sym (tells_apart exact_bytes q p e)) | false ↦ λ e. refl ] refl)
+
 -- the first series of a device
 pub world-new : (m n : BTreeMap (List ℕ) Names) (world : World) → AreKept m → world_of m.entries ≡ world → (d name : List ℕ) → IsDotless name
     → (none new : Names) (t : Series) → none.entries ≡ [] → tree.get path_cmp m d ≡ None → Puts none new name t
@@ -305,6 +356,11 @@ pub dotless-put : (old new : Names) (n : List ℕ) (t : Series) → IsDotless n 
     → new.entries ≡ insert_entry path_cmp old.entries n t → All IsDotless (tree.keys new)
 dotless-put old new n t a h written =
     subst (λ es. All IsDotless (keys_of es)) (sym written) (All-keys-insert_entry path_cmp n t IsDotless old.entries h a)
+
+pub dotless-drop : (old new : Names) (n : List ℕ) → All IsDotless (tree.keys old)
+    → new.entries ≡ remove_entry (is_at (path_cmp n)) old.entries → All IsDotless (tree.keys new)
+dotless-drop old new n h written =
+    subst (λ es. All IsDotless (keys_of es)) (sym written) (All-map-remove_entry (is_at (path_cmp n)) (λ (e : List ℕ × Series). e.0) IsDotless old.entries h)
 
 pub dotless-same : (old new : Names) → All IsDotless (tree.keys old) → tree.keys new ≡ tree.keys old → All IsDotless (tree.keys new)
 dotless-same old new h same_keys = subst (All IsDotless) (sym same_keys) h

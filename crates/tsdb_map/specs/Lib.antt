@@ -5,5 +5,6 @@ pub mod History
 pub mod Model
 pub mod Laws
 pub mod Limits
+pub mod Pending
 pub mod State
 pub mod World

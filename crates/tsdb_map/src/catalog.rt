@@ -76,6 +76,17 @@ impl Catalog {
         Ok(())
     }
 
+    /// Takes away a series, if it is there. It takes no memory.
+    pub fn remove(&mut self, device: &Path, name: &Name)
+        ensures { self.new ≡ map.remove self.old (child_of device.now name.now) }
+    {
+        let _ = name.bytes();
+        let Some(names) = self.devices.get_mut(device) else {
+            return;
+        };
+        names.remove(name);
+    }
+
     /// Puts a value at a time of a series that is there, or takes away the one that stands there, and returns that one.
     /// Only a new time takes memory.
     pub fn set(

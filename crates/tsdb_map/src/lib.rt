@@ -7,6 +7,7 @@ mod command;
 mod fold;
 mod laws;
 mod literal;
+mod pending;
 mod plain;
 mod reply;
 mod row;
@@ -19,6 +20,7 @@ pub use laws::{
     deletion_keeps_the_rest, deletion_removes_its_range, last_write_wins, other_values_stay,
     refused_insert_changes_nothing,
 };
+pub use pending::{Pending, Prepared};
 pub use plain::Plain;
 pub use reply::{FileLine, Line, Listing, Reply};
 

@@ -1,15 +1,18 @@
-//! The plain map in executable form. Depends on `catalog`, `row` and `select`.
+//! The plain map in executable form. Depends on `catalog`, `pending`, `row` and `select`.
 ghost use Rattle.std.specs.Prelude.{◌≡◌, IfOk, OnOk, OnErr};
 ghost use Rattle.std.specs.FinMap as map;
 ghost use Rattle.tsdb_map.specs.Commands.{IsSchema, IsWellFormed, IsSeries};
-ghost use Rattle.tsdb_map.specs.Apply.{reply_of, world_after};
+ghost use Rattle.tsdb_map.specs.Apply.{accepted, reply_of, world_after};
+ghost use Rattle.tsdb_map.specs.Pending.{IsPending, IsPrepared};
+ghost use Rattle.tsdb_map.specs.World.{World};
 ghost use Rattle.tsdb_path.specs.Nodes.{child_of};
 ghost use Rattle.tsdb_map.specs.declared.command.Command.{Command};
 
 use crate::catalog::Catalog;
 use crate::command::{Command, Row, Schema};
+use crate::pending::{Pending, Prepared};
 use crate::reply::Reply;
-use crate::row::{insert_answer, put_cells};
+use crate::row::{insert_answer, put_cells, take_back_cells};
 use crate::select::select;
 use std::alloc::Global;
 use std::marker::Model;
@@ -52,67 +55,113 @@ impl Plain {
         ensures after { OnOk result (self.new ≡ world_after self.old command.now) }
         ensures memory { OnErr result (self.new ≡ self.old) }
     {
+        match self.prepare(command)? {
+            Prepared::Reply(reply) => Ok(reply),
+            Prepared::Change(pending) => {
+                self.finish(command, pending);
+                Ok(Reply::Plain(Answer::Done))
+            }
+        }
+    }
+
+    /// Begins a command: it takes all the memory that the command needs. A change that it accepts is to be finished or
+    /// cancelled before another command. Out of memory changes nothing.
+    pub fn prepare(&mut self, command: &Command) -> Result<Prepared, Memory>
+        requires { IsWellFormed command.now }
+        ensures prepared { IfOk result (λ prepared. IsPrepared self.old self.new command.now prepared) }
+        ensures memory { OnErr result (self.new ≡ self.old) }
+    {
         match command {
-            Command::Create(schema) => self.create(schema),
-            Command::Insert { device, row } => self.insert(device, row),
-            Command::Delete { series, range } => self.delete(series, range),
+            Command::Create(schema) => self.prepare_create(schema),
+            Command::Insert { device, row } => self.prepare_insert(device, row),
+            Command::Delete { series, range } => self.prepare_delete(series, range),
             Command::Select {
                 device,
                 items,
                 range,
-            } => select(self.alloc, &self.catalog, device, items.items(), range),
+            } => {
+                let reply = select(self.alloc, &self.catalog, device, items.items(), range)?;
+                Ok(Prepared::Reply(reply))
+            }
             Command::Flush
             | Command::CompactInner(_)
             | Command::CompactCross
-            | Command::ShowFiles => Ok(Reply::Plain(Answer::Done)),
+            | Command::ShowFiles => Ok(Prepared::Reply(Reply::Plain(Answer::Done))),
+        }
+    }
+
+    /// The change takes effect. It takes no memory: a create and an insert are in the map already.
+    pub fn finish(&mut self, command: &Command, pending: Pending)
+        ensures { (before : World) → IsPending before self.old command.now pending → self.new ≡ accepted before command.now }
+    {
+        if let Command::Delete { range, .. } = command
+            && let Pending::Delete { device, name } = pending
+            && self.catalog.get(&device, &name).is_some()
+        {
+            self.catalog.cut(&device, &name, range);
+        }
+    }
+
+    /// The map is as it was before the change was prepared. It takes no memory.
+    pub fn cancel(&mut self, command: &Command, pending: Pending)
+        ensures { (before : World) → IsPending before self.old command.now pending → self.new ≡ before }
+    {
+        match pending {
+            Pending::Create { device, name } => self.catalog.remove(&device, &name),
+            Pending::Insert(mut olds) => {
+                if let Command::Insert { device, row } = command {
+                    let cells = row.cells.items();
+                    take_back_cells(&mut self.catalog, device, row.time, cells, &mut olds);
+                }
+            }
+            Pending::Delete { .. } => {}
         }
     }
 
     /// Begins a series without points, where it is not there.
-    fn create(&mut self, schema: &Schema) -> Result<Reply, Memory>
+    fn prepare_create(&mut self, schema: &Schema) -> Result<Prepared, Memory>
         requires { IsSchema schema.now }
-        ensures reply { IfOk result (λ reply. reply ≡ reply_of self.old (Command.Create schema.now)) }
-        ensures after { OnOk result (self.new ≡ world_after self.old (Command.Create schema.now)) }
+        ensures prepared { IfOk result (λ prepared. IsPrepared self.old self.new (Command.Create schema.now) prepared) }
         ensures memory { OnErr result (self.new ≡ self.old) }
     {
         let (device, name) = split(self.alloc, &schema.path)?;
         if self.catalog.get(&device, &name).is_some() {
-            return Ok(Reply::Plain(Answer::Exists));
+            return Ok(Prepared::Reply(Reply::Plain(Answer::Exists)));
         }
+        let pending = Pending::Create { device, name };
+        let (device, name) = split(self.alloc, &schema.path)?;
         self.catalog
             .create(self.alloc, device, name, schema.data_type)?;
-        Ok(Reply::Plain(Answer::Done))
+        Ok(Prepared::Change(pending))
     }
 
     /// Writes the values of a row, where all of its series are there and each literal fits.
-    fn insert(&mut self, device: &Path, row: &Row) -> Result<Reply, Memory>
-        ensures reply { IfOk result (λ reply. reply ≡ reply_of self.old (Command.Insert device.now row.now)) }
-        ensures after { OnOk result (self.new ≡ world_after self.old (Command.Insert device.now row.now)) }
+    fn prepare_insert(&mut self, device: &Path, row: &Row) -> Result<Prepared, Memory>
+        ensures prepared { IfOk result (λ prepared. IsPrepared self.old self.new (Command.Insert device.now row.now) prepared) }
         ensures memory { OnErr result (self.new ≡ self.old) }
     {
         let cells = row.cells.items();
         match insert_answer(&self.catalog, device, cells) {
             Answer::Done => {
-                put_cells(&mut self.catalog, device, row.time, cells)?;
-                Ok(Reply::Plain(Answer::Done))
+                let mut olds = Vec::with_capacity(self.alloc, cells.len())?;
+                put_cells(&mut self.catalog, device, row.time, cells, &mut olds)?;
+                Ok(Prepared::Change(Pending::Insert(olds)))
             }
-            answer => Ok(Reply::Plain(answer)),
+            answer => Ok(Prepared::Reply(Reply::Plain(answer))),
         }
     }
 
-    /// Removes the points in the range, where the series is there.
-    fn delete(&mut self, series: &Path, range: &Range) -> Result<Reply, Memory>
+    /// Looks for the series. Its points stay.
+    fn prepare_delete(&mut self, series: &Path, range: &Range) -> Result<Prepared, Memory>
         requires { IsSeries series.now }
-        ensures reply { IfOk result (λ reply. reply ≡ reply_of self.old (Command.Delete series.now range.now)) }
-        ensures after { OnOk result (self.new ≡ world_after self.old (Command.Delete series.now range.now)) }
-        ensures memory { OnErr result (self.new ≡ self.old) }
+        ensures prepared { IfOk result (λ prepared. IsPrepared self.old self.new (Command.Delete series.now range.now) prepared) }
+        ensures memory { self.new ≡ self.old }
     {
         let (device, name) = split(self.alloc, series)?;
         if self.catalog.get(&device, &name).is_none() {
-            return Ok(Reply::Plain(Answer::NoPath));
+            return Ok(Prepared::Reply(Reply::Plain(Answer::NoPath)));
         }
-        self.catalog.cut(&device, &name, range);
-        Ok(Reply::Plain(Answer::Done))
+        Ok(Prepared::Change(Pending::Delete { device, name }))
     }
 }
 

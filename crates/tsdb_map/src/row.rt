@@ -1,7 +1,9 @@
-//! The cells of a row: whether they fit, and how they are written. Depends on `catalog` and `literal`.
-ghost use Rattle.std.specs.Prelude.{◌≡◌, IfOk, OnOk, OnErr, IsSome, true};
+//! The cells of a row: whether they fit, how they are written, and how they are taken back. Depends on `catalog` and `literal`.
+ghost use Rattle.std.specs.Prelude.{◌≡◌, ◌+◌, ◌≤◌, ◌++◌, length, IfOk, OnOk, OnErr, IsSome, true};
+ghost use Rattle.std.specs.Vec.{vec_len, vec_capacity};
 ghost use Rattle.tsdb_map.specs.Apply as apply;
-ghost use Rattle.tsdb_map.specs.World.{change, value_at};
+ghost use Rattle.tsdb_map.specs.Pending.{old_values};
+ghost use Rattle.tsdb_map.specs.World.{World, change, value_at};
 ghost use Rattle.tsdb_map.specs.Model.{set_at};
 ghost use Rattle.tsdb_path.specs.Nodes.{child_of};
 
@@ -27,27 +29,55 @@ pub fn insert_answer(catalog: &Catalog, device: &Path, cells: &[Cell]) -> Answer
     if fit { Answer::Done } else { Answer::WrongType }
 }
 
-/// Writes the values of a row, all of which fit. Where memory is refused behind a cell, that cell's write is taken
-/// back.
+/// Writes the values of a row, all of which fit, and adds those that stood there before to a list that has room, the
+/// last cell's first. Where memory is refused behind a cell, that cell's write is taken back.
 pub fn put_cells(
     catalog: &mut Catalog,
     device: &Path,
     time: Time,
     cells: &[Cell],
+    olds: &mut Vec<Option<Value>>,
 ) -> Result<(), Memory>
-    requires { apply.all_fit catalog.old device.now cells.now ≡ true }
+    requires fit { apply.all_fit catalog.old device.now cells.now ≡ true }
+    requires room { vec_len olds.old + length cells.now ≤ vec_capacity olds.old }
     ensures put { OnOk result (catalog.new ≡ apply.put_cells catalog.old device.now time cells.now) }
+    ensures olds { OnOk result (olds.new.items ≡ olds.old.items ++ old_values catalog.old device.now time cells.now) }
+    ensures len { OnOk result (vec_len olds.new ≡ vec_len olds.old + length cells.now) }
+    ensures capacity { vec_capacity olds.old ≤ vec_capacity olds.new }
     ensures memory { OnErr result (catalog.new ≡ catalog.old) }
 {
     let [cell, rest @ ..] = cells else {
         return Ok(());
     };
     let old = put_cell(catalog, device, time, cell)?;
-    if put_cells(catalog, device, time, rest).is_err() {
+    if put_cells(catalog, device, time, rest, olds).is_err() {
         take_back(catalog, device, time, cell, old);
         return Err(Memory);
     }
+    let _ = olds.push(old);
     Ok(())
+}
+
+/// Takes back the cells of a row that was written, from the last to the first.
+pub fn take_back_cells(
+    catalog: &mut Catalog,
+    device: &Path,
+    time: Time,
+    cells: &[Cell],
+    olds: &mut Vec<Option<Value>>,
+)
+    ensures { (before : World) → apply.all_fit before device.now cells.now ≡ true
+        → catalog.old ≡ apply.put_cells before device.now time cells.now
+        → olds.old.items ≡ old_values before device.now time cells.now → catalog.new ≡ before }
+{
+    let [cell, rest @ ..] = cells else {
+        return;
+    };
+    let Some(old) = olds.pop() else {
+        return;
+    };
+    take_back_cells(catalog, device, time, rest, olds);
+    take_back(catalog, device, time, cell, old);
 }
 
 /// Writes the value of a cell, which fits, and returns the one that was there.
@@ -74,8 +104,10 @@ fn put_cell(
 
 /// Puts back what stood at a time before a cell was written there. It takes no memory, since the time is there.
 fn take_back(catalog: &mut Catalog, device: &Path, time: Time, cell: &Cell, old: Option<Value>)
-    requires { IsSome (value_at catalog.old (child_of device.now cell.now.measurement) time) }
-    ensures { catalog.new ≡ change catalog.old (child_of device.now cell.now.measurement) (set_at time old) }
+    ensures { IsSome (value_at catalog.old (child_of device.now cell.now.measurement) time)
+        → catalog.new ≡ change catalog.old (child_of device.now cell.now.measurement) (set_at time old) }
 {
-    let _ = catalog.set(device, &cell.measurement, time, old);
+    if catalog.get(device, &cell.measurement).is_some() {
+        let _ = catalog.set(device, &cell.measurement, time, old);
+    }
 }

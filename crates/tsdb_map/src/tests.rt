@@ -1,5 +1,5 @@
-//! Worked examples: what commands return one after another with ample memory, and aggregates of each type over no,
-//! one and many points.
+//! Worked examples: what commands return one after another with ample memory, in one phase and in two, and aggregates
+//! of each type over no, one and many points.
 ghost use Rattle.std.specs.Prelude.{◌≡◌, List, true};
 ghost use Rattle.tsdb_map.specs.declared.command.Item.{Item};
 ghost use Rattle.tsdb_map.specs.Commands.{AreItems, IsRow, IsWellFormed};
@@ -49,6 +49,33 @@ fn said(alloc: Global, plain: &mut Plain, command: Command) -> Result<String, Fa
         return Err(Fail::from("a small command"));
     }
     let reply = plain.apply(&command)?;
+    word(alloc, reply)
+}
+
+/// Prepares a small command, and finishes or cancels its change. Says in a word what it came to.
+fn two_phases(
+    alloc: Global,
+    plain: &mut Plain,
+    command: &Command,
+    finish: bool,
+) -> Result<String, Fail> {
+    if !is_small(command) {
+        return Err(Fail::from("a small command"));
+    }
+    let pending = match plain.prepare(command)? {
+        Prepared::Reply(reply) => return word(alloc, reply),
+        Prepared::Change(pending) => pending,
+    };
+    if finish {
+        plain.finish(command, pending);
+    } else {
+        plain.cancel(command, pending);
+    }
+    Ok(format!(in alloc; "a change")?)
+}
+
+/// A reply in a word.
+fn word(alloc: Global, reply: Reply) -> Result<String, Fail> {
     match reply {
         Reply::Plain(answer) => Ok(format!(in alloc; "{answer:?}")?),
         Reply::Files(_) => Ok(format!(in alloc; "files")?),
@@ -176,6 +203,83 @@ fn a_refused_row_puts_nothing_and_the_last_write_wins(rt: HostRuntime) -> Result
     for (command, wanted) in steps {
         let reply = said(alloc, &mut plain, command)?;
         assert_eq!(rt; reply.as_str(), wanted);
+    }
+    Ok(())
+}
+
+#[test]
+fn a_change_is_cancelled_or_finished(rt: HostRuntime) -> Result<(), Fail> {
+    let alloc = rt.alloc();
+    let mut plain = Plain::new(alloc);
+    said(
+        alloc,
+        &mut plain,
+        create(alloc, "root.d.a", DataType::Int32)?,
+    )?;
+    let seven = "1 [Some(I32(7))];";
+    let eight = "1 [Some(I32(8))];";
+    let nine = "2 [Some(I32(9))];";
+    let steps = [
+        (
+            one(alloc, 1, "a", Literal::Int(7))?,
+            "a change",
+            "a",
+            "",
+            seven,
+        ),
+        (
+            create(alloc, "root.d.b", DataType::Text)?,
+            "a change",
+            "b",
+            "NoPath",
+            "",
+        ),
+        (
+            pair(alloc, 1, Literal::Int(8), text(alloc, b"x")?)?,
+            "a change",
+            "a",
+            seven,
+            eight,
+        ),
+        (
+            pair(alloc, 2, Literal::Int(9), text(alloc, b"y")?)?,
+            "a change",
+            "b",
+            "1 [Some(Text(\"x\"))];",
+            "1 [Some(Text(\"x\"))];2 [Some(Text(\"y\"))];",
+        ),
+        (
+            delete(alloc, "a", 0, 1)?,
+            "a change",
+            "a",
+            "1 [Some(I32(8))];2 [Some(I32(9))];",
+            nine,
+        ),
+        (
+            create(alloc, "root.d.a", DataType::Int32)?,
+            "Exists",
+            "a",
+            nine,
+            nine,
+        ),
+        (
+            one(alloc, 2, "a", Literal::Bool(true))?,
+            "WrongType",
+            "a",
+            nine,
+            nine,
+        ),
+        (delete(alloc, "c", 0, 9)?, "NoPath", "a", nine, nine),
+        (select(alloc, "a", None, 0, 9)?, nine, "a", nine, nine),
+        (Command::Flush, "Done", "a", nine, nine),
+    ];
+    for (command, wanted, name, cancelled, finished) in steps {
+        for (finish, rows) in [(false, cancelled), (true, finished)] {
+            let came_to = two_phases(alloc, &mut plain, &command, finish)?;
+            assert_eq!(rt; came_to.as_str(), wanted);
+            let reply = said(alloc, &mut plain, select(alloc, name, None, -9, 9)?)?;
+            assert_eq!(rt; reply.as_str(), rows);
+        }
     }
     Ok(())
 }

@@ -8,23 +8,16 @@ pub put_cells-requires : goal.put_cells-requires
 put_cells-requires t c =
     let rest = take (length c.args.cells.now - 1) (drop 1 c.args.cells.now) in
     let all : all_fit c.args.catalog.now c.args.device.now (c.cell-item.result ∷ rest) ≡ true =
-    ap (all_fit c.args.catalog.now c.args.device.now) (split_first c.args.cells.now c.cell-item.result c.in-len1-up.len_at_least c.cell-item.is) ∙ c.requires in
-    (search rules, rest_fits c.args.catalog.now c.put_cell.new.catalog c.args.device.now _ c.cell-item.result rest all c.in_ok-old.ensures.put)
-
-pub take_back-requires : goal.take_back-requires
-take_back-requires t c =
-    let rest = take (length c.args.cells.now - 1) (drop 1 c.args.cells.now) in
-    let all : all_fit c.args.catalog.now c.args.device.now (c.cell-item.result ∷ rest) ≡ true =
-    ap (all_fit c.args.catalog.now c.args.device.now) (split_first c.args.cells.now c.cell-item.result c.in-len1-up.len_at_least c.cell-item.is) ∙ c.requires in
-    let same : c.put_cells.new.catalog ≡ c.put_cell.new.catalog = on_err c.put_cells.result c.if-is_err.ensures.value c.put_cells.ensures.memory in
-    put_there c.args.catalog.now c.put_cells.new.catalog (child_of c.args.device.now c.cell-item.result.measurement) _ c.cell-item.result.value
-    (first_fits c.args.catalog.now c.args.device.now c.cell-item.result rest all) (same ∙ c.in_ok-old.ensures.put)
+    ap (all_fit c.args.catalog.now c.args.device.now) (split_first c.args.cells.now c.cell-item.result c.in-len1-up.len_at_least c.cell-item.is) ∙ c.requires.fit in
+    (search rules, (rest_fits c.args.catalog.now c.put_cell.new.catalog c.args.device.now _ c.cell-item.result rest all c.in_ok-old.ensures.put, search rules))
 
 pub returns-then-is_err-clause-memory : goal.returns-then-is_err-clause-memory
 returns-then-is_err-clause-memory t c =
     let rest = take (length c.args.cells.now - 1) (drop 1 c.args.cells.now) in
     let all : all_fit c.args.catalog.now c.args.device.now (c.cell-item.result ∷ rest) ≡ true =
-    ap (all_fit c.args.catalog.now c.args.device.now) (split_first c.args.cells.now c.cell-item.result c.in-len1-up.len_at_least c.cell-item.is) ∙ c.requires in
+    ap (all_fit c.args.catalog.now c.args.device.now) (split_first c.args.cells.now c.cell-item.result c.in-len1-up.len_at_least c.cell-item.is) ∙ c.requires.fit in
     let same : c.put_cells.new.catalog ≡ c.put_cell.new.catalog = on_err c.put_cells.result c.if-is_err.ensures.value c.put_cells.ensures.memory in
+    let first = first_fits c.args.catalog.now c.args.device.now c.cell-item.result rest all in
     taken_back c.args.catalog.now c.put_cells.new.catalog c.take_back.new.catalog (child_of c.args.device.now c.cell-item.result.measurement) _ c.cell-item.result.value c.in_ok-old.old
-    (first_fits c.args.catalog.now c.args.device.now c.cell-item.result rest all) (same ∙ c.in_ok-old.ensures.put) c.in_ok-old.ensures.old c.take_back.ensures
+    first (same ∙ c.in_ok-old.ensures.put) c.in_ok-old.ensures.old
+    (c.take_back.ensures (put_there c.args.catalog.now c.put_cells.new.catalog (child_of c.args.device.now c.cell-item.result.measurement) _ c.cell-item.result.value first (same ∙ c.in_ok-old.ensures.put)))
