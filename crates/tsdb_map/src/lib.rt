@@ -20,6 +20,7 @@ pub use laws::{
     deletion_keeps_the_rest, deletion_removes_its_range, last_write_wins, other_values_stay,
     refused_insert_changes_nothing,
 };
+pub use literal::value_of;
 pub use pending::{Pending, Prepared};
 pub use plain::Plain;
 pub use reply::{FileLine, Line, Listing, Reply};

@@ -64,6 +64,19 @@ impl Plain {
         }
     }
 
+    /// Writes a row, as an insert does, with any number of cells: a row that is read from a log has its own limit.
+    pub fn insert(&mut self, device: &Path, row: &Row) -> Result<Reply, Memory>
+        ensures reply { IfOk result (λ reply. reply ≡ reply_of self.old (Command.Insert device.now row.now)) }
+        ensures after { OnOk result (self.new ≡ world_after self.old (Command.Insert device.now row.now)) }
+        ensures memory { OnErr result (self.new ≡ self.old) }
+    {
+        match self.prepare_insert(device, row)? {
+            Prepared::Reply(reply) => Ok(reply),
+            // The values are written already.
+            Prepared::Change(_) => Ok(Reply::Plain(Answer::Done)),
+        }
+    }
+
     /// Begins a command: it takes all the memory that the command needs. A change that it accepts is to be finished or
     /// cancelled before another command. Out of memory changes nothing.
     pub fn prepare(&mut self, command: &Command) -> Result<Prepared, Memory>
