@@ -1,11 +1,9 @@
 -- Names that differ, found by a set of those before.
 use Rattle.std.proofs.Common.{◌≡◌, ℕ, zero, suc, ◌+◌, ◌<◌, Bool, true, false, List, [], ◌∷◌, length, get_or, take, Some, cond, true≢false, inl, inr, refl, sym, ap, ◌∙◌, arith}
-use Rattle.std.specs.Prelude.{slice_get, not, ◌||◌}
+use Rattle.std.specs.Prelude.{nat_eq, slice_get, not, ◌||◌}
 use Rattle.std.specs.List.{IsDistinct, list_any}
-use Rattle.std.specs.Ordering.{eq_by_cmp, nat_cmp}
-use Rattle.std.specs.Cmp.{Equal-is, IsEquivalence, eq_by_cmp_equiv}
-use Rattle.std.specs.Cmp.Lexicographic.{slice_cmp, nat_list_cmp_total}
-use Rattle.std.specs.FinMap.{nat_cmp-IsAntisymmetric, slice_cmp-IsAntisymmetric}
+use Rattle.std.specs.Cmp.{IsEquivalence}
+use Rattle.std.specs.Cmp.Lexicographic.{bytes_decides, nat_list_eq_equiv, pointwise}
 use Rattle.std.proofs.lemmas.Bool.{cases_lt}
 use Rattle.std.proofs.lemmas.Option.{slice_get_within, get_or_from_slice_get}
 use Rattle.std.proofs.lemmas.Map.Keys.{apart_from_distinct, IsDistinct-push}
@@ -15,10 +13,10 @@ use Rattle.tsdb_script.proofs.WordLists.{next}
 
 -- two names are equal
 abbrev pub same : List ℕ → List ℕ → Bool
-same = eq_by_cmp (slice_cmp nat_cmp)
+same = pointwise nat_eq
 
 pub laws : IsEquivalence same
-laws = eq_by_cmp_equiv nat_list_cmp_total
+laws = nat_list_eq_equiv
 
 pub apart : (names : List (List ℕ)) (i j : ℕ) (name : List ℕ) → IsDistinct same names → i < j → slice_get names i ≡ Some name → slice_get names j ≡ Some name → ⊥
 apart names i j name distinct lt ei ej =
@@ -61,7 +59,7 @@ pub repeated : (names : List (List ℕ)) (i : ℕ) (x : List ℕ) → slice_get 
 repeated names i x stands e all =
     let found = found_at (same x) (take i names) e in
     let there = before names i found.0 found.1 found.2 in
-    let name : x ≡ found.1 = slice_cmp-IsAntisymmetric nat_cmp-IsAntisymmetric x found.1 ((Equal-is (slice_cmp nat_cmp x found.1)).0 found.3) in
+    let name : x ≡ found.1 = (bytes_decides x found.1).0 found.3 in
     let place : found.0 ≡ i = all found.0 i x (there.0 ∙ ap Some (sym name)) stands in
     omega (arith, there.1, place)
 

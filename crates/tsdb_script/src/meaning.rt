@@ -19,7 +19,7 @@ use crate::words::{
     series_path,
 };
 use std::alloc::Global;
-use std::collections::BTreeSet;
+use std::collections::HashSet;
 use tsdb_base::{Aggregate, List, Memory};
 use tsdb_map::{Cell, Command, Item, Literal, Row, Schema};
 use tsdb_path::{Name, Path};
@@ -106,7 +106,7 @@ fn are_different(alloc: Global, names: &[Name]) -> Result<bool, Memory>
     if names.len() < 2 {
         return Ok(true);
     }
-    let mut seen = BTreeSet::new(alloc);
+    let mut seen = HashSet::new(alloc);
     for name in names {
         if !seen.insert(name.bytes())? {
             return Ok(false);

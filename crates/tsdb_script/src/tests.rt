@@ -1,7 +1,12 @@
 //! Tokens and forms of a line, and whole scripts.
 mod commands;
 mod limits;
+mod plain_forms;
+mod plain_reader;
+mod plain_tokens;
+mod plain_words;
 mod scripts;
+mod short_scripts;
 
 use crate::fault::{LineFault, ScriptFault};
 use crate::lexer::tokens;
