@@ -20,9 +20,10 @@ const SLOT_A: &str = "slot0";
 
 const SLOT_B: &str = "slot1";
 
-// The slots of a store, and its directory with the lock.
+// The slots of a store, and its directory with the lock and its path.
 #[derive(Drop)]
 pub struct OpenStore {
+    pub path: String,
     pub a: File,
     pub b: File,
     pub directory: File,
@@ -153,5 +154,10 @@ pub fn open_store<R: Files<File = File> + AllocGlobal + Clone + Drop>(
     };
     let b = open_slot(rt, dir, SLOT_B)?;
     directory.sync_all()?;
-    Ok(OpenStore { a, b, directory })
+    Ok(OpenStore {
+        path: String::from_str(rt.alloc(), dir)?,
+        a,
+        b,
+        directory,
+    })
 }

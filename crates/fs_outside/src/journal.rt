@@ -8,6 +8,7 @@ ghost use Rattle.fs_outside.specs.FileState.{FileFails, HasLength, HasBytes, Kee
 
 use crate::slot_file::SlotFile;
 use std::fs::File;
+use std::sync::Arc;
 use tsdb_outside::{Counted, Disk, Failed, Journal, Slot};
 
 // A slot has at most this many bytes.
@@ -118,7 +119,7 @@ impl<F: SlotFile> FileSlot<F> {
 /// clock in common; its clauses say what each call does to its slot's file, where that file tells. The guard, as the
 /// lock of a directory, is held as long as the journal is out.
 #[derive(Drop)]
-pub struct FsJournal<F = File, G = File> {
+pub struct FsJournal<F = File, G = Arc<File>> {
     a: FileSlot<F>,
     b: FileSlot<F>,
     guard: G,
@@ -165,7 +166,7 @@ impl<F, G> Disk for FsJournal<F, G> {
     ghost lawful = { λ _. silent_is_lawful };
 }
 
-impl<F: SlotFile, G> Journal for FsJournal<F, G> {
+impl<F: SlotFile + Send, G: Send> Journal for FsJournal<F, G> {
     ghost use Rattle.tsdb_outside.specs.Disk.{Keeps, MayWrite, silent_state};
     ghost use Rattle.fs_outside.specs.Journal.{file_state, sync_failed, journal_faults, SameElsewhere, LengthFails, WriteFails, SyncFails};
 

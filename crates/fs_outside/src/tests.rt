@@ -6,12 +6,12 @@ ghost use Rattle.tsdb_outside.specs.Disk.{overwrite};
 
 use super::*;
 use std::alloc::{AllocError, Global};
-use std::fs::{self, File};
+use std::fs;
 use std::io::{self, ErrorKind};
 use std::os::unix;
-use std::rt::Files;
 use std::test::Fail;
-use tsdb_outside::{Failed, Journal, Place, Sink, Slot, Source, StoreFault};
+use tsdb_base::FileNumber;
+use tsdb_outside::{Failed, Files, Journal, Place, Port, Sink, Slot, Source, StoreFault};
 
 // The first byte of a slot and how many bytes it has.
 fn first_and_length<J: Journal>(journal: &mut J, slot: Slot) -> Result<(u8, u64), Failed> {
@@ -32,39 +32,33 @@ fn write_three<J: Journal>(journal: &mut J, slot: Slot) -> Result<(), Failed> {
 
 // Opens the store of a directory through the trait, and gives it back.
 fn opens_as_new<P: Place>(place: &mut P, dir: &[u8]) -> Result<bool, StoreFault> {
-    let mut journal = place.take_up(dir)?;
+    let (mut journal, files) = place.take_up(dir)?;
     let a = first_and_length(&mut journal, Slot::A);
     let b = first_and_length(&mut journal, Slot::B);
-    place.put_down(journal);
+    place.put_down(journal, files);
     Ok(a? == (0, 1) && b? == (0, 1))
 }
 
 // Whether a slot that was written and synced is found in the store when it is opened again.
 fn keeps_what_was_synced<P: Place>(place: &mut P, dir: &[u8]) -> Result<bool, StoreFault> {
-    let mut journal = place.take_up(dir)?;
+    let (mut journal, files) = place.take_up(dir)?;
     let answer = write_three(&mut journal, Slot::B);
-    place.put_down(journal);
+    place.put_down(journal, files);
     answer?;
-    let mut journal = place.take_up(dir)?;
+    let (mut journal, files) = place.take_up(dir)?;
     let a = first_and_length(&mut journal, Slot::A);
     let b = first_and_length(&mut journal, Slot::B);
-    place.put_down(journal);
+    place.put_down(journal, files);
     Ok(a? == (0, 1) && b? == (3, 3))
 }
 
-fn is_made_and_opened_again<R: Files<File = File> + AllocGlobal + Clone + Drop>(
-    rt: &R,
-) -> Result<bool, Fail> {
+fn is_made_and_opened_again(rt: &HostRuntime) -> Result<bool, Fail> {
     let mut place = FsPlace::new(rt.clone()?);
     Ok(opens_as_new(&mut place, b"made")? && keeps_what_was_synced(&mut place, b"made")?)
 }
 
 // A store as it is left behind some steps of its making.
-fn is_opened_as_new<R: Files<File = File> + AllocGlobal + Clone + Drop>(
-    rt: &R,
-    dir: &str,
-    files: &[(&str, &str)],
-) -> Result<bool, Fail> {
+fn is_opened_as_new(rt: &HostRuntime, dir: &str, files: &[(&str, &str)]) -> Result<bool, Fail> {
     fs::create_dir(rt, dir)?;
     for (name, bytes) in files {
         fs::write(rt, *name, *bytes)?;
@@ -73,10 +67,7 @@ fn is_opened_as_new<R: Files<File = File> + AllocGlobal + Clone + Drop>(
     Ok(opens_as_new(&mut place, dir.as_bytes())?)
 }
 
-fn is_refused<R: Files<File = File> + AllocGlobal + Clone + Drop>(
-    rt: &R,
-    dir: &[u8],
-) -> Result<bool, Fail> {
+fn is_refused(rt: &HostRuntime, dir: &[u8]) -> Result<bool, Fail> {
     let mut place = FsPlace::new(rt.clone()?);
     Ok(matches!(opens_as_new(&mut place, dir), Err(StoreFault::Failed)))
 }
@@ -136,23 +127,21 @@ fn unfinished_slot_is_not_followed_through_a_link(rt: HostRuntime) -> Result<(),
 
 // Whether one place has the store at a time.
 fn is_alone<P: Place>(one: &mut P, two: &mut P, dir: &[u8]) -> Result<bool, StoreFault> {
-    let journal = one.take_up(dir)?;
+    let (journal, files) = one.take_up(dir)?;
     let refused = match two.take_up(dir) {
-        Ok(other) => {
-            two.put_down(other);
+        Ok((other, others)) => {
+            two.put_down(other, others);
             false
         }
         Err(fault) => fault == StoreFault::Failed,
     };
-    one.put_down(journal);
-    let journal = two.take_up(dir)?;
-    two.put_down(journal);
+    one.put_down(journal, files);
+    let (journal, files) = two.take_up(dir)?;
+    two.put_down(journal, files);
     Ok(refused)
 }
 
-fn is_opened_once<R: Files<File = File> + AllocGlobal + Clone + Drop>(
-    rt: &R,
-) -> Result<bool, Fail> {
+fn is_opened_once(rt: &HostRuntime) -> Result<bool, Fail> {
     let mut one = FsPlace::new(rt.clone()?);
     let mut two = FsPlace::new(rt.clone()?);
     Ok(is_alone(&mut one, &mut two, b"twice")?)
@@ -161,6 +150,133 @@ fn is_opened_once<R: Files<File = File> + AllocGlobal + Clone + Drop>(
 #[test]
 fn one_program_has_a_store_at_a_time(rt: HostRuntime) -> Result<(), Fail> {
     assert!(rt; is_opened_once(&rt)?);
+    Ok(())
+}
+
+// Puts a file through a port of its own, and keeps it.
+fn put_and_keep<F: Files>(files: &mut F, number: u64, bytes: &[u8]) -> Result<(), StoreFault> {
+    let mut port = files.port()?;
+    let sealed = port.put(FileNumber(number), bytes);
+    files.end_port(port);
+    files.keep(sealed?);
+    Ok(())
+}
+
+// Removes a file, and says whether it was there.
+fn fetch_and_remove<F: Files>(files: &mut F, number: u64) -> Result<bool, StoreFault> {
+    let mut port = files.port()?;
+    let answer = match files.fetch(FileNumber(number)) {
+        Ok(Some(sealed)) => match port.remove(sealed) {
+            Ok(()) => Ok(true),
+            Err(failed) => Err(StoreFault::from(failed)),
+        },
+        Ok(None) => Ok(false),
+        Err(fault) => Err(fault),
+    };
+    files.end_port(port);
+    answer
+}
+
+// The bytes of a file of at most four from a place on.
+fn read_from<P: Port>(port: &mut P, right: &P::Right, at: u64) -> Result<([u8; 4], u64), Failed> {
+    let mut bytes = [0; 4];
+    let size = port.size(right)?;
+    if size > 4 || at > size {
+        return Err(Failed);
+    }
+    port.read(right, at, &mut bytes[..(size - at) as usize])?;
+    Ok((bytes, size))
+}
+
+// The bytes of a file of at most four from a place on, or none where it is not there.
+fn fetch_and_read<F: Files>(
+    files: &mut F,
+    number: u64,
+    at: u64,
+) -> Result<Option<([u8; 4], u64)>, StoreFault> {
+    let mut port = files.port()?;
+    let mut sealed = match files.fetch(FileNumber(number)) {
+        Ok(Some(sealed)) => sealed,
+        Ok(None) => {
+            files.end_port(port);
+            return Ok(None);
+        }
+        Err(fault) => {
+            files.end_port(port);
+            return Err(fault);
+        }
+    };
+    let read = match F::Port::share(&mut sealed) {
+        Ok(right) => {
+            let read = read_from(&mut port, &right, at);
+            F::Port::give_back(&mut sealed, right);
+            read.map_err(StoreFault::from)
+        }
+        Err(memory) => Err(StoreFault::from(memory)),
+    };
+    files.keep(sealed);
+    files.end_port(port);
+    Ok(Some(read?))
+}
+
+fn has_numbers<F: Files>(files: &mut F, numbers: &[u64]) -> Result<bool, StoreFault> {
+    let list = files.list()?;
+    Ok(
+        list.iter()
+            .map(|number| number.0)
+            .eq(numbers.iter().copied()),
+    )
+}
+
+// Whether files are stored, found again and removed, and others in the folder left alone.
+fn serves_files<P: Place>(place: &mut P) -> Result<bool, StoreFault> {
+    let (journal, mut files) = place.take_up(b"store")?;
+    let answers = [
+        has_numbers(&mut files, &[7, 12]),
+        put_and_keep(&mut files, 3, b"abcd").map(|_| true),
+        Ok(put_and_keep(&mut files, 12, b"") == Err(StoreFault::Failed)),
+        fetch_and_read(&mut files, 12, 0).map(|read| read == Some((*b"xyz\0", 3))),
+        fetch_and_read(&mut files, 3, 1).map(|read| read == Some((*b"bcd\0", 4))),
+        fetch_and_read(&mut files, 3, 4).map(|read| read == Some(([0; 4], 4))),
+        fetch_and_read(&mut files, 2, 0).map(|read| read.is_none()),
+        fetch_and_remove(&mut files, 12),
+        has_numbers(&mut files, &[3, 7]),
+    ];
+    let folder = fetch_and_remove(&mut files, 7);
+    place.put_down(journal, files);
+    let holds = answers.iter().all(|answer| *answer == Ok(true));
+    Ok(holds && folder == Err(StoreFault::Failed))
+}
+
+fn is_served(rt: &HostRuntime) -> Result<bool, Fail> {
+    let mut place = FsPlace::new(rt.clone()?);
+    if !opens_as_new(&mut place, b"store")? {
+        return Ok(false);
+    }
+    fs::create_dir(rt, "store/7.tsfile")?;
+    fs::write(rt, "store/12.tsfile", "xyz")?;
+    for name in [
+        "store/0.tsfile",
+        "store/01.tsfile",
+        "store/+1.tsfile",
+        "store/9223372036854775808.tsfile",
+        "store/1.tsfile.new",
+        "store/.tsfile",
+        "store/one",
+    ] {
+        fs::write(rt, name, "other")?;
+    }
+    Ok(serves_files(&mut place)?)
+}
+
+#[test]
+fn folder_serves_files_and_leaves_others_alone(rt: HostRuntime) -> Result<(), Fail> {
+    assert!(rt; is_served(&rt)?);
+    assert_eq!(rt; fs::read_to_string(&rt, "store/3.tsfile")?.as_str(), "abcd");
+    assert_eq!(rt;
+        fs::read_to_string(&rt, "store/01.tsfile")?.as_str(),
+        "other"
+    );
     Ok(())
 }
 

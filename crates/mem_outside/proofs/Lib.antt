@@ -1,3 +1,4 @@
 mod Moves
 mod StopLemmas
 mod JournalLemmas
+mod EntryLemmas

@@ -17,6 +17,8 @@ use Rattle.mem_outside.specs.declared.journal.MemJournal.{MemJournal}
 use Rattle.mem_outside.specs.declared.place.MemPlace.{MemPlace}
 use Rattle.mem_outside.specs.Journal.{journal_first, journal_calls}
 use Rattle.mem_outside.specs.Laws.{kept_by_calls}
+use Rattle.std.specs.List.{take_while}
+use Rattle.mem_outside.specs.RecordedDisk.{is_until}
 use Rattle.mem_outside.specs.Place.{place_state, LeftAt, stop_image}
 use Rattle.mem_outside.specs.Record.{SlotState, new_slot, after_kind, after_calls, Leaves, invert, apply_all, LeavesOf, slot_after_stop, image_after_stop}
 
@@ -90,7 +92,7 @@ image_left kind first calls = (slot_left kind A first.a calls, slot_left kind B 
 -- the same of a place whose journal this is
 allowed : (kind : StopKind) (journal : Option MemJournal) (k : ℕ) → IfSome (stop_image kind journal k) (LeftAt journal k)
 allowed kind None k = tt
-allowed kind (Some j) k = image_left kind (journal_first j) (take k (journal_calls j))
+allowed kind (Some j) k = image_left kind (journal_first j) (take_while (is_until k) (journal_calls j))
 
 pub allowed_after : (kind : StopKind) (journal : Option MemJournal) (k : ℕ) (result : Result MemPlace Memory)
     → IfOk result (λ place. (place_state place).seen ≡ stop_image kind journal k)

@@ -1,4 +1,6 @@
 pub mod Calls
+pub mod Entry
+pub mod Files
 pub mod Journal
 pub mod Laws
 pub mod Place
@@ -6,6 +8,8 @@ pub mod PlaceLaws
 pub mod Record
 pub mod RecordedDisk
 pub mod Replay
+pub mod Row
 pub mod Slots
 pub mod Steady
 pub mod Streams
+pub mod Tokens

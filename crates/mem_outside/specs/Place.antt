@@ -1,19 +1,39 @@
--- What the places in memory mean: what their journal means while it is in them.
-use Rattle.std.specs.Prelude.{◌≡◌, ℕ, ◌+◌, List, [], ◌∷◌, length, take, None, Some, Vec}
+-- What the places in memory mean: what their parts mean while they are in them.
+use Rattle.std.specs.Prelude.{◌≡◌, ℕ, ◌+◌, ◌-◌, ◌^◌, min, max, List, [], ◌∷◌, ◌++◌, length, map, filter, None, Some, Vec}
 use Rattle.std.specs.declared.option.Option.{Option}
 use Rattle.std.specs.declared.alloc.Global.{Global}
+use Rattle.std.specs.List.{take_while}
 use Rattle.tsdb_outside.specs.Disk.{Image, State, silent_state}
+use Rattle.tsdb_outside.specs.Files.{StoredFile}
+use Rattle.mem_outside.specs.declared.files.MemFiles.{MemFiles}
 use Rattle.mem_outside.specs.declared.journal.MemJournal.{MemJournal}
 use Rattle.mem_outside.specs.declared.place.MemPlace.{MemPlace}
+use Rattle.mem_outside.specs.declared.place.Parts.{Parts}
 use Rattle.mem_outside.specs.declared.record.StopKind.{StopKind}
+use Rattle.mem_outside.specs.Entry.{entry_files, is_there, last_of}
+use Rattle.mem_outside.specs.Files.{files_at_rest, files_gone, files_row, stored_files}
 use Rattle.mem_outside.specs.Record.{LeavesOf, image_after_stop}
+use Rattle.mem_outside.specs.RecordedDisk.{is_until, last_of_calls}
+use Rattle.mem_outside.specs.Row.{failing_numbers}
 use Rattle.mem_outside.specs.Journal.{journal_first, journal_calls, journal_state}
+
+abbrev pub journal_in : Option Parts → Option MemJournal
+journal_in None = None
+journal_in (Some parts) = Some parts.journal
+
+abbrev pub files_in : Option Parts → Option MemFiles
+files_in None = None
+files_in (Some parts) = Some parts.files
 
 -- the journal in the place, if it is not out
 abbrev pub journal_of : MemPlace → Option MemJournal
-journal_of place = place.journal
+journal_of place = journal_in place.parts
 
--- how often the place and the journals that it was given back have failed
+-- the files in the place, if they are not out
+abbrev pub files_of : MemPlace → Option MemFiles
+files_of place = files_in place.parts
+
+-- how often the place and the parts that it was given back have failed
 abbrev pub place_faults : MemPlace → ℕ
 place_faults place = place.faults
 
@@ -25,20 +45,49 @@ state_of (Some j) = journal_state j
 abbrev pub place_state : MemPlace → State
 place_state place = state_of (journal_of place)
 
--- the moments that it can be stopped at: one behind each counted call, and one before the first
-abbrev pub moments_of : Option MemJournal → ℕ
-moments_of None = 0
-moments_of (Some j) = length (journal_calls j) + 1
+-- the files of a place with these files in it
+abbrev pub stored_of : Option MemFiles → Option (List StoredFile)
+stored_of None = None
+stored_of (Some files) = stored_files files
 
--- a stop behind the first k calls may leave this
+-- the numbers of the calls on these files that fail
+abbrev pub failing_of : Option MemFiles → List ℕ
+failing_of None = []
+failing_of (Some files) = failing_numbers (files_row files)
+
+abbrev pub place_stored : MemPlace → Option (List StoredFile)
+place_stored place = stored_of (files_of place)
+
+-- the same files with the same record, but for the count of faults
+pub record SameFiles (old new : MemFiles) : Type 0 where
+  pub at_rest : files_at_rest new ≡ files_at_rest old
+  pub gone : files_gone new ≡ files_gone old
+  pub row : files_row new ≡ files_row old
+
+-- The moments that it can be stopped at: one before the first counted call, and one behind each up to the last that is
+-- on a record.
+abbrev pub moments_of : Option MemJournal → Option MemFiles → ℕ
+moments_of None files = 0
+moments_of (Some j) None = 0
+moments_of (Some j) (Some f) = min
+    (max (last_of_calls (journal_calls j)) (max (last_of (files_at_rest f)) (last_of (files_gone f))) + 1) (2 ^ 64 - 1)
+
+-- a stop behind the first k counted calls may leave this
 abbrev pub LeftAt : Option MemJournal → ℕ → Image → Type 0
 LeftAt None k image = Unit {0}
-LeftAt (Some j) k image = LeavesOf (journal_first j) (take k (journal_calls j)) image
+LeftAt (Some j) k image = LeavesOf (journal_first j) (take_while (is_until k) (journal_calls j)) image
 
--- what a stop of this kind behind the first k calls leaves
+-- what a stop of this kind behind the first k counted calls leaves of the slots
 abbrev pub stop_image : StopKind → Option MemJournal → ℕ → Option Image
 stop_image kind None k = None
-stop_image kind (Some j) k = Some (image_after_stop kind (journal_first j) (take k (journal_calls j)))
+stop_image kind (Some j) k =
+    Some (image_after_stop kind (journal_first j) (take_while (is_until k) (journal_calls j)))
+
+-- what a stop behind the first k counted calls leaves of the files
+abbrev pub stop_files : ℕ → Option MemFiles → Option (List StoredFile)
+stop_files k None = None
+stop_files k (Some f) = Some (entry_files (filter (is_there k) (files_at_rest f))
+    ++ entry_files (filter (is_there k) (files_gone f)))
 
 -- whatever a stop now leaves is this
 abbrev pub IsDurable : Image → State → Type 0

@@ -1,5 +1,6 @@
 -- Two slots with the record of their calls.
-use Rattle.std.specs.Prelude.{◌≡◌, List, [], ◌∷◌, ◌++◌}
+use Rattle.std.specs.Prelude.{◌≡◌, ℕ, Bool, max, nat_le, List, [], ◌∷◌, ◌++◌}
+use Rattle.std.specs.List.{fold}
 use Rattle.tsdb_outside.specs.Disk.{Image, State}
 use Rattle.tsdb_outside.specs.declared.disk.Slot.{Slot}
 use Rattle.mem_outside.specs.declared.record.Call.{Call}
@@ -14,6 +15,14 @@ disk_first disk = pair_image disk.first
 -- the calls since then, the oldest first
 abbrev pub disk_calls : RecordedDisk → List Call
 disk_calls disk = disk.calls.items
+
+-- the call stands in the row at this place or before it
+abbrev pub is_until : ℕ → Call → Bool
+is_until moment call = nat_le call.at moment
+
+-- the greatest place in the row of these calls, or 0
+abbrev pub last_of_calls : List Call → ℕ
+last_of_calls calls = fold (λ last call. max last call.at) 0 calls
 
 -- what reads give
 abbrev pub disk_seen : RecordedDisk → Image

@@ -1,13 +1,17 @@
-//! The journal in memory. Depends on `calls` and `record`.
+//! The journal in memory. Depends on `calls`, `record` and `row`.
 ghost use Rattle.std.specs.Prelude.{◌≡◌, ◌↔◌, ◌+◌, ◌^◌, ◌<◌, ◌≤◌, [], length, take, drop, IfOk, IfSome, IsErr, IsOk, IsTrue, OnErr, OnOk};
 ghost use Rattle.std.specs.Option.{ForSome};
 ghost use Rattle.tsdb_outside.specs.Causes.{HasCause};
 ghost use Rattle.tsdb_outside.specs.Limits.{FitsSlot};
 ghost use Rattle.mem_outside.specs.Laws.{state_is_lawful};
+ghost use Rattle.mem_outside.specs.RecordedDisk.{is_until, last_of_calls};
+ghost use Rattle.std.specs.List.{prefix_len};
 
 use crate::calls::Calls;
-use crate::record::{Pair, RecordedDisk, StopKind};
+use crate::record::{Outcome, Pair, RecordedDisk, StopKind};
+use crate::row::Row;
 use std::alloc::{AllocError, Global};
+use std::sync::Arc;
 use tsdb_outside::{Counted, Disk, Failed, Journal, Slot};
 
 // A slot has at most this many bytes.
@@ -25,6 +29,7 @@ fn is_within_limit(at: u64, length: usize) -> bool
 pub struct MemJournal {
     disk: RecordedDisk,
     numbers: Calls,
+    row: Arc<Row>,
 }
 
 impl MemJournal {
@@ -33,7 +38,12 @@ impl MemJournal {
     ghost use Rattle.mem_outside.specs.Journal.{journal_first, journal_calls, journal_numbers, journal_faults, with_no_faults};
 
     // Two slots with these bytes, all of them durable.
-    pub(crate) fn new(alloc: Global, slots: Pair, fails: Vec<u64>) -> Result<MemJournal, AllocError>
+    pub(crate) fn new(
+        alloc: Global,
+        slots: Pair,
+        fails: Vec<u64>,
+        row: Arc<Row>,
+    ) -> Result<MemJournal, AllocError>
         ensures first { IfOk result (λ journal. journal_first journal ≡ pair_image slots) }
         ensures calls { IfOk result (λ journal. journal_calls journal ≡ []) }
         ensures numbers { IfOk result (λ journal. journal_numbers journal
@@ -42,15 +52,23 @@ impl MemJournal {
         Ok(MemJournal {
             disk: RecordedDisk::new(alloc, slots)?,
             numbers: Calls::new(fails),
+            row,
         })
     }
 
-    // How many calls were counted.
-    pub(crate) fn count(&self) -> u64
-        ensures calls { result ≡ length (journal_calls self.now) }
-        ensures limit { result < 2 ^ 63 }
+    // How many of its calls stand in the row at this place or before it, up to the first behind it.
+    pub(crate) fn count_until(&self, moment: u64) -> usize
+        ensures count { result ≡ prefix_len (is_until moment) (journal_calls self.now) }
+        ensures bound { result ≤ length (journal_calls self.now) }
     {
-        self.disk.count() as u64
+        self.disk.count_until(moment)
+    }
+
+    // The greatest place in the row on its record, or 0.
+    pub(crate) fn last(&self) -> u64
+        ensures { result ≡ last_of_calls (journal_calls self.now) }
+    {
+        self.disk.last()
     }
 
     // How often it has failed.
@@ -145,10 +163,14 @@ impl Journal for MemJournal {
         ensures no_room { ¬ NextFails (journal_numbers self.old) → OnErr result (FailsWithoutRoom self.old self.new) }
     {
         let outcome = self.numbers.make();
+        let place = Outcome {
+            at: self.row.draw(),
+            succeeded: outcome.is_ok(),
+        };
         if !is_within_limit(at, bytes.len()) {
             return Err(self.numbers.fail());
         }
-        match self.disk.write(slot, at as usize, bytes, outcome.is_ok()) {
+        match self.disk.write(slot, at as usize, bytes, place) {
             Ok(()) => outcome,
             Err(AllocError) => Err(self.numbers.fail()),
         }
@@ -167,7 +189,11 @@ impl Journal for MemJournal {
         ensures no_room { ¬ NextFails (journal_numbers self.old) → OnErr result (FailsWithoutRoom self.old self.new) }
     {
         let outcome = self.numbers.make();
-        match self.disk.sync(slot, outcome.is_ok()) {
+        let place = Outcome {
+            at: self.row.draw(),
+            succeeded: outcome.is_ok(),
+        };
+        match self.disk.sync(slot, place) {
             Ok(()) => outcome,
             Err(AllocError) => Err(self.numbers.fail()),
         }

@@ -4,14 +4,21 @@
 #![tactic(auto)]
 
 mod calls;
+mod entry;
+mod files;
 mod journal;
 mod place;
 mod record;
+mod row;
+mod steady;
 mod streams;
 
+pub use entry::{MemRight, MemSealed};
+pub use files::{MemFiles, MemPort};
 pub use journal::MemJournal;
-pub use place::{Fails, MemPlace, SteadyPlace};
+pub use place::{Fails, MemPlace};
 pub use record::StopKind;
+pub use steady::{SteadyFiles, SteadyPlace, SteadyPort};
 pub use streams::{MemSink, MemSource, SteadySink, SteadySource};
 
 #[cfg(test)]

@@ -1,12 +1,17 @@
-//! The places in memory. Depends on `journal`.
-ghost use Rattle.std.specs.Prelude.{◌≡◌, ◌↔◌, ◌+◌, ◌-◌, ◌^◌, ◌<◌, ◌≤◌, [], min, None, Some, IfOk, IfSome, IsOk, IsSome, OnErr, OnOk};
+//! The places in memory. Depends on `journal` and `files`.
+ghost use Rattle.std.specs.Prelude.{◌≡◌, ◌↔◌, ◌+◌, ◌-◌, ◌^◌, ◌<◌, ◌≤◌, ◌++◌, [], min, map, None, Some, IfOk, IfSome, IsOk, IsSome, OnErr, OnOk};
 ghost use Rattle.tsdb_outside.specs.Causes.{HasStoreCause};
 ghost use Rattle.mem_outside.specs.PlaceLaws.{place_is_lawful};
 
+use crate::entry::{Entry, new_entries};
+use crate::files::MemFiles;
 use crate::journal::MemJournal;
 use crate::record::{Pair, StopKind};
+use crate::row::Row;
 use std::alloc::Global;
-use tsdb_base::Memory;
+use std::collections::LinkedList;
+use std::sync::Arc;
+use tsdb_base::{FileNumber, Memory};
 use tsdb_outside::{Counted, Disk, Failed, Place, Slot, StoreFault};
 
 /// The numbers, from 1, of the calls that fail.
@@ -14,67 +19,119 @@ use tsdb_outside::{Counted, Disk, Failed, Place, Slot, StoreFault};
 pub struct Fails {
     /// Among the writes and syncs of the journal.
     pub journal: Vec<u64>,
+    /// Among the calls `list`, `fetch`, `put`, `read`, `size` and `remove` of the files and all ports.
+    pub files: Vec<u64>,
 }
 
-/// A place in memory for a store some of whose writes and syncs fail.
+// What a place hands out.
+#[derive(Drop)]
+pub struct Parts {
+    journal: MemJournal,
+    files: MemFiles,
+}
+
+/// A place in memory for a store some of whose calls fail.
 #[derive(Drop)]
 pub struct MemPlace {
     alloc: Global,
-    journal: Option<MemJournal>,
+    parts: Option<Parts>,
     faults: u64,
 }
 
 impl MemPlace {
+    ghost use Rattle.mem_outside.specs.Entry.{entry_files, handed_in};
+    ghost use Rattle.mem_outside.specs.Slots.{pair_image};
     ghost use Rattle.mem_outside.specs.Journal.{journal_numbers};
-    ghost use Rattle.mem_outside.specs.Place.{journal_of, place_faults, place_state, moments_of, LeftAt, stop_image, IsDurable, slots_image};
+    ghost use Rattle.mem_outside.specs.Place.{journal_of, files_of, failing_of, place_faults, place_state, place_stored, moments_of, LeftAt, stop_image, stop_files, IsDurable, slots_image};
 
-    /// A place with these slots, all of their bytes durable.
-    pub fn new(alloc: Global, slots: [Vec<u8>; 2], fails: Fails) -> Result<MemPlace, Memory>
+    /// A place with these slots, all of their bytes durable, and these files, whose numbers differ and are those that a
+    /// file may have.
+    pub fn new(
+        alloc: Global,
+        slots: [Vec<u8>; 2],
+        files: Vec<(FileNumber, Vec<u8>)>,
+        fails: Fails,
+    ) -> Result<MemPlace, Memory>
         ensures seen { IfOk result (λ place. (place_state place).seen ≡ Some (slots_image slots)) }
         ensures durable { IfOk result (λ place. IsDurable (slots_image slots) (place_state place)) }
         ensures moment { IfOk result (λ place. (place_state place).moment ≡ 0) }
+        ensures stored { IfOk result (λ place. place_stored place ≡ Some (map handed_in files.items)) }
         ensures numbers { IfOk result (λ place. IfSome (journal_of place)
             (λ journal. journal_numbers journal ≡ record { fails = fails.journal; made = 0; faults = 0 })) }
+        ensures failing { IfOk result (λ place. failing_of (files_of place) ≡ fails.files.items) }
         ensures no_faults { IfOk result (λ place. place_faults place ≡ 0) }
     {
         let [a, b] = slots;
+        let at_rest = new_entries(alloc, files)?;
+        MemPlace::from_parts(alloc, Pair { a, b }, at_rest, fails)
+    }
+
+    // A place with these slots and these files at rest.
+    fn from_parts(
+        alloc: Global,
+        slots: Pair,
+        at_rest: LinkedList<Entry>,
+        fails: Fails,
+    ) -> Result<MemPlace, Memory>
+        ensures seen { IfOk result (λ place. (place_state place).seen ≡ Some (pair_image slots)) }
+        ensures durable { IfOk result (λ place. IsDurable (pair_image slots) (place_state place)) }
+        ensures moment { IfOk result (λ place. (place_state place).moment ≡ 0) }
+        ensures stored { IfOk result (λ place. place_stored place ≡ Some (entry_files at_rest)) }
+        ensures numbers { IfOk result (λ place. IfSome (journal_of place)
+            (λ journal. journal_numbers journal ≡ record { fails = fails.journal; made = 0; faults = 0 })) }
+        ensures failing { IfOk result (λ place. failing_of (files_of place) ≡ fails.files.items) }
+        ensures no_faults { IfOk result (λ place. place_faults place ≡ 0) }
+    {
+        let row = Arc::new(alloc, Row::new(fails.files))?;
+        let journal = MemJournal::new(alloc, slots, fails.journal, Arc::try_clone(&row)?)?;
+        let files = MemFiles::new(alloc, row, at_rest);
         Ok(MemPlace {
             alloc,
-            journal: Some(MemJournal::new(alloc, Pair { a, b }, fails.journal)?),
+            parts: Some(Parts { journal, files }),
             faults: 0,
         })
     }
 
-    /// How many moments it can be stopped at: one before the first counted call, and one behind each. None while its
-    /// journal is out.
+    /// How many moments it can be stopped at: one before the first counted call, and one behind each call of the row up
+    /// to the last that changed something. None while its parts are out.
     pub fn moments(&self) -> u64
-        ensures { result ≡ moments_of (journal_of self.now) }
+        ensures count { result ≡ moments_of (journal_of self.now) (files_of self.now) }
+        ensures in_it { 0 < result → IsSome (journal_of self.now) }
     {
-        match &self.journal {
-            Some(journal) => journal.count() + 1,
+        match &self.parts {
+            Some(parts) => {
+                let last = parts.journal.last().max(parts.files.last());
+                last.saturating_add(1)
+            }
             None => 0,
         }
     }
 
-    /// A place with what a stop of this kind leaves behind the first `moment` counted calls. None of its calls fails.
+    /// A place with what a stop of this kind leaves behind the first `moment` counted calls of the row: an image of the
+    /// slots, and each file that was handed in or put and not yet handed to `remove`. None of its calls fails.
     pub fn after_stop(&self, moment: u64, kind: StopKind) -> Result<MemPlace, Memory>
-        requires { moment < moments_of (journal_of self.now) }
+        requires { IsSome (journal_of self.now) }
         ensures seen { IfOk result (λ place. (place_state place).seen ≡ stop_image kind (journal_of self.now) moment) }
         ensures allowed { IfOk result (λ place. IfSome (place_state place).seen (LeftAt (journal_of self.now) moment)) }
+        ensures stored { IfOk result (λ place. place_stored place ≡ stop_files moment (files_of self.now)) }
         ensures durable { IfOk result (λ place. IfSome (place_state place).seen
             (λ image. IsDurable image (place_state place))) }
         ensures moment { IfOk result (λ place. (place_state place).moment ≡ 0) }
         ensures numbers { IfOk result (λ place. IfSome (journal_of place)
             (λ journal. (journal_numbers journal).fails.items ≡ [])) }
+        ensures never { IfOk result (λ place. failing_of (files_of place) ≡ []) }
         ensures no_faults { IfOk result (λ place. place_faults place ≡ 0) }
     {
-        match &self.journal {
-            Some(journal) => {
-                let slots = journal.after_stop(moment as usize, kind)?;
+        match &self.parts {
+            Some(parts) => {
+                let count = parts.journal.count_until(moment);
+                let slots = parts.journal.after_stop(count, kind)?;
+                let at_rest = parts.files.after_stop(moment)?;
                 let fails = Fails {
                     journal: Vec::new(self.alloc),
+                    files: Vec::new(self.alloc),
                 };
-                MemPlace::new(self.alloc, [slots.a, slots.b], fails)
+                MemPlace::from_parts(self.alloc, slots, at_rest, fails)
             }
             None => unreachable!(),
         }
@@ -97,28 +154,41 @@ impl Disk for MemPlace {
 
 impl Place for MemPlace {
     ghost use Rattle.tsdb_outside.specs.Disk.{Keeps};
+    ghost use Rattle.mem_outside.specs.Files.{files_faults, files_at_rest, files_gone, files_row, stored_files};
     ghost use Rattle.mem_outside.specs.Journal.{journal_state, journal_faults, with_no_faults};
-    ghost use Rattle.mem_outside.specs.Place.{journal_of, place_faults, place_state};
+    ghost use Rattle.mem_outside.specs.Place.{journal_of, files_of, place_faults, place_state, place_stored, SameFiles};
 
     type Journal = MemJournal;
 
-    /// It has one store, whatever the directory. While its journal is out a further one is refused with a fault.
-    fn take_up(&mut self, _dir: &[u8]) -> Result<MemJournal, StoreFault>
-        ensures keeps { IfOk result (λ journal. Keeps (place_state self.old) (journal_state journal)) }
-        ensures no_faults { IfOk result (λ journal. journal_faults journal ≡ 0) }
-        ensures err { OnErr result (Keeps (place_state self.old) (place_state self.new)) }
+    type Files = MemFiles;
+
+    ghost stored = { place_stored };
+
+    /// It has one store, whatever the directory. While its parts are out a further one is refused with a fault.
+    fn take_up(&mut self, _dir: &[u8]) -> Result<(MemJournal, MemFiles), StoreFault>
+        ensures keeps { IfOk result (λ parts. Keeps (place_state self.old) (journal_state parts.0)) }
+        ensures at_rest { IfOk result (λ parts. stored_files parts.1 ≡ place_stored self.old) }
+        ensures no_faults { IfOk result (λ parts. journal_faults parts.0 ≡ 0 × files_faults parts.1 ≡ 0) }
+        ensures err { OnErr result (Keeps (place_state self.old) (place_state self.new)
+            × place_stored self.new ≡ place_stored self.old) }
         ensures cause { HasStoreCause (place_faults self.old) (place_faults self.new) result }
 
-        // It succeeds exactly where the journal is in it.
+        // It succeeds exactly where the parts are in it.
         ensures ok { IsOk result ↔ IsSome (journal_of self.old) }
-        ensures journal { IfOk result (λ journal. IfSome (journal_of self.old) (λ j. journal ≡ with_no_faults j)) }
-        ensures out { journal_of self.new ≡ None }
+        ensures journal { IfOk result (λ parts. IfSome (journal_of self.old) (λ j. parts.0 ≡ with_no_faults j)) }
+        ensures files { IfOk result (λ parts. IfSome (files_of self.old) (λ f. SameFiles f parts.1)) }
+        ensures out { journal_of self.new ≡ None × files_of self.new ≡ None }
         ensures no_fault { OnOk result (place_faults self.new ≡ place_faults self.old) }
     {
-        match self.journal.take() {
-            Some(mut journal) => {
+        match self.parts.take() {
+            Some(parts) => {
+                let Parts {
+                    mut journal,
+                    mut files,
+                } = parts;
                 journal.reset_faults();
-                Ok(journal)
+                files.reset_faults();
+                Ok((journal, files))
             }
             None => {
                 self.faults = self.faults.saturating_add(1);
@@ -127,101 +197,23 @@ impl Place for MemPlace {
         }
     }
 
-    fn put_down(&mut self, journal: MemJournal)
+    fn put_down(&mut self, journal: MemJournal, files: MemFiles)
         ensures keeps { Keeps (journal_state journal) (place_state self.new) }
+        ensures stored { place_stored self.new ≡ stored_files files }
         ensures later { place_faults self.old ≤ place_faults self.new }
-        ensures faults { min (place_faults self.old + journal_faults journal) (2 ^ 64 - 1) ≤ place_faults self.new }
+        ensures faults { min (place_faults self.old + journal_faults journal + files_faults files) (2 ^ 64 - 1)
+            ≤ place_faults self.new }
 
-        // It has this journal again, and no further fault.
+        // It has these parts again, and no further fault.
         ensures journal { journal_of self.new ≡ Some journal }
-        ensures no_more { place_faults self.new ≡ min (place_faults self.old + journal_faults journal) (2 ^ 64 - 1) }
+        ensures files { files_of self.new ≡ Some files }
+        ensures no_more { place_faults self.new
+            ≡ min (place_faults self.old + journal_faults journal + files_faults files) (2 ^ 64 - 1) }
     {
-        self.faults = self.faults.saturating_add(journal.faults());
-        self.journal = Some(journal);
-    }
-}
-
-/// A place in memory for a store whose calls fail only without room.
-#[derive(Drop)]
-pub struct SteadyPlace {
-    place: MemPlace,
-}
-
-impl SteadyPlace {
-    ghost use Rattle.mem_outside.specs.Journal.{journal_numbers};
-    ghost use Rattle.mem_outside.specs.Place.{journal_of, place_faults, place_state, IsDurable, slots_image};
-    ghost use Rattle.mem_outside.specs.Steady.{inner_place};
-
-    /// A place with these slots, all of their bytes durable.
-    pub fn new(alloc: Global, slots: [Vec<u8>; 2]) -> Result<SteadyPlace, Memory>
-        ensures seen { IfOk result (λ place. (place_state (inner_place place)).seen ≡ Some (slots_image slots)) }
-        ensures durable { IfOk result (λ place. IsDurable (slots_image slots) (place_state (inner_place place))) }
-        ensures moment { IfOk result (λ place. (place_state (inner_place place)).moment ≡ 0) }
-        ensures numbers { IfOk result (λ place. IfSome (journal_of (inner_place place))
-            (λ journal. (journal_numbers journal).fails.items ≡ [])) }
-        ensures no_faults { IfOk result (λ place. place_faults (inner_place place) ≡ 0) }
-    {
-        let fails = Fails {
-            journal: Vec::new(alloc),
-        };
-        Ok(SteadyPlace {
-            place: MemPlace::new(alloc, slots, fails)?,
-        })
-    }
-}
-
-impl Counted for SteadyPlace {
-    ghost use Rattle.mem_outside.specs.Place.{place_faults};
-    ghost use Rattle.mem_outside.specs.Steady.{inner_place};
-
-    ghost faults = { λ place. place_faults (inner_place place) };
-}
-
-impl Disk for SteadyPlace {
-    ghost use Rattle.mem_outside.specs.Place.{journal_of, place_state};
-    ghost use Rattle.mem_outside.specs.Steady.{inner_place};
-
-    ghost state = { λ place. place_state (inner_place place) };
-
-    ghost lawful = { λ place. place_is_lawful (journal_of (inner_place place)) };
-}
-
-impl Place for SteadyPlace {
-    ghost use Rattle.tsdb_outside.specs.Disk.{Keeps};
-    ghost use Rattle.mem_outside.specs.Journal.{journal_state, journal_faults, with_no_faults};
-    ghost use Rattle.mem_outside.specs.Place.{journal_of, place_faults, place_state};
-    ghost use Rattle.mem_outside.specs.Steady.{inner_place};
-
-    type Journal = MemJournal;
-
-    fn take_up(&mut self, dir: &[u8]) -> Result<MemJournal, StoreFault>
-        ensures keeps { IfOk result (λ journal. Keeps (place_state (inner_place self.old)) (journal_state journal)) }
-        ensures no_faults { IfOk result (λ journal. journal_faults journal ≡ 0) }
-        ensures err { OnErr result (Keeps (place_state (inner_place self.old)) (place_state (inner_place self.new))) }
-        ensures cause { HasStoreCause
-            (place_faults (inner_place self.old)) (place_faults (inner_place self.new)) result }
-
-        // It succeeds exactly where the journal is in it.
-        ensures ok { IsOk result ↔ IsSome (journal_of (inner_place self.old)) }
-        ensures journal { IfOk result (λ journal. IfSome (journal_of (inner_place self.old))
-            (λ j. journal ≡ with_no_faults j)) }
-        ensures out { journal_of (inner_place self.new) ≡ None }
-        ensures no_fault { OnOk result (place_faults (inner_place self.new) ≡ place_faults (inner_place self.old)) }
-    {
-        self.place.take_up(dir)
-    }
-
-    fn put_down(&mut self, journal: MemJournal)
-        ensures keeps { Keeps (journal_state journal) (place_state (inner_place self.new)) }
-        ensures later { place_faults (inner_place self.old) ≤ place_faults (inner_place self.new) }
-        ensures faults { min (place_faults (inner_place self.old) + journal_faults journal) (2 ^ 64 - 1)
-            ≤ place_faults (inner_place self.new) }
-
-        // It has this journal again, and no further fault.
-        ensures journal { journal_of (inner_place self.new) ≡ Some journal }
-        ensures no_more { place_faults (inner_place self.new)
-            ≡ min (place_faults (inner_place self.old) + journal_faults journal) (2 ^ 64 - 1) }
-    {
-        self.place.put_down(journal)
+        self.faults = self
+            .faults
+            .saturating_add(journal.faults())
+            .saturating_add(files.faults());
+        self.parts = Some(Parts { journal, files });
     }
 }

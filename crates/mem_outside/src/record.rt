@@ -4,6 +4,7 @@ ghost use Rattle.tsdb_outside.specs.Disk.{in_slot, with_slot, overwrite};
 ghost use Rattle.mem_outside.specs.Record.{SlotState, after_write, after_sync, after_kind, after_call, seen_after, invert, apply_pending, slot_after_stop};
 ghost use Rattle.mem_outside.specs.Replay.{IsReplayOf};
 ghost use Rattle.mem_outside.specs.Slots.{pair_image};
+ghost use Rattle.std.specs.List.{prefix_len};
 
 use std::alloc::{AllocError, Global};
 use tsdb_outside::Slot;
@@ -19,6 +20,13 @@ pub enum StopKind {
     Scrambled,
 }
 
+/// The place of a counted call in the row, and whether it is to succeed.
+#[derive(Clone, Copy)]
+pub struct Outcome {
+    pub at: u64,
+    pub succeeded: bool,
+}
+
 // What a counted call asked for.
 #[derive(Drop)]
 pub enum Kind {
@@ -26,9 +34,10 @@ pub enum Kind {
     Sync,
 }
 
-// A counted call, and whether it succeeded.
+// A counted call with its place in the row, and whether it succeeded.
 #[derive(Drop)]
 pub struct Call {
+    pub at: u64,
     pub slot: Slot,
     pub succeeded: bool,
     pub kind: Kind,
@@ -176,7 +185,7 @@ pub struct RecordedDisk {
 }
 
 impl RecordedDisk {
-    ghost use Rattle.mem_outside.specs.RecordedDisk.{disk_seen, disk_first, disk_calls, RecordsCall, SameRecord};
+    ghost use Rattle.mem_outside.specs.RecordedDisk.{is_until, last_of_calls, disk_seen, disk_first, disk_calls, RecordsCall, SameRecord};
 
     /// Two slots with these bytes, all of them durable.
     pub fn new(alloc: Global, first: Pair) -> Result<RecordedDisk, AllocError>
@@ -206,6 +215,24 @@ impl RecordedDisk {
         self.calls.as_slice().len()
     }
 
+    /// How many calls there are before the first whose place in the row is behind this one.
+    pub fn count_until(&self, moment: u64) -> usize
+        ensures count { result ≡ prefix_len (is_until moment) (disk_calls self.now) }
+        ensures bound { result ≤ length (disk_calls self.now) }
+    {
+        self.calls
+            .iter()
+            .take_while(|call| call.at <= moment)
+            .count()
+    }
+
+    /// The greatest place in the row of its calls, or 0.
+    pub fn last(&self) -> u64
+        ensures { result ≡ last_of_calls (disk_calls self.now) }
+    {
+        self.calls.iter().fold(0, |last, call| last.max(call.at))
+    }
+
     /// What a stop of this kind leaves of the slot behind the first `moment` calls.
     pub fn after_stop(
         &self,
@@ -231,10 +258,10 @@ impl RecordedDisk {
         slot: Slot,
         at: usize,
         bytes: &[u8],
-        succeeded: bool,
+        outcome: Outcome,
     ) -> Result<(), AllocError>
         requires { at ≤ length (in_slot slot (disk_seen self.old)) }
-        ensures ok { OnOk result (RecordsCall slot (after_write at bytes.now succeeded) self.old self.new) }
+        ensures ok { OnOk result (RecordsCall slot (after_write at bytes.now outcome.succeeded) self.old self.new) }
         ensures err { OnErr result (SameRecord self.old self.new) }
     {
         let kind = Kind::Write {
@@ -242,11 +269,12 @@ impl RecordedDisk {
             bytes: bytes.to_vec(self.alloc)?,
         };
         self.calls.push(Call {
+            at: outcome.at,
             slot,
-            succeeded,
+            succeeded: outcome.succeeded,
             kind,
         })?;
-        if succeeded && self.current.write(slot, at, bytes).is_err() {
+        if outcome.succeeded && self.current.write(slot, at, bytes).is_err() {
             self.calls.pop();
             return Err(AllocError);
         }
@@ -254,13 +282,14 @@ impl RecordedDisk {
     }
 
     /// Records a sync. Without room nothing changes.
-    pub fn sync(&mut self, slot: Slot, succeeded: bool) -> Result<(), AllocError>
-        ensures ok { OnOk result (RecordsCall slot (after_sync succeeded) self.old self.new) }
+    pub fn sync(&mut self, slot: Slot, outcome: Outcome) -> Result<(), AllocError>
+        ensures ok { OnOk result (RecordsCall slot (after_sync outcome.succeeded) self.old self.new) }
         ensures err { OnErr result (SameRecord self.old self.new) }
     {
         self.calls.push(Call {
+            at: outcome.at,
             slot,
-            succeeded,
+            succeeded: outcome.succeeded,
             kind: Kind::Sync,
         })?;
         Ok(())

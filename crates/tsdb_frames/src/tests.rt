@@ -32,8 +32,9 @@ fn place_of(alloc: Global, bytes: &[u8], fails: &[u64]) -> Result<MemPlace, Stor
     let slots = [bytes.to_vec(alloc)?, vec![in alloc; 0]?];
     let fails = Fails {
         journal: fails.to_vec(alloc)?,
+        files: Vec::new(alloc),
     };
-    Ok(MemPlace::new(alloc, slots, fails)?)
+    Ok(MemPlace::new(alloc, slots, Vec::new(alloc), fails)?)
 }
 
 // What a scan of slot A of a place gives. The place has its journal back after it.
@@ -41,14 +42,14 @@ fn scan_place<P: Place>(
     alloc: Global,
     place: &mut P,
 ) -> Result<Result<Vec<Frame>, ScanFault>, StoreFault> {
-    let journal = place.take_up(b"d")?;
+    let (journal, files) = place.take_up(b"d")?;
     match Frames::scan(alloc, journal, Slot::A) {
         Ok((log, frames)) => {
-            place.put_down(log.end());
+            place.put_down(log.end(), files);
             Ok(Ok(frames))
         }
         Err(ScanRefused { journal, fault }) => {
-            place.put_down(journal);
+            place.put_down(journal, files);
             Ok(Err(fault))
         }
     }
@@ -139,15 +140,15 @@ fn append_all<P: Place>(
     place: &mut P,
     payloads: &[&[u8]],
 ) -> Result<Vec<(bool, bool)>, StoreFault> {
-    let journal = place.take_up(b"d")?;
+    let (journal, files) = place.take_up(b"d")?;
     match Frames::scan(alloc, journal, Slot::A) {
         Ok((mut log, _frames)) => {
             let answers = append_each(alloc, &mut log, payloads);
-            place.put_down(log.end());
+            place.put_down(log.end(), files);
             answers
         }
         Err(ScanRefused { journal, fault: _ }) => {
-            place.put_down(journal);
+            place.put_down(journal, files);
             Err(StoreFault::Failed)
         }
     }
@@ -162,12 +163,12 @@ fn worked_log_is_written_and_read(rt: HostRuntime) -> Result<(), Fail> {
         answers.as_slice(),
         [(true, false), (true, false)].as_slice()
     );
-    let mut journal = place.take_up(b"d")?;
+    let (mut journal, files) = place.take_up(b"d")?;
     let mut bytes = [7; 54];
     assert_eq!(rt; journal.length(Slot::A)?, 54);
     journal.read_at(Slot::A, 0, &mut bytes)?;
     assert!(rt; bytes == WORKED);
-    place.put_down(journal);
+    place.put_down(journal, files);
     let Ok(frames) = scan_place(alloc, &mut place)? else {
         return Err(StoreFault::Failed.into());
     };
@@ -292,14 +293,15 @@ fn faults_at_a_gate_leave_it_in_doubt(rt: HostRuntime) -> Result<(), Fail> {
 fn settling_closes_a_gate_in_doubt(rt: HostRuntime) -> Result<(), Fail> {
     let alloc = rt.alloc();
     let mut place = place_of(alloc, &[0], &[4, 6])?;
-    let Ok((mut log, _frames)) = Frames::scan(alloc, place.take_up(b"d")?, Slot::A) else {
+    let (journal, files) = place.take_up(b"d")?;
+    let Ok((mut log, _frames)) = Frames::scan(alloc, journal, Slot::A) else {
         return Err(StoreFault::Failed.into());
     };
     assert!(rt; log.settle().is_ok());
     assert!(rt; !append(alloc, &mut log, &[1])?);
     assert!(rt; log.settle().is_err() && log.doubt());
     assert!(rt; log.settle().is_ok() && !log.doubt());
-    place.put_down(log.end());
+    place.put_down(log.end(), files);
     // Four calls of the append, two of each settling that found a doubt.
     assert_eq!(rt; place.moments(), 9);
     for kind in [StopKind::Written, StopKind::Unwritten, StopKind::Scrambled] {

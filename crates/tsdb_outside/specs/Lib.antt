@@ -1,5 +1,6 @@
 pub mod Causes
 pub mod Disk
+pub mod Files
 pub mod Laws
 pub mod Limits
 pub mod Texts

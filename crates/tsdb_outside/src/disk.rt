@@ -12,14 +12,14 @@
 //! - What reads give is always one of the things that a stop may leave.
 //! - A disk that does not tell its content may leave anything.
 //!
-//! Depends on `faults`.
+//! Depends on `faults` and `files`.
 ghost use Rattle.std.specs.Prelude.{◌≡◌, ℕ, List, ◌+◌, ◌-◌, ◌^◌, ◌<◌, ◌≤◌, min, length, take, drop, IfOk, OnOk, OnErr, IfSome};
 ghost use Rattle.std.specs.declared.option.Option.{Option};
 ghost use Rattle.std.specs.Option.{ForSome};
 ghost use Rattle.tsdb_outside.specs.Causes.{HasCause, HasStoreCause};
 ghost use Rattle.tsdb_outside.specs.Limits.{FitsSlot};
 
-use crate::{Counted, Failed, StoreFault};
+use crate::{Counted, Failed, Files, StoreFault};
 
 /// One of the two files of bytes that a journal has.
 #[derive(Clone, Copy, Debug, PartialEq, Eq)]
@@ -40,7 +40,7 @@ pub trait Disk: Counted {
 }
 
 /// The slots of a store, read and written at any place.
-pub trait Journal: Disk {
+pub trait Journal: Disk + Send {
     ghost use Rattle.tsdb_outside.specs.Disk.{in_slot, Overwrites, WhereTold, Durable, Keeps, MayWrite};
 
     /// How many bytes the slot has.
@@ -76,25 +76,34 @@ pub trait Journal: Disk {
         ensures cause { HasCause (Self.faults self.old) (Self.faults self.new) result };
 }
 
-/// Where a store lies. It tells its content while its journal is in it.
+/// Where a store lies. It tells its content while its parts are in it.
 pub trait Place: Disk {
     ghost use Rattle.tsdb_outside.specs.Disk.{Keeps};
+    ghost use Rattle.tsdb_outside.specs.Files.{StoredFile};
 
     type Journal: Journal;
 
-    /// Hands out the journal of the store in the directory, which means what the place meant and has no fault so far.
-    /// Where the directory has no store it makes one, whose slots have one synced byte 0 each. After an error the
-    /// place means what it meant before.
-    fn take_up(&mut self, dir: &[u8]) -> Result<Self::Journal, StoreFault>
-        ensures keeps { IfOk result (λ journal. Keeps (Self.state self.old) (Self.Journal.state journal)) }
-        ensures no_faults { IfOk result (λ journal. Self.Journal.faults journal ≡ 0) }
-        ensures err { OnErr result (Keeps (Self.state self.old) (Self.state self.new)) }
+    type Files: Files;
+
+    /// The files of its store, or none where it does not tell.
+    ghost stored: { Self → Option (List StoredFile) };
+
+    /// Hands out the journal and the files of the store in the directory, which mean what the place meant. They have no
+    /// fault so far, and no `Sealed` is out. Where the directory has no store it makes one, whose slots have one synced
+    /// byte 0 each. After an error the place means what it meant before.
+    fn take_up(&mut self, dir: &[u8]) -> Result<(Self::Journal, Self::Files), StoreFault>
+        ensures keeps { IfOk result (λ parts. Keeps (Self.state self.old) (Self.Journal.state parts.0)) }
+        ensures at_rest { IfOk result (λ parts. Self.Files.at_rest parts.1 ≡ Self.stored self.old) }
+        ensures no_faults { IfOk result (λ parts. Self.Journal.faults parts.0 ≡ 0 × Self.Files.faults parts.1 ≡ 0) }
+        ensures err { OnErr result (Keeps (Self.state self.old) (Self.state self.new)
+            × Self.stored self.new ≡ Self.stored self.old) }
         ensures cause { HasStoreCause (Self.faults self.old) (Self.faults self.new) result };
 
-    /// Takes the journal back. The place then means what the journal meant, and its count rises by at least the
-    /// journal's.
-    fn put_down(&mut self, journal: Self::Journal)
+    /// Takes both parts back. The place then means what they meant, and its count rises by at least theirs together.
+    fn put_down(&mut self, journal: Self::Journal, files: Self::Files)
         ensures keeps { Keeps (Self.Journal.state journal) (Self.state self.new) }
+        ensures stored { Self.stored self.new ≡ Self.Files.at_rest files }
         ensures later { Self.faults self.old ≤ Self.faults self.new }
-        ensures faults { min (Self.faults self.old + Self.Journal.faults journal) (2 ^ 64 - 1) ≤ Self.faults self.new };
+        ensures faults { min (Self.faults self.old + Self.Journal.faults journal + Self.Files.faults files) (2 ^ 64 - 1)
+            ≤ Self.faults self.new };
 }

@@ -6,8 +6,10 @@
 
 mod disk;
 mod faults;
+mod files;
 mod streams;
 
 pub use disk::{Disk, Journal, Place, Slot};
 pub use faults::{Counted, Failed, Steady, StoreFault};
+pub use files::{Files, Port, ReadRight, SealedFile, is_file_number, list_of_numbers};
 pub use streams::{Sink, Source};

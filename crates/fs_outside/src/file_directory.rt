@@ -1,0 +1,208 @@
+//! The directory of a store, by the calls that its files need of it. A directory may tell which files it has, and of
+//! each whether a stop leaves its bytes and its name: the bytes are durable after a sync of the file, the name after a
+//! sync of the directory. The files and ports are proved over directories that tell. A directory of the system tells
+//! nothing. Depends on `file_name`.
+ghost use Rattle.std.specs.Prelude.{◌≡◌, ◌↔◌, ℕ, ◌^◌, ◌-◌, List, map, Contains, None, IfOk, IfSome, MatchOption, OnErr, OnOk};
+ghost use Rattle.std.specs.declared.option.Option.{Option};
+ghost use Rattle.tsdb_outside.specs.Causes.{HasCause};
+ghost use Rattle.tsdb_outside.specs.Files.{IsFileNumber};
+ghost use Rattle.fs_outside.specs.Directory.{DirectoryFile, IsFree, Becomes, add_new, change_one, with_bytes, with_synced_bytes, with_synced_name, without, numbers_in, HasBytesOf, HasLengthOf};
+
+use crate::file_name::{name_of_number, number_of_name};
+use std::alloc::{AllocError, Global};
+use std::fs::{self, File, OpenOptions};
+use std::io::{self, ErrorKind};
+use std::os::unix::fs::FileExt;
+use std::rt::Files;
+use std::sync::Arc;
+
+/// An open file of a store.
+pub trait NumberedFile: Drop {
+    /// Its number.
+    ghost number: { Self → ℕ };
+}
+
+/// The calls on a directory that files and ports make. Each port has a handle of its own.
+pub trait FileDirectory: Drop {
+    type File: NumberedFile;
+
+    /// The files that are there, or none where it does not tell.
+    ghost told: { Self → Option (List DirectoryFile) };
+
+    /// How often it has failed.
+    ghost faults: { Self → ℕ };
+
+    /// A further handle.
+    fn another(&self) -> Result<Self, AllocError>
+    where
+        Self: Sized;
+
+    /// Creates an empty file. One that is there is left alone, and the call fails.
+    fn create_new(&mut self, number: u64) -> io::Result<Self::File>
+        ensures number { IfOk result (λ file. Self.File.number file ≡ number) }
+        ensures free { OnOk result (IfSome (told self.old) (IsFree number)) }
+        ensures ok { OnOk result (Becomes (add_new number) (told self.old) (told self.new)) }
+        ensures err { OnErr result (told self.new ≡ told self.old) }
+        ensures cause { HasCause (faults self.old) (faults self.new) result };
+
+    /// Writes a whole file that is empty.
+    fn write_all(&mut self, file: &Self::File, bytes: &[u8]) -> io::Result<()>
+        ensures ok { OnOk result (Becomes (change_one (Self.File.number file.now) (with_bytes bytes.now))
+            (told self.old) (told self.new)) }
+        ensures cause { HasCause (faults self.old) (faults self.new) result };
+
+    /// Makes the bytes of a file durable.
+    fn sync_file(&mut self, file: &Self::File) -> io::Result<()>
+        ensures ok { OnOk result (Becomes (change_one (Self.File.number file.now) with_synced_bytes)
+            (told self.old) (told self.new)) }
+        ensures cause { HasCause (faults self.old) (faults self.new) result };
+
+    /// Makes the names of all files durable.
+    fn sync_names(&mut self) -> io::Result<()>
+        ensures ok { OnOk result (Becomes (map with_synced_name) (told self.old) (told self.new)) }
+        ensures cause { HasCause (faults self.old) (faults self.new) result };
+
+    /// Opens a file, or returns `None` where there is none.
+    fn open(&mut self, number: u64) -> io::Result<Option<Self::File>>
+        ensures none { IfOk result (λ found. MatchOption found (IfSome (told self.old) (IsFree number))
+            (λ file. Self.File.number file ≡ number)) }
+        ensures same { told self.new ≡ told self.old }
+        ensures cause { HasCause (faults self.old) (faults self.new) result };
+
+    /// Fills `into` with the bytes of a file from `at` on.
+    fn read_at(&mut self, file: &Self::File, at: u64, into: &mut [u8]) -> io::Result<()>
+        ensures bytes { OnOk result (HasBytesOf (Self.File.number file.now) at into.new (told self.old)) }
+        ensures same { told self.new ≡ told self.old }
+        ensures cause { HasCause (faults self.old) (faults self.new) result };
+
+    /// How many bytes a file has.
+    fn size(&mut self, file: &Self::File) -> io::Result<u64>
+        ensures size { IfOk result (λ n. HasLengthOf (Self.File.number file.now) n (told self.old)) }
+        ensures same { told self.new ≡ told self.old }
+        ensures cause { HasCause (faults self.old) (faults self.new) result };
+
+    /// Removes a file.
+    fn remove(&mut self, file: &Self::File) -> io::Result<()>
+        ensures ok { OnOk result (Becomes (without (Self.File.number file.now)) (told self.old) (told self.new)) }
+        ensures cause { HasCause (faults self.old) (faults self.new) result };
+
+    /// The numbers of the files, in any order.
+    fn numbers(&mut self) -> io::Result<Vec<u64>>
+        ensures exact { IfOk result (λ list. IfSome (told self.old) (λ files. (n : ℕ) → IsFileNumber n
+            → (Contains list.items n ↔ Contains (numbers_in files) n))) }
+        ensures same { told self.new ≡ told self.old }
+        ensures cause { HasCause (faults self.old) (faults self.new) result };
+}
+
+/// An open file of the system with its path, which its removal needs.
+#[derive(Drop)]
+pub struct FileOnDisk {
+    file: File,
+    path: String,
+    number: u64,
+}
+
+impl NumberedFile for FileOnDisk {
+    ghost number = { λ file. file.number };
+}
+
+/// A directory of the system, which holds the lock of the store.
+#[derive(Drop)]
+pub struct StoreDirectory<R> {
+    rt: R,
+    dir: String,
+    directory: Arc<File>,
+}
+
+impl<R: Files<File = File> + AllocGlobal + Clone + Drop> StoreDirectory<R> {
+    pub(crate) fn new(rt: R, dir: String, directory: Arc<File>) -> Self {
+        StoreDirectory { rt, dir, directory }
+    }
+
+    fn path(&self, number: u64) -> Result<String, AllocError> {
+        let mut path = String::from_str(self.rt.alloc(), self.dir.as_str())?;
+        path.push('/')?;
+        path.push_str(name_of_number(self.rt.alloc(), number)?.as_str())?;
+        Ok(path)
+    }
+}
+
+impl<R: Files<File = File> + AllocGlobal + Clone + Drop> FileDirectory for StoreDirectory<R> {
+    type File = FileOnDisk;
+
+    ghost told = { λ _. None };
+
+    ghost faults = { λ _. 2 ^ 64 - 1 };
+
+    fn another(&self) -> Result<Self, AllocError> {
+        Ok(StoreDirectory {
+            rt: self.rt.clone()?,
+            dir: String::from_str(self.rt.alloc(), self.dir.as_str())?,
+            directory: Arc::try_clone(&self.directory)?,
+        })
+    }
+
+    fn create_new(&mut self, number: u64) -> io::Result<FileOnDisk> {
+        let path = self.path(number)?;
+        let file = OpenOptions::new()
+            .read(true)
+            .write(true)
+            .create_new(true)
+            .open(&self.rt, path.as_str())?;
+        Ok(FileOnDisk { file, path, number })
+    }
+
+    fn write_all(&mut self, file: &FileOnDisk, bytes: &[u8]) -> io::Result<()> {
+        file.file.write_all_at(bytes, 0)
+    }
+
+    fn sync_file(&mut self, file: &FileOnDisk) -> io::Result<()> {
+        file.file.sync_all()
+    }
+
+    fn sync_names(&mut self) -> io::Result<()> {
+        self.directory.sync_all()
+    }
+
+    fn open(&mut self, number: u64) -> io::Result<Option<FileOnDisk>> {
+        let path = self.path(number)?;
+        let file = match File::open(&self.rt, path.as_str()) {
+            Ok(file) => file,
+            Err(error) if error.kind() == ErrorKind::NotFound => return Ok(None),
+            Err(error) => return Err(error),
+        };
+        if !file.metadata()?.is_file() {
+            return Err(io::Error::from(ErrorKind::InvalidInput));
+        }
+        Ok(Some(FileOnDisk { file, path, number }))
+    }
+
+    fn read_at(&mut self, file: &FileOnDisk, at: u64, into: &mut [u8]) -> io::Result<()> {
+        file.file.read_exact_at(into, at)
+    }
+
+    fn size(&mut self, file: &FileOnDisk) -> io::Result<u64> {
+        Ok(file.file.metadata()?.len())
+    }
+
+    fn remove(&mut self, file: &FileOnDisk) -> io::Result<()> {
+        fs::remove_file(&self.rt, file.path.as_str())
+    }
+
+    fn numbers(&mut self) -> io::Result<Vec<u64>> {
+        let alloc = self.rt.alloc();
+        let mut numbers = Vec::new(alloc);
+        for entry in fs::read_dir(&self.rt, self.dir.as_str())? {
+            match entry {
+                Ok(entry) => {
+                    if let Some(number) = number_of_name(alloc, entry.file_name())? {
+                        numbers.push(number)?;
+                    }
+                }
+                Err(error) if error.kind() == ErrorKind::InvalidFilename => {}
+                Err(error) => return Err(error),
+            }
+        }
+        Ok(numbers)
+    }
+}

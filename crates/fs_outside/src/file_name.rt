@@ -1,0 +1,36 @@
+//! The names of the files of a store: the number in decimal without leading zeros, and `.tsfile`. Depends on
+//! `tsdb_outside`.
+ghost use Rattle.std.specs.Prelude.{◌≡◌, ◌++◌, IfOk, IfSome, codes};
+ghost use Rattle.std.specs.Fmt.{decimal};
+ghost use Rattle.std.specs.String.{string_bytes};
+ghost use Rattle.tsdb_outside.specs.Files.{IsFileNumber};
+ghost use Rattle.fs_outside.specs.FileName.{file_name};
+
+use std::alloc::{AllocError, Global};
+use tsdb_outside::is_file_number;
+
+const SUFFIX: &str = ".tsfile";
+
+/// The name of the file with this number.
+pub fn name_of_number(alloc: Global, number: u64) -> Result<String, AllocError>
+    ensures { IfOk result (λ name. string_bytes name ≡ file_name number) }
+{
+    format!(in alloc; "{number}.tsfile")
+}
+
+/// The number of the file with this name, or `None` where no file of a store has it.
+pub fn number_of_name(alloc: Global, name: &str) -> Result<Option<u64>, AllocError>
+    ensures number { IfOk result (λ number. IfSome number IsFileNumber) }
+    ensures name { IfOk result (λ number. IfSome number (λ n. name.now ≡ file_name n)) }
+{
+    let Some(digits) = name.strip_suffix(SUFFIX) else {
+        return Ok(None);
+    };
+    let Ok(number) = digits.parse::<u64>() else {
+        return Ok(None);
+    };
+    if is_file_number(number) && name_of_number(alloc, number)?.as_str() == name {
+        return Ok(Some(number));
+    }
+    Ok(None)
+}

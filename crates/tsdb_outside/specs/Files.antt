@@ -1,0 +1,70 @@
+-- What stored files mean, and the images of a place that keeps some of them. The rules stand at the head of src/files.rt.
+use Rattle.std.specs.Prelude.{◌≡◌, ℕ, ◌+◌, ◌^◌, ◌<◌, ◌≤◌, List, [], ◌∷◌, ◌++◌, length, map, Bool, ◌&&◌, nat_eq, nat_le, nat_lt, Contains, IfSome, None, Some}
+use Rattle.std.specs.declared.option.Option.{Option}
+use Rattle.std.specs.List.{IsDistinct}
+use Rattle.tsdb_base.specs.declared.ids.FileNumber.{FileNumber}
+use Rattle.tsdb_outside.specs.Disk.{Image}
+
+-- a stored file
+pub record StoredFile : Type 0 where
+  pub number : ℕ
+  pub bytes : List ℕ
+
+-- what a token says of its file: the number, and the bytes where it tells them
+pub record NamedFile : Type 0 where
+  pub number : ℕ
+  pub bytes : Option (List ℕ)
+
+-- numbers that a file may have
+pub record IsFileNumber (n : ℕ) : Type 0 where
+  pub low : 1 ≤ n
+  pub high : n < 2 ^ 63
+
+-- the test for it
+abbrev pub is_number : ℕ → Bool
+is_number n = nat_le 1 n && nat_lt n (2 ^ 63)
+
+-- the numbers of these files
+abbrev pub numbers_of : List StoredFile → List ℕ
+numbers_of files = map (λ (file : StoredFile). file.number) files
+
+-- the same of a list of numbers, as plain numbers
+abbrev pub plain_numbers : List FileNumber → List ℕ
+plain_numbers list = map (λ (number : FileNumber). number.0) list
+
+-- a token names the file with this number and these bytes
+pub record Names (number : ℕ) (bytes : List ℕ) (name : NamedFile) : Type 0 where
+  pub number_is : name.number ≡ number
+  pub bytes_are : IfSome name.bytes (λ told. told ≡ bytes)
+
+-- the file that a token names is among these
+pub record IsAmong (files : List StoredFile) (name : NamedFile) : Type 0 where
+  pub file : StoredFile
+  pub names : Names file.number file.bytes name
+  pub there : Contains files file
+
+-- one file is taken out, which the token names, and the others stay in their order
+pub record TakesOut (name : NamedFile) (old new : List StoredFile) : Type 0 where
+  pub before : List StoredFile
+  pub file : StoredFile
+  pub after : List StoredFile
+  pub names : Names file.number file.bytes name
+  pub old_is : old ≡ before ++ file ∷ after
+  pub new_is : new ≡ before ++ after
+
+-- The file that a token names is put behind the others. There are fewer than 2^63 files, since their numbers differ.
+abbrev pub PutsBack : NamedFile → Option (List StoredFile) → Option (List StoredFile) → Type 0
+PutsBack name old new = IfSome old (λ files. IfSome name.bytes (λ bytes. length files + 1 < 2 ^ 63
+    → new ≡ Some (files ++ record { number = name.number; bytes = bytes } ∷ [])))
+
+-- The bytes of both slots, with the files.
+pub record StoreImage : Type 0 where
+  pub slots : Image
+  pub files : List StoredFile
+
+-- An image of a place that keeps these files: what a stop may leave of the slots, with any files of different numbers
+-- that hold at least each kept one.
+pub record IsStoreImage (may_leave : Image → Type 0) (kept : List NamedFile) (image : StoreImage) : Type 0 where
+  pub slots : may_leave image.slots
+  pub numbers : IsDistinct nat_eq (numbers_of image.files)
+  pub each : (name : NamedFile) → Contains kept name → IsAmong image.files name
