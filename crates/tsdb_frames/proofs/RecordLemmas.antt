@@ -6,7 +6,7 @@ use Rattle.std.proofs.lemmas.List.Elements.{All-append, All-cons, All-nil}
 use Rattle.std.proofs.lemmas.Grind.{flat_map-append}
 use Rattle.tsdb_base.specs.Fields.{number32}
 use Rattle.tsdb_frames.specs.declared.record.Frame.{Frame}
-use Rattle.tsdb_frames.specs.Slots.{IsPayload, with_length, open_records, BeginsWith, IsTorn, payloads_of, ArePlaced}
+use Rattle.tsdb_frames.specs.Slots.{IsPayload, with_length, open_records, BeginsWith, IsTorn, IsTornBehind, payloads_of, ArePlaced}
 use Rattle.tsdb_frames.specs.Steps.{HasRead}
 
 -- one record more, behind the others
@@ -79,15 +79,26 @@ reads_more frames all at next rest behind bytes payload after new read gate begi
 
 -- where behind an open gate no record stands, the slot is torn there
 pub torn_here : (frames : List Frame) (at : ℕ) (rest behind bytes : List ℕ) → HasRead frames at rest bytes → rest ≡ 1 ∷ behind
-    → ((payload after : List ℕ) → ¬ BeginsWith behind payload after) → IsTorn at bytes
-torn_here frames at rest behind bytes read gate none = inl (record {
-  payloads = payloads_of frames;
-  fit = read.fit;
-  behind = behind;
-  split = read.split ∙ ap (λ (l : List ℕ). open_records (payloads_of frames) ++ l) gate;
-  place = read.place;
-  broken = none;
-})
+    → ((payload after : List ℕ) → ¬ BeginsWith behind payload after) → ArePlaced frames × IsTornBehind (payloads_of frames) at bytes
+torn_here frames at rest behind bytes read gate none = (
+  read.places,
+  inl (
+    record {
+      payloads = payloads_of frames;
+      fit = read.fit;
+      behind = behind;
+      split = read.split ∙ ap (λ (l : List ℕ). open_records (payloads_of frames) ++ l) gate;
+      place = read.place;
+      broken = none;
+    },
+    refl,
+  ),
+)
+
+-- a slot that is torn behind records is torn
+pub torn_behind : (payloads : List (List ℕ)) (at : ℕ) (bytes : List ℕ) → IsTornBehind payloads at bytes → IsTorn at bytes
+torn_behind payloads at bytes (inl torn) = inl torn.0
+torn_behind payloads at bytes (inr empty) = inr (empty.1, empty.2)
 
 -- bytes whose first is a gate are this gate and the rest
 pub gate_first : (rest : List ℕ) (n gate : ℕ) → n ≡ length rest → 1 ≤ length rest → get_or rest 0 0 ≡ gate

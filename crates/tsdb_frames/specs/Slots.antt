@@ -47,6 +47,11 @@ pub record IsTornAtGate (at : ℕ) (bytes : List ℕ) : Type 0 where
 abbrev pub IsTorn : ℕ → List ℕ → Type 0
 IsTorn at bytes = IsTornAtGate at bytes ⊎ ((at ≡ 0) × (bytes ≡ []))
 
+-- A slot is torn at this place, and these are the records before it.
+abbrev pub IsTornBehind : List (List ℕ) → ℕ → List ℕ → Type 0
+IsTornBehind payloads at bytes =
+    ((torn : IsTornAtGate at bytes) × (torn.payloads ≡ payloads)) ⊎ ((payloads ≡ []) × (at ≡ 0) × (bytes ≡ []))
+
 -- the records of frames
 abbrev pub payloads_of : List Frame → List (List ℕ)
 payloads_of frames = map (λ frame. frame.payload.items) frames

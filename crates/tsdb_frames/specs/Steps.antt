@@ -1,10 +1,13 @@
 -- What private calls cite: how far a slot has been read, and what one write leaves.
-use Rattle.std.specs.Prelude.{◌≡◌, ℕ, ◌≤◌, List, ◌++◌, length}
+use Rattle.std.specs.Prelude.{◌≡◌, ◌⊎◌, ℕ, ◌≤◌, List, ◌++◌, length}
 use Rattle.std.specs.List.{All}
 use Rattle.tsdb_outside.specs.Disk.{Image, State, in_slot, overwrite, TornIn}
 use Rattle.tsdb_outside.specs.declared.disk.Slot.{Slot}
 use Rattle.tsdb_frames.specs.declared.record.Frame.{Frame}
-use Rattle.tsdb_frames.specs.Slots.{IsPayload, open_records, payloads_of, ArePlaced}
+use Rattle.tsdb_frames.specs.Log.{HasGateAt}
+use Rattle.tsdb_frames.specs.declared.reading.End.{End}
+use Rattle.tsdb_frames.specs.declared.reading.End.TheVariants.{Closed, Torn}
+use Rattle.tsdb_frames.specs.Slots.{IsPayload, open_records, payloads_of, AreFrames, ArePlaced, IsTornBehind}
 
 -- these are the first records of the bytes, and the rest stands at this place and begins with a gate
 pub record HasRead (frames : List Frame) (at : ℕ) (rest bytes : List ℕ) : Type 0 where
@@ -13,6 +16,16 @@ pub record HasRead (frames : List Frame) (at : ℕ) (rest bytes : List ℕ) : Ty
   pub place : at ≡ length (open_records (payloads_of frames))
   pub places : ArePlaced frames
   pub gate : 1 ≤ length rest
+
+-- the records of a slot with their places, before its closed gate or before the place where it is torn
+abbrev pub AreFramesUpTo : List Frame → End → List ℕ → Type 0
+AreFramesUpTo frames (Closed at) bytes = AreFrames frames at bytes
+AreFramesUpTo frames (Torn at) bytes = ArePlaced frames × IsTornBehind (payloads_of frames) at bytes
+
+-- the records end before a gate that the slot has, or the slot is torn
+abbrev pub HasEndAt : State → Slot → End → Type 0
+HasEndAt disk slot (Closed at) = HasGateAt disk slot at
+HasEndAt disk slot (Torn at) = Unit {0}
 
 -- what the disk might leave, after a write of n bytes to one slot that is cut short
 pub record IsTornFrom (slot : Slot) (at n : ℕ) (disk : State) (image : Image) : Type 0 where

@@ -7,7 +7,7 @@ ghost use Rattle.tsdb_outside.specs.Disk.{in_slot, Keeps};
 ghost use Rattle.tsdb_frames.specs.Causes.{AnswersTorn};
 ghost use Rattle.tsdb_frames.specs.Log.{HasGateAt};
 
-use crate::reading::read_slot;
+use crate::reading::{End, read_slot};
 use crate::writing::write_and_sync;
 use crate::{Frame, ScanFault};
 use std::alloc::Global;
@@ -29,13 +29,15 @@ pub struct Frames<J: Journal> {
 pub struct ScanRefused<J> {
     pub journal: J,
     pub fault: ScanFault,
+    /// The records before the place where the slot is torn. None after another fault.
+    pub frames: Vec<Frame>,
 }
 
 impl<J: Journal> Frames<J> {
     ghost use Rattle.tsdb_frames.specs.Frames.{journal_of, disk_of, faults_of, slot_of, is_in_doubt, IsLog};
     ghost use Rattle.tsdb_frames.specs.Log.{IsFrame, payload_of, HasRecordsOrOneMore, IsSettled};
     ghost use Rattle.tsdb_frames.specs.Moments.{LeavesOnly, LeavesFirstThen, IsUntouched};
-    ghost use Rattle.tsdb_frames.specs.Slots.{payloads_of, HasRecords, ArePlaced, IsTorn};
+    ghost use Rattle.tsdb_frames.specs.Slots.{payloads_of, HasRecords, ArePlaced, IsTorn, IsTornBehind};
 
     /// Reads the records of a slot, and takes its journal for a log. The slot is read once.
     pub fn scan(
@@ -48,6 +50,10 @@ impl<J: Journal> Frames<J> {
         ensures places { IfOk result (λ r. ArePlaced r.1.items) }
         ensures torn { IfErr result (λ refused. IfSome (J.state journal).seen (λ image.
             (at : ℕ) → refused.fault ≡ ScanFault.Torn at → IsTorn at (in_slot slot image))) }
+        ensures torn_behind { IfErr result (λ refused. IfSome (J.state journal).seen (λ image.
+            (at : ℕ) → refused.fault ≡ ScanFault.Torn at
+            → IsTornBehind (payloads_of refused.frames.items) at (in_slot slot image))) }
+        ensures torn_places { IfErr result (λ refused. ArePlaced refused.frames.items) }
         ensures each { IfSome (J.state journal).seen (λ image. (at : ℕ) → IsTorn at (in_slot slot image)
             → IsErrAnd result (λ refused. AnswersTorn at refused.fault)) }
 
@@ -66,16 +72,27 @@ impl<J: Journal> Frames<J> {
             → Rose (J.faults journal) (J.faults refused.journal)) }
     {
         match read_slot(alloc, &mut journal, slot) {
-            Ok((frames, gate)) => {
-                let log = Frames {
+            Ok((frames, end)) => match end {
+                End::Closed { at } => {
+                    let log = Frames {
+                        journal,
+                        slot,
+                        gate: at,
+                        doubt: false,
+                    };
+                    Ok((log, frames))
+                }
+                End::Torn { at } => Err(ScanRefused {
                     journal,
-                    slot,
-                    gate,
-                    doubt: false,
-                };
-                Ok((log, frames))
-            }
-            Err(fault) => Err(ScanRefused { journal, fault }),
+                    fault: ScanFault::Torn { at },
+                    frames,
+                }),
+            },
+            Err(fault) => Err(ScanRefused {
+                journal,
+                fault,
+                frames: Vec::new(alloc),
+            }),
         }
     }
 

@@ -1,15 +1,23 @@
 //! Reading the records of a slot. Depends on `record`, `fault` and `tsdb_outside`.
-ghost use Rattle.std.specs.Prelude.{◌≡◌, ℕ, List, None, length, IfOk, IfSome, IsErrOf};
+ghost use Rattle.std.specs.Prelude.{◌≡◌, ℕ, List, None, length, IfOk, IfErr, IfSome, IsErrOf};
 ghost use Rattle.tsdb_outside.specs.Causes.{HasCause};
 ghost use Rattle.tsdb_outside.specs.Disk.{in_slot, Keeps};
 ghost use Rattle.tsdb_outside.specs.Limits.{FitsSlot};
-ghost use Rattle.tsdb_frames.specs.Log.{HasGateAt};
 ghost use Rattle.tsdb_frames.specs.Causes.{HasScanCause};
-ghost use Rattle.tsdb_frames.specs.Slots.{BeginsWith, IsTorn, ArePlaced, AreFrames};
+ghost use Rattle.tsdb_frames.specs.Slots.{BeginsWith, ArePlaced};
+ghost use Rattle.tsdb_frames.specs.Steps.{AreFramesUpTo, HasEndAt};
 
 use crate::{Frame, ScanFault};
 use std::alloc::Global;
 use tsdb_outside::{Journal, Slot};
+
+// Where the records of a slot end.
+pub(crate) enum End {
+    // Before a closed gate at this place.
+    Closed { at: u64 },
+    // Before this place, where the slot is torn.
+    Torn { at: u64 },
+}
 
 // The bytes of a length.
 const LENGTH_BYTES: usize = 4;
@@ -31,22 +39,21 @@ fn split_record(bytes: &[u8]) -> Option<(&[u8], &[u8])>
     Some(rest.split_at(size))
 }
 
-// The records of a slot's bytes, and the place of the closed gate behind them.
-pub(crate) fn read_records(alloc: Global, bytes: &[u8]) -> Result<(Vec<Frame>, u64), ScanFault>
+// The records of a slot's bytes, and where they end.
+pub(crate) fn read_records(alloc: Global, bytes: &[u8]) -> Result<(Vec<Frame>, End), ScanFault>
     requires { FitsSlot (length bytes.now) }
-    ensures records { IfOk result (λ r. AreFrames r.0.items r.1 bytes.now) }
-    ensures torn { (at : ℕ) → IsErrOf result (ScanFault.Torn at) → IsTorn at bytes.now }
-    ensures no_fault { ¬ IsErrOf result ScanFault.Failed }
+    ensures records { IfOk result (λ r. AreFramesUpTo r.0.items r.1 bytes.now) }
+    ensures memory { IfErr result (λ fault. fault ≡ ScanFault.Memory) }
 {
-    if bytes.is_empty() {
-        return Err(ScanFault::Torn { at: 0 });
-    }
     let mut frames = Vec::new(alloc);
+    if bytes.is_empty() {
+        return Ok((frames, End::Torn { at: 0 }));
+    }
     let mut at = 0;
     let mut rest = bytes;
     while let [1, behind @ ..] = rest {
         let Some((payload, after)) = split_record(behind) else {
-            return Err(ScanFault::Torn { at });
+            return Ok((frames, End::Torn { at }));
         };
         let next = at + 1 + LENGTH_BYTES as u64 + payload.len() as u64;
         frames.push(Frame {
@@ -56,21 +63,20 @@ pub(crate) fn read_records(alloc: Global, bytes: &[u8]) -> Result<(Vec<Frame>, u
         at = next;
         rest = after;
     }
-    Ok((frames, at))
+    Ok((frames, End::Closed { at }))
 }
 
-// The records of a slot, and the place of the closed gate behind them. The slot is read once.
+// The records of a slot, and where they end. The slot is read once.
 pub(crate) fn read_slot<J: Journal>(
     alloc: Global,
     journal: &mut J,
     slot: Slot,
-) -> Result<(Vec<Frame>, u64), ScanFault>
+) -> Result<(Vec<Frame>, End), ScanFault>
     ensures records { IfOk result (λ r. IfSome (J.state journal.old).seen
-        (λ image. AreFrames r.0.items r.1 (in_slot slot image))) }
+        (λ image. AreFramesUpTo r.0.items r.1 (in_slot slot image))) }
     ensures places { IfOk result (λ r. ArePlaced r.0.items) }
-    ensures torn { IfSome (J.state journal.old).seen
-        (λ image. (at : ℕ) → IsErrOf result (ScanFault.Torn at) → IsTorn at (in_slot slot image)) }
-    ensures gate { IfOk result (λ r. HasGateAt (J.state journal.new) slot r.1) }
+    ensures not_torn { (at : ℕ) → ¬ IsErrOf result (ScanFault.Torn at) }
+    ensures gate { IfOk result (λ r. HasEndAt (J.state journal.new) slot r.1) }
     ensures keeps { Keeps (J.state journal.old) (J.state journal.new) }
     ensures cause { HasScanCause (J.faults journal.old) (J.faults journal.new) result }
 {

@@ -48,7 +48,13 @@ fn scan_place<P: Place>(
             place.put_down(log.end(), files);
             Ok(Ok(frames))
         }
-        Err(ScanRefused { journal, fault }) => {
+        Err(
+            ScanRefused {
+                journal,
+                fault,
+                frames: _,
+            },
+        ) => {
             place.put_down(journal, files);
             Ok(Err(fault))
         }
@@ -147,7 +153,13 @@ fn append_all<P: Place>(
             place.put_down(log.end(), files);
             answers
         }
-        Err(ScanRefused { journal, fault: _ }) => {
+        Err(
+            ScanRefused {
+                journal,
+                fault: _,
+                frames: _,
+            },
+        ) => {
             place.put_down(journal, files);
             Err(StoreFault::Failed)
         }

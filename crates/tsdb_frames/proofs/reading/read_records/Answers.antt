@@ -1,5 +1,4 @@
-use Rattle.std.proofs.Common.{◌≡◌, ℕ, ◌+◌, length, refl, subst, rules}
-use Rattle.tsdb_frames.specs.Slots.{IsTorn}
+use Rattle.std.proofs.Common.{◌+◌, length, refl, rules}
 use Rattle.tsdb_frames.proofs.RecordLemmas.{reads_more, gate_first, torn_here}
 use Rattle.tsdb_frames.proofs.reading.read_records.Goals as goal
 
@@ -10,9 +9,7 @@ loop-rest-preserved c =
     (record { at = c.loop-rest.at; payload = c.in_ok-to_vec.field-0 })
     c.loop-rest.invariant (gate_first c.loop-rest.rest.now _ 1 refl c.loop-rest.invariant.gate (search rules)) c.in-Some.ensures.found (search rules) refl (search rules) refl
 
-pub returns-in_default-split_record-clause-torn : goal.returns-in_default-split_record-clause-torn
-returns-in_default-split_record-clause-torn c at is_torn =
-    let place : c.loop-rest.at ≡ at = cc in
-    subst (λ (n : ℕ). IsTorn n c.args.bytes.now) place
-    (torn_here c.loop-rest.frames.items c.loop-rest.at c.loop-rest.rest.now _ c.args.bytes.now c.loop-rest.invariant
-    (gate_first c.loop-rest.rest.now _ 1 refl c.loop-rest.invariant.gate (search rules)) (c.split_record.ensures.none c.in_default-split_record.is))
+pub returns-in_default-split_record-clause-records : goal.returns-in_default-split_record-clause-records
+returns-in_default-split_record-clause-records c =
+    torn_here c.loop-rest.frames.items c.loop-rest.at c.loop-rest.rest.now _ c.args.bytes.now c.loop-rest.invariant
+    (gate_first c.loop-rest.rest.now _ 1 refl c.loop-rest.invariant.gate (search rules)) (c.split_record.ensures.none c.in_default-split_record.is)

@@ -1,10 +1,14 @@
-use Rattle.tsdb_frames.proofs.ScanLemmas.{whole_each, torn_each}
+use Rattle.tsdb_frames.proofs.ScanLemmas.{whole_each, torn_each, torn_behind_each}
 use Rattle.tsdb_frames.proofs.frames.Frames.scan.Goals as goal
 
-pub returns-in-Ok-clause-each : goal.returns-in-Ok-clause-each
-returns-in-Ok-clause-each g c =
-    whole_each (g.J.Disk.state c.args.journal).seen c.args.slot c.in-Ok.frames.items c.in-Ok.gate c.in-Ok.ensures.records
+pub returns-in-Closed-clause-each : goal.returns-in-Closed-clause-each
+returns-in-Closed-clause-each g c =
+    whole_each (g.J.Disk.state c.args.journal).seen c.args.slot c.in-Ok.frames.items c.in-Ok.end c.in-Closed.at c.in-Closed.is c.in-Ok.ensures.records
 
-pub returns-in-Err-clause-each : goal.returns-in-Err-clause-each
-returns-in-Err-clause-each g c =
-    torn_each _ (g.J.Disk.state c.args.journal).seen c.args.slot c.in-Err.fault c.in-Err.ensures.torn
+pub returns-in-Torn-clause-torn_behind : goal.returns-in-Torn-clause-torn_behind
+returns-in-Torn-clause-torn_behind g c =
+    torn_behind_each (g.J.Disk.state c.args.journal).seen c.args.slot c.in-Ok.frames.items c.in-Ok.end c.in-Torn.at c.in-Torn.is c.in-Ok.ensures.records
+
+pub returns-in-Torn-clause-each : goal.returns-in-Torn-clause-each
+returns-in-Torn-clause-each g c =
+    torn_each (g.J.Disk.state c.args.journal).seen c.args.slot c.in-Ok.frames.items c.in-Ok.end c.in-Torn.at c.in-Torn.is c.in-Ok.ensures.records
