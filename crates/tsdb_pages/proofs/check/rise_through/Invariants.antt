@@ -1,0 +1,7 @@
+use Rattle.std.proofs.Common.{take}
+use Rattle.tsdb_pages.specs.Pages.{IsRising}
+use Rattle.tsdb_pages.specs.Trees.{points_of}
+use Rattle.tsdb_pages.proofs.check.rise_through.Given as goal
+
+abbrev pub invariant-loop-i : goal.invariant-loop-i
+invariant-loop-i l = IsRising (points_of (take l.i l.pages))

@@ -1,0 +1,15 @@
+use Rattle.std.proofs.Common.{refl, arith}
+use Rattle.std.specs.Prelude.{◌<ℤ◌}
+use Rattle.std.proofs.lemmas.Bool.{false≢true}
+use Rattle.std.proofs.lemmas.Int.{ints}
+use Rattle.tsdb_pages.proofs.Order.{pairs_from_adjacent, not_pairs, rises}
+use Rattle.tsdb_pages.proofs.rising.is_rising.Goals as goal
+
+pub returns-then-points-i : goal.returns-then-points-i
+returns-then-points-i c =
+    let x = c.index-points-i.result in
+    let y = c.index-points-i-in-loop-i.result in
+    (λ e. absurd (false≢true e), λ rising. absurd (not_pairs (λ a b. a.time <ℤ b.time) c.args.points.now c.loop-i.i x y (omega arith) (omega arith) c.index-points-i.is c.index-points-i-in-loop-i.is (λ less. grind (arith, ints)) rising))
+
+pub returns : goal.returns
+returns c = (λ _. pairs_from_adjacent (λ a b. a.time <ℤ b.time) rises c.args.points.now (λ k d l. c.loop-i.invariant k d (omega arith)), λ _. refl)

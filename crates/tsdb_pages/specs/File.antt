@@ -1,0 +1,104 @@
+-- The bytes of the file of a tree.
+use Rattle.std.specs.Prelude.{◌≡◌, ℕ, ◌+◌, List, [], ◌∷◌, ◌++◌, length, codes}
+use Rattle.std.specs.List.{flat_map}
+use Rattle.tsdb_base.specs.declared.point.Point.{Point}
+use Rattle.tsdb_base.specs.declared.value.Encoding.{Encoding}
+use Rattle.tsdb_base.specs.Fields.{number32, number64, type_field, encoding_field}
+use Rattle.tsdb_base.specs.Plain.{plain_text}
+use Rattle.tsdb_index.specs.declared.index.IndexEntry.{IndexEntry}
+use Rattle.tsdb_index.specs.declared.index.PageEntry.{PageEntry}
+use Rattle.tsdb_index.specs.Spelling as index
+use Rattle.tsdb_stats.specs.Statistics.{AreStatsOf}
+use Rattle.tsdb_pages.specs.declared.tree.Page.{Page}
+use Rattle.tsdb_pages.specs.declared.tree.Chunk.{Chunk}
+use Rattle.tsdb_pages.specs.declared.tree.Group.{Group}
+use Rattle.tsdb_pages.specs.declared.tree.Tree.{Tree}
+use Rattle.tsdb_pages.specs.Pages.{body}
+use Rattle.tsdb_pages.specs.Trees.{points_of}
+
+-- `TsFile`, the first and the last bytes of a file
+abbrev pub magic : List ℕ
+magic = codes "TsFile"
+
+-- the head of a file: `TsFile` and 51
+abbrev pub head : List ℕ
+head = magic ++ 81 ∷ []
+
+-- a page: 50, and its body behind the body's length
+abbrev pub page_field : Encoding → Page → List ℕ
+page_field encoding page = 80 ∷ number32 (length (body encoding page.points.items)) ++ body encoding page.points.items
+
+-- a chunk up to its pages: 43, its measurement, type and encoding
+abbrev pub chunk_head : Chunk → List ℕ
+chunk_head chunk = 67 ∷ plain_text chunk.measurement ++ type_field chunk.data_type ++ encoding_field chunk.encoding
+
+-- a chunk
+abbrev pub chunk_field : Chunk → List ℕ
+chunk_field chunk = chunk_head chunk ++ flat_map (page_field chunk.encoding) chunk.pages.items
+
+-- a group up to its chunks: 47 and its device
+abbrev pub group_head : Group → List ℕ
+group_head group = 71 ∷ plain_text group.device
+
+-- a group
+abbrev pub group_field : Group → List ℕ
+group_field group = group_head group ++ flat_map chunk_field group.chunks.items
+
+-- head and groups
+abbrev pub data_field : Tree → List ℕ
+data_field tree = head ++ flat_map group_field tree.groups.items
+
+-- what the index says of a page that stands at this place
+pub record IsPageEntry (place : ℕ) (page : Page) (entry : PageEntry) : Type 0 where
+  pub place-is : entry.place ≡ place
+  pub stats : AreStatsOf page.points.items entry.stats
+
+-- what the index says of pages that stand one behind another from this place on
+abbrev pub ArePageEntries : Encoding → ℕ → List Page → List PageEntry → Type 0
+ArePageEntries encoding place [] [] = Unit {0}
+ArePageEntries encoding place [] (entry ∷ entries) = ⊥
+ArePageEntries encoding place (page ∷ pages) [] = ⊥
+ArePageEntries encoding place (page ∷ pages) (entry ∷ entries) =
+    IsPageEntry place page entry × ArePageEntries encoding (place + length (page_field encoding page)) pages entries
+
+-- what the index says of a chunk of this device that stands at this place
+pub record IsEntry (device : List ℕ) (place : ℕ) (chunk : Chunk) (entry : IndexEntry) : Type 0 where
+  pub device-is : entry.device ≡ device
+  pub measurement-is : entry.measurement ≡ chunk.measurement
+  pub type-is : entry.data_type ≡ chunk.data_type
+  pub encoding-is : entry.encoding ≡ chunk.encoding
+  pub place-is : entry.place ≡ place
+  pub stats : AreStatsOf (points_of chunk.pages.items) entry.stats
+  pub pages : ArePageEntries chunk.encoding (place + length (chunk_head chunk)) chunk.pages.items entry.pages.items
+
+-- what the index says of chunks of this device that stand one behind another from this place on
+abbrev pub AreEntries : List ℕ → ℕ → List Chunk → List IndexEntry → Type 0
+AreEntries device place [] [] = Unit {0}
+AreEntries device place [] (entry ∷ entries) = ⊥
+AreEntries device place (chunk ∷ chunks) [] = ⊥
+AreEntries device place (chunk ∷ chunks) (entry ∷ entries) =
+    IsEntry device place chunk entry × AreEntries device (place + length (chunk_field chunk)) chunks entries
+
+-- the entries of groups that stand one behind another from this place on, those of each group together
+abbrev pub AreEntriesOf : ℕ → List Group → List (List IndexEntry) → Type 0
+AreEntriesOf place [] [] = Unit {0}
+AreEntriesOf place [] (entries ∷ others) = ⊥
+AreEntriesOf place (group ∷ groups) [] = ⊥
+AreEntriesOf place (group ∷ groups) (entries ∷ others) =
+    AreEntries group.device (place + length (group_head group)) group.chunks.items entries
+    × AreEntriesOf (place + length (group_field group)) groups others
+
+-- the entries of a tree's index
+pub record AreEntriesIn (tree : Tree) (entries : List IndexEntry) : Type 0 where
+  pub by_group : List (List IndexEntry)
+  pub all : flat_map (λ list. list) by_group ≡ entries
+  pub say : AreEntriesOf (length head) tree.groups.items by_group
+
+-- these bytes are the file of the tree: head, groups, index, and behind it the place of the root and `TsFile`
+pub record IsFile (tree : Tree) (bytes : List ℕ) : Type 0 where
+  pub entries : List IndexEntry
+  pub root : ℕ
+  pub index-bytes : List ℕ
+  pub say : AreEntriesIn tree entries
+  pub index-is : index.IsSpelling (length (data_field tree)) root entries index-bytes
+  pub bytes-are : bytes ≡ data_field tree ++ index-bytes ++ number64 root ++ magic

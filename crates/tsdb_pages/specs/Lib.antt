@@ -1,0 +1,5 @@
+pub mod Limits
+pub mod Pages
+pub mod Reading
+pub mod Trees
+pub mod File

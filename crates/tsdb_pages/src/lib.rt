@@ -1,0 +1,30 @@
+//! The pages of a TsFile, and the tree of groups, chunks and pages that a file is written from: the body of a page,
+//! written and read exactly, the conditions on a tree, and in specs/ the bytes of the file of a tree.
+//! Depends on tsdb_base, tsdb_path, enc_values and enc_ts2diff, and for its definitions on tsdb_fields, tsdb_stats and
+//! tsdb_index.
+//!
+//! ```text
+//! file  = "TsFile" 51 group+ index root:8 "TsFile"     the place of the root in eight bytes
+//! group = 47 device chunk+
+//! chunk = 43 measurement type encoding page+
+//! page  = 50 length:4 body
+//! body  = length:4 times values                        the length of the times; times in TS_2DIFF
+//! ```
+#![tactic(auto)]
+
+mod body;
+mod check;
+mod fault;
+mod laws;
+mod rising;
+mod tree;
+
+pub use body::{read_page, write_page};
+pub use check::{are_points, is_tree};
+pub use fault::PageFault;
+pub use laws::{one_page, one_tree};
+pub use rising::is_rising;
+pub use tree::{Chunk, Group, Page, Tree};
+
+#[cfg(test)]
+mod tests;
