@@ -1,3 +1,6 @@
 pub mod Limits
 pub mod Spelling
+pub mod Entries
+pub mod Parts
 pub mod Steps
+pub mod Faults

@@ -1,8 +1,12 @@
--- How the leaves are written one by one. No public clause speaks of these.
-use Rattle.std.specs.Prelude.{◌≡◌, ℕ, ◌+◌, ◌<◌, List, [], ◌∷◌, ◌++◌, length}
+-- How the leaves are written and read one by one. No public clause speaks of these.
+use Rattle.std.specs.Prelude.{◌≡◌, ℕ, ◌+◌, ◌-◌, ◌<◌, ◌≤◌, List, [], ◌∷◌, ◌++◌, length, All, Result, Ok, Err}
 use Rattle.std.specs.List.{flat_map}
 use Rattle.tsdb_index.specs.declared.index.IndexEntry.{IndexEntry}
 use Rattle.tsdb_index.specs.declared.writing.Leaves.{Leaves}
+use Rattle.tsdb_index.specs.declared.fault.IndexFault.{IndexFault}
+use Rattle.tsdb_index.specs.declared.fault.IndexFault.TheVariants as fault
+use Rattle.tsdb_index.specs.declared.pointer.Pointer.{Pointer}
+use Rattle.tsdb_index.specs.Parts.{AreLeavesAt, IsFirstBadLeaf, end_of}
 use Rattle.tsdb_index.specs.Limits.{max_leaf_entries}
 use Rattle.tsdb_index.specs.Spelling.{leaf_field, pointer_field, pointers, AreLeaves, StandIn}
 
@@ -37,3 +41,21 @@ pub record IsWrittenTo (place : ℕ) (entries rest : List IndexEntry) (written :
   pub bytes-are : written.bytes.items ≡ flat_map leaf_field leaves
   pub pointers-are : written.pointers.items ≡ pointers place leaves
   pub counted : written.count ≡ length leaves
+
+-- these bytes are a mark, the number of the items, and the items
+pub record IsCounted {A : Type 0} (mark : ℕ) (number : ℕ → List ℕ) (limit : ℕ) (item : A → List ℕ) (IsItem : A → Type 0) (bytes : List ℕ) (items : List A) : Type 0 where
+  pub few : length items < limit
+  pub good : All IsItem items
+  pub bytes-are : bytes ≡ mark ∷ number (length items) ++ flat_map item items
+
+-- from the place of the first pointer so many bytes are left up to the root, and each leaf ends where it begins or later
+abbrev pub AreSpread : ℕ → List Pointer → ℕ → Type 0
+AreSpread root [] left = left ≡ 0
+AreSpread root (pointer ∷ behind) left =
+    (pointer.place + left ≡ root) × (pointer.place ≤ end_of root behind) × AreSpread root behind (left - (end_of root behind - pointer.place))
+
+-- the entries of the leaves that these bytes are, or the place of the first bad leaf
+abbrev pub ReadsLeaves : {B : Type 0} → ℕ → List Pointer → List ℕ → (B → List IndexEntry) → Result B IndexFault → Type 0
+ReadsLeaves root pointers bytes view (Ok found) = (leaves : List (List IndexEntry)) × AreLeavesAt root pointers bytes leaves × (view found ≡ flat_map (λ leaf. leaf) leaves)
+ReadsLeaves root pointers bytes view (Err (fault.Bad at)) = IsFirstBadLeaf root pointers bytes at
+ReadsLeaves root pointers bytes view (Err fault.Memory) = Unit {0}

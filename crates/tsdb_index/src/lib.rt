@@ -1,4 +1,4 @@
-//! The index of a TsFile: what it says of each chunk and each page of the file, and writing its bytes.
+//! The index of a TsFile: what it says of each chunk and each page of the file, its bytes, and reading these exactly.
 //! Depends on tsdb_fields, tsdb_path and tsdb_base.
 //!
 //! ```text
@@ -11,10 +11,16 @@
 //! ```
 #![tactic(auto)]
 
+mod fault;
 mod index;
+mod order;
+mod pointer;
+mod reading;
 mod writing;
 
+pub use fault::IndexFault;
 pub use index::{FileMeta, Index, IndexEntry, PageEntry};
+pub use reading::read_index;
 pub use writing::{write_index, write_leaves_and_root};
 
 #[cfg(test)]

@@ -110,3 +110,103 @@ fn places_beyond_64_bits(rt: HostRuntime) -> Result<(), Fail> {
     assert_eq!(rt; write_index(alloc, &index, u64::MAX).err(), Some(Memory));
     Ok(())
 }
+
+/// Reads the index, if the places are such as a reader may be given; else it is out of memory.
+fn read(alloc: Global, bytes: &[u8], place: u64, root: u64) -> Result<Index, IndexFault> {
+    if place > 10_000 || root < place || root - place > bytes.len() as u64 {
+        return Err(IndexFault::Memory);
+    }
+    read_index(alloc, bytes, place, root)
+}
+
+/// The bytes of the index of these entries with the first leaf at `place`, and the place of the root.
+fn written(alloc: Global, entries: Vec<IndexEntry>, place: u64) -> Result<(Vec<u8>, u64), Fail> {
+    if entries.is_empty() {
+        return Err("no entries".into());
+    }
+    Ok(write_leaves_and_root(alloc, &Index { entries }, place)?)
+}
+
+#[test]
+fn indexes_of_several_sizes(rt: HostRuntime) -> Result<(), Fail> {
+    let alloc = rt.alloc();
+    for count in [1, 256, 257, 513] {
+        let (bytes, root) = written(alloc, entries(alloc, count)?, 1000)?;
+        let index = read(alloc, &bytes, 1000, root)?;
+        assert!(rt; index.entries == entries(alloc, count)?);
+    }
+    Ok(())
+}
+
+/// Places and statistics may have any bits. Every other inverted byte makes its part bad.
+#[test]
+fn inverted_bytes(rt: HostRuntime) -> Result<(), Fail> {
+    let alloc = rt.alloc();
+    for place in 0..176u8 {
+        let mut bytes = WORKED;
+        bytes[place as usize] ^= 0xff;
+        let found = read(alloc, &bytes, 44, 194);
+        match place {
+            18..82 | 86..150 => {
+                let (again, _root) = written(alloc, found?.entries, 44)?;
+                assert!(rt; again.as_slice() == bytes.as_slice());
+            }
+            0..150 => assert_eq!(rt; found.err(), Some(IndexFault::Bad { at: 44 })),
+            _ => assert_eq!(rt; found.err(), Some(IndexFault::Bad { at: 194 })),
+        }
+    }
+    Ok(())
+}
+
+/// A root that is cut is bad. So is a leaf that the root cuts.
+#[test]
+fn cut_indexes(rt: HostRuntime) -> Result<(), Fail> {
+    let alloc = rt.alloc();
+    let (leaf, whole_root) = WORKED.as_slice().split_at(150);
+    for cut in 0..26usize {
+        let mut bytes = Vec::from_slice(alloc, leaf)?;
+        bytes.extend_from_slice(&whole_root[..cut])?;
+        let found = read(alloc, &bytes, 44, 194);
+        assert_eq!(rt; found.err(), Some(IndexFault::Bad { at: 194 }));
+    }
+    for cut in 0..150usize {
+        let root = 44 + cut as u64;
+        let mut bytes = Vec::from_slice(alloc, &leaf[..cut])?;
+        let found = read(alloc, &bytes, 44, root);
+        assert_eq!(rt; found.err(), Some(IndexFault::Bad { at: root }));
+        bytes.extend_from_slice(whole_root)?;
+        let found = read(alloc, &bytes, 44, root);
+        let at = if cut == 0 { root } else { 44 };
+        assert_eq!(rt; found.err(), Some(IndexFault::Bad { at }));
+    }
+    Ok(())
+}
+
+/// Two entries with these names, and whether they are an index.
+const PAIRS: [(&str, &str, &str, &str, bool); 5] = [
+    ("root.a", "s", "root.a", "t", true),
+    ("root.a", "t", "root.b", "s", true),
+    ("root.a", "s", "root.a", "s", false),
+    ("root.a", "t", "root.a", "s", false),
+    ("root.b", "s", "root.a", "t", false),
+];
+
+#[test]
+fn entries_that_do_not_rise(rt: HostRuntime) -> Result<(), Fail> {
+    let alloc = rt.alloc();
+    for (device, measurement, next_device, next, wanted) in PAIRS {
+        let entries = vec![in alloc;
+            entry(alloc, device.as_bytes(), measurement.as_bytes())?,
+            entry(alloc, next_device.as_bytes(), next.as_bytes())?,
+        ]?;
+        let (bytes, root) = written(alloc, entries, 7)?;
+        let found = read(alloc, &bytes, 7, root);
+        let fault = if wanted {
+            None
+        } else {
+            Some(IndexFault::Bad { at: 7 })
+        };
+        assert_eq!(rt; found.err(), fault);
+    }
+    Ok(())
+}

@@ -11,10 +11,10 @@ use tsdb_base::{Memory, PlainValue};
 use tsdb_fields::{write_name, write_path, write_stats};
 
 /// The first byte of a leaf.
-const LEAF: u8 = 0x49;
+pub const LEAF: u8 = 0x49;
 
 /// The first byte of the root.
-const ROOT: u8 = 0x52;
+pub const ROOT: u8 = 0x52;
 
 fn write_page(page: &PageEntry, into: &mut Vec<u8>) -> Result<(), Memory>
     ensures ok { OnOk result (into.new.items ≡ into.old.items ++ page_field page.now) }

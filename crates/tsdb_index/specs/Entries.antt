@@ -1,0 +1,48 @@
+-- The entries that an index may have.
+use Rattle.std.specs.Prelude.{◌≡◌, ◌⊎◌, ℕ, ◌<◌, ◌≤◌, ◌^◌, true, List, [], ◌∷◌, length, map, All}
+use Rattle.std.specs.Cmp.Lexicographic.{slice_cmp}
+use Rattle.std.specs.declared.cmp.Ordering.TheVariants.{Less}
+use Rattle.std.specs.Ordering.{nat_cmp}
+use Rattle.tsdb_base.specs.Values.{is_suitable}
+use Rattle.tsdb_fields.specs.Statistics.{IsStatsOf}
+use Rattle.tsdb_path.specs.Nodes.{IsName, IsPath}
+use Rattle.tsdb_base.specs.declared.value.DataType.{DataType}
+use Rattle.tsdb_index.specs.declared.index.IndexEntry.{IndexEntry}
+use Rattle.tsdb_index.specs.declared.index.PageEntry.{PageEntry}
+use Rattle.tsdb_index.specs.Limits.{max_entries, max_pages}
+
+-- a page of values of this type
+pub record IsPageOf (data_type : DataType) (page : PageEntry) : Type 0 where
+  pub place : page.place < 2 ^ 64
+  pub stats : IsStatsOf data_type page.stats
+
+-- a chunk whose encoding suits its type, and whose statistics are of values of the type
+pub record IsEntry (entry : IndexEntry) : Type 0 where
+  pub device : IsPath entry.device
+  pub measurement : IsName entry.measurement
+  pub suits : is_suitable entry.data_type entry.encoding ≡ true
+  pub place : entry.place < 2 ^ 64
+  pub stats : IsStatsOf entry.data_type entry.stats
+  pub few : length entry.pages.items ≤ max_pages
+  pub pages : All (IsPageOf entry.data_type) entry.pages.items
+
+-- the device and the measurement of an entry
+abbrev pub names_of : IndexEntry → List ℕ × List ℕ
+names_of entry = (entry.device, entry.measurement)
+
+-- the device comes first in the order of bytes, and for one device the measurement does
+abbrev pub IsBefore : List ℕ × List ℕ → List ℕ × List ℕ → Type 0
+IsBefore a b = (slice_cmp nat_cmp a.0 b.0 ≡ Less) ⊎ ((a.0 ≡ b.0) × (slice_cmp nat_cmp a.1 b.1 ≡ Less))
+
+-- each item stands so to the next
+abbrev pub AreInOrder : {A : Type 0} → (A → A → Type 0) → List A → Type 0
+AreInOrder R [] = Unit {0}
+AreInOrder R (x ∷ []) = Unit {0}
+AreInOrder R (x ∷ y ∷ ys) = R x y × AreInOrder R (y ∷ ys)
+
+-- the entries of an index: one at least, in rising order of their names
+pub record IsIndex (entries : List IndexEntry) : Type 0 where
+  pub some : 0 < length entries
+  pub few : length entries ≤ max_entries
+  pub good : All IsEntry entries
+  pub rising : AreInOrder IsBefore (map names_of entries)

@@ -1,0 +1,11 @@
+//! Where a leaf stands, as the root says. Depends on tsdb_path.
+
+use tsdb_path::{Name, Path};
+
+/// Where a leaf stands, and the names of its first entry.
+#[derive(Drop)]
+pub struct Pointer {
+    pub device: Path,
+    pub measurement: Name,
+    pub place: u64,
+}

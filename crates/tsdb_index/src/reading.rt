@@ -1,0 +1,262 @@
+//! Reading an index: the root first, and then the leaf at each of its pointers. Depends on `index`, `pointer`, `order`
+//! and `fault`.
+ghost use Rattle.std.specs.Prelude.{◌≡◌, ℕ, ◌+◌, ◌-◌, ◌<◌, ◌≤◌, ◌^◌, ◌++◌, ◌∷◌, ◌↔◌, All, IsTrue, List, drop, length, map, IfOk, IfErr, MatchOption};
+ghost use Rattle.std.specs.List.{flat_map};
+ghost use Rattle.tsdb_base.specs.Fields.{number16, number32};
+ghost use Rattle.tsdb_base.specs.Plain.{AreValues};
+ghost use Rattle.tsdb_fields.specs.Reading.{ReadsParts};
+ghost use Rattle.tsdb_index.specs.declared.index.IndexEntry.{IndexEntry as Entries};
+ghost use Rattle.tsdb_index.specs.declared.pointer.Pointer.{Pointer as Pointers};
+ghost use Rattle.tsdb_index.specs.Entries.{IsEntry, IsPageOf};
+ghost use Rattle.tsdb_index.specs.Faults.{IsFirstBad, IsRead, ReadsWhole};
+ghost use Rattle.tsdb_index.specs.Parts.{IsLeaf, IsPointer, IsRoot, end_of as leaf_end, pointer_bytes};
+ghost use Rattle.tsdb_index.specs.Spelling.{page_field, entry_field, leaf_field};
+ghost use Rattle.tsdb_index.specs.Steps.{AreSpread, IsCounted, ReadsLeaves};
+
+use crate::fault::IndexFault;
+use crate::index::{Index, IndexEntry, PageEntry};
+use crate::order::{are_leaf, are_root};
+use crate::pointer::Pointer;
+use crate::writing::{LEAF, ROOT};
+use std::alloc::Global;
+use tsdb_base::{DataType, suits};
+use tsdb_fields::{FieldFault, Rest, read_field, read_name, read_path, read_stats};
+
+fn read_page<'a>(
+    alloc: Global,
+    data_type: DataType,
+    rest: Rest<'a>,
+) -> Result<(PageEntry, Rest<'a>), FieldFault>
+    ensures parts { ReadsParts page_field (IsPageOf data_type) rest.entry (λ page. page) result }
+{
+    let (place, behind) = read_field(alloc, rest)?;
+    let (stats, behind) = read_stats(alloc, data_type, behind)?;
+    Ok((PageEntry { place, stats }, behind))
+}
+
+/// Reads so many pages.
+fn read_pages<'a>(
+    alloc: Global,
+    data_type: DataType,
+    count: u32,
+    rest: Rest<'a>,
+) -> Result<(Vec<PageEntry>, Rest<'a>), FieldFault>
+    ensures parts { ReadsParts (flat_map page_field) (AreValues (IsPageOf data_type) count) rest.entry
+        (λ pages. pages.items) result }
+{
+    let mut pages = Vec::new(alloc);
+    let mut left = rest;
+    for _ in 0..count {
+        let (page, behind) = read_page(alloc, data_type, left)?;
+        pages.push(page)?;
+        left = behind;
+    }
+    Ok((pages, left))
+}
+
+fn read_entry<'a>(alloc: Global, rest: Rest<'a>) -> Result<(IndexEntry, Rest<'a>), FieldFault>
+    ensures parts { ReadsParts entry_field IsEntry rest.entry (λ entry. entry) result }
+{
+    let (device, behind) = read_path(alloc, rest)?;
+    let (measurement, behind) = read_name(alloc, behind)?;
+    let ((data_type, (encoding, place)), behind) = read_field(alloc, behind)?;
+    if !suits(data_type, encoding) {
+        return Err(FieldFault::Bad { at: rest.at });
+    }
+    let (stats, behind) = read_stats(alloc, data_type, behind)?;
+    let (count, behind) = read_field(alloc, behind)?;
+    let (pages, behind) = read_pages(alloc, data_type, count, behind)?;
+    let entry = IndexEntry {
+        device,
+        measurement,
+        data_type,
+        encoding,
+        place,
+        stats,
+        pages,
+    };
+    Ok((entry, behind))
+}
+
+/// Reads so many entries.
+fn read_entries<'a>(
+    alloc: Global,
+    count: u16,
+    rest: Rest<'a>,
+) -> Result<(Vec<IndexEntry>, Rest<'a>), FieldFault>
+    ensures parts { ReadsParts (flat_map entry_field) (AreValues IsEntry count) rest.entry
+        (λ entries. entries.items) result }
+{
+    let mut entries = Vec::new(alloc);
+    let mut left = rest;
+    for _ in 0..count {
+        let (entry, behind) = read_entry(alloc, left)?;
+        entries.push(entry)?;
+        left = behind;
+    }
+    Ok((entries, left))
+}
+
+fn read_pointer<'a>(alloc: Global, rest: Rest<'a>) -> Result<(Pointer, Rest<'a>), FieldFault>
+    ensures parts { ReadsParts pointer_bytes IsPointer rest.entry (λ pointer. pointer) result }
+{
+    let (device, behind) = read_path(alloc, rest)?;
+    let (measurement, behind) = read_name(alloc, behind)?;
+    let (place, behind) = read_field(alloc, behind)?;
+    let pointer = Pointer {
+        device,
+        measurement,
+        place,
+    };
+    Ok((pointer, behind))
+}
+
+/// Reads so many pointers.
+fn read_pointers<'a>(
+    alloc: Global,
+    count: u32,
+    rest: Rest<'a>,
+) -> Result<(Vec<Pointer>, Rest<'a>), FieldFault>
+    ensures parts { ReadsParts (flat_map pointer_bytes) (AreValues IsPointer count) rest.entry
+        (λ pointers. pointers.items) result }
+{
+    let mut pointers = Vec::new(alloc);
+    let mut left = rest;
+    for _ in 0..count {
+        let (pointer, behind) = read_pointer(alloc, left)?;
+        pointers.push(pointer)?;
+        left = behind;
+    }
+    Ok((pointers, left))
+}
+
+/// What stands behind the mark of a part, if the bytes begin with the mark. Places inside a part are not asked for, so
+/// they are counted from 0.
+fn fields_behind(mark: u8, bytes: &[u8]) -> Option<Rest<'_>>
+    ensures { MatchOption result ((fields : List ℕ) → bytes.now ≡ mark ∷ fields → ⊥) (λ rest. bytes.now ≡ mark ∷ rest.bytes.now) }
+{
+    let [first, fields @ ..] = bytes else {
+        return None;
+    };
+    if *first == mark {
+        Some(Rest {
+            at: 0,
+            bytes: fields,
+        })
+    } else {
+        None
+    }
+}
+
+/// The entries of the leaf that all of these bytes are, of any number. A fault has no place of its own.
+fn entries_in(alloc: Global, bytes: &[u8]) -> Result<Vec<IndexEntry>, FieldFault>
+    ensures { ReadsWhole (IsCounted 73 number16 (2 ^ 16) entry_field IsEntry bytes.now) (λ entries. entries.items) result }
+{
+    let bad = FieldFault::Bad { at: 0 };
+    let Some(rest) = fields_behind(LEAF, bytes) else {
+        return Err(bad);
+    };
+    let (count, rest) = read_field::<u16>(alloc, rest)?;
+    let (entries, rest) = read_entries(alloc, count, rest)?;
+    if !rest.bytes.is_empty() {
+        return Err(bad);
+    }
+    Ok(entries)
+}
+
+/// The pointers of the root that all of these bytes are, of any number and order. A fault has no place of its own.
+fn pointers_in(alloc: Global, bytes: &[u8]) -> Result<Vec<Pointer>, FieldFault>
+    ensures { ReadsWhole (IsCounted 82 number32 (2 ^ 32) pointer_bytes IsPointer bytes.now) (λ pointers. pointers.items) result }
+{
+    let bad = FieldFault::Bad { at: 0 };
+    let Some(rest) = fields_behind(ROOT, bytes) else {
+        return Err(bad);
+    };
+    let (count, rest) = read_field::<u32>(alloc, rest)?;
+    let (pointers, rest) = read_pointers(alloc, count, rest)?;
+    if !rest.bytes.is_empty() {
+        return Err(bad);
+    }
+    Ok(pointers)
+}
+
+/// The pointers of the root that all of these bytes are, where the first leaf stands at `place` and the leaves end at
+/// `root`.
+fn read_root(alloc: Global, bytes: &[u8], place: u64, root: u64) -> Result<Vec<Pointer>, FieldFault>
+    ensures { ReadsWhole (IsRoot place root bytes.now) (λ pointers. pointers.items) result }
+{
+    let pointers = pointers_in(alloc, bytes)?;
+    if !are_root(&pointers, place, root) {
+        return Err(FieldFault::Bad { at: 0 });
+    }
+    Ok(pointers)
+}
+
+/// The entries of the leaf that all of these bytes are, as the pointer at it and the pointers behind it say.
+fn read_leaf(
+    alloc: Global,
+    bytes: &[u8],
+    pointer: &Pointer,
+    behind: &[Pointer],
+) -> Result<Vec<IndexEntry>, FieldFault>
+    ensures { ReadsWhole (IsLeaf pointer.now behind.now bytes.now) (λ entries. entries.items) result }
+{
+    let entries = entries_in(alloc, bytes)?;
+    if !are_leaf(&entries, pointer, behind) {
+        return Err(FieldFault::Bad { at: 0 });
+    }
+    Ok(entries)
+}
+
+/// Where a leaf ends: at the next leaf, or at the root.
+fn end_of(behind: &[Pointer], root: u64) -> u64
+    ensures { result ≡ leaf_end root behind.now }
+{
+    match behind {
+        [] => root,
+        [next, ..] => next.place,
+    }
+}
+
+/// The entries of the leaves that all of these bytes are, which end at `root`.
+fn read_leaves(
+    alloc: Global,
+    bytes: &[u8],
+    pointers: &[Pointer],
+    root: u64,
+) -> Result<Vec<IndexEntry>, IndexFault>
+    requires { AreSpread root pointers.now (length bytes.now) }
+    ensures { ReadsLeaves root pointers.now bytes.now (λ entries. entries.items) result }
+{
+    let mut entries = Vec::new(alloc);
+    let mut rest = pointers;
+    let mut left = bytes;
+    'leaves: while let [pointer, behind @ ..] = rest {
+        let end = end_of(behind, root);
+        let (leaf, others) = left.split_at((end - pointer.place) as usize);
+        match read_leaf(alloc, leaf, pointer, behind) {
+            Ok(mut more) => entries.append(&mut more)?,
+            Err(fault) => return Err(IndexFault::of_part(fault, pointer.place)),
+        }
+        rest = behind;
+        left = others;
+    }
+    Ok(entries)
+}
+
+/// Reads the index that is all of these bytes, of which the first stands at `place` and the first of the root at `root`.
+pub fn read_index(alloc: Global, bytes: &[u8], place: u64, root: u64) -> Result<Index, IndexFault>
+    requires room { place + length bytes.now < 2 ^ 64 }
+    requires from { place ≤ root }
+    requires to { root ≤ place + length bytes.now }
+    ensures found { IfOk result (λ index. IsRead place root bytes.now index.entries.items) }
+    ensures bad { IfErr result (IsFirstBad place root bytes.now) }
+{
+    let (leaves, root_bytes) = bytes.split_at((root - place) as usize);
+    let pointers = match read_root(alloc, root_bytes, place, root) {
+        Ok(pointers) => pointers,
+        Err(fault) => return Err(IndexFault::of_part(fault, root)),
+    };
+    let entries = read_leaves(alloc, leaves, &pointers, root)?;
+    Ok(Index { entries })
+}
