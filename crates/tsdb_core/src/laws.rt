@@ -1,0 +1,39 @@
+//! Laws of the engine state. The functions do nothing; their contracts are the laws.
+ghost use Rattle.std.specs.Prelude.{◌≢◌, ◌⊎◌, ◌↔◌, Contains, ◌≡◌, ℤ, ℕ, List, AllPairs};
+ghost use Rattle.tsdb_base.specs.declared.value.Value.{Value};
+ghost use Rattle.tsdb_core.specs.Order.{IsBefore, IsInOrder};
+ghost use Rattle.tsdb_core.specs.Parts.{file_part, path_of};
+ghost use Rattle.tsdb_core.specs.Laws.{NamesPath};
+ghost use Rattle.tsdb_core.specs.State.{EngineState, MemoryState};
+ghost use Rattle.tsdb_core.specs.Steps.{Inserts, with_memory};
+ghost use Rattle.tsdb_log.specs.declared.record.CellRecord.{CellRecord};
+ghost use Rattle.tsdb_core.specs.Worlds.{IsValueAt};
+
+/// A state in order has at most one value at a time of a series.
+pub fn one_value_at_a_time()
+    ensures { (state : EngineState) (path : List ℕ) (time : ℤ) (value other : Value)
+        → IsInOrder state → IsValueAt state path time value → IsValueAt state path time other → value ≡ other }
+{}
+
+/// Sequence files of a device do not overlap: each time that it has in a file is less than each in a later one.
+pub fn sequence_files_do_not_overlap()
+    ensures { (state : EngineState)
+        → IsInOrder state → AllPairs (λ file later. IsBefore (file_part file) (file_part later)) state.sequence }
+{}
+
+/// Of two points of a series at one time the one written last wins: once a row is in, each of its values is what the
+/// state has at the row's time, whatever was written, flushed, deleted or compacted before.
+pub fn last_write_wins()
+    ensures { (state : EngineState) (time : ℤ) (cells : List CellRecord) (new : MemoryState) (cell : CellRecord)
+        → IsInOrder state → Inserts time cells state.memory new → Contains cells cell
+        → IsValueAt (with_memory state new) (path_of state.memory.schemas cell.series.0) time cell.value }
+{}
+
+/// A row leaves every other series, and every other time, as it was.
+pub fn other_values_stay()
+    ensures { (state : EngineState) (time : ℤ) (cells : List CellRecord) (new : MemoryState) (path : List ℕ)
+        (other : ℤ) (value : Value)
+        → IsInOrder state → Inserts time cells state.memory new
+        → (other ≢ time) ⊎ (¬ NamesPath state.memory.schemas cells path)
+        → IsValueAt (with_memory state new) path other value ↔ IsValueAt state path other value }
+{}

@@ -1,0 +1,13 @@
+//! The core of the engine: the state that everything above it rests on. Depends on `tsdb_base`, `tsdb_path`,
+//! `tsdb_map`, `tsdb_log`, `tsdb_marks` and `tsdb_memtable`.
+//!
+//! The definitions stand in `specs/`: `State` is the engine state, `Parts` its parts in the order of their priority,
+//! `Worlds` the value at a time and the world that a state stands for, `Order` when a state is in order, `Steps` what
+//! each record of the log does to what is in memory, and `Replay` what the records of a log give.
+#![tactic(auto)]
+
+mod laws;
+
+pub use laws::{
+    last_write_wins, one_value_at_a_time, other_values_stay, sequence_files_do_not_overlap,
+};
