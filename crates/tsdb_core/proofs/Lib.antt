@@ -1,8 +1,12 @@
 pub mod Agree
+pub mod Freeze
+pub mod InsertOrder
 pub mod InsertValues
 pub mod InsertWins
+pub mod Jobs
 pub mod ListFacts
 pub mod Maps
 pub mod Puts
 pub mod Rows
+pub mod Tables
 pub mod Winners

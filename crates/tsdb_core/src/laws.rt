@@ -1,13 +1,15 @@
 //! Laws of the engine state. The functions do nothing; their contracts are the laws.
-ghost use Rattle.std.specs.Prelude.{◌≢◌, ◌⊎◌, ◌↔◌, Contains, ◌≡◌, ℤ, ℕ, List, AllPairs};
+ghost use Rattle.std.specs.Prelude.{◌≢◌, ◌⊎◌, ◌≤◌, ◌↔◌, Contains, ◌≡◌, ℤ, ℕ, List, AllPairs};
 ghost use Rattle.tsdb_base.specs.declared.value.Value.{Value};
-ghost use Rattle.tsdb_core.specs.Order.{IsBefore, IsInOrder};
+ghost use Rattle.tsdb_core.specs.Limits.{max_pair_bytes};
+ghost use Rattle.tsdb_core.specs.Order.{IsBefore, IsEmptyPair, IsInOrder, byte_count};
 ghost use Rattle.tsdb_core.specs.Parts.{file_part, path_of};
 ghost use Rattle.tsdb_core.specs.Laws.{NamesPath};
 ghost use Rattle.tsdb_core.specs.State.{EngineState, MemoryState};
-ghost use Rattle.tsdb_core.specs.Steps.{Inserts, with_memory};
+ghost use Rattle.tsdb_core.specs.Steps.{Freezes, Inserts, with_memory};
+ghost use Rattle.tsdb_map.specs.World.{World};
 ghost use Rattle.tsdb_log.specs.declared.record.CellRecord.{CellRecord};
-ghost use Rattle.tsdb_core.specs.Worlds.{IsValueAt};
+ghost use Rattle.tsdb_core.specs.Worlds.{IsValueAt, StandsFor};
 
 /// A state in order has at most one value at a time of a series.
 pub fn one_value_at_a_time()
@@ -36,4 +38,24 @@ pub fn other_values_stay()
         → IsInOrder state → Inserts time cells state.memory new
         → (other ≢ time) ⊎ (¬ NamesPath state.memory.schemas cells path)
         → IsValueAt (with_memory state new) path other value ↔ IsValueAt state path other value }
+{}
+
+/// A row keeps a state in order, where the working pair was empty or stays within its bytes.
+pub fn insert_keeps_order()
+    ensures { (state : EngineState) (time : ℤ) (cells : List CellRecord) (new : MemoryState)
+        → IsInOrder state → Inserts time cells state.memory new
+        → IsEmptyPair state.memory.working ⊎ (byte_count new.working ≤ max_pair_bytes)
+        → IsInOrder (with_memory state new) }
+{}
+
+/// A freeze keeps a state in order.
+pub fn freeze_keeps_order()
+    ensures { (state : EngineState) (new : MemoryState)
+        → IsInOrder state → Freezes state.memory new → IsInOrder (with_memory state new) }
+{}
+
+/// A freeze leaves the world that a state stands for.
+pub fn freeze_keeps_the_world()
+    ensures { (state : EngineState) (new : MemoryState) (world : World)
+        → IsInOrder state → Freezes state.memory new → StandsFor state world → StandsFor (with_memory state new) world }
 {}
