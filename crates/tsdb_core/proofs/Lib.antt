@@ -3,6 +3,7 @@ pub mod Freeze
 pub mod InsertOrder
 pub mod InsertValues
 pub mod InsertWins
+pub mod InsertWorld
 pub mod Jobs
 pub mod ListFacts
 pub mod Maps

@@ -1,13 +1,19 @@
 //! Laws of the engine state. The functions do nothing; their contracts are the laws.
 ghost use Rattle.std.specs.Prelude.{◌≢◌, ◌⊎◌, ◌≤◌, ◌↔◌, Contains, ◌≡◌, ℤ, ℕ, List, AllPairs};
+ghost use Rattle.tsdb_base.specs.declared.answers.Answer.{Answer};
 ghost use Rattle.tsdb_base.specs.declared.value.Value.{Value};
 ghost use Rattle.tsdb_core.specs.Limits.{max_pair_bytes};
 ghost use Rattle.tsdb_core.specs.Order.{IsBefore, IsEmptyPair, IsInOrder, byte_count};
 ghost use Rattle.tsdb_core.specs.Parts.{file_part, path_of};
-ghost use Rattle.tsdb_core.specs.Laws.{NamesPath};
+ghost use Rattle.tsdb_core.specs.Laws.{AreCells, NamesPath};
 ghost use Rattle.tsdb_core.specs.State.{EngineState, MemoryState};
 ghost use Rattle.tsdb_core.specs.Steps.{Freezes, Inserts, with_memory};
+ghost use Rattle.tsdb_map.specs.Apply.{reply_of, world_after};
+ghost use Rattle.tsdb_map.specs.Commands.{IsRow};
 ghost use Rattle.tsdb_map.specs.World.{World};
+ghost use Rattle.tsdb_map.specs.declared.command.Command.{Command};
+ghost use Rattle.tsdb_map.specs.declared.command.Row.{Row};
+ghost use Rattle.tsdb_map.specs.declared.reply.Reply.{Reply};
 ghost use Rattle.tsdb_log.specs.declared.record.CellRecord.{CellRecord};
 ghost use Rattle.tsdb_core.specs.Worlds.{IsValueAt, StandsFor};
 
@@ -58,4 +64,15 @@ pub fn freeze_keeps_order()
 pub fn freeze_keeps_the_world()
     ensures { (state : EngineState) (new : MemoryState) (world : World)
         → IsInOrder state → Freezes state.memory new → StandsFor state world → StandsFor (with_memory state new) world }
+{}
+
+/// After a row that the plain map accepts, a state that stood for a world stands for the map's world after it.
+pub fn insert_follows_the_map()
+    ensures { (state : EngineState) (world : World) (device : List ℕ) (row : Row) (cells : List CellRecord)
+        (new : MemoryState)
+        → IsInOrder state → StandsFor state world → IsRow row
+        → reply_of world (Command.Insert device row) ≡ Reply.Plain Answer.Done
+        → AreCells state.memory.schemas device row.cells cells → Inserts row.time cells state.memory new
+        → IsEmptyPair state.memory.working ⊎ (byte_count new.working ≤ max_pair_bytes)
+        → StandsFor (with_memory state new) (world_after world (Command.Insert device row)) }
 {}

@@ -9,6 +9,6 @@
 mod laws;
 
 pub use laws::{
-    freeze_keeps_order, freeze_keeps_the_world, insert_keeps_order, last_write_wins,
-    one_value_at_a_time, other_values_stay, sequence_files_do_not_overlap,
+    freeze_keeps_order, freeze_keeps_the_world, insert_follows_the_map, insert_keeps_order,
+    last_write_wins, one_value_at_a_time, other_values_stay, sequence_files_do_not_overlap,
 };
