@@ -1,0 +1,12 @@
+pub mod RecordLemmas
+pub mod ReplayLemmas
+pub mod StoreLemmas
+pub mod NumberLemmas
+pub mod CellLemmas
+pub mod NameLemmas
+pub mod RowLemmas
+pub mod OpenLemmas
+pub mod ReplyLemmas
+pub mod CoreLemmas
+pub mod SoundLemmas
+pub mod TestLemmas

@@ -1,0 +1,114 @@
+-- Names that differ, found by a set of those before.
+use Rattle.std.proofs.Common.{◌≡◌, ℕ, zero, suc, ◌+◌, ◌<◌, ◌≤◌, Bool, true, false, List, [], ◌∷◌, length, get_or, take, Some, cond, true≢false, inl, inr, refl, sym, ap, ◌∙◌, arith}
+use Rattle.std.specs.Prelude.{nat_eq, slice_get, not, ◌||◌}
+use Rattle.std.specs.List.{IsDistinct, list_any}
+use Rattle.std.specs.Cmp.{IsEquivalence}
+use Rattle.std.specs.Cmp.Lexicographic.{bytes_decides, nat_list_eq_equiv, pointwise}
+use Rattle.std.proofs.lemmas.Bool.{cases_lt}
+use Rattle.std.proofs.lemmas.Option.{slice_get_within, get_or_from_slice_get}
+use Rattle.std.proofs.lemmas.Map.Keys.{apart_from_distinct, IsDistinct-push}
+use Rattle.std.proofs.lemmas.List.Folds.{list_any_more}
+use Rattle.tsdb_map.specs.Commands.{AreDifferent}
+use Rattle.tsdb_map.specs.declared.command.Cell.{Cell}
+use Rattle.tsdb_plain.specs.Replaying.{names_of}
+use Rattle.std.proofs.lemmas.List.{take_more}
+
+-- two names are equal
+abbrev pub same : List ℕ → List ℕ → Bool
+same = pointwise nat_eq
+
+pub laws : IsEquivalence same
+laws = nat_list_eq_equiv
+
+pub apart : (names : List (List ℕ)) (i j : ℕ) (name : List ℕ) → IsDistinct same names → i < j → slice_get names i ≡ Some name → slice_get names j ≡ Some name → ⊥
+apart names i j name distinct lt ei ej =
+    let differ = apart_from_distinct same names i j name distinct lt (slice_get_within names j name ej) in
+    let both = rw (get_or_from_slice_get names i name name ei, get_or_from_slice_get names j name name ej) at differ in
+    true≢false (sym (laws.refl name) ∙ both)
+
+-- names no two of which are equal
+pub different : (names : List (List ℕ)) → IsDistinct same names → AreDifferent names
+different names distinct = λ i j name ei ej.
+    elim (cases_lt i j) [
+      | inl lt ↦ absurd (apart names i j name distinct lt ei ej)
+      | inr ge ↦ elim (cases_lt j i) [
+        | inl lt ↦ absurd (apart names j i name distinct lt ej ei)
+        | inr le ↦ omega arith
+      ]
+    ]
+
+-- one name more, which is equal to none before it
+pub distinct_next : (names : List (List ℕ)) (i : ℕ) (x : List ℕ) → i < length names → x ≡ get_or names i x → IsDistinct same (take i names) → list_any (same x) (take i names) ≡ false → IsDistinct same (take (i + 1) names)
+distinct_next names i x lt e distinct none = rw (take_more names i x lt, ← e) (IsDistinct-push laws (take i names) x distinct none)
+
+found_at : (p : List ℕ → Bool) (xs : List (List ℕ)) → list_any p xs ≡ true → (k : ℕ) × (y : List ℕ) × (slice_get xs k ≡ Some y) × (p y ≡ true)
+found_at p [] e = absurd (true≢false (sym e))
+found_at p (x ∷ xs) e =
+    elim (p x) as (λ t. p x ≡ t → (t || list_any p xs) ≡ true → (k : ℕ) × (y : List ℕ) × (slice_get (x ∷ xs) k ≡ Some y) × (p y ≡ true)) [
+      | true ↦ λ is f. (0, x, refl, is)
+      | false ↦ λ is f. let more = found_at p xs f in (suc more.0, more.1, more.2, more.3)
+    ] refl e
+
+before : (xs : List (List ℕ)) (i k : ℕ) (y : List ℕ) → slice_get (take i xs) k ≡ Some y → (slice_get xs k ≡ Some y) × (k < i)
+before [] zero k y e = absurd cc
+before [] (suc i) k y e = absurd cc
+before (x ∷ xs) zero k y e = absurd cc
+before (x ∷ xs) (suc i) zero y e = (e, omega arith)
+before (x ∷ xs) (suc i) (suc k) y e = let more = before xs i k y e in let lt : suc k < suc i = omega (arith, more.1) in (more.0, lt)
+
+-- a name that is equal to one before it
+pub repeated : (names : List (List ℕ)) (i : ℕ) (x : List ℕ) → slice_get names i ≡ Some x → list_any (same x) (take i names) ≡ true → AreDifferent names → ⊥
+repeated names i x stands e all =
+    let found = found_at (same x) (take i names) e in
+    let there = before names i found.0 found.1 found.2 in
+    let name : x ≡ found.1 = (bytes_decides x found.1).0 found.3 in
+    let place : found.0 ≡ i = all found.0 i x (there.0 ∙ ap Some (sym name)) stands in
+    omega (arith, there.1, place)
+
+-- the name at a place
+pub stands_at : (names : List (List ℕ)) (i : ℕ) (x : List ℕ) → i < length names → x ≡ get_or names i x → slice_get names i ≡ Some x
+stands_at [] i x lt e = absurd (omega arith)
+stands_at (y ∷ names) zero x lt e = ap Some (sym e)
+stands_at (y ∷ names) (suc i) x lt e = let less : i < length names = omega arith in stands_at names i x less e
+
+either : (a b : Bool) → cond b true a ≡ (a || b)
+either true true = refl
+either true false = refl
+either false true = refl
+either false false = refl
+
+-- the names before one more
+pub seen_next : (names : List (List ℕ)) (i : ℕ) (x q : List ℕ) (old new : Bool) → i < length names → x ≡ get_or names i x → new ≡ cond (same x q) true old
+    → old ≡ list_any (same q) (take i names) → new ≡ list_any (same q) (take (i + 1) names)
+seen_next names i x q old new lt e grown seen =
+    rw (list_any_more (same q) names i x lt, ← e, grown, seen, laws.symm x q) (either (list_any (same q) (take i names)) (same q x))
+
+pub none_distinct : IsDistinct same []
+unfolding IsDistinct
+none_distinct = tt
+
+-- a name that is new was not seen before
+pub not_seen : (added seen : Bool) → added ≡ not seen → added ≡ true → seen ≡ false
+not_seen added true e f = absurd (true≢false (sym f ∙ e))
+not_seen added false e f = refl
+
+-- a name that is not new was seen before
+pub was_seen : (added seen : Bool) → added ≡ not seen → added ≡ false → seen ≡ true
+was_seen added true e f = refl
+was_seen added false e f = absurd (true≢false (sym e ∙ f))
+
+names_length : (cells : List Cell) → length (names_of cells) ≡ length cells
+names_length [] = refl
+names_length (c ∷ cells) = let rest = names_length cells in omega (arith, rest)
+
+-- the names of cells stand where the cells do
+pub name_within : (cells : List Cell) (i : ℕ) → i < length cells → i < length (names_of cells)
+name_within cells i lt = omega (arith, names_length cells)
+
+pub name_count : (cells : List Cell) (i : ℕ) → length cells ≤ i → length (names_of cells) ≤ i
+name_count cells i le = omega (arith, names_length cells)
+
+pub name_at : (cells : List Cell) (i : ℕ) (cell : Cell) → i < length cells → cell ≡ get_or cells i cell → cell.measurement ≡ get_or (names_of cells) i cell.measurement
+name_at [] i cell lt e = absurd (omega arith)
+name_at (c ∷ cells) zero cell lt e = ap (λ (cell : Cell). cell.measurement) e
+name_at (c ∷ cells) (suc i) cell lt e = let less : i < length cells = omega arith in name_at cells i cell less e

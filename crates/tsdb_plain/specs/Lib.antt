@@ -1,0 +1,9 @@
+pub mod Store
+pub mod Images
+pub mod Core
+pub mod Replies
+pub mod Causes
+pub mod Model
+pub mod Steps
+pub mod Replaying
+pub mod Applying
