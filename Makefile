@@ -1,14 +1,17 @@
-# make demo   runs the example script, by a program that is built without proofs
+# make demo   runs two example scripts on one store, by a program that is built without proofs
 # make build  proves the program and leaves it at bin/tsdb
 # make bench  proves the programs and prints what they take; GROUP=name measures one group
+# make check-disk   kills the program in the middle of its writes, and looks at what the next run finds
 # make test   proves every crate and runs every test and program
-.PHONY: demo build bench test
+.PHONY: demo build bench check-disk test
 
 demo:
-	@echo 'Building the program without proofs, and running examples/plant.tsdb ...' >&2
+	@echo 'Building the program without proofs, and running examples/plant.tsdb and then examples/later.tsdb ...' >&2
 	@folder=$$(mktemp -d) && trap 'rm -rf "$$folder"' EXIT && cd crates/tsdb_cli && \
-	if rt try -- run "$$folder/store" < ../../examples/plant.tsdb 2> "$$folder/notes"; \
-	then :; else status=$$?; cat "$$folder/notes" >&2; exit $$status; fi
+	for script in plant later; do \
+	    if rt try -- run "$$folder/store" < "../../examples/$$script.tsdb" 2> "$$folder/notes"; \
+	    then :; else status=$$?; cat "$$folder/notes" >&2; exit $$status; fi; \
+	done
 
 build:
 	@mkdir -p bin
@@ -18,8 +21,12 @@ build:
 bench: build
 	@echo 'Proving and building the program tsdb_bench ...' >&2
 	@cd crates/tsdb_bench && rt run -- quick >&2
-	@[ "$(GROUP)" = scripts ] || crates/tsdb_bench/out/tsdb_bench $(GROUP)
+	@[ "$(GROUP)" = scripts ] || [ "$(GROUP)" = durable ] || crates/tsdb_bench/out/tsdb_bench $(GROUP)
 	@[ -n "$(GROUP)" ] && [ "$(GROUP)" != scripts ] || bench/scripts.py bin/tsdb
+	@[ -n "$(GROUP)" ] && [ "$(GROUP)" != durable ] || bench/durable.py bin/tsdb
+
+check-disk: build
+	@checks/kill bin/tsdb
 
 test:
 	@rt ci

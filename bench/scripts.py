@@ -3,17 +3,19 @@
 
     bench/scripts.py PROGRAM
 
-Needs Python 3's standard library alone. Each script is made anew in a temporary folder. The program prints to
-/dev/null. A row has what the script does, millions of steps a second in the best of three runs, that run's seconds,
+Needs Python 3's standard library alone. Each script is made anew in a temporary folder, on a tmpfs where there is one,
+so that the disk is not what is measured; each run has a new store. The program prints to /dev/null. A row has what the script does, millions of steps a second in the best of three runs, that run's seconds,
 the script's size, the greatest memory of the program, and that memory for each line of the script.
 """
 
 import os
+import shutil
 import sys
 import tempfile
 import time
 
 RUNS = 3
+TMPFS = "/dev/shm"
 DEVICE = "root.g.d"
 LETTERS = "abcdefghijklmnopqrstuvwxyzABCDEFGHIJKLMNOPQRSTUVWXYZ"
 
@@ -121,7 +123,7 @@ def run(program, store, script):
 def main():
     program = os.path.abspath(sys.argv[1])
     print(f"{'what':<50} {'step':<10} {'million/s':>10} {'seconds':>8} {'script MB':>10} {'memory MB':>10} {'bytes/line':>11}")
-    with tempfile.TemporaryDirectory() as folder:
+    with tempfile.TemporaryDirectory(dir=TMPFS if os.path.isdir(TMPFS) else None) as folder:
         for what, lines, count, unit in TABLE:
             script = os.path.join(folder, "script")
             line_count = 0
@@ -130,7 +132,9 @@ def main():
                     out.write(line)
                     line_count += 1
             size = os.path.getsize(script)
-            runs = [run(program, os.path.join(folder, "store"), script) for _ in range(RUNS)]
+            runs = [run(program, os.path.join(folder, f"store{number}"), script) for number in range(RUNS)]
+            for number in range(RUNS):
+                shutil.rmtree(os.path.join(folder, f"store{number}"), ignore_errors=True)
             seconds = min(seconds for seconds, _ in runs)
             memory = max(memory for _, memory in runs)
             print(

@@ -1,11 +1,12 @@
-//! The program `tsdb`: it hands the words of the command line, standard input and standard output to the top call,
-//! says on standard error how the run ended, and ends with its exit code. Depends on tsdb_run and fs_outside.
+//! The program `tsdb`: it hands the words of the command line, standard input, standard output and the file system to
+//! the top call, says on standard error how the run ended, and ends with its exit code. Depends on tsdb_run and
+//! fs_outside.
 #![tactic(auto)]
 
 ghost use Rattle.std.specs.Prelude.{◌≡◌};
 ghost use Rattle.tsdb_run.specs.Status.{status_code};
 
-use fs_outside::{StdSink, StdSource};
+use fs_outside::{FsPlace, StdSink, StdSource};
 use std::alloc::Global;
 use std::io::Write;
 use std::process::ExitCode;
@@ -31,12 +32,16 @@ fn words<R: Env + Alloc<A = Global>>(rt: &R) -> Result<Vec<Word>, Status> {
 }
 
 /// The whole run.
-fn start<R: Env + Input + Print + Alloc<A = Global>>(rt: &R) -> Status {
+fn start(rt: &HostRuntime) -> Status {
     match words(rt) {
         Ok(words) => {
             let mut script = StdSource::new(rt.reader());
             let mut out = StdSink::new(io::writer(rt));
-            run(rt.alloc(), &words, &mut script, &mut out).status
+            let Ok(files) = rt.clone() else {
+                return Status::Memory;
+            };
+            let mut place = FsPlace::new(files);
+            run(rt.alloc(), &words, &mut script, &mut out, &mut place).status
         }
         Err(status) => status,
     }

@@ -3,6 +3,8 @@ pub mod InputLemmas
 pub mod HistoryLemmas
 pub mod LegalLemmas
 pub mod SoFarLemmas
+pub mod ServeLemmas
+pub mod StoreLemmas
 pub mod PutLemmas
 pub mod TextLemmas
 pub mod PrefixLemmas

@@ -1,18 +1,21 @@
 -- What is said of the bytes that were taken is said of all that was left: a script that is too long is bad already in them.
-use Rattle.std.proofs.Common.{◌≡◌, ◌≢◌, ◌⊎◌, inl, inr, ℕ, ◌<◌, ◌≤◌, List, [], ◌++◌, append-nil, length, Option, None, Some, refl, sym, ap, ◌∙◌, subst}
+use Rattle.std.proofs.Common.{◌≡◌, ◌≢◌, ◌⊎◌, inl, inr, ℕ, ◌<◌, ◌≤◌, List, [], ◌++◌, append-nil, length, length-append, arith, Option, None, Some, refl, sym, ap, ◌∙◌, subst}
 use Rattle.std.specs.Prelude.{IfSome}
 use Rattle.std.specs.Io.KnownBytes.{Appends, Consumes, IsAtEnd}
 use Rattle.std.proofs.lemmas.Bool.{cases_lt}
+use Rattle.tsdb_map.specs.State as plain
 use Rattle.tsdb_outside.specs.Causes.{Rose}
+use Rattle.tsdb_outside.specs.Disk.{State}
+use Rattle.tsdb_plain.specs.Images.{IsSound}
 use Rattle.tsdb_script.specs.Limits.{max_script_bytes}
 use Rattle.tsdb_script.specs.Reading.{IsFirstBad, IsScript}
 use Rattle.tsdb_script.specs.declared.numbered.Numbered.{Numbered}
 use Rattle.tsdb_script.proofs.ReadingLemmas.{cut_bad, not_both, same_first_bad, within_limits}
-use Rattle.tsdb_run.specs.Headline.{Headline, IsDoneOrMemory, IsExecuted, ReportsBad}
+use Rattle.tsdb_run.specs.Headline.{Headline, IsDoneOrMemory, IsExecuted, IsGoodScript, IsRefusedStore, ReportsBad}
 use Rattle.tsdb_run.specs.Input.{TakesScript}
 use Rattle.tsdb_run.specs.Output.{AppendsPrefix}
 use Rattle.tsdb_run.specs.declared.status.Status.{Status}
-use Rattle.tsdb_run.specs.declared.status.Status.TheVariants.{Done, Memory, Words, Script, Source, Sink}
+use Rattle.tsdb_run.specs.declared.status.Status.TheVariants.{Done, Memory, Words, Script, Source, Sink, Device, Damaged}
 use Rattle.tsdb_run.specs.declared.status.Told.{Told}
 
 -- what is said of the bytes that were taken is said of all that was left
@@ -27,8 +30,8 @@ module _ (left new : Option (List ℕ)) (bytes : List ℕ) (taken : TakesScript 
     same (Some all) None consumes end = absurd consumes
     same (Some all) (Some rest) consumes end = subst (λ l. IsScript l script) (sym (consumes ∙ ap (λ r. bytes ++ r) end ∙ append-nil bytes)) is
 
-  IsExecuted-left : (history : List Told) (puts : List ℕ → Type 0) → IsExecuted (Some bytes) history puts → IsExecuted left history puts
-  IsExecuted-left history puts done = record {
+  IsExecuted-left : (before after : State) (rose : Type 0) (history : List Told) (puts : List ℕ → Type 0) → IsExecuted (Some bytes) before after rose history puts → IsExecuted left before after rose history puts
+  IsExecuted-left before after rose history puts done = record {
     script = done.script;
     entries = done.entries;
     start = done.start;
@@ -36,10 +39,13 @@ module _ (left new : Option (List ℕ)) (bytes : List ℕ) (taken : TakesScript 
     read = read-script done.script done.read;
     complete = done.complete;
     answers = done.answers;
-    new = done.new;
+    opened = done.opened;
     legal = done.legal;
-    storeless = done.storeless;
+    without_files = done.without_files;
     in_line_order = done.in_line_order;
+    moments = done.moments;
+    holds = done.holds;
+    sound = done.sound;
     printed = done.printed;
   }
 
@@ -53,47 +59,79 @@ module _ (left new : Option (List ℕ)) (bytes : List ℕ) (taken : TakesScript 
       longer_or_same rest whole (inl long) = (cut_bad bytes rest line kind long).0 is
       longer_or_same rest whole (inr fits) = subst (λ l. IsFirstBad l line kind) (sym (ap (λ r. bytes ++ r) (whole fits) ∙ append-nil bytes)) is
 
-  pub Headline-left : (status : Status) (history : List Told) (held now : Option (List ℕ)) → Headline status (Some bytes) history held now → Headline status left history held now
-  Headline-left Done history held now h = IsExecuted-left history (Appends held now) h
-  Headline-left Sink history held now h = IsExecuted-left history (AppendsPrefix held now) h
-  Headline-left Memory history held now h = elim h [ inl s ↦ inl (IsExecuted-left history (AppendsPrefix held now) s) | inr u ↦ inr u ]
-  Headline-left Words history held now h = h
-  Headline-left (Script line kind) history held now h = (bad-line line kind h.0, h.1)
-  Headline-left Source history held now h = h
+  pub Headline-left : (status : Status) (before after : State) (rose : Type 0) (history : List Told) (held now : Option (List ℕ))
+      → Headline status (Some bytes) before after rose history held now → Headline status left before after rose history held now
+  Headline-left Done before after rose history held now h = IsExecuted-left before after rose history (Appends held now) h
+  Headline-left Sink before after rose history held now h = IsExecuted-left before after rose history (AppendsPrefix held now) h
+  Headline-left Memory before after rose history held now h =
+      elim h [ inl s ↦ inl (IsExecuted-left before after rose history (AppendsPrefix held now) s) | inr u ↦ inr u ]
+  Headline-left Words before after rose history held now h = h
+  Headline-left (Script line kind) before after rose history held now h = (bad-line line kind h.0, h.1)
+  Headline-left Source before after rose history held now h = h
+  Headline-left Device before after rose history held now h = h
+  Headline-left (Damaged part at) before after rose history held now h = h
 
-  pub whole-done : (status : Status) (history : List Told) (held now : Option (List ℕ)) → Headline status (Some bytes) history held now → status ≡ Done → IsAtEnd new
-  whole-done status history held now h is = (let done = subst (λ s. Headline s (Some bytes) history held now) is h in whole-script done.script done.read)
+  pub whole-done : (status : Status) (before after : State) (rose : Type 0) (history : List Told) (held now : Option (List ℕ))
+      → Headline status (Some bytes) before after rose history held now → status ≡ Done → IsAtEnd new
+  whole-done status before after rose history held now h is =
+      (let done = subst (λ s. Headline s (Some bytes) before after rose history held now) is h in whole-script done.script done.read)
+
+  -- a good script is what is left
+  pub good-left : IsGoodScript bytes → IfSome left IsGoodScript
+  good-left good = at left (read-script good.0 good.1) where
+    at : (left : Option (List ℕ)) → IfSome left (λ all. IsScript all good.0) → IfSome left IsGoodScript
+    at None is = tt
+    at (Some all) is = (good.0, is)
+
+  -- and where what is left is a script, these bytes are
+  pub good-taken : (X : Type 0) → (IsGoodScript bytes → X) → IfSome left (λ all. IsGoodScript all → X)
+  good-taken X given = at left new taken.taken taken.whole where
+    at : (left new : Option (List ℕ)) → Consumes left new bytes → (length bytes ≤ max_script_bytes → IsAtEnd new) → IfSome left (λ all. IsGoodScript all → X)
+    at None new consumes whole = tt
+    at (Some all) None consumes whole = absurd consumes
+    at (Some all) (Some rest) consumes whole = λ good. given (cut good (cases_lt max_script_bytes (length bytes))) where
+      cut : IsGoodScript all → (max_script_bytes < length bytes) ⊎ (length bytes ≤ max_script_bytes) → IsGoodScript bytes
+      cut good (inl long) = absurd (omega (arith, (within_limits all good.0 good.1).short, ap length consumes, length-append bytes rest, long))
+      cut good (inr fits) = (good.0, subst (λ l. IsScript l good.0) (consumes ∙ ap (λ r. bytes ++ r) (whole fits) ∙ append-nil bytes) good.1)
 
 -- so a bad script is reported
-reports : (status : Status) (bytes : List ℕ) (history : List Told) (held now : Option (List ℕ)) (line kind : ℕ)
-    → Headline status (Some bytes) history held now → status ≢ Words → IsFirstBad bytes line kind → ReportsBad status line kind
-reports Done bytes history held now line kind h words bad = not_both bytes h.script line kind h.read bad
-reports Memory bytes history held now line kind h words bad = tt
-reports Words bytes history held now line kind h words bad = words refl
-reports (Script at which) bytes history held now line kind h words bad = same_first_bad bytes at which line kind h.0 bad
-reports Source bytes history held now line kind h words bad = tt
-reports Sink bytes history held now line kind h words bad = not_both bytes h.script line kind h.read bad
+reports : (status : Status) (bytes : List ℕ) (before after : State) (rose : Type 0) (history : List Told) (held now : Option (List ℕ)) (line kind : ℕ)
+    → Headline status (Some bytes) before after rose history held now → status ≢ Words → (IsRefusedStore status → IsGoodScript bytes)
+    → IsFirstBad bytes line kind → ReportsBad status line kind
+reports Done bytes before after rose history held now line kind h words good bad = not_both bytes h.script line kind h.read bad
+reports Memory bytes before after rose history held now line kind h words good bad = tt
+reports Words bytes before after rose history held now line kind h words good bad = words refl
+reports (Script at which) bytes before after rose history held now line kind h words good bad = same_first_bad bytes at which line kind h.0 bad
+reports Source bytes before after rose history held now line kind h words good bad = tt
+reports Sink bytes before after rose history held now line kind h words good bad = not_both bytes h.script line kind h.read bad
+reports Device bytes before after rose history held now line kind h words good bad = not_both bytes (good tt).0 line kind (good tt).1 bad
+reports (Damaged part place) bytes before after rose history held now line kind h words good bad = not_both bytes (good tt).0 line kind (good tt).1 bad
 
-pub first_bad_clause : (left : Option (List ℕ)) (status : Status) (history : List Told) (held now : Option (List ℕ))
-    → Headline status left history held now → status ≢ Words
+pub first_bad_clause : (left : Option (List ℕ)) (status : Status) (before after : State) (rose : Type 0) (history : List Told) (held now : Option (List ℕ))
+    → Headline status left before after rose history held now → status ≢ Words → (IsRefusedStore status → IfSome left IsGoodScript)
     → IfSome left (λ bytes. (line kind : ℕ) → IsFirstBad bytes line kind → ReportsBad status line kind)
-first_bad_clause None status history held now h words = tt
-first_bad_clause (Some bytes) status history held now h words = λ line kind bad. reports status bytes history held now line kind h words bad
+first_bad_clause None status before after rose history held now h words good = tt
+first_bad_clause (Some bytes) status before after rose history held now h words good =
+    λ line kind bad. reports status bytes before after rose history held now line kind h words good bad
 
 -- and the output of a good one is written
-writes : (status : Status) (bytes : List ℕ) (history : List Told) (held now : Option (List ℕ)) (script : List Numbered) (f g p q : ℕ)
-    → Headline status (Some bytes) history held now → status ≢ Words → (status ≡ Source → Rose f g) → (status ≡ Sink → Rose p q)
-    → IsScript bytes script → ¬ Rose f g → ¬ Rose p q → IsDoneOrMemory status
-writes Done bytes history held now script f g p q h words source sink is no_source no_sink = tt
-writes Memory bytes history held now script f g p q h words source sink is no_source no_sink = tt
-writes Words bytes history held now script f g p q h words source sink is no_source no_sink = words refl
-writes (Script at kind) bytes history held now script f g p q h words source sink is no_source no_sink = not_both bytes script at kind is h.0
-writes Source bytes history held now script f g p q h words source sink is no_source no_sink = no_source (source refl)
-writes Sink bytes history held now script f g p q h words source sink is no_source no_sink = no_sink (sink refl)
+writes : (status : Status) (bytes : List ℕ) (before after : State) (rose : Type 0) (history : List Told) (held now : Option (List ℕ)) (script : List Numbered) (f g p q : ℕ)
+    → Headline status (Some bytes) before after rose history held now → status ≢ Words → (status ≡ Source → Rose f g) → (status ≡ Sink → Rose p q)
+    → (IsRefusedStore status → rose) → IsScript bytes script → ¬ Rose f g → ¬ Rose p q → ¬ rose → IsDoneOrMemory status
+writes Done bytes before after rose history held now script f g p q h words source sink store is no_source no_sink calm = tt
+writes Memory bytes before after rose history held now script f g p q h words source sink store is no_source no_sink calm = tt
+writes Words bytes before after rose history held now script f g p q h words source sink store is no_source no_sink calm = words refl
+writes (Script at kind) bytes before after rose history held now script f g p q h words source sink store is no_source no_sink calm = not_both bytes script at kind is h.0
+writes Source bytes before after rose history held now script f g p q h words source sink store is no_source no_sink calm = no_source (source refl)
+writes Sink bytes before after rose history held now script f g p q h words source sink store is no_source no_sink calm = no_sink (sink refl)
+writes Device bytes before after rose history held now script f g p q h words source sink store is no_source no_sink calm = calm (store tt)
+writes (Damaged part place) bytes before after rose history held now script f g p q h words source sink store is no_source no_sink calm = calm (store tt)
 
-pub complete_clause : (left : Option (List ℕ)) (status : Status) (history : List Told) (held now : Option (List ℕ)) (f g p q : ℕ)
-    → Headline status left history held now → status ≢ Words → (status ≡ Source → Rose f g) → (status ≡ Sink → Rose p q)
-    → IfSome left (λ bytes. (commands : List Numbered) → IsScript bytes commands → ¬ Rose f g → ¬ Rose p q → IsDoneOrMemory status)
-complete_clause None status history held now f g p q h words source sink = tt
-complete_clause (Some bytes) status history held now f g p q h words source sink =
-    λ commands is no_source no_sink. writes status bytes history held now commands f g p q h words source sink is no_source no_sink
+pub complete_clause : (left : Option (List ℕ)) (status : Status) (before after : State) (rose : Type 0) (history : List Told) (held now : Option (List ℕ)) (f g p q : ℕ)
+    → Headline status left before after rose history held now → status ≢ Words → (status ≡ Source → Rose f g) → (status ≡ Sink → Rose p q)
+    → ((state : plain.State) → IsSound before state → IsRefusedStore status → rose)
+    → IfSome left (λ bytes. IsGoodScript bytes → (state : plain.State) → IsSound before state → ¬ Rose f g → ¬ Rose p q → ¬ rose → IsDoneOrMemory status)
+complete_clause None status before after rose history held now f g p q h words source sink store = tt
+complete_clause (Some bytes) status before after rose history held now f g p q h words source sink store =
+    λ good state sound no_source no_sink calm.
+    writes status bytes before after rose history held now good.0 f g p q h words source sink (store state sound) good.1 no_source no_sink calm

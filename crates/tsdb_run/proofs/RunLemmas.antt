@@ -1,5 +1,5 @@
 -- What the parts of a run say of the whole.
-use Rattle.std.proofs.Common.{◌≢◌, inl, ℕ, ◌<◌, List, Option, Some, arith, refl, subst}
+use Rattle.std.proofs.Common.{◌≢◌, inl, inr, ℕ, ◌<◌, List, Option, Some, arith, refl, subst}
 use Rattle.std.specs.Prelude.{All}
 use Rattle.std.proofs.Math.ListN.{get_or-map}
 use Rattle.std.proofs.lemmas.List.{length-map}
@@ -8,12 +8,14 @@ use Rattle.tsdb_script.specs.Reading.{IsBuilt, IsScript}
 use Rattle.tsdb_script.specs.declared.numbered.Numbered.{Numbered}
 use Rattle.tsdb_script.proofs.ReadingLemmas.{built, within_limits}
 use Rattle.std.specs.Io.KnownBytes.{Appends}
-use Rattle.tsdb_run.specs.Headline.{Headline, IsExecuted, new_state}
+use Rattle.tsdb_run.specs.Headline.{Headline, IsExecuted, IsWithoutCommands}
 use Rattle.tsdb_run.specs.Limits.{session_numbers}
 use Rattle.tsdb_run.specs.Output.{AppendsPrefix, output_text}
-use Rattle.tsdb_run.specs.Steps.{IsAnswered, IsWritten}
+use Rattle.tsdb_outside.specs.Disk.{State}
+use Rattle.tsdb_run.specs.Execution.{IsOpeningStatus, IsStoreRun}
+use Rattle.tsdb_run.specs.Steps.{IsWritten}
 use Rattle.tsdb_run.specs.declared.status.Status.{Status}
-use Rattle.tsdb_run.specs.declared.status.Status.TheVariants.{Done, Memory, Words, Script, Source, Sink}
+use Rattle.tsdb_run.specs.declared.status.Status.TheVariants.{Done, Memory, Words, Script, Source, Sink, Device, Damaged}
 use Rattle.tsdb_run.specs.declared.status.Told.{Told}
 
 -- the sessions of a script have such numbers
@@ -26,29 +28,48 @@ small_sessions bytes script is = λ k numbered lt.
 pub no_listing : (bytes : List ℕ) (script : List Numbered) → IsScript bytes script → All (λ numbered. numbered.command ≢ ShowFiles) script
 no_listing bytes script is = λ k numbered lt same. subst IsBuilt same (built bytes script is k numbered lt)
 
-executed : (bytes : List ℕ) (script : List Numbered) (history : List Told) (puts : List ℕ → Type 0)
-    → IsScript bytes script → IsAnswered script history → puts (output_text script history) → IsExecuted (Some bytes) history puts
-executed bytes script history puts is answered printed = record {
+-- the script of these bytes was executed on a store
+executed : (bytes : List ℕ) (script : List Numbered) (history : List Told) (before after : State) (rose : Type 0) (puts : List ℕ → Type 0)
+    → IsScript bytes script → IsStoreRun script history before after rose → puts (output_text script history) → IsExecuted (Some bytes) before after rose history puts
+executed bytes script history before after rose puts is run printed = record {
   script = script;
-  entries = answered.entries;
-  start = new_state;
-  after = answered.after;
+  entries = run.entries;
+  start = run.start;
+  after = run.after;
   read = is;
-  complete = answered.complete;
-  answers = answered.answers;
-  new = refl;
-  legal = answered.legal;
-  storeless = answered.storeless;
-  in_line_order = answered.in_line_order;
+  complete = run.history_of.complete;
+  answers = run.history_of.answers;
+  opened = run.opened;
+  legal = run.history_of.legal;
+  without_files = run.history_of.without_files;
+  in_line_order = run.history_of.in_line_order;
+  moments = run.moments;
+  holds = run.holds;
+  sound = run.sound;
   printed = printed;
 }
 
 -- a script that was executed, and what was written of its output
-pub Headline-written : (status : Status) (bytes : List ℕ) (script : List Numbered) (history : List Told) (old new : Option (List ℕ))
-    → IsScript bytes script → IsAnswered script history → IsWritten status old new (output_text script history) → Headline status (Some bytes) history old new
-Headline-written Done bytes script history old new is answered written = executed bytes script history (Appends old new) is answered written
-Headline-written Sink bytes script history old new is answered written = executed bytes script history (AppendsPrefix old new) is answered written
-Headline-written Memory bytes script history old new is answered written = inl (executed bytes script history (AppendsPrefix old new) is answered written)
-Headline-written Words bytes script history old new is answered written = absurd written
-Headline-written (Script line kind) bytes script history old new is answered written = absurd written
-Headline-written Source bytes script history old new is answered written = absurd written
+pub Headline-written : (status : Status) (bytes : List ℕ) (script : List Numbered) (history : List Told) (before after : State) (rose : Type 0) (old new : Option (List ℕ))
+    → IsScript bytes script → IsStoreRun script history before after rose → IsWritten status old new (output_text script history)
+    → Headline status (Some bytes) before after rose history old new
+Headline-written Done bytes script history before after rose old new is run written = executed bytes script history before after rose (Appends old new) is run written
+Headline-written Sink bytes script history before after rose old new is run written = executed bytes script history before after rose (AppendsPrefix old new) is run written
+Headline-written Memory bytes script history before after rose old new is run written = inl (executed bytes script history before after rose (AppendsPrefix old new) is run written)
+Headline-written Words bytes script history before after rose old new is run written = absurd written
+Headline-written (Script line kind) bytes script history before after rose old new is run written = absurd written
+Headline-written Source bytes script history before after rose old new is run written = absurd written
+Headline-written Device bytes script history before after rose old new is run written = absurd written
+Headline-written (Damaged part at) bytes script history before after rose old new is run written = absurd written
+
+-- a store that was not opened
+pub Headline-refused : (status : Status) (left : Option (List ℕ)) (history : List Told) (before after : State) (rose : Type 0) (old new : Option (List ℕ))
+    → IsOpeningStatus before.seen status → IsWithoutCommands before after history old new → Headline status left before after rose history old new
+Headline-refused Memory left history before after rose old new is without = inr without
+Headline-refused Device left history before after rose old new is without = without
+Headline-refused (Damaged part at) left history before after rose old new is without = (is, without)
+Headline-refused Done left history before after rose old new is without = absurd is
+Headline-refused Sink left history before after rose old new is without = absurd is
+Headline-refused Words left history before after rose old new is without = absurd is
+Headline-refused (Script line kind) left history before after rose old new is without = absurd is
+Headline-refused Source left history before after rose old new is without = absurd is

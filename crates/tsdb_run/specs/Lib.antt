@@ -6,3 +6,4 @@ pub mod Output
 pub mod Status
 pub mod Headline
 pub mod Steps
+pub mod Execution

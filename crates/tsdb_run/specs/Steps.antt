@@ -1,42 +1,44 @@
 -- What the steps of a run ensure. No public clause cites them.
-use Rattle.std.specs.Prelude.{◌≡◌, ◌⊎◌, ◌==◌, ℕ, List, [], ◌∷◌, ◌++◌, Option, Result, OnOk, All, map, if◌then◌else◌}
+use Rattle.std.specs.Prelude.{◌≡◌, ◌⊎◌, ◌==◌, ℕ, List, [], ◌∷◌, ◌++◌, Option, None, Some, Result, OnOk, All, map, if◌then◌else◌}
 use Rattle.std.specs.List.{list_any}
 use Rattle.std.specs.Io.KnownBytes.{Appends}
-use Rattle.tsdb_base.specs.declared.answers.Answer.TheVariants as answer
-use Rattle.tsdb_map.specs.Apply.{reply_of, world_after}
 use Rattle.tsdb_map.specs.History.{Entry, IsLegal}
 use Rattle.tsdb_map.specs.State.{State}
-use Rattle.tsdb_map.specs.World.{World}
 use Rattle.tsdb_map.specs.declared.command.Command.{Command}
-use Rattle.tsdb_map.specs.declared.reply.Reply.{Reply}
-use Rattle.tsdb_map.specs.declared.reply.Reply.TheVariants.{Plain}
 use Rattle.tsdb_outside.specs.Causes.{HasStoreCause}
 use Rattle.tsdb_outside.specs.declared.faults.StoreFault.{StoreFault}
+use Rattle.tsdb_plain.specs.declared.fault.OpenFault.{OpenFault}
+use Rattle.tsdb_plain.specs.declared.fault.OpenFault.TheVariants as fault
 use Rattle.tsdb_print.specs.Text.{reply_text}
 use Rattle.tsdb_script.specs.declared.numbered.Numbered.{Numbered}
-use Rattle.tsdb_run.specs.Headline.{IsStoreless, new_state}
+use Rattle.tsdb_run.specs.Headline.{IsInDoubt, IsWithoutFiles}
 use Rattle.tsdb_run.specs.History.{AreEntries, IsComplete}
 use Rattle.tsdb_run.specs.Output.{AppendsPrefix}
 use Rattle.tsdb_run.specs.declared.status.Status.{Status}
-use Rattle.tsdb_run.specs.declared.status.Status.TheVariants.{Done, Memory, Words, Script, Source, Sink}
+use Rattle.tsdb_run.specs.declared.status.Status.TheVariants.{Done, Memory, Words, Script, Source, Sink, Device, Damaged}
 use Rattle.tsdb_run.specs.declared.status.Told.{Told}
 
--- the map replies to the command, or memory ran out and nothing changed
-abbrev pub Replies : World → Command → Reply → World → Type 0
-Replies world command reply after =
-    ((reply ≡ Plain answer.Memory) × (after ≡ world))
-    ⊎ ((reply ≡ reply_of world command) × (after ≡ world_after world command))
-
--- the replies to the commands of a script, in the order of its lines, from a state without series
+-- the replies to the commands of a script, in the order of its lines
 pub record IsAnswered (script : List Numbered) (history : List Told) : Type 0 where
   pub in_line_order : map (λ told. told.session) history ≡ map (λ numbered. numbered.session) script
   pub complete : IsComplete script history
   pub entries : List Entry
-  pub after : State
   pub answers : AreEntries script history entries
   pub commands : map (λ entry. entry.command) entries ≡ map (λ numbered. numbered.command) script
-  pub legal : IsLegal new_state entries after
-  pub storeless : All (λ told. IsStoreless told.reply) history
+
+-- the replies to the commands of a script, from a state to the one after them
+pub record IsHistory (script : List Numbered) (history : List Told) (start after : State) (entries : List Entry) : Type 0 where
+  pub in_line_order : map (λ told. told.session) history ≡ map (λ numbered. numbered.session) script
+  pub complete : IsComplete script history
+  pub answers : AreEntries script history entries
+  pub commands : map (λ entry. entry.command) entries ≡ map (λ numbered. numbered.command) script
+  pub legal : IsLegal start entries after
+  pub without_files : All (λ told. IsWithoutFiles told.reply) history
+
+-- at most one command is in doubt after these entries
+abbrev pub MayDoubt : List Entry → Option Command → Type 0
+MayDoubt entries None = Unit {0}
+MayDoubt entries (Some command) = IsInDoubt entries command
 
 -- sessions with one more, if it is not there
 abbrev pub with_session : List ℕ → ℕ → List ℕ
@@ -62,6 +64,8 @@ IsWritten Memory old new text = AppendsPrefix old new text
 IsWritten Words old new text = ⊥
 IsWritten (Script line kind) old new text = ⊥
 IsWritten Source old new text = ⊥
+IsWritten Device old new text = ⊥
+IsWritten (Damaged part at) old new text = ⊥
 
 -- the statuses once the script's bytes are there
 abbrev pub IsOfScript : Status → Type 0
@@ -71,3 +75,11 @@ IsOfScript (Script line kind) = Unit {0}
 IsOfScript Sink = Unit {0}
 IsOfScript Words = ⊥
 IsOfScript Source = ⊥
+IsOfScript Device = Unit {0}
+IsOfScript (Damaged part at) = Unit {0}
+
+-- why a store was not opened, as the status of a run
+abbrev pub opening_status : OpenFault → Status
+opening_status fault.Failed = Device
+opening_status (fault.Damaged part at) = Damaged part at
+opening_status fault.Memory = Memory

@@ -1,41 +1,77 @@
-//! Executes the commands of a script on the plain map. Depends on `status`.
-ghost use Rattle.std.specs.Prelude.{◌≡◌, ◌≢◌, ℕ, ◌+◌, ◌<◌, ◌≤◌, IfOk, All, length, slice_index, slice_set};
+//! Executes the commands of a script on a store. Depends on `status`.
+ghost use Rattle.std.specs.Prelude.{◌≡◌, ◌≢◌, ℕ, [], ◌+◌, ◌-◌, ◌^◌, ◌<◌, ◌≤◌, min, IfOk, All, count_by, length, slice_index, slice_set, vec_len, vec_capacity};
 ghost use Rattle.tsdb_map.specs.Commands.{IsWellFormed};
 ghost use Rattle.tsdb_map.specs.declared.command.Command.{Command};
 ghost use Rattle.tsdb_script.specs.Limits.{max_commands};
+ghost use Rattle.tsdb_plain.specs.Core.{faults_of};
+ghost use Rattle.tsdb_run.specs.Execution.{HasExecuted};
+ghost use Rattle.tsdb_run.specs.Headline.{is_device};
 ghost use Rattle.tsdb_run.specs.Limits.{session_numbers};
-ghost use Rattle.tsdb_run.specs.Steps.{IsAnswered, Replies};
 
 use crate::status::Told;
 use std::alloc::Global;
-use tsdb_base::{Answer, List, Memory};
-use tsdb_map::{Command, Plain, Reply};
+use tsdb_base::{List, Memory};
+use tsdb_map::Command;
+use tsdb_outside::Journal;
+use tsdb_plain::PlainCore;
 use tsdb_script::Numbered;
 
 /// Every number of a session is below this.
 const SESSIONS: usize = 1000;
 
-/// The replies to the commands of a script, executed in the order of its lines from a map without series.
-pub fn execute(alloc: Global, script: &[Numbered]) -> Result<List<Told>, Memory>
+/// The memory that the execution of a script takes, so that nothing is refused once a command is executed: how many
+/// commands each session has had, and places for the replies.
+#[derive(Drop)]
+pub struct Room {
+    pub counts: Vec<u32>,
+    pub history: Vec<Told>,
+}
+
+impl Room {
+    /// Room for the replies to so many commands.
+    pub fn new(alloc: Global, commands: usize) -> Result<Room, Memory>
+        ensures long { IfOk result (λ room. length room.counts.items ≡ session_numbers) }
+        ensures zero { IfOk result (λ room. (at : ℕ) → slice_index room.counts.items at ≡ 0) }
+        ensures none { IfOk result (λ room. (room.history.items ≡ []) × (vec_len room.history ≡ 0)) }
+        ensures places { IfOk result (λ room. vec_capacity room.history ≡ commands) }
+    {
+        let counts = zeros(alloc, SESSIONS)?;
+        let history = Vec::with_capacity(alloc, commands)?;
+        Ok(Room { counts, history })
+    }
+}
+
+/// Executes the commands of a script on a store, in the order of its lines, and returns their replies.
+pub fn execute<J: Journal>(core: &mut PlainCore<J>, script: &[Numbered], room: Room) -> List<Told>
     requires few { length script.now ≤ max_commands }
     requires sessions { All (λ numbered. numbered.session < session_numbers) script.now }
     requires well_formed { All (λ numbered. IsWellFormed numbered.command) script.now }
     requires no_listing { All (λ numbered. numbered.command ≢ Command.ShowFiles) script.now }
-    ensures { IfOk result (IsAnswered script.now) }
+    requires long { length room.counts.items ≡ session_numbers }
+    requires zero { (at : ℕ) → slice_index room.counts.items at ≡ 0 }
+    requires none { (room.history.items ≡ []) × (vec_len room.history ≡ 0) }
+    requires places { vec_capacity room.history ≡ length script.now }
+    ensures executed { HasExecuted script.now result core.old core.new }
+    ensures devices { min (faults_of core.old + count_by is_device result) (2 ^ 64 - 1) ≤ faults_of core.new }
 {
-    let mut plain = Plain::new(alloc);
-    let mut counts = zeros(alloc, SESSIONS)?;
-    let mut history = Vec::with_capacity(alloc, script.len())?;
+    let Room {
+        mut counts,
+        mut history,
+    } = room;
     for numbered in script {
-        let reply = reply(&mut plain, &numbered.command);
+        let reply = core.apply(&numbered.command);
         let index = next_index(&mut counts, numbered.session);
-        history.push(Told {
+        let told = Told {
             session: numbered.session,
             index,
             reply,
-        })?;
+        };
+        match history.push(told) {
+            Ok(()) => (),
+            Err(_full) => unreachable!(),
+        }
     }
-    Ok(List::of(history))
+    List::of(history)
 }
 
 /// So many zeros.
@@ -44,17 +80,6 @@ fn zeros(alloc: Global, count: usize) -> Result<Vec<u32>, Memory>
     ensures zero { IfOk result (λ zeros. (at : ℕ) → slice_index zeros.items at ≡ 0) }
 {
     Ok(vec![in alloc; 0u32; count]?)
-}
-
-/// The reply to a command, which out of memory is `memory`.
-fn reply(plain: &mut Plain, command: &Command) -> Reply
-    requires { IsWellFormed command.now }
-    ensures { Replies plain.old command.now result plain.new }
-{
-    match plain.apply(command) {
-        Ok(reply) => reply,
-        Err(Memory) => Reply::Plain(Answer::Memory),
-    }
 }
 
 /// The place in its session of one more command of the session.

@@ -5,6 +5,7 @@ ghost use Rattle.tsdb_run.specs.Status.{status_code, status_text};
 use std::alloc::Global;
 use tsdb_base::{List, Memory};
 use tsdb_map::Reply;
+use tsdb_plain::Part;
 
 /// How a run ended.
 #[derive(Clone, Copy, Debug, PartialEq, Eq)]
@@ -21,6 +22,10 @@ pub enum Status {
     Source,
     /// The sink of the output failed.
     Sink,
+    /// The device of the store failed before a command was executed.
+    Device,
+    /// A part of the store is damaged at this place, counted in bytes from the beginning of the part.
+    Damaged { part: Part, at: u64 },
 }
 
 /// A reply, with the session of its command and the command's place in that session, counted from 0.
@@ -51,6 +56,8 @@ impl Status {
             Status::Script { .. } => 3,
             Status::Source => 4,
             Status::Sink => 5,
+            Status::Device => 6,
+            Status::Damaged { .. } => 7,
         }
     }
 
@@ -65,6 +72,8 @@ impl Status {
             Status::Script { line, kind } => return script_text(alloc, *line, *kind),
             Status::Source => b"source\n",
             Status::Sink => b"sink\n",
+            Status::Device => b"device\n",
+            Status::Damaged { part, at } => return damaged_text(alloc, *part, *at),
         };
         Ok(Vec::from_slice(alloc, text)?)
     }
@@ -74,5 +83,15 @@ fn script_text(alloc: Global, line: u32, kind: u8) -> Result<Vec<u8>, Memory>
     ensures { IfOk result (λ text. text.items ≡ status_text (Status.Script line kind)) }
 {
     let text = format!(in alloc; "line {line} kind {kind}\n")?;
+    Ok(Vec::from_slice(alloc, text.as_bytes())?)
+}
+
+fn damaged_text(alloc: Global, part: Part, at: u64) -> Result<Vec<u8>, Memory>
+    ensures { IfOk result (λ text. text.items ≡ status_text (Status.Damaged part at)) }
+{
+    let text = match part {
+        Part::Log => format!(in alloc; "damaged log at {at}\n")?,
+        Part::File(number) => format!(in alloc; "damaged file {} at {at}\n", number.0)?,
+    };
     Ok(Vec::from_slice(alloc, text.as_bytes())?)
 }

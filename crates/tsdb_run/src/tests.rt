@@ -1,9 +1,10 @@
 //! What no clause says: that runs succeed with ample memory, and worked examples.
 mod plain_program;
+mod stores;
 mod types;
 
-use crate::{Ended, Status, Word, run};
-use mem_outside::{MemSink, MemSource, SteadySink, SteadySource};
+use crate::{Ended, Part, Status, Word, run};
+use mem_outside::{MemSink, MemSource, SteadyPlace, SteadySink, SteadySource};
 use plain_program::output_of;
 use std::alloc::Global;
 use std::test::Fail;
@@ -88,12 +89,19 @@ fn words(alloc: Global, texts: &[&str]) -> Result<Vec<Word>, Fail> {
     Ok(words)
 }
 
-/// A run of a script over a source and a sink that never fail.
+/// A new store, on a device that never fails.
+fn new_place(alloc: Global) -> Result<SteadyPlace, Fail> {
+    let slots = [vec![in alloc; 0]?, vec![in alloc; 0]?];
+    Ok(SteadyPlace::new(alloc, slots, Vec::new(alloc))?)
+}
+
+/// A run of a script on a new store, over a source, a sink and a device that never fail.
 pub fn steady(alloc: Global, script: &[u8]) -> Result<(Ended, SteadySink), Fail> {
     let words = words(alloc, &["run", "d"])?;
     let mut source = SteadySource::new(Vec::from_slice(alloc, script)?);
     let mut sink = SteadySink::new(alloc);
-    let ended = run(alloc, &words, &mut source, &mut sink);
+    let mut place = new_place(alloc)?;
+    let ended = run(alloc, &words, &mut source, &mut sink, &mut place);
     Ok((ended, sink))
 }
 
@@ -132,10 +140,12 @@ fn words_and_statuses(rt: HostRuntime) -> Result<(), Fail> {
         let words = words(alloc, list)?;
         let mut source = MemSource::new(Vec::new(alloc), Vec::new(alloc));
         let mut sink = MemSink::new(alloc, Vec::new(alloc));
-        let ended = run(alloc, &words, &mut source, &mut sink);
+        let mut place = new_place(alloc)?;
+        let ended = run(alloc, &words, &mut source, &mut sink, &mut place);
         assert_eq!(rt; ended.status, Status::Words);
         assert_eq!(rt; sink.bytes(), b"".as_slice());
     }
+    let log = Part::Log;
     let texts = [
         (Status::Done, 0, ""),
         (Status::Memory, 1, "memory\n"),
@@ -143,6 +153,12 @@ fn words_and_statuses(rt: HostRuntime) -> Result<(), Fail> {
         (Status::Script { line: 7, kind: 5 }, 3, "line 7 kind 5\n"),
         (Status::Source, 4, "source\n"),
         (Status::Sink, 5, "sink\n"),
+        (Status::Device, 6, "device\n"),
+        (
+            Status::Damaged { part: log, at: 20 },
+            7,
+            "damaged log at 20\n",
+        ),
     ];
     for (status, code, text) in texts {
         assert_eq!(rt; status.code(), code);
@@ -175,24 +191,35 @@ fn bad_scripts(rt: HostRuntime) -> Result<(), Fail> {
     Ok(())
 }
 
+/// A source that fails leaves the store untouched. Where the sink fails, the commands were executed all the same.
 #[test]
 fn faults_of_source_and_sink(rt: HostRuntime) -> Result<(), Fail> {
     let alloc = rt.alloc();
     let words = words(alloc, &["run", "d"])?;
+    let mut place = new_place(alloc)?;
     let script = Vec::from_slice(alloc, EXAMPLE.as_bytes())?;
     let mut source = MemSource::new(script, vec![in alloc; 1]?);
     let mut sink = MemSink::new(alloc, Vec::new(alloc));
-    let ended = run(alloc, &words, &mut source, &mut sink);
+    let ended = run(alloc, &words, &mut source, &mut sink, &mut place);
     assert_eq!(rt; ended.status, Status::Source);
     assert_eq!(rt; ended.history.items().len(), 0);
     assert_eq!(rt; sink.bytes(), b"".as_slice());
     let script = Vec::from_slice(alloc, EXAMPLE.as_bytes())?;
     let mut source = MemSource::new(script, Vec::new(alloc));
     let mut sink = MemSink::new(alloc, vec![in alloc; 2]?);
-    let ended = run(alloc, &words, &mut source, &mut sink);
+    let ended = run(alloc, &words, &mut source, &mut sink, &mut place);
     assert_eq!(rt; ended.status, Status::Sink);
     assert_eq!(rt; ended.history.items().len(), 3);
     assert_eq!(rt; sink.bytes(), b"session 1\n".as_slice());
+    let script = Vec::from_slice(alloc, b"1 select s from root.g.d\n")?;
+    let mut source = MemSource::new(script, Vec::new(alloc));
+    let mut sink = MemSink::new(alloc, Vec::new(alloc));
+    let ended = run(alloc, &words, &mut source, &mut sink, &mut place);
+    assert_eq!(rt; ended.status, Status::Done);
+    assert_eq!(rt;
+        sink.bytes(),
+        b"session 1\ntime,s\n1,5\nrows 1\norder 1\n".as_slice()
+    );
     Ok(())
 }
 
