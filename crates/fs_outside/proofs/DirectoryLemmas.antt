@@ -1,10 +1,9 @@
 -- A file that is created, written and synced stands durable behind the others.
-use Rattle.std.proofs.Common.{◌≡◌, ℕ, zero, suc, ◌+◌, ◌<◌, Bool, true, false, List, [], ◌∷◌, ◌++◌, length, map, nat_eq, refl, sym, ap, ◌∙◌, subst, arith}
+use Rattle.std.proofs.Common.{◌≡◌, ℕ, suc, true, false, List, [], ◌∷◌, map, nat_eq, refl, ap, ◌∙◌, subst, arith}
 use Rattle.tsdb_outside.specs.Files.{IsFileNumber}
-use Rattle.std.specs.Prelude.{◌↔◌, Contains, Some, None, IfSome, if◌then◌else◌}
+use Rattle.std.specs.Prelude.{◌↔◌, Contains, Some, None, IfSome}
 use Rattle.std.specs.declared.option.Option.{Option}
-use Rattle.std.proofs.lemmas.Grind.{common_steps}
-use Rattle.fs_outside.specs.Directory.{DirectoryFile, new_file, durable_file, with_bytes, with_synced_bytes, with_synced_name, numbers_in, IsFree, change_one, add_new, put_durable, Becomes}
+use Rattle.fs_outside.specs.Directory.{DirectoryFile, with_bytes, with_synced_bytes, with_synced_name, numbers_in, IsFree, change_one, add_new, put_durable, Becomes}
 
 Contains-head : {X : Type 0} (x : X) (xs : List X) → Contains (x ∷ xs) x
 Contains-head x xs = (0, omega arith, refl)

@@ -24,5 +24,5 @@ pub record LoaderState : Type 0 where
 pub record Spends {T : Type 0} (most : ℕ) (before now : LoaderState) (pages pages_now : ℕ) (result : Result T PullFault) : Type 0 where
   pub held : now.held ≡ before.held
   pub most_loads : now.loads ≤ before.loads + most
-  pub counted : pages_now + before.loads ≡ pages + now.loads
+  pub count_is : pages_now + before.loads ≡ pages + now.loads
   pub cause : HasPullCause before.failures now.failures before.damages now.damages result

@@ -108,12 +108,6 @@ pairs_across R (first ∷ xs) ys h x y hx hy =
 pub pairs_push : {X : Type 0} (R : X → X → Type 0) (xs : List X) (y : X) → AllPairs R xs → ((x : X) → Contains xs x → R x y) → AllPairs R (xs ++ y ∷ [])
 pairs_push R xs y pairs last = all_pairs_push R xs y pairs (λ k d within. last (slice_index_or xs k d) (Contains-get_or xs k d within))
 
-pub pairs_of_one : {X : Type 0} (R : X → X → Type 0) (x : X) → AllPairs R (x ∷ [])
-pairs_of_one R x i j d lt within = absurd (none i j lt within)
-  where
-    none : (i j : ℕ) → i < j → j < 1 → ⊥
-    none i j lt within = omega arith
-
 -- what a map of a list contains
 pub record Image {X Y : Type 0} (f : X → Y) (xs : List X) (y : Y) : Type 0 where
   pub from : X

@@ -46,7 +46,3 @@ has_in_table schemas space frozen path point h =
           (in_image (row_of schemas) (entries table) entry (entry_from_get nat_cmp nat_cmp_total nat_cmp-IsAntisymmetric table h.number h.points h.at));
       among = h.among;
     }
-
--- which points a table has does not depend on how it was made
-pub same_table : (schemas : List SeriesEntry) (a b : Table) (path : List ℕ) (point : Point) → a ≡ b → InTable schemas a path point → InTable schemas b path point
-same_table schemas a b path point same h = subst (λ t. InTable schemas t path point) same h

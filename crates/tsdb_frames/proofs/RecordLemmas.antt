@@ -45,15 +45,6 @@ none_placed : ArePlaced []
 none_placed [] after frame same = absurd cc
 none_placed (b ∷ before) after frame same = absurd cc
 
-pub reads_none : (bytes : List ℕ) → 1 ≤ length bytes → HasRead [] 0 bytes bytes
-reads_none bytes some = record {
-  fit = All-nil IsPayload;
-  split = refl;
-  place = refl;
-  places = none_placed;
-  gate = some;
-}
-
 pub reads_more : (frames all : List Frame) (at next : ℕ) (rest behind bytes payload after : List ℕ) (new : Frame)
     → HasRead frames at rest bytes → rest ≡ 1 ∷ behind → BeginsWith behind payload after
     → all ≡ frames ++ (new ∷ []) → new.at ≡ at → new.payload.items ≡ payload → next ≡ at + 1 + 4 + length payload

@@ -5,7 +5,7 @@ use Rattle.std.specs.List.{list_all}
 use Rattle.std.specs.Ordering.{nat_cmp, int_cmp, eq_by_cmp}
 use Rattle.std.specs.Cmp.{eq_by_cmp_equiv, int_cmp_total}
 use Rattle.std.specs.Cmp.Lexicographic.{slice_cmp, nat_list_cmp_total}
-use Rattle.std.specs.FinMap.{get, insert, remove, contains_key, get-empty, get-insert, get-remove, same_map, slice_cmp-IsAntisymmetric, nat_cmp-IsAntisymmetric, int_cmp-IsAntisymmetric}
+use Rattle.std.specs.FinMap.{get, insert, remove, get-insert, get-remove, same_map, slice_cmp-IsAntisymmetric, nat_cmp-IsAntisymmetric, int_cmp-IsAntisymmetric}
 use Rattle.std.proofs.lemmas.Bool.{false≢true}
 use Rattle.std.proofs.lemmas.List.Folds.{list_all_at, list_all-map}
 use Rattle.std.proofs.lemmas.Map.Views.{tells_apart}
@@ -13,18 +13,12 @@ use Rattle.std.proofs.lemmas.Map.Lookups.{exact_bytes, exact_signed}
 use Rattle.tsdb_base.specs.declared.answers.Answer.{Answer}
 use Rattle.tsdb_base.specs.declared.answers.Answer.TheVariants.{Done, NoPath, WrongType, Exists, Device, Memory, Full}
 use Rattle.tsdb_base.specs.declared.value.Value.{Value}
-use denote.Bor.{Bor}
-use Rattle.std.specs.Option.{option_copied}
 use Rattle.tsdb_map.specs.declared.command.Cell.{Cell}
-use Rattle.tsdb_base.specs.declared.point.Range.{Range}
 use Rattle.tsdb_map.specs.declared.command.Command.{Command}
-use Rattle.tsdb_map.specs.declared.command.Command.TheVariants.{Create, Delete, Insert}
-use Rattle.tsdb_map.specs.declared.command.Row.{Row}
-use Rattle.tsdb_map.specs.declared.command.Schema.{Schema}
 use Rattle.tsdb_map.specs.declared.command.Literal.{Literal}
 use Rattle.tsdb_map.specs.declared.reply.Reply.TheVariants.{Plain}
 use Rattle.tsdb_map.specs.World.{change, change_series, points_of, put, value_at, Points, Series, World}
-use Rattle.tsdb_map.specs.Apply.{after_reply, all_fit, are_there, fits_series, insert_answer, put_cells, put_literal, put_value, reply_of, series_of, value_of, world_after}
+use Rattle.tsdb_map.specs.Apply.{after_reply, all_fit, are_there, fits_series, insert_answer, put_cells, put_literal, put_value, series_of, value_of}
 use Rattle.tsdb_map.specs.Model.{set_at}
 use Rattle.tsdb_map.specs.Pending.{old_values}
 use Rattle.tsdb_map.proofs.WorldLemmas.{change-there, insert-same}
@@ -233,11 +227,6 @@ answered world device cells i fit end there fits =
     (all_names world device cells ∙ ap (list_all (is_there world device)) (sym (whole i cells end)) ∙ there)
     ∙ ap (λ b. cond b Done WrongType) (ap (all_fit world device) (sym (whole i cells end)) ∙ sym fits)
 
--- a series that has a value is there
-pub there_by_value : (found : Option Series) (time : ℤ) → IsSome (get (points_of found) time) → IsSome found
-there_by_value None time some = absurd (false≢true (sym (ap is_some (get-empty int_cmp time)) ∙ some))
-there_by_value (Some s) time some = refl
-
 -- the first cell and the rest, as a slice has them
 pub split_first : (cells : List Cell) (cell : Cell) → 1 ≤ length cells → cell ≡ get_or cells 0 cell → cell ∷ take (length cells - 1) (drop 1 cells) ≡ cells
 split_first [] cell some is = absurd (omega arith)
@@ -249,36 +238,9 @@ pub on_err : {A E P : Type 0} (r : Result A E) → true ≡ is_err r → OnErr r
 on_err (Ok x) e h = absurd (false≢true (sym e))
 on_err (Err y) e h = h
 
--- a series is there where it was found
-pub there_is : (world catalog : World) (device name path : List ℕ) (found : Option (Bor Series)) (b : Bool) → catalog ≡ world → child_of device name ≡ path
-    → option_copied found ≡ series_of catalog device name → is_some found ≡ b → contains_key world path ≡ b
-there_is world catalog device name path found b same joined is tested =
-    sym (ap is_some (is ∙ ap (λ w. get w (child_of device name)) same ∙ ap (get world) joined)) ∙ copy_option found ∙ tested
-  where
-    copy_option : (o : Option (Bor Series)) → is_some (option_copied o) ≡ is_some o
-    copy_option None = refl
-    copy_option (Some x) = refl
-
 pub at_some : {A : Type 0} (P : A → Type 0) (o : Option A) (x : A) → IfSome o P → o ≡ Some x → P x
 at_some P o x h e = subst (λ o. IfSome o P) e h
-
-pub create_reply : (world : World) (schema : Schema) (b : Bool) → contains_key world schema.path ≡ b → Plain (cond b Exists Done) ≡ reply_of world (Create schema)
-create_reply world schema b e = ap (λ b. Plain (cond b Exists Done)) (sym e)
-
-pub create_after : (world after : World) (schema : Schema) (b : Bool) → contains_key world schema.path ≡ b → after ≡ after_reply world (Create schema) (Plain (cond b Exists Done))
-    → after ≡ world_after world (Create schema)
-create_after world after schema b e is = is ∙ ap (λ b. after_reply world (Create schema) (Plain (cond b Exists Done))) (sym e)
-
-pub delete_reply : (world : World) (series : List ℕ) (range : Range) (b : Bool) → contains_key world series ≡ b → Plain (cond b Done NoPath) ≡ reply_of world (Delete series range)
-delete_reply world series range b e = ap (λ b. Plain (cond b Done NoPath)) (sym e)
-
-pub delete_after : (world after : World) (series : List ℕ) (range : Range) (b : Bool) → contains_key world series ≡ b
-    → after ≡ after_reply world (Delete series range) (Plain (cond b Done NoPath)) → after ≡ world_after world (Delete series range)
-delete_after world after series range b e is = is ∙ ap (λ b. after_reply world (Delete series range) (Plain (cond b Done NoPath))) (sym e)
 
 -- what is written at a path of the catalog is written at the series of the world
 pub moved : {A : Type 0} (f : World → List ℕ → A) (catalog world : World) (p path : List ℕ) → catalog ≡ world → p ≡ path → f catalog p ≡ f world path
 moved f catalog world p path same joined = ap (λ w. f w p) same ∙ ap (f world) joined
-
-pub insert_kept : (world : World) (device : List ℕ) (row : Row) → (insert_answer world device row.cells ≡ Done → ⊥) → world ≡ world_after world (Insert device row)
-insert_kept world device row h = sym (not_done world (Insert device row) (insert_answer world device row.cells) h)

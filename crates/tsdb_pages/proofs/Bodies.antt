@@ -1,8 +1,8 @@
 -- The body of a page, taken apart.
-use Rattle.std.proofs.Common.{◌≡◌, ℕ, ◌+◌, ◌-◌, ◌<◌, ◌^◌, true, List, [], ◌∷◌, ◌++◌, length, get_or, take, drop, map, refl, sym, ap, ◌∙◌, subst, append_assoc, length-drop, arith}
+use Rattle.std.proofs.Common.{◌≡◌, ℕ, ◌+◌, ◌-◌, ◌<◌, ◌^◌, true, List, [], ◌∷◌, ◌++◌, length, map, refl, sym, ap, ◌∙◌, subst, append_assoc, arith}
 use Rattle.std.specs.Prelude.{◌≤◌, ℤ, All, FitsSigned, reverse}
 use Rattle.std.specs.Int.{w64}
-use Rattle.std.proofs.lemmas.List.{length-append, length-map, map-append, reverse-append, take_all}
+use Rattle.std.proofs.lemmas.List.{length-append, length-map, map-append, reverse-append}
 use Rattle.std.proofs.lemmas.List.Elements.{All-cons, All-head, All-map, All-nil, All-tail}
 use Rattle.tsdb_base.specs.declared.fault.DecodeFault.{DecodeFault}
 use Rattle.tsdb_base.specs.declared.fault.DecodeFault.TheVariants as decode
@@ -159,16 +159,6 @@ one_body data_type encoding suits bytes xs ys in_xs in_ys =
     points_same xs ys same.0 same.1
 
 -- ---- writing
-
--- bytes written over the first four
-pub first_four : (len : ℕ) (given bytes items : List ℕ) → given ≡ bytes → length bytes ≡ 4 → length items ≡ len → 4 ≤ len → take len (given ++ drop (length given) items) ≡ bytes ++ drop 4 items
-first_four len given bytes items same four is more =
-    let n : length given ≡ 4 = ap length same ∙ four in
-    let behind : drop (length given) items ≡ drop 4 items = ap (λ (k : ℕ). drop k items) n in
-    let rest : length (drop 4 items) ≡ len - 4 = length-drop 4 items ∙ ap (λ (k : ℕ). k - 4) is in
-    let whole : length (bytes ++ drop 4 items) ≡ len = length-append bytes (drop 4 items) ∙ omega (arith, four, rest, more) in
-    ap (λ (l : List ℕ). take len (given ++ l)) behind ∙ ap (λ (l : List ℕ). take len (l ++ drop 4 items)) same
-    ∙ ap (λ (k : ℕ). take k (bytes ++ drop 4 items)) (sym whole) ∙ take_all (length (bytes ++ drop 4 items)) (bytes ++ drop 4 items) (omega arith)
 
 -- the length of the times has four bytes
 pub length_fits : (n : ℕ) (times : List ℤ) (points : List Point) (front all : List ℕ) → length points ≤ max_values → times ≡ times_of points → All (FitsSigned w64) times → all ≡ front ++ ts2diff.spelling times

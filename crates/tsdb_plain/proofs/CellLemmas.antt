@@ -4,7 +4,6 @@ use Rattle.std.specs.Prelude.{FitsSigned, IfSome}
 use Rattle.std.specs.List.{All}
 use Rattle.std.specs.FinMap as finite
 use Rattle.std.proofs.lemmas.Bool.{false≢true}
-use Rattle.std.proofs.lemmas.List.{append-nil}
 use Rattle.std.proofs.lemmas.List.Elements.{All-append, All-cons, All-head, All-nil, All-tail}
 use Rattle.std.proofs.lemmas.Option.{slice_get-map, slice_get_within, get_or_from_slice_get}
 use Rattle.indexmap.specs.IndexMap.{IndexMap, get, keys}
@@ -59,11 +58,6 @@ kind_back (literal.Text bytes) Int32 = refl
 kind_back (literal.Text bytes) Int64 = refl
 kind_back (literal.Text bytes) Text = refl
 
--- a value in a series has the series' type
-pub value_kind : (o : Option Series) (l : Literal) (v : Value) → value_in o l ≡ Some v → type_in o ≡ Some (type_of v)
-value_kind None l v e = cc
-value_kind (Some s) l v e = ap Some (sym (kind_back l s.data_type) ∙ ap (kind_or s.data_type) e)
-
 int32_fits : (n : ℤ) → FitsSigned w32 n → is_int32 n ≡ true
 int32_fits (pos k) fits = search rules
 int32_fits (negsuc k) fits = search rules
@@ -99,20 +93,8 @@ numbered_series store world stamp series number path t view numbered there type 
 none_at : {S : Type 0} (series : IndexMap (List ℕ) DataType S) (n : ℕ) → slice_get series.entries n ≡ None → slice_get (keys series) n ≡ None
 none_at series n e = slice_get-map (λ (e : List ℕ × DataType). e.0) series.entries n ∙ ap (option_map (λ (e : List ℕ × DataType). e.0)) e
 
-pub no_series : {S : Type 0} (store : Store) (world : World) (stamp : ℕ) (series : IndexMap (List ℕ) DataType S) (n : ℕ)
-    → record { state = record { world = world; stamp = stamp }; series = keys series } ≡ store → slice_get series.entries n ≡ None → slice_get store.series n ≡ None
-no_series store world stamp series n view e = subst (λ (s : Store). slice_get s.series n ≡ None) view (none_at series n e)
-
 some_once : {A : Type 0} (o : Option A) (a b : A) → o ≡ Some a → o ≡ Some b → a ≡ b
 some_once o a b x y = cc
-
--- a cell that is read has the type and the device of its series
-pub read_kind : (store : Store) (device path : List ℕ) (t : DataType) (read : Cell) (written : CellRecord) → IsNumberedSeries store written.series path t
-    → IsCellRead store device read written → type_of written.value ≡ t
-read_kind store device path t read written series is =
-    let paths : path ≡ child_of device read.measurement = some_once _ path (child_of device read.measurement) series.at is.is.series in
-    let kind = value_kind (series_of store.state.world device read.measurement) read.value written.value is.is.value in
-    sym (some_once _ t (type_of written.value) series.type (ap (λ p. type_in (finite.get store.state.world p)) paths ∙ kind))
 
 pub read_path : (store : Store) (device path : List ℕ) (t : DataType) (read : Cell) (written : CellRecord) → IsNumberedSeries store written.series path t
     → IsCellRead store device read written → path ≡ child_of device read.measurement
@@ -132,13 +114,6 @@ pub record IsRowSoFar (store : Store) (device : List ℕ) (cells : List Cell) (a
   pub split : all ≡ read ++ rest
   pub are : IsRowRead store device cells read
 
-pub row_starts : (store : Store) (device : List ℕ) (cells : List Cell) (all rest : List CellRecord) → cells ≡ [] → rest ≡ all → IsRowSoFar store device cells all rest
-row_starts store device cells all rest none same = record {
-  read = [];
-  split = sym same;
-  are = subst (λ l. IsRowRead store device l []) (sym none) (record { names = All-nil (λ cell. IsName cell.measurement); are = tt });
-}
-
 pub row_continues : (store : Store) (device : List ℕ) (cells next : List Cell) (all rest left : List CellRecord) (cell : Cell) (w : CellRecord)
     → IsRowSoFar store device cells all rest → rest ≡ w ∷ left → IsCellRead store device cell w → next ≡ cells ++ (cell ∷ []) → IsRowSoFar store device next all left
 row_continues store device cells next all rest left cell w row taken is added = record {
@@ -149,10 +124,6 @@ row_continues store device cells next all rest left cell w row taken is added = 
     are = cells_more store device cells cell row.read w row.are.are is.is;
   });
 }
-
-pub row_finishes : (store : Store) (device : List ℕ) (cells : List Cell) (all rest : List CellRecord) → IsRowSoFar store device cells all rest → rest ≡ [] → IsRowRead store device cells all
-row_finishes store device cells all rest row none =
-    subst (λ l. IsRowRead store device cells l) (sym (row.split ∙ ap (λ l. row.read ++ l) none ∙ append-nil row.read)) row.are
 
 -- a record among those of a row is of a cell of it
 cell_among : (store : Store) (device : List ℕ) (cells : List Cell) (read left : List CellRecord) (w : CellRecord) → All (λ cell. IsName cell.measurement) cells

@@ -2,7 +2,7 @@
 use Rattle.std.proofs.Common.{◌≡◌, inl, inr, ⊎_elim, ℕ, ◌≤◌, List, [], ◌∷◌, ◌++◌, length, map, take, get_or, Option, None, Some, refl, sym, ◌∙◌, ap, subst, arith, append_assoc, length-append, add-one, suc, drop, ◌+◌, ◌<◌}
 use Rattle.std.specs.Prelude.{IfSome}
 use Rattle.std.specs.List.{All}
-use Rattle.std.proofs.lemmas.List.{map-append, take_all, take-append-drop, take_more}
+use Rattle.std.proofs.lemmas.List.{map-append, take-append-drop, take_more}
 use Rattle.std.proofs.lemmas.List.Concat.{flat_map-append}
 use Rattle.std.proofs.lemmas.List.Elements.{All-append, All-cons, All-nil, All-head, All-tail}
 use Rattle.std.proofs.Math.Seq.{drop-cons}
@@ -22,10 +22,6 @@ use Rattle.tsdb_plain.specs.declared.fault.Part.{Part}
 use Rattle.tsdb_plain.specs.declared.fault.Part.TheVariants.{Log}
 use Rattle.tsdb_plain.proofs.ReplayLemmas.{damaged_none, damaged_once, replays_more}
 
--- no record yet
-pub none_replayed : (frames : List Frame) (store : Store) → store ≡ new_store → AreReplayedTo (take 0 frames) store
-none_replayed frames store new = record { items = []; good = All-nil IsRecord; payloads = refl; replayed = new }
-
 -- one record more
 pub one_replayed : (frames : List Frame) (i : ℕ) (frame : Frame) (old new : Store) → i < length frames → frame ≡ get_or frames i frame → AreReplayedTo (take i frames) old
     → IsFrameRedone old new frame → AreReplayedTo (take (i + 1) frames) new
@@ -41,9 +37,6 @@ one_replayed frames i frame old new below is so_far redone =
       replayed = subst (λ s. Replays new_store (so_far.items ++ (redone.item ∷ [])) s) (sym redone.redone.after)
           (replays_more new_store old so_far.items redone.item redone.redone.command so_far.replayed redone.redone.redoes);
     })
-
-pub all_replayed : (frames : List Frame) (i : ℕ) (store : Store) → length frames ≤ i → AreReplayedTo (take i frames) store → AreReplayedTo frames store
-all_replayed frames i store end so_far = subst (λ l. AreReplayedTo l store) (take_all i frames end) so_far
 
 -- the replay stops at a frame
 pub stops_here : (frames : List Frame) (i : ℕ) (frame : Frame) (store : Store) (at : ℕ) → i < length frames → frame ≡ get_or frames i frame → AreReplayedTo (take i frames) store

@@ -1,5 +1,5 @@
 -- The replay of a row.
-use Rattle.std.proofs.Common.{◌≡◌, ℕ, ℤ, ◌+◌, ◌<◌, List, [], ◌∷◌, Option, None, Some, refl, sym, ◌∙◌, ap, subst, arith, slice_get}
+use Rattle.std.proofs.Common.{◌≡◌, ℕ, ℤ, ◌+◌, ◌<◌, List, [], ◌∷◌, Option, None, Some, refl, sym, ◌∙◌, ap, subst, slice_get}
 use Rattle.std.specs.Prelude.{IfSome}
 use Rattle.std.specs.List.{All}
 use Rattle.std.proofs.lemmas.List.Elements.{All-cons, All-head, All-nil, All-tail}
@@ -125,15 +125,6 @@ row_numbered old world after stamp series device row cells written view below nu
     is ∙ ap (λ a. after_reply world (command.Insert device row) (Plain a))
     (ap (insert_answer world device) cells_are ∙ ap (λ (s : Store). insert_answer s.state.world device cells) view ∙ row_accepted old device cells written read.are) in
     numbered_after world after stamp (stamp + 1) series series (command.Insert device row) numbered after_is (below_max old world stamp (keys series) view below) refl tt refl (λ q. refl)
-
--- the numbers after a row without cells
-pub empty_numbered : {S : Type 0} (old : Store) (world : World) (stamp : ℕ) (series : IndexMap (List ℕ) DataType S)
-    → record { state = record { world = world; stamp = stamp }; series = keys series } ≡ old → old.state.stamp < max_number → IsNumbered world stamp series → IsNumbered world (stamp + 1) series
-empty_numbered old world stamp series view below numbered = record {
-  types = numbered.types;
-  paths = numbered.paths;
-  ends = omega (arith, below_max old world stamp (keys series) view below);
-}
 
 -- the first of some cells
 pub first_of_cells : (written : List CellRecord) (first : CellRecord) → slice_get written 0 ≡ Some first → (rest : List CellRecord) × (written ≡ first ∷ rest)

@@ -9,7 +9,6 @@ use Rattle.std.proofs.Math.Seq.{drop-cons}
 use Rattle.std.proofs.lemmas.Bool.{false≢true, eqb-true, eq-eqb}
 use Rattle.std.proofs.lemmas.List.{append-nil, drop_all}
 use Rattle.std.proofs.lemmas.List.Elements.{All-head, All-tail, All-cons, All-nil, All-contains}
-use Rattle.std.proofs.lemmas.List.Folds.{list_all_at}
 use Rattle.std.proofs.lemmas.List.Quantifiers.{position-Some}
 use Rattle.std.proofs.lemmas.Map.Views.{Contains-keys_from_lookup}
 use Rattle.std.proofs.lemmas.Option.{slice_get-get_or}
@@ -117,20 +116,6 @@ row_accepted store device cells written h =
     ap (λ b. cond b (cond (all_fit store.state.world device cells) Done WrongType) NoPath) (row_there store device cells written h)
     ∙ ap (λ b. cond b Done WrongType) (row_fits store device cells written h)
 
--- and refuses one with a cell that has none
-pub row_refused : (store : Store) (device : List ℕ) (cells : List Cell) (i : ℕ) (cell : Cell) → i < length cells → cell ≡ get_or cells i cell
-    → value_in (series_of store.state.world device cell.measurement) cell.value ≡ None → insert_answer store.state.world device cells ≢ Done
-row_refused store device cells i cell below is none accepted =
-    let p : Cell → Bool = λ cell. fits_series cell.value (series_of store.state.world device cell.measurement) in
-    let fit : all_fit store.state.world device cells ≡ false =
-    list_all_at p cells i cell below (ap p (sym is) ∙ cell_fits (series_of store.state.world device cell.measurement) cell.value None none) in
-    refused (are_there store.state.world device (map (λ cell. cell.measurement) cells)) (all_fit store.state.world device cells) fit accepted
-  where
-    refused : (there fit : Bool) → fit ≡ false → cond there (cond fit Done WrongType) NoPath ≡ Done → ⊥
-    refused true true e h = absurd (false≢true (sym e))
-    refused true false e h = cc
-    refused false fit e h = cc
-
 abbrev pub Named : Cell → Type 0
 Named cell = IsName cell.measurement
 
@@ -139,13 +124,6 @@ pub record IsRowPart (store : Store) (device : List ℕ) (cells : List Cell) (i 
   pub values : (more : List CellRecord) → AreCellsOf store device (drop i cells) more → AreCellsOf store device cells (written ++ more)
   pub names : All Named (drop i cells) → All Named cells
   pub count : length written ≡ i
-
-pub row_begins : (store : Store) (device : List ℕ) (cells : List Cell) (written : List CellRecord) → written ≡ [] → IsRowPart store device cells 0 written
-row_begins store device cells written none = record {
-  values = λ more h. subst (λ l. AreCellsOf store device cells (l ++ more)) (sym none) h;
-  names = λ h. h;
-  count = ap length none;
-}
 
 pub row_goes_on : (store : Store) (device : List ℕ) (cells : List Cell) (i : ℕ) (written next : List CellRecord) (cell : Cell) (w : CellRecord)
     → IsRowPart store device cells i written → i < length cells → cell ≡ get_or cells i cell → IsCellOf store device cell w → IsName cell.measurement

@@ -1,9 +1,9 @@
 -- The replies of a plain core are allowed.
-use Rattle.std.proofs.Common.{◌≡◌, ◌≢◌, inl, inr, ℕ, ◌+◌, ◌<◌, ◌≤◌, Bool, true, false, cond, List, [], ◌∷◌, ◌++◌, refl, sym, ap, ◌∙◌, subst, arith}
+use Rattle.std.proofs.Common.{◌≡◌, ◌≢◌, inl, ◌+◌, Bool, true, false, cond, List, [], ◌∷◌, ◌++◌, sym, ap, ◌∙◌, subst}
 use Rattle.std.specs.FinMap.{contains_key}
 use Rattle.tsdb_base.specs.declared.answers.Answer.{Answer}
 use Rattle.tsdb_base.specs.declared.answers.Answer.TheVariants as answer
-use Rattle.tsdb_map.specs.Apply.{after_reply, all_fit, any_unfit, ask_aggregates, item_values, reply_of, world_after}
+use Rattle.tsdb_map.specs.Apply.{all_fit, any_unfit, ask_aggregates, item_values, reply_of}
 use Rattle.tsdb_map.specs.History.{Entry, IsAllowed, IsChange, IsLegal, IsMapReply, state_after}
 use Rattle.tsdb_map.specs.Limits.{max_number}
 use Rattle.tsdb_map.specs.State.{State}

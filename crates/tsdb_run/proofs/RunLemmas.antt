@@ -1,5 +1,5 @@
 -- What the parts of a run say of the whole.
-use Rattle.std.proofs.Common.{◌≢◌, inl, inr, ℕ, ◌<◌, List, Option, Some, arith, refl, subst}
+use Rattle.std.proofs.Common.{◌≢◌, inl, ℕ, ◌<◌, List, Option, Some, arith, subst}
 use Rattle.std.specs.Prelude.{All}
 use Rattle.std.proofs.Math.ListN.{get_or-map}
 use Rattle.std.proofs.lemmas.List.{length-map}
@@ -8,11 +8,11 @@ use Rattle.tsdb_script.specs.Reading.{IsBuilt, IsScript}
 use Rattle.tsdb_script.specs.declared.numbered.Numbered.{Numbered}
 use Rattle.tsdb_script.proofs.ReadingLemmas.{built, within_limits}
 use Rattle.std.specs.Io.KnownBytes.{Appends}
-use Rattle.tsdb_run.specs.Headline.{Headline, IsExecuted, IsWithoutCommands}
+use Rattle.tsdb_run.specs.Headline.{Headline, IsExecuted}
 use Rattle.tsdb_run.specs.Limits.{session_numbers}
 use Rattle.tsdb_run.specs.Output.{AppendsPrefix, output_text}
 use Rattle.tsdb_outside.specs.Disk.{State}
-use Rattle.tsdb_run.specs.Execution.{IsOpeningStatus, IsStoreRun}
+use Rattle.tsdb_run.specs.Execution.{IsStoreRun}
 use Rattle.tsdb_run.specs.Steps.{IsWritten}
 use Rattle.tsdb_run.specs.declared.status.Status.{Status}
 use Rattle.tsdb_run.specs.declared.status.Status.TheVariants.{Done, Memory, Words, Script, Source, Sink, Device, Damaged}
@@ -61,15 +61,3 @@ Headline-written (Script line kind) bytes script history before after rose old n
 Headline-written Source bytes script history before after rose old new is run written = absurd written
 Headline-written Device bytes script history before after rose old new is run written = absurd written
 Headline-written (Damaged part at) bytes script history before after rose old new is run written = absurd written
-
--- a store that was not opened
-pub Headline-refused : (status : Status) (left : Option (List ℕ)) (history : List Told) (before after : State) (rose : Type 0) (old new : Option (List ℕ))
-    → IsOpeningStatus before.seen status → IsWithoutCommands before after history old new → Headline status left before after rose history old new
-Headline-refused Memory left history before after rose old new is without = inr without
-Headline-refused Device left history before after rose old new is without = without
-Headline-refused (Damaged part at) left history before after rose old new is without = (is, without)
-Headline-refused Done left history before after rose old new is without = absurd is
-Headline-refused Sink left history before after rose old new is without = absurd is
-Headline-refused Words left history before after rose old new is without = absurd is
-Headline-refused (Script line kind) left history before after rose old new is without = absurd is
-Headline-refused Source left history before after rose old new is without = absurd is

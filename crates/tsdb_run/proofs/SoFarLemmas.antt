@@ -3,7 +3,7 @@ use Rattle.std.proofs.Common.{◌≡◌, ◌≢◌, ◌⊎◌, inl, inr, ℕ, �
 use Rattle.std.specs.Prelude.{◌-◌, ◌^◌, count_by, min, slice_index, slice_set}
 use Rattle.std.specs.List.{AllByRecursion, filter}
 use Rattle.std.proofs.lemmas.Bool.{eqb-true, eq-eqb, false≢true}
-use Rattle.std.proofs.lemmas.List.{length-append, map-append, drop_all, get_or-set_same, get_or-set_other}
+use Rattle.std.proofs.lemmas.List.{map-append, drop_all, get_or-set_same, get_or-set_other}
 use Rattle.std.proofs.lemmas.List.Sums.{sum_by_push}
 use Rattle.std.proofs.Math.Seq.{take-length}
 use Rattle.std.proofs.lemmas.List.Elements.{All-from_recursion}
@@ -34,7 +34,7 @@ pub record SoFar (script : List Numbered) (history : List Told) (start now : Sta
   pub commands : map (λ entry. entry.command) entries ≡ map (λ numbered. numbered.command) script
   pub legal : IsLegal start entries now
   pub without_files : AllByRecursion (λ told. IsWithoutFiles told.reply) history
-  pub counted : Count counts script
+  pub counts_are : Count counts script
 
 pub SoFar-none : (start : State) (counts : List ℕ) → ((at : ℕ) → slice_index counts at ≡ 0) → SoFar [] [] start start [] counts
 SoFar-none start counts none = record {
@@ -44,7 +44,7 @@ SoFar-none start counts none = record {
   commands = refl;
   legal = refl;
   without_files = tt;
-  counted = λ session lt. none session;
+  counts_are = λ session lt. none session;
 }
 
 -- a slice that is changed whole is the vector's
@@ -63,7 +63,7 @@ few_of (n ∷ script) session =
 
 Count-push : (counts after : List ℕ) (script : List Numbered) (numbered : Numbered) → length counts ≡ session_numbers → numbered.session < session_numbers
     → after ≡ slice_set counts numbered.session (slice_index counts numbered.session + 1) → Count counts script → Count after (script ++ numbered ∷ [])
-Count-push counts after script numbered long within is counted = λ session lt.
+Count-push counts after script numbered long within is counts_are = λ session lt.
     elim (eqb numbered.session session) as (λ b. eqb numbered.session session ≡ b
     → slice_index after session ≡ length (commands_of script session) + cond b 1 0 → slice_index after session ≡ length (commands_of (script ++ numbered ∷ []) session)) [
       | true ↦ λ e h. h ∙ ap (λ b. length (commands_of script session) + cond b 1 0) (sym e) ∙ sym (length-commands_of-push script numbered session)
@@ -76,12 +76,12 @@ Count-push counts after script numbered long within is counted = λ session lt.
         ap (λ l. get_or l session 0) is
         ∙ ap (λ s. get_or (slice_set counts s (slice_index counts s + 1)) session 0) same
         ∙ get_or-set_same counts session (slice_index counts session + 1) 0 (omega arith)
-        ∙ ap (λ n. n + 1) (counted session lt)
+        ∙ ap (λ n. n + 1) (counts_are session lt)
     one session lt false e =
         ap (λ l. get_or l session 0) is
         ∙ get_or-set_other counts numbered.session session (slice_index counts numbered.session + 1) 0
         (λ same. false≢true (sym e ∙ eq-eqb numbered.session session (sym same)))
-        ∙ counted session lt ∙ omega arith
+        ∙ counts_are session lt ∙ omega arith
 
 AllByRecursion-push : {X : Type 0} (P : X → Type 0) (xs : List X) (x : X) → AllByRecursion P xs → P x → AllByRecursion P (xs ++ x ∷ [])
 AllByRecursion-push P [] x h p = (p, tt)
@@ -100,7 +100,7 @@ pub SoFar-push : (script : List Numbered) (history : List Told) (start now after
     → next ≡ slice_set counts numbered.session (slice_index counts numbered.session + 1)
     → SoFar (script ++ numbered ∷ []) (history ++ told ∷ []) start after (entries ++ record { command = numbered.command; reply = told.reply } ∷ []) next
 SoFar-push script history start now after entries counts next numbered told so_far long within allows without leads same at is =
-    let index = at ∙ so_far.counted numbered.session within in
+    let index = at ∙ so_far.counts_are numbered.session within in
     record {
       in_line_order = pushed (λ t. t.session) (λ n. n.session) history script told numbered so_far.in_line_order same;
       complete = IsComplete-push script history numbered told same index so_far.complete;
@@ -108,7 +108,7 @@ SoFar-push script history start now after entries counts next numbered told so_f
       commands = pushed (λ e. e.command) (λ n. n.command) entries script (record { command = numbered.command; reply = told.reply }) numbered so_far.commands refl;
       legal = IsLegal-push start now after entries (record { command = numbered.command; reply = told.reply }) so_far.legal allows leads;
       without_files = AllByRecursion-push (λ t. IsWithoutFiles t.reply) history told so_far.without_files without;
-      counted = Count-push counts next script numbered long within is so_far.counted;
+      counts_are = Count-push counts next script numbered long within is so_far.counts_are;
     }
 
 pub history_of : (script : List Numbered) (history : List Told) (start now : State) (entries : List Entry) (counts : List ℕ)

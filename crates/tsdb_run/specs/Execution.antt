@@ -1,11 +1,11 @@
 -- What the execution of a script ensures. No public clause cites it.
-use Rattle.std.specs.Prelude.{◌≡◌, ℕ, List, Option, None, Some, IfSome}
+use Rattle.std.specs.Prelude.{◌≡◌, List, Option, None, IfSome}
 use Rattle.tsdb_map.specs.History.{Entry}
 use Rattle.tsdb_map.specs.State as plain
 use Rattle.tsdb_map.specs.declared.command.Command.{Command}
 use Rattle.tsdb_outside.specs.Disk.{Image, State}
 use Rattle.tsdb_outside.specs.declared.disk.Disk as disk
-use Rattle.tsdb_outside.specs.declared.faults.Counted as counted
+use Rattle.tsdb_outside.specs.declared.faults.Counted as counts_are
 use Rattle.tsdb_frames.specs.Moments.{LeavesOnly}
 use Rattle.tsdb_plain.specs.Core.{IsStored, disk_of, state_of}
 use Rattle.tsdb_plain.specs.declared.plain_core.PlainCore.{PlainCore}
@@ -26,7 +26,7 @@ pub record HasServed (first now : State) (stored : Option Command → Type 0) (s
   pub is : stored doubt
   pub leaves : LeavesOnly first now (StandsAfterPrefix start entries)
 
-module _ {J : Type 0} {means : disk.Ghosts J} {counts : counted.Ghosts J} where
+module _ {J : Type 0} {means : disk.Ghosts J} {counts : counts_are.Ghosts J} where
   -- a script was executed on a core, from the state that it held to the one that it holds
   pub record HasExecuted (script : List Numbered) (history : List Told) (old new : PlainCore J means counts) : Type 0 where
     pub entries : List Entry

@@ -3,7 +3,6 @@
 -- finds the map after a prefix of that order. And what each status says.
 use Rattle.std.specs.Prelude.{◌≡◌, ◌⊎◌, ℕ, Bool, true, false, List, [], ◌∷◌, ◌++◌, Option, IfSome, All, map}
 use Rattle.std.specs.Io.KnownBytes.{Appends, Keeps as KeepsBytes}
-use Rattle.tsdb_base.specs.declared.answers.Answer.{Answer}
 use Rattle.tsdb_base.specs.declared.answers.Answer.TheVariants as answer
 use Rattle.tsdb_frames.specs.Moments.{LeavesOnly}
 use Rattle.tsdb_map.specs.History.{Entry, IsChange, IsLegal, state_after}
@@ -11,10 +10,9 @@ use Rattle.tsdb_map.specs.Limits.{max_number}
 use Rattle.tsdb_map.specs.State as plain
 use Rattle.tsdb_map.specs.declared.command.Command.{Command}
 use Rattle.tsdb_map.specs.declared.reply.Reply.{Reply}
-use Rattle.tsdb_map.specs.declared.reply.Reply.TheVariants.{Plain, Lines, Values, Files}
+use Rattle.tsdb_map.specs.declared.reply.Reply.TheVariants.{Plain, Files}
 use Rattle.tsdb_outside.specs.Disk.{Image, Keeps, State}
 use Rattle.tsdb_plain.specs.Images.{IsDamaged, IsSound, StandsFor}
-use Rattle.tsdb_plain.specs.declared.fault.Part.{Part}
 use Rattle.tsdb_plain.specs.declared.fault.Part.TheVariants.{Log}
 use Rattle.tsdb_script.specs.Reading.{IsScript, IsFirstBad}
 use Rattle.tsdb_script.specs.declared.numbered.Numbered.{Numbered}

@@ -71,15 +71,15 @@ again_columns (x ∷ xs) places tokens some h =
 
 again_conditions : (conditions : List Condition) (behind : List Place) (tokens : Tokens) → (behind ≡ []) ⊎ (behind ≡ this Semicolon ∷ []) → Stand (where_places conditions behind) tokens → TakesPart (conditions_at tokens) conditions behind
 unfolding conditions_at
-again_conditions [] behind tokens ended h = record {
+again_conditions [] behind tokens finish h = record {
   rest = tokens;
-  is = ap (λ t. cond t (keyword_at (codes "where") tokens >>= list_at (says (codes "and")) next_condition condition_at) (Some ([], tokens))) (stops_end (codes "where") behind ended tokens h);
+  is = ap (λ t. cond t (keyword_at (codes "where") tokens >>= list_at (says (codes "and")) next_condition condition_at) (Some ([], tokens))) (stops_end (codes "where") behind finish tokens h);
   stand = h;
 }
-again_conditions (x ∷ xs) behind tokens ended h =
+again_conditions (x ∷ xs) behind tokens finish h =
     let k = take_keyword (codes "where") (condition_places x ++ (flat_map (λ c. keyword (codes "and") ∷ condition_places c) xs ++ behind)) tokens h in
     let l = again_list (λ c. keyword (codes "and") ∷ condition_places c) (says (codes "and")) next_condition again_next_condition and_goes_on (λ x behind. calm_keyword (codes "and") (condition_places x ++ behind))
-    behind (calm_end behind ended) (stops_end (codes "and") behind ended) (λ x. omega arith) condition_places condition_at again_condition x xs k.rest k.stand in
+    behind (calm_end behind finish) (stops_end (codes "and") behind finish) (λ x. omega arith) condition_places condition_at again_condition x xs k.rest k.stand in
     record {
       rest = l.rest;
       is = ap (λ t. cond t (keyword_at (codes "where") tokens >>= list_at (says (codes "and")) next_condition condition_at) (Some ([], tokens))) (says_it tokens k.rest k.is)
@@ -92,17 +92,17 @@ again_conditions (x ∷ xs) behind tokens ended h =
     says_it (Word w ∷ more) rest e = elim (is_keyword w (codes "where")) as (λ t. cond t (Some more) None ≡ Some rest → t ≡ true) [ true ↦ λ e. refl | false ↦ λ e. cc ] e
     says_it (_ ∷ more) rest e = cc
 
-module _ (behind : List Place) (ended : (behind ≡ []) ⊎ (behind ≡ this Semicolon ∷ [])) (rest : Tokens) (device : List ℕ) (names : List (List ℕ)) (time : List ℕ) (values : List Operand) (some : 0 < length values) where
+module _ (behind : List Place) (finish : (behind ≡ []) ⊎ (behind ≡ this Semicolon ∷ [])) (rest : Tokens) (device : List ℕ) (names : List (List ℕ)) (time : List ℕ) (values : List Operand) (some : 0 < length values) where
   tail_again : Stand (each_of value_places values (this Close ∷ behind)) rest → insert_tail device names time rest ≡ Some (Insert device names time values)
   tail_again h =
       let n = again_values values behind rest some h in
       let o = take_this Close behind n.rest n.stand in
-      leads (values_at rest) (values, n.rest) _ _ n.is (leads (close_at n.rest) o.rest _ _ (ap close_at o.is) (leads {A = Unit {0}} (end_at o.rest) tt _ _ (end_again behind o.rest ended o.stand) refl))
+      leads (values_at rest) (values, n.rest) _ _ n.is (leads (close_at n.rest) o.rest _ _ (ap close_at o.is) (leads {A = Unit {0}} (end_at o.rest) tt _ _ (end_again behind o.rest finish o.stand) refl))
 
-middle_again : (behind : List Place) (ended : (behind ≡ []) ⊎ (behind ≡ this Semicolon ∷ [])) (rest : Tokens) (device : List ℕ) (names : List (List ℕ)) (time : List ℕ) (values : List Operand) → 0 < length values
+middle_again : (behind : List Place) (finish : (behind ≡ []) ⊎ (behind ≡ this Semicolon ∷ [])) (rest : Tokens) (device : List ℕ) (names : List (List ℕ)) (time : List ℕ) (values : List Operand) → 0 < length values
     → Stand (this Close ∷ keyword (codes "values") ∷ this Open ∷ word time ∷ this Comma ∷ each_of value_places values (this Close ∷ behind)) rest
     → insert_middle device names rest ≡ Some (Insert device names time values)
-middle_again behind ended rest device names time values some h =
+middle_again behind finish rest device names time values some h =
     let last : List Place = each_of value_places values (this Close ∷ behind) in
     let i = take_this Close (keyword (codes "values") ∷ this Open ∷ word time ∷ this Comma ∷ last) rest h in
     let j = take_keyword (codes "values") (this Open ∷ word time ∷ this Comma ∷ last) i.rest i.stand in
@@ -111,9 +111,9 @@ middle_again behind ended rest device names time values some h =
     let m = take_this Comma last l.rest l.stand in
     leads (close_at rest) i.rest _ _ (ap close_at i.is) (leads (keyword_at (codes "values") i.rest) j.rest _ _ j.is
     (leads (open_at j.rest) k.rest _ _ (ap open_at k.is) (leads (word_at k.rest) (time, l.rest) _ _ (word_again time k.rest l.rest l.is) (leads (comma_at l.rest) m.rest _ _ (ap comma_at m.is)
-    (tail_again behind ended m.rest device names time values some m.stand)))))
+    (tail_again behind finish m.rest device names time values some m.stand)))))
 
-module _ (behind : List Place) (ended : (behind ≡ []) ⊎ (behind ≡ this Semicolon ∷ [])) (tokens : Tokens) where
+module _ (behind : List Place) (finish : (behind ≡ []) ⊎ (behind ≡ this Semicolon ∷ [])) (tokens : Tokens) where
   create_again : (path type encoding : List ℕ)
       → Stand (keyword (codes "timeseries") ∷ word path ∷ keyword (codes "with") ∷ keyword (codes "datatype") ∷ this Equal ∷ word type ∷ this Comma ∷ keyword (codes "encoding") ∷ this Equal ∷ word encoding ∷ behind) tokens
       → create_at tokens ≡ Some (Create path type encoding)
@@ -134,7 +134,7 @@ module _ (behind : List Place) (ended : (behind ≡ []) ⊎ (behind ≡ this Sem
       (leads (equal_at d.rest) f.rest _ _ (ap equal_at f.is) (leads (word_at f.rest) (type, g.rest) _ _ (word_again type f.rest g.rest g.is)
       (leads (comma_at g.rest) i.rest _ _ (ap comma_at i.is) (leads (keyword_at (codes "encoding") i.rest) j.rest _ _ j.is
       (leads (equal_at j.rest) k.rest _ _ (ap equal_at k.is) (leads (word_at k.rest) (encoding, l.rest) _ _ (word_again encoding k.rest l.rest l.is)
-      (leads {A = Unit {0}} (end_at l.rest) tt _ _ (end_again behind l.rest ended l.stand) refl))))))))))
+      (leads {A = Unit {0}} (end_at l.rest) tt _ _ (end_again behind l.rest finish l.stand) refl))))))))))
 
   insert_again : (device : List ℕ) (names : List (List ℕ)) (time : List ℕ) (values : List Operand) → 0 < length names → 0 < length values
       → Stand (keyword (codes "into") ∷ word device ∷ this Open ∷ either (codes "timestamp") (codes "time") ∷ this Comma ∷ each_of name_places names (this Close
@@ -152,16 +152,16 @@ module _ (behind : List Place) (ended : (behind ≡ []) ⊎ (behind ≡ this Sem
       let g = again_words names middle f.rest some_names f.stand in
       leads (keyword_at (codes "into") tokens) a.rest _ _ a.is (leads (word_at a.rest) (device, b.rest) _ _ (word_again device a.rest b.rest b.is)
       (leads (open_at b.rest) c.rest _ _ (ap open_at c.is) (leads (timestamp_at c.rest) d.rest _ _ d.is (leads (comma_at d.rest) f.rest _ _ (ap comma_at f.is)
-      (leads (words_at f.rest) (names, g.rest) _ _ g.is (middle_again behind ended g.rest device names time values some_values g.stand))))))
+      (leads (words_at f.rest) (names, g.rest) _ _ g.is (middle_again behind finish g.rest device names time values some_values g.stand))))))
 
   delete_again : (path : List ℕ) (conditions : List Condition) → Stand (keyword (codes "from") ∷ word path ∷ where_places conditions behind) tokens → delete_at tokens ≡ Some (Delete path conditions)
   unfolding delete_at
   delete_again path conditions h =
       let a = take_keyword (codes "from") (word path ∷ where_places conditions behind) tokens h in
       let b = take_this (Word path) (where_places conditions behind) a.rest a.stand in
-      let c = again_conditions conditions behind b.rest ended b.stand in
+      let c = again_conditions conditions behind b.rest finish b.stand in
       leads (keyword_at (codes "from") tokens) a.rest _ _ a.is (leads (word_at a.rest) (path, b.rest) _ _ (word_again path a.rest b.rest b.is) (leads (conditions_at b.rest) (conditions, c.rest) _ _ c.is
-      (leads {A = Unit {0}} (end_at c.rest) tt _ _ (end_again behind c.rest ended c.stand) refl)))
+      (leads {A = Unit {0}} (end_at c.rest) tt _ _ (end_again behind c.rest finish c.stand) refl)))
 
   select_again : (columns : List Column) (device : List ℕ) (conditions : List Condition) → 0 < length columns
       → Stand (each_of column_places columns (keyword (codes "from") ∷ word device ∷ where_places conditions behind)) tokens → select_at tokens ≡ Some (Select columns device conditions)
@@ -170,28 +170,28 @@ module _ (behind : List Place) (ended : (behind ≡ []) ⊎ (behind ≡ this Sem
       let a = again_columns columns (word device ∷ where_places conditions behind) tokens some h in
       let b = take_keyword (codes "from") (word device ∷ where_places conditions behind) a.rest a.stand in
       let c = take_this (Word device) (where_places conditions behind) b.rest b.stand in
-      let d = again_conditions conditions behind c.rest ended c.stand in
+      let d = again_conditions conditions behind c.rest finish c.stand in
       leads (columns_at tokens) (columns, a.rest) _ _ a.is (leads (keyword_at (codes "from") a.rest) b.rest _ _ b.is (leads (word_at b.rest) (device, c.rest) _ _ (word_again device b.rest c.rest c.is)
-      (leads (conditions_at c.rest) (conditions, d.rest) _ _ d.is (leads {A = Unit {0}} (end_at d.rest) tt _ _ (end_again behind d.rest ended d.stand) refl))))
+      (leads (conditions_at c.rest) (conditions, d.rest) _ _ d.is (leads {A = Unit {0}} (end_at d.rest) tt _ _ (end_again behind d.rest finish d.stand) refl))))
 
   flush_again : Stand behind tokens → flush_at tokens ≡ Some Flush
   unfolding flush_at
-  flush_again h = leads {A = Unit {0}} (end_at tokens) tt (λ nothing. Some Flush) (Some Flush) (end_again behind tokens ended h) refl
+  flush_again h = leads {A = Unit {0}} (end_at tokens) tt (λ nothing. Some Flush) (Some Flush) (end_again behind tokens finish h) refl
 
   cross_again : Stand behind tokens → cross_at tokens ≡ Some CompactCross
   unfolding cross_at
-  cross_again h = leads {A = Unit {0}} (end_at tokens) tt (λ nothing. Some CompactCross) (Some CompactCross) (end_again behind tokens ended h) refl
+  cross_again h = leads {A = Unit {0}} (end_at tokens) tt (λ nothing. Some CompactCross) (Some CompactCross) (end_again behind tokens finish h) refl
 
   inner_again : (space : Space) (name : List ℕ) → space_at name ≡ Some space → (rest : Tokens) → tokens ≡ Word name ∷ rest → Stand behind rest → inner_at tokens ≡ Some (CompactInner space)
   unfolding inner_at
   inner_again space name is rest begins h =
-      leads (word_at tokens) (name, rest) _ _ (word_again name tokens rest begins) (leads (space_at name) space _ _ is (leads {A = Unit {0}} (end_at rest) tt _ _ (end_again behind rest ended h) refl))
+      leads (word_at tokens) (name, rest) _ _ (word_again name tokens rest begins) (leads (space_at name) space _ _ is (leads {A = Unit {0}} (end_at rest) tt _ _ (end_again behind rest finish h) refl))
 
   show_again : Stand (keyword (codes "files") ∷ behind) tokens → show_at tokens ≡ Some ShowFiles
   unfolding show_at
   show_again h =
       let a = take_keyword (codes "files") behind tokens h in
-      leads (keyword_at (codes "files") tokens) a.rest _ _ a.is (leads {A = Unit {0}} (end_at a.rest) tt _ _ (end_again behind a.rest ended a.stand) refl)
+      leads (keyword_at (codes "files") tokens) a.rest _ _ a.is (leads {A = Unit {0}} (end_at a.rest) tt _ _ (end_again behind a.rest finish a.stand) refl)
 
 -- a word is one keyword at most
 other_keyword : (w name other : List ℕ) → is_keyword w name ≡ true → bytes_eq (str_to_ascii_lowercase name) (str_to_ascii_lowercase other) ≡ false → is_keyword w other ≡ false
@@ -279,37 +279,37 @@ by_form tokens w rest syntax begins e = leads (word_at tokens) (w, rest) (λ fir
 pub statement_again : (tokens : Tokens) (syntax : Syntax) → Fits tokens syntax → statement_at tokens ≡ Some syntax
 statement_again tokens (Create path type encoding) h =
     let s = said (codes "create") _ tokens (record { all = h.stand }) in
-    by_form tokens s.said s.rest _ s.begins (is_create s.said s.rest s.is ∙ create_again h.behind h.ended s.rest path type encoding s.stand)
+    by_form tokens s.said s.rest _ s.begins (is_create s.said s.rest s.is ∙ create_again h.behind h.finish s.rest path type encoding s.stand)
 statement_again tokens (Insert device names time values) h =
     let s = said (codes "insert") _ tokens (record { all = h.stand }) in
-    by_form tokens s.said s.rest _ s.begins (is_insert s.said s.rest s.is ∙ insert_again h.behind h.ended s.rest device names time values h.parts.0 h.parts.1 s.stand)
+    by_form tokens s.said s.rest _ s.begins (is_insert s.said s.rest s.is ∙ insert_again h.behind h.finish s.rest device names time values h.parts.0 h.parts.1 s.stand)
 statement_again tokens (Delete path conditions) h =
     let s = said (codes "delete") _ tokens (record { all = h.stand }) in
-    by_form tokens s.said s.rest _ s.begins (is_delete s.said s.rest s.is ∙ delete_again h.behind h.ended s.rest path conditions s.stand)
+    by_form tokens s.said s.rest _ s.begins (is_delete s.said s.rest s.is ∙ delete_again h.behind h.finish s.rest path conditions s.stand)
 statement_again tokens (Select columns device conditions) h =
     let s = said (codes "select") _ tokens (record { all = h.stand }) in
-    by_form tokens s.said s.rest _ s.begins (is_select s.said s.rest s.is ∙ select_again h.behind h.ended s.rest columns device conditions h.parts s.stand)
+    by_form tokens s.said s.rest _ s.begins (is_select s.said s.rest s.is ∙ select_again h.behind h.finish s.rest columns device conditions h.parts s.stand)
 statement_again tokens Flush h =
     let s = said (codes "flush") _ tokens (record { all = h.stand }) in
-    by_form tokens s.said s.rest _ s.begins (is_flush s.said s.rest s.is ∙ flush_again h.behind h.ended s.rest s.stand)
+    by_form tokens s.said s.rest _ s.begins (is_flush s.said s.rest s.is ∙ flush_again h.behind h.finish s.rest s.stand)
 statement_again tokens (CompactInner Sequence) h =
     let s = said (codes "compact") _ tokens (record { all = h.stand }) in
     let i = said (codes "inner") _ s.rest s.stand in
     let n = said (codes "sequence") h.behind i.rest i.stand in
     by_form tokens s.said s.rest _ s.begins (is_compact s.said s.rest s.is ∙ compact_inner s.rest i.said i.rest i.begins i.is
-    ∙ inner_again h.behind h.ended i.rest Sequence n.said (ap (λ t. cond t (Some Sequence) (cond (is_keyword n.said (codes "unsequence")) (Some Unsequence) None)) n.is) n.rest n.begins n.stand)
+    ∙ inner_again h.behind h.finish i.rest Sequence n.said (ap (λ t. cond t (Some Sequence) (cond (is_keyword n.said (codes "unsequence")) (Some Unsequence) None)) n.is) n.rest n.begins n.stand)
 statement_again tokens (CompactInner Unsequence) h =
     let s = said (codes "compact") _ tokens (record { all = h.stand }) in
     let i = said (codes "inner") _ s.rest s.stand in
     let n = said (codes "unsequence") h.behind i.rest i.stand in
     by_form tokens s.said s.rest _ s.begins (is_compact s.said s.rest s.is ∙ compact_inner s.rest i.said i.rest i.begins i.is
-    ∙ inner_again h.behind h.ended i.rest Unsequence n.said
+    ∙ inner_again h.behind h.finish i.rest Unsequence n.said
     (ap (λ t. cond t (Some Sequence) (cond (is_keyword n.said (codes "unsequence")) (Some Unsequence) None)) (other_keyword n.said (codes "unsequence") (codes "sequence") n.is refl)
     ∙ ap (λ t. cond t (Some Unsequence) None) n.is) n.rest n.begins n.stand)
 statement_again tokens CompactCross h =
     let s = said (codes "compact") _ tokens (record { all = h.stand }) in
     let i = said (codes "cross") h.behind s.rest s.stand in
-    by_form tokens s.said s.rest _ s.begins (is_compact s.said s.rest s.is ∙ compact_cross s.rest i.said i.rest i.begins i.is ∙ cross_again h.behind h.ended i.rest i.stand)
+    by_form tokens s.said s.rest _ s.begins (is_compact s.said s.rest s.is ∙ compact_cross s.rest i.said i.rest i.begins i.is ∙ cross_again h.behind h.finish i.rest i.stand)
 statement_again tokens ShowFiles h =
     let s = said (codes "show") _ tokens (record { all = h.stand }) in
-    by_form tokens s.said s.rest _ s.begins (is_show s.said s.rest s.is ∙ show_again h.behind h.ended s.rest s.stand)
+    by_form tokens s.said s.rest _ s.begins (is_show s.said s.rest s.is ∙ show_again h.behind h.finish s.rest s.stand)

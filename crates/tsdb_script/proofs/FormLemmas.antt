@@ -281,12 +281,12 @@ put_conditions tokens r behind e h =
 -- the end
 pub record Ends (tokens : Tokens) : Type 0 where
   pub behind : List Place
-  pub ended : (behind ≡ []) ⊎ (behind ≡ this Semicolon ∷ [])
+  pub finish : (behind ≡ []) ⊎ (behind ≡ this Semicolon ∷ [])
   pub stand : Stand behind tokens
 
 pub end_is : (tokens : Tokens) (u : Unit {0}) → end_at tokens ≡ Some u → Ends tokens
-end_is [] u e = record { behind = []; ended = inl refl; stand = record { all = tt } }
-end_is (Semicolon ∷ []) u e = record { behind = this Semicolon ∷ []; ended = inr refl; stand = record { all = (refl, tt) } }
+end_is [] u e = record { behind = []; finish = inl refl; stand = record { all = tt } }
+end_is (Semicolon ∷ []) u e = record { behind = this Semicolon ∷ []; finish = inr refl; stand = record { all = (refl, tt) } }
 end_is (Semicolon ∷ t ∷ rest) u e = cc
 end_is (_ ∷ rest) u e = cc
 
@@ -306,7 +306,7 @@ insert_middle device names rest = close_at rest >>= (λ rest. keyword_at (codes 
 record InsertTail (device : List ℕ) (names : List (List ℕ)) (time : List ℕ) (syntax : Syntax) (rest : Tokens) : Type 0 where
   values : List Operand
   behind : List Place
-  ended : (behind ≡ []) ⊎ (behind ≡ this Semicolon ∷ [])
+  finish : (behind ≡ []) ⊎ (behind ≡ this Semicolon ∷ [])
   is : Insert device names time values ≡ syntax
   some : 0 < length values
   stand : Stand (each_of value_places values (this Close ∷ behind)) rest
@@ -315,7 +315,7 @@ record InsertMiddle (device : List ℕ) (names : List (List ℕ)) (syntax : Synt
   time : List ℕ
   values : List Operand
   behind : List Place
-  ended : (behind ≡ []) ⊎ (behind ≡ this Semicolon ∷ [])
+  finish : (behind ≡ []) ⊎ (behind ≡ this Semicolon ∷ [])
   is : Insert device names time values ≡ syntax
   some : 0 < length values
   stand : Stand (this Close ∷ keyword (codes "values") ∷ this Open ∷ word time ∷ this Comma ∷ each_of value_places values (this Close ∷ behind)) rest
@@ -326,7 +326,7 @@ insert_ends device names time syntax rest e =
     let n = step _ _ _ m.2 in
     let o = ended_as n.0 (Insert device names time m.0.0) syntax n.2 in
     let values = put_values rest m.0 (this Close ∷ o.0.behind) m.1 (put_this Close m.0.1 n.0 o.0.behind (close_is m.0.1 n.0 n.1) o.0.stand) in
-    record { values = m.0.0; behind = o.0.behind; ended = o.0.ended; is = o.1; some = values.0; stand = values.1 }
+    record { values = m.0.0; behind = o.0.behind; finish = o.0.finish; is = o.1; some = values.0; stand = values.1 }
 
 insert_goes_on : (device : List ℕ) (names : List (List ℕ)) (syntax : Syntax) (rest : Tokens) → insert_middle device names rest ≡ Some syntax → InsertMiddle device names syntax rest
 insert_goes_on device names syntax rest e =
@@ -341,7 +341,7 @@ insert_goes_on device names syntax rest e =
       time = k.0.0;
       values = t.values;
       behind = t.behind;
-      ended = t.ended;
+      finish = t.finish;
       is = t.is;
       some = t.some;
       stand = put_this Close rest h.0 (keyword (codes "values") ∷ this Open ∷ word k.0.0 ∷ this Comma ∷ last) (close_is rest h.0 h.1)
@@ -370,7 +370,7 @@ module _ (w : List ℕ) (tokens : Tokens) (syntax : Syntax) where
       subst (Fits (Word w ∷ tokens)) l.1 (record {
         parts = tt;
         behind = end.behind;
-        ended = end.ended;
+        finish = end.finish;
         stand = (
           is,
           (put_keyword (codes "timeseries") tokens a.0 _ a.1 (put_this _ a.0 b.0.1 _ (word_is a.0 b.0 b.1) (put_keyword (codes "with") b.0.1 c.0 _ c.1 (put_keyword (codes "datatype") c.0 d.0 _ d.1
@@ -395,7 +395,7 @@ module _ (w : List ℕ) (tokens : Tokens) (syntax : Syntax) where
       subst (Fits (Word w ∷ tokens)) m.is (record {
         parts = (names.0, m.some);
         behind = m.behind;
-        ended = m.ended;
+        finish = m.finish;
         stand = (
           is,
           (put_keyword (codes "into") tokens a.0 (word b.0.0 ∷ this Open ∷ either (codes "timestamp") (codes "time") ∷ this Comma ∷ first) a.1
@@ -416,7 +416,7 @@ module _ (w : List ℕ) (tokens : Tokens) (syntax : Syntax) where
       subst (Fits (Word w ∷ tokens)) d.1 (record {
         parts = tt;
         behind = end.behind;
-        ended = end.ended;
+        finish = end.finish;
         stand = (is, (put_keyword (codes "from") tokens a.0 _ a.1 (put_this _ a.0 b.0.1 _ (word_is a.0 b.0 b.1) (put_conditions b.0.1 c.0 end.behind c.1 end.stand))).all);
       })
 
@@ -430,14 +430,14 @@ module _ (w : List ℕ) (tokens : Tokens) (syntax : Syntax) where
       let f = ended_as d.0.1 (Select a.0.0 c.0.0 d.0.0) syntax d.2 in
       let end = f.0 in
       let columns = put_columns tokens a.0 _ a.1 (put_keyword (codes "from") a.0.1 b.0 _ b.1 (put_this _ b.0 c.0.1 _ (word_is b.0 c.0 c.1) (put_conditions c.0.1 d.0 end.behind d.1 end.stand))) in
-      subst (Fits (Word w ∷ tokens)) f.1 (record { parts = columns.0; behind = end.behind; ended = end.ended; stand = (is, columns.1.all) })
+      subst (Fits (Word w ∷ tokens)) f.1 (record { parts = columns.0; behind = end.behind; finish = end.finish; stand = (is, columns.1.all) })
 
   flush_fits : is_keyword w (codes "flush") ≡ true → flush_at tokens ≡ Some syntax → Fits (Word w ∷ tokens) syntax
   unfolding flush_at
   flush_fits is e =
       let a = ended_as tokens Flush syntax e in
       let end = a.0 in
-      subst (Fits (Word w ∷ tokens)) a.1 (record { parts = tt; behind = end.behind; ended = end.ended; stand = (is, end.stand.all) })
+      subst (Fits (Word w ∷ tokens)) a.1 (record { parts = tt; behind = end.behind; finish = end.finish; stand = (is, end.stand.all) })
 
   show_fits : is_keyword w (codes "show") ≡ true → show_at tokens ≡ Some syntax → Fits (Word w ∷ tokens) syntax
   unfolding show_at
@@ -445,7 +445,7 @@ module _ (w : List ℕ) (tokens : Tokens) (syntax : Syntax) where
       let a = step _ _ _ e in
       let b = ended_as a.0 ShowFiles syntax a.2 in
       let end = b.0 in
-      subst (Fits (Word w ∷ tokens)) b.1 (record { parts = tt; behind = end.behind; ended = end.ended; stand = (is, (put_keyword (codes "files") tokens a.0 _ a.1 end.stand).all) })
+      subst (Fits (Word w ∷ tokens)) b.1 (record { parts = tt; behind = end.behind; finish = end.finish; stand = (is, (put_keyword (codes "files") tokens a.0 _ a.1 end.stand).all) })
 
   cross_fits : is_keyword w (codes "compact") ≡ true → (first : List ℕ) (rest : Tokens) → tokens ≡ Word first ∷ rest → is_keyword first (codes "cross") ≡ true → cross_at rest ≡ Some syntax → Fits (Word w ∷ tokens) syntax
   unfolding cross_at
@@ -453,7 +453,7 @@ module _ (w : List ℕ) (tokens : Tokens) (syntax : Syntax) where
       let a = ended_as rest CompactCross syntax e in
       let end = a.0 in
       let P : Tokens → Type 0 = λ l. Fits (Word w ∷ l) syntax in
-      subst P (sym begins) (subst (Fits (Word w ∷ Word first ∷ rest)) a.1 (record { parts = tt; behind = end.behind; ended = end.ended; stand = (is, (cross, end.stand.all)) }))
+      subst P (sym begins) (subst (Fits (Word w ∷ Word first ∷ rest)) a.1 (record { parts = tt; behind = end.behind; finish = end.finish; stand = (is, (cross, end.stand.all)) }))
 
   inner_fits : is_keyword w (codes "compact") ≡ true → (first : List ℕ) (rest : Tokens) → tokens ≡ Word first ∷ rest → is_keyword first (codes "inner") ≡ true → inner_at rest ≡ Some syntax → Fits (Word w ∷ tokens) syntax
   unfolding inner_at
@@ -466,14 +466,14 @@ module _ (w : List ℕ) (tokens : Tokens) (syntax : Syntax) where
       subst P (sym from) (subst (Fits (Word w ∷ Word first ∷ Word a.0.0 ∷ a.0.1)) c.1 (by_space a.0.0 a.0.1 b.0 b.1 c.0))
     where
       by_space : (name : List ℕ) (more : Tokens) (space : Space) → space_at name ≡ Some space → Ends more → Fits (Word w ∷ Word first ∷ Word name ∷ more) (CompactInner space)
-      by_space name more Sequence e end = record { parts = tt; behind = end.behind; ended = end.ended; stand = (is, (inner, (sequence name e, end.stand.all))) }
+      by_space name more Sequence e end = record { parts = tt; behind = end.behind; finish = end.finish; stand = (is, (inner, (sequence name e, end.stand.all))) }
         where
           sequence : (name : List ℕ) → space_at name ≡ Some Sequence → is_keyword name (codes "sequence") ≡ true
           sequence name e = elim (is_keyword name (codes "sequence")) as (λ t. cond t (Some Sequence) (cond (is_keyword name (codes "unsequence")) (Some Unsequence) None) ≡ Some Sequence → t ≡ true) [
             | true ↦ λ e. refl
             | false ↦ λ e. elim (is_keyword name (codes "unsequence")) as (λ t. cond t (Some Unsequence) None ≡ Some Sequence → false ≡ true) [ true ↦ λ e. cc | false ↦ λ e. cc ] e
           ] e
-      by_space name more Unsequence e end = record { parts = tt; behind = end.behind; ended = end.ended; stand = (is, (inner, (unsequence name e, end.stand.all))) }
+      by_space name more Unsequence e end = record { parts = tt; behind = end.behind; finish = end.finish; stand = (is, (inner, (unsequence name e, end.stand.all))) }
         where
           unsequence : (name : List ℕ) → space_at name ≡ Some Unsequence → is_keyword name (codes "unsequence") ≡ true
           unsequence name e = elim (is_keyword name (codes "sequence")) as (λ t. cond t (Some Sequence) (cond (is_keyword name (codes "unsequence")) (Some Unsequence) None) ≡ Some Unsequence → is_keyword name (codes "unsequence") ≡ true) [

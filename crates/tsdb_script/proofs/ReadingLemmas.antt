@@ -168,7 +168,7 @@ same_first_bad bytes line kind other_line other_kind a b =
         let bad : IsBad (line_behind b.before b.script b.line) kind =
         subst (λ f. IsBad (line_behind f b.script b.line) kind) before
         (subst (λ s. IsBad (line_behind a.before s b.line) kind) script (subst (λ l. IsBad (line_behind a.before a.script l) kind) here a.bad)) in
-        (a.counted ∙ ap (λ (l : List (List ℕ)). length l + 1) before ∙ sym b.counted, one_line_fault (line_behind b.before b.script b.line) kind other_kind bad b.bad)
+        (a.count_is ∙ ap (λ (l : List (List ℕ)). length l + 1) before ∙ sym b.count_is, one_line_fault (line_behind b.before b.script b.line) kind other_kind bad b.bad)
 
 -- ---- what every script keeps to
 
@@ -266,7 +266,7 @@ goes_on_bad bytes rest line kind g long bad =
           line = bad.line;
           behind = h.0 ++ (g.last ++ g.more) ∷ g.others;
           lines = g.long ∙ ap (λ l. l ++ (g.last ++ g.more) ∷ g.others) h.1 ∙ append_assoc bad.before (bad.line ∷ h.0) ((g.last ++ g.more) ∷ g.others);
-          counted = bad.counted;
+          count_is = bad.count_is;
           script = bad.script;
           good = bad.good;
           bad = bad.bad;
@@ -276,7 +276,7 @@ goes_on_bad bytes rest line kind g long bad =
           line = g.last ++ g.more;
           behind = g.others;
           lines = g.long;
-          counted = bad.counted ∙ ap (λ (l : List (List ℕ)). length l + 1) (sym h.0);
+          count_is = bad.count_is ∙ ap (λ (l : List (List ℕ)). length l + 1) (sym h.0);
           script = bad.script;
           good = subst (λ l. Give l bad.script) (sym h.0) bad.good;
           bad = subst (IsBad (line_behind g.front bad.script (g.last ++ g.more))) (sym (kind_is h.0 h.1)) (past_limit (line_behind g.front bad.script (g.last ++ g.more)) (past g.front g.last g.more long bad.script));
@@ -300,7 +300,7 @@ goes_back_bad bytes rest line kind g long bad =
           line = bad.line;
           behind = h.0 ++ g.last ∷ [];
           lines = g.short ∙ ap (λ l. l ++ g.last ∷ []) h.1 ∙ append_assoc bad.before (bad.line ∷ h.0) (g.last ∷ []);
-          counted = bad.counted;
+          count_is = bad.count_is;
           script = bad.script;
           good = bad.good;
           bad = bad.bad;
@@ -310,7 +310,7 @@ goes_back_bad bytes rest line kind g long bad =
           line = g.last;
           behind = [];
           lines = g.short;
-          counted = bad.counted ∙ ap (λ (l : List (List ℕ)). length l + 1) (sym h.0);
+          count_is = bad.count_is ∙ ap (λ (l : List (List ℕ)). length l + 1) (sym h.0);
           script = bad.script;
           good = subst (λ l. Give l bad.script) (sym h.0) bad.good;
           bad = subst (IsBad (line_behind g.front bad.script g.last)) (sym (kind_is h.0 h.1))

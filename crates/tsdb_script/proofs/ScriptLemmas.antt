@@ -15,7 +15,7 @@ pub record IsReadSoFar (bytes : List ℕ) (script : List Numbered) (different : 
   pub front : List (List ℕ)
   pub lines : lines_of bytes ≡ front ++ lines_of rest
   pub whole : bytes ≡ concat front ++ rest
-  pub counted : number ≡ length front
+  pub count_is : number ≡ length front
   pub some : number ≤ length (concat front)
   pub short : length (concat front) ≤ 67108864
   pub gives : Give front script
@@ -26,7 +26,7 @@ begin bytes none = record {
   front = [];
   lines = refl;
   whole = refl;
-  counted = refl;
+  count_is = refl;
   some = omega arith;
   short = omega arith;
   gives = no_line;
@@ -59,7 +59,7 @@ module _ (bytes : List ℕ) (script : List Numbered) (different rest : List ℕ)
       front = so_far.front ++ line ∷ [];
       lines = all_lines ∙ sym (append_assoc so_far.front (line ∷ []) (lines_of others));
       whole = all_bytes;
-      counted = omega (arith, so_far.counted, length-append so_far.front (line ∷ []));
+      count_is = omega (arith, so_far.count_is, length-append so_far.front (line ∷ []));
       some = omega (arith, so_far.some, some, ap length pushed, length-append (concat so_far.front) line);
       short = omega (arith, ends, fits, ap length pushed, length-append (concat so_far.front) line);
       gives = gives;
@@ -83,7 +83,7 @@ module _ (bytes : List ℕ) (script : List Numbered) (different rest : List ℕ)
     line = line;
     behind = lines_of others;
     lines = all_lines;
-    counted = ap (λ n. n + 1) so_far.counted;
+    count_is = ap (λ n. n + 1) so_far.count_is;
     script = script;
     good = so_far.gives;
     bad = here (λ line. IsBad line kind) bad;

@@ -13,7 +13,7 @@ with_front front parts = (front ++ parts.0, parts.1)
 pub record IsContentSoFar (quote : ℕ) (bytes : List ℕ) (at count : ℕ) : Type 0 where
   pub content : List ℕ
   pub front : take at bytes ≡ escape quote content
-  pub counted : count ≡ length content
+  pub count_is : count ≡ length content
   pub parts : content_parts quote bytes ≡ option_map (with_front content) (content_parts quote (drop at bytes))
 
 -- a byte that is no quote is doubled to itself, and a quote to two
@@ -81,7 +81,7 @@ content_more_other quote bytes at count within other so_far =
     record {
       content = so_far.content ++ b ∷ [];
       front = take_more bytes at 0 within ∙ ap (λ l. l ++ b ∷ []) so_far.front ∙ sym (escape-one quote b so_far.content is);
-      counted = omega (arith, so_far.counted, length-append so_far.content (b ∷ []));
+      count_is = omega (arith, so_far.count_is, length-append so_far.content (b ∷ []));
       parts = so_far.parts
           ∙ ap (λ l. option_map (with_front so_far.content) (content_parts quote l)) (drop_more bytes at 0 within)
           ∙ ap (option_map (with_front so_far.content)) (content_parts-other quote b (drop (at + 1) bytes) is)
@@ -105,7 +105,7 @@ content_more_pair quote bytes at count within same again within' so_far =
           ∙ append_assoc (take at bytes) (b ∷ []) (c ∷ [])
           ∙ ap (λ c. take at bytes ++ b ∷ c ∷ []) twin
           ∙ ap (λ l. l ++ b ∷ b ∷ []) so_far.front ∙ sym (escape-two quote b so_far.content is);
-      counted = omega (arith, so_far.counted, length-append so_far.content (b ∷ []));
+      count_is = omega (arith, so_far.count_is, length-append so_far.content (b ∷ []));
       parts = so_far.parts
           ∙ ap (λ l. option_map (with_front so_far.content) (content_parts quote l)) (drop_more bytes at 0 within ∙ ap (λ l. b ∷ l) (drop_more bytes (at + 1) 0 within'))
           ∙ ap (option_map (with_front so_far.content)) (content_parts-pair quote b c (drop (at + 1 + 1) bytes) is is')
@@ -133,8 +133,8 @@ content_ended quote bytes at count within same other so_far =
           ∙ sym (so_far.parts
           ∙ ap (λ l. option_map (with_front so_far.content) (content_parts quote l)) (drop_more bytes at 0 within)
           ∙ ap (option_map (with_front so_far.content)) (content_parts-end quote b (drop (at + 1) bytes) is other)),
-      so_far.counted ∙ sym (ap length content),
+      so_far.count_is ∙ sym (ap length content),
     )
 
 pub content_none : (quote : ℕ) (bytes : List ℕ) → IsContentSoFar quote bytes 0 0
-content_none quote bytes = record { content = []; front = refl; counted = refl; parts = with_front-nil (content_parts quote bytes) }
+content_none quote bytes = record { content = []; front = refl; count_is = refl; parts = with_front-nil (content_parts quote bytes) }

@@ -96,7 +96,7 @@ HasParts syntax = Unit {0}
 pub record Fits (tokens : List Token) (syntax : Syntax) : Type 0 where
   pub parts : HasParts syntax
   pub behind : List Place
-  pub ended : (behind ≡ []) ⊎ (behind ≡ this token.Semicolon ∷ [])
+  pub finish : (behind ≡ []) ⊎ (behind ≡ this token.Semicolon ∷ [])
   pub stand : AllZip Stands (form syntax behind) tokens
 
 -- the tokens fit no form, which is a fault of kind 3

@@ -182,7 +182,7 @@ pub record IsFirstBad (bytes : List ℕ) (number kind : ℕ) : Type 0 where
   pub line : List ℕ
   pub behind : List (List ℕ)
   pub lines : lines_of bytes ≡ before ++ line ∷ behind
-  pub counted : number ≡ length before + 1
+  pub count_is : number ≡ length before + 1
   pub script : List Numbered
   pub good : Give before script
   pub bad : IsBad (line_behind before script line) kind

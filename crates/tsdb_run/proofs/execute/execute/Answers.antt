@@ -3,12 +3,12 @@ use Rattle.std.proofs.Common.{◌≡◌, ◌≢◌, ◌∷◌, ◌++◌, [], ◌
 use Rattle.std.specs.Prelude.{count_by, min, slice_index, slice_set, ◌-◌, ◌^◌, ◌≤◌}
 use Rattle.std.proofs.Math.Seq.{take-length, take-suc}
 use Rattle.std.proofs.lemmas.List.{length-set}
-use Rattle.tsdb_map.specs.History.{Entry, IsAllowed}
+use Rattle.tsdb_map.specs.History.{IsAllowed}
 use Rattle.tsdb_map.specs.declared.command.Command.TheVariants.{ShowFiles}
 use Rattle.tsdb_plain.specs.Core.{IsStored, disk_of, faults_of, state_of}
 use Rattle.tsdb_plain.proofs.CoreLemmas.{images_stand}
 use Rattle.tsdb_script.specs.declared.numbered.Numbered.{Numbered}
-use Rattle.tsdb_run.specs.Execution.{HasExecuted, HasServed}
+use Rattle.tsdb_run.specs.Execution.{HasServed}
 use Rattle.tsdb_run.specs.Headline.{is_device}
 use Rattle.tsdb_run.specs.Limits.{session_numbers}
 use Rattle.tsdb_run.specs.Steps.{IsHistory}
@@ -27,7 +27,7 @@ next_index-index-requires-clause-few g c =
     (c.requires.sessions c.loop-numbered.numbered-index c.numbered-item.result (omega arith)) in
     rw c.deref_mut.ensures.value (omega (
       arith,
-      c.loop-numbered.invariant.so_far.counted session within,
+      c.loop-numbered.invariant.so_far.counts_are session within,
       few_of done session,
       length-take c.loop-numbered.numbered-index c.args.script.now,
       c.requires.few,
@@ -58,12 +58,12 @@ loop-numbered-preserved g c =
     let mid = c.loop-numbered.core in
     let core = c.apply-reply.new.self in
     let told : Told = record { session = numbered.session; index = c.next_index-index.result; reply = c.apply-reply.result } in
-    let counted : new ≡ slice_set old numbered.session (slice_index old numbered.session + 1) =
+    let counts_are : new ≡ slice_set old numbered.session (slice_index old numbered.session + 1) =
     c.next_index-index.ensures.after ∙ ap (λ l. slice_set l numbered.session (slice_index l numbered.session + 1)) c.deref_mut.ensures.value in
     let index : told.index ≡ slice_index old numbered.session =
     c.next_index-index.ensures.index ∙ ap (λ l. slice_index l numbered.session) c.deref_mut.ensures.value in
     let long : length new ≡ session_numbers =
-    ap length counted ∙ length-set old numbered.session (slice_index old numbered.session + 1) ∙ c.loop-numbered.invariant.long in
+    ap length counts_are ∙ length-set old numbered.session (slice_index old numbered.session + 1) ∙ c.loop-numbered.invariant.long in
     let whole : take c.loop-numbered.counts.len (new ++ drop (length new) old) ≡ new =
     whole_slice c.loop-numbered.counts.len new old (omega (arith, long, c.loop-numbered.invariant.long, c.loop-numbered.counts.ok.0)) (omega (arith, c.loop-numbered.counts.ok.0)) in
     let next : take (at + 1) script ≡ take at script ++ numbered ∷ [] =
@@ -79,7 +79,7 @@ loop-numbered-preserved g c =
     let pushed : SoFar (take at script ++ numbered ∷ []) (c.loop-numbered.history.items ++ told ∷ []) (state_of first) (state_of core) more new =
     SoFar-push (take at script) c.loop-numbered.history.items (state_of first) (state_of mid) (state_of core) entries old new numbered told c.loop-numbered.invariant.so_far
     c.loop-numbered.invariant.long within allowed (plain_without_files (state_of mid) numbered.command told.reply c.apply-reply.ensures.reply)
-    c.apply-reply.ensures.after refl index counted in
+    c.apply-reply.ensures.after refl index counts_are in
     let same : c.push.new.self.items ≡ c.loop-numbered.history.items ++ told ∷ [] = c.in-Ok.ensures.items in
     let served : IsStored first None → HasServed (disk_of first) (disk_of core) (IsStored core) (state_of first) more = λ is.
     let so_far = c.loop-numbered.invariant.served is in

@@ -1,5 +1,5 @@
 -- The commands up to here are answered, and what a stop leaves is the state after a prefix of them.
-use Rattle.std.proofs.Common.{◌≡◌, ◌+◌, ◌≤◌, length, take, ℕ, List, None}
+use Rattle.std.proofs.Common.{◌≡◌, ◌+◌, ◌≤◌, length, take, List, None}
 use Rattle.std.specs.Prelude.{◌-◌, ◌^◌, count_by, min, vec_len, vec_capacity}
 use Rattle.tsdb_map.specs.History.{Entry}
 use Rattle.tsdb_plain.specs.Core.{IsStored, disk_of, faults_of, state_of}

@@ -1,4 +1,4 @@
-use Rattle.std.proofs.Common.{ℕ, ◌≤◌, subst}
+use Rattle.std.proofs.Common.{ℕ, subst}
 use Rattle.std.specs.Prelude.{IfSome}
 use Rattle.tsdb_outside.specs.Causes.{Rose}
 use Rattle.tsdb_plain.specs.Images.{IsDamaged}

@@ -1,5 +1,3 @@
-use Rattle.std.proofs.Common.{None, ◌∙◌, sym, ap, subst}
-use Rattle.tsdb_outside.specs.Disk.{Keeps}
 use Rattle.tsdb_plain.specs.Core.{IsStored, disk_of, state_of}
 use Rattle.tsdb_run.proofs.StoreLemmas.{down_holds, down_moments, rose_down}
 use Rattle.tsdb_plain.proofs.SoundLemmas.{sound_kept}
