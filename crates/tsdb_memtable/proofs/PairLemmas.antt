@@ -144,6 +144,12 @@ pub other-spare : (series other : ℕ) (b : Bool) (old new : Option SeriesPoints
 other-spare series other true old new w q e ne = absurd (ne (one-series series other (sym q)))
 other-spare series other false old new w q e ne = ap (λ o. (unwrap_or o blank).spare) e
 
+-- the points stay where one series has become another with the same points
+pub kept-points : (space : Space) (series other : ℕ) (b : Bool) (old new : Option SeriesPoints) (w : SeriesPoints) → b ≡ is_series series other → new ≡ cond b (Some w) old
+    → (series ≡ other → points_in space w ≡ points_in space (unwrap_or old blank)) → points_in space (unwrap_or new blank) ≡ points_in space (unwrap_or old blank)
+kept-points space series other true old new w q e same = ap (λ o. points_in space (unwrap_or o blank)) e ∙ same (one-series series other (sym q))
+kept-points space series other false old new w q e same = ap (λ o. points_in space (unwrap_or o blank)) e
+
 pub more-room : (space : Space) (cells : ℕ) (v : SeriesPoints) → points_in space (with_room cells v) ≡ points_in space v
 more-room Sequence cells v = refl
 more-room Unsequence cells v = refl

@@ -99,6 +99,7 @@ impl Pair {
     /// Makes room for so many more points of the series, in either space.
     pub fn reserve(&mut self, series: SeriesId, cells: u64) -> Result<(), Memory>
         ensures tables { (space : SpaceOf) → table space self.new ≡ table space self.old }
+        ensures points { (space : SpaceOf) (other : ℕ) → points_of space other self.new ≡ points_of space other self.old }
         ensures ok { OnOk result (spare_of series.0 self.new ≡ spare_of series.0 self.old + cells) }
         ensures err { OnErr result (spare_of series.0 self.new ≡ spare_of series.0 self.old) }
         ensures others { (other : ℕ) → series.0 ≢ other → spare_of other self.new ≡ spare_of other self.old }

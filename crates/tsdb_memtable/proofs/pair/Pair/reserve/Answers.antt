@@ -1,12 +1,13 @@
 use Rattle.std.proofs.Common.{rules, ◌≡◌, ◌+◌, ◌≤◌, Option, None, refl, ap, sym, subst, ◌∙◌, arith}
 use Rattle.std.specs.Map.{lookup, set_value}
+use Rattle.std.specs.Option.{unwrap_or}
 use Rattle.std.specs.Prelude.{IsSome}
 use Rattle.std.proofs.lemmas.Map.Steps.{set_value_same}
 use Rattle.tsdb_memtable.specs.Model.{most_bytes, totals_of, with_room}
 use Rattle.tsdb_memtable.specs.Limits.{max_bytes}
-use Rattle.tsdb_memtable.specs.Pairs.{Pair, SeriesPoints, blank, is_series, points_in, spare_of, table}
+use Rattle.tsdb_memtable.specs.Pairs.{Pair, SeriesPoints, blank, is_series, points_in, points_of, spare_of, table}
 use Rattle.tsdb_memtable.specs.PairModel.{AreTotals, HasRoomFor, most_of}
-use Rattle.tsdb_memtable.proofs.PairLemmas.{swapped, swapped-most, added, table-same, table-joined, other-spare, more-room, blank-points}
+use Rattle.tsdb_memtable.proofs.PairLemmas.{swapped, swapped-most, added, table-same, table-joined, other-spare, kept-points, more-room, blank-points}
 use Rattle.tsdb_memtable.proofs.pair.Pair.reserve.Goals as goal
 use Rattle.tsdb_memtable.proofs.pair.Pair.reserve.Goals.{In_err-reserve-in-Some}
 
@@ -25,6 +26,13 @@ returns-in_err-reserve-in-Some-clause-tables c =
     let same = (c.get_mut.follows.holds c.reserve.new.self).0 ∙ ap (set_value test c.self.inside.series.entries) c.in_err-reserve-in-Some.ensures.err
     ∙ set_value_same test c.self.inside.series.entries c.in-Some.points.now (sym c.in-Some.ensures.value) in
     λ space. ap (table space) (same ∙ c.self.view_is)
+
+pub returns-in_err-reserve-in-Some-clause-points : goal.returns-in_err-reserve-in-Some-clause-points
+returns-in_err-reserve-in-Some-clause-points c =
+    let test = is_series c.args.series.0 in
+    let same = (c.get_mut.follows.holds c.reserve.new.self).0 ∙ ap (set_value test c.self.inside.series.entries) c.in_err-reserve-in-Some.ensures.err
+    ∙ set_value_same test c.self.inside.series.entries c.in-Some.points.now (sym c.in-Some.ensures.value) in
+    λ space other. ap (points_of space other) (same ∙ c.self.view_is)
 
 pub returns-in_err-reserve-in-Some-clause-others : goal.returns-in_err-reserve-in-Some-clause-others
 returns-in_err-reserve-in-Some-clause-others c =
@@ -50,6 +58,17 @@ returns-in_ok-reserve-in-Some-clause-tables c = λ space.
     ap (table space) (c.get_mut.follows.holds c.reserve.new.self).0
     ∙ table-same space c.args.series.0 c.self.inside.series.entries c.in-Some.points.now c.reserve.new.self (sym c.in-Some.ensures.value) (ap (points_in space) c.in_ok-reserve-in-Some.ensures.ok ∙ more-room space c.args.cells c.in-Some.points.now)
     ∙ ap (table space) c.self.view_is
+
+pub returns-in_ok-reserve-in-Some-clause-points : goal.returns-in_ok-reserve-in-Some-clause-points
+returns-in_ok-reserve-in-Some-clause-points c = λ space other.
+    let Found : Option SeriesPoints → Type 0 = λ o. IsSome o in
+    let updates = (c.get_mut.follows.holds c.reserve.new.self).3 (subst Found c.in-Some.ensures.value refl) in
+    let v = c.in-Some.points.now in
+    let is_v : c.args.series.0 ≡ other → v ≡ unwrap_or (lookup (is_series other) c.self.inside.series.entries) blank = λ e.
+    ap (λ o. unwrap_or o blank) (c.in-Some.ensures.value ∙ ap (λ n. lookup (is_series n) c.self.inside.series.entries) e) in
+    kept-points space c.args.series.0 other _ _ _ c.reserve.new.self refl (updates.0 other)
+    (λ e. ap (points_in space) c.in_ok-reserve-in-Some.ensures.ok ∙ more-room space c.args.cells v ∙ ap (points_in space) (is_v e))
+    ∙ ap (points_of space other) c.self.view_is
 
 pub returns-in_ok-reserve-in-Some-clause-others : goal.returns-in_ok-reserve-in-Some-clause-others
 returns-in_ok-reserve-in-Some-clause-others c = λ other ne.
@@ -84,6 +103,17 @@ returns-in_ok-insert-in-None-clause-tables c = λ space.
     ap (table space) c.in_ok-insert-in-None.ensures.entries
     ∙ table-joined space c.args.series.0 c.get_mut.follows.lender-at-none.entries w (subst Absent (sym same) (sym c.in-None.ensures.value)) (ap (points_in space) is ∙ more-room space c.args.cells blank ∙ blank-points space)
     ∙ ap (table space) (same ∙ c.self.view_is)
+
+pub returns-in_ok-insert-in-None-clause-points : goal.returns-in_ok-insert-in-None-clause-points
+returns-in_ok-insert-in-None-clause-points c = λ space other.
+    let w = c.reserve-in-None.new.self in
+    let is : w ≡ with_room c.args.cells blank = c.in_ok-reserve-in-None.ensures.ok ∙ ap (with_room c.args.cells) c.new-points.ensures in
+    let same = ap (λ m. m.entries) c.get_mut.follows.holds-at-none in
+    let none : c.args.series.0 ≡ other → blank ≡ unwrap_or (lookup (is_series other) c.get_mut.follows.lender-at-none.entries) blank = λ e.
+    ap (λ o. unwrap_or o blank) (c.in-None.ensures.value ∙ ap (λ n. lookup (is_series n) c.self.inside.series.entries) e) ∙ ap (λ (pair : Pair). unwrap_or (lookup (is_series other) pair) blank) (sym same) in
+    kept-points space c.args.series.0 other _ _ _ _ refl (c.in_ok-insert-in-None.ensures.updates.0 other)
+    (λ e. ap (points_in space) is ∙ more-room space c.args.cells blank ∙ ap (points_in space) (none e))
+    ∙ ap (λ m. points_of space other m.entries) c.get_mut.follows.holds-at-none ∙ ap (points_of space other) c.self.view_is
 
 pub returns-in_ok-insert-in-None-clause-others : goal.returns-in_ok-insert-in-None-clause-others
 returns-in_ok-insert-in-None-clause-others c = λ other ne.
