@@ -1,6 +1,7 @@
 -- A pair: for each series that has room its points in both spaces.
 use Rattle.std.specs.Prelude.{ℕ, ◌+◌, ◌-◌, Bool, not, ◌==◌, List, [], map, length}
-use Rattle.std.specs.Map.{lookup, set_value, values_of}
+use Rattle.std.specs.List.Sorted.{IsStrictlySortedBy}
+use Rattle.std.specs.Map.{keys_of, lookup, set_value, values_of}
 use Rattle.std.specs.Option.{unwrap_or}
 use Rattle.std.specs.Ordering.{nat_cmp, is_eq}
 use Rattle.std.specs.List.{filter, sum_by}
@@ -19,6 +20,10 @@ pub record SeriesPoints : Type 0 where
 -- the series that have room or points, in order of their numbers
 abbrev pub Pair : Type 0
 Pair = List (ℕ × SeriesPoints)
+
+-- the numbers of the series rise
+abbrev pub HasRisingSeries : Pair → Type 0
+HasRisingSeries pair = IsStrictlySortedBy nat_cmp (keys_of pair)
 
 -- without a point, and without room
 abbrev pub blank : SeriesPoints

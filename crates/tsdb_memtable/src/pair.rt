@@ -4,7 +4,7 @@ ghost use Rattle.std.specs.List.{filter};
 ghost use Rattle.tsdb_base.specs.declared.ids.Space.{Space as SpaceOf};
 ghost use Rattle.tsdb_memtable.specs.Points.{is_within};
 ghost use Rattle.tsdb_memtable.specs.Watermarks.{watermark, space_by};
-ghost use Rattle.tsdb_memtable.specs.Pairs.{byte_count, change_points, count, without_range, points_of, put_in, spare_of, table};
+ghost use Rattle.tsdb_memtable.specs.Pairs.{byte_count, change_points, count, HasRisingSeries, without_range, points_of, put_in, spare_of, table};
 ghost use Rattle.tsdb_memtable.specs.PairModel.{CanSwap, IsSwap, HasRoomFor};
 
 use crate::series::{SeriesPoints, Totals};
@@ -80,8 +80,10 @@ impl Pair {
 
     /// How many points are in the space.
     pub fn points(&self, space: Space) -> u64
-        ensures { result ≡ count space self.now }
+        ensures count { result ≡ count space self.now }
+        ensures rising { HasRisingSeries self.now }
     {
+        let _ = self.series.len();
         match space {
             Space::Sequence => self.totals.sequence,
             Space::Unsequence => self.totals.unsequence,
@@ -91,8 +93,10 @@ impl Pair {
     /// How many bytes the points of both spaces count: each 8 for its time, and 1, 4, 8 or the text's length for its
     /// value.
     pub fn bytes(&self) -> u64
-        ensures { result ≡ byte_count self.now }
+        ensures count { result ≡ byte_count self.now }
+        ensures rising { HasRisingSeries self.now }
     {
+        let _ = self.series.len();
         self.totals.bytes
     }
 
