@@ -70,7 +70,7 @@ last_apart : {X Y : Type 0} (f : X → Part) (g : Y → Part) (xs : List X) (ys 
     → map f xs ++ map g (ys ++ last ∷ []) ≡ (map f xs ++ map g ys) ++ g last ∷ []
 last_apart f g xs ys last = ap (λ r. map f xs ++ r) (map-append g ys (last ∷ [])) ∙ sym (append_assoc (map f xs) (map g ys) (g last ∷ []))
 
-all_with_last : (P : Part → Type 0) (files : List File) (g : FrozenPair → Part) (frozen : List FrozenPair) (old new : FrozenPair)
+pub all_with_last : (P : Part → Type 0) (files : List File) (g : FrozenPair → Part) (frozen : List FrozenPair) (old new : FrozenPair)
     → All P (map file_part files ++ map g (frozen ++ old ∷ [])) → P (g new) → All P (map file_part files ++ map g (frozen ++ new ∷ []))
 all_with_last P files g frozen old new all last =
     subst (All P) (sym (last_apart file_part g files frozen new))

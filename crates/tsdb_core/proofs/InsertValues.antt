@@ -55,7 +55,7 @@ new_in_table schemas time cells table cell differ among = record {
   among = with_point_here (point_of time cell) (points_at cell.series.0 table);
 }
 
-points_there : (table : Table) (number : ℕ) (points : List Point) → get table number ≡ Some points → points_at number table ≡ points
+pub points_there : (table : Table) (number : ℕ) (points : List Point) → get table number ≡ Some points → points_at number table ≡ points
 points_there table number points at = ap (λ o. unwrap_or o []) at
 
 pub kept_in_table : (schemas : List SeriesEntry) (time : ℤ) (cells : List CellRecord) (table : Table) (path : List ℕ) (point : Point) → DifferentSeries cells
@@ -79,7 +79,7 @@ kept_in_table schemas time cells table path point differ elsewhere h = ⊎_elim 
           (subst (λ ps. Contains ps point) (sym (points_there table h.number h.points h.at)) h.among) (apart n elsewhere);
     }
 
-in_points_at : (schemas : List SeriesEntry) (table : Table) (path : List ℕ) (number : ℕ) (point : Point) → path_of schemas number ≡ path → Contains (points_at number table) point → InTable schemas table path point
+pub in_points_at : (schemas : List SeriesEntry) (table : Table) (path : List ℕ) (number : ℕ) (point : Point) → path_of schemas number ≡ path → Contains (points_at number table) point → InTable schemas table path point
 in_points_at schemas table path number point of_path among = cases (get table number) refl among
   where
     cases : (o : Option (List Point)) → get table number ≡ o → Contains (unwrap_or o []) point → InTable schemas table path point

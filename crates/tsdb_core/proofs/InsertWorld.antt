@@ -38,14 +38,14 @@ use Rattle.tsdb_path.specs.Nodes.{child_of}
 
 -- a row leaves the types of the world's series
 
-abbrev type_in : Option Series → Option DataType
+abbrev pub type_in : Option Series → Option DataType
 type_in found = option_map (λ (s : Series). s.data_type) found
 
 value_keeps_type : (time : ℤ) (value : Option Value) (s : Series) → (put_value time value s).data_type ≡ s.data_type
 value_keeps_type time None s = refl
 value_keeps_type time (Some v) s = refl
 
-change_type : (world : World) (p q : List ℕ) (f : Series → Series) → ((s : Series) → (f s).data_type ≡ s.data_type)
+pub change_type : (world : World) (p q : List ℕ) (f : Series → Series) → ((s : Series) → (f s).data_type ≡ s.data_type)
     → (found : Option Series) → get world p ≡ found → type_in (get (change_series world p f found) q) ≡ type_in (get world q)
 change_type world p q f same None is = refl
 change_type world p q f same (Some s) is =
@@ -65,7 +65,7 @@ types_stay (cell ∷ cells) world device time q =
 
 -- the series that is there with a path is the one that is found
 
-both_true : (a b : Bool) → (a && b) ≡ true → (a ≡ true) × (b ≡ true)
+pub both_true : (a b : Bool) → (a && b) ≡ true → (a ≡ true) × (b ≡ true)
 both_true true b e = (refl, e)
 both_true false b e = absurd (false≢true e)
 
@@ -74,7 +74,7 @@ test_passes path s live e =
     ap (λ b. b && is_eq (slice_cmp nat_cmp path s.schema.path)) live
     ∙ ap (λ (p : List ℕ). is_eq (slice_cmp nat_cmp path p)) e ∙ ap is_eq (tied_itself nat_list_cmp_total path)
 
-live_found : (schemas : List SeriesEntry) (path : List ℕ) (s : SeriesEntry) → AllPairs DifferentPaths schemas → Contains schemas s
+pub live_found : (schemas : List SeriesEntry) (path : List ℕ) (s : SeriesEntry) → AllPairs DifferentPaths schemas → Contains schemas s
     → s.live ≡ true → s.schema.path ≡ path → find (is_live_at path) schemas ≡ Some s
 live_found [] path s once among live e = in_none s among
 live_found (first ∷ schemas) path s once among live e =

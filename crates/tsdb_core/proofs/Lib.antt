@@ -1,4 +1,7 @@
 pub mod Agree
+pub mod Creates
+pub mod Deletes
+pub mod Erases
 pub mod Freeze
 pub mod InsertOrder
 pub mod InsertValues
@@ -7,7 +10,12 @@ pub mod InsertWorld
 pub mod Jobs
 pub mod ListFacts
 pub mod Maps
+pub mod MarkFacts
+pub mod NewStore
 pub mod Puts
+pub mod Refusals
+pub mod Replays
 pub mod Rows
+pub mod Shrinks
 pub mod Tables
 pub mod Winners

@@ -58,10 +58,10 @@ pub put_all : ℤ → List CellRecord → Table → Table
 put_all time [] table = table
 put_all time (cell ∷ cells) table = put_all time cells (put_point cell.series.0 (point_of time cell) table)
 
-same_number : (a b : ℕ) → a ≡ b → eq_by_cmp nat_cmp a b ≡ true
+pub same_number : (a b : ℕ) → a ≡ b → eq_by_cmp nat_cmp a b ≡ true
 same_number a b e = ap (λ (n : ℕ). eq_by_cmp nat_cmp a n) (sym e) ∙ ap is_eq (tied_itself nat_cmp_total a)
 
-other_number : (a b : ℕ) → a ≢ b → (t : Bool) → eq_by_cmp nat_cmp a b ≡ t → t ≡ false
+pub other_number : (a b : ℕ) → a ≢ b → (t : Bool) → eq_by_cmp nat_cmp a b ≡ t → t ≡ false
 other_number a b apart true e = absurd (apart (tells_apart exact_unsigned a b e))
 other_number a b apart false e = refl
 

@@ -1,21 +1,27 @@
 //! Laws of the engine state. The functions do nothing; their contracts are the laws.
-ghost use Rattle.std.specs.Prelude.{◌≢◌, ◌⊎◌, ◌≤◌, ◌↔◌, Contains, ◌≡◌, ℤ, ℕ, List, AllPairs};
+ghost use Rattle.std.specs.Prelude.{◌≢◌, ◌⊎◌, ◌≤◌, ◌↔◌, Contains, ◌≡◌, ℤ, ℕ, List, [], None, All, AllPairs, Any, IsSome, slice_get, true};
+ghost use Rattle.std.specs.FinMap.{empty};
+ghost use Rattle.std.specs.Option.{IsSomeAnd};
 ghost use Rattle.tsdb_base.specs.declared.answers.Answer.{Answer};
+ghost use Rattle.tsdb_base.specs.declared.point.Range.{Range};
 ghost use Rattle.tsdb_base.specs.declared.value.Value.{Value};
 ghost use Rattle.tsdb_core.specs.Limits.{max_pair_bytes};
 ghost use Rattle.tsdb_core.specs.Order.{IsBefore, IsEmptyPair, IsInOrder, byte_count};
 ghost use Rattle.tsdb_core.specs.Parts.{file_part, path_of};
-ghost use Rattle.tsdb_core.specs.Laws.{AreCells, NamesPath};
+ghost use Rattle.tsdb_core.specs.Laws.{AreCells, IsFit, IsMissing, IsUnfit, KeepsBytes, NamesPath, file_borns, new_state};
+ghost use Rattle.tsdb_core.specs.Replay.{HasNothingOut, IsReplayOf, LeadsTo, ReplayState, Replays, new_store, replay_state};
 ghost use Rattle.tsdb_core.specs.State.{EngineState, MemoryState};
-ghost use Rattle.tsdb_core.specs.Steps.{Freezes, Inserts, with_memory};
+ghost use Rattle.tsdb_core.specs.Steps.{Creates, Deletes, Freezes, Inserts, with_memory};
 ghost use Rattle.tsdb_map.specs.Apply.{reply_of, world_after};
 ghost use Rattle.tsdb_map.specs.Commands.{IsRow};
 ghost use Rattle.tsdb_map.specs.World.{World};
 ghost use Rattle.tsdb_map.specs.declared.command.Command.{Command};
 ghost use Rattle.tsdb_map.specs.declared.command.Row.{Row};
+ghost use Rattle.tsdb_map.specs.declared.command.Schema.{Schema};
 ghost use Rattle.tsdb_map.specs.declared.reply.Reply.{Reply};
 ghost use Rattle.tsdb_log.specs.declared.record.CellRecord.{CellRecord};
-ghost use Rattle.tsdb_core.specs.Worlds.{IsValueAt, StandsFor};
+ghost use Rattle.tsdb_core.specs.Worlds.{IsValueAt, StandsFor, type_at};
+ghost use Rattle.tsdb_log.specs.declared.record.LogRecord.{LogRecord};
 
 /// A state in order has at most one value at a time of a series.
 pub fn one_value_at_a_time()
@@ -75,4 +81,102 @@ pub fn insert_follows_the_map()
         → AreCells state.memory.schemas device row.cells cells → Inserts row.time cells state.memory new
         → IsEmptyPair state.memory.working ⊎ (byte_count new.working ≤ max_pair_bytes)
         → StandsFor (with_memory state new) (world_after world (Command.Insert device row)) }
+{}
+
+/// A series that joins keeps a state in order.
+pub fn create_keeps_order()
+    ensures { (state : EngineState) (schema : Schema) (new : MemoryState)
+        → IsInOrder state → Creates schema state.memory new → IsInOrder (with_memory state new) }
+{}
+
+/// The plain map accepts a series that is not there, and after it a state that stood for a world stands for the map's
+/// world after it.
+pub fn create_follows_the_map()
+    ensures reply { (state : EngineState) (world : World) (schema : Schema) (new : MemoryState)
+        → IsInOrder state → StandsFor state world → Creates schema state.memory new
+        → reply_of world (Command.Create schema) ≡ Reply.Plain Answer.Done }
+    ensures world { (state : EngineState) (world : World) (schema : Schema) (new : MemoryState)
+        → IsInOrder state → StandsFor state world → Creates schema state.memory new
+        → StandsFor (with_memory state new) (world_after world (Command.Create schema)) }
+{}
+
+/// A deletion keeps a state in order.
+pub fn delete_keeps_order()
+    ensures { (state : EngineState) (path : List ℕ) (range : Range) (new : MemoryState)
+        → IsInOrder state → Deletes (file_borns state) path range state.memory new
+        → IsInOrder (with_memory state new) }
+{}
+
+/// The plain map accepts a deletion from a series that is there, and after it a state that stood for a world stands
+/// for the map's world after it: the points in the range are gone, wherever they were, and all others stay.
+pub fn delete_follows_the_map()
+    ensures reply { (state : EngineState) (world : World) (path : List ℕ) (range : Range) (new : MemoryState)
+        → IsInOrder state → StandsFor state world → Deletes (file_borns state) path range state.memory new
+        → reply_of world (Command.Delete path range) ≡ Reply.Plain Answer.Done }
+    ensures world { (state : EngineState) (world : World) (path : List ℕ) (range : Range) (new : MemoryState)
+        → IsInOrder state → StandsFor state world → Deletes (file_borns state) path range state.memory new
+        → StandsFor (with_memory state new) (world_after world (Command.Delete path range)) }
+{}
+
+/// What the plain map answers to a command is what the series of the state say, so no world is needed to answer.
+pub fn answers_follow_the_series()
+    ensures exists { (state : EngineState) (world : World) (schema : Schema) → StandsFor state world
+        → (reply_of world (Command.Create schema) ≡ Reply.Plain Answer.Exists)
+        ↔ IsSome (type_at state.memory.schemas schema.path) }
+    ensures created { (state : EngineState) (world : World) (schema : Schema) → StandsFor state world
+        → (reply_of world (Command.Create schema) ≡ Reply.Plain Answer.Done)
+        ↔ (type_at state.memory.schemas schema.path ≡ None) }
+    ensures no_series { (state : EngineState) (world : World) (path : List ℕ) (range : Range) → StandsFor state world
+        → (reply_of world (Command.Delete path range) ≡ Reply.Plain Answer.NoPath)
+        ↔ (type_at state.memory.schemas path ≡ None) }
+    ensures deleted { (state : EngineState) (world : World) (path : List ℕ) (range : Range) → StandsFor state world
+        → (reply_of world (Command.Delete path range) ≡ Reply.Plain Answer.Done)
+        ↔ IsSome (type_at state.memory.schemas path) }
+    ensures no_path { (state : EngineState) (world : World) (device : List ℕ) (row : Row) → StandsFor state world
+        → (reply_of world (Command.Insert device row) ≡ Reply.Plain Answer.NoPath)
+        ↔ Any (IsMissing state.memory.schemas device) row.cells }
+    ensures wrong_type { (state : EngineState) (world : World) (device : List ℕ) (row : Row) → StandsFor state world
+        → (reply_of world (Command.Insert device row) ≡ Reply.Plain Answer.WrongType)
+        ↔ ((¬ Any (IsMissing state.memory.schemas device) row.cells)
+        × Any (IsUnfit state.memory.schemas device) row.cells) }
+    ensures inserted { (state : EngineState) (world : World) (device : List ℕ) (row : Row) → StandsFor state world
+        → (reply_of world (Command.Insert device row) ≡ Reply.Plain Answer.Done)
+        ↔ All (IsFit state.memory.schemas device) row.cells }
+{}
+
+/// A row whose cells are those of a record, of series that are there, is one that the plain map accepts.
+pub fn cells_of_a_record_fit()
+    ensures { (state : EngineState) (world : World) (device : List ℕ) (row : Row) (cells : List CellRecord)
+        → IsInOrder state → StandsFor state world → AreCells state.memory.schemas device row.cells cells
+        → All (λ cell. IsSomeAnd (slice_get state.memory.schemas cell.series.0) (λ series. series.live ≡ true)) cells
+        → reply_of world (Command.Insert device row) ≡ Reply.Plain Answer.Done }
+{}
+
+/// A command that is refused leaves the world as it was.
+pub fn refused_command_changes_nothing()
+    ensures { (world : World) (command : Command) (answer : Answer)
+        → reply_of world command ≡ Reply.Plain answer → answer ≢ Answer.Done → world_after world command ≡ world }
+{}
+
+/// The state of a new store is in order and stands for the world without series, and there is such a state.
+pub fn a_new_store_is_in_order()
+    ensures order { (state : EngineState) → replay_state state ≡ new_store → HasNothingOut state → IsInOrder state }
+    ensures world { (state : EngineState) → replay_state state ≡ new_store → StandsFor state empty }
+    ensures there { IsReplayOf [] (λ number. None) [] new_state }
+{}
+
+/// What a record leads to is in order where the state before it was, but for a row that takes a working pair which is
+/// not empty beyond its bytes: a replay counts the points of a pair and not its bytes.
+pub fn replay_keeps_order()
+    ensures order { (state : EngineState) (item : LogRecord) (next : ReplayState)
+        → IsInOrder state → LeadsTo item (replay_state state) next → KeepsBytes item state.memory next.memory
+        → IsInOrder (with_memory state next.memory) }
+    ensures state { (state : EngineState) (item : LogRecord) (next : ReplayState)
+        → LeadsTo item (replay_state state) next → next ≡ replay_state (with_memory state next.memory) }
+{}
+
+/// Records have one replay at most.
+pub fn replay_is_one_state()
+    ensures { (old a b : ReplayState) (records : List LogRecord)
+        → Replays old records a → Replays old records b → a ≡ b }
 {}

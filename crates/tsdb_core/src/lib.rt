@@ -9,6 +9,9 @@
 mod laws;
 
 pub use laws::{
+    a_new_store_is_in_order, answers_follow_the_series, cells_of_a_record_fit,
+    create_follows_the_map, create_keeps_order, delete_follows_the_map, delete_keeps_order,
     freeze_keeps_order, freeze_keeps_the_world, insert_follows_the_map, insert_keeps_order,
-    last_write_wins, one_value_at_a_time, other_values_stay, sequence_files_do_not_overlap,
+    last_write_wins, one_value_at_a_time, other_values_stay, refused_command_changes_nothing,
+    replay_is_one_state, replay_keeps_order, sequence_files_do_not_overlap,
 };
