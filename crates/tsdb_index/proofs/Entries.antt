@@ -15,6 +15,7 @@ use Rattle.tsdb_fields.specs.Statistics.{stats_field, IsStatsOf}
 use Rattle.tsdb_index.specs.declared.index.IndexEntry.{IndexEntry}
 use Rattle.tsdb_index.specs.declared.index.PageEntry.{PageEntry}
 use Rattle.tsdb_index.specs.declared.pointer.Pointer.{Pointer}
+use Rattle.tsdb_index.specs.Content.{entry_content}
 use Rattle.tsdb_index.specs.Entries.{IsEntry, IsPageOf}
 use Rattle.tsdb_index.specs.Parts.{IsPointer, pointer_bytes}
 use Rattle.tsdb_index.specs.Spelling.{entry_field, page_field}
@@ -162,10 +163,11 @@ pub no_pages : (d m : List ℕ) (k : DataType × (Encoding × ℕ)) (s : Stats) 
 no_pages d m k s n bytes none = λ e behind is found.
     none e.pages.items behind (is.1, subst (λ (t : DataType). All (IsPageOf t) e.pages.items) (of_type d m k e is.0.0) is.0.0.0.0.0.pages) found
 
--- entries with one beginning have one end, and the same names
+-- entries with one beginning have one end, and say the same
 pub record AreAlike (a b : IndexEntry) (x y : List ℕ) : Type 0 where
   pub device : a.device ≡ b.device
   pub measurement : a.measurement ≡ b.measurement
+  pub says : entry_content a ≡ entry_content b
   pub rest : x ≡ y
 
 pub alike : (a b : IndexEntry) (x y : List ℕ) → IsEntry a → IsEntry b → entry_field a ++ x ≡ entry_field b ++ y → AreAlike a b x y
@@ -185,7 +187,14 @@ alike a b x y is_a is_b e =
     let stats = stats_field-prefix_free a.data_type a.stats b.stats _ _ is_a.stats (subst (λ (t : DataType). IsStatsOf t b.stats) types is_b.stats) kinds.1 in
     let numbers = number32-prefix_free (length a.pages.items) (length b.pages.items) _ _ (let few = is_a.few in omega (arith, few)) (let few = is_b.few in omega (arith, few)) stats.1 in
     let pages = same_values page_field (IsPageOf a.data_type) (page-prefix_free a.data_type) a.pages.items b.pages.items x y numbers.0 is_a.pages (subst (λ (t : DataType). All (IsPageOf t) b.pages.items) types is_b.pages) numbers.1 in
-    record { device = paths.0; measurement = names.0; rest = pages.1 }
+    let d : a.device ≡ b.device = paths.0 in
+    let m : a.measurement ≡ b.measurement = names.0 in
+    let t : a.data_type ≡ b.data_type = sym types in
+    let c : a.encoding ≡ b.encoding = ap (λ (k : DataType × (Encoding × ℕ)). k.1.0) kinds.0 in
+    let p : a.place ≡ b.place = ap (λ (k : DataType × (Encoding × ℕ)). k.1.1) kinds.0 in
+    let s : a.stats ≡ b.stats = stats.0 in
+    let g : a.pages.items ≡ b.pages.items = pages.0 in
+    record { device = d; measurement = m; says = cc; rest = pages.1 }
 
 pub entries_separable : IsSeparable entry_field IsEntry
 entries_separable a b x y is_a is_b e = (alike a b x y is_a is_b e).rest

@@ -5,3 +5,4 @@ pub mod Orders
 pub mod Roots
 pub mod Left
 pub mod Whole
+pub mod OneSpelling

@@ -169,11 +169,11 @@ pub record ArePointers (root place : ℕ) (leaves : List Leaf) (ps : List Pointe
   pub pointers-are : pointers place leaves ≡ flat_map pointer_bytes ps
   pub leaves-are : AreLeavesAt root ps (flat_map leaf_field leaves) leaves
 
-every_left : {A : Type 0} (P : A → Type 0) (xs ys : List A) → AllByRecursion P (xs ++ ys) → AllByRecursion P xs
+pub every_left : {A : Type 0} (P : A → Type 0) (xs ys : List A) → AllByRecursion P (xs ++ ys) → AllByRecursion P xs
 every_left P [] ys every = tt
 every_left P (x ∷ xs) ys every = (every.0, every_left P xs ys every.1)
 
-every_right : {A : Type 0} (P : A → Type 0) (xs ys : List A) → AllByRecursion P (xs ++ ys) → AllByRecursion P ys
+pub every_right : {A : Type 0} (P : A → Type 0) (xs ys : List A) → AllByRecursion P (xs ++ ys) → AllByRecursion P ys
 every_right P [] ys every = every
 every_right P (x ∷ xs) ys every = every_right P xs ys every.1
 

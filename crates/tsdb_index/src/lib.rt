@@ -13,6 +13,7 @@
 
 mod fault;
 mod index;
+mod laws;
 mod order;
 mod pointer;
 mod reading;
@@ -20,6 +21,7 @@ mod writing;
 
 pub use fault::IndexFault;
 pub use index::{FileMeta, Index, IndexEntry, PageEntry};
+pub use laws::{one_index, one_spelling, root_begins};
 pub use reading::read_index;
 pub use writing::{write_index, write_leaves_and_root};
 

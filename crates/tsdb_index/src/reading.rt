@@ -1,16 +1,14 @@
 //! Reading an index: the root first, and then the leaf at each of its pointers. Depends on `index`, `pointer`, `order`
 //! and `fault`.
-ghost use Rattle.std.specs.Prelude.{◌≡◌, ℕ, ◌+◌, ◌-◌, ◌<◌, ◌≤◌, ◌^◌, ◌++◌, ◌∷◌, ◌↔◌, All, IsTrue, List, drop, length, map, IfOk, IfErr, MatchOption};
+ghost use Rattle.std.specs.Prelude.{◌≡◌, ℕ, ◌+◌, ◌<◌, ◌≤◌, ◌^◌, ◌∷◌, List, length, IfOk, IfErr, MatchOption};
 ghost use Rattle.std.specs.List.{flat_map};
 ghost use Rattle.tsdb_base.specs.Fields.{number16, number32};
 ghost use Rattle.tsdb_base.specs.Plain.{AreValues};
 ghost use Rattle.tsdb_fields.specs.Reading.{ReadsParts};
-ghost use Rattle.tsdb_index.specs.declared.index.IndexEntry.{IndexEntry as Entries};
-ghost use Rattle.tsdb_index.specs.declared.pointer.Pointer.{Pointer as Pointers};
 ghost use Rattle.tsdb_index.specs.Entries.{IsEntry, IsPageOf};
 ghost use Rattle.tsdb_index.specs.Faults.{IsFirstBad, IsRead, ReadsWhole};
 ghost use Rattle.tsdb_index.specs.Parts.{IsLeaf, IsPointer, IsRoot, end_of as leaf_end, pointer_bytes};
-ghost use Rattle.tsdb_index.specs.Spelling.{page_field, entry_field, leaf_field};
+ghost use Rattle.tsdb_index.specs.Spelling.{page_field, entry_field};
 ghost use Rattle.tsdb_index.specs.Steps.{AreSpread, IsCounted, ReadsLeaves};
 
 use crate::fault::IndexFault;
@@ -133,7 +131,8 @@ fn read_pointers<'a>(
 /// What stands behind the mark of a part, if the bytes begin with the mark. Places inside a part are not asked for, so
 /// they are counted from 0.
 fn fields_behind(mark: u8, bytes: &[u8]) -> Option<Rest<'_>>
-    ensures { MatchOption result ((fields : List ℕ) → bytes.now ≡ mark ∷ fields → ⊥) (λ rest. bytes.now ≡ mark ∷ rest.bytes.now) }
+    ensures { MatchOption result ((fields : List ℕ) → bytes.now ≡ mark ∷ fields → ⊥)
+        (λ rest. bytes.now ≡ mark ∷ rest.bytes.now) }
 {
     let [first, fields @ ..] = bytes else {
         return None;
@@ -150,7 +149,8 @@ fn fields_behind(mark: u8, bytes: &[u8]) -> Option<Rest<'_>>
 
 /// The entries of the leaf that all of these bytes are, of any number. A fault has no place of its own.
 fn entries_in(alloc: Global, bytes: &[u8]) -> Result<Vec<IndexEntry>, FieldFault>
-    ensures { ReadsWhole (IsCounted 73 number16 (2 ^ 16) entry_field IsEntry bytes.now) (λ entries. entries.items) result }
+    ensures { ReadsWhole (IsCounted 73 number16 (2 ^ 16) entry_field IsEntry bytes.now)
+        (λ entries. entries.items) result }
 {
     let bad = FieldFault::Bad { at: 0 };
     let Some(rest) = fields_behind(LEAF, bytes) else {
@@ -166,7 +166,8 @@ fn entries_in(alloc: Global, bytes: &[u8]) -> Result<Vec<IndexEntry>, FieldFault
 
 /// The pointers of the root that all of these bytes are, of any number and order. A fault has no place of its own.
 fn pointers_in(alloc: Global, bytes: &[u8]) -> Result<Vec<Pointer>, FieldFault>
-    ensures { ReadsWhole (IsCounted 82 number32 (2 ^ 32) pointer_bytes IsPointer bytes.now) (λ pointers. pointers.items) result }
+    ensures { ReadsWhole (IsCounted 82 number32 (2 ^ 32) pointer_bytes IsPointer bytes.now)
+        (λ pointers. pointers.items) result }
 {
     let bad = FieldFault::Bad { at: 0 };
     let Some(rest) = fields_behind(ROOT, bytes) else {
@@ -244,7 +245,7 @@ fn read_leaves(
     Ok(entries)
 }
 
-/// Reads the index that is all of these bytes, of which the first stands at `place` and the first of the root at `root`.
+/// Reads the index that is all of these bytes. The first of them stands at `place`, the first of the root at `root`.
 pub fn read_index(alloc: Global, bytes: &[u8], place: u64, root: u64) -> Result<Index, IndexFault>
     requires room { place + length bytes.now < 2 ^ 64 }
     requires from { place ≤ root }
