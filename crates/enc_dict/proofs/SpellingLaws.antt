@@ -193,7 +193,7 @@ length-texts : (texts : List (List ℕ)) → AllByRecursion IsText texts → len
 length-texts [] h = omega arith
 length-texts (t ∷ ts) h = omega (arith, length-texts ts h.1, h.0, length-append (plain_text t) (flat_map plain_text ts))
 
-length-tail : (values : List (List ℕ)) → IsListOf IsText values → length (tail_of values) < 2 ^ 31
+length-tail : (values : List (List ℕ)) → IsListOf IsText values → length (tail_of values) < 2 ^ 29
 unfolding tail_of
 length-tail [] is = omega arith
 length-tail (x ∷ xs) is =
@@ -217,7 +217,7 @@ length-tail (x ∷ xs) is =
       few,
     )
 
-pub length-spelling : (values : List (List ℕ)) → IsListOf IsText values → length (spelling values) < 2 ^ 32
+pub length-spelling : (values : List (List ℕ)) → IsListOf IsText values → length (spelling values) < 2 ^ 30
 length-spelling values is =
     let count : length (leb (length values)) ≤ 10 = length-leb 9 (length values) (omega (arith, is.few)) in
     let whole = length-append (leb (length values)) (tail_of values) in

@@ -8,7 +8,7 @@ pub fn one_spelling()
     ensures { HasOneSpelling spelling IsText }
 {}
 
-/// A list has fewer than 2^32 bytes.
+/// A list has fewer than 2^30 bytes.
 pub fn spelling_is_short()
     ensures { IsShort spelling IsText }
 {}

@@ -30,6 +30,6 @@ abbrev pub HasOneSpelling : {A : Type 0} → (List A → List ℕ) → (A → Ty
 HasOneSpelling {A} spelling IsValue =
     (xs ys : List A) → IsListOf IsValue xs → IsListOf IsValue ys → spelling xs ≡ spelling ys → xs ≡ ys
 
--- a list has fewer than 2 ^ 32 bytes
+-- a list has fewer than 2 ^ 30 bytes, so two lists have fewer than 2 ^ 32 together with the lengths before them
 abbrev pub IsShort : {A : Type 0} → (List A → List ℕ) → (A → Type 0) → Type 0
-IsShort {A} spelling IsValue = (values : List A) → IsListOf IsValue values → length (spelling values) < 2 ^ 32
+IsShort {A} spelling IsValue = (values : List A) → IsListOf IsValue values → length (spelling values) < 2 ^ 30

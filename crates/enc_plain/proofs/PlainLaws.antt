@@ -37,7 +37,7 @@ length-values each IsValue most short [] h = omega arith
 length-values each IsValue most short (x ∷ xs) h =
     omega (arith, short x h.0, length-values each IsValue most short xs h.1, length-append (each x) (flat_map each xs), mul-suc most (length xs))
 
-pub length-spelling : {A : Type 0} (each : A → List ℕ) (IsValue : A → Type 0) (most : ℕ) (short : (a : A) → IsValue a → length (each a) ≤ most) (xs : List A) → most ≤ 65537 → IsListOf IsValue xs → length (spelling each xs) < 2 ^ 32
+pub length-spelling : {A : Type 0} (each : A → List ℕ) (IsValue : A → Type 0) (most : ℕ) (short : (a : A) → IsValue a → length (each a) ≤ most) (xs : List A) → most ≤ 65537 → IsListOf IsValue xs → length (spelling each xs) < 2 ^ 30
 length-spelling each IsValue most short xs le is =
     let all = length-values each IsValue most short xs (recursion_from_All IsValue xs is.typed) in
     let product = mul-le most (length xs) 65537 1000 le is.few in

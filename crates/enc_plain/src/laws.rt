@@ -13,7 +13,7 @@ pub fn one_spelling()
     ensures texts { HasOneSpelling (spelling plain_text) IsText }
 {}
 
-/// A list has fewer than 2^32 bytes.
+/// A list has fewer than 2^30 bytes.
 pub fn spelling_is_short()
     ensures booleans { IsShort (spelling plain_bool) (λ _. Unit {0}) }
     ensures int32 { IsShort (spelling plain_i32) (FitsSigned w32) }

@@ -213,7 +213,7 @@ small_codes : {A : Type 0} (code : A → ℕ) (IsValue : A → Type 0) (small : 
 small_codes code IsValue small [] h = tt
 small_codes code IsValue small (x ∷ xs) h = (small x h.0, small_codes code IsValue small xs h.1)
 
-pub length-spelling : {A : Type 0} (code : A → ℕ) (IsValue : A → Type 0) (small : (a : A) → IsValue a → code a < 2 ^ 64) (xs : List A) → IsListOf IsValue xs → length (spelling code xs) < 2 ^ 32
+pub length-spelling : {A : Type 0} (code : A → ℕ) (IsValue : A → Type 0) (small : (a : A) → IsValue a → code a < 2 ^ 64) (xs : List A) → IsListOf IsValue xs → length (spelling code xs) < 2 ^ 30
 unfolding codes_spelling
 length-spelling code IsValue small xs is =
     let codes = map code xs in

@@ -19,7 +19,7 @@ pub fn one_spelling()
     ensures int { (xs ys : List ℤ) → spelling zigzag xs ≡ spelling zigzag ys → xs ≡ ys }
 {}
 
-/// A list has fewer than 2^32 bytes.
+/// A list has fewer than 2^30 bytes.
 pub fn spelling_is_short()
     ensures bool { IsShort (spelling bool_code) (λ _. Unit {0}) }
     ensures int { IsShort (spelling zigzag) (FitsSigned w64) }

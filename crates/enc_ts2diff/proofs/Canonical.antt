@@ -133,7 +133,7 @@ spells_none bytes rest values e z v = e ∙ rw (z, v) refl
 
 -- ---- the number of bytes
 
-length-block : (ds : List ℤ) → All (FitsSigned w64) ds → length ds < 1000 → length (block ds) < 2 ^ 31
+length-block : (ds : List ℤ) → All (FitsSigned w64) ds → length ds < 1000 → length (block ds) < 2 ^ 29
 unfolding block
 length-block [] h few = omega arith
 length-block (d ∷ ds) h few =
@@ -145,7 +145,7 @@ length-block (d ∷ ds) h few =
     let head : length (leb (zigzag m)) ≤ 10 = length-leb 9 (zigzag m) (omega (arith, zigzag-lt m (least_of_fits d ds h))) in
     omega (arith, length-append (leb (zigzag m)) (at_width os), length-pack_bytes (width_of os) os, bits, head)
 
-pub length-spelling : (values : List ℤ) → IsListOf (FitsSigned w64) values → length (spelling values) < 2 ^ 32
+pub length-spelling : (values : List ℤ) → IsListOf (FitsSigned w64) values → length (spelling values) < 2 ^ 30
 unfolding spelling content
 length-spelling [] is = omega (arith, length-append (leb 0) [], length-leb 9 0 (omega arith))
 length-spelling (x ∷ xs) is =

@@ -12,7 +12,7 @@ pub fn one_spelling()
         HasOneSpelling (spelling encoding) (IsValueOf data_type) }
 {}
 
-/// A list has fewer than 2^32 bytes.
+/// A list has fewer than 2^30 bytes.
 pub fn spelling_is_short()
     ensures { (data_type : DataType) (encoding : Encoding) → is_suitable data_type encoding ≡ true →
         IsShort (spelling encoding) (IsValueOf data_type) }

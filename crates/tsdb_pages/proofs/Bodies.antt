@@ -57,8 +57,29 @@ are_values data_type points are ranges = record {
   typed = All-map (IsValueOf data_type) (λ (p : Point). p.value) points (λ k d lt. record { type-is = are.typed k d lt; fits = (ranges k d lt).1 });
 }
 
+few_times : (data_type : DataType) (points : List Point) → ArePoints data_type points → All IsInRange points → length (times_field points) < 2 ^ 30
+few_times data_type points are ranges = sizes.length-spelling (times_of points) (are_times data_type points are ranges)
+
 pub short_times : (data_type : DataType) (points : List Point) → ArePoints data_type points → All IsInRange points → length (times_field points) < 2 ^ 32
-short_times data_type points are ranges = sizes.length-spelling (times_of points) (are_times data_type points are ranges)
+short_times data_type points are ranges = let few = few_times data_type points are ranges in omega (arith, few)
+
+few_values : (data_type : DataType) (encoding : Encoding) → is_suitable data_type encoding ≡ true → (points : List Point) → ArePoints data_type points → All IsInRange points → length (spelling encoding (values_of points)) < 2 ^ 30
+few_values data_type encoding suits points are ranges = (laws_of data_type encoding suits).short (values_of points) (are_values data_type points are ranges)
+
+pub short_values : (data_type : DataType) (encoding : Encoding) → is_suitable data_type encoding ≡ true → (points : List Point) → ArePoints data_type points → All IsInRange points → length (spelling encoding (values_of points)) < 2 ^ 32
+short_values data_type encoding suits points are ranges = let few = few_values data_type encoding suits points are ranges in omega (arith, few)
+
+pub length_body : (encoding : Encoding) (points : List Point) → length (body encoding points) ≡ 4 + length (times_field points) + length (spelling encoding (values_of points))
+length_body encoding points =
+    length-append (number32 (length (times_field points)) ++ times_field points) (spelling encoding (values_of points))
+    ∙ ap (λ (n : ℕ). n + length (spelling encoding (values_of points))) (length-append (number32 (length (times_field points))) (times_field points))
+
+pub body_is_short : (data_type : DataType) (encoding : Encoding) → is_suitable data_type encoding ≡ true → (points : List Point) → ArePoints data_type points → All IsInRange points → length (body encoding points) < 2 ^ 32
+body_is_short data_type encoding suits points are ranges =
+    let whole = length_body encoding points in
+    let times = few_times data_type points are ranges in
+    let values = few_values data_type encoding suits points are ranges in
+    omega (arith, whole, times, values)
 
 -- bytes that begin with the length of their first part have only one such part
 pub parts_same : (a b x y : List ℕ) → length a < 2 ^ 32 → length b < 2 ^ 32 → number32 (length a) ++ a ++ x ≡ number32 (length b) ++ b ++ y → (a ≡ b) × (x ≡ y)
@@ -164,6 +185,6 @@ one_body data_type encoding suits bytes xs ys in_xs in_ys =
 pub length_fits : (n : ℕ) (times : List ℤ) (points : List Point) (front all : List ℕ) → length points ≤ max_values → times ≡ times_of points → All (FitsSigned w64) times → all ≡ front ++ ts2diff.spelling times
     → length front ≡ 4 → n ≡ length all → n - 4 < 2 ^ 32
 length_fits n times points front all few same fit is four len =
-    let short : length (ts2diff.spelling times) < 2 ^ 32 = sizes.length-spelling times (record { few = subst (λ k. k ≤ max_values) (sym (ap length same ∙ length-map points (λ (p : Point). p.time))) few; typed = fit }) in
+    let short : length (ts2diff.spelling times) < 2 ^ 30 = sizes.length-spelling times (record { few = subst (λ k. k ≤ max_values) (sym (ap length same ∙ length-map points (λ (p : Point). p.time))) few; typed = fit }) in
     let whole : length all ≡ length front + length (ts2diff.spelling times) = ap length is ∙ length-append front (ts2diff.spelling times) in
     omega (arith, short, whole, four, len)

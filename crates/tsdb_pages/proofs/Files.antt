@@ -26,18 +26,18 @@ use Rattle.tsdb_pages.specs.declared.tree.Tree.{Tree}
 use Rattle.tsdb_pages.specs.Pages.{ArePoints, IsInRange, body, times_field, times_of, values_of}
 use Rattle.tsdb_pages.specs.Trees.{HasParts, IsChunk, IsGroup, IsMade, IsTree, chunk_content, chunks_of, content, group_content, points_of}
 use Rattle.tsdb_pages.specs.File.{IsFile, chunk_field, data_field, group_field, head, magic, page_field}
-use Rattle.tsdb_pages.proofs.Bodies.{are_times, are_values, parts_same, points_same, short_times}
+use Rattle.tsdb_pages.proofs.Bodies.{are_times, are_values, length_body, parts_same, points_same, short_times, short_values}
 use Rattle.tsdb_pages.proofs.Marks.{AreMarked, Begins, begins_append, marked_same, other_mark}
 
 -- ---- what ends a list of groups, of chunks and of pages
 
-abbrev EndsGroups : List ℕ → Type 0
+abbrev pub EndsGroups : List ℕ → Type 0
 EndsGroups s = Begins 73 s
 
-abbrev EndsChunks : List ℕ → Type 0
+abbrev pub EndsChunks : List ℕ → Type 0
 EndsChunks s = Begins 71 s ⊎ EndsGroups s
 
-abbrev EndsPages : List ℕ → Type 0
+abbrev pub EndsPages : List ℕ → Type 0
 EndsPages s = Begins 67 s ⊎ EndsChunks s
 
 -- ---- pages
@@ -49,7 +49,7 @@ low a b e f = omega arith
 quarter : (a b : ℕ) → a % 65536 ≡ b % 65536 → a / 65536 % 65536 ≡ b / 65536 % 65536 → a % 4294967296 ≡ b % 4294967296
 quarter a b e f = omega arith
 
-lengths_same : (k a b : ℕ) → a < 2 ^ 32 → b < 2 ^ 32 → number32 (k + a) ≡ number32 (k + b) → a ≡ b
+pub lengths_same : (k a b : ℕ) → a < 2 ^ 32 → b < 2 ^ 32 → number32 (k + a) ≡ number32 (k + b) → a ≡ b
 lengths_same k a b small_a small_b e =
     let d0 : (k + a) % 256 ≡ (k + b) % 256 = cc in
     let d1 : (k + a) / 256 % 256 ≡ (k + b) / 256 % 256 = cc in
@@ -63,15 +63,10 @@ lengths_same k a b small_a small_b e =
     let all = quarter (k + a) (k + b) low_half high_half in
     omega (arith, all)
 
-abbrev IsPageOf : DataType → Page → Type 0
+abbrev pub IsPageOf : DataType → Page → Type 0
 IsPageOf data_type page = ArePoints data_type page.points.items × All IsInRange page.points.items
 
-length_body : (encoding : Encoding) (points : List Point) → length (body encoding points) ≡ 4 + length (times_field points) + length (spelling encoding (values_of points))
-length_body encoding points =
-    length-append (number32 (length (times_field points)) ++ times_field points) (spelling encoding (values_of points))
-    ∙ ap (λ (n : ℕ). n + length (spelling encoding (values_of points))) (length-append (number32 (length (times_field points))) (times_field points))
-
-page_free : (data_type : DataType) (encoding : Encoding) (suits : is_suitable data_type encoding ≡ true) (a b : Page) (x y : List ℕ) → IsPageOf data_type a → IsPageOf data_type b
+pub page_free : (data_type : DataType) (encoding : Encoding) (suits : is_suitable data_type encoding ≡ true) (a b : Page) (x y : List ℕ) → IsPageOf data_type a → IsPageOf data_type b
     → page_field encoding a ++ x ≡ page_field encoding b ++ y → (a.points.items ≡ b.points.items) × (x ≡ y)
 page_free data_type encoding suits a b x y is_a is_b e =
     let p = a.points.items in
@@ -87,7 +82,7 @@ page_free data_type encoding suits a b x y is_a is_b e =
     let sized : number32 (4 + length (times_field a.points.items) + length (spelling encoding (values_of a.points.items))) ≡ number32 (4 + length (times_field a.points.items) + length (spelling encoding (values_of b.points.items))) =
     ap number32 (sym (length_body encoding p)) ∙ number ∙ ap number32 (length_body encoding q) ∙ ap (λ (l : List ℕ). number32 (4 + length l + length (spelling encoding (values_of q)))) (sym times.0) in
     let len = lengths_same (4 + length (times_field p)) (length (spelling encoding (values_of p))) (length (spelling encoding (values_of q)))
-    (laws.short (values_of p) (are_values data_type p is_a.0 is_a.1)) (laws.short (values_of q) (are_values data_type q is_b.0 is_b.1)) sized in
+    (short_values data_type encoding suits p is_a.0 is_a.1) (short_values data_type encoding suits q is_b.0 is_b.1) sized in
     let values = same_front (spelling encoding (values_of p)) (spelling encoding (values_of q)) x y len times.1 in (
       points_same p q (times_laws.same_from_spelling (times_of p) (times_of q) (are_times data_type p is_a.0 is_a.1) (are_times data_type q is_b.0 is_b.1) times.0)
           (laws.one (values_of p) (values_of q) (are_values data_type p is_a.0 is_a.1) (are_values data_type q is_b.0 is_b.1) values.0),
@@ -97,12 +92,12 @@ page_free data_type encoding suits a b x y is_a is_b e =
     cons_same : (n : ℕ) (xs ys : List ℕ) → n ∷ xs ≡ n ∷ ys → xs ≡ ys
     cons_same n xs ys same = cc
 
-not_page : (s : List ℕ) → EndsPages s → Begins 80 s → ⊥
+pub not_page : (s : List ℕ) → EndsPages s → Begins 80 s → ⊥
 not_page s (inl chunk) page = other_mark 67 80 s (λ e. absurd (omega arith)) chunk page
 not_page s (inr (inl group)) page = other_mark 71 80 s (λ e. absurd (omega arith)) group page
 not_page s (inr (inr leaf)) page = other_mark 73 80 s (λ e. absurd (omega arith)) leaf page
 
-pages_marked : (data_type : DataType) (encoding : Encoding) (suits : is_suitable data_type encoding ≡ true) → AreMarked (page_field encoding) (λ page. page.points.items) (IsPageOf data_type) 80 EndsPages
+pub pages_marked : (data_type : DataType) (encoding : Encoding) (suits : is_suitable data_type encoding ≡ true) → AreMarked (page_field encoding) (λ page. page.points.items) (IsPageOf data_type) 80 EndsPages
 pages_marked data_type encoding suits = record {
   begins = λ page. (number32 (length (body encoding page.points.items)) ++ body encoding page.points.items, refl);
   ends = not_page;
@@ -111,11 +106,11 @@ pages_marked data_type encoding suits = record {
 
 -- ---- chunks
 
-abbrev IsWholeChunk : Chunk → Type 0
+abbrev pub IsWholeChunk : Chunk → Type 0
 IsWholeChunk chunk = IsChunk chunk × HasParts chunk
 
 -- what holds of all points of pages holds of those of each page
-of_each_page : (pages : List Page) → All IsInRange (points_of pages) → AllByRecursion (λ page. All IsInRange page.points.items) pages
+pub of_each_page : (pages : List Page) → All IsInRange (points_of pages) → AllByRecursion (λ page. All IsInRange page.points.items) pages
 of_each_page [] ranges = tt
 of_each_page (p ∷ ps) ranges = (
   λ k d lt. subst IsInRange (get_or_append_left p.points.items (points_of ps) d k lt) (ranges k d (omega (arith, lt, length-append p.points.items (points_of ps)))),
@@ -126,13 +121,13 @@ both : {A : Type 0} (P Q : A → Type 0) (xs : List A) → AllByRecursion P xs �
 both P Q [] p q = tt
 both P Q (x ∷ xs) p q = ((p.0, q.0), both P Q xs p.1 q.1)
 
-pages_of_chunk : (chunk : Chunk) → IsWholeChunk chunk → AllByRecursion (IsPageOf chunk.data_type) chunk.pages.items
+pub pages_of_chunk : (chunk : Chunk) → IsWholeChunk chunk → AllByRecursion (IsPageOf chunk.data_type) chunk.pages.items
 pages_of_chunk chunk is =
     both (λ page. ArePoints chunk.data_type page.points.items) (λ page. All IsInRange page.points.items) chunk.pages.items
     (recursion_from_All (λ page. ArePoints chunk.data_type page.points.items) chunk.pages.items is.0.pages) (of_each_page chunk.pages.items is.1.points)
 
 -- a chunk's bytes, and what follows them
-chunk_apart : (chunk : Chunk) (x : List ℕ) → chunk_field chunk ++ x ≡ 67 ∷ (plain_text chunk.measurement ++ (type_field chunk.data_type ++ (encoding_field chunk.encoding ++ (flat_map (page_field chunk.encoding) chunk.pages.items ++ x))))
+pub chunk_apart : (chunk : Chunk) (x : List ℕ) → chunk_field chunk ++ x ≡ 67 ∷ (plain_text chunk.measurement ++ (type_field chunk.data_type ++ (encoding_field chunk.encoding ++ (flat_map (page_field chunk.encoding) chunk.pages.items ++ x))))
 chunk_apart chunk x =
     let m = 67 ∷ plain_text chunk.measurement in
     let t = type_field chunk.data_type in
@@ -149,7 +144,7 @@ short_path path is = omega (arith, is.1.short)
 tail_same : (n : ℕ) (xs ys : List ℕ) → n ∷ xs ≡ n ∷ ys → xs ≡ ys
 tail_same n xs ys same = cc
 
-chunk_free : (a b : Chunk) (x y : List ℕ) → IsWholeChunk a → IsWholeChunk b → EndsPages x → EndsPages y → chunk_field a ++ x ≡ chunk_field b ++ y → (chunk_content a ≡ chunk_content b) × (x ≡ y)
+pub chunk_free : (a b : Chunk) (x y : List ℕ) → IsWholeChunk a → IsWholeChunk b → EndsPages x → EndsPages y → chunk_field a ++ x ≡ chunk_field b ++ y → (chunk_content a ≡ chunk_content b) × (x ≡ y)
 chunk_free a b x y is_a is_b end_x end_y e =
     let pages_a = flat_map (page_field a.encoding) a.pages.items in
     let pages_b = flat_map (page_field b.encoding) b.pages.items in
@@ -166,11 +161,11 @@ chunk_free a b x y is_a is_b end_x end_y e =
     let p : map (λ (page : Page). page.points.items) a.pages.items ≡ map (λ (page : Page). page.points.items) b.pages.items = pages.0 in
     (cc, pages.1)
 
-not_chunk : (s : List ℕ) → EndsChunks s → Begins 67 s → ⊥
+pub not_chunk : (s : List ℕ) → EndsChunks s → Begins 67 s → ⊥
 not_chunk s (inl group) chunk = other_mark 71 67 s (λ e. absurd (omega arith)) group chunk
 not_chunk s (inr leaf) chunk = other_mark 73 67 s (λ e. absurd (omega arith)) leaf chunk
 
-chunks_marked : AreMarked chunk_field chunk_content IsWholeChunk 67 EndsChunks
+pub chunks_marked : AreMarked chunk_field chunk_content IsWholeChunk 67 EndsChunks
 chunks_marked = record {
   begins = λ chunk. (plain_text chunk.measurement ++ type_field chunk.data_type ++ encoding_field chunk.encoding ++ flat_map (page_field chunk.encoding) chunk.pages.items, refl);
   ends = not_chunk;
@@ -179,13 +174,13 @@ chunks_marked = record {
 
 -- ---- groups
 
-abbrev IsWholeGroup : Group → Type 0
+abbrev pub IsWholeGroup : Group → Type 0
 IsWholeGroup group = IsPath group.device × AllByRecursion IsWholeChunk group.chunks.items
 
-group_apart : (group : Group) (x : List ℕ) → group_field group ++ x ≡ 71 ∷ (plain_text group.device ++ (flat_map chunk_field group.chunks.items ++ x))
+pub group_apart : (group : Group) (x : List ℕ) → group_field group ++ x ≡ 71 ∷ (plain_text group.device ++ (flat_map chunk_field group.chunks.items ++ x))
 group_apart group x = append_assoc (71 ∷ plain_text group.device) (flat_map chunk_field group.chunks.items) x
 
-group_free : (a b : Group) (x y : List ℕ) → IsWholeGroup a → IsWholeGroup b → EndsChunks x → EndsChunks y → group_field a ++ x ≡ group_field b ++ y → (group_content a ≡ group_content b) × (x ≡ y)
+pub group_free : (a b : Group) (x y : List ℕ) → IsWholeGroup a → IsWholeGroup b → EndsChunks x → EndsChunks y → group_field a ++ x ≡ group_field b ++ y → (group_content a ≡ group_content b) × (x ≡ y)
 group_free a b x y is_a is_b end_x end_y e =
     let chunks_a = flat_map chunk_field a.chunks.items in
     let chunks_b = flat_map chunk_field b.chunks.items in
@@ -196,7 +191,7 @@ group_free a b x y is_a is_b end_x end_y e =
     let c : map chunk_content a.chunks.items ≡ map chunk_content b.chunks.items = chunks.0 in
     (cc, chunks.1)
 
-groups_marked : AreMarked group_field group_content IsWholeGroup 71 EndsGroups
+pub groups_marked : AreMarked group_field group_content IsWholeGroup 71 EndsGroups
 groups_marked = record {
   begins = λ group. (plain_text group.device ++ flat_map chunk_field group.chunks.items, refl);
   ends = λ s leaf group. other_mark 73 71 s (λ e. absurd (omega arith)) leaf group;
@@ -214,7 +209,7 @@ whole_groups (g ∷ gs) good devices parts =
       whole_groups gs good.1 devices.1 others,
     )
 
-groups_of_tree : (tree : Tree) → IsTree tree → IsMade tree → AllByRecursion IsWholeGroup tree.groups.items
+pub groups_of_tree : (tree : Tree) → IsTree tree → IsMade tree → AllByRecursion IsWholeGroup tree.groups.items
 groups_of_tree tree is made =
     whole_groups tree.groups.items (recursion_from_All IsGroup tree.groups.items is.groups) (recursion_from_All (λ group. IsPath group.device) tree.groups.items made.devices) made.chunks
 
@@ -225,12 +220,12 @@ leaf_first : (leaves : List (List IndexEntry)) (rest : List ℕ) → index.AreLe
 leaf_first [] rest are = absurd are
 leaf_first (leaf ∷ leaves) rest are = begins_append 73 (index.leaf_field leaf ++ flat_map index.leaf_field leaves) rest (begins_append 73 (index.leaf_field leaf) (flat_map index.leaf_field leaves) (_, refl))
 
-index_first : (place root : ℕ) (entries : List IndexEntry) (bytes rest : List ℕ) → index.IsSpelling place root entries bytes → Begins 73 (bytes ++ rest)
+pub index_first : (place root : ℕ) (entries : List IndexEntry) (bytes rest : List ℕ) → index.IsSpelling place root entries bytes → Begins 73 (bytes ++ rest)
 index_first place root entries bytes rest is =
     subst (λ l. Begins 73 (l ++ rest)) (sym is.bytes-are) (begins_append 73 (flat_map index.leaf_field is.leaves ++ index.root_field place is.leaves) rest (leaf_first is.leaves (index.root_field place is.leaves) is.stand.sizes))
 
 -- a file's bytes: the groups behind the head, and what follows them
-file_apart : (tree : Tree) (bytes : List ℕ) (is : IsFile tree bytes) → bytes ≡ head ++ (flat_map group_field tree.groups.items ++ (is.index-bytes ++ (number64 is.root ++ magic)))
+pub file_apart : (tree : Tree) (bytes : List ℕ) (is : IsFile tree bytes) → bytes ≡ head ++ (flat_map group_field tree.groups.items ++ (is.index-bytes ++ (number64 is.root ++ magic)))
 file_apart tree bytes is =
     let groups = flat_map group_field tree.groups.items in
     is.bytes-are ∙ append_assoc (head ++ groups ++ is.index-bytes) (number64 is.root) magic ∙ append_assoc (head ++ groups) is.index-bytes (number64 is.root ++ magic)

@@ -3,3 +3,4 @@ pub mod Pages
 pub mod Reading
 pub mod Trees
 pub mod File
+pub mod Places

@@ -22,7 +22,10 @@ mod tree;
 pub use body::{read_page, write_page};
 pub use check::{are_points, is_tree};
 pub use fault::PageFault;
-pub use laws::{one_page, one_tree};
+pub use laws::{
+    body_is_short, entries_are_index, entries_stand, file_ends, one_file, one_page, one_tree,
+    read_entries,
+};
 pub use rising::is_rising;
 pub use tree::{Chunk, Group, Page, Tree};
 
