@@ -257,9 +257,15 @@ leaves_few (leaf ∷ next ∷ leaves) sizes =
     let rest = leaves_few (next ∷ leaves) sizes.1 in
     omega (arith, n, full, rest)
 
--- a first bad part is in no index
-pub no_index : (place root : ℕ) (bytes : List ℕ) (at : ℕ) → place ≤ root → root ≤ place + length bytes → place + length bytes < 2 ^ 64 → IsFirstBadPart place root bytes at → IsNone place root bytes
-no_index place root bytes at from to room part entries read =
+-- the root and the leaves of an index
+pub record IndexParts (place root : ℕ) (bytes : List ℕ) : Type 0 where
+  pub pointers-are : List Pointer
+  pub leaves : List Leaf
+  pub is-root : IsRoot place root (drop (root - place) bytes) pointers-are
+  pub leaves-are : AreLeavesAt root pointers-are (take (root - place) bytes) leaves
+
+pub index_parts : (place root : ℕ) (bytes : List ℕ) (entries : List IndexEntry) → place ≤ root → root ≤ place + length bytes → place + length bytes < 2 ^ 64 → IsRead place root bytes entries → IndexParts place root bytes
+index_parts place root bytes entries from to room read =
     let leaves = read.spelling.leaves in
     let flat = flat_map leaf_field leaves in
     let root_is = read.spelling.root-place in
@@ -272,20 +278,30 @@ no_index place root bytes at from to room part entries read =
     let ps = pointer_list place leaves in
     let few : length (pointer_list place read.spelling.leaves) < 2 ^ 32 =
     let count = made.count in let low = leaves_few leaves read.spelling.stand.sizes in let n = ap length all in let most = read.index.few in omega (arith, count, low, n, most) in
-    let is_root : IsRoot place root (drop (root - place) bytes) (pointer_list place read.spelling.leaves) = record {
-      begin = made.begin;
-      few = few;
-      good = All-from_recursion IsPointer ps made.good;
-      rising = made.rising;
-      inside = All-from_recursion (λ (p : Pointer). p.place < root) ps made.inside;
-      bytes-are = back ∙ ap (λ (n : ℕ). 82 ∷ number32 n ++ pointers place leaves) (sym made.count) ∙ ap (λ (l : List ℕ). 82 ∷ number32 (length ps) ++ l) made.pointers-are;
-    } in
+    record {
+      pointers-are = ps;
+      leaves = leaves;
+      is-root = record {
+        begin = made.begin;
+        few = few;
+        good = All-from_recursion IsPointer ps made.good;
+        rising = made.rising;
+        inside = All-from_recursion (λ (p : Pointer). p.place < root) ps made.inside;
+        bytes-are = back ∙ ap (λ (n : ℕ). 82 ∷ number32 n ++ pointers place leaves) (sym made.count) ∙ ap (λ (l : List ℕ). 82 ∷ number32 (length ps) ++ l) made.pointers-are;
+      };
+      leaves-are = subst (λ (b : List ℕ). AreLeavesAt root ps b leaves) (sym front) made.leaves-are;
+    }
+
+-- a first bad part is in no index
+pub no_index : (place root : ℕ) (bytes : List ℕ) (at : ℕ) → place ≤ root → root ≤ place + length bytes → place + length bytes < 2 ^ 64 → IsFirstBadPart place root bytes at → IsNone place root bytes
+no_index place root bytes at from to room part entries read =
+    let parts = index_parts place root bytes entries from to room read in
+    let ps = parts.pointers-are in
     ⊎_elim
-    (λ no_root. no_root.1 ps is_root)
+    (λ no_root. no_root.1 ps parts.is-root)
     (λ bad.
-    let same = pointers_same (drop (root - place) bytes) bad.0 ps (root_counted place root (drop (root - place) bytes) bad.0 bad.1) (root_counted place root (drop (root - place) bytes) ps is_root) in
-    let here = subst (λ (qs : List Pointer). IsFirstBadLeaf root qs (take (root - place) bytes) at) same bad.2 in
-    no_bad_leaf root ps flat leaves at made.leaves-are (subst (λ (b : List ℕ). IsFirstBadLeaf root ps b at) front here))
+    let same = pointers_same (drop (root - place) bytes) bad.0 ps (root_counted place root (drop (root - place) bytes) bad.0 bad.1) (root_counted place root (drop (root - place) bytes) ps parts.is-root) in
+    no_bad_leaf root ps (take (root - place) bytes) parts.leaves at parts.leaves-are (subst (λ (qs : List Pointer). IsFirstBadLeaf root qs (take (root - place) bytes) at) same bad.2))
     part
 
 -- ---- the exits of reading

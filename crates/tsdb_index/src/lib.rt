@@ -22,7 +22,8 @@ mod writing;
 pub use fault::IndexFault;
 pub use index::{FileMeta, Index, IndexEntry, PageEntry};
 pub use laws::{one_index, one_spelling, root_begins};
-pub use reading::read_index;
+pub use pointer::Pointer;
+pub use reading::{pointers_in, read_index};
 pub use writing::{write_index, write_leaves_and_root};
 
 #[cfg(test)]

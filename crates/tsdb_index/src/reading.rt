@@ -165,7 +165,7 @@ fn entries_in(alloc: Global, bytes: &[u8]) -> Result<Vec<IndexEntry>, FieldFault
 }
 
 /// The pointers of the root that all of these bytes are, of any number and order. A fault has no place of its own.
-fn pointers_in(alloc: Global, bytes: &[u8]) -> Result<Vec<Pointer>, FieldFault>
+pub fn pointers_in(alloc: Global, bytes: &[u8]) -> Result<Vec<Pointer>, FieldFault>
     ensures { ReadsWhole (IsCounted 82 number32 (2 ^ 32) pointer_bytes IsPointer bytes.now)
         (λ pointers. pointers.items) result }
 {
