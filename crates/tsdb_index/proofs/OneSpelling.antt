@@ -185,10 +185,10 @@ one_spelling place root_x root_y xs ys x y same in_x in_y =
     let ms = in_y.leaves in
     let a = leaves_alike ls ms in_x.stand.sizes in_y.stand.sizes (ap content in_x.stand.all ∙ same ∙ sym (ap content in_y.stand.all)) in (
       in_x.bytes-are
-      ∙ ap (λ (b : List ℕ). b ++ root_field place ls) a.bytes
-      ∙ ap (λ (n : ℕ). flat_map leaf_field ms ++ (82 ∷ number32 n ++ pointers place ls)) a.count
-      ∙ ap (λ (b : List ℕ). flat_map leaf_field ms ++ (82 ∷ number32 (length ms) ++ b)) (a.pointers-are place)
-      ∙ sym in_y.bytes-are,
+          ∙ ap (λ (b : List ℕ). b ++ root_field place ls) a.bytes
+          ∙ ap (λ (n : ℕ). flat_map leaf_field ms ++ (82 ∷ number32 n ++ pointers place ls)) a.count
+          ∙ ap (λ (b : List ℕ). flat_map leaf_field ms ++ (82 ∷ number32 (length ms) ++ b)) (a.pointers-are place)
+          ∙ sym in_y.bytes-are,
       in_x.root-place ∙ ap (λ (b : List ℕ). place + length b) a.bytes ∙ sym in_y.root-place,
     )
 

@@ -27,4 +27,6 @@ pub use reading::{pointers_in, read_index};
 pub use writing::{write_index, write_leaves_and_root};
 
 #[cfg(test)]
+mod slow;
+#[cfg(test)]
 mod tests;

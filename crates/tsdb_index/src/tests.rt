@@ -182,6 +182,80 @@ fn cut_indexes(rt: HostRuntime) -> Result<(), Fail> {
     Ok(())
 }
 
+/// Whether the reader answers what the slow one does.
+fn agree(alloc: Global, bytes: &[u8], place: u64, root: u64) -> bool {
+    match (
+        read(alloc, bytes, place, root),
+        slow::read(alloc, bytes, place, root),
+    ) {
+        (Ok(index), Ok(entries)) => index.entries == entries,
+        (Err(IndexFault::Bad { at }), Err(wanted)) => at == wanted,
+        _ => false,
+    }
+}
+
+#[test]
+fn inverted_bytes_beside_the_slow_reader(rt: HostRuntime) -> Result<(), Fail> {
+    let alloc = rt.alloc();
+    assert!(rt; agree(alloc, &WORKED, 44, 194));
+    for place in 0..176u8 {
+        for mask in [0xffu8, 0x01, 0x80] {
+            let mut bytes = WORKED;
+            bytes[place as usize] ^= mask;
+            assert!(rt; agree(alloc, &bytes, 44, 194), "{place} {mask}");
+        }
+    }
+    Ok(())
+}
+
+#[test]
+fn cuts_beside_the_slow_reader(rt: HostRuntime) -> Result<(), Fail> {
+    let alloc = rt.alloc();
+    for cut in 0..177usize {
+        let bytes = &WORKED[..cut];
+        for root in 0..=cut as u64 {
+            assert!(rt; agree(alloc, bytes, 44, 44 + root), "{cut} {root}");
+        }
+    }
+    Ok(())
+}
+
+/// Whether they agree where the byte at a place is inverted.
+fn agree_inverted(alloc: Global, bytes: &mut [u8], at: usize, place: u64, root: u64) -> bool {
+    if let Some(byte) = bytes.get_mut(at) {
+        *byte ^= 0xff;
+    }
+    let agreed = agree(alloc, bytes, place, root);
+    if let Some(byte) = bytes.get_mut(at) {
+        *byte ^= 0xff;
+    }
+    agreed
+}
+
+/// Of indexes of one to three leaves, each byte of the root and the first bytes of the first and of the last entry.
+#[test]
+fn leaves_beside_the_slow_reader(rt: HostRuntime) -> Result<(), Fail> {
+    let alloc = rt.alloc();
+    for count in [1u16, 256, 257, 513] {
+        let (mut bytes, root) = written(alloc, entries(alloc, count)?, 1000)?;
+        assert!(rt; agree(alloc, &bytes, 1000, root));
+        let root_at = root.saturating_sub(1000) as usize;
+        let last_at = root_at.saturating_sub(154);
+        for at in 0..bytes.len() {
+            let is_chosen = at < 30
+                || at >= root_at
+                || (at >= last_at && at < last_at.saturating_add(30));
+            if is_chosen {
+                assert!(rt;
+                    agree_inverted(alloc, &mut bytes, at, 1000, root),
+                    "{count} {at}"
+                );
+            }
+        }
+    }
+    Ok(())
+}
+
 /// Two entries with these names, and whether they are an index.
 const PAIRS: [(&str, &str, &str, &str, bool); 5] = [
     ("root.a", "s", "root.a", "t", true),
