@@ -1,7 +1,7 @@
 use super::*;
 use std::alloc::Global;
 use std::test::Fail;
-use tsdb_base::{Memory, Point, Stats, Text, Value};
+use tsdb_base::{DataType, Memory, Point, Stats, Text, Value};
 
 /// Points at the times 1, 2 and on.
 fn points(alloc: Global, values: Vec<Value>) -> Result<Vec<Point>, Memory> {
@@ -25,67 +25,94 @@ fn text(alloc: Global, bytes: &[u8]) -> Result<Value, Fail> {
     Ok(Value::Text(Text::new(alloc, bytes)?))
 }
 
+/// The statistics of so many points at the times 1, 2 and on.
+fn wanted(
+    count: u16,
+    first: Value,
+    last: Value,
+    least: Option<Value>,
+    greatest: Option<Value>,
+) -> Stats {
+    Stats {
+        count: u64::from(count),
+        start: 1,
+        end: i64::from(count),
+        first,
+        last,
+        least,
+        greatest,
+    }
+}
+
+/// Lists of numbers: how many there are, the first and the last, the least and the greatest.
+const LISTS: [(&[i64], u16, i64, i64, i64, i64); 4] = [
+    (&[5], 1, 5, 5, 5, 5),
+    (&[3, i64::MIN, 7, 7], 4, 3, 7, i64::MIN, 7),
+    (&[0, i64::MAX, -1], 3, 0, -1, -1, i64::MAX),
+    (&[7, 6, 6, 8, 7], 5, 7, 7, 6, 8),
+];
+
+#[test]
+fn statistics_of_numbers(rt: HostRuntime) -> Result<(), Fail> {
+    let alloc = rt.alloc();
+    for (numbers, count, first, last, least, greatest) in LISTS {
+        let mut values = Vec::new(alloc);
+        for number in numbers {
+            values.push(Value::I64(*number))?;
+        }
+        let found = stats(&points(alloc, values)?)?;
+        let (first, last) = (Value::I64(first), Value::I64(last));
+        let (least, greatest) = (Some(Value::I64(least)), Some(Value::I64(greatest)));
+        assert_eq!(rt; found, wanted(count, first, last, least, greatest));
+    }
+    Ok(())
+}
+
+/// The types, and whether their values have a least and a greatest one.
+const TYPES: [(DataType, bool); 4] = [
+    (DataType::Boolean, false),
+    (DataType::Int32, true),
+    (DataType::Int64, true),
+    (DataType::Text, false),
+];
+
+/// A number as a value of this type.
+fn value(alloc: Global, data_type: DataType, number: u16) -> Result<Value, Fail> {
+    match data_type {
+        DataType::Boolean => Ok(Value::Bool(number % 2 == 1)),
+        DataType::Int32 => Ok(Value::I32(i32::from(number))),
+        DataType::Int64 => Ok(Value::I64(i64::from(number))),
+        DataType::Text => text(alloc, &number.to_be_bytes()),
+    }
+}
+
+/// How many points there are, and the last, the least and the greatest of the numbers, of which the first is 0 and each
+/// is 37 more than the one before it, modulo 101.
+const SIZES: [(u16, u16, u16, u16); 3] = [(1, 0, 0, 0), (2, 37, 0, 37), (1000, 98, 0, 100)];
+
 #[test]
 fn statistics_of_each_type(rt: HostRuntime) -> Result<(), Fail> {
     let alloc = rt.alloc();
-    let wide = points(
-        alloc,
-        vec![in alloc;
-            Value::I64(3),
-            Value::I64(i64::MIN),
-            Value::I64(7),
-            Value::I64(7),
-        ]?,
-    )?;
-    let wanted = Stats {
-        count: 4,
-        start: 1,
-        end: 4,
-        first: Value::I64(3),
-        last: Value::I64(7),
-        least: Some(Value::I64(i64::MIN)),
-        greatest: Some(Value::I64(7)),
-    };
-    assert_eq!(rt; stats(&wide)?, wanted);
-    let narrow = points(alloc, vec![in alloc; Value::I32(-5)]?)?;
-    let wanted = Stats {
-        count: 1,
-        start: 1,
-        end: 1,
-        first: Value::I32(-5),
-        last: Value::I32(-5),
-        least: Some(Value::I32(-5)),
-        greatest: Some(Value::I32(-5)),
-    };
-    assert_eq!(rt; stats(&narrow)?, wanted);
-    let truths = points(
-        alloc,
-        vec![in alloc; Value::Bool(true), Value::Bool(false)]?,
-    )?;
-    let wanted = Stats {
-        count: 2,
-        start: 1,
-        end: 2,
-        first: Value::Bool(true),
-        last: Value::Bool(false),
-        least: None,
-        greatest: None,
-    };
-    assert_eq!(rt; stats(&truths)?, wanted);
-    let texts = points(
-        alloc,
-        vec![in alloc; text(alloc, b"b")?, text(alloc, b"")?]?,
-    )?;
-    let wanted = Stats {
-        count: 2,
-        start: 1,
-        end: 2,
-        first: text(alloc, b"b")?,
-        last: text(alloc, b"")?,
-        least: None,
-        greatest: None,
-    };
-    assert_eq!(rt; stats(&texts)?, wanted);
+    for (data_type, is_number) in TYPES {
+        for (count, last, least, greatest) in SIZES {
+            let mut values = Vec::new(alloc);
+            let mut number = 0u16;
+            for _ in 0..count {
+                values.push(value(alloc, data_type, number)?)?;
+                number = number.wrapping_add(37) % 101;
+            }
+            let found = stats(&points(alloc, values)?)?;
+            let (least, greatest) = if is_number {
+                let least = value(alloc, data_type, least)?;
+                (Some(least), Some(value(alloc, data_type, greatest)?))
+            } else {
+                (None, None)
+            };
+            let first = value(alloc, data_type, 0)?;
+            let last = value(alloc, data_type, last)?;
+            assert_eq!(rt; found, wanted(count, first, last, least, greatest));
+        }
+    }
     Ok(())
 }
 
