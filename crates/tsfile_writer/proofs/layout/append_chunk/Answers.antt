@@ -1,0 +1,16 @@
+use Rattle.std.proofs.Common.{◌≡◌, ◌+◌, ap, ◌∙◌, length, rules}
+use Rattle.std.proofs.lemmas.List.{length-append}
+use Rattle.tsfile_writer.specs.Steps.{chunk_start}
+use Rattle.tsfile_writer.proofs.layout.append_chunk.Goals as goal
+
+pub returns-clause-chunk : goal.returns-clause-chunk
+returns-clause-chunk c =
+    let start = chunk_start c.args.measurement.now c.args.data_type c.args.encoding in
+    let place : c.len.result ≡ length c.args.into.now.items + length (chunk_start c.args.measurement.now c.args.data_type c.args.encoding) = c.len.ensures ∙ c.append_chunk_start.new.into.ok.0 ∙ ap length c.in_ok-append_chunk_start.ensures.ok ∙ length-append c.args.into.now.items start in
+    record {
+      place-is = search rules;
+      stats = c.in_ok-stats.ensures.found;
+      entry = record { place = c.len.result; stats = c.in_ok-copy_stats.field-0 };
+      is = record { place-is = place; stats = c.in_ok-copy_stats.ensures c.args.points.now c.in_ok-stats.ensures.found };
+      pages-are = search rules;
+    }

@@ -1,0 +1,100 @@
+-- How a file is put together part by part. No public clause speaks of these.
+use Rattle.std.specs.Prelude.{◌≡◌, ℕ, ◌+◌, ◌≤◌, List, [], ◌∷◌, ◌++◌, Bool, true, false, length}
+use Rattle.std.specs.List.{flat_map}
+use Rattle.tsdb_base.specs.declared.point.Point.{Point}
+use Rattle.tsdb_base.specs.declared.point.Stats.{Stats}
+use Rattle.tsdb_base.specs.declared.value.DataType.{DataType}
+use Rattle.tsdb_base.specs.declared.value.Encoding.{Encoding}
+use Rattle.tsdb_base.specs.Fields.{number32, type_field, encoding_field}
+use Rattle.tsdb_base.specs.Plain.{plain_text}
+use Rattle.tsdb_index.specs.declared.index.IndexEntry.{IndexEntry}
+use Rattle.tsdb_index.specs.declared.index.PageEntry.{PageEntry}
+use Rattle.tsdb_pages.specs.declared.tree.Page.{Page}
+use Rattle.tsdb_pages.specs.declared.tree.Chunk.{Chunk}
+use Rattle.tsdb_pages.specs.declared.tree.Group.{Group}
+use Rattle.tsdb_pages.specs.File.{ArePageEntries, AreEntries, AreEntriesOf, chunk_field, group_field, head, page_field}
+use Rattle.tsdb_pages.specs.Limits.{max_pages}
+use Rattle.tsdb_pages.specs.Pages.{body}
+use Rattle.tsdb_pages.specs.Trees.{points_of}
+use Rattle.tsdb_stats.specs.Statistics.{AreStatsOf}
+use Rattle.tsfile_writer.specs.declared.layout.OpenChunk.{OpenChunk}
+
+-- what stands before a group's chunks
+abbrev pub group_start : List ℕ → List ℕ
+group_start device = 71 ∷ plain_text device
+
+-- what stands before a chunk's pages
+abbrev pub chunk_start : List ℕ → DataType → Encoding → List ℕ
+chunk_start measurement data_type encoding = 67 ∷ plain_text measurement ++ type_field data_type ++ encoding_field encoding
+
+-- a page of these points
+abbrev pub page_bytes : Encoding → List Point → List ℕ
+page_bytes encoding points = 80 ∷ number32 (length (body encoding points)) ++ body encoding points
+
+-- what stands before a group's chunks, where a group begins
+abbrev pub start_if : Bool → List ℕ → List ℕ
+start_if true device = group_start device
+start_if false device = []
+
+-- the statistics of points that stand behind others
+abbrev pub IsJoined : Stats → Stats → Stats → Type 0
+IsJoined left right all = (before behind : List Point) → AreStatsOf before left → AreStatsOf behind right → AreStatsOf (before ++ behind) all
+
+-- an entry for a page of these points at this place
+pub record IsEntryFor (place : ℕ) (points : List Point) (entry : PageEntry) : Type 0 where
+  pub place-is : entry.place ≡ place
+  pub stats : AreStatsOf points entry.stats
+
+-- a chunk at this place has one page, of these points, so many bytes behind its first byte
+pub record IsBegun (place skip : ℕ) (points : List Point) (chunk : OpenChunk) : Type 0 where
+  pub place-is : chunk.place ≡ place
+  pub stats : AreStatsOf points chunk.stats
+  pub entry : PageEntry
+  pub is : IsEntryFor (place + skip) points entry
+  pub pages-are : chunk.pages.items ≡ entry ∷ []
+
+-- the chunk has one page more, of these points and at this place
+pub record IsLonger (place : ℕ) (points : List Point) (old new : OpenChunk) : Type 0 where
+  pub place-is : new.place ≡ old.place
+  pub stats : (before : List Point) → AreStatsOf before old.stats → AreStatsOf (before ++ points) new.stats
+  pub entry : PageEntry
+  pub is : IsEntryFor place points entry
+  pub pages-are : new.pages.items ≡ old.pages.items ++ entry ∷ []
+  pub few : length new.pages.items ≤ max_pages
+
+-- the same is said of the chunk
+pub record SameChunk (old new : OpenChunk) : Type 0 where
+  pub place-is : new.place ≡ old.place
+  pub stats : new.stats ≡ old.stats
+  pub pages-are : new.pages.items ≡ old.pages.items
+
+-- head and groups stand, and these are their entries
+pub record AreGroups (groups : List Group) (bytes : List ℕ) (entries : List IndexEntry) : Type 0 where
+  pub bytes-are : bytes ≡ head ++ flat_map group_field groups
+  pub by_group : List (List IndexEntry)
+  pub all : flat_map (λ list. list) by_group ≡ entries
+  pub say : AreEntriesOf (length head) groups by_group
+
+-- behind the groups stands one of this device with these chunks
+pub record AreChunks (groups : List Group) (device : List ℕ) (chunks : List Chunk) (bytes : List ℕ) (entries : List IndexEntry) : Type 0 where
+  pub bytes-before : List ℕ
+  pub entries-before : List IndexEntry
+  pub before : AreGroups groups bytes-before entries-before
+  pub bytes-are : bytes ≡ bytes-before ++ (group_start device ++ flat_map chunk_field chunks)
+  pub own : List IndexEntry
+  pub all : entries ≡ entries-before ++ own
+  pub say : AreEntries device (length bytes-before + length (group_start device)) chunks own
+
+-- what is said of a chunk at this place, whose pages begin at the other
+pub record IsOpen (encoding : Encoding) (place first : ℕ) (pages : List Page) (chunk : OpenChunk) : Type 0 where
+  pub place-is : chunk.place ≡ place
+  pub stats : AreStatsOf (points_of pages) chunk.stats
+  pub say : ArePageEntries encoding first pages chunk.pages.items
+
+-- behind the chunks stands one with these pages, which may get more
+pub record ArePages (groups : List Group) (device : List ℕ) (chunks : List Chunk) (measurement : List ℕ) (data_type : DataType) (encoding : Encoding) (pages : List Page)
+    (bytes : List ℕ) (entries : List IndexEntry) (chunk : OpenChunk) : Type 0 where
+  pub bytes-before : List ℕ
+  pub before : AreChunks groups device chunks bytes-before entries
+  pub bytes-are : bytes ≡ bytes-before ++ (chunk_start measurement data_type encoding ++ flat_map (page_field encoding) pages)
+  pub is : IsOpen encoding (length bytes-before) (length bytes-before + length (chunk_start measurement data_type encoding)) pages chunk

@@ -1,0 +1,86 @@
+//! Writing the file of a tree. Depends on `layout` and `names`.
+ghost use Rattle.std.specs.Prelude.{◌≡◌, List, [], ◌∷◌, ◌++◌, true, IfOk, OnOk};
+ghost use Rattle.tsdb_pages.specs.declared.tree.Chunk.{Chunk as ChunkOf};
+ghost use Rattle.tsdb_pages.specs.declared.tree.Group.{Group as GroupOf};
+ghost use Rattle.tsdb_pages.specs.File.{IsFile};
+ghost use Rattle.tsdb_pages.specs.Trees.{IsChunk, IsGroup, IsTree};
+ghost use Rattle.tsfile_writer.specs.Steps.{AreChunks, AreGroups};
+
+use crate::layout::{HEAD, append_chunk, append_end, append_group_start};
+use crate::names::{copy_name, copy_path};
+use std::alloc::Global;
+use tsdb_base::Memory;
+use tsdb_index::IndexEntry;
+use tsdb_pages::{Chunk, Group, Tree};
+use tsdb_path::Path;
+
+/// Appends a chunk, and its entry.
+fn write_chunk(
+    alloc: Global,
+    device: &Path,
+    chunk: &Chunk,
+    entries: &mut Vec<IndexEntry>,
+    into: &mut Vec<u8>,
+) -> Result<(), Memory>
+    requires { IsChunk chunk.now }
+    ensures ok { OnOk result ((groups : List GroupOf) (chunks : List ChunkOf) →
+        AreChunks groups device.now chunks into.old.items entries.old.items →
+        AreChunks groups device.now (chunks ++ chunk.now ∷ []) into.new.items entries.new.items) }
+{
+    let Chunk {
+        measurement,
+        data_type,
+        encoding,
+        pages,
+    } = chunk;
+    let mut open = append_chunk(
+        alloc,
+        measurement,
+        *data_type,
+        *encoding,
+        &pages[0].points,
+        into,
+    )?;
+    for page in &pages[1..] {
+        open.put_page(alloc, &page.points, *data_type, *encoding, into)?;
+    }
+    let entry = open.into_entry(
+        copy_path(device)?,
+        copy_name(alloc, measurement)?,
+        *data_type,
+        *encoding,
+    );
+    entries.push(entry)?;
+    Ok(())
+}
+
+/// Appends a group, and the entries of its chunks.
+fn write_group(
+    alloc: Global,
+    group: &Group,
+    entries: &mut Vec<IndexEntry>,
+    into: &mut Vec<u8>,
+) -> Result<(), Memory>
+    requires { IsGroup group.now }
+    ensures ok { OnOk result ((groups : List GroupOf) → AreGroups groups into.old.items entries.old.items →
+        AreGroups (groups ++ group.now ∷ []) into.new.items entries.new.items) }
+{
+    append_group_start(&group.device, into)?;
+    for chunk in &group.chunks {
+        write_chunk(alloc, &group.device, chunk, entries, into)?;
+    }
+    Ok(())
+}
+
+/// The bytes of the file of a tree.
+pub fn write_tree(alloc: Global, tree: &Tree) -> Result<Vec<u8>, Memory>
+    requires { IsTree tree.now }
+    ensures { IfOk result (λ bytes. IsFile tree.now bytes.items) }
+{
+    let mut entries = Vec::new(alloc);
+    let mut bytes = Vec::from_slice(alloc, &HEAD)?;
+    for group in &tree.groups {
+        write_group(alloc, group, &mut entries, &mut bytes)?;
+    }
+    append_end(alloc, entries, bytes)
+}
