@@ -1,6 +1,6 @@
 -- Pages, chunks and groups laid one behind another.
 use Rattle.std.proofs.Common.{◌≡◌, ℕ, suc, ◌+◌, ◌-◌, ◌<◌, ◌≤◌, List, [], ◌∷◌, ◌++◌, length, take, drop, get_or, Ok, Err, refl, sym, ap, ◌∙◌, subst, append_assoc, arith}
-use Rattle.std.specs.Prelude.{All, IfOk, Result}
+use Rattle.std.specs.Prelude.{All, IfOk, OnErr, Result}
 use Rattle.std.specs.List.{flat_map}
 use Rattle.std.proofs.lemmas.Grind.{flat_map-append}
 use Rattle.std.proofs.lemmas.List.{append-nil, length-append, length-drop, take-append-drop, take_all, take_more}
@@ -82,6 +82,11 @@ all_taken {A} items others i same end =
 pub if_ok_then : {A E : Type 0} (P Q : A → Type 0) (result : Result A E) → ((a : A) → P a → Q a) → IfOk result P → IfOk result Q
 if_ok_then P Q (Ok a) step is = step a is
 if_ok_then P Q (Err e) step is = is
+
+-- what holds in any case holds after an error
+pub always_on_err : {T E P : Type 0} (result : Result T E) → P → OnErr result P
+always_on_err (Ok a) is = tt
+always_on_err (Err e) is = is
 
 -- ---- how many
 

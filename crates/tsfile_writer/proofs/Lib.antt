@@ -1,1 +1,4 @@
 pub mod Laying
+pub mod Grouping
+pub mod Waiting
+pub mod Closing

@@ -1,12 +1,16 @@
-//! Writing the file of a tree: parts are put one behind another at the end of the bytes, and what the index says of
-//! each chunk is kept beside them.
+//! Writing a TsFile: of a tree at once, or series by series with pages filled in turn. Both put parts one behind
+//! another at the end of the bytes, and keep beside them what the index says of each chunk.
 //! Depends on tsdb_base, tsdb_path, tsdb_fields, tsdb_stats, tsdb_pages and tsdb_index.
 #![tactic(auto)]
 
+mod builder;
+mod fault;
 mod layout;
 mod names;
 mod tree;
 
+pub use builder::Builder;
+pub use fault::BuildFault;
 pub use tree::write_tree;
 
 #[cfg(test)]

@@ -1,0 +1,108 @@
+-- Series one behind another, as the chunks of groups.
+use Rattle.std.proofs.Common.{◌≡◌, ℕ, zero, suc, ◌+◌, ◌-◌, ◌<◌, ◌≤◌, ◌^◌, List, [], ◌∷◌, ◌++◌, length, get_or, map, ⊎_elim, inl, inr, refl, sym, ap, ◌∙◌, subst, append_assoc, arith}
+use Rattle.std.specs.Prelude.{◌<ℤ◌, All, AllPairs, Contains}
+use Rattle.std.specs.Int.{w64}
+use Rattle.std.specs.List.{flat_map}
+use Rattle.std.specs.declared.vec.Vec.{Vec}
+use Rattle.std.specs.Global.{Global}
+use Rattle.std.proofs.lemmas.Cmp.{nat_list_cmp_total}
+use Rattle.std.proofs.lemmas.List.{append-nil, get_or-append-add, length-append, map-append}
+use Rattle.std.proofs.lemmas.List.Elements.{All-contains, All-head, All-tail}
+use Rattle.tsdb_base.specs.declared.point.Point.{Point}
+use Rattle.tsdb_base.specs.declared.value.DataType.{DataType}
+use Rattle.tsdb_base.specs.declared.value.Encoding.{Encoding}
+use Rattle.tsdb_base.specs.Limits.{max_values}
+use Rattle.tsdb_index.specs.declared.index.IndexEntry.{IndexEntry}
+use Rattle.tsdb_index.specs.Entries as index
+use Rattle.tsdb_pages.specs.declared.tree.Page.{Page}
+use Rattle.tsdb_pages.specs.declared.tree.Chunk.{Chunk}
+use Rattle.tsdb_pages.specs.declared.tree.Group.{Group}
+use Rattle.tsdb_pages.specs.Pages.{ArePoints, IsRising}
+use Rattle.tsdb_pages.specs.Trees.{IsBefore, IsChunk, IsGroup, chunks_of, points_of}
+use Rattle.tsdb_pages.proofs.Order.{pairs_append}
+use Rattle.tsfile_writer.specs.Given.{AreChunksOf, AreFilled, IsChunkOf, Series, placed}
+use Rattle.tsfile_writer.specs.Building.{AreGrouped}
+use Rattle.tsfile_writer.proofs.Laying.{flat_push}
+
+-- ---- lists
+
+-- a vector of these items, at the place of another
+abbrev pub vec_like : {A B : Type 0} → Vec B Global → (items : List A) → length items < 2 ^ 63 → Vec A Global
+vec_like v items small = record { ptr = v.ptr; len = length items; cap = length items; alloc = v.alloc; items = items; ok = (refl, omega arith); small = small }
+
+-- lists that end with an item are equal where all but the item and the items are
+pub same_ends : {A : Type 0} (xs ys : List A) (x y : A) → xs ++ x ∷ [] ≡ ys ++ y ∷ [] → (xs ≡ ys) × (x ≡ y)
+same_ends [] [] x y e = let same : x ≡ y = cc in (refl, same)
+same_ends [] (z ∷ ys) x y e =
+    let n : length (x ∷ []) ≡ length (z ∷ (ys ++ y ∷ [])) = ap length e in
+    let m : length (ys ++ y ∷ []) ≡ length ys + 1 = length-append ys (y ∷ []) in
+    absurd (omega (arith, n, m))
+same_ends (z ∷ xs) [] x y e =
+    let n : length (z ∷ (xs ++ x ∷ [])) ≡ length (y ∷ []) = ap length e in
+    let m : length (xs ++ x ∷ []) ≡ length xs + 1 = length-append xs (x ∷ []) in
+    absurd (omega (arith, n, m))
+same_ends (a ∷ xs) (b ∷ ys) x y e =
+    let first : a ≡ b = cc in
+    let rest : xs ++ x ∷ [] ≡ ys ++ y ∷ [] = cc in
+    let rec = same_ends xs ys x y rest in
+    let more : xs ≡ ys = rec.0 in
+    (cc, rec.1)
+
+pub all_behind : {A : Type 0} (P : A → Type 0) (xs ys : List A) → All P (xs ++ ys) → All P ys
+all_behind P xs ys all k d lt =
+    let n : length (xs ++ ys) ≡ length xs + length ys = length-append xs ys in
+    subst P (get_or-append-add xs ys k d) (all (length xs + k) d (omega (arith, lt, n)))
+
+pub pairs_one : {A : Type 0} (R : A → A → Type 0) (x : A) → AllPairs R (x ∷ [])
+pairs_one R x i j d lt within = absurd (omega arith)
+
+pub pairs_push : {A : Type 0} (R : A → A → Type 0) (xs : List A) (y : A) → AllPairs R xs → All (λ x. R x y) xs → AllPairs R (xs ++ y ∷ [])
+pairs_push R xs y pairs before = pairs_append R xs (y ∷ []) pairs (pairs_one R y) (λ x z in_xs in_y. subst (R x) (sym (only y z in_y)) (All-contains (λ x. R x y) xs x before in_xs))
+  where
+    only : {A : Type 0} (y z : A) → Contains (y ∷ []) z → z ≡ y
+    only y z (zero, lt, at) = sym at
+    only y z (suc k, lt, at) = absurd (omega arith)
+
+-- of pairs in two lists, those in the second
+pub pairs_behind : {A : Type 0} (R : A → A → Type 0) (xs ys : List A) → AllPairs R (xs ++ ys) → AllPairs R ys
+pairs_behind R xs ys pairs i j d lt within =
+    let n : length (xs ++ ys) ≡ length xs + length ys = length-append xs ys in
+    let step = pairs (length xs + i) (length xs + j) d (omega (arith, lt)) (omega (arith, within, n)) in
+    subst (λ b. R (get_or ys i d) b) (get_or-append-add xs ys j d) (subst (λ a. R a (get_or (xs ++ ys) (length xs + j) d)) (get_or-append-add xs ys i d) step)
+
+-- ---- names
+
+pub before_through : (a b c : List ℕ) → IsBefore a b → IsBefore b c → IsBefore a c
+before_through a b c x y = nat_list_cmp_total.trans a b c x y
+
+-- ---- chunks of series
+
+pub chunks_of_push : (given : List Series) (placed_chunks : List (List ℕ × Chunk)) (series : Series) (device : List ℕ) (chunk : Chunk) → AreChunksOf given placed_chunks → device ≡ series.device → IsChunkOf series chunk
+    → AreChunksOf (given ++ series ∷ []) (placed_chunks ++ (device, chunk) ∷ [])
+chunks_of_push [] [] series device chunk are same is = (same, is, tt)
+chunks_of_push [] (c ∷ cs) series device chunk are same is = absurd are
+chunks_of_push (s ∷ ss) [] series device chunk are same is = absurd are
+chunks_of_push (s ∷ ss) (c ∷ cs) series device chunk are same is = (are.0, are.1, chunks_of_push ss cs series device chunk are.2 same is)
+
+-- pages of 1,000 points and a last one are filled in turn
+pub filled_push : (pages : List Page) (last : Page) → All (λ page. length page.points.items ≡ max_values) pages → 0 < length last.points.items → length last.points.items ≤ max_values → AreFilled (pages ++ last ∷ [])
+filled_push [] last full some few = (some, few)
+filled_push (p ∷ []) last full some few = (All-head (λ page. length page.points.items ≡ max_values) p [] full, (some, few))
+filled_push (p ∷ q ∷ ps) last full some few =
+    (All-head (λ page. length page.points.items ≡ max_values) p (q ∷ ps) full, filled_push (q ∷ ps) last (All-tail (λ page. length page.points.items ≡ max_values) p (q ∷ ps) full) some few)
+
+pub one_group : (device : List ℕ) (chunks : List Chunk) (chunk : Chunk) → map {B = List ℕ × Chunk} (λ (c : Chunk). (device, c)) (chunks ++ chunk ∷ []) ≡ map {B = List ℕ × Chunk} (λ (c : Chunk). (device, c)) chunks ++ (device, chunk) ∷ []
+one_group device chunks chunk = map-append {B = List ℕ × Chunk} (λ (c : Chunk). (device, c)) chunks (chunk ∷ [])
+
+-- a group more, of the chunks of its device
+pub placed_push : (groups : List Group) (group : Group) → placed (groups ++ group ∷ []) ≡ placed groups ++ map (λ (c : Chunk). (group.device, c)) group.chunks.items
+placed_push groups group = flat_push (λ (group : Group). map (λ (c : Chunk). (group.device, c)) group.chunks.items) groups group
+
+-- groups with chunks are no more than their chunks
+pub few_groups : (groups : List Group) → All IsGroup groups → length groups ≤ length (chunks_of groups)
+few_groups [] good = omega arith
+few_groups (g ∷ gs) good =
+    let here : 0 < length g.chunks.items = (All-head IsGroup g gs good).some in
+    let others = few_groups gs (All-tail IsGroup g gs good) in
+    let m : length (g.chunks.items ++ chunks_of gs) ≡ length g.chunks.items + length (chunks_of gs) = length-append g.chunks.items (chunks_of gs) in
+    omega (arith, here, others, m)

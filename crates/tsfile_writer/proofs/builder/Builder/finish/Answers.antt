@@ -1,0 +1,13 @@
+use Rattle.std.proofs.Common.{subst}
+use Rattle.tsdb_path.specs.Nodes.{device_of, measurement_of}
+use Rattle.tsfile_writer.specs.Building.{IsGiven}
+use Rattle.tsfile_writer.proofs.Closing.{file_whole}
+use Rattle.tsfile_writer.proofs.builder.Builder.finish.Goals as goal
+
+pub returns : goal.returns
+returns c = λ given was.
+    let self = c.args.self in
+    let path = c.in-Some.last.path in
+    let closed = c.in_ok-close.ensures.ok given (subst (IsGiven given self.bytes.items self.entries.items) c.in-Some.is was) in
+    let made = c.in_ok-bytes.ensures in
+    file_whole self.bytes given (device_of path) (measurement_of path) c.close.new.into.items c.in_ok-bytes.bytes.items made.0 made.1 c.close.new.entries.items closed made.2 made.3

@@ -1,0 +1,84 @@
+-- What a builder is given, and the tree of it whose pages are filled in turn.
+use Rattle.std.specs.Prelude.{◌≡◌, ℕ, ◌<◌, ◌≤◌, ◌<ℤ◌, List, [], ◌∷◌, ◌++◌, length, map, All}
+use Rattle.std.specs.List.{flat_map}
+use Rattle.tsdb_base.specs.declared.point.Point.{Point}
+use Rattle.tsdb_base.specs.declared.value.DataType.{DataType}
+use Rattle.tsdb_base.specs.declared.value.Encoding.{Encoding}
+use Rattle.tsdb_base.specs.Limits.{max_values}
+use Rattle.tsdb_base.specs.Values.{type_of}
+use Rattle.tsdb_path.specs.Nodes.{device_of, measurement_of}
+use Rattle.tsdb_index.specs.Entries as index
+use Rattle.tsdb_pages.specs.declared.tree.Page.{Page}
+use Rattle.tsdb_pages.specs.declared.tree.Chunk.{Chunk}
+use Rattle.tsdb_pages.specs.declared.tree.Group.{Group}
+use Rattle.tsdb_pages.specs.declared.tree.Tree.{Tree}
+use Rattle.tsdb_pages.specs.Trees.{IsTree, points_of}
+
+-- a series as it is given: its names, type and encoding, and its points in their order
+pub record Series : Type 0 where
+  pub device : List ℕ
+  pub measurement : List ℕ
+  pub data_type : DataType
+  pub encoding : Encoding
+  pub points : List Point
+
+-- the series at this path, without points
+abbrev pub series_at : List ℕ → DataType → Encoding → Series
+series_at path data_type encoding = record {
+  device = device_of path;
+  measurement = measurement_of path;
+  data_type = data_type;
+  encoding = encoding;
+  points = [];
+}
+
+-- a series with one point more
+abbrev pub with_point : Point → Series → Series
+with_point point series = record {
+  device = series.device;
+  measurement = series.measurement;
+  data_type = series.data_type;
+  encoding = series.encoding;
+  points = series.points ++ point ∷ [];
+}
+
+-- the series has a point, and its device comes before this one, or is this one and its measurement comes before
+pub record MayBeFollowedBy (device measurement : List ℕ) (series : Series) : Type 0 where
+  pub some : 0 < length series.points
+  pub before : index.IsBefore (series.device, series.measurement) (device, measurement)
+
+-- the point is of the series' type and later than its points
+pub record MayTake (point : Point) (series : Series) : Type 0 where
+  pub typed : type_of point.value ≡ series.data_type
+  pub later : All (λ before. before.time <ℤ point.time) series.points
+
+-- pages that are filled in turn: each has 1,000 points, and the last 1 to 1,000
+abbrev pub AreFilled : List Page → Type 0
+AreFilled [] = ⊥
+AreFilled (last ∷ []) = (0 < length last.points.items) × (length last.points.items ≤ max_values)
+AreFilled (page ∷ next ∷ pages) = (length page.points.items ≡ max_values) × AreFilled (next ∷ pages)
+
+-- the chunk of a series: its points in pages that are filled in turn
+pub record IsChunkOf (series : Series) (chunk : Chunk) : Type 0 where
+  pub measurement-is : chunk.measurement ≡ series.measurement
+  pub type-is : chunk.data_type ≡ series.data_type
+  pub encoding-is : chunk.encoding ≡ series.encoding
+  pub filled : AreFilled chunk.pages.items
+  pub points-are : points_of chunk.pages.items ≡ series.points
+
+-- each chunk of the groups beside its device
+abbrev pub placed : List Group → List (List ℕ × Chunk)
+placed groups = flat_map (λ group. map (λ chunk. (group.device, chunk)) group.chunks.items) groups
+
+-- these are the chunks of these series, each at its device
+abbrev pub AreChunksOf : List Series → List (List ℕ × Chunk) → Type 0
+AreChunksOf [] [] = Unit {0}
+AreChunksOf [] (chunk ∷ chunks) = ⊥
+AreChunksOf (series ∷ others) [] = ⊥
+AreChunksOf (series ∷ others) (chunk ∷ chunks) =
+    (chunk.0 ≡ series.device) × IsChunkOf series chunk.1 × AreChunksOf others chunks
+
+-- the tree of these series, with pages that are filled in turn
+pub record IsTreeOf (given : List Series) (tree : Tree) : Type 0 where
+  pub is-tree : IsTree tree
+  pub chunks : AreChunksOf given (placed tree.groups.items)
