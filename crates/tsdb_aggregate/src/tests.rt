@@ -382,7 +382,36 @@ fn three_pieces_beside_a_slow_fold(rt: HostRuntime) -> Result<(), Fail> {
     Ok(())
 }
 
-/// Two pages of 1,000 points each, and perhaps a late point at time 1.
+/// What is asked, over which times, the answer, and how often a list is asked for.
+type Asked = (Aggregate, i64, i64, Option<i64>, u64);
+
+/// What is asked of two pages of 1,000 points each.
+const OF_PAGES: [Asked; 2] = [
+    (Aggregate::Count, 1, 2000, Some(2000), 0),
+    (Aggregate::Count, 1, 1999, Some(1999), 1),
+];
+
+/// What is asked of the pages and of a late point at time 1, which the first page meets.
+const OF_PAGES_AND_LATE_POINT: [Asked; 4] = [
+    (Aggregate::Count, 1, 2000, Some(2000), 2),
+    (Aggregate::MinValue, 1, 2000, Some(-7), 2),
+    (Aggregate::Count, 5, 4, Some(0), 0),
+    (Aggregate::MaxTime, 5, 4, None, 0),
+];
+
+/// Whether the answer and the number of calls are as wanted.
+fn is_answered(alloc: Global, pieces: &mut [Piece], loader: &mut Lists, asked: &Asked) -> bool {
+    let (name, from, to, wanted, calls) = asked;
+    let range = Range {
+        from: *from,
+        to: *to,
+    };
+    mark_clean(pieces, &range);
+    loader.calls = 0;
+    let found = answer(alloc, *name, pieces, &range, loader);
+    found == Ok(wanted.map(|number| Value::I64(number))) && loader.calls == *calls
+}
+
 #[test]
 fn pages_are_loaded_only_where_they_must_be(rt: HostRuntime) -> Result<(), Fail> {
     let alloc = rt.alloc();
@@ -392,54 +421,24 @@ fn pages_are_loaded_only_where_they_must_be(rt: HostRuntime) -> Result<(), Fail>
             value: Value::I64(-7)
         },
     ]?;
-    let lists = vec![in alloc;
-        points(alloc, 1, 1000, 1, 0)?,
-        points(alloc, 1001, 2000, 1, 0)?,
-        late,
-    ]?;
-    let all = Range { from: 1, to: 2000 };
-    let mut pieces = vec![in alloc; piece(&lists[0], 0)?, piece(&lists[1], 0)?]?;
-    let mut loader = Lists { lists, calls: 0 };
-    let third = loader.lists.pop();
-    mark_clean(&mut pieces, &all);
-    assert_eq!(rt;
-        answer(alloc, Aggregate::Count, &pieces, &all, &mut loader),
-        Ok(Some(Value::I64(2000)))
-    );
-    assert_eq!(rt; loader.calls, 0);
-    let fewer = Range { from: 1, to: 1999 };
-    mark_clean(&mut pieces, &fewer);
-    assert_eq!(rt;
-        answer(alloc, Aggregate::Count, &pieces, &fewer, &mut loader),
-        Ok(Some(Value::I64(1999)))
-    );
-    assert_eq!(rt; loader.calls, 1);
-    let Some(third) = third else {
-        return Err(Fail::from("no late point"))
+    let mut pages = Lists {
+        lists: vec![in alloc;
+            points(alloc, 1, 1000, 1, 0)?,
+            points(alloc, 1001, 2000, 1, 0)?,
+        ]?,
+        calls: 0,
     };
-    pieces.push(piece(&third, 1)?).map_err(AllocError::from)?;
-    loader.lists.push(third).map_err(AllocError::from)?;
-    mark_clean(&mut pieces, &all);
-    loader.calls = 0;
-    assert_eq!(rt;
-        answer(alloc, Aggregate::Count, &pieces, &all, &mut loader),
-        Ok(Some(Value::I64(2000)))
-    );
-    assert_eq!(rt;
-        answer(alloc, Aggregate::MinValue, &pieces, &all, &mut loader),
-        Ok(Some(Value::I64(-7)))
-    );
-    assert_eq!(rt; loader.calls, 4);
-    let none = Range { from: 5, to: 4 };
-    mark_clean(&mut pieces, &none);
-    assert_eq!(rt;
-        answer(alloc, Aggregate::Count, &pieces, &none, &mut loader),
-        Ok(Some(Value::I64(0)))
-    );
-    assert_eq!(rt;
-        answer(alloc, Aggregate::MaxTime, &pieces, &none, &mut loader),
-        Ok(None)
-    );
-    assert_eq!(rt; loader.calls, 4);
+    let mut pieces = Vec::new(alloc);
+    for list in &pages.lists {
+        pieces.push(piece(list, 0)?).map_err(AllocError::from)?;
+    }
+    for asked in &OF_PAGES {
+        assert!(rt; is_answered(alloc, &mut pieces, &mut pages, asked));
+    }
+    pieces.push(piece(&late, 1)?).map_err(AllocError::from)?;
+    pages.lists.push(late).map_err(AllocError::from)?;
+    for asked in &OF_PAGES_AND_LATE_POINT {
+        assert!(rt; is_answered(alloc, &mut pieces, &mut pages, asked));
+    }
     Ok(())
 }

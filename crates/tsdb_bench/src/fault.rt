@@ -3,7 +3,9 @@
 use std::alloc::{AllocError, AllocFailed};
 use std::io;
 use tsdb_base::{DecodeFault, Memory, TextFault};
+use tsdb_index::IndexFault;
 use tsdb_merge::PullFault;
+use tsdb_pages::PageFault;
 use tsdb_path::PathFault;
 
 #[derive(Debug, Drop)]
@@ -56,6 +58,24 @@ impl From<PathFault> for Fault {
         match error {
             PathFault::Memory => Fault::Memory,
             _ => Fault::Unread,
+        }
+    }
+}
+
+impl From<PageFault> for Fault {
+    fn from(error: PageFault) -> Fault {
+        match error {
+            PageFault::Memory => Fault::Memory,
+            PageFault::Bad => Fault::Unread,
+        }
+    }
+}
+
+impl From<IndexFault> for Fault {
+    fn from(error: IndexFault) -> Fault {
+        match error {
+            IndexFault::Memory => Fault::Memory,
+            IndexFault::Bad { .. } => Fault::Unread,
         }
     }
 }

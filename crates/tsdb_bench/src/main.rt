@@ -6,10 +6,12 @@
 mod aggregates;
 mod encodings;
 mod fault;
+mod indexes;
 mod marks;
 mod memtable;
 mod merges;
 mod numbers;
+mod pages;
 mod pieces;
 mod plans;
 mod table;
@@ -52,6 +54,12 @@ fn measure<R: Threads + Wait + Sync>(
     }
     if is_all || group == "plans" {
         check = check.wrapping_add(plans::plans(rt, rounds)?);
+    }
+    if is_all || group == "pages" {
+        check = check.wrapping_add(pages::pages(rt, rounds)?);
+    }
+    if is_all || group == "indexes" {
+        check = check.wrapping_add(indexes::indexes(rt, rounds)?);
     }
     if check == 0 {
         return Err(Fault::NoGroup);

@@ -1,0 +1,85 @@
+//! The speed of the index of a file. It depends on `tsdb_index`.
+
+use crate::fault::Fault;
+use crate::table::{Rounds, row};
+use std::time::Instant;
+use tsdb_base::{DataType, Encoding, Stats, Value};
+use tsdb_index::{Index, IndexEntry, PageEntry, read_index, write_leaves_and_root};
+use tsdb_path::{Name, Path};
+
+/// The place of the first leaf.
+const PLACE: u64 = 7;
+
+/// More bytes than any of these indexes has.
+const LIMIT: usize = 1_000_000_000;
+
+/// The statistics of one point.
+fn stats(number: u64) -> Stats {
+    let value = number.cast_signed();
+    Stats {
+        count: 1,
+        start: value,
+        end: value,
+        first: Value::I64(value),
+        last: Value::I64(value),
+        least: Some(Value::I64(value)),
+        greatest: Some(Value::I64(value)),
+    }
+}
+
+/// The entry of a chunk of one page. A device has 1,000 of them.
+fn entry(rt: &HostRuntime, number: u64) -> Result<IndexEntry, Fault> {
+    let alloc = rt.alloc();
+    let device = format!(in alloc; "root.bench.d{:04}", number / 1000)?;
+    let measurement = format!(in alloc; "s{:03}", number % 1000)?;
+    let page = PageEntry {
+        place: number,
+        stats: stats(number),
+    };
+    Ok(IndexEntry {
+        device: Path::read(alloc, device.as_bytes())?,
+        measurement: Name::read(alloc, measurement.as_bytes())?,
+        data_type: DataType::Int64,
+        encoding: Encoding::Plain,
+        place: number,
+        stats: stats(number),
+        pages: vec![in alloc; page]?,
+    })
+}
+
+/// The rows of an index of 100,000 chunks of one page.
+pub fn indexes(rt: &HostRuntime, rounds: Rounds) -> Result<u64, Fault> {
+    let chunks = rounds.of(100_000);
+    let mut entries = Vec::new(rt.alloc());
+    for number in 0..chunks {
+        entries.push(entry(rt, number)?)?;
+    }
+    if entries.is_empty() {
+        return Err(Fault::Unread);
+    }
+    let index = Index { entries };
+    let start = Instant::now(rt)?;
+    let (bytes, root) = write_leaves_and_root(rt.alloc(), &index, PLACE)?;
+    row(
+        rt,
+        rounds,
+        "an index of 100,000 chunks of one page",
+        "write",
+        chunks,
+        start,
+    )?;
+    if bytes.len() > LIMIT || root < PLACE || root - PLACE > bytes.len() as u64 {
+        return Err(Fault::Unread);
+    }
+    let start = Instant::now(rt)?;
+    let read = read_index(rt.alloc(), &bytes, PLACE, root)?;
+    row(
+        rt,
+        rounds,
+        "an index of 100,000 chunks of one page",
+        "read",
+        chunks,
+        start,
+    )?;
+    Ok((read.entries.len() as u64).wrapping_add(root).max(1))
+}
