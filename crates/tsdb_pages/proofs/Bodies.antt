@@ -1,8 +1,8 @@
 -- The body of a page, taken apart.
 use Rattle.std.proofs.Common.{◌≡◌, ℕ, ◌+◌, ◌-◌, ◌<◌, ◌^◌, true, List, [], ◌∷◌, ◌++◌, length, map, refl, sym, ap, ◌∙◌, subst, append_assoc, arith}
-use Rattle.std.specs.Prelude.{◌≤◌, ℤ, All, FitsSigned, reverse}
+use Rattle.std.specs.Prelude.{◌≤◌, ℤ, All, FitsSigned}
 use Rattle.std.specs.Int.{w64}
-use Rattle.std.proofs.lemmas.List.{length-append, length-map, map-append, reverse-append}
+use Rattle.std.proofs.lemmas.List.{length-append, length-map}
 use Rattle.std.proofs.lemmas.List.Elements.{All-cons, All-head, All-map, All-nil, All-tail}
 use Rattle.tsdb_base.specs.declared.fault.DecodeFault.{DecodeFault}
 use Rattle.tsdb_base.specs.declared.fault.DecodeFault.TheVariants as decode
@@ -25,19 +25,6 @@ use Rattle.tsdb_pages.specs.declared.fault.PageFault.{PageFault}
 use Rattle.tsdb_pages.specs.declared.fault.PageFault.TheVariants as page
 use Rattle.tsdb_pages.specs.Pages.{ArePoints, IsInRange, IsRising, body, times_field, times_of, values_of}
 use Rattle.tsdb_pages.specs.Reading.{IsBody, IsNoBody, as_page_fault}
-
--- ---- lists that were taken from their ends and turned round
-
-reverse-cons : {A : Type 0} (x : A) (xs : List A) → reverse (x ∷ xs) ≡ reverse xs ++ x ∷ []
-reverse-cons x xs = reverse-append (x ∷ []) xs
-
-pub map-reverse : {A B : Type 0} (f : B → A) (xs : List B) → map f (reverse xs) ≡ reverse (map f xs)
-map-reverse f [] = refl
-map-reverse f (x ∷ xs) = rw (reverse-cons x xs, reverse-cons (f x) (map f xs), map-append, map-reverse f xs) refl
-
-pub none_left : {A : Type 0} (rest reversed all : List A) → length rest ≡ 0 → rest ++ reversed ≡ all → reversed ≡ all
-none_left [] reversed all none e = e
-none_left (x ∷ rest) reversed all none e = absurd (omega arith)
 
 All-of_map : {X Y : Type 0} (P : Y → Type 0) (f : X → Y) (xs : List X) → All P (map f xs) → All (λ x. P (f x)) xs
 All-of_map P f [] h = All-nil (λ x. P (f x))

@@ -73,19 +73,16 @@ fn split(body: &[u8]) -> Result<(&[u8], &[u8]), PageFault>
 }
 
 /// Each value at its time.
-fn join(alloc: Global, mut times: Vec<Time>, mut values: Vec<Value>) -> Result<Vec<Point>, Memory>
+fn join(alloc: Global, times: Vec<Time>, values: Vec<Value>) -> Result<Vec<Point>, Memory>
     requires { length times.items ≡ length values.items }
     ensures times { IfOk result (λ points. times_in points.items ≡ times.items) }
     ensures values { IfOk result (λ points. values_in points.items ≡ values.items) }
 {
     let mut points = Vec::with_capacity(alloc, times.len())?;
-    while let Some(time) = times.pop() {
-        let Some(value) = values.pop() else {
-            unreachable!()
-        };
+    for value in values {
+        let time = times[points.len()];
         points.push(Point { time, value })?;
     }
-    points.reverse();
     Ok(points)
 }
 
