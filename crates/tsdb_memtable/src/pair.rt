@@ -83,6 +83,7 @@ impl Pair {
         ensures count { result ≡ count space self.now }
         ensures rising { HasRisingSeries self.now }
     {
+        // (a call of the map tells that its keys rise)
         let _ = self.series.len();
         match space {
             Space::Sequence => self.totals.sequence,
@@ -96,6 +97,7 @@ impl Pair {
         ensures count { result ≡ byte_count self.now }
         ensures rising { HasRisingSeries self.now }
     {
+        // (a call of the map tells that its keys rise)
         let _ = self.series.len();
         self.totals.bytes
     }
