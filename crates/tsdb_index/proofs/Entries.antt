@@ -1,5 +1,5 @@
 -- Pages, entries and pointers, part by part.
-use Rattle.std.proofs.Common.{◌≡◌, ℕ, ◌<◌, ◌^◌, false, true, List, ◌++◌, length, Err, refl, sym, ap, subst, ◌∙◌, append_assoc, arith}
+use Rattle.std.proofs.Common.{◌≡◌, ℕ, ◌<◌, ◌^◌, false, true, List, ◌++◌, length, refl, sym, ap, subst, ◌∙◌, append_assoc, arith}
 use Rattle.std.specs.Prelude.{All}
 use Rattle.std.specs.List.{flat_map}
 use Rattle.tsdb_base.specs.declared.point.Stats.{Stats}
@@ -19,7 +19,7 @@ use Rattle.tsdb_index.specs.Content.{entry_content}
 use Rattle.tsdb_index.specs.Entries.{IsEntry, IsPageOf}
 use Rattle.tsdb_index.specs.Parts.{IsPointer, pointer_bytes}
 use Rattle.tsdb_index.specs.Spelling.{entry_field, page_field}
-use Rattle.tsdb_index.proofs.Fields.{IsSeparable, name-prefix_free, none_behind, none_here, path-prefix_free, rest_same, separable, stats_field-prefix_free}
+use Rattle.tsdb_index.proofs.Fields.{IsSeparable, name-prefix_free, none_behind, none_here, path-prefix_free, stats_field-prefix_free}
 
 abbrev pub Is64 : ℕ → Type 0
 Is64 n = n < 2 ^ 64

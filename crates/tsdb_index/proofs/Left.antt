@@ -1,5 +1,5 @@
 -- Leaves that are read one by one: what is left of them makes the whole.
-use Rattle.std.proofs.Common.{◌≡◌, ℕ, ◌+◌, ◌-◌, ◌<◌, ◌≤◌, List, [], ◌∷◌, ◌++◌, length, take, drop, get_or, Err, inl, inr, refl, sym, ap, subst, ◌∙◌, append_assoc, length-drop, arith}
+use Rattle.std.proofs.Common.{◌≡◌, ℕ, ◌-◌, ◌<◌, ◌≤◌, List, [], ◌∷◌, ◌++◌, length, take, drop, get_or, Err, inl, inr, refl, sym, ap, subst, ◌∙◌, append_assoc, length-drop, arith}
 use Rattle.std.specs.List.{flat_map}
 use Rattle.std.proofs.lemmas.List.{append-nil, nil_from_length, take_all}
 use Rattle.tsdb_fields.specs.declared.fault.FieldFault.{FieldFault}

@@ -1,5 +1,5 @@
 -- A root and a leaf, from their items.
-use Rattle.std.proofs.Common.{◌≡◌, ℕ, ◌<◌, ◌≤◌, ◌^◌, List, [], ◌∷◌, ◌++◌, length, map, refl, sym, ap, subst, ◌∙◌, append_assoc, arith}
+use Rattle.std.proofs.Common.{◌≡◌, ℕ, ◌<◌, ◌^◌, List, [], ◌∷◌, ◌++◌, length, map, refl, sym, subst, ◌∙◌, arith}
 use Rattle.std.specs.Prelude.{All}
 use Rattle.std.specs.List.{flat_map, AllByRecursion}
 use Rattle.std.proofs.lemmas.List.{append-nil}
@@ -10,7 +10,7 @@ use Rattle.tsdb_base.proofs.PlainLists.{same_values}
 use Rattle.tsdb_index.specs.declared.index.IndexEntry.{IndexEntry}
 use Rattle.tsdb_index.specs.declared.pointer.Pointer.{Pointer}
 use Rattle.tsdb_index.specs.Entries.{AreInOrder, IsBefore, IsEntry, names_of}
-use Rattle.tsdb_index.specs.Parts.{BeginAt, BeginWith, IsLeaf, IsLeafSize, IsPointer, IsPointerBefore, IsRoot, next_names, pointer_bytes, pointer_names}
+use Rattle.tsdb_index.specs.Parts.{BeginAt, BeginWith, IsLeaf, IsLeafSize, IsPointer, IsPointerBefore, IsRoot, next_names, pointer_bytes}
 use Rattle.tsdb_index.specs.Spelling.{entry_field}
 use Rattle.tsdb_index.specs.Steps.{IsCounted}
 use Rattle.tsdb_index.proofs.Entries.{alike, pointer-prefix_free}

@@ -1,29 +1,24 @@
 -- An index, its root and its leaves.
-use Rattle.std.proofs.Common.{◌≡◌, ℕ, suc, ◌+◌, ◌-◌, ◌*◌, ◌<◌, ◌≤◌, ◌^◌, List, [], ◌∷◌, ◌++◌, length, map, take, drop, get_or, ◌⊎◌, ⊎_elim, inl, inr, Err, refl, sym, ap, subst, ◌∙◌, append_assoc, length-append, length-drop, arith}
+use Rattle.std.proofs.Common.{◌≡◌, ℕ, suc, ◌+◌, ◌-◌, ◌*◌, ◌<◌, ◌≤◌, ◌^◌, List, [], ◌∷◌, ◌++◌, length, map, take, drop, ⊎_elim, inl, inr, Err, refl, sym, ap, subst, ◌∙◌, length-append, length-drop, arith}
 use Rattle.std.specs.Prelude.{All}
 use Rattle.std.specs.List.{flat_map, AllByRecursion}
-use Rattle.std.proofs.lemmas.List.{append-nil, get_or_append_left, get_or-append-add, length-map, length-take-le, map-append, nil_from_length, take-append-drop, take_all, take_at, drop_at}
-use Rattle.std.proofs.lemmas.List.Elements.{All-append, All-from_recursion, All-head, All-tail, recursion_from_All}
-use Rattle.tsdb_base.specs.FieldLaws.{number32-prefix_free}
+use Rattle.std.proofs.lemmas.List.{append-nil, length-map, length-take-le, map-append, nil_from_length, take-append-drop, take_all, take_at, drop_at}
+use Rattle.std.proofs.lemmas.List.Elements.{All-append, All-from_recursion, recursion_from_All}
 use Rattle.tsdb_base.specs.Fields.{number32, number64}
 use Rattle.tsdb_base.specs.Plain.{plain_text}
-use Rattle.tsdb_base.specs.PlainLaws.{same_front}
-use Rattle.tsdb_base.proofs.PlainLists.{same_values}
 use Rattle.tsdb_index.specs.declared.index.IndexEntry.{IndexEntry}
 use Rattle.tsdb_index.specs.declared.pointer.Pointer.{Pointer}
-use Rattle.tsdb_index.specs.Entries.{AreInOrder, IsBefore, IsEntry, IsIndex, names_of}
+use Rattle.tsdb_index.specs.Entries.{AreInOrder, IsBefore, IsEntry, names_of}
 use Rattle.tsdb_fields.specs.declared.fault.FieldFault.{FieldFault}
 use Rattle.tsdb_fields.specs.declared.fault.FieldFault.TheVariants as field
 use Rattle.tsdb_index.specs.declared.fault.IndexFault.{IndexFault}
 use Rattle.tsdb_index.specs.declared.fault.IndexFault.TheVariants as fault
 use Rattle.tsdb_index.specs.Faults.{IsFirstBad, IsNone, IsRead, ReadsWhole, as_index_fault}
-use Rattle.tsdb_index.specs.Limits.{max_entries, max_leaf_entries}
-use Rattle.tsdb_index.specs.Parts.{AreLeavesAt, BeginAt, BeginWith, IsFirstBadLeaf, IsFirstBadPart, IsLeaf, IsLeafSize, IsPointer, IsPointerBefore, IsRoot, end_of, next_names, pointer_bytes, pointer_names}
-use Rattle.tsdb_index.specs.Spelling.{AreLeaves, IsSpelling, StandIn, leaf_field, pointer_field, pointers, root_field}
+use Rattle.tsdb_index.specs.Parts.{AreLeavesAt, BeginAt, BeginWith, IsFirstBadLeaf, IsFirstBadPart, IsPointer, IsPointerBefore, IsRoot, end_of, pointer_bytes, pointer_names}
+use Rattle.tsdb_index.specs.Spelling.{AreLeaves, leaf_field, pointer_field, pointers, root_field}
 use Rattle.tsdb_index.specs.Steps.{AreSpread, ReadsLeaves}
 use Rattle.tsdb_index.proofs.Roots.{pointers_same, root_counted}
-use Rattle.tsdb_index.proofs.Entries.{pointer-prefix_free}
-use Rattle.tsdb_index.proofs.Orders.{before_trans, first_before, order_back, order_front, order_join, order_left, order_tail}
+use Rattle.tsdb_index.proofs.Orders.{before_trans, first_before, order_back, order_front, order_join}
 
 abbrev Leaf : Type 0
 Leaf = List IndexEntry

@@ -1,5 +1,5 @@
 -- The parts of an index by themselves: the root with its pointers, and the leaf at each pointer.
-use Rattle.std.specs.Prelude.{◌≡◌, ◌⊎◌, ℕ, ◌+◌, ◌-◌, ◌<◌, ◌≤◌, ◌^◌, List, [], ◌∷◌, ◌++◌, length, map, take, drop, All}
+use Rattle.std.specs.Prelude.{◌≡◌, ◌⊎◌, ℕ, ◌-◌, ◌<◌, ◌≤◌, ◌^◌, List, [], ◌∷◌, ◌++◌, length, map, take, drop, All}
 use Rattle.std.specs.List.{flat_map}
 use Rattle.tsdb_base.specs.Fields.{number32, number64}
 use Rattle.tsdb_base.specs.Plain.{plain_text}
@@ -57,7 +57,8 @@ BeginWith pointer [] = ⊥
 BeginWith pointer (first ∷ others) = names_of first ≡ pointer_names pointer
 
 -- these bytes are a leaf of these entries, as the pointer at it and the pointers behind it say
-pub record IsLeaf (pointer : Pointer) (behind : List Pointer) (bytes : List ℕ) (entries : List IndexEntry) : Type 0 where
+pub record IsLeaf (pointer : Pointer) (behind : List Pointer) (bytes : List ℕ) (entries : List IndexEntry)
+    : Type 0 where
   pub size : IsLeafSize behind (length entries)
   pub good : All IsEntry entries
   pub begin : BeginWith pointer entries
@@ -82,7 +83,9 @@ AreLeavesAt root (pointer ∷ behind) bytes (leaf ∷ leaves) =
 abbrev pub IsFirstBadLeaf : ℕ → List Pointer → List ℕ → ℕ → Type 0
 IsFirstBadLeaf root [] bytes at = ⊥
 IsFirstBadLeaf root (pointer ∷ behind) bytes at =
-    ((at ≡ pointer.place) × ((entries : List IndexEntry) → IsLeaf pointer behind (take (end_of root behind - pointer.place) bytes) entries → ⊥))
+    ((at ≡ pointer.place)
+    × ((entries : List IndexEntry)
+    → IsLeaf pointer behind (take (end_of root behind - pointer.place) bytes) entries → ⊥))
     ⊎ (((entries : List IndexEntry) × IsLeaf pointer behind (take (end_of root behind - pointer.place) bytes) entries)
     × IsFirstBadLeaf root behind (drop (end_of root behind - pointer.place) bytes) at)
 
@@ -90,4 +93,5 @@ IsFirstBadLeaf root (pointer ∷ behind) bytes at =
 abbrev pub IsFirstBadPart : ℕ → ℕ → List ℕ → ℕ → Type 0
 IsFirstBadPart place root bytes at =
     ((at ≡ root) × ((pointers : List Pointer) → IsRoot place root (drop (root - place) bytes) pointers → ⊥))
-    ⊎ ((pointers : List Pointer) × IsRoot place root (drop (root - place) bytes) pointers × IsFirstBadLeaf root pointers (take (root - place) bytes) at)
+    ⊎ ((pointers : List Pointer) × IsRoot place root (drop (root - place) bytes) pointers
+    × IsFirstBadLeaf root pointers (take (root - place) bytes) at)

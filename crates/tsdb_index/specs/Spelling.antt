@@ -14,8 +14,9 @@ page_field page = number64 page.place ++ stats_field page.stats
 
 -- a chunk: its names, type, encoding, place and statistics, and its pages behind their number
 abbrev pub entry_field : IndexEntry → List ℕ
-entry_field entry = plain_text entry.device ++ plain_text entry.measurement ++ type_field entry.data_type ++ encoding_field entry.encoding
-    ++ number64 entry.place ++ stats_field entry.stats ++ number32 (length entry.pages.items) ++ flat_map page_field entry.pages.items
+entry_field entry = plain_text entry.device ++ plain_text entry.measurement
+    ++ type_field entry.data_type ++ encoding_field entry.encoding ++ number64 entry.place ++ stats_field entry.stats
+    ++ number32 (length entry.pages.items) ++ flat_map page_field entry.pages.items
 
 -- a leaf: 49, the number of its entries, and the entries
 abbrev pub leaf_field : List IndexEntry → List ℕ
@@ -29,7 +30,8 @@ pointer_field first place = plain_text first.device ++ plain_text first.measurem
 abbrev pub pointers : ℕ → List (List IndexEntry) → List ℕ
 pointers place [] = []
 pointers place ([] ∷ leaves) = pointers (place + length (leaf_field [])) leaves
-pointers place ((first ∷ others) ∷ leaves) = pointer_field first place ++ pointers (place + length (leaf_field (first ∷ others))) leaves
+pointers place ((first ∷ others) ∷ leaves) =
+    pointer_field first place ++ pointers (place + length (leaf_field (first ∷ others))) leaves
 
 -- the root: 52, the number of leaves, and a pointer for each
 abbrev pub root_field : ℕ → List (List IndexEntry) → List ℕ

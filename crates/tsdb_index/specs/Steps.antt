@@ -43,19 +43,23 @@ pub record IsWrittenTo (place : ℕ) (entries rest : List IndexEntry) (written :
   pub counted : written.count ≡ length leaves
 
 -- these bytes are a mark, the number of the items, and the items
-pub record IsCounted {A : Type 0} (mark : ℕ) (number : ℕ → List ℕ) (limit : ℕ) (item : A → List ℕ) (IsItem : A → Type 0) (bytes : List ℕ) (items : List A) : Type 0 where
+pub record IsCounted {A : Type 0} (mark : ℕ) (number : ℕ → List ℕ) (limit : ℕ) (item : A → List ℕ)
+    (IsItem : A → Type 0) (bytes : List ℕ) (items : List A) : Type 0 where
   pub few : length items < limit
   pub good : All IsItem items
   pub bytes-are : bytes ≡ mark ∷ number (length items) ++ flat_map item items
 
--- from the place of the first pointer so many bytes are left up to the root, and each leaf ends where it begins or later
+-- from the first pointer's place so many bytes are left up to the root, and each leaf ends where it begins or later
 abbrev pub AreSpread : ℕ → List Pointer → ℕ → Type 0
 AreSpread root [] left = left ≡ 0
 AreSpread root (pointer ∷ behind) left =
-    (pointer.place + left ≡ root) × (pointer.place ≤ end_of root behind) × AreSpread root behind (left - (end_of root behind - pointer.place))
+    (pointer.place + left ≡ root) × (pointer.place ≤ end_of root behind)
+    × AreSpread root behind (left - (end_of root behind - pointer.place))
 
 -- the entries of the leaves that these bytes are, or the place of the first bad leaf
 abbrev pub ReadsLeaves : {B : Type 0} → ℕ → List Pointer → List ℕ → (B → List IndexEntry) → Result B IndexFault → Type 0
-ReadsLeaves root pointers bytes view (Ok found) = (leaves : List (List IndexEntry)) × AreLeavesAt root pointers bytes leaves × (view found ≡ flat_map (λ leaf. leaf) leaves)
+ReadsLeaves root pointers bytes view (Ok found) =
+    (leaves : List (List IndexEntry)) × AreLeavesAt root pointers bytes leaves
+    × (view found ≡ flat_map (λ leaf. leaf) leaves)
 ReadsLeaves root pointers bytes view (Err (fault.Bad at)) = IsFirstBadLeaf root pointers bytes at
 ReadsLeaves root pointers bytes view (Err fault.Memory) = Unit {0}

@@ -1,4 +1,4 @@
-use Rattle.std.proofs.Common.{◌≡◌, ◌<◌, ◌^◌, ℕ, Vec, Global, [], arith, rules}
+use Rattle.std.proofs.Common.{◌<◌, ◌^◌, Vec, Global, rules}
 use Rattle.std.specs.List.{flat_map}
 use Rattle.std.proofs.lemmas.List.{nil_from_length}
 use Rattle.std.proofs.lemmas.Result.{err_from_is_err_and}
@@ -11,7 +11,7 @@ use Rattle.tsdb_index.specs.Steps.{IsCounted}
 use Rattle.tsdb_index.specs.Entries.{IsEntry}
 use Rattle.tsdb_index.specs.Spelling.{entry_field}
 use Rattle.tsdb_index.proofs.Entries.{entries_separable}
-use Rattle.tsdb_index.proofs.Fields.{counted, more_behind, no_count, no_items, no_mark, separable, whole_fault}
+use Rattle.tsdb_index.proofs.Fields.{counted, more_behind, no_count, no_items, no_mark, whole_fault}
 use Rattle.tsdb_index.proofs.reading.entries_in.Goals as goal
 
 pub returns-in_default : goal.returns-in_default

@@ -1,11 +1,10 @@
-use Rattle.std.proofs.Common.{◌≡◌, ◌+◌, Vec, Global, length, ap, ◌∙◌, arith}
-use Rattle.std.proofs.lemmas.List.{length-append}
+use Rattle.std.proofs.Common.{Vec, Global, length, ap, arith}
 use Rattle.std.proofs.lemmas.Result.{err_from_is_err_and}
 use Rattle.tsdb_index.specs.declared.index.IndexEntry.{IndexEntry}
 use Rattle.tsdb_index.specs.Entries.{IsEntry}
 use Rattle.tsdb_index.specs.Spelling.{entry_field}
 use Rattle.tsdb_index.proofs.Entries.{entries_separable}
-use Rattle.tsdb_index.proofs.Fields.{items_fault, none_taken, one_taken, one_more, separable}
+use Rattle.tsdb_index.proofs.Fields.{items_fault, none_taken, one_taken, one_more}
 use Rattle.tsdb_index.proofs.reading.read_entries.Goals as goal
 
 pub loop-init : goal.loop-init

@@ -1,4 +1,4 @@
-use Rattle.std.proofs.Common.{◌≡◌, Vec, Global, sym, ◌∙◌, ap, arith}
+use Rattle.std.proofs.Common.{Vec, Global, arith}
 use Rattle.tsdb_index.specs.declared.index.IndexEntry.{IndexEntry}
 use Rattle.tsdb_index.proofs.Left.{bad_leaf, leaf_inside, left_done, left_start, next_left, rest_is}
 use Rattle.tsdb_index.proofs.reading.read_leaves.Goals as goal
