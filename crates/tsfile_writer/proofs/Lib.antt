@@ -2,3 +2,4 @@ pub mod Laying
 pub mod Grouping
 pub mod Waiting
 pub mod Closing
+pub mod Driving

@@ -14,6 +14,8 @@ pub use fault::BuildFault;
 pub use tree::write_tree;
 
 #[cfg(test)]
+mod built;
+#[cfg(test)]
 mod plain_file;
 #[cfg(test)]
 mod tests;

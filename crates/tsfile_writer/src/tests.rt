@@ -7,7 +7,7 @@ use tsdb_pages::{Chunk, Group, Page, Tree, is_tree};
 use tsdb_path::{Name, Path};
 
 /// The file of the device `root.g.d` with the INT64 PLAIN measurement `s` and the one point 1, 5.
-const WORKED: [u8; 234] = *b"TsFile\x51\
+pub(crate) const WORKED: [u8; 234] = *b"TsFile\x51\
 \x47\x00\x08root.g.d\
 \x43\x00\x01s\x02\x00\
 \x50\x00\x00\x00\x0f\x00\x00\x00\x02\x01\x02\x01\x00\x00\x00\x00\x00\x00\x00\x05\
@@ -35,7 +35,12 @@ const ENCODINGS: [Encoding; 4] = [
 ];
 
 /// Points at the times from `start` on.
-fn points(alloc: Global, data_type: DataType, start: i64, count: u16) -> Result<Vec<Point>, Fail> {
+pub(crate) fn points(
+    alloc: Global,
+    data_type: DataType,
+    start: i64,
+    count: u16,
+) -> Result<Vec<Point>, Fail> {
     let mut points = Vec::new(alloc);
     for i in 0..i64::from(count) {
         let time = start.wrapping_add(i);
@@ -76,7 +81,7 @@ fn chunk(
 }
 
 /// The file of a tree, which is as the plain writer's.
-fn written(rt: &HostRuntime, tree: &Tree) -> Result<Vec<u8>, Fail> {
+pub(crate) fn written(rt: &HostRuntime, tree: &Tree) -> Result<Vec<u8>, Fail> {
     let alloc = rt.alloc();
     if !is_tree(tree) {
         return Err("no tree".into());
