@@ -194,11 +194,11 @@ module _ (weight : List Point → ℕ) (nothing : weight [] ≡ 0) (less : (test
   same_table : (a b : Table) → ((number : ℕ) → get a number ≡ get b number) → a ≡ b
   same_table a b same = same_map nat_cmp_total nat_cmp-IsAntisymmetric a b same
 
-  insert_adds : (table : Table) (number : ℕ) (points : List Point) → get table number ≡ None → total (insert table number points) ≡ weight points + total table
+  pub insert_adds : (table : Table) (number : ℕ) (points : List Point) → get table number ≡ None → total (insert table number points) ≡ weight points + total table
   insert_adds table number points none =
       ap sum_of (entries-insert nat_cmp_total table number points) ∙ put_adds (entries table) number points (sym (get-entries table number) ∙ none)
 
-  removed_none : (table : Table) (number : ℕ) → get (remove table number) number ≡ None
+  pub removed_none : (table : Table) (number : ℕ) → get (remove table number) number ≡ None
   removed_none table number = get-remove nat_cmp_total table number number ∙ ap (λ b. cond b None (get table number)) (same_number number number refl)
 
   twice : (b : Bool) (x : Option (List Point)) (o : Option (List Point)) → cond b x (cond b None o) ≡ cond b x o
@@ -206,7 +206,7 @@ module _ (weight : List Point → ℕ) (nothing : weight [] ≡ 0) (less : (test
   twice false x o = refl
 
   -- a put in the place of the old row
-  insert_again : (table : Table) (number : ℕ) (points : List Point) → insert table number points ≡ insert (remove table number) number points
+  pub insert_again : (table : Table) (number : ℕ) (points : List Point) → insert table number points ≡ insert (remove table number) number points
   insert_again table number points = same_table (insert table number points) (insert (remove table number) number points) (λ other.
       get-insert nat_cmp_total table number points other
       ∙ sym (get-insert nat_cmp_total (remove table number) number points other
@@ -219,7 +219,7 @@ module _ (weight : List Point → ℕ) (nothing : weight [] ≡ 0) (less : (test
       let adds = ap total (insert_again table number (point ∷ points)) ∙ insert_adds (remove table number) number (point ∷ points) (removed_none table number) in
       omega arith
 
-  total_split : (table : Table) (number : ℕ) → weight (points_at number table) + total (remove table number) ≡ total table
+  pub total_split : (table : Table) (number : ℕ) → weight (points_at number table) + total (remove table number) ≡ total table
   total_split table number = cases (get table number) refl
     where
       absent : (b : Bool) (other : ℕ) → get table number ≡ None → eq_by_cmp nat_cmp other number ≡ b → cond b None (get table other) ≡ get table other
@@ -246,7 +246,7 @@ module _ (weight : List Point → ℕ) (nothing : weight [] ≡ 0) (less : (test
       let fewer = less (is_outside range) (points_at number table) in
       omega arith
 
-fewer_points : (test : Point → Bool) (points : List Point) → length (filter test points) ≤ length points
+pub fewer_points : (test : Point → Bool) (points : List Point) → length (filter test points) ≤ length points
 fewer_points test [] = omega arith
 fewer_points test (point ∷ points) = cases (test point) (fewer_points test points)
   where
@@ -254,7 +254,7 @@ fewer_points test (point ∷ points) = cases (test point) (fewer_points test poi
     cases true h = omega arith
     cases false h = omega arith
 
-fewer_bytes : (test : Point → Bool) (points : List Point) → bytes_of (filter test points) ≤ bytes_of points
+pub fewer_bytes : (test : Point → Bool) (points : List Point) → bytes_of (filter test points) ≤ bytes_of points
 fewer_bytes test [] = omega arith
 fewer_bytes test (point ∷ points) = cases (test point) (fewer_bytes test points)
   where

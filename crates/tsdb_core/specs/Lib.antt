@@ -1,8 +1,14 @@
+pub mod Calls
+pub mod Codes
+pub mod Kept
 pub mod Laws
 pub mod Limits
 pub mod Order
 pub mod Parts
+pub mod Raises
 pub mod Replay
+pub mod Rows
 pub mod State
 pub mod Steps
+pub mod View
 pub mod Worlds

@@ -1,5 +1,5 @@
 //! The core of the engine: the state that everything above it rests on. Depends on `tsdb_base`, `tsdb_path`,
-//! `tsdb_map`, `tsdb_log`, `tsdb_marks` and `tsdb_memtable`.
+//! `tsdb_map`, `tsdb_outside`, `tsdb_frames`, `tsdb_log`, `tsdb_marks`, `tsdb_memtable` and `indexmap`.
 //!
 //! The definitions stand in `specs/`: `State` is the engine state, `Parts` its parts in the order of their priority,
 //! `Worlds` the value at a time and the world that a state stands for, `Order` when a state is in order, `Steps` what
@@ -7,6 +7,7 @@
 #![tactic(auto)]
 
 mod laws;
+mod memory_store;
 
 pub use laws::{
     a_new_store_is_in_order, answers_follow_the_series, cells_of_a_record_fit,
@@ -15,3 +16,6 @@ pub use laws::{
     last_write_wins, one_value_at_a_time, other_values_stay, refused_command_changes_nothing,
     replay_is_one_state, replay_keeps_order, sequence_files_do_not_overlap,
 };
+
+#[cfg(test)]
+mod tests;

@@ -1,0 +1,147 @@
+-- What the calls of a core answer, when a row fits, and what an append leaves of the log.
+use Rattle.std.specs.Prelude.{◌≡◌, ◌⊎◌, ℕ, ◌+◌, ◌<◌, ◌≤◌, Bool, false, is_some, if◌then◌else◌, List, [], ◌∷◌, ◌++◌, length, sum_by, Option, Some, None, Result, OnOk, OnErr}
+use Rattle.std.specs.FinMap.{entries}
+use Rattle.std.specs.List.{list_all}
+use Rattle.tsdb_base.specs.declared.answers.Answer.{Answer}
+use Rattle.tsdb_base.specs.declared.answers.Answer.TheVariants.{Done, NoPath, WrongType, Exists, Device, Memory, Full}
+use Rattle.tsdb_base.specs.declared.ids.Space.{Space}
+use Rattle.tsdb_base.specs.declared.ids.Stamp.{Stamp}
+use Rattle.tsdb_base.specs.declared.value.DataType.{DataType}
+use Rattle.tsdb_core.specs.Limits.{end_of_numbers, max_pair_bytes, max_pair_points}
+use Rattle.tsdb_core.specs.Order.{IsEmptyPair, IsInOrder, byte_count, point_count}
+use Rattle.tsdb_core.specs.Parts.{table_of}
+use Rattle.tsdb_core.specs.State.{EngineState, FrozenPair, MemoryState, Pair, SeriesEntry}
+use Rattle.tsdb_core.specs.Worlds.{StandsFor, type_at}
+use Rattle.tsdb_frames.specs.Frames.{disk_of, faults_of, slot_of, IsLog}
+use Rattle.tsdb_frames.specs.Log.{HasRecordsOrOneMore}
+use Rattle.tsdb_frames.specs.Moments.{LeavesFirstThen}
+use Rattle.tsdb_frames.specs.declared.frames.Frames.{Frames}
+use Rattle.tsdb_map.specs.Apply.{after_reply, reply_of, value_of}
+use Rattle.tsdb_map.specs.World.{World}
+use Rattle.tsdb_map.specs.declared.command.Cell.{Cell}
+use Rattle.tsdb_map.specs.declared.command.Command.{Command}
+use Rattle.tsdb_map.specs.declared.command.Command.TheVariants.{Create, Insert, Delete, Select, Flush, CompactInner, CompactCross, ShowFiles}
+use Rattle.tsdb_map.specs.declared.command.Literal.{Literal}
+use Rattle.tsdb_map.specs.declared.command.Literal.TheVariants as literal
+use Rattle.tsdb_map.specs.declared.command.Row.{Row}
+use Rattle.tsdb_map.specs.declared.reply.Reply.TheVariants.{Plain}
+use Rattle.tsdb_outside.specs.Causes.{HasCause}
+use Rattle.tsdb_outside.specs.Disk.{in_slot}
+use Rattle.tsdb_outside.specs.declared.disk.Disk as disk
+use Rattle.tsdb_outside.specs.declared.faults.Counted as counted
+use Rattle.tsdb_outside.specs.declared.faults.Failed.{Failed}
+use Rattle.tsdb_path.specs.Nodes.{child_of}
+
+-- the bytes that a literal counts in the pair limit, where no one looks at the type of its series
+abbrev pub literal_bytes : Literal → ℕ
+literal_bytes (literal.Bool b) = 1
+literal_bytes (literal.Int number) = 8
+literal_bytes (literal.Text bytes) = length bytes
+
+abbrev pub cell_bytes : Cell → ℕ
+cell_bytes cell = 8 + literal_bytes cell.value
+
+abbrev pub row_bytes : List Cell → ℕ
+row_bytes cells = sum_by cell_bytes cells
+
+-- a pair limit that a core may have
+pub record IsPairLimit (limit : ℕ) : Type 0 where
+  pub some : 1 ≤ limit
+  pub most : limit ≤ max_pair_points
+
+-- The row fits: the pair is empty, or stays within the limit of points, and within that of bytes.
+abbrev pub FitsPair : ℕ → Row → Pair → Type 0
+FitsPair limit row pair =
+    IsEmptyPair pair
+    ⊎ ((point_count pair + length row.cells ≤ limit) × (byte_count pair + row_bytes row.cells ≤ max_pair_bytes))
+
+-- how many points the pair has in the space
+abbrev pub points_in : Space → Pair → ℕ
+points_in space pair = sum_by (λ row. length row.1) (entries (table_of space pair))
+
+-- the born of the last of the frozen pairs
+abbrev pub newest_born : List FrozenPair → Option Stamp
+newest_born [] = None
+newest_born (pair ∷ []) = Some (record { 0 = pair.born })
+newest_born (pair ∷ newer ∷ pairs) = newest_born (newer ∷ pairs)
+
+-- the type of a cell's series, where it is there
+abbrev pub cell_type : List SeriesEntry → List ℕ → Cell → Option DataType
+cell_type schemas device cell = type_at schemas (child_of device cell.measurement)
+
+-- the literal fits the type of its series
+abbrev pub fits_type : Literal → Option DataType → Bool
+fits_type literal None = false
+fits_type literal (Some data_type) = is_some (value_of literal data_type)
+
+-- each series of the row is there
+abbrev pub are_there : List SeriesEntry → List ℕ → List Cell → Bool
+are_there schemas device cells = list_all (λ cell. is_some (cell_type schemas device cell)) cells
+
+-- each literal of the row fits
+abbrev pub all_fit : List SeriesEntry → List ℕ → List Cell → Bool
+all_fit schemas device cells = list_all (λ cell. fits_type cell.value (cell_type schemas device cell)) cells
+
+-- what the map answers to a create, an insert or a delete, as it follows from the series that are there
+abbrev pub answer_in : List SeriesEntry → Command → Answer
+answer_in schemas (Create schema) = if is_some (type_at schemas schema.path) then Exists else Done
+answer_in schemas (Insert device row) =
+    if are_there schemas device row.cells then (if all_fit schemas device row.cells then Done else WrongType) else NoPath
+answer_in schemas (Delete series range) = if is_some (type_at schemas series) then Done else NoPath
+answer_in schemas (Select device items range) = Done
+answer_in schemas Flush = Done
+answer_in schemas (CompactInner space) = Done
+answer_in schemas CompactCross = Done
+answer_in schemas ShowFiles = Done
+
+-- The answers that a create, an insert or a delete may have; each but out of memory is exact.
+abbrev pub IsAnswer : MemoryState → Command → Answer → Type 0
+IsAnswer memory command Memory = Unit {0}
+IsAnswer memory command Device = (answer_in memory.schemas command ≡ Done) × (memory.stamp < end_of_numbers)
+IsAnswer memory command (Full counter) =
+    (answer_in memory.schemas command ≡ Done) × (memory.stamp ≡ end_of_numbers) × (counter ≡ memory.stamp)
+IsAnswer memory command Done = (answer_in memory.schemas command ≡ Done) × (memory.stamp < end_of_numbers)
+IsAnswer memory command NoPath = answer_in memory.schemas command ≡ NoPath
+IsAnswer memory command Exists = answer_in memory.schemas command ≡ Exists
+IsAnswer memory command WrongType = answer_in memory.schemas command ≡ WrongType
+
+-- the answer is the map's, or that of a command which the map accepts
+abbrev pub IsMapAnswer : World → Command → Answer → Type 0
+IsMapAnswer world command Memory = Unit {0}
+IsMapAnswer world command Device = reply_of world command ≡ Plain Done
+IsMapAnswer world command (Full counter) = reply_of world command ≡ Plain Done
+IsMapAnswer world command Done = reply_of world command ≡ Plain Done
+IsMapAnswer world command NoPath = reply_of world command ≡ Plain NoPath
+IsMapAnswer world command Exists = reply_of world command ≡ Plain Exists
+IsMapAnswer world command WrongType = reply_of world command ≡ Plain WrongType
+
+-- A step: the new state is in order, and stands for the world after the command where the old one stood for the world
+-- before it.
+pub record IsStep (old new : EngineState) (command : Command) (answer : Answer) : Type 0 where
+  pub order : IsInOrder new
+  pub world : (world : World) → StandsFor old world → StandsFor new (after_reply world command (Plain answer))
+  pub reply : (world : World) → StandsFor old world → IsMapAnswer world command answer
+
+-- the answers after which nothing has changed, here and in the log
+abbrev pub IsRefusal : Answer → Type 0
+IsRefusal Done = ⊥
+IsRefusal NoPath = Unit {0}
+IsRefusal WrongType = Unit {0}
+IsRefusal Exists = Unit {0}
+IsRefusal Device = ⊥
+IsRefusal Memory = ⊥
+IsRefusal (Full counter) = Unit {0}
+
+module _ {J : Type 0} {means : disk.Ghosts J} {counts : counted.Ghosts J} where
+  -- What an append of a record leaves of a log: the log with the record, or the log with a record in doubt.
+  pub record IsAppend (old new : Frames J means counts) (payload : List ℕ) (outcome : Result (Unit {0}) Failed) : Type 0 where
+    pub added : OnOk outcome ((acknowledged : List (List ℕ)) (in_doubt : Option (List ℕ)) → IsLog old acknowledged in_doubt
+        → IsLog new (acknowledged ++ payload ∷ []) None)
+    pub failed : OnErr outcome ((acknowledged : List (List ℕ)) (in_doubt : Option (List ℕ)) → IsLog old acknowledged in_doubt
+        → IsLog new acknowledged None ⊎ (IsLog new acknowledged in_doubt ⊎ IsLog new acknowledged (Some payload)))
+    pub moments : (acknowledged : List (List ℕ)) (in_doubt : Option (List ℕ)) → IsLog old acknowledged in_doubt
+        → LeavesFirstThen (disk_of old) (disk_of new)
+        (λ image. HasRecordsOrOneMore acknowledged in_doubt (in_slot (slot_of old) image))
+        (λ image. HasRecordsOrOneMore acknowledged (Some payload) (in_slot (slot_of old) image))
+    pub slot : slot_of new ≡ slot_of old
+    pub cause : HasCause (faults_of old) (faults_of new) outcome
