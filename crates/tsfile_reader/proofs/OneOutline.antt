@@ -1,0 +1,156 @@
+-- A file has one outline, and one that has it is blamed nowhere in it.
+use Rattle.std.proofs.Common.{◌≡◌, ℕ, ◌-◌, ◌<◌, ◌≤◌, ◌^◌, List, [], ◌∷◌, length, take, drop, Err, refl, sym, ap, subst, ◌∙◌, arith}
+use Rattle.std.specs.Prelude.{Option, None, Some, IfSome, IfOk}
+use Rattle.tsdb_base.specs.FieldLaws.{number64-prefix_free}
+use Rattle.tsdb_index.specs.declared.index.Index.{Index}
+use Rattle.tsdb_index.specs.declared.index.IndexEntry.{IndexEntry}
+use Rattle.tsdb_index.specs.declared.pointer.Pointer.{Pointer}
+use Rattle.tsdb_index.specs.Faults.{IsRead}
+use Rattle.tsdb_index.specs.Parts.{AreLeavesAt, BeginAt, IsFirstBadLeaf, IsRoot}
+use Rattle.tsdb_index.proofs.Roots.{pointers_same, root_counted}
+use Rattle.tsdb_index.proofs.Whole.{index_parts, no_bad_leaf}
+use Rattle.tsdb_pages.specs.declared.tree.Tree.{Tree}
+use Rattle.tsdb_pages.specs.File.{AreEntriesIn, IsFile, data_field, magic}
+use Rattle.tsdb_pages.specs.Trees.{IsMade, IsTree}
+use Rattle.tsdb_pages.proofs.Places.{file_ends}
+use Rattle.tsdb_pages.proofs.TreeIndex.{entries_are_index, read_entries}
+use Rattle.tsfile_reader.specs.declared.ends.Ends.{Ends}
+use Rattle.tsfile_reader.specs.declared.fault.ReadFault.{ReadFault}
+use Rattle.tsfile_reader.specs.declared.fault.ReadFault.TheVariants.{Failed, Damaged, Memory}
+use Rattle.tsfile_reader.specs.Answers.{Answers, IfDamaged, IsNotDamaged}
+use Rattle.tsfile_reader.specs.Meta.{IsMetaOf}
+use Rattle.tsfile_reader.specs.Outline.{HasIndex, HasOutline, HasRoot, HasTail, IsBadOutline, between, no_head, no_leaf, no_root, no_tail, short, tail_place}
+use Rattle.tsfile_reader.specs.Steps.{IsOutlineIn}
+use Rattle.tsfile_reader.proofs.Outlines.{before_tail, between_back, between_front, first_inside, length_between}
+
+pub tail_same : (b : List ℕ) (r s : ℕ) → length b < 2 ^ 64 → HasTail b r → HasTail b s → r ≡ s
+tail_same b r s room x y =
+    let low_x = x.inside in
+    let low_y = y.inside in
+    (number64-prefix_free r s magic magic (omega (arith, low_x, room)) (omega (arith, low_y, room)) (sym x.bytes-are ∙ y.bytes-are)).0
+
+one_begin : (p q : ℕ) (ps : List Pointer) → BeginAt p ps → BeginAt q ps → p ≡ q
+one_begin p q [] x y = absurd x
+one_begin p q (r ∷ rs) x y = sym x ∙ y
+
+pub root_same : (b : List ℕ) (r p q : ℕ) (ps qs : List Pointer) → HasRoot b r p ps → HasRoot b r q qs → (ps ≡ qs) × (p ≡ q)
+root_same b r p q ps qs x y =
+    let bytes = between r (tail_place b) b in
+    let same = pointers_same bytes ps qs (root_counted p r bytes ps x.is) (root_counted q r bytes qs y.is) in
+    (same, one_begin p q qs (subst (λ (l : List Pointer). BeginAt p l) same x.is.begin) y.is.begin)
+
+-- the places of an outline rise
+pub record Rises (b : List ℕ) (root place : ℕ) : Type 0 where
+  pub low : place < root
+  pub high : root < tail_place b
+
+pub rises : (b : List ℕ) (root place : ℕ) (ps : List Pointer) → HasRoot b root place ps → Rises b root place
+rises b root place ps has = record {
+  low = first_inside place root (between root (tail_place b) b) ps has.is;
+  high = before_tail b (between root (tail_place b) b) root ps refl (root_counted place root (between root (tail_place b) b) ps has.is);
+}
+
+-- the leaves stand at the pointers
+pub leaves_there : (b : List ℕ) (root place : ℕ) (ps : List Pointer) (es : List IndexEntry) → length b < 2 ^ 64 → HasRoot b root place ps → HasIndex b root place es → (leaves : List (List IndexEntry)) × AreLeavesAt root ps (between place root b) leaves
+leaves_there b root place ps es room has index =
+    let r = rises b root place ps has in
+    let low = r.low in
+    let high = r.high in
+    let stretch = between place (tail_place b) b in
+    let n = length_between b place (tail_place b) (omega arith) in
+    let parts = index_parts place root stretch es (omega (arith, low)) (omega (arith, n, low, high)) (omega (arith, n, low, high, room)) index in
+    let qs = parts.pointers-are in
+    let back = between_back b place root (tail_place b) (omega (arith, low)) (omega (arith, high)) in
+    let front = between_front b place root (tail_place b) (omega (arith, low)) (omega (arith, high)) in
+    let there : HasRoot b root place parts.pointers-are = record { behind-head = has.behind-head; is = subst (λ (l : List ℕ). IsRoot place root l parts.pointers-are) back parts.is-root } in
+    let same = (root_same b root place place qs ps there has).0 in
+    (parts.leaves, subst (λ (l : List ℕ). AreLeavesAt root ps l parts.leaves) front (subst (λ (l : List Pointer). AreLeavesAt root l (take (root - place) (between place (tail_place b) b)) parts.leaves) same parts.leaves-are))
+
+pub good_outline : (b : List ℕ) (root place : ℕ) (ps : List Pointer) (es : List IndexEntry) (at : ℕ) → length b < 2 ^ 64 → HasOutline b root place ps es → IsBadOutline b at → ⊥
+good_outline b root place ps es at room has (short less) = let long = has.long in omega (arith, less, long)
+good_outline b root place ps es at room has (no_tail long none) = none root has.tail
+good_outline b root place ps es at room has (no_head long other tail none) = none has.starts
+good_outline b root place ps es at room has (no_root long other tail starts none) =
+    none place ps (subst (λ (r : ℕ). HasRoot b r place ps) (tail_same b root other room has.tail tail) has.points)
+good_outline b root place ps es at room has (no_leaf long other tail starts q qs there at_leaf is_bad) =
+    let same = tail_same b other root room tail has.tail in
+    let here = subst (λ (r : ℕ). HasRoot b r q qs) same there in
+    let one = root_same b root q place qs ps here has.points in
+    let leaves = leaves_there b root place ps es room has.points has.index in
+    let bad_here : IsFirstBadLeaf root ps (between place root b) at_leaf =
+    subst (λ (p : ℕ). IsFirstBadLeaf root ps (between p root b) at_leaf) one.1 (subst (λ (l : List Pointer). IsFirstBadLeaf root l (between q root b) at_leaf) one.0 (subst (λ (r : ℕ). IsFirstBadLeaf r qs (between q r b) at_leaf) same is_bad)) in
+    no_bad_leaf root ps (between place root b) leaves.0 at_leaf leaves.1 bad_here
+
+-- ---- the outline of a tree's file
+
+pub record TreeOutline (tree : Tree) (b : List ℕ) (file : IsFile tree b) : Type 0 where
+  pub pointers : List Pointer
+  pub outline : HasOutline b file.root (length (data_field tree)) pointers file.entries
+  pub index-is : between (length (data_field tree)) (tail_place b) b ≡ file.index-bytes
+
+pub tree_outline : (tree : Tree) (b : List ℕ) → length b < 2 ^ 64 → IsTree tree → IsMade tree → (file : IsFile tree b) → TreeOutline tree b file
+tree_outline tree b room is made file =
+    let ends = file_ends tree b file in
+    let place = length (data_field tree) in
+    let size = ends.size in
+    let some : 7 ≤ length (data_field tree) = length_head tree in
+    let above = ends.begins.above in
+    let inside = ends.begins.inside in
+    let tail_is : tail_place b - length (data_field tree) ≡ length file.index-bytes = omega (arith, size) in
+    let index : between (length (data_field tree)) (tail_place b) b ≡ file.index-bytes = ap (λ (n : ℕ). take n (drop (length (data_field tree)) b)) tail_is ∙ ends.index-stands.bytes-are in
+    let read : IsRead (length (data_field tree)) file.root file.index-bytes file.entries = record { index = entries_are_index tree file.entries is made file.say (omega (arith, size, room)); spelling = file.index-is } in
+    let parts = index_parts place file.root file.index-bytes file.entries (omega (arith, above)) (omega (arith, inside)) (omega (arith, size, room)) read in
+    let back : drop (file.root - length (data_field tree)) file.index-bytes ≡ between file.root (tail_place b) b =
+    ap (λ (l : List ℕ). drop (file.root - length (data_field tree)) l) (sym index) ∙ between_back b place file.root (tail_place b) (omega (arith, above)) (omega (arith, inside, size)) in
+    record {
+      pointers = parts.pointers-are;
+      outline = record {
+        long = omega (arith, size, some);
+        tail = record { behind-head = omega (arith, some, above); inside = omega (arith, inside, size); bytes-are = ends.tail };
+        starts = ends.head.bytes-are;
+        points = record { behind-head = some; is = subst (λ (l : List ℕ). IsRoot (length (data_field tree)) file.root l parts.pointers-are) back parts.is-root };
+        index = subst (λ (l : List ℕ). IsRead (length (data_field tree)) file.root l file.entries) (sym index) read;
+      };
+      index-is = index;
+    }
+  where
+    length_head : (tree : Tree) → 7 ≤ length (data_field tree)
+    length_head tree = omega arith
+
+-- what an outline of a tree's file says are the tree's entries
+pub outline_of_tree : (tree : Tree) (b : List ℕ) (root place : ℕ) (ps : List Pointer) (es : List IndexEntry) → length b < 2 ^ 64 → IsTree tree → IsMade tree → (file : IsFile tree b) → HasOutline b root place ps es
+    → (place ≡ length (data_field tree)) × AreEntriesIn tree es
+outline_of_tree tree b root place ps es room is made file has =
+    let t = tree_outline tree b room is made file in
+    let same = tail_same b root file.root room has.tail t.outline.tail in
+    let points = subst (λ (r : ℕ). HasRoot b r place ps) same has.points in
+    let one = root_same b file.root place (length (data_field tree)) ps t.pointers points t.outline.points in
+    let size = (file_ends tree b file).size in
+    let read : IsRead (length (data_field tree)) file.root file.index-bytes es =
+    subst (λ (l : List ℕ). IsRead (length (data_field tree)) file.root l es) t.index-is (subst (λ (p : ℕ). IsRead p file.root (between p (tail_place b) b) es) one.1 (subst (λ (r : ℕ). IsRead place r (between place (tail_place b) b) es) same has.index)) in
+    (one.1, read_entries tree b es is made file (omega (arith, size, room)) read)
+
+-- no part of the outline of a tree's file is bad
+pub tree_not_bad : (tree : Tree) (b : List ℕ) (at : ℕ) → length b < 2 ^ 64 → IsTree tree → IsMade tree → IsFile tree b → IsBadOutline b at → ⊥
+tree_not_bad tree b at room is made file bad =
+    let t = tree_outline tree b room is made file in
+    good_outline b file.root (length (data_field tree)) t.pointers file.entries at room t.outline bad
+
+-- ---- the exits of reading the index
+
+pub meta_refused : {T S : Type 0} (o : Option (List ℕ)) (Is : List ℕ → T → Type 0) (P : Tree → List ℕ → S → Type 0) (fault : ReadFault) → Answers Is IsBadOutline o (Err fault) → IfDamaged {T = T} (Err fault) (λ at. IfSome o (λ b. length b < 2 ^ 63))
+    → IfSome o (λ b. (tree : Tree) → IsTree tree → IsMade tree → IsFile tree b → IsNotDamaged {T = S} (Err fault) × IfOk {T = S} {E = ReadFault} (Err fault) (P tree b))
+meta_refused None Is P fault answers limit = tt
+meta_refused (Some b) Is P Failed answers limit = λ tree is made file. (tt, tt)
+meta_refused (Some b) Is P (Damaged at) answers limit = λ tree is made file. absurd (tree_not_bad tree b at (omega (arith, limit)) is made file answers)
+meta_refused (Some b) Is P Memory answers limit = λ tree is made file. (tt, tt)
+
+pub meta_found : (o : Option (List ℕ)) (ends : Ends) (place : ℕ) (ps : List Pointer) (index : Index) → IfSome o (λ b. IsOutlineIn b ends place ps index)
+    → IfSome o (λ b. (tree : Tree) → IsTree tree → IsMade tree → IsFile tree b → Unit {0} × IsMetaOf tree b (record { bytes = ends.size; index = index }))
+meta_found None ends place ps index has = tt
+meta_found (Some b) ends place ps index has = λ tree is made file.
+    let len = has.0 in
+    let limit = ends.limit in (
+      tt,
+      record { bytes-are = len; entries = (outline_of_tree tree b ends.root place ps index.entries.items (omega (arith, len, limit)) is made file has.1).1 },
+    )

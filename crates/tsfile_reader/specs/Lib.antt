@@ -1,0 +1,5 @@
+pub mod Answers
+pub mod Outline
+pub mod Steps
+pub mod Page
+pub mod Meta

@@ -1,0 +1,59 @@
+-- One page of a file.
+use Rattle.std.specs.Prelude.{◌≡◌, ℕ, List, ◌∷◌, ◌++◌, drop, length, slice_get, Some, true, All, Contains}
+use Rattle.tsdb_base.specs.declared.point.Point.{Point}
+use Rattle.tsdb_base.specs.declared.value.DataType.{DataType}
+use Rattle.tsdb_base.specs.declared.value.Encoding.{Encoding}
+use Rattle.tsdb_base.specs.Values.{is_suitable}
+use Rattle.tsdb_index.specs.declared.index.IndexEntry.{IndexEntry}
+use Rattle.tsdb_index.specs.declared.index.PageEntry.{PageEntry}
+use Rattle.tsdb_pages.specs.declared.tree.Chunk.{Chunk}
+use Rattle.tsdb_pages.specs.declared.tree.Group.{Group}
+use Rattle.tsdb_pages.specs.declared.tree.Page.{Page}
+use Rattle.tsdb_pages.specs.declared.tree.Tree.{Tree}
+use Rattle.tsdb_pages.specs.File.{AreEntriesIn, IsEntry}
+use Rattle.tsdb_base.specs.Fields.{number32}
+use Rattle.tsdb_pages.specs.Pages.{ArePoints, IsInRange, body}
+
+-- a page of these points: 50, and its body behind the body's length
+abbrev pub page_bytes : Encoding → List Point → List ℕ
+page_bytes encoding points = 80 ∷ number32 (length (body encoding points)) ++ body encoding points
+
+-- points of a page of this type
+abbrev pub AreGood : DataType → List Point → Type 0
+AreGood data_type points = ArePoints data_type points × All IsInRange points
+
+-- these bytes begin with a page of these points
+pub record BeginsWithPage (data_type : DataType) (encoding : Encoding) (bytes : List ℕ) (points : List Point) : Type 0 where
+  pub suits : is_suitable data_type encoding ≡ true
+  pub good : AreGood data_type points
+  pub behind : List ℕ
+  pub split : bytes ≡ page_bytes encoding points ++ behind
+
+-- the page with this number in the entry stands at its place in the file, and has these points
+abbrev pub HasPage : List ℕ → IndexEntry → PageEntry → List Point → Type 0
+HasPage bytes entry page points = BeginsWithPage entry.data_type entry.encoding (drop page.place bytes) points
+
+-- at the place of the page with this number in the entry stands no page of its type and encoding
+abbrev pub HasNoPage : List ℕ → IndexEntry → PageEntry → Type 0
+HasNoPage bytes entry page = (points : List Point) → HasPage bytes entry page points → ⊥
+
+-- what the entry says of its page with this number
+abbrev pub SaysOfPage : IndexEntry → ℕ → PageEntry → Type 0
+SaysOfPage entry number page = slice_get entry.pages.items number ≡ Some page
+
+-- the entry is one of the tree's index
+pub record IsEntryOf (tree : Tree) (entry : IndexEntry) : Type 0 where
+  pub entries : List IndexEntry
+  pub say : AreEntriesIn tree entries
+  pub there : Contains entries entry
+
+-- these are the points of the page with this number in the tree's chunk of which the entry speaks
+pub record ArePointsOf (tree : Tree) (entry : IndexEntry) (number : ℕ) (points : List Point) : Type 0 where
+  pub group : Group
+  pub chunk : Chunk
+  pub in-tree : Contains tree.groups.items group
+  pub in-group : Contains group.chunks.items chunk
+  pub says : IsEntry group.device entry.place chunk entry
+  pub page : Page
+  pub page-is : slice_get chunk.pages.items number ≡ Some page
+  pub points-are : points ≡ page.points.items

@@ -1,0 +1,55 @@
+//! What the tail, the head and the root of a file say. Depends on `fault`, tsdb_fields and tsdb_index.
+ghost use Rattle.std.specs.Prelude.{◌≡◌, ℕ, ◌+◌, ◌<◌, ◌≤◌, ◌^◌, ◌++◌, ◌↔◌, IsTrue, List, length, MatchOption};
+ghost use Rattle.tsdb_base.specs.Fields.{number64};
+ghost use Rattle.tsdb_index.specs.Faults.{ReadsWhole};
+ghost use Rattle.tsdb_index.specs.Parts.{BeginAt};
+ghost use Rattle.tsdb_pages.specs.File.{head as head_bytes, magic};
+ghost use Rattle.tsfile_reader.specs.Outline.{IsTail};
+
+use std::alloc::Global;
+use tsdb_fields::{FieldFault, Rest, read_field};
+use tsdb_index::Pointer;
+
+/// The first bytes of a file.
+pub const HEAD: [u8; 7] = *b"TsFile\x51";
+
+/// The last bytes of a file.
+const MAGIC: [u8; 6] = *b"TsFile";
+
+/// How many bytes the head has.
+pub const HEAD_BYTES: u64 = 7;
+
+/// How many bytes the tail has.
+pub const TAIL_BYTES: u64 = 14;
+
+/// Whether these are the bytes of a head.
+pub fn is_head(bytes: &[u8]) -> bool
+    ensures { IsTrue result ↔ (bytes.now ≡ head_bytes) }
+{
+    bytes == HEAD.as_slice()
+}
+
+/// The place of the root in the tail that all of these bytes are, in a file of so many bytes. A fault has no place of
+/// its own.
+pub fn root_in_tail(alloc: Global, tail: &[u8], size: u64) -> Result<u64, FieldFault>
+    ensures { ReadsWhole (IsTail size tail.now) (λ root. root) result }
+{
+    let bad = FieldFault::Bad { at: 0 };
+    let (root, rest) = read_field::<u64>(alloc, Rest { at: 0, bytes: tail })?;
+    if rest.bytes != MAGIC.as_slice() || root < HEAD_BYTES || size <= root {
+        return Err(bad);
+    }
+    Ok(root)
+}
+
+/// The place of the first leaf that these pointers give, if it is behind the head and before the root.
+pub fn first_place(pointers: &[Pointer], root: u64) -> Option<u64>
+    ensures { MatchOption result
+        ((place : ℕ) → BeginAt place pointers.now → length head_bytes ≤ place → place < root → ⊥)
+        (λ place. BeginAt place pointers.now × (length head_bytes ≤ place) × (place < root)) }
+{
+    match pointers {
+        [first, ..] if HEAD_BYTES <= first.place && first.place < root => Some(first.place),
+        _ => None,
+    }
+}

@@ -1,0 +1,133 @@
+//! The tail, the head, the root and the leaves of a file, read through a port. Depends on `ends`, `outline`, `fault`,
+//! tsdb_outside and tsdb_index.
+ghost use Rattle.std.specs.Prelude.{◌≡◌, ℕ, ◌+◌, ◌-◌, ◌<◌, ◌≤◌, ◌^◌, length, take, drop, IfOk, IfSome};
+ghost use Rattle.std.specs.Option.{ForSome};
+ghost use Rattle.tsfile_reader.specs.Answers.{Answers, HasReadCause, IfDamaged, IsNotDamaged};
+ghost use Rattle.tsfile_reader.specs.Outline.{IsBadOutline};
+ghost use Rattle.tsfile_reader.specs.Steps.{HasEnds, HasPointers, IsOutlineIn};
+
+use crate::ends::{Ends, Outline, Root};
+use crate::fault::ReadFault;
+use crate::outline::{HEAD_BYTES, TAIL_BYTES, first_place, is_head, root_in_tail};
+use std::alloc::Global;
+use tsdb_index::{Index, pointers_in, read_index};
+use tsdb_outside::Port;
+
+/// Reads so many bytes of the file from this place on.
+pub fn read_part<P: Port>(
+    alloc: Global,
+    port: &mut P,
+    right: &P::Right,
+    at: u64,
+    count: u64,
+) -> Result<Vec<u8>, ReadFault>
+    requires { ForSome (P.Right.file right.now).bytes (λ bytes. at + count ≤ length bytes) }
+    ensures bytes { IfOk result (λ part. IfSome (P.Right.file right.now).bytes
+        (λ bytes. part.items ≡ take count (drop at bytes))) }
+    ensures size { IfOk result (λ part. length part.items ≡ count) }
+    ensures no_damage { IsNotDamaged result }
+    ensures cause { HasReadCause (P.faults port.old) (P.faults port.new) result }
+{
+    let mut part = vec![in alloc; 0u8; count as usize]?;
+    port.read(right, at, &mut part)?;
+    Ok(part)
+}
+
+/// Reads the tail and the head.
+fn read_ends<P: Port>(alloc: Global, port: &mut P, right: &P::Right) -> Result<Ends, ReadFault>
+    ensures answers { Answers HasEnds IsBadOutline (P.Right.file right.now).bytes result }
+    ensures limit { IfDamaged result (λ at. IfSome (P.Right.file right.now).bytes (λ bytes. length bytes < 2 ^ 63)) }
+    ensures cause { HasReadCause (P.faults port.old) (P.faults port.new) result }
+{
+    let size = port.size(right)?;
+    if size < HEAD_BYTES + TAIL_BYTES {
+        return Err(ReadFault::Damaged { at: 0 });
+    }
+    let tail = read_part(alloc, port, right, size - TAIL_BYTES, TAIL_BYTES)?;
+    let root = match root_in_tail(alloc, &tail, size) {
+        Ok(root) => root,
+        Err(fault) => return Err(ReadFault::of_part(fault, size - TAIL_BYTES)),
+    };
+    let head = read_part(alloc, port, right, 0, HEAD_BYTES)?;
+    if !is_head(&head) {
+        return Err(ReadFault::Damaged { at: 0 });
+    }
+    Ok(Ends { size, root })
+}
+
+/// Reads the root of a file with these ends.
+fn read_root<P: Port>(
+    alloc: Global,
+    port: &mut P,
+    right: &P::Right,
+    ends: Ends,
+) -> Result<Root, ReadFault>
+    requires { IfSome (P.Right.file right.now).bytes (λ bytes. HasEnds bytes ends) }
+    ensures answers { Answers (λ bytes root. HasPointers bytes ends root) IsBadOutline
+        (P.Right.file right.now).bytes result }
+    ensures place { IfOk result (λ root. root.place < ends.root) }
+    ensures limit { IfDamaged result (λ at. IfSome (P.Right.file right.now).bytes (λ bytes. length bytes < 2 ^ 63)) }
+    ensures cause { HasReadCause (P.faults port.old) (P.faults port.new) result }
+{
+    let size = (ends.size - TAIL_BYTES).saturating_sub(ends.root);
+    let bytes = read_part(alloc, port, right, ends.root, size)?;
+    let pointers = match pointers_in(alloc, &bytes) {
+        Ok(pointers) => pointers,
+        Err(fault) => return Err(ReadFault::of_part(fault, ends.root)),
+    };
+    let Some(place) = first_place(&pointers, ends.root) else {
+        return Err(ReadFault::Damaged { at: ends.root });
+    };
+    Ok(Root {
+        bytes,
+        pointers,
+        place,
+    })
+}
+
+/// Reads the leaves of a file with these ends and this root.
+fn read_leaves<P: Port>(
+    alloc: Global,
+    port: &mut P,
+    right: &P::Right,
+    ends: Ends,
+    root: &Root,
+) -> Result<Index, ReadFault>
+    requires ends { IfSome (P.Right.file right.now).bytes (λ bytes. HasEnds bytes ends) }
+    requires pointers { IfSome (P.Right.file right.now).bytes (λ bytes. HasPointers bytes ends root.now) }
+    requires place { root.now.place < ends.root }
+    ensures answers { Answers (λ bytes. IsOutlineIn bytes ends root.now.place root.now.pointers.items) IsBadOutline
+        (P.Right.file right.now).bytes result }
+    ensures limit { IfDamaged result (λ at. IfSome (P.Right.file right.now).bytes (λ bytes. length bytes < 2 ^ 63)) }
+    ensures cause { HasReadCause (P.faults port.old) (P.faults port.new) result }
+{
+    let mut bytes = read_part(alloc, port, right, root.place, ends.root - root.place)?;
+    bytes.extend_from_slice(&root.bytes)?;
+    match read_index(alloc, &bytes, root.place, ends.root) {
+        Ok(index) => Ok(index),
+        Err(fault) => Err(ReadFault::of_index(fault)),
+    }
+}
+
+/// Reads what the tail, the head, the root and the leaves say.
+pub fn read_outline<P: Port>(
+    alloc: Global,
+    port: &mut P,
+    right: &P::Right,
+) -> Result<Outline, ReadFault>
+    ensures answers { Answers
+        (λ bytes outline. IsOutlineIn bytes outline.ends outline.place outline.pointers.items outline.index)
+        IsBadOutline (P.Right.file right.now).bytes result }
+    ensures limit { IfDamaged result (λ at. IfSome (P.Right.file right.now).bytes (λ bytes. length bytes < 2 ^ 63)) }
+    ensures cause { HasReadCause (P.faults port.old) (P.faults port.new) result }
+{
+    let ends = read_ends(alloc, port, right)?;
+    let root = read_root(alloc, port, right, ends)?;
+    let index = read_leaves(alloc, port, right, ends, &root)?;
+    Ok(Outline {
+        ends,
+        place: root.place,
+        pointers: root.pointers,
+        index,
+    })
+}

@@ -1,0 +1,158 @@
+//! The calls that read a file. Depends on `port`, `page` and `fault`.
+ghost use Rattle.std.specs.Prelude.{◌≡◌, ◌+◌, ◌<◌, ◌≤◌, true, length, IfOk, IfSome};
+ghost use Rattle.tsdb_base.specs.Values.{is_suitable};
+ghost use Rattle.tsdb_index.specs.declared.index.PageEntry.{PageEntry as Said};
+ghost use Rattle.tsdb_pages.specs.declared.tree.Tree.{Tree as TreeIn};
+ghost use Rattle.tsdb_pages.specs.File.{IsFile};
+ghost use Rattle.tsdb_pages.specs.Trees.{IsMade, IsTree};
+ghost use Rattle.tsfile_reader.specs.Answers.{Answers, HasReadCause, IfDamaged, IsNotDamaged};
+ghost use Rattle.tsfile_reader.specs.Meta.{IsMetaIn, IsMetaOf};
+ghost use Rattle.tsfile_reader.specs.Outline.{IsBadOutline};
+ghost use Rattle.tsfile_reader.specs.Page.{ArePointsOf, HasNoPage, HasPage, IsEntryOf, SaysOfPage};
+ghost use Rattle.tsfile_reader.specs.Steps.{HasPageBytes, SaysSize};
+
+use crate::fault::ReadFault;
+use crate::page::read_page;
+use crate::port::{read_outline, read_part};
+use std::alloc::Global;
+use tsdb_base::{Point, suits};
+use tsdb_fields::Rest;
+use tsdb_index::{FileMeta, IndexEntry, PageEntry};
+use tsdb_outside::Port;
+
+/// How many bytes a page has before its body.
+const PAGE_HEAD_BYTES: u64 = 5;
+
+/// How many bytes are read of the last page of a chunk, whose end the index does not say. A page of numbers has fewer.
+const LAST_PAGE_BYTES: u64 = 32_768;
+
+/// Reads the length and the index of a file, by its tail, head, root and leaves alone.
+pub fn read_meta<P: Port>(
+    alloc: Global,
+    port: &mut P,
+    right: &P::Right,
+) -> Result<FileMeta, ReadFault>
+    ensures answers { Answers IsMetaIn IsBadOutline (P.Right.file right.now).bytes result }
+    ensures tree { IfSome (P.Right.file right.now).bytes (λ bytes. (tree : TreeIn) → IsTree tree → IsMade tree
+        → IsFile tree bytes → IsNotDamaged result × IfOk result (IsMetaOf tree bytes)) }
+    ensures cause { HasReadCause (P.faults port.old) (P.faults port.new) result }
+{
+    let outline = read_outline(alloc, port, right)?;
+    Ok(FileMeta {
+        bytes: outline.ends.size,
+        index: outline.index,
+    })
+}
+
+/// How many bytes to read of a page at first, where its file has so many from its place on.
+fn first_size(entry: &IndexEntry, page: usize, left: u64) -> u64
+    requires { page < length entry.now.pages.items }
+    ensures left { result ≤ left }
+    ensures head { result < 5 → result ≡ left }
+{
+    let pages = entry.pages.as_slice();
+    let size = if page + 1 < pages.len() {
+        pages[page + 1].place.saturating_sub(pages[page].place)
+    } else {
+        LAST_PAGE_BYTES
+    };
+    size.max(PAGE_HEAD_BYTES).min(left)
+}
+
+/// How many bytes the page has that begins here, as its first five bytes say.
+fn page_size(bytes: &[u8]) -> u64
+    ensures { SaysSize bytes.now result }
+{
+    if bytes.len() < PAGE_HEAD_BYTES as usize {
+        return PAGE_HEAD_BYTES;
+    }
+    let (head, _behind) = bytes.split_at(PAGE_HEAD_BYTES as usize);
+    let count = u32::from_be_bytes([head[1], head[2], head[3], head[4]]);
+    PAGE_HEAD_BYTES + u64::from(count)
+}
+
+/// Reads the bytes from a page on, of which so many are left in the file, and so many are read first. They are read
+/// once more where the page says that it has more.
+fn read_page_bytes<P: Port>(
+    alloc: Global,
+    port: &mut P,
+    right: &P::Right,
+    place: u64,
+    first: u64,
+    left: u64,
+) -> Result<Vec<u8>, ReadFault>
+    requires left { IfSome (P.Right.file right.now).bytes (λ bytes. place + left ≡ length bytes) }
+    requires first { first ≤ left }
+    requires head { first < 5 → first ≡ left }
+    ensures bytes { IfOk result (λ part. IfSome (P.Right.file right.now).bytes (λ bytes.
+        HasPageBytes bytes place part.items)) }
+    ensures no_damage { IsNotDamaged result }
+    ensures cause { HasReadCause (P.faults port.old) (P.faults port.new) result }
+{
+    let bytes = read_part(alloc, port, right, place, first)?;
+    let size = page_size(&bytes);
+    if size <= first || left < size {
+        return Ok(bytes);
+    }
+    read_part(alloc, port, right, place, size)
+}
+
+/// Reads the points of the page of which the entry says this, where its file has so many bytes from the page on.
+fn read_points_at<P: Port>(
+    alloc: Global,
+    port: &mut P,
+    right: &P::Right,
+    entry: &IndexEntry,
+    page: &PageEntry,
+    sizes: (u64, u64),
+) -> Result<Vec<Point>, ReadFault>
+    requires left { IfSome (P.Right.file right.now).bytes (λ bytes. page.now.place + sizes.1 ≡ length bytes) }
+    requires first { sizes.0 ≤ sizes.1 }
+    requires head { sizes.0 < 5 → sizes.0 ≡ sizes.1 }
+    requires suits { is_suitable entry.now.data_type entry.now.encoding ≡ true }
+    ensures answers { Answers (λ bytes points. HasPage bytes entry.now page.now points.items)
+        (λ bytes at. (at ≡ page.now.place) × HasNoPage bytes entry.now page.now) (P.Right.file right.now).bytes result }
+    ensures place { IfDamaged result (λ at. at ≡ page.now.place) }
+    ensures cause { HasReadCause (P.faults port.old) (P.faults port.new) result }
+{
+    let (first, left) = sizes;
+    let bytes = read_page_bytes(alloc, port, right, page.place, first, left)?;
+    let rest = Rest {
+        at: 0,
+        bytes: &bytes,
+    };
+    match read_page(alloc, entry.data_type, entry.encoding, rest) {
+        Ok((points, _behind)) => Ok(points),
+        Err(fault) => Err(ReadFault::of_part(fault, page.place)),
+    }
+}
+
+/// Reads the points of a page. It is `Damaged` at the page's place where no page of the entry's type and encoding
+/// stands there.
+pub fn read_points<P: Port>(
+    alloc: Global,
+    port: &mut P,
+    right: &P::Right,
+    entry: &IndexEntry,
+    page: usize,
+) -> Result<Vec<Point>, ReadFault>
+    requires page { page < length entry.now.pages.items }
+    ensures found { IfOk result (λ points. IfSome (P.Right.file right.now).bytes (λ bytes.
+        (said : Said) → SaysOfPage entry.now page said → HasPage bytes entry.now said points.items)) }
+    ensures damaged { IfDamaged result (λ at. (said : Said) → SaysOfPage entry.now page said → at ≡ said.place) }
+    ensures bad { IfDamaged result (λ at. IfSome (P.Right.file right.now).bytes (λ bytes.
+        (said : Said) → SaysOfPage entry.now page said → HasNoPage bytes entry.now said)) }
+    ensures tree { IfSome (P.Right.file right.now).bytes (λ bytes. (tree : TreeIn) → IsTree tree → IsMade tree
+        → IsFile tree bytes → IsEntryOf tree entry.now
+        → IsNotDamaged result × IfOk result (λ points. ArePointsOf tree entry.now page points.items)) }
+    ensures cause { HasReadCause (P.faults port.old) (P.faults port.new) result }
+{
+    let said = &entry.pages[page];
+    let size = port.size(right)?;
+    if size < said.place || !suits(entry.data_type, entry.encoding) {
+        return Err(ReadFault::Damaged { at: said.place });
+    }
+    let left = size - said.place;
+    let first = first_size(entry, page, left);
+    read_points_at(alloc, port, right, entry, said, (first, left))
+}
