@@ -5,12 +5,14 @@
 
 mod builder;
 mod fault;
+mod laws;
 mod layout;
 mod names;
 mod tree;
 
 pub use builder::Builder;
 pub use fault::BuildFault;
+pub use laws::one_file_of_series;
 pub use tree::write_tree;
 
 #[cfg(test)]
