@@ -61,8 +61,8 @@ tail-some [] some = absurd (omega arith)
 tail-some (x ∷ xs) some = refl
 
 -- a list whose spelling begins with a number has so many values
-pub counted : (values : List (List ℕ)) (count : ℕ) (bytes rest : List ℕ) → bytes ≡ leb count ++ rest → bytes ≡ spelling values → length values ≡ count
-counted values count bytes rest e spelled = sym (leb_prefix_free count (length values) rest (tail_of values) (sym e ∙ spelled ∙ spelling-tail values)).0
+pub count_is_length : (values : List (List ℕ)) (count : ℕ) (bytes rest : List ℕ) → bytes ≡ leb count ++ rest → bytes ≡ spelling values → length values ≡ count
+count_is_length values count bytes rest e spelled = sym (leb_prefix_free count (length values) rest (tail_of values) (sym e ∙ spelled ∙ spelling-tail values)).0
 
 -- nothing stands behind a count of 0
 pub nothing_behind : (values : List (List ℕ)) (count : ℕ) (bytes rest : List ℕ) → count ≡ 0 → bytes ≡ leb count ++ rest → bytes ≡ spelling values → rest ≡ []
@@ -112,7 +112,7 @@ pub read_back : (values texts : List (List ℕ)) (places : List ℕ) (count : �
     → All IsText values → bytes ≡ spelling values → (texts ≡ first_uses values) × (places ≡ map (place_in (first_uses values)) values)
 read_back values texts places count bytes rest some e read len is_t fit is_v spelled =
     let mine = parts_behind values count bytes rest some e spelled in
-    let number = counted values count bytes rest e spelled in
+    let number = count_is_length values count bytes rest e spelled in
     let lengths : length places ≡ length (map (place_in (first_uses values)) values) = omega (arith, len, number, length-places values) in
     same_parts texts (first_uses values) places (map (place_in (first_uses values)) values) is_t (uses_are_texts values is_v) lengths fit (places_fit values) (sym read ∙ mine)
 
@@ -130,7 +130,7 @@ uses_back values texts places count bytes rest some e read are is =
 pub no_parts : (values : List (List ℕ)) (count : ℕ) (bytes rest : List ℕ) → IsSpelling spelling IsText bytes values → 0 < count → bytes ≡ leb count ++ rest
     → ((texts : List (List ℕ)) (places : List ℕ) → AreParts count texts places → rest ≡ parts texts places → ⊥) → ⊥
 no_parts values count bytes rest is some e none =
-    let number = counted values count bytes rest e is.bytes-are in
+    let number = count_is_length values count bytes rest e is.bytes-are in
     let are : AreParts count (first_uses values) (map (place_in (first_uses values)) values) = record {
       few = omega (arith, number, length-first_uses values);
       size = length-places values ∙ number;
@@ -155,10 +155,10 @@ texts_behind texts places different bytes middle e whole =
 
 by_cases : (xs ys : List (List ℕ)) → All IsText xs → All IsText ys → spelling xs ≡ spelling ys → xs ≡ ys
 by_cases [] [] is_x is_y e = refl
-by_cases [] (y ∷ ys) is_x is_y e = absurd (omega (arith, counted [] (length (y ∷ ys)) (spelling []) (tail_of (y ∷ ys)) (e ∙ spelling-tail (y ∷ ys)) refl))
+by_cases [] (y ∷ ys) is_x is_y e = absurd (omega (arith, count_is_length [] (length (y ∷ ys)) (spelling []) (tail_of (y ∷ ys)) (e ∙ spelling-tail (y ∷ ys)) refl))
 by_cases (x ∷ xs) ys is_x is_y e =
     let start = spelling-tail (x ∷ xs) in
-    let count = counted ys (length (x ∷ xs)) (spelling (x ∷ xs)) (tail_of (x ∷ xs)) start e in
+    let count = count_is_length ys (length (x ∷ xs)) (spelling (x ∷ xs)) (tail_of (x ∷ xs)) start e in
     let mine = (tail-some (x ∷ xs) (omega arith)) in
     let same = read_back ys (first_uses (x ∷ xs)) (map (place_in (first_uses (x ∷ xs))) (x ∷ xs)) (length (x ∷ xs)) (spelling (x ∷ xs)) (tail_of (x ∷ xs)) (omega arith) start mine (length-places (x ∷ xs)) (uses_are_texts (x ∷ xs) is_x) (places_fit (x ∷ xs)) is_y e in
     sym (texts_back (x ∷ xs) []) ∙ sym (values_back ys (first_uses (x ∷ xs)) (map (place_in (first_uses (x ∷ xs))) (x ∷ xs)) same)

@@ -71,7 +71,7 @@ all_equal IsValue (suc n) value is = All-cons IsValue value (replicate n value) 
 -- what was read: the values are those of some runs, whose bytes stand in front of the rest
 pub record Progress {A : Type 0} (code : A → ℕ) (IsValue : A → Type 0) (start rest : List ℕ) (count last : ℕ) (values : List A) : Type 0 where
   pub runs : List Run
-  pub joined : IsJoined runs
+  pub neighbours : IsJoined runs
   pub ends : EndsIn last runs
   pub whole : map code values ≡ expand_runs runs
   pub read : start ≡ flat_map run_bytes runs ++ rest
@@ -81,7 +81,7 @@ pub record Progress {A : Type 0} (code : A → ℕ) (IsValue : A → Type 0) (st
 pub no_progress : {A : Type 0} (code : A → ℕ) (IsValue : A → Type 0) (start : List ℕ) (count : ℕ) (values : List A) → values ≡ [] → Progress code IsValue start start count 0 values
 no_progress code IsValue start count values none = record {
   runs = [];
-  joined = tt;
+  neighbours = tt;
   ends = tt;
   whole = ap (map code) none ∙ sym expand_runs-none;
   read = refl;
@@ -94,10 +94,10 @@ pub one_run_more : {A : Type 0} (code : A → ℕ) (IsValue : A → Type 0) (sta
     → run.code ≡ code value → IsValue value → now ≡ values ++ replicate run.count value → Progress code IsValue start behind count run.code now
 one_run_more code IsValue start rest behind count last room is_first run values now value p first r e may c is n =
     let number : length values ≡ length (expand_runs p.runs) = sym (length-map values code) ∙ ap length p.whole in
-    let differs : NotEmpty p.runs → run.code ≡ last → ⊥ = λ some. may.differs (first (omega (arith, some_values p.runs p.joined some))) in
+    let differs : NotEmpty p.runs → run.code ≡ last → ⊥ = λ some. may.differs (first (omega (arith, some_values p.runs p.neighbours some))) in
     record {
       runs = p.runs ++ run ∷ [];
-      joined = joined_more p.runs run last p.joined p.ends may.some differs;
+      neighbours = joined_more p.runs run last p.neighbours p.ends may.some differs;
       ends = ends_more p.runs run;
       whole = ap (map code) n ∙ map-append code values (replicate run.count value)
           ∙ ap (λ (t : List ℕ). t ++ map code (replicate run.count value)) p.whole
@@ -117,7 +117,7 @@ pub all_read : {A : Type 0} (code : A → ℕ) (IsValue : A → Type 0) (bytes s
 unfolding codes_spelling
 all_read code IsValue bytes start rest count last values p e z done few =
     let number : count ≡ length (map code values) = omega (arith, p.few, length-map values code) in
-    let runs : runs_of (map code values) ≡ p.runs = ap runs_of p.whole ∙ runs_of-expand_runs p.runs p.joined in
+    let runs : runs_of (map code values) ≡ p.runs = ap runs_of p.whole ∙ runs_of-expand_runs p.runs p.neighbours in
     record {
       list = record { few = omega (arith, p.few); typed = p.typed };
       bytes-are = e ∙ ap (λ (n : ℕ). leb n ++ start) number
@@ -157,7 +157,7 @@ pub record Next {A : Type 0} (code : A → ℕ) (IsValue : A → Type 0) (room l
 -- of a list that has the bytes: its runs are those that were read, and more
 record Whole {A : Type 0} (code : A → ℕ) (runs : List Run) (rest : List ℕ) (count : ℕ) (values : List A) : Type 0 where
   more : List Run
-  joined : IsJoined (runs ++ more)
+  neighbours : IsJoined (runs ++ more)
   codes-are : map code values ≡ expand_runs runs ++ expand_runs more
   rest-is : rest ≡ flat_map run_bytes more
   number : length (map code values) ≡ count
@@ -170,7 +170,7 @@ whole code IsValue bytes start rest count last values found p e is =
     let b = behind_runs p.runs (runs_of codes) rest (sym parts.1 ∙ p.read) in
     record {
       more = b.0;
-      joined = subst IsJoined b.1 (joined-runs_of codes);
+      neighbours = subst IsJoined b.1 (joined-runs_of codes);
       codes-are = sym (expand_runs-runs_of codes) ∙ ap expand_runs b.1 ∙ expand_runs-append p.runs b.0;
       rest-is = b.2;
       number = parts.0;
@@ -182,7 +182,7 @@ pub next_run_of : {A : Type 0} (code : A → ℕ) (IsValue : A → Type 0) (smal
 next_run_of code IsValue small bytes start rest count last room is_first values found p e is less first r =
     let w = whole code IsValue bytes start rest count last values found p e is in
     let number : length values ≡ length (expand_runs p.runs) = sym (length-map values code) ∙ ap length p.whole in
-    go w.more w.joined w.codes-are w.rest-is w.number number
+    go w.more w.neighbours w.codes-are w.rest-is w.number number
   where
     not_empty : (runs : List Run) → 0 < length (expand_runs runs) → NotEmpty runs
     not_empty [] lt = absurd (omega (arith, ap length expand_runs-none))
@@ -222,7 +222,7 @@ pub nothing_left : {A : Type 0} (code : A → ℕ) (IsValue : A → Type 0) (byt
 nothing_left code IsValue bytes start rest count last values found p e is done =
     let w = whole code IsValue bytes start rest count last values found p e is in
     let number : length values ≡ length (expand_runs p.runs) = sym (length-map values code) ∙ ap length p.whole in
-    go w.more w.joined w.codes-are w.rest-is w.number number
+    go w.more w.neighbours w.codes-are w.rest-is w.number number
   where
     go : (more : List Run) → IsJoined (p.runs ++ more) → map code found ≡ expand_runs p.runs ++ expand_runs more → rest ≡ flat_map run_bytes more → length (map code found) ≡ count → length values ≡ length (expand_runs p.runs) → rest ≡ []
     go [] j c b n number = b

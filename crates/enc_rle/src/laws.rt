@@ -9,7 +9,7 @@ ghost use Rattle.enc_rle.specs.Spelling.{Run, runs_of, expand_runs, spelling, bo
 /// The runs of a list expand to it, have at least one value each, and neighbours differ; no other runs do.
 pub fn runs_are_joined()
     ensures expand { (codes : List ℕ) → expand_runs (runs_of codes) ≡ codes }
-    ensures joined { (codes : List ℕ) → IsJoined (runs_of codes) }
+    ensures neighbours { (codes : List ℕ) → IsJoined (runs_of codes) }
     ensures only { (runs : List Run) → IsJoined runs → runs_of (expand_runs runs) ≡ runs }
 {}
 

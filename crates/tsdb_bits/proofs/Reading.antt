@@ -58,8 +58,8 @@ ends_with bytes i low b g lt e small some =
     subst (λ (t : ℕ). bytes ≡ leb t ++ drop (i + 1) bytes) n (g.builds b (drop (i + 1) bytes) some here)
 
 -- a last group says what the number is
-pub ended : (bytes : List ℕ) (i low b v : ℕ) (x : List ℕ) → Groups bytes i low → i < length bytes → b ≡ get_or bytes i 0 → b < 128 → bytes ≡ leb v ++ x → (v ≡ low + b * 2 ^ (7 * i)) × (0 < i → 0 < b)
-ended bytes i low b v x g lt e small d =
+pub value_of_groups : (bytes : List ℕ) (i low b v : ℕ) (x : List ℕ) → Groups bytes i low → i < length bytes → b ≡ get_or bytes i 0 → b < 128 → bytes ≡ leb v ++ x → (v ≡ low + b * 2 ^ (7 * i)) × (0 < i → 0 < b)
+value_of_groups bytes i low b v x g lt e small d =
     let here : drop i bytes ≡ b ∷ drop (i + 1) bytes = drop_more bytes i 0 lt ∙ ap (λ (t : ℕ). t ∷ drop (i + 1) bytes) (sym e) in
     let t = g.splits v x d in
     let k = leb_first t.0 x b (drop (i + 1) bytes) small (sym here ∙ t.2) in
@@ -75,7 +75,7 @@ pub tenth_high : (bytes : List ℕ) (low b v : ℕ) (x : List ℕ) → Groups by
 tenth_high bytes low b v x g lt e byte other small d =
     elim (cases_lt b 128) [
       | inl p ↦
-          let k = ended bytes 9 low b v x g lt e p d in
+          let k = value_of_groups bytes 9 low b v x g lt e p d in
           let some : 0 < b = k.1 (omega arith) in
           let big : 2 ≤ b = omega (arith, other) in
           absurd (omega (arith, k.0))

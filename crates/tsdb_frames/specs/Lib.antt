@@ -1,3 +1,4 @@
+pub mod Appends
 pub mod Causes
 pub mod Frames
 pub mod Laws

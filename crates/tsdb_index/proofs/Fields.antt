@@ -191,9 +191,9 @@ more_behind mark number limit f IsItem free apart bytes fields rest behind n fou
     let same = count_is mark number limit f IsItem free bytes fields rest n items found counted small is in
     some (rest_same f IsItem apart found_items items behind [] (are.0 ∙ same.0) are.1 is.good (sym split ∙ same.1 ∙ sym (append-nil (flat_map f items))))
 
-pub counted : {A : Type 0} (mark : ℕ) (number : ℕ → List ℕ) (limit : ℕ) (f : A → List ℕ) (IsItem : A → Type 0) (bytes fields rest behind : List ℕ) (n : ℕ) (items : List A)
+pub is_counted : {A : Type 0} (mark : ℕ) (number : ℕ → List ℕ) (limit : ℕ) (f : A → List ℕ) (IsItem : A → Type 0) (bytes fields rest behind : List ℕ) (n : ℕ) (items : List A)
     → bytes ≡ mark ∷ fields → fields ≡ number n ++ rest → n < limit → rest ≡ flat_map f items ++ behind → AreValues IsItem n items → behind ≡ [] → IsCounted mark number limit f IsItem bytes items
-counted mark number limit f IsItem bytes fields rest behind n items found number-is small split are none = record {
+is_counted mark number limit f IsItem bytes fields rest behind n items found number-is small split are none = record {
   few = subst (λ k. k < limit) (sym are.0) small;
   good = are.1;
   bytes-are =

@@ -54,7 +54,7 @@ nothing_written place entries written some bytes pointers-none count = record {
   sizes = λ none. let e : length entries ≡ 0 = ap length none in absurd (omega arith);
   bytes-are = bytes;
   pointers-are = pointers-none;
-  counted = count;
+  number_is = count;
 }
 
 -- one leaf more is written, which is full where entries follow it
@@ -75,7 +75,7 @@ leaf_more place entries rest leaf behind old new so_far cut few whole added =
           ∙ ap (λ (l : List ℕ). pointers place so_far.leaves ++ pointer_field added.first (place + length l)) so_far.bytes-are
           ∙ sym (pointers_push place so_far.leaves added.first added.others)
           ∙ ap (λ (l : List IndexEntry). pointers place (so_far.leaves ++ l ∷ [])) (sym leaf-is);
-      counted = added.counted ∙ ap (λ (n : ℕ). n + 1) so_far.counted ∙ sym (length_push so_far.leaves leaf);
+      number_is = added.number_is ∙ ap (λ (n : ℕ). n + 1) so_far.number_is ∙ sym (length_push so_far.leaves leaf);
     }
 
 -- one item more is written
@@ -98,7 +98,7 @@ leaf_written (Ok r) (l ∷ ls) place old new first some is pointer count written
   some = refl;
   bytes-are = written;
   pointers-are = pointer ∙ ap (λ (f : IndexEntry). old.pointers.items ++ pointer_field f (place + length old.bytes.items)) is;
-  counted = count;
+  number_is = count;
 }
 
 -- bytes behind those that are written

@@ -17,7 +17,7 @@ pub record IsAppended (leaf : List IndexEntry) (place : ℕ) (old new : Leaves) 
   pub some : leaf ≡ first ∷ others
   pub bytes-are : new.bytes.items ≡ old.bytes.items ++ leaf_field leaf
   pub pointers-are : new.pointers.items ≡ old.pointers.items ++ pointer_field first (place + length old.bytes.items)
-  pub counted : new.count ≡ old.count + 1
+  pub number_is : new.count ≡ old.count + 1
 
 -- the leaves of the entries are written, and the pointers at them
 pub record AreWritten (place : ℕ) (entries : List IndexEntry) (written : Leaves) : Type 0 where
@@ -25,7 +25,7 @@ pub record AreWritten (place : ℕ) (entries : List IndexEntry) (written : Leave
   pub stand : StandIn entries leaves
   pub bytes-are : written.bytes.items ≡ flat_map leaf_field leaves
   pub pointers-are : written.pointers.items ≡ pointers place leaves
-  pub counted : written.count ≡ length leaves
+  pub number_is : written.count ≡ length leaves
 
 -- each of these leaves has 256 entries
 abbrev pub AreFull : List (List IndexEntry) → Type 0
@@ -40,7 +40,7 @@ pub record IsWrittenTo (place : ℕ) (entries rest : List IndexEntry) (written :
   pub sizes : rest ≡ [] → AreLeaves leaves
   pub bytes-are : written.bytes.items ≡ flat_map leaf_field leaves
   pub pointers-are : written.pointers.items ≡ pointers place leaves
-  pub counted : written.count ≡ length leaves
+  pub number_is : written.count ≡ length leaves
 
 -- these bytes are a mark, the number of the items, and the items
 pub record IsCounted {A : Type 0} (mark : ℕ) (number : ℕ → List ℕ) (limit : ℕ) (item : A → List ℕ)

@@ -47,7 +47,7 @@ root = (
       rooted = refl;
       good = search (rules);
       few = omega arith;
-      joined = refl;
+      bytes_are = refl;
       short = omega arith;
     },
   ),

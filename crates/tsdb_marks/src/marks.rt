@@ -74,7 +74,7 @@ fn moment(time: Time) -> u64
 }
 
 /// Adds a mark to the index.
-fn lay(index: &mut Index, mark: &Mark)
+fn index_mark(index: &mut Index, mark: &Mark)
     requires { HasRoom index.old 1 }
     ensures times { HasTimes mark.now }
     ensures exact { (marks : List Mark) → IsIndexOf marks index.old
@@ -155,7 +155,7 @@ impl Marks {
         ensures spare { self.new.spare + 1 ≡ self.old.spare }
     {
         self.spare -= 1;
-        lay(&mut self.index, &mark);
+        index_mark(&mut self.index, &mark);
         let Ok(()) = self.marks.push(mark) else {
             unreachable!()
         };

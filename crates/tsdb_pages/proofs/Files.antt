@@ -1,10 +1,9 @@
 -- Two trees with one file hold the same.
-use Rattle.std.proofs.Common.{◌≡◌, ℕ, ◌+◌, ◌<◌, ◌≤◌, ◌^◌, ◌/◌, ◌%◌, true, List, [], ◌∷◌, ◌++◌, length, get_or, map, ◌⊎◌, inl, inr, ⊎_elim, refl, sym, ap, ◌∙◌, subst, append_assoc, arith}
-use Rattle.std.specs.Prelude.{All, Contains}
+use Rattle.std.proofs.Common.{◌≡◌, ℕ, ◌+◌, ◌<◌, ◌^◌, ◌/◌, ◌%◌, true, List, [], ◌∷◌, ◌++◌, length, map, ◌⊎◌, inl, inr, refl, sym, ap, ◌∙◌, subst, append_assoc, arith}
+use Rattle.std.specs.Prelude.{All}
 use Rattle.std.specs.List.{flat_map, AllByRecursion}
 use Rattle.std.proofs.lemmas.List.{get_or_append_left, get_or-append-add, length-append}
 use Rattle.std.proofs.lemmas.List.Elements.{recursion_from_All}
-use Rattle.tsdb_base.specs.declared.point.Point.{Point}
 use Rattle.tsdb_base.specs.declared.value.DataType.{DataType}
 use Rattle.tsdb_base.specs.declared.value.Encoding.{Encoding}
 use Rattle.tsdb_base.specs.Fields.{number32, number64, type_field, encoding_field}
@@ -13,7 +12,6 @@ use Rattle.tsdb_base.specs.Plain.{plain_text, IsText}
 use Rattle.tsdb_base.specs.PlainLaws.{plain_text-prefix_free, same_front}
 use Rattle.tsdb_base.specs.Values.{is_suitable}
 use Rattle.tsdb_path.specs.Nodes.{IsName, IsPath}
-use Rattle.enc_ts2diff.specs.Spelling as ts2diff
 use Rattle.enc_ts2diff.proofs.Parts as times_laws
 use Rattle.enc_values.specs.Spelling.{spelling}
 use Rattle.enc_values.proofs.SuitablePairs.{laws_of}

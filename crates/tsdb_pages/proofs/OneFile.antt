@@ -8,7 +8,6 @@ use Rattle.tsdb_base.specs.declared.point.Stats.{Stats}
 use Rattle.tsdb_base.specs.declared.value.DataType.{DataType}
 use Rattle.tsdb_base.specs.declared.value.Encoding.{Encoding}
 use Rattle.tsdb_base.specs.declared.value.Value.{Value}
-use Rattle.tsdb_base.specs.declared.value.Value.TheVariants.{I64}
 use Rattle.tsdb_base.specs.Fields.{number64}
 use Rattle.tsdb_index.specs.declared.index.IndexEntry.{IndexEntry}
 use Rattle.tsdb_index.specs.declared.index.PageEntry.{PageEntry}

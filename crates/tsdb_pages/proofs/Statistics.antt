@@ -1,5 +1,5 @@
 -- The statistics of points of one type are statistics of that type.
-use Rattle.std.proofs.Common.{◌≡◌, ℕ, ◌-◌, ◌<◌, ◌^◌, Bool, true, false, List, [], ◌∷◌, length, get_or, Option, None, Some, cond, refl, sym, ap, ◌∙◌, subst, arith}
+use Rattle.std.proofs.Common.{◌≡◌, ◌-◌, ◌<◌, ◌^◌, Bool, true, false, List, [], ◌∷◌, length, get_or, Option, Some, cond, refl, sym, ap, ◌∙◌, subst, arith}
 use Rattle.std.specs.Prelude.{All, FitsSigned, option_map, slice_get}
 use Rattle.std.specs.Int.{w64}
 use Rattle.std.specs.List.{cons_option, fold, reduce, AllByRecursion}

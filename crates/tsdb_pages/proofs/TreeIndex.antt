@@ -1,5 +1,5 @@
 -- The entries of a tree are those of an index.
-use Rattle.std.proofs.Common.{◌≡◌, ℕ, zero, suc, ◌+◌, ◌*◌, ◌<◌, ◌≤◌, ◌^◌, true, List, [], ◌∷◌, ◌++◌, length, map, get_or, inl, inr, ⊎_elim, refl, sym, ap, ◌∙◌, subst, length-append, arith}
+use Rattle.std.proofs.Common.{◌≡◌, ℕ, zero, suc, ◌+◌, ◌*◌, ◌<◌, ◌≤◌, ◌^◌, List, [], ◌∷◌, ◌++◌, length, map, get_or, inl, inr, ⊎_elim, refl, sym, ap, ◌∙◌, subst, length-append, arith}
 use Rattle.std.specs.Prelude.{All, AllPairs, Contains}
 use Rattle.std.specs.List.{flat_map, AllAdjacentBelow, AllByRecursion}
 use Rattle.std.specs.Cmp.Lexicographic.{slice_cmp}
@@ -8,7 +8,6 @@ use Rattle.std.specs.Ordering.{nat_cmp}
 use Rattle.std.proofs.lemmas.List.{get_or-map, length-map, map-append}
 use Rattle.std.proofs.lemmas.List.Elements.{All-append, All-from_recursion, Contains-append_cases, Contains-append_right, recursion_from_All}
 use Rattle.tsdb_base.specs.declared.point.Point.{Point}
-use Rattle.tsdb_base.specs.declared.point.Stats.{Stats}
 use Rattle.tsdb_base.specs.declared.value.DataType.{DataType}
 use Rattle.tsdb_base.specs.declared.value.Encoding.{Encoding}
 use Rattle.tsdb_base.specs.Values.{is_suitable, type_of}
@@ -16,7 +15,6 @@ use Rattle.tsdb_path.specs.Nodes.{IsName, IsPath}
 use Rattle.tsdb_fields.specs.Statistics.{IsStatsOf}
 use Rattle.tsdb_index.specs.declared.index.IndexEntry.{IndexEntry}
 use Rattle.tsdb_index.specs.declared.index.PageEntry.{PageEntry}
-use Rattle.tsdb_index.specs.Content as index
 use Rattle.tsdb_index.specs.Entries.{AreInOrder, IsBefore, IsIndex, IsPageOf, names_of}
 use Rattle.tsdb_index.specs.Entries as entries
 use Rattle.tsdb_index.specs.Faults.{IsRead}
@@ -26,12 +24,11 @@ use Rattle.tsdb_pages.specs.declared.tree.Page.{Page}
 use Rattle.tsdb_pages.specs.declared.tree.Chunk.{Chunk}
 use Rattle.tsdb_pages.specs.declared.tree.Group.{Group}
 use Rattle.tsdb_pages.specs.declared.tree.Tree.{Tree}
-use Rattle.tsdb_pages.specs.Limits.{max_chunks}
 use Rattle.tsdb_pages.specs.Pages.{ArePoints, IsInRange}
-use Rattle.tsdb_pages.specs.Trees.{HasParts, IsChunk, IsGroup, IsMade, IsTree, chunks_of, points_of}
+use Rattle.tsdb_pages.specs.Trees.{IsGroup, IsMade, IsTree, chunks_of, points_of}
 use Rattle.tsdb_pages.specs.File.{AreEntries, AreEntriesIn, AreEntriesOf, ArePageEntries, IsEntry, IsFile, chunk_field, chunk_head, data_field, group_field, group_head, head, page_field}
 use Rattle.tsdb_pages.proofs.Files.{groups_of_tree, IsWholeChunk, IsWholeGroup, of_each_page}
-use Rattle.tsdb_pages.proofs.OneFile.{all_of, entries_like, same_entries}
+use Rattle.tsdb_pages.proofs.OneFile.{all_of, entries_like}
 use Rattle.tsdb_pages.proofs.Order.{pairs_append}
 use Rattle.tsdb_pages.proofs.Places.{pages_counted}
 use Rattle.tsdb_pages.proofs.Statistics.{stats_of_type}
@@ -149,14 +146,14 @@ all_names place (g ∷ gs) (l ∷ ls) say =
     ∙ ap (λ (ns : List (List ℕ × List ℕ)). ns ++ map names_of (all_of ls)) (chunk_names g.device (place + length (group_head g)) g.chunks.items l say.0)
     ∙ ap (λ (ns : List (List ℕ × List ℕ)). map (λ (c : Chunk). (g.device, c.measurement)) g.chunks.items ++ ns) (all_names (place + length (group_field g)) gs ls say.1)
 
-counted : (groups : List Group) → length (names_in groups) ≡ length (chunks_of groups)
+one_name_a_chunk : (groups : List Group) → length (names_in groups) ≡ length (chunks_of groups)
 unfolding names_in
-counted [] = refl
-counted (g ∷ gs) =
+one_name_a_chunk [] = refl
+one_name_a_chunk (g ∷ gs) =
     let named = length-append (map (λ (c : Chunk). (g.device, c.measurement)) g.chunks.items) (names_in gs) in
     let chunks = length-append g.chunks.items (chunks_of gs) in
     let each = length-map {B = List ℕ × List ℕ} g.chunks.items (λ (c : Chunk). (g.device, c.measurement)) in
-    let rest = counted gs in
+    let rest = one_name_a_chunk gs in
     omega (arith, named, chunks, each, rest)
 
 pairs_of_map : {A B : Type 0} (R : B → B → Type 0) (f : A → B) (xs : List A) → AllPairs (λ a b. R (f a) (f b)) xs → AllPairs R (map f xs)
@@ -226,7 +223,7 @@ entries_are_index tree es is made say small =
     let each = recursion_from_All IsGroup groups is.groups in
     let names = all_names (length head) groups say.by_group say.say in
     let named : map names_of es ≡ names_in tree.groups.items = ap (map names_of) (sym say.all) ∙ names in
-    let number : length es ≡ length (chunks_of tree.groups.items) = sym (length-map es names_of) ∙ ap length named ∙ counted groups in
+    let number : length es ≡ length (chunks_of tree.groups.items) = sym (length-map es names_of) ∙ ap length named ∙ one_name_a_chunk groups in
     let size = length-append head (flat_map group_field groups) in
     let some = some_chunks groups is.some each in
     let few = is.few in

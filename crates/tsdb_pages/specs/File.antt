@@ -1,7 +1,6 @@
 -- The bytes of the file of a tree.
 use Rattle.std.specs.Prelude.{◌≡◌, ℕ, ◌+◌, List, [], ◌∷◌, ◌++◌, length, codes}
 use Rattle.std.specs.List.{flat_map}
-use Rattle.tsdb_base.specs.declared.point.Point.{Point}
 use Rattle.tsdb_base.specs.declared.value.Encoding.{Encoding}
 use Rattle.tsdb_base.specs.Fields.{number32, number64, type_field, encoding_field}
 use Rattle.tsdb_base.specs.Plain.{plain_text}

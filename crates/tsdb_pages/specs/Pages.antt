@@ -38,4 +38,5 @@ times_field points = ts2diff.spelling (times_of points)
 
 -- the body of a page: the length of the times, the times, and the values in the chunk's encoding
 abbrev pub body : Encoding → List Point → List ℕ
-body encoding points = number32 (length (times_field points)) ++ times_field points ++ spelling encoding (values_of points)
+body encoding points =
+    number32 (length (times_field points)) ++ times_field points ++ spelling encoding (values_of points)

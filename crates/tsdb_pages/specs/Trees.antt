@@ -61,7 +61,8 @@ pub record IsMade (tree : Tree) : Type 0 where
 
 -- what a chunk holds: its measurement, type and encoding, and the points of each page
 abbrev pub chunk_content : Chunk → List ℕ × DataType × Encoding × List (List Point)
-chunk_content chunk = (chunk.measurement, chunk.data_type, chunk.encoding, map (λ page. page.points.items) chunk.pages.items)
+chunk_content chunk =
+    (chunk.measurement, chunk.data_type, chunk.encoding, map (λ page. page.points.items) chunk.pages.items)
 
 -- what a group holds: its device and its chunks
 abbrev pub group_content : Group → List ℕ × List (List ℕ × DataType × Encoding × List (List Point))

@@ -1,5 +1,6 @@
 //! The body of a page: the length of its times, its times, and its values. Depends on `rising` and `fault`.
-ghost use Rattle.std.specs.Prelude.{◌≡◌, ℕ, ◌<◌, ◌≤◌, ◌^◌, List, ◌++◌, All, FitsSigned, length, drop, true, vec_len, IfOk, IsErrOf};
+ghost use Rattle.std.specs.Prelude.{◌≡◌, ℕ, ◌<◌, ◌≤◌, ◌^◌, List, ◌++◌, All, FitsSigned, length, drop, true};
+ghost use Rattle.std.specs.Prelude.{IfOk, IsErrOf};
 ghost use Rattle.std.specs.Int.{w64};
 ghost use Rattle.tsdb_base.specs.Fields.{number32};
 ghost use Rattle.tsdb_base.specs.Values.{is_suitable};

@@ -41,7 +41,7 @@ rooted_some (x ∷ nodes) h = omega arith
 
 -- the list of nodes of a path is its parts, and so there is one list alone
 pub parts_of_path : (nodes : List (List ℕ)) (bytes : List ℕ) → IsPathOf nodes bytes → parts bytes ≡ nodes
-parts_of_path nodes bytes path = subst (λ l. parts l ≡ nodes) path.joined (parts-join nodes (rooted_some nodes path.rooted) path.good)
+parts_of_path nodes bytes path = subst (λ l. parts l ≡ nodes) path.bytes_are (parts-join nodes (rooted_some nodes path.rooted) path.good)
 
 -- a path, by its parts
 pub record HasGoodParts (bytes : List ℕ) : Type 0 where
@@ -67,7 +67,7 @@ path_from_parts bytes h = (
     rooted = h.rooted;
     good = h.good;
     few = h.few;
-    joined = join_with_byte-slice_split dot bytes;
+    bytes_are = join_with_byte-slice_split dot bytes;
     short = h.short;
   },
 )
@@ -131,7 +131,7 @@ IsPath-device_of bytes path two =
         rooted = rooted-take ps (length ps - 1) (omega (arith, two)) h.rooted;
         good = All-take IsNode (length ps - 1) ps h.good;
         few = omega (arith, length-take-le (length ps - 1) ps (omega arith), h.few);
-        joined = refl;
+        bytes_are = refl;
         short = omega (arith, ap length e, length-append (device_of bytes) (dot ∷ measurement_of bytes), h.short);
       },
     )
@@ -181,7 +181,7 @@ joined_bytes (x ∷ y ∷ nodes) good =
 
 -- a path has bytes of nodes and dots alone
 pub IsPath-bytes : (bytes : List ℕ) → IsPath bytes → All (λ b. IsTrue (is_path_byte b)) bytes
-IsPath-bytes bytes path = subst (All IsPathByte) path.1.joined (joined_bytes path.0 path.1.good)
+IsPath-bytes bytes path = subst (All IsPathByte) path.1.bytes_are (joined_bytes path.0 path.1.good)
 
 -- each part takes its bytes and a dot, but the last takes none
 length-join : (nodes : List (List ℕ)) → 0 < length nodes → sum_by (λ part. length part + 1) nodes ≡ length (join_with_byte dot nodes) + 1

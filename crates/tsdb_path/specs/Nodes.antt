@@ -37,7 +37,7 @@ pub record IsPathOf (nodes : List (List ℕ)) (bytes : List ℕ) : Type 0 where
   pub rooted : IsRooted nodes
   pub good : All IsNode nodes
   pub few : length nodes ≤ 16
-  pub joined : join_with_byte dot nodes ≡ bytes
+  pub bytes_are : join_with_byte dot nodes ≡ bytes
   pub short : length bytes ≤ 255
 
 -- some list of nodes makes these bytes

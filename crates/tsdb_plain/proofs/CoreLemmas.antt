@@ -32,7 +32,8 @@ use Rattle.tsdb_plain.specs.Core.{disk_of, state_of, IsInDoubt, IsStored}
 use Rattle.tsdb_plain.specs.Applying.{IsApplied}
 use Rattle.tsdb_plain.specs.Images.{IsSound, StandsFor, StandsForOneOf}
 use Rattle.tsdb_plain.specs.Replies.{IsPlainReply}
-use Rattle.tsdb_plain.specs.Steps.{IsAcceptedAs, IsAcceptedChange, IsAppend}
+use Rattle.tsdb_plain.specs.Steps.{IsAcceptedAs, IsAcceptedChange}
+use Rattle.tsdb_frames.specs.Appends.{IsAppend}
 use Rattle.tsdb_plain.specs.Store.{IsRecordOf, Redoes, Replays, Store, new_store, store_after}
 use Rattle.tsdb_plain.specs.declared.plain_core.PlainCore.{PlainCore}
 use Rattle.tsdb_plain.proofs.ReplayLemmas.{replays_more, stands_once}

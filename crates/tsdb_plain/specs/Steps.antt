@@ -1,5 +1,5 @@
 -- What the private calls of a store cite.
-use Rattle.std.specs.Prelude.{◌≡◌, ◌⊎◌, ℕ, ◌<◌, List, [], ◌∷◌, ◌++◌, Option, None, Some, Result, OnOk, OnErr, nat_eq, if◌then◌else◌}
+use Rattle.std.specs.Prelude.{◌≡◌, ℕ, ◌<◌, List, [], ◌∷◌, ◌++◌, Option, None, Some, nat_eq, if◌then◌else◌}
 use Rattle.std.specs.Cmp.Lexicographic.{pointwise}
 use Rattle.tsdb_base.specs.declared.value.DataType.{DataType}
 use Rattle.tsdb_map.specs.declared.command.Command.TheVariants as command
@@ -8,15 +8,6 @@ use Rattle.tsdb_map.specs.Apply.{reply_of}
 use Rattle.tsdb_map.specs.Commands.{IsWellFormed}
 use Rattle.tsdb_map.specs.History.{IsChange}
 use Rattle.tsdb_map.specs.Limits.{max_number}
-use Rattle.tsdb_outside.specs.Causes.{HasCause}
-use Rattle.tsdb_outside.specs.Disk.{in_slot}
-use Rattle.tsdb_outside.specs.declared.disk.Disk as disk
-use Rattle.tsdb_outside.specs.declared.faults.Counted as counted
-use Rattle.tsdb_outside.specs.declared.faults.Failed.{Failed}
-use Rattle.tsdb_frames.specs.Frames.{disk_of, faults_of, slot_of, IsLog}
-use Rattle.tsdb_frames.specs.Log.{HasRecordsOrOneMore}
-use Rattle.tsdb_frames.specs.Moments.{LeavesFirstThen}
-use Rattle.tsdb_frames.specs.declared.frames.Frames.{Frames}
 use Rattle.tsdb_map.specs.declared.command.Command.{Command}
 use Rattle.tsdb_map.specs.declared.reply.Reply.TheVariants.{Plain}
 use Rattle.tsdb_log.specs.Spelling.{FitsFrame, HasFewParts}
@@ -52,17 +43,3 @@ pub record IsAcceptedChange (store : Store) (command : Command) : Type 0 where
   pub change : IsChange command
   pub accepted : reply_of store.state.world command ≡ Plain Done
   pub rises : store.state.stamp < max_number
-
-module _ {J : Type 0} {means : disk.Ghosts J} {counts : counted.Ghosts J} where
-  -- What an append of a record leaves of a log: the log with the record, or the log with a record in doubt.
-  pub record IsAppend (old new : Frames J means counts) (payload : List ℕ) (outcome : Result (Unit {0}) Failed) : Type 0 where
-    pub added : OnOk outcome ((acknowledged : List (List ℕ)) (in_doubt : Option (List ℕ)) → IsLog old acknowledged in_doubt
-        → IsLog new (acknowledged ++ payload ∷ []) None)
-    pub failed : OnErr outcome ((acknowledged : List (List ℕ)) (in_doubt : Option (List ℕ)) → IsLog old acknowledged in_doubt
-        → IsLog new acknowledged None ⊎ (IsLog new acknowledged in_doubt ⊎ IsLog new acknowledged (Some payload)))
-    pub moments : (acknowledged : List (List ℕ)) (in_doubt : Option (List ℕ)) → IsLog old acknowledged in_doubt
-        → LeavesFirstThen (disk_of old) (disk_of new)
-        (λ image. HasRecordsOrOneMore acknowledged in_doubt (in_slot (slot_of old) image))
-        (λ image. HasRecordsOrOneMore acknowledged (Some payload) (in_slot (slot_of old) image))
-    pub slot : slot_of new ≡ slot_of old
-    pub cause : HasCause (faults_of old) (faults_of new) outcome

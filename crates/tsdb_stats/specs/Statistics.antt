@@ -1,6 +1,7 @@
 -- What the statistics of points say: each is an aggregate of the plain model.
 use Rattle.std.specs.Prelude.{◌≡◌, List, Some, length}
-use Rattle.tsdb_base.specs.declared.answers.Aggregate.TheVariants.{FirstValue, LastValue, MinValue, MaxValue, MinTime, MaxTime}
+use Rattle.tsdb_base.specs.declared.answers.Aggregate.TheVariants.{FirstValue, LastValue, MinValue, MaxValue}
+use Rattle.tsdb_base.specs.declared.answers.Aggregate.TheVariants.{MinTime, MaxTime}
 use Rattle.tsdb_base.specs.declared.point.Point.{Point}
 use Rattle.tsdb_base.specs.declared.point.Stats.{Stats}
 use Rattle.tsdb_base.specs.declared.value.Value.TheVariants.{I64}

@@ -1,5 +1,6 @@
 //! The statistics of points. Depends on `extreme`.
-ghost use Rattle.std.specs.Prelude.{◌≡◌, ◌≢◌, ◌+◌, ◌<◌, ◌^◌, List, ◌++◌, All, IfOk, IsOk, length, option_and_then, option_map};
+ghost use Rattle.std.specs.Prelude.{◌≡◌, ◌≢◌, ◌+◌, ◌<◌, ◌^◌, List, ◌++◌, All, IfOk, IsOk, length};
+ghost use Rattle.std.specs.Prelude.{option_and_then, option_map};
 ghost use Rattle.tsdb_base.specs.declared.point.Point.{Point};
 ghost use Rattle.tsdb_base.specs.Values.{type_of};
 ghost use Rattle.tsdb_stats.specs.Statistics.{AreStatsOf};

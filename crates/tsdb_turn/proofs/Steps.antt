@@ -219,15 +219,15 @@ module _ {T : Type 0} (fits : ℕ → T → T → T → Type 0) (numbered : T �
             subst (λ (x : ℕ). Reads fits x (view (Waiting t) (k ∷ []), []) (slice_index s.words 1) (g.0, carried_after [] g.1)) same_ticket g.4,
       ))
 
-  counted : (m n : ℕ) → m ≡ n → cond {A = ℕ} (m == n) 1 0 ≡ 1
-  counted m n e = ap (λ b. cond {A = ℕ} b 1 0) (eq-eqb m n e)
+  counts_one : (m n : ℕ) → m ≡ n → cond {A = ℕ} (m == n) 1 0 ≡ 1
+  counts_one m n e = ap (λ b. cond {A = ℕ} b 1 0) (eq-eqb m n e)
 
   -- a number that does not stand in the list is nobody's there
   spread : (n : ℕ) (y left : T) (ks : List (Known T)) → times n ks ≡ 0 → ((m : ℕ) (l : T) → m ≢ n → fits m start l y → fits m start l left)
       → AllByRecursion (Knows fits numbered seats start y) ks → AllByRecursion (Knows fits numbered seats start left) ks
   spread n y left [] nowhere keeps_fit all = tt
   spread n y left (k ∷ ks) nowhere keeps_fit all =
-      let apart : k.number ≢ n = λ e. let one = counted k.number n e in absurd (omega arith) in
+      let apart : k.number ≢ n = λ e. let one = counts_one k.number n e in absurd (omega arith) in
       let h : Knows fits numbered seats start y k = all.0 in
       let fit : fits k.number start k.last left = keeps_fit k.number k.last apart (subst (λ (x : T). fits k.number x k.last y) h.opened h.follows) in (
         record { made = h.made; opened = h.opened; follows = subst (λ (x : T). fits k.number x k.last left) (sym h.opened) fit },
@@ -267,7 +267,7 @@ module _ {T : Type 0} (fits : ℕ → T → T → T → Type 0) (numbered : T �
             (λ i v ne there h.
             let two = two-le-total (times_of k.number) s.views id i old v (λ e. ne (sym e)) at there in
             let most = r.distinct k.number in
-            let here = counted k.number k.number refl in
+            let here = counts_one k.number k.number refl in
             let nowhere : times k.number v.known ≡ 0 = omega arith in
             spread k.number r.value left v.known nowhere
             (λ m l apart fit.

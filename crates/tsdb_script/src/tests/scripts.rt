@@ -137,8 +137,9 @@ fn a_session_and_a_first_word(rt: HostRuntime) {
 #[test]
 fn at_most_eight_sessions(rt: HostRuntime) {
     let alloc = rt.alloc();
-    let eight =
-        b"1 delete from root.d.s\n2 delete from root.d.s\n30 delete from root.d.s\n4 delete from root.d.s\n5 delete from root.d.s\n6 delete from root.d.s\n70 delete from root.d.s\n999 delete from root.d.s\n";
+    let eight = b"\
+1 delete from root.d.s\n2 delete from root.d.s\n30 delete from root.d.s\n4 delete from root.d.s\n\
+5 delete from root.d.s\n6 delete from root.d.s\n70 delete from root.d.s\n999 delete from root.d.s\n";
     assert_eq!(rt; read(alloc, eight), Ok(8));
     // each of the eight may go on, and a ninth is refused before its statement is read
     for (last, wanted) in [

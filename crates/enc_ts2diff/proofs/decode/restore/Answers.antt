@@ -35,9 +35,9 @@ none base first previous above i o out lt e unfit follows = λ values k.
     let p = next_value base previous o (drop (i + 1) above) f.0 (subst (λ (t : List ℕ). Continues base previous t f.0) (here above i o lt e) f.1) in
     unfit p.fits
 
-ended : (base first previous : ℤ) (above : List ℕ) (i : ℕ) (out : List ℤ) → length above ≤ i → Follows base first above out previous (drop i above)
+at_the_end : (base first previous : ℤ) (above : List ℕ) (i : ℕ) (out : List ℤ) → length above ≤ i → Follows base first above out previous (drop i above)
     → (values : List ℤ) → Continues base first above values → out ≡ first ∷ values
-ended base first previous above i out done follows = λ values k.
+at_the_end base first previous above i out done follows = λ values k.
     let f = follows values k in
     let z = no_value base previous f.0 (subst (λ (t : List ℕ). Continues base previous t f.0) (drop_all i above done) f.1) in
     sym (f.2 ∙ ap (λ (t : List ℤ). out ++ t) z ∙ append-nil out)
@@ -82,7 +82,7 @@ returns-clause-finds c =
     let l = c.loop-offset in
     let base = to_z w64 (of_z w64 c.args.base) in
     let first = to_z w64 (of_z w64 c.args.first) in
-    λ values k. ended base first (to_z w64 l.previous-bits) c.args.above.now l.offset-index l.values.items (omega arith) l.invariant.follows values
+    λ values k. at_the_end base first (to_z w64 l.previous-bits) c.args.above.now l.offset-index l.values.items (omega arith) l.invariant.follows values
     (passed c.args.base c.args.first base first c.args.above.now values (as_passed c.args.base c.ranges.base) (as_passed c.args.first c.ranges.first) k)
     ∙ ap (λ (t : ℤ). t ∷ values) (as_passed c.args.first c.ranges.first)
 

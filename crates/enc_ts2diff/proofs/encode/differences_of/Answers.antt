@@ -24,13 +24,13 @@ loop-value-preserved c =
     let same : v ≡ to_z w64 (of_z w64 v) = sym (to_z-of_z w64 v f) in
     moved c.loop-value.steps.items c.push.new.self.items (to_z w64 c.loop-value.previous-bits) (to_z w64 (of_z w64 v)) _ c.loop-value.value-index c.args.values.now _ (omega arith) same (search (rules, wraps)) c.in_ok-push.ensures.items c.loop-value.invariant
 
-ended : (out : List ℤ) (p first : ℤ) (i : ℕ) (values : List ℤ) → length values ≤ i → out ++ differences p (drop i values) ≡ differences first values → out ≡ differences first values
+at_the_end : (out : List ℤ) (p first : ℤ) (i : ℕ) (values : List ℤ) → length values ≤ i → out ++ differences p (drop i values) ≡ differences first values → out ≡ differences first values
 unfolding differences
-ended out p first i values done so_far =
+at_the_end out p first i values done so_far =
     sym (append-nil out) ∙ ap (λ (t : List ℤ). out ++ differences p t) (sym (drop_all i values done)) ∙ so_far
 
 pub returns : goal.returns
 returns c =
     let first = c.args.first in
     let same : to_z w64 (of_z w64 first) ≡ first = to_z-of_z w64 first c.ranges.first in
-    ended c.loop-value.steps.items (to_z w64 c.loop-value.previous-bits) first c.loop-value.value-index c.args.values.now (omega arith) (c.loop-value.invariant ∙ ap (λ (t : ℤ). differences t c.args.values.now) same)
+    at_the_end c.loop-value.steps.items (to_z w64 c.loop-value.previous-bits) first c.loop-value.value-index c.args.values.now (omega arith) (c.loop-value.invariant ∙ ap (λ (t : ℤ). differences t c.args.values.now) same)

@@ -1,7 +1,7 @@
 use Rattle.std.proofs.Common.{◌≡◌, ◌+◌, ◌-◌, ◌*◌, ◌%◌, ◌^◌, ◌<◌, ◌++◌, ℕ, drop, rules, arith, ap, sym, subst, ◌∙◌, inl, inr}
 use Rattle.std.proofs.lemmas.Nat.{shl_whole}
 use Rattle.tsdb_bits.specs.Leb.{leb}
-use Rattle.tsdb_bits.proofs.Reading.{Groups, more_groups, ends_with, ended, none_here, tenth_high}
+use Rattle.tsdb_bits.proofs.Reading.{Groups, more_groups, ends_with, value_of_groups, none_here, tenth_high}
 use Rattle.tsdb_bits.proofs.leb.leb_in.Goals as goal
 
 -- a shift at 64 bits that loses no bit
@@ -13,7 +13,7 @@ returns-in_default-clause-none c = λ v x _ e. none_here c.args.bytes.now c.loop
 
 pub returns-then-i-gt0-clause-none : goal.returns-then-i-gt0-clause-none
 returns-then-i-gt0-clause-none c = λ v x _ e.
-    let k = ended c.args.bytes.now c.loop-i.i c.loop-i.low c.in-Some.byte v x c.loop-i.invariant (search rules) (search rules) (omega arith) e in
+    let k = value_of_groups c.args.bytes.now c.loop-i.i c.loop-i.low c.in-Some.byte v x c.loop-i.invariant (search rules) (search rules) (omega arith) e in
     absurd (omega (arith, k.1))
 
 pub returns-then-byte-lt128-clause-read : goal.returns-then-byte-lt128-clause-read

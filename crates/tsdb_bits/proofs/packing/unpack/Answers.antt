@@ -49,21 +49,21 @@ some_byte bits bytes has =
 
 unfilled : (w count filling : ℕ) (bytes values : List ℕ) → filling ≡ 0 → length values ≡ count → All (λ v. v < 2 ^ w) values
     → number_of_bytes (take (bytes_for (count * w)) bytes) ≡ from_digits w values + 2 ^ (count * w) * filling → HasFillingBit (count * w) bytes → ⊥
-unfilled w count filling bytes values z counted below e has =
-    let lt : from_digits w values < 2 ^ (count * w) = rw (← counted) (from_digits-lt w values below) in
+unfilled w count filling bytes values z number_is below e has =
+    let lt : from_digits w values < 2 ^ (count * w) = rw (← number_is) (from_digits-lt w values below) in
     let n : number_of_bytes (take (bytes_for (count * w)) bytes) ≡ from_digits w values = e ∙ rw z (omega arith) in
     absurd (omega (arith, n))
 
 packs : (w count filling : ℕ) (bytes values : List ℕ) → filling ≡ 0 → length bytes ≡ bytes_for (count * w) → All (λ b. b < 256) bytes → length values ≡ count → All (λ v. v < 2 ^ w) values
     → number_of_bytes (take (bytes_for (count * w)) bytes) ≡ from_digits w values + 2 ^ (count * w) * filling → IsPacking w count bytes values
 unfolding pack_bytes
-packs w count filling bytes values z size are_bytes counted below e =
+packs w count filling bytes values z size are_bytes number_is below e =
     let all : take (bytes_for (count * w)) bytes ≡ bytes = take_all (bytes_for (count * w)) bytes (omega (arith, size)) in
     let n : number_of_bytes bytes ≡ from_digits w values = sym (ap number_of_bytes all) ∙ e ∙ rw z (omega arith) in
     record {
-      size = counted;
+      size = number_is;
       below = below;
-      bytes-are = sym (ap (λ (t : ℕ). low_bytes (bytes_for (t * w)) (from_digits w values)) counted
+      bytes-are = sym (ap (λ (t : ℕ). low_bytes (bytes_for (t * w)) (from_digits w values)) number_is
           ∙ ap (λ (t : ℕ). low_bytes t (from_digits w values)) (sym size)
           ∙ ap (λ (t : ℕ). low_bytes (length bytes) t) (sym n)
           ∙ low_bytes-number bytes are_bytes);

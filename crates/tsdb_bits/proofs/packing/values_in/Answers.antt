@@ -20,7 +20,7 @@ pub loop-init : goal.loop-init
 loop-init c =
     let none : c.in_ok-values.values.items ≡ [] = search rules in
     record {
-      counted = ap length none;
+      number_is = ap length none;
       below = rw none (All-nil (λ (x : ℕ). x < 2 ^ c.args.width));
       filled_less = omega arith;
       word_fits = omega arith;
@@ -64,7 +64,7 @@ same_state w counter filled filled' word word' rest rest' stream len values p q 
 
 -- the value is taken
 record IsTaken (w counter filled word : ℕ) (rest : List ℕ) (stream len : ℕ) (values : List ℕ) : Type 0 where
-  counted : length values ≡ counter + 1
+  number_is : length values ≡ counter + 1
   below : All (λ value. value < 2 ^ w) values
   fits : word < 2 ^ filled
   whole : stream ≡ from_digits w values + 2 ^ ((counter + 1) * w) * (word + 2 ^ filled * number_of_bytes rest)
@@ -73,14 +73,14 @@ record IsTaken (w counter filled word : ℕ) (rest : List ℕ) (stream len : ℕ
 takes_value : (w counter filled word value : ℕ) (rest : List ℕ) (stream len : ℕ) (values now : List ℕ) → IsReady w counter filled word rest stream len values
     → length values ≡ counter → All (λ x. x < 2 ^ w) values → value ≡ word % 2 ^ w → now ≡ values ++ value ∷ []
     → IsTaken w counter (filled - w) (word / 2 ^ w) rest stream len now
-takes_value w counter filled word value rest stream len values now k counted below v n =
+takes_value w counter filled word value rest stream len values now k number_is below v n =
     let e : now ≡ values ++ word % 2 ^ w ∷ [] = n ∙ ap (λ (t : ℕ). values ++ t ∷ []) v in
     let f : filled - w + w ≡ filled = omega (arith, k.enough) in
     record {
-      counted = rw (e, length_push values (word % 2 ^ w)) (omega arith);
+      number_is = rw (e, length_push values (word % 2 ^ w)) (omega arith);
       below = rw e (All-push (λ (x : ℕ). x < 2 ^ w) values (word % 2 ^ w) below (mod_below word (2 ^ w) (pow_pos w)));
       fits = shr_below word (filled - w) w (rw f k.fits);
-      whole = rw e (value_moves w counter filled word (number_of_bytes rest) stream values counted k.enough k.whole);
+      whole = rw e (value_moves w counter filled word (number_of_bytes rest) stream values number_is k.enough k.whole);
       left = elim k.left [ inl z ↦ inl z | inr s ↦ inr (omega (arith, k.enough)) ];
     }
 
@@ -100,9 +100,9 @@ loop-preserved c =
           same_state w l.counter l.filled j.filled l.word j.word l.rest.now j.rest.now (number_of_bytes bytes) (length bytes) l.values.items b.filled-is b.word-is (ap (λ (x : _). x.now) b.rest-is)
           (record { enough = omega arith; less = omega arith; fits = l.invariant.word_fits; whole = l.invariant.stream; left = l.invariant.left })
     ] in
-    let k = takes_value w l.counter j.filled j.word c.low_bits.result j.rest.now (number_of_bytes bytes) (length bytes) l.values.items c.push.new.self.items ready l.invariant.counted l.invariant.below c.low_bits.ensures c.in_ok-push.ensures.items in
+    let k = takes_value w l.counter j.filled j.word c.low_bits.result j.rest.now (number_of_bytes bytes) (length bytes) l.values.items c.push.new.self.items ready l.invariant.number_is l.invariant.below c.low_bits.ensures c.in_ok-push.ensures.items in
     record {
-      counted = k.counted;
+      number_is = k.number_is;
       below = k.below;
       filled_less = omega (arith, ready.less);
       word_fits = rw same k.fits;

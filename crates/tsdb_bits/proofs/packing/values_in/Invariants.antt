@@ -4,7 +4,7 @@ use Rattle.tsdb_bits.proofs.packing.values_in.Given as goal
 
 abbrev pub invariant-loop : goal.invariant-loop
 invariant-loop l = record {
-  counted : length l.values.items ≡ l.counter;
+  number_is : length l.values.items ≡ l.counter;
   below : All (λ value. value < 2 ^ l.width) l.values.items;
   filled_less : l.filled < 64;
   word_fits : l.word < 2 ^ l.filled;

@@ -11,7 +11,7 @@ use Rattle.tsdb_index.specs.Steps.{IsCounted}
 use Rattle.tsdb_index.specs.Entries.{IsEntry}
 use Rattle.tsdb_index.specs.Spelling.{entry_field}
 use Rattle.tsdb_index.proofs.Entries.{entries_separable}
-use Rattle.tsdb_index.proofs.Fields.{counted, more_behind, no_count, no_items, no_mark, whole_fault}
+use Rattle.tsdb_index.proofs.Fields.{is_counted, more_behind, no_count, no_items, no_mark, whole_fault}
 use Rattle.tsdb_index.proofs.reading.entries_in.Goals as goal
 
 pub returns-in_default : goal.returns-in_default
@@ -46,4 +46,4 @@ returns c =
     let fields = c.in-Some.rest.bytes in
     let n = c.in_ok-count in
     let v = c.in_ok-entries in
-    counted 73 number16 (2 ^ 16) entry_field IsEntry c.args.bytes.now fields.now n.rest.bytes.now v.rest.bytes.now n.count v.entries.items c.in-Some.ensures n.ensures.exact.0.bytes n.ensures.exact.1 v.ensures.parts.0.bytes v.ensures.parts.1 (nil_from_length v.rest.bytes.now (search rules))
+    is_counted 73 number16 (2 ^ 16) entry_field IsEntry c.args.bytes.now fields.now n.rest.bytes.now v.rest.bytes.now n.count v.entries.items c.in-Some.ensures n.ensures.exact.0.bytes n.ensures.exact.1 v.ensures.parts.0.bytes v.ensures.parts.1 (nil_from_length v.rest.bytes.now (search rules))

@@ -10,7 +10,7 @@ use Rattle.tsdb_index.specs.declared.pointer.Pointer.{Pointer}
 use Rattle.tsdb_index.specs.Steps.{IsCounted}
 use Rattle.tsdb_index.specs.Parts.{IsPointer, pointer_bytes}
 use Rattle.tsdb_index.proofs.Entries.{pointer-prefix_free}
-use Rattle.tsdb_index.proofs.Fields.{counted, more_behind, no_count, no_items, no_mark, separable, whole_fault}
+use Rattle.tsdb_index.proofs.Fields.{is_counted, more_behind, no_count, no_items, no_mark, separable, whole_fault}
 use Rattle.tsdb_index.proofs.reading.pointers_in.Goals as goal
 
 pub returns-in_default : goal.returns-in_default
@@ -45,4 +45,4 @@ returns c =
     let fields = c.in-Some.rest.bytes in
     let n = c.in_ok-count in
     let v = c.in_ok-pointers in
-    counted 82 number32 (2 ^ 32) pointer_bytes IsPointer c.args.bytes.now fields.now n.rest.bytes.now v.rest.bytes.now n.count v.pointers.items c.in-Some.ensures n.ensures.exact.0.bytes n.ensures.exact.1 v.ensures.parts.0.bytes v.ensures.parts.1 (nil_from_length v.rest.bytes.now (search rules))
+    is_counted 82 number32 (2 ^ 32) pointer_bytes IsPointer c.args.bytes.now fields.now n.rest.bytes.now v.rest.bytes.now n.count v.pointers.items c.in-Some.ensures n.ensures.exact.0.bytes n.ensures.exact.1 v.ensures.parts.0.bytes v.ensures.parts.1 (nil_from_length v.rest.bytes.now (search rules))

@@ -1,6 +1,5 @@
-use Rattle.std.proofs.Common.{◌≡◌, Err, ap, length, arith, rules}
+use Rattle.std.proofs.Common.{◌≡◌, Err, ap, arith, rules}
 use Rattle.std.proofs.lemmas.Result.{err_from_is_err_and}
-use Rattle.tsdb_base.specs.declared.fault.DecodeFault.TheVariants as decode
 use Rattle.tsdb_pages.specs.declared.fault.PageFault.TheVariants as page
 use Rattle.tsdb_pages.specs.Pages.{times_field, values_of}
 use Rattle.enc_values.specs.Spelling.{spelling}

@@ -1,6 +1,5 @@
-use Rattle.std.proofs.Common.{◌≡◌, ◌+◌, ◌≤◌, length, take, drop, ap, sym, ◌∙◌, arith}
+use Rattle.std.proofs.Common.{arith}
 use Rattle.std.proofs.lemmas.Bool.{false≢true}
-use Rattle.tsdb_pages.specs.Trees.{chunks_of}
 use Rattle.tsdb_pages.proofs.Order.{chunks_through}
 use Rattle.tsdb_pages.proofs.check.have_few_chunks.Goals as goal
 

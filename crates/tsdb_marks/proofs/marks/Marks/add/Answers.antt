@@ -19,9 +19,9 @@ invariant_of-self c =
     let one : old.spare ≡ old.spare - 1 + 1 = omega arith in
     let Room : ℕ → Type 0 = λ n. HasRoom old.index n in
     record {
-      times = rw c.in-Ok.ensures.items (All-push HasTimes old.marks.items c.args.mark known.times c.lay.ensures.times);
+      times = rw c.in-Ok.ensures.items (All-push HasTimes old.marks.items c.args.mark known.times c.index_mark.ensures.times);
       rising = rw c.in-Ok.ensures.items (all_pairs_push (λ (a b : Mark). a.version.0 < b.version.0) old.marks.items c.args.mark known.rising newer);
-      exact = rw c.in-Ok.ensures.items (c.lay.ensures.exact old.marks.items known.exact newer);
+      exact = rw c.in-Ok.ensures.items (c.index_mark.ensures.exact old.marks.items known.exact newer);
       places = omega (arith, c.in-Ok.ensures.len, c.in-Ok.ensures.capacity, known.places);
-      room = c.lay.ensures.room (old.spare - 1) (subst Room one known.room);
+      room = c.index_mark.ensures.room (old.spare - 1) (subst Room one known.room);
     }

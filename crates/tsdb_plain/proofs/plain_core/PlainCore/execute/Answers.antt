@@ -1,7 +1,8 @@
 use Rattle.std.proofs.Common.{◌≡◌, ◌∙◌, ap, subst}
 use Rattle.std.specs.Prelude.{OnErr, OnOk}
 use Rattle.tsdb_frames.specs.Log.{payload_of}
-use Rattle.tsdb_plain.specs.Steps.{IsAcceptedAs, IsAppend}
+use Rattle.tsdb_plain.specs.Steps.{IsAcceptedAs}
+use Rattle.tsdb_frames.specs.Appends.{IsAppend}
 use Rattle.tsdb_plain.specs.Store.{store_after}
 use Rattle.tsdb_plain.proofs.CoreLemmas.{accepted_change, device_applied, done_applied, full_applied, replied}
 use Rattle.tsdb_plain.proofs.RowLemmas.{found_is}

@@ -6,7 +6,7 @@ use Rattle.tsdb_marks.specs.Index.{at}
 use Rattle.tsdb_marks.specs.Moments.{moment}
 use Rattle.tsdb_marks.specs.Stretches.{overlay}
 use Rattle.tsdb_marks.proofs.ModelLemmas.{exact-added, exact-empty}
-use Rattle.tsdb_marks.proofs.marks.lay.Goals as goal
+use Rattle.tsdb_marks.proofs.marks.index_mark.Goals as goal
 
 pub returns-then-to-from-clause-exact : goal.returns-then-to-from-clause-exact
 returns-then-to-from-clause-exact c = λ marks exact newer.
