@@ -146,7 +146,7 @@ record IsStretch (b : List ℕ) (ends : Ends) (root : Root) (stretch : List ℕ)
 
 stretch_of : (b part stretch : List ℕ) (ends : Ends) (root : Root) → HasEnds b ends → HasPointers b ends root → root.place < ends.root → part ≡ take (ends.root - root.place) (drop root.place b) → stretch ≡ part ++ root.bytes.items → IsStretch b ends root stretch
 stretch_of b part stretch ends root has pointers low part_is is =
-    let high = before_tail b root.bytes.items ends.root root.pointers.items pointers.bytes-are pointers.counted in
+    let high = before_tail b root.bytes.items ends.root root.pointers.items pointers.bytes-are pointers.are_pointers in
     let inside = has.tail.inside in
     let len : length part ≡ ends.root - root.place = ap length part_is ∙ length_between b root.place ends.root (omega (arith, inside)) in
     let whole : stretch ≡ between root.place (tail_place b) b = is ∙ ap (λ (l : List ℕ). l ++ root.bytes.items) part_is ∙ ap (λ (l : List ℕ). between root.place ends.root b ++ l) pointers.bytes-are ∙ between_join b root.place ends.root (tail_place b) (omega (arith, low)) (omega (arith, high)) in
@@ -162,7 +162,7 @@ stretch_of b part stretch ends root has pointers low part_is is =
 -- a root that stands there has the pointers that were read
 same_root : (b : List ℕ) (ends : Ends) (root : Root) (place : ℕ) (ps : List Pointer) → HasPointers b ends root → IsRoot place ends.root root.bytes.items ps → (ps ≡ root.pointers.items) × (place ≡ root.place)
 same_root b ends root place ps has is =
-    let same = pointers_same root.bytes.items ps root.pointers.items (root_counted place ends.root root.bytes.items ps is) has.counted in
+    let same = pointers_same root.bytes.items ps root.pointers.items (root_counted place ends.root root.bytes.items ps is) has.are_pointers in
     (same, one_begin place root.place root.pointers.items (subst (λ (qs : List Pointer). BeginAt place qs) same is.begin) has.begin)
   where
     one_begin : (p q : ℕ) (qs : List Pointer) → BeginAt p qs → BeginAt q qs → p ≡ q

@@ -1,5 +1,7 @@
 pub mod Answers
 pub mod Outline
-pub mod Steps
 pub mod Page
+pub mod Parts
 pub mod Meta
+pub mod Blame
+pub mod Steps

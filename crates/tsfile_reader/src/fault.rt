@@ -1,10 +1,11 @@
-//! Why a file could not be read. Depends on tsdb_outside, tsdb_index and tsdb_fields.
+//! Why a file could not be read. Depends on tsdb_outside, tsdb_index, tsdb_fields, tsdb_path and tsdb_base.
 ghost use Rattle.std.specs.Prelude.{◌≡◌};
 ghost use Rattle.tsfile_reader.specs.declared.fault.ReadFault.TheVariants as fault;
 
 use std::alloc::{AllocError, AllocFailed};
 use std::error::Error;
 use std::fmt;
+use tsdb_base::Memory;
 use tsdb_fields::FieldFault;
 use tsdb_index::IndexFault;
 use tsdb_outside::Failed;
@@ -64,6 +65,22 @@ impl<T: Drop> From<AllocFailed<T>> for ReadFault {
     ghost from_gives = { λ _ e. e ≡ fault.Memory };
 
     fn from(_error: AllocFailed<T>) -> ReadFault {
+        ReadFault::Memory
+    }
+}
+
+impl From<Memory> for ReadFault {
+    ghost from_gives = { λ _ e. e ≡ fault.Memory };
+
+    fn from(_error: Memory) -> ReadFault {
+        ReadFault::Memory
+    }
+}
+
+impl From<tsdb_path::Memory> for ReadFault {
+    ghost from_gives = { λ _ e. e ≡ fault.Memory };
+
+    fn from(_error: tsdb_path::Memory) -> ReadFault {
         ReadFault::Memory
     }
 }

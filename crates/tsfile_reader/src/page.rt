@@ -1,17 +1,45 @@
-//! One page. Depends on tsdb_fields and tsdb_pages.
-ghost use Rattle.std.specs.Prelude.{◌≡◌, ℕ, ◌∷◌, [], List, true, MatchOption};
+//! One part between the head and the leaves by itself: the head of a group, the head of a chunk, a page. Depends on
+//! tsdb_fields and tsdb_pages.
+ghost use Rattle.std.specs.Prelude.{◌≡◌, ℕ, ◌↔◌, ◌∷◌, [], ◌++◌, IsTrue, List, true, MatchOption};
 ghost use Rattle.tsdb_base.specs.Values.{is_suitable};
 ghost use Rattle.tsdb_fields.specs.Reading.{ReadsParts, Takes};
+ghost use Rattle.tsdb_path.specs.Nodes.{IsPath};
 ghost use Rattle.tsfile_reader.specs.Page.{AreGood, page_bytes};
-ghost use Rattle.tsfile_reader.specs.Steps.{IsBodySize, body_bytes};
+ghost use Rattle.tsfile_reader.specs.Parts.{Part, part_field};
+ghost use Rattle.tsfile_reader.specs.Steps.{BeginsWithMark, IsBodySize, IsChunkHead, body_bytes, chunk_part};
 
 use std::alloc::Global;
-use tsdb_base::{DataType, Encoding, Point};
-use tsdb_fields::{FieldFault, Rest, read_field};
+use tsdb_base::{DataType, Encoding, Point, suits};
+use tsdb_fields::{FieldFault, Rest, read_field, read_name, read_path};
 use tsdb_pages::PageFault;
+use tsdb_path::{Name, Path};
+
+/// The first byte of a group.
+const GROUP: u8 = 0x47;
+
+/// The first byte of a chunk.
+pub const CHUNK: u8 = 0x43;
 
 /// The first byte of a page.
-const PAGE: u8 = 0x50;
+pub const PAGE: u8 = 0x50;
+
+/// What stands in a chunk before its pages.
+#[derive(Drop)]
+pub struct ChunkHead {
+    pub measurement: Name,
+    pub data_type: DataType,
+    pub encoding: Encoding,
+}
+
+/// Whether the bytes that are left begin with the mark.
+pub fn begins_with(mark: u8, rest: Rest<'_>) -> bool
+    ensures { IsTrue result ↔ BeginsWithMark mark rest.entry.bytes.now }
+{
+    match rest.bytes {
+        [] => false,
+        [first, ..] => *first == mark,
+    }
+}
 
 /// What is left behind the mark, if it stands first.
 fn behind_mark(mark: u8, rest: Rest<'_>) -> Option<Rest<'_>>
@@ -28,6 +56,40 @@ fn behind_mark(mark: u8, rest: Rest<'_>) -> Option<Rest<'_>>
         at: rest.at + 1,
         bytes: fields,
     })
+}
+
+/// Reads what stands in a group before its chunks.
+pub fn read_group_head<'a>(alloc: Global, rest: Rest<'a>) -> Result<(Path, Rest<'a>), FieldFault>
+    ensures parts { ReadsParts (λ device. part_field (Part.Group device)) IsPath rest.entry (λ device. device) result }
+{
+    let Some(fields) = behind_mark(GROUP, rest) else {
+        return Err(FieldFault::Bad { at: rest.at });
+    };
+    read_path(alloc, fields)
+}
+
+/// Reads what stands in a chunk before its pages.
+pub fn read_chunk_head<'a>(
+    alloc: Global,
+    rest: Rest<'a>,
+) -> Result<(ChunkHead, Rest<'a>), FieldFault>
+    ensures parts { ReadsParts (λ head. part_field (chunk_part head)) IsChunkHead rest.entry (λ head. head) result }
+{
+    let bad = FieldFault::Bad { at: rest.at };
+    let Some(fields) = behind_mark(CHUNK, rest) else {
+        return Err(bad);
+    };
+    let (measurement, behind) = read_name(alloc, fields)?;
+    let ((data_type, encoding), behind) = read_field(alloc, behind)?;
+    if !suits(data_type, encoding) {
+        return Err(bad);
+    }
+    let head = ChunkHead {
+        measurement,
+        data_type,
+        encoding,
+    };
+    Ok((head, behind))
 }
 
 /// Reads the bytes of a body behind their number.

@@ -1,24 +1,33 @@
-//! The calls that read a file. Depends on `port`, `page` and `fault`.
-ghost use Rattle.std.specs.Prelude.{◌≡◌, ◌+◌, ◌<◌, ◌≤◌, true, length, IfOk, IfSome};
+//! The calls that read a file. Depends on `port`, `parts`, `page`, `same` and `fault`.
+ghost use Rattle.std.specs.Prelude.{◌≡◌, ◌+◌, ◌<◌, ◌≤◌, ◌∷◌, ◌++◌, List, true, length, IfOk, IfSome};
 ghost use Rattle.tsdb_base.specs.Values.{is_suitable};
 ghost use Rattle.tsdb_index.specs.declared.index.PageEntry.{PageEntry as Said};
+ghost use Rattle.tsdb_index.specs.declared.pointer.Pointer.{Pointer as Pointed};
 ghost use Rattle.tsdb_pages.specs.declared.tree.Tree.{Tree as TreeIn};
 ghost use Rattle.tsdb_pages.specs.File.{IsFile};
 ghost use Rattle.tsdb_pages.specs.Trees.{IsMade, IsTree};
 ghost use Rattle.tsfile_reader.specs.Answers.{Answers, HasReadCause, IfDamaged, IsNotDamaged};
+ghost use Rattle.tsfile_reader.specs.Blame.{AreAlike, IsBlamed, IsMetaOfTree, IsNoFile};
 ghost use Rattle.tsfile_reader.specs.Meta.{IsMetaIn, IsMetaOf};
 ghost use Rattle.tsfile_reader.specs.Outline.{IsBadOutline};
 ghost use Rattle.tsfile_reader.specs.Page.{ArePointsOf, HasNoPage, HasPage, IsEntryOf, SaysOfPage};
-ghost use Rattle.tsfile_reader.specs.Steps.{HasPageBytes, SaysSize};
+ghost use Rattle.tsfile_reader.specs.Steps.{HasPageBytes, IsFirstWrong, SaysSize};
 
+use crate::ends::Outline;
 use crate::fault::ReadFault;
+use crate::outline::HEAD_BYTES;
 use crate::page::read_page;
+use crate::parts::read_groups;
 use crate::port::{read_outline, read_part};
+use crate::same::says_same;
 use std::alloc::Global;
 use tsdb_base::{Point, suits};
 use tsdb_fields::Rest;
 use tsdb_index::{FileMeta, IndexEntry, PageEntry};
 use tsdb_outside::Port;
+
+/// How many entries a leaf has, but for the last one.
+const LEAF_ENTRIES: usize = 256;
 
 /// How many bytes a page has before its body.
 const PAGE_HEAD_BYTES: u64 = 5;
@@ -155,4 +164,69 @@ pub fn read_points<P: Port>(
     let left = size - said.place;
     let first = first_size(entry, page, left);
     read_points_at(alloc, port, right, entry, said, (first, left))
+}
+
+/// How many entries are the same in both, from the first on.
+fn count_same(entries: &[IndexEntry], said: &[IndexEntry]) -> usize
+    ensures { AreAlike entries.now said.now result }
+{
+    let most = entries.len().min(said.len());
+    for i in 0..most {
+        if !says_same(&entries[i], &said[i]) {
+            return i;
+        }
+    }
+    most
+}
+
+/// The number of the leaf that is wrong, if the entries are not what the groups say.
+fn wrong_leaf(entries: &[IndexEntry], said: &[IndexEntry]) -> Option<usize>
+    ensures { IsFirstWrong entries.now said.now result }
+{
+    let same = count_same(entries, said);
+    if same == entries.len() && same == said.len() {
+        None
+    } else {
+        Some(same.min(entries.len().saturating_sub(1)) / LEAF_ENTRIES)
+    }
+}
+
+/// Where the leaf with this number stands, as its pointer says. A root without such a pointer has the first leaf alone.
+fn leaf_place(outline: &Outline, leaf: usize) -> u64
+    ensures { (before behind : List Pointed) (pointer : Pointed)
+        → outline.now.pointers.items ≡ before ++ pointer ∷ behind → length before ≡ leaf → result ≡ pointer.place }
+{
+    match outline.pointers.get(leaf) {
+        Some(pointer) => pointer.place,
+        None => outline.place,
+    }
+}
+
+/// Reads a file whole. It is `Damaged` exactly where no tree has its bytes, at the first part that is not as defined.
+pub fn check_file<P: Port>(
+    alloc: Global,
+    port: &mut P,
+    right: &P::Right,
+) -> Result<FileMeta, ReadFault>
+    ensures answers { Answers IsMetaOfTree IsBlamed (P.Right.file right.now).bytes result }
+    ensures bad { IfDamaged result (λ at. IfSome (P.Right.file right.now).bytes IsNoFile) }
+    ensures tree { IfSome (P.Right.file right.now).bytes (λ bytes. (tree : TreeIn) → IsTree tree → IsMade tree
+        → IsFile tree bytes → IsNotDamaged result × IfOk result (IsMetaOf tree bytes)) }
+    ensures cause { HasReadCause (P.faults port.old) (P.faults port.new) result }
+{
+    let outline = read_outline(alloc, port, right)?;
+    let data = read_part(alloc, port, right, HEAD_BYTES, outline.place - HEAD_BYTES)?;
+    let rest = Rest {
+        at: HEAD_BYTES,
+        bytes: &data,
+    };
+    let said = read_groups(alloc, rest)?;
+    if let Some(leaf) = wrong_leaf(&outline.index.entries, &said) {
+        let at = leaf_place(&outline, leaf);
+        return Err(ReadFault::Damaged { at });
+    }
+    Ok(FileMeta {
+        bytes: outline.ends.size,
+        index: outline.index,
+    })
 }

@@ -1,3 +1,5 @@
+mod disk;
+
 use super::*;
 use mem_outside::{Fails, MemPlace, MemPort, SteadyPlace, SteadyPort};
 use std::alloc::Global;
@@ -46,14 +48,29 @@ fn port_failing_at(alloc: Global, number: u64) -> Result<MemPort, Fail> {
     Ok(files.port()?)
 }
 
-/// Stores these bytes through the port, reads their index, and removes them.
-fn read_bytes<P: Port>(alloc: Global, port: &mut P, bytes: &[u8]) -> Result<FileMeta, ReadFault> {
+/// How a file is read.
+#[derive(Clone, Copy)]
+enum Call {
+    Meta,
+    Check,
+}
+
+/// Stores these bytes through the port, reads them, and removes them.
+fn read_bytes<P: Port>(
+    alloc: Global,
+    port: &mut P,
+    bytes: &[u8],
+    call: Call,
+) -> Result<FileMeta, ReadFault> {
     let Ok(mut sealed) = port.put(FileNumber(1), bytes) else {
         return Err(ReadFault::Failed);
     };
     let outcome = match P::share(&mut sealed) {
         Ok(right) => {
-            let outcome = read_meta(alloc, port, &right);
+            let outcome = match call {
+                Call::Meta => read_meta(alloc, port, &right),
+                Call::Check => check_file(alloc, port, &right),
+            };
             P::give_back(&mut sealed, right);
             outcome
         }
@@ -89,9 +106,14 @@ fn read_page_in<P: Port>(
     outcome
 }
 
+/// The fault of reading these bytes.
+fn fault_of(alloc: Global, port: &mut SteadyPort, bytes: &[u8], call: Call) -> Option<ReadFault> {
+    read_bytes(alloc, port, bytes, call).err()
+}
+
 /// The index of these bytes.
 fn meta_of(alloc: Global, port: &mut SteadyPort, bytes: &[u8]) -> Result<FileMeta, Fail> {
-    match read_bytes(alloc, port, bytes) {
+    match read_bytes(alloc, port, bytes, Call::Meta) {
         Ok(meta) => Ok(meta),
         Err(_) => Err("no index".into()),
     }
@@ -101,6 +123,7 @@ fn meta_of(alloc: Global, port: &mut SteadyPort, bytes: &[u8]) -> Result<FileMet
 fn worked_file(rt: HostRuntime) -> Result<(), Fail> {
     let alloc = rt.alloc();
     let mut port = steady_port(alloc)?;
+    assert_eq!(rt; fault_of(alloc, &mut port, &WORKED, Call::Check), None);
     let meta = meta_of(alloc, &mut port, &WORKED)?;
     assert_eq!(rt; meta.bytes, 234);
     assert_eq!(rt; meta.index.entries.len(), 1);
@@ -126,23 +149,29 @@ fn cut_files(rt: HostRuntime) -> Result<(), Fail> {
     for size in 0..234u8 {
         let bytes = &WORKED[..usize::from(size)];
         let at = u64::from(if size < 21 { 0 } else { size - 14 });
-        let fault = read_bytes(alloc, &mut port, bytes).err();
-        assert_eq!(rt; fault, Some(ReadFault::Damaged { at }));
+        for call in [Call::Meta, Call::Check] {
+            let fault = fault_of(alloc, &mut port, bytes, call);
+            assert_eq!(rt; fault, Some(ReadFault::Damaged { at }));
+        }
     }
     Ok(())
 }
 
-/// The place of the part that is blamed where this byte of the worked file is inverted, if one is.
-fn blamed_place(place: u8) -> Option<u64> {
+/// The place of the part that is blamed where this byte of the worked file is inverted.
+fn blamed_place(place: u8) -> u64 {
     match place {
-        0..7 => Some(0),
-        // groups, chunks and pages are not looked at, and places and statistics in the leaf may have any bits
-        7..44 | 62..126 | 130..194 => None,
-        44..194 => Some(44),
-        194..220 => Some(194),
+        // the head, the group, the chunk, and the page up to its value
+        0..7 => 0,
+        7..18 => 7,
+        18..24 => 18,
+        24..36 => 24,
+        // a page of another value is good by itself, but not what the leaf says
+        36..44 => 44,
+        44..194 => 44,
+        194..220 => 194,
         // the root's place is 3d for c2 in its last byte, and beyond the file in the others
-        227 => Some(0x3d),
-        _ => Some(220),
+        227 => 0x3d,
+        _ => 220,
     }
 }
 
@@ -153,9 +182,15 @@ fn inverted_bytes(rt: HostRuntime) -> Result<(), Fail> {
     for place in 0..234u8 {
         let mut bytes = WORKED;
         bytes[place as usize] ^= 0xff;
-        let fault = read_bytes(alloc, &mut port, &bytes).err();
-        let wanted = blamed_place(place).map(|at| ReadFault::Damaged { at });
-        assert_eq!(rt; fault, wanted);
+        let at = blamed_place(place);
+        let fault = fault_of(alloc, &mut port, &bytes, Call::Check);
+        assert_eq!(rt; fault, Some(ReadFault::Damaged { at }));
+        // places and statistics in the leaf may have any bits, and what stands before it is not looked at
+        let wanted = match place {
+            7..44 | 62..126 | 130..194 => None,
+            _ => fault,
+        };
+        assert_eq!(rt; fault_of(alloc, &mut port, &bytes, Call::Meta), wanted);
     }
     Ok(())
 }
@@ -182,19 +217,22 @@ fn inverted_bytes_of_a_page(rt: HostRuntime) -> Result<(), Fail> {
     Ok(())
 }
 
-/// The port makes a call for the file, its length, the tail, the head, the root and the leaves.
+/// The port makes a call for the file, its length, the tail, the head, the root and the leaves, and for the check one
+/// more, for the groups.
 #[test]
 fn calls_that_fail(rt: HostRuntime) -> Result<(), Fail> {
     let alloc = rt.alloc();
     for number in 1..9u64 {
-        let mut port = port_failing_at(alloc, number)?;
-        let fault = read_bytes(alloc, &mut port, &WORKED).err();
-        let wanted = if number <= 6 {
-            Some(ReadFault::Failed)
-        } else {
-            None
-        };
-        assert_eq!(rt; fault, wanted);
+        for (call, last) in [(Call::Meta, 6), (Call::Check, 7)] {
+            let mut port = port_failing_at(alloc, number)?;
+            let fault = read_bytes(alloc, &mut port, &WORKED, call).err();
+            let wanted = if number <= last {
+                Some(ReadFault::Failed)
+            } else {
+                None
+            };
+            assert_eq!(rt; fault, wanted);
+        }
     }
     Ok(())
 }
@@ -219,6 +257,59 @@ fn calls_that_fail_at_a_page(rt: HostRuntime) -> Result<(), Fail> {
     Ok(())
 }
 
+/// A file with these bytes between the head and the leaf of the worked file.
+fn with_data(alloc: Global, data: &[u8]) -> Result<Vec<u8>, Fail> {
+    let mut bytes = Vec::from_slice(alloc, &WORKED[..7])?;
+    bytes.extend_from_slice(data)?;
+    let leaf = bytes.len() as u64;
+    bytes.extend_from_slice(&WORKED[44..194])?;
+    let root = bytes.len() as u64;
+    bytes.extend_from_slice(&WORKED[194..212])?;
+    leaf.put(&mut bytes)?;
+    root.put(&mut bytes)?;
+    bytes.extend_from_slice(&WORKED[228..])?;
+    Ok(bytes)
+}
+
+/// What stands between the head and the leaf, as prefixes of the worked file and bytes behind them, and the place of
+/// the part that is blamed.
+const DATA: [(usize, &[u8], u64); 9] = [
+    // no group, a group without a chunk, a chunk without a page
+    (7, b"", 7),
+    (18, b"", 18),
+    (24, b"", 24),
+    // a byte between the page and the leaf, and a mark alone
+    (44, b"\x00", 44),
+    (44, b"\x49", 44),
+    (44, b"\x50", 44),
+    // a page of the same time, a chunk of the same measurement, a group of the same device
+    (
+        44,
+        b"\x50\x00\x00\x00\x0f\x00\x00\x00\x02\x01\x02\x01\x00\x00\x00\x00\x00\x00\x00\x05",
+        44,
+    ),
+    (44, b"\x43\x00\x01s\x02\x00", 44),
+    (44, b"\x47\x00\x08root.g.d", 44),
+];
+
+#[test]
+fn other_data(rt: HostRuntime) -> Result<(), Fail> {
+    let alloc = rt.alloc();
+    let mut port = steady_port(alloc)?;
+    for (size, behind, at) in DATA {
+        let Some(front) = WORKED.get(7..size) else {
+            return Err("no prefix".into());
+        };
+        let mut data = Vec::from_slice(alloc, front)?;
+        data.extend_from_slice(behind)?;
+        let bytes = with_data(alloc, &data)?;
+        let fault = fault_of(alloc, &mut port, &bytes, Call::Check);
+        assert_eq!(rt; fault, Some(ReadFault::Damaged { at }));
+        assert_eq!(rt; fault_of(alloc, &mut port, &bytes, Call::Meta), None);
+    }
+    Ok(())
+}
+
 /// A chunk of a file that a test writes: its names, type and encoding, and how many points each page has.
 #[derive(Clone, Copy)]
 struct Chunk {
@@ -229,11 +320,25 @@ struct Chunk {
     pages: [u16; 3],
 }
 
-/// A file of these chunks, and its index.
+/// A series: its names, type and encoding, its points, and how many of them each page has.
+#[derive(Drop)]
+struct Series {
+    device: Path,
+    measurement: Name,
+    data_type: DataType,
+    encoding: Encoding,
+    points: Vec<Point>,
+    sizes: Vec<usize>,
+}
+
+/// The file of series, its index, and where its parts stand.
 #[derive(Drop)]
 struct Written {
     bytes: Vec<u8>,
+    places: Vec<u64>,
     index: Index,
+    leaf: u64,
+    root: u64,
 }
 
 const TREE: [Chunk; 6] = [
@@ -304,18 +409,39 @@ fn points(alloc: Global, data_type: DataType, from: u16, to: u16) -> Result<Vec<
     Ok(points)
 }
 
+/// The series of the chunk, with so many points in a page at most.
+fn series_of(alloc: Global, chunk: Chunk, most: u16) -> Result<Series, Fail> {
+    let mut to = 0u16;
+    let mut sizes = Vec::new(alloc);
+    for count in chunk.pages {
+        if count > 0 {
+            let count = count.min(most);
+            sizes.push(count as usize)?;
+            to = to.saturating_add(count);
+        }
+    }
+    Ok(Series {
+        device: Path::read(alloc, chunk.device.as_bytes())?,
+        measurement: Name::read(alloc, chunk.measurement.as_bytes())?,
+        data_type: chunk.data_type,
+        encoding: chunk.encoding,
+        points: points(alloc, chunk.data_type, 0, to)?,
+        sizes,
+    })
+}
+
 /// Appends a page of these points, and says what the index does.
 fn append_page(
     alloc: Global,
+    series: &Series,
     points: &[Point],
-    chunk: Chunk,
     bytes: &mut Vec<u8>,
 ) -> Result<PageEntry, Fail> {
-    if !suits(chunk.data_type, chunk.encoding) || !are_points(points, chunk.data_type) {
+    if !suits(series.data_type, series.encoding) || !are_points(points, series.data_type) {
         return Err("no page".into());
     }
     let place = bytes.len() as u64;
-    let body = write_page(alloc, points, chunk.data_type, chunk.encoding)?;
+    let body = write_page(alloc, points, series.data_type, series.encoding)?;
     bytes.push(0x50)?;
     let Ok(size) = u32::try_from(body.len()) else {
         return Err("too long".into());
@@ -329,90 +455,170 @@ fn append_page(
     Ok(PageEntry { place, stats })
 }
 
-/// Appends a chunk, and says what the index does.
-fn append_chunk(alloc: Global, chunk: Chunk, written: &mut Written) -> Result<IndexEntry, Fail> {
-    let place = written.bytes.len() as u64;
-    let measurement = Name::read(alloc, chunk.measurement.as_bytes())?;
-    written.bytes.push(0x43)?;
-    write_name(&measurement, &mut written.bytes)?;
-    chunk.data_type.put(&mut written.bytes)?;
-    chunk.encoding.put(&mut written.bytes)?;
+/// Appends the pages of a series, and says what the index does.
+fn append_pages(
+    alloc: Global,
+    series: &Series,
+    written: &mut Written,
+) -> Result<Vec<PageEntry>, Fail> {
     let mut pages = Vec::new(alloc);
-    let mut from = 0u16;
-    for count in chunk.pages {
-        if count > 0 {
-            let to = from.saturating_add(count);
-            let points = points(alloc, chunk.data_type, from, to)?;
-            pages.push(append_page(alloc, &points, chunk, &mut written.bytes)?)?;
-            from = to;
-        }
+    let mut from = 0usize;
+    for size in &series.sizes {
+        let to = from.saturating_add(*size);
+        let Some(points) = series.points.get(from..to) else {
+            return Err("too few points".into());
+        };
+        written.places.push(written.bytes.len() as u64)?;
+        pages.push(append_page(alloc, series, points, &mut written.bytes)?)?;
+        from = to;
     }
-    let all = points(alloc, chunk.data_type, 0, from)?;
-    if all.is_empty() {
+    Ok(pages)
+}
+
+/// Appends a chunk, and says what the index does.
+fn append_chunk(alloc: Global, series: &Series, written: &mut Written) -> Result<IndexEntry, Fail> {
+    let place = written.bytes.len() as u64;
+    written.places.push(place)?;
+    written.bytes.push(0x43)?;
+    write_name(&series.measurement, &mut written.bytes)?;
+    series.data_type.put(&mut written.bytes)?;
+    series.encoding.put(&mut written.bytes)?;
+    let pages = append_pages(alloc, series, written)?;
+    if series.points.is_empty() {
         return Err("no points".into());
     }
     Ok(IndexEntry {
-        device: Path::read(alloc, chunk.device.as_bytes())?,
-        measurement,
-        data_type: chunk.data_type,
-        encoding: chunk.encoding,
+        device: series.device.copy()?,
+        measurement: Name::read(alloc, series.measurement.bytes())?,
+        data_type: series.data_type,
+        encoding: series.encoding,
         place,
-        stats: stats_of(&all)?,
+        stats: stats_of(&series.points)?,
         pages,
     })
 }
 
-/// Appends the chunk with this number, and the head of its group where it is the first one.
+/// Appends the series with this number, and the head of its group where it is the first one.
 fn append_member(
     alloc: Global,
-    chunks: &[Chunk],
+    all: &[Series],
     number: usize,
     written: &mut Written,
 ) -> Result<(), Fail> {
-    let Some(chunk) = chunks.get(number) else {
-        return Err("no chunk".into());
+    let Some(series) = all.get(number) else {
+        return Err("no series".into());
     };
-    if number == 0 || chunks[number - 1].device != chunk.device {
+    if number == 0 || all[number - 1].device != series.device {
+        written.places.push(written.bytes.len() as u64)?;
         written.bytes.push(0x47)?;
-        let device = Path::read(alloc, chunk.device.as_bytes())?;
-        write_path(&device, &mut written.bytes)?;
+        write_path(&series.device, &mut written.bytes)?;
     }
-    let entry = append_chunk(alloc, *chunk, written)?;
+    let entry = append_chunk(alloc, series, written)?;
     written.index.entries.push(entry)?;
     Ok(())
 }
 
-/// Writes these chunks to a file, slowly.
-fn write_file(alloc: Global, chunks: &[Chunk]) -> Result<Written, Fail> {
+/// Writes the head and the groups of these series, slowly.
+fn write_groups(alloc: Global, all: &[Series]) -> Result<Written, Fail> {
     let mut written = Written {
         bytes: Vec::from_slice(alloc, b"TsFile\x51")?,
+        places: Vec::new(alloc),
         index: Index {
             entries: Vec::new(alloc),
         },
+        leaf: 0,
+        root: 0,
     };
-    for i in 0..chunks.len() {
-        append_member(alloc, chunks, i, &mut written)?;
+    for i in 0..all.len() {
+        append_member(alloc, all, i, &mut written)?;
     }
-    let leaf = written.bytes.len() as u64;
+    Ok(written)
+}
+
+/// Writes the index and the tail.
+fn finish(alloc: Global, written: &mut Written) -> Result<(), Fail> {
+    written.leaf = written.bytes.len() as u64;
     if written.index.entries.is_empty() {
         return Err("no chunks".into());
     }
-    let (index, root) = write_leaves_and_root(alloc, &written.index, leaf)?;
+    let (index, root) = write_leaves_and_root(alloc, &written.index, written.leaf)?;
+    written.root = root;
     written.bytes.extend_from_slice(&index)?;
     root.put(&mut written.bytes)?;
     written.bytes.extend_from_slice(b"TsFile")?;
+    Ok(())
+}
+
+/// Writes these series to a file, slowly.
+fn write_file(alloc: Global, all: &[Series]) -> Result<Written, Fail> {
+    let mut written = write_groups(alloc, all)?;
+    finish(alloc, &mut written)?;
     Ok(written)
+}
+
+/// The file of the table's chunks, with so many points in a page at most.
+fn write_tree(alloc: Global, most: u16) -> Result<Written, Fail> {
+    let mut all = Vec::new(alloc);
+    for chunk in TREE {
+        all.push(series_of(alloc, chunk, most)?)?;
+    }
+    write_file(alloc, &all)
+}
+
+/// The series that the entry and its pages in these bytes say.
+fn read_series(
+    alloc: Global,
+    port: &mut SteadyPort,
+    bytes: &[u8],
+    entry: &IndexEntry,
+) -> Result<Series, Fail> {
+    let mut points = Vec::new(alloc);
+    let mut sizes = Vec::new(alloc);
+    for page in 0..entry.pages.len() {
+        let Ok(mut more) = read_page_in(alloc, port, bytes, entry, page) else {
+            return Err("no page".into());
+        };
+        sizes.push(more.len())?;
+        points.append(&mut more)?;
+    }
+    Ok(Series {
+        device: entry.device.copy()?,
+        measurement: Name::read(alloc, entry.measurement.bytes())?,
+        data_type: entry.data_type,
+        encoding: entry.encoding,
+        points,
+        sizes,
+    })
+}
+
+/// Whether the file of what is read of these bytes, written slowly, is these bytes.
+fn is_written_so(
+    alloc: Global,
+    port: &mut SteadyPort,
+    bytes: &[u8],
+    index: &Index,
+) -> Result<bool, Fail> {
+    let mut all = Vec::new(alloc);
+    for entry in &index.entries {
+        all.push(read_series(alloc, port, bytes, entry)?)?;
+    }
+    let written = write_file(alloc, &all)?;
+    Ok(written.bytes.as_slice() == bytes)
 }
 
 #[test]
 fn several_devices(rt: HostRuntime) -> Result<(), Fail> {
     let alloc = rt.alloc();
     let mut port = steady_port(alloc)?;
-    let written = write_file(alloc, &TREE)?;
+    let written = write_tree(alloc, 1_000)?;
     let bytes = written.bytes.as_slice();
-    let meta = meta_of(alloc, &mut port, bytes)?;
-    assert_eq!(rt; meta.bytes, bytes.len() as u64);
-    assert!(rt; meta.index == written.index);
+    for call in [Call::Meta, Call::Check] {
+        let Ok(meta) = read_bytes(alloc, &mut port, bytes, call) else {
+            return Err("no file".into());
+        };
+        assert_eq!(rt; meta.bytes, bytes.len() as u64);
+        assert!(rt; meta.index == written.index);
+    }
     for entry in &written.index.entries {
         let mut from = 0u16;
         for (page, said) in entry.pages.iter().enumerate() {
@@ -426,5 +632,142 @@ fn several_devices(rt: HostRuntime) -> Result<(), Fail> {
             from = to;
         }
     }
+    Ok(())
+}
+
+/// The place of the part in which this byte stands.
+fn part_of(written: &Written, place: u64) -> u64 {
+    let tail = (written.bytes.len() as u64).saturating_sub(14);
+    let mut part = 0;
+    for at in &written.places {
+        if *at <= place {
+            part = *at;
+        }
+    }
+    for at in [written.leaf, written.root, tail] {
+        if at <= place {
+            part = at;
+        }
+    }
+    part
+}
+
+/// Whether this place may be blamed where a byte of this part was changed. A group or a chunk says what its parts are,
+/// and where they begin; what is good by itself may not be what the leaf says; the root and the tail say where other
+/// parts stand.
+fn may_be_blamed(written: &Written, part: u64, at: u64) -> bool {
+    if part >= written.root {
+        return at <= part;
+    }
+    let is_page = written.bytes.get(part as usize) == Some(&0x50);
+    let is_leaf = part == written.leaf;
+    at == part
+        || (part > 0 && !is_leaf && at == written.leaf)
+        || (part > 0 && !is_leaf && !is_page && part < at && at < written.leaf)
+}
+
+/// Inverts these bits of the byte at this place, if there is one.
+fn flip(bytes: &mut [u8], place: usize, bits: u8) -> bool {
+    match bytes.get_mut(place) {
+        Some(byte) => {
+            *byte ^= bits;
+            true
+        }
+        None => false,
+    }
+}
+
+/// Whether the check may answer this of the written bytes after a byte of this part was changed: a place that the part
+/// allows, or an index, where the file of what it says is these bytes.
+fn may_be_answered(
+    alloc: Global,
+    port: &mut SteadyPort,
+    written: &Written,
+    part: u64,
+    outcome: Result<FileMeta, ReadFault>,
+) -> Result<bool, Fail> {
+    match outcome {
+        Ok(meta) => is_written_so(alloc, port, &written.bytes, &meta.index),
+        Err(ReadFault::Damaged { at }) => Ok(may_be_blamed(written, part, at)),
+        Err(_) => Ok(false),
+    }
+}
+
+/// A byte that is changed is found as damage at a place that its part allows, unless the bytes are then those of
+/// another tree: a value within a page may change where the least and the greatest stay.
+#[test]
+fn changed_bytes(rt: HostRuntime) -> Result<(), Fail> {
+    let alloc = rt.alloc();
+    let mut port = steady_port(alloc)?;
+    let mut written = write_tree(alloc, 5)?;
+    for place in 0..written.bytes.len() {
+        let part = part_of(&written, place as u64);
+        for bits in [0xff, 0x01] {
+            assert!(rt; flip(&mut written.bytes, place, bits));
+            let outcome = read_bytes(alloc, &mut port, &written.bytes, Call::Check);
+            assert!(rt; may_be_answered(alloc, &mut port, &written, part, outcome)?);
+            assert!(rt; flip(&mut written.bytes, place, bits));
+        }
+    }
+    assert_eq!(rt;
+        fault_of(alloc, &mut port, &written.bytes, Call::Check),
+        None
+    );
+    Ok(())
+}
+
+/// So many chunks of one point.
+fn small_series(alloc: Global, count: u16) -> Result<Vec<Series>, Fail> {
+    let mut all = Vec::new(alloc);
+    for number in 0..count {
+        let name = [b'a' + (number / 26 % 26) as u8, b'a' + (number % 26) as u8];
+        all.push(Series {
+            device: Path::read(alloc, b"root.a")?,
+            measurement: Name::read(alloc, &name)?,
+            data_type: DataType::Int64,
+            encoding: Encoding::Plain,
+            points: points(alloc, DataType::Int64, 1, 2)?,
+            sizes: vec![in alloc; 1]?,
+        })?;
+    }
+    Ok(all)
+}
+
+/// The place of the last leaf, which the root says in its last bytes.
+fn last_leaf(bytes: &[u8]) -> u64 {
+    let mut place = 0u64;
+    let end = bytes.len().saturating_sub(14);
+    for byte in bytes.get(end.saturating_sub(8)..end).unwrap_or(&[]) {
+        place = place << 8 | u64::from(*byte);
+    }
+    place
+}
+
+/// A page with another value is found at the leaf of its chunk, and a chunk without an entry at the last leaf.
+#[test]
+fn second_leaf(rt: HostRuntime) -> Result<(), Fail> {
+    let alloc = rt.alloc();
+    let mut port = steady_port(alloc)?;
+    let all = small_series(alloc, 258)?;
+    let mut written = write_file(alloc, &all)?;
+    let last = last_leaf(&written.bytes);
+    assert!(rt; written.leaf < last && last < written.root);
+    let end = written.leaf.saturating_sub(1) as usize;
+    for (place, at) in [(42, written.leaf), (end, last)] {
+        assert!(rt; flip(&mut written.bytes, place, 1));
+        let fault = fault_of(alloc, &mut port, &written.bytes, Call::Check);
+        assert_eq!(rt; fault, Some(ReadFault::Damaged { at }));
+        assert!(rt; flip(&mut written.bytes, place, 1));
+    }
+    assert_eq!(rt;
+        fault_of(alloc, &mut port, &written.bytes, Call::Check),
+        None
+    );
+    let mut short = write_groups(alloc, &all)?;
+    let _ = short.index.entries.pop();
+    finish(alloc, &mut short)?;
+    let at = last_leaf(&short.bytes);
+    let fault = fault_of(alloc, &mut port, &short.bytes, Call::Check);
+    assert_eq!(rt; fault, Some(ReadFault::Damaged { at }));
     Ok(())
 }

@@ -1,0 +1,151 @@
+-- A part that may stand behind others of its kind.
+use Rattle.std.proofs.Common.{◌≡◌, ℕ, zero, suc, ◌+◌, ◌-◌, ◌<◌, true, List, [], ◌∷◌, ◌++◌, length, get_or, refl, sym, ap, subst, ◌∙◌, arith}
+use Rattle.std.specs.Prelude.{ℤ, ◌<ℤ◌, ◌≤ℤ◌, All}
+use Rattle.std.specs.List.{flat_map, AllByRecursion}
+use Rattle.std.proofs.lemmas.Int.{ints}
+use Rattle.std.proofs.lemmas.List.{append-nil, length-append}
+use Rattle.std.proofs.lemmas.List.Elements.{All-append, All-cons, All-nil, recursion_from_All}
+use Rattle.std.proofs.lemmas.List.Concat.{flat_map-append}
+use Rattle.tsdb_base.specs.declared.point.Point.{Point}
+use Rattle.tsdb_base.specs.declared.point.Stats.{Stats}
+use Rattle.tsdb_base.specs.declared.value.DataType.{DataType}
+use Rattle.tsdb_base.specs.declared.value.Encoding.{Encoding}
+use Rattle.tsdb_base.specs.declared.value.Value.TheVariants.{I64}
+use Rattle.tsdb_base.specs.Plain.{plain_text, BeginsWithNone}
+use Rattle.tsdb_base.specs.PlainLaws.{plain_text-prefix_free}
+use Rattle.tsdb_base.specs.Values.{is_suitable}
+use Rattle.tsdb_base.specs.Fields.{number32, type_field, encoding_field}
+use Rattle.tsdb_index.specs.declared.index.PageEntry.{PageEntry}
+use Rattle.tsdb_path.specs.Nodes.{IsPath}
+use Rattle.tsdb_pages.specs.declared.tree.Page.{Page}
+use Rattle.tsdb_pages.specs.File.{ArePageEntries, IsPageEntry, page_field}
+use Rattle.tsdb_pages.specs.Limits.{max_pages}
+use Rattle.tsdb_pages.specs.Pages.{ArePoints, IsInRange, IsRising, body}
+use Rattle.tsdb_pages.specs.Trees.{IsBefore, points_of}
+use Rattle.tsdb_pages.proofs.Bodies.{body_is_short, one_body, parts_same}
+use Rattle.tsdb_pages.proofs.Order.{pairs_append}
+use Rattle.tsdb_stats.specs.Statistics.{AreStatsOf}
+use Rattle.tsfile_reader.specs.declared.page.ChunkHead.{ChunkHead}
+use Rattle.tsfile_reader.specs.declared.parts.Pages.{Pages}
+use Rattle.tsfile_reader.specs.Page.{AreGood, page_bytes}
+use Rattle.tsfile_reader.specs.Parts.{Part, part_field}
+use Rattle.tsfile_reader.specs.Steps.{AreLaterPoints, ArePagesRead, IsChunkHead, IsLaterHead, chunk_part}
+use Rattle.tsfile_reader.proofs.Times.{at_least_first, at_most_last, last_gives}
+use Rattle.tsfile_reader.proofs.Heads.{chunk_apart, short_name, short_path, tail_same}
+
+abbrev pub group_bytes : List ℕ → List ℕ
+group_bytes device = part_field (Part.Group device)
+
+pub no_later_group : (bytes behind d last : List ℕ) → bytes ≡ group_bytes d ++ behind → IsPath d → (IsBefore last d → ⊥) → BeginsWithNone group_bytes (λ x. IsPath x × IsBefore last x) bytes
+no_later_group bytes behind d last found is not = λ x y later e.
+    let same : d ≡ x = (plain_text-prefix_free d x behind y (short_path d is) (short_path x later.0) (tail_same 71 (plain_text d ++ behind) (plain_text x ++ y) (sym found ∙ e))).0 in
+    not (subst (λ q. IsBefore last q) (sym same) later.1)
+
+abbrev pub head_bytes : ChunkHead → List ℕ
+head_bytes h = part_field (chunk_part h)
+
+pub no_later_head : (bytes behind last : List ℕ) (h : ChunkHead) → bytes ≡ head_bytes h ++ behind → IsChunkHead h → (IsBefore last h.measurement → ⊥) → BeginsWithNone head_bytes (IsLaterHead last) bytes
+no_later_head bytes behind last h found is not = λ x y later e.
+    let front_h = type_field h.data_type ++ (encoding_field h.encoding ++ behind) in
+    let front_x = type_field x.data_type ++ (encoding_field x.encoding ++ y) in
+    let both : 67 ∷ (plain_text h.measurement ++ (type_field h.data_type ++ (encoding_field h.encoding ++ behind))) ≡ 67 ∷ (plain_text x.measurement ++ (type_field x.data_type ++ (encoding_field x.encoding ++ y))) =
+    sym (chunk_apart h.measurement h.data_type h.encoding behind) ∙ sym found ∙ e ∙ chunk_apart x.measurement x.data_type x.encoding y in
+    let same : h.measurement ≡ x.measurement = (plain_text-prefix_free h.measurement x.measurement front_h front_x (short_name h.measurement is.0) (short_name x.measurement later.0.0) (tail_same 67 (plain_text h.measurement ++ front_h) (plain_text x.measurement ++ front_x) both)).0 in
+    not (subst (λ q. IsBefore last q) (sym same) later.1)
+
+-- two pages that begin the same bytes have the same points
+pub one_page_first : (t : DataType) (e : Encoding) (suits : is_suitable t e ≡ true) (xs ys : List Point) (x y : List ℕ) → AreGood t xs → AreGood t ys → page_bytes e xs ++ x ≡ page_bytes e ys ++ y → xs ≡ ys
+one_page_first t e suits xs ys x y in_x in_y same =
+    let inner : number32 (length (body e xs)) ++ body e xs ++ x ≡ number32 (length (body e ys)) ++ body e ys ++ y =
+    tail_same 80 (number32 (length (body e xs)) ++ body e xs ++ x) (number32 (length (body e ys)) ++ body e ys ++ y) same in
+    let bodies = parts_same (body e xs) (body e ys) x y (body_is_short t e suits xs in_x.0 in_x.1) (body_is_short t e suits ys in_y.0 in_y.1) inner in
+    one_body t e suits (body e ys) xs ys (record { points-are = in_x.0; ranges = in_x.1; bytes-are = sym bodies.0 }) (record { points-are = in_y.0; ranges = in_y.1; bytes-are = refl })
+
+pub first_of : (points : List Point) (p : Point) → 0 < length points → p ≡ get_or points 0 p → (others : List Point) × (points ≡ p ∷ others)
+first_of [] p some is = absurd (omega (arith, some))
+first_of (q ∷ qs) p some is = (qs, ap (λ (r : Point). r ∷ qs) (sym is))
+
+-- a page that does not stand behind these pages
+pub no_later_page : (t : DataType) (e : Encoding) (suits : is_suitable t e ≡ true) (bytes behind : List ℕ) (points : List Point) (before : Pages) → bytes ≡ page_bytes e points ++ behind → AreGood t points
+    → (length before.entries.items < max_pages → ((first : Point) (others : List Point) → points ≡ first ∷ others → before.stats.end <ℤ first.time) → ⊥) → BeginsWithNone (page_bytes e) (AreLaterPoints t before) bytes
+no_later_page t e suits bytes behind points before found good not = λ xs y later same.
+    let one : points ≡ xs = one_page_first t e suits points xs behind y good later.good (sym found ∙ same) in
+    not later.few (λ first others is. later.later first others (sym one ∙ is))
+
+pub first_is : (points : List Point) (p first : Point) (others : List Point) → points ≡ first ∷ others → p ≡ get_or points 0 p → p ≡ first
+first_is points p first others is at = at ∙ ap (λ (l : List Point). get_or l 0 p) is
+
+pub first_later : (points : List Point) (p : Point) (end : ℤ) → p ≡ get_or points 0 p → end <ℤ p.time → (first : Point) (others : List Point) → points ≡ first ∷ others → end <ℤ first.time
+first_later points p end at less = λ first others is. subst (λ (q : Point). end <ℤ q.time) (first_is points p first others is at) less
+
+-- ---- one page more
+
+pub entries_more : (e : Encoding) (from : ℕ) (pages : List Page) (entries : List PageEntry) (page : Page) (entry : PageEntry) → ArePageEntries e from pages entries → IsPageEntry (from + length (flat_map (page_field e) pages)) page entry
+    → ArePageEntries e from (pages ++ page ∷ []) (entries ++ entry ∷ [])
+entries_more e from [] [] page entry are is = (subst (λ (n : ℕ). IsPageEntry n page entry) (omega arith) is, tt)
+entries_more e from [] (x ∷ xs) page entry are is = absurd are
+entries_more e from (p ∷ ps) [] page entry are is = absurd are
+entries_more e from (p ∷ ps) (x ∷ xs) page entry are is =
+    let n : from + length (flat_map (page_field e) (p ∷ ps)) ≡ from + length (page_field e p) + length (flat_map (page_field e) ps) = let m = length-append (page_field e p) (flat_map (page_field e) ps) in omega (arith, m) in
+    (are.0, entries_more e (from + length (page_field e p)) ps xs page entry are.1 (subst (λ (k : ℕ). IsPageEntry k page entry) n is))
+
+pub entries_count : (e : Encoding) (from : ℕ) (pages : List Page) (entries : List PageEntry) → ArePageEntries e from pages entries → length entries ≡ length pages
+entries_count e from [] [] are = refl
+entries_count e from [] (x ∷ xs) are = absurd are
+entries_count e from (p ∷ ps) [] are = absurd are
+entries_count e from (p ∷ ps) (x ∷ xs) are = ap suc (entries_count e (from + length (page_field e p)) ps xs are.1)
+
+pub points_more : (pages : List Page) (page : Page) → points_of (pages ++ page ∷ []) ≡ points_of pages ++ page.points.items
+points_more pages page = flat_map-append (λ (p : Page). p.points.items) pages (page ∷ []) ∙ ap (λ (l : List Point). points_of pages ++ l) (append-nil page.points.items)
+
+-- the end that statistics say is the last time
+pub end_time : (points : List Point) (stats : Stats) (d : Point) → 0 < length points → AreStatsOf points stats → (get_or points (length points - 1) d).time ≡ stats.end
+end_time points stats d some are =
+    let same : I64 (get_or points (length points - 1) d).time ≡ I64 stats.end = last_gives (λ (p : Point). I64 p.time) points d (I64 stats.end) some are.end in
+    cc
+
+any_default : (xs : List Point) (k : ℕ) (x y : Point) → k < length xs → get_or xs k x ≡ get_or xs k y
+any_default [] k x y low = absurd (omega (arith, low))
+any_default (z ∷ zs) zero x y low = refl
+any_default (z ∷ zs) (suc k) x y low = any_default zs k x y (omega (arith, low))
+
+pub rise_further : (before points : List Point) (end : ℤ) → IsRising before → IsRising points → 0 < length before → ((d : Point) → (get_or before (length before - 1) d).time ≡ end) → ((first : Point) (others : List Point) → points ≡ first ∷ others → end <ℤ first.time) → IsRising (before ++ points)
+rise_further before [] end rise_b rise_p some last later = subst IsRising (sym (append-nil before)) rise_b
+rise_further before (f ∷ fs) end rise_b rise_p some last later =
+    pairs_append (λ (a b : Point). a.time <ℤ b.time) before (f ∷ fs) rise_b rise_p
+    (λ x y in_b in_p.
+    let low : x.time ≤ℤ (get_or before (length before - 1) x).time = at_most_last before (get_or before (length before - 1) x) x (same_default before (length before - 1) x some) rise_b in_b in
+    let at_end = last x in
+    let less = later f fs refl in
+    let high : f.time ≤ℤ y.time = at_least_first (f ∷ fs) f y refl rise_p in_p in
+    less_all x.time (get_or before (length before - 1) x).time end f.time y.time low at_end less high)
+  where
+    same_default : (xs : List Point) (n : ℕ) (x : Point) → 0 < length xs → get_or xs (length xs - 1) x ≡ get_or xs (length xs - 1) (get_or xs (length xs - 1) x)
+    same_default xs n x some = any_default xs (length xs - 1) x (get_or xs (length xs - 1) x) (omega (arith, some))
+
+    less_all : (a b c d e : ℤ) → a ≤ℤ b → b ≡ c → c <ℤ d → d ≤ℤ e → a <ℤ e
+    less_all a b c d e ab bc cd de = omega (arith, ints, ab, bc, cd, de)
+
+pub page_added : (t : DataType) (e : Encoding) (from place : ℕ) (before : List Page) (page : Page) (points : List Point) (old new : Pages) (stats : Stats) (entry : PageEntry) → page.points.items ≡ points → ArePagesRead t e from before old → AreLaterPoints t old points
+    → place ≡ from + length (flat_map (page_field e) before) → entry.place ≡ place → AreStatsOf points entry.stats → AreStatsOf (points_of before ++ points) new.stats → new.entries.items ≡ old.entries.items ++ entry ∷ []
+    → ArePagesRead t e from (before ++ page ∷ []) new
+page_added t e from place before page points old new stats entry same read later place_is entry_place entry_stats all_stats entries =
+    let good : AreGood t page.points.items = subst (AreGood t) (sym same) later.good in
+    let n = length-append before (page ∷ []) in
+    let count = entries_count e from before old.entries.items read.say in
+    let few = later.few in
+    let points_is : points_of (before ++ page ∷ []) ≡ points_of before ++ page.points.items = points_more before page in
+    let some_points : 0 < length (points_of before) = some_of t before read.some (recursion_from_All (λ (p : Page). ArePoints t p.points.items) before read.good) in
+    record {
+      some = omega (arith, n);
+      few = omega (arith, n, count, few);
+      good = All-append (λ (p : Page). ArePoints t p.points.items) before (page ∷ []) read.good (All-cons (λ (p : Page). ArePoints t p.points.items) page [] good.0 (All-nil (λ (p : Page). ArePoints t p.points.items)));
+      ranges = subst (λ (l : List Point). All IsInRange l) (sym points_is) (All-append IsInRange (points_of before) page.points.items read.ranges good.1);
+      rising = subst IsRising (sym points_is) (subst (λ (l : List Point). IsRising (points_of before ++ l)) (sym same) (rise_further (points_of before) points old.stats.end read.rising later.good.0.rising some_points (λ d. end_time (points_of before) old.stats d some_points read.stats) later.later));
+      stats = subst (λ (l : List Point). AreStatsOf l new.stats) (sym (points_is ∙ ap (λ (l : List Point). points_of before ++ l) same)) all_stats;
+      say = subst (λ (l : List PageEntry). ArePageEntries e from (before ++ page ∷ []) l) (sym entries) (entries_more e from before old.entries.items page entry read.say (record { place-is = entry_place ∙ place_is; stats = subst (λ (l : List Point). AreStatsOf l entry.stats) (sym same) entry_stats }));
+    }
+  where
+    some_of : (t : DataType) (pages : List Page) → 0 < length pages → AllByRecursion (λ (p : Page). ArePoints t p.points.items) pages → 0 < length (points_of pages)
+    some_of t [] some are = absurd (omega (arith, some))
+    some_of t (p ∷ ps) some are = let n = length-append p.points.items (points_of ps) in let m = are.0.some in omega (arith, n, m)

@@ -1,0 +1,230 @@
+//! Groups, chunks and pages from the left, and what an index says of them. Depends on `page`, `fault`, tsdb_stats and
+//! tsdb_index.
+ghost use Rattle.std.specs.Prelude.{◌≡◌, ℕ, ◌<◌, ◌+◌, ◌^◌, [], ◌∷◌, ◌++◌, List, true, length, IfOk, OnOk};
+ghost use Rattle.std.specs.List.{flat_map};
+ghost use Rattle.tsdb_base.specs.declared.value.DataType.{DataType as Kind};
+ghost use Rattle.tsdb_base.specs.declared.value.Encoding.{Encoding as Form};
+ghost use Rattle.tsdb_base.specs.Values.{is_suitable};
+ghost use Rattle.tsdb_fields.specs.Reading.{ReadsParts};
+ghost use Rattle.tsdb_pages.specs.declared.tree.Page.{Page};
+ghost use Rattle.tsdb_pages.specs.declared.tree.Tree.{Tree};
+ghost use Rattle.tsdb_pages.specs.File.{head as head_bytes, page_field};
+ghost use Rattle.tsdb_path.specs.Nodes.{IsPath};
+ghost use Rattle.tsdb_pages.specs.Trees.{IsBefore};
+ghost use Rattle.tsfile_reader.specs.Blame.{HasGroups, IsFirstBadPart};
+ghost use Rattle.tsfile_reader.specs.Page.{AreGood, page_bytes};
+ghost use Rattle.tsfile_reader.specs.Parts.{Part, part_field};
+ghost use Rattle.tsfile_reader.specs.Steps.{AreLaterPoints, ArePagesRead, IsChunkHead, IsLaterHead, chunk_part};
+ghost use Rattle.tsfile_reader.specs.Steps.{ReadsChunk, ReadsChunks, ReadsOrStops, ReadsPages, StopsBehind};
+
+use crate::fault::ReadFault;
+use crate::page::{
+    CHUNK, ChunkHead, PAGE, begins_with, read_chunk_head, read_group_head, read_page,
+};
+use std::alloc::Global;
+use tsdb_base::{DataType, Encoding, Memory, Point, Stats};
+use tsdb_fields::{FieldFault, Rest};
+use tsdb_index::{IndexEntry, PageEntry};
+use tsdb_path::{Name, Path};
+use tsdb_stats::{join, stats_of};
+
+/// The most pages of a chunk.
+const MAX_PAGES: usize = 4_294_967_295;
+
+/// What an index says of pages that stand one behind another, and the statistics of all their points.
+#[derive(Drop)]
+struct Pages {
+    entries: Vec<PageEntry>,
+    stats: Stats,
+}
+
+/// One page, which stands at this place.
+fn first_page(alloc: Global, place: u64, points: &[Point]) -> Result<Pages, Memory>
+    requires { 0 < length points.now }
+    ensures { IfOk result (λ found. (data_type : Kind) (encoding : Form) (page : Page) → page.points.items ≡ points.now
+        → AreGood data_type points.now → ArePagesRead data_type encoding place (page ∷ []) found) }
+{
+    let entry = PageEntry {
+        place,
+        stats: stats_of(points)?,
+    };
+    Ok(Pages {
+        entries: vec![in alloc; entry]?,
+        stats: stats_of(points)?,
+    })
+}
+
+/// Adds a page that stands at this place.
+fn add_page(place: u64, points: &[Point], pages: &mut Pages) -> Result<(), Memory>
+    requires some { 0 < length points.now }
+    requires room { pages.old.stats.count + length points.now < 2 ^ 64 }
+    ensures { OnOk result ((data_type : Kind) (encoding : Form) (from : ℕ) (before : List Page) (page : Page)
+        → page.points.items ≡ points.now → ArePagesRead data_type encoding from before pages.old
+        → AreLaterPoints data_type pages.old points.now → place ≡ from + length (flat_map (page_field encoding) before)
+        → ArePagesRead data_type encoding from (before ++ page ∷ []) pages.new) }
+{
+    let stats = stats_of(points)?;
+    pages.stats = join(&pages.stats, &stats)?;
+    pages.entries.push(PageEntry { place, stats })?;
+    Ok(())
+}
+
+/// Reads a page that stands behind others of its chunk.
+fn read_next_page<'a>(
+    alloc: Global,
+    data_type: DataType,
+    encoding: Encoding,
+    pages: &Pages,
+    rest: Rest<'a>,
+) -> Result<(Vec<Point>, Rest<'a>), FieldFault>
+    requires suits { is_suitable data_type encoding ≡ true }
+    ensures parts { ReadsParts (page_bytes encoding)
+        (AreLaterPoints data_type pages.now) rest.entry (λ points. points.items) result }
+{
+    let bad = FieldFault::Bad { at: rest.at };
+    let (points, behind) = read_page(alloc, data_type, encoding, rest)?;
+    if pages.entries.len() >= MAX_PAGES || points[0].time <= pages.stats.end {
+        return Err(bad);
+    }
+    Ok((points, behind))
+}
+
+/// Reads the pages of a chunk.
+fn read_pages<'a>(
+    alloc: Global,
+    data_type: DataType,
+    encoding: Encoding,
+    rest: Rest<'a>,
+) -> Result<(Pages, Rest<'a>), ReadFault>
+    requires suits { is_suitable data_type encoding ≡ true }
+    ensures { ReadsOrStops (λ r. ReadsPages data_type encoding rest.entry r.1 r.0)
+        (λ at. (measurement : List ℕ) → StopsBehind (Part.Chunk measurement data_type encoding) rest.entry at) result }
+{
+    let (points, behind) = match read_page(alloc, data_type, encoding, rest) {
+        Ok(read) => read,
+        Err(fault) => return Err(ReadFault::of_part(fault, rest.at)),
+    };
+    let mut pages = first_page(alloc, rest.at, &points)?;
+    let mut left = behind;
+    'pages: while begins_with(PAGE, left) {
+        match read_next_page(alloc, data_type, encoding, &pages, left) {
+            Ok((points, behind)) => {
+                add_page(left.at, &points, &mut pages)?;
+                left = behind;
+            }
+            Err(fault) => return Err(ReadFault::of_part(fault, left.at)),
+        }
+    }
+    Ok((pages, left))
+}
+
+/// Reads the pages of the chunk with this head, which stands at this place.
+fn read_chunk<'a>(
+    alloc: Global,
+    device: &Path,
+    head: ChunkHead,
+    place: u64,
+    rest: Rest<'a>,
+) -> Result<(IndexEntry, Rest<'a>), ReadFault>
+    requires head { IsChunkHead head }
+    requires behind { rest.at ≡ place + length (part_field (chunk_part head)) }
+    ensures { ReadsOrStops (λ r. ReadsChunk device.now head place rest.entry r.1 r.0)
+        (StopsBehind (chunk_part head) rest.entry) result }
+{
+    let (pages, behind) = read_pages(alloc, head.data_type, head.encoding, rest)?;
+    let entry = IndexEntry {
+        device: device.copy()?,
+        measurement: head.measurement,
+        data_type: head.data_type,
+        encoding: head.encoding,
+        place,
+        stats: pages.stats,
+        pages: pages.entries,
+    };
+    Ok((entry, behind))
+}
+
+/// Reads the head of a chunk that stands behind others of its group.
+fn read_next_head<'a>(
+    alloc: Global,
+    last: &Name,
+    rest: Rest<'a>,
+) -> Result<(ChunkHead, Rest<'a>), FieldFault>
+    ensures parts { ReadsParts (λ head. part_field (chunk_part head)) (IsLaterHead last.now) rest.entry
+        (λ head. head) result }
+{
+    let (head, behind) = read_chunk_head(alloc, rest)?;
+    if *last >= head.measurement {
+        return Err(FieldFault::Bad { at: rest.at });
+    }
+    Ok((head, behind))
+}
+
+/// Reads the chunks of a group.
+fn read_chunks<'a>(
+    alloc: Global,
+    device: &Path,
+    rest: Rest<'a>,
+) -> Result<(Vec<IndexEntry>, Rest<'a>), ReadFault>
+    ensures { ReadsOrStops (λ r. ReadsChunks device.now rest.entry r.1 r.0.items)
+        (StopsBehind (Part.Group device.now) rest.entry) result }
+{
+    let (head, behind) = match read_chunk_head(alloc, rest) {
+        Ok(read) => read,
+        Err(fault) => return Err(ReadFault::of_part(fault, rest.at)),
+    };
+    let (entry, behind) = read_chunk(alloc, device, head, rest.at, behind)?;
+    let mut entries = vec![in alloc; entry]?;
+    let mut left = behind;
+    'chunks: while begins_with(CHUNK, left) {
+        let last = &entries[entries.len() - 1].measurement;
+        let (head, behind) = match read_next_head(alloc, last, left) {
+            Ok(read) => read,
+            Err(fault) => return Err(ReadFault::of_part(fault, left.at)),
+        };
+        let (entry, behind) = read_chunk(alloc, device, head, left.at, behind)?;
+        entries.push(entry)?;
+        left = behind;
+    }
+    Ok((entries, left))
+}
+
+/// Reads the head of a group that stands behind others.
+fn read_next_group<'a>(
+    alloc: Global,
+    last: &Path,
+    rest: Rest<'a>,
+) -> Result<(Path, Rest<'a>), FieldFault>
+    ensures parts { ReadsParts (λ device. part_field (Part.Group device))
+        (λ device. IsPath device × IsBefore last.now device) rest.entry (λ device. device) result }
+{
+    let (device, behind) = read_group_head(alloc, rest)?;
+    if *last >= device {
+        return Err(FieldFault::Bad { at: rest.at });
+    }
+    Ok((device, behind))
+}
+
+/// What an index says of the groups that all of these bytes are.
+pub fn read_groups<'a>(alloc: Global, rest: Rest<'a>) -> Result<Vec<IndexEntry>, ReadFault>
+    requires { rest.at ≡ length head_bytes }
+    ensures { ReadsOrStops (λ entries. (tree : Tree) × HasGroups rest.entry.bytes.now tree entries.items)
+        (IsFirstBadPart (length head_bytes) rest.entry.bytes.now) result }
+{
+    let (mut last, behind) = match read_group_head(alloc, rest) {
+        Ok(read) => read,
+        Err(fault) => return Err(ReadFault::of_part(fault, rest.at)),
+    };
+    let (mut entries, mut left) = read_chunks(alloc, &last, behind)?;
+    'groups: while !left.bytes.is_empty() {
+        let (device, behind) = match read_next_group(alloc, &last, left) {
+            Ok(read) => read,
+            Err(fault) => return Err(ReadFault::of_part(fault, left.at)),
+        };
+        let (mut more, behind) = read_chunks(alloc, &device, behind)?;
+        entries.append(&mut more)?;
+        last = device;
+        left = behind;
+    }
+    Ok(entries)
+}

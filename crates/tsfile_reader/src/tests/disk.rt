@@ -1,0 +1,60 @@
+//! A file in a store on a real disk.
+use super::*;
+use fs_outside::FsPlace;
+
+/// The first page of a file that is stored through the port, once all of its parts are tested.
+fn first_page<P: Port>(alloc: Global, port: &mut P, bytes: &[u8]) -> Result<Vec<Point>, ReadFault> {
+    let _checked = read_bytes(alloc, port, bytes, Call::Check)?;
+    let meta = read_bytes(alloc, port, bytes, Call::Meta)?;
+    match meta.index.entries.first() {
+        Some(entry) => read_page_in(alloc, port, bytes, entry, 0),
+        None => Err(ReadFault::Memory),
+    }
+}
+
+/// The first page of a file in the store of a place.
+fn first_page_in<P: Place>(
+    alloc: Global,
+    place: &mut P,
+    bytes: &[u8],
+) -> Result<Vec<Point>, ReadFault> {
+    let Ok((journal, mut files)) = place.take_up(b"store") else {
+        return Err(ReadFault::Failed);
+    };
+    let outcome = match files.port() {
+        Ok(mut port) => {
+            let outcome = first_page(alloc, &mut port, bytes);
+            files.end_port(port);
+            outcome
+        }
+        Err(_) => Err(ReadFault::Memory),
+    };
+    place.put_down(journal, files);
+    outcome
+}
+
+/// The first page of a file in a store on the disk.
+fn first_page_on_disk(
+    rt: &HostRuntime,
+    bytes: &[u8],
+) -> Result<Result<Vec<Point>, ReadFault>, Fail> {
+    let mut place = FsPlace::new(rt.clone()?);
+    Ok(first_page_in(rt.alloc(), &mut place, bytes))
+}
+
+#[test]
+fn file_on_a_disk(rt: HostRuntime) -> Result<(), Fail> {
+    let alloc = rt.alloc();
+    let wanted = vec![in alloc;
+        Point {
+            time: 1,
+            value: Value::I64(5)
+        },
+    ]?;
+    assert!(rt; first_page_on_disk(&rt, &WORKED)? == Ok(wanted));
+    let mut bytes = WORKED;
+    bytes[24] ^= 0xff;
+    let damaged = Err(ReadFault::Damaged { at: 24 });
+    assert!(rt; first_page_on_disk(&rt, &bytes)? == damaged);
+    Ok(())
+}
