@@ -1,21 +1,18 @@
--- What the calls of a core answer, when a row fits, and what an append leaves of the log.
-use Rattle.std.specs.Prelude.{◌≡◌, ◌⊎◌, ℕ, ◌+◌, ◌<◌, ◌≤◌, Bool, false, is_some, if◌then◌else◌, List, [], ◌∷◌, ◌++◌, length, sum_by, Option, Some, None, Result, OnOk, OnErr}
+-- What the calls of a core answer, and when a row fits.
+use Rattle.std.specs.Prelude.{◌≡◌, ◌⊎◌, ℕ, ◌+◌, ◌-◌, ◌^◌, ◌<◌, ◌≤◌, min, Bool, false, is_some, if◌then◌else◌, List, [], ◌∷◌, length, sum_by, Option, Some, None}
 use Rattle.std.specs.FinMap.{entries}
 use Rattle.std.specs.List.{list_all}
 use Rattle.tsdb_base.specs.declared.answers.Answer.{Answer}
 use Rattle.tsdb_base.specs.declared.answers.Answer.TheVariants.{Done, NoPath, WrongType, Exists, Device, Memory, Full}
+use Rattle.tsdb_base.specs.declared.ids.FileNumber.{FileNumber}
 use Rattle.tsdb_base.specs.declared.ids.Space.{Space}
 use Rattle.tsdb_base.specs.declared.ids.Stamp.{Stamp}
 use Rattle.tsdb_base.specs.declared.value.DataType.{DataType}
-use Rattle.tsdb_core.specs.Limits.{end_of_numbers, max_pair_bytes, max_pair_points}
+use Rattle.tsdb_core.specs.Limits.{end_of_numbers, max_frozen, max_pair_bytes, max_pair_points}
 use Rattle.tsdb_core.specs.Order.{IsEmptyPair, IsInOrder, byte_count, point_count}
 use Rattle.tsdb_core.specs.Parts.{table_of}
 use Rattle.tsdb_core.specs.State.{EngineState, FrozenPair, MemoryState, Pair, SeriesEntry}
 use Rattle.tsdb_core.specs.Worlds.{StandsFor, type_at}
-use Rattle.tsdb_frames.specs.Frames.{disk_of, faults_of, slot_of, IsLog}
-use Rattle.tsdb_frames.specs.Log.{HasRecordsOrOneMore}
-use Rattle.tsdb_frames.specs.Moments.{LeavesFirstThen}
-use Rattle.tsdb_frames.specs.declared.frames.Frames.{Frames}
 use Rattle.tsdb_map.specs.Apply.{after_reply, reply_of, value_of}
 use Rattle.tsdb_map.specs.World.{World}
 use Rattle.tsdb_map.specs.declared.command.Cell.{Cell}
@@ -25,11 +22,6 @@ use Rattle.tsdb_map.specs.declared.command.Literal.{Literal}
 use Rattle.tsdb_map.specs.declared.command.Literal.TheVariants as literal
 use Rattle.tsdb_map.specs.declared.command.Row.{Row}
 use Rattle.tsdb_map.specs.declared.reply.Reply.TheVariants.{Plain}
-use Rattle.tsdb_outside.specs.Causes.{HasCause}
-use Rattle.tsdb_outside.specs.Disk.{in_slot}
-use Rattle.tsdb_outside.specs.declared.disk.Disk as disk
-use Rattle.tsdb_outside.specs.declared.faults.Counted as counted
-use Rattle.tsdb_outside.specs.declared.faults.Failed.{Failed}
 use Rattle.tsdb_path.specs.Nodes.{child_of}
 
 -- the bytes that a literal counts in the pair limit, where no one looks at the type of its series
@@ -55,6 +47,10 @@ FitsPair limit row pair =
     IsEmptyPair pair
     ⊎ ((point_count pair + length row.cells ≤ limit) × (byte_count pair + row_bytes row.cells ≤ max_pair_bytes))
 
+-- the row does not fit, and so many pairs are frozen that a flush has to come first
+abbrev pub NeedsFlush : ℕ → Row → MemoryState → Type 0
+NeedsFlush limit row memory = (¬ FitsPair limit row memory.working) × (length memory.frozen ≡ max_frozen)
+
 -- how many points the pair has in the space
 abbrev pub points_in : Space → Pair → ℕ
 points_in space pair = sum_by (λ row. length row.1) (entries (table_of space pair))
@@ -64,6 +60,11 @@ abbrev pub newest_born : List FrozenPair → Option Stamp
 newest_born [] = None
 newest_born (pair ∷ []) = Some (record { 0 = pair.born })
 newest_born (pair ∷ newer ∷ pairs) = newest_born (newer ∷ pairs)
+
+-- the number of the next file, where this is the greatest in the store; it rises no further than its type
+abbrev pub next_after : Option FileNumber → ℕ
+next_after None = 1
+next_after (Some stored) = min (stored.0 + 1) (2 ^ 64 - 1)
 
 -- the type of a cell's series, where it is there
 abbrev pub cell_type : List SeriesEntry → List ℕ → Cell → Option DataType
@@ -131,17 +132,3 @@ IsRefusal Exists = Unit {0}
 IsRefusal Device = ⊥
 IsRefusal Memory = ⊥
 IsRefusal (Full counter) = Unit {0}
-
-module _ {J : Type 0} {means : disk.Ghosts J} {counts : counted.Ghosts J} where
-  -- What an append of a record leaves of a log: the log with the record, or the log with a record in doubt.
-  pub record IsAppend (old new : Frames J means counts) (payload : List ℕ) (outcome : Result (Unit {0}) Failed) : Type 0 where
-    pub added : OnOk outcome ((acknowledged : List (List ℕ)) (in_doubt : Option (List ℕ)) → IsLog old acknowledged in_doubt
-        → IsLog new (acknowledged ++ payload ∷ []) None)
-    pub failed : OnErr outcome ((acknowledged : List (List ℕ)) (in_doubt : Option (List ℕ)) → IsLog old acknowledged in_doubt
-        → IsLog new acknowledged None ⊎ (IsLog new acknowledged in_doubt ⊎ IsLog new acknowledged (Some payload)))
-    pub moments : (acknowledged : List (List ℕ)) (in_doubt : Option (List ℕ)) → IsLog old acknowledged in_doubt
-        → LeavesFirstThen (disk_of old) (disk_of new)
-        (λ image. HasRecordsOrOneMore acknowledged in_doubt (in_slot (slot_of old) image))
-        (λ image. HasRecordsOrOneMore acknowledged (Some payload) (in_slot (slot_of old) image))
-    pub slot : slot_of new ≡ slot_of old
-    pub cause : HasCause (faults_of old) (faults_of new) outcome

@@ -2,7 +2,7 @@
 //! the store's fields.
 ghost use Rattle.std.specs.Prelude.{◌≡◌, ◌≢◌, ◌<◌, ℕ, [], All, AllPairs, Contains, IfOk, OnOk, OnErr, IsSome, None, is_some, map};
 ghost use Rattle.tsdb_base.specs.declared.ids.Space.{Space as SpaceOf};
-ghost use Rattle.tsdb_core.specs.Calls.{IsAppend};
+ghost use Rattle.tsdb_frames.specs.Appends.{IsAppend};
 ghost use Rattle.tsdb_core.specs.Kept.{HasTimes, frozen_in};
 ghost use Rattle.tsdb_core.specs.Limits.{end_of_numbers};
 ghost use Rattle.tsdb_core.specs.Order.{IsInOrder};
