@@ -26,4 +26,5 @@ parts texts places = leb (length texts) ++ (flat_map plain_text texts ++ pack_by
 
 unfoldable pub spelling : List (List ℕ) → List ℕ
 spelling [] = leb 0
-spelling (text ∷ texts) = leb (length (text ∷ texts)) ++ parts (first_uses (text ∷ texts)) (map (place_in (first_uses (text ∷ texts))) (text ∷ texts))
+spelling (text ∷ texts) = leb (length (text ∷ texts))
+    ++ parts (first_uses (text ∷ texts)) (map (place_in (first_uses (text ∷ texts))) (text ∷ texts))

@@ -1,5 +1,6 @@
 -- Steps of the proofs: the texts and places of a list.
-use Rattle.std.specs.Prelude.{◌≡◌, ℕ, ◌^◌, ◌<◌, ◌≤◌, Bool, true, not, List, [], ◌∷◌, ◌++◌, length, map, get_or, All, Option, None, Some, if◌then◌else◌}
+use Rattle.std.specs.Prelude.{◌≡◌, ℕ, ◌^◌, ◌<◌, ◌≤◌, Bool, true, not, List, [], ◌∷◌, ◌++◌, length, map, get_or, All}
+use Rattle.std.specs.Prelude.{Option, None, Some, if◌then◌else◌}
 use denote.Ref.{Bor}
 use Rattle.std.specs.BTreeMap.{BTreeMap, get_by, btree_map_len}
 use Rattle.std.specs.Cmp.Lexicographic.{slice_cmp}
@@ -23,7 +24,8 @@ pub record AreUses (texts : List (List ℕ)) (places : List ℕ) (values : List 
 
 -- the bytes are the parts of no list of so many values
 abbrev pub HaveNoParts : ℕ → List ℕ → Type 0
-HaveNoParts count bytes = (texts : List (List ℕ)) (places : List ℕ) → AreParts count texts places → bytes ≡ parts texts places → ⊥
+HaveNoParts count bytes = (texts : List (List ℕ)) (places : List ℕ) → AreParts count texts places
+    → bytes ≡ parts texts places → ⊥
 
 -- the texts, and this one behind them where it is none of them
 abbrev pub with_text : List (List ℕ) → List ℕ → List (List ℕ)
@@ -51,7 +53,8 @@ pub record IsKnown (values : List (List ℕ)) (places : List ℕ) (text : List �
   pub place-is : place ≡ get_or places index place
 
 -- what the texts, with this one, make of a dictionary of the texts
-pub record Enters (texts : List (List ℕ)) (text : List ℕ) (place : ℕ) (is_new : Bool) (new : BTreeMap (Bor (List ℕ)) ℕ) : Type 0 where
+pub record Enters (texts : List (List ℕ)) (text : List ℕ) (place : ℕ) (is_new : Bool)
+    (new : BTreeMap (Bor (List ℕ)) ℕ) : Type 0 where
   pub place-is : place ≡ place_in texts text
   pub new-is : is_new ≡ not (list_any (bytes_eq text) texts)
   pub dictionary-is : IsDictionary (with_text texts text) new

@@ -1,5 +1,6 @@
 //! From lists to bytes. It depends on `tsdb_base`, `tsdb_bits` and the dictionary.
-ghost use Rattle.std.specs.Prelude.{◌≡◌, ℕ, ◌≤◌, List, ◌++◌, length, map, take, vec_len, IfOk, OnOk, OnErr, if◌then◌else◌};
+ghost use Rattle.std.specs.Prelude.{◌≡◌, ℕ, ◌≤◌, List, ◌++◌, length, map, take, vec_len, IfOk, OnOk, OnErr};
+ghost use Rattle.std.specs.Prelude.{if◌then◌else◌};
 ghost use Rattle.std.specs.List.{flat_map};
 ghost use Rattle.tsdb_base.specs.Limits.{max_values};
 ghost use Rattle.tsdb_base.specs.Plain.{plain_text};

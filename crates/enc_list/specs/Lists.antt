@@ -8,7 +8,8 @@ pub record IsListOf {A : Type 0} (IsValue : A → Type 0) (values : List A) : Ty
   pub typed : All IsValue values
 
 -- the bytes are those of the list
-pub record IsSpelling {A : Type 0} (spelling : List A → List ℕ) (IsValue : A → Type 0) (bytes : List ℕ) (values : List A)
+pub record IsSpelling {A : Type 0} (spelling : List A → List ℕ) (IsValue : A → Type 0) (bytes : List ℕ)
+    (values : List A)
     : Type 0 where
   pub list : IsListOf IsValue values
   pub bytes-are : bytes ≡ spelling values

@@ -1,5 +1,6 @@
 -- The laws of the codes.
-use Rattle.std.proofs.Common.{◌≡◌, ℕ, ◌^◌, ◌<◌, Bool, true, false, ℤ, pos, negsuc, refl, sym, ap, ◌∙◌, arith, FitsSigned}
+use Rattle.std.proofs.Common.{◌≡◌, ℕ, ◌^◌, ◌<◌, Bool, true, false, ℤ, pos, negsuc, refl, sym, ap, ◌∙◌, arith}
+use Rattle.std.proofs.Common.{FitsSigned}
 use Rattle.std.specs.Int.{w32, w64}
 use Rattle.tsdb_bits.specs.Zigzag.{zigzag, unzigzag}
 use Rattle.tsdb_bits.proofs.ZigzagLaws.{unzigzag-zigzag}

@@ -1,7 +1,8 @@
 -- The spelling of a list by run-length encoding: the number of values, and then the runs of equal
 -- neighbours, each as its length and its value. A value is written as a number, its code: a truth value
 -- as 0 or 1, a signed number by zigzag.
-use Rattle.std.specs.Prelude.{◌≡◌, ℕ, ◌+◌, ◌≤◌, Bool, true, false, List, [], ◌∷◌, ◌++◌, length, map, replicate, ◌==◌, if◌then◌else◌}
+use Rattle.std.specs.Prelude.{◌≡◌, ℕ, ◌+◌, ◌≤◌, Bool, true, false, List, [], ◌∷◌, ◌++◌, length, map, replicate, ◌==◌}
+use Rattle.std.specs.Prelude.{if◌then◌else◌}
 use Rattle.std.specs.List.{flat_map}
 use Rattle.tsdb_bits.specs.Leb.{leb}
 
@@ -13,7 +14,8 @@ pub record Run : Type 0 where
 -- one more value in front of runs: it joins the first one where that is its own
 abbrev pub before : ℕ → List Run → List Run
 before code [] = record { count = 1; code = code } ∷ []
-before code (run ∷ runs) = if code == run.code then record { count = run.count + 1; code = code } ∷ runs else record { count = 1; code = code } ∷ run ∷ runs
+before code (run ∷ runs) = if code == run.code then record { count = run.count + 1; code = code } ∷ runs
+    else record { count = 1; code = code } ∷ run ∷ runs
 
 -- the runs of a list, each as long as it can be
 unfoldable pub runs_of : List ℕ → List Run

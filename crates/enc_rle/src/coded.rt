@@ -4,7 +4,8 @@ ghost use Rattle.std.specs.Prelude.{◌≡◌, ℕ, ◌^◌, ◌<◌, IfSome, If
 ghost use Rattle.std.specs.Int.{w32, w64};
 ghost use Rattle.tsdb_bits.specs.Zigzag.{zigzag};
 ghost use Rattle.enc_rle.specs.Spelling.{bool_code};
-ghost use Rattle.enc_rle.specs.CodeLaws.{bool_code-one_to_one, bool_code-lt, same_from_zigzag, zigzag_i32-lt, zigzag_i64-lt};
+ghost use Rattle.enc_rle.specs.CodeLaws.{bool_code-one_to_one, bool_code-lt, same_from_zigzag, zigzag_i32-lt};
+ghost use Rattle.enc_rle.specs.CodeLaws.{zigzag_i64-lt};
 
 use tsdb_bits::{unzigzag, zigzag};
 

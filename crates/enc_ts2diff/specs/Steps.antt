@@ -1,5 +1,6 @@
 -- Steps of the proofs: what the private parts of the decoder answer.
-use Rattle.std.specs.Prelude.{◌≡◌, ℕ, ℤ, pos, ◌+ℤ◌, ◌≤ℤ◌, min, fold, map, List, [], ◌∷◌, length, Result, Ok, Err, Vec, All, FitsSigned}
+use Rattle.std.specs.Prelude.{◌≡◌, ℕ, ℤ, pos, ◌+ℤ◌, ◌≤ℤ◌, min, fold, map, List, [], ◌∷◌, length, Result, Ok, Err, Vec}
+use Rattle.std.specs.Prelude.{All, FitsSigned}
 use Rattle.std.specs.Global.{Global}
 use Rattle.std.specs.Int.{w64}
 use Rattle.enc_list.specs.Lists.{IsListOf}
@@ -16,7 +17,8 @@ Finds view (Err fault.Memory) values = Unit {0}
 -- where a list has the bytes, the result is this list, unless memory ran out
 abbrev pub FindsList : List ℕ → Result (Vec ℤ Global) DecodeFault → Type 0
 FindsList bytes result =
-    (values : List ℤ) → IsListOf (FitsSigned w64) values → spelling values ≡ bytes → Finds (λ found. found.items) result values
+    (values : List ℤ) → IsListOf (FitsSigned w64) values → spelling values ≡ bytes
+    → Finds (λ found. found.items) result values
 
 -- the least of the differences, where there is one, and the offsets from it
 abbrev pub IsBlockOf : ℤ → List ℕ → List ℤ → Type 0

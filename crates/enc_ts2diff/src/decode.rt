@@ -1,6 +1,7 @@
 //! From bytes to lists. It depends on `tsdb_bits` and `enc_list`.
 
-ghost use Rattle.std.specs.Prelude.{◌≡◌, ◌↔◌, ℕ, ◌+◌, ◌-◌, ◌^◌, ◌<◌, ◌≤◌, ℤ, List, ◌∷◌, ◌++◌, length, min, fold, IfOk, IsErrOf, IsTrue, All, FitsSigned};
+ghost use Rattle.std.specs.Prelude.{◌≡◌, ◌↔◌, ℕ, ◌+◌, ◌-◌, ◌^◌, ◌<◌, ◌≤◌, ℤ, List, ◌∷◌, ◌++◌, length, min, fold, IfOk};
+ghost use Rattle.std.specs.Prelude.{IsErrOf, IsTrue, All, FitsSigned};
 ghost use Rattle.std.specs.Int.{w32, w64};
 ghost use Rattle.tsdb_base.specs.Limits.{max_values};
 ghost use Rattle.enc_list.specs.Lists.{IsListOf, IsSpelling, IsOnly, SpellNone};

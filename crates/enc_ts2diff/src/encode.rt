@@ -1,6 +1,7 @@
 //! From lists to bytes. It depends on `tsdb_bits`.
 
-ghost use Rattle.std.specs.Prelude.{◌≡◌, ℕ, ◌+◌, ◌^◌, ◌<◌, ◌≤◌, max, ℤ, List, ◌++◌, length, take, vec_len, fold, IfOk, OnOk, OnErr, All, FitsSigned};
+ghost use Rattle.std.specs.Prelude.{◌≡◌, ℕ, ◌+◌, ◌^◌, ◌<◌, ◌≤◌, max, ℤ, List, ◌++◌, length, take, vec_len, fold, IfOk};
+ghost use Rattle.std.specs.Prelude.{OnOk, OnErr, All, FitsSigned};
 ghost use Rattle.std.specs.Int.{w64};
 ghost use Rattle.tsdb_base.specs.Limits.{max_values};
 ghost use Rattle.enc_ts2diff.specs.Spelling.{differences, least, offsets, block, spelling};

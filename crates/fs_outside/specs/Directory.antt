@@ -1,5 +1,6 @@
 -- What the directory of a store tells of its files, and what each call does to it.
-use Rattle.std.specs.Prelude.{◌≡◌, ℕ, ◌+◌, ◌≤◌, Bool, true, false, List, [], ◌∷◌, ◌++◌, length, take, drop, map, filter, nat_eq, not, Contains, Some, None, IfSome, if◌then◌else◌}
+use Rattle.std.specs.Prelude.{◌≡◌, ℕ, ◌+◌, ◌≤◌, Bool, true, false, List, [], ◌∷◌, ◌++◌, length, take, drop, map, filter}
+use Rattle.std.specs.Prelude.{nat_eq, not, Contains, Some, None, IfSome, if◌then◌else◌}
 use Rattle.std.specs.declared.option.Option.{Option}
 use Rattle.tsdb_outside.specs.Files.{NamedFile}
 
@@ -52,7 +53,8 @@ abbrev pub without : ℕ → List DirectoryFile → List DirectoryFile
 without n files = filter (λ (file : DirectoryFile). not (nat_eq file.number n)) files
 
 -- what it tells changes in this way, where it tells
-abbrev pub Becomes : (List DirectoryFile → List DirectoryFile) → Option (List DirectoryFile) → Option (List DirectoryFile) → Type 0
+abbrev pub Becomes : (List DirectoryFile → List DirectoryFile) → Option (List DirectoryFile)
+    → Option (List DirectoryFile) → Type 0
 Becomes change old new = IfSome old (λ files. new ≡ Some (change files))
 
 -- these are bytes of the file with this number, from that place on

@@ -2,11 +2,14 @@
 //! each whether a stop leaves its bytes and its name: the bytes are durable after a sync of the file, the name after a
 //! sync of the directory. The files and ports are proved over directories that tell. A directory of the system tells
 //! nothing. Depends on `file_name`.
-ghost use Rattle.std.specs.Prelude.{◌≡◌, ◌↔◌, ℕ, ◌^◌, ◌-◌, List, map, Contains, None, IfOk, IfSome, MatchOption, OnErr, OnOk};
+ghost use Rattle.std.specs.Prelude.{◌≡◌, ◌↔◌, ℕ, ◌^◌, ◌-◌, List, map, Contains, None, IfOk, IfSome, MatchOption, OnErr};
+ghost use Rattle.std.specs.Prelude.{OnOk};
 ghost use Rattle.std.specs.declared.option.Option.{Option};
 ghost use Rattle.tsdb_outside.specs.Causes.{HasCause};
 ghost use Rattle.tsdb_outside.specs.Files.{IsFileNumber};
-ghost use Rattle.fs_outside.specs.Directory.{DirectoryFile, IsFree, Becomes, add_new, change_one, with_bytes, with_synced_bytes, with_synced_name, without, numbers_in, HasBytesOf, HasLengthOf};
+ghost use Rattle.fs_outside.specs.Directory.{DirectoryFile, IsFree, Becomes, add_new, change_one, with_bytes};
+ghost use Rattle.fs_outside.specs.Directory.{with_synced_bytes, with_synced_name, without, numbers_in, HasBytesOf};
+ghost use Rattle.fs_outside.specs.Directory.{HasLengthOf};
 
 use crate::file_name::{name_of_number, number_of_name};
 use std::alloc::{AllocError, Global};

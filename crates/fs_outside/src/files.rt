@@ -1,14 +1,17 @@
 //! The files of a real store, and their ports, over the calls of a directory. They tell no bytes as `Files` and `Port`;
 //! their clauses say what each call does to a directory that tells. Depends on `file_directory`.
-ghost use Rattle.std.specs.Prelude.{◌≡◌, ◌↔◌, ℕ, ◌+◌, ◌-◌, ◌^◌, ◌≤◌, min, map, All, Contains, None, IfOk, IfSome, IsErrOf, MatchOption, OnErr, OnOk};
+ghost use Rattle.std.specs.Prelude.{◌≡◌, ◌↔◌, ℕ, ◌+◌, ◌-◌, ◌^◌, ◌≤◌, min, map, All, Contains, None, IfOk, IfSome};
+ghost use Rattle.std.specs.Prelude.{IsErrOf, MatchOption, OnErr, OnOk};
 ghost use Rattle.std.specs.Arc.{arc_value};
 ghost use Rattle.std.specs.List.Sorted.{IsStrictlyIncreasing};
 ghost use Rattle.tsdb_outside.specs.Causes.{HasCause, HasStoreCause, Rose};
 ghost use Rattle.tsdb_outside.specs.Files.{IsFileNumber, Names, plain_numbers};
 ghost use Rattle.tsdb_outside.specs.Limits.{FitsSlot};
 ghost use Rattle.tsdb_outside.specs.declared.faults.StoreFault.TheVariants as fault;
-ghost use Rattle.fs_outside.specs.Directory.{IsFree, Becomes, put_durable, without, numbers_in, HasBytesOf, HasLengthOf, numbered};
-ghost use Rattle.fs_outside.specs.Files.{port_directory, port_faults, files_directory, files_faults, sealed_file, sealed_rights, right_file};
+ghost use Rattle.fs_outside.specs.Directory.{IsFree, Becomes, put_durable, without, numbers_in, HasBytesOf};
+ghost use Rattle.fs_outside.specs.Directory.{HasLengthOf, numbered};
+ghost use Rattle.fs_outside.specs.Files.{port_directory, port_faults, files_directory, files_faults, sealed_file};
+ghost use Rattle.fs_outside.specs.Files.{sealed_rights, right_file};
 
 use crate::file_directory::{FileDirectory, NumberedFile};
 use std::alloc::Global;
@@ -113,7 +116,8 @@ where
 
     /// A file that is there is left alone, and the call fails.
     fn put(&mut self, number: FileNumber, bytes: &[u8]) -> Result<FsSealed<D::File>, StoreFault>
-        ensures file { IfOk result (λ sealed. Names number.0 bytes.now (numbered (D.File.number (sealed_file sealed)))) }
+        ensures file { IfOk result (λ sealed. Names number.0 bytes.now
+            (numbered (D.File.number (sealed_file sealed)))) }
         ensures no_rights { IfOk result (λ sealed. sealed_rights sealed ≡ 0) }
         ensures cause { HasStoreCause (port_faults self.old) (port_faults self.new) result }
 
@@ -257,7 +261,8 @@ where
         ensures cause { HasStoreCause (files_faults self.old) (files_faults self.new) result }
 
         // What the directory tells.
-        ensures exact { IfOk result (λ list. IfSome (D.told (files_directory self.old)) (λ files. (n : ℕ) → IsFileNumber n
+        ensures exact { IfOk result (λ list. IfSome (D.told (files_directory self.old))
+            (λ files. (n : ℕ) → IsFileNumber n
             → (Contains (plain_numbers list.items) n ↔ Contains (numbers_in files) n))) }
         ensures same { D.told (files_directory self.new) ≡ D.told (files_directory self.old) }
         ensures reason { IsErrOf result fault.Failed
@@ -275,7 +280,8 @@ where
         ensures cause { HasStoreCause (files_faults self.old) (files_faults self.new) result }
 
         // What the directory tells.
-        ensures none { IfOk result (λ found. found ≡ None → IfSome (D.told (files_directory self.old)) (IsFree number.0)) }
+        ensures none { IfOk result (λ found. found ≡ None
+            → IfSome (D.told (files_directory self.old)) (IsFree number.0)) }
         ensures same { D.told (files_directory self.new) ≡ D.told (files_directory self.old) }
         ensures reason { IsErrOf result fault.Failed
             → Rose (D.faults (files_directory self.old)) (D.faults (files_directory self.new)) }

@@ -1,10 +1,12 @@
 //! The journal of a real store: each slot over its file. It counts every failure, keeps a slot within its limit, and
 //! gives a slot up whose sync has failed: the system may forget bytes that it could not write, so a later sync that
 //! succeeds would prove nothing. Depends on `slot_file`.
-ghost use Rattle.std.specs.Prelude.{◌≡◌, ◌↔◌, ◌+◌, ◌-◌, ◌^◌, ◌≤◌, min, length, false, is_err, IfOk, IsErr, IsTrue, OnErr, OnOk};
+ghost use Rattle.std.specs.Prelude.{◌≡◌, ◌↔◌, ◌+◌, ◌-◌, ◌^◌, ◌≤◌, min, length, false, is_err, IfOk, IsErr, IsTrue};
+ghost use Rattle.std.specs.Prelude.{OnErr, OnOk};
 ghost use Rattle.tsdb_outside.specs.Causes.{HasCause, Rose};
 ghost use Rattle.tsdb_outside.specs.Limits.{FitsSlot};
-ghost use Rattle.fs_outside.specs.FileState.{FileFails, HasLength, HasBytes, KeepsFile, OverwritesFile, MayWriteFile, IsFileDurable};
+ghost use Rattle.fs_outside.specs.FileState.{FileFails, HasLength, HasBytes, KeepsFile, OverwritesFile, MayWriteFile};
+ghost use Rattle.fs_outside.specs.FileState.{IsFileDurable};
 
 use crate::slot_file::SlotFile;
 use std::fs::File;
@@ -168,7 +170,8 @@ impl<F, G> Disk for FsJournal<F, G> {
 
 impl<F: SlotFile + Send, G: Send> Journal for FsJournal<F, G> {
     ghost use Rattle.tsdb_outside.specs.Disk.{Keeps, MayWrite, silent_state};
-    ghost use Rattle.fs_outside.specs.Journal.{file_state, sync_failed, journal_faults, SameElsewhere, LengthFails, WriteFails, SyncFails};
+    ghost use Rattle.fs_outside.specs.Journal.{file_state, sync_failed, journal_faults, SameElsewhere, LengthFails};
+    ghost use Rattle.fs_outside.specs.Journal.{WriteFails, SyncFails};
 
     fn length(&mut self, slot: Slot) -> Result<u64, Failed>
         ensures length { IfOk result (λ n. HasLength n (file_state F.state slot self.old)) }

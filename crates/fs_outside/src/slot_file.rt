@@ -2,7 +2,8 @@
 //! may leave of it; the journal is proved over files that tell. A file of the system tells nothing.
 ghost use Rattle.std.specs.Prelude.{◌≡◌, List, ℕ, length, Some, IfOk, OnOk};
 ghost use Rattle.tsdb_outside.specs.Causes.{HasCause};
-ghost use Rattle.fs_outside.specs.FileState.{FileState, HasLength, HasBytes, KeepsFile, OverwritesFile, MayWriteFile, IsFileDurable, silent_file};
+ghost use Rattle.fs_outside.specs.FileState.{FileState, HasLength, HasBytes, KeepsFile, OverwritesFile, MayWriteFile};
+ghost use Rattle.fs_outside.specs.FileState.{IsFileDurable, silent_file};
 
 use std::fs::File;
 use std::io;

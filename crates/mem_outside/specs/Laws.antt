@@ -11,7 +11,8 @@ use Rattle.tsdb_outside.proofs.DiskLemmas.{Torn-same, Torn-overwrite}
 use Rattle.mem_outside.specs.declared.record.Call.{Call}
 use Rattle.mem_outside.specs.declared.record.Kind.{Kind}
 use Rattle.mem_outside.specs.declared.record.Kind.TheVariants.{Write, Sync}
-use Rattle.mem_outside.specs.Record.{SlotState, new_slot, after_write, after_kind, is_slot, after_call, after_calls, Leaves, seen_after, LeavesOf, LeftSince, state_after}
+use Rattle.mem_outside.specs.Record.{SlotState, new_slot, after_write, after_kind, is_slot, after_call, after_calls}
+use Rattle.mem_outside.specs.Record.{Leaves, seen_after, LeavesOf, LeftSince, state_after}
 
 -- a fact that each kind of call keeps holds after all of them
 kept_by_call : (P : SlotState → Type 0)

@@ -1,5 +1,6 @@
 -- What a record of writes and syncs stands for in one slot, and what a stop may leave of it.
-use Rattle.std.specs.Prelude.{◌≡◌, ℕ, ◌-◌, ◌≤◌, min, Bool, true, false, List, [], ◌∷◌, length, take, map, Some, if◌then◌else◌}
+use Rattle.std.specs.Prelude.{◌≡◌, ℕ, ◌-◌, ◌≤◌, min, Bool, true, false, List, [], ◌∷◌, length, take, map, Some}
+use Rattle.std.specs.Prelude.{if◌then◌else◌}
 use Rattle.std.specs.List.{fold}
 use Rattle.tsdb_outside.specs.Disk.{Image, State, overwrite, Torn}
 use Rattle.tsdb_outside.specs.declared.disk.Slot.{Slot}

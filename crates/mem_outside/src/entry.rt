@@ -1,9 +1,12 @@
 //! A stored file in memory with the record of its life, and the tokens that name it. The node of the record is made as
-//! the file is stored and goes with its `Sealed`, so that `keep` and `remove` take no memory. Depends on `tsdb_outside`.
-ghost use Rattle.std.specs.Prelude.{◌≡◌, ◌≢◌, ℕ, ◌+◌, ◌-◌, ◌<◌, ◌^◌, ◌∷◌, ◌++◌, [], length, map, filter, take, drop, slice_index_or, Contains, IfOk, IfSome, MatchOption, OnErr, OnOk, Some, None};
+//! the file is stored and goes with its `Sealed`, so that `keep` and `remove` take no memory. Depends on
+//! `tsdb_outside`.
+ghost use Rattle.std.specs.Prelude.{◌≡◌, ◌≢◌, ℕ, ◌+◌, ◌-◌, ◌<◌, ◌^◌, ◌∷◌, ◌++◌, [], length, map, filter, take, drop};
+ghost use Rattle.std.specs.Prelude.{slice_index_or, Contains, IfOk, IfSome, MatchOption, OnErr, OnOk, Some, None};
 ghost use Rattle.std.specs.Arc.{arc_value};
 ghost use Rattle.mem_outside.specs.declared.entry.Entry.{Entry};
-ghost use Rattle.mem_outside.specs.Entry.{entry_file, named_file, is_there, entry_files, last_place, last_of, removed, handed_in, TakesNode};
+ghost use Rattle.mem_outside.specs.Entry.{entry_file, named_file, is_there, entry_files, last_place, last_of, removed};
+ghost use Rattle.mem_outside.specs.Entry.{handed_in, TakesNode};
 ghost use Rattle.tsdb_outside.specs.Files.{numbers_of};
 
 use std::alloc::{AllocError, Global};

@@ -1,5 +1,7 @@
 //! The files of a store in memory, and their ports. Some of their calls fail, by number. Depends on `entry` and `row`.
-ghost use Rattle.std.specs.Prelude.{◌≡◌, ◌↔◌, ℕ, ◌+◌, ◌-◌, ◌^◌, ◌<◌, ◌≤◌, ◌∷◌, ◌++◌, [], min, max, length, take, drop, map, filter, All, Contains, None, Some, IfOk, IfSome, IsErr, IsOk, MatchOption, OnErr, OnOk};
+ghost use Rattle.std.specs.Prelude.{◌≡◌, ◌↔◌, ℕ, ◌+◌, ◌-◌, ◌^◌, ◌<◌, ◌≤◌, ◌∷◌, ◌++◌, [], min, max, length, take, drop};
+ghost use Rattle.std.specs.Prelude.{map, filter, All, Contains, None, Some, IfOk, IfSome, IsErr, IsOk, MatchOption};
+ghost use Rattle.std.specs.Prelude.{OnErr, OnOk};
 ghost use Rattle.std.specs.Option.{ForSome};
 ghost use Rattle.std.specs.Arc.{arc_value};
 ghost use Rattle.std.specs.List.Sorted.{IsStrictlyIncreasing};
@@ -7,7 +9,8 @@ ghost use Rattle.tsdb_outside.specs.Causes.{HasCause, HasStoreCause, Rose};
 ghost use Rattle.tsdb_outside.specs.Files.{IsFileNumber, Names, numbers_of, plain_numbers, TakesOut, PutsBack};
 ghost use Rattle.tsdb_outside.specs.Limits.{FitsSlot};
 ghost use Rattle.mem_outside.specs.Entry.{entry_files, last_of, is_there};
-ghost use Rattle.mem_outside.specs.Files.{port_faults, port_gone, port_row, files_faults, files_at_rest, files_gone, files_row, stored_files, AddsRemoved};
+ghost use Rattle.mem_outside.specs.Files.{port_faults, port_gone, port_row, files_faults, files_at_rest, files_gone};
+ghost use Rattle.mem_outside.specs.Files.{files_row, stored_files, AddsRemoved};
 ghost use Rattle.mem_outside.specs.Row.{never_fails};
 ghost use Rattle.mem_outside.specs.Tokens.{sealed_node, sealed_file, sealed_rights, right_bytes, right_file};
 
@@ -198,7 +201,8 @@ impl MemFiles {
 
     // The entries that a stop behind this many counted calls leaves.
     pub(crate) fn after_stop(&self, moment: u64) -> Result<LinkedList<Entry>, AllocError>
-        ensures { IfOk result (λ left. entry_files left ≡ entry_files (filter (is_there moment) (files_at_rest self.now))
+        ensures { IfOk result (λ left. entry_files left
+            ≡ entry_files (filter (is_there moment) (files_at_rest self.now))
             ++ entry_files (filter (is_there moment) (files_gone self.now))) }
     {
         let mut left = LinkedList::new(self.alloc);

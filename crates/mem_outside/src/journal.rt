@@ -1,5 +1,6 @@
 //! The journal in memory. Depends on `calls`, `record` and `row`.
-ghost use Rattle.std.specs.Prelude.{◌≡◌, ◌↔◌, ◌+◌, ◌^◌, ◌<◌, ◌≤◌, [], length, take, drop, IfOk, IfSome, IsErr, IsOk, IsTrue, OnErr, OnOk};
+ghost use Rattle.std.specs.Prelude.{◌≡◌, ◌↔◌, ◌+◌, ◌^◌, ◌<◌, ◌≤◌, [], length, take, drop, IfOk, IfSome, IsErr, IsOk};
+ghost use Rattle.std.specs.Prelude.{IsTrue, OnErr, OnOk};
 ghost use Rattle.std.specs.Option.{ForSome};
 ghost use Rattle.tsdb_outside.specs.Causes.{HasCause};
 ghost use Rattle.tsdb_outside.specs.Limits.{FitsSlot};
@@ -35,7 +36,8 @@ pub struct MemJournal {
 impl MemJournal {
     ghost use Rattle.mem_outside.specs.Slots.{pair_image};
     ghost use Rattle.mem_outside.specs.Record.{image_after_stop};
-    ghost use Rattle.mem_outside.specs.Journal.{journal_first, journal_calls, journal_numbers, journal_faults, with_no_faults};
+    ghost use Rattle.mem_outside.specs.Journal.{journal_first, journal_calls, journal_numbers, journal_faults};
+    ghost use Rattle.mem_outside.specs.Journal.{with_no_faults};
 
     // Two slots with these bytes, all of them durable.
     pub(crate) fn new(
@@ -116,7 +118,8 @@ impl Journal for MemJournal {
     ghost use Rattle.tsdb_outside.specs.Disk.{in_slot, Overwrites, WhereTold, Durable, Keeps, MayWrite};
     ghost use Rattle.mem_outside.specs.Calls.{NextFails};
     ghost use Rattle.mem_outside.specs.Record.{after_write, after_sync};
-    ghost use Rattle.mem_outside.specs.Journal.{journal_state, journal_numbers, journal_faults, Succeeds, FailsByNumber, FailsWithoutRoom};
+    ghost use Rattle.mem_outside.specs.Journal.{journal_state, journal_numbers, journal_faults, Succeeds};
+    ghost use Rattle.mem_outside.specs.Journal.{FailsByNumber, FailsWithoutRoom};
 
     fn length(&mut self, slot: Slot) -> Result<u64, Failed>
         ensures length { IfOk result (λ n. ForSome (journal_state self.old).seen

@@ -1,5 +1,6 @@
 //! The places in memory. Depends on `journal` and `files`.
-ghost use Rattle.std.specs.Prelude.{◌≡◌, ◌↔◌, ◌+◌, ◌-◌, ◌^◌, ◌<◌, ◌≤◌, ◌++◌, [], min, map, None, Some, IfOk, IfSome, IsOk, IsSome, OnErr, OnOk};
+ghost use Rattle.std.specs.Prelude.{◌≡◌, ◌↔◌, ◌+◌, ◌-◌, ◌^◌, ◌<◌, ◌≤◌, ◌++◌, [], min, map, None, Some, IfOk, IfSome};
+ghost use Rattle.std.specs.Prelude.{IsOk, IsSome, OnErr, OnOk};
 ghost use Rattle.tsdb_outside.specs.Causes.{HasStoreCause};
 ghost use Rattle.mem_outside.specs.PlaceLaws.{place_is_lawful};
 
@@ -42,7 +43,9 @@ impl MemPlace {
     ghost use Rattle.mem_outside.specs.Entry.{entry_files, handed_in};
     ghost use Rattle.mem_outside.specs.Slots.{pair_image};
     ghost use Rattle.mem_outside.specs.Journal.{journal_numbers};
-    ghost use Rattle.mem_outside.specs.Place.{journal_of, files_of, failing_of, place_faults, place_state, place_stored, moments_of, LeftAt, stop_image, stop_files, IsDurable, slots_image};
+    ghost use Rattle.mem_outside.specs.Place.{journal_of, files_of, failing_of, place_faults, place_state};
+    ghost use Rattle.mem_outside.specs.Place.{place_stored, moments_of, LeftAt, stop_image, stop_files, IsDurable};
+    ghost use Rattle.mem_outside.specs.Place.{slots_image};
 
     /// A place with these slots, all of their bytes durable, and these files, whose numbers differ and are those that a
     /// file may have.

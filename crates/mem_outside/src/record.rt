@@ -1,7 +1,8 @@
 //! Two slots in memory, with a record of each write and sync that was asked for. Depends on `tsdb_outside`.
 ghost use Rattle.std.specs.Prelude.{◌≡◌, ◌≤◌, ◌<◌, ◌^◌, [], length, take, IfOk, OnOk, OnErr, vec_len};
 ghost use Rattle.tsdb_outside.specs.Disk.{in_slot, with_slot, overwrite};
-ghost use Rattle.mem_outside.specs.Record.{SlotState, after_write, after_sync, after_kind, after_call, seen_after, invert, apply_pending, slot_after_stop};
+ghost use Rattle.mem_outside.specs.Record.{SlotState, after_write, after_sync, after_kind, after_call, seen_after};
+ghost use Rattle.mem_outside.specs.Record.{invert, apply_pending, slot_after_stop};
 ghost use Rattle.mem_outside.specs.Replay.{IsReplayOf};
 ghost use Rattle.mem_outside.specs.Slots.{pair_image};
 ghost use Rattle.std.specs.List.{prefix_len};
@@ -185,7 +186,8 @@ pub struct RecordedDisk {
 }
 
 impl RecordedDisk {
-    ghost use Rattle.mem_outside.specs.RecordedDisk.{is_until, last_of_calls, disk_seen, disk_first, disk_calls, RecordsCall, SameRecord};
+    ghost use Rattle.mem_outside.specs.RecordedDisk.{is_until, last_of_calls, disk_seen, disk_first, disk_calls};
+    ghost use Rattle.mem_outside.specs.RecordedDisk.{RecordsCall, SameRecord};
 
     /// Two slots with these bytes, all of them durable.
     pub fn new(alloc: Global, first: Pair) -> Result<RecordedDisk, AllocError>

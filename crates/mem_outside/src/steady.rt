@@ -1,5 +1,6 @@
 //! Files and places in memory that never fail. Depends on `files` and `place`.
-ghost use Rattle.std.specs.Prelude.{◌≡◌, ◌↔◌, ℕ, ◌+◌, ◌-◌, ◌^◌, ◌<◌, ◌≤◌, ◌++◌, [], min, length, map, None, Some, IfOk, IfSome, IsOk, IsSome, OnErr, OnOk};
+ghost use Rattle.std.specs.Prelude.{◌≡◌, ◌↔◌, ℕ, ◌+◌, ◌-◌, ◌^◌, ◌<◌, ◌≤◌, ◌++◌, [], min, length, map, None, Some, IfOk};
+ghost use Rattle.std.specs.Prelude.{IfSome, IsOk, IsSome, OnErr, OnOk};
 ghost use Rattle.std.specs.declared.option.Option.{Option};
 ghost use Rattle.mem_outside.specs.Files.{port_faults, port_row, files_faults, files_row, stored_files};
 ghost use Rattle.mem_outside.specs.Place.{files_of, failing_of};
@@ -124,7 +125,8 @@ pub struct SteadyPlace {
 impl SteadyPlace {
     ghost use Rattle.mem_outside.specs.Entry.{handed_in};
     ghost use Rattle.mem_outside.specs.Journal.{journal_numbers};
-    ghost use Rattle.mem_outside.specs.Place.{journal_of, place_faults, place_state, place_stored, IsDurable, slots_image};
+    ghost use Rattle.mem_outside.specs.Place.{journal_of, place_faults, place_state, place_stored, IsDurable};
+    ghost use Rattle.mem_outside.specs.Place.{slots_image};
     ghost use Rattle.mem_outside.specs.Steady.{inner_place};
 
     /// A place with these slots, all of their bytes durable, and these files, whose numbers differ and are those that a

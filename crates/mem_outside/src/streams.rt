@@ -1,5 +1,6 @@
 //! Sources and sinks in memory. Depends on `calls`.
-ghost use Rattle.std.specs.Prelude.{◌≡◌, ◌≢◌, ◌↔◌, ◌≤◌, ◌<◌, ◌++◌, [], min, length, take, Some, IsErr, IfOk, OnOk, OnErr, refl, vec_len};
+ghost use Rattle.std.specs.Prelude.{◌≡◌, ◌≢◌, ◌↔◌, ◌≤◌, ◌<◌, ◌++◌, [], min, length, take, Some, IsErr, IfOk, OnOk};
+ghost use Rattle.std.specs.Prelude.{OnErr, refl, vec_len};
 ghost use Rattle.std.specs.Io.{ReadsAtMost, WritesAtMost};
 ghost use Rattle.std.specs.Io.KnownBytes.{ReadConsumes, WriteAppends};
 ghost use Rattle.tsdb_outside.specs.Causes.{HasCause, HasStoreCause};

@@ -1,5 +1,6 @@
 -- Private steps: entries in order of time, and the statistics of a list that may be empty.
-use Rattle.std.specs.Prelude.{◌≡◌, ◌⊎◌, ℕ, ◌<◌, ◌≤◌, ◌≤ℤ◌, ◌<ℤ◌, false, List, [], All, Contains, IsTrue, take, drop, filter, Option, Some, None, Ok, ⊤, length, map, sum_by, ◌||◌, if◌then◌else◌}
+use Rattle.std.specs.Prelude.{◌≡◌, ◌⊎◌, ℕ, ◌<◌, ◌≤◌, ◌≤ℤ◌, ◌<ℤ◌, false, List, [], All, Contains, IsTrue, take, drop}
+use Rattle.std.specs.Prelude.{filter, Option, Some, None, Ok, ⊤, length, map, sum_by, ◌||◌, if◌then◌else◌}
 use Rattle.std.specs.declared.alloc.Global.{Global}
 use Rattle.std.specs.declared.vec.Vec.{Vec}
 use Rattle.tsdb_base.specs.declared.point.Point.{Point}
@@ -59,11 +60,13 @@ pub record IsMergeWithin (lists : List (List Point)) (range : Range) (points : L
   pub is : points ≡ filter (λ point. is_in range point.time) all
 
 -- the first m entries are walked: the statistics of their winners, and what their loads have cost
-pub record HasWalked (range : Range) (before now : LoaderState) (pages pages_now : ℕ) (entries : List Entry) (m : ℕ) (total : Option Stats) : Type 0 where
+pub record HasWalked (range : Range) (before now : LoaderState) (pages pages_now : ℕ) (entries : List Entry) (m : ℕ)
+    (total : Option Stats) : Type 0 where
   pub within : m ≤ length entries
   pub found : HasTotal before.held range (take m entries) total
   pub cut : IsCut m entries
-  pub spends : Spends {T = ⊤} (sum_by cost_of (parts_of before.held (take m entries))) before now pages pages_now (Ok tt)
+  pub spends : Spends {T = ⊤} (sum_by cost_of (parts_of before.held (take m entries))) before now pages pages_now
+      (Ok tt)
 
 -- lists in memory, whose loads cost nothing
 abbrev pub held_of : List (Vec Point Global) → List Held

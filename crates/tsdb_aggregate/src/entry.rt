@@ -1,5 +1,6 @@
 //! The pieces that meet a range, in order of their starts. It depends on `piece`.
-ghost use Rattle.std.specs.Prelude.{◌≡◌, ◌↔◌, ◌<◌, ◌≤◌, ◌<ℤ◌, ◌≤ℤ◌, IsTrue, List, All, AllPairs, IfOk, filter, length, take};
+ghost use Rattle.std.specs.Prelude.{◌≡◌, ◌↔◌, ◌<◌, ◌≤◌, ◌<ℤ◌, ◌≤ℤ◌, IsTrue, List, All, AllPairs, IfOk, filter, length};
+ghost use Rattle.std.specs.Prelude.{take};
 ghost use Rattle.std.specs.List.{zip};
 ghost use Rattle.std.specs.List.Sorted.{IsPermutation};
 ghost use Rattle.tsdb_aggregate.specs.Loads.{Held};

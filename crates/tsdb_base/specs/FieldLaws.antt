@@ -9,22 +9,35 @@ use Rattle.tsdb_base.specs.declared.value.Encoding.TheVariants.{Plain, Dictionar
 use Rattle.tsdb_base.specs.Fields.{number16, number32, number64, type_field, encoding_field, pair_field, IsPair}
 use Rattle.tsdb_base.specs.PlainLaws.{same_front}
 
-pub number16-prefix_free : (a b : ℕ) (x y : List ℕ) → a < 2 ^ 16 → b < 2 ^ 16 → number16 a ++ x ≡ number16 b ++ y → (a ≡ b) × (x ≡ y)
+pub number16-prefix_free : (a b : ℕ) (x y : List ℕ) → a < 2 ^ 16 → b < 2 ^ 16 → number16 a ++ x ≡ number16 b ++ y
+    → (a ≡ b) × (x ≡ y)
 number16-prefix_free a b x y below_a below_b e =
-    let same = same_front (number16 a) (number16 b) x y refl e in
-    (sym (from_be_bytes-to_be_bytes_2 a below_a) ∙ ap (from_be_bytes w16) same.0 ∙ from_be_bytes-to_be_bytes_2 b below_b, same.1)
+    let same = same_front (number16 a) (number16 b) x y refl e in (
+      sym (from_be_bytes-to_be_bytes_2 a below_a) ∙ ap (from_be_bytes w16) same.0
+          ∙ from_be_bytes-to_be_bytes_2 b below_b,
+      same.1,
+    )
 
-pub number32-prefix_free : (a b : ℕ) (x y : List ℕ) → a < 2 ^ 32 → b < 2 ^ 32 → number32 a ++ x ≡ number32 b ++ y → (a ≡ b) × (x ≡ y)
+pub number32-prefix_free : (a b : ℕ) (x y : List ℕ) → a < 2 ^ 32 → b < 2 ^ 32 → number32 a ++ x ≡ number32 b ++ y
+    → (a ≡ b) × (x ≡ y)
 number32-prefix_free a b x y below_a below_b e =
-    let same = same_front (number32 a) (number32 b) x y refl e in
-    (sym (from_be_bytes-to_be_bytes_4 a below_a) ∙ ap (from_be_bytes w32) same.0 ∙ from_be_bytes-to_be_bytes_4 b below_b, same.1)
+    let same = same_front (number32 a) (number32 b) x y refl e in (
+      sym (from_be_bytes-to_be_bytes_4 a below_a) ∙ ap (from_be_bytes w32) same.0
+          ∙ from_be_bytes-to_be_bytes_4 b below_b,
+      same.1,
+    )
 
-pub number64-prefix_free : (a b : ℕ) (x y : List ℕ) → a < 2 ^ 64 → b < 2 ^ 64 → number64 a ++ x ≡ number64 b ++ y → (a ≡ b) × (x ≡ y)
+pub number64-prefix_free : (a b : ℕ) (x y : List ℕ) → a < 2 ^ 64 → b < 2 ^ 64 → number64 a ++ x ≡ number64 b ++ y
+    → (a ≡ b) × (x ≡ y)
 number64-prefix_free a b x y below_a below_b e =
-    let same = same_front (number64 a) (number64 b) x y refl e in
-    (sym (from_be_bytes-to_be_bytes_8 a below_a) ∙ ap (from_be_bytes w64) same.0 ∙ from_be_bytes-to_be_bytes_8 b below_b, same.1)
+    let same = same_front (number64 a) (number64 b) x y refl e in (
+      sym (from_be_bytes-to_be_bytes_8 a below_a) ∙ ap (from_be_bytes w64) same.0
+          ∙ from_be_bytes-to_be_bytes_8 b below_b,
+      same.1,
+    )
 
-pub type_field-prefix_free : (a b : DataType) (x y : List ℕ) → Unit {0} → Unit {0} → type_field a ++ x ≡ type_field b ++ y → (a ≡ b) × (x ≡ y)
+pub type_field-prefix_free : (a b : DataType) (x y : List ℕ) → Unit {0} → Unit {0}
+    → type_field a ++ x ≡ type_field b ++ y → (a ≡ b) × (x ≡ y)
 type_field-prefix_free Boolean Boolean x y va vb e = (refl, cc)
 type_field-prefix_free Boolean Int32 x y va vb e = absurd cc
 type_field-prefix_free Boolean Int64 x y va vb e = absurd cc
@@ -42,7 +55,8 @@ type_field-prefix_free Text Int32 x y va vb e = absurd cc
 type_field-prefix_free Text Int64 x y va vb e = absurd cc
 type_field-prefix_free Text Text x y va vb e = (refl, cc)
 
-pub encoding_field-prefix_free : (a b : Encoding) (x y : List ℕ) → Unit {0} → Unit {0} → encoding_field a ++ x ≡ encoding_field b ++ y → (a ≡ b) × (x ≡ y)
+pub encoding_field-prefix_free : (a b : Encoding) (x y : List ℕ) → Unit {0} → Unit {0}
+    → encoding_field a ++ x ≡ encoding_field b ++ y → (a ≡ b) × (x ≡ y)
 encoding_field-prefix_free Plain Plain x y va vb e = (refl, cc)
 encoding_field-prefix_free Plain Dictionary x y va vb e = absurd cc
 encoding_field-prefix_free Plain Rle x y va vb e = absurd cc
@@ -60,13 +74,15 @@ encoding_field-prefix_free Ts2diff Dictionary x y va vb e = absurd cc
 encoding_field-prefix_free Ts2diff Rle x y va vb e = absurd cc
 encoding_field-prefix_free Ts2diff Ts2diff x y va vb e = (refl, cc)
 
-pub pair_field-prefix_free : {A B : Type 0} (first : A → List ℕ) (second : B → List ℕ) (IsFirst : A → Type 0) (IsSecond : B → Type 0)
+pub pair_field-prefix_free : {A B : Type 0} (first : A → List ℕ) (second : B → List ℕ) (IsFirst : A → Type 0)
+    (IsSecond : B → Type 0)
     → ((a b : A) (x y : List ℕ) → IsFirst a → IsFirst b → first a ++ x ≡ first b ++ y → (a ≡ b) × (x ≡ y))
     → ((a b : B) (x y : List ℕ) → IsSecond a → IsSecond b → second a ++ x ≡ second b ++ y → (a ≡ b) × (x ≡ y))
     → (a b : A × B) (x y : List ℕ) → IsPair IsFirst IsSecond a → IsPair IsFirst IsSecond b
     → pair_field first second a ++ x ≡ pair_field first second b ++ y → (a ≡ b) × (x ≡ y)
 pair_field-prefix_free first second IsFirst IsSecond free_first free_second (a, c) (b, d) x y is_a is_b e =
-    let parted : first a ++ (second c ++ x) ≡ first b ++ (second d ++ y) = sym (append_assoc (first a) (second c) x) ∙ e ∙ append_assoc (first b) (second d) y in
+    let parted : first a ++ (second c ++ x) ≡ first b ++ (second d ++ y) =
+    sym (append_assoc (first a) (second c) x) ∙ e ∙ append_assoc (first b) (second d) y in
     let heads = free_first a b (second c ++ x) (second d ++ y) is_a.0 is_b.0 parted in
     let tails = free_second c d x y is_a.1 is_b.1 heads.1 in
     let same_first : a ≡ b = heads.0 in

@@ -26,7 +26,8 @@ IsText text = length text ≤ max_text_bytes
 
 -- the bytes begin with those of no value
 abbrev pub BeginsWithNone : {A : Type 0} → (A → List ℕ) → (A → Type 0) → List ℕ → Type 0
-BeginsWithNone {A} spelling IsValue bytes = (value : A) (rest : List ℕ) → IsValue value → bytes ≡ spelling value ++ rest → ⊥
+BeginsWithNone {A} spelling IsValue bytes = (value : A) (rest : List ℕ) → IsValue value → bytes ≡ spelling value ++ rest
+    → ⊥
 
 -- so many values
 abbrev pub AreValues : {A : Type 0} → (A → Type 0) → ℕ → List A → Type 0

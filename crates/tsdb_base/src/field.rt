@@ -2,7 +2,8 @@
 //! records are. Depends on `plain` and `value`.
 ghost use Rattle.std.specs.Prelude.{◌<◌, ◌^◌};
 ghost use Rattle.tsdb_base.specs.Fields.{number16, number32, number64, type_field, encoding_field, pair_field, IsPair};
-ghost use Rattle.tsdb_base.specs.FieldLaws.{number16-prefix_free, number32-prefix_free, number64-prefix_free, type_field-prefix_free, encoding_field-prefix_free, pair_field-prefix_free};
+ghost use Rattle.tsdb_base.specs.FieldLaws.{number16-prefix_free, number32-prefix_free, number64-prefix_free};
+ghost use Rattle.tsdb_base.specs.FieldLaws.{type_field-prefix_free, encoding_field-prefix_free, pair_field-prefix_free};
 
 use crate::fault::{DecodeFault, Memory};
 use crate::plain::PlainValue;
@@ -139,7 +140,8 @@ impl<A: PlainValue, B: PlainValue> PlainValue for (A, B) {
 
     ghost is_value = { IsPair A.is_value B.is_value };
 
-    ghost prefix_free = { pair_field-prefix_free A.spelling B.spelling A.is_value B.is_value A.prefix_free B.prefix_free };
+    ghost prefix_free = { pair_field-prefix_free A.spelling B.spelling A.is_value B.is_value A.prefix_free
+        B.prefix_free };
 
     fn put(&self, into: &mut Vec<u8>) -> Result<(), Memory> {
         self.0.put(into)?;

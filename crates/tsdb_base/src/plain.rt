@@ -3,8 +3,10 @@ ghost use Rattle.std.specs.Prelude.{◌≡◌, ℕ, List, ◌++◌, length, All,
 ghost use Rattle.std.specs.List.{flat_map};
 ghost use Rattle.std.specs.Int.{w32, w64};
 ghost use Rattle.tsdb_base.specs.Growth.{GrewByPrefix};
-ghost use Rattle.tsdb_base.specs.Plain.{plain_bool, plain_i32, plain_i64, plain_text, IsText, AreValues, BeginsWithNone};
-ghost use Rattle.tsdb_base.specs.PlainLaws.{plain_bool-prefix_free, plain_i32-prefix_free, plain_i64-prefix_free, plain_text-prefix_free};
+ghost use Rattle.tsdb_base.specs.Plain.{plain_bool, plain_i32, plain_i64, plain_text, IsText, AreValues};
+ghost use Rattle.tsdb_base.specs.Plain.{BeginsWithNone};
+ghost use Rattle.tsdb_base.specs.PlainLaws.{plain_bool-prefix_free, plain_i32-prefix_free, plain_i64-prefix_free};
+ghost use Rattle.tsdb_base.specs.PlainLaws.{plain_text-prefix_free};
 
 use crate::fault::{DecodeFault, Memory};
 use crate::text::{Text, TextFault};

@@ -39,4 +39,5 @@ pub record IsPacking (width count : ℕ) (bytes values : List ℕ) : Type 0 wher
 
 -- a fault but out of memory: no list is packed so
 abbrev pub IsNoPacking : ℕ → ℕ → List ℕ → UnpackFault → Type 0
-IsNoPacking width count bytes fault = (fault ≡ unpack_faults.Memory → ⊥) → (values : List ℕ) → IsPacking width count bytes values → ⊥
+IsNoPacking width count bytes fault = (fault ≡ unpack_faults.Memory → ⊥) → (values : List ℕ)
+    → IsPacking width count bytes values → ⊥

@@ -4,7 +4,8 @@ use Rattle.std.specs.Prelude.{ℕ, suc, zero, ◌+◌, ◌/◌, ◌%◌, ◌<◌
 -- the groups of a number, where `turns` is more than how often it can be divided by 128
 unfoldable pub leb_within : ℕ → ℕ → List ℕ
 leb_within zero number = []
-leb_within (suc turns) number = if nat_lt number 128 then number ∷ [] else (number % 128 + 128) ∷ leb_within turns (number / 128)
+leb_within (suc turns) number = if nat_lt number 128 then number ∷ []
+    else (number % 128 + 128) ∷ leb_within turns (number / 128)
 
 -- the LEB128 spelling of a number, the shortest one
 unfoldable pub leb : ℕ → List ℕ

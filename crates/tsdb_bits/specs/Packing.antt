@@ -1,6 +1,7 @@
 -- Numbers packed at a width: bit b of number i is bit `i * width + b` of the stream, and bit k of the
 -- stream is bit `k % 8` of byte `k / 8`. Zeros fill the last byte.
-use Rattle.std.specs.Prelude.{◌≡◌, ◌<◌, All, slice_index, ℕ, suc, zero, ◌+◌, ◌*◌, ◌/◌, ◌%◌, ◌^◌, ◌≤◌, List, [], ◌∷◌, length, take}
+use Rattle.std.specs.Prelude.{◌≡◌, ◌<◌, All, slice_index, ℕ, suc, zero, ◌+◌, ◌*◌, ◌/◌, ◌%◌, ◌^◌, ◌≤◌, List, [], ◌∷◌}
+use Rattle.std.specs.Prelude.{length, take}
 use Rattle.std.specs.Int.{bit_at}
 
 -- the stream of a list as one number: each item takes `width` bits, the first item the lowest ones
@@ -49,4 +50,5 @@ IsOneToOne width =
 abbrev pub StandsInOrder : ℕ → List ℕ → Type 0
 StandsInOrder width values =
     (k : ℕ) → All (λ value. value < 2 ^ width) values → k < length values * width
-    → bit_at (slice_index (pack_bytes width values) (k / 8)) (k % 8) ≡ bit_at (slice_index values (k / width)) (k % width)
+    → bit_at (slice_index (pack_bytes width values) (k / 8)) (k % 8)
+    ≡ bit_at (slice_index values (k / width)) (k % width)

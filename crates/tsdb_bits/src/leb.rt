@@ -1,6 +1,7 @@
 //! LEB128: numbers as groups of seven bits. It depends on this crate's faults.
 
-ghost use Rattle.std.specs.Prelude.{◌≡◌, ℕ, ◌+◌, ◌-◌, ◌*◌, ◌^◌, ◌<◌, ◌≤◌, List, ◌++◌, length, take, drop, vec_len, IfOk, IfErr, OnOk, OnErr};
+ghost use Rattle.std.specs.Prelude.{◌≡◌, ℕ, ◌+◌, ◌-◌, ◌*◌, ◌^◌, ◌<◌, ◌≤◌, List, ◌++◌, length, take, drop, vec_len};
+ghost use Rattle.std.specs.Prelude.{IfOk, IfErr, OnOk, OnErr};
 ghost use Rattle.tsdb_base.specs.Plain.{BeginsWithNone};
 ghost use Rattle.tsdb_bits.specs.Leb.{leb, IsCut};
 ghost use Rattle.tsdb_bits.specs.Faults.{ExplainsLeb, ExplainsGroups};

@@ -1,7 +1,8 @@
 //! Lists of numbers packed at a width. The bytes move by whole words of 64 bits. It depends on this
 //! crate's faults.
 
-ghost use Rattle.std.specs.Prelude.{◌≡◌, ℕ, ◌+◌, ◌-◌, ◌*◌, ◌/◌, ◌%◌, ◌^◌, ◌<◌, ◌≤◌, List, ◌++◌, length, take, drop, vec_len, All, IfOk, IfErr, OnOk, OnErr};
+ghost use Rattle.std.specs.Prelude.{◌≡◌, ℕ, ◌+◌, ◌-◌, ◌*◌, ◌/◌, ◌%◌, ◌^◌, ◌<◌, ◌≤◌, List, ◌++◌, length, take, drop};
+ghost use Rattle.std.specs.Prelude.{vec_len, All, IfOk, IfErr, OnOk, OnErr};
 ghost use Rattle.tsdb_base.specs.Limits.{max_values};
 ghost use Rattle.tsdb_bits.specs.Packing.{from_digits, number_of_bytes, pack_bytes, bytes_for, binary_digits};
 ghost use Rattle.tsdb_bits.specs.Faults.{ExplainsPacking, IsPacking, IsNoPacking};
@@ -102,7 +103,8 @@ fn values_in(
     requires needed { length bytes.now ≡ bytes_for (count * width) }
     ensures count { IfOk result (λ r. length r.0.items ≡ count) }
     ensures below { IfOk result (λ r. All (λ value. value < 2 ^ width) r.0.items) }
-    ensures stream { IfOk result (λ r. number_of_bytes bytes.now ≡ from_digits width r.0.items + 2 ^ (count * width) * r.1) }
+    ensures stream { IfOk result (λ r. number_of_bytes bytes.now
+        ≡ from_digits width r.0.items + 2 ^ (count * width) * r.1) }
     ensures memory { IfErr result (λ fault. fault ≡ UnpackFault.Memory) }
 {
     let mut values = Vec::with_capacity(alloc, count as usize)?;

@@ -1,5 +1,6 @@
 -- What the calls of a core answer, and when a row fits.
-use Rattle.std.specs.Prelude.{◌≡◌, ◌⊎◌, ℕ, ◌+◌, ◌-◌, ◌^◌, ◌<◌, ◌≤◌, min, Bool, false, is_some, if◌then◌else◌, List, [], ◌∷◌, length, sum_by, Option, Some, None}
+use Rattle.std.specs.Prelude.{◌≡◌, ◌⊎◌, ℕ, ◌+◌, ◌-◌, ◌^◌, ◌<◌, ◌≤◌, min, Bool, false, is_some, if◌then◌else◌, List, []}
+use Rattle.std.specs.Prelude.{◌∷◌, length, sum_by, Option, Some, None}
 use Rattle.std.specs.FinMap.{entries}
 use Rattle.std.specs.List.{list_all}
 use Rattle.tsdb_base.specs.declared.answers.Answer.{Answer}
@@ -17,7 +18,8 @@ use Rattle.tsdb_map.specs.Apply.{after_reply, reply_of, value_of}
 use Rattle.tsdb_map.specs.World.{World}
 use Rattle.tsdb_map.specs.declared.command.Cell.{Cell}
 use Rattle.tsdb_map.specs.declared.command.Command.{Command}
-use Rattle.tsdb_map.specs.declared.command.Command.TheVariants.{Create, Insert, Delete, Select, Flush, CompactInner, CompactCross, ShowFiles}
+use Rattle.tsdb_map.specs.declared.command.Command.TheVariants.{Create, Insert, Delete, Select, Flush, CompactInner}
+use Rattle.tsdb_map.specs.declared.command.Command.TheVariants.{CompactCross, ShowFiles}
 use Rattle.tsdb_map.specs.declared.command.Literal.{Literal}
 use Rattle.tsdb_map.specs.declared.command.Literal.TheVariants as literal
 use Rattle.tsdb_map.specs.declared.command.Row.{Row}
@@ -87,7 +89,8 @@ all_fit schemas device cells = list_all (λ cell. fits_type cell.value (cell_typ
 abbrev pub answer_in : List SeriesEntry → Command → Answer
 answer_in schemas (Create schema) = if is_some (type_at schemas schema.path) then Exists else Done
 answer_in schemas (Insert device row) =
-    if are_there schemas device row.cells then (if all_fit schemas device row.cells then Done else WrongType) else NoPath
+    if are_there schemas device row.cells then (if all_fit schemas device row.cells then Done else WrongType)
+    else NoPath
 answer_in schemas (Delete series range) = if is_some (type_at schemas series) then Done else NoPath
 answer_in schemas (Select device items range) = Done
 answer_in schemas Flush = Done

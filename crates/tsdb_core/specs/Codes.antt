@@ -47,7 +47,13 @@ abbrev pub Stored : Type 0
 Stored = List SeriesEntry × (ℕ × (Watermarks × (List Mark × (List FrozenPair × Pair))))
 
 abbrev pub memory_parts : MemoryState → Stored
-memory_parts memory = (memory.schemas, (memory.stamp, (memory.watermarks, (memory.marks, (memory.frozen, memory.working)))))
+memory_parts memory = (
+  memory.schemas,
+  (
+    memory.stamp,
+    (memory.watermarks, (memory.marks, (memory.frozen, memory.working))),
+  ),
+)
 
 abbrev pub memory_of : Stored → MemoryState
 memory_of p = record {

@@ -23,14 +23,16 @@ pub record NamesPath (schemas : List SeriesEntry) (cells : List CellRecord) (pat
 -- the item is the cell: of its series, with its value
 pub record IsCell (schemas : List SeriesEntry) (device : List ℕ) (cell : Cell) (item : CellRecord) : Type 0 where
   pub of_path : path_of schemas item.series.0 ≡ child_of device cell.measurement
-  pub value : IsSomeAnd (slice_get schemas item.series.0) (λ series. value_of cell.value series.schema.data_type ≡ Some item.value)
+  pub value : IsSomeAnd (slice_get schemas item.series.0)
+      (λ series. value_of cell.value series.schema.data_type ≡ Some item.value)
 
 -- the items of a record are the cells of a row of the device
 abbrev pub AreCells : List SeriesEntry → List ℕ → List Cell → List CellRecord → Type 0
 AreCells schemas device [] [] = ⊤
 AreCells schemas device [] (item ∷ items) = ⊥
 AreCells schemas device (cell ∷ cells) [] = ⊥
-AreCells schemas device (cell ∷ cells) (item ∷ items) = IsCell schemas device cell item × AreCells schemas device cells items
+AreCells schemas device (cell ∷ cells) (item ∷ items) =
+    IsCell schemas device cell item × AreCells schemas device cells items
 
 -- the series of the cell is not there
 abbrev pub IsMissing : List SeriesEntry → List ℕ → Cell → Type 0

@@ -44,7 +44,8 @@ pub record IsClosed (slot : Slot) (disk : State) (memory : MemoryState) : Type 0
 
 module _ {J : Type 0} {means : disk.Ghosts J} {counts : counted.Ghosts J} where
   -- The log has these records, which are replayed to what is in memory; and this one is in doubt.
-  pub record IsStored (log : Frames J means counts) (memory : MemoryState) (items : List LogRecord) (doubt : Option LogRecord)
+  pub record IsStored (log : Frames J means counts) (memory : MemoryState) (items : List LogRecord)
+      (doubt : Option LogRecord)
       : Type 0 where
     pub good : All IsRecord items
     pub replayed : Replays new_store items (replay_of memory)

@@ -1,5 +1,7 @@
 -- When a state is in order. It has eleven parts, each said of all points and not of places in lists.
-use Rattle.std.specs.Prelude.{◌≡◌, ◌≢◌, ◌⊎◌, ◌↔◌, ℕ, ◌+◌, ◌*◌, ◌<◌, ◌≤◌, ℤ, ◌<ℤ◌, ◌≤ℤ◌, true, max, nat_le, List, [], ◌++◌, length, map, flat_map, filter, sum_by, All, AllPairs, Any, Contains, Option, IfSome, IsSome, slice_get, ⊤}
+use Rattle.std.specs.Prelude.{◌≡◌, ◌≢◌, ◌⊎◌, ◌↔◌, ℕ, ◌+◌, ◌*◌, ◌<◌, ◌≤◌, ℤ, ◌<ℤ◌, ◌≤ℤ◌, true, max, nat_le, List, []}
+use Rattle.std.specs.Prelude.{◌++◌, length, map, flat_map, filter, sum_by, All, AllPairs, Any, Contains, Option, IfSome}
+use Rattle.std.specs.Prelude.{IsSome, slice_get, ⊤}
 use Rattle.std.specs.FinMap.{empty, entries, get}
 use Rattle.std.specs.Option.{IsSomeAnd, option_to_list}
 use Rattle.tsdb_base.specs.Values.{type_of}
@@ -8,8 +10,10 @@ use Rattle.tsdb_base.specs.declared.ids.Space.TheVariants.{Sequence, Unsequence}
 use Rattle.tsdb_base.specs.declared.point.Point.{Point}
 use Rattle.tsdb_base.specs.declared.value.DataType.{DataType}
 use Rattle.tsdb_core.specs.Limits.{max_frozen, max_pair_bytes, max_pair_points}
-use Rattle.tsdb_core.specs.Parts.{Has, Part, file_part, pair_part, pair_parts, pairs_of, parts_of, sequence_parts, table_of, working_pair}
-use Rattle.tsdb_core.specs.State.{Compaction, CompactionKind, Cross, EngineState, File, Inner, MemoryState, Pair, SeriesEntry, Watermarks}
+use Rattle.tsdb_core.specs.Parts.{Has, Part, file_part, pair_part, pair_parts, pairs_of, parts_of, sequence_parts}
+use Rattle.tsdb_core.specs.Parts.{table_of, working_pair}
+use Rattle.tsdb_core.specs.State.{Compaction, CompactionKind, Cross, EngineState, File, Inner, MemoryState, Pair}
+use Rattle.tsdb_core.specs.State.{SeriesEntry, Watermarks}
 use Rattle.tsdb_map.specs.Commands.{IsSchema}
 use Rattle.tsdb_marks.specs.Survival.{Survives}
 use Rattle.tsdb_marks.specs.declared.marks.Mark.{Mark}
@@ -47,8 +51,10 @@ flushed_parts state =
 -- unsequence times of files, and of a frozen pair, lie below the sequence times of the pairs from there on
 pub record UnsequenceIsBelow (state : EngineState) : Type 0 where
   pub files : All (λ file. All (IsBefore (file_part file)) (pair_parts Sequence state.memory)) state.unsequence
-  pub own : All (λ pair. IsBefore (pair_part state.memory.schemas Unsequence pair) (pair_part state.memory.schemas Sequence pair)) state.memory.frozen
-  pub later : AllPairs (λ pair later. IsBefore (pair_part state.memory.schemas Unsequence pair) (pair_part state.memory.schemas Sequence later)) (pairs_of state.memory)
+  pub own : All (λ pair. IsBefore (pair_part state.memory.schemas Unsequence pair)
+      (pair_part state.memory.schemas Sequence pair)) state.memory.frozen
+  pub later : AllPairs (λ pair later. IsBefore (pair_part state.memory.schemas Unsequence pair)
+      (pair_part state.memory.schemas Sequence later)) (pairs_of state.memory)
 
 abbrev pub IsEmptyPair : Pair → Type 0
 IsEmptyPair pair = (pair.sequence ≡ empty) × (pair.unsequence ≡ empty)
@@ -78,15 +84,18 @@ pub record HasTypedPoints (schemas : List SeriesEntry) (part : Part) : Type 0 wh
 
 -- how many points are in both spaces
 abbrev pub point_count : Pair → ℕ
-point_count pair = sum_by (λ row. length row.1) (entries pair.sequence) + sum_by (λ row. length row.1) (entries pair.unsequence)
+point_count pair = sum_by (λ row. length row.1) (entries pair.sequence)
+    + sum_by (λ row. length row.1) (entries pair.unsequence)
 
 -- how many bytes they count
 abbrev pub byte_count : Pair → ℕ
-byte_count pair = sum_by (λ row. bytes_of row.1) (entries pair.sequence) + sum_by (λ row. bytes_of row.1) (entries pair.unsequence)
+byte_count pair = sum_by (λ row. bytes_of row.1) (entries pair.sequence)
+    + sum_by (λ row. bytes_of row.1) (entries pair.unsequence)
 
 -- each point is of this device, at this time
 abbrev pub IsAllAt : List ℕ → ℤ → Part → Type 0
-IsAllAt device time part = (path : List ℕ) (point : Point) → Has part path point → (device_of path ≡ device) × (point.time ≡ time)
+IsAllAt device time part = (path : List ℕ) (point : Point) → Has part path point
+    → (device_of path ≡ device) × (point.time ≡ time)
 
 -- the points are what is left of one row, which is of one device, at one time
 pub record IsOneRow (memory : MemoryState) : Type 0 where
@@ -109,7 +118,8 @@ HasSeries holds schemas pair = (space : Space) (number : ℕ)
 -- points in the working pair are there; the working pair is empty, has one row, or is within the limits
 pub record HasTypes (state : EngineState) : Type 0 where
   pub schemas : All (λ series. IsSchema series.schema) state.memory.schemas
-  pub once : AllPairs (λ series other. series.live ≡ true → other.live ≡ true → series.schema.path ≢ other.schema.path) state.memory.schemas
+  pub once : AllPairs (λ series other. series.live ≡ true → other.live ≡ true → series.schema.path ≢ other.schema.path)
+      state.memory.schemas
   pub parts : All (HasTypedPoints state.memory.schemas) (parts_of state)
   pub frozen : All (λ frozen. HasSeries (λ series. ⊤) state.memory.schemas frozen.pair) state.memory.frozen
   pub live : HasSeries (λ series. series.live ≡ true) state.memory.schemas state.memory.working
@@ -123,7 +133,8 @@ drawn_numbers state =
 
 -- the numbers of all files that are there or will be
 abbrev pub file_numbers : EngineState → List ℕ
-file_numbers state = map (λ file. file.number) (state.sequence ++ state.unsequence ++ state.outgoing) ++ drawn_numbers state
+file_numbers state = map (λ file. file.number) (state.sequence ++ state.unsequence ++ state.outgoing)
+    ++ drawn_numbers state
 
 -- file numbers differ and lie below the next one, and so do those that the log has named; a number drawn by a job that
 -- is out is not named yet
@@ -151,8 +162,10 @@ pub record HasGap (state : EngineState) (job : Compaction) : Type 0 where
   pub behind : List File
   pub stands : StandBetween job.sequence state.sequence before run behind
   pub place : length before ≡ job.place
-  pub below : (file late : File) → Contains before file → IsLateInput state job late → IsBefore (file_part file) (file_part late)
-  pub above : (file late : File) → Contains behind file → IsLateInput state job late → IsBefore (file_part late) (file_part file)
+  pub below : (file late : File) → Contains before file → IsLateInput state job late
+      → IsBefore (file_part file) (file_part late)
+  pub above : (file late : File) → Contains behind file → IsLateInput state job late
+      → IsBefore (file_part late) (file_part file)
 
 -- the job claims the whole sequence list
 abbrev pub ClaimsSequence : Compaction → Type 0
@@ -166,7 +179,8 @@ IsInput state job file = (Contains state.sequence file × Contains job.sequence 
 abbrev pub HasInputs : EngineState → Compaction → CompactionKind → Type 0
 HasInputs state job (Inner Sequence) = (2 ≤ length job.sequence) × (job.unsequence ≡ [])
 HasInputs state job (Inner Unsequence) = (job.sequence ≡ []) × (2 ≤ length job.unsequence)
-HasInputs state job Cross = (1 ≤ length job.unsequence) × (run behind : List File) × StandBetween job.unsequence state.unsequence [] run behind
+HasInputs state job Cross = (1 ≤ length job.unsequence) × (run behind : List File)
+    × StandBetween job.unsequence state.unsequence [] run behind
 
 -- the numbers stand side by side in the list
 abbrev pub StandSideBySide : List ℕ → List File → Type 0
@@ -176,12 +190,16 @@ StandSideBySide numbers files = (before run behind : List File) × StandBetween 
 -- file is claimed exactly where it is an input
 pub record ClaimsMatch (state : EngineState) : Type 0 where
   pub one : AllPairs (λ job other. ClaimsSequence job → ¬ ClaimsSequence other) state.compactions
-  pub apart : AllPairs (λ job other. (number : ℕ) → Contains job.unsequence number → ¬ Contains other.unsequence number) state.compactions
-  pub inputs : (job : Compaction) (file : File) → Contains state.compactions job → IsInput state job file → file.claimed ≡ true
+  pub apart : AllPairs (λ job other. (number : ℕ) → Contains job.unsequence number → ¬ Contains other.unsequence number)
+      state.compactions
+  pub inputs : (job : Compaction) (file : File) → Contains state.compactions job → IsInput state job file
+      → file.claimed ≡ true
   pub sequence : All (λ file. file.claimed ≡ true → Any ClaimsSequence state.compactions) state.sequence
-  pub unsequence : All (λ file. file.claimed ≡ true → Any (λ job. Contains job.unsequence file.number) state.compactions) state.unsequence
+  pub unsequence : All (λ file. file.claimed ≡ true
+      → Any (λ job. Contains job.unsequence file.number) state.compactions) state.unsequence
   pub kinds : All (λ job. HasInputs state job job.kind) state.compactions
-  pub stand : All (λ job. StandSideBySide job.sequence state.sequence × StandSideBySide job.unsequence state.unsequence) state.compactions
+  pub stand : All (λ job. StandSideBySide job.sequence state.sequence × StandSideBySide job.unsequence state.unsequence)
+      state.compactions
 
 -- the marks whose version is at most this
 abbrev pub marks_up_to : ℕ → List Mark → List Mark
@@ -192,7 +210,8 @@ pub record KeepsItsMarks (state : EngineState) (job : Compaction) : Type 0 where
   pub born : job.born ≤ state.memory.stamp
   pub inputs : (file : File) → IsInput state job file → file.born ≤ job.born
   pub survive : (file : File) (path : List ℕ) (point : Point) → IsInput state job file → Has (file_part file) path point
-      → Survives job.marks path point.time file.born ↔ Survives (marks_up_to job.born state.memory.marks) path point.time file.born
+      → Survives job.marks path point.time file.born
+      ↔ Survives (marks_up_to job.born state.memory.marks) path point.time file.born
 
 -- how many places the end of a job needs in each list: one for each file that it may add
 abbrev pub sequence_places : CompactionKind → ℕ
@@ -221,9 +240,12 @@ count_of number = length (option_to_list number)
 
 -- the room kept is at least what the ends of the jobs that are out need
 pub record KeepsRoom (state : EngineState) : Type 0 where
-  pub sequence : sum_by (λ flush. count_of flush.sequence) state.flushes + sum_by (λ job. sequence_places job.kind) state.compactions ≤ state.room.sequence
-  pub unsequence : sum_by (λ flush. count_of flush.unsequence) state.flushes + sum_by (λ job. unsequence_places job.kind) state.compactions ≤ state.room.unsequence
-  pub outgoing : sum_by (λ flush. count_of flush.sequence + count_of flush.unsequence) state.flushes + sum_by outgoing_places state.compactions ≤ state.room.outgoing
+  pub sequence : sum_by (λ flush. count_of flush.sequence) state.flushes
+      + sum_by (λ job. sequence_places job.kind) state.compactions ≤ state.room.sequence
+  pub unsequence : sum_by (λ flush. count_of flush.unsequence) state.flushes
+      + sum_by (λ job. unsequence_places job.kind) state.compactions ≤ state.room.unsequence
+  pub outgoing : sum_by (λ flush. count_of flush.sequence + count_of flush.unsequence) state.flushes
+      + sum_by outgoing_places state.compactions ≤ state.room.outgoing
   pub flushed : All (λ _. flushed_bytes ≤ state.room.record_bytes) state.flushes
   pub replaced : All (λ job. replaced_bytes job ≤ state.room.record_bytes) state.compactions
 

@@ -30,7 +30,8 @@ module _ {J F : Type 0} {means : disk.Ghosts J} {counts : counted.Ghosts J} wher
   pub record IsCommitted (old new : Core J F means counts) (item : LogRecord) : Type 0 where
     pub leads : LeadsTo item (replay_of (memory_of old)) (replay_of (memory_of new))
     pub rest : KeepsRest old new
-    pub records : (items : List LogRecord) (doubt : Option LogRecord) → IsStored (log_of old) (memory_of old) items doubt
+    pub records : (items : List LogRecord) (doubt : Option LogRecord)
+        → IsStored (log_of old) (memory_of old) items doubt
         → IsStored (log_of new) (memory_of new) (items ++ item ∷ []) None
     pub moments : LeavesOneMore (log_of old) (log_of new) (memory_of old) item
     pub later : faults_of (log_of old) ≤ faults_of (log_of new)
@@ -39,7 +40,8 @@ module _ {J F : Type 0} {means : disk.Ghosts J} {counts : counted.Ghosts J} wher
   pub record IsFailed (old new : Core J F means counts) (item : LogRecord) : Type 0 where
     pub same : memory_of new ≡ memory_of old
     pub rest : KeepsRest old new
-    pub records : (items : List LogRecord) (doubt : Option LogRecord) → IsStored (log_of old) (memory_of old) items doubt
+    pub records : (items : List LogRecord) (doubt : Option LogRecord)
+        → IsStored (log_of old) (memory_of old) items doubt
         → IsStored (log_of new) (memory_of new) items None
         ⊎ (IsStored (log_of new) (memory_of new) items doubt ⊎ IsStored (log_of new) (memory_of new) items (Some item))
     pub moments : LeavesOneMore (log_of old) (log_of new) (memory_of old) item

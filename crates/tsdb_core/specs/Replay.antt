@@ -81,9 +81,11 @@ pub record IsNextNumber (named stored : List ℕ) (next : ℕ) : Type 0 where
   pub from_one : 1 ≤ next
 
 -- the state is the replay of a store with these records, these TsFiles by their numbers, and these numbers of files
-pub record IsReplayOf (records : List LogRecord) (files : ℕ → Option StoredFile) (stored : List ℕ) (state : EngineState) : Type 0 where
+pub record IsReplayOf (records : List LogRecord) (files : ℕ → Option StoredFile) (stored : List ℕ)
+    (state : EngineState) : Type 0 where
   pub replayed : Replays new_store records (replay_state state)
-  pub stored_files : All (λ file. files file.number ≡ Some (record { bytes = file.bytes; points = file.points })) (state.sequence ++ state.unsequence)
+  pub stored_files : All (λ file. files file.number ≡ Some (record { bytes = file.bytes; points = file.points }))
+      (state.sequence ++ state.unsequence)
   pub unclaimed : All (λ file. file.claimed ≡ false) (state.sequence ++ state.unsequence)
   pub next : IsNextNumber state.named stored state.next_file
   pub nothing_out : HasNothingOut state

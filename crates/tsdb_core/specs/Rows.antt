@@ -1,5 +1,6 @@
 -- The cells of a row as a record has them, and when such cells can be put into the working pair.
-use Rattle.std.specs.Prelude.{◌≡◌, ◌≢◌, ◌⊎◌, ℕ, ◌+◌, ◌<◌, ◌≤◌, true, false, is_some, List, [], ◌∷◌, length, sum_by, Some, None, Result, All, AllPairs, slice_get}
+use Rattle.std.specs.Prelude.{◌≡◌, ◌≢◌, ◌⊎◌, ℕ, ◌+◌, ◌<◌, ◌≤◌, true, false, is_some, List, [], ◌∷◌, length, sum_by}
+use Rattle.std.specs.Prelude.{Some, None, Result, All, AllPairs, slice_get}
 use Rattle.std.specs.Option.{IsSomeAnd}
 use Rattle.std.specs.declared.result.Result.TheVariants.{Ok, Err}
 use Rattle.std.specs.Global.{Vec}
@@ -20,7 +21,8 @@ use Rattle.tsdb_map.specs.declared.command.Row.{Row}
 use Rattle.tsdb_memtable.specs.Points.{value_bytes}
 use Rattle.tsdb_path.specs.Nodes.{IsName, child_of}
 
--- the item is the cell as a record has it: of the cell's series, which is there, with the value that its literal is there
+-- the item is the cell as a record has it: of the cell's series, which is there, with the value that its literal is
+-- there
 pub record IsItem (schemas : List SeriesEntry) (device : List ℕ) (cell : Cell) (item : CellRecord) : Type 0 where
   pub series : SeriesEntry
   pub at : slice_get schemas item.series.0 ≡ Some series
@@ -42,7 +44,8 @@ abbrev pub AreItems : List SeriesEntry → List ℕ → List Cell → List CellR
 AreItems schemas device [] [] = Unit {0}
 AreItems schemas device [] (item ∷ items) = ⊥
 AreItems schemas device (cell ∷ cells) [] = ⊥
-AreItems schemas device (cell ∷ cells) (item ∷ items) = IsItem schemas device cell item × AreItems schemas device cells items
+AreItems schemas device (cell ∷ cells) (item ∷ items) =
+    IsItem schemas device cell item × AreItems schemas device cells items
 
 -- the cells of a row as its record has them, or the map's refusal
 abbrev pub IsRowRead : List SeriesEntry → List ℕ → Row → Result (Vec CellRecord) Answer → Type 0
@@ -62,5 +65,6 @@ pub record CanInsert (device : List ℕ) (items : List CellRecord) (memory : Mem
   pub there : All (λ item. IsSomeAnd (slice_get memory.schemas item.series.0) (IsOfDevice device item)) items
   pub differ : AllPairs (λ item other. item.series.0 ≢ other.series.0) items
   pub fits : IsEmptyPair memory.working
-      ⊎ ((point_count memory.working + length items ≤ max_pair_points) × (byte_count memory.working + items_bytes items ≤ max_pair_bytes))
+      ⊎ ((point_count memory.working + length items ≤ max_pair_points)
+      × (byte_count memory.working + items_bytes items ≤ max_pair_bytes))
   pub stamp : memory.stamp < end_of_numbers

@@ -1,5 +1,7 @@
 -- What a record of the log does to what is in memory. Each is a relation between the memory before and after it.
-use Rattle.std.specs.Prelude.{◌≡◌, ◌≢◌, ◌⊎◌, ℕ, ◌+◌, ◌<◌, ◌≤◌, ℤ, ◌≤ℤ◌, int_lt, min, true, List, [], ◌∷◌, ◌++◌, length, map, filter, All, AllPairs, Option, Some, None, IsSome, slice_get, position, if◌then◌else◌}
+use Rattle.std.specs.Prelude.{◌≡◌, ◌≢◌, ◌⊎◌, ℕ, ◌+◌, ◌<◌, ◌≤◌, ℤ, ◌≤ℤ◌, int_lt, min, true, List, [], ◌∷◌, ◌++◌, length}
+use Rattle.std.specs.Prelude.{map, filter, All, AllPairs, Option, Some, None, IsSome, slice_get, position}
+use Rattle.std.specs.Prelude.{if◌then◌else◌}
 use Rattle.std.specs.FinMap.{empty, get, insert, remove}
 use Rattle.std.specs.Option.{IsSomeAnd, unwrap_or}
 use Rattle.tsdb_base.specs.Values.{type_of}
@@ -27,7 +29,10 @@ pub record Creates (schema : Schema) (old new : MemoryState) : Type 0 where
   pub formed : IsSchema schema
   pub free : type_at old.schemas schema.path ≡ None
   pub stamp : old.stamp < end_of_numbers
-  pub after : new ≡ record old { schemas = old.schemas ++ record { schema = schema; live = true } ∷ []; stamp = old.stamp + 1 }
+  pub after : new ≡ record old {
+    schemas = old.schemas ++ record { schema = schema; live = true } ∷ [];
+    stamp = old.stamp + 1;
+  }
 
 -- the points of a series in a table
 abbrev pub points_at : ℕ → Table → List Point
@@ -82,7 +87,10 @@ erase_points number range table = set_points number (filter (is_outside range) (
 abbrev pub erase : Option ℕ → Range → Pair → Pair
 erase None range pair = pair
 erase (Some number) range pair =
-    record { sequence = erase_points number range pair.sequence; unsequence = erase_points number range pair.unsequence }
+    record {
+      sequence = erase_points number range pair.sequence;
+      unsequence = erase_points number range pair.unsequence;
+    }
 
 -- the least of some numbers, where there is one
 abbrev pub lesser : ℕ → Option Stamp → Option Stamp
@@ -106,7 +114,8 @@ pub record Deletes (file_borns : List ℕ) (path : List ℕ) (range : Range) (ol
   pub stamp : old.stamp < end_of_numbers
   pub after : new ≡ record old {
     stamp = old.stamp + 1;
-    marks = purge_list (least (file_borns ++ map (λ pair. pair.born) old.frozen)) (add_mark path range (old.stamp + 1) old.marks);
+    marks = purge_list (least (file_borns ++ map (λ pair. pair.born) old.frozen))
+        (add_mark path range (old.stamp + 1) old.marks);
     working = erase (number_at old.schemas path) range old.working;
   }
 
@@ -120,9 +129,12 @@ pub record HasTime (part : Part) (device : List ℕ) (time : ℤ) : Type 0 where
 
 -- the watermark of each device is the greatest of the old one and of the times that the device has in the part
 pub record AreRaised (part : Part) (old new : Watermarks) : Type 0 where
-  pub kept : (device : List ℕ) (time : ℤ) → get old device ≡ Some time → IsSomeAnd (get new device) (λ last. time ≤ℤ last)
-  pub reached : (device : List ℕ) (time : ℤ) → HasTime part device time → IsSomeAnd (get new device) (λ last. time ≤ℤ last)
-  pub one_of_these : (device : List ℕ) (time : ℤ) → get new device ≡ Some time → (get old device ≡ Some time) ⊎ HasTime part device time
+  pub kept : (device : List ℕ) (time : ℤ) → get old device ≡ Some time
+      → IsSomeAnd (get new device) (λ last. time ≤ℤ last)
+  pub reached : (device : List ℕ) (time : ℤ) → HasTime part device time
+      → IsSomeAnd (get new device) (λ last. time ≤ℤ last)
+  pub one_of_these : (device : List ℕ) (time : ℤ) → get new device ≡ Some time
+      → (get old device ≡ Some time) ⊎ HasTime part device time
 
 abbrev pub empty_pair : Pair
 empty_pair = record { sequence = empty; unsequence = empty }

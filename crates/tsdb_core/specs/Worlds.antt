@@ -27,11 +27,13 @@ HasNoneAt marks path time part = (point : Point) → point.time ≡ time → ¬ 
 abbrev pub IsWinner : List Mark → List ℕ → Point → List Part → Type 0
 IsWinner marks path point [] = ⊥
 IsWinner marks path point (lowest ∷ higher) =
-    IsWinner marks path point higher ⊎ (HasSurviving marks lowest path point × All (HasNoneAt marks path point.time) higher)
+    IsWinner marks path point higher ⊎ (HasSurviving marks lowest path point
+    × All (HasNoneAt marks path point.time) higher)
 
 -- the state has this value at this time of the series
 abbrev pub IsValueAt : EngineState → List ℕ → ℤ → Value → Type 0
-IsValueAt state path time value = IsWinner state.memory.marks path (record { time = time; value = value }) (parts_of state)
+IsValueAt state path time value = IsWinner state.memory.marks path (record { time = time; value = value })
+    (parts_of state)
 
 -- whether this is the series with the path, and it is there
 abbrev pub is_live_at : List ℕ → SeriesEntry → Bool
@@ -43,5 +45,7 @@ type_at schemas path = option_map (λ series. series.schema.data_type) (find (is
 
 -- both have the same series with the same types, and at every time of every series the same value or none
 pub record StandsFor (state : EngineState) (world : World) : Type 0 where
-  pub types : (path : List ℕ) → option_map (λ series. series.data_type) (get world path) ≡ type_at state.memory.schemas path
-  pub values : (path : List ℕ) (time : ℤ) (value : Value) → (value_at world path time ≡ Some value) ↔ IsValueAt state path time value
+  pub types : (path : List ℕ) → option_map (λ series. series.data_type) (get world path)
+      ≡ type_at state.memory.schemas path
+  pub values : (path : List ℕ) (time : ℤ) (value : Value)
+      → (value_at world path time ≡ Some value) ↔ IsValueAt state path time value

@@ -1,5 +1,6 @@
 //! Laws of the engine state. The functions do nothing; their contracts are the laws.
-ghost use Rattle.std.specs.Prelude.{◌≢◌, ◌⊎◌, ◌≤◌, ◌↔◌, Contains, ◌≡◌, ℤ, ℕ, List, [], None, All, AllPairs, Any, IsSome, slice_get, true};
+ghost use Rattle.std.specs.Prelude.{◌≢◌, ◌⊎◌, ◌≤◌, ◌↔◌, Contains, ◌≡◌, ℤ, ℕ, List, [], None, All, AllPairs, Any};
+ghost use Rattle.std.specs.Prelude.{IsSome, slice_get, true};
 ghost use Rattle.std.specs.FinMap.{empty};
 ghost use Rattle.std.specs.Option.{IsSomeAnd};
 ghost use Rattle.tsdb_base.specs.declared.answers.Answer.{Answer};
@@ -8,8 +9,10 @@ ghost use Rattle.tsdb_base.specs.declared.value.Value.{Value};
 ghost use Rattle.tsdb_core.specs.Limits.{max_pair_bytes};
 ghost use Rattle.tsdb_core.specs.Order.{IsBefore, IsEmptyPair, IsInOrder, byte_count};
 ghost use Rattle.tsdb_core.specs.Parts.{file_part, path_of};
-ghost use Rattle.tsdb_core.specs.Laws.{AreCells, IsFit, IsMissing, IsUnfit, KeepsBytes, NamesPath, file_borns, new_state};
-ghost use Rattle.tsdb_core.specs.Replay.{HasNothingOut, IsReplayOf, LeadsTo, ReplayState, Replays, new_store, replay_state};
+ghost use Rattle.tsdb_core.specs.Laws.{AreCells, IsFit, IsMissing, IsUnfit, KeepsBytes, NamesPath, file_borns};
+ghost use Rattle.tsdb_core.specs.Laws.{new_state};
+ghost use Rattle.tsdb_core.specs.Replay.{HasNothingOut, IsReplayOf, LeadsTo, ReplayState, Replays, new_store};
+ghost use Rattle.tsdb_core.specs.Replay.{replay_state};
 ghost use Rattle.tsdb_core.specs.State.{EngineState, MemoryState};
 ghost use Rattle.tsdb_core.specs.Steps.{Creates, Deletes, Freezes, Inserts, with_memory};
 ghost use Rattle.tsdb_map.specs.Apply.{reply_of, world_after};

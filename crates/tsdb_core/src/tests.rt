@@ -1,5 +1,5 @@
-//! Answers and counts of a core, the limits of a pair at their edges, and a journal that fails at each call in turn, over
-//! places in memory.
+//! Answers and counts of a core, the limits of a pair at their edges, and a journal that fails at each call in turn,
+//! over places in memory.
 mod asks;
 mod short_lists;
 mod slow_state;

@@ -27,7 +27,8 @@ Reads spelling IsField old view (Err (Bad at)) = Lacks spelling IsField old at
 Reads spelling IsField old view (Err Memory) = Unit {0}
 
 -- as `Reads`, for a field of several parts: the fault has the place of some part
-abbrev pub ReadsParts : {A B : Type 0} → (A → List ℕ) → (A → Type 0) → Rest → (B → A) → Result (B × Rest) FieldFault → Type 0
+abbrev pub ReadsParts : {A B : Type 0} → (A → List ℕ) → (A → Type 0) → Rest → (B → A) → Result (B × Rest) FieldFault
+    → Type 0
 ReadsParts spelling IsField old view (Ok r) = Takes old (spelling (view r.0)) r.1 × IsField (view r.0)
 ReadsParts spelling IsField old view (Err (Bad at)) = BeginsWithNone spelling IsField old.bytes.now
 ReadsParts spelling IsField old view (Err Memory) = Unit {0}

@@ -17,7 +17,8 @@ optional_field (Some value) = value_field value
 -- the number of points, the first and the last time, the first and the last value, the least and the greatest
 abbrev pub stats_field : Stats → List ℕ
 stats_field stats = (number64 stats.count ++ plain_i64 stats.start ++ plain_i64 stats.end)
-    ++ (value_field stats.first ++ value_field stats.last) ++ (optional_field stats.least ++ optional_field stats.greatest)
+    ++ (value_field stats.first ++ value_field stats.last)
+    ++ (optional_field stats.least ++ optional_field stats.greatest)
 
 -- whether values of the type have a least and a greatest one
 abbrev pub is_numeric : DataType → Bool

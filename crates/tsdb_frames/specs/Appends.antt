@@ -12,10 +12,13 @@ use Rattle.tsdb_frames.specs.declared.frames.Frames.{Frames}
 
 module _ {J : Type 0} {means : disk.Ghosts J} {counts : counted.Ghosts J} where
   -- What an append of a record leaves of a log: the log with the record, or the log with a record in doubt.
-  pub record IsAppend (old new : Frames J means counts) (payload : List ℕ) (outcome : Result (Unit {0}) Failed) : Type 0 where
-    pub added : OnOk outcome ((acknowledged : List (List ℕ)) (in_doubt : Option (List ℕ)) → IsLog old acknowledged in_doubt
+  pub record IsAppend (old new : Frames J means counts) (payload : List ℕ)
+      (outcome : Result (Unit {0}) Failed) : Type 0 where
+    pub added : OnOk outcome ((acknowledged : List (List ℕ)) (in_doubt : Option (List ℕ))
+        → IsLog old acknowledged in_doubt
         → IsLog new (acknowledged ++ payload ∷ []) None)
-    pub failed : OnErr outcome ((acknowledged : List (List ℕ)) (in_doubt : Option (List ℕ)) → IsLog old acknowledged in_doubt
+    pub failed : OnErr outcome ((acknowledged : List (List ℕ)) (in_doubt : Option (List ℕ))
+        → IsLog old acknowledged in_doubt
         → IsLog new acknowledged None ⊎ (IsLog new acknowledged in_doubt ⊎ IsLog new acknowledged (Some payload)))
     pub moments : (acknowledged : List (List ℕ)) (in_doubt : Option (List ℕ)) → IsLog old acknowledged in_doubt
         → LeavesFirstThen (disk_of old) (disk_of new)

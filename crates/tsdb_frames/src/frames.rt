@@ -1,6 +1,7 @@
 //! The log in a slot of a journal: it is read once, and then grows record by record. Depends on `record`, `reading` and
 //! `writing`.
-ghost use Rattle.std.specs.Prelude.{◌≡◌, ◌⊎◌, ℕ, ◌≤◌, List, [], ◌∷◌, ◌++◌, false, None, Some, IsOk, IfOk, IfErr, IfSome, IsErrAnd, OnErr, OnOk};
+ghost use Rattle.std.specs.Prelude.{◌≡◌, ◌⊎◌, ℕ, ◌≤◌, List, [], ◌∷◌, ◌++◌, false, None, Some, IsOk, IfOk, IfErr};
+ghost use Rattle.std.specs.Prelude.{IfSome, IsErrAnd, OnErr, OnOk};
 ghost use Rattle.std.specs.declared.option.Option.{Option};
 ghost use Rattle.tsdb_outside.specs.Causes.{HasCause, Rose};
 ghost use Rattle.tsdb_outside.specs.Disk.{in_slot, Keeps};

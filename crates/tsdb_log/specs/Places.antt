@@ -17,7 +17,8 @@ pub record Reaches {A : Type 0} (fields : A → List (List ℕ)) (Is : A → Typ
   pub place : at ≡ length (bytes_of first)
 
 -- this is the furthest such place: there stands the first field that is none, or the first byte after the last field
-pub record IsFurthest {A : Type 0} (fields : A → List (List ℕ)) (Is : A → Type 0) (bytes : List ℕ) (at : ℕ) : Type 0 where
+pub record IsFurthest {A : Type 0} (fields : A → List (List ℕ)) (Is : A → Type 0) (bytes : List ℕ)
+    (at : ℕ) : Type 0 where
   pub reached : Reaches fields Is bytes at
   pub none_beyond : (place : ℕ) → Reaches fields Is bytes place → place ≤ at
 

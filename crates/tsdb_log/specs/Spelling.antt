@@ -42,7 +42,8 @@ output_fields born space place output = number64 born.0 ∷ space_field space �
 
 -- the fields of a record: its kind, and what it says
 abbrev pub fields : LogRecord → List (List ℕ)
-fields (Create path data_type encoding) = (1 ∷ []) ∷ plain_text path ∷ type_field data_type ∷ encoding_field encoding ∷ []
+fields (Create path data_type encoding) = (1 ∷ []) ∷ plain_text path ∷ type_field data_type ∷ encoding_field encoding
+    ∷ []
 fields (Insert time cells) = (2 ∷ []) ∷ plain_i64 time ∷ cells_fields cells
 fields (Delete path range) = (3 ∷ []) ∷ plain_text path ∷ plain_i64 range.from ∷ plain_i64 range.to ∷ []
 fields Freeze = (4 ∷ []) ∷ []
@@ -97,7 +98,8 @@ HasFewParts (Insert time cells) = length cells ≤ most_cells
 HasFewParts (Delete path range) = Unit {0}
 HasFewParts Freeze = Unit {0}
 HasFewParts (Flushed sequence unsequence) = Unit {0}
-HasFewParts (Replaced born space place output sequence unsequence) = (length sequence ≤ most_files) × (length unsequence ≤ most_files)
+HasFewParts (Replaced born space place output sequence unsequence) =
+    (length sequence ≤ most_files) × (length unsequence ≤ most_files)
 
 -- a row of at most 1,000 cells, a replacement of at most 100,000,000 files of each space, or another record
 abbrev pub FitsFrame : LogRecord → Type 0
@@ -106,4 +108,5 @@ FitsFrame (Insert time cells) = length cells ≤ 1000
 FitsFrame (Delete path range) = Unit {0}
 FitsFrame Freeze = Unit {0}
 FitsFrame (Flushed sequence unsequence) = Unit {0}
-FitsFrame (Replaced born space place output sequence unsequence) = (length sequence ≤ 100000000) × (length unsequence ≤ 100000000)
+FitsFrame (Replaced born space place output sequence unsequence) =
+    (length sequence ≤ 100000000) × (length unsequence ≤ 100000000)

@@ -12,7 +12,8 @@ use Rattle.tsdb_log.specs.Places.{IsFurthest}
 use Rattle.tsdb_log.specs.Spelling.{bytes_of, fields, spelling, IsRecord}
 
 -- bytes from a place on begin with none that is written in such fields, and up to this place they are its first ones
-pub record IsMissing {A : Type 0} (fields : A → List (List ℕ)) (Is : A → Type 0) (start : ℕ) (bytes : List ℕ) (at : ℕ) : Type 0 where
+pub record IsMissing {A : Type 0} (fields : A → List (List ℕ)) (Is : A → Type 0) (start : ℕ) (bytes : List ℕ)
+    (at : ℕ) : Type 0 where
   pub none : BeginsWithNone (λ a. bytes_of (fields a)) Is bytes
   pub count : ℕ
   pub place : at ≡ start + count
@@ -24,7 +25,8 @@ Fails fields Is start bytes (Bad at) = IsMissing fields Is start bytes at
 Fails fields Is start bytes Memory = Unit {0}
 
 -- what is left begins with such fields, which are read, or the place where they stop is the fault's
-abbrev pub ReadsFields : {A B : Type 0} → (A → List (List ℕ)) → (A → Type 0) → Rest → (B → A) → Result (B × Rest) FieldFault → Type 0
+abbrev pub ReadsFields : {A B : Type 0} → (A → List (List ℕ)) → (A → Type 0) → Rest → (B → A)
+    → Result (B × Rest) FieldFault → Type 0
 ReadsFields fields Is old view (Ok r) = Takes old (bytes_of (fields (view r.0))) r.1 × Is (view r.0)
 ReadsFields fields Is old view (Err fault) = Fails fields Is old.at old.bytes.now fault
 

@@ -6,7 +6,8 @@ ghost use Rattle.tsdb_fields.specs.Reading.{Reads};
 ghost use Rattle.tsdb_log.specs.Rows.{output_row, AreOutput};
 ghost use Rattle.tsdb_log.specs.declared.record.LogRecord.{LogRecord};
 ghost use Rattle.tsdb_log.specs.Places.{IsBad, IsReadAs};
-ghost use Rattle.tsdb_log.specs.Spelling.{cell_fields, file_fields, files_fields, space_field, spelling, AreFiles, IsCell, IsFile, IsRecord};
+ghost use Rattle.tsdb_log.specs.Spelling.{cell_fields, file_fields, files_fields, space_field, spelling, AreFiles};
+ghost use Rattle.tsdb_log.specs.Spelling.{IsCell, IsFile, IsRecord};
 ghost use Rattle.tsdb_log.specs.Steps.{ReadsFields, ReadsRecord};
 
 use crate::fault::LogFault;

@@ -7,8 +7,8 @@ use std::test::Fail;
 use tsdb_base::{DataType, Encoding, FileNumber, List, Range, SeriesId, Space, Stamp, Text, Value};
 use tsdb_path::Path;
 
-/// A payload. By hand: the places of its fields, and the bytes that give no record when they are inverted, each with the
-/// place that is bad then. Any other byte gives another record.
+/// A payload. By hand: the places of its fields, and the bytes that give no record when they are inverted, each with
+/// the place that is bad then. Any other byte gives another record.
 #[derive(Drop)]
 struct Payload {
     bytes: &'static [u8],

@@ -3,7 +3,9 @@ ghost use Rattle.std.specs.Prelude.{◌≡◌, ◌++◌, ◌≤◌, length, All,
 ghost use Rattle.tsdb_path.specs.Nodes.{IsPath};
 ghost use Rattle.tsdb_fields.specs.Reading.{IsValue};
 ghost use Rattle.tsdb_log.specs.Rows.{AreOutput};
-ghost use Rattle.tsdb_log.specs.Spelling.{bytes_of, cell_fields, cells_fields, file_fields, files_fields, output_fields, space_field, most_cells, most_files, spelling, AreFiles, HasFewParts, IsCell, IsFile, IsRecord};
+ghost use Rattle.tsdb_log.specs.Spelling.{bytes_of, cell_fields, cells_fields, file_fields, files_fields};
+ghost use Rattle.tsdb_log.specs.Spelling.{output_fields, space_field, most_cells, most_files, spelling, AreFiles};
+ghost use Rattle.tsdb_log.specs.Spelling.{HasFewParts, IsCell, IsFile, IsRecord};
 
 use crate::kind::{CREATE, DELETE, FLUSHED, FREEZE, INSERT, REPLACED};
 use crate::record::{CellRecord, LogRecord};

@@ -3,7 +3,8 @@ use Rattle.std.specs.Prelude.{◌≡◌, ◌⊎◌, ℕ, ◌≤◌, List, None, 
 use Rattle.std.specs.Option.{IsSome}
 use Rattle.tsdb_base.specs.Values.{is_suitable}
 use Rattle.tsdb_map.specs.declared.command.Command.{Command}
-use Rattle.tsdb_map.specs.declared.command.Command.TheVariants.{Create, Insert, Delete, Select, Flush, CompactInner, CompactCross, ShowFiles}
+use Rattle.tsdb_map.specs.declared.command.Command.TheVariants.{Create, Insert, Delete, Select, Flush, CompactInner}
+use Rattle.tsdb_map.specs.declared.command.Command.TheVariants.{CompactCross, ShowFiles}
 use Rattle.tsdb_map.specs.declared.command.Item.{Item}
 use Rattle.tsdb_map.specs.declared.command.Row.{Row}
 use Rattle.tsdb_map.specs.declared.command.Schema.{Schema}

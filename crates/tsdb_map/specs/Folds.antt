@@ -1,10 +1,12 @@
 -- What a select computes from points: the rows of several series, and the aggregates of one.
-use Rattle.std.specs.Prelude.{◌-◌, ℤ, pos, Bool, false, int_lt, List, Option, None, Some, map, length, flat_map, slice_get, option_map, if◌then◌else◌}
+use Rattle.std.specs.Prelude.{◌-◌, ℤ, pos, Bool, false, int_lt, List, Option, None, Some, map, length, flat_map}
+use Rattle.std.specs.Prelude.{slice_get, option_map, if◌then◌else◌}
 use Rattle.std.specs.Ordering.{int_cmp}
 use Rattle.std.specs.List.{filter_map, reduce}
 use Rattle.std.specs.FinMap.{entries, get, keys, from_entries, retain_keys}
 use Rattle.tsdb_base.specs.declared.answers.Aggregate.{Aggregate}
-use Rattle.tsdb_base.specs.declared.answers.Aggregate.TheVariants.{Count, FirstValue, LastValue, MinValue, MaxValue, MinTime, MaxTime}
+use Rattle.tsdb_base.specs.declared.answers.Aggregate.TheVariants.{Count, FirstValue, LastValue, MinValue, MaxValue}
+use Rattle.tsdb_base.specs.declared.answers.Aggregate.TheVariants.{MinTime, MaxTime}
 use Rattle.tsdb_base.specs.declared.point.Point.{Point}
 use Rattle.tsdb_base.specs.declared.point.Range.{Range}
 use Rattle.tsdb_base.specs.declared.value.Value.{Value}

@@ -3,7 +3,8 @@
 use Rattle.std.specs.Prelude.{◌≡◌, ◌≢◌, ◌⊎◌, ℕ, ◌+◌, ◌<◌, List, [], ◌∷◌}
 use Rattle.tsdb_base.specs.declared.answers.Answer.TheVariants.{Done, Device, Memory, Full}
 use Rattle.tsdb_map.specs.declared.command.Command.{Command}
-use Rattle.tsdb_map.specs.declared.command.Command.TheVariants.{Create, Insert, Delete, Select, Flush, CompactInner, CompactCross, ShowFiles}
+use Rattle.tsdb_map.specs.declared.command.Command.TheVariants.{Create, Insert, Delete, Select, Flush, CompactInner}
+use Rattle.tsdb_map.specs.declared.command.Command.TheVariants.{CompactCross, ShowFiles}
 use Rattle.tsdb_map.specs.declared.reply.Reply.{Reply}
 use Rattle.tsdb_map.specs.declared.reply.Reply.TheVariants.{Plain, Files}
 use Rattle.tsdb_map.specs.Apply.{accepted, reply_of}
@@ -69,7 +70,10 @@ IsAllowed state command reply = IsMapReply state command reply
 
 -- the state after a command that is answered so: Done is the only answer that changes it
 abbrev pub state_after : State → Command → Reply → State
-state_after state command (Plain Done) = record { world = accepted state.world command; stamp = state.stamp + raise command }
+state_after state command (Plain Done) = record {
+  world = accepted state.world command;
+  stamp = state.stamp + raise command;
+}
 state_after state command reply = state
 
 -- each entry in turn has a reply that is allowed in the state at its place, and the last leaves the state after

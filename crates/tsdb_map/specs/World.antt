@@ -34,7 +34,10 @@ put time value series = record { data_type = series.data_type; points = insert s
 
 -- a series without the times in the range
 abbrev pub cut : Range → Series → Series
-cut range series = record { data_type = series.data_type; points = retain_keys series.points (λ time. not (is_in range time)) }
+cut range series = record {
+  data_type = series.data_type;
+  points = retain_keys series.points (λ time. not (is_in range time));
+}
 
 -- the world where a series, if it is there, has become another
 abbrev pub change_series : World → List ℕ → (Series → Series) → Option Series → World

@@ -105,7 +105,8 @@ impl Plain {
 
     /// The change takes effect. It takes no memory: a create and an insert are in the map already.
     pub fn finish(&mut self, command: &Command, pending: Pending)
-        ensures { (before : World) → IsPending before self.old command.now pending → self.new ≡ accepted before command.now }
+        ensures { (before : World) → IsPending before self.old command.now pending
+            → self.new ≡ accepted before command.now }
     {
         if let Command::Delete { range, .. } = command
             && let Pending::Delete { device, name } = pending
@@ -150,7 +151,8 @@ impl Plain {
 
     /// Writes the values of a row, where all of its series are there and each literal fits.
     fn prepare_insert(&mut self, device: &Path, row: &Row) -> Result<Prepared, Memory>
-        ensures prepared { IfOk result (λ prepared. IsPrepared self.old self.new (Command.Insert device.now row.now) prepared) }
+        ensures prepared { IfOk result (λ prepared. IsPrepared self.old self.new (Command.Insert device.now row.now)
+            prepared) }
         ensures memory { OnErr result (self.new ≡ self.old) }
     {
         let cells = row.cells.items();
@@ -167,7 +169,8 @@ impl Plain {
     /// Looks for the series. Its points stay.
     fn prepare_delete(&mut self, series: &Path, range: &Range) -> Result<Prepared, Memory>
         requires { IsSeries series.now }
-        ensures prepared { IfOk result (λ prepared. IsPrepared self.old self.new (Command.Delete series.now range.now) prepared) }
+        ensures prepared { IfOk result (λ prepared. IsPrepared self.old self.new (Command.Delete series.now range.now)
+            prepared) }
         ensures memory { self.new ≡ self.old }
     {
         let (device, name) = split(self.alloc, series)?;

@@ -1,4 +1,5 @@
-//! The cells of a row: whether they fit, how they are written, and how they are taken back. Depends on `catalog` and `literal`.
+//! The cells of a row: whether they fit, how they are written, and how they are taken back. Depends on `catalog` and
+//! `literal`.
 ghost use Rattle.std.specs.Prelude.{◌≡◌, ◌+◌, ◌≤◌, ◌++◌, length, IfOk, OnOk, OnErr, IsSome, true};
 ghost use Rattle.std.specs.Vec.{vec_len, vec_capacity};
 ghost use Rattle.tsdb_map.specs.Apply as apply;

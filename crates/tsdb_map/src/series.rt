@@ -1,5 +1,6 @@
 //! A series: the type of its values, and its values by their times. Depends on `fold`.
-ghost use Rattle.std.specs.Prelude.{◌≡◌, ◌<◌, ◌^◌, ◌||◌, ℤ, IfOk, OnOk, OnErr, IsOk, IsNone, IsSome, ◌⊎◌, is_some, length, true, false};
+ghost use Rattle.std.specs.Prelude.{◌≡◌, ◌<◌, ◌^◌, ◌||◌, ℤ, IfOk, OnOk, OnErr, IsOk, IsNone, IsSome, ◌⊎◌, is_some};
+ghost use Rattle.std.specs.Prelude.{length, true, false};
 ghost use Rattle.std.specs.Ordering.{int_cmp};
 ghost use Rattle.std.specs.FinMap as map;
 ghost use Rattle.std.specs.BTreeSet as set;

@@ -207,8 +207,51 @@ fn a_refused_row_puts_nothing_and_the_last_write_wins(rt: HostRuntime) -> Result
     Ok(())
 }
 
+/// Whether a command, taken to its end in two phases, cancelled and then finished, comes to this: what it came to and the
+/// rows of the series after it, both times.
+fn comes_to(
+    alloc: Global,
+    plain: &mut Plain,
+    command: Command,
+    name: &str,
+    wanted: &str,
+) -> Result<bool, Fail> {
+    let cancelled = two_phases(alloc, plain, &command, false)?;
+    let before = said(alloc, plain, select(alloc, name, None, -9, 9)?)?;
+    let finished = two_phases(alloc, plain, &command, true)?;
+    let after = said(alloc, plain, select(alloc, name, None, -9, 9)?)?;
+    let words = format!(in alloc; "{cancelled}, {before} {finished}, {after}")?;
+    Ok(words.as_str() == wanted)
+}
+
 #[test]
 fn a_change_is_cancelled_or_finished(rt: HostRuntime) -> Result<(), Fail> {
+    let alloc = rt.alloc();
+    let mut plain = Plain::new(alloc);
+    let begin = create(alloc, "root.d.a", DataType::Int32)?;
+    let wanted = "a change, NoPath a change, ";
+    assert!(rt; comes_to(alloc, &mut plain, begin, "a", wanted)?);
+    let first = one(alloc, 1, "a", Literal::Int(7))?;
+    let wanted = "a change,  a change, 1 [Some(I32(7))];";
+    assert!(rt; comes_to(alloc, &mut plain, first, "a", wanted)?);
+    let begin = create(alloc, "root.d.b", DataType::Text)?;
+    let wanted = "a change, NoPath a change, ";
+    assert!(rt; comes_to(alloc, &mut plain, begin, "b", wanted)?);
+    let again = pair(alloc, 1, Literal::Int(8), text(alloc, b"x")?)?;
+    let wanted = "a change, 1 [Some(I32(7))]; a change, 1 [Some(I32(8))];";
+    assert!(rt; comes_to(alloc, &mut plain, again, "a", wanted)?);
+    let second = pair(alloc, 2, Literal::Int(9), text(alloc, b"y")?)?;
+    let x = "1 [Some(Text(\"x\"))];";
+    let wanted = format!(in alloc; "a change, {x} a change, {x}2 [Some(Text(\"y\"))];")?;
+    assert!(rt; comes_to(alloc, &mut plain, second, "b", wanted.as_str())?);
+    let removal = delete(alloc, "a", 0, 1)?;
+    let wanted = "a change, 1 [Some(I32(8))];2 [Some(I32(9))]; a change, 2 [Some(I32(9))];";
+    assert!(rt; comes_to(alloc, &mut plain, removal, "a", wanted)?);
+    Ok(())
+}
+
+#[test]
+fn what_changes_nothing_is_answered_at_once(rt: HostRuntime) -> Result<(), Fail> {
     let alloc = rt.alloc();
     let mut plain = Plain::new(alloc);
     said(
@@ -216,70 +259,18 @@ fn a_change_is_cancelled_or_finished(rt: HostRuntime) -> Result<(), Fail> {
         &mut plain,
         create(alloc, "root.d.a", DataType::Int32)?,
     )?;
-    let seven = "1 [Some(I32(7))];";
-    let eight = "1 [Some(I32(8))];";
-    let nine = "2 [Some(I32(9))];";
+    said(alloc, &mut plain, one(alloc, 2, "a", Literal::Int(9))?)?;
+    let row = "2 [Some(I32(9))];";
     let steps = [
-        (
-            one(alloc, 1, "a", Literal::Int(7))?,
-            "a change",
-            "a",
-            "",
-            seven,
-        ),
-        (
-            create(alloc, "root.d.b", DataType::Text)?,
-            "a change",
-            "b",
-            "NoPath",
-            "",
-        ),
-        (
-            pair(alloc, 1, Literal::Int(8), text(alloc, b"x")?)?,
-            "a change",
-            "a",
-            seven,
-            eight,
-        ),
-        (
-            pair(alloc, 2, Literal::Int(9), text(alloc, b"y")?)?,
-            "a change",
-            "b",
-            "1 [Some(Text(\"x\"))];",
-            "1 [Some(Text(\"x\"))];2 [Some(Text(\"y\"))];",
-        ),
-        (
-            delete(alloc, "a", 0, 1)?,
-            "a change",
-            "a",
-            "1 [Some(I32(8))];2 [Some(I32(9))];",
-            nine,
-        ),
-        (
-            create(alloc, "root.d.a", DataType::Int32)?,
-            "Exists",
-            "a",
-            nine,
-            nine,
-        ),
-        (
-            one(alloc, 2, "a", Literal::Bool(true))?,
-            "WrongType",
-            "a",
-            nine,
-            nine,
-        ),
-        (delete(alloc, "c", 0, 9)?, "NoPath", "a", nine, nine),
-        (select(alloc, "a", None, 0, 9)?, nine, "a", nine, nine),
-        (Command::Flush, "Done", "a", nine, nine),
+        (create(alloc, "root.d.a", DataType::Int32)?, "Exists"),
+        (one(alloc, 2, "a", Literal::Bool(true))?, "WrongType"),
+        (delete(alloc, "c", 0, 9)?, "NoPath"),
+        (select(alloc, "a", None, 0, 9)?, row),
+        (Command::Flush, "Done"),
     ];
-    for (command, wanted, name, cancelled, finished) in steps {
-        for (finish, rows) in [(false, cancelled), (true, finished)] {
-            let came_to = two_phases(alloc, &mut plain, &command, finish)?;
-            assert_eq!(rt; came_to.as_str(), wanted);
-            let reply = said(alloc, &mut plain, select(alloc, name, None, -9, 9)?)?;
-            assert_eq!(rt; reply.as_str(), rows);
-        }
+    for (command, answer) in steps {
+        let wanted = format!(in alloc; "{answer}, {row} {answer}, {row}")?;
+        assert!(rt; comes_to(alloc, &mut plain, command, "a", wanted.as_str())?);
     }
     Ok(())
 }
@@ -295,6 +286,16 @@ const AGGREGATES: [Aggregate; 7] = [
     Aggregate::MaxTime,
 ];
 
+/// All aggregates of the series `a`, in words.
+fn aggregates(alloc: Global, plain: &mut Plain) -> Result<String, Fail> {
+    let mut words = String::new(alloc);
+    for aggregate in AGGREGATES {
+        let reply = said(alloc, plain, select(alloc, "a", Some(aggregate), -9, 9)?)?;
+        words.push_str(reply.as_str())?;
+    }
+    Ok(words)
+}
+
 #[test]
 fn aggregates_over_no_one_and_many_points(rt: HostRuntime) -> Result<(), Fail> {
     let alloc = rt.alloc();
@@ -304,61 +305,31 @@ fn aggregates_over_no_one_and_many_points(rt: HostRuntime) -> Result<(), Fail> {
         &mut plain,
         create(alloc, "root.d.a", DataType::Int64)?,
     )?;
-    let none = [
-        "[Some(I64(0))]",
-        "[None]",
-        "[None]",
-        "[None]",
-        "[None]",
-        "[None]",
-        "[None]",
-    ];
-    let single = [
-        "[Some(I64(1))]",
-        "[Some(I64(5))]",
-        "[Some(I64(5))]",
-        "[Some(I64(5))]",
-        "[Some(I64(5))]",
-        "[Some(I64(2))]",
-        "[Some(I64(2))]",
-    ];
-    let many = [
-        "[Some(I64(3))]",
-        "[Some(I64(9))]",
-        "[Some(I64(4))]",
-        "[Some(I64(4))]",
-        "[Some(I64(9))]",
-        "[Some(I64(-7))]",
-        "[Some(I64(3))]",
-    ];
-    for (aggregate, wanted) in AGGREGATES.iter().zip(none) {
-        let reply = said(
-            alloc,
-            &mut plain,
-            select(alloc, "a", Some(*aggregate), -9, 9)?,
-        )?;
-        assert_eq!(rt; reply.as_str(), wanted);
-    }
+    let none = aggregates(alloc, &mut plain)?;
+    assert_eq!(rt;
+        none.as_str(),
+        "[Some(I64(0))][None][None][None][None][None][None]"
+    );
     said(alloc, &mut plain, one(alloc, 2, "a", Literal::Int(5))?)?;
-    for (aggregate, wanted) in AGGREGATES.iter().zip(single) {
-        let reply = said(
+    let single = aggregates(alloc, &mut plain)?;
+    assert_eq!(rt;
+        single.as_str(),
+        "\
+[Some(I64(1))][Some(I64(5))][Some(I64(5))][Some(I64(5))][Some(I64(5))][Some(I64(2))][Some(I64(2))]"
+    );
+    for (time, value) in [(-7, 9), (3, 4), (10, 99)] {
+        said(
             alloc,
             &mut plain,
-            select(alloc, "a", Some(*aggregate), -9, 9)?,
+            one(alloc, time, "a", Literal::Int(value))?,
         )?;
-        assert_eq!(rt; reply.as_str(), wanted);
     }
-    said(alloc, &mut plain, one(alloc, -7, "a", Literal::Int(9))?)?;
-    said(alloc, &mut plain, one(alloc, 3, "a", Literal::Int(4))?)?;
-    said(alloc, &mut plain, one(alloc, 10, "a", Literal::Int(99))?)?;
-    for (aggregate, wanted) in AGGREGATES.iter().zip(many) {
-        let reply = said(
-            alloc,
-            &mut plain,
-            select(alloc, "a", Some(*aggregate), -9, 9)?,
-        )?;
-        assert_eq!(rt; reply.as_str(), wanted);
-    }
+    let many = aggregates(alloc, &mut plain)?;
+    assert_eq!(rt;
+        many.as_str(),
+        "\
+[Some(I64(3))][Some(I64(9))][Some(I64(4))][Some(I64(4))][Some(I64(9))][Some(I64(-7))][Some(I64(3))]"
+    );
     Ok(())
 }
 

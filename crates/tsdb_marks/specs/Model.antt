@@ -14,7 +14,8 @@ use Rattle.tsdb_marks.specs.Stretches.{SomeMet}
 abbrev pub SomeOver : List Mark → List ℕ → ℕ → ℕ → Type 0
 SomeOver [] series at born = ⊥
 SomeOver (mark ∷ others) series at born =
-    ((mark.path ≡ series) × (moment mark.from ≤ at) × (at ≤ moment mark.to) × (born < mark.version.0)) ⊎ SomeOver others series at born
+    ((mark.path ≡ series) × (moment mark.from ≤ at) × (at ≤ moment mark.to) × (born < mark.version.0))
+    ⊎ SomeOver others series at born
 
 -- the times of the mark are of 64 bits
 pub record HasTimes (mark : Mark) : Type 0 where
@@ -23,7 +24,8 @@ pub record HasTimes (mark : Mark) : Type 0 where
 
 -- at each moment of each series, the index has a version greater than `born` exactly where a mark has
 abbrev pub IsIndexOf : List Mark → Index → Type 0
-IsIndexOf marks index = (series : List ℕ) (moment born : ℕ) → SomeMet (at index.series series) moment moment born ↔ SomeOver marks series moment born
+IsIndexOf marks index = (series : List ℕ) (moment born : ℕ)
+    → SomeMet (at index.series series) moment moment born ↔ SomeOver marks series moment born
 
 abbrev pub marks_view : Inside → Marks
 marks_view inside = record { marks = inside.marks.items; spare = inside.spare }

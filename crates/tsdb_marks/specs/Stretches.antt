@@ -35,11 +35,13 @@ SomeMet (s ∷ others) from to born = IsMet s from to born ⊎ SomeMet others fr
 
 -- what of a stretch lies before a moment
 abbrev pub part_before : ℕ → Stretch → List Stretch
-part_before moment s = cond (nat_lt s.to moment) (s ∷ []) (cond (nat_lt s.from moment) (record s { to = moment - 1 } ∷ []) [])
+part_before moment s = cond (nat_lt s.to moment) (s ∷ [])
+    (cond (nat_lt s.from moment) (record s { to = moment - 1 } ∷ []) [])
 
 -- what of a stretch lies at a moment and behind it
 abbrev pub part_from : ℕ → Stretch → List Stretch
-part_from moment s = cond (nat_le moment s.from) (s ∷ []) (cond (nat_le moment s.to) (record s { from = moment } ∷ []) [])
+part_from moment s = cond (nat_le moment s.from) (s ∷ [])
+    (cond (nat_le moment s.to) (record s { from = moment } ∷ []) [])
 
 -- what of the stretches lies before a moment
 abbrev pub before : ℕ → List Stretch → List Stretch

@@ -13,4 +13,5 @@ stretches_of (Branch fork) = fork.value.left ++ fork.value.stretch ∷ fork.valu
 -- the stretches are in order, and none has a version greater than the newest one
 abbrev pub IsSearchTree : Top → Type 0
 IsSearchTree Leaf = Unit {0}
-IsSearchTree (Branch fork) = IsOrdered (stretches_of (Branch fork)) × IsUpTo fork.value.newest (stretches_of (Branch fork))
+IsSearchTree (Branch fork) = IsOrdered (stretches_of (Branch fork))
+    × IsUpTo fork.value.newest (stretches_of (Branch fork))

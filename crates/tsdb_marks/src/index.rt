@@ -1,6 +1,7 @@
 //! The stretches of every series that has a mark, found by the hash of its path, with memory for further marks. It
 //! depends on `stretches` and `tsdb_path`.
-ghost use Rattle.std.specs.Prelude.{◌≡◌, ◌≢◌, ℕ, ◌+◌, ◌-◌, ◌*◌, ◌<◌, ◌≤◌, ◌↔◌, List, [], ◌∷◌, ◌++◌, length, IsTrue, OnOk, IfOk, vec_len, vec_capacity};
+ghost use Rattle.std.specs.Prelude.{◌≡◌, ◌≢◌, ℕ, ◌+◌, ◌-◌, ◌*◌, ◌<◌, ◌≤◌, ◌↔◌, List, [], ◌∷◌, ◌++◌, length, IsTrue};
+ghost use Rattle.std.specs.Prelude.{OnOk, IfOk, vec_len, vec_capacity};
 ghost use Rattle.std.specs.List.{All, filter};
 ghost use Rattle.tsdb_marks.specs.Stretches.{IsOrdered, SomeMet, is_newer, overlay};
 ghost use Rattle.tsdb_marks.specs.Index.{at, HasRoom, IsBlank, KeepsRoom, SameStretches};

@@ -1,5 +1,6 @@
 //! The deletion marks of a store, in the order of their versions. It depends on `index`.
-ghost use Rattle.std.specs.Prelude.{◌≡◌, ℕ, ℤ, ◌+◌, ◌<◌, ◌≤◌, ◌≤ℤ◌, ◌↔◌, List, [], ◌∷◌, ◌++◌, IsTrue, IfOk, IfErr, OnOk, nat_eq, false};
+ghost use Rattle.std.specs.Prelude.{◌≡◌, ℕ, ℤ, ◌+◌, ◌<◌, ◌≤◌, ◌≤ℤ◌, ◌↔◌, List, [], ◌∷◌, ◌++◌, IsTrue, IfOk, IfErr};
+ghost use Rattle.std.specs.Prelude.{OnOk, nat_eq, false};
 ghost use Rattle.std.specs.List.{All, AllPairs, filter, list_any};
 ghost use denote.Ref.{Bor};
 ghost use Rattle.std.specs.HashSet.{contains_by};

@@ -4,7 +4,8 @@
 //! The stretches are apart and in order. A fork's priority is drawn when its memory is taken, and is at least that of
 //! the forks below it, so that the tree is about as deep as the logarithm of its size, whatever the order in which
 //! marks come. A moment is a time counted from the least one, so that it is no less than 0.
-ghost use Rattle.std.specs.Prelude.{◌≡◌, ◌+◌, ◌-◌, ◌<◌, ◌≤◌, ◌↔◌, [], ◌∷◌, ◌++◌, IsTrue, length, ◌==◌, vec_len, MatchOption};
+ghost use Rattle.std.specs.Prelude.{◌≡◌, ◌+◌, ◌-◌, ◌<◌, ◌≤◌, ◌↔◌, [], ◌∷◌, ◌++◌, IsTrue, length, ◌==◌, vec_len};
+ghost use Rattle.std.specs.Prelude.{MatchOption};
 ghost use Rattle.std.specs.List.{filter};
 ghost use Rattle.tsdb_marks.specs.Stretches.{IsOrdered, IsUpTo, IsOpened, SomeMet, before, from_on, is_newer, overlay};
 

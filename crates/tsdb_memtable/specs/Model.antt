@@ -7,7 +7,11 @@ use Rattle.tsdb_memtable.specs.Points.{IsRising}
 use Rattle.tsdb_memtable.specs.Pairs.{SeriesPoints, series_bytes}
 
 abbrev pub points_view : Inside → SeriesPoints
-points_view inside = record { sequence = inside.sequence.items; unsequence = inside.unsequence.items; spare = inside.spare }
+points_view inside = record {
+  sequence = inside.sequence.items;
+  unsequence = inside.unsequence.items;
+  spare = inside.spare;
+}
 
 -- how many bytes there are where all room is used
 abbrev pub most_bytes : SeriesPoints → ℕ

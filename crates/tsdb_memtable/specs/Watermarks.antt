@@ -32,7 +32,8 @@ abbrev pub later_time : Option ℤ → ℤ → Option ℤ
 later_time None time = Some time
 later_time (Some last) time = cond (int_lt time last) (Some last) (Some time)
 
--- a point whose time is greater than the watermark, or whose device has none, is of the sequence space, every other of the unsequence space
+-- a point whose time is greater than the watermark, or whose device has none, is of the sequence space, every other of
+-- the unsequence space
 abbrev pub space_by : Option ℤ → ℤ → Space
 space_by None time = Sequence
 space_by (Some last) time = cond (int_lt last time) Sequence Unsequence

@@ -4,7 +4,8 @@ ghost use Rattle.std.specs.List.{filter};
 ghost use Rattle.tsdb_base.specs.declared.ids.Space.{Space as SpaceOf};
 ghost use Rattle.tsdb_memtable.specs.Points.{is_within};
 ghost use Rattle.tsdb_memtable.specs.Watermarks.{watermark, space_by};
-ghost use Rattle.tsdb_memtable.specs.Pairs.{byte_count, change_points, count, HasRisingSeries, without_range, points_of, put_in, spare_of, table};
+ghost use Rattle.tsdb_memtable.specs.Pairs.{byte_count, change_points, count, HasRisingSeries, without_range};
+ghost use Rattle.tsdb_memtable.specs.Pairs.{points_of, put_in, spare_of, table};
 ghost use Rattle.tsdb_memtable.specs.PairModel.{CanSwap, IsSwap, HasRoomFor};
 
 use crate::series::{SeriesPoints, Totals};
@@ -105,7 +106,8 @@ impl Pair {
     /// Makes room for so many more points of the series, in either space.
     pub fn reserve(&mut self, series: SeriesId, cells: u64) -> Result<(), Memory>
         ensures tables { (space : SpaceOf) → table space self.new ≡ table space self.old }
-        ensures points { (space : SpaceOf) (other : ℕ) → points_of space other self.new ≡ points_of space other self.old }
+        ensures points { (space : SpaceOf) (other : ℕ)
+            → points_of space other self.new ≡ points_of space other self.old }
         ensures ok { OnOk result (spare_of series.0 self.new ≡ spare_of series.0 self.old + cells) }
         ensures err { OnErr result (spare_of series.0 self.new ≡ spare_of series.0 self.old) }
         ensures others { (other : ℕ) → series.0 ≢ other → spare_of other self.new ≡ spare_of other self.old }

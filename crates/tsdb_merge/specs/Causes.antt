@@ -15,7 +15,8 @@ HasRisen (Damaged at) failures failures_now damages damages_now = Rose damages d
 HasRisen Memory failures failures_now damages damages_now = Unit {0}
 
 -- neither count falls, and the fault that is answered has its cause
-pub record HasPullCause {T : Type 0} (failures failures_now damages damages_now : ℕ) (result : Result T PullFault) : Type 0 where
+pub record HasPullCause {T : Type 0} (failures failures_now damages damages_now : ℕ)
+    (result : Result T PullFault) : Type 0 where
   pub failures_later : failures ≤ failures_now
   pub damages_later : damages ≤ damages_now
   pub fault : IfErr result (λ fault. HasRisen fault failures failures_now damages damages_now)

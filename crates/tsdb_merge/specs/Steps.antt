@@ -28,7 +28,8 @@ with_head (Next point) points = point ∷ points
 -- the points that a tree has left
 abbrev pub node_left : {P : Type 0} → (P → List Point) → Node P → List Point
 node_left left (Leaf source) = left source
-node_left left (Pair' p low q high low_head high_head) = merge_two (with_head low_head (node_left left low)) (with_head high_head (node_left left high))
+node_left left (Pair' p low q high low_head high_head) =
+    merge_two (with_head low_head (node_left left low)) (with_head high_head (node_left left high))
 
 -- a count of each source, in the order of the sources
 abbrev pub node_counts : {P : Type 0} → (P → ℕ) → Node P → List ℕ
@@ -44,7 +45,8 @@ root_counts count None = []
 root_counts count (Some node) = node_counts count node
 
 -- no count has fallen, and a fault has its cause in one of the sources
-pub record HasSomeCause {T : Type 0} (failures failures_now damages damages_now : List ℕ) (result : Result T PullFault) : Type 0 where
+pub record HasSomeCause {T : Type 0} (failures failures_now damages damages_now : List ℕ)
+    (result : Result T PullFault) : Type 0 where
   pub failures_later : NoneFell failures failures_now
   pub damages_later : NoneFell damages damages_now
   pub fault : IfErr result (λ fault. SomeHasRisen fault failures failures_now damages damages_now)

@@ -1,5 +1,7 @@
--- What stored files mean, and the images of a place that keeps some of them. The rules stand at the head of src/files.rt.
-use Rattle.std.specs.Prelude.{◌≡◌, ℕ, ◌+◌, ◌^◌, ◌<◌, ◌≤◌, List, [], ◌∷◌, ◌++◌, length, map, Bool, ◌&&◌, nat_eq, nat_le, nat_lt, Contains, IfSome, None, Some}
+-- What stored files mean, and the images of a place that keeps some of them. The rules stand at the head of
+-- src/files.rt.
+use Rattle.std.specs.Prelude.{◌≡◌, ℕ, ◌+◌, ◌^◌, ◌<◌, ◌≤◌, List, [], ◌∷◌, ◌++◌, length, map, Bool, ◌&&◌, nat_eq, nat_le}
+use Rattle.std.specs.Prelude.{nat_lt, Contains, IfSome, None, Some}
 use Rattle.std.specs.declared.option.Option.{Option}
 use Rattle.std.specs.List.{IsDistinct}
 use Rattle.tsdb_base.specs.declared.ids.FileNumber.{FileNumber}

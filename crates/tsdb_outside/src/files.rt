@@ -15,12 +15,14 @@
 //! - All parts may move to another thread.
 //!
 //! Depends on `faults`, and on `tsdb_base` for `FileNumber`.
-ghost use Rattle.std.specs.Prelude.{◌≡◌, ◌↔◌, ℕ, List, ◌+◌, ◌-◌, ◌^◌, ◌<◌, ◌≤◌, min, length, take, drop, filter, All, Contains, None, IfOk, IfSome, IsTrue, MatchOption, OnErr, OnOk};
+ghost use Rattle.std.specs.Prelude.{◌≡◌, ◌↔◌, ℕ, List, ◌+◌, ◌-◌, ◌^◌, ◌<◌, ◌≤◌, min, length, take, drop, filter, All};
+ghost use Rattle.std.specs.Prelude.{Contains, None, IfOk, IfSome, IsTrue, MatchOption, OnErr, OnOk};
 ghost use Rattle.std.specs.declared.option.Option.{Option};
 ghost use Rattle.std.specs.Option.{ForSome};
 ghost use Rattle.std.specs.List.Sorted.{IsStrictlyIncreasing};
 ghost use Rattle.tsdb_outside.specs.Causes.{HasCause, HasStoreCause, Rose};
-ghost use Rattle.tsdb_outside.specs.Files.{NamedFile, StoredFile, IsFileNumber, is_number, Names, numbers_of, plain_numbers, TakesOut, PutsBack};
+ghost use Rattle.tsdb_outside.specs.Files.{NamedFile, StoredFile, IsFileNumber, is_number, Names, numbers_of};
+ghost use Rattle.tsdb_outside.specs.Files.{plain_numbers, TakesOut, PutsBack};
 ghost use Rattle.tsdb_outside.specs.Limits.{FitsSlot};
 
 use crate::{Counted, Failed, StoreFault};

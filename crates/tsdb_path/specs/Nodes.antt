@@ -1,6 +1,7 @@
 -- What a node, a name and a path are, as facts on bytes. Nothing here scans: a path is what some list of
 -- nodes makes when it is joined by dots, and `parts` is that list, read back from the bytes.
-use Rattle.std.specs.Prelude.{◌≡◌, ℕ, ◌-◌, ◌<◌, ◌≤◌, ◌==◌, ◌||◌, Bool, IsTrue, List, [], ◌∷◌, ◌++◌, length, take, codes, slice_index_or, All}
+use Rattle.std.specs.Prelude.{◌≡◌, ℕ, ◌-◌, ◌<◌, ◌≤◌, ◌==◌, ◌||◌, Bool, IsTrue, List, [], ◌∷◌, ◌++◌, length, take, codes}
+use Rattle.std.specs.Prelude.{slice_index_or, All}
 use Rattle.std.specs.Char.{is_ascii_alphanumeric, is_ascii_digit}
 use Rattle.std.specs.List.{join_with_byte, slice_split}
 

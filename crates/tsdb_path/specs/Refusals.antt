@@ -1,6 +1,7 @@
 -- Why bytes are refused, and where: of the reasons in their order the first that holds. Each is a fact on all of
 -- the bytes and on their parts between dots, and each leaves out those before it.
-use Rattle.std.specs.Prelude.{◌≡◌, ◌≢◌, ◌⊎◌, Result, Err, IfErr, ℕ, ◌+◌, ◌<◌, ◌≤◌, List, [], ◌∷◌, ◌++◌, length, sum_by, All}
+use Rattle.std.specs.Prelude.{◌≡◌, ◌≢◌, ◌⊎◌, Result, Err, IfErr, ℕ, ◌+◌, ◌<◌, ◌≤◌, List, [], ◌∷◌, ◌++◌, length, sum_by}
+use Rattle.std.specs.Prelude.{All}
 use Rattle.tsdb_path.specs.declared.fault.PathFault.{PathFault}
 use Rattle.tsdb_path.specs.declared.fault.PathFault.TheVariants.{Empty, NotRoot, BadNode, TooLong, Memory}
 use Rattle.tsdb_path.specs.Nodes.{IsNode, IsName, IsPath, IsRooted, parts, node_count, child_of}

@@ -1,6 +1,7 @@
 //! The path of a series or a device. It depends on `scan` and `name`.
 ghost use Rattle.std.specs.Prelude.{◌≡◌, ◌+◌, ◌≤◌, ◌↔◌, ◌++◌, ◌∷◌, List, ℕ, length, All, IsTrue, IfOk, IfErr};
-ghost use Rattle.tsdb_path.specs.Nodes.{is_path_byte, IsName, IsPath, IsPathOf, node_count, device_of, measurement_of, child_of};
+ghost use Rattle.tsdb_path.specs.Nodes.{is_path_byte, IsName, IsPath, IsPathOf, node_count, device_of, measurement_of};
+ghost use Rattle.tsdb_path.specs.Nodes.{child_of};
 ghost use Rattle.tsdb_path.specs.Refusals.{RefusesPath, RefusesChild, AnswersEach, AnswersMemoryAlone};
 
 use crate::scan::{DOT, check_child, check_path, count_nodes, last_dot};

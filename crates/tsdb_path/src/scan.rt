@@ -1,8 +1,10 @@
 //! The reading of bytes: from the left, part by part between the dots. It depends on `fault`.
-ghost use Rattle.std.specs.Prelude.{◌≡◌, ◌≢◌, ℕ, ◌+◌, ◌-◌, ◌<◌, ◌≤◌, ◌↔◌, ◌==◌, length, take, drop, slice_index, count_by, IsTrue, IfSome, IfNone, IfOk, OnOk, IfErr, OnErr, All};
+ghost use Rattle.std.specs.Prelude.{◌≡◌, ◌≢◌, ℕ, ◌+◌, ◌-◌, ◌<◌, ◌≤◌, ◌↔◌, ◌==◌, length, take, drop, slice_index};
+ghost use Rattle.std.specs.Prelude.{count_by, IsTrue, IfSome, IfNone, IfOk, OnOk, IfErr, OnErr, All};
 ghost use Rattle.std.specs.Char.{is_ascii_digit};
 ghost use Rattle.std.specs.Option.{option_copied};
-ghost use Rattle.tsdb_path.specs.Nodes.{dot, parts, device_of, measurement_of, child_of, is_node_byte, IsNode, IsName, IsRooted, IsPath, node_count};
+ghost use Rattle.tsdb_path.specs.Nodes.{dot, parts, device_of, measurement_of, child_of, is_node_byte, IsNode, IsName};
+ghost use Rattle.tsdb_path.specs.Nodes.{IsRooted, IsPath, node_count};
 ghost use Rattle.tsdb_path.specs.Refusals.{HasFittingLength, RefusesPath, RefusesName, RefusesChild};
 ghost use Rattle.tsdb_path.specs.Steps.{RefusesLength, IsFirstSplit, TakesNode, BeginsBadly};
 

@@ -49,7 +49,8 @@ pub record IsUnreplayable (store : Store) (rest : List ℕ) : Type 0 where
   pub after : List ℕ
   pub gate : rest ≡ 1 ∷ behind
   pub whole : BeginsWith behind payload after
-  pub none : (item : LogRecord) (command : Command) → IsRecord item → payload ≡ spelling item → ¬ Redoes store item command
+  pub none : (item : LogRecord) (command : Command) → IsRecord item → payload ≡ spelling item
+      → ¬ Redoes store item command
 
 -- A log is damaged at the gate of the first record that is torn, cannot be read, or has no replay.
 pub record IsDamagedAtGate (at : ℕ) (bytes : List ℕ) : Type 0 where

@@ -37,7 +37,8 @@ abbrev pub parts_of : Store → World × (ℕ × List (List ℕ))
 parts_of store = (store.state.world, (store.state.stamp, store.series))
 
 pub same_store : (a b : Store) → parts_of a ≡ parts_of b → a ≡ b
-same_store a b e = ap (λ (p : World × (ℕ × List (List ℕ))). record { state = record { world = p.0; stamp = p.1.0 }; series = p.1.1 }) e
+same_store a b e = ap (λ (p : World × (ℕ × List (List ℕ))).
+    record { state = record { world = p.0; stamp = p.1.0 }; series = p.1.1 }) e
 
 abbrev pub store_code : Coded World → Coded Store
 store_code world = coded_via (coded× world (coded× coded_ℕ (coded_list (coded_list coded_ℕ)))) parts_of same_store

@@ -75,7 +75,8 @@ AreReplayed frames = (store : Store) × AreReplayedTo frames store
 
 -- the bytes of a frame are those of no record that has a replay
 abbrev pub HasNoReplay : Store → Frame → Type 0
-HasNoReplay store frame = (item : LogRecord) (command : Command) → IsRecord item → frame.payload.items ≡ spelling item → ¬ Redoes store item command
+HasNoReplay store frame = (item : LogRecord) (command : Command) → IsRecord item → frame.payload.items ≡ spelling item
+    → ¬ Redoes store item command
 
 -- The replay of frames stops at this place, where a frame has no replay.
 pub record StopsAt (frames : List Frame) (at : ℕ) : Type 0 where

@@ -1,4 +1,5 @@
--- The replies of a plain core: those of the map, out of memory, a device that failed, and a stamp that can rise no further.
+-- The replies of a plain core: those of the map, out of memory, a device that failed, and a stamp that can rise no
+-- further.
 use Rattle.std.specs.Prelude.{◌≡◌, ◌≢◌, ◌⊎◌}
 use Rattle.tsdb_base.specs.declared.answers.Answer.TheVariants.{Done, Device, Memory, Full}
 use Rattle.tsdb_map.specs.Apply.{reply_of}

@@ -79,4 +79,5 @@ store_after store command =
 -- the records are replayed in order
 abbrev pub Replays : Store → List LogRecord → Store → Type 0
 Replays old [] new = new ≡ old
-Replays old (item ∷ items) new = (command : Command) × Redoes old item command × Replays (store_after old command) items new
+Replays old (item ∷ items) new = (command : Command) × Redoes old item command
+    × Replays (store_after old command) items new

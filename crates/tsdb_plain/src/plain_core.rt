@@ -43,7 +43,8 @@ impl<J: Journal> PlainCore<J> {
 
     /// Reads the log in slot A of a journal, and replays its records. It writes nothing.
     pub fn open(alloc: Global, journal: J) -> Result<PlainCore<J>, OpenRefused<J>>
-        ensures store { IfOk result (λ core. IfSome (J.state journal).seen (λ image. IsReplayOf image.a (store_of core))) }
+        ensures store { IfOk result (λ core. IfSome (J.state journal).seen
+            (λ image. IsReplayOf image.a (store_of core))) }
         ensures damaged { IfErr result (λ refused. IfSome (J.state journal).seen (λ image. (part : fault.Part) (at : ℕ)
             → refused.fault ≡ OpenFault.Damaged part at → (part ≡ parts.Log) × IsDamaged at image.a)) }
         ensures each { IfSome (J.state journal).seen (λ image. (at : ℕ) → IsDamaged at image.a

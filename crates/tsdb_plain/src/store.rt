@@ -35,7 +35,10 @@ impl Model for PlainStore {
 
     ghost coded = { store_code kept.the_row.coded };
 
-    ghost view = { λ store. record { state = record { world = store.plain; stamp = store.stamp }; series = keys store.series } };
+    ghost view = { λ store. record {
+      state = record { world = store.plain; stamp = store.stamp };
+      series = keys store.series;
+    } };
 
     ghost invariant = { λ store. IsNumbered store.plain store.stamp store.series };
 }

@@ -22,4 +22,6 @@ abbrev pub IsBestUpTo : List FileEntry → List FileEntry → ℕ → Option Cro
 IsBestUpTo sequence unsequence count plan =
     MatchOption plan
     ((other : CrossRun) → IsEligible sequence unsequence other → ¬ (other.prefix ≤ count))
-    (λ run. IsEligible sequence unsequence run × ((other : CrossRun) → IsEligible sequence unsequence other → other.prefix ≤ count → other.prefix ≤ run.prefix))
+    (λ run. IsEligible sequence unsequence run
+    × ((other : CrossRun) → IsEligible sequence unsequence other → other.prefix ≤ count
+    → other.prefix ≤ run.prefix))

@@ -1,9 +1,11 @@
 -- The text of the output. Each line ends with a line feed.
-use Rattle.std.specs.Prelude.{ℕ, ℤ, ◌==◌, List, [], ◌∷◌, ◌++◌, Bool, true, false, Option, None, Some, length, map, filter, slice_index, codes, if◌then◌else◌}
+use Rattle.std.specs.Prelude.{ℕ, ℤ, ◌==◌, List, [], ◌∷◌, ◌++◌, Bool, true, false, Option, None, Some, length, map}
+use Rattle.std.specs.Prelude.{filter, slice_index, codes, if◌then◌else◌}
 use Rattle.std.specs.Fmt.{decimal, signed_decimal}
 use Rattle.std.specs.List.{flat_map}
 use Rattle.tsdb_base.specs.declared.answers.Aggregate.{Aggregate}
-use Rattle.tsdb_base.specs.declared.answers.Aggregate.TheVariants.{Count, FirstValue, LastValue, MinValue, MaxValue, MinTime, MaxTime}
+use Rattle.tsdb_base.specs.declared.answers.Aggregate.TheVariants.{Count, FirstValue, LastValue, MinValue, MaxValue}
+use Rattle.tsdb_base.specs.declared.answers.Aggregate.TheVariants.{MinTime, MaxTime}
 use Rattle.tsdb_base.specs.declared.answers.Answer.{Answer}
 use Rattle.tsdb_base.specs.declared.answers.Answer.TheVariants as answer
 use Rattle.tsdb_base.specs.declared.ids.Space.{Space}
@@ -11,7 +13,8 @@ use Rattle.tsdb_base.specs.declared.ids.Space.TheVariants.{Sequence, Unsequence}
 use Rattle.tsdb_base.specs.declared.value.Value.{Value}
 use Rattle.tsdb_base.specs.declared.value.Value.TheVariants as value
 use Rattle.tsdb_map.specs.declared.command.Command.{Command}
-use Rattle.tsdb_map.specs.declared.command.Command.TheVariants.{Create, Insert, Delete, Select, Flush, CompactInner, CompactCross, ShowFiles}
+use Rattle.tsdb_map.specs.declared.command.Command.TheVariants.{Create, Insert, Delete, Select, Flush, CompactInner}
+use Rattle.tsdb_map.specs.declared.command.Command.TheVariants.{CompactCross, ShowFiles}
 use Rattle.tsdb_map.specs.declared.command.Item.{Item}
 use Rattle.tsdb_map.specs.declared.reply.FileLine.{FileLine}
 use Rattle.tsdb_map.specs.declared.reply.Line.{Line}
@@ -90,7 +93,8 @@ rows_text items rows = line (join_with_commas (codes "time" ∷ map item_text it
 
 -- the aggregates of a select: a heading, and a line with their values
 abbrev pub values_text : List Item → List (Option Value) → List ℕ
-values_text items values = line (join_with_commas (map item_text items)) ++ line (join_with_commas (map cell_text values))
+values_text items values = line (join_with_commas (map item_text items))
+    ++ line (join_with_commas (map cell_text values))
 
 abbrev pub space_name : Space → List ℕ
 space_name Sequence = codes "sequence"

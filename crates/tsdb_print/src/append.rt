@@ -2,7 +2,8 @@
 ghost use Rattle.std.specs.Prelude.{◌≡◌, ℕ, ◌+◌, ◌<◌, List, [], ◌∷◌, ◌++◌, OnOk, map};
 ghost use Rattle.std.specs.Fmt.{decimal, signed_decimal};
 ghost use Rattle.std.specs.List.{flat_map};
-ghost use Rattle.tsdb_print.specs.Text.{aggregate_name, cell_text, escape, item_text, join_with_commas, quote, truth_text, value_text};
+ghost use Rattle.tsdb_print.specs.Text.{aggregate_name, cell_text, escape, item_text, join_with_commas, quote};
+ghost use Rattle.tsdb_print.specs.Text.{truth_text, value_text};
 
 use std::alloc::AllocError;
 use tsdb_base::{Aggregate, Value};

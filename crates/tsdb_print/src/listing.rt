@@ -1,7 +1,8 @@
 //! Appends the listing of a store. Depends on `append`.
 ghost use Rattle.std.specs.Prelude.{◌≡◌, [], ◌∷◌, ◌++◌, OnOk, codes};
 ghost use Rattle.std.specs.Fmt.{decimal};
-ghost use Rattle.tsdb_print.specs.Text.{file_text, files_of, files_text, line, listing_text, space_name, span_text, working_text};
+ghost use Rattle.tsdb_print.specs.Text.{file_text, files_of, files_text, line, listing_text, space_name, span_text};
+ghost use Rattle.tsdb_print.specs.Text.{working_text};
 
 use crate::append::{append_signed, append_unsigned};
 use std::alloc::AllocError;

@@ -15,12 +15,14 @@ use Rattle.tsdb_plain.specs.declared.fault.Part.TheVariants.{Log}
 use Rattle.tsdb_run.specs.Headline.{StandsAfter, StandsAfterPrefix}
 use Rattle.tsdb_run.specs.Steps.{IsHistory, MayDoubt}
 use Rattle.tsdb_run.specs.declared.status.Status.{Status}
-use Rattle.tsdb_run.specs.declared.status.Status.TheVariants.{Done, Memory, Words, Script, Source, Sink, Device, Damaged}
+use Rattle.tsdb_run.specs.declared.status.Status.TheVariants.{Done, Memory, Words, Script, Source, Sink, Device}
+use Rattle.tsdb_run.specs.declared.status.Status.TheVariants.{Damaged}
 use Rattle.tsdb_run.specs.declared.status.Told.{Told}
 
--- After these entries at most one command is in doubt, and a stop at any moment since the beginning left the state after
--- a prefix of them. `stored` says of a command that it is the one in doubt.
-pub record HasServed (first now : State) (stored : Option Command → Type 0) (start : plain.State) (entries : List Entry) : Type 0 where
+-- After these entries at most one command is in doubt, and a stop at any moment since the beginning left the state
+-- after a prefix of them. `stored` says of a command that it is the one in doubt.
+pub record HasServed (first now : State) (stored : Option Command → Type 0) (start : plain.State)
+    (entries : List Entry) : Type 0 where
   pub doubt : Option Command
   pub may : MayDoubt entries doubt
   pub is : stored doubt
@@ -28,13 +30,15 @@ pub record HasServed (first now : State) (stored : Option Command → Type 0) (s
 
 module _ {J : Type 0} {means : disk.Ghosts J} {counts : counts_are.Ghosts J} where
   -- a script was executed on a core, from the state that it held to the one that it holds
-  pub record HasExecuted (script : List Numbered) (history : List Told) (old new : PlainCore J means counts) : Type 0 where
+  pub record HasExecuted (script : List Numbered) (history : List Told)
+      (old new : PlainCore J means counts) : Type 0 where
     pub entries : List Entry
     pub history_of : IsHistory script history (state_of old) (state_of new) entries
     pub served : IsStored old None → HasServed (disk_of old) (disk_of new) (IsStored new) (state_of old) entries
 
   -- A script was executed on a core, whose journal has been put down. `rose` says that the device failed since.
-  pub record IsServed (script : List Numbered) (history : List Told) (core : PlainCore J means counts) (new : State) (rose : Type 0) : Type 0 where
+  pub record IsServed (script : List Numbered) (history : List Told) (core : PlainCore J means counts) (new : State)
+      (rose : Type 0) : Type 0 where
     pub entries : List Entry
     pub after : plain.State
     pub history_of : IsHistory script history (state_of core) after entries

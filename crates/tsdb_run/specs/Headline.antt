@@ -19,7 +19,8 @@ use Rattle.tsdb_script.specs.declared.numbered.Numbered.{Numbered}
 use Rattle.tsdb_run.specs.History.{AreEntries, IsComplete}
 use Rattle.tsdb_run.specs.Output.{AppendsPrefix, output_text}
 use Rattle.tsdb_run.specs.declared.status.Status.{Status}
-use Rattle.tsdb_run.specs.declared.status.Status.TheVariants.{Done, Memory, Words, Script, Source, Sink, Device, Damaged}
+use Rattle.tsdb_run.specs.declared.status.Status.TheVariants.{Done, Memory, Words, Script, Source, Sink, Device}
+use Rattle.tsdb_run.specs.declared.status.Status.TheVariants.{Damaged}
 use Rattle.tsdb_run.specs.declared.status.Told.{Told}
 
 -- an answer of a store without files: a stamp may come to its end, and no number of a file
@@ -42,7 +43,8 @@ pub record IsInDoubt (entries : List Entry) (command : Command) : Type 0 where
 -- the image stands for the state after these entries, or for it with the one command that is in doubt
 abbrev pub StandsAfter : plain.State → List Entry → Image → Type 0
 StandsAfter after entries image = StandsFor after image
-    ⊎ ((command : Command) × IsInDoubt entries command × StandsFor (state_after after command (Plain answer.Done)) image)
+    ⊎ ((command : Command) × IsInDoubt entries command
+    × StandsFor (state_after after command (Plain answer.Done)) image)
 
 -- the image stands for the state after a prefix of these entries, from this start
 pub record StandsAfterPrefix (start : plain.State) (entries : List Entry) (image : Image) : Type 0 where
@@ -88,7 +90,8 @@ pub record IsWithoutCommands (old new : State) (history : List Told) (held holds
 -- What each status says of what was left of the source, of the store before and after, of the history, and of what the
 -- sink held and holds. Done: the script was executed and exactly its output written. Where the sink failed, or memory
 -- ran out as the output was written, a prefix of the output was. With every other status nothing was written.
-abbrev pub Headline : Status → Option (List ℕ) → State → State → Type 0 → List Told → Option (List ℕ) → Option (List ℕ) → Type 0
+abbrev pub Headline : Status → Option (List ℕ) → State → State → Type 0 → List Told → Option (List ℕ) → Option (List ℕ)
+    → Type 0
 Headline Done left old new rose history held holds = IsExecuted left old new rose history (Appends held holds)
 Headline Sink left old new rose history held holds = IsExecuted left old new rose history (AppendsPrefix held holds)
 Headline Memory left old new rose history held holds =

@@ -1,5 +1,6 @@
 -- What the steps of a run ensure. No public clause cites them.
-use Rattle.std.specs.Prelude.{◌≡◌, ◌==◌, ℕ, List, [], ◌∷◌, ◌++◌, Option, None, Some, Result, OnOk, All, map, if◌then◌else◌}
+use Rattle.std.specs.Prelude.{◌≡◌, ◌==◌, ℕ, List, [], ◌∷◌, ◌++◌, Option, None, Some, Result, OnOk, All, map}
+use Rattle.std.specs.Prelude.{if◌then◌else◌}
 use Rattle.std.specs.List.{list_any}
 use Rattle.std.specs.Io.KnownBytes.{Appends}
 use Rattle.tsdb_map.specs.History.{Entry, IsLegal}
@@ -15,7 +16,8 @@ use Rattle.tsdb_run.specs.Headline.{IsInDoubt, IsWithoutFiles}
 use Rattle.tsdb_run.specs.History.{AreEntries, IsComplete}
 use Rattle.tsdb_run.specs.Output.{AppendsPrefix}
 use Rattle.tsdb_run.specs.declared.status.Status.{Status}
-use Rattle.tsdb_run.specs.declared.status.Status.TheVariants.{Done, Memory, Words, Script, Source, Sink, Device, Damaged}
+use Rattle.tsdb_run.specs.declared.status.Status.TheVariants.{Done, Memory, Words, Script, Source, Sink, Device}
+use Rattle.tsdb_run.specs.declared.status.Status.TheVariants.{Damaged}
 use Rattle.tsdb_run.specs.declared.status.Told.{Told}
 
 -- the replies to the commands of a script, in the order of its lines
@@ -27,7 +29,8 @@ pub record IsAnswered (script : List Numbered) (history : List Told) : Type 0 wh
   pub commands : map (λ entry. entry.command) entries ≡ map (λ numbered. numbered.command) script
 
 -- the replies to the commands of a script, from a state to the one after them
-pub record IsHistory (script : List Numbered) (history : List Told) (start after : State) (entries : List Entry) : Type 0 where
+pub record IsHistory (script : List Numbered) (history : List Told) (start after : State)
+    (entries : List Entry) : Type 0 where
   pub in_line_order : map (λ told. told.session) history ≡ map (λ numbered. numbered.session) script
   pub complete : IsComplete script history
   pub answers : AreEntries script history entries

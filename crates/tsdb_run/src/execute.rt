@@ -1,5 +1,6 @@
 //! Executes the commands of a script on a store. Depends on `status`.
-ghost use Rattle.std.specs.Prelude.{◌≡◌, ◌≢◌, ℕ, [], ◌+◌, ◌-◌, ◌^◌, ◌<◌, ◌≤◌, min, IfOk, All, count_by, length, slice_index, slice_set, vec_len, vec_capacity};
+ghost use Rattle.std.specs.Prelude.{◌≡◌, ◌≢◌, ℕ, [], ◌+◌, ◌-◌, ◌^◌, ◌<◌, ◌≤◌, min, IfOk, All, count_by, length};
+ghost use Rattle.std.specs.Prelude.{slice_index, slice_set, vec_len, vec_capacity};
 ghost use Rattle.tsdb_map.specs.Commands.{IsWellFormed};
 ghost use Rattle.tsdb_map.specs.declared.command.Command.{Command};
 ghost use Rattle.tsdb_script.specs.Limits.{max_commands};

@@ -1,5 +1,6 @@
 //! The top call: words, source and sink in, status and history out. Depends on all other modules.
-ghost use Rattle.std.specs.Prelude.{◌≡◌, ◌≢◌, ◌↔◌, ◌+◌, ◌-◌, ◌^◌, ◌<◌, ◌≤◌, min, ℕ, List, [], All, Some, IfSome, IfOk, IfErr, IsErrAnd, OnErr, count_by, length, slice_index, vec_len, vec_capacity};
+ghost use Rattle.std.specs.Prelude.{◌≡◌, ◌≢◌, ◌↔◌, ◌+◌, ◌-◌, ◌^◌, ◌<◌, ◌≤◌, min, ℕ, List, [], All, Some, IfSome, IfOk};
+ghost use Rattle.std.specs.Prelude.{IfErr, IsErrAnd, OnErr, count_by, length, slice_index, vec_len, vec_capacity};
 ghost use Rattle.std.specs.Io.KnownBytes.{IsAtEnd};
 ghost use Rattle.tsdb_outside.specs.Causes.{Rose};
 ghost use Rattle.tsdb_outside.specs.Disk.{Keeps};
@@ -10,7 +11,8 @@ ghost use Rattle.tsdb_map.specs.declared.command.Command.{Command};
 ghost use Rattle.tsdb_script.specs.Limits.{max_commands};
 ghost use Rattle.tsdb_script.specs.Reading.{IsFirstBad, IsScript};
 ghost use Rattle.tsdb_script.specs.declared.numbered.Numbered.{Numbered};
-ghost use Rattle.tsdb_run.specs.Headline.{Headline, IsBeforeOutput, IsBeforeStore, IsDoneOrMemory, IsGoodScript, IsRefusedStore, ReportsBad, ReportsDamage, is_device};
+ghost use Rattle.tsdb_run.specs.Headline.{Headline, IsBeforeOutput, IsBeforeStore, IsDoneOrMemory, IsGoodScript};
+ghost use Rattle.tsdb_run.specs.Headline.{IsRefusedStore, ReportsBad, ReportsDamage, is_device};
 ghost use Rattle.tsdb_run.specs.Execution.{IsOpeningStatus, IsServed, IsStoreRun};
 ghost use Rattle.tsdb_run.specs.Limits.{session_numbers};
 ghost use Rattle.tsdb_run.specs.Input.{TakesPrefix};
@@ -186,7 +188,8 @@ fn serve<P: Place>(
     requires zero { (at : ℕ) → slice_index room.counts.items at ≡ 0 }
     requires none { (room.history.items ≡ []) × (vec_len room.history ≡ 0) }
     requires places { vec_capacity room.history ≡ length script.now }
-    ensures served { IsServed script.now result core (P.state place.new) (Rose (P.faults place.old) (P.faults place.new)) }
+    ensures served { IsServed script.now result core (P.state place.new)
+        (Rose (P.faults place.old) (P.faults place.new)) }
     ensures devices { min (P.faults place.old + count_by is_device result) (2 ^ 64 - 1) ≤ P.faults place.new }
     ensures later { P.faults place.old ≤ P.faults place.new }
     ensures files { P.stored place.new ≡ P.Files.at_rest files }

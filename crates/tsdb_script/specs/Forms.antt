@@ -9,7 +9,8 @@ use Rattle.tsdb_script.specs.declared.syntax.Condition.{Condition}
 use Rattle.tsdb_script.specs.declared.syntax.Operand.{Operand}
 use Rattle.tsdb_script.specs.declared.syntax.Operand.TheVariants as operand
 use Rattle.tsdb_script.specs.declared.syntax.Syntax.{Syntax}
-use Rattle.tsdb_script.specs.declared.syntax.Syntax.TheVariants.{Create, Insert, Delete, Select, Flush, CompactInner, CompactCross, ShowFiles}
+use Rattle.tsdb_script.specs.declared.syntax.Syntax.TheVariants.{Create, Insert, Delete, Select, Flush, CompactInner}
+use Rattle.tsdb_script.specs.declared.syntax.Syntax.TheVariants.{CompactCross, ShowFiles}
 use Rattle.tsdb_script.specs.declared.token.Token.{Token}
 use Rattle.tsdb_script.specs.declared.token.Token.TheVariants as token
 use Rattle.tsdb_script.specs.Tokens.{is_keyword}
@@ -50,7 +51,11 @@ value_places value = this (operand_token value) ∷ []
 
 -- `M` or `W ( M )`
 abbrev pub column_places : Column → List Place
-column_places column = elim column.aggregate [ None ↦ word column.measurement ∷ [] | Some name ↦ word name ∷ this token.Open ∷ word column.measurement ∷ this token.Close ∷ [] ]
+column_places column = elim column.aggregate [
+  | None ↦ word column.measurement ∷ []
+  | Some name ↦ word name ∷ this token.Open ∷ word column.measurement
+      ∷ this token.Close ∷ []
+]
 
 -- `time` op `N`
 abbrev pub condition_places : Condition → List Place

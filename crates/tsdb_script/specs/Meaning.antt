@@ -1,5 +1,6 @@
 -- What the words of a statement must be, and what the statement then says.
-use Rattle.std.specs.Prelude.{◌≡◌, ◌↔◌, ◌⊎◌, ℕ, ℤ, pos, negsuc, ◌≤◌, ◌≤ℤ◌, ◌<ℤ◌, FitsSigned, true, false, All, List, [], ◌∷◌, ◌++◌, Option, None, Some, length, map, codes}
+use Rattle.std.specs.Prelude.{◌≡◌, ◌↔◌, ◌⊎◌, ℕ, ℤ, pos, negsuc, ◌≤◌, ◌≤ℤ◌, ◌<ℤ◌, FitsSigned, true, false, All, List, []}
+use Rattle.std.specs.Prelude.{◌∷◌, ◌++◌, Option, None, Some, length, map, codes}
 use Rattle.std.specs.Int.{w64}
 use Rattle.std.specs.List.{AllByRecursion, AllZip, flat_map}
 use Rattle.std.specs.Option.{IsSome}
@@ -28,7 +29,8 @@ use Rattle.tsdb_script.specs.declared.syntax.Condition.{Condition}
 use Rattle.tsdb_script.specs.declared.syntax.Operand.{Operand}
 use Rattle.tsdb_script.specs.declared.syntax.Operand.TheVariants as operand
 use Rattle.tsdb_script.specs.declared.syntax.Syntax.{Syntax}
-use Rattle.tsdb_script.specs.declared.syntax.Syntax.TheVariants.{Create, Insert, Delete, Select, Flush, CompactInner, CompactCross, ShowFiles}
+use Rattle.tsdb_script.specs.declared.syntax.Syntax.TheVariants.{Create, Insert, Delete, Select, Flush, CompactInner}
+use Rattle.tsdb_script.specs.declared.syntax.Syntax.TheVariants.{CompactCross, ShowFiles}
 use Rattle.tsdb_script.specs.Tokens.{is_keyword}
 
 -- ---- words
@@ -151,7 +153,8 @@ measurements_of columns = map (λ column. column.measurement) columns
 -- the words of a statement, from the left
 abbrev pub roles : Syntax → List Role
 roles (Create path data_type encoding) = SeriesPath path ∷ TypeName data_type ∷ EncodingName data_type encoding ∷ []
-roles (Insert device names time values) = DevicePath device ∷ (map (Measurement device) names ++ Number time ∷ map Scalar values)
+roles (Insert device names time values) = DevicePath device
+    ∷ (map (Measurement device) names ++ Number time ∷ map Scalar values)
 roles (Delete path conditions) = SeriesPath path ∷ condition_roles conditions
 roles (Select columns device conditions) =
     column_roles columns ++ DeviceOf (measurements_of columns) device ∷ condition_roles conditions

@@ -1,5 +1,6 @@
 -- What the parser finds, step by step, as functions on lists of tokens. No public clause cites them.
-use Rattle.std.specs.Prelude.{◌≡◌, ℕ, zero, suc, length, ◌||◌, Bool, true, false, List, [], ◌∷◌, Option, None, Some, Result, Ok, Err, option_map, codes, if◌then◌else◌}
+use Rattle.std.specs.Prelude.{◌≡◌, ℕ, zero, suc, length, ◌||◌, Bool, true, false, List, [], ◌∷◌, Option, None, Some}
+use Rattle.std.specs.Prelude.{Result, Ok, Err, option_map, codes, if◌then◌else◌}
 use Rattle.tsdb_base.specs.declared.ids.Space.{Space}
 use Rattle.tsdb_base.specs.declared.ids.Space.TheVariants.{Sequence, Unsequence}
 use Rattle.tsdb_script.specs.declared.fault.LineFault.{LineFault}
@@ -11,9 +12,11 @@ use Rattle.tsdb_script.specs.declared.syntax.Condition.{Condition}
 use Rattle.tsdb_script.specs.declared.syntax.Operand.{Operand}
 use Rattle.tsdb_script.specs.declared.syntax.Operand.TheVariants as operand
 use Rattle.tsdb_script.specs.declared.syntax.Syntax.{Syntax}
-use Rattle.tsdb_script.specs.declared.syntax.Syntax.TheVariants.{Create, Insert, Delete, Select, Flush, CompactInner, CompactCross, ShowFiles}
+use Rattle.tsdb_script.specs.declared.syntax.Syntax.TheVariants.{Create, Insert, Delete, Select, Flush, CompactInner}
+use Rattle.tsdb_script.specs.declared.syntax.Syntax.TheVariants.{CompactCross, ShowFiles}
 use Rattle.tsdb_script.specs.declared.token.Token.{Token}
-use Rattle.tsdb_script.specs.declared.token.Token.TheVariants.{Word, Text, Open, Close, Comma, Semicolon, Equal, Less, LessEqual, Greater, GreaterEqual}
+use Rattle.tsdb_script.specs.declared.token.Token.TheVariants.{Word, Text, Open, Close, Comma, Semicolon, Equal, Less}
+use Rattle.tsdb_script.specs.declared.token.Token.TheVariants.{LessEqual, Greater, GreaterEqual}
 use Rattle.tsdb_script.specs.Tokens.{is_keyword}
 
 infixl 10 ◌>>=◌
@@ -105,17 +108,20 @@ called_at aggregate tokens = do
 unfoldable pub column_at : Tokens → Option (Column × Tokens)
 column_at tokens = do
   first ← word_at tokens
-  if opens first.1 then called_at first.0 first.1 else Some (record { aggregate = None; measurement = first.0 }, first.1)
+  if opens first.1 then called_at first.0 first.1
+      else Some (record { aggregate = None; measurement = first.0 }, first.1)
 
 -- a part put before a list of parts
 abbrev pub onto : {X : Type 0} → X → List X × Tokens → List X × Tokens
 onto x parts = (x ∷ parts.0, parts.1)
 
 -- the parts as long as there are more, but at most so many
-abbrev pub parts_at : {X : Type 0} → (Tokens → Bool) → (Tokens → Option (X × Tokens)) → ℕ → Tokens → Option (List X × Tokens)
+abbrev pub parts_at : {X : Type 0} → (Tokens → Bool) → (Tokens → Option (X × Tokens)) → ℕ → Tokens
+    → Option (List X × Tokens)
 parts_at more next zero tokens = Some ([], tokens)
 parts_at more next (suc n) tokens =
-    if more tokens then next tokens >>= (λ part. option_map (onto part.0) (parts_at more next n part.1)) else Some ([], tokens)
+    if more tokens then next tokens >>= (λ part. option_map (onto part.0) (parts_at more next n part.1))
+    else Some ([], tokens)
 
 abbrev pub next_word : Tokens → Option (List ℕ × Tokens)
 next_word tokens = comma_at tokens >>= word_at
@@ -130,8 +136,10 @@ abbrev pub next_condition : Tokens → Option (Condition × Tokens)
 next_condition tokens = keyword_at (codes "and") tokens >>= condition_at
 
 -- one part, and more behind it
-abbrev pub list_at : {X : Type 0} → (Tokens → Bool) → (Tokens → Option (X × Tokens)) → (Tokens → Option (X × Tokens)) → Tokens → Option (List X × Tokens)
-list_at more next first tokens = first tokens >>= (λ part. option_map (onto part.0) (parts_at more next (length part.1) part.1))
+abbrev pub list_at : {X : Type 0} → (Tokens → Bool) → (Tokens → Option (X × Tokens)) → (Tokens → Option (X × Tokens))
+    → Tokens → Option (List X × Tokens)
+list_at more next first tokens = first tokens >>=
+    (λ part. option_map (onto part.0) (parts_at more next (length part.1) part.1))
 
 unfoldable pub words_at : Tokens → Option (List (List ℕ) × Tokens)
 words_at tokens = list_at is_comma next_word word_at tokens

@@ -1,5 +1,6 @@
 -- What a script says: its lines, what is objected to a line, and the commands that the lines give.
-use Rattle.std.specs.Prelude.{◌≡◌, ◌⊎◌, ℕ, ◌+◌, ◌<◌, ◌≤◌, ◌==◌, ◌||◌, Bool, true, false, IsTrue, All, List, [], ◌∷◌, ◌++◌, length, map, codes, if◌then◌else◌}
+use Rattle.std.specs.Prelude.{◌≡◌, ◌⊎◌, ℕ, ◌+◌, ◌<◌, ◌≤◌, ◌==◌, ◌||◌, Bool, true, false, IsTrue, All, List, [], ◌∷◌}
+use Rattle.std.specs.Prelude.{◌++◌, length, map, codes, if◌then◌else◌}
 use Rattle.std.specs.List.{concat, list_all, list_any}
 use Rattle.std.specs.Set.{distinct_count}
 use Rattle.std.specs.Str.Parse.{IsNumeral, digits_value}
@@ -111,23 +112,28 @@ ObjectsIn Limits line kind = ((max_line_bytes < length line.bytes) ⊎ (max_scri
 -- B: a byte begins no token, or a text is bad
 ObjectsIn Tokens line kind = HasNoTokens (content_of line.bytes) kind
 -- C: the first token is no session
-ObjectsIn Session line kind = ((session : ℕ) (statement : List Token) → ¬ IsOfSession line session statement) × (kind ≡ 1)
+ObjectsIn Session line kind = ((session : ℕ) (statement : List Token) → ¬ IsOfSession line session statement)
+    × (kind ≡ 1)
 -- D: this is command 1,000,001, or the ninth different session
 ObjectsIn Room line kind = OfStatement line (λ session statement.
-    ((max_commands ≤ length line.sessions) ⊎ (max_sessions < session_count (line.sessions ++ session ∷ []))) × (kind ≡ 9))
+    ((max_commands ≤ length line.sessions) ⊎ (max_sessions < session_count (line.sessions ++ session ∷ [])))
+    × (kind ≡ 9))
 -- E: the second token is no word that begins a statement
 ObjectsIn FirstWord line kind = OfStatement line (λ session statement. (¬ BeginsStatement statement) × (kind ≡ 2))
 -- F: the tokens fit no form
 ObjectsIn Form line kind = OfStatement line (λ session statement. HasNoForm statement kind)
 -- the form is not built yet
-ObjectsIn Built line kind = OfStatement line (λ session statement. (syntax : Syntax) × Fits statement syntax × IsNotBuilt syntax × (kind ≡ 0))
+ObjectsIn Built line kind = OfStatement line
+    (λ session statement. (syntax : Syntax) × Fits statement syntax × IsNotBuilt syntax × (kind ≡ 0))
 -- G and H: a word is not what its place asks for, or the whole is bad
-ObjectsIn Meaning line kind = OfStatement line (λ session statement. (syntax : Syntax) × Fits statement syntax × Objects syntax kind)
+ObjectsIn Meaning line kind = OfStatement line
+    (λ session statement. (syntax : Syntax) × Fits statement syntax × Objects syntax kind)
 
 -- the first of these passes that objects to the line does so with this kind
 abbrev pub FirstObjects : List Pass → Line → ℕ → Type 0
 FirstObjects [] line kind = ⊥
-FirstObjects (pass ∷ later) line kind = ObjectsIn pass line kind ⊎ (((any : ℕ) → ¬ ObjectsIn pass line any) × FirstObjects later line kind)
+FirstObjects (pass ∷ later) line kind = ObjectsIn pass line kind
+    ⊎ (((any : ℕ) → ¬ ObjectsIn pass line any) × FirstObjects later line kind)
 
 -- ---- what a line is: skipped, a command, or bad
 
@@ -169,7 +175,8 @@ pub data Give : List (List ℕ) → List Numbered → Type 0 where
   no_line : Give [] []
   skipped_line : (lines : List (List ℕ)) (script : List Numbered) (line : List ℕ) → Give lines script
       → IsSkipped (line_behind lines script line) → Give (lines ++ line ∷ []) script
-  command_line : (lines : List (List ℕ)) (script : List Numbered) (line : List ℕ) (numbered : Numbered) → Give lines script
+  command_line : (lines : List (List ℕ)) (script : List Numbered) (line : List ℕ) (numbered : Numbered)
+      → Give lines script
       → IsCommand (line_behind lines script line) numbered → Give (lines ++ line ∷ []) (script ++ numbered ∷ [])
 
 -- the commands of a script

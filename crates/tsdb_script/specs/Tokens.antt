@@ -1,10 +1,12 @@
 -- What the tokens of a line are. A line is blanks and tokens, one after another, where no token could be longer.
-use Rattle.std.specs.Prelude.{◌≡◌, ◌⊎◌, ℕ, ◌<◌, ◌≤◌, ◌==◌, ◌||◌, Bool, true, false, IsTrue, All, List, [], ◌∷◌, ◌++◌, length, if◌then◌else◌}
+use Rattle.std.specs.Prelude.{◌≡◌, ◌⊎◌, ℕ, ◌<◌, ◌≤◌, ◌==◌, ◌||◌, Bool, true, false, IsTrue, All, List, [], ◌∷◌, ◌++◌}
+use Rattle.std.specs.Prelude.{length, if◌then◌else◌}
 use Rattle.std.specs.Char.{is_ascii_alphanumeric}
 use Rattle.std.specs.List.{flat_map}
 use Rattle.std.specs.Str.{str_eq_ignore_ascii_case}
 use Rattle.tsdb_script.specs.declared.token.Token.{Token}
-use Rattle.tsdb_script.specs.declared.token.Token.TheVariants.{Word, Text, Open, Close, Comma, Semicolon, Equal, Less, LessEqual, Greater, GreaterEqual}
+use Rattle.tsdb_script.specs.declared.token.Token.TheVariants.{Word, Text, Open, Close, Comma, Semicolon, Equal, Less}
+use Rattle.tsdb_script.specs.declared.token.Token.TheVariants.{LessEqual, Greater, GreaterEqual}
 use Rattle.tsdb_script.specs.Limits.{max_text_bytes}
 
 -- a space or a tab
@@ -74,7 +76,8 @@ pub record AreBlanksAnd (bytes rest : List ℕ) : Type 0 where
 -- the bytes are these tokens, each behind any blanks, then blanks and the rest
 abbrev pub AreTokensAnd : List Token → List ℕ → List ℕ → Type 0
 AreTokensAnd [] bytes rest = AreBlanksAnd bytes rest
-AreTokensAnd (token ∷ tokens) bytes rest = (from more : List ℕ) × AreBlanksAnd bytes from × BeginsWith token from more × AreTokensAnd tokens more rest
+AreTokensAnd (token ∷ tokens) bytes rest = (from more : List ℕ) × AreBlanksAnd bytes from × BeginsWith token from more
+    × AreTokensAnd tokens more rest
 
 -- the tokens of a line
 abbrev pub AreTokens : List ℕ → List Token → Type 0

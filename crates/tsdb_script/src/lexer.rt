@@ -1,6 +1,8 @@
 //! Cuts a line into its tokens, in one pass. Depends on `token` and `fault`.
-ghost use Rattle.std.specs.Prelude.{◌≡◌, ◌==◌, length, Some, None, IfOk, IfErr, IfSome, drop, option_map, if◌then◌else◌};
-ghost use Rattle.tsdb_script.specs.Steps.{after_blanks, content_parts, greater_at, less_at, mark_at, text_at, token_at, unescape, word_parts, FaultsWith};
+ghost use Rattle.std.specs.Prelude.{◌≡◌, ◌==◌, length, Some, None, IfOk, IfErr, IfSome, drop, option_map};
+ghost use Rattle.std.specs.Prelude.{if◌then◌else◌};
+ghost use Rattle.tsdb_script.specs.Steps.{after_blanks, content_parts, greater_at, less_at, mark_at, text_at, token_at};
+ghost use Rattle.tsdb_script.specs.Steps.{unescape, word_parts, FaultsWith};
 ghost use Rattle.tsdb_script.specs.Tokens.{is_blank, is_mark, is_quote, is_word_byte, starts, AreTokens, HasNoTokens};
 
 use crate::fault::LineFault;

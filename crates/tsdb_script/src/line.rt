@@ -3,7 +3,8 @@
 ghost use Rattle.std.specs.Prelude.{◌≡◌, ◌↔◌, ◌≤◌, ℕ, length, false, IsTrue, IfOk, IfErr, IfSome, IfNone};
 ghost use Rattle.tsdb_map.specs.Commands.{IsWellFormed};
 ghost use Rattle.tsdb_script.specs.Limits.{max_commands, max_line_bytes, max_script_bytes};
-ghost use Rattle.tsdb_script.specs.Reading.{content_of, is_skipped, sessions_of, BeginsStatement, IsBad, IsCommand, IsNotBuilt, IsSession, IsSkipped};
+ghost use Rattle.tsdb_script.specs.Reading.{content_of, is_skipped, sessions_of, BeginsStatement, IsBad, IsCommand};
+ghost use Rattle.tsdb_script.specs.Reading.{IsNotBuilt, IsSession, IsSkipped};
 ghost use Rattle.tsdb_script.specs.LineSteps.{line_at, AreDifferentOf, HasNoSession, HasRoom, HasSession};
 ghost use Rattle.tsdb_script.specs.Steps.{FaultsWith};
 

@@ -6,7 +6,8 @@ ghost use Rattle.std.specs.Option.{IsSome};
 ghost use Rattle.tsdb_map.specs.Commands.{AreDifferent, IsWellFormed};
 ghost use Rattle.tsdb_path.specs.Nodes.{IsPath, child_of};
 ghost use Rattle.tsdb_script.specs.Forms.{HasParts};
-ghost use Rattle.tsdb_script.specs.Meaning.{HasBadWord, AreAlike, IsBad, ArePaired, IsGood, IsItem, IsLiteral, IsNamed, Means, Objects, aggregate_role, column_role, column_roles, measurements_of};
+ghost use Rattle.tsdb_script.specs.Meaning.{HasBadWord, AreAlike, IsBad, ArePaired, IsGood, IsItem, IsLiteral, IsNamed};
+ghost use Rattle.tsdb_script.specs.Meaning.{Means, Objects, aggregate_role, column_role, column_roles, measurements_of};
 ghost use Rattle.tsdb_script.specs.Meaning.{DeviceOf, Measurement, Scalar};
 ghost use Rattle.tsdb_script.specs.Steps.{FaultsWith};
 

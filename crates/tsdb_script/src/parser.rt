@@ -4,7 +4,12 @@ ghost use Rattle.std.specs.Prelude.{◌≡◌, IfOk, IfErr, Bool, List, Option, 
 ghost use Rattle.tsdb_script.specs.declared.token.Token.{Token};
 ghost use Rattle.tsdb_script.specs.Forms.{Fits, HasNoForm};
 ghost use Rattle.tsdb_script.specs.Steps.{FaultsWith};
-ghost use Rattle.tsdb_script.specs.Parse.{Gives, called_at, close_at, column_at, columns_at, comma_at, comparison_at, compact_at, condition_at, conditions_at, create_at, cross_at, delete_at, end_at, equal_at, flush_at, inner_at, insert_at, is_comma, keyword_at, next_column, next_condition, next_operand, next_word, onto, open_at, opens, operand_at, parts_at, says, select_at, show_at, space_at, statement_at, timestamp_at, values_at, word_at, words_at};
+ghost use Rattle.tsdb_script.specs.Parse.{Gives, called_at, close_at, column_at, columns_at, comma_at, comparison_at};
+ghost use Rattle.tsdb_script.specs.Parse.{compact_at, condition_at, conditions_at, create_at, cross_at, delete_at};
+ghost use Rattle.tsdb_script.specs.Parse.{end_at, equal_at, flush_at, inner_at, insert_at, is_comma, keyword_at};
+ghost use Rattle.tsdb_script.specs.Parse.{next_column, next_condition, next_operand, next_word, onto, open_at, opens};
+ghost use Rattle.tsdb_script.specs.Parse.{operand_at, parts_at, says, select_at, show_at, space_at, statement_at};
+ghost use Rattle.tsdb_script.specs.Parse.{timestamp_at, values_at, word_at, words_at};
 
 use crate::fault::LineFault;
 use crate::syntax::{Column, Comparison, Condition, Operand, Syntax};

@@ -7,7 +7,8 @@ ghost use Rattle.std.specs.Prelude.{◌≡◌, ◌<◌, ◌^◌, [], ◌∷◌, 
 ghost use Rattle.std.specs.Vec.{vec_capacity};
 ghost use Rattle.tsdb_turn.specs.Passes.{FollowsPass, MayLeave, IsOutside, IsLastOf, new_passes};
 ghost use Rattle.tsdb_turn.specs.Rule.{view};
-ghost use Rattle.tsdb_turn.specs.Steps.{Draws, HasTaken, Leaves, SitsOutside, SitsWaiting, HasSlot, MayPutBack, IsMarkedBy, dealt, known_of};
+ghost use Rattle.tsdb_turn.specs.Steps.{Draws, HasTaken, Leaves, SitsOutside, SitsWaiting, HasSlot, MayPutBack};
+ghost use Rattle.tsdb_turn.specs.Steps.{IsMarkedBy, dealt, known_of};
 ghost use Rattle.tsdb_turn.specs.Values.{Follows, IsNumbered};
 ghost use Rattle.tsdb_turn.specs.declared.view.Stage.TheVariants.{Outside};
 

@@ -15,7 +15,8 @@ pub record HasReadCause {T : Type 0} (before now : ℕ) (result : Result T ReadF
   pub failed : IsErrOf result Failed → Rose before now
 
 -- Where the bytes are told: what is read is so in them, and a place of damage is one that they blame.
-abbrev pub Answers : {T : Type 0} → (List ℕ → T → Type 0) → (List ℕ → ℕ → Type 0) → Option (List ℕ) → Result T ReadFault → Type 0
+abbrev pub Answers : {T : Type 0} → (List ℕ → T → Type 0) → (List ℕ → ℕ → Type 0) → Option (List ℕ) → Result T ReadFault
+    → Type 0
 Answers Is Blame told (Ok found) = IfSome told (λ bytes. Is bytes found)
 Answers Is Blame told (Err (Damaged at)) = IfSome told (λ bytes. Blame bytes at)
 Answers Is Blame told (Err Failed) = Unit {0}

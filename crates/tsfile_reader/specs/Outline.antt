@@ -19,7 +19,8 @@ tail_place bytes = length bytes - 14
 abbrev pub between : ℕ → ℕ → List ℕ → List ℕ
 between from to bytes = take (to - from) (drop from bytes)
 
--- these bytes are the tail of a file of so many bytes: the place of the root, behind the head and in the file, and `TsFile`
+-- these bytes are the tail of a file of so many bytes: the place of the root, behind the head and in the file, and
+-- `TsFile`
 pub record IsTail (size : ℕ) (bytes : List ℕ) (root : ℕ) : Type 0 where
   pub behind-head : length head ≤ root
   pub inside : root < size
@@ -43,7 +44,8 @@ abbrev pub HasIndex : List ℕ → ℕ → ℕ → List IndexEntry → Type 0
 HasIndex bytes root place entries = IsRead place root (between place (tail_place bytes) bytes) entries
 
 -- all of these parts are as defined
-pub record HasOutline (bytes : List ℕ) (root place : ℕ) (pointers : List Pointer) (entries : List IndexEntry) : Type 0 where
+pub record HasOutline (bytes : List ℕ) (root place : ℕ) (pointers : List Pointer)
+    (entries : List IndexEntry) : Type 0 where
   pub long : least_length ≤ length bytes
   pub tail : HasTail bytes root
   pub starts : HasHead bytes

@@ -23,7 +23,8 @@ abbrev pub AreGood : DataType → List Point → Type 0
 AreGood data_type points = ArePoints data_type points × All IsInRange points
 
 -- these bytes begin with a page of these points
-pub record BeginsWithPage (data_type : DataType) (encoding : Encoding) (bytes : List ℕ) (points : List Point) : Type 0 where
+pub record BeginsWithPage (data_type : DataType) (encoding : Encoding) (bytes : List ℕ)
+    (points : List Point) : Type 0 where
   pub suits : is_suitable data_type encoding ≡ true
   pub good : AreGood data_type points
   pub behind : List ℕ

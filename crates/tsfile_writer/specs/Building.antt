@@ -1,5 +1,6 @@
 -- What a builder has of the series that it was given. The clauses of its calls name `WasGiven` alone.
-use Rattle.std.specs.Prelude.{◌≡◌, ◌≢◌, ◌⊎◌, ℕ, ◌<◌, ◌≤◌, Bool, true, false, Option, None, Some, List, [], ◌∷◌, ◌++◌, length, map, All, AllPairs}
+use Rattle.std.specs.Prelude.{◌≡◌, ◌≢◌, ◌⊎◌, ℕ, ◌<◌, ◌≤◌, Bool, true, false, Option, None, Some, List, [], ◌∷◌, ◌++◌}
+use Rattle.std.specs.Prelude.{length, map, All, AllPairs}
 use Rattle.tsdb_base.specs.declared.point.Point.{Point}
 use Rattle.tsdb_base.specs.declared.value.DataType.{DataType}
 use Rattle.tsdb_base.specs.declared.value.Encoding.{Encoding}
@@ -17,12 +18,15 @@ use Rattle.tsfile_writer.specs.declared.builder.Builder.{Builder}
 use Rattle.tsfile_writer.specs.declared.builder.OpenSeries.{OpenSeries}
 use Rattle.tsfile_writer.specs.declared.layout.OpenChunk.{OpenChunk}
 use Rattle.tsfile_writer.specs.Given.{AreChunksOf, Series, placed}
-use Rattle.tsfile_writer.specs.Steps.{AreChunks, ArePages, IsBegun, IsLonger, SameChunk, chunk_start, page_bytes, start_if}
+use Rattle.tsfile_writer.specs.Steps.{AreChunks, ArePages, IsBegun, IsLonger, SameChunk, chunk_start, page_bytes}
+use Rattle.tsfile_writer.specs.Steps.{start_if}
 
 -- a chunk of this device begins a group behind these entries, or it does not
 abbrev pub BeginsGroup : List IndexEntry → List ℕ → Bool → Type 0
-BeginsGroup entries device true = (front : List IndexEntry) (last : IndexEntry) → entries ≡ front ++ last ∷ [] → last.device ≢ device
-BeginsGroup entries device false = (front : List IndexEntry) × (last : IndexEntry) × (entries ≡ front ++ last ∷ []) × (last.device ≡ device)
+BeginsGroup entries device true = (front : List IndexEntry) (last : IndexEntry) → entries ≡ front ++ last ∷ []
+    → last.device ≢ device
+BeginsGroup entries device false = (front : List IndexEntry) × (last : IndexEntry) × (entries ≡ front ++ last ∷ [])
+    × (last.device ≡ device)
 
 -- the chunks of these series are those of the groups, and of one more group of this device
 pub record AreGrouped (given : List Series) (groups : List Group) (device : List ℕ) (chunks : List Chunk) : Type 0 where
@@ -34,7 +38,8 @@ pub record AreGrouped (given : List Series) (groups : List Group) (device : List
   pub chunks-rising : AllPairs (λ a b. IsBefore a.measurement b.measurement) chunks
 
 -- a series at this path has these pages in the file, each of 1,000 points, and its other points wait
-pub record IsOpenOf (series : Series) (pages : List Page) (path : List ℕ) (data_type : DataType) (encoding : Encoding) (points : List Point) : Type 0 where
+pub record IsOpenOf (series : Series) (pages : List Page) (path : List ℕ) (data_type : DataType) (encoding : Encoding)
+    (points : List Point) : Type 0 where
   pub nodes : 2 ≤ node_count path
   pub device-is : series.device ≡ device_of path
   pub measurement-is : series.measurement ≡ measurement_of path
@@ -51,14 +56,18 @@ pub record IsOpenOf (series : Series) (pages : List Page) (path : List ℕ) (dat
   pub ahead : points ≡ [] → pages ≡ []
 
 -- where the pages of the series at this path stand: in no chunk yet, or in this one
-abbrev pub StandIn : List Group → List Chunk → List Page → List ℕ → List IndexEntry → List ℕ → DataType → Encoding → Option OpenChunk → Type 0
+abbrev pub StandIn : List Group → List Chunk → List Page → List ℕ → List IndexEntry → List ℕ → DataType → Encoding
+    → Option OpenChunk → Type 0
 StandIn groups chunks pages bytes entries path data_type encoding None =
-    (pages ≡ []) × ((begins : Bool) → BeginsGroup entries (device_of path) begins → AreChunks groups (device_of path) chunks (bytes ++ start_if begins (device_of path)) entries)
+    (pages ≡ []) × ((begins : Bool) → BeginsGroup entries (device_of path) begins
+    → AreChunks groups (device_of path) chunks (bytes ++ start_if begins (device_of path)) entries)
 StandIn groups chunks pages bytes entries path data_type encoding (Some chunk) =
-    (0 < length pages) × ArePages groups (device_of path) chunks (measurement_of path) data_type encoding pages bytes entries chunk
+    (0 < length pages) × ArePages groups (device_of path) chunks (measurement_of path) data_type encoding pages bytes
+    entries chunk
 
 -- these series were given, and the last of them is at this path, with this chunk, and these points wait
-pub record IsKept (given : List Series) (bytes : List ℕ) (entries : List IndexEntry) (path : List ℕ) (data_type : DataType) (encoding : Encoding) (chunk : Option OpenChunk) (points : List Point) : Type 0 where
+pub record IsKept (given : List Series) (bytes : List ℕ) (entries : List IndexEntry) (path : List ℕ)
+    (data_type : DataType) (encoding : Encoding) (chunk : Option OpenChunk) (points : List Point) : Type 0 where
   pub front : List Series
   pub last : Series
   pub all : given ≡ front ++ last ∷ []
@@ -73,7 +82,8 @@ pub record IsKept (given : List Series) (bytes : List ℕ) (entries : List Index
 
 -- these series were given, and the last of them is open
 abbrev pub IsBuilding : List Series → List ℕ → List IndexEntry → OpenSeries → Type 0
-IsBuilding given bytes entries waits = IsKept given bytes entries waits.path waits.data_type waits.encoding waits.chunk waits.points.items
+IsBuilding given bytes entries waits = IsKept given bytes entries waits.path waits.data_type waits.encoding waits.chunk
+    waits.points.items
 
 -- nothing was given, and nothing stands
 pub record IsEmpty (given : List Series) (bytes : List ℕ) (entries : List IndexEntry) : Type 0 where
@@ -92,7 +102,8 @@ WasGiven builder given = IsGiven given builder.bytes.items builder.entries.items
 -- ---- steps
 
 -- all series are whole: their chunks stand in groups, the last of this device and with a last chunk of this measurement
-pub record AreClosed (given : List Series) (device measurement : List ℕ) (bytes : List ℕ) (entries : List IndexEntry) : Type 0 where
+pub record AreClosed (given : List Series) (device measurement : List ℕ) (bytes : List ℕ)
+    (entries : List IndexEntry) : Type 0 where
   pub groups : List Group
   pub chunks : List Chunk
   pub grouped : AreGrouped given groups device chunks
@@ -106,22 +117,29 @@ pub record AreClosed (given : List Series) (device measurement : List ℕ) (byte
   pub device-is : entry.device ≡ device
 
 -- a chunk with one page, behind what stands before a group's chunks where one begins
-pub record IsStarted (path : List ℕ) (data_type : DataType) (encoding : Encoding) (points : List Point) (entries : List IndexEntry) (old new : List ℕ) (chunk : OpenChunk) : Type 0 where
+pub record IsStarted (path : List ℕ) (data_type : DataType) (encoding : Encoding) (points : List Point)
+    (entries : List IndexEntry) (old new : List ℕ) (chunk : OpenChunk) : Type 0 where
   pub begins : Bool
   pub test : BeginsGroup entries (device_of path) begins
-  pub bytes-are : new ≡ old ++ start_if begins (device_of path) ++ (chunk_start (measurement_of path) data_type encoding ++ page_bytes encoding points)
-  pub is : IsBegun (length (old ++ start_if begins (device_of path))) (length (chunk_start (measurement_of path) data_type encoding)) points chunk
+  pub bytes-are : new ≡ old ++ start_if begins (device_of path)
+      ++ (chunk_start (measurement_of path) data_type encoding ++ page_bytes encoding points)
+  pub is : IsBegun (length (old ++ start_if begins (device_of path)))
+      (length (chunk_start (measurement_of path) data_type encoding)) points chunk
 
 -- one page more stands in the chunk
-pub record IsPut (encoding : Encoding) (points : List Point) (old new : List ℕ) (before after : OpenChunk) : Type 0 where
+pub record IsPut (encoding : Encoding) (points : List Point) (old new : List ℕ)
+    (before after : OpenChunk) : Type 0 where
   pub bytes-are : new ≡ old ++ page_bytes encoding points
   pub is : IsLonger (length old) points before after
 
 -- the points of the series at this path stand as a page in this chunk
-abbrev pub PutsIn : List ℕ → DataType → Encoding → List Point → List IndexEntry → List ℕ → List ℕ → Option OpenChunk → Option OpenChunk → Type 0
+abbrev pub PutsIn : List ℕ → DataType → Encoding → List Point → List IndexEntry → List ℕ → List ℕ → Option OpenChunk
+    → Option OpenChunk → Type 0
 PutsIn path data_type encoding points entries old new before None = ⊥
-PutsIn path data_type encoding points entries old new None (Some after) = IsStarted path data_type encoding points entries old new after
-PutsIn path data_type encoding points entries old new (Some before) (Some after) = IsPut encoding points old new before after
+PutsIn path data_type encoding points entries old new None (Some after) =
+    IsStarted path data_type encoding points entries old new after
+PutsIn path data_type encoding points entries old new (Some before) (Some after) =
+    IsPut encoding points old new before after
 
 -- the chunk is as it was
 abbrev pub SameIfAny : Option OpenChunk → Option OpenChunk → Type 0

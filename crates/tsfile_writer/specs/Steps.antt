@@ -25,7 +25,8 @@ group_start device = 71 ∷ plain_text device
 
 -- what stands before a chunk's pages
 abbrev pub chunk_start : List ℕ → DataType → Encoding → List ℕ
-chunk_start measurement data_type encoding = 67 ∷ plain_text measurement ++ type_field data_type ++ encoding_field encoding
+chunk_start measurement data_type encoding =
+    67 ∷ plain_text measurement ++ type_field data_type ++ encoding_field encoding
 
 -- a page of these points
 abbrev pub page_bytes : Encoding → List Point → List ℕ
@@ -38,7 +39,8 @@ start_if false device = []
 
 -- the statistics of points that stand behind others
 abbrev pub IsJoined : Stats → Stats → Stats → Type 0
-IsJoined left right all = (before behind : List Point) → AreStatsOf before left → AreStatsOf behind right → AreStatsOf (before ++ behind) all
+IsJoined left right all = (before behind : List Point) → AreStatsOf before left → AreStatsOf behind right
+    → AreStatsOf (before ++ behind) all
 
 -- an entry for a page of these points at this place
 pub record IsEntryFor (place : ℕ) (points : List Point) (entry : PageEntry) : Type 0 where
@@ -76,7 +78,8 @@ pub record AreGroups (groups : List Group) (bytes : List ℕ) (entries : List In
   pub say : AreEntriesOf (length head) groups by_group
 
 -- behind the groups stands one of this device with these chunks
-pub record AreChunks (groups : List Group) (device : List ℕ) (chunks : List Chunk) (bytes : List ℕ) (entries : List IndexEntry) : Type 0 where
+pub record AreChunks (groups : List Group) (device : List ℕ) (chunks : List Chunk) (bytes : List ℕ)
+    (entries : List IndexEntry) : Type 0 where
   pub bytes-before : List ℕ
   pub entries-before : List IndexEntry
   pub before : AreGroups groups bytes-before entries-before
@@ -92,9 +95,12 @@ pub record IsOpen (encoding : Encoding) (place first : ℕ) (pages : List Page) 
   pub say : ArePageEntries encoding first pages chunk.pages.items
 
 -- behind the chunks stands one with these pages, which may get more
-pub record ArePages (groups : List Group) (device : List ℕ) (chunks : List Chunk) (measurement : List ℕ) (data_type : DataType) (encoding : Encoding) (pages : List Page)
+pub record ArePages (groups : List Group) (device : List ℕ) (chunks : List Chunk) (measurement : List ℕ)
+    (data_type : DataType) (encoding : Encoding) (pages : List Page)
     (bytes : List ℕ) (entries : List IndexEntry) (chunk : OpenChunk) : Type 0 where
   pub bytes-before : List ℕ
   pub before : AreChunks groups device chunks bytes-before entries
-  pub bytes-are : bytes ≡ bytes-before ++ (chunk_start measurement data_type encoding ++ flat_map (page_field encoding) pages)
-  pub is : IsOpen encoding (length bytes-before) (length bytes-before + length (chunk_start measurement data_type encoding)) pages chunk
+  pub bytes-are : bytes ≡ bytes-before ++ (chunk_start measurement data_type encoding
+      ++ flat_map (page_field encoding) pages)
+  pub is : IsOpen encoding (length bytes-before)
+      (length bytes-before + length (chunk_start measurement data_type encoding)) pages chunk

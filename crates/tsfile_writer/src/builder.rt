@@ -1,16 +1,19 @@
-//! Building a file series by series and point by point, with pages filled in turn. Depends on `layout`, `names` and `fault`.
+//! Building a file series by series and point by point, with pages filled in turn. Depends on `layout`, `names` and
+//! `fault`.
 //!
 //! What stands in the file are the chunks of the series before the last, and of the last series the pages that are
 //! full and that another point follows. Its other points wait in a page of their own. A call first makes what takes
 //! memory, so that a call that fails leaves the builder as it was.
 
-ghost use Rattle.std.specs.Prelude.{◌≡◌, ◌<◌, ◌≤◌, ◌⊎◌, List, [], ◌∷◌, ◌++◌, length, take, true, vec_len, IfOk, OnOk, OnErr};
+ghost use Rattle.std.specs.Prelude.{◌≡◌, ◌<◌, ◌≤◌, ◌⊎◌, List, [], ◌∷◌, ◌++◌, length, take, true, vec_len, IfOk, OnOk};
+ghost use Rattle.std.specs.Prelude.{OnErr};
 ghost use Rattle.tsdb_base.specs.Values.{is_suitable};
 ghost use Rattle.tsdb_pages.specs.declared.tree.Tree.{Tree};
 ghost use Rattle.tsdb_pages.specs.File.{IsFile};
 ghost use Rattle.tsdb_pages.specs.Pages.{ArePoints};
 ghost use Rattle.tsdb_path.specs.Nodes.{device_of as device_in, measurement_of as measurement_in, node_count};
-ghost use Rattle.tsfile_writer.specs.Building.{AreClosed, BeginsGroup, IsBuilding, IsStarted, PutsIn, SameIfAny, SameSeries, WasGiven};
+ghost use Rattle.tsfile_writer.specs.Building.{AreClosed, BeginsGroup, IsBuilding, IsStarted, PutsIn, SameIfAny};
+ghost use Rattle.tsfile_writer.specs.Building.{SameSeries, WasGiven};
 ghost use Rattle.tsfile_writer.specs.Given.{IsTreeOf, MayBeFollowedBy, MayTake, Series, series_at, with_point};
 
 use crate::fault::BuildFault;

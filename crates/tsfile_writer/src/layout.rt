@@ -1,6 +1,7 @@
 //! The parts of a file, each put behind what is there, and what the index says of them. Depends on tsdb_fields,
 //! tsdb_stats, tsdb_pages and tsdb_index.
-ghost use Rattle.std.specs.Prelude.{◌≡◌, ◌+◌, ◌<◌, ◌≤◌, ◌++◌, [], ◌∷◌, List, ℕ, length, take, true, vec_len, IfOk, OnOk, OnErr};
+ghost use Rattle.std.specs.Prelude.{◌≡◌, ◌+◌, ◌<◌, ◌≤◌, ◌++◌, [], ◌∷◌, List, ℕ, length, take, true, vec_len, IfOk};
+ghost use Rattle.std.specs.Prelude.{OnOk, OnErr};
 ghost use Rattle.tsdb_base.specs.declared.point.Point.{Point as PointOf};
 ghost use Rattle.tsdb_base.specs.Fields.{number64};
 ghost use Rattle.tsdb_base.specs.Values.{is_suitable};
@@ -8,7 +9,8 @@ ghost use Rattle.tsdb_index.specs.Spelling.{IsSpelling};
 ghost use Rattle.tsdb_pages.specs.File.{magic};
 ghost use Rattle.tsdb_pages.specs.Pages.{ArePoints};
 ghost use Rattle.tsdb_stats.specs.Statistics.{AreStatsOf};
-ghost use Rattle.tsfile_writer.specs.Steps.{page_bytes, chunk_start, group_start, IsBegun, IsJoined, IsLonger, SameChunk};
+ghost use Rattle.tsfile_writer.specs.Steps.{page_bytes, chunk_start, group_start, IsBegun, IsJoined, IsLonger};
+ghost use Rattle.tsfile_writer.specs.Steps.{SameChunk};
 
 use std::alloc::Global;
 use tsdb_base::{DataType, Encoding, Memory, PlainValue, Point, Stats, Value};

@@ -1,6 +1,7 @@
 //! The changes of a store: each takes all its memory, then its record is appended, and then it takes effect. Depends on
 //! the store's fields.
-ghost use Rattle.std.specs.Prelude.{◌≡◌, ◌≢◌, ◌<◌, ℕ, [], All, AllPairs, Contains, IfOk, OnOk, OnErr, IsSome, None, is_some, map};
+ghost use Rattle.std.specs.Prelude.{◌≡◌, ◌≢◌, ◌<◌, ℕ, [], All, AllPairs, Contains, IfOk, OnOk, OnErr, IsSome, None};
+ghost use Rattle.std.specs.Prelude.{is_some, map};
 ghost use Rattle.tsdb_base.specs.declared.ids.Space.{Space as SpaceOf};
 ghost use Rattle.tsdb_frames.specs.Appends.{IsAppend};
 ghost use Rattle.tsdb_core.specs.Kept.{HasTimes, frozen_in};
@@ -9,7 +10,8 @@ ghost use Rattle.tsdb_core.specs.Order.{IsInOrder};
 ghost use Rattle.tsdb_core.specs.Parts.{path_of as path_in};
 ghost use Rattle.tsdb_core.specs.Rows.{CanInsert};
 ghost use Rattle.tsdb_core.specs.State.{MemoryState};
-ghost use Rattle.tsdb_core.specs.Steps.{Creates, Deletes, Inserts, add_mark as mark_added, least, put_cells as cells_put};
+ghost use Rattle.tsdb_core.specs.Steps.{Creates, Deletes, Inserts, add_mark as mark_added, least};
+ghost use Rattle.tsdb_core.specs.Steps.{put_cells as cells_put};
 ghost use Rattle.tsdb_core.specs.View.{pair_in, state_with, watermarks_in};
 ghost use Rattle.tsdb_core.specs.Worlds.{type_at};
 ghost use Rattle.tsdb_frames.specs.Log.{IsFrame, payload_of};
@@ -151,7 +153,8 @@ fn least_born(frozen: &[FrozenPair]) -> Option<Stamp>
 
 /// Makes room for one more point of each item's series.
 fn reserve_cells(pair: &mut Pair, items: &[CellRecord]) -> Result<(), Memory>
-    ensures points { (space : SpaceOf) (number : ℕ) → points_of space number pair.new ≡ points_of space number pair.old }
+    ensures points { (space : SpaceOf) (number : ℕ)
+        → points_of space number pair.new ≡ points_of space number pair.old }
     ensures room { OnOk result (All (λ item. 0 < spare_of item.series.0 pair.new) items.now) }
 {
     for item in items {

@@ -1,5 +1,6 @@
 //! The freeze of the working pair. Depends on the store's fields.
-ghost use Rattle.std.specs.Prelude.{◌≡◌, ◌<◌, ◌≤◌, ℕ, List, All, Contains, IfOk, IfSome, IsSome, None, OnOk, OnErr, length};
+ghost use Rattle.std.specs.Prelude.{◌≡◌, ◌<◌, ◌≤◌, ℕ, List, All, Contains, IfOk, IfSome, IsSome, None, OnOk, OnErr};
+ghost use Rattle.std.specs.Prelude.{length};
 ghost use Rattle.std.specs.FinMap.{get};
 ghost use Rattle.tsdb_frames.specs.Appends.{IsAppend};
 ghost use Rattle.tsdb_core.specs.Limits.{max_frozen};

@@ -54,7 +54,8 @@ impl PlainStore {
     }
 
     fn delete_record(&self, series: &Path, range: &Range) -> Result<Option<LogRecord>, Memory>
-        ensures some { IfOk result (λ found. IfSome found (IsAcceptedAs self.now (Command.Delete series.now range.now))) }
+        ensures some { IfOk result (λ found. IfSome found
+            (IsAcceptedAs self.now (Command.Delete series.now range.now))) }
         ensures none { IfOk result (λ found. found ≡ None
             → reply_of self.now.state.world (Command.Delete series.now range.now) ≢ Reply.Plain Answer.Done) }
     {

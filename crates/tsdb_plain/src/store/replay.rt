@@ -5,7 +5,8 @@ ghost use Rattle.tsdb_map.specs.declared.command.Cell.{Cell as CellValue};
 ghost use Rattle.tsdb_path.specs.Nodes.{IsName, child_of, device_of};
 ghost use Rattle.tsdb_log.specs.Spelling.{IsRecord, IsCell};
 ghost use Rattle.tsdb_map.specs.Commands.{AreDifferent, IsSeries};
-ghost use Rattle.tsdb_plain.specs.Replaying.{HasNoRow, IsCellRead, IsNumberedSeries, IsRedone, IsRowRead, literal_of, names_of};
+ghost use Rattle.tsdb_plain.specs.Replaying.{HasNoRow, IsCellRead, IsNumberedSeries, IsRedone, IsRowRead, literal_of};
+ghost use Rattle.tsdb_plain.specs.Replaying.{names_of};
 
 use super::{LAST_STAMP, PlainStore};
 use std::alloc::Global;
@@ -133,7 +134,8 @@ impl PlainStore {
         }
     }
 
-    /// The cells of a row of a device, if all of their series are there, of the device, and have the types of the values.
+    /// The cells of a row of a device, if all of their series are there, of the device, and have the types of the
+    /// values.
     fn row_of(
         &self,
         alloc: Global,
@@ -141,7 +143,8 @@ impl PlainStore {
         cells: Vec<CellRecord>,
     ) -> Result<Option<Vec<Cell>>, Memory>
         requires { All IsCell cells.items }
-        ensures some { IfOk result (λ found. IfSome found (λ row. IsRowRead self.now device.now row.items cells.items)) }
+        ensures some { IfOk result (λ found. IfSome found
+            (λ row. IsRowRead self.now device.now row.items cells.items)) }
         ensures none { IfOk result (λ found. found ≡ None → HasNoRow self.now device.now cells.items) }
     {
         let mut row = Vec::with_capacity(alloc, cells.len())?;
@@ -163,7 +166,8 @@ impl PlainStore {
     ) -> Result<Option<Cell>, Memory>
         requires { IsCell cell }
         ensures some { IfOk result (λ found. IfSome found (λ read. IsCellRead self.now device.now read cell)) }
-        ensures none { IfOk result (λ found. found ≡ None → (read : CellValue) → ¬ IsCellRead self.now device.now read cell) }
+        ensures none { IfOk result (λ found. found ≡ None → (read : CellValue)
+            → ¬ IsCellRead self.now device.now read cell) }
     {
         let Some((path, data_type)) = self.series_at(cell.series) else {
             return Ok(None);

@@ -3,8 +3,8 @@ use super::plain_tokens::{Shape, Token};
 use crate::fault::LineFault;
 use std::alloc::Global;
 
-/// The forms. A letter in upper case is a place for a word, `V` one for a text too, and `O` one for a comparison. With two
-/// dots it is a list of such parts.
+/// The forms. A letter in upper case is a place for a word, `V` one for a text too, and `O` one for a comparison. With
+/// two dots it is a list of such parts.
 const FORMS: [&[&[u8]]; 12] = [
     &[
         b"create",

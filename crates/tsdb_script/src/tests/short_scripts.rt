@@ -1,5 +1,5 @@
-//! Short scripts, each read beside the plain, slow reader: all of a few bytes, all lines of a few tokens, all lines that
-//! lie one or two tokens beside a good one, and all of a few lines.
+//! Short scripts, each read beside the plain, slow reader: all of a few bytes, all lines of a few tokens, all lines
+//! that lie one or two tokens beside a good one, and all of a few lines.
 use super::plain_reader::commands_of;
 use crate::fault::LineFault;
 use crate::{Numbered, ScriptFault, read_script};
@@ -308,7 +308,8 @@ fn are_same_with_one(alloc: Global, tokens: &[&[u8]]) -> Result<bool, LineFault>
     Ok(true)
 }
 
-/// Whether the lines are read as the plain reader reads them that have one token at a place, and a second one before it.
+/// Whether the lines are read as the plain reader reads them that have one token at a place, and a second one before
+/// it.
 fn are_same_with_two(
     alloc: Global,
     tokens: &[&[u8]],
