@@ -47,12 +47,12 @@ none_placed (b ∷ before) after frame same = absurd cc
 
 pub reads_more : (frames all : List Frame) (at next : ℕ) (rest behind bytes payload after : List ℕ) (new : Frame)
     → HasRead frames at rest bytes → rest ≡ 1 ∷ behind → BeginsWith behind payload after
-    → all ≡ frames ++ (new ∷ []) → new.at ≡ at → new.payload.items ≡ payload → next ≡ at + 1 + 4 + length payload
+    → all ≡ frames ++ (new ∷ []) → new.at ≡ at → new.payload ≡ payload → next ≡ at + 1 + 4 + length payload
     → HasRead all next after bytes
 reads_more frames all at next rest behind bytes payload after new read gate begins grows place same is_next =
     let payloads = payloads_of frames in
     let more : payloads_of all ≡ payloads ++ (payload ∷ []) =
-    ap payloads_of grows ∙ map-append (λ (f : Frame). f.payload.items) frames (new ∷ [])
+    ap payloads_of grows ∙ map-append (λ (f : Frame). f.payload) frames (new ∷ [])
     ∙ ap (λ (l : List ℕ). payloads ++ (l ∷ [])) same in
     let grown : open_records (payloads_of all) ≡ open_records payloads ++ (1 ∷ with_length payload) =
     ap open_records more ∙ open_records_more payloads payload in

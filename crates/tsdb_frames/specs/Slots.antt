@@ -54,7 +54,7 @@ IsTornBehind payloads at bytes =
 
 -- the records of frames
 abbrev pub payloads_of : List Frame → List (List ℕ)
-payloads_of frames = map (λ frame. frame.payload.items) frames
+payloads_of frames = map (λ frame. frame.payload) frames
 
 -- each frame's place is where its gate stands: behind the records before it
 abbrev pub ArePlaced : List Frame → Type 0

@@ -1,4 +1,4 @@
-//! Reading the records of a slot. Depends on `record`, `fault` and `tsdb_outside`.
+//! Reading the records of a slot. Depends on `record`, `fault`, `tsdb_base` and `tsdb_outside`.
 ghost use Rattle.std.specs.Prelude.{◌≡◌, ℕ, List, None, length, IfOk, IfErr, IfSome, IsErrOf};
 ghost use Rattle.tsdb_outside.specs.Causes.{HasCause};
 ghost use Rattle.tsdb_outside.specs.Disk.{in_slot, Keeps};
@@ -9,6 +9,7 @@ ghost use Rattle.tsdb_frames.specs.Steps.{AreFramesUpTo, HasEndAt};
 
 use crate::{Frame, ScanFault};
 use std::alloc::Global;
+use tsdb_base::List;
 use tsdb_outside::{Journal, Slot};
 
 // Where the records of a slot end.
@@ -58,7 +59,7 @@ pub(crate) fn read_records(alloc: Global, bytes: &[u8]) -> Result<(Vec<Frame>, E
         let next = at + 1 + LENGTH_BYTES as u64 + payload.len() as u64;
         frames.push(Frame {
             at,
-            payload: payload.to_vec(alloc)?,
+            payload: List::of(payload.to_vec(alloc)?),
         })?;
         at = next;
         rest = after;

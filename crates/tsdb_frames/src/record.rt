@@ -1,4 +1,6 @@
-//! One record as it is read. Depends on nothing.
+//! One record as it is read. Depends on `tsdb_base`.
+
+use tsdb_base::List;
 
 /// A record that a slot has.
 #[derive(PartialEq, Eq, Drop)]
@@ -6,5 +8,5 @@ pub struct Frame {
     /// The place of its gate in the slot, in bytes.
     pub at: u64,
     /// Its bytes, from 1 to 4,294,967,295 of them.
-    pub payload: Vec<u8>,
+    pub payload: List<u8>,
 }

@@ -186,11 +186,11 @@ fn worked_log_is_written_and_read(rt: HostRuntime) -> Result<(), Fail> {
     };
     assert_eq!(rt; frames.len(), 2);
     assert_eq!(rt;
-        (frames[0].at, frames[0].payload.as_slice()),
+        (frames[0].at, frames[0].payload.items()),
         (0, CREATED.as_slice())
     );
     assert_eq!(rt;
-        (frames[1].at, frames[1].payload.as_slice()),
+        (frames[1].at, frames[1].payload.items()),
         (20, INSERTED.as_slice())
     );
     Ok(())
@@ -212,7 +212,7 @@ fn left_at(
     };
     let mut firsts = Vec::new(alloc);
     for frame in frames.iter() {
-        firsts.push(frame.payload.first().copied().unwrap_or(0))?;
+        firsts.push(frame.payload.items().first().copied().unwrap_or(0))?;
     }
     Ok(firsts)
 }

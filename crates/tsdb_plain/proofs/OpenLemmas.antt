@@ -28,7 +28,7 @@ pub one_replayed : (frames : List Frame) (i : ℕ) (frame : Frame) (old new : St
 one_replayed frames i frame old new below is so_far redone =
     let grown : take (i + 1) frames ≡ take i frames ++ (frame ∷ []) = take_more frames i frame below ∙ ap (λ f. take i frames ++ (f ∷ [])) (sym is) in
     let payloads : payloads_of (take i frames ++ (frame ∷ [])) ≡ map spelling (so_far.items ++ (redone.item ∷ [])) =
-    map-append (λ (f : Frame). f.payload.items) (take i frames) (frame ∷ []) ∙ ap (λ l. l ++ (frame.payload.items ∷ [])) so_far.payloads
+    map-append (λ (f : Frame). f.payload) (take i frames) (frame ∷ []) ∙ ap (λ l. l ++ (frame.payload ∷ [])) so_far.payloads
     ∙ ap (λ p. map spelling so_far.items ++ (p ∷ [])) redone.bytes ∙ sym (map-append spelling so_far.items (redone.item ∷ [])) in
     subst (λ l. AreReplayedTo l new) (sym grown) (record {
       items = so_far.items ++ (redone.item ∷ []);
@@ -65,11 +65,11 @@ pub stops_damaged : (frames : List Frame) (at : ℕ) (bytes rest : List ℕ) →
     → bytes ≡ open_records (payloads_of frames) ++ rest → 1 ≤ length rest → StopsAt frames at → IsDamaged at bytes
 stops_damaged frames at bytes rest fit placed split some stops =
     let before = payloads_of stops.before in
-    let payload = stops.frame.payload.items in
+    let payload = stops.frame.payload in
     let later = payloads_of stops.after in
     let behind = open_records later ++ rest in
     let payloads : payloads_of frames ≡ before ++ payload ∷ later =
-    ap payloads_of stops.split ∙ map-append (λ (f : Frame). f.payload.items) stops.before (stops.frame ∷ stops.after) in
+    ap payloads_of stops.split ∙ map-append (λ (f : Frame). f.payload) stops.before (stops.frame ∷ stops.after) in
     let fits : All IsPayload (before ++ payload ∷ later) = subst (All IsPayload) payloads fit in
     let whole : bytes ≡ open_records before ++ (1 ∷ (with_length payload ++ behind)) =
     split ∙ ap (λ l. open_records l ++ rest) payloads
@@ -118,8 +118,8 @@ torn_stops frames at place bytes (inl torn) placed stops =
     stops_damaged frames at bytes (1 ∷ torn.0.behind) (subst (All IsPayload) torn.1 torn.0.fit) placed
     (torn.0.split ∙ ap (λ l. open_records l ++ (1 ∷ torn.0.behind)) torn.1) (omega arith) stops
 torn_stops frames at place bytes (inr empty) placed stops =
-    absurd (no_frames (payloads_of stops.before) stops.frame.payload.items (payloads_of stops.after)
-    (sym empty.0 ∙ ap payloads_of stops.split ∙ map-append (λ (f : Frame). f.payload.items) stops.before (stops.frame ∷ stops.after)))
+    absurd (no_frames (payloads_of stops.before) stops.frame.payload (payloads_of stops.after)
+    (sym empty.0 ∙ ap payloads_of stops.split ∙ map-append (λ (f : Frame). f.payload) stops.before (stops.frame ∷ stops.after)))
   where
     no_frames : (xs : List (List ℕ)) (y : List ℕ) (ys : List (List ℕ)) → [] ≡ xs ++ y ∷ ys → ⊥
     no_frames [] y ys e = cc

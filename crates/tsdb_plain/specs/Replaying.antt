@@ -75,7 +75,7 @@ AreReplayed frames = (store : Store) × AreReplayedTo frames store
 
 -- the bytes of a frame are those of no record that has a replay
 abbrev pub HasNoReplay : Store → Frame → Type 0
-HasNoReplay store frame = (item : LogRecord) (command : Command) → IsRecord item → frame.payload.items ≡ spelling item
+HasNoReplay store frame = (item : LogRecord) (command : Command) → IsRecord item → frame.payload ≡ spelling item
     → ¬ Redoes store item command
 
 -- The replay of frames stops at this place, where a frame has no replay.
@@ -93,7 +93,7 @@ pub record StopsAt (frames : List Frame) (at : ℕ) : Type 0 where
 pub record IsFrameRedone (old new : Store) (frame : Frame) : Type 0 where
   pub item : LogRecord
   pub good : IsRecord item
-  pub bytes : frame.payload.items ≡ spelling item
+  pub bytes : frame.payload ≡ spelling item
   pub redone : IsReplayed old new item
 
 -- The first damage of a torn slot with these frames before the torn place: a frame without a replay, or that place.

@@ -54,7 +54,7 @@ fn redo(store: &mut PlainStore, alloc: Global, frame: &Frame) -> Result<(), Open
         part: Part::Log,
         at: frame.at,
     };
-    match read_record(alloc, &frame.payload) {
+    match read_record(alloc, frame.payload.items()) {
         Ok(item) => {
             if store.redo(alloc, item)? {
                 Ok(())

@@ -6,7 +6,7 @@ pub loop-rest-preserved : goal.loop-rest-preserved
 loop-rest-preserved c =
     reads_more c.loop-rest.frames.items c.push.new.self.items c.loop-rest.at (c.loop-rest.at + 1 + 4 + length c.in-Some.payload.now)
     c.loop-rest.rest.now _ c.args.bytes.now c.in-Some.payload.now c.in-Some.after.now
-    (record { at = c.loop-rest.at; payload = c.in_ok-to_vec.field-0 })
+    (record { at = c.loop-rest.at; payload = c.of.result })
     c.loop-rest.invariant (gate_first c.loop-rest.rest.now _ 1 refl c.loop-rest.invariant.gate (search rules)) c.in-Some.ensures.found (search rules) refl (search rules) refl
 
 pub returns-in_default-split_record-clause-records : goal.returns-in_default-split_record-clause-records
