@@ -23,17 +23,24 @@ calm_ok (Err e) P R failed calm ok = absurd (calm failed)
 
 module _ {J : Type 0} {means : disk.Ghosts J} {counts : counted.Ghosts J} where
   -- a stop at any moment of a settling
-  pub settle_moments : (log : Frames J means counts) (after : State) (memory : MemoryState) (items : List LogRecord) (doubt : Option LogRecord) → IsStored log memory items doubt
-      → LeavesOnly (disk_of log) after (λ image. HasRecordsOrOneMore (map spelling items) (option_map spelling doubt) (in_slot (slot_of log) image))
-      → LeavesOnly (disk_of log) after (λ image. IsReplayedToOneOf (replay_of memory) doubt (in_slot (slot_of log) image))
+  pub settle_moments : (log : Frames J means counts) (after : State) (memory : MemoryState) (items : List LogRecord)
+      (doubt : Option LogRecord) → IsStored log memory items doubt
+      → LeavesOnly (disk_of log) after (λ image. HasRecordsOrOneMore (map spelling items) (option_map spelling doubt)
+      (in_slot (slot_of log) image))
+      → LeavesOnly (disk_of log) after (λ image. IsReplayedToOneOf (replay_of memory) doubt
+      (in_slot (slot_of log) image))
   settle_moments log after memory items doubt stored leaves =
-      weaker (disk_of log) after (λ image. HasRecordsOrOneMore (map spelling items) (option_map spelling doubt) (in_slot (slot_of log) image))
+      weaker (disk_of log) after (λ image. HasRecordsOrOneMore (map spelling items) (option_map spelling doubt)
+      (in_slot (slot_of log) image))
       (λ image. IsReplayedToOneOf (replay_of memory) doubt (in_slot (slot_of log) image))
-      (λ image has. one_or_more (replay_of memory) items doubt (in_slot (slot_of log) image) stored.good stored.replayed stored.follows has) leaves
+      (λ image has. one_or_more (replay_of memory) items doubt (in_slot (slot_of log) image) stored.good stored.replayed
+      stored.follows has) leaves
 
   -- a log without a record in doubt is closed
-  pub is_closed : (old new : Frames J means counts) (memory : MemoryState) (items : List LogRecord) (doubt : Option LogRecord) → IsStored old memory items doubt
-      → IsLog new (map spelling items) None → slot_of new ≡ slot_of old → IsSettled (slot_of new) (disk_of new) → IsClosed (slot_of old) (disk_of new) memory
+  pub is_closed : (old new : Frames J means counts) (memory : MemoryState) (items : List LogRecord)
+      (doubt : Option LogRecord) → IsStored old memory items doubt
+      → IsLog new (map spelling items) None → slot_of new ≡ slot_of old → IsSettled (slot_of new) (disk_of new)
+      → IsClosed (slot_of old) (disk_of new) memory
   is_closed old new memory items doubt stored kept slot settled = record {
     told = kept.stands.told;
     settled = subst (λ s. IsSettled s (disk_of new)) slot settled;

@@ -1,5 +1,6 @@
 -- The entries of a map are what it has at its keys, and their keys differ.
-use Rattle.std.proofs.Common.{◌≡◌, ◌≢◌, ◌&&◌, ℕ, ◌<◌, ◌⊎◌, inl, inr, arith, is_some, unwrap_or, Bool, true, false, cond, List, [], ◌∷◌, Option, Some, Ordering, refl, sym, ap, subst, ◌∙◌}
+use Rattle.std.proofs.Common.{◌≡◌, ◌≢◌, ◌&&◌, ℕ, ◌<◌, ◌⊎◌, inl, inr, arith, is_some, unwrap_or, Bool, true, false, cond}
+use Rattle.std.proofs.Common.{List, [], ◌∷◌, Option, Some, Ordering, refl, sym, ap, subst, ◌∙◌}
 use Rattle.std.specs.Prelude.{T, AllPairs, Contains}
 use Rattle.std.specs.Cmp.{IsTotalOrder, tied_itself}
 use Rattle.std.specs.FinMap.{FinMap, IsAntisymmetric, entries, entries_sorted, get, get-entries}
@@ -31,7 +32,8 @@ less_by Less p = refl
 less_by Equal p = absurd p
 less_by Greater p = absurd p
 
-not_less : {K : Type 0} (R : K → K → Ordering) → IsTotalOrder R → IsAntisymmetric R → (k : K) (x : K) → R x k ≡ Less → (b : Bool) → eq_by_cmp R k x ≡ b → b ≡ false
+not_less : {K : Type 0} (R : K → K → Ordering) → IsTotalOrder R → IsAntisymmetric R → (k : K) (x : K) → R x k ≡ Less
+    → (b : Bool) → eq_by_cmp R k x ≡ b → b ≡ false
 not_less R o same k x less true t =
     let e = same k x (equal_by (R k x) t) in
     absurd (less≢equal (sym less ∙ ap (λ y. R y k) (sym e) ∙ tied_itself o k))
@@ -39,14 +41,17 @@ not_less R o same k x less false t = refl
 
 module _ {K X : Type 0} (R : K → K → Ordering) (o : IsTotalOrder R) (same : IsAntisymmetric R) where
   entry_of : (e : K × X) (k : K) (v : X) → k ≡ e.0 → Some e.1 ≡ Some v → ◌≡◌ {A = K × X} e (k, v)
-  entry_of e k v p q = ap (λ (x : K). let entry : K × X = (x, e.1) in entry) (sym p) ∙ ap (λ (x : Option X). let entry : K × X = (k, unwrap_or x e.1) in entry) q
+  entry_of e k v p q = ap (λ (x : K). let entry : K × X = (x, e.1) in entry) (sym p)
+      ∙ ap (λ (x : Option X). let entry : K × X = (k, unwrap_or x e.1) in entry) q
 
   find_entry : (es : List (K × X)) (k : K) (v : X) → find R k es ≡ Some v → Contains es (k, v)
   find_entry [] k v h = absurd (false≢true (ap is_some h))
   find_entry (e ∷ es) k v h = cases (eq_by_cmp R k e.0) (λ j. find_entry es k v j) refl h
     where
-      cases : (b : Bool) → (find R k es ≡ Some v → Contains es (k, v)) → eq_by_cmp R k e.0 ≡ b → cond b (Some e.1) (find R k es) ≡ Some v → Contains (e ∷ es) (k, v)
-      cases true rest t h = subst (Contains (e ∷ es)) (entry_of e k v (same k e.0 (equal_by (R k e.0) t)) h) (Contains-head e es)
+      cases : (b : Bool) → (find R k es ≡ Some v → Contains es (k, v)) → eq_by_cmp R k e.0 ≡ b
+          → cond b (Some e.1) (find R k es) ≡ Some v → Contains (e ∷ es) (k, v)
+      cases true rest t h = subst (Contains (e ∷ es)) (entry_of e k v (same k e.0 (equal_by (R k e.0) t)) h)
+          (Contains-head e es)
       cases false rest t h = Contains-tail e (k, v) es (rest h)
 
   above : (k : K) (es : List (K × X)) (e : K × X) → T (below_all R k es) → Contains es e → R k e.0 ≡ Less
@@ -59,16 +64,19 @@ module _ {K X : Type 0} (R : K → K → Ordering) (o : IsTotalOrder R) (same : 
 
   found_entry : (es : List (K × X)) (k : K) (v : X) → T (is_sorted R es) → Contains es (k, v) → find R k es ≡ Some v
   found_entry [] k v sorted h = in_none (k, v) h
-  found_entry (e ∷ es) k v sorted h = cases (λ j. found_entry es k v (both_second _ _ sorted) j) (Contains-cases e (k, v) es h)
+  found_entry (e ∷ es) k v sorted h = cases (λ j. found_entry es k v (both_second _ _ sorted) j)
+      (Contains-cases e (k, v) es h)
     where
-      cases : (Contains es (k, v) → find R k es ≡ Some v) → ◌≡◌ {A = K × X} e (k, v) ⊎ Contains es (k, v) → cond (eq_by_cmp R k e.0) (Some e.1) (find R k es) ≡ Some v
+      cases : (Contains es (k, v) → find R k es ≡ Some v) → ◌≡◌ {A = K × X} e (k, v) ⊎ Contains es (k, v)
+          → cond (eq_by_cmp R k e.0) (Some e.1) (find R k es) ≡ Some v
       cases rest (inl i) =
           let key : k ≡ e.0 = ap (λ (x : K × X). x.0) (sym i) in
           let value : e.1 ≡ v = ap (λ (x : K × X). x.1) i in
           let tied : R k e.0 ≡ Equal = ap (R k) (sym key) ∙ tied_itself o k in
           ap (λ r. cond (is_eq r) (Some e.1) (find R k es)) tied ∙ ap Some value
       cases rest (inr j) =
-          ap (λ b. cond b (Some e.1) (find R k es)) (not_less R o same k e.0 (above e.0 es (k, v) (both_first _ _ sorted) j) _ refl) ∙ rest j
+          ap (λ b. cond b (Some e.1) (find R k es))
+          (not_less R o same k e.0 (above e.0 es (k, v) (both_first _ _ sorted) j) _ refl) ∙ rest j
 
   differ : (es : List (K × X)) → T (is_sorted R es) → AllPairs (λ a b. a.0 ≢ b.0) es
   differ [] sorted = λ i j d lt within. absurd (none j within)
@@ -77,7 +85,9 @@ module _ {K X : Type 0} (R : K → K → Ordering) (o : IsTotalOrder R) (same : 
       none k h = omega arith
   differ (e ∷ es) sorted =
       AllPairs-cons (λ a b. a.0 ≢ b.0) e es
-      (All-from_contains (λ b. e.0 ≢ b.0) es (λ b among is. less≢equal (sym (above e.0 es b (both_first _ _ sorted) among) ∙ ap (R e.0) (sym is) ∙ tied_itself o e.0)))
+      (All-from_contains (λ b. e.0 ≢ b.0) es
+      (λ b among is. less≢equal (sym (above e.0 es b (both_first _ _ sorted) among) ∙ ap (R e.0) (sym is)
+      ∙ tied_itself o e.0)))
       (differ es (both_second _ _ sorted))
 
   pub entry_from_get : (m : FinMap R X) (k : K) (v : X) → get m k ≡ Some v → Contains (entries m) (k, v)

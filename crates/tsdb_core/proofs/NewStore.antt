@@ -1,5 +1,6 @@
 -- The state of a new store is in order, and stands for the empty world.
-use Rattle.std.proofs.Common.{◌≡◌, ◌≢◌, ℕ, ◌<◌, ◌≤◌, ℤ, List, [], ◌∷◌, map, inl, Option, Some, None, refl, sym, ap, subst, ◌∙◌, arith}
+use Rattle.std.proofs.Common.{◌≡◌, ◌≢◌, ℕ, ◌<◌, ◌≤◌, ℤ, List, [], ◌∷◌, map, inl, Option, Some, None, refl, sym, ap}
+use Rattle.std.proofs.Common.{subst, ◌∙◌, arith}
 use Rattle.std.specs.Prelude.{All, AllPairs, Contains, IsSome}
 use Rattle.std.specs.Cmp.Lexicographic.{slice_cmp}
 use Rattle.std.specs.FinMap.{empty, get, get-empty}
@@ -16,9 +17,11 @@ use Rattle.tsdb_core.proofs.ListFacts.{in_none}
 use Rattle.tsdb_core.proofs.Tables.{DifferentPaths, numbers_by_row, paths_once}
 use Rattle.tsdb_core.proofs.Winners.{none_wins}
 use Rattle.tsdb_core.specs.Laws.{new_state}
-use Rattle.tsdb_core.specs.Order.{ClaimsMatch, ClaimsSequence, HasDistinctNumbers, HasRisingStamps, HasTypedPoints, HasTypes, IsBefore, IsBelowWatermarks, IsInOrder, KeepsRoom, UnsequenceIsBelow}
+use Rattle.tsdb_core.specs.Order.{ClaimsMatch, ClaimsSequence, HasDistinctNumbers, HasRisingStamps, HasTypedPoints}
+use Rattle.tsdb_core.specs.Order.{HasTypes, IsBefore, IsBelowWatermarks, IsInOrder, KeepsRoom, UnsequenceIsBelow}
 use Rattle.tsdb_core.specs.Parts.{Has, pair_part, table_of, working_pair}
-use Rattle.tsdb_core.specs.Replay.{HasNothingOut, IsReplayOf, ReplayState, listed_file, new_memory, new_store, replay_state}
+use Rattle.tsdb_core.specs.Replay.{HasNothingOut, IsReplayOf, ReplayState, listed_file, new_memory, new_store}
+use Rattle.tsdb_core.specs.Replay.{replay_state}
 use Rattle.tsdb_core.specs.State.{Compaction, EngineState, File, Flush, FrozenPair, MemoryState, Pin, Room}
 use Rattle.tsdb_core.specs.Steps.{empty_pair}
 use Rattle.tsdb_core.specs.Worlds.{HasNoneAt, StandsFor}
@@ -58,15 +61,19 @@ not_there space number some = clash (get (table_of space empty_pair) number) (no
     clash None e h = false≢true h
     clash (Some points) e h = cc
 
-not_a_row : (space : Space) (number : ℕ) (points : List Point) → get (table_of space empty_pair) number ≡ Some points → ⊥
+not_a_row : (space : Space) (number : ℕ) (points : List Point) → get (table_of space empty_pair) number ≡ Some points
+    → ⊥
 not_a_row space number points at = not_there space number (subst IsSome (sym at) refl)
 
-typed : (space : Space) → HasTypedPoints [] (pair_part [] space last)
-typed space = record {
+empty_has_types : (space : Space) → HasTypedPoints [] (pair_part [] space last)
+empty_has_types space = record {
   known = λ path point has. absurd (no_point space path point has);
-  once = paths_once [] (table_of space empty_pair) (no_pairs DifferentPaths) (λ number some. absurd (not_there space number some));
-  some = numbers_by_row (λ points. points ≢ []) [] (table_of space empty_pair) (λ number points at. absurd (not_a_row space number points at));
-  rising = numbers_by_row IsRising [] (table_of space empty_pair) (λ number points at. absurd (not_a_row space number points at));
+  once = paths_once [] (table_of space empty_pair) (no_pairs DifferentPaths)
+      (λ number some. absurd (not_there space number some));
+  some = numbers_by_row (λ points. points ≢ []) [] (table_of space empty_pair)
+      (λ number points at. absurd (not_a_row space number points at));
+  rising = numbers_by_row IsRising [] (table_of space empty_pair)
+      (λ number points at. absurd (not_a_row space number points at));
 }
 
 at_least : (n : ℕ) → 0 ≤ n
@@ -82,10 +89,15 @@ module _ (next : ℕ) (pins : List Pin) (room : Room) (doubt : Option LogRecord)
   state = empty_state next pins room doubt
 
   below : All (IsBelowWatermarks empty) (pair_part [] Unsequence last ∷ [])
-  below = All-cons (IsBelowWatermarks empty) (pair_part [] Unsequence last) [] (λ path point has. absurd (no_point Unsequence path point has)) (All-nil (IsBelowWatermarks empty))
+  below = All-cons (IsBelowWatermarks empty) (pair_part [] Unsequence last) []
+      (λ path point has. absurd (no_point Unsequence path point has)) (All-nil (IsBelowWatermarks empty))
 
   unsequence_below : UnsequenceIsBelow state
-  unsequence_below = record { files = All-nil _; own = All-nil _; later = one_alone (λ pair later. IsBefore (pair_part [] Unsequence pair) (pair_part [] Sequence later)) last }
+  unsequence_below = record {
+    files = All-nil _;
+    own = All-nil _;
+    later = one_alone (λ pair later. IsBefore (pair_part [] Unsequence pair) (pair_part [] Sequence later)) last;
+  }
 
   stamps : HasRisingStamps state
   stamps = record {
@@ -102,19 +114,28 @@ module _ (next : ℕ) (pins : List Pin) (room : Room) (doubt : Option LogRecord)
   types = record {
     schemas = All-nil _;
     once = no_pairs DifferentPaths;
-    parts = All-cons (HasTypedPoints []) (pair_part [] Sequence last) (pair_part [] Unsequence last ∷ []) (typed Sequence) (All-cons (HasTypedPoints []) (pair_part [] Unsequence last) [] (typed Unsequence) (All-nil (HasTypedPoints [])));
+    parts = All-cons (HasTypedPoints []) (pair_part [] Sequence last) (pair_part [] Unsequence last ∷ [])
+        (empty_has_types Sequence) (All-cons (HasTypedPoints []) (pair_part [] Unsequence last) []
+        (empty_has_types Unsequence) (All-nil (HasTypedPoints [])));
     frozen = All-nil _;
     live = λ space number some. absurd (not_there space number some);
     working = inl (refl, refl);
   }
 
   numbers : HasDistinctNumbers state
-  numbers = record { differ = no_pairs (λ (number other : ℕ). number ≢ other); from_one = All-nil _; below = All-nil _; named = All-nil _; unnamed = All-nil _ }
+  numbers = record {
+    differ = no_pairs (λ (number other : ℕ). number ≢ other);
+    from_one = All-nil _;
+    below = All-nil _;
+    named = All-nil _;
+    unnamed = All-nil _;
+  }
 
   claims : ClaimsMatch state
   claims = record {
     one = no_pairs (λ (job other : Compaction). ClaimsSequence job → ¬ ClaimsSequence other);
-    apart = no_pairs (λ (job other : Compaction). (number : ℕ) → Contains job.unsequence number → ¬ Contains other.unsequence number);
+    apart = no_pairs (λ (job other : Compaction). (number : ℕ) → Contains job.unsequence number
+        → ¬ Contains other.unsequence number);
     inputs = λ job file among input. in_none job among;
     sequence = All-nil _;
     unsequence = All-nil _;
@@ -123,7 +144,13 @@ module _ (next : ℕ) (pins : List Pin) (room : Room) (doubt : Option LogRecord)
   }
 
   room_kept : KeepsRoom state
-  room_kept = record { sequence = at_least room.sequence; unsequence = at_least room.unsequence; outgoing = at_least room.outgoing; flushed = All-nil _; replaced = All-nil _ }
+  room_kept = record {
+    sequence = at_least room.sequence;
+    unsequence = at_least room.unsequence;
+    outgoing = at_least room.outgoing;
+    flushed = All-nil _;
+    replaced = All-nil _;
+  }
 
   empty_in_order : IsInOrder state
   empty_in_order = record {
@@ -148,8 +175,17 @@ no_files (file ∷ files) e = cc
 
 pub new_in_order : (state : EngineState) → replay_state state ≡ new_store → HasNothingOut state → IsInOrder state
 new_in_order state is out =
-    let made = λ (memory : MemoryState) (sequence unsequence outgoing : List File) (named : List ℕ) (flushes : List Flush) (compactions : List Compaction).
-    let whole : EngineState = record state { memory = memory; sequence = sequence; unsequence = unsequence; outgoing = outgoing; named = named; flushes = flushes; compactions = compactions } in whole in
+    let made = λ (memory : MemoryState) (sequence unsequence outgoing : List File) (named : List ℕ)
+    (flushes : List Flush) (compactions : List Compaction).
+    let whole : EngineState = record state {
+      memory = memory;
+      sequence = sequence;
+      unsequence = unsequence;
+      outgoing = outgoing;
+      named = named;
+      flushes = flushes;
+      compactions = compactions;
+    } in whole in
     let memory : state.memory ≡ new_memory = ap (λ (r : ReplayState). r.memory) is in
     let sequence : state.sequence ≡ [] = no_files state.sequence (ap (λ (r : ReplayState). r.sequence) is) in
     let unsequence : state.unsequence ≡ [] = no_files state.unsequence (ap (λ (r : ReplayState). r.unsequence) is) in
@@ -157,17 +193,20 @@ new_in_order state is out =
     let outgoing : state.outgoing ≡ [] = out.outgoing in
     let flushes : state.flushes ≡ [] = out.flushes in
     let compactions : state.compactions ≡ [] = out.compactions in
-    let same : made state.memory state.sequence state.unsequence state.outgoing state.named state.flushes state.compactions ≡ made new_memory [] [] [] [] [] [] = cc in
+    let same : made state.memory state.sequence state.unsequence state.outgoing state.named state.flushes
+    state.compactions ≡ made new_memory [] [] [] [] [] [] = cc in
     subst IsInOrder (sym same) (empty_in_order state.next_file state.pins state.room state.doubt)
 
 -- no value
 
-none_in : (space : Space) (marks : List Mark) (path : List ℕ) (time : ℤ) → HasNoneAt marks path time (pair_part [] space last)
+none_in : (space : Space) (marks : List Mark) (path : List ℕ) (time : ℤ)
+    → HasNoneAt marks path time (pair_part [] space last)
 none_in space marks path time point at h = no_point space path point h.has
 
 pub new_stands : (state : EngineState) → replay_state state ≡ new_store → StandsFor state empty
 new_stands state is =
-    let made = λ (memory : MemoryState) (sequence unsequence : List File). let whole : EngineState = record state { memory = memory; sequence = sequence; unsequence = unsequence } in whole in
+    let made = λ (memory : MemoryState) (sequence unsequence : List File). let whole : EngineState =
+    record state { memory = memory; sequence = sequence; unsequence = unsequence } in whole in
     let memory : state.memory ≡ new_memory = ap (λ (r : ReplayState). r.memory) is in
     let sequence : state.sequence ≡ [] = no_files state.sequence (ap (λ (r : ReplayState). r.sequence) is) in
     let unsequence : state.unsequence ≡ [] = no_files state.unsequence (ap (λ (r : ReplayState). r.unsequence) is) in
@@ -176,9 +215,12 @@ new_stands state is =
       types = λ path. ap type_in (get-empty (slice_cmp nat_cmp) path);
       values = λ path time value. (
         (λ e. absurd (not_some value (sym (nothing path time) ∙ e))),
-        (λ w. absurd (none_wins [] path time (record { time = time; value = value }) (pair_part [] Sequence last ∷ pair_part [] Unsequence last ∷ []) refl
-            (All-cons (HasNoneAt [] path time) (pair_part [] Sequence last) (pair_part [] Unsequence last ∷ []) (none_in Sequence [] path time)
-            (All-cons (HasNoneAt [] path time) (pair_part [] Unsequence last) [] (none_in Unsequence [] path time) (All-nil (HasNoneAt [] path time)))) w)),
+        (λ w. absurd (none_wins [] path time (record { time = time; value = value })
+            (pair_part [] Sequence last ∷ pair_part [] Unsequence last ∷ []) refl
+            (All-cons (HasNoneAt [] path time) (pair_part [] Sequence last) (pair_part [] Unsequence last ∷ [])
+            (none_in Sequence [] path time)
+            (All-cons (HasNoneAt [] path time) (pair_part [] Unsequence last) [] (none_in Unsequence [] path time)
+            (All-nil (HasNoneAt [] path time)))) w)),
       );
     })
   where

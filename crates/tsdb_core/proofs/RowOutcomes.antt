@@ -1,5 +1,6 @@
 -- What the call that writes a row promises, from what its private calls leave.
-use Rattle.std.proofs.Common.{◌≡◌, ◌≢◌, ◌⊎◌, inl, inr, ⊎_elim, ℕ, ◌+◌, ◌≤◌, List, Result, Ok, Err, refl, sym, ap, subst, ◌∙◌, arith}
+use Rattle.std.proofs.Common.{◌≡◌, ◌≢◌, ◌⊎◌, inl, inr, ⊎_elim, ℕ, ◌+◌, ◌≤◌, List, Result, Ok, Err, refl, sym, ap, subst}
+use Rattle.std.proofs.Common.{◌∙◌, arith}
 use Rattle.std.specs.Prelude.{IfOk, OnErr}
 use Rattle.std.specs.Result.{result_unwrap_or}
 use Rattle.tsdb_base.specs.declared.answers.Answer.{Answer}
@@ -48,19 +49,23 @@ record IsRowItem (memory : MemoryState) (device : List ℕ) (row : Row) (item : 
   are : AreItems memory.schemas device row.cells items
   is : item ≡ logged.Insert row.time items
 
-row_item : (memory : MemoryState) (device : List ℕ) (row : Row) (item : LogRecord) → IsRecordOfRow memory device row item → IsRowItem memory device row item
+row_item : (memory : MemoryState) (device : List ℕ) (row : Row) (item : LogRecord)
+    → IsRecordOfRow memory device row item → IsRowItem memory device row item
 row_item memory device row (logged.Create path data_type encoding) is = absurd is
-row_item memory device row (logged.Insert time items) is = record { items = items; are = is.1; is = ap (λ t. logged.Insert t items) is.0 }
+row_item memory device row (logged.Insert time items) is =
+    record { items = items; are = is.1; is = ap (λ t. logged.Insert t items) is.0 }
 row_item memory device row (logged.Delete path range) is = absurd is
 row_item memory device row logged.Freeze is = absurd is
 row_item memory device row (logged.Flushed sequence unsequence) is = absurd is
 row_item memory device row (logged.Replaced born space place output sequence unsequence) is = absurd is
 
--- what is in memory after a call that put no row: what was, or that with the working pair frozen where the row did not fit
+-- what is in memory after a call that put no row: what was, or that with the working pair frozen where the row did not
+-- fit
 abbrev IsSameOrFrozen : ℕ → Row → MemoryState → MemoryState → Type 0
 IsSameOrFrozen limit row old new = (new ≡ old) ⊎ ((¬ FitsPair limit row old.working) × Freezes old new)
 
-same_schemas : (limit : ℕ) (row : Row) (old new : MemoryState) → IsSameOrFrozen limit row old new → new.schemas ≡ old.schemas
+same_schemas : (limit : ℕ) (row : Row) (old new : MemoryState) → IsSameOrFrozen limit row old new
+    → new.schemas ≡ old.schemas
 same_schemas limit row old new (inl same) = ap (λ (m : MemoryState). m.schemas) same
 same_schemas limit row old new (inr (no_place, freezes)) = ap (λ (m : MemoryState). m.schemas) freezes.after
 
@@ -68,25 +73,35 @@ same_stamp : (limit : ℕ) (row : Row) (old new : MemoryState) → IsSameOrFroze
 same_stamp limit row old new (inl same) = ap (λ (m : MemoryState). m.stamp) same
 same_stamp limit row old new (inr (no_place, freezes)) = ap (λ (m : MemoryState). m.stamp) freezes.after
 
-keeps_world : (state : EngineState) (limit : ℕ) (row : Row) (new : MemoryState) → IsInOrder state → IsSameOrFrozen limit row state.memory new
+keeps_world : (state : EngineState) (limit : ℕ) (row : Row) (new : MemoryState) → IsInOrder state
+    → IsSameOrFrozen limit row state.memory new
     → KeepsWorld state (with_memory state new)
 keeps_world state limit row new order (inl same) =
-    subst (λ (m : MemoryState). KeepsWorld state (with_memory state m)) (sym same) (record { order = order; world = λ world stands. stands })
+    subst (λ (m : MemoryState). KeepsWorld state (with_memory state m)) (sym same)
+    (record { order = order; world = λ world stands. stands })
 keeps_world state limit row new order (inr (no_place, freezes)) = freeze_keeps state new order freezes
 
 module _ {J F : Type 0} {means : disk.Ghosts J} {counts : counted.Ghosts J} where
   same_rest : (old new : Core J F means counts) → new ≡ old → KeepsRest old new
-  same_rest old new same = record { limit = ap (λ (c : Core J F means counts). c.limit) same; next_file = ap (λ (c : Core J F means counts). c.next_file) same }
+  same_rest old new same = record {
+    limit = ap (λ (c : Core J F means counts). c.limit) same;
+    next_file = ap (λ (c : Core J F means counts). c.next_file) same;
+  }
 
-  rest_in_turn : (old between new : Core J F means counts) → KeepsRest old between → KeepsRest between new → KeepsRest old new
-  rest_in_turn old between new first then = record { limit = then.limit ∙ first.limit; next_file = then.next_file ∙ first.next_file }
+  rest_in_turn : (old between new : Core J F means counts) → KeepsRest old between → KeepsRest between new
+      → KeepsRest old new
+  rest_in_turn old between new first then = record {
+    limit = then.limit ∙ first.limit;
+    next_file = then.next_file ∙ first.next_file;
+  }
 
   same_memory : (old new : Core J F means counts) → new ≡ old → memory_of new ≡ memory_of old
   same_memory old new same = ap (λ (c : Core J F means counts). c.memory) same
 
   same_faults : (old new : Core J F means counts) → new ≡ old → faults_of (log_of old) ≤ faults_of (log_of new)
   same_faults old new same =
-      subst (λ (c : Core J F means counts). faults_of (log_of old) ≤ faults_of (log_of c)) (sym same) (itself (faults_of (log_of old)))
+      subst (λ (c : Core J F means counts). faults_of (log_of old) ≤ faults_of (log_of c)) (sym same)
+      (itself (faults_of (log_of old)))
 
   -- the place that was made
 
@@ -94,30 +109,37 @@ module _ {J F : Type 0} {means : disk.Ghosts J} {counts : counted.Ghosts J} wher
   placed_rest row old new (inl (fits, same)) = same_rest old new same
   placed_rest row old new (inr (no_place, committed)) = committed.rest
 
-  placed_later : (row : Row) (old new : Core J F means counts) → HasPlace row old new → faults_of (log_of old) ≤ faults_of (log_of new)
+  placed_later : (row : Row) (old new : Core J F means counts) → HasPlace row old new
+      → faults_of (log_of old) ≤ faults_of (log_of new)
   placed_later row old new (inl (fits, same)) = same_faults old new same
   placed_later row old new (inr (no_place, committed)) = committed.later
 
-  pub placed_memory : (row : Row) (old new : Core J F means counts) → HasPlace row old new → IsSameOrFrozen (limit_of old) row (memory_of old) (memory_of new)
+  pub placed_memory : (row : Row) (old new : Core J F means counts) → HasPlace row old new
+      → IsSameOrFrozen (limit_of old) row (memory_of old) (memory_of new)
   placed_memory row old new (inl (fits, same)) = inl (same_memory old new same)
   placed_memory row old new (inr (no_place, committed)) = inr (no_place, committed.leads.memory)
 
-  pub placed_fits : (row : Row) (old new : Core J F means counts) → HasPlace row old new → FitsPair (limit_of old) row (memory_of new).working
-  placed_fits row old new (inl (fits, same)) = subst (λ (c : Core J F means counts). FitsPair (limit_of old) row (memory_of c).working) (sym same) fits
-  placed_fits row old new (inr (no_place, committed)) = fits_after (limit_of old) row (memory_of old) (memory_of new) committed.leads.memory
+  pub placed_fits : (row : Row) (old new : Core J F means counts) → HasPlace row old new
+      → FitsPair (limit_of old) row (memory_of new).working
+  placed_fits row old new (inl (fits, same)) =
+      subst (λ (c : Core J F means counts). FitsPair (limit_of old) row (memory_of c).working) (sym same) fits
+  placed_fits row old new (inr (no_place, committed)) =
+      fits_after (limit_of old) row (memory_of old) (memory_of new) committed.leads.memory
 
   -- a row that came to an end
 
-  row_end : (End : Core J F means counts → Core J F means counts → LogRecord → Type 0) (device : List ℕ) (row : Row) (old new : Core J F means counts)
+  row_end : (End : Core J F means counts → Core J F means counts → LogRecord → Type 0) (device : List ℕ) (row : Row)
+      (old new : Core J F means counts)
       → IsRowAppended End device row old new → IsRowEnd End device row old new
   row_end End device row old new appended = record {
     item = appended.item;
     is = appended.is;
-    fits = fits appended.placed;
-    full = full appended.placed;
+    fits = fits appended.place;
+    full = full appended.place;
   }
     where
-      fits : HasPlace row old appended.between → FitsPair (limit_of old) row (memory_of old).working → End old new appended.item
+      fits : HasPlace row old appended.between → FitsPair (limit_of old) row (memory_of old).working
+          → End old new appended.item
       fits (inl (place, same)) also = subst (λ (c : Core J F means counts). End c new appended.item) same appended.end
       fits (inr (no_place, committed)) also = absurd (no_place also)
 
@@ -126,13 +148,16 @@ module _ {J F : Type 0} {means : disk.Ghosts J} {counts : counted.Ghosts J} wher
       full (inl (place, same)) none = absurd (none place)
       full (inr (no_place, committed)) none = (appended.between, committed, appended.end)
 
-  pub row_written : (old new : Core J F means counts) (device : List ℕ) (row : Row) (answer : Answer) → IsRowLogged device row old new answer
+  pub row_written : (old new : Core J F means counts) (device : List ℕ) (row : Row) (answer : Answer)
+      → IsRowLogged device row old new answer
       → IsRowWritten device row old new answer
   row_written old new device row Done log = row_end IsCommitted device row old new log
   row_written old new device row NoPath log = log
   row_written old new device row WrongType log = log
   row_written old new device row Exists log = log
-  row_written old new device row Device log = ⊎_elim (λ row_failed. inl (row_end IsFailed device row old new row_failed)) (λ freeze_failed. inr freeze_failed) log
+  row_written old new device row Device log =
+      ⊎_elim (λ row_failed. inl (row_end IsFailed device row old new row_failed)) (λ freeze_failed. inr freeze_failed)
+      log
   row_written old new device row answers.Memory log = log
   row_written old new device row (Full counter) log = log
 
@@ -142,65 +167,94 @@ module _ {J F : Type 0} {means : disk.Ghosts J} {counts : counted.Ghosts J} wher
     items : List CellRecord
     are : AreItems (memory_of old).schemas device row.cells items
     between : Core J F means counts
-    placed : HasPlace row old between
+    place : HasPlace row old between
     inserts : Inserts row.time items (memory_of between) (memory_of new)
     rest : KeepsRest between new
 
-  put_of : (old new : Core J F means counts) (device : List ℕ) (row : Row) → IsRowAppended IsCommitted device row old new → IsPut old new device row
+  put_of : (old new : Core J F means counts) (device : List ℕ) (row : Row)
+      → IsRowAppended IsCommitted device row old new → IsPut old new device row
   put_of old new device row appended =
       let is = row_item (memory_of old) device row appended.item appended.is in
-      let committed : IsCommitted appended.between new (logged.Insert row.time is.items) = subst (IsCommitted appended.between new) is.is appended.end in
-      record { items = is.items; are = is.are; between = appended.between; placed = appended.placed; inserts = committed.leads.memory; rest = committed.rest }
+      let committed : IsCommitted appended.between new (logged.Insert row.time is.items) =
+      subst (IsCommitted appended.between new) is.is appended.end in
+      record {
+        items = is.items;
+        are = is.are;
+        between = appended.between;
+        place = appended.place;
+        inserts = committed.leads.memory;
+        rest = committed.rest;
+      }
 
   puts_row : (old new : Core J F means counts) (device : List ℕ) (row : Row) → IsPut old new device row
       → PutsRow (limit_of old) device row (memory_of old) (memory_of new)
-  puts_row old new device row put = record { cells = put.items; are = put.are; fits = fits put.placed; full = full put.placed }
+  puts_row old new device row put = record {
+    cells = put.items;
+    are = put.are;
+    fits = fits put.place;
+    full = full put.place;
+  }
     where
-      fits : HasPlace row old put.between → FitsPair (limit_of old) row (memory_of old).working → Inserts row.time put.items (memory_of old) (memory_of new)
-      fits (inl (place, same)) also = subst (λ (c : Core J F means counts). Inserts row.time put.items (memory_of c) (memory_of new)) same put.inserts
+      fits : HasPlace row old put.between → FitsPair (limit_of old) row (memory_of old).working
+          → Inserts row.time put.items (memory_of old) (memory_of new)
+      fits (inl (place, same)) also = subst (λ (c : Core J F means counts). Inserts row.time put.items (memory_of c)
+          (memory_of new)) same put.inserts
       fits (inr (no_place, committed)) also = absurd (no_place also)
 
       full : HasPlace row old put.between → ¬ FitsPair (limit_of old) row (memory_of old).working
-          → (between : MemoryState) × Freezes (memory_of old) between × Inserts row.time put.items between (memory_of new)
+          → (between : MemoryState) × Freezes (memory_of old) between
+          × Inserts row.time put.items between (memory_of new)
       full (inl (place, same)) none = absurd (none place)
       full (inr (no_place, committed)) none = (memory_of put.between, committed.leads.memory, put.inserts)
 
-  put_rest : (old new : Core J F means counts) (device : List ℕ) (row : Row) → IsPut old new device row → KeepsRest old new
-  put_rest old new device row put = rest_in_turn old put.between new (placed_rest row old put.between put.placed) put.rest
+  put_rest : (old new : Core J F means counts) (device : List ℕ) (row : Row) → IsPut old new device row
+      → KeepsRest old new
+  put_rest old new device row put = rest_in_turn old put.between new (placed_rest row old put.between put.place)
+      put.rest
 
-  put_is_done : (old new : Core J F means counts) (device : List ℕ) (row : Row) → IsInOrder (state_of old) → IsRow row → IsPut old new device row
+  put_is_done : (old new : Core J F means counts) (device : List ℕ) (row : Row) → IsInOrder (state_of old) → IsRow row
+      → IsPut old new device row
       → IsDone (state_of old) (state_of new) (Insert device row)
   put_is_done old new device row order is put =
-      let memory = placed_memory row old put.between put.placed in
+      let memory = placed_memory row old put.between put.place in
       let keeps = keeps_world (state_of old) (limit_of old) row (memory_of put.between) order memory in
       let are : AreItems (memory_of put.between).schemas device row.cells put.items =
-      subst (λ (s : List SeriesEntry). AreItems s device row.cells put.items) (sym (same_schemas (limit_of old) row (memory_of old) (memory_of put.between) memory)) put.are in
+      subst (λ (s : List SeriesEntry). AreItems s device row.cells put.items)
+      (sym (same_schemas (limit_of old) row (memory_of old) (memory_of put.between) memory)) put.are in
       let between = with_memory (state_of old) (memory_of put.between) in
-      subst (λ (s : EngineState). IsDone (state_of old) s (Insert device row)) (sym (moved_state old new (put_rest old new device row put)))
+      subst (λ (s : EngineState). IsDone (state_of old) s (Insert device row))
+      (sym (moved_state old new (put_rest old new device row put)))
       (done_after (state_of old) between (with_memory (state_of old) (memory_of new)) (Insert device row) keeps
       (row_done between device row put.items (memory_of new) keeps.order is are put.inserts
-      (bytes_within (limit_of old) device row put.items (memory_of put.between) are (placed_fits row old put.between put.placed))))
+      (bytes_within (limit_of old) device row put.items (memory_of put.between) are
+      (placed_fits row old put.between put.place))))
 
   -- the clauses of the call
 
-  pub by_answer : (old new : Core J F means counts) (device : List ℕ) (row : Row) (result : Result Answer Memory) (answer : Answer)
+  pub by_answer : (old new : Core J F means counts) (device : List ℕ) (row : Row) (result : Result Answer Memory)
+      (answer : Answer)
       → answer ≡ result_unwrap_or result answers.Memory → IfOk result (IsRowApplied old new device row)
       → OnErr result (IsRowApplied old new device row answers.Memory) → IsRowApplied old new device row answer
-  by_answer old new device row (Ok said) answer is applied failed = subst (IsRowApplied old new device row) (sym is) applied
-  by_answer old new device row (Err memory) answer is applied failed = subst (IsRowApplied old new device row) (sym is) failed
+  by_answer old new device row (Ok said) answer is applied failed =
+      subst (IsRowApplied old new device row) (sym is) applied
+  by_answer old new device row (Err memory) answer is applied failed =
+      subst (IsRowApplied old new device row) (sym is) failed
 
-  pub row_rest : (old new : Core J F means counts) (device : List ℕ) (row : Row) (answer : Answer) → IsRowLogged device row old new answer → KeepsRest old new
+  pub row_rest : (old new : Core J F means counts) (device : List ℕ) (row : Row) (answer : Answer)
+      → IsRowLogged device row old new answer → KeepsRest old new
   row_rest old new device row Done log = put_rest old new device row (put_of old new device row log)
   row_rest old new device row NoPath log = same_rest old new log
   row_rest old new device row WrongType log = same_rest old new log
   row_rest old new device row Exists log = same_rest old new log
-  row_rest old new device row Device (inl failed) = rest_in_turn old failed.between new (placed_rest row old failed.between failed.placed) failed.end.rest
+  row_rest old new device row Device (inl failed) =
+      rest_in_turn old failed.between new (placed_rest row old failed.between failed.place) failed.end.rest
   row_rest old new device row Device (inr (no_place, failed)) = failed.rest
   row_rest old new device row answers.Memory (inl same) = same_rest old new same
   row_rest old new device row answers.Memory (inr (no_place, committed)) = committed.rest
   row_rest old new device row (Full counter) log = same_rest old new log
 
-  pub row_puts : (old new : Core J F means counts) (device : List ℕ) (row : Row) (answer : Answer) → IsRowLogged device row old new answer → answer ≡ Done
+  pub row_puts : (old new : Core J F means counts) (device : List ℕ) (row : Row) (answer : Answer)
+      → IsRowLogged device row old new answer → answer ≡ Done
       → PutsRow (limit_of old) device row (memory_of old) (memory_of new)
   row_puts old new device row Done log is = puts_row old new device row (put_of old new device row log)
   row_puts old new device row NoPath log is = cc
@@ -210,20 +264,24 @@ module _ {J F : Type 0} {means : disk.Ghosts J} {counts : counted.Ghosts J} wher
   row_puts old new device row answers.Memory log is = cc
   row_puts old new device row (Full counter) log is = cc
 
-  pub row_same : (old new : Core J F means counts) (device : List ℕ) (row : Row) (answer : Answer) → IsRowLogged device row old new answer → answer ≢ Done
-      → (memory_of new ≡ memory_of old) ⊎ ((¬ FitsPair (limit_of old) row (memory_of old).working) × Freezes (memory_of old) (memory_of new))
+  pub row_same : (old new : Core J F means counts) (device : List ℕ) (row : Row) (answer : Answer)
+      → IsRowLogged device row old new answer → answer ≢ Done
+      → (memory_of new ≡ memory_of old) ⊎ ((¬ FitsPair (limit_of old) row (memory_of old).working)
+      × Freezes (memory_of old) (memory_of new))
   row_same old new device row Done log apart = absurd (apart refl)
   row_same old new device row NoPath log apart = inl (same_memory old new log)
   row_same old new device row WrongType log apart = inl (same_memory old new log)
   row_same old new device row Exists log apart = inl (same_memory old new log)
   row_same old new device row Device (inl failed) apart =
-      subst (IsSameOrFrozen (limit_of old) row (memory_of old)) (sym failed.end.same) (placed_memory row old failed.between failed.placed)
+      subst (IsSameOrFrozen (limit_of old) row (memory_of old)) (sym failed.end.same)
+      (placed_memory row old failed.between failed.place)
   row_same old new device row Device (inr (no_place, failed)) apart = inl failed.same
   row_same old new device row answers.Memory (inl same) apart = inl (same_memory old new same)
   row_same old new device row answers.Memory (inr (no_place, committed)) apart = inr (no_place, committed.leads.memory)
   row_same old new device row (Full counter) log apart = inl (same_memory old new log)
 
-  pub row_refused : (old new : Core J F means counts) (device : List ℕ) (row : Row) (answer : Answer) → IsRowLogged device row old new answer → IsRefusal answer
+  pub row_refused : (old new : Core J F means counts) (device : List ℕ) (row : Row) (answer : Answer)
+      → IsRowLogged device row old new answer → IsRefusal answer
       → new ≡ old
   row_refused old new device row Done log refused = absurd refused
   row_refused old new device row NoPath log refused = log
@@ -233,56 +291,69 @@ module _ {J F : Type 0} {means : disk.Ghosts J} {counts : counted.Ghosts J} wher
   row_refused old new device row answers.Memory log refused = absurd refused
   row_refused old new device row (Full counter) log refused = log
 
-  pub row_stamp : (old new : Core J F means counts) (device : List ℕ) (row : Row) (answer : Answer) → IsRowLogged device row old new answer
+  pub row_stamp : (old new : Core J F means counts) (device : List ℕ) (row : Row) (answer : Answer)
+      → IsRowLogged device row old new answer
       → IsStampAfter answer (memory_of old).stamp (memory_of new).stamp
   row_stamp old new device row Done log =
       let put = put_of old new device row log in
       ap (λ (m : MemoryState). m.stamp) put.inserts.after
-      ∙ ap (λ n. n + 1) (same_stamp (limit_of old) row (memory_of old) (memory_of put.between) (placed_memory row old put.between put.placed))
+      ∙ ap (λ n. n + 1) (same_stamp (limit_of old) row (memory_of old) (memory_of put.between)
+      (placed_memory row old put.between put.place))
   row_stamp old new device row NoPath log = ap (λ (m : MemoryState). m.stamp) (same_memory old new log)
   row_stamp old new device row WrongType log = ap (λ (m : MemoryState). m.stamp) (same_memory old new log)
   row_stamp old new device row Exists log = ap (λ (m : MemoryState). m.stamp) (same_memory old new log)
-  row_stamp old new device row Device log = same_stamp (limit_of old) row (memory_of old) (memory_of new) (row_same old new device row Device log (λ e. cc))
+  row_stamp old new device row Device log = same_stamp (limit_of old) row (memory_of old) (memory_of new)
+      (row_same old new device row Device log (λ e. cc))
   row_stamp old new device row answers.Memory log =
-      same_stamp (limit_of old) row (memory_of old) (memory_of new) (row_same old new device row answers.Memory log (λ e. cc))
+      same_stamp (limit_of old) row (memory_of old) (memory_of new)
+      (row_same old new device row answers.Memory log (λ e. cc))
   row_stamp old new device row (Full counter) log = ap (λ (m : MemoryState). m.stamp) (same_memory old new log)
 
-  pub row_rose : (old new : Core J F means counts) (device : List ℕ) (row : Row) (answer : Answer) → IsRowLogged device row old new answer → answer ≡ Device
+  pub row_rose : (old new : Core J F means counts) (device : List ℕ) (row : Row) (answer : Answer)
+      → IsRowLogged device row old new answer → answer ≡ Device
       → Rose (faults_of (log_of old)) (faults_of (log_of new))
   row_rose old new device row Done log is = cc
   row_rose old new device row NoPath log is = cc
   row_rose old new device row WrongType log is = cc
   row_rose old new device row Exists log is = cc
   row_rose old new device row Device (inl failed) is =
-      rises_later (faults_of (log_of old)) (faults_of (log_of failed.between)) (faults_of (log_of new)) (placed_later row old failed.between failed.placed) failed.end.rose
+      rises_later (faults_of (log_of old)) (faults_of (log_of failed.between)) (faults_of (log_of new))
+      (placed_later row old failed.between failed.place) failed.end.rose
   row_rose old new device row Device (inr (no_place, failed)) is = failed.rose
   row_rose old new device row answers.Memory log is = cc
   row_rose old new device row (Full counter) log is = cc
 
-  pub row_later : (old new : Core J F means counts) (device : List ℕ) (row : Row) (answer : Answer) → IsRowLogged device row old new answer
+  pub row_later : (old new : Core J F means counts) (device : List ℕ) (row : Row) (answer : Answer)
+      → IsRowLogged device row old new answer
       → faults_of (log_of old) ≤ faults_of (log_of new)
   row_later old new device row Done log =
-      in_turn (faults_of (log_of old)) (faults_of (log_of log.between)) (faults_of (log_of new)) (placed_later row old log.between log.placed) log.end.later
+      in_turn (faults_of (log_of old)) (faults_of (log_of log.between)) (faults_of (log_of new))
+      (placed_later row old log.between log.place) log.end.later
   row_later old new device row NoPath log = same_faults old new log
   row_later old new device row WrongType log = same_faults old new log
   row_later old new device row Exists log = same_faults old new log
   row_later old new device row Device (inl failed) =
-      in_turn (faults_of (log_of old)) (faults_of (log_of failed.between)) (faults_of (log_of new)) (placed_later row old failed.between failed.placed) failed.end.later
+      in_turn (faults_of (log_of old)) (faults_of (log_of failed.between)) (faults_of (log_of new))
+      (placed_later row old failed.between failed.place) failed.end.later
   row_later old new device row Device (inr (no_place, failed)) = failed.later
   row_later old new device row answers.Memory (inl same) = same_faults old new same
   row_later old new device row answers.Memory (inr (no_place, committed)) = committed.later
   row_later old new device row (Full counter) log = same_faults old new log
 
-  pub row_step : (old new : Core J F means counts) (device : List ℕ) (row : Row) (answer : Answer) → IsRow row → IsRowApplied old new device row answer
+  pub row_step : (old new : Core J F means counts) (device : List ℕ) (row : Row) (answer : Answer) → IsRow row
+      → IsRowApplied old new device row answer
       → IsStep (state_of old) (state_of new) (Insert device row) answer
   row_step old new device row answer is applied =
       let rest = row_rest old new device row answer applied.log in
-      step_of (state_of old) (state_of new) (Insert device row) answer applied.is (λ world stands. insert_follows (state_of old) world stands device row)
+      step_of (state_of old) (state_of new) (Insert device row) answer applied.is
+      (λ world stands. insert_follows (state_of old) world stands device row)
       (done answer applied.log)
       (λ apart. subst (KeepsWorld (state_of old)) (sym (moved_state old new rest))
-      (keeps_world (state_of old) (limit_of old) row (memory_of new) applied.order (row_same old new device row answer applied.log apart)))
+      (keeps_world (state_of old) (limit_of old) row (memory_of new) applied.order
+      (row_same old new device row answer applied.log apart)))
     where
-      done : (answer : Answer) → IsRowLogged device row old new answer → answer ≡ Done → IsDone (state_of old) (state_of new) (Insert device row)
+      done : (answer : Answer) → IsRowLogged device row old new answer → answer ≡ Done
+          → IsDone (state_of old) (state_of new) (Insert device row)
       done Done log e = put_is_done old new device row applied.order is (put_of old new device row log)
       done NoPath log e = cc
       done WrongType log e = cc

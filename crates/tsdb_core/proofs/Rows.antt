@@ -43,6 +43,7 @@ has_in_table schemas space frozen path point h =
     record {
       points = h.points;
       row = subst (λ (p : List ℕ). Contains (map (row_of schemas) (entries table)) (p, h.points)) h.of_path
-          (in_image (row_of schemas) (entries table) entry (entry_from_get nat_cmp nat_cmp_total nat_cmp-IsAntisymmetric table h.number h.points h.at));
+          (in_image (row_of schemas) (entries table) entry
+          (entry_from_get nat_cmp nat_cmp_total nat_cmp-IsAntisymmetric table h.number h.points h.at));
       among = h.among;
     }

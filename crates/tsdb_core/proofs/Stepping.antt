@@ -1,5 +1,6 @@
 -- The step that each command makes: what it answers follows from the series, and the world after it is the map's.
-use Rattle.std.proofs.Common.{◌≡◌, ◌≢◌, ℕ, ◌<◌, Bool, cond, ◌&&◌, List, [], ◌∷◌, map, Option, None, Some, is_some, refl, sym, ◌∙◌, ap, subst}
+use Rattle.std.proofs.Common.{◌≡◌, ◌≢◌, ℕ, ◌<◌, Bool, cond, ◌&&◌, List, [], ◌∷◌, map, Option, None, Some, is_some, refl}
+use Rattle.std.proofs.Common.{sym, ◌∙◌, ap, subst}
 use Rattle.std.specs.FinMap.{get}
 use Rattle.std.specs.Option.{option_map}
 use Rattle.std.proofs.lemmas.List.Elements.{All-nil}
@@ -33,24 +34,61 @@ order_with m n memory h = record {
   sequence_parts_rise = h.sequence_parts_rise;
   below_the_watermark = h.below_the_watermark;
   above_the_watermark = h.above_the_watermark;
-  unsequence_below_sequence = let u = h.unsequence_below_sequence in record { files = u.files; own = u.own; later = u.later };
+  unsequence_below_sequence = let u = h.unsequence_below_sequence in
+      record { files = u.files; own = u.own; later = u.later };
   borns_and_versions = let b = h.borns_and_versions in
-      record { files = b.files; frozen = b.frozen; frozen_rise = b.frozen_rise; two = b.two; working = b.working; versions = b.versions; versions_rise = b.versions_rise };
-  typed_points = let t = h.typed_points in record { schemas = t.schemas; once = t.once; parts = t.parts; frozen = t.frozen; live = t.live; working = t.working };
+      record {
+        files = b.files;
+        frozen = b.frozen;
+        frozen_rise = b.frozen_rise;
+        two = b.two;
+        working = b.working;
+        versions = b.versions;
+        versions_rise = b.versions_rise;
+      };
+  typed_points = let t = h.typed_points in record {
+    schemas = t.schemas;
+    once = t.once;
+    parts = t.parts;
+    frozen = t.frozen;
+    live = t.live;
+    working = t.working;
+  };
   distinct_file_numbers = let d = h.distinct_file_numbers in
-      record { differ = d.differ; from_one = d.from_one; below = All-nil (λ number. number < n); named = All-nil (λ number. number < n); unnamed = d.unnamed };
+      record {
+        differ = d.differ;
+        from_one = d.from_one;
+        below = All-nil (λ number. number < n);
+        named = All-nil (λ number. number < n);
+        unnamed = d.unnamed;
+      };
   gap_of_a_cross_job = All-nil _;
   claims_match = let c = h.claims_match in
-      record { one = c.one; apart = c.apart; inputs = λ job file among input. absurd (in_none job among); sequence = c.sequence; unsequence = c.unsequence; kinds = All-nil _; stand = c.stand };
+      record {
+        one = c.one;
+        apart = c.apart;
+        inputs = λ job file among input. absurd (in_none job among);
+        sequence = c.sequence;
+        unsequence = c.unsequence;
+        kinds = All-nil _;
+        stand = c.stand;
+      };
   marks_of_a_job = All-nil _;
-  room_kept = let r = h.room_kept in record { sequence = r.sequence; unsequence = r.unsequence; outgoing = r.outgoing; flushed = r.flushed; replaced = r.replaced };
+  room_kept = let r = h.room_kept in record {
+    sequence = r.sequence;
+    unsequence = r.unsequence;
+    outgoing = r.outgoing;
+    flushed = r.flushed;
+    replaced = r.replaced;
+  };
 }
 
 some_typed : (o : Option Series) → is_some o ≡ is_some (option_map (λ series. series.data_type) o)
 some_typed None = refl
 some_typed (Some series) = refl
 
-fits_typed : (literal : Literal) (o : Option Series) → fits_series literal o ≡ calls.fits_type literal (option_map (λ series. series.data_type) o)
+fits_typed : (literal : Literal) (o : Option Series)
+    → fits_series literal o ≡ calls.fits_type literal (option_map (λ series. series.data_type) o)
 fits_typed literal None = refl
 fits_typed literal (Some series) = refl
 
@@ -61,28 +99,39 @@ module _ (state : EngineState) (world : World) (stands : StandsFor state world) 
   there : (path : List ℕ) → is_some (get world path) ≡ is_some (type_at state.memory.schemas path)
   there path = some_typed (get world path) ∙ ap is_some (stands.types path)
 
-  all_there : (device : List ℕ) (cells : List Cell) → plain.are_there world device (map (λ cell. cell.measurement) cells) ≡ calls.are_there state.memory.schemas device cells
+  all_there : (device : List ℕ) (cells : List Cell)
+      → plain.are_there world device (map (λ cell. cell.measurement) cells)
+      ≡ calls.are_there state.memory.schemas device cells
   all_there device [] = refl
-  all_there device (cell ∷ cells) = both_alike _ _ _ _ (there (child_of device cell.measurement)) (all_there device cells)
+  all_there device (cell ∷ cells) = both_alike _ _ _ _ (there (child_of device cell.measurement))
+      (all_there device cells)
 
-  all_fit : (device : List ℕ) (cells : List Cell) → plain.all_fit world device cells ≡ calls.all_fit state.memory.schemas device cells
+  all_fit : (device : List ℕ) (cells : List Cell)
+      → plain.all_fit world device cells ≡ calls.all_fit state.memory.schemas device cells
   all_fit device [] = refl
   all_fit device (cell ∷ cells) =
-      both_alike _ _ _ _ (fits_typed cell.value (get world (child_of device cell.measurement)) ∙ ap (calls.fits_type cell.value) (stands.types (child_of device cell.measurement)))
+      both_alike _ _ _ _ (fits_typed cell.value (get world (child_of device cell.measurement))
+      ∙ ap (calls.fits_type cell.value) (stands.types (child_of device cell.measurement)))
       (all_fit device cells)
 
-  pub create_follows : (schema : Schema) → reply_of world (Create schema) ≡ Plain (answer_in state.memory.schemas (Create schema))
+  pub create_follows : (schema : Schema) → reply_of world (Create schema)
+      ≡ Plain (answer_in state.memory.schemas (Create schema))
   create_follows schema = ap (λ b. Plain (cond b Exists Done)) (there schema.path)
 
-  pub delete_follows : (path : List ℕ) (range : Range) → reply_of world (Delete path range) ≡ Plain (answer_in state.memory.schemas (Delete path range))
+  pub delete_follows : (path : List ℕ) (range : Range)
+      → reply_of world (Delete path range) ≡ Plain (answer_in state.memory.schemas (Delete path range))
   delete_follows path range = ap (λ b. Plain (cond b Done NoPath)) (there path)
 
-  pub insert_follows : (device : List ℕ) (row : Row) → reply_of world (Insert device row) ≡ Plain (answer_in state.memory.schemas (Insert device row))
+  pub insert_follows : (device : List ℕ) (row : Row)
+      → reply_of world (Insert device row) ≡ Plain (answer_in state.memory.schemas (Insert device row))
   insert_follows device row =
-      ap (λ b. Plain (cond b (cond (plain.all_fit world device row.cells) Done WrongType) NoPath)) (all_there device row.cells)
-      ∙ ap (λ b. Plain (cond (calls.are_there state.memory.schemas device row.cells) (cond b Done WrongType) NoPath)) (all_fit device row.cells)
+      ap (λ b. Plain (cond b (cond (plain.all_fit world device row.cells) Done WrongType) NoPath))
+      (all_there device row.cells)
+      ∙ ap (λ b. Plain (cond (calls.are_there state.memory.schemas device row.cells) (cond b Done WrongType) NoPath))
+      (all_fit device row.cells)
 
-pub map_answer : (memory : MemoryState) (world : World) (command : Command) (answer : Answer) → reply_of world command ≡ Plain (answer_in memory.schemas command)
+pub map_answer : (memory : MemoryState) (world : World) (command : Command) (answer : Answer)
+    → reply_of world command ≡ Plain (answer_in memory.schemas command)
     → IsAnswer memory command answer → IsMapAnswer world command answer
 map_answer memory world command Done follows is = follows ∙ ap Plain is.0
 map_answer memory world command NoPath follows is = follows ∙ ap Plain is
@@ -102,19 +151,22 @@ pub step_of : (old new : EngineState) (command : Command) (answer : Answer) → 
     → (answer ≡ Done → IsDone old new command) → (answer ≢ Done → KeepsWorld old new) → IsStep old new command answer
 step_of old new command answer is follows done kept = cases answer is done kept
   where
-    stays : (answer : Answer) → IsAnswer old.memory command answer → KeepsWorld old new → ((world : World) → after_reply world command (Plain answer) ≡ world) → IsStep old new command answer
+    stays : (answer : Answer) → IsAnswer old.memory command answer → KeepsWorld old new
+        → ((world : World) → after_reply world command (Plain answer) ≡ world) → IsStep old new command answer
     stays answer is k same = record {
       order = k.order;
       world = λ world stands. subst (StandsFor new) (sym (same world)) (k.world world stands);
       reply = λ world stands. map_answer old.memory world command answer (follows world stands) is;
     }
 
-    cases : (answer : Answer) → IsAnswer old.memory command answer → (answer ≡ Done → IsDone old new command) → (answer ≢ Done → KeepsWorld old new) → IsStep old new command answer
+    cases : (answer : Answer) → IsAnswer old.memory command answer → (answer ≡ Done → IsDone old new command)
+        → (answer ≢ Done → KeepsWorld old new) → IsStep old new command answer
     cases Done is done kept =
         let d = done refl in
         record {
           order = d.order;
-          world = λ world stands. subst (λ (r : Reply). StandsFor new (after_reply world command r)) (map_answer old.memory world command Done (follows world stands) is) (d.world world stands);
+          world = λ world stands. subst (λ (r : Reply). StandsFor new (after_reply world command r))
+              (map_answer old.memory world command Done (follows world stands) is) (d.world world stands);
           reply = λ world stands. map_answer old.memory world command Done (follows world stands) is;
         }
     cases NoPath is done kept = stays NoPath is (kept (λ e. cc)) (λ world. refl)

@@ -1,10 +1,10 @@
 pub mod Calls
 pub mod Codes
 pub mod Core
-pub mod Kept
 pub mod Laws
 pub mod Limits
 pub mod Logs
+pub mod MemoryModel
 pub mod Openings
 pub mod Order
 pub mod Outcomes

@@ -38,14 +38,14 @@ pub record IsRaise (raises : List Raise) (device : List ℕ) (time : ℤ) : Type
 -- each is a time that its device has in the working sequence part, and each such time is reached by one of them
 pub record AreRaises (memory : MemoryState) (raises : List Raise) : Type 0 where
   pub had : All (λ raise. HasTime (working_sequence memory) raise.device raise.time) raises
-  pub reached : (device : List ℕ) (time : ℤ) → HasTime (working_sequence memory) device time
+  pub reaches : (device : List ℕ) (time : ℤ) → HasTime (working_sequence memory) device time
       → IsReached raises device time
 
 -- the watermarks after these raises: none has fallen, each has reached its times, and each was there or is one of them
 pub record IsRaisedBy (raises : List Raise) (old new : Watermarks) : Type 0 where
-  pub kept : (device : List ℕ) (time : ℤ) → watermark old device ≡ Some time
+  pub keeps : (device : List ℕ) (time : ℤ) → watermark old device ≡ Some time
       → IsSomeAnd (watermark new device) (λ last. time ≤ℤ last)
-  pub reached : (raise : Raise) → Contains raises raise
+  pub reaches : (raise : Raise) → Contains raises raise
       → IsSomeAnd (watermark new raise.device) (λ last. raise.time ≤ℤ last)
   pub one_of_these : (device : List ℕ) (time : ℤ) → watermark new device ≡ Some time
       → (watermark old device ≡ Some time) ⊎ IsRaise raises device time

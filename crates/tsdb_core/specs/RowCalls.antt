@@ -33,7 +33,7 @@ module _ {J F : Type 0} {means : disk.Ghosts J} {counts : counted.Ghosts J} wher
     pub item : LogRecord
     pub is : IsRecordOfRow (memory_of old) device row item
     pub between : Core J F means counts
-    pub placed : HasPlace row old between
+    pub place : HasPlace row old between
     pub end : End between new item
 
   -- what a row leaves, by its answer

@@ -129,9 +129,9 @@ pub record HasTime (part : Part) (device : List ℕ) (time : ℤ) : Type 0 where
 
 -- the watermark of each device is the greatest of the old one and of the times that the device has in the part
 pub record AreRaised (part : Part) (old new : Watermarks) : Type 0 where
-  pub kept : (device : List ℕ) (time : ℤ) → get old device ≡ Some time
+  pub keeps : (device : List ℕ) (time : ℤ) → get old device ≡ Some time
       → IsSomeAnd (get new device) (λ last. time ≤ℤ last)
-  pub reached : (device : List ℕ) (time : ℤ) → HasTime part device time
+  pub reaches : (device : List ℕ) (time : ℤ) → HasTime part device time
       → IsSomeAnd (get new device) (λ last. time ≤ℤ last)
   pub one_of_these : (device : List ℕ) (time : ℤ) → get new device ≡ Some time
       → (get old device ≡ Some time) ⊎ HasTime part device time

@@ -10,7 +10,7 @@ use Rattle.tsdb_base.specs.declared.point.Point.{Point}
 use Rattle.tsdb_base.specs.declared.value.DataType.{DataType}
 use Rattle.tsdb_base.specs.declared.value.Encoding.{Encoding}
 use Rattle.tsdb_core.specs.State.{EngineState, MemoryState, Pair, SeriesEntry, Table, Watermarks}
-use Rattle.tsdb_memtable.specs.Pairs as kept
+use Rattle.tsdb_memtable.specs.Pairs as memtable
 use Rattle.tsdb_memtable.specs.Watermarks as marks
 
 -- the map that has at each of these keys what is found there
@@ -23,10 +23,10 @@ some_points [] = None
 some_points (point ∷ points) = Some (point ∷ points)
 
 -- the series of a pair that have points in a space
-abbrev pub table_in : Space → kept.Pair → Table
-table_in space pair = from_entries (found_at (λ number. some_points (kept.points_of space number pair)) (keys_of pair))
+abbrev pub table_in : Space → memtable.Pair → Table
+table_in space pair = from_entries (found_at (λ number. some_points (memtable.points_of space number pair)) (keys_of pair))
 
-abbrev pub pair_in : kept.Pair → Pair
+abbrev pub pair_in : memtable.Pair → Pair
 pair_in pair = record { sequence = table_in Sequence pair; unsequence = table_in Unsequence pair }
 
 -- the devices that have a watermark

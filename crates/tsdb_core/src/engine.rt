@@ -188,7 +188,7 @@ impl<J: Journal, F: Files> Core<J, F> {
         requires row { IsRow row.now }
         requires place { ¬ NeedsFlush (limit_of self.old) row.now (memory_of self.old) }
         requires order { IsInOrder (state_of self.old) }
-        ensures placed { IfOk result (IsPlaced row.now self.old self.new) }
+        ensures outcome { IfOk result (IsPlaced row.now self.old self.new) }
         ensures memory { OnErr result (self.new ≡ self.old) }
         ensures limit { IsPairLimit (limit_of self.old) }
     {
@@ -209,7 +209,7 @@ impl<J: Journal, F: Files> Core<J, F> {
         requires can { CanInsert device.now cells (memory_of self.old) }
         requires good { IsRecord (LogRecord.Insert time cells) }
         requires frame { IsFrame framed.now }
-        requires spelled { payload_of framed.now ≡ spelling (LogRecord.Insert time cells) }
+        requires payload { payload_of framed.now ≡ spelling (LogRecord.Insert time cells) }
         ensures outcome { IfOk result (IsOutcome self.old self.new (LogRecord.Insert time cells)) }
         ensures memory { OnErr result (self.new ≡ self.old) }
     {

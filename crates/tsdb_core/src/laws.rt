@@ -126,13 +126,13 @@ pub fn answers_follow_the_series()
     ensures exists { (state : EngineState) (world : World) (schema : Schema) → StandsFor state world
         → (reply_of world (Command.Create schema) ≡ Reply.Plain Answer.Exists)
         ↔ IsSome (type_at state.memory.schemas schema.path) }
-    ensures created { (state : EngineState) (world : World) (schema : Schema) → StandsFor state world
+    ensures create_done { (state : EngineState) (world : World) (schema : Schema) → StandsFor state world
         → (reply_of world (Command.Create schema) ≡ Reply.Plain Answer.Done)
         ↔ (type_at state.memory.schemas schema.path ≡ None) }
     ensures no_series { (state : EngineState) (world : World) (path : List ℕ) (range : Range) → StandsFor state world
         → (reply_of world (Command.Delete path range) ≡ Reply.Plain Answer.NoPath)
         ↔ (type_at state.memory.schemas path ≡ None) }
-    ensures deleted { (state : EngineState) (world : World) (path : List ℕ) (range : Range) → StandsFor state world
+    ensures delete_done { (state : EngineState) (world : World) (path : List ℕ) (range : Range) → StandsFor state world
         → (reply_of world (Command.Delete path range) ≡ Reply.Plain Answer.Done)
         ↔ IsSome (type_at state.memory.schemas path) }
     ensures no_path { (state : EngineState) (world : World) (device : List ℕ) (row : Row) → StandsFor state world
@@ -142,7 +142,7 @@ pub fn answers_follow_the_series()
         → (reply_of world (Command.Insert device row) ≡ Reply.Plain Answer.WrongType)
         ↔ ((¬ Any (IsMissing state.memory.schemas device) row.cells)
         × Any (IsUnfit state.memory.schemas device) row.cells) }
-    ensures inserted { (state : EngineState) (world : World) (device : List ℕ) (row : Row) → StandsFor state world
+    ensures insert_done { (state : EngineState) (world : World) (device : List ℕ) (row : Row) → StandsFor state world
         → (reply_of world (Command.Insert device row) ≡ Reply.Plain Answer.Done)
         ↔ All (IsFit state.memory.schemas device) row.cells }
 {}

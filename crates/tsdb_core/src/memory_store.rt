@@ -60,7 +60,7 @@ impl Model for MemoryStore {
 
     ghost coded = { memory_code schema.the_row.coded point.the_row.coded mark.the_row.coded };
 
-    ghost use Rattle.tsdb_core.specs.Kept.{memory_in, IsKept};
+    ghost use Rattle.tsdb_core.specs.MemoryModel.{memory_in, IsKept};
 
     ghost view = { memory_in };
 

@@ -4,7 +4,7 @@ ghost use Rattle.std.specs.Prelude.{◌≡◌, ◌≢◌, ◌<◌, ℕ, [], All,
 ghost use Rattle.std.specs.Prelude.{is_some, map};
 ghost use Rattle.tsdb_base.specs.declared.ids.Space.{Space as SpaceOf};
 ghost use Rattle.tsdb_frames.specs.Appends.{IsAppend};
-ghost use Rattle.tsdb_core.specs.Kept.{HasTimes, frozen_in};
+ghost use Rattle.tsdb_core.specs.MemoryModel.{HasTimes, frozen_in};
 ghost use Rattle.tsdb_core.specs.Limits.{end_of_numbers};
 ghost use Rattle.tsdb_core.specs.Order.{IsInOrder};
 ghost use Rattle.tsdb_core.specs.Parts.{path_of as path_in};
@@ -127,7 +127,7 @@ impl MemoryStore {
 /// Marks the points of a series in the range; a range without times needs no mark. It takes no memory.
 fn add_mark(marks: &mut Marks, path: Path, range: &Range, version: u64)
     requires spare { 0 < marks.old.spare }
-    requires newer { All (λ kept. kept.version.0 < version) marks.old.marks }
+    requires newer { All (λ mark. mark.version.0 < version) marks.old.marks }
     ensures { marks.new.marks ≡ mark_added path range.now version marks.old.marks }
 {
     if range.from <= range.to {

@@ -8,7 +8,8 @@ use Rattle.tsdb_map.specs.declared.command.Command.TheVariants.{Create}
 use Rattle.tsdb_core.proofs.laws.create_follows_the_map.Goals as goal
 
 pub returns-clause-reply : goal.returns-clause-reply
-returns-clause-reply c state world schema new order stands creates = create_is_done state schema new order creates world stands
+returns-clause-reply c state world schema new order stands creates =
+    create_is_done state schema new order creates world stands
 
 pub returns-clause-world : goal.returns-clause-world
 returns-clause-world c state world schema new order stands creates =

@@ -7,4 +7,5 @@ use Rattle.tsdb_core.proofs.laws.create_keeps_order.Goals as goal
 
 pub returns : goal.returns
 returns c state schema new order creates =
-    subst (λ (m : MemoryState). IsInOrder (with_memory state m)) (sym creates.after) (created_in_order state schema new order creates)
+    subst (λ (m : MemoryState). IsInOrder (with_memory state m)) (sym creates.after)
+    (created_in_order state schema new order creates)

@@ -8,9 +8,11 @@ use Rattle.tsdb_map.specs.declared.command.Command.TheVariants.{Delete}
 use Rattle.tsdb_core.proofs.laws.delete_follows_the_map.Goals as goal
 
 pub returns-clause-reply : goal.returns-clause-reply
-returns-clause-reply c state world path range new order stands deletes = delete_is_done state path range new order deletes world stands
+returns-clause-reply c state world path range new order stands deletes =
+    delete_is_done state path range new order deletes world stands
 
 pub returns-clause-world : goal.returns-clause-world
 returns-clause-world c state world path range new order stands deletes =
-    subst (λ (m : MemoryState). StandsFor (with_memory state m) (world_after world (Delete path range))) (sym deletes.after)
+    subst (λ (m : MemoryState). StandsFor (with_memory state m) (world_after world (Delete path range)))
+    (sym deletes.after)
     (deleted_stands state path range new order deletes world stands)

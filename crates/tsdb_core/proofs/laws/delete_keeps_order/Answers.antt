@@ -7,4 +7,5 @@ use Rattle.tsdb_core.proofs.laws.delete_keeps_order.Goals as goal
 
 pub returns : goal.returns
 returns c state path range new order deletes =
-    subst (λ (m : MemoryState). IsInOrder (with_memory state m)) (sym deletes.after) (deleted_in_order state path range new order deletes)
+    subst (λ (m : MemoryState). IsInOrder (with_memory state m)) (sym deletes.after)
+    (deleted_in_order state path range new order deletes)

@@ -7,4 +7,5 @@ use Rattle.tsdb_core.proofs.laws.freeze_keeps_order.Goals as goal
 
 pub returns : goal.returns
 returns c state new order freezes =
-    subst (λ (m : MemoryState). IsInOrder (with_memory state m)) (sym freezes.after) (freeze_in_order state new order freezes)
+    subst (λ (m : MemoryState). IsInOrder (with_memory state m)) (sym freezes.after)
+    (freeze_in_order state new order freezes)

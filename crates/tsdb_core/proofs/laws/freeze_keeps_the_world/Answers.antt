@@ -7,4 +7,5 @@ use Rattle.tsdb_core.proofs.laws.freeze_keeps_the_world.Goals as goal
 
 pub returns : goal.returns
 returns c state new world order freezes stands =
-    subst (λ (m : MemoryState). StandsFor (with_memory state m) world) (sym freezes.after) (freeze_stands state new order freezes world stands)
+    subst (λ (m : MemoryState). StandsFor (with_memory state m) world) (sym freezes.after)
+    (freeze_stands state new order freezes world stands)

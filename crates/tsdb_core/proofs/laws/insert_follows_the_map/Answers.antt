@@ -12,7 +12,9 @@ use Rattle.tsdb_core.proofs.laws.insert_follows_the_map.Goals as goal
 
 pub returns : goal.returns
 returns c state world device row cells new order stands is_row done are inserts bytes =
-    subst (λ (m : MemoryState). StandsFor (with_memory state m) (world_after world (Insert device row))) (sym inserts.after)
+    subst (λ (m : MemoryState). StandsFor (with_memory state m) (world_after world (Insert device row)))
+    (sym inserts.after)
     (row_stands state world device row cells new order inserts stands is_row done are
     (row_in_order state row.time cells new order inserts
-    (subst (λ (m : MemoryState). IsEmptyPair state.memory.working ⊎ (byte_count m.working ≤ max_pair_bytes)) inserts.after bytes) inserts.after))
+    (subst (λ (m : MemoryState). IsEmptyPair state.memory.working ⊎ (byte_count m.working ≤ max_pair_bytes))
+    inserts.after bytes) inserts.after))

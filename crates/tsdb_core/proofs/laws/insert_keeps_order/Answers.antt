@@ -10,4 +10,5 @@ pub returns : goal.returns
 returns c state time cells new order inserts bytes =
     subst (λ (m : MemoryState). IsInOrder (with_memory state m)) (sym inserts.after)
     (row_in_order state time cells new order inserts
-    (subst (λ (m : MemoryState). IsEmptyPair state.memory.working ⊎ (byte_count m.working ≤ max_pair_bytes)) inserts.after bytes) inserts.after)
+    (subst (λ (m : MemoryState). IsEmptyPair state.memory.working ⊎ (byte_count m.working ≤ max_pair_bytes))
+    inserts.after bytes) inserts.after)

@@ -7,5 +7,6 @@ use Rattle.tsdb_core.proofs.laws.last_write_wins.Goals as goal
 
 pub returns : goal.returns
 returns c state time cells new cell order inserts among =
-    subst (λ m. IsValueAt (with_memory state m) (path_of state.memory.schemas cell.series.0) time cell.value) (sym inserts.after)
+    subst (λ m. IsValueAt (with_memory state m) (path_of state.memory.schemas cell.series.0) time cell.value)
+    (sym inserts.after)
     (row_wins state time cells new order inserts cell among)

@@ -8,4 +8,5 @@ use Rattle.tsdb_core.proofs.laws.other_values_stay.Goals as goal
 pub returns : goal.returns
 returns c state time cells new path other value order inserts elsewhere =
     let stay = others_stay state time cells new order inserts path other value elsewhere in
-    subst (λ m. IsValueAt (with_memory state m) path other value ↔ IsValueAt state path other value) (sym inserts.after) (stay.1, stay.0)
+    subst (λ m. IsValueAt (with_memory state m) path other value ↔ IsValueAt state path other value) (sym inserts.after)
+    (stay.1, stay.0)

@@ -5,4 +5,5 @@ use Rattle.tsdb_core.proofs.laws.sequence_files_do_not_overlap.Goals as goal
 use Rattle.tsdb_base.specs.declared.ids.Space.TheVariants.{Sequence}
 
 pub returns : goal.returns
-returns c state order = pairs_of_map IsBefore file_part state.sequence (pair_parts Sequence state.memory) order.sequence_parts_rise
+returns c state order = pairs_of_map IsBefore file_part state.sequence (pair_parts Sequence state.memory)
+    order.sequence_parts_rise

@@ -8,16 +8,53 @@ returns-then-points-from c =
     let points = points_of_pair c.args.pair.now c.points.ensures.rising in
     let bytes = bytes_of_pair c.args.pair.now c.points.ensures.rising in (
       λ t. (
-        omega (arith, points, c.points.ensures.count, c.points-2.ensures.count, c.from.ensures, c.from-2.ensures, c.from-3.ensures, c.from-4.ensures, c.if-points-from.true),
-        omega (arith, bytes, c.bytes.ensures.count, c.from-then-points-from.ensures, c.from-then-points-from-2.ensures, c.from-then-points-from-3.ensures, leb-true _ _ t),
+        omega (
+          arith,
+          points,
+          c.points.ensures.count,
+          c.points-2.ensures.count,
+          c.from.ensures,
+          c.from-2.ensures,
+          c.from-3.ensures,
+          c.from-4.ensures,
+          c.if-points-from.true,
+        ),
+        omega (
+          arith,
+          bytes,
+          c.bytes.ensures.count,
+          c.from-then-points-from.ensures,
+          c.from-then-points-from-2.ensures,
+          c.from-then-points-from-3.ensures,
+          leb-true _ _ t,
+        ),
       ),
       λ h. le-leb _ _
-          (omega (arith, bytes, c.bytes.ensures.count, c.from-then-points-from.ensures, c.from-then-points-from-2.ensures, c.from-then-points-from-3.ensures, h.1)),
+          (omega (
+            arith,
+            bytes,
+            c.bytes.ensures.count,
+            c.from-then-points-from.ensures,
+            c.from-then-points-from-2.ensures,
+            c.from-then-points-from-3.ensures,
+            h.1,
+          )),
     )
 
 pub returns-else-points-from : goal.returns-else-points-from
 returns-else-points-from c =
     let points = points_of_pair c.args.pair.now c.points.ensures.rising in (
       λ t. absurd (omega (arith, leb-true _ _ t, c.if-points-from.false)),
-      λ h. absurd (omega (arith, points, c.points.ensures.count, c.points-2.ensures.count, c.from.ensures, c.from-2.ensures, c.from-3.ensures, c.from-4.ensures, c.if-points-from.false, h.0)),
+      λ h. absurd (omega (
+        arith,
+        points,
+        c.points.ensures.count,
+        c.points-2.ensures.count,
+        c.from.ensures,
+        c.from-2.ensures,
+        c.from-3.ensures,
+        c.from-4.ensures,
+        c.if-points-from.false,
+        h.0,
+      )),
     )

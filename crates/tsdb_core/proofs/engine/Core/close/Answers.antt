@@ -14,16 +14,22 @@ use Rattle.tsdb_core.proofs.engine.Core.close.Goals as goal
 pub returns-clause-moments : goal.returns-clause-moments
 returns-clause-moments g c = λ items doubt stored.
     subst (λ j. LeavesOnly (disk_of (log_of c.args.self)) (g.J.Disk.state j)
-    (λ image. IsReplayedToOneOf (replay_of (memory_of c.args.self)) doubt (in_slot (slot_of (log_of c.args.self)) image))) (sym c.end.ensures.journal)
-    (settle_moments (log_of c.args.self) (g.J.Disk.state c.settle.new.self.journal) (memory_of c.args.self) items doubt stored
+    (λ image. IsReplayedToOneOf (replay_of (memory_of c.args.self)) doubt
+    (in_slot (slot_of (log_of c.args.self)) image))) (sym c.end.ensures.journal)
+    (settle_moments (log_of c.args.self) (g.J.Disk.state c.settle.new.self.journal) (memory_of c.args.self) items doubt
+    stored
     (c.settle.ensures.moments (map spelling items) (option_map spelling doubt) stored.in_log))
 
 pub returns-clause-sound : goal.returns-clause-sound
 returns-clause-sound g c = λ items doubt stored calm.
     let journal = c.end.ensures.journal in
-    let settled = calm_ok c.settle.result _ (Rose (faults_of (log_of c.args.self)) (g.J.Counted.faults c.settle.new.self.journal)) c.settle.ensures.cause.failed
-    (λ rose. calm (subst (λ j. Rose (faults_of (log_of c.args.self)) (g.J.Counted.faults j)) (sym journal) rose)) c.settle.ensures.settled in
+    let settled = calm_ok c.settle.result _ (Rose (faults_of (log_of c.args.self))
+    (g.J.Counted.faults c.settle.new.self.journal)) c.settle.ensures.cause.failed
+    (λ rose. calm (subst (λ j. Rose (faults_of (log_of c.args.self)) (g.J.Counted.faults j)) (sym journal) rose))
+    c.settle.ensures.settled in
     let kept = settled (map spelling items) (option_map spelling doubt) stored.in_log in
     subst (λ j. IsClosed (slot_of (log_of c.args.self)) (g.J.Disk.state j) (memory_of c.args.self)) (sym journal)
-    (is_closed (log_of c.args.self) c.settle.new.self (memory_of c.args.self) items doubt stored kept c.settle.ensures.slot
-    (subst (λ j. IsSettled c.settle.new.self.slot (g.J.Disk.state j)) journal (c.end.ensures.settled (map spelling items) kept)))
+    (is_closed (log_of c.args.self) c.settle.new.self (memory_of c.args.self) items doubt stored kept
+    c.settle.ensures.slot
+    (subst (λ j. IsSettled c.settle.new.self.slot (g.J.Disk.state j)) journal
+    (c.end.ensures.settled (map spelling items) kept)))

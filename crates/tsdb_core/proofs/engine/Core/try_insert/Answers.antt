@@ -9,5 +9,6 @@ pub returns-then-counter-clause-answer : goal.returns-then-counter-clause-answer
 returns-then-counter-clause-answer g c =
     no_stamp c.args.self.now c.args.device.now c.args.row.now c.in-Ok.cells.items c.stamp-counter.result
     (order_with 1 c.args.self.now.next_file (memory_of c.args.self.now) c.stamp-counter.ensures.order)
-    (subst (IsRowRead (memory_of c.args.self.now).schemas c.args.device.now c.args.row.now) c.in-Ok.is c.in_ok-cells.ensures)
+    (subst (IsRowRead (memory_of c.args.self.now).schemas c.args.device.now c.args.row.now) c.in-Ok.is
+    c.in_ok-cells.ensures)
     c.stamp-counter.ensures.value c.if-counter.true

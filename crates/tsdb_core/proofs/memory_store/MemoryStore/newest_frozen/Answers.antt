@@ -9,5 +9,7 @@ use Rattle.tsdb_core.proofs.memory_store.MemoryStore.newest_frozen.Goals as goal
 pub returns-in-Some : goal.returns-in-Some
 returns-in-Some c =
     let last : slice_get c.self.inside.frozen.items (length c.self.inside.frozen.items - 1) ≡ Some c.in-Some.pair.now =
-    ap (λ (l : List FrozenPair). slice_get l (length l - 1)) (sym c.deref.ensures.value) ∙ sym c.last.ensures.value ∙ ap option_copied c.in-Some.is in
-    sym (newest_of c.self.inside.frozen.items c.in-Some.pair.now last) ∙ ap (λ (m : MemoryState). newest_born m.frozen) c.self.view_is
+    ap (λ (l : List FrozenPair). slice_get l (length l - 1)) (sym c.deref.ensures.value) ∙ sym c.last.ensures.value
+    ∙ ap option_copied c.in-Some.is in
+    sym (newest_of c.self.inside.frozen.items c.in-Some.pair.now last)
+    ∙ ap (λ (m : MemoryState). newest_born m.frozen) c.self.view_is

@@ -12,8 +12,10 @@ loop-series-init c = no_raises c.args.self.now c.new-raises.result.items c.new-r
 
 pub returns : goal.returns
 returns c =
-    all_raises c.args.self.now c.deref-series-items.result.now c.loop-series.series-index c.loop-series.raises.items c.loop-series-test.false c.loop-series.invariant
-    (λ number some. subst (λ (l : List SeriesId). Contains l (record { 0 = number })) (sym c.deref-series-items.ensures.value) (c.in_ok-sequence_series.ensures number some))
+    all_raises c.args.self.now c.deref-series-items.result.now c.loop-series.series-index c.loop-series.raises.items
+    c.loop-series-test.false c.loop-series.invariant
+    (λ number some. subst (λ (l : List SeriesId). Contains l (record { 0 = number }))
+    (sym c.deref-series-items.ensures.value) (c.in_ok-sequence_series.ensures number some))
 
 pub loop-series-preserved : goal.loop-series-preserved
 loop-series-preserved c =
@@ -24,13 +26,17 @@ loop-series-preserved c =
           let same = w.raises-is in
           let pushed = w.in_ok-push.ensures.items in
           let added : c.match-branch-3.raises.items ≡ c.loop-series.raises.items ++ w.in-Some.raise ∷ [] = cc in
-          raise_joins c.args.self.now c.deref-series-items.result.now c.loop-series.series-index id d c.loop-series.raises.items c.loop-series-test.true refl
+          raise_joins c.args.self.now c.deref-series-items.result.now c.loop-series.series-index id d
+          c.loop-series.raises.items c.loop-series-test.true refl
           c.loop-series.invariant w.in-Some.raise c.match-branch-3.raises.items
-          (subst (λ (o : Option Raise). IfSome o (IsRaiseOf c.args.self.now id.0)) w.in-Some.is c.in_ok-raise.ensures.some) added
+          (subst (λ (o : Option Raise). IfSome o (IsRaiseOf c.args.self.now id.0)) w.in-Some.is
+          c.in_ok-raise.ensures.some) added
       | in_default w ↦
           let same = w.raises-is in
           let items : c.loop-series.raises.items ≡ c.match-branch-3.raises.items = cc in
-          subst (AreRaisesOf c.args.self.now (take (c.loop-series.series-index + 1) c.deref-series-items.result.now)) items
-          (none_joins c.args.self.now c.deref-series-items.result.now c.loop-series.series-index id d c.loop-series.raises.items c.loop-series-test.true refl
+          subst (AreRaisesOf c.args.self.now (take (c.loop-series.series-index + 1) c.deref-series-items.result.now))
+          items
+          (none_joins c.args.self.now c.deref-series-items.result.now c.loop-series.series-index id d
+          c.loop-series.raises.items c.loop-series-test.true refl
           c.loop-series.invariant (c.in_ok-raise.ensures.none w.in_default.is))
     ]

@@ -2,7 +2,7 @@ use Rattle.std.proofs.Common.{◌≡◌, ◌≢◌}
 use Rattle.std.specs.Prelude.{All, AllPairs, Contains}
 use Rattle.std.specs.Vec.Iter.{into_iter_items}
 use Rattle.tsdb_core.proofs.Putting.{HasRoom}
-use Rattle.tsdb_core.specs.Kept.{HasTimes}
+use Rattle.tsdb_core.specs.MemoryModel.{HasTimes}
 use Rattle.tsdb_core.specs.Parts.{path_of}
 use Rattle.tsdb_core.specs.State.{MemoryState}
 use Rattle.tsdb_core.specs.Steps.{put_cells}
@@ -19,6 +19,7 @@ invariant-loop-item l = record {
   among : (item : CellRecord) → Contains (into_iter_items l.item-iterator) item → Contains l.fn.items item;
   pair : (memory : MemoryState) → memory.watermarks ≡ watermarks_in l.watermarks
       → ((item : CellRecord) → Contains l.fn.items item → device_of (path_of memory.schemas item.series.0) ≡ l.device)
-      → put_cells memory l.time (into_iter_items l.item-iterator) (pair_in l.pair) ≡ put_cells memory l.time l.fn.items (pair_in l.initial.pair);
+      → put_cells memory l.time (into_iter_items l.item-iterator) (pair_in l.pair)
+      ≡ put_cells memory l.time l.fn.items (pair_in l.initial.pair);
   times : HasTimes l.initial.pair → HasTimes l.pair;
 }

@@ -7,5 +7,5 @@ use Rattle.tsdb_core.proofs.memory_store.freezing.raise_all.Given as goal
 abbrev pub invariant-loop-raise : goal.invariant-loop-raise
 invariant-loop-raise l = record {
   places : All (λ raise. HasPlace l.watermarks raise.device) l.raises;
-  raised : IsRaisedBy (take l.raise-index l.raises) l.initial.watermarks l.watermarks;
+  watermarks : IsRaisedBy (take l.raise-index l.raises) l.initial.watermarks l.watermarks;
 }

@@ -8,10 +8,12 @@ use Rattle.tsdb_core.proofs.memory_store.freezing.reserve_places.Goals as goal
 pub loop-raise-preserved : goal.loop-raise-preserved
 loop-raise-preserved c = record {
   watermarks = λ device. c.reserve.ensures.watermarks device ∙ c.loop-raise.invariant.watermarks device;
-  places = place_more c.args.raises.now c.loop-raise.raise-index c.raise-item.result c.loop-raise.watermarks c.reserve.new.self c.loop-raise-test.true c.raise-item.is
+  places = place_more c.args.raises.now c.loop-raise.raise-index c.raise-item.result c.loop-raise.watermarks
+      c.reserve.new.self c.loop-raise-test.true c.raise-item.is
       c.loop-raise.invariant.places c.in_ok-reserve.ensures.place c.reserve.ensures.places;
 }
 
 pub returns-clause-places : goal.returns-clause-places
 returns-clause-places c =
-    subst (λ (l : List Raise). All (Placed c.loop-raise.watermarks) l) (take_all c.loop-raise.raise-index c.args.raises.now c.loop-raise-test.false) c.loop-raise.invariant.places
+    subst (λ (l : List Raise). All (Placed c.loop-raise.watermarks) l)
+    (take_all c.loop-raise.raise-index c.args.raises.now c.loop-raise-test.false) c.loop-raise.invariant.places
