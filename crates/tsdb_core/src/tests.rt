@@ -6,38 +6,70 @@ mod slow_state;
 
 use crate::memory_store::{MemoryStore, has_place};
 use crate::{Core, Opening, Options};
-use asks::{ask_freeze, ask_place, ask_row, ask_series};
+use asks::{ask, ask_freeze, ask_place};
 use mem_outside::{Fails, MemFiles, MemJournal, MemPlace};
 use std::alloc::Global;
 use std::test::Fail;
 use tsdb_base::{
-    Answer, DataType, Encoding, FileNumber, List, Point, Range, SeriesId, Space, Stamp, Value,
+    Answer, DataType, Encoding, FileNumber, List, Point, Range, SeriesId, Space, Stamp, Time, Value,
 };
 use tsdb_frames::Frames;
-use tsdb_map::{Cell, Literal, Row, Schema};
+use tsdb_map::{Cell, Command, Literal, Row, Schema};
 use tsdb_memtable::{Pair, Watermarks};
 use tsdb_outside::{Files, Journal, Place, Slot};
 use tsdb_path::{Name, Path};
 
-fn schema(alloc: Global, path: &[u8], data_type: DataType) -> Result<Schema, Fail> {
-    Ok(Schema {
-        path: Path::read(alloc, path)?,
-        data_type,
-        encoding: Encoding::Plain,
-    })
+/// The path of the series `s` or `t` of `root.g.d`.
+fn path_of(alloc: Global, name: u8) -> Result<Path, Fail> {
+    let text = if name == b's' {
+        b"root.g.d.s"
+    } else {
+        b"root.g.d.t"
+    };
+    Ok(Path::read(alloc, text)?)
 }
 
-fn row(alloc: Global, time: i64, names: &[&[u8]]) -> Result<Row, Fail> {
+/// A row with the value in each of the measurements.
+fn row(alloc: Global, time: Time, value: i64, names: &[u8]) -> Result<Row, Fail> {
     let mut cells = Vec::new(alloc);
     for name in names {
         cells.push(Cell {
-            measurement: Name::read(alloc, *name)?,
-            value: Literal::Int(time),
+            measurement: Name::read(alloc, &[*name])?,
+            value: Literal::Int(value),
         })?;
     }
     Ok(Row {
         time,
         cells: List::of(cells),
+    })
+}
+
+/// The time that a digit is.
+fn time_of(digit: u8) -> Time {
+    i64::from(digit) - 48
+}
+
+/// The command that a word is. `Cs` creates the series `s`, `I1st` writes the value at time 1 into `s` and `t`, `D13s`
+/// deletes the times from 1 to 3 from `s`. Any other word is a freeze, which is no command.
+fn command_of(alloc: Global, word: &[u8], value: i64) -> Result<Option<Command>, Fail> {
+    Ok(match word {
+        [b'C', name] => Some(Command::Create(Schema {
+            path: path_of(alloc, *name)?,
+            data_type: DataType::Int64,
+            encoding: Encoding::Plain,
+        })),
+        [b'I', time, names @ ..] => Some(Command::Insert {
+            device: Path::read(alloc, b"root.g.d")?,
+            row: row(alloc, time_of(*time), value, names)?,
+        }),
+        [b'D', from, to, name] => Some(Command::Delete {
+            series: path_of(alloc, *name)?,
+            range: Range {
+                from: time_of(*from),
+                to: time_of(*to),
+            },
+        }),
+        _ => None,
     })
 }
 
@@ -63,41 +95,19 @@ fn counts<J: Journal, F: Files>(alloc: Global, core: &Core<J, F>) -> Result<Stri
     Ok(format!(in alloc; "{frozen} {sequence} {unsequence} {newest}")?)
 }
 
-/// A step of a test.
-#[derive(Clone, Copy)]
-enum Step {
-    Create(&'static [u8]),
-    /// At a time, into a measurement of `root.g.d`.
-    Insert(i64, &'static [u8]),
-    /// Into `s` and `t` of `root.g.d`.
-    InsertBoth(i64),
-    /// From `s` of `root.g.d`.
-    Delete(i64, i64),
-    Freeze,
-}
-
+/// Executes a word, and gives the answer.
 fn execute<J: Journal, F: Files>(
     alloc: Global,
     core: &mut Core<J, F>,
-    step: &Step,
+    word: &[u8],
 ) -> Result<Answer, Fail> {
-    let device = Path::read(alloc, b"root.g.d")?;
-    let answer = match step {
-        Step::Create(path) => ask_series(core, &schema(alloc, *path, DataType::Int64)?),
-        Step::Insert(time, name) => ask_row(core, &device, &row(alloc, *time, &[*name])?),
-        Step::InsertBoth(time) => ask_row(core, &device, &row(alloc, *time, &[b"s", b"t"])?),
-        Step::Delete(from, to) => Some(core.delete(
-            &Path::read(alloc, b"root.g.d.s")?,
-            &Range {
-                from: *from,
-                to: *to,
-            },
-        )),
-        Step::Freeze => ask_freeze(core),
+    let answer = match command_of(alloc, word, 1)? {
+        Some(command) => ask(core, &command),
+        None => ask_freeze(core),
     };
     match answer {
         Some(answer) => Ok(answer),
-        None => Err(Fail::from("a step that the core may be asked")),
+        None => Err(Fail::from("a word that the core may be asked")),
     }
 }
 
@@ -125,126 +135,83 @@ fn close_core(place: &mut MemPlace, core: Core<MemJournal, MemFiles>, files: Mem
     place.put_down(journal, files);
 }
 
-/// Executes the steps; one that answers Device is executed once more. The answers.
+/// Executes the words; one that answers Device is executed once more. The answers.
 fn answers<J: Journal, F: Files>(
     alloc: Global,
     core: &mut Core<J, F>,
-    steps: &[Step],
+    words: &[u8],
 ) -> Result<String, Fail> {
     let mut text = String::new(alloc);
-    for step in steps {
-        let mut answer = execute(alloc, core, step)?;
+    for word in words.split(|byte| *byte == b' ') {
+        let mut answer = execute(alloc, core, word)?;
         if answer == Answer::Device {
             text.push_str("Device;")?;
-            answer = execute(alloc, core, step)?;
+            answer = execute(alloc, core, word)?;
         }
         text.push_str(format!(in alloc; "{answer:?};")?.as_str())?;
     }
     Ok(text)
 }
 
-/// Executes the steps over a new store with this pair limit and these failing calls. The answers, and what the core has
+/// Executes the words over a new store with this pair limit and these failing calls. The answers, and what the core has
 /// in the end.
-fn serve(alloc: Global, pair_points: u64, fails: &[u64], steps: &[Step]) -> Result<String, Fail> {
+fn serve(alloc: Global, pair_points: u64, fails: &[u64], words: &[u8]) -> Result<String, Fail> {
     let mut place = place_of(alloc, fails)?;
     let (mut core, files) = open_core(alloc, &mut place, pair_points)?;
-    let mut text = answers(alloc, &mut core, steps)?;
+    let mut text = answers(alloc, &mut core, words)?;
     text.push_str(counts(alloc, &core)?.as_str())?;
     close_core(&mut place, core, files);
     Ok(text)
 }
 
-const S: &[u8] = b"root.g.d.s";
-
-const T: &[u8] = b"root.g.d.t";
-
 #[test]
 fn answers_and_counts(rt: HostRuntime) -> Result<(), Fail> {
-    use Step::{Create, Delete, Freeze, Insert, InsertBoth};
     let alloc = rt.alloc();
     // A freeze of an empty pair does nothing, and a refused row does not freeze.
-    let steps = [
-        Freeze,
-        Create(S),
-        Create(S),
-        Insert(1, b"s"),
-        InsertBoth(2),
-        Insert(3, b"t"),
-    ];
-    let wanted = "Done;Done;Exists;Done;NoPath;NoPath;0 1 0 0";
-    assert_eq!(rt; serve(alloc, 1, &[], &steps)?.as_str(), wanted);
-    // A row is whole in one pair, also one that is greater than the limit; the born is that of the last command.
-    let steps = [
-        Create(S),
-        Create(T),
-        InsertBoth(1),
-        Insert(2, b"s"),
-        InsertBoth(2),
-    ];
-    let wanted = "Done;Done;Done;Done;Done;2 0 2 4";
-    assert_eq!(rt; serve(alloc, 1, &[], &steps)?.as_str(), wanted);
-    // A deletion erases from the working pair alone. One that finds nothing is accepted, and draws a stamp.
-    let steps = [
-        Create(S),
-        Insert(5, b"s"),
-        Freeze,
-        Insert(6, b"s"),
-        Delete(0, 9),
-        Delete(9, 0),
-        Insert(7, b"s"),
-        Freeze,
-    ];
-    let wanted = "Done;Done;Done;Done;Done;Done;Done;Done;2 0 0 6";
-    assert_eq!(rt; serve(alloc, 9, &[], &steps)?.as_str(), wanted);
+    let text = serve(alloc, 1, &[], b"F Cs Cs I1s I2st I3t")?;
     assert_eq!(rt;
-        serve(alloc, 9, &[], &[Delete(0, 9)])?.as_str(),
-        "NoPath;0 0 0 0"
+        text.as_str(),
+        "Done;Done;Exists;Done;NoPath;NoPath;0 1 0 0"
     );
+    // A row is whole in one pair, also one that is greater than the limit; the born is that of the last command.
+    let text = serve(alloc, 1, &[], b"Cs Ct I1st I2s I2st")?;
+    assert_eq!(rt; text.as_str(), "Done;Done;Done;Done;Done;2 0 2 4");
+    // A deletion erases from the working pair alone. One that finds nothing is accepted, and draws a stamp.
+    let text = serve(alloc, 9, &[], b"Cs I5s F I6s D09s D90s I7s F")?;
+    assert_eq!(rt;
+        text.as_str(),
+        "Done;Done;Done;Done;Done;Done;Done;Done;2 0 0 6"
+    );
+    let text = serve(alloc, 9, &[], b"D09s")?;
+    assert_eq!(rt; text.as_str(), "NoPath;0 0 0 0");
     Ok(())
 }
 
 // The fifth row is one above the first limit. A point that is replaced counts in the row.
 #[test]
 fn limits_of_a_core(rt: HostRuntime) -> Result<(), Fail> {
-    use Step::{Create, Freeze, Insert};
     let alloc = rt.alloc();
-    let steps = [
-        Create(S),
-        Insert(1, b"s"),
-        Insert(1, b"s"),
-        Insert(2, b"s"),
-        Insert(3, b"s"),
-    ];
-    let wanted = "Done;Done;Done;Done;Done;1 1 0 4";
-    assert_eq!(rt; serve(alloc, 2, &[], &steps)?.as_str(), wanted);
-    let wanted = "Done;Done;Done;Done;Done;0 3 0 0";
-    assert_eq!(rt; serve(alloc, 3, &[], &steps)?.as_str(), wanted);
+    let text = serve(alloc, 2, &[], b"Cs I1s I1s I2s I3s")?;
+    assert_eq!(rt; text.as_str(), "Done;Done;Done;Done;Done;1 1 0 4");
+    let text = serve(alloc, 3, &[], b"Cs I1s I1s I2s I3s")?;
+    assert_eq!(rt; text.as_str(), "Done;Done;Done;Done;Done;0 3 0 0");
     // The watermark is the last sequence time, also after a late row was frozen.
-    let steps = [
-        Create(S),
-        Insert(5, b"s"),
-        Freeze,
-        Insert(4, b"s"),
-        Freeze,
-        Insert(5, b"s"),
-        Insert(6, b"s"),
-    ];
-    let wanted = "Done;Done;Done;Done;Done;Done;Done;2 1 1 3";
-    assert_eq!(rt; serve(alloc, 9, &[], &steps)?.as_str(), wanted);
+    let text = serve(alloc, 9, &[], b"Cs I5s F I4s F I5s I6s")?;
+    assert_eq!(rt; text.as_str(), "Done;Done;Done;Done;Done;Done;Done;2 1 1 3");
     Ok(())
 }
 
-/// Whether a row of one cell and one of two need a flush, after each of the steps.
+/// Whether a row of one cell and one of two need a flush, after each of the words.
 fn flush_needs<J: Journal, F: Files>(
     alloc: Global,
     core: &mut Core<J, F>,
-    steps: &[Step],
+    words: &[u8],
 ) -> Result<String, Fail> {
-    let one = row(alloc, 9, &[b"s"])?;
-    let two = row(alloc, 9, &[b"s", b"t"])?;
+    let one = row(alloc, 9, 1, b"s")?;
+    let two = row(alloc, 9, 1, b"st")?;
     let mut text = String::new(alloc);
-    for step in steps {
-        let _ = execute(alloc, core, step)?;
+    for word in words.split(|byte| *byte == b' ') {
+        let _ = execute(alloc, core, word)?;
         let first = ask_place(core, &one) == Some(true);
         let second = ask_place(core, &two) == Some(true);
         text.push_str(format!(in alloc; "{first} {second};")?.as_str())?;
@@ -254,51 +221,31 @@ fn flush_needs<J: Journal, F: Files>(
 
 #[test]
 fn rows_that_need_a_flush(rt: HostRuntime) -> Result<(), Fail> {
-    use Step::{Create, Freeze, Insert};
     let alloc = rt.alloc();
     let mut place = place_of(alloc, &[])?;
     let (mut core, files) = open_core(alloc, &mut place, 2)?;
-    let steps = [
-        Create(S),
-        Insert(1, b"s"),
-        Freeze,
-        Insert(2, b"s"),
-        Freeze,
-        Insert(3, b"s"),
-        Insert(4, b"s"),
-    ];
+    let text = flush_needs(alloc, &mut core, b"Cs I1s F I2s F I3s I4s")?;
     let wanted =
         "false false;false false;false false;false false;false false;false true;true true;";
-    assert_eq!(rt; flush_needs(alloc, &mut core, &steps)?.as_str(), wanted);
+    assert_eq!(rt; text.as_str(), wanted);
     assert_eq!(rt; ask_freeze(&mut core), None);
     close_core(&mut place, core, files);
     Ok(())
 }
 
 /// Whether the journal fails once, and all else is as without a failure.
-fn fails_once(alloc: Global, call: u64, steps: &[Step]) -> Result<bool, Fail> {
-    let whole = serve(alloc, 2, &[], steps)?;
-    let failed = serve(alloc, 2, &[call], steps)?;
+fn fails_once(alloc: Global, call: u64, words: &[u8]) -> Result<bool, Fail> {
+    let whole = serve(alloc, 2, &[], words)?;
+    let failed = serve(alloc, 2, &[call], words)?;
     let count = failed.as_str().matches("Device;").count();
     Ok(count == 1 && failed.as_str().replace(alloc, "Device;", "")?.as_str() == whole.as_str())
 }
 
 #[test]
 fn journal_that_fails_at_each_call(rt: HostRuntime) -> Result<(), Fail> {
-    use Step::{Create, Delete, Freeze, Insert, InsertBoth};
-    let alloc = rt.alloc();
-    let steps = [
-        Create(S),
-        Create(T),
-        InsertBoth(1),
-        Insert(2, b"s"),
-        Delete(1, 1),
-        Insert(3, b"t"),
-        Freeze,
-    ];
     // Each append is two writes and two syncs.
     for call in 1..33 {
-        assert!(rt; fails_once(alloc, call, &steps)?);
+        assert!(rt; fails_once(rt.alloc(), call, b"Cs Ct I1st I2s D11s I3t F")?);
     }
     Ok(())
 }

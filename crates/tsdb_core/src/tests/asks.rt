@@ -49,7 +49,7 @@ fn is_small(command: &Command) -> bool
 }
 
 /// What the core answers to a series.
-pub fn ask_series<J: Journal, F: Files>(core: &mut Core<J, F>, schema: &Schema) -> Option<Answer> {
+fn ask_series<J: Journal, F: Files>(core: &mut Core<J, F>, schema: &Schema) -> Option<Answer> {
     if !is_schema(schema) {
         return None;
     }
@@ -57,7 +57,7 @@ pub fn ask_series<J: Journal, F: Files>(core: &mut Core<J, F>, schema: &Schema) 
 }
 
 /// What the core answers to a row, where it may be asked: a row that needs a flush is not given to it.
-pub fn ask_row<J: Journal, F: Files>(
+fn ask_row<J: Journal, F: Files>(
     core: &mut Core<J, F>,
     device: &Path,
     row: &Row,

@@ -57,11 +57,13 @@ impl SlowPoint {
 
 /// The value of the last of the points in the space, at the time of the series.
 fn last_at(points: &[SlowPoint], space: Space, series: u8, time: Time) -> Option<i64> {
-    points
-        .iter()
-        .rev()
-        .find(|point| point.is_at(space, series, time))
-        .map(|point| point.value)
+    let mut value = None;
+    for point in points {
+        if point.is_at(space, series, time) {
+            value = Some(point.value);
+        }
+    }
+    value
 }
 
 impl SlowState {
