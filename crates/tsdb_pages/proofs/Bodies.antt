@@ -133,31 +133,31 @@ no_pairing data_type encoding suits bytes times values ts vs short found in_time
 -- times that do not rise
 pub no_rise : (data_type : DataType) (encoding : Encoding) (suits : is_suitable data_type encoding ≡ true) (bytes times values : List ℕ) (ts : List ℤ) (vs : List Value) → length times < 2 ^ 32 → bytes ≡ number32 (length times) ++ times ++ values
     → IsSpelling ts2diff.spelling (FitsSigned w64) times ts → IsSpelling (spelling encoding) (IsValueOf data_type) values vs
-    → (joined : List Point) → times_of joined ≡ ts → values_of joined ≡ vs → (IsRising joined → ⊥) → IsNoBody data_type encoding bytes
-no_rise data_type encoding suits bytes times values ts vs short found in_times in_values joined of_times of_values none = λ points is.
+    → (pairs : List Point) → times_of pairs ≡ ts → values_of pairs ≡ vs → (IsRising pairs → ⊥) → IsNoBody data_type encoding bytes
+no_rise data_type encoding suits bytes times values ts vs short found in_times in_values pairs of_times of_values none = λ points is.
     let same = found_same data_type encoding suits bytes times values ts vs short found in_times in_values points is in
-    none (subst IsRising (points_same points joined (same.0 ∙ sym of_times) (same.1 ∙ sym of_values)) is.points-are.rising)
+    none (subst IsRising (points_same points pairs (same.0 ∙ sym of_times) (same.1 ∙ sym of_values)) is.points-are.rising)
 
--- the times and values that were found, joined, are a page with this body
+-- the points of the times and values that were found are a page with this body
 pub is_body : (data_type : DataType) (encoding : Encoding) (bytes times values : List ℕ) (ts : List ℤ) (vs : List Value) → bytes ≡ number32 (length times) ++ times ++ values
     → IsSpelling ts2diff.spelling (FitsSigned w64) times ts → IsSpelling (spelling encoding) (IsValueOf data_type) values vs
-    → (joined : List Point) → times_of joined ≡ ts → values_of joined ≡ vs → 0 < length ts → IsRising joined → IsBody data_type encoding bytes joined
-is_body data_type encoding bytes times values ts vs found in_times in_values joined of_times of_values some rising =
-    let n : length joined ≡ length ts = sym (length-map joined (λ (p : Point). p.time)) ∙ ap length of_times in
-    let fit : All (FitsSigned w64) (times_of joined) = subst (λ l. All (FitsSigned w64) l) (sym of_times) in_times.list.typed in
-    let typed : All (IsValueOf data_type) (values_of joined) = subst (λ l. All (IsValueOf data_type) l) (sym of_values) in_values.list.typed in
+    → (pairs : List Point) → times_of pairs ≡ ts → values_of pairs ≡ vs → 0 < length ts → IsRising pairs → IsBody data_type encoding bytes pairs
+is_body data_type encoding bytes times values ts vs found in_times in_values pairs of_times of_values some rising =
+    let n : length pairs ≡ length ts = sym (length-map pairs (λ (p : Point). p.time)) ∙ ap length of_times in
+    let fit : All (FitsSigned w64) (times_of pairs) = subst (λ l. All (FitsSigned w64) l) (sym of_times) in_times.list.typed in
+    let typed : All (IsValueOf data_type) (values_of pairs) = subst (λ l. All (IsValueOf data_type) l) (sym of_values) in_values.list.typed in
     record {
       points-are = record {
         some = subst (λ k. 0 < k) (sym n) some;
         few = subst (λ k. k ≤ max_values) (sym n) in_times.list.few;
-        typed = λ k d lt. (All-of_map (IsValueOf data_type) (λ (p : Point). p.value) joined typed k d lt).type-is;
+        typed = λ k d lt. (All-of_map (IsValueOf data_type) (λ (p : Point). p.value) pairs typed k d lt).type-is;
         rising = rising;
       };
-      ranges = λ k d lt. (All-of_map (FitsSigned w64) (λ (p : Point). p.time) joined fit k d lt, (All-of_map (IsValueOf data_type) (λ (p : Point). p.value) joined typed k d lt).fits);
+      ranges = λ k d lt. (All-of_map (FitsSigned w64) (λ (p : Point). p.time) pairs fit k d lt, (All-of_map (IsValueOf data_type) (λ (p : Point). p.value) pairs typed k d lt).fits);
       bytes-are =
-          let times_is : times ≡ times_field joined = in_times.bytes-are ∙ ap ts2diff.spelling (sym of_times) in
-          let values_is : values ≡ spelling encoding (values_of joined) = in_values.bytes-are ∙ ap (spelling encoding) (sym of_values) in
-          found ∙ ap (λ (l : List ℕ). number32 (length l) ++ l ++ values) times_is ∙ ap (λ (l : List ℕ). number32 (length (times_field joined)) ++ times_field joined ++ l) values_is;
+          let times_is : times ≡ times_field pairs = in_times.bytes-are ∙ ap ts2diff.spelling (sym of_times) in
+          let values_is : values ≡ spelling encoding (values_of pairs) = in_values.bytes-are ∙ ap (spelling encoding) (sym of_values) in
+          found ∙ ap (λ (l : List ℕ). number32 (length l) ++ l ++ values) times_is ∙ ap (λ (l : List ℕ). number32 (length (times_field pairs)) ++ times_field pairs ++ l) values_is;
     }
 
 pub one_body : (data_type : DataType) (encoding : Encoding) (suits : is_suitable data_type encoding ≡ true) (bytes : List ℕ) (xs ys : List Point) → IsBody data_type encoding bytes xs → IsBody data_type encoding bytes ys → xs ≡ ys

@@ -10,7 +10,7 @@ use Rattle.std.specs.Ordering.{nat_cmp}
 use Rattle.std.proofs.lemmas.Grind.{flat_map-append}
 use Rattle.std.proofs.lemmas.Int.{ints}
 use Rattle.std.proofs.lemmas.List.{append-nil, get_or_append_left, get_or-append-add, get_or_read, length-append, take-append-drop, take_more}
-use Rattle.std.proofs.lemmas.List.Elements.{Contains-append_left, Contains-append_right, Contains-get_or}
+use Rattle.std.proofs.lemmas.List.Elements.{All-contains, Contains-append_left, Contains-append_right, Contains-get_or}
 use Rattle.tsdb_base.specs.declared.point.Point.{Point}
 use Rattle.tsdb_pages.specs.declared.tree.Chunk.{Chunk}
 use Rattle.tsdb_pages.specs.declared.tree.Group.{Group}
@@ -78,10 +78,27 @@ pairs_across R xs ys x y pairs (i, l, at_x) (j, m, at_y) =
     let second : get_or (xs ++ ys) (length xs + j) x ≡ y = get_or-append-add xs ys j x ∙ sym (get_or_read ys j y m (sym at_y) x) in
     subst (λ b. R x b) second (subst (λ a. R a (get_or (xs ++ ys) (length xs + j) x)) first step)
 
+pairs_one : {A : Type 0} (R : A → A → Type 0) (x : A) → AllPairs R (x ∷ [])
+pairs_one R x i j d lt within = absurd (omega arith)
+
+pub pairs_push : {A : Type 0} (R : A → A → Type 0) (xs : List A) (y : A) → AllPairs R xs → All (λ x. R x y) xs → AllPairs R (xs ++ y ∷ [])
+pairs_push R xs y pairs before = pairs_append R xs (y ∷ []) pairs (pairs_one R y) (λ x z in_xs in_y. subst (R x) (sym (only y z in_y)) (All-contains (λ x. R x y) xs x before in_xs))
+  where
+    only : {A : Type 0} (y z : A) → Contains (y ∷ []) z → z ≡ y
+    only y z (zero, lt, at) = sym at
+    only y z (suc k, lt, at) = absurd (omega arith)
+
+-- of pairs in two lists, those in the second
+pub pairs_behind : {A : Type 0} (R : A → A → Type 0) (xs ys : List A) → AllPairs R (xs ++ ys) → AllPairs R ys
+pairs_behind R xs ys pairs i j d lt within =
+    let n : length (xs ++ ys) ≡ length xs + length ys = length-append xs ys in
+    let step = pairs (length xs + i) (length xs + j) d (omega (arith, lt)) (omega (arith, within, n)) in
+    subst (λ b. R (get_or ys i d) b) (get_or-append-add xs ys j d) (subst (λ a. R a (get_or (xs ++ ys) (length xs + j) d)) (get_or-append-add xs ys i d) step)
+
 -- ---- times that rise through pages
 
 -- no point is later than the last
-at_most_last : (xs : List Point) (last x : Point) → last ≡ get_or xs (length xs - 1) last → IsRising xs → Contains xs x → x.time ≤ℤ last.time
+pub at_most_last : (xs : List Point) (last x : Point) → last ≡ get_or xs (length xs - 1) last → IsRising xs → Contains xs x → x.time ≤ℤ last.time
 at_most_last xs last x is rising (k, l, at) =
     let end : get_or xs (length xs - 1) x ≡ last = sym (get_or_read xs (length xs - 1) last (omega arith) is x) in
     ⊎_elim
@@ -98,7 +115,7 @@ at_most_last xs last x is rising (k, l, at) =
     (cases_lt k (length xs - 1))
 
 -- no point is earlier than the first
-at_least_first : (xs : List Point) (first x : Point) → first ≡ get_or xs 0 first → IsRising xs → Contains xs x → first.time ≤ℤ x.time
+pub at_least_first : (xs : List Point) (first x : Point) → first ≡ get_or xs 0 first → IsRising xs → Contains xs x → first.time ≤ℤ x.time
 at_least_first xs first x is rising (k, l, at) =
     let start : get_or xs 0 x ≡ first = sym (get_or_read xs 0 first (omega arith) is x) in
     ⊎_elim

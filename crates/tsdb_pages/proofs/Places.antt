@@ -15,6 +15,7 @@ use Rattle.tsdb_pages.specs.declared.tree.Group.{Group}
 use Rattle.tsdb_pages.specs.declared.tree.Tree.{Tree}
 use Rattle.tsdb_pages.specs.File.{AreEntries, AreEntriesIn, AreEntriesOf, ArePageEntries, IsEntry, IsFile, chunk_field, chunk_head, data_field, group_field, group_head, head, magic, page_field}
 use Rattle.tsdb_pages.specs.Places.{HasEnds, HasPlaces, IsPageAt, StandsAt}
+use Rattle.tsdb_pages.proofs.Entries.{count_pages}
 use Rattle.tsdb_pages.proofs.OneFile.{all_of}
 
 -- ---- a part at a place
@@ -72,12 +73,6 @@ pages_stand encoding place (p ∷ ps) (e ∷ es) bytes say s zero page said lt =
 pages_stand encoding place (p ∷ ps) (e ∷ es) bytes say s (suc k) page said lt =
     pages_stand encoding (place + length (page_field encoding p)) ps es bytes say.1 (stands_second place (page_field encoding p) (flat_map (page_field encoding) ps) bytes s) k page said (omega (arith, lt))
 
-pub pages_counted : (encoding : Encoding) (place : ℕ) (pages : List Page) (entries : List PageEntry) → ArePageEntries encoding place pages entries → length entries ≡ length pages
-pages_counted encoding place [] [] say = refl
-pages_counted encoding place [] (e ∷ es) say = absurd say
-pages_counted encoding place (p ∷ ps) [] say = absurd say
-pages_counted encoding place (p ∷ ps) (e ∷ es) say = ap suc (pages_counted encoding (place + length (page_field encoding p)) ps es say.1)
-
 -- ---- chunks and groups
 
 chunk_stands : (tree : Tree) (group : Group) (chunk : Chunk) (place : ℕ) (entry : IndexEntry) (bytes : List ℕ) → Contains tree.groups.items group → Contains group.chunks.items chunk
@@ -93,7 +88,7 @@ chunk_stands tree group chunk place entry bytes in_tree in_group say s =
       says = subst (λ (n : ℕ). IsEntry group.device n chunk entry) at say;
       stands = subst (λ (n : ℕ). StandsAt n (chunk_field chunk) bytes) at s;
       head = subst (λ (n : ℕ). StandsAt n (chunk_head chunk) bytes) at head_stands;
-      count = pages_counted chunk.encoding (place + length (chunk_head chunk)) chunk.pages.items entry.pages.items say.pages;
+      count = count_pages chunk.encoding (place + length (chunk_head chunk)) chunk.pages.items entry.pages.items say.pages;
       pages = pages_stand chunk.encoding (place + length (chunk_head chunk)) chunk.pages.items entry.pages.items bytes say.pages
           (stands_second place (chunk_head chunk) (flat_map (page_field chunk.encoding) chunk.pages.items) bytes s);
     }

@@ -88,7 +88,7 @@ first_gives read points d y some is = same (sym (ap (option_map read) (slice_get
     same : Some (read (get_or points 0 d)) ≡ Some y → read (get_or points 0 d) ≡ y
     same e = cc
 
-last_gives : {B : Type 0} (read : Point → B) (points : List Point) (d : Point) (y : B) → 0 < length points → option_map read (slice_get points (length points - 1)) ≡ Some y → read (get_or points (length points - 1) d) ≡ y
+pub last_gives : {B : Type 0} (read : Point → B) (points : List Point) (d : Point) (y : B) → 0 < length points → option_map read (slice_get points (length points - 1)) ≡ Some y → read (get_or points (length points - 1) d) ≡ y
 last_gives read points d y some is = same (sym (ap (option_map read) (slice_get-get_or points (length points - 1) d (omega (arith, some)))) ∙ is)
   where
     same : Some (read (get_or points (length points - 1) d)) ≡ Some y → read (get_or points (length points - 1) d) ≡ y

@@ -30,7 +30,7 @@ use Rattle.tsdb_pages.specs.File.{AreEntries, AreEntriesIn, AreEntriesOf, ArePag
 use Rattle.tsdb_pages.proofs.Files.{groups_of_tree, IsWholeChunk, IsWholeGroup, of_each_page}
 use Rattle.tsdb_pages.proofs.OneFile.{all_of, entries_like}
 use Rattle.tsdb_pages.proofs.Order.{pairs_append}
-use Rattle.tsdb_pages.proofs.Places.{pages_counted}
+use Rattle.tsdb_pages.proofs.Entries.{count_pages}
 use Rattle.tsdb_pages.proofs.Statistics.{stats_of_type}
 
 -- ---- pages
@@ -53,7 +53,7 @@ pages_good t encoding place (p ∷ ps) (s ∷ ss) points ranges small say =
 
 -- ---- the points of a chunk
 
-points_few : (t : DataType) (pages : List Page) → AllByRecursion (λ page. ArePoints t page.points.items) pages → length (points_of pages) ≤ 1000 * length pages
+pub points_few : (t : DataType) (pages : List Page) → AllByRecursion (λ page. ArePoints t page.points.items) pages → length (points_of pages) ≤ 1000 * length pages
 points_few t [] are = omega arith
 points_few t (p ∷ ps) are =
     let n = length-append p.points.items (points_of ps) in
@@ -75,7 +75,7 @@ entry_good : (device : List ℕ) (place : ℕ) (chunk : Chunk) (entry : IndexEnt
 entry_good device place chunk entry is_path is small say =
     let t : chunk.data_type ≡ entry.data_type = sym say.type-is in
     let each = recursion_from_All (λ (page : Page). ArePoints chunk.data_type page.points.items) chunk.pages.items is.0.pages in
-    let count = pages_counted chunk.encoding (place + length (chunk_head chunk)) chunk.pages.items entry.pages.items say.pages in
+    let count = count_pages chunk.encoding (place + length (chunk_head chunk)) chunk.pages.items entry.pages.items say.pages in
     let few = is.0.few in
     let many = points_few chunk.data_type chunk.pages.items each in
     let n = length-append (chunk_head chunk) (flat_map (page_field chunk.encoding) chunk.pages.items) in

@@ -1,6 +1,8 @@
 -- The bytes of the file of a tree.
 use Rattle.std.specs.Prelude.{◌≡◌, ℕ, ◌+◌, List, [], ◌∷◌, ◌++◌, length, codes}
 use Rattle.std.specs.List.{flat_map}
+use Rattle.tsdb_base.specs.declared.point.Point.{Point}
+use Rattle.tsdb_base.specs.declared.value.DataType.{DataType}
 use Rattle.tsdb_base.specs.declared.value.Encoding.{Encoding}
 use Rattle.tsdb_base.specs.Fields.{number32, number64, type_field, encoding_field}
 use Rattle.tsdb_base.specs.Plain.{plain_text}
@@ -23,21 +25,34 @@ magic = codes "TsFile"
 abbrev pub head : List ℕ
 head = magic ++ 81 ∷ []
 
--- a page: 50, and its body behind the body's length
-abbrev pub page_field : Encoding → Page → List ℕ
-page_field encoding page = 80 ∷ number32 (length (body encoding page.points.items)) ++ body encoding page.points.items
+-- a page of these points: 50, and its body behind the body's length
+abbrev pub page_bytes : Encoding → List Point → List ℕ
+page_bytes encoding points = 80 ∷ number32 (length (body encoding points)) ++ body encoding points
 
--- a chunk up to its pages: 43, its measurement, type and encoding
+-- a page
+abbrev pub page_field : Encoding → Page → List ℕ
+page_field encoding page = page_bytes encoding page.points.items
+
+-- a chunk of this measurement, type and encoding up to its pages: 43, and the three
+abbrev pub chunk_start : List ℕ → DataType → Encoding → List ℕ
+chunk_start measurement data_type encoding =
+    67 ∷ plain_text measurement ++ type_field data_type ++ encoding_field encoding
+
+-- a chunk up to its pages
 abbrev pub chunk_head : Chunk → List ℕ
-chunk_head chunk = 67 ∷ plain_text chunk.measurement ++ type_field chunk.data_type ++ encoding_field chunk.encoding
+chunk_head chunk = chunk_start chunk.measurement chunk.data_type chunk.encoding
 
 -- a chunk
 abbrev pub chunk_field : Chunk → List ℕ
 chunk_field chunk = chunk_head chunk ++ flat_map (page_field chunk.encoding) chunk.pages.items
 
--- a group up to its chunks: 47 and its device
+-- a group of this device up to its chunks: 47 and the device
+abbrev pub group_start : List ℕ → List ℕ
+group_start device = 71 ∷ plain_text device
+
+-- a group up to its chunks
 abbrev pub group_head : Group → List ℕ
-group_head group = 71 ∷ plain_text group.device
+group_head group = group_start group.device
 
 -- a group
 abbrev pub group_field : Group → List ℕ
