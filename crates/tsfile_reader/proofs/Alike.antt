@@ -1,7 +1,7 @@
 -- Two lists of entries, which say the same up to some place.
-use Rattle.std.proofs.Common.{◌≡◌, ℕ, zero, suc, ◌+◌, ◌<◌, ◌≤◌, List, [], ◌∷◌, ◌++◌, length, take, drop, get_or, refl, sym, ap, subst, ◌∙◌, arith}
+use Rattle.std.proofs.Common.{◌≡◌, ℕ, zero, suc, ◌+◌, ◌≤◌, List, [], ◌∷◌, ◌++◌, length, take, drop, get_or, refl, sym, ap, ◌∙◌, arith}
 use Rattle.std.specs.Prelude.{min}
-use Rattle.std.proofs.lemmas.List.{append-nil, append_cancel_left, length-append, length-drop, length-map, length-take-le, map-append, nil_from_length, take-append-drop}
+use Rattle.std.proofs.lemmas.List.{append_cancel_left, length-append, length-drop, length-map, length-take-le, map-append, take-append-drop}
 use Rattle.tsdb_base.specs.declared.point.Stats.{Stats}
 use Rattle.tsdb_base.specs.declared.value.DataType.{DataType}
 use Rattle.tsdb_base.specs.declared.value.Encoding.{Encoding}
@@ -20,27 +20,6 @@ pub record SameUpTo (es ss : List IndexEntry) (i : ℕ) : Type 0 where
 
 pub same_first : (es ss : List IndexEntry) → SameUpTo es ss 0
 same_first es ss = record { low_es = omega arith; low_ss = omega arith; same = refl }
-
-more_same : (es ss : List IndexEntry) (i : ℕ) (x y : IndexEntry) → i < length es → i < length ss → x ≡ get_or es i x → y ≡ get_or ss i y → entry_content x ≡ entry_content y → content (take i es) ≡ content (take i ss) → content (take (suc i) es) ≡ content (take (suc i) ss)
-more_same [] ss i x y low_e low_s at_x at_y one same = absurd (omega (arith, low_e))
-more_same (e ∷ es) [] i x y low_e low_s at_x at_y one same = absurd (omega (arith, low_s))
-more_same (e ∷ es) (s ∷ ss) zero x y low_e low_s at_x at_y one same =
-    let first : entry_content e ≡ entry_content s = ap entry_content (sym at_x) ∙ one ∙ ap entry_content at_y in
-    cc
-more_same (e ∷ es) (s ∷ ss) (suc i) x y low_e low_s at_x at_y one same =
-    let first : entry_content e ≡ entry_content s = cc in
-    let rest : content (take i es) ≡ content (take i ss) = cc in
-    let further : content (take (suc i) es) ≡ content (take (suc i) ss) = more_same es ss i x y (omega (arith, low_e)) (omega (arith, low_s)) at_x at_y one rest in
-    cc
-
-pub same_more : (es ss : List IndexEntry) (i : ℕ) (x y : IndexEntry) → i < length es → i < length ss → x ≡ get_or es i x → y ≡ get_or ss i y → entry_content x ≡ entry_content y → SameUpTo es ss i → SameUpTo es ss (i + 1)
-same_more es ss i x y low_e low_s at_x at_y one so_far =
-    let next : i + 1 ≡ suc i = omega arith in
-    record {
-      low_es = omega (arith, low_e);
-      low_ss = omega (arith, low_s);
-      same = subst (λ (n : ℕ). content (take n es) ≡ content (take n ss)) (sym next) (more_same es ss i x y low_e low_s at_x at_y one so_far.same);
-    }
 
 first_of_drop : (es : List IndexEntry) (i : ℕ) (x d : IndexEntry) (xs : List IndexEntry) → drop i es ≡ x ∷ xs → get_or es i d ≡ x
 first_of_drop [] zero x d xs is = absurd cc
@@ -79,22 +58,6 @@ alike_all es ss i so_far end =
     let p = length-drop i es in
     let q = length-drop i ss in
     absurd (omega (arith, n, m, p, q, end)))
-
-none_left : (es front rest : List IndexEntry) → es ≡ front ++ rest → length front ≡ length es → es ≡ front
-none_left es front rest is size =
-    let n = ap length is in
-    let m = length-append front rest in
-    let nil : rest ≡ [] = nil_from_length rest (omega (arith, n, m, size)) in
-    is ∙ ap (λ (l : List IndexEntry). front ++ l) nil ∙ append-nil front
-
--- both lists end there
-pub all_same : (es ss : List IndexEntry) (i : ℕ) → AreAlike es ss i → i ≡ length es → i ≡ length ss → content es ≡ content ss
-all_same es ss i alike end_e end_s =
-    let number = alike.number in
-    let sizes : length alike.same ≡ length alike.same_said = sym (length-map alike.same entry_content) ∙ ap length alike.alike ∙ length-map alike.same_said entry_content in
-    let es_are = none_left es alike.same alike.others alike.entries-are (number ∙ end_e) in
-    let ss_are = none_left ss alike.same_said alike.others_said alike.said-are (sym sizes ∙ number ∙ end_s) in
-    ap content es_are ∙ alike.alike ∙ ap content (sym ss_are)
 
 parts_say : (es front rest : List IndexEntry) → es ≡ front ++ rest → content es ≡ content front ++ content rest
 parts_say es front rest is = ap content is ∙ map-append entry_content front rest

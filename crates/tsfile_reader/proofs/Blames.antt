@@ -32,7 +32,7 @@ use Rattle.tsfile_reader.proofs.OneBlame.{none_bad, one_place}
 use Rattle.tsfile_reader.proofs.OneOutline.{good_outline, outline_of_tree, rises, root_same, tail_same, tree_not_bad}
 use Rattle.tsfile_reader.proofs.Outlines.{length_between}
 use Rattle.tsfile_reader.proofs.Rows.{IsFullGroup, after_groups, good_groups, groups_end, groups_text}
-use Rattle.tsfile_reader.proofs.SameEntries.{groups_like}
+use Rattle.tsdb_pages.proofs.Content.{same_groups_entries}
 
 -- ---- one bad part of the outline
 
@@ -145,7 +145,7 @@ said_same bytes s t xs ys good_s good_t is_s is_t in_s in_t =
     let end : EndsGroups (73 ∷ []) = ([], refl) in
     let both : flat_map group_field s.groups.items ++ 73 ∷ [] ≡ flat_map group_field t.groups.items ++ 73 ∷ [] = ap (λ (l : List ℕ). l ++ 73 ∷ []) (sym is_s ∙ is_t) in
     let same = (marked_same group_field group_content IsWholeGroup 71 EndsGroups groups_marked s.groups.items t.groups.items (73 ∷ []) (73 ∷ []) whole_s whole_t end end both).0 in
-    let moved : AreEntriesIn t xs = record { by_group = in_s.by_group; all = in_s.all; say = groups_like (length head) s.groups.items t.groups.items in_s.by_group same in_s.say } in
+    let moved : AreEntriesIn t xs = record { by_group = in_s.by_group; all = in_s.all; say = same_groups_entries (length head) s.groups.items t.groups.items in_s.by_group same in_s.say } in
     same_entries t xs ys moved in_t
 
 -- ---- one wrong leaf

@@ -1,7 +1,6 @@
 -- The exits of checking a file.
 use Rattle.std.proofs.Common.{◌≡◌, ℕ, zero, suc, ◌+◌, ◌-◌, ◌*◌, ◌/◌, ◌<◌, ◌≤◌, ◌^◌, List, [], ◌∷◌, ◌++◌, length, drop, Err, refl, sym, ap, subst, ◌∙◌, arith}
 use Rattle.std.specs.Prelude.{Option, None, Some, IfSome, IfOk, min}
-use Rattle.std.specs.Option.{ForSome}
 use Rattle.std.specs.List.{flat_map}
 use Rattle.std.proofs.lemmas.List.{drop_at, length-append}
 use Rattle.tsdb_base.specs.FieldLaws.{number32-prefix_free}
@@ -122,20 +121,6 @@ wrong_in b root place ps es said tree number at has groups wrong place_of =
 pub is_limited : (o : Option (List ℕ)) (ends : Ends) (place : ℕ) (ps : List Pointer) (index : Index) → IfSome o (λ b. IsOutlineIn b ends place ps index) → IfSome o (λ b. length b < 2 ^ 63)
 is_limited None ends place ps index has = tt
 is_limited (Some b) ends place ps index has = let size = has.0 in let limit = ends.limit in omega (arith, size, limit)
-
--- what stands between the head and the first leaf can be read
-pub data_inside : (o : Option (List ℕ)) (ends : Ends) (place : ℕ) (ps : List Pointer) (index : Index) → IfSome o (λ b. IsOutlineIn b ends place ps index) → ForSome o (λ b. 7 + (place - 7) ≤ length b)
-data_inside None ends place ps index has = λ b is. absurd cc
-data_inside (Some b) ends place ps index has = λ c is.
-    let r = rises b ends.root place ps has.1.points in
-    let low = r.low in
-    let high = r.high in
-    let behind = has.1.points.behind-head in
-    let n : length b ≡ length c = ap length (inside b c is) in
-    omega (arith, low, high, behind, n)
-  where
-    inside : (b c : List ℕ) → Some b ≡ Some c → b ≡ c
-    inside b c e = cc
 
 -- ---- the exits
 

@@ -1,10 +1,9 @@
 -- Reading chunks one behind another, and groups: what is read so far, and where reading stops.
-use Rattle.std.proofs.Common.{◌≡◌, ℕ, zero, suc, ◌+◌, ◌-◌, ◌≤◌, Vec, Global, List, [], ◌∷◌, ◌++◌, length, get_or, refl, sym, ap, subst, ◌∙◌, append_assoc, arith}
-use Rattle.std.specs.Prelude.{AllPairs, Contains}
+use Rattle.std.proofs.Common.{◌≡◌, ℕ, suc, ◌+◌, ◌-◌, ◌≤◌, Vec, Global, List, [], ◌∷◌, ◌++◌, length, get_or, refl, sym, ap, subst, ◌∙◌, append_assoc, arith}
+use Rattle.std.specs.Prelude.{AllPairs}
 use Rattle.std.specs.List.{flat_map, AllByRecursion}
 use Rattle.std.proofs.lemmas.List.{append-nil, length-append}
-use Rattle.std.proofs.lemmas.List.Concat.{flat_map-append}
-use Rattle.std.proofs.lemmas.List.Elements.{All-contains, All-from_recursion}
+use Rattle.std.proofs.lemmas.List.Elements.{All-from_recursion}
 use Rattle.tsdb_base.specs.declared.point.Point.{Point}
 use Rattle.tsdb_base.specs.declared.value.DataType.{DataType}
 use Rattle.tsdb_base.specs.declared.value.Encoding.{Encoding}
@@ -17,12 +16,13 @@ use Rattle.tsdb_pages.specs.declared.tree.Chunk.{Chunk}
 use Rattle.tsdb_pages.specs.File.{ArePageEntries, AreEntries, IsEntry, chunk_field, chunk_head, page_field}
 use Rattle.tsdb_pages.specs.Trees.{HasParts, IsBefore, IsChunk}
 use Rattle.tsdb_pages.proofs.Files.{IsWholeChunk}
-use Rattle.tsdb_pages.proofs.Order.{names_rise, pairs_append}
+use Rattle.tsdb_pages.proofs.Order.{names_rise, pairs_push}
 use Rattle.tsfile_reader.specs.declared.page.ChunkHead.{ChunkHead}
 use Rattle.tsfile_reader.specs.declared.parts.Pages.{Pages}
 use Rattle.tsfile_reader.specs.Parts.{IsBehindChunk, MayFollow, Part, part_field, parts_field}
 use Rattle.tsfile_reader.specs.Steps.{BeginsWithMark, IsChunkHead, IsLaterHead, ReadsChunk, ReadsChunks, ReadsPages, StopsAt, StopsBehind, chunk_part}
-use Rattle.tsfile_reader.proofs.Later.{entries_count, head_bytes}
+use Rattle.tsdb_pages.proofs.Entries.{chunks_push, count_pages, flat_push}
+use Rattle.tsfile_reader.proofs.Later.{head_bytes}
 use Rattle.tsfile_reader.proofs.PageLoop.{other_part}
 use Rattle.tsfile_reader.proofs.Rows.{after_chunks, chunks_text, good_chunks, last_of, last_same}
 
@@ -59,7 +59,7 @@ pub chunk_read : (device : List ℕ) (head : ChunkHead) (place : ℕ) (left behi
     → entry ≡ record { device = device; measurement = head.measurement; data_type = head.data_type; encoding = head.encoding; place = place; stats = found.stats; pages = found.entries } → ReadsChunk device head place left behind entry
 chunk_read device head place left behind found entry is at pages entry_is =
     let r = pages.read in
-    let count = entries_count head.encoding left.at pages.pages found.entries.items r.say in
+    let count = count_pages head.encoding left.at pages.pages found.entries.items r.say in
     let chunk : Chunk = record { measurement = head.measurement; data_type = head.data_type; encoding = head.encoding; pages = vec_like found.entries pages.pages (omega (arith, count)) } in
     record {
       chunk = chunk;
@@ -95,29 +95,14 @@ all_below name (a ∷ b ∷ bs) last x pairs less =
     (names_rise (λ n. n) (name a) (name b) x step rest.0, rest)
 
 pub pairs_more : {A : Type 0} (R : A → A → Type 0) (xs : List A) (y : A) → AllPairs R xs → AllByRecursion (λ a. R a y) xs → AllPairs R (xs ++ y ∷ [])
-pairs_more R xs y pairs all =
-    pairs_append R xs (y ∷ []) pairs (λ i j d l m. absurd (omega (arith, l, m)))
-    (λ a b in_xs in_y. subst (λ c. R a c) (lone y b in_y) (All-contains (λ c. R c y) xs a (All-from_recursion (λ c. R c y) xs all) in_xs))
-  where
-    lone : {A : Type 0} (y b : A) → Contains (y ∷ []) b → y ≡ b
-    lone y b (zero, low, at) = at
-    lone y b (suc k, low, at) = absurd (omega (arith, low))
+pairs_more R xs y pairs all = pairs_push R xs y pairs (All-from_recursion (λ c. R c y) xs all)
 
 pub recursion_more : {A : Type 0} (P : A → Type 0) (xs : List A) (y : A) → AllByRecursion P xs → P y → AllByRecursion P (xs ++ y ∷ [])
 recursion_more P [] y all is = (is, tt)
 recursion_more P (x ∷ xs) y all is = (all.0, recursion_more P xs y all.1 is)
 
 chunks_more_text : (chunks : List Chunk) (c : Chunk) → flat_map chunk_field (chunks ++ c ∷ []) ≡ flat_map chunk_field chunks ++ chunk_field c
-chunks_more_text chunks c = flat_map-append chunk_field chunks (c ∷ []) ∙ ap (λ (l : List ℕ). flat_map chunk_field chunks ++ l) (append-nil (chunk_field c))
-
-pub entries_further : (device : List ℕ) (place : ℕ) (chunks : List Chunk) (entries : List IndexEntry) (c : Chunk) (entry : IndexEntry) → AreEntries device place chunks entries → IsEntry device (place + length (flat_map chunk_field chunks)) c entry
-    → AreEntries device place (chunks ++ c ∷ []) (entries ++ entry ∷ [])
-entries_further device place [] [] c entry are is = (subst (λ (n : ℕ). IsEntry device n c entry) (omega arith) is, tt)
-entries_further device place [] (x ∷ xs) c entry are is = absurd are
-entries_further device place (d ∷ ds) [] c entry are is = absurd are
-entries_further device place (d ∷ ds) (x ∷ xs) c entry are is =
-    let n : place + length (flat_map chunk_field (d ∷ ds)) ≡ place + length (chunk_field d) + length (flat_map chunk_field ds) = let m = length-append (chunk_field d) (flat_map chunk_field ds) in omega (arith, m) in
-    (are.0, entries_further device (place + length (chunk_field d)) ds xs c entry are.1 (subst (λ (k : ℕ). IsEntry device k c entry) n is))
+chunks_more_text chunks c = flat_push chunk_field chunks c
 
 -- these chunks are read, and that is left
 pub record ChunksSoFar (device : List ℕ) (rest left : Rest) (entries : List IndexEntry) : Type 0 where
@@ -173,7 +158,7 @@ next_chunk_read device rest left middle behind head entry old new so_far is head
       final = entry;
       entries-are = is;
       final-is = r.say.measurement-is;
-      say = subst (λ (l : List IndexEntry). AreEntries device rest.at ((so_far.front ++ so_far.last ∷ []) ++ r.chunk ∷ []) l) (sym is) (entries_further device rest.at chunks old r.chunk entry so_far.say (subst (λ (n : ℕ). IsEntry device n r.chunk entry) place r.say));
+      say = subst (λ (l : List IndexEntry). AreEntries device rest.at ((so_far.front ++ so_far.last ∷ []) ++ r.chunk ∷ []) l) (sym is) (chunks_push device rest.at chunks old r.chunk entry so_far.say (subst (λ (n : ℕ). IsEntry device n r.chunk entry) place r.say));
       takes = takes_same rest behind (flat_map chunk_field (so_far.front ++ so_far.last ∷ []) ++ chunk_field r.chunk) (flat_map chunk_field ((so_far.front ++ so_far.last ∷ []) ++ r.chunk ∷ [])) (sym (chunks_more_text chunks r.chunk))
           (takes_both rest left behind (flat_map chunk_field chunks) (chunk_field r.chunk) so_far.takes (chunk_taken r.chunk head left middle behind r.measurement-is r.type-is r.encoding-is head_is r.takes));
       no_page = r.ends;

@@ -1,9 +1,8 @@
 -- Reading groups one behind another: what is read so far, and where reading stops.
-use Rattle.std.proofs.Common.{◌≡◌, ℕ, suc, ◌+◌, ◌≤◌, Vec, Global, List, [], ◌∷◌, ◌++◌, length, refl, sym, ap, subst, ◌∙◌, arith}
+use Rattle.std.proofs.Common.{◌≡◌, ℕ, ◌+◌, ◌≤◌, Vec, Global, List, [], ◌∷◌, ◌++◌, length, refl, sym, ap, subst, ◌∙◌, arith}
 use Rattle.std.specs.Prelude.{All, AllPairs}
 use Rattle.std.specs.List.{flat_map, AllByRecursion}
 use Rattle.std.proofs.lemmas.List.{append-nil, length-append}
-use Rattle.std.proofs.lemmas.List.Concat.{flat_map-append}
 use Rattle.std.proofs.lemmas.List.Elements.{All-append, All-from_recursion, All-nil, recursion_from_All}
 use Rattle.tsdb_base.specs.declared.point.Point.{Point}
 use Rattle.tsdb_base.specs.declared.value.DataType.{DataType}
@@ -20,19 +19,13 @@ use Rattle.tsdb_pages.specs.declared.tree.Tree.{Tree}
 use Rattle.tsdb_pages.specs.File.{AreEntries, AreEntriesIn, AreEntriesOf, chunk_field, group_field, group_head, head}
 use Rattle.tsdb_pages.specs.Trees.{HasParts, IsBefore, IsChunk, IsGroup, chunks_of}
 use Rattle.tsdb_pages.proofs.Files.{IsWholeChunk}
+use Rattle.tsdb_pages.proofs.Entries.{count_all, count_chunks, flat_push, groups_push}
 use Rattle.tsfile_reader.specs.Blame.{HasGroups, IsFirstBadPart}
 use Rattle.tsfile_reader.specs.Parts.{IsBehindGroup, MayFollow, Part, part_field}
 use Rattle.tsfile_reader.specs.Steps.{BeginsWithMark, ReadsChunks, StopsAt, StopsBehind}
 use Rattle.tsfile_reader.proofs.ChunkLoop.{all_below, pairs_more, recursion_more, stop_behind, vec_like}
 use Rattle.tsfile_reader.proofs.Later.{group_bytes}
 use Rattle.tsfile_reader.proofs.Rows.{IsFullGroup, after_groups, good_groups, groups_text, last_group_of, last_same}
-
--- the entries of chunks are as many
-pub chunk_count : (device : List ℕ) (place : ℕ) (chunks : List Chunk) (entries : List IndexEntry) → AreEntries device place chunks entries → length entries ≡ length chunks
-chunk_count device place [] [] are = refl
-chunk_count device place [] (x ∷ xs) are = absurd are
-chunk_count device place (c ∷ cs) [] are = absurd are
-chunk_count device place (c ∷ cs) (x ∷ xs) are = ap suc (chunk_count device (place + length (chunk_field c)) cs xs are.1)
 
 abbrev pub all_of : List (List IndexEntry) → List IndexEntry
 all_of lists = flat_map (λ (list : List IndexEntry). list) lists
@@ -63,7 +56,7 @@ record ReadsGroup (device : List ℕ) (left behind : Rest) (entries : List Index
 
 group_of : (device : List ℕ) (left middle behind : Rest) (entries : Vec IndexEntry Global) → IsPath device → Takes left (group_bytes device) middle → ReadsChunks device middle behind entries.items → ReadsGroup device left behind entries.items
 group_of device left middle behind entries is head r =
-    let count = chunk_count device middle.at r.chunks entries.items r.read.say in
+    let count = count_chunks device middle.at r.chunks entries.items r.read.say in
     let group : Group = record { device = device; chunks = vec_like entries r.chunks (omega (arith, count)) } in
     record {
       group = group;
@@ -100,15 +93,6 @@ first_group rest middle left device entries is head r =
       no_chunk = g.no_chunk;
     }
 
-groups_more : (place : ℕ) (groups : List Group) (lists : List (List IndexEntry)) (g : Group) (entries : List IndexEntry) → AreEntriesOf place groups lists → AreEntries g.device (place + length (flat_map group_field groups) + length (group_head g)) g.chunks.items entries
-    → AreEntriesOf place (groups ++ g ∷ []) (lists ++ entries ∷ [])
-groups_more place [] [] g entries are is = (subst (λ (n : ℕ). AreEntries g.device (n + length (group_head g)) g.chunks.items entries) (omega arith) is, tt)
-groups_more place [] (x ∷ xs) g entries are is = absurd are
-groups_more place (h ∷ hs) [] g entries are is = absurd are
-groups_more place (h ∷ hs) (x ∷ xs) g entries are is =
-    let n : place + length (flat_map group_field (h ∷ hs)) ≡ place + length (group_field h) + length (flat_map group_field hs) = let m = length-append (group_field h) (flat_map group_field hs) in omega (arith, m) in
-    (are.0, groups_more (place + length (group_field h)) hs xs g entries are.1 (subst (λ (k : ℕ). AreEntries g.device (k + length (group_head g)) g.chunks.items entries) n is))
-
 pub next_group : (rest left middle behind : Rest) (device last : List ℕ) (old new : List IndexEntry) (more : Vec IndexEntry Global) → GroupsSoFar rest left old last → IsPath device → IsBefore last device → Takes left (group_bytes device) middle → ReadsChunks device middle behind more.items
     → new ≡ old ++ more.items → GroupsSoFar rest behind new device
 next_group rest left middle behind device last old new more so_far is less head r new_is =
@@ -123,10 +107,10 @@ next_group rest left middle behind device last old new more so_far is less head 
       full = recursion_more IsFullGroup groups g.group so_far.full g.full;
       rising = pairs_more (λ (a b : Group). IsBefore a.device b.device) groups g.group so_far.rising (all_below (λ (c : Group). c.device) so_far.front so_far.final g.group.device so_far.rising above);
       by_group = so_far.by_group ++ more.items ∷ [];
-      all = flat_map-append (λ (list : List IndexEntry). list) so_far.by_group (more.items ∷ []) ∙ ap (λ (l : List IndexEntry). all_of so_far.by_group ++ l) (append-nil more.items) ∙ ap (λ (l : List IndexEntry). l ++ more.items) so_far.all ∙ sym new_is;
-      say = groups_more rest.at groups so_far.by_group g.group more.items so_far.say (subst (λ (n : ℕ). AreEntries g.group.device (n + length (group_head g.group)) g.group.chunks.items more.items) place g.say);
+      all = flat_push (λ (list : List IndexEntry). list) so_far.by_group more.items ∙ ap (λ (l : List IndexEntry). l ++ more.items) so_far.all ∙ sym new_is;
+      say = groups_push rest.at groups so_far.by_group g.group more.items so_far.say (subst (λ (n : ℕ). AreEntries g.group.device (n + length (group_head g.group)) g.group.chunks.items more.items) place g.say);
       takes = takes_same rest behind (flat_map group_field (so_far.front ++ so_far.final ∷ []) ++ group_field g.group) (flat_map group_field ((so_far.front ++ so_far.final ∷ []) ++ g.group ∷ []))
-          (sym (flat_map-append group_field groups (g.group ∷ []) ∙ ap (λ (l : List ℕ). flat_map group_field (so_far.front ++ so_far.final ∷ []) ++ l) (append-nil (group_field g.group))))
+          (sym (flat_push group_field groups g.group))
           (takes_both rest left behind (flat_map group_field groups) (group_field g.group) so_far.takes g.takes);
       no_page = g.no_page;
       no_chunk = g.no_chunk;
@@ -205,20 +189,9 @@ in_next_group rest left middle entries last device at so_far is less head stops 
 
 -- ---- all groups
 
-chunks_counted : (place : ℕ) (groups : List Group) (lists : List (List IndexEntry)) → AreEntriesOf place groups lists → length (all_of lists) ≡ length (chunks_of groups)
-chunks_counted place [] [] are = refl
-chunks_counted place [] (x ∷ xs) are = absurd are
-chunks_counted place (g ∷ gs) [] are = absurd are
-chunks_counted place (g ∷ gs) (x ∷ xs) are =
-    let here = chunk_count g.device (place + length (group_head g)) g.chunks.items x are.0 in
-    let there = chunks_counted (place + length (group_field g)) gs xs are.1 in
-    let n = length-append x (all_of xs) in
-    let m = length-append g.chunks.items (chunks_of gs) in
-    omega (arith, n, m, here, there)
-
 -- the entries of a tree are as many as its chunks
 pub entries_counted : (tree : Tree) (entries : List IndexEntry) → AreEntriesIn tree entries → length entries ≡ length (chunks_of tree.groups.items)
-entries_counted tree entries say = ap length (sym say.all) ∙ chunks_counted _ tree.groups.items say.by_group say.say
+entries_counted tree entries say = ap length (sym say.all) ∙ count_all _ tree.groups.items say.by_group say.say
 
 groups_few : (groups : List Group) → AllByRecursion IsFullGroup groups → length groups ≤ length (chunks_of groups)
 groups_few [] full = omega arith
@@ -233,7 +206,7 @@ all_groups rest left entries last at so_far nil =
     let groups = so_far.front ++ so_far.final ∷ [] in
     let n = length-append so_far.front (so_far.final ∷ []) in
     let count = ap length so_far.all in
-    let as_many = chunks_counted rest.at (so_far.front ++ so_far.final ∷ []) so_far.by_group so_far.say in
+    let as_many = count_all rest.at (so_far.front ++ so_far.final ∷ []) so_far.by_group so_far.say in
     let few = groups_few (so_far.front ++ so_far.final ∷ []) so_far.full in
     let tree : Tree = record { groups = vec_like entries (so_far.front ++ so_far.final ∷ []) (omega (arith, count, as_many, few)) } in (
       tree,

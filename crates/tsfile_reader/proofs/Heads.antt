@@ -12,7 +12,8 @@ use Rattle.tsdb_pages.specs.Pages.{body}
 use Rattle.tsdb_pages.specs.Reading.{IsNoBody}
 use Rattle.tsdb_pages.proofs.Bodies.{body_is_short, parts_same}
 use Rattle.tsfile_reader.specs.declared.page.ChunkHead.{ChunkHead}
-use Rattle.tsfile_reader.specs.Page.{AreGood, page_bytes}
+use Rattle.tsdb_pages.specs.File.{page_bytes}
+use Rattle.tsfile_reader.specs.Page.{AreGood}
 use Rattle.tsfile_reader.specs.Parts.{Part, part_field}
 use Rattle.tsfile_reader.specs.Steps.{IsBodySize, IsChunkHead, body_bytes, chunk_part}
 

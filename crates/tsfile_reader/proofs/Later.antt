@@ -5,7 +5,6 @@ use Rattle.std.specs.List.{flat_map, AllByRecursion}
 use Rattle.std.proofs.lemmas.Int.{ints}
 use Rattle.std.proofs.lemmas.List.{append-nil, length-append}
 use Rattle.std.proofs.lemmas.List.Elements.{All-append, All-cons, All-nil, recursion_from_All}
-use Rattle.std.proofs.lemmas.List.Concat.{flat_map-append}
 use Rattle.tsdb_base.specs.declared.point.Point.{Point}
 use Rattle.tsdb_base.specs.declared.point.Stats.{Stats}
 use Rattle.tsdb_base.specs.declared.value.DataType.{DataType}
@@ -18,19 +17,20 @@ use Rattle.tsdb_base.specs.Fields.{number32, type_field, encoding_field}
 use Rattle.tsdb_index.specs.declared.index.PageEntry.{PageEntry}
 use Rattle.tsdb_path.specs.Nodes.{IsPath}
 use Rattle.tsdb_pages.specs.declared.tree.Page.{Page}
-use Rattle.tsdb_pages.specs.File.{ArePageEntries, IsPageEntry, page_field}
+use Rattle.tsdb_pages.specs.File.{ArePageEntries, page_bytes, page_field}
 use Rattle.tsdb_pages.specs.Limits.{max_pages}
 use Rattle.tsdb_pages.specs.Pages.{ArePoints, IsInRange, IsRising, body}
 use Rattle.tsdb_pages.specs.Trees.{IsBefore, points_of}
 use Rattle.tsdb_pages.proofs.Bodies.{body_is_short, one_body, parts_same}
-use Rattle.tsdb_pages.proofs.Order.{pairs_append}
+use Rattle.tsdb_pages.proofs.Order.{at_least_first, at_most_last, pairs_append}
 use Rattle.tsdb_stats.specs.Statistics.{AreStatsOf}
 use Rattle.tsfile_reader.specs.declared.page.ChunkHead.{ChunkHead}
 use Rattle.tsfile_reader.specs.declared.parts.Pages.{Pages}
-use Rattle.tsfile_reader.specs.Page.{AreGood, page_bytes}
+use Rattle.tsfile_reader.specs.Page.{AreGood}
 use Rattle.tsfile_reader.specs.Parts.{Part, part_field}
 use Rattle.tsfile_reader.specs.Steps.{AreLaterPoints, ArePagesRead, IsChunkHead, IsLaterHead, chunk_part}
-use Rattle.tsfile_reader.proofs.Times.{at_least_first, at_most_last, last_gives}
+use Rattle.tsdb_pages.proofs.Statistics.{last_gives}
+use Rattle.tsdb_pages.proofs.Entries.{count_pages, flat_push, pages_push}
 use Rattle.tsfile_reader.proofs.Heads.{chunk_apart, short_name, short_path, tail_same}
 
 abbrev pub group_bytes : List ℕ → List ℕ
@@ -72,31 +72,10 @@ no_later_page t e suits bytes behind points before found good not = λ xs y late
     let one : points ≡ xs = one_page_first t e suits points xs behind y good later.good (sym found ∙ same) in
     not later.few (λ first others is. later.later first others (sym one ∙ is))
 
-pub first_is : (points : List Point) (p first : Point) (others : List Point) → points ≡ first ∷ others → p ≡ get_or points 0 p → p ≡ first
-first_is points p first others is at = at ∙ ap (λ (l : List Point). get_or l 0 p) is
-
-pub first_later : (points : List Point) (p : Point) (end : ℤ) → p ≡ get_or points 0 p → end <ℤ p.time → (first : Point) (others : List Point) → points ≡ first ∷ others → end <ℤ first.time
-first_later points p end at less = λ first others is. subst (λ (q : Point). end <ℤ q.time) (first_is points p first others is at) less
-
 -- ---- one page more
 
-pub entries_more : (e : Encoding) (from : ℕ) (pages : List Page) (entries : List PageEntry) (page : Page) (entry : PageEntry) → ArePageEntries e from pages entries → IsPageEntry (from + length (flat_map (page_field e) pages)) page entry
-    → ArePageEntries e from (pages ++ page ∷ []) (entries ++ entry ∷ [])
-entries_more e from [] [] page entry are is = (subst (λ (n : ℕ). IsPageEntry n page entry) (omega arith) is, tt)
-entries_more e from [] (x ∷ xs) page entry are is = absurd are
-entries_more e from (p ∷ ps) [] page entry are is = absurd are
-entries_more e from (p ∷ ps) (x ∷ xs) page entry are is =
-    let n : from + length (flat_map (page_field e) (p ∷ ps)) ≡ from + length (page_field e p) + length (flat_map (page_field e) ps) = let m = length-append (page_field e p) (flat_map (page_field e) ps) in omega (arith, m) in
-    (are.0, entries_more e (from + length (page_field e p)) ps xs page entry are.1 (subst (λ (k : ℕ). IsPageEntry k page entry) n is))
-
-pub entries_count : (e : Encoding) (from : ℕ) (pages : List Page) (entries : List PageEntry) → ArePageEntries e from pages entries → length entries ≡ length pages
-entries_count e from [] [] are = refl
-entries_count e from [] (x ∷ xs) are = absurd are
-entries_count e from (p ∷ ps) [] are = absurd are
-entries_count e from (p ∷ ps) (x ∷ xs) are = ap suc (entries_count e (from + length (page_field e p)) ps xs are.1)
-
 pub points_more : (pages : List Page) (page : Page) → points_of (pages ++ page ∷ []) ≡ points_of pages ++ page.points.items
-points_more pages page = flat_map-append (λ (p : Page). p.points.items) pages (page ∷ []) ∙ ap (λ (l : List Point). points_of pages ++ l) (append-nil page.points.items)
+points_more pages page = flat_push (λ (p : Page). p.points.items) pages page
 
 -- the end that statistics say is the last time
 pub end_time : (points : List Point) (stats : Stats) (d : Point) → 0 < length points → AreStatsOf points stats → (get_or points (length points - 1) d).time ≡ stats.end
@@ -132,7 +111,7 @@ pub page_added : (t : DataType) (e : Encoding) (from place : ℕ) (before : List
 page_added t e from place before page points old new stats entry same read later place_is entry_place entry_stats all_stats entries =
     let good : AreGood t page.points.items = subst (AreGood t) (sym same) later.good in
     let n = length-append before (page ∷ []) in
-    let count = entries_count e from before old.entries.items read.say in
+    let count = count_pages e from before old.entries.items read.say in
     let few = later.few in
     let points_is : points_of (before ++ page ∷ []) ≡ points_of before ++ page.points.items = points_more before page in
     let some_points : 0 < length (points_of before) = some_of t before read.some (recursion_from_All (λ (p : Page). ArePoints t p.points.items) before read.good) in
@@ -143,7 +122,7 @@ page_added t e from place before page points old new stats entry same read later
       ranges = subst (λ (l : List Point). All IsInRange l) (sym points_is) (All-append IsInRange (points_of before) page.points.items read.ranges good.1);
       rising = subst IsRising (sym points_is) (subst (λ (l : List Point). IsRising (points_of before ++ l)) (sym same) (rise_further (points_of before) points old.stats.end read.rising later.good.0.rising some_points (λ d. end_time (points_of before) old.stats d some_points read.stats) later.later));
       stats = subst (λ (l : List Point). AreStatsOf l new.stats) (sym (points_is ∙ ap (λ (l : List Point). points_of before ++ l) same)) all_stats;
-      say = subst (λ (l : List PageEntry). ArePageEntries e from (before ++ page ∷ []) l) (sym entries) (entries_more e from before old.entries.items page entry read.say (record { place-is = entry_place ∙ place_is; stats = subst (λ (l : List Point). AreStatsOf l entry.stats) (sym same) entry_stats }));
+      say = subst (λ (l : List PageEntry). ArePageEntries e from (before ++ page ∷ []) l) (sym entries) (pages_push e from before old.entries.items page entry read.say (record { place-is = entry_place ∙ place_is; stats = subst (λ (l : List Point). AreStatsOf l entry.stats) (sym same) entry_stats }));
     }
   where
     some_of : (t : DataType) (pages : List Page) → 0 < length pages → AllByRecursion (λ (p : Page). ArePoints t p.points.items) pages → 0 < length (points_of pages)

@@ -4,12 +4,10 @@ pub mod OneOutline
 pub mod PageBytes
 pub mod OfTree
 pub mod Rows
-pub mod Times
 pub mod Later
 pub mod PageLoop
 pub mod ChunkLoop
 pub mod GroupLoop
-pub mod SameEntries
 pub mod OneBlame
 pub mod Blames
 pub mod Checking

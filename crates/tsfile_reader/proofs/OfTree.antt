@@ -15,7 +15,7 @@ use Rattle.tsdb_pages.specs.declared.tree.Page.{Page}
 use Rattle.tsdb_pages.specs.declared.tree.Chunk.{Chunk}
 use Rattle.tsdb_pages.specs.declared.tree.Group.{Group}
 use Rattle.tsdb_pages.specs.declared.tree.Tree.{Tree}
-use Rattle.tsdb_pages.specs.File.{IsEntry, IsFile, page_field}
+use Rattle.tsdb_pages.specs.File.{IsEntry, IsFile, page_bytes, page_field}
 use Rattle.tsdb_pages.specs.Places.{HasPlaces}
 use Rattle.tsdb_pages.specs.Trees.{IsMade, IsTree}
 use Rattle.tsdb_pages.proofs.Files.{IsPageOf, IsWholeChunk, IsWholeGroup, groups_of_tree, page_free, pages_of_chunk}
@@ -23,7 +23,7 @@ use Rattle.tsdb_pages.proofs.Places.{entries_stand}
 use Rattle.tsfile_reader.specs.declared.fault.ReadFault.{ReadFault}
 use Rattle.tsfile_reader.specs.declared.fault.ReadFault.TheVariants.{Failed, Damaged, Memory}
 use Rattle.tsfile_reader.specs.Answers.{Answers, IfDamaged, IsNotDamaged}
-use Rattle.tsfile_reader.specs.Page.{ArePointsOf, HasNoPage, HasPage, IsEntryOf, SaysOfPage, page_bytes}
+use Rattle.tsfile_reader.specs.Page.{ArePointsOf, HasNoPage, HasPage, IsEntryOf, SaysOfPage}
 
 -- the page of the tree that the entry speaks of stands there
 pub record PageStands (tree : Tree) (bytes : List ℕ) (entry : IndexEntry) (number : ℕ) (said : PageEntry) : Type 0 where

@@ -12,7 +12,8 @@ use Rattle.tsdb_base.specs.PlainLaws.{plain_text-prefix_free}
 use Rattle.tsdb_base.specs.Values.{is_suitable}
 use Rattle.tsdb_path.specs.Nodes.{IsName, IsPath}
 use Rattle.tsfile_reader.specs.Blame.{IsFirstBadPart}
-use Rattle.tsfile_reader.specs.Page.{AreGood, page_bytes}
+use Rattle.tsdb_pages.specs.File.{page_bytes}
+use Rattle.tsfile_reader.specs.Page.{AreGood}
 use Rattle.tsfile_reader.specs.Parts.{AreParts, MayEnd, MayFollow, Part, part_field, parts_field}
 use Rattle.tsfile_reader.proofs.Heads.{chunk_apart, short_name, short_path, tail_same}
 use Rattle.tsfile_reader.proofs.Later.{one_page_first}

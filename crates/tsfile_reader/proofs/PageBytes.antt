@@ -17,7 +17,8 @@ use Rattle.tsdb_pages.specs.Pages.{body}
 use Rattle.tsdb_pages.proofs.Bodies.{body_is_short}
 use Rattle.tsfile_reader.specs.declared.fault.ReadFault.{ReadFault}
 use Rattle.tsfile_reader.specs.Answers.{Answers, as_read_fault}
-use Rattle.tsfile_reader.specs.Page.{AreGood, HasNoPage, HasPage, page_bytes}
+use Rattle.tsdb_pages.specs.File.{page_bytes}
+use Rattle.tsfile_reader.specs.Page.{AreGood, HasNoPage, HasPage}
 use Rattle.tsfile_reader.specs.Steps.{HasPageBytes, SaysSize, body_bytes}
 
 -- what holds of what was returned

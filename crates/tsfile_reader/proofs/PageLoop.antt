@@ -3,7 +3,6 @@ use Rattle.std.proofs.Common.{◌≡◌, ℕ, ◌+◌, ◌-◌, ◌<◌, ◌≤�
 use Rattle.std.specs.Prelude.{◌<ℤ◌, All, Contains}
 use Rattle.std.specs.List.{flat_map, AllByRecursion}
 use Rattle.std.proofs.lemmas.List.{append-nil, get_or-append-add, length-append}
-use Rattle.std.proofs.lemmas.List.Concat.{flat_map-append}
 use Rattle.std.proofs.lemmas.List.Elements.{Contains-get_or, recursion_from_All}
 use Rattle.tsdb_base.specs.declared.point.Point.{Point}
 use Rattle.tsdb_base.specs.declared.value.DataType.{DataType}
@@ -15,7 +14,7 @@ use Rattle.tsdb_fields.specs.declared.rest.Rest.{Rest}
 use Rattle.tsdb_fields.specs.Reading.{ReadsParts, Takes}
 use Rattle.tsdb_index.proofs.Fields.{takes_both, takes_same}
 use Rattle.tsdb_pages.specs.declared.tree.Page.{Page}
-use Rattle.tsdb_pages.specs.File.{page_field}
+use Rattle.tsdb_pages.specs.File.{page_bytes, page_field}
 use Rattle.tsdb_pages.specs.Limits.{max_pages}
 use Rattle.tsdb_pages.specs.Pages.{ArePoints, IsInRange, IsRising}
 use Rattle.tsdb_pages.specs.Trees.{points_of}
@@ -25,11 +24,12 @@ use Rattle.tsfile_reader.specs.declared.fault.ReadFault.{ReadFault}
 use Rattle.tsfile_reader.specs.declared.fault.ReadFault.TheVariants as read
 use Rattle.tsfile_reader.specs.declared.parts.Pages.{Pages}
 use Rattle.tsfile_reader.specs.Answers.{as_read_fault}
-use Rattle.tsfile_reader.specs.Page.{AreGood, page_bytes}
+use Rattle.tsfile_reader.specs.Page.{AreGood}
 use Rattle.tsfile_reader.specs.Parts.{MayFollow, Part, page_count, part_field, parts_field}
 use Rattle.tsfile_reader.specs.Steps.{AreLaterPoints, ArePagesRead, BeginsWithMark, ReadsOrStops, StopsBehind}
-use Rattle.tsfile_reader.proofs.Later.{end_time, entries_count}
-use Rattle.tsfile_reader.proofs.Times.{points_few}
+use Rattle.tsdb_pages.proofs.Entries.{count_pages, flat_push}
+use Rattle.tsfile_reader.proofs.Later.{end_time}
+use Rattle.tsdb_pages.proofs.TreeIndex.{points_few}
 use Rattle.tsfile_reader.proofs.Rows.{after_pages, good_pages, last_page, pages_field}
 
 -- these pages are read, and that is left
@@ -48,7 +48,7 @@ next_so_far t e rest left behind old new page so_far read takes = record {
   takes =
       let both = takes_both rest left behind (flat_map (page_field e) so_far.pages) (page_field e page) so_far.takes takes in
       takes_same rest behind (flat_map (page_field e) so_far.pages ++ page_field e page) (flat_map (page_field e) (so_far.pages ++ page ∷ []))
-      (sym (flat_map-append (page_field e) so_far.pages (page ∷ []) ∙ ap (λ (l : List ℕ). flat_map (page_field e) so_far.pages ++ l) (append-nil (page_field e page)))) both;
+      (sym (flat_push (page_field e) so_far.pages page)) both;
 }
 
 -- a page more has room in the count
@@ -97,7 +97,7 @@ later_points : (t : DataType) (pages : List Page) (found : Pages) (front last po
     → 1 + rest_count ≡ length pages → AreGood t points → IsRising (last ++ points) → 1 + rest_count < max_pages → AreLaterPoints t found points
 later_points t pages found front last points rest_count e place read split some count good rising few = record {
   good = good;
-  few = let n = entries_count e place pages found.entries.items read.say in omega (arith, n, count, few);
+  few = let n = count_pages e place pages found.entries.items read.say in omega (arith, n, count, few);
   later = λ first others is.
       let n = length-append front last in
       let m = ap length split in

@@ -2,7 +2,7 @@
 use Rattle.std.proofs.Common.{◌≡◌, ℕ, ◌+◌, ◌<◌, ◌≤◌, List, [], ◌∷◌, ◌++◌, length, get_or, refl, sym, ap, subst, ◌∙◌, append_assoc, arith}
 use Rattle.std.specs.Prelude.{◌<ℤ◌, AllPairs}
 use Rattle.std.specs.List.{flat_map, AllByRecursion}
-use Rattle.std.proofs.lemmas.List.{append-nil, get_or_append_left, get_or-append-add, length-append}
+use Rattle.std.proofs.lemmas.List.{append-nil, get_or_append_left, length-append}
 use Rattle.tsdb_base.specs.declared.point.Point.{Point}
 use Rattle.tsdb_base.specs.declared.value.DataType.{DataType}
 use Rattle.tsdb_base.specs.declared.value.Encoding.{Encoding}
@@ -15,6 +15,7 @@ use Rattle.tsdb_pages.specs.Limits.{max_pages}
 use Rattle.tsdb_pages.specs.Pages.{IsRising}
 use Rattle.tsdb_pages.specs.Trees.{IsBefore, IsGroup, points_of}
 use Rattle.tsdb_pages.proofs.Files.{IsPageOf, IsWholeChunk, pages_of_chunk}
+use Rattle.tsdb_pages.proofs.Order.{pairs_behind}
 use Rattle.tsfile_reader.specs.Parts.{AreParts, IsBehindChunk, IsBehindGroup, MayEnd, MayFollow, Part, page_count, part_field, parts_field}
 
 -- ---- lists whose elements stand so to all later ones
@@ -23,11 +24,6 @@ pub pairs_left : {A : Type 0} (R : A → A → Type 0) (xs ys : List A) → AllP
 pairs_left R xs ys pairs = λ i j d l m.
     let n = length-append xs ys in
     subst (λ b. R (get_or xs i d) b) (get_or_append_left xs ys d j m) (subst (λ a. R a (get_or (xs ++ ys) j d)) (get_or_append_left xs ys d i (omega (arith, l, m))) (pairs i j d l (omega (arith, m, n))))
-
-pub pairs_right : {A : Type 0} (R : A → A → Type 0) (xs ys : List A) → AllPairs R (xs ++ ys) → AllPairs R ys
-pairs_right R xs ys pairs = λ i j d l m.
-    let n = length-append xs ys in
-    subst (λ b. R (get_or ys i d) b) (get_or-append-add xs ys j d) (subst (λ a. R a (get_or (xs ++ ys) (length xs + j) d)) (get_or-append-add xs ys i d) (pairs (length xs + i) (length xs + j) d (omega (arith, l)) (omega (arith, m, n))))
 
 pub last_same : {A : Type 0} (xs ys : List A) (x y : A) → xs ++ x ∷ [] ≡ ys ++ y ∷ [] → x ≡ y
 last_same [] [] x y e = cc
@@ -53,7 +49,7 @@ follow_pages : (t : DataType) (e : Encoding) (pages : List Page) (last : List Po
 follow_pages t e [] last before are good rising few = are
 follow_pages t e (p ∷ ps) last before are good rising few =
     let apart : IsRising ((last ++ p.points.items) ++ points_of ps) = subst IsRising (sym (append_assoc last p.points.items (points_of ps))) rising in
-    follow_pages t e ps p.points.items (Part.Page t e last ∷ before) ((refl, refl, good.0, pairs_left (λ (a b : Point). a.time <ℤ b.time) (last ++ p.points.items) (points_of ps) apart, omega (arith, few)), are) good.1 (pairs_right (λ (a b : Point). a.time <ℤ b.time) last (p.points.items ++ points_of ps) rising) (omega (arith, few))
+    follow_pages t e ps p.points.items (Part.Page t e last ∷ before) ((refl, refl, good.0, pairs_left (λ (a b : Point). a.time <ℤ b.time) (last ++ p.points.items) (points_of ps) apart, omega (arith, few)), are) good.1 (pairs_behind (λ (a b : Point). a.time <ℤ b.time) last (p.points.items ++ points_of ps) rising) (omega (arith, few))
 
 pub good_pages : (t : DataType) (e : Encoding) (m : List ℕ) (pages : List Page) (before : List Part) → AreParts (Part.Chunk m t e ∷ before) → AllByRecursion (IsPageOf t) pages → IsRising (points_of pages) → length pages ≤ max_pages
     → AreParts (after_pages t e pages (Part.Chunk m t e ∷ before))
@@ -169,7 +165,7 @@ follow_chunks c [] before are whole good rising = are
 follow_chunks c (d ∷ ds) before are whole good rising =
     let less : IsBefore c.measurement d.measurement = rising 0 1 d (omega arith) (omega arith) in
     let there = next_chunk c d before (after_chunk c before) (last_chunk c before whole) are good.0 less in
-    follow_chunks d ds (after_chunk c before) (good_chunk d (after_chunk c before) good.0 there) good.0 good.1 (pairs_right (λ (a b : Chunk). IsBefore a.measurement b.measurement) (c ∷ []) (d ∷ ds) rising)
+    follow_chunks d ds (after_chunk c before) (good_chunk d (after_chunk c before) good.0 there) good.0 good.1 (pairs_behind (λ (a b : Chunk). IsBefore a.measurement b.measurement) (c ∷ []) (d ∷ ds) rising)
 
 pub good_chunks : (device : List ℕ) (chunks : List Chunk) (before : List Part) → AreParts (Part.Group device ∷ before) → AllByRecursion IsWholeChunk chunks → AllPairs (λ (a b : Chunk). IsBefore a.measurement b.measurement) chunks → AreParts (after_chunks chunks (Part.Group device ∷ before))
 good_chunks device [] before are good rising = are
@@ -260,7 +256,7 @@ follow_groups g (h ∷ hs) before are full good rising =
     let less : IsBefore g.device h.device = rising 0 1 h (omega arith) (omega arith) in
     let last = last_group g before full in
     let there : AreParts (Part.Group h.device ∷ after_group g before) = (subst (λ (l : List Part). MayFollow l (Part.Group h.device)) (sym last.is) (good.0.device, last.from_group h.device less), are) in
-    follow_groups h hs (after_group g before) (good_group h (after_group g before) good.0 there) good.0 good.1 (pairs_right (λ (a b : Group). IsBefore a.device b.device) (g ∷ []) (h ∷ hs) rising)
+    follow_groups h hs (after_group g before) (good_group h (after_group g before) good.0 there) good.0 good.1 (pairs_behind (λ (a b : Group). IsBefore a.device b.device) (g ∷ []) (h ∷ hs) rising)
 
 pub good_groups : (groups : List Group) → AllByRecursion IsFullGroup groups → AllPairs (λ (a b : Group). IsBefore a.device b.device) groups → AreParts (after_groups groups [])
 good_groups [] good rising = tt

@@ -1,5 +1,5 @@
 -- One page of a file.
-use Rattle.std.specs.Prelude.{◌≡◌, ℕ, List, ◌∷◌, ◌++◌, drop, length, slice_get, Some, true, All, Contains}
+use Rattle.std.specs.Prelude.{◌≡◌, ℕ, List, ◌++◌, drop, slice_get, Some, true, All, Contains}
 use Rattle.tsdb_base.specs.declared.point.Point.{Point}
 use Rattle.tsdb_base.specs.declared.value.DataType.{DataType}
 use Rattle.tsdb_base.specs.declared.value.Encoding.{Encoding}
@@ -10,13 +10,8 @@ use Rattle.tsdb_pages.specs.declared.tree.Chunk.{Chunk}
 use Rattle.tsdb_pages.specs.declared.tree.Group.{Group}
 use Rattle.tsdb_pages.specs.declared.tree.Page.{Page}
 use Rattle.tsdb_pages.specs.declared.tree.Tree.{Tree}
-use Rattle.tsdb_pages.specs.File.{AreEntriesIn, IsEntry}
-use Rattle.tsdb_base.specs.Fields.{number32}
-use Rattle.tsdb_pages.specs.Pages.{ArePoints, IsInRange, body}
-
--- a page of these points: 50, and its body behind the body's length
-abbrev pub page_bytes : Encoding → List Point → List ℕ
-page_bytes encoding points = 80 ∷ number32 (length (body encoding points)) ++ body encoding points
+use Rattle.tsdb_pages.specs.File.{AreEntriesIn, IsEntry, page_bytes}
+use Rattle.tsdb_pages.specs.Pages.{ArePoints, IsInRange}
 
 -- points of a page of this type
 abbrev pub AreGood : DataType → List Point → Type 0

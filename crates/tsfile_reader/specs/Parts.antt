@@ -10,7 +10,8 @@ use Rattle.tsdb_path.specs.Nodes.{IsName, IsPath}
 use Rattle.tsdb_pages.specs.Limits.{max_pages}
 use Rattle.tsdb_pages.specs.Pages.{IsRising}
 use Rattle.tsdb_pages.specs.Trees.{IsBefore}
-use Rattle.tsfile_reader.specs.Page.{AreGood, page_bytes}
+use Rattle.tsdb_pages.specs.File.{page_bytes}
+use Rattle.tsfile_reader.specs.Page.{AreGood}
 
 -- A group or a chunk up to what stands in it, or a page of a chunk of this type and encoding.
 pub data Part : Type 0 where

@@ -4,7 +4,8 @@ ghost use Rattle.std.specs.Prelude.{◌≡◌, ℕ, ◌↔◌, ◌∷◌, [], �
 ghost use Rattle.tsdb_base.specs.Values.{is_suitable};
 ghost use Rattle.tsdb_fields.specs.Reading.{ReadsParts, Takes};
 ghost use Rattle.tsdb_path.specs.Nodes.{IsPath};
-ghost use Rattle.tsfile_reader.specs.Page.{AreGood, page_bytes};
+ghost use Rattle.tsdb_pages.specs.File.{page_bytes};
+ghost use Rattle.tsfile_reader.specs.Page.{AreGood};
 ghost use Rattle.tsfile_reader.specs.Parts.{Part, part_field};
 ghost use Rattle.tsfile_reader.specs.Steps.{BeginsWithMark, IsBodySize, IsChunkHead, body_bytes, chunk_part};
 

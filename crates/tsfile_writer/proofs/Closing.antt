@@ -1,5 +1,5 @@
 -- A series that is whole, the series behind it, and the file of all.
-use Rattle.std.proofs.Common.{◌≡◌, ◌≢◌, ℕ, ◌+◌, ◌<◌, ◌≤◌, ◌^◌, true, false, List, [], ◌∷◌, ◌++◌, length, map, ◌⊎◌, inl, inr, refl, sym, ap, ◌∙◌, subst, append_assoc, arith}
+use Rattle.std.proofs.Common.{◌≡◌, ℕ, ◌+◌, ◌<◌, ◌≤◌, ◌^◌, true, false, List, [], ◌∷◌, ◌++◌, length, map, ◌⊎◌, inl, inr, refl, sym, ap, ◌∙◌, subst, append_assoc, arith}
 use Rattle.std.specs.Prelude.{All, AllPairs, Bool, Option, None, Some}
 use Rattle.std.specs.declared.vec.Vec.{Vec}
 use Rattle.std.specs.Global.{Global}
@@ -18,21 +18,23 @@ use Rattle.tsdb_base.specs.Values.{is_suitable, type_of}
 use Rattle.tsdb_path.specs.Nodes.{device_of, measurement_of, node_count}
 use Rattle.tsdb_index.specs.declared.index.IndexEntry.{IndexEntry}
 use Rattle.tsdb_index.specs.Entries as index
-use Rattle.tsdb_index.specs.Spelling as spelled
+use Rattle.tsdb_index.specs.Spelling.{IsSpelling}
 use Rattle.tsdb_pages.specs.declared.tree.Page.{Page}
 use Rattle.tsdb_pages.specs.declared.tree.Chunk.{Chunk}
 use Rattle.tsdb_pages.specs.declared.tree.Group.{Group}
 use Rattle.tsdb_pages.specs.declared.tree.Tree.{Tree}
-use Rattle.tsdb_pages.specs.File.{IsFile, head, magic}
+use Rattle.tsdb_pages.specs.File.{IsFile, group_start, head, magic}
 use Rattle.tsdb_pages.specs.Limits.{max_chunks, max_pages}
 use Rattle.tsdb_pages.specs.Pages.{ArePoints, IsRising}
-use Rattle.tsdb_pages.specs.Trees.{IsBefore, IsChunk, IsGroup, IsTree, chunks_of, points_of}
+use Rattle.tsdb_pages.specs.Trees.{IsBefore, IsChunk, IsGroup, chunks_of, points_of}
 use Rattle.tsfile_writer.specs.declared.layout.OpenChunk.{OpenChunk}
 use Rattle.tsfile_writer.specs.Given.{AreChunksOf, IsChunkOf, IsTreeOf, MayBeFollowedBy, Series, placed, series_at}
-use Rattle.tsfile_writer.specs.Steps.{AreChunks, AreGroups, ArePages, group_start, start_if}
-use Rattle.tsfile_writer.specs.Building.{AreClosed, AreGrouped, BeginsGroup, IsKept, IsOpenOf, PutsIn, StandIn}
-use Rattle.tsfile_writer.proofs.Laying.{IsEntryOf, chunk_ended, count_chunks, count_entries, file_made, flat_push, group_begun, group_ended, nothing_laid}
-use Rattle.tsfile_writer.proofs.Grouping.{before_through, chunks_of_push, few_groups, filled_push, one_group, pairs_push, placed_push, same_ends, vec_like}
+use Rattle.tsfile_writer.specs.Steps.{AreChunks, AreGroups, start_if}
+use Rattle.tsfile_writer.specs.Building.{AreClosed, AreGrouped, BeginsGroup, BuildState, IsOpenOf, PutsIn}
+use Rattle.tsdb_pages.proofs.Entries.{count_chunks, flat_push}
+use Rattle.tsfile_writer.proofs.Appending.{IsEntryOf, chunk_ended, count_entries, file_made, group_begun, group_ended, no_groups}
+use Rattle.tsdb_pages.proofs.Order.{pairs_push}
+use Rattle.tsfile_writer.proofs.Grouping.{before_through, chunks_of_push, few_groups, filled_push, one_group, placed_push, same_ends, vec_like}
 use Rattle.tsfile_writer.proofs.Waiting.{are_points, put_few, put_stands}
 
 -- ---- a chunk is whole
@@ -69,35 +71,35 @@ is_chunk_of v series pages page path data_type encoding points small is some sam
 }
 
 pub series_closed : (v : Vec ℕ Global) (given : List Series) (page : Page) (old new : List ℕ) (before after : List IndexEntry) (path : List ℕ) (data_type : DataType) (encoding : Encoding) (chunk : Option OpenChunk) (whole : OpenChunk) (points : List Point) (entry : IndexEntry)
-    → IsKept given old before path data_type encoding chunk points → 0 < length points → page.points.items ≡ points → PutsIn path data_type encoding points before old new chunk (Some whole)
+    → BuildState given old before path data_type encoding chunk points → 0 < length points → page.points.items ≡ points → PutsIn path data_type encoding points before old new chunk (Some whole)
     → IsEntryOf (device_of path) (measurement_of path) data_type encoding whole entry → after ≡ before ++ entry ∷ [] → length before < max_chunks → AreClosed given (device_of path) (measurement_of path) new after
-series_closed v given page old new before after path data_type encoding chunk whole points entry kept some same puts is added room =
-    let few_pages = put_few kept.groups kept.chunks kept.pages page path data_type encoding points old new before chunk (Some whole) same kept.stand puts in
-    let stand = put_stands kept.groups kept.chunks kept.pages page path data_type encoding points old new before chunk (Some whole) same kept.stand puts in
-    let small : length (kept.pages ++ page ∷ []) < 2 ^ 63 = omega (arith, few_pages) in
-    let last = chunk_like v path data_type encoding (kept.pages ++ page ∷ []) small in
-    let here = is_chunk v kept.last kept.pages page path data_type encoding points small kept.is some same few_pages in
+series_closed v given page old new before after path data_type encoding chunk whole points entry state some same puts is added room =
+    let few_pages = put_few state.groups state.chunks state.pages page path data_type encoding points old new before chunk (Some whole) same state.stand puts in
+    let stand = put_stands state.groups state.chunks state.pages page path data_type encoding points old new before chunk (Some whole) same state.stand puts in
+    let small : length (state.pages ++ page ∷ []) < 2 ^ 63 = omega (arith, few_pages) in
+    let last = chunk_like v path data_type encoding (state.pages ++ page ∷ []) small in
+    let here = is_chunk v state.last state.pages page path data_type encoding points small state.is some same few_pages in
     let device = device_of path in
     let n : length after ≡ length before + 1 = ap length added ∙ length-append before (entry ∷ []) in
-    let size = length-append kept.chunks (last ∷ []) in
+    let size = length-append state.chunks (last ∷ []) in
     record {
-      groups = kept.groups;
-      chunks = kept.chunks ++ last ∷ [];
+      groups = state.groups;
+      chunks = state.chunks ++ last ∷ [];
       grouped = record {
-        of = subst (λ (s : List Series). AreChunksOf s (placed kept.groups ++ map (λ (c : Chunk). (device, c)) (kept.chunks ++ last ∷ []))) (sym kept.all)
-            (subst (AreChunksOf (kept.front ++ kept.last ∷ []))
-            (append_assoc (placed kept.groups) (map (λ (c : Chunk). (device, c)) kept.chunks) ((device, last) ∷ []) ∙ ap (λ (l : List (List ℕ × Chunk)). placed kept.groups ++ l) (sym (one_group device kept.chunks last)))
-            (chunks_of_push kept.front (placed kept.groups ++ map (λ (c : Chunk). (device, c)) kept.chunks) kept.last device last kept.grouped.of (sym kept.is.device-is)
-            (is_chunk_of v kept.last kept.pages page path data_type encoding points small kept.is some same)));
-        groups-good = kept.grouped.groups-good;
-        groups-rising = kept.grouped.groups-rising;
-        groups-before = kept.grouped.groups-before;
-        chunks-good = All-push IsChunk kept.chunks last kept.grouped.chunks-good here;
-        chunks-rising = pairs_push (λ (a b : Chunk). IsBefore a.measurement b.measurement) kept.chunks last kept.grouped.chunks-rising kept.chunks-before;
+        of = subst (λ (s : List Series). AreChunksOf s (placed state.groups ++ map (λ (c : Chunk). (device, c)) (state.chunks ++ last ∷ []))) (sym state.all)
+            (subst (AreChunksOf (state.front ++ state.last ∷ []))
+            (append_assoc (placed state.groups) (map (λ (c : Chunk). (device, c)) state.chunks) ((device, last) ∷ []) ∙ ap (λ (l : List (List ℕ × Chunk)). placed state.groups ++ l) (sym (one_group device state.chunks last)))
+            (chunks_of_push state.front (placed state.groups ++ map (λ (c : Chunk). (device, c)) state.chunks) state.last device last state.grouped.of (sym state.is.device-is)
+            (is_chunk_of v state.last state.pages page path data_type encoding points small state.is some same)));
+        groups-good = state.grouped.groups-good;
+        groups-rising = state.grouped.groups-rising;
+        groups-before = state.grouped.groups-before;
+        chunks-good = All-push IsChunk state.chunks last state.grouped.chunks-good here;
+        chunks-rising = pairs_push (λ (a b : Chunk). IsBefore a.measurement b.measurement) state.chunks last state.grouped.chunks-rising state.chunks-before;
       };
       some = omega (arith, size);
-      before = λ next less. All-push (λ (c : Chunk). IsBefore c.measurement next) kept.chunks last (λ k d lt. before_through _ (measurement_of path) next (kept.chunks-before k d lt) less) less;
-      laid = chunk_ended kept.groups device kept.chunks last new before after whole entry stand.1 is added;
+      before = λ next less. All-push (λ (c : Chunk). IsBefore c.measurement next) state.chunks last (λ k d lt. before_through _ (measurement_of path) next (state.chunks-before k d lt) less) less;
+      layout = chunk_ended state.groups device state.chunks last new before after whole entry stand.1 is added;
       few = omega (arith, n, room);
       front = before;
       entry = entry;
@@ -109,9 +111,9 @@ series_closed v given page old new before after path data_type encoding chunk wh
 
 few_chunks : (given : List Series) (device measurement : List ℕ) (bytes : List ℕ) (entries : List IndexEntry) (closed : AreClosed given device measurement bytes entries) → length closed.chunks < 2 ^ 63
 few_chunks given device measurement bytes entries closed =
-    let laid = closed.laid in
-    let n = count_chunks device (length laid.bytes-before + length (group_start device)) closed.chunks laid.own laid.say in
-    let m : length entries ≡ length laid.entries-before + length laid.own = ap length laid.all ∙ length-append laid.entries-before laid.own in
+    let layout = closed.layout in
+    let n = count_chunks device (length layout.bytes-before + length (group_start device)) closed.chunks layout.own layout.say in
+    let m : length entries ≡ length layout.entries-before + length layout.own = ap length layout.all ∙ length-append layout.entries-before layout.own in
     omega (arith, n, m, closed.few)
 
 abbrev group_like : Vec ℕ Global → List ℕ → (chunks : List Chunk) → length chunks < 2 ^ 63 → Group
@@ -124,7 +126,7 @@ record AreAll (given : List Series) (device : List ℕ) (bytes : List ℕ) (entr
   good : All IsGroup groups
   rising : AllPairs (λ a b. IsBefore a.device b.device) groups
   before : (next : List ℕ) → IsBefore device next → All (λ group. IsBefore group.device next) groups
-  laid : AreGroups groups bytes entries
+  layout : AreGroups groups bytes entries
 
 all_groups : (v : Vec ℕ Global) (given : List Series) (device measurement : List ℕ) (bytes : List ℕ) (entries : List IndexEntry) (closed : AreClosed given device measurement bytes entries)
     → AreAll given device bytes entries (closed.groups ++ group_like v device closed.chunks (few_chunks given device measurement bytes entries closed) ∷ [])
@@ -138,7 +140,7 @@ all_groups v given device measurement bytes entries closed =
       good = All-push IsGroup closed.groups group closed.grouped.groups-good good;
       rising = pairs_push (λ (a b : Group). IsBefore a.device b.device) closed.groups group closed.grouped.groups-rising closed.grouped.groups-before;
       before = λ next less. All-push (λ (g : Group). IsBefore g.device next) closed.groups group (λ k d lt. before_through _ device next (closed.grouped.groups-before k d lt) less) less;
-      laid = group_ended closed.groups group bytes entries closed.laid;
+      layout = group_ended closed.groups group bytes entries closed.layout;
     }
 
 -- ---- a series begins
@@ -171,7 +173,7 @@ not_itself a less =
     absurd cc
 
 pub first_begun : (bytes : List ℕ) (entries : List IndexEntry) (path : List ℕ) (data_type : DataType) (encoding : Encoding) → bytes ≡ head → entries ≡ [] → 2 ≤ node_count path → is_suitable data_type encoding ≡ true
-    → IsKept (series_at path data_type encoding ∷ []) bytes entries path data_type encoding None []
+    → BuildState (series_at path data_type encoding ∷ []) bytes entries path data_type encoding None []
 first_begun bytes entries path data_type encoding is none nodes suits = record {
   front = [];
   last = series_at path data_type encoding;
@@ -194,14 +196,14 @@ first_begun bytes entries path data_type encoding is none nodes suits = record {
 }
   where
     stand : (begins : Bool) → BeginsGroup entries (device_of path) begins → AreChunks [] (device_of path) [] (bytes ++ start_if begins (device_of path)) entries
-    stand true test = group_begun [] (device_of path) bytes (bytes ++ group_start (device_of path)) entries (nothing_laid bytes entries is none) refl
+    stand true test = group_begun [] (device_of path) bytes (bytes ++ group_start (device_of path)) entries (no_groups bytes entries is none) refl
     stand false test =
         let n : length entries ≡ 0 = ap length none in
         let m : length entries ≡ length test.0 + 1 = ap length test.2 ∙ length-append test.0 (test.1 ∷ []) in
         absurd (omega (arith, n, m))
 
 pub next_begun : (v : Vec ℕ Global) (given : List Series) (device measurement : List ℕ) (bytes : List ℕ) (entries : List IndexEntry) (path : List ℕ) (data_type : DataType) (encoding : Encoding) → AreClosed given device measurement bytes entries
-    → 2 ≤ node_count path → is_suitable data_type encoding ≡ true → index.IsBefore (device, measurement) (device_of path, measurement_of path) → IsKept (given ++ series_at path data_type encoding ∷ []) bytes entries path data_type encoding None []
+    → 2 ≤ node_count path → is_suitable data_type encoding ≡ true → index.IsBefore (device, measurement) (device_of path, measurement_of path) → BuildState (given ++ series_at path data_type encoding ∷ []) bytes entries path data_type encoding None []
 next_begun v given device measurement bytes entries path data_type encoding closed nodes suits (inl less) =
     let all = all_groups v given device measurement bytes entries closed in
     let groups = closed.groups ++ group_like v device closed.chunks (few_chunks given device measurement bytes entries closed) ∷ [] in
@@ -223,13 +225,13 @@ next_begun v given device measurement bytes entries path data_type encoding clos
       };
       chunks-before = All-nil (λ (c : Chunk). IsBefore c.measurement (measurement_of path));
       few = closed.few;
-      stand = (refl, stand closed less groups all.laid);
+      stand = (refl, stand closed less groups all.layout);
     }
   where
     stand : (closed : AreClosed given device measurement bytes entries) → IsBefore device (device_of path) → (groups : List Group) → AreGroups groups bytes entries
         → (begins : Bool) → BeginsGroup entries (device_of path) begins → AreChunks groups (device_of path) [] (bytes ++ start_if begins (device_of path)) entries
-    stand closed less groups laid true test = group_begun groups (device_of path) bytes (bytes ++ group_start (device_of path)) entries laid refl
-    stand closed less groups laid false test =
+    stand closed less groups layout true test = group_begun groups (device_of path) bytes (bytes ++ group_start (device_of path)) entries layout refl
+    stand closed less groups layout false test =
         let same : test.1 ≡ closed.entry = (same_ends test.0 closed.front test.1 closed.entry (sym test.2 ∙ closed.last)).1 in
         let devices : device ≡ device_of path = sym closed.device-is ∙ ap (λ (e : IndexEntry). e.device) (sym same) ∙ test.3 in
         absurd (not_itself device (subst (IsBefore device) (sym devices) less))
@@ -251,34 +253,34 @@ next_begun v given device measurement bytes entries path data_type encoding clos
         → AreChunks closed.groups (device_of path) closed.chunks (bytes ++ start_if begins (device_of path)) entries
     stand closed same true test = absurd (test closed.front closed.entry closed.last (closed.device-is ∙ same))
     stand closed same false test =
-        subst (λ (l : List ℕ). AreChunks closed.groups (device_of path) closed.chunks l entries) (sym (append-nil bytes)) (subst (λ (d : List ℕ). AreChunks closed.groups d closed.chunks bytes entries) same closed.laid)
+        subst (λ (l : List ℕ). AreChunks closed.groups (device_of path) closed.chunks l entries) (sym (append-nil bytes)) (subst (λ (d : List ℕ). AreChunks closed.groups d closed.chunks bytes entries) same closed.layout)
 
 -- the names of the last series come before those that may follow it
 pub names_before : (bytes : List ℕ) (entries : List IndexEntry) (path : List ℕ) (data_type : DataType) (encoding : Encoding) (chunk : Option OpenChunk) (points : List Point) (device measurement : List ℕ)
-    → IsKept [] bytes entries path data_type encoding chunk points ⊎ ((front : List Series) × (last : Series) × IsKept (front ++ last ∷ []) bytes entries path data_type encoding chunk points × MayBeFollowedBy device measurement last)
+    → BuildState [] bytes entries path data_type encoding chunk points ⊎ ((front : List Series) × (last : Series) × BuildState (front ++ last ∷ []) bytes entries path data_type encoding chunk points × MayBeFollowedBy device measurement last)
     → index.IsBefore (device_of path, measurement_of path) (device, measurement)
-names_before bytes entries path data_type encoding chunk points device measurement (inl kept) =
-    let n : 0 ≡ length kept.front + 1 = ap length kept.all ∙ length-append kept.front (kept.last ∷ []) in
+names_before bytes entries path data_type encoding chunk points device measurement (inl state) =
+    let n : 0 ≡ length state.front + 1 = ap length state.all ∙ length-append state.front (state.last ∷ []) in
     absurd (omega (arith, n))
 names_before bytes entries path data_type encoding chunk points device measurement (inr given) =
-    let kept = given.2 in
-    let same : given.1 ≡ kept.last = (same_ends given.0 kept.front given.1 kept.last kept.all).1 in
-    subst (λ (d : List ℕ). index.IsBefore (d, measurement_of path) (device, measurement)) (ap (λ (s : Series). s.device) same ∙ kept.is.device-is)
-    (subst (λ (m : List ℕ). index.IsBefore (given.1.device, m) (device, measurement)) (ap (λ (s : Series). s.measurement) same ∙ kept.is.measurement-is) given.3.before)
+    let state = given.2 in
+    let same : given.1 ≡ state.last = (same_ends given.0 state.front given.1 state.last state.all).1 in
+    subst (λ (d : List ℕ). index.IsBefore (d, measurement_of path) (device, measurement)) (ap (λ (s : Series). s.device) same ∙ state.is.device-is)
+    (subst (λ (m : List ℕ). index.IsBefore (given.1.device, m) (device, measurement)) (ap (λ (s : Series). s.measurement) same ∙ state.is.measurement-is) given.3.before)
 
 -- ---- the file
 
 pub file_whole : (v : Vec ℕ Global) (given : List Series) (device measurement : List ℕ) (bytes file index-bytes : List ℕ) (root : ℕ) (entries : List IndexEntry) → AreClosed given device measurement bytes entries
-    → spelled.IsSpelling (length bytes) root entries index-bytes → file ≡ bytes ++ index-bytes ++ number64 root ++ magic → (tree : Tree) × IsTreeOf given tree × IsFile tree file
-file_whole v given device measurement bytes file index-bytes root entries closed spelled is =
+    → IsSpelling (length bytes) root entries index-bytes → file ≡ bytes ++ index-bytes ++ number64 root ++ magic → (tree : Tree) × IsTreeOf given tree × IsFile tree file
+file_whole v given device measurement bytes file index-bytes root entries closed index_is is =
     let all = all_groups v given device measurement bytes entries closed in
     let groups = closed.groups ++ group_like v device closed.chunks (few_chunks given device measurement bytes entries closed) ∷ [] in
-    let n : length entries ≡ length (chunks_of (closed.groups ++ group_like v device closed.chunks (few_chunks given device measurement bytes entries closed) ∷ [])) = count_entries groups bytes entries all.laid in
+    let n : length entries ≡ length (chunks_of (closed.groups ++ group_like v device closed.chunks (few_chunks given device measurement bytes entries closed) ∷ [])) = count_entries groups bytes entries all.layout in
     let few = subst (λ k. k ≤ max_chunks) n closed.few in
     let m = few_groups groups all.good in
     let small : length (closed.groups ++ group_like v device closed.chunks (few_chunks given device measurement bytes entries closed) ∷ []) < 2 ^ 63 = omega (arith, m, few) in
     let tree : Tree = record { groups = vec_like v groups small } in (
       tree,
       record { is-tree = record { some = all.some; few = few; groups = all.good; rising = all.rising }; chunks = all.of },
-      file_made tree bytes file index-bytes root entries all.laid spelled is,
+      file_made tree bytes file index-bytes root entries all.layout index_is is,
     )

@@ -1,28 +1,18 @@
 -- Series one behind another, as the chunks of groups.
-use Rattle.std.proofs.Common.{◌≡◌, ℕ, zero, suc, ◌+◌, ◌-◌, ◌<◌, ◌≤◌, ◌^◌, List, [], ◌∷◌, ◌++◌, length, get_or, map, ⊎_elim, inl, inr, refl, sym, ap, ◌∙◌, subst, append_assoc, arith}
-use Rattle.std.specs.Prelude.{◌<ℤ◌, All, AllPairs, Contains}
-use Rattle.std.specs.Int.{w64}
-use Rattle.std.specs.List.{flat_map}
+use Rattle.std.proofs.Common.{◌≡◌, ℕ, ◌+◌, ◌-◌, ◌<◌, ◌≤◌, ◌^◌, List, [], ◌∷◌, ◌++◌, length, map, refl, ap, subst, arith}
+use Rattle.std.specs.Prelude.{All}
 use Rattle.std.specs.declared.vec.Vec.{Vec}
 use Rattle.std.specs.Global.{Global}
 use Rattle.std.proofs.lemmas.Cmp.{nat_list_cmp_total}
-use Rattle.std.proofs.lemmas.List.{append-nil, get_or-append-add, length-append, map-append}
-use Rattle.std.proofs.lemmas.List.Elements.{All-contains, All-head, All-tail}
-use Rattle.tsdb_base.specs.declared.point.Point.{Point}
-use Rattle.tsdb_base.specs.declared.value.DataType.{DataType}
-use Rattle.tsdb_base.specs.declared.value.Encoding.{Encoding}
+use Rattle.std.proofs.lemmas.List.{get_or-append-add, length-append, map-append}
+use Rattle.std.proofs.lemmas.List.Elements.{All-head, All-tail}
 use Rattle.tsdb_base.specs.Limits.{max_values}
-use Rattle.tsdb_index.specs.declared.index.IndexEntry.{IndexEntry}
-use Rattle.tsdb_index.specs.Entries as index
 use Rattle.tsdb_pages.specs.declared.tree.Page.{Page}
 use Rattle.tsdb_pages.specs.declared.tree.Chunk.{Chunk}
 use Rattle.tsdb_pages.specs.declared.tree.Group.{Group}
-use Rattle.tsdb_pages.specs.Pages.{ArePoints, IsRising}
-use Rattle.tsdb_pages.specs.Trees.{IsBefore, IsChunk, IsGroup, chunks_of, points_of}
-use Rattle.tsdb_pages.proofs.Order.{pairs_append}
+use Rattle.tsdb_pages.specs.Trees.{IsBefore, IsGroup, chunks_of}
 use Rattle.tsfile_writer.specs.Given.{AreChunksOf, AreFilled, IsChunkOf, Series, placed}
-use Rattle.tsfile_writer.specs.Building.{AreGrouped}
-use Rattle.tsfile_writer.proofs.Laying.{flat_push}
+use Rattle.tsdb_pages.proofs.Entries.{flat_push}
 
 -- ---- lists
 
@@ -52,23 +42,6 @@ pub all_behind : {A : Type 0} (P : A → Type 0) (xs ys : List A) → All P (xs 
 all_behind P xs ys all k d lt =
     let n : length (xs ++ ys) ≡ length xs + length ys = length-append xs ys in
     subst P (get_or-append-add xs ys k d) (all (length xs + k) d (omega (arith, lt, n)))
-
-pub pairs_one : {A : Type 0} (R : A → A → Type 0) (x : A) → AllPairs R (x ∷ [])
-pairs_one R x i j d lt within = absurd (omega arith)
-
-pub pairs_push : {A : Type 0} (R : A → A → Type 0) (xs : List A) (y : A) → AllPairs R xs → All (λ x. R x y) xs → AllPairs R (xs ++ y ∷ [])
-pairs_push R xs y pairs before = pairs_append R xs (y ∷ []) pairs (pairs_one R y) (λ x z in_xs in_y. subst (R x) (sym (only y z in_y)) (All-contains (λ x. R x y) xs x before in_xs))
-  where
-    only : {A : Type 0} (y z : A) → Contains (y ∷ []) z → z ≡ y
-    only y z (zero, lt, at) = sym at
-    only y z (suc k, lt, at) = absurd (omega arith)
-
--- of pairs in two lists, those in the second
-pub pairs_behind : {A : Type 0} (R : A → A → Type 0) (xs ys : List A) → AllPairs R (xs ++ ys) → AllPairs R ys
-pairs_behind R xs ys pairs i j d lt within =
-    let n : length (xs ++ ys) ≡ length xs + length ys = length-append xs ys in
-    let step = pairs (length xs + i) (length xs + j) d (omega (arith, lt)) (omega (arith, within, n)) in
-    subst (λ b. R (get_or ys i d) b) (get_or-append-add xs ys j d) (subst (λ a. R a (get_or (xs ++ ys) (length xs + j) d)) (get_or-append-add xs ys i d) step)
 
 -- ---- names
 

@@ -1,4 +1,4 @@
-pub mod Laying
+pub mod Appending
 pub mod Grouping
 pub mod Waiting
 pub mod Closing

@@ -1,5 +1,5 @@
 -- What a builder has of the series that it was given. The clauses of its calls name `WasGiven` alone.
-use Rattle.std.specs.Prelude.{◌≡◌, ◌≢◌, ◌⊎◌, ℕ, ◌<◌, ◌≤◌, Bool, true, false, Option, None, Some, List, [], ◌∷◌, ◌++◌}
+use Rattle.std.specs.Prelude.{◌≡◌, ◌≢◌, ℕ, ◌<◌, ◌≤◌, Bool, true, false, Option, None, Some, List, [], ◌∷◌, ◌++◌}
 use Rattle.std.specs.Prelude.{length, map, All, AllPairs}
 use Rattle.tsdb_base.specs.declared.point.Point.{Point}
 use Rattle.tsdb_base.specs.declared.value.DataType.{DataType}
@@ -11,6 +11,7 @@ use Rattle.tsdb_index.specs.declared.index.IndexEntry.{IndexEntry}
 use Rattle.tsdb_pages.specs.declared.tree.Page.{Page}
 use Rattle.tsdb_pages.specs.declared.tree.Chunk.{Chunk}
 use Rattle.tsdb_pages.specs.declared.tree.Group.{Group}
+use Rattle.tsdb_pages.specs.File.{chunk_start, page_bytes}
 use Rattle.tsdb_pages.specs.Limits.{max_chunks, max_pages}
 use Rattle.tsdb_pages.specs.Pages.{ArePoints, IsRising}
 use Rattle.tsdb_pages.specs.Trees.{IsBefore, IsChunk, IsGroup, points_of}
@@ -18,7 +19,7 @@ use Rattle.tsfile_writer.specs.declared.builder.Builder.{Builder}
 use Rattle.tsfile_writer.specs.declared.builder.OpenSeries.{OpenSeries}
 use Rattle.tsfile_writer.specs.declared.layout.OpenChunk.{OpenChunk}
 use Rattle.tsfile_writer.specs.Given.{AreChunksOf, Series, placed}
-use Rattle.tsfile_writer.specs.Steps.{AreChunks, ArePages, IsBegun, IsLonger, SameChunk, chunk_start, page_bytes}
+use Rattle.tsfile_writer.specs.Steps.{AreChunks, ArePages, IsBegun, IsLonger, SameChunk}
 use Rattle.tsfile_writer.specs.Steps.{start_if}
 
 -- a chunk of this device begins a group behind these entries, or it does not
@@ -66,7 +67,7 @@ StandIn groups chunks pages bytes entries path data_type encoding (Some chunk) =
     entries chunk
 
 -- these series were given, and the last of them is at this path, with this chunk, and these points wait
-pub record IsKept (given : List Series) (bytes : List ℕ) (entries : List IndexEntry) (path : List ℕ)
+pub record BuildState (given : List Series) (bytes : List ℕ) (entries : List IndexEntry) (path : List ℕ)
     (data_type : DataType) (encoding : Encoding) (chunk : Option OpenChunk) (points : List Point) : Type 0 where
   pub front : List Series
   pub last : Series
@@ -82,8 +83,8 @@ pub record IsKept (given : List Series) (bytes : List ℕ) (entries : List Index
 
 -- these series were given, and the last of them is open
 abbrev pub IsBuilding : List Series → List ℕ → List IndexEntry → OpenSeries → Type 0
-IsBuilding given bytes entries waits = IsKept given bytes entries waits.path waits.data_type waits.encoding waits.chunk
-    waits.points.items
+IsBuilding given bytes entries waits = BuildState given bytes entries waits.path waits.data_type waits.encoding
+    waits.chunk waits.points.items
 
 -- nothing was given, and nothing stands
 pub record IsEmpty (given : List Series) (bytes : List ℕ) (entries : List IndexEntry) : Type 0 where
@@ -109,7 +110,7 @@ pub record AreClosed (given : List Series) (device measurement : List ℕ) (byte
   pub grouped : AreGrouped given groups device chunks
   pub some : 0 < length chunks
   pub before : (next : List ℕ) → IsBefore measurement next → All (λ chunk. IsBefore chunk.measurement next) chunks
-  pub laid : AreChunks groups device chunks bytes entries
+  pub layout : AreChunks groups device chunks bytes entries
   pub few : length entries ≤ max_chunks
   pub front : List IndexEntry
   pub entry : IndexEntry

@@ -5,32 +5,17 @@ use Rattle.tsdb_base.specs.declared.point.Point.{Point}
 use Rattle.tsdb_base.specs.declared.point.Stats.{Stats}
 use Rattle.tsdb_base.specs.declared.value.DataType.{DataType}
 use Rattle.tsdb_base.specs.declared.value.Encoding.{Encoding}
-use Rattle.tsdb_base.specs.Fields.{number32, type_field, encoding_field}
-use Rattle.tsdb_base.specs.Plain.{plain_text}
 use Rattle.tsdb_index.specs.declared.index.IndexEntry.{IndexEntry}
 use Rattle.tsdb_index.specs.declared.index.PageEntry.{PageEntry}
 use Rattle.tsdb_pages.specs.declared.tree.Page.{Page}
 use Rattle.tsdb_pages.specs.declared.tree.Chunk.{Chunk}
 use Rattle.tsdb_pages.specs.declared.tree.Group.{Group}
-use Rattle.tsdb_pages.specs.File.{ArePageEntries, AreEntries, AreEntriesOf, chunk_field, group_field, head, page_field}
+use Rattle.tsdb_pages.specs.File.{AreEntries, AreEntriesOf, ArePageEntries, chunk_field, chunk_start, group_field}
+use Rattle.tsdb_pages.specs.File.{group_start, head, page_field}
 use Rattle.tsdb_pages.specs.Limits.{max_pages}
-use Rattle.tsdb_pages.specs.Pages.{body}
 use Rattle.tsdb_pages.specs.Trees.{points_of}
 use Rattle.tsdb_stats.specs.Statistics.{AreStatsOf}
 use Rattle.tsfile_writer.specs.declared.layout.OpenChunk.{OpenChunk}
-
--- what stands before a group's chunks
-abbrev pub group_start : List ℕ → List ℕ
-group_start device = 71 ∷ plain_text device
-
--- what stands before a chunk's pages
-abbrev pub chunk_start : List ℕ → DataType → Encoding → List ℕ
-chunk_start measurement data_type encoding =
-    67 ∷ plain_text measurement ++ type_field data_type ++ encoding_field encoding
-
--- a page of these points
-abbrev pub page_bytes : Encoding → List Point → List ℕ
-page_bytes encoding points = 80 ∷ number32 (length (body encoding points)) ++ body encoding points
 
 -- what stands before a group's chunks, where a group begins
 abbrev pub start_if : Bool → List ℕ → List ℕ
@@ -38,8 +23,8 @@ start_if true device = group_start device
 start_if false device = []
 
 -- the statistics of points that stand behind others
-abbrev pub IsJoined : Stats → Stats → Stats → Type 0
-IsJoined left right all = (before behind : List Point) → AreStatsOf before left → AreStatsOf behind right
+abbrev pub AreStatsOfBoth : Stats → Stats → Stats → Type 0
+AreStatsOfBoth left right all = (before behind : List Point) → AreStatsOf before left → AreStatsOf behind right
     → AreStatsOf (before ++ behind) all
 
 -- an entry for a page of these points at this place

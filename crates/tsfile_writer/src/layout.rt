@@ -6,11 +6,10 @@ ghost use Rattle.tsdb_base.specs.declared.point.Point.{Point as PointOf};
 ghost use Rattle.tsdb_base.specs.Fields.{number64};
 ghost use Rattle.tsdb_base.specs.Values.{is_suitable};
 ghost use Rattle.tsdb_index.specs.Spelling.{IsSpelling};
-ghost use Rattle.tsdb_pages.specs.File.{magic};
+ghost use Rattle.tsdb_pages.specs.File.{chunk_start, group_start, magic, page_bytes};
 ghost use Rattle.tsdb_pages.specs.Pages.{ArePoints};
 ghost use Rattle.tsdb_stats.specs.Statistics.{AreStatsOf};
-ghost use Rattle.tsfile_writer.specs.Steps.{page_bytes, chunk_start, group_start, IsBegun, IsJoined, IsLonger};
-ghost use Rattle.tsfile_writer.specs.Steps.{SameChunk};
+ghost use Rattle.tsfile_writer.specs.Steps.{AreStatsOfBoth, IsBegun, IsLonger, SameChunk};
 
 use std::alloc::Global;
 use tsdb_base::{DataType, Encoding, Memory, PlainValue, Point, Stats, Value};
@@ -144,7 +143,7 @@ fn copy_stats(stats: &Stats) -> Result<Stats, Memory>
 
 /// The statistics of the points of the first and of those behind them. A count of 2^64 points is a shortage of memory.
 fn join_stats(before: &Stats, behind: &Stats) -> Result<Stats, Memory>
-    ensures { IfOk result (IsJoined before.now behind.now) }
+    ensures { IfOk result (AreStatsOfBoth before.now behind.now) }
 {
     if before.count.checked_add(behind.count).is_none() {
         return Err(Memory);

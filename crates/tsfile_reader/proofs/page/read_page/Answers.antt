@@ -2,7 +2,8 @@ use Rattle.std.proofs.Common.{List, ℕ, Vec, Global, Bor, Err, ap}
 use Rattle.std.proofs.lemmas.Result.{err_from_is_err_and}
 use Rattle.tsdb_base.specs.declared.point.Point.{Point}
 use Rattle.tsdb_fields.proofs.Parts.{part_fault}
-use Rattle.tsfile_reader.specs.Page.{AreGood, page_bytes}
+use Rattle.tsdb_pages.specs.File.{page_bytes}
+use Rattle.tsfile_reader.specs.Page.{AreGood}
 use Rattle.tsfile_reader.specs.Steps.{IsBodySize, body_bytes}
 use Rattle.tsfile_reader.proofs.Heads.{no_body, no_points}
 use Rattle.tsfile_reader.proofs.page.read_page.Goals as goal

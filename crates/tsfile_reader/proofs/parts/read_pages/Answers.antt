@@ -3,7 +3,8 @@ use Rattle.tsdb_base.specs.declared.point.Point.{Point}
 use Rattle.tsdb_fields.specs.declared.rest.Rest.{Rest}
 use Rattle.tsdb_pages.specs.declared.tree.Page.{Page}
 use Rattle.tsfile_reader.specs.declared.parts.Pages.{Pages}
-use Rattle.tsfile_reader.specs.Page.{AreGood, page_bytes}
+use Rattle.tsdb_pages.specs.File.{page_bytes}
+use Rattle.tsfile_reader.specs.Page.{AreGood}
 use Rattle.tsfile_reader.specs.Parts.{Part}
 use Rattle.tsfile_reader.specs.Steps.{AreLaterPoints, ReadsPages, StopsBehind}
 use Rattle.tsfile_reader.proofs.PageLoop.{first_so_far, next_so_far, none_first, none_later, place_of_next, room, stop}

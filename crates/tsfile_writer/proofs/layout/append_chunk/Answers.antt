@@ -1,6 +1,6 @@
 use Rattle.std.proofs.Common.{◌≡◌, ◌+◌, ap, ◌∙◌, length, rules}
 use Rattle.std.proofs.lemmas.List.{length-append}
-use Rattle.tsfile_writer.specs.Steps.{chunk_start}
+use Rattle.tsdb_pages.specs.File.{chunk_start}
 use Rattle.tsfile_writer.proofs.layout.append_chunk.Goals as goal
 
 pub returns-clause-chunk : goal.returns-clause-chunk

@@ -2,7 +2,7 @@ use Rattle.std.proofs.Common.{List, [], subst, take, rules}
 use Rattle.std.proofs.lemmas.List.{take_all}
 use Rattle.tsdb_pages.specs.declared.tree.Group.{Group}
 use Rattle.tsfile_writer.specs.Steps.{AreGroups}
-use Rattle.tsfile_writer.proofs.Laying.{file_made, if_ok_then, more_taken, some_entry}
+use Rattle.tsfile_writer.proofs.Appending.{file_made, if_ok_then, more_taken, some_entry}
 use Rattle.tsfile_writer.proofs.tree.write_tree.Goals as goal
 
 pub loop-group-preserved : goal.loop-group-preserved
@@ -22,7 +22,7 @@ append_end-requires c =
 pub returns : goal.returns
 returns c =
     let groups = c.args.tree.now.groups.items in
-    let laid = subst (λ (gs : List Group). AreGroups gs c.loop-group.bytes.items c.loop-group.entries.items) (take_all c.loop-group.group-index groups (search rules)) c.loop-group.invariant in
+    let layout = subst (λ (gs : List Group). AreGroups gs c.loop-group.bytes.items c.loop-group.entries.items) (take_all c.loop-group.group-index groups (search rules)) c.loop-group.invariant in
     if_ok_then _ _ c.append_end.result
-    (λ file made. file_made c.args.tree.now c.loop-group.bytes.items file.items made.0 made.1 c.loop-group.entries.items laid made.2 made.3)
+    (λ file made. file_made c.args.tree.now c.loop-group.bytes.items file.items made.0 made.1 c.loop-group.entries.items layout made.2 made.3)
     c.append_end.ensures

@@ -3,30 +3,30 @@ use Rattle.std.specs.Prelude.{Option}
 use Rattle.tsdb_index.specs.declared.index.IndexEntry.{IndexEntry}
 use Rattle.tsdb_pages.specs.Limits.{max_chunks}
 use Rattle.tsfile_writer.specs.declared.layout.OpenChunk.{OpenChunk}
-use Rattle.tsfile_writer.specs.Building.{IsKept, PutsIn}
-use Rattle.tsfile_writer.proofs.Laying.{always_on_err}
-use Rattle.tsfile_writer.proofs.Waiting.{are_points, kept_as, some_wait}
+use Rattle.tsfile_writer.specs.Building.{BuildState, PutsIn}
+use Rattle.tsfile_writer.proofs.Appending.{always_on_err}
+use Rattle.tsfile_writer.proofs.Waiting.{are_points, state_as, some_wait}
 use Rattle.tsfile_writer.proofs.Closing.{series_closed}
 use Rattle.tsfile_writer.proofs.builder.OpenSeries.close.Goals as goal
 
 pub put_page-requires-clause-points : goal.put_page-requires-clause-points
 put_page-requires-clause-points c =
     let self = c.args.self.now in
-    let kept = c.requires.2 in
-    are_points kept.last kept.pages self.path self.data_type self.encoding self.points.items kept.is
-    (some_wait c.requires.0 c.requires.1 c.args.into.now.items c.args.entries.now.items self.path self.data_type self.encoding self.chunk self.points.items kept c.requires.3)
+    let state = c.requires.2 in
+    are_points state.last state.pages self.path self.data_type self.encoding self.points.items state.is
+    (some_wait c.requires.0 c.requires.1 c.args.into.now.items c.args.entries.now.items self.path self.data_type self.encoding self.chunk self.points.items state c.requires.3)
 
 pub returns-in_err-put_page-clause-memory : goal.returns-in_err-put_page-clause-memory
-returns-in_err-put_page-clause-memory c = always_on_err c.from_residual-in_err-put_page.result (λ given kept.
+returns-in_err-put_page-clause-memory c = always_on_err c.from_residual-in_err-put_page.result (λ given state.
     let self = c.args.self.now in
     let after = c.put_page.new.self in
     let put = c.in_err-put_page.ensures in
-    subst (λ (entries : List IndexEntry). IsKept given c.put_page.new.into.items entries after.path after.data_type after.encoding after.chunk after.points.items) (sym c.in_ok-reserve.ensures.items)
-    (kept_as given c.args.into.now.items c.put_page.new.into.items c.args.entries.now.items self.path after.path self.data_type after.data_type self.encoding after.encoding self.chunk after.chunk self.points.items after.points.items
-    kept put.same_bytes put.same.path-is put.same.type-is put.same.encoding-is put.same.points-are put.same_chunk))
+    subst (λ (entries : List IndexEntry). BuildState given c.put_page.new.into.items entries after.path after.data_type after.encoding after.chunk after.points.items) (sym c.in_ok-reserve.ensures.items)
+    (state_as given c.args.into.now.items c.put_page.new.into.items c.args.entries.now.items self.path after.path self.data_type after.data_type self.encoding after.encoding self.chunk after.chunk self.points.items after.points.items
+    state put.same_bytes put.same.path-is put.same.type-is put.same.encoding-is put.same.points-are put.same_chunk))
 
 pub returns-clause-ok : goal.returns-clause-ok
-returns-clause-ok c = λ given kept.
+returns-clause-ok c = λ given state.
     let self = c.args.self.now in
     let put = c.in_ok-put_page.ensures in
     let said = c.into_entry-entry.ensures in
@@ -39,7 +39,7 @@ returns-clause-ok c = λ given kept.
     let room : length c.args.entries.now.items < max_chunks = grind (arith, c.if-len-ge-MAX_CHUNKS.false) in
     let some = some_wait c.requires.0 c.requires.1 c.args.into.now.items entries self.path self.data_type self.encoding self.chunk self.points.items c.requires.2 c.requires.3 in
     series_closed c.args.into.now given (record { points = self.points }) c.args.into.now.items c.put_page.new.into.items entries c.push.new.self.items self.path self.data_type self.encoding self.chunk whole self.points.items c.into_entry-entry.result
-    kept some refl puts
+    state some refl puts
     (record {
       device-is = said.device ∙ c.in_ok-device.ensures;
       measurement-is = said.measurement ∙ c.in_ok-measurement.ensures;

@@ -1,0 +1,210 @@
+-- Pages, chunks and groups appended one behind another.
+use Rattle.std.proofs.Common.{◌≡◌, ℕ, ◌+◌, ◌-◌, ◌<◌, ◌≤◌, List, [], ◌∷◌, ◌++◌, length, take, drop, get_or, Ok, Err, sym, ap, ◌∙◌, subst, append_assoc, arith}
+use Rattle.std.specs.Prelude.{All, IfOk, OnErr, Result}
+use Rattle.std.specs.List.{flat_map}
+use Rattle.std.proofs.lemmas.List.{append-nil, length-append, length-drop, take-append-drop, take_all, take_more}
+use Rattle.std.proofs.lemmas.List.Elements.{All-head}
+use Rattle.tsdb_base.specs.declared.point.Point.{Point}
+use Rattle.tsdb_base.specs.declared.value.DataType.{DataType}
+use Rattle.tsdb_base.specs.declared.value.Encoding.{Encoding}
+use Rattle.tsdb_base.specs.Fields.{number64}
+use Rattle.tsdb_index.specs.declared.index.IndexEntry.{IndexEntry}
+use Rattle.tsdb_index.specs.declared.index.PageEntry.{PageEntry}
+use Rattle.tsdb_index.specs.Spelling as index
+use Rattle.tsdb_pages.specs.declared.tree.Page.{Page}
+use Rattle.tsdb_pages.specs.declared.tree.Chunk.{Chunk}
+use Rattle.tsdb_pages.specs.declared.tree.Group.{Group}
+use Rattle.tsdb_pages.specs.declared.tree.Tree.{Tree}
+use Rattle.tsdb_pages.specs.File.{AreEntries, ArePageEntries, IsEntry, IsFile, IsPageEntry, chunk_field, chunk_start, group_field, group_head, group_start, head, magic, page_bytes, page_field}
+use Rattle.tsdb_pages.specs.Trees.{IsGroup, chunks_of, points_of}
+use Rattle.tsdb_pages.proofs.Entries.{chunks_push, count_all, flat_push, groups_push, pages_push}
+use Rattle.tsdb_stats.specs.Statistics.{AreStatsOf}
+use Rattle.tsfile_writer.specs.declared.layout.OpenChunk.{OpenChunk}
+use Rattle.tsfile_writer.specs.Steps.{AreChunks, AreGroups, ArePages, IsBegun, IsLonger, SameChunk}
+
+-- the items that a loop has taken, and the next
+pub more_taken : {A : Type 0} (front items others : List A) (i : ℕ) (item : A) → others ≡ items → i < length others → item ≡ get_or others i item → (front ++ take i items) ++ item ∷ [] ≡ front ++ take (i + 1) items
+more_taken {A} front items others i item same lt is =
+    subst (λ (l : List A). (front ++ take i l) ++ item ∷ [] ≡ front ++ take (i + 1) l) same
+    (append_assoc front (take i others) (item ∷ []) ∙ ap (λ (l : List A). front ++ l) (sym (take_more others i item lt ∙ ap (λ (a : A). take i others ++ a ∷ []) (sym is))))
+
+-- the first item by itself
+pub first_taken : {A : Type 0} (items : List A) (item : A) → 0 < length items → item ≡ get_or items 0 item → item ∷ [] ≡ take 1 items ++ []
+first_taken [] item some is = absurd (omega arith)
+first_taken {A} (x ∷ xs) item some is = ap (λ (a : A). a ∷ []) is
+
+-- the first item, and all others
+pub all_taken : {A : Type 0} (items others : List A) (i : ℕ) → others ≡ items → length (take (length others - 1) (drop 1 others)) ≤ i → take 1 items ++ take i (take (length others - 1) (drop 1 others)) ≡ items
+all_taken {A} items others i same end =
+    let rest : take (length others - 1) (drop 1 others) ≡ drop 1 others = take_all (length others - 1) (drop 1 others) (omega (arith, length-drop 1 others)) in
+    let whole : take i (take (length others - 1) (drop 1 others)) ≡ take (length others - 1) (drop 1 others) = take_all i (take (length others - 1) (drop 1 others)) end in
+    ap (λ (l : List A). take 1 items ++ l) (whole ∙ rest ∙ ap (drop 1) same) ∙ take-append-drop 1 items
+
+-- what follows of what a call returned
+pub if_ok_then : {A E : Type 0} (P Q : A → Type 0) (result : Result A E) → ((a : A) → P a → Q a) → IfOk result P → IfOk result Q
+if_ok_then P Q (Ok a) step is = step a is
+if_ok_then P Q (Err e) step is = is
+
+-- what holds in any case holds after an error
+pub always_on_err : {T E P : Type 0} (result : Result T E) → P → OnErr result P
+always_on_err (Ok a) is = tt
+always_on_err (Err e) is = is
+
+-- ---- how many
+
+pub count_entries : (groups : List Group) (bytes : List ℕ) (entries : List IndexEntry) → AreGroups groups bytes entries → length entries ≡ length (chunks_of groups)
+count_entries groups bytes entries layout = sym (ap length layout.all) ∙ count_all (length head) groups layout.by_group layout.say
+
+-- a tree has a chunk
+pub some_chunk : (groups : List Group) → 0 < length groups → All IsGroup groups → 0 < length (chunks_of groups)
+some_chunk [] some good = absurd (omega arith)
+some_chunk (g ∷ gs) some good =
+    let here : 0 < length g.chunks.items = (All-head IsGroup g gs good).some in
+    let m : length (g.chunks.items ++ chunks_of gs) ≡ length g.chunks.items + length (chunks_of gs) = length-append g.chunks.items (chunks_of gs) in
+    omega (arith, here, m)
+
+pub some_entry : (groups : List Group) (bytes : List ℕ) (entries : List IndexEntry) → AreGroups groups bytes entries → 0 < length groups → All IsGroup groups → 0 < length entries
+some_entry groups bytes entries layout some good = subst (λ n. 0 < n) (sym (count_entries groups bytes entries layout)) (some_chunk groups some good)
+
+-- ---- the steps
+
+pub no_groups : (bytes : List ℕ) (entries : List IndexEntry) → bytes ≡ head → entries ≡ [] → AreGroups [] bytes entries
+no_groups bytes entries is none = record { bytes-are = is ∙ sym (append-nil head); by_group = []; all = sym none; say = tt }
+
+pub group_begun : (groups : List Group) (device : List ℕ) (old new : List ℕ) (entries : List IndexEntry) → AreGroups groups old entries → new ≡ old ++ group_start device → AreChunks groups device [] new entries
+group_begun groups device old new entries layout added = record {
+  bytes-before = old;
+  entries-before = entries;
+  before = layout;
+  bytes-are = added ∙ ap (λ (l : List ℕ). old ++ l) (sym (append-nil (group_start device)));
+  own = [];
+  all = sym (append-nil entries);
+  say = tt;
+}
+
+pub chunk_begun : (groups : List Group) (device : List ℕ) (chunks : List Chunk) (measurement : List ℕ) (data_type : DataType) (encoding : Encoding) (page : Page) (points : List Point) (old new : List ℕ) (entries : List IndexEntry) (chunk : OpenChunk)
+    → AreChunks groups device chunks old entries → page.points.items ≡ points → new ≡ old ++ (chunk_start measurement data_type encoding ++ page_bytes encoding points) → IsBegun (length old) (length (chunk_start measurement data_type encoding)) points chunk
+    → ArePages groups device chunks measurement data_type encoding (page ∷ []) new entries chunk
+chunk_begun groups device chunks measurement data_type encoding page points old new entries chunk layout same added begun = record {
+  bytes-before = old;
+  before = layout;
+  bytes-are = added ∙ ap (λ (p : List Point). old ++ (chunk_start measurement data_type encoding ++ page_bytes encoding p)) (sym same)
+      ∙ ap (λ (l : List ℕ). old ++ (chunk_start measurement data_type encoding ++ l)) (sym (append-nil (page_field encoding page)));
+  is = record {
+    place-is = begun.place-is;
+    stats = subst (λ (p : List Point). AreStatsOf p chunk.stats) (sym same ∙ sym (append-nil page.points.items)) begun.stats;
+    say = subst (λ (l : List PageEntry). ArePageEntries encoding (length old + length (chunk_start measurement data_type encoding)) (page ∷ []) l) (sym begun.pages-are)
+        (record { place-is = begun.is.place-is; stats = subst (λ (p : List Point). AreStatsOf p begun.entry.stats) (sym same) begun.is.stats }, tt);
+  };
+}
+
+-- bytes behind two parts and a third
+place_behind : (bytes a b c : List ℕ) → bytes ≡ a ++ (b ++ c) → length bytes ≡ length a + length b + length c
+place_behind bytes a b c is =
+    let n : length (a ++ (b ++ c)) ≡ length a + length (b ++ c) = length-append a (b ++ c) in
+    let m : length (b ++ c) ≡ length b + length c = length-append b c in
+    let l : length bytes ≡ length (a ++ (b ++ c)) = ap length is in
+    omega (arith, n, m, l)
+
+-- bytes behind three parts
+more_behind : (bytes new a b c d : List ℕ) → bytes ≡ a ++ (b ++ c) → new ≡ bytes ++ d → new ≡ a ++ (b ++ (c ++ d))
+more_behind bytes new a b c d is added =
+    added ∙ ap (λ (l : List ℕ). l ++ d) is ∙ append_assoc a (b ++ c) d ∙ ap (λ (l : List ℕ). a ++ l) (append_assoc b c d)
+
+pub page_added : (groups : List Group) (device : List ℕ) (chunks : List Chunk) (measurement : List ℕ) (data_type : DataType) (encoding : Encoding) (pages : List Page) (page : Page) (points : List Point) (before after : List ℕ) (entries : List IndexEntry) (old new : OpenChunk)
+    → ArePages groups device chunks measurement data_type encoding pages before entries old → page.points.items ≡ points → after ≡ before ++ page_bytes encoding points → IsLonger (length before) points old new
+    → ArePages groups device chunks measurement data_type encoding (pages ++ page ∷ []) after entries new
+page_added groups device chunks measurement data_type encoding pages page points before after entries old new layout same added longer =
+    let start = chunk_start measurement data_type encoding in
+    let first = length layout.bytes-before + length start in
+    let page_fields = flat_map (page_field encoding) pages in
+    let place : length before ≡ length layout.bytes-before + length (chunk_start measurement data_type encoding) + length (flat_map (page_field encoding) pages) = place_behind before layout.bytes-before start page_fields layout.bytes-are in
+    let here : IsPageEntry (length layout.bytes-before + length (chunk_start measurement data_type encoding) + length (flat_map (page_field encoding) pages)) page longer.entry =
+    record { place-is = longer.is.place-is ∙ place; stats = subst (λ (p : List Point). AreStatsOf p longer.entry.stats) (sym same) longer.is.stats } in
+    record {
+      bytes-before = layout.bytes-before;
+      before = layout.before;
+      bytes-are = more_behind before after layout.bytes-before start page_fields (page_field encoding page) layout.bytes-are (added ∙ ap (λ (p : List Point). before ++ page_bytes encoding p) (sym same))
+          ∙ ap (λ (l : List ℕ). layout.bytes-before ++ (start ++ l)) (sym (flat_push (page_field encoding) pages page));
+      is = record {
+        place-is = longer.place-is ∙ layout.is.place-is;
+        stats = subst (λ (p : List Point). AreStatsOf p new.stats) (ap (λ (p : List Point). points_of pages ++ p) (sym same) ∙ sym (flat_push (λ (p : Page). p.points.items) pages page)) (longer.stats (points_of pages) layout.is.stats);
+        say = subst (λ (l : List PageEntry). ArePageEntries encoding (length layout.bytes-before + length (chunk_start measurement data_type encoding)) (pages ++ page ∷ []) l) (sym longer.pages-are)
+            (pages_push encoding first pages old.pages.items page longer.entry layout.is.say here);
+      };
+    }
+
+-- the pages of a chunk of which the same is said
+pub same_pages : (groups : List Group) (device : List ℕ) (chunks : List Chunk) (measurement : List ℕ) (data_type : DataType) (encoding : Encoding) (pages : List Page) (before after : List ℕ) (entries : List IndexEntry) (old new : OpenChunk)
+    → ArePages groups device chunks measurement data_type encoding pages before entries old → after ≡ before → SameChunk old new → ArePages groups device chunks measurement data_type encoding pages after entries new
+same_pages groups device chunks measurement data_type encoding pages before after entries old new layout same same_chunk = record {
+  bytes-before = layout.bytes-before;
+  before = layout.before;
+  bytes-are = same ∙ layout.bytes-are;
+  is = record {
+    place-is = same_chunk.place-is ∙ layout.is.place-is;
+    stats = subst (AreStatsOf (points_of pages)) (sym same_chunk.stats) layout.is.stats;
+    say = subst (λ (l : List PageEntry). ArePageEntries encoding (length layout.bytes-before + length (chunk_start measurement data_type encoding)) pages l) (sym same_chunk.pages-are) layout.is.say;
+  };
+}
+
+-- the entry of a chunk says what is said of it so far
+pub record IsEntryOf (device measurement : List ℕ) (data_type : DataType) (encoding : Encoding) (chunk : OpenChunk) (entry : IndexEntry) : Type 0 where
+  pub device-is : entry.device ≡ device
+  pub measurement-is : entry.measurement ≡ measurement
+  pub type-is : entry.data_type ≡ data_type
+  pub encoding-is : entry.encoding ≡ encoding
+  pub place-is : entry.place ≡ chunk.place
+  pub stats : entry.stats ≡ chunk.stats
+  pub pages-are : entry.pages.items ≡ chunk.pages.items
+
+pub chunk_ended : (groups : List Group) (device : List ℕ) (chunks : List Chunk) (chunk : Chunk) (bytes : List ℕ) (before after : List IndexEntry) (open_chunk : OpenChunk) (entry : IndexEntry)
+    → ArePages groups device chunks chunk.measurement chunk.data_type chunk.encoding chunk.pages.items bytes before open_chunk → IsEntryOf device chunk.measurement chunk.data_type chunk.encoding open_chunk entry → after ≡ before ++ entry ∷ []
+    → AreChunks groups device (chunks ++ chunk ∷ []) bytes after
+chunk_ended groups device chunks chunk bytes before after open_chunk entry layout is added =
+    let start = chunk_start chunk.measurement chunk.data_type chunk.encoding in
+    let chunk_fields = flat_map chunk_field chunks in
+    let place : length layout.bytes-before ≡ length layout.before.bytes-before + length (group_start device) + length (flat_map chunk_field chunks) = place_behind layout.bytes-before layout.before.bytes-before (group_start device) chunk_fields layout.before.bytes-are in
+    let here : IsEntry device (length layout.bytes-before) chunk entry = record {
+      device-is = is.device-is;
+      measurement-is = is.measurement-is;
+      type-is = is.type-is;
+      encoding-is = is.encoding-is;
+      place-is = is.place-is ∙ layout.is.place-is;
+      stats = subst (AreStatsOf (points_of chunk.pages.items)) (sym is.stats) layout.is.stats;
+      pages = subst (λ (l : List PageEntry). ArePageEntries chunk.encoding (length layout.bytes-before + length (chunk_start chunk.measurement chunk.data_type chunk.encoding)) chunk.pages.items l) (sym is.pages-are) layout.is.say;
+    }
+    in
+    record {
+      bytes-before = layout.before.bytes-before;
+      entries-before = layout.before.entries-before;
+      before = layout.before.before;
+      bytes-are = more_behind layout.bytes-before bytes layout.before.bytes-before (group_start device) chunk_fields (chunk_field chunk) layout.before.bytes-are layout.bytes-are
+          ∙ ap (λ (l : List ℕ). layout.before.bytes-before ++ (group_start device ++ l)) (sym (flat_push chunk_field chunks chunk));
+      own = layout.before.own ++ entry ∷ [];
+      all = added ∙ ap (λ (l : List IndexEntry). l ++ entry ∷ []) layout.before.all ∙ append_assoc layout.before.entries-before layout.before.own (entry ∷ []);
+      say = chunks_push device (length layout.before.bytes-before + length (group_start device)) chunks layout.before.own chunk entry layout.before.say (subst (λ n. IsEntry device n chunk entry) place here);
+    }
+
+pub group_ended : (groups : List Group) (group : Group) (bytes : List ℕ) (entries : List IndexEntry) → AreChunks groups group.device group.chunks.items bytes entries → AreGroups (groups ++ group ∷ []) bytes entries
+group_ended groups group bytes entries layout =
+    let place : length layout.bytes-before ≡ length head + length (flat_map group_field groups) = ap length layout.before.bytes-are ∙ length-append head (flat_map group_field groups) in
+    record {
+      bytes-are = layout.bytes-are ∙ ap (λ (l : List ℕ). l ++ group_field group) layout.before.bytes-are ∙ append_assoc head (flat_map group_field groups) (group_field group)
+          ∙ ap (λ (l : List ℕ). head ++ l) (sym (flat_push group_field groups group));
+      by_group = layout.before.by_group ++ layout.own ∷ [];
+      all = flat_push (λ (l : List IndexEntry). l) layout.before.by_group layout.own ∙ ap (λ (l : List IndexEntry). l ++ layout.own) layout.before.all ∙ sym layout.all;
+      say = groups_push (length head) groups layout.before.by_group group layout.own layout.before.say (subst (λ n. AreEntries group.device (n + length (group_head group)) group.chunks.items layout.own) place layout.say);
+    }
+
+-- index and tail behind the groups of a tree make its file
+pub file_made : (tree : Tree) (bytes file index-bytes : List ℕ) (root : ℕ) (entries : List IndexEntry) → AreGroups tree.groups.items bytes entries → index.IsSpelling (length bytes) root entries index-bytes
+    → file ≡ bytes ++ index-bytes ++ number64 root ++ magic → IsFile tree file
+file_made tree bytes file index-bytes root entries layout index_is is = record {
+  entries = entries;
+  root = root;
+  index-bytes = index-bytes;
+  say = record { by_group = layout.by_group; all = layout.all; say = layout.say };
+  index-is = subst (λ (l : List ℕ). index.IsSpelling (length l) root entries index-bytes) layout.bytes-are index_is;
+  bytes-are = is ∙ ap (λ (l : List ℕ). l ++ index-bytes ++ number64 root ++ magic) layout.bytes-are;
+}
