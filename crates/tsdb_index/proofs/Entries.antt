@@ -62,10 +62,10 @@ kind_of e = (e.data_type, (e.encoding, e.place))
 
 -- what is left of an entry behind each of its parts
 abbrev pub behind_number : IndexEntry → List ℕ
-behind_number e = flat_map page_field e.pages.items
+behind_number e = flat_map page_field e.pages
 
 abbrev pub behind_stats : IndexEntry → List ℕ
-behind_stats e = number32 (length e.pages.items) ++ behind_number e
+behind_stats e = number32 (length e.pages) ++ behind_number e
 
 abbrev pub behind_kind : IndexEntry → List ℕ
 behind_kind e = stats_field e.stats ++ behind_stats e
@@ -84,8 +84,8 @@ entry_apart e =
     let c = encoding_field e.encoding in
     let p = number64 e.place in
     let s = stats_field e.stats in
-    let n = number32 (length e.pages.items) in
-    let g = flat_map page_field e.pages.items in
+    let n = number32 (length e.pages) in
+    let g = flat_map page_field e.pages in
     append_assoc (d ++ m ++ t ++ c ++ p ++ s) n g ∙ append_assoc (d ++ m ++ t ++ c ++ p) s (n ++ g) ∙ append_assoc (d ++ m ++ t ++ c) p (s ++ (n ++ g)) ∙ append_assoc (d ++ m ++ t) c (p ++ (s ++ (n ++ g)))
     ∙ append_assoc (d ++ m) t (c ++ (p ++ (s ++ (n ++ g)))) ∙ append_assoc d m (t ++ (c ++ (p ++ (s ++ (n ++ g)))))
     ∙ ap (λ (l : List ℕ). d ++ (m ++ l)) (sym (append_assoc t (c ++ p) (s ++ (n ++ g)) ∙ ap (λ (l : List ℕ). t ++ l) (append_assoc c p (s ++ (n ++ g)))))
@@ -104,7 +104,7 @@ abbrev pub HasStats : List ℕ → List ℕ → DataType × (Encoding × ℕ) �
 HasStats d m k s e = HasKind d m k e × (e.stats ≡ s)
 
 abbrev pub HasNumber : List ℕ → List ℕ → DataType × (Encoding × ℕ) → Stats → ℕ → IndexEntry → Type 0
-HasNumber d m k s n e = HasStats d m k s e × (length e.pages.items ≡ n)
+HasNumber d m k s n e = HasStats d m k s e × (length e.pages ≡ n)
 
 pub no_path : (bytes : List ℕ) → BeginsWithNone plain_text IsPath bytes → BeginsWithNone entry_field IsEntry bytes
 no_path bytes none = none_here entry_field IsEntry plain_text IsPath (λ (e : IndexEntry). e.device) behind_path entry_apart (λ e is. is.device) bytes none
@@ -149,19 +149,19 @@ pub past_statistics : (d m : List ℕ) (k : DataType × (Encoding × ℕ)) (s : 
 past_statistics d m k s bytes rest is found none =
     none_behind behind_kind (HasKind d m k) stats_field (IsStatsOf k.0) (λ (e : IndexEntry). e.stats) behind_stats (λ e. refl) (stats_good d m k) (stats_field-prefix_free k.0) s bytes rest is found none
 
-number_good : (d m : List ℕ) (k : DataType × (Encoding × ℕ)) (s : Stats) (e : IndexEntry) → HasStats d m k s e → Is32 (length e.pages.items)
+number_good : (d m : List ℕ) (k : DataType × (Encoding × ℕ)) (s : Stats) (e : IndexEntry) → HasStats d m k s e → Is32 (length e.pages)
 number_good d m k s e is = let few = is.0.0.0.0.few in omega (arith, few)
 
 pub no_number : (d m : List ℕ) (k : DataType × (Encoding × ℕ)) (s : Stats) (bytes : List ℕ) → BeginsWithNone number32 Is32 bytes → BeginsWithNone behind_stats (HasStats d m k s) bytes
-no_number d m k s bytes none = none_here behind_stats (HasStats d m k s) number32 Is32 (λ (e : IndexEntry). length e.pages.items) behind_number (λ e. refl) (number_good d m k s) bytes none
+no_number d m k s bytes none = none_here behind_stats (HasStats d m k s) number32 Is32 (λ (e : IndexEntry). length e.pages) behind_number (λ e. refl) (number_good d m k s) bytes none
 
 pub past_number : (d m : List ℕ) (k : DataType × (Encoding × ℕ)) (s : Stats) (n : ℕ) (bytes rest : List ℕ) → Is32 n → bytes ≡ number32 n ++ rest → BeginsWithNone behind_number (HasNumber d m k s n) rest → BeginsWithNone behind_stats (HasStats d m k s) bytes
 past_number d m k s n bytes rest is found none =
-    none_behind behind_stats (HasStats d m k s) number32 Is32 (λ (e : IndexEntry). length e.pages.items) behind_number (λ e. refl) (number_good d m k s) number32-prefix_free n bytes rest is found none
+    none_behind behind_stats (HasStats d m k s) number32 Is32 (λ (e : IndexEntry). length e.pages) behind_number (λ e. refl) (number_good d m k s) number32-prefix_free n bytes rest is found none
 
 pub no_pages : (d m : List ℕ) (k : DataType × (Encoding × ℕ)) (s : Stats) (n : ℕ) (bytes : List ℕ) → BeginsWithNone (flat_map page_field) (AreValues (IsPageOf k.0) n) bytes → BeginsWithNone behind_number (HasNumber d m k s n) bytes
 no_pages d m k s n bytes none = λ e behind is found.
-    none e.pages.items behind (is.1, subst (λ (t : DataType). All (IsPageOf t) e.pages.items) (of_type d m k e is.0.0) is.0.0.0.0.0.pages) found
+    none e.pages behind (is.1, subst (λ (t : DataType). All (IsPageOf t) e.pages) (of_type d m k e is.0.0) is.0.0.0.0.0.pages) found
 
 -- entries with one beginning have one end, and say the same
 pub record AreAlike (a b : IndexEntry) (x y : List ℕ) : Type 0 where
@@ -172,28 +172,28 @@ pub record AreAlike (a b : IndexEntry) (x y : List ℕ) : Type 0 where
 
 pub alike : (a b : IndexEntry) (x y : List ℕ) → IsEntry a → IsEntry b → entry_field a ++ x ≡ entry_field b ++ y → AreAlike a b x y
 alike a b x y is_a is_b e =
-    let right : (c : IndexEntry) (r : List ℕ) → entry_field c ++ r ≡ plain_text c.device ++ (plain_text c.measurement ++ (kind_field (kind_of c) ++ (stats_field c.stats ++ (number32 (length c.pages.items) ++ (flat_map page_field c.pages.items ++ r))))) = λ c r.
-    let g = flat_map page_field c.pages.items in
+    let right : (c : IndexEntry) (r : List ℕ) → entry_field c ++ r ≡ plain_text c.device ++ (plain_text c.measurement ++ (kind_field (kind_of c) ++ (stats_field c.stats ++ (number32 (length c.pages) ++ (flat_map page_field c.pages ++ r))))) = λ c r.
+    let g = flat_map page_field c.pages in
     ap (λ (l : List ℕ). l ++ r) (entry_apart c) ∙ append_assoc (plain_text c.device) (behind_path c) r
     ∙ ap (λ (l : List ℕ). plain_text c.device ++ l) (append_assoc (plain_text c.measurement) (behind_name c) r
     ∙ ap (λ (l : List ℕ). plain_text c.measurement ++ l) (append_assoc (kind_field (kind_of c)) (behind_kind c) r
     ∙ ap (λ (l : List ℕ). kind_field (kind_of c) ++ l) (append_assoc (stats_field c.stats) (behind_stats c) r
-    ∙ ap (λ (l : List ℕ). stats_field c.stats ++ l) (append_assoc (number32 (length c.pages.items)) g r)))) in
+    ∙ ap (λ (l : List ℕ). stats_field c.stats ++ l) (append_assoc (number32 (length c.pages)) g r)))) in
     let whole = sym (right a x) ∙ e ∙ right b y in
     let paths = path-prefix_free a.device b.device _ _ is_a.device is_b.device whole in
     let names = name-prefix_free a.measurement b.measurement _ _ is_a.measurement is_b.measurement paths.1 in
     let kinds = kind-prefix_free (kind_of a) (kind_of b) _ _ (tt, (tt, is_a.place)) (tt, (tt, is_b.place)) names.1 in
     let types : b.data_type ≡ a.data_type = ap (λ (k : DataType × (Encoding × ℕ)). k.0) (sym kinds.0) in
     let stats = stats_field-prefix_free a.data_type a.stats b.stats _ _ is_a.stats (subst (λ (t : DataType). IsStatsOf t b.stats) types is_b.stats) kinds.1 in
-    let numbers = number32-prefix_free (length a.pages.items) (length b.pages.items) _ _ (let few = is_a.few in omega (arith, few)) (let few = is_b.few in omega (arith, few)) stats.1 in
-    let pages = same_values page_field (IsPageOf a.data_type) (page-prefix_free a.data_type) a.pages.items b.pages.items x y numbers.0 is_a.pages (subst (λ (t : DataType). All (IsPageOf t) b.pages.items) types is_b.pages) numbers.1 in
+    let numbers = number32-prefix_free (length a.pages) (length b.pages) _ _ (let few = is_a.few in omega (arith, few)) (let few = is_b.few in omega (arith, few)) stats.1 in
+    let pages = same_values page_field (IsPageOf a.data_type) (page-prefix_free a.data_type) a.pages b.pages x y numbers.0 is_a.pages (subst (λ (t : DataType). All (IsPageOf t) b.pages) types is_b.pages) numbers.1 in
     let d : a.device ≡ b.device = paths.0 in
     let m : a.measurement ≡ b.measurement = names.0 in
     let t : a.data_type ≡ b.data_type = sym types in
     let c : a.encoding ≡ b.encoding = ap (λ (k : DataType × (Encoding × ℕ)). k.1.0) kinds.0 in
     let p : a.place ≡ b.place = ap (λ (k : DataType × (Encoding × ℕ)). k.1.1) kinds.0 in
     let s : a.stats ≡ b.stats = stats.0 in
-    let g : a.pages.items ≡ b.pages.items = pages.0 in
+    let g : a.pages ≡ b.pages = pages.0 in
     record { device = d; measurement = m; says = cc; rest = pages.1 }
 
 pub entries_separable : IsSeparable entry_field IsEntry

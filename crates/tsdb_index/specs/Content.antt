@@ -11,7 +11,7 @@ use Rattle.tsdb_index.specs.Spelling.{pointer_field}
 -- what an entry says: its device, measurement, type and encoding, its place, its statistics and its pages
 abbrev pub entry_content : IndexEntry → List ℕ × List ℕ × DataType × Encoding × ℕ × Stats × List PageEntry
 entry_content entry =
-    (entry.device, entry.measurement, entry.data_type, entry.encoding, entry.place, entry.stats, entry.pages.items)
+    (entry.device, entry.measurement, entry.data_type, entry.encoding, entry.place, entry.stats, entry.pages)
 
 -- what an index says
 abbrev pub content : List IndexEntry → List (List ℕ × List ℕ × DataType × Encoding × ℕ × Stats × List PageEntry)

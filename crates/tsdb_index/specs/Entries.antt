@@ -23,8 +23,8 @@ pub record IsEntry (entry : IndexEntry) : Type 0 where
   pub suits : is_suitable entry.data_type entry.encoding ≡ true
   pub place : entry.place < 2 ^ 64
   pub stats : IsStatsOf entry.data_type entry.stats
-  pub few : length entry.pages.items ≤ max_pages
-  pub pages : All (IsPageOf entry.data_type) entry.pages.items
+  pub few : length entry.pages ≤ max_pages
+  pub pages : All (IsPageOf entry.data_type) entry.pages
 
 -- the device and the measurement of an entry
 abbrev pub names_of : IndexEntry → List ℕ × List ℕ

@@ -16,7 +16,7 @@ page_field page = number64 page.place ++ stats_field page.stats
 abbrev pub entry_field : IndexEntry → List ℕ
 entry_field entry = plain_text entry.device ++ plain_text entry.measurement
     ++ type_field entry.data_type ++ encoding_field entry.encoding ++ number64 entry.place ++ stats_field entry.stats
-    ++ number32 (length entry.pages.items) ++ flat_map page_field entry.pages.items
+    ++ number32 (length entry.pages) ++ flat_map page_field entry.pages
 
 -- a leaf: 49, the number of its entries, and the entries
 abbrev pub leaf_field : List IndexEntry → List ℕ

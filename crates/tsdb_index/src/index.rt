@@ -1,6 +1,6 @@
 //! What the index of a file has. Depends on tsdb_base and tsdb_path.
 
-use tsdb_base::{DataType, Encoding, Stats};
+use tsdb_base::{DataType, Encoding, List, Stats};
 use tsdb_path::{Name, Path};
 
 /// The most entries of a leaf. Each leaf but the last has so many.
@@ -24,13 +24,13 @@ pub struct IndexEntry {
     /// The place of the chunk's first byte in the file.
     pub place: u64,
     pub stats: Stats,
-    pub pages: Vec<PageEntry>,
+    pub pages: List<PageEntry>,
 }
 
 /// The entries of a file's chunks, in rising order of their devices, and for one device of their measurements.
 #[derive(PartialEq, Eq, Drop)]
 pub struct Index {
-    pub entries: Vec<IndexEntry>,
+    pub entries: List<IndexEntry>,
 }
 
 /// What is read of a file besides its points: its length in bytes and its index.

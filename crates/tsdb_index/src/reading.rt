@@ -17,7 +17,7 @@ use crate::order::{are_leaf, are_root};
 use crate::pointer::Pointer;
 use crate::writing::{LEAF, ROOT};
 use std::alloc::Global;
-use tsdb_base::{DataType, suits};
+use tsdb_base::{DataType, List, suits};
 use tsdb_fields::{FieldFault, Rest, read_field, read_name, read_path, read_stats};
 
 fn read_page<'a>(
@@ -71,7 +71,7 @@ fn read_entry<'a>(alloc: Global, rest: Rest<'a>) -> Result<(IndexEntry, Rest<'a>
         encoding,
         place,
         stats,
-        pages,
+        pages: List::of(pages),
     };
     Ok((entry, behind))
 }
@@ -250,7 +250,7 @@ pub fn read_index(alloc: Global, bytes: &[u8], place: u64, root: u64) -> Result<
     requires room { place + length bytes.now < 2 ^ 64 }
     requires from { place ≤ root }
     requires to { root ≤ place + length bytes.now }
-    ensures found { IfOk result (λ index. IsRead place root bytes.now index.entries.items) }
+    ensures found { IfOk result (λ index. IsRead place root bytes.now index.entries) }
     ensures bad { IfErr result (IsFirstBad place root bytes.now) }
 {
     let (leaves, root_bytes) = bytes.split_at((root - place) as usize);
@@ -259,5 +259,7 @@ pub fn read_index(alloc: Global, bytes: &[u8], place: u64, root: u64) -> Result<
         Err(fault) => return Err(IndexFault::of_part(fault, root)),
     };
     let entries = read_leaves(alloc, leaves, &pointers, root)?;
-    Ok(Index { entries })
+    Ok(Index {
+        entries: List::of(entries),
+    })
 }

@@ -4,7 +4,7 @@
 use crate::index::{IndexEntry, PageEntry};
 use crate::pointer::Pointer;
 use std::alloc::Global;
-use tsdb_base::{DataType, Encoding, Stats, Text, Value, suits};
+use tsdb_base::{DataType, Encoding, List, Stats, Text, Value, suits};
 use tsdb_path::{Name, Path};
 
 /// What is left of some bytes.
@@ -110,7 +110,7 @@ fn entry(alloc: Global, left: &mut Left<'_>) -> Option<IndexEntry> {
         encoding,
         place,
         stats: stats_of_chunk,
-        pages,
+        pages: List::of(pages),
     })
 }
 

@@ -1,7 +1,7 @@
 use super::*;
 use std::alloc::Global;
 use std::test::Fail;
-use tsdb_base::{DataType, Encoding, Memory, Stats, Value};
+use tsdb_base::{DataType, Encoding, List, Memory, Stats, Value};
 use tsdb_path::{Name, Path};
 
 /// The leaf and the root of the file of the device `root.g.d` with INT64 PLAIN measurement `s` and the one point 1, 5.
@@ -44,7 +44,7 @@ fn entry(alloc: Global, device: &[u8], measurement: &[u8]) -> Result<IndexEntry,
         encoding: Encoding::Plain,
         place: 18,
         stats: five(),
-        pages,
+        pages: List::of(pages),
     })
 }
 
@@ -65,13 +65,15 @@ fn worked_index(rt: HostRuntime) -> Result<(), Fail> {
     if entries.is_empty() {
         return Err("no entries".into());
     }
-    let index = Index { entries };
+    let index = Index {
+        entries: List::of(entries),
+    };
     let (bytes, root) = write_leaves_and_root(alloc, &index, 44)?;
     assert_eq!(rt; bytes.as_slice(), WORKED.as_slice());
     assert_eq!(rt; root, 194);
     assert_eq!(rt; write_index(alloc, &index, 44)?, bytes);
     let meta = FileMeta { bytes: 234, index };
-    assert_eq!(rt; meta.index.entries.len(), 1);
+    assert_eq!(rt; meta.index.entries.items().len(), 1);
     Ok(())
 }
 
@@ -84,7 +86,9 @@ fn leaves_of_256_entries(rt: HostRuntime) -> Result<(), Fail> {
         if entries.is_empty() {
             return Err("no entries".into());
         }
-        let index = Index { entries };
+        let index = Index {
+            entries: List::of(entries),
+        };
         let (bytes, root) = write_leaves_and_root(alloc, &index, 1000)?;
         let size = 3 * u64::from(leaves) + 151 * u64::from(count);
         assert_eq!(rt; root, 1000 + size);
@@ -106,7 +110,9 @@ fn places_beyond_64_bits(rt: HostRuntime) -> Result<(), Fail> {
     if entries.is_empty() {
         return Err("no entries".into());
     }
-    let index = Index { entries };
+    let index = Index {
+        entries: List::of(entries),
+    };
     assert_eq!(rt; write_index(alloc, &index, u64::MAX).err(), Some(Memory));
     Ok(())
 }
@@ -124,7 +130,10 @@ fn written(alloc: Global, entries: Vec<IndexEntry>, place: u64) -> Result<(Vec<u
     if entries.is_empty() {
         return Err("no entries".into());
     }
-    Ok(write_leaves_and_root(alloc, &Index { entries }, place)?)
+    let index = Index {
+        entries: List::of(entries),
+    };
+    Ok(write_leaves_and_root(alloc, &index, place)?)
 }
 
 #[test]
@@ -133,7 +142,7 @@ fn indexes_of_several_sizes(rt: HostRuntime) -> Result<(), Fail> {
     for count in [1, 256, 257, 513] {
         let (bytes, root) = written(alloc, entries(alloc, count)?, 1000)?;
         let index = read(alloc, &bytes, 1000, root)?;
-        assert!(rt; index.entries == entries(alloc, count)?);
+        assert!(rt; index.entries == List::of(entries(alloc, count)?));
     }
     Ok(())
 }
@@ -148,7 +157,7 @@ fn inverted_bytes(rt: HostRuntime) -> Result<(), Fail> {
         let found = read(alloc, &bytes, 44, 194);
         match place {
             18..82 | 86..150 => {
-                let (again, _root) = written(alloc, found?.entries, 44)?;
+                let (again, _root) = written(alloc, found?.entries.into_vec(), 44)?;
                 assert!(rt; again.as_slice() == bytes.as_slice());
             }
             0..150 => assert_eq!(rt; found.err(), Some(IndexFault::Bad { at: 44 })),
@@ -188,7 +197,7 @@ fn agree(alloc: Global, bytes: &[u8], place: u64, root: u64) -> bool {
         read(alloc, bytes, place, root),
         slow::read(alloc, bytes, place, root),
     ) {
-        (Ok(index), Ok(entries)) => index.entries == entries,
+        (Ok(index), Ok(entries)) => index.entries == List::of(entries),
         (Err(IndexFault::Bad { at }), Err(wanted)) => at == wanted,
         _ => false,
     }

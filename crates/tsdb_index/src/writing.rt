@@ -35,7 +35,7 @@ fn write_pages(pages: &[PageEntry], into: &mut Vec<u8>) -> Result<(), Memory>
 fn write_entry(entry: &IndexEntry, into: &mut Vec<u8>) -> Result<(), Memory>
     ensures ok { OnOk result (into.new.items ≡ into.old.items ++ entry_field entry.now) }
 {
-    let Ok(pages) = u32::try_from(entry.pages.len()) else {
+    let Ok(pages) = u32::try_from(entry.pages.items().len()) else {
         return Err(Memory);
     };
     write_path(&entry.device, into)?;
@@ -45,7 +45,7 @@ fn write_entry(entry: &IndexEntry, into: &mut Vec<u8>) -> Result<(), Memory>
     entry.place.put(into)?;
     write_stats(&entry.stats, into)?;
     pages.put(into)?;
-    write_pages(&entry.pages, into)
+    write_pages(entry.pages.items(), into)
 }
 
 fn write_entries(entries: &[IndexEntry], into: &mut Vec<u8>) -> Result<(), Memory>
@@ -120,14 +120,14 @@ pub fn write_leaves_and_root(
     index: &Index,
     place: u64,
 ) -> Result<(Vec<u8>, u64), Memory>
-    requires { 0 < length index.now.entries.items }
-    ensures { IfOk result (λ r. IsSpelling place r.1 index.now.entries.items r.0.items) }
+    requires { 0 < length index.now.entries }
+    ensures { IfOk result (λ r. IsSpelling place r.1 index.now.entries r.0.items) }
 {
     let Leaves {
         mut bytes,
         pointers,
         count,
-    } = write_leaves(alloc, &index.entries, place)?;
+    } = write_leaves(alloc, index.entries.items(), place)?;
     let root = place.checked_add(bytes.len() as u64).ok_or(Memory)?;
     bytes.push(ROOT)?;
     count.put(&mut bytes)?;
@@ -138,8 +138,8 @@ pub fn write_leaves_and_root(
 /// The bytes of an index whose first leaf stands at this place. `Memory` is also answered where a place or a count
 /// would not fit its bytes.
 pub fn write_index(alloc: Global, index: &Index, place: u64) -> Result<Vec<u8>, Memory>
-    requires { 0 < length index.now.entries.items }
-    ensures { IfOk result (λ bytes. (root : ℕ) × IsSpelling place root index.now.entries.items bytes.items) }
+    requires { 0 < length index.now.entries }
+    ensures { IfOk result (λ bytes. (root : ℕ) × IsSpelling place root index.now.entries bytes.items) }
 {
     let (bytes, _root) = write_leaves_and_root(alloc, index, place)?;
     Ok(bytes)

@@ -115,13 +115,14 @@ returns c = record {
       let s = c.in_ok-stats in
       let n = c.in_ok-count in
       let g = c.in_ok-pages in
-      let e : IndexEntry = record { device = d.device; measurement = m.measurement; data_type = k.data_type; encoding = k.encoding; place = k.place; stats = s.stats; pages = g.pages } in
+      let e : IndexEntry = record { device = d.device; measurement = m.measurement; data_type = k.data_type; encoding = k.encoding; place = k.place; stats = s.stats; pages = g.pages.items } in
       let len : number32 n.count ≡ number32 (length g.pages.items) = ap number32 (sym g.ensures.parts.1.0) in
       let pages = takes_both s.behind n.behind g.behind (number32 (length g.pages.items)) (flat_map page_field g.pages.items) (takes_same s.behind n.behind (number32 n.count) (number32 (length g.pages.items)) len n.ensures.exact.0) g.ensures.parts.0 in
       let stats = takes_both k.behind s.behind g.behind (stats_field s.stats) (behind_stats e) s.ensures.exact.0 pages in
       let kinds = takes_both m.behind k.behind g.behind (kind_field kind) (behind_kind e) k.ensures.exact.0 stats in
       let names = takes_both d.behind m.behind g.behind (plain_text m.measurement) (behind_name e) m.ensures.exact.0 kinds in
-      let whole = takes_both c.args.rest d.behind g.behind (plain_text d.device) (behind_path e) d.ensures.exact.0 names in (
+      let whole = takes_both c.args.rest d.behind g.behind (plain_text d.device) (behind_path e) d.ensures.exact.0 names in
+      rw c.of.ensures (
         takes_same c.args.rest g.behind (plain_text d.device ++ behind_path e) (entry_field e) (sym (entry_apart e)) whole,
         record {
           device = d.ensures.exact.1;

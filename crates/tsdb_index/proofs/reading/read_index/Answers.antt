@@ -29,4 +29,4 @@ returns-clause-found c =
     let n = c.split_at.ensures.front_len in
     let from = c.requires.from in
     let read = rw c.deref.ensures.value at c.in_ok-entries.ensures in
-    found_index c.args.place c.args.root c.args.bytes.now c.split_at.result.0.now c.split_at.result.1.now c.in-Ok.pointers.items read.0 c.in_ok-entries.entries.items c.split_at.ensures.front c.split_at.ensures.back (omega (arith, n, from)) c.in-Ok.ensures read.1 read.2
+    rw c.of.ensures (found_index c.args.place c.args.root c.args.bytes.now c.split_at.result.0.now c.split_at.result.1.now c.in-Ok.pointers.items read.0 c.in_ok-entries.entries.items c.split_at.ensures.front c.split_at.ensures.back (omega (arith, n, from)) c.in-Ok.ensures read.1 read.2)

@@ -14,7 +14,7 @@ returns c = record {
       let e = c.args.entry.now in
       let r = c.write_pages.result in
       let new = c.write_pages.new.into.items in
-      let count : c.in-Ok.pages ≡ length e.pages.items = search rules in
+      let count : c.in-Ok.pages ≡ length e.pages = search rules in
       let old = c.args.into.now.items in
       let to_name = plain_text e.device ++ plain_text e.measurement in
       let to_type = to_name ++ type_field e.data_type in
@@ -26,7 +26,7 @@ returns c = record {
       let encoding = written_behind old to_type (encoding_field e.encoding) c.put.new.into.items c.put-2.new.into.items kind c.in_ok-put-2.ensures.ok in
       let place = written_behind old to_encoding (number64 e.place) c.put-2.new.into.items c.put-3.new.into.items encoding c.in_ok-put-3.ensures.ok in
       let stats = written_behind old to_place (stats_field e.stats) c.put-3.new.into.items c.write_stats.new.into.items place c.in_ok-write_stats.ensures.ok in
-      let number = written_behind old to_stats (number32 (length e.pages.items)) c.write_stats.new.into.items c.put-4.new.into.items stats
+      let number = written_behind old to_stats (number32 (length e.pages)) c.write_stats.new.into.items c.put-4.new.into.items stats
       (c.in_ok-put-4.ensures.ok ∙ ap (λ n. c.write_stats.new.into.items ++ number32 n) count) in
-      both_written r old (to_stats ++ number32 (length e.pages.items)) (flat_map page_field e.pages.items) c.put-4.new.into.items new number (rw c.deref.ensures.value at c.write_pages.ensures.ok);
+      both_written r old (to_stats ++ number32 (length e.pages)) (flat_map page_field e.pages) c.put-4.new.into.items new number (rw c.items-2.ensures at c.write_pages.ensures.ok);
 }
