@@ -15,11 +15,10 @@ use Rattle.tsdb_fields.specs.Statistics.{stats_field, IsStatsOf}
 use Rattle.tsdb_index.specs.declared.index.IndexEntry.{IndexEntry}
 use Rattle.tsdb_index.specs.declared.index.PageEntry.{PageEntry}
 use Rattle.tsdb_index.specs.declared.pointer.Pointer.{Pointer}
-use Rattle.tsdb_index.specs.Content.{entry_content}
 use Rattle.tsdb_index.specs.Entries.{IsEntry, IsPageOf}
 use Rattle.tsdb_index.specs.Parts.{IsPointer, pointer_bytes}
 use Rattle.tsdb_index.specs.Spelling.{entry_field, page_field}
-use Rattle.tsdb_index.proofs.Fields.{IsSeparable, name-prefix_free, none_behind, none_here, path-prefix_free, stats_field-prefix_free}
+use Rattle.tsdb_index.proofs.Fields.{name-prefix_free, none_behind, none_here, path-prefix_free, stats_field-prefix_free}
 
 abbrev pub Is64 : ℕ → Type 0
 Is64 n = n < 2 ^ 64
@@ -163,15 +162,9 @@ pub no_pages : (d m : List ℕ) (k : DataType × (Encoding × ℕ)) (s : Stats) 
 no_pages d m k s n bytes none = λ e behind is found.
     none e.pages behind (is.1, subst (λ (t : DataType). All (IsPageOf t) e.pages) (of_type d m k e is.0.0) is.0.0.0.0.0.pages) found
 
--- entries with one beginning have one end, and say the same
-pub record AreAlike (a b : IndexEntry) (x y : List ℕ) : Type 0 where
-  pub device : a.device ≡ b.device
-  pub measurement : a.measurement ≡ b.measurement
-  pub says : entry_content a ≡ entry_content b
-  pub rest : x ≡ y
-
-pub alike : (a b : IndexEntry) (x y : List ℕ) → IsEntry a → IsEntry b → entry_field a ++ x ≡ entry_field b ++ y → AreAlike a b x y
-alike a b x y is_a is_b e =
+-- no entry's bytes begin those of another entry
+pub entry-prefix_free : IsPrefixFree entry_field IsEntry
+entry-prefix_free a b x y is_a is_b e =
     let right : (c : IndexEntry) (r : List ℕ) → entry_field c ++ r ≡ plain_text c.device ++ (plain_text c.measurement ++ (kind_field (kind_of c) ++ (stats_field c.stats ++ (number32 (length c.pages) ++ (flat_map page_field c.pages ++ r))))) = λ c r.
     let g = flat_map page_field c.pages in
     ap (λ (l : List ℕ). l ++ r) (entry_apart c) ∙ append_assoc (plain_text c.device) (behind_path c) r
@@ -194,10 +187,10 @@ alike a b x y is_a is_b e =
     let p : a.place ≡ b.place = ap (λ (k : DataType × (Encoding × ℕ)). k.1.1) kinds.0 in
     let s : a.stats ≡ b.stats = stats.0 in
     let g : a.pages ≡ b.pages = pages.0 in
-    record { device = d; measurement = m; says = cc; rest = pages.1 }
-
-pub entries_separable : IsSeparable entry_field IsEntry
-entries_separable a b x y is_a is_b e = (alike a b x y is_a is_b e).rest
+    let made : List ℕ → List ℕ → DataType → Encoding → ℕ → Stats → List PageEntry → IndexEntry =
+    λ device measurement data_type encoding place stats pages. record { device = device; measurement = measurement; data_type = data_type; encoding = encoding; place = place; stats = stats; pages = pages } in
+    let same : made a.device a.measurement a.data_type a.encoding a.place a.stats a.pages ≡ made b.device b.measurement b.data_type b.encoding b.place b.stats b.pages = cc in
+    (same, pages.1)
 
 -- ---- pointers
 

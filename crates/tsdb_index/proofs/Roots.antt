@@ -1,9 +1,8 @@
 -- A root and a leaf, from their items.
 use Rattle.std.proofs.Common.{◌≡◌, ℕ, ◌<◌, ◌^◌, List, [], ◌∷◌, ◌++◌, length, map, refl, sym, subst, ◌∙◌, arith}
 use Rattle.std.specs.Prelude.{All}
-use Rattle.std.specs.List.{flat_map, AllByRecursion}
+use Rattle.std.specs.List.{flat_map}
 use Rattle.std.proofs.lemmas.List.{append-nil}
-use Rattle.std.proofs.lemmas.List.Elements.{recursion_from_All}
 use Rattle.tsdb_base.specs.FieldLaws.{number16-prefix_free, number32-prefix_free}
 use Rattle.tsdb_base.specs.Fields.{number16, number32}
 use Rattle.tsdb_base.proofs.PlainLists.{same_values}
@@ -13,7 +12,7 @@ use Rattle.tsdb_index.specs.Entries.{AreInOrder, IsBefore, IsEntry, names_of}
 use Rattle.tsdb_index.specs.Parts.{BeginAt, BeginWith, IsLeaf, IsLeafSize, IsPointer, IsPointerBefore, IsRoot, next_names, pointer_bytes}
 use Rattle.tsdb_index.specs.Spelling.{entry_field}
 use Rattle.tsdb_index.specs.Steps.{IsCounted}
-use Rattle.tsdb_index.proofs.Entries.{alike, pointer-prefix_free}
+use Rattle.tsdb_index.proofs.Entries.{entry-prefix_free, pointer-prefix_free}
 
 -- what a root says besides its bytes
 abbrev pub AreRoot : ℕ → ℕ → List Pointer → Type 0
@@ -45,26 +44,6 @@ root_is place root bytes ps counted are = record { begin = are.0; few = counted.
 abbrev pub AreLeaf : Pointer → List Pointer → List IndexEntry → Type 0
 AreLeaf pointer behind es = IsLeafSize behind (length es) × BeginWith pointer es × AreInOrder IsBefore (map names_of es ++ next_names behind)
 
--- entries with the same bytes have the same names
-names_same : (es fs : List IndexEntry) → length es ≡ length fs → AllByRecursion IsEntry es → AllByRecursion IsEntry fs → flat_map entry_field es ≡ flat_map entry_field fs → map names_of es ≡ map names_of fs
-names_same [] [] len is_e is_f e = refl
-names_same [] (f ∷ fs) len is_e is_f e = absurd (omega arith)
-names_same (e ∷ es) [] len is_e is_f same = absurd (omega arith)
-names_same (e ∷ es) (f ∷ fs) len is_e is_f same =
-    let a = alike e f (flat_map entry_field es) (flat_map entry_field fs) is_e.0 is_f.0 same in
-    let shorter : length es ≡ length fs = omega arith in
-    let d : e.device ≡ f.device = a.device in
-    let m : e.measurement ≡ f.measurement = a.measurement in
-    let rest : map names_of es ≡ map names_of fs = names_same es fs shorter is_e.1 is_f.1 a.rest in
-    cc
-
-begin_same : (pointer : Pointer) (es fs : List IndexEntry) → map names_of es ≡ map names_of fs → BeginWith pointer es → BeginWith pointer fs
-begin_same pointer [] fs same with_it = absurd with_it
-begin_same pointer (e ∷ es) [] same with_it = absurd cc
-begin_same pointer (e ∷ es) (f ∷ fs) same with_it =
-    let first : names_of e ≡ names_of f = cc in
-    sym first ∙ with_it
-
 size_small : (behind : List Pointer) (n : ℕ) → IsLeafSize behind n → n < 2 ^ 16
 size_small [] n size = let few = size.1 in omega (arith, few)
 size_small (p ∷ ps) n size = omega (arith, size)
@@ -73,8 +52,8 @@ pub leaf_none : (pointer : Pointer) (behind : List Pointer) (bytes : List ℕ) (
 leaf_none pointer behind bytes es counted none it is =
     let parted : number16 (length it) ++ flat_map entry_field it ≡ number16 (length es) ++ flat_map entry_field es = tail_same 73 (number16 (length it) ++ flat_map entry_field it) (number16 (length es) ++ flat_map entry_field es) (sym is.bytes-are ∙ counted.bytes-are) in
     let counts = number16-prefix_free (length it) (length es) (flat_map entry_field it) (flat_map entry_field es) (size_small behind (length it) is.size) counted.few parted in
-    let names = names_same it es counts.0 (recursion_from_All IsEntry it is.good) (recursion_from_All IsEntry es counted.good) counts.1 in
-    none (subst (λ n. IsLeafSize behind n) counts.0 is.size, begin_same pointer it es names is.begin, subst (λ ns. AreInOrder IsBefore (ns ++ next_names behind)) names is.rising)
+    let same = (same_values entry_field IsEntry entry-prefix_free it es [] [] counts.0 is.good counted.good (append-nil (flat_map entry_field it) ∙ counts.1 ∙ sym (append-nil (flat_map entry_field es)))).0 in
+    none (subst (λ entries. AreLeaf pointer behind entries) same (is.size, is.begin, is.rising))
 
 pub leaf_is : (pointer : Pointer) (behind : List Pointer) (bytes : List ℕ) (es : List IndexEntry) → IsCounted 73 number16 (2 ^ 16) entry_field IsEntry bytes es → AreLeaf pointer behind es → IsLeaf pointer behind bytes es
 leaf_is pointer behind bytes es counted are = record { size = are.0; good = counted.good; begin = are.1; rising = are.2; bytes-are = counted.bytes-are }

@@ -4,4 +4,3 @@ pub mod Entries
 pub mod Parts
 pub mod Steps
 pub mod Faults
-pub mod Content

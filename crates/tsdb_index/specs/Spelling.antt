@@ -1,5 +1,5 @@
 -- The bytes of an index: leaves of 256 entries, and behind them the root, which points at each leaf.
-use Rattle.std.specs.Prelude.{◌≡◌, ℕ, ◌+◌, ◌<◌, ◌≤◌, List, [], ◌∷◌, ◌++◌, length}
+use Rattle.std.specs.Prelude.{◌≡◌, ℕ, ◌+◌, ◌-◌, ◌<◌, ◌≤◌, List, [], ◌∷◌, ◌++◌, length, drop}
 use Rattle.std.specs.List.{flat_map}
 use Rattle.tsdb_base.specs.Fields.{number16, number32, number64, type_field, encoding_field}
 use Rattle.tsdb_base.specs.Plain.{plain_text}
@@ -54,3 +54,14 @@ pub record IsSpelling (place root : ℕ) (entries : List IndexEntry) (bytes : Li
   pub stand : StandIn entries leaves
   pub root-place : root ≡ place + length (flat_map leaf_field leaves)
   pub bytes-are : bytes ≡ flat_map leaf_field leaves ++ root_field place leaves
+
+-- the root stands behind the leaves, and its first pointer has the names of the first entry and the first leaf's place
+pub record RootBegins (place root : ℕ) (entries : List IndexEntry) (bytes : List ℕ) : Type 0 where
+  pub first : IndexEntry
+  pub others : List IndexEntry
+  pub some : entries ≡ first ∷ others
+  pub above : place < root
+  pub inside : root < place + length bytes
+  pub number : ℕ
+  pub behind : List ℕ
+  pub bytes-are : drop (root - place) bytes ≡ 82 ∷ (number32 number ++ (pointer_field first place ++ behind))

@@ -1,20 +1,19 @@
 //! The laws of an index. No body uses them. Depends on the definitions alone.
 ghost use Rattle.std.specs.Prelude.{◌≡◌, ℕ, List, All};
 ghost use Rattle.tsdb_index.specs.declared.index.IndexEntry.{IndexEntry as Entry};
-ghost use Rattle.tsdb_index.specs.Content.{RootBegins, content};
 ghost use Rattle.tsdb_index.specs.Entries.{IsEntry};
-ghost use Rattle.tsdb_index.specs.Spelling.{IsSpelling};
+ghost use Rattle.tsdb_index.specs.Spelling.{IsSpelling, RootBegins};
 
-/// Two indexes with the same bytes at the same place say the same.
+/// Two indexes with the same bytes at the same place have the same entries.
 pub fn one_index()
     ensures { (place root : ℕ) (bytes : List ℕ) (xs ys : List Entry) → All IsEntry xs → All IsEntry ys →
-        IsSpelling place root xs bytes → IsSpelling place root ys bytes → content xs ≡ content ys }
+        IsSpelling place root xs bytes → IsSpelling place root ys bytes → xs ≡ ys }
 {}
 
-/// What an index says has one spelling at a place, and one place of its root.
+/// The entries of an index have one spelling at a place, and one place of its root.
 pub fn one_spelling()
-    ensures { (place root_x root_y : ℕ) (xs ys : List Entry) (x y : List ℕ) → content xs ≡ content ys →
-        IsSpelling place root_x xs x → IsSpelling place root_y ys y → (x ≡ y) × (root_x ≡ root_y) }
+    ensures { (place root_x root_y : ℕ) (entries : List Entry) (x y : List ℕ) →
+        IsSpelling place root_x entries x → IsSpelling place root_y entries y → (x ≡ y) × (root_x ≡ root_y) }
 {}
 
 /// The bytes of an index have the root behind the leaves, and the root says where the first leaf stands.

@@ -10,8 +10,8 @@ use Rattle.tsdb_index.specs.declared.index.IndexEntry.{IndexEntry}
 use Rattle.tsdb_index.specs.Steps.{IsCounted}
 use Rattle.tsdb_index.specs.Entries.{IsEntry}
 use Rattle.tsdb_index.specs.Spelling.{entry_field}
-use Rattle.tsdb_index.proofs.Entries.{entries_separable}
-use Rattle.tsdb_index.proofs.Fields.{is_counted, more_behind, no_count, no_items, no_mark, whole_fault}
+use Rattle.tsdb_index.proofs.Entries.{entry-prefix_free}
+use Rattle.tsdb_index.proofs.Fields.{is_counted, more_behind, no_count, no_items, no_mark, separable, whole_fault}
 use Rattle.tsdb_index.proofs.reading.entries_in.Goals as goal
 
 pub returns-in_default : goal.returns-in_default
@@ -39,7 +39,7 @@ returns-then-not-is_empty c =
     let fields = c.in-Some.rest.bytes in
     let n = c.in_ok-count in
     let v = c.in_ok-entries in
-    more_behind 73 number16 (2 ^ 16) entry_field IsEntry number16-prefix_free entries_separable c.args.bytes.now fields.now n.rest.bytes.now v.rest.bytes.now n.count v.entries.items c.in-Some.ensures n.ensures.exact.0.bytes n.ensures.exact.1 v.ensures.parts.0.bytes v.ensures.parts.1 (λ none. search (rules, none))
+    more_behind 73 number16 (2 ^ 16) entry_field IsEntry number16-prefix_free (separable entry_field IsEntry entry-prefix_free) c.args.bytes.now fields.now n.rest.bytes.now v.rest.bytes.now n.count v.entries.items c.in-Some.ensures n.ensures.exact.0.bytes n.ensures.exact.1 v.ensures.parts.0.bytes v.ensures.parts.1 (λ none. search (rules, none))
 
 pub returns : goal.returns
 returns c =

@@ -3,8 +3,8 @@ use Rattle.std.proofs.lemmas.Result.{err_from_is_err_and}
 use Rattle.tsdb_index.specs.declared.index.IndexEntry.{IndexEntry}
 use Rattle.tsdb_index.specs.Entries.{IsEntry}
 use Rattle.tsdb_index.specs.Spelling.{entry_field}
-use Rattle.tsdb_index.proofs.Entries.{entries_separable}
-use Rattle.tsdb_index.proofs.Fields.{items_fault, none_taken, one_taken, one_more}
+use Rattle.tsdb_index.proofs.Entries.{entry-prefix_free}
+use Rattle.tsdb_index.proofs.Fields.{items_fault, none_taken, one_taken, one_more, separable}
 use Rattle.tsdb_index.proofs.reading.read_entries.Goals as goal
 
 pub loop-init : goal.loop-init
@@ -21,7 +21,7 @@ pub returns-in_err-entry : goal.returns-in_err-entry
 returns-in_err-entry c = record {
   parts =
       let p = err_from_is_err_and c.from_residual.result c.from_residual.ensures.1 in
-      let lacks = items_fault entry_field IsEntry entries_separable c.args.count c.args.rest c.loop.left c.loop.entries.items (λ v. v) (λ (vs : Vec IndexEntry Global). vs.items) c.in_err-entry.field-0.0
+      let lacks = items_fault entry_field IsEntry (separable entry_field IsEntry entry-prefix_free) c.args.count c.args.rest c.loop.left c.loop.entries.items (λ v. v) (λ (vs : Vec IndexEntry Global). vs.items) c.in_err-entry.field-0.0
       (omega (arith, c.loop.invariant.count, c.loop-test.true)) c.loop.invariant.taken c.in_err-entry.ensures.parts in
       rw (p.1, p.2) lacks;
 }
