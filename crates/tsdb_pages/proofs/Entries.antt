@@ -43,12 +43,12 @@ chunks_push device place (c ∷ cs) (e ∷ es) chunk entry are is =
     (are.0, chunks_push device (place + length (chunk_field c)) cs es chunk entry are.1 (subst (λ n. IsEntry device n chunk entry) (behind chunk_field place c cs) is))
 
 pub groups_push : (place : ℕ) (groups : List Group) (lists : List (List IndexEntry)) (group : Group) (own : List IndexEntry) → AreEntriesOf place groups lists
-    → AreEntries group.device (place + length (flat_map group_field groups) + length (group_head group)) group.chunks.items own → AreEntriesOf place (groups ++ group ∷ []) (lists ++ own ∷ [])
-groups_push place [] [] group own are is = (subst (λ n. AreEntries group.device (n + length (group_head group)) group.chunks.items own) (no_more place) is, tt)
+    → AreEntries group.device (place + length (flat_map group_field groups) + length (group_head group)) group.chunks own → AreEntriesOf place (groups ++ group ∷ []) (lists ++ own ∷ [])
+groups_push place [] [] group own are is = (subst (λ n. AreEntries group.device (n + length (group_head group)) group.chunks own) (no_more place) is, tt)
 groups_push place [] (l ∷ ls) group own are is = absurd are
 groups_push place (g ∷ gs) [] group own are is = absurd are
 groups_push place (g ∷ gs) (l ∷ ls) group own are is =
-    (are.0, groups_push (place + length (group_field g)) gs ls group own are.1 (subst (λ n. AreEntries group.device (n + length (group_head group)) group.chunks.items own) (behind group_field place g gs) is))
+    (are.0, groups_push (place + length (group_field g)) gs ls group own are.1 (subst (λ n. AreEntries group.device (n + length (group_head group)) group.chunks own) (behind group_field place g gs) is))
 
 -- ---- how many
 
@@ -69,8 +69,8 @@ count_all place [] [] are = refl
 count_all place [] (l ∷ ls) are = absurd are
 count_all place (g ∷ gs) [] are = absurd are
 count_all place (g ∷ gs) (l ∷ ls) are =
-    let here = count_chunks g.device (place + length (group_head g)) g.chunks.items l are.0 in
+    let here = count_chunks g.device (place + length (group_head g)) g.chunks l are.0 in
     let others = count_all (place + length (group_field g)) gs ls are.1 in
     let n : length (l ++ flat_map (λ (l : List IndexEntry). l) ls) ≡ length l + length (flat_map (λ (l : List IndexEntry). l) ls) = length-append l (flat_map (λ (l : List IndexEntry). l) ls) in
-    let m : length (g.chunks.items ++ chunks_of gs) ≡ length g.chunks.items + length (chunks_of gs) = length-append g.chunks.items (chunks_of gs) in
+    let m : length (g.chunks ++ chunks_of gs) ≡ length g.chunks + length (chunks_of gs) = length-append g.chunks (chunks_of gs) in
     omega (arith, here, others, n, m)

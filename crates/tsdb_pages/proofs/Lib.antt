@@ -1,7 +1,6 @@
 pub mod Order
 pub mod Bodies
 pub mod Marks
-pub mod Content
 pub mod Entries
 pub mod Files
 pub mod OneFile

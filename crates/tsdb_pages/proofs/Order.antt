@@ -132,11 +132,11 @@ at_least_first xs first x is rising (k, l, at) =
     (cases_lt k 1)
 
 -- the points of pages and of one page more
-pub points_push : (pages : List Page) (i : ℕ) (page : Page) → i < length pages → page ≡ get_or pages i page → points_of (take (i + 1) pages) ≡ points_of (take i pages) ++ page.points.items
+pub points_push : (pages : List Page) (i : ℕ) (page : Page) → i < length pages → page ≡ get_or pages i page → points_of (take (i + 1) pages) ≡ points_of (take i pages) ++ page.points
 points_push pages i page l is =
     ap points_of (take_more pages i page l ∙ ap (λ (p : Page). take i pages ++ p ∷ []) (sym is))
-    ∙ flat_map-append (λ (p : Page). p.points.items) (take i pages) (page ∷ [])
-    ∙ ap (λ (ps : List Point). points_of (take i pages) ++ ps) (append-nil page.points.items)
+    ∙ flat_map-append (λ (p : Page). p.points) (take i pages) (page ∷ [])
+    ∙ ap (λ (ps : List Point). points_of (take i pages) ++ ps) (append-nil page.points)
 
 -- the last of the points before a page is the last of the page before it
 end_of : (xs ys : List Point) (last : Point) → 0 < length ys → last ≡ get_or ys (length ys - 1) last → last ≡ get_or (xs ++ ys) (length (xs ++ ys) - 1) last
@@ -153,62 +153,61 @@ pub record Meet (pages : List Page) (i : ℕ) (last first : Point) : Type 0 wher
   pub here : i < length pages
   pub before-is : before ≡ get_or pages (i - 1) before
   pub page-is : page ≡ get_or pages i page
-  pub last-is : last ≡ get_or before.points.items (length before.points.items - 1) last
-  pub first-is : first ≡ get_or page.points.items 0 first
+  pub last-is : last ≡ get_or before.points (length before.points - 1) last
+  pub first-is : first ≡ get_or page.points 0 first
 
--- the two pages as they were read: the last point of one by its length, the first of the other
-pub meets : (pages : List Page) (i : ℕ) (before page : Page) (last first : Point) (n : ℕ) → 1 ≤ i → i < length pages → before ≡ get_or pages (i - 1) before → page ≡ get_or pages i page
-    → n ≡ length (get_or pages (i - 1) before).points.items → last ≡ get_or (get_or pages (i - 1) before).points.items (n - 1) last → first ≡ get_or (get_or pages i page).points.items 0 first → Meet pages i last first
-meets pages i before page last first n some here before_is page_is len last_is first_is = record {
+-- the two pages as they were read: the last point of one, the first of the other
+pub meets : (pages : List Page) (i : ℕ) (before page : Page) (last first : Point) (front behind : List Point) → 1 ≤ i → i < length pages → before ≡ get_or pages (i - 1) before → page ≡ get_or pages i page
+    → front ≡ (get_or pages (i - 1) before).points → behind ≡ (get_or pages i page).points → last ≡ get_or front (length front - 1) last → first ≡ get_or behind 0 first → Meet pages i last first
+meets pages i before page last first front behind some here before_is page_is front_is behind_is last_is first_is = record {
   before = before;
   page = page;
   some = some;
   here = here;
   before-is = before_is;
   page-is = page_is;
-  last-is = subst (λ (q : Page). last ≡ get_or q.points.items (length q.points.items - 1) last) (sym before_is)
-      (last_is ∙ ap (λ (k : ℕ). get_or (get_or pages (i - 1) before).points.items (k - 1) last) len);
-  first-is = subst (λ (q : Page). first ≡ get_or q.points.items 0 first) (sym page_is) first_is;
+  last-is = subst (λ (points : List Point). last ≡ get_or points (length points - 1) last) (front_is ∙ ap (λ (q : Page). q.points) (sym before_is)) last_is;
+  first-is = subst (λ (points : List Point). first ≡ get_or points 0 first) (behind_is ∙ ap (λ (q : Page). q.points) (sym page_is)) first_is;
 }
 
-pub page_more : (pages : List Page) (i : ℕ) (last first : Point) → Meet pages i last first → All (λ page. 0 < length page.points.items) pages → All (λ page. IsRising page.points.items) pages
+pub page_more : (pages : List Page) (i : ℕ) (last first : Point) → Meet pages i last first → All (λ page. 0 < length page.points) pages → All (λ page. IsRising page.points) pages
     → last.time <ℤ first.time → IsRising (points_of (take i pages)) → IsRising (points_of (take (i + 1) pages))
 page_more pages i last first m full rising less so_far =
     let b = m.before in
     let p = m.page in
-    let many : 0 < length b.points.items = subst (λ (q : Page). 0 < length q.points.items) (sym m.before-is) (full (i - 1) b (omega (arith, m.some, m.here))) in
-    let up : IsRising p.points.items = subst (λ (q : Page). IsRising q.points.items) (sym m.page-is) (rising i p m.here) in
+    let many : 0 < length b.points = subst (λ (q : Page). 0 < length q.points) (sym m.before-is) (full (i - 1) b (omega (arith, m.some, m.here))) in
+    let up : IsRising p.points = subst (λ (q : Page). IsRising q.points) (sym m.page-is) (rising i p m.here) in
     let place : i - 1 + 1 ≡ i = omega (arith, m.some) in
-    let parts : points_of (take i pages) ≡ points_of (take (i - 1) pages) ++ b.points.items = subst (λ (n : ℕ). points_of (take n pages) ≡ points_of (take (i - 1) pages) ++ b.points.items) place (points_push pages (i - 1) b (omega (arith, m.some, m.here)) m.before-is) in
-    let end : last ≡ get_or (points_of (take i pages)) (length (points_of (take i pages)) - 1) last = rw parts (end_of (points_of (take (i - 1) pages)) b.points.items last many m.last-is) in
+    let parts : points_of (take i pages) ≡ points_of (take (i - 1) pages) ++ b.points = subst (λ (n : ℕ). points_of (take n pages) ≡ points_of (take (i - 1) pages) ++ b.points) place (points_push pages (i - 1) b (omega (arith, m.some, m.here)) m.before-is) in
+    let end : last ≡ get_or (points_of (take i pages)) (length (points_of (take i pages)) - 1) last = rw parts (end_of (points_of (take (i - 1) pages)) b.points last many m.last-is) in
     subst IsRising (sym (points_push pages i p m.here m.page-is))
-    (pairs_append (λ (x y : Point). x.time <ℤ y.time) (points_of (take i pages)) p.points.items so_far up
+    (pairs_append (λ (x y : Point). x.time <ℤ y.time) (points_of (take i pages)) p.points so_far up
     (λ x y in_x in_y.
     let low : x.time ≤ℤ last.time = at_most_last (points_of (take i pages)) last x end so_far in_x in
-    let high : first.time ≤ℤ y.time = at_least_first p.points.items first y m.first-is up in_y in
+    let high : first.time ≤ℤ y.time = at_least_first p.points first y m.first-is up in_y in
     omega (arith, ints)))
 
-pub pages_fall : (pages : List Page) (i : ℕ) (last first : Point) → Meet pages i last first → All (λ page. 0 < length page.points.items) pages
+pub pages_fall : (pages : List Page) (i : ℕ) (last first : Point) → Meet pages i last first → All (λ page. 0 < length page.points) pages
     → first.time ≤ℤ last.time → IsRising (points_of pages) → ⊥
 pages_fall pages i last first m full less rising =
     let b = m.before in
     let p = m.page in
-    let many : 0 < length b.points.items = subst (λ (q : Page). 0 < length q.points.items) (sym m.before-is) (full (i - 1) b (omega (arith, m.some, m.here))) in
-    let more : 0 < length p.points.items = subst (λ (q : Page). 0 < length q.points.items) (sym m.page-is) (full i p m.here) in
+    let many : 0 < length b.points = subst (λ (q : Page). 0 < length q.points) (sym m.before-is) (full (i - 1) b (omega (arith, m.some, m.here))) in
+    let more : 0 < length p.points = subst (λ (q : Page). 0 < length q.points) (sym m.page-is) (full i p m.here) in
     let place : i - 1 + 1 ≡ i = omega (arith, m.some) in
-    let parts : points_of (take i pages) ≡ points_of (take (i - 1) pages) ++ b.points.items = subst (λ (n : ℕ). points_of (take n pages) ≡ points_of (take (i - 1) pages) ++ b.points.items) place (points_push pages (i - 1) b (omega (arith, m.some, m.here)) m.before-is) in
-    let front : points_of (take (i + 1) pages) ≡ points_of (take i pages) ++ p.points.items = points_push pages i p m.here m.page-is in
-    let whole : points_of pages ≡ points_of (take i pages) ++ (p.points.items ++ points_of (drop (i + 1) pages)) =
-    sym (ap points_of (take-append-drop (i + 1) pages)) ∙ flat_map-append (λ (q : Page). q.points.items) (take (i + 1) pages) (drop (i + 1) pages)
-    ∙ ap (λ (ps : List Point). ps ++ points_of (drop (i + 1) pages)) front ∙ append_assoc (points_of (take i pages)) p.points.items (points_of (drop (i + 1) pages)) in
-    let in_front : Contains (points_of (take i pages)) last = subst (λ (ps : List Point). Contains ps last) (sym parts) (Contains-append_right (points_of (take (i - 1) pages)) b.points.items last (length b.points.items - 1, omega (arith, many), sym m.last-is)) in
-    let in_rest : Contains (p.points.items ++ points_of (drop (i + 1) pages)) first = Contains-append_left p.points.items (points_of (drop (i + 1) pages)) first (0, more, sym m.first-is) in
-    let step : last.time <ℤ first.time = pairs_across (λ (x y : Point). x.time <ℤ y.time) (points_of (take i pages)) (p.points.items ++ points_of (drop (i + 1) pages)) last first (subst IsRising whole rising) in_front in_rest in
+    let parts : points_of (take i pages) ≡ points_of (take (i - 1) pages) ++ b.points = subst (λ (n : ℕ). points_of (take n pages) ≡ points_of (take (i - 1) pages) ++ b.points) place (points_push pages (i - 1) b (omega (arith, m.some, m.here)) m.before-is) in
+    let front : points_of (take (i + 1) pages) ≡ points_of (take i pages) ++ p.points = points_push pages i p m.here m.page-is in
+    let whole : points_of pages ≡ points_of (take i pages) ++ (p.points ++ points_of (drop (i + 1) pages)) =
+    sym (ap points_of (take-append-drop (i + 1) pages)) ∙ flat_map-append (λ (q : Page). q.points) (take (i + 1) pages) (drop (i + 1) pages)
+    ∙ ap (λ (ps : List Point). ps ++ points_of (drop (i + 1) pages)) front ∙ append_assoc (points_of (take i pages)) p.points (points_of (drop (i + 1) pages)) in
+    let in_front : Contains (points_of (take i pages)) last = subst (λ (ps : List Point). Contains ps last) (sym parts) (Contains-append_right (points_of (take (i - 1) pages)) b.points last (length b.points - 1, omega (arith, many), sym m.last-is)) in
+    let in_rest : Contains (p.points ++ points_of (drop (i + 1) pages)) first = Contains-append_left p.points (points_of (drop (i + 1) pages)) first (0, more, sym m.first-is) in
+    let step : last.time <ℤ first.time = pairs_across (λ (x y : Point). x.time <ℤ y.time) (points_of (take i pages)) (p.points ++ points_of (drop (i + 1) pages)) last first (subst IsRising whole rising) in_front in_rest in
     omega (arith, ints)
 
-pub first_page : (pages : List Page) → All (λ page. IsRising page.points.items) pages → IsRising (points_of (take 1 pages))
+pub first_page : (pages : List Page) → All (λ page. IsRising page.points) pages → IsRising (points_of (take 1 pages))
 first_page [] rising = λ i j d l m. absurd (omega arith)
-first_page (p ∷ ps) rising = subst IsRising (sym (append-nil p.points.items)) (rising 0 p (omega arith))
+first_page (p ∷ ps) rising = subst IsRising (sym (append-nil p.points)) (rising 0 p (omega arith))
 
 -- ---- names in rising order
 
@@ -217,14 +216,14 @@ names_rise name a b c l m = nat_list_cmp_total.trans (name a) (name b) (name c) 
 
 -- ---- chunks of groups
 
-pub chunks_through : (groups : List Group) (i : ℕ) (group : Group) → i < length groups → group ≡ get_or groups i group → length (chunks_of (take i groups)) + length group.chunks.items ≤ length (chunks_of groups)
+pub chunks_through : (groups : List Group) (i : ℕ) (group : Group) → i < length groups → group ≡ get_or groups i group → length (chunks_of (take i groups)) + length group.chunks ≤ length (chunks_of groups)
 chunks_through groups i group l is =
-    let front : chunks_of (take (i + 1) groups) ≡ chunks_of (take i groups) ++ group.chunks.items =
+    let front : chunks_of (take (i + 1) groups) ≡ chunks_of (take i groups) ++ group.chunks =
     ap chunks_of (take_more groups i group l ∙ ap (λ (g : Group). take i groups ++ g ∷ []) (sym is))
-    ∙ flat_map-append (λ (g : Group). g.chunks.items) (take i groups) (group ∷ [])
-    ∙ ap (λ (cs : List Chunk). chunks_of (take i groups) ++ cs) (append-nil group.chunks.items) in
+    ∙ flat_map-append (λ (g : Group). g.chunks) (take i groups) (group ∷ [])
+    ∙ ap (λ (cs : List Chunk). chunks_of (take i groups) ++ cs) (append-nil group.chunks) in
     let whole : chunks_of groups ≡ chunks_of (take (i + 1) groups) ++ chunks_of (drop (i + 1) groups) =
-    sym (ap chunks_of (take-append-drop (i + 1) groups)) ∙ flat_map-append (λ (g : Group). g.chunks.items) (take (i + 1) groups) (drop (i + 1) groups) in
+    sym (ap chunks_of (take-append-drop (i + 1) groups)) ∙ flat_map-append (λ (g : Group). g.chunks) (take (i + 1) groups) (drop (i + 1) groups) in
     let n : length (chunks_of groups) ≡ length (chunks_of (take (i + 1) groups)) + length (chunks_of (drop (i + 1) groups)) = ap length whole ∙ length-append (chunks_of (take (i + 1) groups)) (chunks_of (drop (i + 1) groups)) in
-    let m : length (chunks_of (take (i + 1) groups)) ≡ length (chunks_of (take i groups)) + length group.chunks.items = ap length front ∙ length-append (chunks_of (take i groups)) group.chunks.items in
+    let m : length (chunks_of (take (i + 1) groups)) ≡ length (chunks_of (take i groups)) + length group.chunks = ap length front ∙ length-append (chunks_of (take i groups)) group.chunks in
     omega (arith, n, m)

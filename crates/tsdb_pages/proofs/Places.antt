@@ -75,11 +75,11 @@ pages_stand encoding place (p ∷ ps) (e ∷ es) bytes say s (suc k) page said l
 
 -- ---- chunks and groups
 
-chunk_stands : (tree : Tree) (group : Group) (chunk : Chunk) (place : ℕ) (entry : IndexEntry) (bytes : List ℕ) → Contains tree.groups.items group → Contains group.chunks.items chunk
+chunk_stands : (tree : Tree) (group : Group) (chunk : Chunk) (place : ℕ) (entry : IndexEntry) (bytes : List ℕ) → Contains tree.groups group → Contains group.chunks chunk
     → IsEntry group.device place chunk entry → StandsAt place (chunk_field chunk) bytes → HasPlaces tree bytes entry
 chunk_stands tree group chunk place entry bytes in_tree in_group say s =
     let at : place ≡ entry.place = sym say.place-is in
-    let head_stands = stands_first place (chunk_head chunk) (flat_map (page_field chunk.encoding) chunk.pages.items) bytes s in
+    let head_stands = stands_first place (chunk_head chunk) (flat_map (page_field chunk.encoding) chunk.pages) bytes s in
     record {
       group = group;
       chunk = chunk;
@@ -88,9 +88,9 @@ chunk_stands tree group chunk place entry bytes in_tree in_group say s =
       says = subst (λ (n : ℕ). IsEntry group.device n chunk entry) at say;
       stands = subst (λ (n : ℕ). StandsAt n (chunk_field chunk) bytes) at s;
       head = subst (λ (n : ℕ). StandsAt n (chunk_head chunk) bytes) at head_stands;
-      count = count_pages chunk.encoding (place + length (chunk_head chunk)) chunk.pages.items entry.pages.items say.pages;
-      pages = pages_stand chunk.encoding (place + length (chunk_head chunk)) chunk.pages.items entry.pages.items bytes say.pages
-          (stands_second place (chunk_head chunk) (flat_map (page_field chunk.encoding) chunk.pages.items) bytes s);
+      count = count_pages chunk.encoding (place + length (chunk_head chunk)) chunk.pages entry.pages say.pages;
+      pages = pages_stand chunk.encoding (place + length (chunk_head chunk)) chunk.pages entry.pages bytes say.pages
+          (stands_second place (chunk_head chunk) (flat_map (page_field chunk.encoding) chunk.pages) bytes s);
     }
 
 -- what each item of a list is contained in
@@ -100,17 +100,17 @@ later whole x xs has y (k, lt, at) = has y (suc k, omega (arith, lt), at)
 first_of : {A : Type 0} (whole : List A) (x : A) (xs : List A) → ((y : A) → Contains (x ∷ xs) y → Contains whole y) → Contains whole x
 first_of whole x xs has = has x (0, omega arith, refl)
 
-chunks_stand : (tree : Tree) (group : Group) (place : ℕ) (chunks : List Chunk) (entries : List IndexEntry) (bytes : List ℕ) → Contains tree.groups.items group → ((c : Chunk) → Contains chunks c → Contains group.chunks.items c)
+chunks_stand : (tree : Tree) (group : Group) (place : ℕ) (chunks : List Chunk) (entries : List IndexEntry) (bytes : List ℕ) → Contains tree.groups group → ((c : Chunk) → Contains chunks c → Contains group.chunks c)
     → AreEntries group.device place chunks entries → StandsAt place (flat_map chunk_field chunks) bytes → All (HasPlaces tree bytes) entries
 chunks_stand tree group place [] [] bytes in_tree has say s = All-nil (HasPlaces tree bytes)
 chunks_stand tree group place [] (e ∷ es) bytes in_tree has say s = absurd say
 chunks_stand tree group place (c ∷ cs) [] bytes in_tree has say s = absurd say
 chunks_stand tree group place (c ∷ cs) (e ∷ es) bytes in_tree has say s =
     All-cons (HasPlaces tree bytes) e es
-    (chunk_stands tree group c place e bytes in_tree (first_of group.chunks.items c cs has) say.0 (stands_first place (chunk_field c) (flat_map chunk_field cs) bytes s))
-    (chunks_stand tree group (place + length (chunk_field c)) cs es bytes in_tree (later group.chunks.items c cs has) say.1 (stands_second place (chunk_field c) (flat_map chunk_field cs) bytes s))
+    (chunk_stands tree group c place e bytes in_tree (first_of group.chunks c cs has) say.0 (stands_first place (chunk_field c) (flat_map chunk_field cs) bytes s))
+    (chunks_stand tree group (place + length (chunk_field c)) cs es bytes in_tree (later group.chunks c cs has) say.1 (stands_second place (chunk_field c) (flat_map chunk_field cs) bytes s))
 
-groups_stand : (tree : Tree) (place : ℕ) (groups : List Group) (lists : List (List IndexEntry)) (bytes : List ℕ) → ((g : Group) → Contains groups g → Contains tree.groups.items g)
+groups_stand : (tree : Tree) (place : ℕ) (groups : List Group) (lists : List (List IndexEntry)) (bytes : List ℕ) → ((g : Group) → Contains groups g → Contains tree.groups g)
     → AreEntriesOf place groups lists → StandsAt place (flat_map group_field groups) bytes → All (HasPlaces tree bytes) (all_of lists)
 groups_stand tree place [] [] bytes has say s = All-nil (HasPlaces tree bytes)
 groups_stand tree place [] (l ∷ ls) bytes has say s = absurd say
@@ -118,8 +118,8 @@ groups_stand tree place (g ∷ gs) [] bytes has say s = absurd say
 groups_stand tree place (g ∷ gs) (l ∷ ls) bytes has say s =
     let here = stands_first place (group_field g) (flat_map group_field gs) bytes s in
     All-append (HasPlaces tree bytes) l (all_of ls)
-    (chunks_stand tree g (place + length (group_head g)) g.chunks.items l bytes (first_of tree.groups.items g gs has) (λ c in_group. in_group) say.0 (stands_second place (group_head g) (flat_map chunk_field g.chunks.items) bytes here))
-    (groups_stand tree (place + length (group_field g)) gs ls bytes (later tree.groups.items g gs has) say.1 (stands_second place (group_field g) (flat_map group_field gs) bytes s))
+    (chunks_stand tree g (place + length (group_head g)) g.chunks l bytes (first_of tree.groups g gs has) (λ c in_group. in_group) say.0 (stands_second place (group_head g) (flat_map chunk_field g.chunks) bytes here))
+    (groups_stand tree (place + length (group_field g)) gs ls bytes (later tree.groups g gs has) say.1 (stands_second place (group_field g) (flat_map group_field gs) bytes s))
 
 -- ---- files
 
@@ -134,8 +134,8 @@ data_stands tree bytes file = stands_in 0 bytes [] (data_field tree) (file.index
 pub entries_stand : (tree : Tree) (bytes : List ℕ) (entries : List IndexEntry) → IsFile tree bytes → AreEntriesIn tree entries → All (HasPlaces tree bytes) entries
 entries_stand tree bytes entries file say =
     subst (λ (es : List IndexEntry). All (HasPlaces tree bytes) es) say.all
-    (groups_stand tree (length head) tree.groups.items say.by_group bytes (λ g in_tree. in_tree) say.say
-    (stands_second 0 head (flat_map group_field tree.groups.items) bytes (data_stands tree bytes file)))
+    (groups_stand tree (length head) tree.groups say.by_group bytes (λ g in_tree. in_tree) say.say
+    (stands_second 0 head (flat_map group_field tree.groups) bytes (data_stands tree bytes file)))
 
 pub file_ends : (tree : Tree) (bytes : List ℕ) (file : IsFile tree bytes) → HasEnds tree bytes file.entries file.root file.index-bytes
 file_ends tree bytes file =
@@ -147,7 +147,7 @@ file_ends tree bytes file =
     let front : length (data_field tree ++ file.index-bytes) ≡ length bytes - 14 = let n = length-append front_bytes file.index-bytes in omega (arith, whole, rest, n) in
     record {
       size = omega (arith, whole, rest);
-      head = stands_first 0 head (flat_map group_field tree.groups.items) bytes (data_stands tree bytes file);
+      head = stands_first 0 head (flat_map group_field tree.groups) bytes (data_stands tree bytes file);
       data-stands = data_stands tree bytes file;
       index-stands = stands_in (length front_bytes) bytes front_bytes file.index-bytes tail is refl;
       index-is = file.index-is;

@@ -28,14 +28,14 @@ use Rattle.tsdb_pages.specs.Pages.{ArePoints, IsInRange}
 use Rattle.tsdb_pages.specs.Trees.{IsGroup, IsMade, IsTree, chunks_of, points_of}
 use Rattle.tsdb_pages.specs.File.{AreEntries, AreEntriesIn, AreEntriesOf, ArePageEntries, IsEntry, IsFile, chunk_field, chunk_head, data_field, group_field, group_head, head, page_field}
 use Rattle.tsdb_pages.proofs.Files.{groups_of_tree, IsWholeChunk, IsWholeGroup, of_each_page}
-use Rattle.tsdb_pages.proofs.OneFile.{all_of, entries_like}
+use Rattle.tsdb_pages.proofs.OneFile.{all_of}
 use Rattle.tsdb_pages.proofs.Order.{pairs_append}
 use Rattle.tsdb_pages.proofs.Entries.{count_pages}
 use Rattle.tsdb_pages.proofs.Statistics.{stats_of_type}
 
 -- ---- pages
 
-pages_good : (t : DataType) (encoding : Encoding) (place : ℕ) (pages : List Page) (said : List PageEntry) → AllByRecursion (λ page. ArePoints t page.points.items) pages → AllByRecursion (λ page. All IsInRange page.points.items) pages
+pages_good : (t : DataType) (encoding : Encoding) (place : ℕ) (pages : List Page) (said : List PageEntry) → AllByRecursion (λ page. ArePoints t page.points) pages → AllByRecursion (λ page. All IsInRange page.points) pages
     → place + length (flat_map (page_field encoding) pages) < 2 ^ 64 → ArePageEntries encoding place pages said → AllByRecursion (IsPageOf t) said
 pages_good t encoding place [] [] points ranges small say = tt
 pages_good t encoding place [] (s ∷ ss) points ranges small say = absurd say
@@ -46,39 +46,39 @@ pages_good t encoding place (p ∷ ps) (s ∷ ss) points ranges small say =
     let few = points.0.few in (
       record {
         place = omega (arith, at, n, small);
-        stats = stats_of_type t p.points.items s.stats points.0.some (omega (arith, few)) points.0.typed ranges.0 say.0.stats;
+        stats = stats_of_type t p.points s.stats points.0.some (omega (arith, few)) points.0.typed ranges.0 say.0.stats;
       },
       pages_good t encoding (place + length (page_field encoding p)) ps ss points.1 ranges.1 (omega (arith, n, small)) say.1,
     )
 
 -- ---- the points of a chunk
 
-pub points_few : (t : DataType) (pages : List Page) → AllByRecursion (λ page. ArePoints t page.points.items) pages → length (points_of pages) ≤ 1000 * length pages
+pub points_few : (t : DataType) (pages : List Page) → AllByRecursion (λ page. ArePoints t page.points) pages → length (points_of pages) ≤ 1000 * length pages
 points_few t [] are = omega arith
 points_few t (p ∷ ps) are =
-    let n = length-append p.points.items (points_of ps) in
+    let n = length-append p.points (points_of ps) in
     let few = are.0.few in
     let rest = points_few t ps are.1 in
     omega (arith, n, few, rest)
 
-points_some : (t : DataType) (pages : List Page) → 0 < length pages → AllByRecursion (λ page. ArePoints t page.points.items) pages → 0 < length (points_of pages)
+points_some : (t : DataType) (pages : List Page) → 0 < length pages → AllByRecursion (λ page. ArePoints t page.points) pages → 0 < length (points_of pages)
 points_some t [] some are = absurd (omega (arith, some))
-points_some t (p ∷ ps) some are = let n = length-append p.points.items (points_of ps) in let here = are.0.some in omega (arith, n, here)
+points_some t (p ∷ ps) some are = let n = length-append p.points (points_of ps) in let here = are.0.some in omega (arith, n, here)
 
-points_typed : (t : DataType) (pages : List Page) → AllByRecursion (λ page. ArePoints t page.points.items) pages → All (λ (point : Point). type_of point.value ≡ t) (points_of pages)
+points_typed : (t : DataType) (pages : List Page) → AllByRecursion (λ page. ArePoints t page.points) pages → All (λ (point : Point). type_of point.value ≡ t) (points_of pages)
 points_typed t [] are = λ k d lt. absurd (omega (arith, lt))
-points_typed t (p ∷ ps) are = All-append (λ (point : Point). type_of point.value ≡ t) p.points.items (points_of ps) are.0.typed (points_typed t ps are.1)
+points_typed t (p ∷ ps) are = All-append (λ (point : Point). type_of point.value ≡ t) p.points (points_of ps) are.0.typed (points_typed t ps are.1)
 
 -- ---- chunks
 
 entry_good : (device : List ℕ) (place : ℕ) (chunk : Chunk) (entry : IndexEntry) → IsPath device → IsWholeChunk chunk → place + length (chunk_field chunk) < 2 ^ 64 → IsEntry device place chunk entry → entries.IsEntry entry
 entry_good device place chunk entry is_path is small say =
     let t : chunk.data_type ≡ entry.data_type = sym say.type-is in
-    let each = recursion_from_All (λ (page : Page). ArePoints chunk.data_type page.points.items) chunk.pages.items is.0.pages in
-    let count = count_pages chunk.encoding (place + length (chunk_head chunk)) chunk.pages.items entry.pages.items say.pages in
+    let each = recursion_from_All (λ (page : Page). ArePoints chunk.data_type page.points) chunk.pages is.0.pages in
+    let count = count_pages chunk.encoding (place + length (chunk_head chunk)) chunk.pages entry.pages say.pages in
     let few = is.0.few in
-    let many = points_few chunk.data_type chunk.pages.items each in
-    let n = length-append (chunk_head chunk) (flat_map (page_field chunk.encoding) chunk.pages.items) in
+    let many = points_few chunk.data_type chunk.pages each in
+    let n = length-append (chunk_head chunk) (flat_map (page_field chunk.encoding) chunk.pages) in
     let at = say.place-is in
     record {
       device = subst IsPath (sym say.device-is) is_path;
@@ -86,11 +86,11 @@ entry_good device place chunk entry is_path is small say =
       suits = ap (λ (x : DataType). is_suitable x entry.encoding) say.type-is ∙ ap (is_suitable chunk.data_type) say.encoding-is ∙ is.0.suits;
       place = omega (arith, at, small);
       stats = subst (λ (x : DataType). IsStatsOf x entry.stats) t
-          (stats_of_type chunk.data_type (points_of chunk.pages.items) entry.stats (points_some chunk.data_type chunk.pages.items is.0.some each) (omega (arith, many, few)) (points_typed chunk.data_type chunk.pages.items each) is.1.points say.stats);
+          (stats_of_type chunk.data_type (points_of chunk.pages) entry.stats (points_some chunk.data_type chunk.pages is.0.some each) (omega (arith, many, few)) (points_typed chunk.data_type chunk.pages each) is.1.points say.stats);
       few = omega (arith, count, few);
-      pages = subst (λ (x : DataType). All (IsPageOf x) entry.pages.items) t
-          (All-from_recursion (IsPageOf chunk.data_type) entry.pages.items
-          (pages_good chunk.data_type chunk.encoding (place + length (chunk_head chunk)) chunk.pages.items entry.pages.items each (of_each_page chunk.pages.items is.1.points) (omega (arith, n, small)) say.pages));
+      pages = subst (λ (x : DataType). All (IsPageOf x) entry.pages) t
+          (All-from_recursion (IsPageOf chunk.data_type) entry.pages
+          (pages_good chunk.data_type chunk.encoding (place + length (chunk_head chunk)) chunk.pages entry.pages each (of_each_page chunk.pages is.1.points) (omega (arith, n, small)) say.pages));
     }
 
 entries_good : (device : List ℕ) (place : ℕ) (chunks : List Chunk) (es : List IndexEntry) → IsPath device → AllByRecursion IsWholeChunk chunks → place + length (flat_map chunk_field chunks) < 2 ^ 64 → AreEntries device place chunks es → AllByRecursion entries.IsEntry es
@@ -115,16 +115,16 @@ lists_good place [] (l ∷ ls) are small say = absurd say
 lists_good place (g ∷ gs) [] are small say = absurd say
 lists_good place (g ∷ gs) (l ∷ ls) are small say =
     let n = length-append (group_field g) (flat_map group_field gs) in
-    let m = length-append (group_head g) (flat_map chunk_field g.chunks.items) in
+    let m = length-append (group_head g) (flat_map chunk_field g.chunks) in
     every_append entries.IsEntry l (all_of ls)
-    (entries_good g.device (place + length (group_head g)) g.chunks.items l are.0.0 are.0.1 (omega (arith, n, m, small)) say.0)
+    (entries_good g.device (place + length (group_head g)) g.chunks l are.0.0 are.0.1 (omega (arith, n, m, small)) say.0)
     (lists_good (place + length (group_field g)) gs ls are.1 (omega (arith, n, small)) say.1)
 
 -- ---- the names of all chunks
 
 names_in : List Group → List (List ℕ × List ℕ)
 names_in [] = []
-names_in (g ∷ gs) = map (λ (c : Chunk). (g.device, c.measurement)) g.chunks.items ++ names_in gs
+names_in (g ∷ gs) = map (λ (c : Chunk). (g.device, c.measurement)) g.chunks ++ names_in gs
 
 chunk_names : (device : List ℕ) (place : ℕ) (chunks : List Chunk) (es : List IndexEntry) → AreEntries device place chunks es → map names_of es ≡ map (λ (c : Chunk). (device, c.measurement)) chunks
 chunk_names device place [] [] say = refl
@@ -143,16 +143,16 @@ all_names place [] (l ∷ ls) say = absurd say
 all_names place (g ∷ gs) [] say = absurd say
 all_names place (g ∷ gs) (l ∷ ls) say =
     map-append names_of l (all_of ls)
-    ∙ ap (λ (ns : List (List ℕ × List ℕ)). ns ++ map names_of (all_of ls)) (chunk_names g.device (place + length (group_head g)) g.chunks.items l say.0)
-    ∙ ap (λ (ns : List (List ℕ × List ℕ)). map (λ (c : Chunk). (g.device, c.measurement)) g.chunks.items ++ ns) (all_names (place + length (group_field g)) gs ls say.1)
+    ∙ ap (λ (ns : List (List ℕ × List ℕ)). ns ++ map names_of (all_of ls)) (chunk_names g.device (place + length (group_head g)) g.chunks l say.0)
+    ∙ ap (λ (ns : List (List ℕ × List ℕ)). map (λ (c : Chunk). (g.device, c.measurement)) g.chunks ++ ns) (all_names (place + length (group_field g)) gs ls say.1)
 
 one_name_a_chunk : (groups : List Group) → length (names_in groups) ≡ length (chunks_of groups)
 unfolding names_in
 one_name_a_chunk [] = refl
 one_name_a_chunk (g ∷ gs) =
-    let named = length-append (map (λ (c : Chunk). (g.device, c.measurement)) g.chunks.items) (names_in gs) in
-    let chunks = length-append g.chunks.items (chunks_of gs) in
-    let each = length-map {B = List ℕ × List ℕ} g.chunks.items (λ (c : Chunk). (g.device, c.measurement)) in
+    let named = length-append (map (λ (c : Chunk). (g.device, c.measurement)) g.chunks) (names_in gs) in
+    let chunks = length-append g.chunks (chunks_of gs) in
+    let each = length-map {B = List ℕ × List ℕ} g.chunks (λ (c : Chunk). (g.device, c.measurement)) in
     let rest = one_name_a_chunk gs in
     omega (arith, named, chunks, each, rest)
 
@@ -184,9 +184,9 @@ unfolding names_in
 name_of_group [] names (k, lt, at) = absurd (omega (arith, lt))
 name_of_group (g ∷ gs) names has =
     ⊎_elim
-    (λ here. record { group = g; in-groups = (0, omega arith, refl); device = first_device g.device g.chunks.items names here })
+    (λ here. record { group = g; in-groups = (0, omega arith, refl); device = first_device g.device g.chunks names here })
     (λ there. later_group g gs names (name_of_group gs names there))
-    (Contains-append_cases (map (λ (c : Chunk). (g.device, c.measurement)) g.chunks.items) (names_in gs) names has)
+    (Contains-append_cases (map (λ (c : Chunk). (g.device, c.measurement)) g.chunks) (names_in gs) names has)
 
 -- the first of a list stands so to each of the others
 first_to : {A : Type 0} (R : A → A → Type 0) (x : A) (xs : List A) (y : A) → AllPairs R (x ∷ xs) → Contains xs y → R x y
@@ -199,13 +199,13 @@ names_pair : (groups : List Group) → AllByRecursion IsGroup groups → AllPair
 unfolding names_in
 names_pair [] are rising = λ i j d l m. absurd (omega (arith, m))
 names_pair (g ∷ gs) are rising =
-    pairs_append IsBefore (map (λ (c : Chunk). (g.device, c.measurement)) g.chunks.items) (names_in gs)
-    (pairs_of_map IsBefore (λ (c : Chunk). (g.device, c.measurement)) g.chunks.items (λ i j d l m. inr (refl, are.0.rising i j d l m)))
+    pairs_append IsBefore (map (λ (c : Chunk). (g.device, c.measurement)) g.chunks) (names_in gs)
+    (pairs_of_map IsBefore (λ (c : Chunk). (g.device, c.measurement)) g.chunks (λ i j d l m. inr (refl, are.0.rising i j d l m)))
     (names_pair gs are.1 (pairs_tail (λ (a b : Group). slice_cmp nat_cmp a.device b.device ≡ Less) g gs rising))
     (λ x y in_x in_y.
     let o = name_of_group gs y in_y in
     let less = first_to (λ (a b : Group). slice_cmp nat_cmp a.device b.device ≡ Less) g gs o.group rising o.in-groups in
-    inl (subst (λ (n : List ℕ). slice_cmp nat_cmp n y.0 ≡ Less) (sym (first_device g.device g.chunks.items x in_x)) (subst (λ (n : List ℕ). slice_cmp nat_cmp g.device n ≡ Less) (sym o.device) less)))
+    inl (subst (λ (n : List ℕ). slice_cmp nat_cmp n y.0 ≡ Less) (sym (first_device g.device g.chunks x in_x)) (subst (λ (n : List ℕ). slice_cmp nat_cmp g.device n ≡ Less) (sym o.device) less)))
 
 neighbours : {A : Type 0} (R : A → A → Type 0) (xs : List A) → AllPairs R xs → AllAdjacentBelow R xs (length xs)
 neighbours R xs pairs = λ k d l. pairs k (k + 1) d (omega arith) l
@@ -215,15 +215,15 @@ neighbours R xs pairs = λ k d l. pairs k (k + 1) d (omega arith) l
 -- a tree has a chunk
 some_chunks : (groups : List Group) → 0 < length groups → AllByRecursion IsGroup groups → 0 < length (chunks_of groups)
 some_chunks [] some are = absurd (omega (arith, some))
-some_chunks (g ∷ gs) some are = let n = length-append g.chunks.items (chunks_of gs) in let here = are.0.some in omega (arith, n, here)
+some_chunks (g ∷ gs) some are = let n = length-append g.chunks (chunks_of gs) in let here = are.0.some in omega (arith, n, here)
 
 pub entries_are_index : (tree : Tree) (es : List IndexEntry) → IsTree tree → IsMade tree → AreEntriesIn tree es → length (data_field tree) < 2 ^ 64 → IsIndex es
 entries_are_index tree es is made say small =
-    let groups = tree.groups.items in
+    let groups = tree.groups in
     let each = recursion_from_All IsGroup groups is.groups in
     let names = all_names (length head) groups say.by_group say.say in
-    let named : map names_of es ≡ names_in tree.groups.items = ap (map names_of) (sym say.all) ∙ names in
-    let number : length es ≡ length (chunks_of tree.groups.items) = sym (length-map es names_of) ∙ ap length named ∙ one_name_a_chunk groups in
+    let named : map names_of es ≡ names_in tree.groups = ap (map names_of) (sym say.all) ∙ names in
+    let number : length es ≡ length (chunks_of tree.groups) = sym (length-map es names_of) ∙ ap length named ∙ one_name_a_chunk groups in
     let size = length-append head (flat_map group_field groups) in
     let some = some_chunks groups is.some each in
     let few = is.few in
@@ -241,4 +241,4 @@ pub read_entries : (tree : Tree) (bytes : List ℕ) (es : List IndexEntry) → I
     → IsRead (length (data_field tree)) file.root file.index-bytes es → AreEntriesIn tree es
 read_entries tree bytes es is made file small read =
     let mine = entries_are_index tree file.entries is made file.say small in
-    entries_like tree file.entries es (one_index (length (data_field tree)) file.root file.index-bytes file.entries es mine.good read.index.good file.index-is read.spelling) file.say
+    subst (AreEntriesIn tree) (one_index (length (data_field tree)) file.root file.index-bytes file.entries es mine.good read.index.good file.index-is read.spelling) file.say

@@ -31,7 +31,7 @@ page_bytes encoding points = 80 ∷ number32 (length (body encoding points)) ++ 
 
 -- a page
 abbrev pub page_field : Encoding → Page → List ℕ
-page_field encoding page = page_bytes encoding page.points.items
+page_field encoding page = page_bytes encoding page.points
 
 -- a chunk of this measurement, type and encoding up to its pages: 43, and the three
 abbrev pub chunk_start : List ℕ → DataType → Encoding → List ℕ
@@ -44,7 +44,7 @@ chunk_head chunk = chunk_start chunk.measurement chunk.data_type chunk.encoding
 
 -- a chunk
 abbrev pub chunk_field : Chunk → List ℕ
-chunk_field chunk = chunk_head chunk ++ flat_map (page_field chunk.encoding) chunk.pages.items
+chunk_field chunk = chunk_head chunk ++ flat_map (page_field chunk.encoding) chunk.pages
 
 -- a group of this device up to its chunks: 47 and the device
 abbrev pub group_start : List ℕ → List ℕ
@@ -56,16 +56,16 @@ group_head group = group_start group.device
 
 -- a group
 abbrev pub group_field : Group → List ℕ
-group_field group = group_head group ++ flat_map chunk_field group.chunks.items
+group_field group = group_head group ++ flat_map chunk_field group.chunks
 
 -- head and groups
 abbrev pub data_field : Tree → List ℕ
-data_field tree = head ++ flat_map group_field tree.groups.items
+data_field tree = head ++ flat_map group_field tree.groups
 
 -- what the index says of a page that stands at this place
 pub record IsPageEntry (place : ℕ) (page : Page) (entry : PageEntry) : Type 0 where
   pub place-is : entry.place ≡ place
-  pub stats : AreStatsOf page.points.items entry.stats
+  pub stats : AreStatsOf page.points entry.stats
 
 -- what the index says of pages that stand one behind another from this place on
 abbrev pub ArePageEntries : Encoding → ℕ → List Page → List PageEntry → Type 0
@@ -82,8 +82,8 @@ pub record IsEntry (device : List ℕ) (place : ℕ) (chunk : Chunk) (entry : In
   pub type-is : entry.data_type ≡ chunk.data_type
   pub encoding-is : entry.encoding ≡ chunk.encoding
   pub place-is : entry.place ≡ place
-  pub stats : AreStatsOf (points_of chunk.pages.items) entry.stats
-  pub pages : ArePageEntries chunk.encoding (place + length (chunk_head chunk)) chunk.pages.items entry.pages.items
+  pub stats : AreStatsOf (points_of chunk.pages) entry.stats
+  pub pages : ArePageEntries chunk.encoding (place + length (chunk_head chunk)) chunk.pages entry.pages
 
 -- what the index says of chunks of this device that stand one behind another from this place on
 abbrev pub AreEntries : List ℕ → ℕ → List Chunk → List IndexEntry → Type 0
@@ -99,14 +99,14 @@ AreEntriesOf place [] [] = Unit {0}
 AreEntriesOf place [] (entries ∷ others) = ⊥
 AreEntriesOf place (group ∷ groups) [] = ⊥
 AreEntriesOf place (group ∷ groups) (entries ∷ others) =
-    AreEntries group.device (place + length (group_head group)) group.chunks.items entries
+    AreEntries group.device (place + length (group_head group)) group.chunks entries
     × AreEntriesOf (place + length (group_field group)) groups others
 
 -- the entries of a tree's index
 pub record AreEntriesIn (tree : Tree) (entries : List IndexEntry) : Type 0 where
   pub by_group : List (List IndexEntry)
   pub all : flat_map (λ list. list) by_group ≡ entries
-  pub say : AreEntriesOf (length head) tree.groups.items by_group
+  pub say : AreEntriesOf (length head) tree.groups by_group
 
 -- these bytes are the file of the tree: head, groups, index, and behind it the place of the root and `TsFile`
 pub record IsFile (tree : Tree) (bytes : List ℕ) : Type 0 where

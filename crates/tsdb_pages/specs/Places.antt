@@ -4,8 +4,7 @@ use Rattle.tsdb_base.specs.declared.value.Encoding.{Encoding}
 use Rattle.tsdb_base.specs.Fields.{number64}
 use Rattle.tsdb_index.specs.declared.index.IndexEntry.{IndexEntry}
 use Rattle.tsdb_index.specs.declared.index.PageEntry.{PageEntry}
-use Rattle.tsdb_index.specs.Content.{RootBegins}
-use Rattle.tsdb_index.specs.Spelling.{IsSpelling}
+use Rattle.tsdb_index.specs.Spelling.{IsSpelling, RootBegins}
 use Rattle.tsdb_stats.specs.Statistics.{AreStatsOf}
 use Rattle.tsdb_pages.specs.declared.tree.Page.{Page}
 use Rattle.tsdb_pages.specs.declared.tree.Chunk.{Chunk}
@@ -21,20 +20,20 @@ pub record StandsAt (place : ℕ) (part bytes : List ℕ) : Type 0 where
 -- the page stands where the index says, with the statistics that it says
 pub record IsPageAt (encoding : Encoding) (bytes : List ℕ) (page : Page) (said : PageEntry) : Type 0 where
   pub stands : StandsAt said.place (page_field encoding page) bytes
-  pub stats : AreStatsOf page.points.items said.stats
+  pub stats : AreStatsOf page.points said.stats
 
 -- the entry is that of a chunk of the tree, which stands where the entry says, as each page of the chunk does
 pub record HasPlaces (tree : Tree) (bytes : List ℕ) (entry : IndexEntry) : Type 0 where
   pub group : Group
   pub chunk : Chunk
-  pub in-tree : Contains tree.groups.items group
-  pub in-group : Contains group.chunks.items chunk
+  pub in-tree : Contains tree.groups group
+  pub in-group : Contains group.chunks chunk
   pub says : IsEntry group.device entry.place chunk entry
   pub stands : StandsAt entry.place (chunk_field chunk) bytes
   pub head : StandsAt entry.place (chunk_head chunk) bytes
-  pub count : length entry.pages.items ≡ length chunk.pages.items
-  pub pages : (k : ℕ) (page : Page) (said : PageEntry) → k < length entry.pages.items
-      → IsPageAt chunk.encoding bytes (get_or chunk.pages.items k page) (get_or entry.pages.items k said)
+  pub count : length entry.pages ≡ length chunk.pages
+  pub pages : (k : ℕ) (page : Page) (said : PageEntry) → k < length entry.pages
+      → IsPageAt chunk.encoding bytes (get_or chunk.pages k page) (get_or entry.pages k said)
 
 -- the head stands first, the tail last, and before it the index: its leaves from the end of the groups up to the root
 pub record HasEnds (tree : Tree) (bytes : List ℕ) (entries : List IndexEntry) (root : ℕ) (index : List ℕ) : Type 0 where

@@ -1,12 +1,10 @@
 -- The conditions on a tree.
-use Rattle.std.specs.Prelude.{◌≡◌, ℕ, ◌<◌, ◌≤◌, List, length, map, true, All, AllPairs}
+use Rattle.std.specs.Prelude.{◌≡◌, ℕ, ◌<◌, ◌≤◌, List, length, true, All, AllPairs}
 use Rattle.std.specs.Cmp.Lexicographic.{slice_cmp}
 use Rattle.std.specs.List.{flat_map}
 use Rattle.std.specs.declared.cmp.Ordering.TheVariants.{Less}
 use Rattle.std.specs.Ordering.{nat_cmp}
 use Rattle.tsdb_base.specs.declared.point.Point.{Point}
-use Rattle.tsdb_base.specs.declared.value.DataType.{DataType}
-use Rattle.tsdb_base.specs.declared.value.Encoding.{Encoding}
 use Rattle.tsdb_base.specs.Values.{is_suitable}
 use Rattle.tsdb_path.specs.Nodes.{IsName, IsPath}
 use Rattle.tsdb_pages.specs.declared.tree.Page.{Page}
@@ -18,11 +16,11 @@ use Rattle.tsdb_pages.specs.Pages.{ArePoints, IsInRange, IsRising}
 
 -- all points of the pages, in their order
 abbrev pub points_of : List Page → List Point
-points_of pages = flat_map (λ page. page.points.items) pages
+points_of pages = flat_map (λ page. page.points) pages
 
 -- all chunks of the groups, in their order
 abbrev pub chunks_of : List Group → List Chunk
-chunks_of groups = flat_map (λ group. group.chunks.items) groups
+chunks_of groups = flat_map (λ group. group.chunks) groups
 
 -- the bytes come first in the order of bytes
 abbrev pub IsBefore : List ℕ → List ℕ → Type 0
@@ -31,43 +29,30 @@ IsBefore a b = slice_cmp nat_cmp a b ≡ Less
 -- one page or more of the chunk's type, in an encoding that suits it; times rise through all pages
 pub record IsChunk (chunk : Chunk) : Type 0 where
   pub suits : is_suitable chunk.data_type chunk.encoding ≡ true
-  pub some : 0 < length chunk.pages.items
-  pub few : length chunk.pages.items ≤ max_pages
-  pub pages : All (λ page. ArePoints chunk.data_type page.points.items) chunk.pages.items
-  pub rising : IsRising (points_of chunk.pages.items)
+  pub some : 0 < length chunk.pages
+  pub few : length chunk.pages ≤ max_pages
+  pub pages : All (λ page. ArePoints chunk.data_type page.points) chunk.pages
+  pub rising : IsRising (points_of chunk.pages)
 
 -- one chunk or more, in rising order of their measurements
 pub record IsGroup (group : Group) : Type 0 where
-  pub some : 0 < length group.chunks.items
-  pub chunks : All IsChunk group.chunks.items
-  pub rising : AllPairs (λ a b. IsBefore a.measurement b.measurement) group.chunks.items
+  pub some : 0 < length group.chunks
+  pub chunks : All IsChunk group.chunks
+  pub rising : AllPairs (λ a b. IsBefore a.measurement b.measurement) group.chunks
 
 -- one group or more, in rising order of their devices
 pub record IsTree (tree : Tree) : Type 0 where
-  pub some : 0 < length tree.groups.items
-  pub few : length (chunks_of tree.groups.items) ≤ max_chunks
-  pub groups : All IsGroup tree.groups.items
-  pub rising : AllPairs (λ a b. IsBefore a.device b.device) tree.groups.items
+  pub some : 0 < length tree.groups
+  pub few : length (chunks_of tree.groups) ≤ max_chunks
+  pub groups : All IsGroup tree.groups
+  pub rising : AllPairs (λ a b. IsBefore a.device b.device) tree.groups
 
 -- what the types of a chunk's parts say: a name, and points in the ranges of their types
 pub record HasParts (chunk : Chunk) : Type 0 where
   pub measurement : IsName chunk.measurement
-  pub points : All IsInRange (points_of chunk.pages.items)
+  pub points : All IsInRange (points_of chunk.pages)
 
 -- what the types of a tree's parts say: devices that are paths, names, and points in the ranges of their types
 pub record IsMade (tree : Tree) : Type 0 where
-  pub devices : All (λ group. IsPath group.device) tree.groups.items
-  pub chunks : All HasParts (chunks_of tree.groups.items)
-
--- what a chunk holds: its measurement, type and encoding, and the points of each page
-abbrev pub chunk_content : Chunk → List ℕ × DataType × Encoding × List (List Point)
-chunk_content chunk =
-    (chunk.measurement, chunk.data_type, chunk.encoding, map (λ page. page.points.items) chunk.pages.items)
-
--- what a group holds: its device and its chunks
-abbrev pub group_content : Group → List ℕ × List (List ℕ × DataType × Encoding × List (List Point))
-group_content group = (group.device, map chunk_content group.chunks.items)
-
--- what a tree holds
-abbrev pub content : Tree → List (List ℕ × List (List ℕ × DataType × Encoding × List (List Point)))
-content tree = map group_content tree.groups.items
+  pub devices : All (λ group. IsPath group.device) tree.groups
+  pub chunks : All HasParts (chunks_of tree.groups)

@@ -31,20 +31,23 @@ pub fn are_points(points: &[Point], data_type: DataType) -> bool
 
 /// Whether each page has points as a page of this type.
 fn are_pages(pages: &[Page], data_type: DataType) -> bool
-    ensures { IsTrue result ↔ All (λ page. ArePoints data_type page.points.items) pages.now }
+    ensures { IsTrue result ↔ All (λ page. ArePoints data_type page.points) pages.now }
 {
-    pages.iter().all(|page| are_points(&page.points, data_type))
+    pages
+        .iter()
+        .all(|page| are_points(page.points.items(), data_type))
 }
 
 /// Whether times rise through all pages, in each of which they do.
 fn rise_through(pages: &[Page]) -> bool
-    requires some { All (λ page. 0 < length page.points.items) pages.now }
-    requires rising { All (λ page. IsRising page.points.items) pages.now }
+    requires some { All (λ page. 0 < length page.points) pages.now }
+    requires rising { All (λ page. IsRising page.points) pages.now }
     ensures { IsTrue result ↔ IsRising (points_of pages.now) }
 {
     for i in 1..pages.len() {
-        let before = &pages[i - 1].points;
-        if pages[i].points[0].time <= before[before.len() - 1].time {
+        let before = pages[i - 1].points.items();
+        let next = pages[i].points.items();
+        if next[0].time <= before[before.len() - 1].time {
             return false;
         }
     }
@@ -54,7 +57,7 @@ fn rise_through(pages: &[Page]) -> bool
 fn is_chunk(chunk: &Chunk) -> bool
     ensures { IsTrue result ↔ IsChunk chunk.now }
 {
-    let pages = chunk.pages.as_slice();
+    let pages = chunk.pages.items();
     if !suits(chunk.data_type, chunk.encoding) {
         return false;
     }
@@ -85,7 +88,8 @@ fn measurements_rise(chunks: &[Chunk]) -> bool
 fn is_group(group: &Group) -> bool
     ensures { IsTrue result ↔ IsGroup group.now }
 {
-    !group.chunks.is_empty() && are_chunks(&group.chunks) && measurements_rise(&group.chunks)
+    let chunks = group.chunks.items();
+    !chunks.is_empty() && are_chunks(chunks) && measurements_rise(chunks)
 }
 
 fn are_groups(groups: &[Group]) -> bool
@@ -112,10 +116,10 @@ fn have_few_chunks(groups: &[Group]) -> bool
 {
     let mut room = MAX_CHUNKS;
     for group in groups {
-        if group.chunks.len() > room {
+        if group.chunks.items().len() > room {
             return false;
         }
-        room -= group.chunks.len();
+        room -= group.chunks.items().len();
     }
     true
 }
@@ -126,6 +130,6 @@ fn have_few_chunks(groups: &[Group]) -> bool
 pub fn is_tree(tree: &Tree) -> bool
     ensures { IsTrue result ↔ IsTree tree.now }
 {
-    let groups = tree.groups.as_slice();
+    let groups = tree.groups.items();
     !groups.is_empty() && have_few_chunks(groups) && are_groups(groups) && devices_rise(groups)
 }

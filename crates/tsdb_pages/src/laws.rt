@@ -12,7 +12,7 @@ ghost use Rattle.tsdb_pages.specs.File.{AreEntriesIn, IsFile, data_field};
 ghost use Rattle.tsdb_pages.specs.Pages.{ArePoints, IsInRange, body};
 ghost use Rattle.tsdb_pages.specs.Places.{HasEnds, HasPlaces};
 ghost use Rattle.tsdb_pages.specs.Reading.{IsBody};
-ghost use Rattle.tsdb_pages.specs.Trees.{IsMade, IsTree, content};
+ghost use Rattle.tsdb_pages.specs.Trees.{IsMade, IsTree};
 
 /// Two pages with the same body are equal.
 pub fn one_page()
@@ -33,10 +33,10 @@ pub fn one_file()
     ensures { (tree : Tree) (x y : List ℕ) → IsFile tree x → IsFile tree y → x ≡ y }
 {}
 
-/// Two trees with the same file hold the same.
+/// Two trees with the same file are equal.
 pub fn one_tree()
     ensures { (a b : Tree) (bytes : List ℕ) → IsTree a → IsMade a → IsTree b → IsMade b →
-        IsFile a bytes → IsFile b bytes → content a ≡ content b }
+        IsFile a bytes → IsFile b bytes → a ≡ b }
 {}
 
 /// Each chunk and each page of a tree's file stands where the tree's index says.

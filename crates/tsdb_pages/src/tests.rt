@@ -1,7 +1,7 @@
 use super::*;
 use std::alloc::Global;
 use std::test::Fail;
-use tsdb_base::{DataType, Encoding, Point, Text, Value, suits};
+use tsdb_base::{DataType, Encoding, List, Point, Text, Value, suits};
 use tsdb_path::{Name, Path};
 
 const TYPES: [DataType; 4] = [
@@ -135,20 +135,22 @@ fn chunk(
                 value: Value::I64(5)
             },
         ]?;
-        pages.push(Page { points })?;
+        pages.push(Page {
+            points: List::of(points),
+        })?;
     }
     Ok(Chunk {
         measurement: Name::read(alloc, measurement)?,
         data_type: DataType::Int64,
         encoding,
-        pages,
+        pages: List::of(pages),
     })
 }
 
 fn group(alloc: Global, device: &[u8], chunks: Vec<Chunk>) -> Result<Group, Fail> {
     Ok(Group {
         device: Path::read(alloc, device)?,
-        chunks,
+        chunks: List::of(chunks),
     })
 }
 
@@ -168,7 +170,9 @@ fn are_tree(
         }
         groups.push(group(alloc, device, chunks)?)?;
     }
-    Ok(is_tree(&Tree { groups }))
+    Ok(is_tree(&Tree {
+        groups: List::of(groups),
+    }))
 }
 
 #[test]

@@ -3,13 +3,12 @@ use Rattle.tsdb_pages.proofs.check.is_chunk.Goals as goal
 
 pub returns-then-are_pages : goal.returns-then-are_pages
 returns-then-are_pages c =
-    let pages = c.as_slice-pages.ensures.value in
-    let len = c.args.chunk.now.pages.ok.0 in
+    let pages = c.items-pages.ensures in
     let each = rw pages at c.are_pages.ensures.0 c.if-are_pages.true in (
       λ rise. record {
         suits = search rules;
-        some = grind (arith, len);
-        few = grind (arith, len);
+        some = grind arith;
+        few = grind arith;
         pages = each;
         rising = rw pages at c.rise_through.ensures.0 rise;
       },

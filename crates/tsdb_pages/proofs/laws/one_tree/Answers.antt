@@ -1,5 +1,5 @@
-use Rattle.tsdb_pages.proofs.Files.{same_content}
+use Rattle.tsdb_pages.proofs.Files.{one_tree}
 use Rattle.tsdb_pages.proofs.laws.one_tree.Goals as goal
 
 pub returns : goal.returns
-returns c = same_content
+returns c = one_tree
