@@ -59,8 +59,8 @@ count_entries groups bytes entries layout = sym (ap length layout.all) ∙ count
 pub some_chunk : (groups : List Group) → 0 < length groups → All IsGroup groups → 0 < length (chunks_of groups)
 some_chunk [] some good = absurd (omega arith)
 some_chunk (g ∷ gs) some good =
-    let here : 0 < length g.chunks.items = (All-head IsGroup g gs good).some in
-    let m : length (g.chunks.items ++ chunks_of gs) ≡ length g.chunks.items + length (chunks_of gs) = length-append g.chunks.items (chunks_of gs) in
+    let here : 0 < length g.chunks = (All-head IsGroup g gs good).some in
+    let m : length (g.chunks ++ chunks_of gs) ≡ length g.chunks + length (chunks_of gs) = length-append g.chunks (chunks_of gs) in
     omega (arith, here, m)
 
 pub some_entry : (groups : List Group) (bytes : List ℕ) (entries : List IndexEntry) → AreGroups groups bytes entries → 0 < length groups → All IsGroup groups → 0 < length entries
@@ -83,7 +83,7 @@ group_begun groups device old new entries layout added = record {
 }
 
 pub chunk_begun : (groups : List Group) (device : List ℕ) (chunks : List Chunk) (measurement : List ℕ) (data_type : DataType) (encoding : Encoding) (page : Page) (points : List Point) (old new : List ℕ) (entries : List IndexEntry) (chunk : OpenChunk)
-    → AreChunks groups device chunks old entries → page.points.items ≡ points → new ≡ old ++ (chunk_start measurement data_type encoding ++ page_bytes encoding points) → IsBegun (length old) (length (chunk_start measurement data_type encoding)) points chunk
+    → AreChunks groups device chunks old entries → page.points ≡ points → new ≡ old ++ (chunk_start measurement data_type encoding ++ page_bytes encoding points) → IsBegun (length old) (length (chunk_start measurement data_type encoding)) points chunk
     → ArePages groups device chunks measurement data_type encoding (page ∷ []) new entries chunk
 chunk_begun groups device chunks measurement data_type encoding page points old new entries chunk layout same added begun = record {
   bytes-before = old;
@@ -92,7 +92,7 @@ chunk_begun groups device chunks measurement data_type encoding page points old 
       ∙ ap (λ (l : List ℕ). old ++ (chunk_start measurement data_type encoding ++ l)) (sym (append-nil (page_field encoding page)));
   is = record {
     place-is = begun.place-is;
-    stats = subst (λ (p : List Point). AreStatsOf p chunk.stats) (sym same ∙ sym (append-nil page.points.items)) begun.stats;
+    stats = subst (λ (p : List Point). AreStatsOf p chunk.stats) (sym same ∙ sym (append-nil page.points)) begun.stats;
     say = subst (λ (l : List PageEntry). ArePageEntries encoding (length old + length (chunk_start measurement data_type encoding)) (page ∷ []) l) (sym begun.pages-are)
         (record { place-is = begun.is.place-is; stats = subst (λ (p : List Point). AreStatsOf p begun.entry.stats) (sym same) begun.is.stats }, tt);
   };
@@ -112,7 +112,7 @@ more_behind bytes new a b c d is added =
     added ∙ ap (λ (l : List ℕ). l ++ d) is ∙ append_assoc a (b ++ c) d ∙ ap (λ (l : List ℕ). a ++ l) (append_assoc b c d)
 
 pub page_added : (groups : List Group) (device : List ℕ) (chunks : List Chunk) (measurement : List ℕ) (data_type : DataType) (encoding : Encoding) (pages : List Page) (page : Page) (points : List Point) (before after : List ℕ) (entries : List IndexEntry) (old new : OpenChunk)
-    → ArePages groups device chunks measurement data_type encoding pages before entries old → page.points.items ≡ points → after ≡ before ++ page_bytes encoding points → IsLonger (length before) points old new
+    → ArePages groups device chunks measurement data_type encoding pages before entries old → page.points ≡ points → after ≡ before ++ page_bytes encoding points → IsLonger (length before) points old new
     → ArePages groups device chunks measurement data_type encoding (pages ++ page ∷ []) after entries new
 page_added groups device chunks measurement data_type encoding pages page points before after entries old new layout same added longer =
     let start = chunk_start measurement data_type encoding in
@@ -128,7 +128,7 @@ page_added groups device chunks measurement data_type encoding pages page points
           ∙ ap (λ (l : List ℕ). layout.bytes-before ++ (start ++ l)) (sym (flat_push (page_field encoding) pages page));
       is = record {
         place-is = longer.place-is ∙ layout.is.place-is;
-        stats = subst (λ (p : List Point). AreStatsOf p new.stats) (ap (λ (p : List Point). points_of pages ++ p) (sym same) ∙ sym (flat_push (λ (p : Page). p.points.items) pages page)) (longer.stats (points_of pages) layout.is.stats);
+        stats = subst (λ (p : List Point). AreStatsOf p new.stats) (ap (λ (p : List Point). points_of pages ++ p) (sym same) ∙ sym (flat_push (λ (p : Page). p.points) pages page)) (longer.stats (points_of pages) layout.is.stats);
         say = subst (λ (l : List PageEntry). ArePageEntries encoding (length layout.bytes-before + length (chunk_start measurement data_type encoding)) (pages ++ page ∷ []) l) (sym longer.pages-are)
             (pages_push encoding first pages old.pages.items page longer.entry layout.is.say here);
       };
@@ -156,10 +156,10 @@ pub record IsEntryOf (device measurement : List ℕ) (data_type : DataType) (enc
   pub encoding-is : entry.encoding ≡ encoding
   pub place-is : entry.place ≡ chunk.place
   pub stats : entry.stats ≡ chunk.stats
-  pub pages-are : entry.pages.items ≡ chunk.pages.items
+  pub pages-are : entry.pages ≡ chunk.pages.items
 
 pub chunk_ended : (groups : List Group) (device : List ℕ) (chunks : List Chunk) (chunk : Chunk) (bytes : List ℕ) (before after : List IndexEntry) (open_chunk : OpenChunk) (entry : IndexEntry)
-    → ArePages groups device chunks chunk.measurement chunk.data_type chunk.encoding chunk.pages.items bytes before open_chunk → IsEntryOf device chunk.measurement chunk.data_type chunk.encoding open_chunk entry → after ≡ before ++ entry ∷ []
+    → ArePages groups device chunks chunk.measurement chunk.data_type chunk.encoding chunk.pages bytes before open_chunk → IsEntryOf device chunk.measurement chunk.data_type chunk.encoding open_chunk entry → after ≡ before ++ entry ∷ []
     → AreChunks groups device (chunks ++ chunk ∷ []) bytes after
 chunk_ended groups device chunks chunk bytes before after open_chunk entry layout is added =
     let start = chunk_start chunk.measurement chunk.data_type chunk.encoding in
@@ -171,8 +171,8 @@ chunk_ended groups device chunks chunk bytes before after open_chunk entry layou
       type-is = is.type-is;
       encoding-is = is.encoding-is;
       place-is = is.place-is ∙ layout.is.place-is;
-      stats = subst (AreStatsOf (points_of chunk.pages.items)) (sym is.stats) layout.is.stats;
-      pages = subst (λ (l : List PageEntry). ArePageEntries chunk.encoding (length layout.bytes-before + length (chunk_start chunk.measurement chunk.data_type chunk.encoding)) chunk.pages.items l) (sym is.pages-are) layout.is.say;
+      stats = subst (AreStatsOf (points_of chunk.pages)) (sym is.stats) layout.is.stats;
+      pages = subst (λ (l : List PageEntry). ArePageEntries chunk.encoding (length layout.bytes-before + length (chunk_start chunk.measurement chunk.data_type chunk.encoding)) chunk.pages l) (sym is.pages-are) layout.is.say;
     }
     in
     record {
@@ -186,7 +186,7 @@ chunk_ended groups device chunks chunk bytes before after open_chunk entry layou
       say = chunks_push device (length layout.before.bytes-before + length (group_start device)) chunks layout.before.own chunk entry layout.before.say (subst (λ n. IsEntry device n chunk entry) place here);
     }
 
-pub group_ended : (groups : List Group) (group : Group) (bytes : List ℕ) (entries : List IndexEntry) → AreChunks groups group.device group.chunks.items bytes entries → AreGroups (groups ++ group ∷ []) bytes entries
+pub group_ended : (groups : List Group) (group : Group) (bytes : List ℕ) (entries : List IndexEntry) → AreChunks groups group.device group.chunks bytes entries → AreGroups (groups ++ group ∷ []) bytes entries
 group_ended groups group bytes entries layout =
     let place : length layout.bytes-before ≡ length head + length (flat_map group_field groups) = ap length layout.before.bytes-are ∙ length-append head (flat_map group_field groups) in
     record {
@@ -194,11 +194,11 @@ group_ended groups group bytes entries layout =
           ∙ ap (λ (l : List ℕ). head ++ l) (sym (flat_push group_field groups group));
       by_group = layout.before.by_group ++ layout.own ∷ [];
       all = flat_push (λ (l : List IndexEntry). l) layout.before.by_group layout.own ∙ ap (λ (l : List IndexEntry). l ++ layout.own) layout.before.all ∙ sym layout.all;
-      say = groups_push (length head) groups layout.before.by_group group layout.own layout.before.say (subst (λ n. AreEntries group.device (n + length (group_head group)) group.chunks.items layout.own) place layout.say);
+      say = groups_push (length head) groups layout.before.by_group group layout.own layout.before.say (subst (λ n. AreEntries group.device (n + length (group_head group)) group.chunks layout.own) place layout.say);
     }
 
 -- index and tail behind the groups of a tree make its file
-pub file_made : (tree : Tree) (bytes file index-bytes : List ℕ) (root : ℕ) (entries : List IndexEntry) → AreGroups tree.groups.items bytes entries → index.IsSpelling (length bytes) root entries index-bytes
+pub file_made : (tree : Tree) (bytes file index-bytes : List ℕ) (root : ℕ) (entries : List IndexEntry) → AreGroups tree.groups bytes entries → index.IsSpelling (length bytes) root entries index-bytes
     → file ≡ bytes ++ index-bytes ++ number64 root ++ magic → IsFile tree file
 file_made tree bytes file index-bytes root entries layout index_is is = record {
   entries = entries;

@@ -1,8 +1,6 @@
 -- A series that is whole, the series behind it, and the file of all.
-use Rattle.std.proofs.Common.{◌≡◌, ℕ, ◌+◌, ◌<◌, ◌≤◌, ◌^◌, true, false, List, [], ◌∷◌, ◌++◌, length, map, ◌⊎◌, inl, inr, refl, sym, ap, ◌∙◌, subst, append_assoc, arith}
+use Rattle.std.proofs.Common.{◌≡◌, ℕ, ◌+◌, ◌<◌, ◌≤◌, true, false, List, [], ◌∷◌, ◌++◌, length, map, ◌⊎◌, inl, inr, refl, sym, ap, ◌∙◌, subst, append_assoc, arith}
 use Rattle.std.specs.Prelude.{All, AllPairs, Bool, Option, None, Some}
-use Rattle.std.specs.declared.vec.Vec.{Vec}
-use Rattle.std.specs.Global.{Global}
 use Rattle.std.specs.Cmp.Lexicographic.{slice_cmp}
 use Rattle.std.specs.declared.cmp.Ordering.TheVariants.{Equal, Less}
 use Rattle.std.specs.Ordering.{nat_cmp}
@@ -31,38 +29,38 @@ use Rattle.tsfile_writer.specs.declared.layout.OpenChunk.{OpenChunk}
 use Rattle.tsfile_writer.specs.Given.{AreChunksOf, IsChunkOf, IsTreeOf, MayBeFollowedBy, Series, placed, series_at}
 use Rattle.tsfile_writer.specs.Steps.{AreChunks, AreGroups, start_if}
 use Rattle.tsfile_writer.specs.Building.{AreClosed, AreGrouped, BeginsGroup, BuildState, IsOpenOf, PutsIn}
-use Rattle.tsdb_pages.proofs.Entries.{count_chunks, flat_push}
+use Rattle.tsdb_pages.proofs.Entries.{flat_push}
 use Rattle.tsfile_writer.proofs.Appending.{IsEntryOf, chunk_ended, count_entries, file_made, group_begun, group_ended, no_groups}
 use Rattle.tsdb_pages.proofs.Order.{pairs_push}
-use Rattle.tsfile_writer.proofs.Grouping.{before_through, chunks_of_push, few_groups, filled_push, one_group, placed_push, same_ends, vec_like}
+use Rattle.tsfile_writer.proofs.Grouping.{before_through, chunks_of_push, filled_push, one_group, placed_push, same_ends}
 use Rattle.tsfile_writer.proofs.Waiting.{are_points, put_few, put_stands}
 
 -- ---- a chunk is whole
 
 -- the chunk of these pages
-abbrev chunk_like : Vec ℕ Global → List ℕ → DataType → Encoding → (pages : List Page) → length pages < 2 ^ 63 → Chunk
-chunk_like v path data_type encoding pages small = record { measurement = measurement_of path; data_type = data_type; encoding = encoding; pages = vec_like v pages small }
+abbrev chunk_of : List ℕ → DataType → Encoding → List Page → Chunk
+chunk_of path data_type encoding pages = record { measurement = measurement_of path; data_type = data_type; encoding = encoding; pages = pages }
 
 -- the points of all pages, with those that waited
-all_points : (series : Series) (pages : List Page) (page : Page) (path : List ℕ) (data_type : DataType) (encoding : Encoding) (points : List Point) → IsOpenOf series pages path data_type encoding points → page.points.items ≡ points → points_of (pages ++ page ∷ []) ≡ series.points
+all_points : (series : Series) (pages : List Page) (page : Page) (path : List ℕ) (data_type : DataType) (encoding : Encoding) (points : List Point) → IsOpenOf series pages path data_type encoding points → page.points ≡ points → points_of (pages ++ page ∷ []) ≡ series.points
 all_points series pages page path data_type encoding points is same =
-    flat_push (λ (p : Page). p.points.items) pages page ∙ ap (λ (ps : List Point). points_of pages ++ ps) same ∙ sym is.points-are
+    flat_push (λ (p : Page). p.points) pages page ∙ ap (λ (ps : List Point). points_of pages ++ ps) same ∙ sym is.points-are
 
-is_chunk : (v : Vec ℕ Global) (series : Series) (pages : List Page) (page : Page) (path : List ℕ) (data_type : DataType) (encoding : Encoding) (points : List Point) (small : length (pages ++ page ∷ []) < 2 ^ 63)
-    → IsOpenOf series pages path data_type encoding points → 0 < length points → page.points.items ≡ points → length (pages ++ page ∷ []) ≤ max_pages → IsChunk (chunk_like v path data_type encoding (pages ++ page ∷ []) small)
-is_chunk v series pages page path data_type encoding points small is some same few =
+is_chunk : (series : Series) (pages : List Page) (page : Page) (path : List ℕ) (data_type : DataType) (encoding : Encoding) (points : List Point)
+    → IsOpenOf series pages path data_type encoding points → 0 < length points → page.points ≡ points → length (pages ++ page ∷ []) ≤ max_pages → IsChunk (chunk_of path data_type encoding (pages ++ page ∷ []))
+is_chunk series pages page path data_type encoding points is some same few =
     let n = length-append pages (page ∷ []) in
     record {
       suits = is.suits;
       some = omega (arith, n);
       few = few;
-      pages = All-push (λ (p : Page). ArePoints data_type p.points.items) pages page is.good (subst (ArePoints data_type) (sym same) (are_points series pages path data_type encoding points is some));
+      pages = All-push (λ (p : Page). ArePoints data_type p.points) pages page is.good (subst (ArePoints data_type) (sym same) (are_points series pages path data_type encoding points is some));
       rising = subst IsRising (sym (all_points series pages page path data_type encoding points is same)) is.rising;
     }
 
-is_chunk_of : (v : Vec ℕ Global) (series : Series) (pages : List Page) (page : Page) (path : List ℕ) (data_type : DataType) (encoding : Encoding) (points : List Point) (small : length (pages ++ page ∷ []) < 2 ^ 63)
-    → IsOpenOf series pages path data_type encoding points → 0 < length points → page.points.items ≡ points → IsChunkOf series (chunk_like v path data_type encoding (pages ++ page ∷ []) small)
-is_chunk_of v series pages page path data_type encoding points small is some same = record {
+is_chunk_of : (series : Series) (pages : List Page) (page : Page) (path : List ℕ) (data_type : DataType) (encoding : Encoding) (points : List Point)
+    → IsOpenOf series pages path data_type encoding points → 0 < length points → page.points ≡ points → IsChunkOf series (chunk_of path data_type encoding (pages ++ page ∷ []))
+is_chunk_of series pages page path data_type encoding points is some same = record {
   measurement-is = sym is.measurement-is;
   type-is = sym is.type-is;
   encoding-is = sym is.encoding-is;
@@ -70,15 +68,14 @@ is_chunk_of v series pages page path data_type encoding points small is some sam
   points-are = all_points series pages page path data_type encoding points is same;
 }
 
-pub series_closed : (v : Vec ℕ Global) (given : List Series) (page : Page) (old new : List ℕ) (before after : List IndexEntry) (path : List ℕ) (data_type : DataType) (encoding : Encoding) (chunk : Option OpenChunk) (whole : OpenChunk) (points : List Point) (entry : IndexEntry)
-    → BuildState given old before path data_type encoding chunk points → 0 < length points → page.points.items ≡ points → PutsIn path data_type encoding points before old new chunk (Some whole)
+pub series_closed : (given : List Series) (page : Page) (old new : List ℕ) (before after : List IndexEntry) (path : List ℕ) (data_type : DataType) (encoding : Encoding) (chunk : Option OpenChunk) (whole : OpenChunk) (points : List Point) (entry : IndexEntry)
+    → BuildState given old before path data_type encoding chunk points → 0 < length points → page.points ≡ points → PutsIn path data_type encoding points before old new chunk (Some whole)
     → IsEntryOf (device_of path) (measurement_of path) data_type encoding whole entry → after ≡ before ++ entry ∷ [] → length before < max_chunks → AreClosed given (device_of path) (measurement_of path) new after
-series_closed v given page old new before after path data_type encoding chunk whole points entry state some same puts is added room =
+series_closed given page old new before after path data_type encoding chunk whole points entry state some same puts is added room =
     let few_pages = put_few state.groups state.chunks state.pages page path data_type encoding points old new before chunk (Some whole) same state.stand puts in
     let stand = put_stands state.groups state.chunks state.pages page path data_type encoding points old new before chunk (Some whole) same state.stand puts in
-    let small : length (state.pages ++ page ∷ []) < 2 ^ 63 = omega (arith, few_pages) in
-    let last = chunk_like v path data_type encoding (state.pages ++ page ∷ []) small in
-    let here = is_chunk v state.last state.pages page path data_type encoding points small state.is some same few_pages in
+    let last = chunk_of path data_type encoding (state.pages ++ page ∷ []) in
+    let here = is_chunk state.last state.pages page path data_type encoding points state.is some same few_pages in
     let device = device_of path in
     let n : length after ≡ length before + 1 = ap length added ∙ length-append before (entry ∷ []) in
     let size = length-append state.chunks (last ∷ []) in
@@ -90,7 +87,7 @@ series_closed v given page old new before after path data_type encoding chunk wh
             (subst (AreChunksOf (state.front ++ state.last ∷ []))
             (append_assoc (placed state.groups) (map (λ (c : Chunk). (device, c)) state.chunks) ((device, last) ∷ []) ∙ ap (λ (l : List (List ℕ × Chunk)). placed state.groups ++ l) (sym (one_group device state.chunks last)))
             (chunks_of_push state.front (placed state.groups ++ map (λ (c : Chunk). (device, c)) state.chunks) state.last device last state.grouped.of (sym state.is.device-is)
-            (is_chunk_of v state.last state.pages page path data_type encoding points small state.is some same)));
+            (is_chunk_of state.last state.pages page path data_type encoding points state.is some same)));
         groups-good = state.grouped.groups-good;
         groups-rising = state.grouped.groups-rising;
         groups-before = state.grouped.groups-before;
@@ -109,15 +106,8 @@ series_closed v given page old new before after path data_type encoding chunk wh
 
 -- ---- the group of the last device
 
-few_chunks : (given : List Series) (device measurement : List ℕ) (bytes : List ℕ) (entries : List IndexEntry) (closed : AreClosed given device measurement bytes entries) → length closed.chunks < 2 ^ 63
-few_chunks given device measurement bytes entries closed =
-    let layout = closed.layout in
-    let n = count_chunks device (length layout.bytes-before + length (group_start device)) closed.chunks layout.own layout.say in
-    let m : length entries ≡ length layout.entries-before + length layout.own = ap length layout.all ∙ length-append layout.entries-before layout.own in
-    omega (arith, n, m, closed.few)
-
-abbrev group_like : Vec ℕ Global → List ℕ → (chunks : List Chunk) → length chunks < 2 ^ 63 → Group
-group_like v device chunks small = record { device = device; chunks = vec_like v chunks small }
+abbrev group_of : List ℕ → List Chunk → Group
+group_of device chunks = record { device = device; chunks = chunks }
 
 -- all groups, the last of this device
 record AreAll (given : List Series) (device : List ℕ) (bytes : List ℕ) (entries : List IndexEntry) (groups : List Group) : Type 0 where
@@ -128,11 +118,11 @@ record AreAll (given : List Series) (device : List ℕ) (bytes : List ℕ) (entr
   before : (next : List ℕ) → IsBefore device next → All (λ group. IsBefore group.device next) groups
   layout : AreGroups groups bytes entries
 
-all_groups : (v : Vec ℕ Global) (given : List Series) (device measurement : List ℕ) (bytes : List ℕ) (entries : List IndexEntry) (closed : AreClosed given device measurement bytes entries)
-    → AreAll given device bytes entries (closed.groups ++ group_like v device closed.chunks (few_chunks given device measurement bytes entries closed) ∷ [])
-all_groups v given device measurement bytes entries closed =
-    let group = group_like v device closed.chunks (few_chunks given device measurement bytes entries closed) in
-    let good : IsGroup (group_like v device closed.chunks (few_chunks given device measurement bytes entries closed)) = record { some = closed.some; chunks = closed.grouped.chunks-good; rising = closed.grouped.chunks-rising } in
+all_groups : (given : List Series) (device measurement : List ℕ) (bytes : List ℕ) (entries : List IndexEntry) (closed : AreClosed given device measurement bytes entries)
+    → AreAll given device bytes entries (closed.groups ++ group_of device closed.chunks ∷ [])
+all_groups given device measurement bytes entries closed =
+    let group = group_of device closed.chunks in
+    let good : IsGroup (group_of device closed.chunks) = record { some = closed.some; chunks = closed.grouped.chunks-good; rising = closed.grouped.chunks-rising } in
     let n = length-append closed.groups (group ∷ []) in
     record {
       of = subst (AreChunksOf given) (sym (placed_push closed.groups group)) closed.grouped.of;
@@ -154,8 +144,8 @@ begun path data_type encoding nodes suits = record {
   encoding-is = refl;
   suits = suits;
   points-are = refl;
-  full = All-nil (λ (p : Page). length p.points.items ≡ max_values);
-  good = All-nil (λ (p : Page). ArePoints data_type p.points.items);
+  full = All-nil (λ (p : Page). length p.points ≡ max_values);
+  good = All-nil (λ (p : Page). ArePoints data_type p.points);
   few-pages = omega arith;
   few = omega arith;
   typed = All-nil (λ (p : Point). type_of p.value ≡ data_type);
@@ -202,11 +192,11 @@ first_begun bytes entries path data_type encoding is none nodes suits = record {
         let m : length entries ≡ length test.0 + 1 = ap length test.2 ∙ length-append test.0 (test.1 ∷ []) in
         absurd (omega (arith, n, m))
 
-pub next_begun : (v : Vec ℕ Global) (given : List Series) (device measurement : List ℕ) (bytes : List ℕ) (entries : List IndexEntry) (path : List ℕ) (data_type : DataType) (encoding : Encoding) → AreClosed given device measurement bytes entries
+pub next_begun : (given : List Series) (device measurement : List ℕ) (bytes : List ℕ) (entries : List IndexEntry) (path : List ℕ) (data_type : DataType) (encoding : Encoding) → AreClosed given device measurement bytes entries
     → 2 ≤ node_count path → is_suitable data_type encoding ≡ true → index.IsBefore (device, measurement) (device_of path, measurement_of path) → BuildState (given ++ series_at path data_type encoding ∷ []) bytes entries path data_type encoding None []
-next_begun v given device measurement bytes entries path data_type encoding closed nodes suits (inl less) =
-    let all = all_groups v given device measurement bytes entries closed in
-    let groups = closed.groups ++ group_like v device closed.chunks (few_chunks given device measurement bytes entries closed) ∷ [] in
+next_begun given device measurement bytes entries path data_type encoding closed nodes suits (inl less) =
+    let all = all_groups given device measurement bytes entries closed in
+    let groups = closed.groups ++ group_of device closed.chunks ∷ [] in
     record {
       front = given;
       last = series_at path data_type encoding;
@@ -235,7 +225,7 @@ next_begun v given device measurement bytes entries path data_type encoding clos
         let same : test.1 ≡ closed.entry = (same_ends test.0 closed.front test.1 closed.entry (sym test.2 ∙ closed.last)).1 in
         let devices : device ≡ device_of path = sym closed.device-is ∙ ap (λ (e : IndexEntry). e.device) (sym same) ∙ test.3 in
         absurd (not_itself device (subst (IsBefore device) (sym devices) less))
-next_begun v given device measurement bytes entries path data_type encoding closed nodes suits (inr also) = record {
+next_begun given device measurement bytes entries path data_type encoding closed nodes suits (inr also) = record {
   front = given;
   last = series_at path data_type encoding;
   all = refl;
@@ -270,16 +260,14 @@ names_before bytes entries path data_type encoding chunk points device measureme
 
 -- ---- the file
 
-pub file_whole : (v : Vec ℕ Global) (given : List Series) (device measurement : List ℕ) (bytes file index-bytes : List ℕ) (root : ℕ) (entries : List IndexEntry) → AreClosed given device measurement bytes entries
+pub file_whole : (given : List Series) (device measurement : List ℕ) (bytes file index-bytes : List ℕ) (root : ℕ) (entries : List IndexEntry) → AreClosed given device measurement bytes entries
     → IsSpelling (length bytes) root entries index-bytes → file ≡ bytes ++ index-bytes ++ number64 root ++ magic → (tree : Tree) × IsTreeOf given tree × IsFile tree file
-file_whole v given device measurement bytes file index-bytes root entries closed index_is is =
-    let all = all_groups v given device measurement bytes entries closed in
-    let groups = closed.groups ++ group_like v device closed.chunks (few_chunks given device measurement bytes entries closed) ∷ [] in
-    let n : length entries ≡ length (chunks_of (closed.groups ++ group_like v device closed.chunks (few_chunks given device measurement bytes entries closed) ∷ [])) = count_entries groups bytes entries all.layout in
+file_whole given device measurement bytes file index-bytes root entries closed index_is is =
+    let all = all_groups given device measurement bytes entries closed in
+    let groups = closed.groups ++ group_of device closed.chunks ∷ [] in
+    let n : length entries ≡ length (chunks_of (closed.groups ++ group_of device closed.chunks ∷ [])) = count_entries groups bytes entries all.layout in
     let few = subst (λ k. k ≤ max_chunks) n closed.few in
-    let m = few_groups groups all.good in
-    let small : length (closed.groups ++ group_like v device closed.chunks (few_chunks given device measurement bytes entries closed) ∷ []) < 2 ^ 63 = omega (arith, m, few) in
-    let tree : Tree = record { groups = vec_like v groups small } in (
+    let tree : Tree = record { groups = groups } in (
       tree,
       record { is-tree = record { some = all.some; few = few; groups = all.good; rising = all.rising }; chunks = all.of },
       file_made tree bytes file index-bytes root entries all.layout index_is is,

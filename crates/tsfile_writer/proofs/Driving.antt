@@ -1,5 +1,5 @@
 -- How the tests drive a builder.
-use Rattle.std.proofs.Common.{◌≡◌, ℕ, ◌<◌, ◌≤◌, None, Some, List, [], ◌∷◌, ◌++◌, sym, ap, ◌∙◌, subst, append_assoc, arith}
+use Rattle.std.proofs.Common.{◌≡◌, ℕ, ◌≤◌, None, Some, List, [], ◌∷◌, ◌++◌, sym, ap, ◌∙◌, subst, append_assoc, arith}
 use Rattle.std.specs.Prelude.{◌<ℤ◌, All, Option}
 use Rattle.std.proofs.lemmas.List.Elements.{All-head, Contains-get_or}
 use Rattle.tsdb_base.specs.declared.point.Point.{Point}

@@ -1,8 +1,6 @@
 -- Series one behind another, as the chunks of groups.
-use Rattle.std.proofs.Common.{◌≡◌, ℕ, ◌+◌, ◌-◌, ◌<◌, ◌≤◌, ◌^◌, List, [], ◌∷◌, ◌++◌, length, map, refl, ap, subst, arith}
+use Rattle.std.proofs.Common.{◌≡◌, ℕ, ◌+◌, ◌<◌, ◌≤◌, List, [], ◌∷◌, ◌++◌, length, map, refl, ap, subst, arith}
 use Rattle.std.specs.Prelude.{All}
-use Rattle.std.specs.declared.vec.Vec.{Vec}
-use Rattle.std.specs.Global.{Global}
 use Rattle.std.proofs.lemmas.Cmp.{nat_list_cmp_total}
 use Rattle.std.proofs.lemmas.List.{get_or-append-add, length-append, map-append}
 use Rattle.std.proofs.lemmas.List.Elements.{All-head, All-tail}
@@ -10,15 +8,11 @@ use Rattle.tsdb_base.specs.Limits.{max_values}
 use Rattle.tsdb_pages.specs.declared.tree.Page.{Page}
 use Rattle.tsdb_pages.specs.declared.tree.Chunk.{Chunk}
 use Rattle.tsdb_pages.specs.declared.tree.Group.{Group}
-use Rattle.tsdb_pages.specs.Trees.{IsBefore, IsGroup, chunks_of}
+use Rattle.tsdb_pages.specs.Trees.{IsBefore}
 use Rattle.tsfile_writer.specs.Given.{AreChunksOf, AreFilled, IsChunkOf, Series, placed}
 use Rattle.tsdb_pages.proofs.Entries.{flat_push}
 
 -- ---- lists
-
--- a vector of these items, at the place of another
-abbrev pub vec_like : {A B : Type 0} → Vec B Global → (items : List A) → length items < 2 ^ 63 → Vec A Global
-vec_like v items small = record { ptr = v.ptr; len = length items; cap = length items; alloc = v.alloc; items = items; ok = (refl, omega arith); small = small }
 
 -- lists that end with an item are equal where all but the item and the items are
 pub same_ends : {A : Type 0} (xs ys : List A) (x y : A) → xs ++ x ∷ [] ≡ ys ++ y ∷ [] → (xs ≡ ys) × (x ≡ y)
@@ -58,24 +52,15 @@ chunks_of_push (s ∷ ss) [] series device chunk are same is = absurd are
 chunks_of_push (s ∷ ss) (c ∷ cs) series device chunk are same is = (are.0, are.1, chunks_of_push ss cs series device chunk are.2 same is)
 
 -- pages of 1,000 points and a last one are filled in turn
-pub filled_push : (pages : List Page) (last : Page) → All (λ page. length page.points.items ≡ max_values) pages → 0 < length last.points.items → length last.points.items ≤ max_values → AreFilled (pages ++ last ∷ [])
+pub filled_push : (pages : List Page) (last : Page) → All (λ page. length page.points ≡ max_values) pages → 0 < length last.points → length last.points ≤ max_values → AreFilled (pages ++ last ∷ [])
 filled_push [] last full some few = (some, few)
-filled_push (p ∷ []) last full some few = (All-head (λ page. length page.points.items ≡ max_values) p [] full, (some, few))
+filled_push (p ∷ []) last full some few = (All-head (λ page. length page.points ≡ max_values) p [] full, (some, few))
 filled_push (p ∷ q ∷ ps) last full some few =
-    (All-head (λ page. length page.points.items ≡ max_values) p (q ∷ ps) full, filled_push (q ∷ ps) last (All-tail (λ page. length page.points.items ≡ max_values) p (q ∷ ps) full) some few)
+    (All-head (λ page. length page.points ≡ max_values) p (q ∷ ps) full, filled_push (q ∷ ps) last (All-tail (λ page. length page.points ≡ max_values) p (q ∷ ps) full) some few)
 
 pub one_group : (device : List ℕ) (chunks : List Chunk) (chunk : Chunk) → map {B = List ℕ × Chunk} (λ (c : Chunk). (device, c)) (chunks ++ chunk ∷ []) ≡ map {B = List ℕ × Chunk} (λ (c : Chunk). (device, c)) chunks ++ (device, chunk) ∷ []
 one_group device chunks chunk = map-append {B = List ℕ × Chunk} (λ (c : Chunk). (device, c)) chunks (chunk ∷ [])
 
 -- a group more, of the chunks of its device
-pub placed_push : (groups : List Group) (group : Group) → placed (groups ++ group ∷ []) ≡ placed groups ++ map (λ (c : Chunk). (group.device, c)) group.chunks.items
-placed_push groups group = flat_push (λ (group : Group). map (λ (c : Chunk). (group.device, c)) group.chunks.items) groups group
-
--- groups with chunks are no more than their chunks
-pub few_groups : (groups : List Group) → All IsGroup groups → length groups ≤ length (chunks_of groups)
-few_groups [] good = omega arith
-few_groups (g ∷ gs) good =
-    let here : 0 < length g.chunks.items = (All-head IsGroup g gs good).some in
-    let others = few_groups gs (All-tail IsGroup g gs good) in
-    let m : length (g.chunks.items ++ chunks_of gs) ≡ length g.chunks.items + length (chunks_of gs) = length-append g.chunks.items (chunks_of gs) in
-    omega (arith, here, others, m)
+pub placed_push : (groups : List Group) (group : Group) → placed (groups ++ group ∷ []) ≡ placed groups ++ map (λ (c : Chunk). (group.device, c)) group.chunks
+placed_push groups group = flat_push (λ (group : Group). map (λ (c : Chunk). (group.device, c)) group.chunks) groups group

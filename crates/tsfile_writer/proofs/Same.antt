@@ -1,21 +1,22 @@
--- Two trees of the same series hold the same, and have the same files.
-use Rattle.std.proofs.Common.{◌≡◌, ◌≢◌, ℕ, suc, ◌+◌, ◌<◌, List, [], ◌∷◌, ◌++◌, length, map, refl, sym, ap, ◌∙◌, subst, arith}
+-- Two trees of the same series are equal, and so have the same files.
+use Rattle.std.proofs.Common.{◌≡◌, ◌≢◌, ℕ, suc, ◌<◌, List, [], ◌∷◌, ◌++◌, length, map, refl, sym, ap, ◌∙◌, subst, arith}
 use Rattle.std.specs.Prelude.{AllPairs}
 use Rattle.std.specs.List.{flat_map, AllByRecursion}
 use Rattle.std.specs.Cmp.Lexicographic.{slice_cmp}
 use Rattle.std.specs.declared.cmp.Ordering.TheVariants.{Equal, Less}
 use Rattle.std.specs.Ordering.{nat_cmp}
 use Rattle.std.proofs.lemmas.Cmp.{nat_list_cmp_total, tied_itself}
-use Rattle.std.proofs.lemmas.List.{append-nil, length-append, map-append}
+use Rattle.std.proofs.lemmas.List.{append-nil, length-append}
 use Rattle.std.proofs.lemmas.List.Elements.{recursion_from_All}
 use Rattle.tsdb_base.specs.declared.point.Point.{Point}
+use Rattle.tsdb_base.specs.declared.value.DataType.{DataType}
+use Rattle.tsdb_base.specs.declared.value.Encoding.{Encoding}
 use Rattle.tsdb_pages.specs.declared.tree.Page.{Page}
 use Rattle.tsdb_pages.specs.declared.tree.Chunk.{Chunk}
 use Rattle.tsdb_pages.specs.declared.tree.Group.{Group}
 use Rattle.tsdb_pages.specs.declared.tree.Tree.{Tree}
 use Rattle.tsdb_pages.specs.File.{IsFile}
-use Rattle.tsdb_pages.specs.Trees.{IsBefore, IsGroup, chunk_content, content, group_content, points_of}
-use Rattle.tsdb_pages.proofs.Content.{ChunkContent, lists_of, same_content_file}
+use Rattle.tsdb_pages.specs.Trees.{IsBefore, IsGroup, points_of}
 use Rattle.tsfile_writer.specs.Given.{AreChunksOf, AreFilled, IsChunkOf, IsTreeOf, Series, placed}
 
 -- ---- pages filled in turn
@@ -35,46 +36,48 @@ same_first (x ∷ xs) (y ∷ ys) us vs size e =
 
 some_points : (pages : List Page) → AreFilled pages → 0 < length (points_of pages)
 some_points [] filled = absurd filled
-some_points (p ∷ []) filled = let n = length-append p.points.items [] in omega (arith, n, filled.0)
-some_points (p ∷ q ∷ ps) filled = let n = length-append p.points.items (points_of (q ∷ ps)) in omega (arith, n, filled.0)
+some_points (p ∷ []) filled = let n = length-append p.points [] in omega (arith, n, filled.0)
+some_points (p ∷ q ∷ ps) filled = let n = length-append p.points (points_of (q ∷ ps)) in omega (arith, n, filled.0)
 
-filled_same : (xs ys : List Page) → AreFilled xs → AreFilled ys → points_of xs ≡ points_of ys → lists_of xs ≡ lists_of ys
+abbrev page_of : List Point → Page
+page_of points = record { points = points }
+
+filled_same : (xs ys : List Page) → AreFilled xs → AreFilled ys → points_of xs ≡ points_of ys → xs ≡ ys
 filled_same [] ys in_xs in_ys e = absurd in_xs
 filled_same (x ∷ xs) [] in_xs in_ys e = absurd in_ys
 filled_same (x ∷ []) (y ∷ []) in_xs in_ys e =
-    let same : x.points.items ≡ y.points.items = sym (append-nil x.points.items) ∙ e ∙ append-nil y.points.items in
-    ap (λ (l : List Point). l ∷ []) same
+    let same : x.points ≡ y.points = sym (append-nil x.points) ∙ e ∙ append-nil y.points in
+    ap (λ (l : List Point). page_of l ∷ []) same
 filled_same (x ∷ []) (y ∷ z ∷ zs) in_xs in_ys e =
-    let n = length-append x.points.items [] in
-    let m = length-append y.points.items (points_of (z ∷ zs)) in
+    let n = length-append x.points [] in
+    let m = length-append y.points (points_of (z ∷ zs)) in
     let some = some_points (z ∷ zs) in_ys.1 in
-    let l : length (x.points.items ++ []) ≡ length (y.points.items ++ points_of (z ∷ zs)) = ap length e in
+    let l : length (x.points ++ []) ≡ length (y.points ++ points_of (z ∷ zs)) = ap length e in
     absurd (omega (arith, n, m, some, l, in_xs.1, in_ys.0))
 filled_same (x ∷ w ∷ ws) (y ∷ []) in_xs in_ys e =
-    let n = length-append y.points.items [] in
-    let m = length-append x.points.items (points_of (w ∷ ws)) in
+    let n = length-append y.points [] in
+    let m = length-append x.points (points_of (w ∷ ws)) in
     let some = some_points (w ∷ ws) in_xs.1 in
-    let l : length (x.points.items ++ points_of (w ∷ ws)) ≡ length (y.points.items ++ []) = ap length e in
+    let l : length (x.points ++ points_of (w ∷ ws)) ≡ length (y.points ++ []) = ap length e in
     absurd (omega (arith, n, m, some, l, in_ys.1, in_xs.0))
 filled_same (x ∷ w ∷ ws) (y ∷ z ∷ zs) in_xs in_ys e =
-    let parts = same_first x.points.items y.points.items (points_of (w ∷ ws)) (points_of (z ∷ zs)) (in_xs.0 ∙ sym in_ys.0) e in
-    let rec : lists_of (w ∷ ws) ≡ lists_of (z ∷ zs) = filled_same (w ∷ ws) (z ∷ zs) in_xs.1 in_ys.1 parts.1 in
-    ap (λ (l : List Point). l ∷ lists_of (w ∷ ws)) parts.0 ∙ ap (λ (ls : List (List Point)). y.points.items ∷ ls) rec
+    let parts = same_first x.points y.points (points_of (w ∷ ws)) (points_of (z ∷ zs)) (in_xs.0 ∙ sym in_ys.0) e in
+    let rec : w ∷ ws ≡ z ∷ zs = filled_same (w ∷ ws) (z ∷ zs) in_xs.1 in_ys.1 parts.1 in
+    ap (λ (l : List Point). page_of l ∷ w ∷ ws) parts.0 ∙ ap (λ (pages : List Page). y ∷ pages) rec
 
 -- ---- chunks of series
 
-chunk_same : (series : Series) (a b : Chunk) → IsChunkOf series a → IsChunkOf series b → chunk_content a ≡ chunk_content b
+chunk_same : (series : Series) (a b : Chunk) → IsChunkOf series a → IsChunkOf series b → a ≡ b
 chunk_same series a b is_a is_b =
+    let made : List ℕ → DataType → Encoding → List Page → Chunk = λ measurement data_type encoding pages. record { measurement = measurement; data_type = data_type; encoding = encoding; pages = pages } in
     let n : a.measurement ≡ b.measurement = is_a.measurement-is ∙ sym is_b.measurement-is in
     let t : a.data_type ≡ b.data_type = is_a.type-is ∙ sym is_b.type-is in
     let c : a.encoding ≡ b.encoding = is_a.encoding-is ∙ sym is_b.encoding-is in
-    let p : map (λ (page : Page). page.points.items) a.pages.items ≡ map (λ (page : Page). page.points.items) b.pages.items = filled_same a.pages.items b.pages.items is_a.filled is_b.filled (is_a.points-are ∙ sym is_b.points-are) in
-    cc
+    let p : a.pages ≡ b.pages = filled_same a.pages b.pages is_a.filled is_b.filled (is_a.points-are ∙ sym is_b.points-are) in
+    let same : made a.measurement a.data_type a.encoding a.pages ≡ made b.measurement b.data_type b.encoding b.pages = cc in
+    same
 
-abbrev content_at : List ℕ × Chunk → List ℕ × ChunkContent
-content_at x = (x.0, chunk_content x.1)
-
-chunks_same : (given : List Series) (xs ys : List (List ℕ × Chunk)) → AreChunksOf given xs → AreChunksOf given ys → map content_at xs ≡ map content_at ys
+chunks_same : (given : List Series) (xs ys : List (List ℕ × Chunk)) → AreChunksOf given xs → AreChunksOf given ys → xs ≡ ys
 chunks_same [] [] [] in_xs in_ys = refl
 chunks_same [] [] (y ∷ ys) in_xs in_ys = absurd in_ys
 chunks_same [] (x ∷ xs) ys in_xs in_ys = absurd in_xs
@@ -82,62 +85,67 @@ chunks_same (s ∷ ss) [] ys in_xs in_ys = absurd in_xs
 chunks_same (s ∷ ss) (x ∷ xs) [] in_xs in_ys = absurd in_ys
 chunks_same (s ∷ ss) (x ∷ xs) (y ∷ ys) in_xs in_ys =
     let d : x.0 ≡ y.0 = in_xs.0 ∙ sym in_ys.0 in
-    let c : chunk_content x.1 ≡ chunk_content y.1 = chunk_same s x.1 y.1 in_xs.1 in_ys.1 in
-    let rec : map content_at xs ≡ map content_at ys = chunks_same ss xs ys in_xs.2 in_ys.2 in
+    let c : x.1 ≡ y.1 = chunk_same s x.1 y.1 in_xs.1 in_ys.1 in
+    let first : x ≡ y = ap (λ (device : List ℕ). (device, x.1)) d ∙ ap (λ (chunk : Chunk). (y.0, chunk)) c in
+    let rec : xs ≡ ys = chunks_same ss xs ys in_xs.2 in_ys.2 in
     cc
 
 -- ---- groups of chunks
 
+-- the device and the chunks of a group
+abbrev parts_of : Group → List ℕ × List Chunk
+parts_of group = (group.device, group.chunks)
+
 -- the chunks of groups, each at its device
-abbrev flat : List (List ℕ × List ChunkContent) → List (List ℕ × ChunkContent)
+abbrev flat : List (List ℕ × List Chunk) → List (List ℕ × Chunk)
 flat groups = flat_map (λ group. map (λ chunk. (group.0, chunk)) group.1) groups
 
 -- the first of these is at another device
-abbrev IsApart : List ℕ → List (List ℕ × ChunkContent) → Type 0
+abbrev IsApart : List ℕ → List (List ℕ × Chunk) → Type 0
 IsApart device [] = Unit {0}
 IsApart device (x ∷ xs) = device ≢ x.0
 
 -- each group has a chunk, and its device differs from the next one's
-abbrev AreApart : List (List ℕ × List ChunkContent) → Type 0
+abbrev AreApart : List (List ℕ × List Chunk) → Type 0
 AreApart [] = Unit {0}
 AreApart (g ∷ []) = 0 < length g.1
 AreApart (g ∷ h ∷ gs) = (0 < length g.1) × (g.0 ≢ h.0) × AreApart (h ∷ gs)
 
-split_same : (device : List ℕ) (xs ys : List ChunkContent) (us vs : List (List ℕ × ChunkContent)) → IsApart device us → IsApart device vs
-    → map {B = List ℕ × ChunkContent} (λ x. (device, x)) xs ++ us ≡ map {B = List ℕ × ChunkContent} (λ y. (device, y)) ys ++ vs → (xs ≡ ys) × (us ≡ vs)
+split_same : (device : List ℕ) (xs ys : List Chunk) (us vs : List (List ℕ × Chunk)) → IsApart device us → IsApart device vs
+    → map {B = List ℕ × Chunk} (λ x. (device, x)) xs ++ us ≡ map {B = List ℕ × Chunk} (λ y. (device, y)) ys ++ vs → (xs ≡ ys) × (us ≡ vs)
 split_same device [] [] us vs in_us in_vs e = (refl, e)
 split_same device [] (y ∷ ys) [] vs in_us in_vs e = absurd cc
 split_same device [] (y ∷ ys) (u ∷ us) vs in_us in_vs e =
     let first : u ≡ (device, y) = cc in
-    absurd (in_us (sym (ap (λ (x : List ℕ × ChunkContent). x.0) first)))
+    absurd (in_us (sym (ap (λ (x : List ℕ × Chunk). x.0) first)))
 split_same device (x ∷ xs) [] us [] in_us in_vs e = absurd cc
 split_same device (x ∷ xs) [] us (v ∷ vs) in_us in_vs e =
     let first : (device, x) ≡ v = cc in
-    absurd (in_vs (ap (λ (x : List ℕ × ChunkContent). x.0) first))
+    absurd (in_vs (ap (λ (x : List ℕ × Chunk). x.0) first))
 split_same device (x ∷ xs) (y ∷ ys) us vs in_us in_vs e =
     let first : (device, x) ≡ (device, y) = cc in
-    let here : x ≡ y = ap (λ (z : List ℕ × ChunkContent). z.1) first in
-    let rest : map {B = List ℕ × ChunkContent} (λ x. (device, x)) xs ++ us ≡ map {B = List ℕ × ChunkContent} (λ y. (device, y)) ys ++ vs = cc in
+    let here : x ≡ y = ap (λ (z : List ℕ × Chunk). z.1) first in
+    let rest : map {B = List ℕ × Chunk} (λ x. (device, x)) xs ++ us ≡ map {B = List ℕ × Chunk} (λ y. (device, y)) ys ++ vs = cc in
     let rec = split_same device xs ys us vs in_us in_vs rest in
     let more : xs ≡ ys = rec.0 in
     (cc, rec.1)
 
 -- the groups behind one are at another device
-behind_apart : (g : List ℕ × List ChunkContent) (gs : List (List ℕ × List ChunkContent)) → AreApart (g ∷ gs) → IsApart g.0 (flat gs)
+behind_apart : (g : List ℕ × List Chunk) (gs : List (List ℕ × List Chunk)) → AreApart (g ∷ gs) → IsApart g.0 (flat gs)
 behind_apart g [] apart = tt
 behind_apart g ((d, []) ∷ []) apart = absurd (omega (arith, apart.2))
 behind_apart g ((d, []) ∷ h ∷ hs) apart = absurd (omega (arith, apart.2.0))
 behind_apart g ((d, c ∷ cs) ∷ hs) apart = apart.1
 
-others_apart : (g : List ℕ × List ChunkContent) (gs : List (List ℕ × List ChunkContent)) → AreApart (g ∷ gs) → AreApart gs
+others_apart : (g : List ℕ × List Chunk) (gs : List (List ℕ × List Chunk)) → AreApart (g ∷ gs) → AreApart gs
 others_apart g [] apart = tt
 others_apart g (h ∷ hs) apart = apart.2
 
-first_some : (g : List ℕ × List ChunkContent) (gs : List (List ℕ × List ChunkContent)) → AreApart (g ∷ gs) → 0 < length g.1
+first_some : (g : List ℕ × List Chunk) (gs : List (List ℕ × List Chunk)) → AreApart (g ∷ gs) → 0 < length g.1
 first_some g [] apart = apart
 first_some g (h ∷ hs) apart = apart.0
 
-groups_same : (xs ys : List (List ℕ × List ChunkContent)) → AreApart xs → AreApart ys → flat xs ≡ flat ys → xs ≡ ys
+groups_same : (xs ys : List (List ℕ × List Chunk)) → AreApart xs → AreApart ys → flat xs ≡ flat ys → xs ≡ ys
 groups_same [] [] in_xs in_ys e = refl
 groups_same [] ((d, []) ∷ ys) in_xs in_ys e = let some = first_some (d, []) ys in_ys in absurd (omega (arith, some))
 groups_same [] ((d, c ∷ cs) ∷ ys) in_xs in_ys e = absurd cc
@@ -146,8 +154,8 @@ groups_same ((d, c ∷ cs) ∷ xs) [] in_xs in_ys e = absurd cc
 groups_same ((d, c ∷ cs) ∷ xs) ((f, []) ∷ ys) in_xs in_ys e = let some = first_some (f, []) ys in_ys in absurd (omega (arith, some))
 groups_same ((d, c ∷ cs) ∷ xs) ((f, b ∷ bs) ∷ ys) in_xs in_ys e =
     let first : (d, c) ≡ (f, b) = cc in
-    let device : d ≡ f = ap (λ (z : List ℕ × ChunkContent). z.0) first in
-    let moved : map {B = List ℕ × ChunkContent} (λ x. (f, x)) (b ∷ bs) ++ flat ys ≡ map {B = List ℕ × ChunkContent} (λ x. (d, x)) (b ∷ bs) ++ flat ys = ap (λ (k : List ℕ). map {B = List ℕ × ChunkContent} (λ x. (k, x)) (b ∷ bs) ++ flat ys) (sym device) in
+    let device : d ≡ f = ap (λ (z : List ℕ × Chunk). z.0) first in
+    let moved : map {B = List ℕ × Chunk} (λ x. (f, x)) (b ∷ bs) ++ flat ys ≡ map {B = List ℕ × Chunk} (λ x. (d, x)) (b ∷ bs) ++ flat ys = ap (λ (k : List ℕ). map {B = List ℕ × Chunk} (λ x. (k, x)) (b ∷ bs) ++ flat ys) (sym device) in
     let parts = split_same d (c ∷ cs) (b ∷ bs) (flat xs) (flat ys) (behind_apart (d, c ∷ cs) xs in_xs) (subst (λ (k : List ℕ). IsApart k (flat ys)) (sym device) (behind_apart (f, b ∷ bs) ys in_ys)) (e ∙ moved) in
     let rec = groups_same xs ys (others_apart (d, c ∷ cs) xs in_xs) (others_apart (f, b ∷ bs) ys in_ys) parts.1 in
     let lists : c ∷ cs ≡ b ∷ bs = parts.0 in
@@ -161,41 +169,39 @@ not_same a b less same =
     let none : Less ≡ Equal = sym itself ∙ tied in
     absurd cc
 
-apart_from : (groups : List Group) → AllByRecursion IsGroup groups → AllPairs (λ a b. IsBefore a.device b.device) groups → AreApart (map group_content groups)
+apart_from : (groups : List Group) → AllByRecursion IsGroup groups → AllPairs (λ a b. IsBefore a.device b.device) groups → AreApart (map parts_of groups)
 apart_from [] good pairs = tt
-apart_from (g ∷ []) good pairs = subst (λ n. 0 < n) (sym (length_map g.chunks.items)) good.0.some
-  where
-    length_map : (chunks : List Chunk) → length (map chunk_content chunks) ≡ length chunks
-    length_map [] = refl
-    length_map (c ∷ cs) = ap suc (length_map cs)
+apart_from (g ∷ []) good pairs = good.0.some
 apart_from (g ∷ h ∷ gs) good pairs = (
-  subst (λ n. 0 < n) (sym (length_map g.chunks.items)) good.0.some,
+  good.0.some,
   not_same g.device h.device (pairs 0 1 g (omega arith) (omega arith)),
   apart_from (h ∷ gs) good.1 (λ i j d lt within. pairs (suc i) (suc j) d (omega (arith, lt)) (omega (arith, within))),
 )
-  where
-    length_map : (chunks : List Chunk) → length (map chunk_content chunks) ≡ length chunks
-    length_map [] = refl
-    length_map (c ∷ cs) = ap suc (length_map cs)
 
--- what the placed chunks of groups say
-content_of_group : (device : List ℕ) (chunks : List Chunk) → map content_at (map {B = List ℕ × Chunk} (λ c. (device, c)) chunks) ≡ map {B = List ℕ × ChunkContent} (λ x. (device, x)) (map chunk_content chunks)
-content_of_group device [] = refl
-content_of_group device (c ∷ cs) = ap (λ (l : List (List ℕ × ChunkContent)). (device, chunk_content c) ∷ l) (content_of_group device cs)
+placed_flat : (groups : List Group) → placed groups ≡ flat (map parts_of groups)
+placed_flat [] = refl
+placed_flat (g ∷ gs) = ap (λ (l : List (List ℕ × Chunk)). map {B = List ℕ × Chunk} (λ c. (g.device, c)) g.chunks ++ l) (placed_flat gs)
 
-content_of_groups : (groups : List Group) → map content_at (placed groups) ≡ flat (map group_content groups)
-content_of_groups [] = refl
-content_of_groups (g ∷ gs) =
-    map-append content_at (map {B = List ℕ × Chunk} (λ c. (g.device, c)) g.chunks.items) (placed gs)
-    ∙ ap (λ (l : List (List ℕ × ChunkContent)). l ++ map content_at (placed gs)) (content_of_group g.device g.chunks.items)
-    ∙ ap (λ (l : List (List ℕ × ChunkContent)). map {B = List ℕ × ChunkContent} (λ x. (g.device, x)) (map chunk_content g.chunks.items) ++ l) (content_of_groups gs)
+same_parts : (xs ys : List Group) → map parts_of xs ≡ map parts_of ys → xs ≡ ys
+same_parts [] [] e = refl
+same_parts [] (y ∷ ys) e = absurd cc
+same_parts (x ∷ xs) [] e = absurd cc
+same_parts (x ∷ xs) (y ∷ ys) e =
+    let made : List ℕ × List Chunk → Group = λ parts. record { device = parts.0; chunks = parts.1 } in
+    let parts : parts_of x ≡ parts_of y = cc in
+    let others : map parts_of xs ≡ map parts_of ys = cc in
+    let first : x ≡ y = ap made parts in
+    let rest : xs ≡ ys = same_parts xs ys others in
+    cc
 
-content_same : (given : List Series) (a b : Tree) → IsTreeOf given a → IsTreeOf given b → content a ≡ content b
-content_same given a b is_a is_b =
-    groups_same (map group_content a.groups.items) (map group_content b.groups.items)
-    (apart_from a.groups.items (recursion_from_All IsGroup a.groups.items is_a.is-tree.groups) is_a.is-tree.rising)
-    (apart_from b.groups.items (recursion_from_All IsGroup b.groups.items is_b.is-tree.groups) is_b.is-tree.rising)
-    (sym (content_of_groups a.groups.items) ∙ chunks_same given (placed a.groups.items) (placed b.groups.items) is_a.chunks is_b.chunks ∙ content_of_groups b.groups.items)
+one_tree_of : (given : List Series) (a b : Tree) → IsTreeOf given a → IsTreeOf given b → a ≡ b
+one_tree_of given a b is_a is_b =
+    let made : List Group → Tree = λ groups. record { groups = groups } in
+    ap made (same_parts a.groups b.groups
+    (groups_same (map parts_of a.groups) (map parts_of b.groups)
+    (apart_from a.groups (recursion_from_All IsGroup a.groups is_a.is-tree.groups) is_a.is-tree.rising)
+    (apart_from b.groups (recursion_from_All IsGroup b.groups is_b.is-tree.groups) is_b.is-tree.rising)
+    (sym (placed_flat a.groups) ∙ chunks_same given (placed a.groups) (placed b.groups) is_a.chunks is_b.chunks ∙ placed_flat b.groups)))
 
 pub one_file_of : (given : List Series) (a b : Tree) (bytes : List ℕ) → IsTreeOf given a → IsTreeOf given b → IsFile a bytes → IsFile b bytes
-one_file_of given a b bytes is_a is_b file = same_content_file a b bytes (content_same given a b is_a is_b) file
+one_file_of given a b bytes is_a is_b file = subst (λ (tree : Tree). IsFile tree bytes) (one_tree_of given a b is_a is_b) file

@@ -1,5 +1,5 @@
 -- What a builder has before and after each step.
-use Rattle.std.proofs.Common.{◌≡◌, ◌≢◌, ℕ, ◌+◌, ◌-◌, ◌<◌, ◌≤◌, Bool, true, false, not, Ok, Err, take, List, [], ◌∷◌, ◌++◌, length, get_or, refl, sym, ap, ◌∙◌, subst, append_assoc, arith}
+use Rattle.std.proofs.Common.{◌≡◌, ℕ, ◌+◌, ◌-◌, ◌<◌, ◌≤◌, Bool, true, false, not, Ok, Err, take, List, [], ◌∷◌, ◌++◌, length, get_or, refl, sym, ap, ◌∙◌, subst, append_assoc, arith}
 use Rattle.std.specs.Prelude.{◌<ℤ◌, ◌↔◌, All, IfOk, IsTrue, OnOk, Option, None, Result, Some}
 use Rattle.std.proofs.lemmas.Bool.{false≢true}
 use Rattle.std.proofs.lemmas.List.{append-nil, length-append, take_all, take_more}
@@ -35,7 +35,7 @@ some_pages pages page =
     omega (arith, n)
 
 pub put_stands : (groups : List Group) (chunks : List Chunk) (pages : List Page) (page : Page) (path : List ℕ) (data_type : DataType) (encoding : Encoding) (points : List Point) (old new : List ℕ) (entries : List IndexEntry) (before after : Option OpenChunk)
-    → page.points.items ≡ points → StandIn groups chunks pages old entries path data_type encoding before → PutsIn path data_type encoding points entries old new before after
+    → page.points ≡ points → StandIn groups chunks pages old entries path data_type encoding before → PutsIn path data_type encoding points entries old new before after
     → StandIn groups chunks (pages ++ page ∷ []) new entries path data_type encoding after
 put_stands groups chunks pages page path data_type encoding points old new entries None None same stand puts = absurd puts
 put_stands groups chunks pages page path data_type encoding points old new entries (Some b) None same stand puts = absurd puts
@@ -50,7 +50,7 @@ put_stands groups chunks pages page path data_type encoding points old new entri
 )
 
 pub put_few : (groups : List Group) (chunks : List Chunk) (pages : List Page) (page : Page) (path : List ℕ) (data_type : DataType) (encoding : Encoding) (points : List Point) (old new : List ℕ) (entries : List IndexEntry) (before after : Option OpenChunk)
-    → page.points.items ≡ points → StandIn groups chunks pages old entries path data_type encoding before → PutsIn path data_type encoding points entries old new before after
+    → page.points ≡ points → StandIn groups chunks pages old entries path data_type encoding before → PutsIn path data_type encoding points entries old new before after
     → length (pages ++ page ∷ []) ≤ max_pages
 put_few groups chunks pages page path data_type encoding points old new entries None None same stand puts = absurd puts
 put_few groups chunks pages page path data_type encoding points old new entries (Some b) None same stand puts = absurd puts
@@ -229,11 +229,11 @@ are_points series pages path data_type encoding points is some = record {
 
 -- the points that waited stand as a page, and the point waits alone
 pub page_turned : (front : List Series) (last : Series) (page : Page) (old new : List ℕ) (entries : List IndexEntry) (path : List ℕ) (data_type : DataType) (encoding : Encoding) (before after : Option OpenChunk) (points : List Point) (point : Point)
-    → BuildState (front ++ last ∷ []) old entries path data_type encoding before points → Suits data_type points point → length points ≡ max_values → page.points.items ≡ points → PutsIn path data_type encoding points entries old new before after
+    → BuildState (front ++ last ∷ []) old entries path data_type encoding before points → Suits data_type points point → length points ≡ max_values → page.points ≡ points → PutsIn path data_type encoding points entries old new before after
     → BuildState (front ++ with_point point last ∷ []) new entries path data_type encoding after (point ∷ [])
 page_turned front last page old new entries path data_type encoding before after points point state suits size same puts =
-    let good : ArePoints data_type page.points.items = subst (ArePoints data_type) (sym same) (are_points state.last state.pages path data_type encoding points state.is (omega (arith, size))) in
-    let moved : points_of (state.pages ++ page ∷ []) ≡ points_of state.pages ++ points = flat_push (λ (p : Page). p.points.items) state.pages page ∙ ap (λ (ps : List Point). points_of state.pages ++ ps) same in
+    let good : ArePoints data_type page.points = subst (ArePoints data_type) (sym same) (are_points state.last state.pages path data_type encoding points state.is (omega (arith, size))) in
+    let moved : points_of (state.pages ++ page ∷ []) ≡ points_of state.pages ++ points = flat_push (λ (p : Page). p.points) state.pages page ∙ ap (λ (ps : List Point). points_of state.pages ++ ps) same in
     record {
       front = state.front;
       last = with_point point state.last;
@@ -247,8 +247,8 @@ page_turned front last page old new entries path data_type encoding before after
         encoding-is = state.is.encoding-is;
         suits = state.is.suits;
         points-are = ap (λ (ps : List Point). ps ++ point ∷ []) (state.is.points-are ∙ sym moved);
-        full = All-push (λ (p : Page). length p.points.items ≡ max_values) state.pages page state.is.full (ap length same ∙ size);
-        good = All-push (λ (p : Page). ArePoints data_type p.points.items) state.pages page state.is.good good;
+        full = All-push (λ (p : Page). length p.points ≡ max_values) state.pages page state.is.full (ap length same ∙ size);
+        good = All-push (λ (p : Page). ArePoints data_type p.points) state.pages page state.is.good good;
         few-pages = put_few state.groups state.chunks state.pages page path data_type encoding points old new entries before after same state.stand puts;
         few = omega arith;
         typed = All-push (λ (p : Point). type_of p.value ≡ data_type) [] point (All-nil (λ (p : Point). type_of p.value ≡ data_type)) suits.typed;

@@ -48,8 +48,8 @@ pub record IsOpenOf (series : Series) (pages : List Page) (path : List ℕ) (dat
   pub encoding-is : series.encoding ≡ encoding
   pub suits : is_suitable data_type encoding ≡ true
   pub points-are : series.points ≡ points_of pages ++ points
-  pub full : All (λ page. length page.points.items ≡ max_values) pages
-  pub good : All (λ page. ArePoints data_type page.points.items) pages
+  pub full : All (λ page. length page.points ≡ max_values) pages
+  pub good : All (λ page. ArePoints data_type page.points) pages
   pub few-pages : length pages ≤ max_pages
   pub few : length points ≤ max_values
   pub typed : All (λ point. type_of point.value ≡ data_type) points

@@ -55,20 +55,20 @@ pub record MayTake (point : Point) (series : Series) : Type 0 where
 -- pages that are filled in turn: each has 1,000 points, and the last 1 to 1,000
 abbrev pub AreFilled : List Page → Type 0
 AreFilled [] = ⊥
-AreFilled (last ∷ []) = (0 < length last.points.items) × (length last.points.items ≤ max_values)
-AreFilled (page ∷ next ∷ pages) = (length page.points.items ≡ max_values) × AreFilled (next ∷ pages)
+AreFilled (last ∷ []) = (0 < length last.points) × (length last.points ≤ max_values)
+AreFilled (page ∷ next ∷ pages) = (length page.points ≡ max_values) × AreFilled (next ∷ pages)
 
 -- the chunk of a series: its points in pages that are filled in turn
 pub record IsChunkOf (series : Series) (chunk : Chunk) : Type 0 where
   pub measurement-is : chunk.measurement ≡ series.measurement
   pub type-is : chunk.data_type ≡ series.data_type
   pub encoding-is : chunk.encoding ≡ series.encoding
-  pub filled : AreFilled chunk.pages.items
-  pub points-are : points_of chunk.pages.items ≡ series.points
+  pub filled : AreFilled chunk.pages
+  pub points-are : points_of chunk.pages ≡ series.points
 
 -- each chunk of the groups beside its device
 abbrev pub placed : List Group → List (List ℕ × Chunk)
-placed groups = flat_map (λ group. map (λ chunk. (group.device, chunk)) group.chunks.items) groups
+placed groups = flat_map (λ group. map (λ chunk. (group.device, chunk)) group.chunks) groups
 
 -- these are the chunks of these series, each at its device
 abbrev pub AreChunksOf : List Series → List (List ℕ × Chunk) → Type 0
@@ -81,4 +81,4 @@ AreChunksOf (series ∷ others) (chunk ∷ chunks) =
 -- the tree of these series, with pages that are filled in turn
 pub record IsTreeOf (given : List Series) (tree : Tree) : Type 0 where
   pub is-tree : IsTree tree
-  pub chunks : AreChunksOf given (placed tree.groups.items)
+  pub chunks : AreChunksOf given (placed tree.groups)

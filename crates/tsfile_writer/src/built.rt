@@ -10,8 +10,9 @@ use super::names::{device_of, measurement_of};
 use super::tests::{WORKED, points, written};
 use super::*;
 use std::alloc::Global;
+use std::mem;
 use std::test::Fail;
-use tsdb_base::{DataType, Encoding, Point, Value, suits};
+use tsdb_base::{DataType, Encoding, List, Point, Value, suits};
 use tsdb_pages::{Chunk, Group, Page, Tree, is_rising};
 use tsdb_path::{Name, Path};
 
@@ -112,7 +113,7 @@ fn pages(alloc: Global, data_type: DataType, count: u16) -> Result<Vec<Page>, Fa
             let size = (count - start).min(1000);
             let first = i64::from(start).wrapping_add(1);
             pages.push(Page {
-                points: points(alloc, data_type, first, size)?,
+                points: List::of(points(alloc, data_type, first, size)?),
             })?;
         }
     }
@@ -158,17 +159,25 @@ fn three_series(
             measurement,
             data_type,
             encoding,
-            pages: pages(alloc, data_type, count)?,
+            pages: List::of(pages(alloc, data_type, count)?),
         };
         match groups.last_mut() {
-            Some(group) if group.device == device => group.chunks.push(chunk)?,
+            Some(group) if group.device == device => {
+                let none = List::of(Vec::new(alloc));
+                let mut chunks = mem::replace(&mut group.chunks, none).into_vec();
+                chunks.push(chunk)?;
+                group.chunks = List::of(chunks);
+            }
             _ => groups.push(Group {
                 device,
-                chunks: vec![in alloc; chunk]?,
+                chunks: List::of(vec![in alloc; chunk]?),
             })?,
         }
     }
-    Ok((built(alloc, all)?, Tree { groups }))
+    let tree = Tree {
+        groups: List::of(groups),
+    };
+    Ok((built(alloc, all)?, tree))
 }
 
 #[test]

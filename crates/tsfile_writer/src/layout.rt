@@ -12,7 +12,7 @@ ghost use Rattle.tsdb_stats.specs.Statistics.{AreStatsOf};
 ghost use Rattle.tsfile_writer.specs.Steps.{AreStatsOfBoth, IsBegun, IsLonger, SameChunk};
 
 use std::alloc::Global;
-use tsdb_base::{DataType, Encoding, Memory, PlainValue, Point, Stats, Value};
+use tsdb_base::{DataType, Encoding, List, Memory, PlainValue, Point, Stats, Value};
 use tsdb_fields::{write_name, write_path};
 use tsdb_index::{Index, IndexEntry, PageEntry, write_leaves_and_root};
 use tsdb_pages::write_page;
@@ -230,7 +230,7 @@ impl OpenChunk {
         ensures encoding { result.encoding ≡ encoding }
         ensures place { result.place ≡ self.place }
         ensures stats { result.stats ≡ self.stats }
-        ensures pages { result.pages.items ≡ self.pages.items }
+        ensures pages { result.pages ≡ self.pages.items }
     {
         IndexEntry {
             device,
@@ -239,7 +239,7 @@ impl OpenChunk {
             encoding,
             place: self.place,
             stats: self.stats,
-            pages: self.pages,
+            pages: List::of(self.pages),
         }
     }
 }
@@ -255,7 +255,9 @@ pub(crate) fn append_end(
         × IsSpelling (length bytes.items) root entries.items index
         × (file.items ≡ bytes.items ++ index ++ number64 root ++ magic)) }
 {
-    let index = Index { entries };
+    let index = Index {
+        entries: List::of(entries),
+    };
     let (leaves_and_root, root) = write_leaves_and_root(alloc, &index, bytes.len() as u64)?;
     bytes.extend_from_slice(&leaves_and_root)?;
     root.put(&mut bytes)?;

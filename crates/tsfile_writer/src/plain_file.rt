@@ -69,7 +69,7 @@ fn put_stats(pages: &[Page], into: &mut Vec<u8>) -> Result<(), Fail> {
     let mut ends: Option<(&Point, &Point)> = None;
     let mut extremes: Option<(&Value, &Value)> = None;
     for page in pages {
-        for point in &page.points {
+        for point in page.points.items() {
             count = count.wrapping_add(1);
             ends = Some((ends.map_or(point, |both| both.0), point));
             let (mut least, mut greatest) = extremes.unwrap_or((&point.value, &point.value));
@@ -109,18 +109,20 @@ fn put_chunk(
     put_name(chunk.measurement.bytes(), &mut entry)?;
     put_kind(chunk, &mut entry)?;
     put8(into.len() as u64, &mut entry)?;
-    put_stats(&chunk.pages, &mut entry)?;
-    put4(chunk.pages.len() as u64, &mut entry)?;
+    put_stats(chunk.pages.items(), &mut entry)?;
+    put4(chunk.pages.items().len() as u64, &mut entry)?;
     into.push(0x43)?;
     put_name(chunk.measurement.bytes(), into)?;
     put_kind(chunk, into)?;
-    for page in &chunk.pages {
+    for page in chunk.pages.items() {
         put8(into.len() as u64, &mut entry)?;
         put_stats(slice::from_ref(page), &mut entry)?;
-        if !suits(chunk.data_type, chunk.encoding) || !are_points(&page.points, chunk.data_type) {
+        if !suits(chunk.data_type, chunk.encoding)
+            || !are_points(page.points.items(), chunk.data_type)
+        {
             return Err("no page".into());
         }
-        let body = write_page(alloc, &page.points, chunk.data_type, chunk.encoding)?;
+        let body = write_page(alloc, page.points.items(), chunk.data_type, chunk.encoding)?;
         into.push(0x50)?;
         put4(body.len() as u64, into)?;
         into.extend_from_slice(&body)?;
@@ -133,10 +135,10 @@ pub(crate) fn plain_file(alloc: Global, tree: &Tree) -> Result<Vec<u8>, Fail> {
     let mut file = Vec::from_slice(alloc, b"TsFile\x51")?;
     let mut names = Vec::new(alloc);
     let mut entries = Vec::new(alloc);
-    for group in &tree.groups {
+    for group in tree.groups.items() {
         file.push(0x47)?;
         put_name(group.device.bytes(), &mut file)?;
-        for chunk in &group.chunks {
+        for chunk in group.chunks.items() {
             let mut both = Vec::new(alloc);
             put_name(group.device.bytes(), &mut both)?;
             put_name(chunk.measurement.bytes(), &mut both)?;

@@ -2,7 +2,7 @@ use super::plain_file::plain_file;
 use super::*;
 use std::alloc::Global;
 use std::test::Fail;
-use tsdb_base::{DataType, Encoding, Point, Text, Value, suits};
+use tsdb_base::{DataType, Encoding, List, Point, Text, Value, suits};
 use tsdb_pages::{Chunk, Group, Page, Tree, is_tree};
 use tsdb_path::{Name, Path};
 
@@ -68,7 +68,7 @@ fn chunk(
     let mut start = 1i64;
     for size in sizes {
         pages.push(Page {
-            points: points(alloc, data_type, start, *size)?,
+            points: List::of(points(alloc, data_type, start, *size)?),
         })?;
         start = start.wrapping_add(i64::from(*size));
     }
@@ -76,7 +76,7 @@ fn chunk(
         measurement: Name::read(alloc, measurement)?,
         data_type,
         encoding,
-        pages,
+        pages: List::of(pages),
     })
 }
 
@@ -101,18 +101,21 @@ fn worked_tree(alloc: Global) -> Result<Tree, Fail> {
             value: Value::I64(5)
         },
     ]?;
+    let page = Page {
+        points: List::of(points),
+    };
     let chunk = Chunk {
         measurement: Name::read(alloc, b"s")?,
         data_type: DataType::Int64,
         encoding: Encoding::Plain,
-        pages: vec![in alloc; Page { points }]?,
+        pages: List::of(vec![in alloc; page]?),
     };
     let group = Group {
         device: Path::read(alloc, b"root.g.d")?,
-        chunks: vec![in alloc; chunk]?,
+        chunks: List::of(vec![in alloc; chunk]?),
     };
     Ok(Tree {
-        groups: vec![in alloc; group]?,
+        groups: List::of(vec![in alloc; group]?),
     })
 }
 
@@ -159,10 +162,13 @@ fn all_kinds_of_chunks(rt: HostRuntime) -> Result<(), Fail> {
     for device in devices {
         groups.push(Group {
             device: Path::read(alloc, device)?,
-            chunks: chunks_of_all_kinds(alloc)?,
+            chunks: List::of(chunks_of_all_kinds(alloc)?),
         })?;
     }
-    let bytes = written(&rt, &Tree { groups })?;
+    let tree = Tree {
+        groups: List::of(groups),
+    };
+    let bytes = written(&rt, &tree)?;
     assert!(rt; bytes.len() > 40_000);
     Ok(())
 }
@@ -179,10 +185,10 @@ fn two_leaves(rt: HostRuntime) -> Result<(), Fail> {
     }
     let group = Group {
         device: Path::read(alloc, b"root.d")?,
-        chunks,
+        chunks: List::of(chunks),
     };
     let tree = Tree {
-        groups: vec![in alloc; group]?,
+        groups: List::of(vec![in alloc; group]?),
     };
     written(&rt, &tree)?;
     Ok(())

@@ -33,16 +33,17 @@ fn write_chunk(
         encoding,
         pages,
     } = chunk;
+    let pages = pages.items();
     let mut open = append_chunk(
         alloc,
         measurement,
         *data_type,
         *encoding,
-        &pages[0].points,
+        pages[0].points.items(),
         into,
     )?;
     for page in &pages[1..] {
-        open.put_page(alloc, &page.points, *data_type, *encoding, into)?;
+        open.put_page(alloc, page.points.items(), *data_type, *encoding, into)?;
     }
     let entry = open.into_entry(
         copy_path(device)?,
@@ -66,7 +67,7 @@ fn write_group(
         AreGroups (groups ++ group.now ∷ []) into.new.items entries.new.items) }
 {
     append_group_start(&group.device, into)?;
-    for chunk in &group.chunks {
+    for chunk in group.chunks.items() {
         write_chunk(alloc, &group.device, chunk, entries, into)?;
     }
     Ok(())
@@ -79,7 +80,7 @@ pub fn write_tree(alloc: Global, tree: &Tree) -> Result<Vec<u8>, Memory>
 {
     let mut entries = Vec::new(alloc);
     let mut bytes = Vec::from_slice(alloc, &HEAD)?;
-    for group in &tree.groups {
+    for group in tree.groups.items() {
         write_group(alloc, group, &mut entries, &mut bytes)?;
     }
     append_end(alloc, entries, bytes)

@@ -6,4 +6,4 @@ use Rattle.tsfile_writer.proofs.tree.write_chunk.Given as goal
 
 abbrev pub invariant-loop-page : goal.invariant-loop-page
 invariant-loop-page l = (groups : List Group) (chunks : List Chunk) → AreChunks groups l.device chunks l.fn.into.items l.fn.entries.items
-    → ArePages groups l.device chunks l.measurement l.data_type l.encoding (take 1 l.chunk.pages.items ++ take l.page-index l.page-items) l.into.items l.fn.entries.items l.open
+    → ArePages groups l.device chunks l.measurement l.data_type l.encoding (take 1 l.chunk.pages ++ take l.page-index l.page-items) l.into.items l.fn.entries.items l.open

@@ -12,8 +12,8 @@ pub loop-chunk-preserved : goal.loop-chunk-preserved
 loop-chunk-preserved c = λ groups layout.
     let group = c.args.group.now in
     subst (λ (chunks : List Chunk). AreChunks groups group.device chunks c.write_chunk.new.into.items c.write_chunk.new.entries.items)
-    (more_taken [] group.chunks.items c.deref-chunk-items.result.now c.loop-chunk.chunk-index c.chunk-item.result c.deref-chunk-items.ensures.value c.loop-chunk-test.true c.chunk-item.is)
-    (c.in_ok-write_chunk.ensures.ok groups (take c.loop-chunk.chunk-index group.chunks.items) (c.loop-chunk.invariant groups layout))
+    (more_taken [] group.chunks c.items-chunk-items.result.now c.loop-chunk.chunk-index c.chunk-item.result c.items-chunk-items.ensures c.loop-chunk-test.true c.chunk-item.is)
+    (c.in_ok-write_chunk.ensures.ok groups (take c.loop-chunk.chunk-index group.chunks) (c.loop-chunk.invariant groups layout))
 
 pub returns : goal.returns
 returns c = record {
@@ -21,6 +21,6 @@ returns c = record {
       let group = c.args.group.now in
       group_ended groups group c.loop-chunk.into.items c.loop-chunk.entries.items
       (subst (λ (chunks : List Chunk). AreChunks groups group.device chunks c.loop-chunk.into.items c.loop-chunk.entries.items)
-      (take_all c.loop-chunk.chunk-index group.chunks.items (search rules))
+      (take_all c.loop-chunk.chunk-index group.chunks (search rules))
       (c.loop-chunk.invariant groups layout));
 }

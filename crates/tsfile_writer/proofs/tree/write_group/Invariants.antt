@@ -5,4 +5,4 @@ use Rattle.tsfile_writer.proofs.tree.write_group.Given as goal
 
 abbrev pub invariant-loop-chunk : goal.invariant-loop-chunk
 invariant-loop-chunk l = (groups : List Group) → AreGroups groups l.fn.into.items l.fn.entries.items
-    → AreChunks groups l.group.device (take l.chunk-index l.group.chunks.items) l.into.items l.entries.items
+    → AreChunks groups l.group.device (take l.chunk-index l.group.chunks) l.into.items l.entries.items

@@ -10,4 +10,4 @@ returns c = λ given was.
     let path = c.in-Some.last.path in
     let closed = c.in_ok-close.ensures.ok given (subst (IsGiven given self.bytes.items self.entries.items) c.in-Some.is was) in
     let made = c.in_ok-bytes.ensures in
-    file_whole self.bytes given (device_of path) (measurement_of path) c.close.new.into.items c.in_ok-bytes.bytes.items made.0 made.1 c.close.new.entries.items closed made.2 made.3
+    file_whole given (device_of path) (measurement_of path) c.close.new.into.items c.in_ok-bytes.bytes.items made.0 made.1 c.close.new.entries.items closed made.2 made.3

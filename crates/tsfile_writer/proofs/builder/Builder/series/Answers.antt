@@ -1,9 +1,9 @@
-use Rattle.std.proofs.Common.{◌≡◌, ℕ, List, [], ◌∷◌, ◌++◌, None, ◌⊎◌, refl, sym, ◌∙◌, ap, subst, rules}
+use Rattle.std.proofs.Common.{◌≡◌, ℕ, List, [], ◌∷◌, ◌++◌, None, ◌⊎◌, ◌∙◌, ap, subst}
 use Rattle.std.specs.Prelude.{Option}
 use Rattle.tsdb_path.specs.Nodes.{device_of, measurement_of}
 use Rattle.tsdb_pages.specs.File.{head}
 use Rattle.tsfile_writer.specs.declared.builder.OpenSeries.{OpenSeries}
-use Rattle.tsfile_writer.specs.Building.{IsGiven, BuildState}
+use Rattle.tsfile_writer.specs.Building.{IsGiven}
 use Rattle.tsfile_writer.specs.Given.{MayBeFollowedBy, Series, series_at}
 use Rattle.tsfile_writer.proofs.Waiting.{state_at}
 use Rattle.tsfile_writer.proofs.Closing.{first_begun, names_before, next_begun}
@@ -24,7 +24,7 @@ returns-clause-ok c = λ given was.
           let closed = w.in_ok-close-in-Some.ensures.ok given (subst (IsGiven given bytes entries) w.in-Some.is was) in
           let follows = subst (λ (o : Option OpenSeries). IsGiven [] bytes entries o ⊎ ((front : List Series) × (last : Series) × IsGiven (front ++ last ∷ []) bytes entries o × MayBeFollowedBy (device_of path) (measurement_of path) last)) w.in-Some.is c.requires.follows in
           let names = names_before bytes entries last.path last.data_type last.encoding last.chunk last.points.items (device_of path) (measurement_of path) follows in
-          let begun = next_begun c.args.self.now.bytes given (device_of last.path) (measurement_of last.path) w.close.new.into.items w.close.new.entries.items path c.args.data_type c.args.encoding closed c.requires.nodes c.requires.suits names in
+          let begun = next_begun given (device_of last.path) (measurement_of last.path) w.close.new.into.items w.close.new.entries.items path c.args.data_type c.args.encoding closed c.requires.nodes c.requires.suits names in
           rw (w.self-is, made.chunk) (state_at new_given w.close.new.into.items w.close.new.entries.items path next.path c.args.data_type next.data_type c.args.encoding next.encoding None [] next.points.items begun made.path made.data_type made.encoding made.points)
       | in-None+in_ok-extend_from_slice-in-None w ↦
           let empty = subst (IsGiven given bytes entries) w.in-None.is was in

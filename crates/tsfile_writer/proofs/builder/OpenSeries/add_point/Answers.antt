@@ -1,4 +1,4 @@
-use Rattle.std.proofs.Common.{◌≡◌, ◌<◌, List, [], ◌∷◌, ◌++◌, length, refl, ap, arith, rules}
+use Rattle.std.proofs.Common.{◌≡◌, ◌<◌, List, [], ◌∷◌, ◌++◌, length, refl, ap, arith}
 use Rattle.tsdb_base.specs.declared.point.Point.{Point}
 use Rattle.tsdb_base.specs.Limits.{max_values}
 use Rattle.tsfile_writer.specs.Given.{with_point}
@@ -20,7 +20,7 @@ returns-clause-ok c = λ front last state.
       | then-len-eq-MAX_POINTS+in_ok-put_page w ↦
           let put = w.in_ok-put_page.ensures in
           let size : length c.args.self.now.points.items ≡ max_values = grind (arith, w.if-len-eq-MAX_POINTS.true) in
-          let turned = page_turned front last (record { points = self.points }) c.args.into.now.items w.put_page.new.into.items c.args.entries.now self.path self.data_type self.encoding self.chunk w.put_page.new.self.chunk self.points.items c.args.point
+          let turned = page_turned front last (record { points = self.points.items }) c.args.into.now.items w.put_page.new.into.items c.args.entries.now self.path self.data_type self.encoding self.chunk w.put_page.new.self.chunk self.points.items c.args.point
           state suits size refl put.ok in
           rw (c.in_ok-push.ensures.items, w.self-is, w.into-is)
           (state_at (front ++ with_point c.args.point last ∷ []) w.put_page.new.into.items c.args.entries.now self.path w.put_page.new.self.path self.data_type w.put_page.new.self.data_type self.encoding w.put_page.new.self.encoding w.put_page.new.self.chunk

@@ -1,4 +1,4 @@
-use Rattle.std.proofs.Common.{◌≡◌, ◌<◌, ℕ, List, [], ◌∷◌, ◌++◌, Some, length, refl, sym, ◌∙◌, ap, subst, arith, rules}
+use Rattle.std.proofs.Common.{◌≡◌, ◌<◌, List, [], ◌∷◌, ◌++◌, Some, length, refl, sym, ◌∙◌, ap, subst, arith, rules}
 use Rattle.std.specs.Prelude.{Option}
 use Rattle.tsdb_index.specs.declared.index.IndexEntry.{IndexEntry}
 use Rattle.tsdb_pages.specs.Limits.{max_chunks}
@@ -38,7 +38,7 @@ returns-clause-ok c = λ given state.
     (c.deref.ensures.value ∙ c.in_ok-reserve.ensures.items) put.ok) in
     let room : length c.args.entries.now.items < max_chunks = grind (arith, c.if-len-ge-MAX_CHUNKS.false) in
     let some = some_wait c.requires.0 c.requires.1 c.args.into.now.items entries self.path self.data_type self.encoding self.chunk self.points.items c.requires.2 c.requires.3 in
-    series_closed c.args.into.now given (record { points = self.points }) c.args.into.now.items c.put_page.new.into.items entries c.push.new.self.items self.path self.data_type self.encoding self.chunk whole self.points.items c.into_entry-entry.result
+    series_closed given (record { points = self.points.items }) c.args.into.now.items c.put_page.new.into.items entries c.push.new.self.items self.path self.data_type self.encoding self.chunk whole self.points.items c.into_entry-entry.result
     state some refl puts
     (record {
       device-is = said.device ∙ c.in_ok-device.ensures;
