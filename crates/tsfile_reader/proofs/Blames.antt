@@ -2,16 +2,11 @@
 use Rattle.std.proofs.Common.{◌≡◌, inl, inr, ℕ, zero, suc, ◌+◌, ◌-◌, ◌/◌, ◌<◌, ◌≤◌, ◌^◌, List, [], ◌∷◌, ◌++◌, length, take, drop, refl, sym, ap, subst, ◌∙◌, append_assoc, arith}
 use Rattle.std.specs.Prelude.{All, min}
 use Rattle.std.specs.List.{flat_map, AllByRecursion}
-use Rattle.std.proofs.lemmas.List.{drop-drop, drop_at, get_or-append-add, get_or_append_left, length-append, length-map, length-take-le, map-append, take-append-drop, take_at}
+use Rattle.std.proofs.lemmas.List.{drop-drop, drop_at, get_or-append-add, get_or_append_left, length-append, length-take-le, take-append-drop, take_at}
 use Rattle.std.proofs.lemmas.List.Elements.{recursion_from_All}
-use Rattle.tsdb_base.specs.declared.point.Stats.{Stats}
-use Rattle.tsdb_base.specs.declared.value.DataType.{DataType}
-use Rattle.tsdb_base.specs.declared.value.Encoding.{Encoding}
 use Rattle.tsdb_base.specs.Fields.{number64}
 use Rattle.tsdb_index.specs.declared.index.IndexEntry.{IndexEntry}
-use Rattle.tsdb_index.specs.declared.index.PageEntry.{PageEntry}
 use Rattle.tsdb_index.specs.declared.pointer.Pointer.{Pointer}
-use Rattle.tsdb_index.specs.Content.{content, entry_content}
 use Rattle.tsdb_index.specs.Limits.{max_leaf_entries}
 use Rattle.tsdb_index.specs.Parts.{IsFirstBadLeaf, end_of}
 use Rattle.tsdb_index.specs.Spelling.{IsSpelling}
@@ -20,10 +15,10 @@ use Rattle.tsdb_pages.specs.declared.tree.Chunk.{Chunk}
 use Rattle.tsdb_pages.specs.declared.tree.Group.{Group}
 use Rattle.tsdb_pages.specs.declared.tree.Tree.{Tree}
 use Rattle.tsdb_pages.specs.File.{AreEntriesIn, IsFile, data_field, group_field, head, magic}
-use Rattle.tsdb_pages.specs.Trees.{HasParts, IsChunk, IsGroup, IsMade, IsTree, chunks_of, group_content}
+use Rattle.tsdb_pages.specs.Trees.{HasParts, IsChunk, IsGroup, IsMade, IsTree, chunks_of}
 use Rattle.tsdb_pages.proofs.Files.{EndsGroups, IsWholeChunk, IsWholeGroup, file_apart, groups_marked}
 use Rattle.tsdb_pages.proofs.Marks.{marked_same}
-use Rattle.tsdb_pages.proofs.OneFile.{entries_like, same_entries}
+use Rattle.tsdb_pages.proofs.OneFile.{same_entries}
 use Rattle.tsdb_path.specs.Nodes.{IsPath}
 use Rattle.tsfile_reader.specs.Blame.{AreAlike, AreGroups, HasGroups, IsBlamed, IsFirstBadPart, IsFirstWrongLeaf, IsNoFile, data_in, leaf, outline, part}
 use Rattle.tsfile_reader.specs.Outline.{HasIndex, HasOutline, HasRoot, IsBadOutline, between, no_head, no_leaf, no_root, no_tail, short, tail_place}
@@ -32,7 +27,6 @@ use Rattle.tsfile_reader.proofs.OneBlame.{none_bad, one_place}
 use Rattle.tsfile_reader.proofs.OneOutline.{good_outline, outline_of_tree, rises, root_same, tail_same, tree_not_bad}
 use Rattle.tsfile_reader.proofs.Outlines.{length_between}
 use Rattle.tsfile_reader.proofs.Rows.{IsFullGroup, after_groups, good_groups, groups_end, groups_text}
-use Rattle.tsdb_pages.proofs.Content.{same_groups_entries}
 
 -- ---- one bad part of the outline
 
@@ -84,7 +78,7 @@ pub record AreOneOutline (r s p q : ℕ) (ps qs : List Pointer) (es fs : List In
   pub root : r ≡ s
   pub place : p ≡ q
   pub pointers : ps ≡ qs
-  pub entries : content es ≡ content fs
+  pub entries : es ≡ fs
 
 pub one_outline : (b : List ℕ) (r s p q : ℕ) (ps qs : List Pointer) (es fs : List IndexEntry) → length b < 2 ^ 64 → HasOutline b r p ps es → HasOutline b s q qs fs → AreOneOutline r s p q ps qs es fs
 one_outline b r s p q ps qs es fs room x y =
@@ -107,13 +101,13 @@ halves (c ∷ cs) a b = ((a.0, b.0), halves cs a.1 b.1)
 full_from : (groups : List Group) → AllByRecursion IsGroup groups → AllByRecursion (λ (g : Group). IsPath g.device) groups → All HasParts (chunks_of groups) → AllByRecursion IsFullGroup groups
 full_from [] good devices parts = tt
 full_from (g ∷ gs) good devices parts =
-    let n = length-append g.chunks.items (chunks_of gs) in
-    let here : All HasParts g.chunks.items = λ k d lt. subst HasParts (get_or_append_left g.chunks.items (chunks_of gs) d k lt) (parts k d (omega (arith, lt, n))) in
-    let others : All HasParts (chunks_of gs) = λ k d lt. subst HasParts (get_or-append-add g.chunks.items (chunks_of gs) k d) (parts (length g.chunks.items + k) d (omega (arith, lt, n))) in (
+    let n = length-append g.chunks (chunks_of gs) in
+    let here : All HasParts g.chunks = λ k d lt. subst HasParts (get_or_append_left g.chunks (chunks_of gs) d k lt) (parts k d (omega (arith, lt, n))) in
+    let others : All HasParts (chunks_of gs) = λ k d lt. subst HasParts (get_or-append-add g.chunks (chunks_of gs) k d) (parts (length g.chunks + k) d (omega (arith, lt, n))) in (
       record {
         device = devices.0;
         is = good.0;
-        whole = halves g.chunks.items (recursion_from_All IsChunk g.chunks.items good.0.chunks) (recursion_from_All HasParts g.chunks.items here);
+        whole = halves g.chunks (recursion_from_All IsChunk g.chunks good.0.chunks) (recursion_from_All HasParts g.chunks here);
       },
       full_from gs good.1 devices.1 others,
     )
@@ -127,7 +121,7 @@ whole_groups [] full = tt
 whole_groups (g ∷ gs) full = ((full.0.device, full.0.whole), whole_groups gs full.1)
 
 -- the groups of a tree
-pub groups_in : (tree : Tree) → IsTree tree → IsMade tree → AreGroups tree.groups.items
+pub groups_in : (tree : Tree) → IsTree tree → IsMade tree → AreGroups tree.groups
 groups_in tree is made = record { some = is.some; groups-are = is.groups; rising = is.rising; devices = made.devices; chunks = made.chunks }
 
 -- bytes that are groups have no bad part
@@ -137,31 +131,29 @@ no_bad_part bytes groups from at good is bad =
     none_bad bytes from at (after_groups groups []) (good_groups groups full good.rising) (groups_end groups good.some full) (is ∙ sym (groups_text groups [])) bad
 
 -- what an index says of the same groups is the same
-said_same : (bytes : List ℕ) (s t : Tree) (xs ys : List IndexEntry) → AreGroups s.groups.items → AreGroups t.groups.items → bytes ≡ flat_map group_field s.groups.items → bytes ≡ flat_map group_field t.groups.items
-    → AreEntriesIn s xs → AreEntriesIn t ys → content xs ≡ content ys
+said_same : (bytes : List ℕ) (s t : Tree) (xs ys : List IndexEntry) → AreGroups s.groups → AreGroups t.groups → bytes ≡ flat_map group_field s.groups → bytes ≡ flat_map group_field t.groups
+    → AreEntriesIn s xs → AreEntriesIn t ys → xs ≡ ys
 said_same bytes s t xs ys good_s good_t is_s is_t in_s in_t =
-    let whole_s = whole_groups s.groups.items (full_groups s.groups.items good_s) in
-    let whole_t = whole_groups t.groups.items (full_groups t.groups.items good_t) in
+    let whole_s = whole_groups s.groups (full_groups s.groups good_s) in
+    let whole_t = whole_groups t.groups (full_groups t.groups good_t) in
     let end : EndsGroups (73 ∷ []) = ([], refl) in
-    let both : flat_map group_field s.groups.items ++ 73 ∷ [] ≡ flat_map group_field t.groups.items ++ 73 ∷ [] = ap (λ (l : List ℕ). l ++ 73 ∷ []) (sym is_s ∙ is_t) in
-    let same = (marked_same group_field group_content IsWholeGroup 71 EndsGroups groups_marked s.groups.items t.groups.items (73 ∷ []) (73 ∷ []) whole_s whole_t end end both).0 in
-    let moved : AreEntriesIn t xs = record { by_group = in_s.by_group; all = in_s.all; say = same_groups_entries (length head) s.groups.items t.groups.items in_s.by_group same in_s.say } in
+    let both : flat_map group_field s.groups ++ 73 ∷ [] ≡ flat_map group_field t.groups ++ 73 ∷ [] = ap (λ (l : List ℕ). l ++ 73 ∷ []) (sym is_s ∙ is_t) in
+    let made : List Group → Tree = λ groups. record { groups = groups } in
+    let same = (marked_same group_field IsWholeGroup 71 EndsGroups groups_marked s.groups t.groups (73 ∷ []) (73 ∷ []) whole_s whole_t end end both).0 in
+    let moved : AreEntriesIn t xs = subst (λ (tree : Tree). AreEntriesIn tree xs) (ap made same) in_s in
     same_entries t xs ys moved in_t
 
 -- ---- one wrong leaf
 
-abbrev Says : Type 0
-Says = List ℕ × List ℕ × DataType × Encoding × ℕ × Stats × List PageEntry
-
--- what two lists say behind a row that is shorter than one that both begin with
-record NextSame (us vs : List Says) : Type 0 where
-  next : Says
-  us_behind : List Says
-  vs_behind : List Says
+-- what two lists have behind a row that is shorter than one that both begin with
+record NextSame (us vs : List IndexEntry) : Type 0 where
+  next : IndexEntry
+  us_behind : List IndexEntry
+  vs_behind : List IndexEntry
   us-are : us ≡ next ∷ us_behind
   vs-are : vs ≡ next ∷ vs_behind
 
-next_same : (row long us vs xs ys : List Says) → length row < length long → row ++ us ≡ long ++ xs → row ++ vs ≡ long ++ ys → NextSame us vs
+next_same : (row long us vs xs ys : List IndexEntry) → length row < length long → row ++ us ≡ long ++ xs → row ++ vs ≡ long ++ ys → NextSame us vs
 next_same [] [] us vs xs ys less same_u same_v = absurd (omega (arith, less))
 next_same [] (a ∷ more) us vs xs ys less same_u same_v = record { next = a; us_behind = more ++ xs; vs_behind = more ++ ys; us-are = same_u; vs-are = same_v }
 next_same (b ∷ bs) [] us vs xs ys less same_u same_v = absurd (omega (arith, less))
@@ -171,41 +163,14 @@ next_same (b ∷ bs) (a ∷ more) us vs xs ys less same_u same_v =
     let shorter : length bs < length more = omega (arith, less) in
     next_same bs more us vs xs ys shorter tail_u tail_v
 
--- an entry that says this
-record FirstSays (es : List IndexEntry) (says : Says) : Type 0 where
-  first : IndexEntry
-  behind : List IndexEntry
-  es-are : es ≡ first ∷ behind
-  says-this : entry_content first ≡ says
+no_shorter : (es said : List IndexEntry) (m n : ℕ) → AreAlike es said m → AreAlike es said n → m < n → ⊥
+no_shorter es said m n a b less =
+    let shorter : length a.same < length b.same = omega (arith, less, a.number, b.number) in
+    let next = next_same a.same b.same a.others a.others_said b.others b.others_said shorter (sym a.entries-are ∙ b.entries-are) (sym a.said-are ∙ b.said-are) in
+    a.apart next.next next.next next.us_behind next.vs_behind next.us-are next.vs-are refl
 
-first_says : (es : List IndexEntry) (says : Says) (rest : List Says) → content es ≡ says ∷ rest → FirstSays es says
-first_says [] says rest same = absurd cc
-first_says (e ∷ es) says rest same = record { first = e; behind = es; es-are = refl; says-this = cc }
-
-parts_say : (es front behind : List IndexEntry) → es ≡ front ++ behind → content es ≡ content front ++ content behind
-parts_say es front behind is = ap content is ∙ map-append entry_content front behind
-
-no_shorter : (es fs said other : List IndexEntry) (m n : ℕ) → content es ≡ content fs → content said ≡ content other → AreAlike es said m → AreAlike fs other n → m < n → ⊥
-no_shorter es fs said other m n entries saids a b less =
-    let row = content a.same in
-    let long = content b.same in
-    let row_size : length (content a.same) ≡ m = length-map a.same entry_content ∙ a.number in
-    let long_size : length (content b.same) ≡ n = length-map b.same entry_content ∙ b.number in
-    let in_entries : content a.same ++ content a.others ≡ content b.same ++ content b.others =
-    sym (parts_say es a.same a.others a.entries-are) ∙ entries ∙ parts_say fs b.same b.others b.entries-are in
-    let in_said : content a.same ++ content a.others_said ≡ content b.same ++ content b.others_said =
-    ap (λ (l : List Says). l ++ content a.others_said) a.alike ∙ sym (parts_say said a.same_said a.others_said a.said-are) ∙ saids ∙ parts_say other b.same_said b.others_said b.said-are ∙ ap (λ (l : List Says). l ++ content b.others_said) (sym b.alike) in
-    let shorter : length (content a.same) < length (content b.same) = omega (arith, less, row_size, long_size) in
-    let next = next_same row long (content a.others) (content a.others_said) (content b.others) (content b.others_said) shorter in_entries in_said in
-    let x = first_says a.others next.next next.us_behind next.us-are in
-    let y = first_says a.others_said next.next next.vs_behind next.vs-are in
-    a.apart x.first y.first x.behind y.behind x.es-are y.es-are (ap (λ (s : Says). s ∷ []) (x.says-this ∙ sym y.says-this))
-
-one_count : (es fs said other : List IndexEntry) (m n : ℕ) → content es ≡ content fs → content said ≡ content other → AreAlike es said m → AreAlike fs other n → m ≡ n
-one_count es fs said other m n entries saids a b =
-    let up : m < n → ⊥ = no_shorter es fs said other m n entries saids a b in
-    let down : n < m → ⊥ = no_shorter fs es other said n m (sym entries) (sym saids) b a in
-    between_them m n up down
+one_count : (es said : List IndexEntry) (m n : ℕ) → AreAlike es said m → AreAlike es said n → m ≡ n
+one_count es said m n a b = between_them m n (no_shorter es said m n a b) (no_shorter es said n m b a)
   where
     between_them : (m n : ℕ) → (m < n → ⊥) → (n < m → ⊥) → m ≡ n
     between_them zero zero up down = refl
@@ -221,13 +186,11 @@ one_pointer (f ∷ fs) behind (o ∷ os) rest p q size same =
     let tail : fs ++ p ∷ behind ≡ os ++ q ∷ rest = cc in
     one_pointer fs behind os rest p q (omega (arith, size)) tail
 
-one_wrong_leaf : (ps qs : List Pointer) (es fs said other : List IndexEntry) (x y : ℕ) → ps ≡ qs → content es ≡ content fs → content said ≡ content other → IsFirstWrongLeaf ps es said x → IsFirstWrongLeaf qs fs other y → x ≡ y
-one_wrong_leaf ps qs es fs said other x y pointers entries saids a b =
-    let count = one_count es fs said other a.count b.count entries saids a.alike b.alike in
-    let sizes : length es ≡ length fs = sym (length-map es entry_content) ∙ ap length entries ∙ length-map fs entry_content in
-    let number : length a.before ≡ length b.before =
-    a.number ∙ ap (λ (n : ℕ). min n (length es - 1) / max_leaf_entries) count ∙ ap (λ (n : ℕ). min b.count (n - 1) / max_leaf_entries) sizes ∙ sym b.number in
-    let one = one_pointer a.before a.behind b.before b.behind a.pointer b.pointer number (sym a.pointers-are ∙ pointers ∙ b.pointers-are) in
+one_wrong_leaf : (ps : List Pointer) (es said : List IndexEntry) (x y : ℕ) → IsFirstWrongLeaf ps es said x → IsFirstWrongLeaf ps es said y → x ≡ y
+one_wrong_leaf ps es said x y a b =
+    let count = one_count es said a.count b.count a.alike b.alike in
+    let number : length a.before ≡ length b.before = a.number ∙ ap (λ (n : ℕ). min n (length es - 1) / max_leaf_entries) count ∙ sym b.number in
+    let one = one_pointer a.before a.behind b.before b.behind a.pointer b.pointer number (sym a.pointers-are ∙ b.pointers-are) in
     a.place ∙ ap (λ (p : Pointer). p.place) one ∙ sym b.place
 
 -- ---- one place of blame
@@ -242,40 +205,42 @@ one_blame b x y room (part r p ps es has at bad) (part s q qs fs also by other) 
     one_place (data_in q b) (length head) at by (subst (λ (n : ℕ). IsFirstBadPart (length head) (data_in n b) at) one.place bad) other
 one_blame b x y room (part r p ps es has at bad) (leaf s q qs fs also tree said groups by other) =
     let one = one_outline b r s p q ps qs es fs room has also in
-    absurd (no_bad_part (data_in q b) tree.groups.items (length head) at groups.good groups.bytes-are (subst (λ (n : ℕ). IsFirstBadPart (length head) (data_in n b) at) one.place bad))
+    absurd (no_bad_part (data_in q b) tree.groups (length head) at groups.good groups.bytes-are (subst (λ (n : ℕ). IsFirstBadPart (length head) (data_in n b) at) one.place bad))
 one_blame b x y room (leaf r p ps es has tree said groups at bad) (outline by other) = absurd (good_outline b r p ps es by room has other)
 one_blame b x y room (leaf r p ps es has tree said groups at bad) (part s q qs fs also by other) =
     let one = one_outline b r s p q ps qs es fs room has also in
-    absurd (no_bad_part (data_in p b) tree.groups.items (length head) by groups.good groups.bytes-are (subst (λ (n : ℕ). IsFirstBadPart (length head) (data_in n b) by) (sym one.place) other))
+    absurd (no_bad_part (data_in p b) tree.groups (length head) by groups.good groups.bytes-are (subst (λ (n : ℕ). IsFirstBadPart (length head) (data_in n b) by) (sym one.place) other))
 one_blame b x y room (leaf r p ps es has tree said groups at bad) (leaf s q qs fs also tree2 said2 groups2 by other) =
     let one = one_outline b r s p q ps qs es fs room has also in
-    let here : data_in q b ≡ flat_map group_field tree.groups.items = ap (λ (n : ℕ). data_in n b) (sym one.place) ∙ groups.bytes-are in
+    let here : data_in q b ≡ flat_map group_field tree.groups = ap (λ (n : ℕ). data_in n b) (sym one.place) ∙ groups.bytes-are in
     let saids = said_same (data_in q b) tree tree2 said said2 groups.good groups2.good here groups2.bytes-are groups.say groups2.say in
-    one_wrong_leaf ps qs es fs said said2 at by one.pointers one.entries saids bad other
+    let moved : IsFirstWrongLeaf qs fs said2 at = subst (λ (l : List IndexEntry). IsFirstWrongLeaf qs fs l at) saids
+    (subst (λ (l : List IndexEntry). IsFirstWrongLeaf qs l said at) one.entries (subst (λ (l : List Pointer). IsFirstWrongLeaf l es said at) one.pointers bad)) in
+    one_wrong_leaf qs fs said2 at by moved other
 
 -- ---- a tree's file
 
 -- the groups of a tree stand between the head and the first leaf
-tree_data : (tree : Tree) (b : List ℕ) → IsFile tree b → data_in (length (data_field tree)) b ≡ flat_map group_field tree.groups.items
+tree_data : (tree : Tree) (b : List ℕ) → IsFile tree b → data_in (length (data_field tree)) b ≡ flat_map group_field tree.groups
 tree_data tree b file =
-    let groups = flat_map group_field tree.groups.items in
+    let groups = flat_map group_field tree.groups in
     let rest = file.index-bytes ++ (number64 file.root ++ magic) in
     let apart = file_apart tree b file in
-    let behind : drop (length head) b ≡ flat_map group_field tree.groups.items ++ (file.index-bytes ++ (number64 file.root ++ magic)) =
+    let behind : drop (length head) b ≡ flat_map group_field tree.groups ++ (file.index-bytes ++ (number64 file.root ++ magic)) =
     ap (λ (l : List ℕ). drop (length head) l) apart ∙ drop_at head (groups ++ rest) (length head) refl in
     let n = length-append head groups in
-    let size : length (flat_map group_field tree.groups.items) ≡ length (data_field tree) - length head = omega (arith, n) in
+    let size : length (flat_map group_field tree.groups) ≡ length (data_field tree) - length head = omega (arith, n) in
     ap (λ (l : List ℕ). take (length (data_field tree) - length head) l) behind ∙ take_at groups rest (length (data_field tree) - length head) size
 
 pub not_blamed : (b : List ℕ) (at : ℕ) → length b < 2 ^ 64 → IsBlamed b at → IsNoFile b
 not_blamed b at room (outline by bad) = λ tree is made file. tree_not_bad tree b by room is made file bad
 not_blamed b at room (part r p ps es has by bad) = λ tree is made file.
     let place = (outline_of_tree tree b r p ps es room is made file has).0 in
-    let here : data_in p b ≡ flat_map group_field tree.groups.items = ap (λ (n : ℕ). data_in n b) place ∙ tree_data tree b file in
-    no_bad_part (data_in p b) tree.groups.items (length head) by (groups_in tree is made) here bad
+    let here : data_in p b ≡ flat_map group_field tree.groups = ap (λ (n : ℕ). data_in n b) place ∙ tree_data tree b file in
+    no_bad_part (data_in p b) tree.groups (length head) by (groups_in tree is made) here bad
 not_blamed b at room (leaf r p ps es has tree said groups by bad) = λ other is made file.
     let of_tree = outline_of_tree other b r p ps es room is made file has in
-    let here : data_in p b ≡ flat_map group_field other.groups.items = ap (λ (n : ℕ). data_in n b) of_tree.0 ∙ tree_data other b file in
+    let here : data_in p b ≡ flat_map group_field other.groups = ap (λ (n : ℕ). data_in n b) of_tree.0 ∙ tree_data other b file in
     bad.wrong (said_same (data_in p b) other tree es said (groups_in other is made) groups.good here groups.bytes-are of_tree.1 groups.say)
 
 -- ---- what is whole is a tree's file
@@ -301,10 +266,10 @@ pub record IsTreeOf (tree : Tree) (b : List ℕ) (entries : List IndexEntry) : T
   pub file : IsFile tree b
   pub say : AreEntriesIn tree entries
 
-pub tree_of : (b : List ℕ) (root place : ℕ) (ps : List Pointer) (es said : List IndexEntry) (tree : Tree) → HasOutline b root place ps es → HasGroups (data_in place b) tree said → content es ≡ content said → IsTreeOf tree b es
+pub tree_of : (b : List ℕ) (root place : ℕ) (ps : List Pointer) (es said : List IndexEntry) (tree : Tree) → HasOutline b root place ps es → HasGroups (data_in place b) tree said → es ≡ said → IsTreeOf tree b es
 tree_of b root place ps es said tree has groups same =
     let good = groups.good in
-    let say : AreEntriesIn tree es = entries_like tree said es (sym same) groups.say in
+    let say : AreEntriesIn tree es = subst (AreEntriesIn tree) (sym same) groups.say in
     let count = entries_counted tree es say in
     let few = has.index.index.few in
     let r = rises b root place ps has.points in

@@ -9,7 +9,6 @@ use Rattle.tsdb_index.specs.declared.index.FileMeta.{FileMeta}
 use Rattle.tsdb_index.specs.declared.index.Index.{Index}
 use Rattle.tsdb_index.specs.declared.index.IndexEntry.{IndexEntry}
 use Rattle.tsdb_index.specs.declared.pointer.Pointer.{Pointer}
-use Rattle.tsdb_index.specs.Content.{content}
 use Rattle.tsdb_index.specs.Parts.{pointer_bytes}
 use Rattle.tsdb_index.specs.Spelling.{AreLeaves, leaf_field, pointers, root_field}
 use Rattle.tsdb_pages.specs.declared.tree.Tree.{Tree}
@@ -139,15 +138,15 @@ stopped None Is ends place ps index stretch (Damaged at) has is stops = tt
 stopped None Is ends place ps index stretch Memory has is stops = tt
 stopped (Some b) Is ends place ps index stretch Failed has is stops = tt
 stopped (Some b) Is ends place ps index stretch (Damaged at) has is stops =
-    part ends.root place ps index.entries.items has.1 at (subst (λ (l : List ℕ). IsFirstBadPart (length head) l at) is stops)
+    part ends.root place ps index.entries has.1 at (subst (λ (l : List ℕ). IsFirstBadPart (length head) l at) is stops)
 stopped (Some b) Is ends place ps index stretch Memory has is stops = tt
 
 pub is_wrong : (o : Option (List ℕ)) (ends : Ends) (place : ℕ) (ps : List Pointer) (index : Index) (stretch : List ℕ) (said : List IndexEntry) (number at : ℕ) → IfSome o (λ b. IsOutlineIn b ends place ps index) → IfSome o (λ b. stretch ≡ data_in place b)
-    → (tree : Tree) × HasGroups stretch tree said → IsFirstWrong index.entries.items said (Some number) → ((before behind : List Pointer) (pointer : Pointer) → ps ≡ before ++ pointer ∷ behind → length before ≡ number → at ≡ pointer.place)
+    → (tree : Tree) × HasGroups stretch tree said → IsFirstWrong index.entries said (Some number) → ((before behind : List Pointer) (pointer : Pointer) → ps ≡ before ++ pointer ∷ behind → length before ≡ number → at ≡ pointer.place)
     → Answers IsMetaOfTree IsBlamed o (Err (Damaged at))
 is_wrong None ends place ps index stretch said number at has is groups wrong place_of = tt
 is_wrong (Some b) ends place ps index stretch said number at has is groups wrong place_of =
-    wrong_in b ends.root place ps index.entries.items said groups.0 number at has.1 (subst (λ (l : List ℕ). HasGroups l groups.0 said) is groups.1) wrong place_of
+    wrong_in b ends.root place ps index.entries said groups.0 number at has.1 (subst (λ (l : List ℕ). HasGroups l groups.0 said) is groups.1) wrong place_of
 
 pub no_file : (o : Option (List ℕ)) (fault : ReadFault) → Answers IsMetaOfTree IsBlamed o (Err fault) → IfDamaged {T = FileMeta} (Err fault) (λ at. IfSome o (λ b. length b < 2 ^ 63)) → IfDamaged {T = FileMeta} (Err fault) (λ at. IfSome o IsNoFile)
 no_file o Failed blamed limit = tt
@@ -169,10 +168,10 @@ limited o (Damaged at) limit = limit
 limited o Memory limit = tt
 
 pub is_found : (o : Option (List ℕ)) (ends : Ends) (place : ℕ) (ps : List Pointer) (index : Index) (stretch : List ℕ) (said : List IndexEntry) → IfSome o (λ b. IsOutlineIn b ends place ps index) → IfSome o (λ b. stretch ≡ data_in place b)
-    → (tree : Tree) × HasGroups stretch tree said → content index.entries.items ≡ content said → IfSome o (λ b. IsMetaOfTree b (record { bytes = ends.size; index = index }))
+    → (tree : Tree) × HasGroups stretch tree said → index.entries ≡ said → IfSome o (λ b. IsMetaOfTree b (record { bytes = ends.size; index = index }))
 is_found None ends place ps index stretch said has is groups same = tt
 is_found (Some b) ends place ps index stretch said has is groups same =
-    let t = tree_of b ends.root place ps index.entries.items said groups.0 has.1 (subst (λ (l : List ℕ). HasGroups l groups.0 said) is groups.1) same in
+    let t = tree_of b ends.root place ps index.entries said groups.0 has.1 (subst (λ (l : List ℕ). HasGroups l groups.0 said) is groups.1) same in
     record { tree = groups.0; is = t.is; made = t.made; file = t.file; says = record { bytes-are = has.0; entries = t.say } }
 
 -- what holds of a place of damage holds whatever else was to be returned
@@ -186,6 +185,6 @@ moved None place x y same is = tt
 moved (Some b) place x y same is = same ∙ is
 
 -- no leaf is wrong
-pub none_wrong : (es said : List IndexEntry) (result : Option ℕ) → IsFirstWrong es said result → ((number : ℕ) → result ≡ Some number → ⊥) → content es ≡ content said
+pub none_wrong : (es said : List IndexEntry) (result : Option ℕ) → IsFirstWrong es said result → ((number : ℕ) → result ≡ Some number → ⊥) → es ≡ said
 none_wrong es said None same none = same
 none_wrong es said (Some number) wrong none = absurd (none number refl)

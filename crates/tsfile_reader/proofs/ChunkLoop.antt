@@ -1,5 +1,5 @@
 -- Reading chunks one behind another, and groups: what is read so far, and where reading stops.
-use Rattle.std.proofs.Common.{◌≡◌, ℕ, suc, ◌+◌, ◌-◌, ◌≤◌, Vec, Global, List, [], ◌∷◌, ◌++◌, length, get_or, refl, sym, ap, subst, ◌∙◌, append_assoc, arith}
+use Rattle.std.proofs.Common.{◌≡◌, ℕ, suc, ◌+◌, ◌-◌, ◌≤◌, List, [], ◌∷◌, ◌++◌, length, get_or, refl, sym, ap, subst, ◌∙◌, append_assoc, arith}
 use Rattle.std.specs.Prelude.{AllPairs}
 use Rattle.std.specs.List.{flat_map, AllByRecursion}
 use Rattle.std.proofs.lemmas.List.{append-nil, length-append}
@@ -21,22 +21,10 @@ use Rattle.tsfile_reader.specs.declared.page.ChunkHead.{ChunkHead}
 use Rattle.tsfile_reader.specs.declared.parts.Pages.{Pages}
 use Rattle.tsfile_reader.specs.Parts.{IsBehindChunk, MayFollow, Part, part_field, parts_field}
 use Rattle.tsfile_reader.specs.Steps.{BeginsWithMark, IsChunkHead, IsLaterHead, ReadsChunk, ReadsChunks, ReadsPages, StopsAt, StopsBehind, chunk_part}
-use Rattle.tsdb_pages.proofs.Entries.{chunks_push, count_pages, flat_push}
+use Rattle.tsdb_pages.proofs.Entries.{chunks_push, flat_push}
 use Rattle.tsfile_reader.proofs.Later.{head_bytes}
 use Rattle.tsfile_reader.proofs.PageLoop.{other_part}
 use Rattle.tsfile_reader.proofs.Rows.{after_chunks, chunks_text, good_chunks, last_of, last_same}
-
--- a list as a vector, which is no longer than another
-abbrev pub vec_like : {A B : Type 0} (v : Vec A Global) (xs : List B) → length xs ≤ length v.items → Vec B Global
-vec_like v xs few = record {
-  ptr = v.ptr;
-  len = length xs;
-  cap = v.cap;
-  alloc = v.alloc;
-  items = xs;
-  ok = (refl, let n = v.ok.0 in let m = v.ok.1 in omega (arith, n, m, few));
-  small = v.small;
-}
 
 -- ---- a stop behind what was read before
 
@@ -56,11 +44,10 @@ stop_behind before middle left behind text at grown takes stops = record {
 -- ---- one chunk
 
 pub chunk_read : (device : List ℕ) (head : ChunkHead) (place : ℕ) (left behind : Rest) (found : Pages) (entry : IndexEntry) → IsChunkHead head → left.at ≡ place + length (head_bytes head) → ReadsPages head.data_type head.encoding left behind found
-    → entry ≡ record { device = device; measurement = head.measurement; data_type = head.data_type; encoding = head.encoding; place = place; stats = found.stats; pages = found.entries } → ReadsChunk device head place left behind entry
+    → entry ≡ record { device = device; measurement = head.measurement; data_type = head.data_type; encoding = head.encoding; place = place; stats = found.stats; pages = found.entries.items } → ReadsChunk device head place left behind entry
 chunk_read device head place left behind found entry is at pages entry_is =
     let r = pages.read in
-    let count = count_pages head.encoding left.at pages.pages found.entries.items r.say in
-    let chunk : Chunk = record { measurement = head.measurement; data_type = head.data_type; encoding = head.encoding; pages = vec_like found.entries pages.pages (omega (arith, count)) } in
+    let chunk : Chunk = record { measurement = head.measurement; data_type = head.data_type; encoding = head.encoding; pages = pages.pages } in
     record {
       chunk = chunk;
       measurement-is = refl;
@@ -119,10 +106,10 @@ pub record ChunksSoFar (device : List ℕ) (rest left : Rest) (entries : List In
   pub no_page : BeginsWithMark 80 left.bytes.now → ⊥
 
 -- a chunk's bytes are its head and its pages
-chunk_taken : (c : Chunk) (head : ChunkHead) (left middle behind : Rest) → c.measurement ≡ head.measurement → c.data_type ≡ head.data_type → c.encoding ≡ head.encoding → Takes left (head_bytes head) middle → Takes middle (flat_map (page_field c.encoding) c.pages.items) behind → Takes left (chunk_field c) behind
+chunk_taken : (c : Chunk) (head : ChunkHead) (left middle behind : Rest) → c.measurement ≡ head.measurement → c.data_type ≡ head.data_type → c.encoding ≡ head.encoding → Takes left (head_bytes head) middle → Takes middle (flat_map (page_field c.encoding) c.pages) behind → Takes left (chunk_field c) behind
 chunk_taken c head left middle behind m t e head_is pages =
     let same : head_bytes head ≡ chunk_head c = head_same c head m t e in
-    takes_both left middle behind (chunk_head c) (flat_map (page_field c.encoding) c.pages.items) (takes_same left middle (head_bytes head) (chunk_head c) same head_is) pages
+    takes_both left middle behind (chunk_head c) (flat_map (page_field c.encoding) c.pages) (takes_same left middle (head_bytes head) (chunk_head c) same head_is) pages
   where
     head_same : (c : Chunk) (head : ChunkHead) → c.measurement ≡ head.measurement → c.data_type ≡ head.data_type → c.encoding ≡ head.encoding → head_bytes head ≡ chunk_head c
     head_same c head m t e =

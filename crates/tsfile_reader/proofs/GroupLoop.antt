@@ -1,5 +1,5 @@
 -- Reading groups one behind another: what is read so far, and where reading stops.
-use Rattle.std.proofs.Common.{◌≡◌, ℕ, ◌+◌, ◌≤◌, Vec, Global, List, [], ◌∷◌, ◌++◌, length, refl, sym, ap, subst, ◌∙◌, arith}
+use Rattle.std.proofs.Common.{◌≡◌, ℕ, ◌+◌, List, [], ◌∷◌, ◌++◌, length, refl, sym, ap, subst, ◌∙◌, arith}
 use Rattle.std.specs.Prelude.{All, AllPairs}
 use Rattle.std.specs.List.{flat_map, AllByRecursion}
 use Rattle.std.proofs.lemmas.List.{append-nil, length-append}
@@ -19,11 +19,11 @@ use Rattle.tsdb_pages.specs.declared.tree.Tree.{Tree}
 use Rattle.tsdb_pages.specs.File.{AreEntries, AreEntriesIn, AreEntriesOf, chunk_field, group_field, group_head, head}
 use Rattle.tsdb_pages.specs.Trees.{HasParts, IsBefore, IsChunk, IsGroup, chunks_of}
 use Rattle.tsdb_pages.proofs.Files.{IsWholeChunk}
-use Rattle.tsdb_pages.proofs.Entries.{count_all, count_chunks, flat_push, groups_push}
+use Rattle.tsdb_pages.proofs.Entries.{count_all, flat_push, groups_push}
 use Rattle.tsfile_reader.specs.Blame.{HasGroups, IsFirstBadPart}
 use Rattle.tsfile_reader.specs.Parts.{IsBehindGroup, MayFollow, Part, part_field}
 use Rattle.tsfile_reader.specs.Steps.{BeginsWithMark, ReadsChunks, StopsAt, StopsBehind}
-use Rattle.tsfile_reader.proofs.ChunkLoop.{all_below, pairs_more, recursion_more, stop_behind, vec_like}
+use Rattle.tsfile_reader.proofs.ChunkLoop.{all_below, pairs_more, recursion_more, stop_behind}
 use Rattle.tsfile_reader.proofs.Later.{group_bytes}
 use Rattle.tsfile_reader.proofs.Rows.{IsFullGroup, after_groups, good_groups, groups_text, last_group_of, last_same}
 
@@ -49,15 +49,14 @@ record ReadsGroup (device : List ℕ) (left behind : Rest) (entries : List Index
   pub group : Group
   pub device-is : group.device ≡ device
   pub full : IsFullGroup group
-  pub say : AreEntries group.device (left.at + length (group_head group)) group.chunks.items entries
+  pub say : AreEntries group.device (left.at + length (group_head group)) group.chunks entries
   pub takes : Takes left (group_field group) behind
   pub no_page : BeginsWithMark 80 behind.bytes.now → ⊥
   pub no_chunk : BeginsWithMark 67 behind.bytes.now → ⊥
 
-group_of : (device : List ℕ) (left middle behind : Rest) (entries : Vec IndexEntry Global) → IsPath device → Takes left (group_bytes device) middle → ReadsChunks device middle behind entries.items → ReadsGroup device left behind entries.items
+group_of : (device : List ℕ) (left middle behind : Rest) (entries : List IndexEntry) → IsPath device → Takes left (group_bytes device) middle → ReadsChunks device middle behind entries → ReadsGroup device left behind entries
 group_of device left middle behind entries is head r =
-    let count = count_chunks device middle.at r.chunks entries.items r.read.say in
-    let group : Group = record { device = device; chunks = vec_like entries r.chunks (omega (arith, count)) } in
+    let group : Group = record { device = device; chunks = r.chunks } in
     record {
       group = group;
       device-is = refl;
@@ -66,7 +65,7 @@ group_of device left middle behind entries is head r =
         is = record { some = r.read.some; chunks = r.read.good; rising = r.read.rising };
         whole = both r.chunks (recursion_from_All IsChunk r.chunks r.read.good) (recursion_from_All HasParts r.chunks r.read.parts);
       };
-      say = subst (λ (n : ℕ). AreEntries device n r.chunks entries.items) head.place r.read.say;
+      say = subst (λ (n : ℕ). AreEntries device n r.chunks entries) head.place r.read.say;
       takes = takes_both left middle behind (group_bytes device) (flat_map chunk_field r.chunks) head r.takes;
       no_page = r.no_page;
       no_chunk = r.no_chunk;
@@ -76,7 +75,7 @@ group_of device left middle behind entries is head r =
     both [] a b = tt
     both (c ∷ cs) a b = ((a.0, b.0), both cs a.1 b.1)
 
-pub first_group : (rest middle left : Rest) (device : List ℕ) (entries : Vec IndexEntry Global) → IsPath device → Takes rest (group_bytes device) middle → ReadsChunks device middle left entries.items → GroupsSoFar rest left entries.items device
+pub first_group : (rest middle left : Rest) (device : List ℕ) (entries : List IndexEntry) → IsPath device → Takes rest (group_bytes device) middle → ReadsChunks device middle left entries → GroupsSoFar rest left entries device
 first_group rest middle left device entries is head r =
     let g = group_of device rest middle left entries is head r in
     record {
@@ -85,16 +84,16 @@ first_group rest middle left device entries is head r =
       final-is = g.device-is;
       full = (g.full, tt);
       rising = λ i j d l m. absurd (omega (arith, l, m));
-      by_group = entries.items ∷ [];
-      all = append-nil entries.items;
+      by_group = entries ∷ [];
+      all = append-nil entries;
       say = (g.say, tt);
       takes = takes_same rest left (group_field g.group) (group_field g.group ++ []) (sym (append-nil (group_field g.group))) g.takes;
       no_page = g.no_page;
       no_chunk = g.no_chunk;
     }
 
-pub next_group : (rest left middle behind : Rest) (device last : List ℕ) (old new : List IndexEntry) (more : Vec IndexEntry Global) → GroupsSoFar rest left old last → IsPath device → IsBefore last device → Takes left (group_bytes device) middle → ReadsChunks device middle behind more.items
-    → new ≡ old ++ more.items → GroupsSoFar rest behind new device
+pub next_group : (rest left middle behind : Rest) (device last : List ℕ) (old new : List IndexEntry) (more : List IndexEntry) → GroupsSoFar rest left old last → IsPath device → IsBefore last device → Takes left (group_bytes device) middle → ReadsChunks device middle behind more
+    → new ≡ old ++ more → GroupsSoFar rest behind new device
 next_group rest left middle behind device last old new more so_far is less head r new_is =
     let g = group_of device left middle behind more is head r in
     let groups = so_far.front ++ so_far.final ∷ [] in
@@ -106,9 +105,9 @@ next_group rest left middle behind device last old new more so_far is less head 
       final-is = g.device-is;
       full = recursion_more IsFullGroup groups g.group so_far.full g.full;
       rising = pairs_more (λ (a b : Group). IsBefore a.device b.device) groups g.group so_far.rising (all_below (λ (c : Group). c.device) so_far.front so_far.final g.group.device so_far.rising above);
-      by_group = so_far.by_group ++ more.items ∷ [];
-      all = flat_push (λ (list : List IndexEntry). list) so_far.by_group more.items ∙ ap (λ (l : List IndexEntry). l ++ more.items) so_far.all ∙ sym new_is;
-      say = groups_push rest.at groups so_far.by_group g.group more.items so_far.say (subst (λ (n : ℕ). AreEntries g.group.device (n + length (group_head g.group)) g.group.chunks.items more.items) place g.say);
+      by_group = so_far.by_group ++ more ∷ [];
+      all = flat_push (λ (list : List IndexEntry). list) so_far.by_group more ∙ ap (λ (l : List IndexEntry). l ++ more) so_far.all ∙ sym new_is;
+      say = groups_push rest.at groups so_far.by_group g.group more so_far.say (subst (λ (n : ℕ). AreEntries g.group.device (n + length (group_head g.group)) g.group.chunks more) place g.say);
       takes = takes_same rest behind (flat_map group_field (so_far.front ++ so_far.final ∷ []) ++ group_field g.group) (flat_map group_field ((so_far.front ++ so_far.final ∷ []) ++ g.group ∷ []))
           (sym (flat_push group_field groups g.group))
           (takes_both rest left behind (flat_map group_field groups) (group_field g.group) so_far.takes g.takes);
@@ -190,25 +189,14 @@ in_next_group rest left middle entries last device at so_far is less head stops 
 -- ---- all groups
 
 -- the entries of a tree are as many as its chunks
-pub entries_counted : (tree : Tree) (entries : List IndexEntry) → AreEntriesIn tree entries → length entries ≡ length (chunks_of tree.groups.items)
-entries_counted tree entries say = ap length (sym say.all) ∙ count_all _ tree.groups.items say.by_group say.say
+pub entries_counted : (tree : Tree) (entries : List IndexEntry) → AreEntriesIn tree entries → length entries ≡ length (chunks_of tree.groups)
+entries_counted tree entries say = ap length (sym say.all) ∙ count_all _ tree.groups say.by_group say.say
 
-groups_few : (groups : List Group) → AllByRecursion IsFullGroup groups → length groups ≤ length (chunks_of groups)
-groups_few [] full = omega arith
-groups_few (g ∷ gs) full =
-    let n = length-append g.chunks.items (chunks_of gs) in
-    let some = full.0.is.some in
-    let rest = groups_few gs full.1 in
-    omega (arith, n, some, rest)
-
-pub all_groups : (rest left : Rest) (entries : Vec IndexEntry Global) (last : List ℕ) → rest.at ≡ length head → GroupsSoFar rest left entries.items last → left.bytes.now ≡ [] → (tree : Tree) × HasGroups rest.bytes.now tree entries.items
+pub all_groups : (rest left : Rest) (entries : List IndexEntry) (last : List ℕ) → rest.at ≡ length head → GroupsSoFar rest left entries last → left.bytes.now ≡ [] → (tree : Tree) × HasGroups rest.bytes.now tree entries
 all_groups rest left entries last at so_far nil =
     let groups = so_far.front ++ so_far.final ∷ [] in
     let n = length-append so_far.front (so_far.final ∷ []) in
-    let count = ap length so_far.all in
-    let as_many = count_all rest.at (so_far.front ++ so_far.final ∷ []) so_far.by_group so_far.say in
-    let few = groups_few (so_far.front ++ so_far.final ∷ []) so_far.full in
-    let tree : Tree = record { groups = vec_like entries (so_far.front ++ so_far.final ∷ []) (omega (arith, count, as_many, few)) } in (
+    let tree : Tree = record { groups = groups } in (
       tree,
       record {
         good = record {
@@ -241,4 +229,4 @@ all_groups rest left entries last at so_far nil =
 
     parts : (gs : List Group) → AllByRecursion IsFullGroup gs → All HasParts (chunks_of gs)
     parts [] all = All-nil HasParts
-    parts (g ∷ gs) all = All-append HasParts g.chunks.items (chunks_of gs) (All-from_recursion HasParts g.chunks.items (seconds g.chunks.items all.0.whole)) (parts gs all.1)
+    parts (g ∷ gs) all = All-append HasParts g.chunks (chunks_of gs) (All-from_recursion HasParts g.chunks (seconds g.chunks all.0.whole)) (parts gs all.1)

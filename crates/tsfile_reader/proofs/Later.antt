@@ -74,8 +74,8 @@ no_later_page t e suits bytes behind points before found good not = λ xs y late
 
 -- ---- one page more
 
-pub points_more : (pages : List Page) (page : Page) → points_of (pages ++ page ∷ []) ≡ points_of pages ++ page.points.items
-points_more pages page = flat_push (λ (p : Page). p.points.items) pages page
+pub points_more : (pages : List Page) (page : Page) → points_of (pages ++ page ∷ []) ≡ points_of pages ++ page.points
+points_more pages page = flat_push (λ (p : Page). p.points) pages page
 
 -- the end that statistics say is the last time
 pub end_time : (points : List Point) (stats : Stats) (d : Point) → 0 < length points → AreStatsOf points stats → (get_or points (length points - 1) d).time ≡ stats.end
@@ -105,26 +105,26 @@ rise_further before (f ∷ fs) end rise_b rise_p some last later =
     less_all : (a b c d e : ℤ) → a ≤ℤ b → b ≡ c → c <ℤ d → d ≤ℤ e → a <ℤ e
     less_all a b c d e ab bc cd de = omega (arith, ints, ab, bc, cd, de)
 
-pub page_added : (t : DataType) (e : Encoding) (from place : ℕ) (before : List Page) (page : Page) (points : List Point) (old new : Pages) (stats : Stats) (entry : PageEntry) → page.points.items ≡ points → ArePagesRead t e from before old → AreLaterPoints t old points
+pub page_added : (t : DataType) (e : Encoding) (from place : ℕ) (before : List Page) (page : Page) (points : List Point) (old new : Pages) (stats : Stats) (entry : PageEntry) → page.points ≡ points → ArePagesRead t e from before old → AreLaterPoints t old points
     → place ≡ from + length (flat_map (page_field e) before) → entry.place ≡ place → AreStatsOf points entry.stats → AreStatsOf (points_of before ++ points) new.stats → new.entries.items ≡ old.entries.items ++ entry ∷ []
     → ArePagesRead t e from (before ++ page ∷ []) new
 page_added t e from place before page points old new stats entry same read later place_is entry_place entry_stats all_stats entries =
-    let good : AreGood t page.points.items = subst (AreGood t) (sym same) later.good in
+    let good : AreGood t page.points = subst (AreGood t) (sym same) later.good in
     let n = length-append before (page ∷ []) in
     let count = count_pages e from before old.entries.items read.say in
     let few = later.few in
-    let points_is : points_of (before ++ page ∷ []) ≡ points_of before ++ page.points.items = points_more before page in
-    let some_points : 0 < length (points_of before) = some_of t before read.some (recursion_from_All (λ (p : Page). ArePoints t p.points.items) before read.good) in
+    let points_is : points_of (before ++ page ∷ []) ≡ points_of before ++ page.points = points_more before page in
+    let some_points : 0 < length (points_of before) = some_of t before read.some (recursion_from_All (λ (p : Page). ArePoints t p.points) before read.good) in
     record {
       some = omega (arith, n);
       few = omega (arith, n, count, few);
-      good = All-append (λ (p : Page). ArePoints t p.points.items) before (page ∷ []) read.good (All-cons (λ (p : Page). ArePoints t p.points.items) page [] good.0 (All-nil (λ (p : Page). ArePoints t p.points.items)));
-      ranges = subst (λ (l : List Point). All IsInRange l) (sym points_is) (All-append IsInRange (points_of before) page.points.items read.ranges good.1);
+      good = All-append (λ (p : Page). ArePoints t p.points) before (page ∷ []) read.good (All-cons (λ (p : Page). ArePoints t p.points) page [] good.0 (All-nil (λ (p : Page). ArePoints t p.points)));
+      ranges = subst (λ (l : List Point). All IsInRange l) (sym points_is) (All-append IsInRange (points_of before) page.points read.ranges good.1);
       rising = subst IsRising (sym points_is) (subst (λ (l : List Point). IsRising (points_of before ++ l)) (sym same) (rise_further (points_of before) points old.stats.end read.rising later.good.0.rising some_points (λ d. end_time (points_of before) old.stats d some_points read.stats) later.later));
       stats = subst (λ (l : List Point). AreStatsOf l new.stats) (sym (points_is ∙ ap (λ (l : List Point). points_of before ++ l) same)) all_stats;
       say = subst (λ (l : List PageEntry). ArePageEntries e from (before ++ page ∷ []) l) (sym entries) (pages_push e from before old.entries.items page entry read.say (record { place-is = entry_place ∙ place_is; stats = subst (λ (l : List Point). AreStatsOf l entry.stats) (sym same) entry_stats }));
     }
   where
-    some_of : (t : DataType) (pages : List Page) → 0 < length pages → AllByRecursion (λ (p : Page). ArePoints t p.points.items) pages → 0 < length (points_of pages)
+    some_of : (t : DataType) (pages : List Page) → 0 < length pages → AllByRecursion (λ (p : Page). ArePoints t p.points) pages → 0 < length (points_of pages)
     some_of t [] some are = absurd (omega (arith, some))
-    some_of t (p ∷ ps) some are = let n = length-append p.points.items (points_of ps) in let m = are.0.some in omega (arith, n, m)
+    some_of t (p ∷ ps) some are = let n = length-append p.points (points_of ps) in let m = are.0.some in omega (arith, n, m)

@@ -29,13 +29,13 @@ use Rattle.tsfile_reader.specs.Page.{ArePointsOf, HasNoPage, HasPage, IsEntryOf,
 pub record PageStands (tree : Tree) (bytes : List ℕ) (entry : IndexEntry) (number : ℕ) (said : PageEntry) : Type 0 where
   pub group : Group
   pub chunk : Chunk
-  pub in-tree : Contains tree.groups.items group
-  pub in-group : Contains group.chunks.items chunk
+  pub in-tree : Contains tree.groups group
+  pub in-group : Contains group.chunks chunk
   pub says : IsEntry group.device entry.place chunk entry
   pub page : Page
-  pub page-is : slice_get chunk.pages.items number ≡ Some page
+  pub page-is : slice_get chunk.pages number ≡ Some page
   pub inside : said.place ≤ length bytes
-  pub stands : HasPage bytes entry said page.points.items
+  pub stands : HasPage bytes entry said page.points
 
 -- the entry with another type and encoding
 abbrev with_kind : IndexEntry → DataType → Encoding → IndexEntry
@@ -52,22 +52,22 @@ there xs k low = pick (slice_get_cases xs k).1
 pub page_stands : (tree : Tree) (b : List ℕ) (entry : IndexEntry) (number : ℕ) (said : PageEntry) → IsTree tree → IsMade tree → IsFile tree b → IsEntryOf tree entry → SaysOfPage entry number said → PageStands tree b entry number said
 page_stands tree b entry number said is made file of says =
     let p : HasPlaces tree b entry = All-contains (HasPlaces tree b) of.entries entry (entries_stand tree b of.entries file of.say) of.there in
-    let whole_group : IsWholeGroup p.group = All-contains IsWholeGroup tree.groups.items p.group (All-from_recursion IsWholeGroup tree.groups.items (groups_of_tree tree is made)) p.in-tree in
-    let whole : IsWholeChunk p.chunk = All-contains IsWholeChunk p.group.chunks.items p.chunk (All-from_recursion IsWholeChunk p.group.chunks.items whole_group.1) p.in-group in
-    let low = slice_get_within entry.pages.items number said says in
+    let whole_group : IsWholeGroup p.group = All-contains IsWholeGroup tree.groups p.group (All-from_recursion IsWholeGroup tree.groups (groups_of_tree tree is made)) p.in-tree in
+    let whole : IsWholeChunk p.chunk = All-contains IsWholeChunk p.group.chunks p.chunk (All-from_recursion IsWholeChunk p.group.chunks whole_group.1) p.in-group in
+    let low = slice_get_within entry.pages number said says in
     let count = p.count in
-    let low_chunk : number < length p.chunk.pages.items = omega (arith, low, count) in
-    let found = there p.chunk.pages.items number low_chunk in
+    let low_chunk : number < length p.chunk.pages = omega (arith, low, count) in
+    let found = there p.chunk.pages number low_chunk in
     let page = found.0 in
-    let at_page = get_or_from_slice_get p.chunk.pages.items number page page found.1 in
-    let at_said = get_or_from_slice_get entry.pages.items number said said says in
+    let at_page = get_or_from_slice_get p.chunk.pages number page page found.1 in
+    let at_said = get_or_from_slice_get entry.pages number said said says in
     let stands = p.pages number page said low in
-    let place : (get_or entry.pages.items number said).place ≡ said.place = ap (λ (q : PageEntry). q.place) at_said in
-    let good : IsPageOf p.chunk.data_type found.0 = subst (λ (q : Page). IsPageOf p.chunk.data_type q) at_page (All-from_recursion (IsPageOf p.chunk.data_type) p.chunk.pages.items (pages_of_chunk p.chunk whole) number page low_chunk) in
+    let place : (get_or entry.pages number said).place ≡ said.place = ap (λ (q : PageEntry). q.place) at_said in
+    let good : IsPageOf p.chunk.data_type found.0 = subst (λ (q : Page). IsPageOf p.chunk.data_type q) at_page (All-from_recursion (IsPageOf p.chunk.data_type) p.chunk.pages (pages_of_chunk p.chunk whole) number page low_chunk) in
     let field : take (length (page_field p.chunk.encoding found.0)) (drop said.place b) ≡ page_field p.chunk.encoding found.0 =
-    subst (λ (q : Page). take (length (page_field p.chunk.encoding q)) (drop said.place b) ≡ page_field p.chunk.encoding q) at_page (subst (λ (n : ℕ). take (length (page_field p.chunk.encoding (get_or p.chunk.pages.items number page))) (drop n b) ≡ page_field p.chunk.encoding (get_or p.chunk.pages.items number page)) place stands.stands.bytes-are) in
+    subst (λ (q : Page). take (length (page_field p.chunk.encoding q)) (drop said.place b) ≡ page_field p.chunk.encoding q) at_page (subst (λ (n : ℕ). take (length (page_field p.chunk.encoding (get_or p.chunk.pages number page))) (drop n b) ≡ page_field p.chunk.encoding (get_or p.chunk.pages number page)) place stands.stands.bytes-are) in
     let low_place = stands.stands.inside in
-    let there_is : HasPage b (with_kind entry p.chunk.data_type p.chunk.encoding) said found.0.points.items = record {
+    let there_is : HasPage b (with_kind entry p.chunk.data_type p.chunk.encoding) said found.0.points = record {
       suits = whole.0.suits;
       good = good;
       behind = drop (length (page_field p.chunk.encoding found.0)) (drop said.place b);
@@ -82,7 +82,7 @@ page_stands tree b entry number said is made file of says =
       page = found.0;
       page-is = found.1;
       inside = omega (arith, low_place, place);
-      stands = kinds b said found.0.points.items entry p.chunk.data_type p.chunk.encoding p.says.type-is p.says.encoding-is there_is;
+      stands = kinds b said found.0.points entry p.chunk.data_type p.chunk.encoding p.says.type-is p.says.encoding-is there_is;
     }
   where
     kinds : (b : List ℕ) (said : PageEntry) (points : List Point) (entry : IndexEntry) (t : DataType) (c : Encoding) → entry.data_type ≡ t → entry.encoding ≡ c → HasPage b (with_kind entry t c) said points → HasPage b entry said points
@@ -90,9 +90,9 @@ page_stands tree b entry number said is made file of says =
         subst (λ (q : DataType). HasPage b (with_kind entry q entry.encoding) said points) (sym same_type) (subst (λ (q : Encoding). HasPage b (with_kind entry t q) said points) (sym same_form) has)
 
 -- two pages that stand at one place are the same
-pub one_page_there : (b : List ℕ) (entry : IndexEntry) (said : PageEntry) (x y : Page) → HasPage b entry said x.points.items → HasPage b entry said y.points.items → x.points.items ≡ y.points.items
+pub one_page_there : (b : List ℕ) (entry : IndexEntry) (said : PageEntry) (x y : Page) → HasPage b entry said x.points → HasPage b entry said y.points → x.points ≡ y.points
 one_page_there b entry said x y in_x in_y =
-    (page_free entry.data_type entry.encoding in_x.suits x y in_x.behind in_y.behind in_x.good in_y.good (sym in_x.split ∙ in_y.split)).0
+    ap (λ (page : Page). page.points) (page_free entry.data_type entry.encoding in_x.suits x y in_x.behind in_y.behind in_x.good in_y.good (sym in_x.split ∙ in_y.split)).0
 
 -- ---- the exits of reading a page
 
@@ -102,7 +102,7 @@ some_same o x y e f =
     cc
 
 same_said : (entry : IndexEntry) (number : ℕ) (page said : PageEntry) → SaysOfPage entry number page → SaysOfPage entry number said → page ≡ said
-same_said entry number page said x y = some_same (slice_get entry.pages.items number) page said x y
+same_said entry number page said x y = some_same (slice_get entry.pages number) page said x y
 
 -- no page stands behind the end of the file, or of a type that the encoding does not suit
 no_page : (b : List ℕ) (entry : IndexEntry) (page : PageEntry) (size : ℕ) → size ≡ length b → (size < page.place) ⊎ (is_suitable entry.data_type entry.encoding ≡ false) → HasNoPage b entry page
@@ -127,7 +127,7 @@ pub refused_tree : (o : Option (List ℕ)) (entry : IndexEntry) (number : ℕ) (
 refused_tree None entry number page size P says len why = tt
 refused_tree (Some b) entry number page size P says len why = λ tree is made file of.
     let there = page_stands tree b entry number page is made file of says in
-    absurd (no_page b entry page size (len b refl) why there.page.points.items there.stands)
+    absurd (no_page b entry page size (len b refl) why there.page.points there.stands)
 
 pub found_points : (o : Option (List ℕ)) (entry : IndexEntry) (number : ℕ) (page : PageEntry) (r : Result (Vec Point Global) ReadFault) → SaysOfPage entry number page
     → Answers (λ b points. HasPage b entry page points.items) (λ b at. (at ≡ page.place) × HasNoPage b entry page) o r → IfOk r (λ points. IfSome o (λ b. (said : PageEntry) → SaysOfPage entry number said → HasPage b entry said points.items))
@@ -155,7 +155,7 @@ pub tree_points : (o : Option (List ℕ)) (entry : IndexEntry) (number : ℕ) (p
 tree_points None entry number page r says answers = tt
 tree_points (Some b) entry number page (Ok points) says answers = λ tree is made file of.
     let s = page_stands tree b entry number page is made file of says in
-    let read : Page = record { points = points } in (
+    let read : Page = record { points = points.items } in (
       tt,
       record {
         group = s.group;
@@ -171,5 +171,5 @@ tree_points (Some b) entry number page (Ok points) says answers = λ tree is mad
 tree_points (Some b) entry number page (Err Failed) says answers = λ tree is made file of. (tt, tt)
 tree_points (Some b) entry number page (Err (Damaged at)) says answers = λ tree is made file of.
     let s = page_stands tree b entry number page is made file of says in
-    absurd (answers.1 s.page.points.items s.stands)
+    absurd (answers.1 s.page.points s.stands)
 tree_points (Some b) entry number page (Err Memory) says answers = λ tree is made file of. (tt, tt)

@@ -152,5 +152,5 @@ meta_found (Some b) ends place ps index has = λ tree is made file.
     let len = has.0 in
     let limit = ends.limit in (
       tt,
-      record { bytes-are = len; entries = (outline_of_tree tree b ends.root place ps index.entries.items (omega (arith, len, limit)) is made file has.1).1 },
+      record { bytes-are = len; entries = (outline_of_tree tree b ends.root place ps index.entries (omega (arith, len, limit)) is made file has.1).1 },
     )

@@ -190,11 +190,11 @@ has_outline b part stretch ends root entries has pointers low head_low short_fil
     }
 
 pub outline_found : (o : Option (List ℕ)) (part stretch : List ℕ) (ends : Ends) (root : Root) (index : Index) → IfSome o (λ b. HasEnds b ends) → IfSome o (λ b. HasPointers b ends root) → root.place < ends.root → length head ≤ root.place → ends.size < 2 ^ 63
-    → IfSome o (λ b. part ≡ take (ends.root - root.place) (drop root.place b)) → stretch ≡ part ++ root.bytes.items → IsRead root.place ends.root stretch index.entries.items
+    → IfSome o (λ b. part ≡ take (ends.root - root.place) (drop root.place b)) → stretch ≡ part ++ root.bytes.items → IsRead root.place ends.root stretch index.entries
     → IfSome o (λ b. IsOutlineIn b ends root.place root.pointers.items index)
 outline_found None part stretch ends root index has pointers low head_low limit part_is is read = tt
 outline_found (Some b) part stretch ends root index has pointers low head_low limit part_is is read =
-    (has.size, has_outline b part stretch ends root index.entries.items has pointers low head_low (let n = has.size in omega (arith, n, limit)) part_is is read)
+    (has.size, has_outline b part stretch ends root index.entries has pointers low head_low (let n = has.size in omega (arith, n, limit)) part_is is read)
 
 leaves_bad_at : (b part stretch : List ℕ) (ends : Ends) (root : Root) (at : ℕ) → HasEnds b ends → HasPointers b ends root → root.place < ends.root → length head ≤ root.place
     → part ≡ take (ends.root - root.place) (drop root.place b) → stretch ≡ part ++ root.bytes.items → IsFirstBadPart root.place ends.root stretch at → IsBadOutline b at

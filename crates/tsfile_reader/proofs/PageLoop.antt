@@ -38,10 +38,10 @@ pub record PagesSoFar (t : DataType) (e : Encoding) (rest left : Rest) (found : 
   pub read : ArePagesRead t e rest.at pages found
   pub takes : Takes rest (flat_map (page_field e) pages) left
 
-pub first_so_far : (t : DataType) (e : Encoding) (rest left : Rest) (found : Pages) (page : Page) → ArePagesRead t e rest.at (page ∷ []) found → Takes rest (page_bytes e page.points.items) left → PagesSoFar t e rest left found
+pub first_so_far : (t : DataType) (e : Encoding) (rest left : Rest) (found : Pages) (page : Page) → ArePagesRead t e rest.at (page ∷ []) found → Takes rest (page_bytes e page.points) left → PagesSoFar t e rest left found
 first_so_far t e rest left found page read takes = record { pages = page ∷ []; read = read; takes = takes_same rest left (page_field e page) (page_field e page ++ []) (sym (append-nil (page_field e page))) takes }
 
-pub next_so_far : (t : DataType) (e : Encoding) (rest left behind : Rest) (old new : Pages) (page : Page) (so_far : PagesSoFar t e rest left old) → ArePagesRead t e rest.at (so_far.pages ++ page ∷ []) new → Takes left (page_bytes e page.points.items) behind → PagesSoFar t e rest behind new
+pub next_so_far : (t : DataType) (e : Encoding) (rest left behind : Rest) (old new : Pages) (page : Page) (so_far : PagesSoFar t e rest left old) → ArePagesRead t e rest.at (so_far.pages ++ page ∷ []) new → Takes left (page_bytes e page.points) behind → PagesSoFar t e rest behind new
 next_so_far t e rest left behind old new page so_far read takes = record {
   pages = so_far.pages ++ page ∷ [];
   read = read;
@@ -56,7 +56,7 @@ pub room : (t : DataType) (e : Encoding) (rest left : Rest) (found : Pages) (n :
 room t e rest left found n so_far few =
     let r = so_far.read in
     let count = r.stats.count in
-    let total = points_few t so_far.pages (recursion_from_All (λ (p : Page). ArePoints t p.points.items) so_far.pages r.good) in
+    let total = points_few t so_far.pages (recursion_from_All (λ (p : Page). ArePoints t p.points) so_far.pages r.good) in
     let most = r.few in
     omega (arith, few, count, total, most)
 
@@ -111,7 +111,7 @@ later_points t pages found front last points rest_count e place read split some 
       subst (λ time. time <ℤ first.time) (sym (ap (λ (p : Point). p.time) there) ∙ end) less;
 }
 
-some_each : (t : DataType) (pages : List Page) → AllByRecursion (IsPageOf t) pages → AllByRecursion (λ (p : Page). 0 < length p.points.items) pages
+some_each : (t : DataType) (pages : List Page) → AllByRecursion (IsPageOf t) pages → AllByRecursion (λ (p : Page). 0 < length p.points) pages
 some_each t [] good = tt
 some_each t (p ∷ ps) good = (good.0.0.some, some_each t ps good.1)
 
@@ -120,8 +120,8 @@ pub none_later : (t : DataType) (e : Encoding) (rest left : Rest) (found : Pages
 none_later t e rest left found so_far mark none m = λ before are.
     let pages = so_far.pages in
     let r = so_far.read in
-    let each : AllByRecursion (λ (p : Page). All IsInRange p.points.items) so_far.pages = of_each_page so_far.pages r.ranges in
-    let good : AllByRecursion (IsPageOf t) so_far.pages = both_of t so_far.pages (recursion_from_All (λ (p : Page). ArePoints t p.points.items) so_far.pages r.good) each in
+    let each : AllByRecursion (λ (p : Page). All IsInRange p.points) so_far.pages = of_each_page so_far.pages r.ranges in
+    let good : AllByRecursion (IsPageOf t) so_far.pages = both_of t so_far.pages (recursion_from_All (λ (p : Page). ArePoints t p.points) so_far.pages r.good) each in
     record {
       parts = after_pages t e pages (Part.Chunk m t e ∷ before);
       good = good_pages t e m pages before are good r.rising r.few;
@@ -132,16 +132,16 @@ none_later t e rest left found so_far mark none m = λ before are.
       place = so_far.takes.place;
       next =
           let l = last_page t e pages (Part.Chunk m t e ∷ before) r.some in
-          let some : 0 < length l.last.points.items = l.some (some_each t pages good) in
+          let some : 0 < length l.last.points = l.some (some_each t pages good) in
           λ part behind may is.
-          next_of t e rest.at pages found l.front l.last.points.items l.rest left.bytes.now mark none r l.points some (let n = l.count in omega (arith, n)) part behind (subst (λ (ps : List Part). MayFollow ps part) l.is may) is;
+          next_of t e rest.at pages found l.front l.last.points l.rest left.bytes.now mark none r l.points some (let n = l.count in omega (arith, n)) part behind (subst (λ (ps : List Part). MayFollow ps part) l.is may) is;
       unfinished = λ nil may. no_mark left.bytes.now mark nil;
     }
   where
     no_mark : (bytes : List ℕ) → BeginsWithMark 80 bytes → bytes ≡ [] → ⊥
     no_mark bytes mark nil = let both : 80 ∷ mark.0 ≡ [] = sym mark.1 ∙ nil in absurd cc
 
-    both_of : (t : DataType) (pages : List Page) → AllByRecursion (λ (p : Page). ArePoints t p.points.items) pages → AllByRecursion (λ (p : Page). All IsInRange p.points.items) pages → AllByRecursion (IsPageOf t) pages
+    both_of : (t : DataType) (pages : List Page) → AllByRecursion (λ (p : Page). ArePoints t p.points) pages → AllByRecursion (λ (p : Page). All IsInRange p.points) pages → AllByRecursion (IsPageOf t) pages
     both_of t [] a b = tt
     both_of t (p ∷ ps) a b = ((a.0, b.0), both_of t ps a.1 b.1)
 

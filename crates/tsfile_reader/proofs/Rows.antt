@@ -38,33 +38,33 @@ last_same (z ∷ zs) (w ∷ ws) x y e = let rest : zs ++ x ∷ [] ≡ ws ++ y �
 -- these parts, and pages behind them
 abbrev pub after_pages : DataType → Encoding → List Page → List Part → List Part
 after_pages t e [] before = before
-after_pages t e (p ∷ ps) before = after_pages t e ps (Part.Page t e p.points.items ∷ before)
+after_pages t e (p ∷ ps) before = after_pages t e ps (Part.Page t e p.points ∷ before)
 
 pub pages_field : (t : DataType) (e : Encoding) (pages : List Page) (before : List Part) → parts_field (after_pages t e pages before) ≡ parts_field before ++ flat_map (page_field e) pages
 pages_field t e [] before = sym (append-nil (parts_field before))
-pages_field t e (p ∷ ps) before = pages_field t e ps (Part.Page t e p.points.items ∷ before) ∙ append_assoc (parts_field before) (page_field e p) (flat_map (page_field e) ps)
+pages_field t e (p ∷ ps) before = pages_field t e ps (Part.Page t e p.points ∷ before) ∙ append_assoc (parts_field before) (page_field e p) (flat_map (page_field e) ps)
 
 follow_pages : (t : DataType) (e : Encoding) (pages : List Page) (last : List Point) (before : List Part) → AreParts (Part.Page t e last ∷ before) → AllByRecursion (IsPageOf t) pages → IsRising (last ++ points_of pages) → 1 + page_count before + length pages ≤ max_pages
     → AreParts (after_pages t e pages (Part.Page t e last ∷ before))
 follow_pages t e [] last before are good rising few = are
 follow_pages t e (p ∷ ps) last before are good rising few =
-    let apart : IsRising ((last ++ p.points.items) ++ points_of ps) = subst IsRising (sym (append_assoc last p.points.items (points_of ps))) rising in
-    follow_pages t e ps p.points.items (Part.Page t e last ∷ before) ((refl, refl, good.0, pairs_left (λ (a b : Point). a.time <ℤ b.time) (last ++ p.points.items) (points_of ps) apart, omega (arith, few)), are) good.1 (pairs_behind (λ (a b : Point). a.time <ℤ b.time) last (p.points.items ++ points_of ps) rising) (omega (arith, few))
+    let apart : IsRising ((last ++ p.points) ++ points_of ps) = subst IsRising (sym (append_assoc last p.points (points_of ps))) rising in
+    follow_pages t e ps p.points (Part.Page t e last ∷ before) ((refl, refl, good.0, pairs_left (λ (a b : Point). a.time <ℤ b.time) (last ++ p.points) (points_of ps) apart, omega (arith, few)), are) good.1 (pairs_behind (λ (a b : Point). a.time <ℤ b.time) last (p.points ++ points_of ps) rising) (omega (arith, few))
 
 pub good_pages : (t : DataType) (e : Encoding) (m : List ℕ) (pages : List Page) (before : List Part) → AreParts (Part.Chunk m t e ∷ before) → AllByRecursion (IsPageOf t) pages → IsRising (points_of pages) → length pages ≤ max_pages
     → AreParts (after_pages t e pages (Part.Chunk m t e ∷ before))
 good_pages t e m [] before are good rising few = are
-good_pages t e m (p ∷ ps) before are good rising few = follow_pages t e ps p.points.items (Part.Chunk m t e ∷ before) ((refl, refl, good.0), are) good.1 rising (omega (arith, few))
+good_pages t e m (p ∷ ps) before are good rising few = follow_pages t e ps p.points (Part.Chunk m t e ∷ before) ((refl, refl, good.0), are) good.1 rising (omega (arith, few))
 
 -- the last of pages, behind what
 pub record LastPage (t : DataType) (e : Encoding) (pages : List Page) (before : List Part) : Type 0 where
   pub last : Page
   pub rest : List Part
   pub front : List Point
-  pub is : after_pages t e pages before ≡ Part.Page t e last.points.items ∷ rest
+  pub is : after_pages t e pages before ≡ Part.Page t e last.points ∷ rest
   pub count : 1 + page_count rest ≡ length pages + page_count before
-  pub points : points_of pages ≡ front ++ last.points.items
-  pub some : AllByRecursion (λ (p : Page). 0 < length p.points.items) pages → 0 < length last.points.items
+  pub points : points_of pages ≡ front ++ last.points
+  pub some : AllByRecursion (λ (p : Page). 0 < length p.points) pages → 0 < length last.points
   pub to_chunk : (x : List ℕ) → IsBehindChunk rest x → IsBehindChunk before x
   pub from_chunk : (x : List ℕ) → IsBehindChunk before x → IsBehindChunk rest x
   pub to_group : (x : List ℕ) → IsBehindGroup rest x → IsBehindGroup before x
@@ -77,7 +77,7 @@ last_page_of t e p [] before = record {
   front = [];
   is = refl;
   count = refl;
-  points = append-nil p.points.items;
+  points = append-nil p.points;
   some = λ all. all.0;
   to_chunk = λ x b. b;
   from_chunk = λ x b. b;
@@ -85,14 +85,14 @@ last_page_of t e p [] before = record {
   from_group = λ x b. b;
 }
 last_page_of t e p (q ∷ qs) before =
-    let r = last_page_of t e q qs (Part.Page t e p.points.items ∷ before) in
+    let r = last_page_of t e q qs (Part.Page t e p.points ∷ before) in
     record {
       last = r.last;
       rest = r.rest;
-      front = p.points.items ++ r.front;
+      front = p.points ++ r.front;
       is = r.is;
       count = let n = r.count in omega (arith, n);
-      points = ap (λ (l : List Point). p.points.items ++ l) r.points ∙ sym (append_assoc p.points.items r.front r.last.points.items);
+      points = ap (λ (l : List Point). p.points ++ l) r.points ∙ sym (append_assoc p.points r.front r.last.points);
       some = λ all. r.some all.1;
       to_chunk = λ x b. r.to_chunk x b;
       from_chunk = λ x b. r.from_chunk x b;
@@ -111,7 +111,7 @@ chunk_of c = Part.Chunk c.measurement c.data_type c.encoding
 
 -- these parts, and a chunk behind them
 abbrev pub after_chunk : Chunk → List Part → List Part
-after_chunk c before = after_pages c.data_type c.encoding c.pages.items (chunk_of c ∷ before)
+after_chunk c before = after_pages c.data_type c.encoding c.pages (chunk_of c ∷ before)
 
 abbrev pub after_chunks : List Chunk → List Part → List Part
 after_chunks [] before = before
@@ -119,14 +119,14 @@ after_chunks (c ∷ cs) before = after_chunks cs (after_chunk c before)
 
 pub chunk_text : (c : Chunk) (before : List Part) → parts_field (after_chunk c before) ≡ parts_field before ++ chunk_field c
 chunk_text c before =
-    pages_field c.data_type c.encoding c.pages.items (chunk_of c ∷ before) ∙ append_assoc (parts_field before) (part_field (chunk_of c)) (flat_map (page_field c.encoding) c.pages.items)
+    pages_field c.data_type c.encoding c.pages (chunk_of c ∷ before) ∙ append_assoc (parts_field before) (part_field (chunk_of c)) (flat_map (page_field c.encoding) c.pages)
 
 pub chunks_text : (chunks : List Chunk) (before : List Part) → parts_field (after_chunks chunks before) ≡ parts_field before ++ flat_map chunk_field chunks
 chunks_text [] before = sym (append-nil (parts_field before))
 chunks_text (c ∷ cs) before = chunks_text cs (after_chunk c before) ∙ ap (λ (l : List ℕ). l ++ flat_map chunk_field cs) (chunk_text c before) ∙ append_assoc (parts_field before) (chunk_field c) (flat_map chunk_field cs)
 
 pub good_chunk : (c : Chunk) (before : List Part) → IsWholeChunk c → AreParts (chunk_of c ∷ before) → AreParts (after_chunk c before)
-good_chunk c before whole are = good_pages c.data_type c.encoding c.measurement c.pages.items before are (pages_of_chunk c whole) whole.0.rising whole.0.few
+good_chunk c before whole are = good_pages c.data_type c.encoding c.measurement c.pages before are (pages_of_chunk c whole) whole.0.rising whole.0.few
 
 -- behind a chunk stands a page, and a chunk of a greater measurement may
 pub record LastChunk (c : Chunk) (before parts : List Part) : Type 0 where
@@ -142,11 +142,11 @@ pub record LastChunk (c : Chunk) (before parts : List Part) : Type 0 where
 
 pub last_chunk : (c : Chunk) (before : List Part) → IsWholeChunk c → LastChunk c before (after_chunk c before)
 last_chunk c before whole =
-    let l = last_page c.data_type c.encoding c.pages.items (chunk_of c ∷ before) whole.0.some in
+    let l = last_page c.data_type c.encoding c.pages (chunk_of c ∷ before) whole.0.some in
     record {
       t = c.data_type;
       e = c.encoding;
-      points = l.last.points.items;
+      points = l.last.points;
       rest = l.rest;
       is = l.is;
       to_chunk = λ x b. l.to_chunk x b;
@@ -205,14 +205,14 @@ last_of (c ∷ cs) before some good = last_of_chunks c cs before good
 
 -- these parts, and a group behind them
 abbrev pub after_group : Group → List Part → List Part
-after_group g before = after_chunks g.chunks.items (Part.Group g.device ∷ before)
+after_group g before = after_chunks g.chunks (Part.Group g.device ∷ before)
 
 abbrev pub after_groups : List Group → List Part → List Part
 after_groups [] before = before
 after_groups (g ∷ gs) before = after_groups gs (after_group g before)
 
 pub group_text : (g : Group) (before : List Part) → parts_field (after_group g before) ≡ parts_field before ++ group_field g
-group_text g before = chunks_text g.chunks.items (Part.Group g.device ∷ before) ∙ append_assoc (parts_field before) (part_field (Part.Group g.device)) (flat_map chunk_field g.chunks.items)
+group_text g before = chunks_text g.chunks (Part.Group g.device ∷ before) ∙ append_assoc (parts_field before) (part_field (Part.Group g.device)) (flat_map chunk_field g.chunks)
 
 pub groups_text : (groups : List Group) (before : List Part) → parts_field (after_groups groups before) ≡ parts_field before ++ flat_map group_field groups
 groups_text [] before = sym (append-nil (parts_field before))
@@ -222,10 +222,10 @@ groups_text (g ∷ gs) before = groups_text gs (after_group g before) ∙ ap (λ
 pub record IsFullGroup (g : Group) : Type 0 where
   pub device : IsPath g.device
   pub is : IsGroup g
-  pub whole : AllByRecursion IsWholeChunk g.chunks.items
+  pub whole : AllByRecursion IsWholeChunk g.chunks
 
 pub good_group : (g : Group) (before : List Part) → IsFullGroup g → AreParts (Part.Group g.device ∷ before) → AreParts (after_group g before)
-good_group g before full are = good_chunks g.device g.chunks.items before are full.whole full.is.rising
+good_group g before full are = good_chunks g.device g.chunks before are full.whole full.is.rising
 
 -- behind a group stands a page, and a group of a greater device may
 pub record LastGroup (g : Group) (parts : List Part) : Type 0 where
@@ -239,7 +239,7 @@ pub record LastGroup (g : Group) (parts : List Part) : Type 0 where
 
 pub last_group : (g : Group) (before : List Part) → IsFullGroup g → LastGroup g (after_group g before)
 last_group g before full =
-    let l = last_of g.chunks.items (Part.Group g.device ∷ before) full.is.some full.whole in
+    let l = last_of g.chunks (Part.Group g.device ∷ before) full.is.some full.whole in
     record {
       t = l.chunk.t;
       e = l.chunk.e;

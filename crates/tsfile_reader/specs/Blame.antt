@@ -1,11 +1,10 @@
 -- Which part of a whole file is blamed: the first one that is not as defined. The parts are taken in this order: the
 -- length, the tail, the head, the root, the leaves; groups, chunks and pages from the left; and the leaves once more.
-use Rattle.std.specs.Prelude.{◌≡◌, ℕ, ◌+◌, ◌-◌, ◌/◌, ◌<◌, min, List, [], ◌∷◌, ◌++◌, length, All, AllPairs}
+use Rattle.std.specs.Prelude.{◌≡◌, ◌≢◌, ℕ, ◌+◌, ◌-◌, ◌/◌, ◌<◌, min, List, [], ◌∷◌, ◌++◌, length, All, AllPairs}
 use Rattle.std.specs.List.{flat_map}
 use Rattle.tsdb_index.specs.declared.index.FileMeta.{FileMeta}
 use Rattle.tsdb_index.specs.declared.index.IndexEntry.{IndexEntry}
 use Rattle.tsdb_index.specs.declared.pointer.Pointer.{Pointer}
-use Rattle.tsdb_index.specs.Content.{content}
 use Rattle.tsdb_index.specs.Limits.{max_leaf_entries}
 use Rattle.tsdb_pages.specs.declared.tree.Group.{Group}
 use Rattle.tsdb_pages.specs.declared.tree.Tree.{Tree}
@@ -41,27 +40,24 @@ pub record AreGroups (groups : List Group) : Type 0 where
 
 -- the bytes behind the head are the groups of the tree, of which an index says this
 pub record HasGroups (bytes : List ℕ) (tree : Tree) (said : List IndexEntry) : Type 0 where
-  pub good : AreGroups tree.groups.items
-  pub bytes-are : bytes ≡ flat_map group_field tree.groups.items
+  pub good : AreGroups tree.groups
+  pub bytes-are : bytes ≡ flat_map group_field tree.groups
   pub say : AreEntriesIn tree said
 
--- the first so many entries say the same in both lists, and behind them one list ends or the next entries differ
+-- the first so many entries are the same in both lists, and behind them one list ends or the next entries differ
 pub record AreAlike (entries said : List IndexEntry) (count : ℕ) : Type 0 where
   pub same : List IndexEntry
   pub others : List IndexEntry
-  pub same_said : List IndexEntry
   pub others_said : List IndexEntry
   pub entries-are : entries ≡ same ++ others
-  pub said-are : said ≡ same_said ++ others_said
+  pub said-are : said ≡ same ++ others_said
   pub number : length same ≡ count
-  pub alike : content same ≡ content same_said
-  pub apart : (x y : IndexEntry) (xs ys : List IndexEntry) → others ≡ x ∷ xs → others_said ≡ y ∷ ys
-      → content (x ∷ []) ≡ content (y ∷ []) → ⊥
+  pub apart : (x y : IndexEntry) (xs ys : List IndexEntry) → others ≡ x ∷ xs → others_said ≡ y ∷ ys → x ≢ y
 
 -- At this place stands the leaf of the first entry that is not what the groups say, or the last leaf where the groups
 -- say more.
 pub record IsFirstWrongLeaf (pointers : List Pointer) (entries said : List IndexEntry) (at : ℕ) : Type 0 where
-  pub wrong : content entries ≡ content said → ⊥
+  pub wrong : entries ≢ said
   pub count : ℕ
   pub alike : AreAlike entries said count
   pub before : List Pointer

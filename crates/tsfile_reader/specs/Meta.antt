@@ -9,7 +9,7 @@ use Rattle.tsfile_reader.specs.Outline.{HasOutline}
 -- this is read of the file of the tree: its length, and its index
 pub record IsMetaOf (tree : Tree) (bytes : List ℕ) (meta : FileMeta) : Type 0 where
   pub bytes-are : meta.bytes ≡ length bytes
-  pub entries : AreEntriesIn tree meta.index.entries.items
+  pub entries : AreEntriesIn tree meta.index.entries
 
 -- the length, tail, head, root and leaves are as defined, and this is read of them
 pub record IsMetaIn (bytes : List ℕ) (meta : FileMeta) : Type 0 where
@@ -17,4 +17,4 @@ pub record IsMetaIn (bytes : List ℕ) (meta : FileMeta) : Type 0 where
   pub root : ℕ
   pub place : ℕ
   pub pointers : List Pointer
-  pub outline : HasOutline bytes root place pointers meta.index.entries.items
+  pub outline : HasOutline bytes root place pointers meta.index.entries

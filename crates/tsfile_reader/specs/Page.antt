@@ -35,7 +35,7 @@ HasNoPage bytes entry page = (points : List Point) → HasPage bytes entry page 
 
 -- what the entry says of its page with this number
 abbrev pub SaysOfPage : IndexEntry → ℕ → PageEntry → Type 0
-SaysOfPage entry number page = slice_get entry.pages.items number ≡ Some page
+SaysOfPage entry number page = slice_get entry.pages number ≡ Some page
 
 -- the entry is one of the tree's index
 pub record IsEntryOf (tree : Tree) (entry : IndexEntry) : Type 0 where
@@ -47,9 +47,9 @@ pub record IsEntryOf (tree : Tree) (entry : IndexEntry) : Type 0 where
 pub record ArePointsOf (tree : Tree) (entry : IndexEntry) (number : ℕ) (points : List Point) : Type 0 where
   pub group : Group
   pub chunk : Chunk
-  pub in-tree : Contains tree.groups.items group
-  pub in-group : Contains group.chunks.items chunk
+  pub in-tree : Contains tree.groups group
+  pub in-group : Contains group.chunks chunk
   pub says : IsEntry group.device entry.place chunk entry
   pub page : Page
-  pub page-is : slice_get chunk.pages.items number ≡ Some page
-  pub points-are : points ≡ page.points.items
+  pub page-is : slice_get chunk.pages number ≡ Some page
+  pub points-are : points ≡ page.points

@@ -1,6 +1,6 @@
 -- How parts are read one by one. No public clause speaks of these.
-use Rattle.std.specs.Prelude.{◌≡◌, ℕ, ◌+◌, ◌-◌, ◌/◌, ◌<◌, ◌≤◌, ◌^◌, ◌<ℤ◌, List, [], ◌∷◌, ◌++◌, length, take, drop, min}
-use Rattle.std.specs.Prelude.{true, All, AllPairs, Option, None, Some, Result, Ok, Err}
+use Rattle.std.specs.Prelude.{◌≡◌, ◌≢◌, ℕ, ◌+◌, ◌-◌, ◌/◌, ◌<◌, ◌≤◌, ◌^◌, ◌<ℤ◌, List, [], ◌∷◌, ◌++◌, length, take, drop}
+use Rattle.std.specs.Prelude.{min, true, All, AllPairs, Option, None, Some, Result, Ok, Err}
 use Rattle.std.specs.List.{flat_map}
 use Rattle.tsdb_base.specs.Fields.{number32}
 use Rattle.tsdb_base.specs.declared.point.Point.{Point}
@@ -12,7 +12,6 @@ use Rattle.tsdb_fields.specs.Reading.{Takes}
 use Rattle.tsdb_index.specs.declared.index.Index.{Index}
 use Rattle.tsdb_index.specs.declared.index.IndexEntry.{IndexEntry}
 use Rattle.tsdb_index.specs.declared.pointer.Pointer.{Pointer}
-use Rattle.tsdb_index.specs.Content.{content}
 use Rattle.tsdb_index.specs.Limits.{max_leaf_entries}
 use Rattle.tsdb_index.specs.Parts.{BeginAt, IsPointer, pointer_bytes}
 use Rattle.tsdb_index.specs.Steps.{IsCounted}
@@ -83,7 +82,7 @@ pub record ArePagesRead (data_type : DataType) (encoding : Encoding) (place : �
     : Type 0 where
   pub some : 0 < length pages
   pub few : length pages ≤ max_pages
-  pub good : All (λ page. ArePoints data_type page.points.items) pages
+  pub good : All (λ page. ArePoints data_type page.points) pages
   pub ranges : All IsInRange (points_of pages)
   pub rising : IsRising (points_of pages)
   pub stats : AreStatsOf (points_of pages) found.stats
@@ -116,7 +115,7 @@ pub record ReadsChunk (device : List ℕ) (head : ChunkHead) (place : ℕ) (left
   pub good : IsChunk chunk
   pub parts : HasParts chunk
   pub say : IsEntry device place chunk entry
-  pub takes : Takes left (flat_map (page_field chunk.encoding) chunk.pages.items) behind
+  pub takes : Takes left (flat_map (page_field chunk.encoding) chunk.pages) behind
   pub ends : BeginsWithMark 80 behind.bytes.now → ⊥
 
 -- this is read of chunks of one group, of which the first stands at this place
@@ -151,7 +150,7 @@ pub record HasPointers (bytes : List ℕ) (ends : Ends) (root : Root) : Type 0 w
 -- the file has this outline
 abbrev pub IsOutlineIn : List ℕ → Ends → ℕ → List Pointer → Index → Type 0
 IsOutlineIn bytes ends place pointers index =
-    (ends.size ≡ length bytes) × HasOutline bytes ends.root place pointers index.entries.items
+    (ends.size ≡ length bytes) × HasOutline bytes ends.root place pointers index.entries
 
 -- these bytes, which begin with a page's first five, say that the page has so many
 abbrev pub SaysSize : List ℕ → ℕ → Type 0
@@ -167,6 +166,6 @@ pub record HasPageBytes (bytes : List ℕ) (place : ℕ) (part : List ℕ) : Typ
 
 -- the number of the leaf of the first entry that differs, or of the last leaf where the entries end first
 abbrev pub IsFirstWrong : List IndexEntry → List IndexEntry → Option ℕ → Type 0
-IsFirstWrong entries said None = content entries ≡ content said
-IsFirstWrong entries said (Some leaf) = (content entries ≡ content said → ⊥) × (count : ℕ) × AreAlike entries said count
+IsFirstWrong entries said None = entries ≡ said
+IsFirstWrong entries said (Some leaf) = (entries ≢ said) × (count : ℕ) × AreAlike entries said count
     × (leaf ≡ min count (length entries - 1) / max_leaf_entries)

@@ -22,7 +22,7 @@ use crate::page::{
     CHUNK, ChunkHead, PAGE, begins_with, read_chunk_head, read_group_head, read_page,
 };
 use std::alloc::Global;
-use tsdb_base::{DataType, Encoding, Memory, Point, Stats};
+use tsdb_base::{DataType, Encoding, List, Memory, Point, Stats};
 use tsdb_fields::{FieldFault, Rest};
 use tsdb_index::{IndexEntry, PageEntry};
 use tsdb_path::{Name, Path};
@@ -41,7 +41,7 @@ struct Pages {
 /// One page, which stands at this place.
 fn first_page(alloc: Global, place: u64, points: &[Point]) -> Result<Pages, Memory>
     requires { 0 < length points.now }
-    ensures { IfOk result (λ found. (data_type : Kind) (encoding : Form) (page : Page) → page.points.items ≡ points.now
+    ensures { IfOk result (λ found. (data_type : Kind) (encoding : Form) (page : Page) → page.points ≡ points.now
         → AreGood data_type points.now → ArePagesRead data_type encoding place (page ∷ []) found) }
 {
     let entry = PageEntry {
@@ -59,7 +59,7 @@ fn add_page(place: u64, points: &[Point], pages: &mut Pages) -> Result<(), Memor
     requires some { 0 < length points.now }
     requires room { pages.old.stats.count + length points.now < 2 ^ 64 }
     ensures { OnOk result ((data_type : Kind) (encoding : Form) (from : ℕ) (before : List Page) (page : Page)
-        → page.points.items ≡ points.now → ArePagesRead data_type encoding from before pages.old
+        → page.points ≡ points.now → ArePagesRead data_type encoding from before pages.old
         → AreLaterPoints data_type pages.old points.now → place ≡ from + length (flat_map (page_field encoding) before)
         → ArePagesRead data_type encoding from (before ++ page ∷ []) pages.new) }
 {
@@ -139,7 +139,7 @@ fn read_chunk<'a>(
         encoding: head.encoding,
         place,
         stats: pages.stats,
-        pages: pages.entries,
+        pages: List::of(pages.entries),
     };
     Ok((entry, behind))
 }

@@ -19,7 +19,7 @@ use crate::outline::HEAD_BYTES;
 use crate::page::read_page;
 use crate::parts::read_groups;
 use crate::port::{read_outline, read_part};
-use crate::same::says_same;
+use crate::same::is_same_entry;
 use std::alloc::Global;
 use tsdb_base::{Point, suits};
 use tsdb_fields::Rest;
@@ -55,11 +55,11 @@ pub fn read_meta<P: Port>(
 
 /// How many bytes to read of a page at first, where its file has so many from its place on.
 fn first_size(entry: &IndexEntry, page: usize, left: u64) -> u64
-    requires { page < length entry.now.pages.items }
+    requires { page < length entry.now.pages }
     ensures left { result ≤ left }
     ensures head { result < 5 → result ≡ left }
 {
-    let pages = entry.pages.as_slice();
+    let pages = entry.pages.items();
     let size = if page + 1 < pages.len() {
         pages[page + 1].place.saturating_sub(pages[page].place)
     } else {
@@ -145,7 +145,7 @@ pub fn read_points<P: Port>(
     entry: &IndexEntry,
     page: usize,
 ) -> Result<Vec<Point>, ReadFault>
-    requires page { page < length entry.now.pages.items }
+    requires page { page < length entry.now.pages }
     ensures found { IfOk result (λ points. IfSome (P.Right.file right.now).bytes (λ bytes.
         (said : Said) → SaysOfPage entry.now page said → HasPage bytes entry.now said points.items)) }
     ensures damaged { IfDamaged result (λ at. (said : Said) → SaysOfPage entry.now page said → at ≡ said.place) }
@@ -156,7 +156,7 @@ pub fn read_points<P: Port>(
         → IsNotDamaged result × IfOk result (λ points. ArePointsOf tree entry.now page points.items)) }
     ensures cause { HasReadCause (P.faults port.old) (P.faults port.new) result }
 {
-    let said = &entry.pages[page];
+    let said = &entry.pages.items()[page];
     let size = port.size(right)?;
     if size < said.place || !suits(entry.data_type, entry.encoding) {
         return Err(ReadFault::Damaged { at: said.place });
@@ -172,7 +172,7 @@ fn count_same(entries: &[IndexEntry], said: &[IndexEntry]) -> usize
 {
     let most = entries.len().min(said.len());
     for i in 0..most {
-        if !says_same(&entries[i], &said[i]) {
+        if !is_same_entry(&entries[i], &said[i]) {
             return i;
         }
     }
@@ -221,7 +221,7 @@ pub fn check_file<P: Port>(
         bytes: &data,
     };
     let said = read_groups(alloc, rest)?;
-    if let Some(leaf) = wrong_leaf(&outline.index.entries, &said) {
+    if let Some(leaf) = wrong_leaf(outline.index.entries.items(), &said) {
         let at = leaf_place(&outline, leaf);
         return Err(ReadFault::Damaged { at });
     }

@@ -1,6 +1,5 @@
-//! Whether two entries say the same. Depends on tsdb_base and tsdb_index.
+//! Whether two entries are the same. Depends on tsdb_base and tsdb_index.
 ghost use Rattle.std.specs.Prelude.{◌≡◌, ◌↔◌, IsTrue};
-ghost use Rattle.tsdb_index.specs.Content.{entry_content};
 
 use tsdb_base::{Stats, Value};
 use tsdb_index::{IndexEntry, PageEntry};
@@ -59,9 +58,9 @@ fn are_same_pages(pages: &[PageEntry], others: &[PageEntry]) -> bool
     true
 }
 
-/// Whether both entries say the same of a chunk.
-pub fn says_same(entry: &IndexEntry, other: &IndexEntry) -> bool
-    ensures { IsTrue result ↔ (entry_content entry.now ≡ entry_content other.now) }
+/// Whether both entries are the same.
+pub fn is_same_entry(entry: &IndexEntry, other: &IndexEntry) -> bool
+    ensures { IsTrue result ↔ (entry.now ≡ other.now) }
 {
     entry.device == other.device
         && entry.measurement == other.measurement
@@ -69,5 +68,5 @@ pub fn says_same(entry: &IndexEntry, other: &IndexEntry) -> bool
         && entry.encoding == other.encoding
         && entry.place == other.place
         && are_same_stats(&entry.stats, &other.stats)
-        && are_same_pages(&entry.pages, &other.pages)
+        && are_same_pages(entry.pages.items(), other.pages.items())
 }

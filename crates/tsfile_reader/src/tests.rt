@@ -3,8 +3,9 @@ mod disk;
 use super::*;
 use mem_outside::{Fails, MemPlace, MemPort, SteadyPlace, SteadyPort};
 use std::alloc::Global;
+use std::mem;
 use std::test::Fail;
-use tsdb_base::{DataType, Encoding, FileNumber, PlainValue, Point, Text, Value, suits};
+use tsdb_base::{DataType, Encoding, FileNumber, List, PlainValue, Point, Text, Value, suits};
 use tsdb_fields::{write_name, write_path};
 use tsdb_index::{FileMeta, Index, IndexEntry, PageEntry, write_leaves_and_root};
 use tsdb_outside::{Files, Place, Port};
@@ -88,7 +89,7 @@ fn read_page_in<P: Port>(
     entry: &IndexEntry,
     page: usize,
 ) -> Result<Vec<Point>, ReadFault> {
-    if page >= entry.pages.len() {
+    if page >= entry.pages.items().len() {
         return Err(ReadFault::Memory);
     }
     let Ok(mut sealed) = port.put(FileNumber(1), bytes) else {
@@ -126,8 +127,8 @@ fn worked_file(rt: HostRuntime) -> Result<(), Fail> {
     assert_eq!(rt; fault_of(alloc, &mut port, &WORKED, Call::Check), None);
     let meta = meta_of(alloc, &mut port, &WORKED)?;
     assert_eq!(rt; meta.bytes, 234);
-    assert_eq!(rt; meta.index.entries.len(), 1);
-    for entry in &meta.index.entries {
+    assert_eq!(rt; meta.index.entries.items().len(), 1);
+    for entry in meta.index.entries.items() {
         assert_eq!(rt; entry.place, 18);
         let points = read_page_in(alloc, &mut port, &WORKED, entry, 0);
         let wanted = vec![in alloc;
@@ -201,7 +202,7 @@ fn inverted_bytes_of_a_page(rt: HostRuntime) -> Result<(), Fail> {
     let alloc = rt.alloc();
     let mut port = steady_port(alloc)?;
     let meta = meta_of(alloc, &mut port, &WORKED)?;
-    for entry in &meta.index.entries {
+    for entry in meta.index.entries.items() {
         for place in 24..44u8 {
             let mut bytes = WORKED;
             bytes[place as usize] ^= 0xff;
@@ -242,7 +243,7 @@ fn calls_that_fail(rt: HostRuntime) -> Result<(), Fail> {
 fn calls_that_fail_at_a_page(rt: HostRuntime) -> Result<(), Fail> {
     let alloc = rt.alloc();
     let meta = meta_of(alloc, &mut steady_port(alloc)?, &WORKED)?;
-    for entry in &meta.index.entries {
+    for entry in meta.index.entries.items() {
         for number in 1..6u64 {
             let mut port = port_failing_at(alloc, number)?;
             let fault = read_page_in(alloc, &mut port, &WORKED, entry, 0).err();
@@ -336,7 +337,7 @@ struct Series {
 struct Written {
     bytes: Vec<u8>,
     places: Vec<u64>,
-    index: Index,
+    entries: Vec<IndexEntry>,
     leaf: u64,
     root: u64,
 }
@@ -494,7 +495,7 @@ fn append_chunk(alloc: Global, series: &Series, written: &mut Written) -> Result
         encoding: series.encoding,
         place,
         stats: stats_of(&series.points)?,
-        pages,
+        pages: List::of(pages),
     })
 }
 
@@ -514,7 +515,7 @@ fn append_member(
         write_path(&series.device, &mut written.bytes)?;
     }
     let entry = append_chunk(alloc, series, written)?;
-    written.index.entries.push(entry)?;
+    written.entries.push(entry)?;
     Ok(())
 }
 
@@ -523,9 +524,7 @@ fn write_groups(alloc: Global, all: &[Series]) -> Result<Written, Fail> {
     let mut written = Written {
         bytes: Vec::from_slice(alloc, b"TsFile\x51")?,
         places: Vec::new(alloc),
-        index: Index {
-            entries: Vec::new(alloc),
-        },
+        entries: Vec::new(alloc),
         leaf: 0,
         root: 0,
     };
@@ -538,12 +537,17 @@ fn write_groups(alloc: Global, all: &[Series]) -> Result<Written, Fail> {
 /// Writes the index and the tail.
 fn finish(alloc: Global, written: &mut Written) -> Result<(), Fail> {
     written.leaf = written.bytes.len() as u64;
-    if written.index.entries.is_empty() {
+    let entries = mem::replace(&mut written.entries, Vec::new(alloc));
+    if entries.is_empty() {
         return Err("no chunks".into());
     }
-    let (index, root) = write_leaves_and_root(alloc, &written.index, written.leaf)?;
+    let index = Index {
+        entries: List::of(entries),
+    };
+    let (leaves_and_root, root) = write_leaves_and_root(alloc, &index, written.leaf)?;
+    written.entries = index.entries.into_vec();
     written.root = root;
-    written.bytes.extend_from_slice(&index)?;
+    written.bytes.extend_from_slice(&leaves_and_root)?;
     root.put(&mut written.bytes)?;
     written.bytes.extend_from_slice(b"TsFile")?;
     Ok(())
@@ -574,7 +578,7 @@ fn read_series(
 ) -> Result<Series, Fail> {
     let mut points = Vec::new(alloc);
     let mut sizes = Vec::new(alloc);
-    for page in 0..entry.pages.len() {
+    for page in 0..entry.pages.items().len() {
         let Ok(mut more) = read_page_in(alloc, port, bytes, entry, page) else {
             return Err("no page".into());
         };
@@ -599,7 +603,7 @@ fn is_written_so(
     index: &Index,
 ) -> Result<bool, Fail> {
     let mut all = Vec::new(alloc);
-    for entry in &index.entries {
+    for entry in index.entries.items() {
         all.push(read_series(alloc, port, bytes, entry)?)?;
     }
     let written = write_file(alloc, &all)?;
@@ -617,11 +621,11 @@ fn several_devices(rt: HostRuntime) -> Result<(), Fail> {
             return Err("no file".into());
         };
         assert_eq!(rt; meta.bytes, bytes.len() as u64);
-        assert!(rt; meta.index == written.index);
+        assert!(rt; meta.index.entries.items() == written.entries.as_slice());
     }
-    for entry in &written.index.entries {
+    for entry in &written.entries {
         let mut from = 0u16;
-        for (page, said) in entry.pages.iter().enumerate() {
+        for (page, said) in entry.pages.items().iter().enumerate() {
             let Ok(count) = u16::try_from(said.stats.count) else {
                 return Err("too many".into());
             };
@@ -764,7 +768,7 @@ fn second_leaf(rt: HostRuntime) -> Result<(), Fail> {
         None
     );
     let mut short = write_groups(alloc, &all)?;
-    let _ = short.index.entries.pop();
+    let _ = short.entries.pop();
     finish(alloc, &mut short)?;
     let at = last_leaf(&short.bytes);
     let fault = fault_of(alloc, &mut port, &short.bytes, Call::Check);

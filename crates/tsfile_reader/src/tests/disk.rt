@@ -6,7 +6,7 @@ use fs_outside::FsPlace;
 fn first_page<P: Port>(alloc: Global, port: &mut P, bytes: &[u8]) -> Result<Vec<Point>, ReadFault> {
     let _checked = read_bytes(alloc, port, bytes, Call::Check)?;
     let meta = read_bytes(alloc, port, bytes, Call::Meta)?;
-    match meta.index.entries.first() {
+    match meta.index.entries.items().first() {
         Some(entry) => read_page_in(alloc, port, bytes, entry, 0),
         None => Err(ReadFault::Memory),
     }

@@ -1,7 +1,8 @@
-use Rattle.std.proofs.Common.{ℕ, List, ap}
+use Rattle.std.proofs.Common.{ℕ, List, ap, ◌∙◌}
 use Rattle.std.proofs.lemmas.Result.{err_from_is_err_and}
 use Rattle.tsdb_fields.specs.declared.rest.Rest.{Rest}
 use Rattle.tsdb_index.specs.declared.index.IndexEntry.{IndexEntry}
+use Rattle.tsdb_index.specs.declared.index.PageEntry.{PageEntry}
 use Rattle.tsfile_reader.specs.declared.parts.Pages.{Pages}
 use Rattle.tsfile_reader.specs.Parts.{Part}
 use Rattle.tsfile_reader.specs.Steps.{ReadsChunk, ReadsPages, StopsBehind, chunk_part}
@@ -23,4 +24,5 @@ returns c =
     let h = c.args.head in
     let r = c.in_ok-pages in
     chunk_read c.args.device.now h c.args.place c.args.rest r.behind r.pages _ c.requires.head c.requires.behind r.ensures
-    (ap (λ (d : List ℕ). record { device = d; measurement = h.measurement; data_type = h.data_type; encoding = h.encoding; place = c.args.place; stats = r.pages.stats; pages = r.pages.entries }) c.in_ok-copy.ensures)
+    (ap (λ (p : List PageEntry). record { device = c.in_ok-copy.field-0; measurement = h.measurement; data_type = h.data_type; encoding = h.encoding; place = c.args.place; stats = r.pages.stats; pages = p }) c.of.ensures
+    ∙ ap (λ (d : List ℕ). record { device = d; measurement = h.measurement; data_type = h.data_type; encoding = h.encoding; place = c.args.place; stats = r.pages.stats; pages = r.pages.entries.items }) c.in_ok-copy.ensures)

@@ -35,7 +35,7 @@ returns-in_err-entries c =
 pub groups-init : goal.groups-init
 groups-init c =
     let r = c.in_ok-entries in
-    first_group c.args.rest c.in-Ok.read.1 r.left c.in-Ok.read.0 r.entries c.in-Ok.ensures.parts.1 c.in-Ok.ensures.parts.0 r.ensures
+    first_group c.args.rest c.in-Ok.read.1 r.left c.in-Ok.read.0 r.entries.items c.in-Ok.ensures.parts.1 c.in-Ok.ensures.parts.0 r.ensures
 
 pub returns-in-Err-read_next_group : goal.returns-in-Err-read_next_group
 returns-in-Err-read_next_group c =
@@ -65,10 +65,10 @@ pub groups-preserved : goal.groups-preserved
 groups-preserved c =
     let parts = c.in-Ok-read_next_group.ensures.parts in
     let r = c.in_ok-more in
-    next_group c.args.rest c.groups.left c.in-Ok-read_next_group.read.1 r.behind c.in-Ok-read_next_group.read.0 c.groups.last c.groups.entries.items c.append.new.self.items r.more c.groups.invariant parts.1.0 parts.1.1 parts.0 r.ensures c.in_ok-append.ensures.items
+    next_group c.args.rest c.groups.left c.in-Ok-read_next_group.read.1 r.behind c.in-Ok-read_next_group.read.0 c.groups.last c.groups.entries.items c.append.new.self.items r.more.items c.groups.invariant parts.1.0 parts.1.1 parts.0 r.ensures c.in_ok-append.ensures.items
 
 pub returns : goal.returns
 returns c =
     let empty = sym c.is_empty.ensures ∙ c.groups-test.false in
     let none : length c.groups.left.bytes.now ≡ 0 = grind (arith, empty) in
-    all_groups c.args.rest c.groups.left c.groups.entries c.groups.last c.requires c.groups.invariant (nil_from_length c.groups.left.bytes.now none)
+    all_groups c.args.rest c.groups.left c.groups.entries.items c.groups.last c.requires c.groups.invariant (nil_from_length c.groups.left.bytes.now none)

@@ -22,7 +22,7 @@ pages-init c =
     let t = c.args.data_type in
     let e = c.args.encoding in
     let p = c.in-Ok.ensures.parts in
-    let page : Page = record { points = c.in-Ok.read.0 } in
+    let page : Page = record { points = c.in-Ok.read.0.items } in
     first_so_far t e c.args.rest c.in-Ok.read.1 c.in_ok-pages.pages page (c.in_ok-pages.ensures t e page (sym c.deref.ensures.value) (subst (λ (l : List Point). AreGood t l) (sym c.deref.ensures.value) p.1)) p.0
 
 pub add_page-requires-clause-room : goal.add_page-requires-clause-room
@@ -38,7 +38,7 @@ pages-preserved c =
     let p = c.in-Ok-read_next_page.ensures.parts in
     let v = c.in-Ok-read_next_page.points in
     let same = c.deref-in-Ok-read_next_page.ensures.value in
-    let page : Page = record { points = c.in-Ok-read_next_page.points } in
+    let page : Page = record { points = c.in-Ok-read_next_page.points.items } in
     let so_far = c.pages.invariant in
     next_so_far t e c.args.rest c.pages.left c.in-Ok-read_next_page.behind c.pages.pages c.add_page.new.pages page so_far
     (c.in_ok-add_page-in-Ok-read_next_page.ensures t e c.args.rest.at so_far.pages page (sym same) so_far.read (subst (λ (l : List Point). AreLaterPoints t c.pages.pages l) (sym same) p.1) (place_of_next t e c.args.rest c.pages.left c.pages.pages so_far)) p.0

@@ -2,7 +2,6 @@ use Rattle.std.proofs.Common.{◌≡◌, ◌<◌, ◌^◌, ℕ, List, Vec, Globa
 use Rattle.std.specs.Prelude.{IfSome, Some}
 use Rattle.std.proofs.lemmas.Result.{err_from_is_err_and}
 use Rattle.tsdb_index.specs.declared.index.IndexEntry.{IndexEntry}
-use Rattle.tsdb_index.specs.Content.{content}
 use Rattle.tsdb_pages.specs.declared.tree.Tree.{Tree}
 use Rattle.tsfile_reader.specs.declared.ends.Outline.{Outline}
 use Rattle.tsfile_reader.specs.declared.fault.ReadFault.TheVariants.{Damaged}
@@ -84,7 +83,7 @@ returns-in-Some-clause-answers g c =
     let said = c.in_ok-said.said.items in
     let stretch = c.deref.result.now in
     is_wrong o r.ends r.place r.pointers.items r.index stretch said c.in-Some.leaf c.leaf_place-at.result c.in_ok-outline.ensures.answers (moved o r.place stretch c.in_ok-data.data.items c.deref.ensures.value c.in_ok-data.ensures.bytes) c.in_ok-said.ensures
-    (subst (λ (l : List IndexEntry). IsFirstWrong c.in_ok-outline.outline.index.entries.items l (Some c.in-Some.leaf)) c.deref-3.ensures.value (subst (λ (l : List IndexEntry). IsFirstWrong l c.deref-3.result.now (Some c.in-Some.leaf)) c.deref-2.ensures.value c.in-Some.ensures)) c.leaf_place-at.ensures
+    (subst (λ (l : List IndexEntry). IsFirstWrong c.in_ok-outline.outline.index.entries l (Some c.in-Some.leaf)) c.deref-2.ensures.value (subst (λ (l : List IndexEntry). IsFirstWrong l c.deref-2.result.now (Some c.in-Some.leaf)) c.items.ensures c.in-Some.ensures)) c.leaf_place-at.ensures
 
 pub returns-in-Some-clause-bad : goal.returns-in-Some-clause-bad
 returns-in-Some-clause-bad g c =
@@ -94,7 +93,7 @@ returns-in-Some-clause-bad g c =
     let has = c.in_ok-outline.ensures.answers in
     let stretch = c.deref.result.now in
     let blamed = is_wrong o r.ends r.place r.pointers.items r.index stretch said c.in-Some.leaf c.leaf_place-at.result c.in_ok-outline.ensures.answers (moved o r.place stretch c.in_ok-data.data.items c.deref.ensures.value c.in_ok-data.ensures.bytes) c.in_ok-said.ensures
-    (subst (λ (l : List IndexEntry). IsFirstWrong c.in_ok-outline.outline.index.entries.items l (Some c.in-Some.leaf)) c.deref-3.ensures.value (subst (λ (l : List IndexEntry). IsFirstWrong l c.deref-3.result.now (Some c.in-Some.leaf)) c.deref-2.ensures.value c.in-Some.ensures)) c.leaf_place-at.ensures in
+    (subst (λ (l : List IndexEntry). IsFirstWrong c.in_ok-outline.outline.index.entries l (Some c.in-Some.leaf)) c.deref-2.ensures.value (subst (λ (l : List IndexEntry). IsFirstWrong l c.deref-2.result.now (Some c.in-Some.leaf)) c.items.ensures c.in-Some.ensures)) c.leaf_place-at.ensures in
     let fault = Damaged c.leaf_place-at.result in
     no_file o fault blamed (limited o fault (is_limited o r.ends r.place r.pointers.items r.index has))
 
@@ -106,7 +105,7 @@ returns-in-Some-clause-tree g c =
     let has = c.in_ok-outline.ensures.answers in
     let stretch = c.deref.result.now in
     let blamed = is_wrong o r.ends r.place r.pointers.items r.index stretch said c.in-Some.leaf c.leaf_place-at.result c.in_ok-outline.ensures.answers (moved o r.place stretch c.in_ok-data.data.items c.deref.ensures.value c.in_ok-data.ensures.bytes) c.in_ok-said.ensures
-    (subst (λ (l : List IndexEntry). IsFirstWrong c.in_ok-outline.outline.index.entries.items l (Some c.in-Some.leaf)) c.deref-3.ensures.value (subst (λ (l : List IndexEntry). IsFirstWrong l c.deref-3.result.now (Some c.in-Some.leaf)) c.deref-2.ensures.value c.in-Some.ensures)) c.leaf_place-at.ensures in
+    (subst (λ (l : List IndexEntry). IsFirstWrong c.in_ok-outline.outline.index.entries l (Some c.in-Some.leaf)) c.deref-2.ensures.value (subst (λ (l : List IndexEntry). IsFirstWrong l c.deref-2.result.now (Some c.in-Some.leaf)) c.items.ensures c.in-Some.ensures)) c.leaf_place-at.ensures in
     let fault = Damaged c.leaf_place-at.result in
     no_tree o fault (no_file o fault blamed (limited o fault (is_limited o r.ends r.place r.pointers.items r.index has)))
 
@@ -116,9 +115,9 @@ returns-clause-answers g c =
     let r = c.in_ok-outline.outline in
     let said = c.in_ok-said.said.items in
     let stretch = c.deref.result.now in
-    let same = none_wrong c.deref-2.result.now c.deref-3.result.now c.wrong_leaf.result c.wrong_leaf.ensures c.in_default.not-Some in
+    let same = none_wrong c.items.result.now c.deref-2.result.now c.wrong_leaf.result c.wrong_leaf.ensures c.in_default.not-Some in
     is_found o r.ends r.place r.pointers.items r.index stretch said c.in_ok-outline.ensures.answers (moved o r.place stretch c.in_ok-data.data.items c.deref.ensures.value c.in_ok-data.ensures.bytes) c.in_ok-said.ensures
-    (subst (λ (l : List IndexEntry). content c.in_ok-outline.outline.index.entries.items ≡ content l) c.deref-3.ensures.value (subst (λ (l : List IndexEntry). content l ≡ content c.deref-3.result.now) c.deref-2.ensures.value same))
+    (subst (λ (l : List IndexEntry). c.in_ok-outline.outline.index.entries ≡ l) c.deref-2.ensures.value (subst (λ (l : List IndexEntry). l ≡ c.deref-2.result.now) c.items.ensures same))
 
 pub returns-clause-tree : goal.returns-clause-tree
 returns-clause-tree g c =
