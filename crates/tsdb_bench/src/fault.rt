@@ -5,8 +5,12 @@ use std::io;
 use tsdb_base::{DecodeFault, Memory, TextFault};
 use tsdb_index::IndexFault;
 use tsdb_merge::PullFault;
+use tsdb_outside::{Failed, StoreFault};
 use tsdb_pages::PageFault;
 use tsdb_path::PathFault;
+use tsdb_script::ScriptFault;
+use tsfile_reader::ReadFault;
+use tsfile_writer::BuildFault;
 
 #[derive(Debug, Drop)]
 pub enum Fault {
@@ -16,6 +20,8 @@ pub enum Fault {
     Memory,
     /// What was written was not read back.
     Unread,
+    /// A store failed.
+    Store,
     /// The clock, the words or standard output failed.
     Io(io::Error),
 }
@@ -85,6 +91,46 @@ impl From<PullFault> for Fault {
         match error {
             PullFault::Memory => Fault::Memory,
             PullFault::Failed | PullFault::Damaged { .. } => Fault::Unread,
+        }
+    }
+}
+
+impl From<Failed> for Fault {
+    fn from(_error: Failed) -> Fault {
+        Fault::Store
+    }
+}
+
+impl From<StoreFault> for Fault {
+    fn from(error: StoreFault) -> Fault {
+        match error {
+            StoreFault::Memory => Fault::Memory,
+            StoreFault::Failed => Fault::Store,
+        }
+    }
+}
+
+impl From<BuildFault> for Fault {
+    fn from(_error: BuildFault) -> Fault {
+        Fault::Memory
+    }
+}
+
+impl From<ReadFault> for Fault {
+    fn from(error: ReadFault) -> Fault {
+        match error {
+            ReadFault::Memory => Fault::Memory,
+            ReadFault::Failed => Fault::Store,
+            ReadFault::Damaged { .. } => Fault::Unread,
+        }
+    }
+}
+
+impl From<ScriptFault> for Fault {
+    fn from(error: ScriptFault) -> Fault {
+        match error {
+            ScriptFault::Memory => Fault::Memory,
+            ScriptFault::Bad { .. } => Fault::Unread,
         }
     }
 }

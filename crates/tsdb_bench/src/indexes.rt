@@ -3,7 +3,7 @@
 use crate::fault::Fault;
 use crate::table::{Rounds, row};
 use std::time::Instant;
-use tsdb_base::{DataType, Encoding, Stats, Value};
+use tsdb_base::{DataType, Encoding, List, Stats, Value};
 use tsdb_index::{Index, IndexEntry, PageEntry, read_index, write_leaves_and_root};
 use tsdb_path::{Name, Path};
 
@@ -43,7 +43,7 @@ fn entry(rt: &HostRuntime, number: u64) -> Result<IndexEntry, Fault> {
         encoding: Encoding::Plain,
         place: number,
         stats: stats(number),
-        pages: vec![in alloc; page]?,
+        pages: List::of(vec![in alloc; page]?),
     })
 }
 
@@ -57,7 +57,9 @@ pub fn indexes(rt: &HostRuntime, rounds: Rounds) -> Result<u64, Fault> {
     if entries.is_empty() {
         return Err(Fault::Unread);
     }
-    let index = Index { entries };
+    let index = Index {
+        entries: List::of(entries),
+    };
     let start = Instant::now(rt)?;
     let (bytes, root) = write_leaves_and_root(rt.alloc(), &index, PLACE)?;
     row(
@@ -81,5 +83,9 @@ pub fn indexes(rt: &HostRuntime, rounds: Rounds) -> Result<u64, Fault> {
         chunks,
         start,
     )?;
-    Ok((read.entries.len() as u64).wrapping_add(root).max(1))
+    Ok(
+        (read.entries.items().len() as u64)
+            .wrapping_add(root)
+            .max(1),
+    )
 }

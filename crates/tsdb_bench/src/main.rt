@@ -6,7 +6,10 @@
 mod aggregates;
 mod encodings;
 mod fault;
+mod files;
 mod indexes;
+mod inserts;
+mod journal;
 mod marks;
 mod memtable;
 mod merges;
@@ -60,6 +63,12 @@ fn measure<R: Threads + Wait + Sync>(
     }
     if is_all || group == "indexes" {
         check = check.wrapping_add(indexes::indexes(rt, rounds)?);
+    }
+    if is_all || group == "files" {
+        check = check.wrapping_add(files::files(rt, rounds)?);
+    }
+    if is_all || group == "inserts" {
+        check = check.wrapping_add(inserts::inserts(rt, rounds)?);
     }
     if check == 0 {
         return Err(Fault::NoGroup);

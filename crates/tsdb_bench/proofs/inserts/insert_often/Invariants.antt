@@ -1,0 +1,5 @@
+use Rattle.tsdb_map.specs.Commands.{IsRow}
+use Rattle.tsdb_bench.proofs.inserts.insert_often.Given as goal
+
+abbrev pub invariant-loop-time : goal.invariant-loop-time
+invariant-loop-time g l = IsRow l.row
