@@ -11,6 +11,3 @@ pub use decode::decode_text;
 pub use encode::{encode_text, encode_text_into};
 pub use laws::{one_spelling, spelling_is_short};
 pub use tsdb_base::{DecodeFault, Memory};
-
-#[cfg(test)]
-mod tests;

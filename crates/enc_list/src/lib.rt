@@ -7,6 +7,3 @@ mod places;
 
 pub use number::{MAX_VALUES, take_count, take_number};
 pub use places::take_packed;
-
-#[cfg(test)]
-mod tests;

@@ -13,6 +13,3 @@ pub use encode::{
 };
 pub use laws::{one_spelling, runs_are_joined, spelling_is_short};
 pub use tsdb_base::{DecodeFault, Memory};
-
-#[cfg(test)]
-mod tests;

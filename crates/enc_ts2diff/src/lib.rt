@@ -10,6 +10,3 @@ pub use decode::{decode_i32, decode_i64};
 pub use encode::{encode_i32, encode_i32_into, encode_i64, encode_i64_into};
 pub use laws::{one_spelling, spelling_is_short};
 pub use tsdb_base::{DecodeFault, Memory};
-
-#[cfg(test)]
-mod tests;

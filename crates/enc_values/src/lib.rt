@@ -11,6 +11,3 @@ pub use decoder::decode;
 pub use encoder::encode_into;
 pub use item::HasValue;
 pub use laws::{one_spelling, spelling_is_short};
-
-#[cfg(test)]
-mod tests;

@@ -17,6 +17,3 @@ pub use leb::{get_leb, put_leb};
 pub use packing::{pack, unpack, width};
 pub use tsdb_base::Memory;
 pub use zigzag_code::{unzigzag, zigzag};
-
-#[cfg(test)]
-mod tests;

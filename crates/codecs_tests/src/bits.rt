@@ -1,0 +1,157 @@
+//! LEB128, zigzag and packing. It depends on `tsdb_bits`.
+use crate::answers::is_written;
+use std::alloc::Global;
+use tsdb_base::Memory;
+use tsdb_bits::{BitFault, UnpackFault, get_leb, pack, put_leb, unpack, unzigzag, width, zigzag};
+
+/// Numbers and their LEB128 bytes.
+const LEBS: [(u64, &[u8]); 5] = [
+    (0, &[0]),
+    (127, &[127]),
+    (128, &[128, 1]),
+    (300, &[172, 2]),
+    (u64::MAX, &[255, 255, 255, 255, 255, 255, 255, 255, 255, 1]),
+];
+
+fn leb_of(alloc: Global, value: u64) -> Result<Vec<u8>, Memory> {
+    let mut bytes = Vec::new(alloc);
+    put_leb(value, &mut bytes)?;
+    Ok(bytes)
+}
+
+fn first_wrong_leb(alloc: Global, lebs: &[(u64, &[u8])]) -> Option<usize> {
+    for (place, (value, bytes)) in lebs.iter().enumerate() {
+        let read = get_leb(bytes, 0);
+        if read != Ok((*value, bytes.len() as u64)) || !is_written(leb_of(alloc, *value), bytes) {
+            return Some(place);
+        }
+    }
+    None
+}
+
+/// Bytes, the place that is read, and why no number stands there.
+const NO_LEBS: [(&[u8], u64, BitFault); 8] = [
+    (&[128, 0], 0, BitFault::Overlong { at: 0 }),
+    (&[128], 0, BitFault::Short { at: 1 }),
+    (&[7], 1, BitFault::Short { at: 1 }),
+    (&[7, 129, 0], 1, BitFault::Overlong { at: 1 }),
+    // Eleven bytes, and the first nine and ten of them.
+    (
+        &[128, 128, 128, 128, 128, 128, 128, 128, 128, 128, 1],
+        0,
+        BitFault::Overlong { at: 0 },
+    ),
+    (
+        &[128, 128, 128, 128, 128, 128, 128, 128, 128],
+        0,
+        BitFault::Short { at: 9 },
+    ),
+    (
+        &[128, 128, 128, 128, 128, 128, 128, 128, 128, 128],
+        0,
+        BitFault::Overlong { at: 0 },
+    ),
+    // A number of more than 64 bits.
+    (
+        &[255, 255, 255, 255, 255, 255, 255, 255, 255, 2],
+        0,
+        BitFault::Overlong { at: 0 },
+    ),
+];
+
+fn first_wrong_leb_fault(cases: &[(&[u8], u64, BitFault)]) -> Option<usize> {
+    for (place, (bytes, at, fault)) in cases.iter().enumerate() {
+        if *at > bytes.len() as u64 || get_leb(bytes, *at) != Err(*fault) {
+            return Some(place);
+        }
+    }
+    None
+}
+
+#[test]
+fn leb_examples(rt: HostRuntime) {
+    assert_eq!(rt; first_wrong_leb(rt.alloc(), &LEBS), None);
+    assert_eq!(rt; first_wrong_leb_fault(&NO_LEBS), None);
+}
+
+/// Signed numbers and their unsigned ones.
+const ZIGZAGS: [(i64, u64); 6] = [
+    (0, 0),
+    (-1, 1),
+    (1, 2),
+    (-2, 3),
+    (i64::MAX, u64::MAX - 1),
+    (i64::MIN, u64::MAX),
+];
+
+/// Numbers and how many binary digits they have.
+const WIDTHS: [(u64, u8); 6] = [(0, 0), (1, 1), (2, 2), (255, 8), (256, 9), (u64::MAX, 64)];
+
+fn first_wrong_zigzag(pairs: &[(i64, u64)]) -> Option<usize> {
+    for (place, (signed, unsigned)) in pairs.iter().enumerate() {
+        if zigzag(*signed) != *unsigned || unzigzag(*unsigned) != *signed {
+            return Some(place);
+        }
+    }
+    None
+}
+
+fn first_wrong_width(widths: &[(u64, u8)]) -> Option<usize> {
+    for (place, (value, digits)) in widths.iter().enumerate() {
+        if width(*value) != *digits {
+            return Some(place);
+        }
+    }
+    None
+}
+
+#[test]
+fn zigzag_and_width_examples(rt: HostRuntime) {
+    assert_eq!(rt; first_wrong_zigzag(&ZIGZAGS), None);
+    assert_eq!(rt; first_wrong_width(&WIDTHS), None);
+}
+
+/// A byte, and behind it 0, 1 and 2 at the width 2.
+fn packed(alloc: Global) -> Result<Vec<u8>, Memory> {
+    let mut bytes = Vec::new(alloc);
+    bytes.push(9)?;
+    pack(&[0, 1, 2], 2, &mut bytes)?;
+    Ok(bytes)
+}
+
+/// Whether the bytes are the packing of three values at the width 2, and of which.
+fn unpacks_to(alloc: Global, bytes: &[u8], values: &[u64]) -> bool {
+    match unpack(alloc, bytes, 3, 2) {
+        Ok(read) => read.as_slice() == values,
+        Err(_) => false,
+    }
+}
+
+/// Bytes, a count and a width, and why they are no packing.
+const NO_PACKINGS: [(&[u8], u64, u8, UnpackFault); 6] = [
+    (&[0x64], 3, 2, UnpackFault::Overlong { at: 0 }),
+    (&[], 3, 2, UnpackFault::Short { at: 0 }),
+    (&[0x24, 0], 3, 2, UnpackFault::Overlong { at: 1 }),
+    (&[0x64, 0], 3, 2, UnpackFault::Overlong { at: 0 }),
+    (&[0], 0, 64, UnpackFault::Overlong { at: 0 }),
+    (&[1, 2, 3, 4, 5, 6, 7], 1, 64, UnpackFault::Short { at: 7 }),
+];
+
+fn first_wrong_packing(alloc: Global, cases: &[(&[u8], u64, u8, UnpackFault)]) -> Option<usize> {
+    for (place, (bytes, count, width, fault)) in cases.iter().enumerate() {
+        if *width > 64 || *count > 1000 {
+            return Some(place);
+        }
+        if unpack(alloc, bytes, *count, *width).err() != Some(*fault) {
+            return Some(place);
+        }
+    }
+    None
+}
+
+#[test]
+fn packing_examples(rt: HostRuntime) {
+    assert!(rt; is_written(packed(rt.alloc()), &[9, 0x24]));
+    assert!(rt; unpacks_to(rt.alloc(), &[0x24], &[0, 1, 2]));
+    assert_eq!(rt; first_wrong_packing(rt.alloc(), &NO_PACKINGS), None);
+}

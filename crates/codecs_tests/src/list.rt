@@ -1,0 +1,32 @@
+//! The numbers that lists begin with, and packed numbers. It depends on `enc_list`.
+use crate::answers::{is_bad, is_read};
+use enc_list::{take_count, take_number, take_packed};
+use tsdb_base::DecodeFault;
+
+fn has_count(bytes: &[u8], count: usize, rest: &[u8]) -> bool {
+    take_count(bytes) == Ok((count, rest))
+}
+
+fn has_number(bytes: &[u8], number: u64, rest: &[u8]) -> bool {
+    take_number(bytes) == Ok((number, rest))
+}
+
+fn has_no_count(bytes: &[u8]) -> bool {
+    take_count(bytes) == Err(DecodeFault::Bad)
+}
+
+fn has_no_number(bytes: &[u8]) -> bool {
+    take_number(bytes) == Err(DecodeFault::Bad)
+}
+
+#[test]
+fn counts_and_numbers(rt: HostRuntime) {
+    assert!(rt; has_count(&[0xe8, 7, 7], 1000, &[7]) && has_no_count(&[0xe9, 7]));
+    assert!(rt; has_number(&[0xe9, 7, 7], 1001, &[7]) && has_no_number(&[0x80, 0]));
+}
+
+#[test]
+fn packed_numbers(rt: HostRuntime) {
+    assert!(rt; is_read(take_packed(rt.alloc(), &[0x24], 3, 2), &[0, 1, 2]));
+    assert!(rt; is_bad(take_packed(rt.alloc(), &[0x64], 3, 2)));
+}
