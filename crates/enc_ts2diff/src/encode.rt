@@ -59,7 +59,6 @@ pub fn encode_i32(alloc: Global, values: &[i32]) -> Result<Vec<u8>, Memory>
 }
 
 /// Appends the bytes. After `Memory` some of them may stand behind what was there.
-#[tactic(auto, using(std::proofs::lemmas::Grind::common_steps))]
 fn append(alloc: Global, values: &[i64], into: &mut Vec<u8>) -> Result<(), Memory>
     ensures ok { OnOk result (into.new.items ≡ into.old.items ++ spelling values.now) }
     ensures kept { take (vec_len into.old) into.new.items ≡ into.old.items }
@@ -87,7 +86,6 @@ fn differences_of(alloc: Global, first: i64, values: &[i64]) -> Result<Vec<i64>,
 }
 
 /// Appends the least difference and the packed offsets.
-#[tactic(auto, using(std::proofs::lemmas::Grind::common_steps))]
 fn put_block(alloc: Global, steps: &[i64], into: &mut Vec<u8>) -> Result<(), Memory>
     requires { All (FitsSigned w64) steps.now }
     ensures ok { OnOk result (into.new.items ≡ into.old.items ++ block steps.now) }

@@ -1,4 +1,5 @@
 use Rattle.std.proofs.Common.{◌≡◌, ℕ, ◌-◌, ◌<◌, ◌≤◌, List, [], ◌∷◌, ◌++◌, length, get_or, take, drop, to_z, of_z, ℤ, pos, All, FitsSigned, rules, arith, ap, sym, subst, ◌∙◌, refl, append_assoc}
+use Rattle.std.proofs.lemmas.Grind.{common_steps, elements}
 use Rattle.std.specs.Int.{w64}
 use Rattle.std.proofs.lemmas.Int.{to_z-of_z}
 use Rattle.std.proofs.lemmas.List.{take_rest, append-nil}
@@ -38,3 +39,21 @@ returns-in_ok-put_block-clause-ok c =
     let first = get_or values 0 (pos 0) in
     spells_some c.put_block.new.into.items c.args.into.now.items _ _ c.put_block.new.into.items values (take (length values - 1) (drop 1 values)) c.in_ok-steps.steps.items c.deref.result.now (to_z w64 (of_z w64 first)) c.zigzag.result c.in-len1-up.len_at_least c.in_ok-put_leb.ensures.ok
     c.in_ok-put_leb-2.ensures.ok c.zigzag.ensures (to_z-of_z w64 first (search rules)) refl c.in_ok-steps.ensures c.deref.ensures.value c.in_ok-put_block.ensures.ok refl
+
+pub returns-in_err-put_leb-clause-kept : goal.returns-in_err-put_leb-clause-kept
+returns-in_err-put_leb-clause-kept c = grind (arith, common_steps)
+
+pub returns-in_err-put_leb-2-clause-kept : goal.returns-in_err-put_leb-2-clause-kept
+returns-in_err-put_leb-2-clause-kept c = grind (arith, common_steps)
+
+pub returns-in_err-steps-clause-kept : goal.returns-in_err-steps-clause-kept
+returns-in_err-steps-clause-kept c = grind (arith, common_steps)
+
+pub returns-in_err-put_block-clause-kept : goal.returns-in_err-put_block-clause-kept
+returns-in_err-put_block-clause-kept c = grind (arith, elements)
+
+pub returns-in_default-clause-kept : goal.returns-in_default-clause-kept
+returns-in_default-clause-kept c = grind (arith, common_steps)
+
+pub returns-in_ok-put_block-clause-kept : goal.returns-in_ok-put_block-clause-kept
+returns-in_ok-put_block-clause-kept c = grind (arith, common_steps)

@@ -1,4 +1,5 @@
 use Rattle.std.proofs.Common.{◌≡◌, ℕ, ◌-◌, ◌<◌, ◌≤◌, ◌^◌, List, [], ◌∷◌, ◌++◌, length, get_or, take, drop, to_z, of_z, ℤ, pos, All, FitsSigned, fold, max, rules, arith, ap, sym, subst, ◌∙◌, refl, append_assoc}
+use Rattle.std.proofs.lemmas.Grind.{common_steps}
 use Rattle.std.specs.Int.{w64}
 use Rattle.std.proofs.lemmas.Int.{to_z-of_z}
 use Rattle.std.proofs.lemmas.List.{nil_from_length, take_rest, append-nil}
@@ -78,3 +79,21 @@ returns-clause-ok c =
     let d = digits_are base c.in_ok-above.above.items c.deref.result.now c.greatest_of.result c.width-digits.result c.width-digits.ensures c.greatest_of.ensures c.deref.ensures.value in
     joined_up c.args.into.now.items c.put_leb.new.into.items c.push.new.self.items c.pack.new.into.items c.in_ok-above.above.items c.deref-2.result.now base (to_z w64 (of_z w64 base)) c.zigzag.result c.width-digits.result steps
     k c.in_ok-put_leb.ensures.ok c.zigzag.ensures same c.in_ok-push.ensures.items d c.deref-2.ensures.value c.in_ok-pack.ensures.ok
+
+pub returns-in_default-clause-kept : goal.returns-in_default-clause-kept
+returns-in_default-clause-kept c = grind (arith, common_steps)
+
+pub returns-in_err-above-clause-kept : goal.returns-in_err-above-clause-kept
+returns-in_err-above-clause-kept c = grind (arith, common_steps)
+
+pub returns-in_err-put_leb-clause-kept : goal.returns-in_err-put_leb-clause-kept
+returns-in_err-put_leb-clause-kept c = grind (arith, common_steps)
+
+pub returns-in_err-push-clause-kept : goal.returns-in_err-push-clause-kept
+returns-in_err-push-clause-kept c = grind (arith, common_steps)
+
+pub returns-in_err-pack-clause-kept : goal.returns-in_err-pack-clause-kept
+returns-in_err-pack-clause-kept c = grind (arith, common_steps)
+
+pub returns-clause-kept : goal.returns-clause-kept
+returns-clause-kept c = grind (arith, common_steps)
