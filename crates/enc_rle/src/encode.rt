@@ -81,7 +81,6 @@ fn encode_into<T: Coded>(values: &[T], into: &mut Vec<u8>) -> Result<(), Memory>
 }
 
 /// Appends the bytes. After `Memory` some of them may stand behind what was there.
-#[tactic(auto, using(std::proofs::lemmas::Grind::common_steps))]
 fn append<T: Coded>(values: &[T], into: &mut Vec<u8>) -> Result<(), Memory>
     ensures ok { OnOk result (into.new.items ≡ into.old.items ++ spelling T.code_of values.now) }
     ensures kept { take (vec_len into.old) into.new.items ≡ into.old.items }
@@ -105,7 +104,6 @@ fn append<T: Coded>(values: &[T], into: &mut Vec<u8>) -> Result<(), Memory>
 }
 
 /// Appends a run's length and code.
-#[tactic(auto, using(std::proofs::lemmas::Grind::common_steps))]
 fn put_run(count: u64, code: u64, into: &mut Vec<u8>) -> Result<(), Memory>
     ensures ok { OnOk result (into.new.items ≡ into.old.items ++ (leb count ++ leb code)) }
     ensures kept { take (vec_len into.old) into.new.items ≡ into.old.items }

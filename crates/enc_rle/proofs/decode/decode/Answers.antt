@@ -1,4 +1,5 @@
 use Rattle.std.proofs.Common.{◌≡◌, ℕ, ◌-◌, ◌<◌, Bool, false, ◌==◌, [], ◌++◌, length, sym, ap, ◌∙◌, rules, arith}
+use Rattle.std.proofs.lemmas.Grind.{common_steps}
 use Rattle.std.specs.Prelude.{map}
 use Rattle.std.specs.List.{flat_map}
 use Rattle.std.proofs.lemmas.Bool.{ne_eqb}
@@ -51,3 +52,6 @@ returns-clause-found g c =
 pub returns-clause-only : goal.returns-clause-only
 returns-clause-only g c =
     only_found (spelling g.T.Coded.code_of) g.T.Coded.is_value (λ xs ys p q e. same_from_spelling g.T.Coded.code_of g.met.T.Coded.one_to_one xs ys e) c.args.bytes.now c.runs.values.items (returns-clause-found g c)
+
+pub runs-smaller : goal.runs-smaller
+runs-smaller g c = grind (arith, common_steps)

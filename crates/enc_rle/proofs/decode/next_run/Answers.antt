@@ -1,4 +1,5 @@
 use Rattle.std.proofs.Common.{◌≡◌, ℕ, ◌<◌, ◌^◌, Bool, false, List, ◌++◌, refl, sym, ap, ◌∙◌, arith, rules, inl, inr, append_assoc}
+use Rattle.std.proofs.lemmas.Grind.{common_steps}
 use Rattle.std.proofs.lemmas.Result.{err_from_is_err_and}
 use Rattle.tsdb_base.specs.Plain.{BeginsWithNone}
 use Rattle.tsdb_bits.specs.Leb.{leb}
@@ -44,3 +45,6 @@ returns-then-code-last-clause-none c = λ run rest may e.
     let not_first : c.args.is_first ≡ false = search rules in
     let repeats : c.in_ok-code.code ≡ c.args.last = search rules in
     may.differs not_first (sym m.0 ∙ repeats)
+
+pub returns-clause-found : goal.returns-clause-found
+returns-clause-found c = grind (arith, common_steps)

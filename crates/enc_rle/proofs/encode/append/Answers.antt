@@ -123,3 +123,15 @@ returns-else-count-gt0-2-clause-ok g c =
     let l = c.loop-value in
     let values = c.args.values.now in
     none_open code l.into.items (c.args.into.now.items ++ spelling code values) l.count l.last values l.value-index (omega arith) (omega arith) l.invariant.to_come
+
+pub returns-in_err-put_leb-clause-kept : goal.returns-in_err-put_leb-clause-kept
+returns-in_err-put_leb-clause-kept g c = grind (arith, common_steps)
+
+pub returns-in_err-put_run-clause-kept : goal.returns-in_err-put_run-clause-kept
+returns-in_err-put_run-clause-kept g c = grind (arith, common_steps)
+
+pub returns-in_err-put_run-2-clause-kept : goal.returns-in_err-put_run-2-clause-kept
+returns-in_err-put_run-2-clause-kept g c = grind (arith, common_steps)
+
+pub returns-in_ok-put_run-2-clause-kept : goal.returns-in_ok-put_run-2-clause-kept
+returns-in_ok-put_run-2-clause-kept g c = grind (arith, common_steps)
