@@ -97,7 +97,6 @@ fn encode_into<T: PlainValue>(values: &[T], into: &mut Vec<u8>) -> Result<(), Me
 }
 
 /// Appends the bytes. After `Memory` some of them may stand behind what was there.
-#[tactic(auto, using(std::proofs::lemmas::Grind::common_steps))]
 fn append<T: PlainValue>(values: &[T], into: &mut Vec<u8>) -> Result<(), Memory>
     ensures ok { OnOk result (into.new.items ≡ into.old.items ++ spelling T.spelling values.now) }
     ensures kept { take (vec_len into.old) into.new.items ≡ into.old.items }

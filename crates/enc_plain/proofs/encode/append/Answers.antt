@@ -1,6 +1,9 @@
-use Rattle.std.proofs.Common.{◌≡◌, ℕ, List, ◌++◌, length, take, rules, ap, ◌∙◌, append_assoc}
+use Rattle.std.proofs.Common.{◌≡◌, ℕ, List, ◌++◌, length, take, rules, ap, ◌∙◌, append_assoc, arith}
+use Rattle.std.proofs.lemmas.Grind.{common_steps}
+use Rattle.std.specs.List.{flat_map}
 use Rattle.std.proofs.Math.Seq.{take-append_seam}
 use Rattle.tsdb_base.specs.Growth.{GrewByPrefix}
+use Rattle.tsdb_bits.specs.Leb.{leb}
 use Rattle.enc_plain.proofs.encode.append.Goals as goal
 
 -- what was there stays in front
@@ -11,3 +14,14 @@ kept len old first bytes middle new l e grew =
 pub returns-in_err-put_all-clause-kept : goal.returns-in_err-put_all-clause-kept
 returns-in_err-put_all-clause-kept g c =
     kept _ c.args.into.now.items _ _ c.put_leb.new.into.items c.put_all.new.into.items (search rules) c.in_ok-put_leb.ensures.ok c.in_err-put_all.ensures.memory
+
+pub returns-in_err-put_leb-clause-kept : goal.returns-in_err-put_leb-clause-kept
+returns-in_err-put_leb-clause-kept g c = grind (arith, common_steps)
+
+pub returns-clause-ok : goal.returns-clause-ok
+returns-clause-ok g c =
+    let values = flat_map g.T.PlainValue.spelling c.args.values.now in
+    c.in_ok-put_all.ensures.ok ∙ ap (λ (t : List ℕ). t ++ values) c.in_ok-put_leb.ensures.ok ∙ append_assoc c.args.into.now.items (leb (length c.args.values.now)) values
+
+pub returns-clause-kept : goal.returns-clause-kept
+returns-clause-kept g c = grind (arith, common_steps)
