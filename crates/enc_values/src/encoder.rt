@@ -62,7 +62,6 @@ fn encode_plain_into<T: HasValue>(items: &[T], into: &mut Vec<u8>) -> Result<(),
 }
 
 /// Appends the bytes. After `Memory` some of them may stand behind what was there.
-#[tactic(auto, using(std::proofs::lemmas::Grind::common_steps))]
 fn append_plain<T: HasValue>(items: &[T], into: &mut Vec<u8>) -> Result<(), Memory>
     ensures ok { OnOk result (into.new.items ≡
         into.old.items ++ plain.spelling plain_value (map T.value_of items.now)) }
