@@ -84,7 +84,6 @@ pub fn encode_text(alloc: Global, values: &[Text]) -> Result<Vec<u8>, Memory>
 }
 
 /// Appends the bytes. After `Memory` some of them may stand behind what was there.
-#[tactic(auto, using(std::proofs::lemmas::Grind::common_steps))]
 fn append(alloc: Global, values: &[Text], into: &mut Vec<u8>) -> Result<(), Memory>
     requires { length values.now ≤ max_values }
     ensures ok { OnOk result (into.new.items ≡ into.old.items ++ spelling values.now) }

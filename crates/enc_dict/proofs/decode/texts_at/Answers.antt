@@ -1,4 +1,5 @@
 use Rattle.std.proofs.Common.{◌≡◌, ◌+◌, ◌<◌, [], ◌∷◌, ◌++◌, length, take, get_or, refl, rules, arith}
+use Rattle.std.proofs.lemmas.Grind.{common_steps}
 use Rattle.std.proofs.lemmas.List.{take_more}
 use Rattle.enc_dict.proofs.Different.{AllDiffer, using_none, using_old, using_new, all_differ, no_skip, used_all, texts_differ}
 use Rattle.enc_dict.proofs.decode.texts_at.Goals as goal
@@ -48,3 +49,6 @@ returns-then-used-texts-clause-bad c = λ is_bad values is.
     let l = c.loop-place in
     let all = used_all c.args.texts.now c.args.places.now l.place-index l.used l.values.items values is l.invariant (omega (arith, c.loop-place-test.false)) in
     absurd (omega (arith, all, c.if-used-texts.true))
+
+pub returns-clause-found : goal.returns-clause-found
+returns-clause-found c = grind (arith, common_steps)

@@ -1,4 +1,5 @@
 use Rattle.std.proofs.Common.{◌≡◌, ℕ, ◌<◌, List, ◌++◌, length, ap, sym, ◌∙◌, arith, rules}
+use Rattle.std.proofs.lemmas.Grind.{common_steps}
 use Rattle.std.specs.Prelude.{map}
 use Rattle.std.specs.List.{flat_map}
 use Rattle.tsdb_bits.specs.Leb.{leb}
@@ -41,3 +42,21 @@ returns-clause-ok c =
     )
     (put_together c.args.into.now.items (leb (length values)) (flat_map plain_text (first_uses values)) (pack_bytes (place_width (length (first_uses values))) (map (place_in (first_uses values)) values)) (leb (length (first_uses values)))
     ∙ ap (λ (bytes : List ℕ). c.args.into.now.items ++ bytes) (sym (spelling-some values some)))
+
+pub returns-in_err-put_leb-clause-kept : goal.returns-in_err-put_leb-clause-kept
+returns-in_err-put_leb-clause-kept c = grind (arith, common_steps)
+
+pub returns-then-is_empty-clause-kept : goal.returns-then-is_empty-clause-kept
+returns-then-is_empty-clause-kept c = grind (arith, common_steps)
+
+pub returns-in_err-uses-clause-kept : goal.returns-in_err-uses-clause-kept
+returns-in_err-uses-clause-kept c = grind (arith, common_steps)
+
+pub returns-in_err-put_leb-2-clause-kept : goal.returns-in_err-put_leb-2-clause-kept
+returns-in_err-put_leb-2-clause-kept c = grind (arith, common_steps)
+
+pub returns-in_err-pack-clause-kept : goal.returns-in_err-pack-clause-kept
+returns-in_err-pack-clause-kept c = grind (arith, common_steps)
+
+pub returns-clause-kept : goal.returns-clause-kept
+returns-clause-kept c = grind (arith, common_steps)

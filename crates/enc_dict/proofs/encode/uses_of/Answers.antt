@@ -1,4 +1,5 @@
 use Rattle.std.proofs.Common.{◌≡◌, ◌+◌, take, ◌++◌, ◌∷◌, [], sym, ap, ◌∙◌, arith}
+use Rattle.std.proofs.lemmas.Grind.{common_steps}
 use Rattle.std.proofs.lemmas.List.{take_more}
 use Rattle.std.proofs.lemmas.Option.{IfSome_then}
 use Rattle.enc_dict.specs.Spelling.{first_uses}
@@ -27,3 +28,12 @@ loop-text-preserved c =
           c.in_ok-put_first_use.ensures c.in_ok-push.ensures.items);
       dictionary = rw (more, first_uses_push xs t) enters.dictionary-is;
     }
+
+pub returns-clause-different : goal.returns-clause-different
+returns-clause-different c = grind (arith, common_steps)
+
+pub returns-clause-texts : goal.returns-clause-texts
+returns-clause-texts c = grind (arith, common_steps)
+
+pub returns-clause-places : goal.returns-clause-places
+returns-clause-places c = grind (arith, common_steps)
