@@ -1,4 +1,5 @@
 use Rattle.std.proofs.Common.{◌≡◌, ◌+◌, ◌-◌, ◌*◌, ◌%◌, ◌^◌, ◌<◌, ◌++◌, ℕ, drop, rules, arith, ap, sym, subst, ◌∙◌, inl, inr}
+use Rattle.std.proofs.lemmas.Grind.{common_steps}
 use Rattle.std.proofs.lemmas.Nat.{shl_whole}
 use Rattle.tsdb_bits.specs.Leb.{leb}
 use Rattle.tsdb_bits.proofs.Reading.{Groups, more_groups, ends_with, value_of_groups, none_here, tenth_high}
@@ -48,3 +49,9 @@ returns-in-Some-get-clause-none c = λ v x small e.
     let nine : c.loop-i.i ≡ 9 = omega arith in
     let g : Groups c.args.bytes.now 9 c.loop-i.low = subst (λ (i : ℕ). Groups c.args.bytes.now i c.loop-i.low) nine c.loop-i.invariant in
     tenth_high c.args.bytes.now c.loop-i.low c.in-Some-get.field-0.now v x g (search rules) (search rules) (search rules) (search rules) small e
+
+pub overflow_add-result : goal.overflow_add-result
+overflow_add-result c = grind (arith, common_steps)
+
+pub overflow_add-low : goal.overflow_add-low
+overflow_add-low c = grind (arith, common_steps)

@@ -95,3 +95,6 @@ returns-clause-ok c =
     let l = c.loop-value in
     closed l.into.items [] c.extend_from_slice-2.new.self.items (c.args.into.now.items ++ pack_bytes c.args.width c.args.values.now) l.filled l.word c.args.width l.value-index c.div_ceil-last.result c.args.values.now
     (omega arith) l.invariant.filled_less l.invariant.word_fits (search rules) (search rules) l.invariant.to_come
+
+pub returns-clause-kept : goal.returns-clause-kept
+returns-clause-kept c = grind (arith, common_steps)
