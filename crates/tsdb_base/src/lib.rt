@@ -20,6 +20,3 @@ pub use plain::{PlainValue, put_all, take_all};
 pub use point::{Point, Range, Stats, Time};
 pub use text::{Text, TextFault};
 pub use value::{DataType, Encoding, Value, suits};
-
-#[cfg(test)]
-mod tests;

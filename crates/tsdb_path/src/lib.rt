@@ -10,8 +10,6 @@ mod keys;
 mod name;
 mod path;
 mod scan;
-#[cfg(test)]
-mod tests;
 
 pub use fault::{Memory, PathFault};
 pub use name::Name;
