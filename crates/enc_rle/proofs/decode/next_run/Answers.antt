@@ -48,3 +48,6 @@ returns-then-code-last-clause-none c = λ run rest may e.
 
 pub returns-clause-found : goal.returns-clause-found
 returns-clause-found c = grind (arith, common_steps)
+
+pub returns-clause-follows : goal.returns-clause-follows
+returns-clause-follows c = search rules
