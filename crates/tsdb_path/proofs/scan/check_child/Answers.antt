@@ -1,4 +1,5 @@
 use Rattle.std.proofs.Common.{◌≡◌, ◌≢◌, ◌≤◌, ◌+◌, length, arith, rules}
+use Rattle.std.proofs.lemmas.Grind.{common_steps}
 use Rattle.tsdb_path.specs.declared.fault.PathFault.TheVariants.{TooLong}
 use Rattle.tsdb_path.specs.Nodes.{node_count}
 use Rattle.tsdb_path.proofs.Reasons.{child_full, child_fits, child_as_path}
@@ -16,3 +17,6 @@ returns-then-count_nodes-clause-as_read c =
     let full : node_count c.args.path.now ≡ 16 = search rules in
     child_as_path c.args.path.now c.args.name.now (TooLong (length c.args.path.now + 1)) c.requires.path c.requires.name.node
     (child_full c.args.path.now c.args.name.now short full)
+
+pub returns-then-count_nodes-clause-err : goal.returns-then-count_nodes-clause-err
+returns-then-count_nodes-clause-err c = grind (arith, common_steps)

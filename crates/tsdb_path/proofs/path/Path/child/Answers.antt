@@ -1,4 +1,5 @@
-use Rattle.std.proofs.Common.{◌≡◌, Ok, ap, ◌∙◌, subst, rules}
+use Rattle.std.proofs.Common.{◌≡◌, Ok, ap, ◌∙◌, subst, rules, arith}
+use Rattle.std.proofs.lemmas.Grind.{common_steps}
 use Rattle.std.specs.Prelude.{IfOk, IfErr}
 use Rattle.tsdb_path.specs.Nodes.{IsPath, node_count, child_of}
 use Rattle.tsdb_path.specs.Refusals.{RefusesChild}
@@ -37,3 +38,6 @@ pub returns-clause-nodes : goal.returns-clause-nodes
 returns-clause-nodes c =
     let e : c.in_ok-bytes.bytes.items ≡ child_of c.args.self.now c.args.name.now = search rules in
     ap node_count e ∙ node_count-child c.args.self.now c.args.name.now (IsNode-dotless c.args.name.now c.bytes.ensures.name.node)
+
+pub join-requires : goal.join-requires
+join-requires c = grind (arith, common_steps)
