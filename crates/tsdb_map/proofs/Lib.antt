@@ -4,6 +4,5 @@ pub mod PendingLemmas
 pub mod PlainLemmas
 pub mod PointLemmas
 pub mod RowLemmas
-pub mod TestLemmas
 pub mod TimeLemmas
 pub mod WorldLemmas

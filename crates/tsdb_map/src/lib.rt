@@ -24,6 +24,3 @@ pub use literal::value_of;
 pub use pending::{Pending, Prepared};
 pub use plain::Plain;
 pub use reply::{FileLine, Line, Listing, Reply};
-
-#[cfg(test)]
-mod tests;

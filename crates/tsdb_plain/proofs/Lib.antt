@@ -9,4 +9,3 @@ pub mod OpenLemmas
 pub mod ReplyLemmas
 pub mod CoreLemmas
 pub mod SoundLemmas
-pub mod TestLemmas

@@ -12,6 +12,3 @@ mod store;
 pub use fault::{OpenFault, OpenRefused, Part};
 pub use laws::{image_stands_for_one_state, log_is_damaged_at_one_place};
 pub use plain_core::PlainCore;
-
-#[cfg(test)]
-mod tests;
