@@ -1,22 +1,22 @@
 //! The plain map in executable form. Depends on `catalog`, `pending`, `row` and `select`.
-ghost use Rattle.std.specs.Prelude.{◌≡◌, IfOk, OnOk, OnErr};
+ghost use Rattle.std.specs.Prelude.{◌≡◌, ℕ, List, None, IfOk, OnOk, OnErr};
 ghost use Rattle.std.specs.FinMap as map;
 ghost use Rattle.tsdb_map.specs.Commands.{IsSchema, IsWellFormed, IsSeries};
 ghost use Rattle.tsdb_map.specs.Apply.{accepted, reply_of, world_after};
 ghost use Rattle.tsdb_map.specs.Pending.{IsPending, IsPrepared};
-ghost use Rattle.tsdb_map.specs.World.{World};
+ghost use Rattle.tsdb_map.specs.World.{World, new_series};
 ghost use Rattle.tsdb_path.specs.Nodes.{child_of};
 ghost use Rattle.tsdb_map.specs.declared.command.Command.{Command};
 
 use crate::catalog::Catalog;
-use crate::command::{Command, Row, Schema};
+use crate::command::{Command, Item, Row, Schema};
 use crate::pending::{Pending, Prepared};
 use crate::reply::Reply;
 use crate::row::{insert_answer, put_cells, take_back_cells};
 use crate::select::select;
 use std::alloc::Global;
 use std::marker::Model;
-use tsdb_base::{Answer, Memory, Range};
+use tsdb_base::{Answer, List, Memory, Range};
 use tsdb_path::{Name, Path};
 
 /// The plain map: for each series its type, and a value at each time that has one. A contract sees the world.
@@ -92,10 +92,7 @@ impl Plain {
                 device,
                 items,
                 range,
-            } => {
-                let reply = select(self.alloc, &self.catalog, device, items.items(), range)?;
-                Ok(Prepared::Reply(reply))
-            }
+            } => self.prepare_select(device, items, range),
             Command::Flush
             | Command::CompactInner(_)
             | Command::CompactCross
@@ -108,11 +105,8 @@ impl Plain {
         ensures { (before : World) → IsPending before self.old command.now pending
             → self.new ≡ accepted before command.now }
     {
-        if let Command::Delete { range, .. } = command
-            && let Pending::Delete { device, name } = pending
-            && self.catalog.get(&device, &name).is_some()
-        {
-            self.catalog.cut(&device, &name, range);
+        if let Command::Delete { range, .. } = command {
+            self.cut(&pending, range);
         }
     }
 
@@ -142,11 +136,21 @@ impl Plain {
         if self.catalog.get(&device, &name).is_some() {
             return Ok(Prepared::Reply(Reply::Plain(Answer::Exists)));
         }
-        let pending = Pending::Create { device, name };
+        self.create(schema)?;
+        Ok(Prepared::Change(Pending::Create { device, name }))
+    }
+
+    /// Adds a series without points, which is not there.
+    fn create(&mut self, schema: &Schema) -> Result<(), Memory>
+        requires series { IsSeries schema.now.path }
+        requires new { map.get self.old schema.now.path ≡ None }
+        ensures created { OnOk result (self.new
+            ≡ map.insert self.old schema.now.path (new_series schema.now.data_type)) }
+        ensures memory { OnErr result (self.new ≡ self.old) }
+    {
         let (device, name) = split(self.alloc, &schema.path)?;
         self.catalog
-            .create(self.alloc, device, name, schema.data_type)?;
-        Ok(Prepared::Change(pending))
+            .create(self.alloc, device, name, schema.data_type)
     }
 
     /// Writes the values of a row, where all of its series are there and each literal fits.
@@ -178,6 +182,32 @@ impl Plain {
             return Ok(Prepared::Reply(Reply::Plain(Answer::NoPath)));
         }
         Ok(Prepared::Change(Pending::Delete { device, name }))
+    }
+
+    /// Removes the points of a pending delete.
+    fn cut(&mut self, pending: &Pending, range: &Range)
+        ensures { (before : World) (series : List ℕ)
+            → IsPending before self.old (Command.Delete series range.now) pending.now
+            → self.new ≡ accepted before (Command.Delete series range.now) }
+    {
+        if let Pending::Delete { device, name } = pending
+            && self.catalog.get(device, name).is_some()
+        {
+            self.catalog.cut(device, name, range);
+        }
+    }
+
+    /// What a select returns. It changes nothing.
+    fn prepare_select(
+        &self,
+        device: &Path,
+        items: &List<Item>,
+        range: &Range,
+    ) -> Result<Prepared, Memory>
+        ensures { IfOk result (IsPrepared self.now self.now (Command.Select device.now items.now range.now)) }
+    {
+        let reply = select(self.alloc, &self.catalog, device, items.items(), range)?;
+        Ok(Prepared::Reply(reply))
     }
 }
 

@@ -1,4 +1,5 @@
-use Rattle.std.proofs.Common.{◌≡◌, ◌∷◌, ◌-◌, ap, ◌∙◌, true, take, drop, length, rules}
+use Rattle.std.proofs.lemmas.Grind.{common_steps}
+use Rattle.std.proofs.Common.{◌≡◌, ◌∷◌, ◌-◌, ap, ◌∙◌, true, take, drop, length, rules, arith}
 use Rattle.tsdb_map.specs.Apply.{all_fit}
 use Rattle.tsdb_map.proofs.PlainLemmas.{first_fits, on_err, put_there, rest_fits, split_first, taken_back}
 use Rattle.tsdb_map.proofs.row.+put_cells.Goals as goal
@@ -21,3 +22,18 @@ returns-then-is_err-clause-memory t c =
     taken_back c.args.catalog.now c.put_cells.new.catalog c.take_back.new.catalog (child_of c.args.device.now c.cell-item.result.measurement) _ c.cell-item.result.value c.in_ok-old.old
     first (same ∙ c.in_ok-old.ensures.put) c.in_ok-old.ensures.old
     (c.take_back.ensures (put_there c.args.catalog.now c.put_cells.new.catalog (child_of c.args.device.now c.cell-item.result.measurement) _ c.cell-item.result.value first (same ∙ c.in_ok-old.ensures.put)))
+
+pub put_cell-requires : goal.put_cell-requires
+put_cell-requires t c = grind (arith, common_steps)
+
+pub returns-clause-put : goal.returns-clause-put
+returns-clause-put t c = grind (arith, common_steps)
+
+pub returns-clause-olds : goal.returns-clause-olds
+returns-clause-olds t c = grind (arith, common_steps)
+
+pub returns-clause-len : goal.returns-clause-len
+returns-clause-len t c = grind (arith, common_steps)
+
+pub returns-clause-capacity : goal.returns-clause-capacity
+returns-clause-capacity t c = grind (arith, common_steps)

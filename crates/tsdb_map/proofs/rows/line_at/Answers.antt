@@ -1,4 +1,5 @@
-use Rattle.std.proofs.Common.{◌≡◌, w64, to_z, of_z, ap, ◌∙◌, map, take}
+use Rattle.std.proofs.lemmas.Grind.{common_steps}
+use Rattle.std.proofs.Common.{◌≡◌, w64, to_z, of_z, ap, ◌∙◌, map, take, arith}
 use Rattle.std.proofs.lemmas.Int.{to_z-of_z}
 use Rattle.std.specs.FinMap.{get}
 use Rattle.tsdb_map.specs.Folds.{within}
@@ -12,3 +13,6 @@ returns c =
     ≡ map (λ column. get (within c.args.range.now column.now.points) (to_z w64 (of_z w64 c.args.time))) (take c.loop-column.column-index c.args.columns.now) = c.loop-column.invariant in
     line-is c.args.range.now c.args.columns.now c.loop-column.column-index c.args.time _ _ c.loop-column-test.false time
     (c.of.ensures ∙ read ∙ ap (λ t. map (λ column. get (within c.args.range.now column.now.points) t) (take c.loop-column.column-index c.args.columns.now)) time)
+
+pub loop-column-preserved : goal.loop-column-preserved
+loop-column-preserved c = grind (arith, common_steps)

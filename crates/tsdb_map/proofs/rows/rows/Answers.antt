@@ -1,4 +1,5 @@
-use Rattle.std.proofs.Common.{◌≡◌, ap, sym, map, is_some}
+use Rattle.std.proofs.lemmas.Grind.{common_steps}
+use Rattle.std.proofs.Common.{◌≡◌, ap, sym, map, is_some, arith}
 use Rattle.std.specs.FinMap.{get-entries}
 use Rattle.std.specs.Map.Iter.{deref}
 use Rattle.std.proofs.lemmas.Map.Iter.{iter_end}
@@ -18,3 +19,6 @@ pub loop-column-preserved : goal.loop-column-preserved
 loop-column-preserved c = λ q.
     times-more c.args.range.now c.args.columns.now c.loop-column.column-index c.column-item.result c.loop-column.times c.add_times.new.times q c.loop-column-test.true c.column-item.is
     (c.loop-column.invariant q) (c.in_ok-add_times.ensures q) (ap is_some (sym (get-entries (within c.args.range.now c.column-item.result.now.points) q)))
+
+pub loop-time-preserved : goal.loop-time-preserved
+loop-time-preserved c = grind (arith, common_steps)

@@ -1,4 +1,5 @@
-use Rattle.std.proofs.Common.{ap, sym, ◌∙◌, subst}
+use Rattle.std.proofs.lemmas.Grind.{common_steps}
+use Rattle.std.proofs.Common.{ap, sym, ◌∙◌, subst, arith}
 use Rattle.std.specs.FinMap.{remove}
 use Rattle.tsdb_map.specs.Pending.{IsPending}
 use Rattle.tsdb_map.proofs.PendingLemmas.{create_cancelled}
@@ -10,3 +11,9 @@ returns-in-Create c = λ before h.
     create_cancelled before c.args.self.now c.remove.new.self c.args.command.now c.in-Create.device c.in-Create.name
     (c.remove.ensures ∙ ap (λ w. remove w (child_of c.in-Create.device c.in-Create.name)) c.self.view_is)
     (subst (IsPending before c.args.self.now c.args.command.now) c.in-Create.is h)
+
+pub returns-in-Insert-command : goal.returns-in-Insert-command
+returns-in-Insert-command c = grind (arith, common_steps)
+
+pub returns : goal.returns
+returns c = grind (arith, common_steps)
