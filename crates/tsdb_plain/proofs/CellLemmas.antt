@@ -1,6 +1,6 @@
 -- The cells that records are read as.
 use Rattle.std.proofs.Common.{◌≡◌, ℕ, ℤ, ◌<◌, ◌≤◌, Bool, true, false, cond, List, [], ◌∷◌, ◌++◌, Option, None, Some, option_map, is_some, refl, sym, ◌∙◌, ap, subst, arith, slice_get, append_assoc, rules, w32, pos, negsuc}
-use Rattle.std.specs.Prelude.{FitsSigned, IfSome}
+use Rattle.std.specs.Prelude.{FitsSigned, IfOk, IfSome, OnOk, Result, Ok, Err}
 use Rattle.std.specs.List.{All}
 use Rattle.std.specs.FinMap as finite
 use Rattle.std.proofs.lemmas.Bool.{false≢true}
@@ -21,6 +21,7 @@ use Rattle.tsdb_map.specs.Apply.{is_int32, series_of, value_of}
 use Rattle.tsdb_map.specs.World.{Series, World}
 use Rattle.tsdb_map.specs.declared.command.Cell.{Cell}
 use Rattle.tsdb_map.specs.Limits.{max_number}
+use Rattle.tsdb_map.specs.declared.command.Command.{Command}
 use Rattle.tsdb_map.specs.declared.command.Command.TheVariants as command
 use Rattle.tsdb_map.specs.declared.reply.Reply.TheVariants.{Plain}
 use Rattle.tsdb_map.specs.declared.command.Literal.{Literal}
@@ -29,9 +30,10 @@ use Rattle.tsdb_path.specs.Nodes.{IsName, child_of, device_of, measurement_of, n
 use Rattle.tsdb_path.proofs.Bytes.{IsNode-dotless}
 use Rattle.tsdb_path.proofs.Parts.{child_of-device_of, device_of-child}
 use Rattle.tsdb_log.specs.declared.record.CellRecord.{CellRecord}
+use Rattle.tsdb_log.specs.declared.record.LogRecord.{LogRecord}
 use Rattle.tsdb_log.specs.declared.record.LogRecord.TheVariants as item
 use Rattle.tsdb_plain.specs.Model.{IsNumbered, IsSeriesPath, type_in}
-use Rattle.tsdb_plain.specs.Replaying.{IsCellRead, IsNumberedSeries, IsReplayed, IsRowRead, literal_of}
+use Rattle.tsdb_plain.specs.Replaying.{IsCellRead, IsNumberedSeries, IsRedone, IsReplayed, IsRowRead, literal_of}
 use Rattle.tsdb_plain.specs.Steps.{IsAcceptedChange}
 use Rattle.tsdb_plain.specs.Store.{AreCellsOf, IsCellOf, Store, store_after, value_in}
 use Rattle.tsdb_plain.proofs.StoreLemmas.{numbered_path, path_eq}
@@ -208,3 +210,10 @@ cell_read store device path t measurement l written series device_is type name m
 pub read_is : (store : Store) (device : List ℕ) (found : Option Cell) (cell : Cell) (w : CellRecord) → IfSome found (λ read. IsCellRead store device read w) → found ≡ Some cell
     → IsCellRead store device cell w
 read_is store device found cell w h is = subst (λ o. IfSome o (λ read. IsCellRead store device read w)) is h
+
+-- what a change that was executed leaves, where that is what its record says
+pub redone : {E : Type 0} (old new : Store) (c : Command) (i : LogRecord) (result : Result Bool E) → IfOk result (λ done. done ≡ true) → OnOk result (new ≡ store_after old c)
+    → (new ≡ store_after old c → IsReplayed old new i) → IfOk result (IsRedone old new i)
+redone old new c i (Ok true) done after replays = replays after
+redone old new c i (Ok false) done after replays = absurd (false≢true done)
+redone old new c i (Err e) done after replays = tt

@@ -10,6 +10,7 @@ use Rattle.tsdb_map.specs.declared.command.Command.{Command}
 use Rattle.tsdb_map.specs.declared.command.Literal.{Literal}
 use Rattle.tsdb_map.specs.declared.command.Literal.TheVariants as literal
 use Rattle.tsdb_path.specs.Nodes.{IsName}
+use Rattle.tsdb_fields.specs.Reading.{IsValue}
 use Rattle.tsdb_frames.specs.Slots.{payloads_of}
 use Rattle.tsdb_frames.specs.declared.fault.ScanFault.{ScanFault}
 use Rattle.tsdb_frames.specs.declared.fault.ScanFault.TheVariants.{Torn}
@@ -41,6 +42,11 @@ pub record IsNumberedSeries (store : Store) (number : SeriesId) (path : List ℕ
 pub record IsCellRead (store : Store) (device : List ℕ) (cell : Cell) (written : CellRecord) : Type 0 where
   pub name : IsName cell.measurement
   pub is : IsCellOf store device cell written
+
+-- the record is of a cell with this measurement
+abbrev pub IsMeasured : Store → List ℕ → List ℕ → CellRecord → Type 0
+IsMeasured store device measurement written = IsValue written.value
+    → IsCellRead store device (record { measurement = measurement; value = literal_of written.value }) written
 
 -- cells with names, and their records
 pub record IsRowRead (store : Store) (device : List ℕ) (cells : List Cell) (written : List CellRecord) : Type 0 where

@@ -19,6 +19,7 @@ ghost use Rattle.tsdb_plain.specs.declared.fault.Part as fault;
 ghost use Rattle.tsdb_plain.specs.declared.fault.Part.TheVariants as parts;
 ghost use Rattle.tsdb_plain.specs.Images.{IsDamaged, IsReplayOf, IsSound, StandsForOneOf};
 ghost use Rattle.tsdb_plain.specs.Replies.{IsPlainReply, IsWritten};
+ghost use Rattle.tsdb_plain.specs.Steps.{IsAcceptedAs, IsAcceptedChange};
 
 use crate::OpenRefused;
 use crate::opening::{refusal, replay};
@@ -131,7 +132,17 @@ impl<J: Journal> PlainCore<J> {
         if counter == LAST_STAMP {
             return Ok(Reply::Plain(Answer::Full { counter }));
         }
-        let framed = frame_of(self.alloc, &item)?;
+        self.commit(command, &item)
+    }
+
+    /// Commits a change that the map accepts, by its record. Out of memory changes nothing, and nothing was written.
+    fn commit(&mut self, command: &Command, item: &LogRecord) -> Result<Reply, Memory>
+        requires change { IsAcceptedChange self.old.store command.now }
+        requires accepted { IsAcceptedAs self.old.store command.now item.now }
+        ensures applied { IfOk result (IsApplied self.old self.new command.now) }
+        ensures memory { OnErr result (self.new ≡ self.old) }
+    {
+        let framed = frame_of(self.alloc, item)?;
         match self.store.commit(command, &mut self.frames, &framed)? {
             Ok(()) => Ok(Reply::Plain(Answer::Done)),
             Err(Failed) => Ok(Reply::Plain(Answer::Device)),

@@ -4,10 +4,12 @@ ghost use Rattle.std.specs.declared.option.Option.{Option};
 ghost use Rattle.std.specs.Cmp.Lexicographic.{pointwise};
 ghost use Rattle.indexmap.specs.IndexMap.{get, keys, spare};
 ghost use Rattle.tsdb_base.specs.declared.answers.Answer.{Answer};
-ghost use Rattle.tsdb_map.specs.Apply.{reply_of};
+ghost use Rattle.tsdb_map.specs.Apply.{accepted, reply_of};
 ghost use Rattle.tsdb_map.specs.Commands.{IsWellFormed};
 ghost use Rattle.tsdb_map.specs.History.{IsChange};
 ghost use Rattle.tsdb_map.specs.Limits.{max_number};
+ghost use Rattle.tsdb_map.specs.Pending.{IsPending};
+ghost use Rattle.tsdb_map.specs.World.{World};
 ghost use Rattle.tsdb_map.specs.declared.reply.Reply.{Reply};
 ghost use Rattle.tsdb_outside.specs.Causes.{HasCause};
 ghost use Rattle.tsdb_outside.specs.Disk.{in_slot};
@@ -23,7 +25,7 @@ use super::{PlainStore, copy_path};
 use indexmap::IndexMap;
 use tsdb_base::{DataType, Memory};
 use tsdb_frames::Frames;
-use tsdb_map::{Command, Prepared, Reply};
+use tsdb_map::{Command, Pending, Plain, Prepared, Reply};
 use tsdb_outside::{Failed, Journal};
 use tsdb_path::Path;
 
@@ -63,19 +65,15 @@ impl PlainStore {
     {
         let entry = entry_of(command)?;
         self.series.reserve(1)?;
-        let pending = match self.plain.prepare(command)? {
-            Prepared::Change(pending) => pending,
-            // The change is accepted, so this is not reached.
-            Prepared::Reply(_) => return Err(Memory),
-        };
-        if let Err(failed) = frames.append(framed) {
-            self.plain.cancel(command, pending);
-            return Ok(Err(failed));
+        let pending = prepare(&mut self.plain, command)?;
+        match append(frames, framed, &mut self.plain, command, pending) {
+            Ok(()) => {
+                add_entry(&mut self.series, entry);
+                self.stamp += 1;
+                Ok(Ok(()))
+            }
+            Err(failed) => Ok(Err(failed)),
         }
-        self.plain.finish(command, pending);
-        add_entry(&mut self.series, entry);
-        self.stamp += 1;
-        Ok(Ok(()))
     }
 
     /// Executes a change that the map accepts, and whose record is in the log.
@@ -89,6 +87,46 @@ impl PlainStore {
         add_entry(&mut self.series, entry);
         self.stamp += 1;
         Ok(())
+    }
+}
+
+/// Begins a change that the map accepts. Out of memory changes nothing.
+fn prepare(plain: &mut Plain, command: &Command) -> Result<Pending, Memory>
+    requires { IsWellFormed command.now }
+    ensures pending { IfOk result (IsPending plain.old plain.new command.now) }
+    ensures memory { OnErr result (plain.new ≡ plain.old) }
+{
+    match plain.prepare(command)? {
+        Prepared::Change(pending) => Ok(pending),
+        // The change is accepted, so this is not reached.
+        Prepared::Reply(_) => Err(Memory),
+    }
+}
+
+/// Appends the record of a pending change. The change takes effect where that is done, and else it is taken back.
+fn append<J: Journal>(
+    frames: &mut Frames<J>,
+    framed: &[u8],
+    plain: &mut Plain,
+    command: &Command,
+    pending: Pending,
+) -> Result<(), Failed>
+    requires { IsFrame framed.now }
+    ensures append { IsAppend frames.old frames.new (payload_of framed.now) result }
+    ensures done { (before : World) → IsPending before plain.old command.now pending
+        → OnOk result (plain.new ≡ accepted before command.now) }
+    ensures failed { (before : World) → IsPending before plain.old command.now pending
+        → OnErr result (plain.new ≡ before) }
+{
+    match frames.append(framed) {
+        Ok(()) => {
+            plain.finish(command, pending);
+            Ok(())
+        }
+        Err(failed) => {
+            plain.cancel(command, pending);
+            Err(failed)
+        }
     }
 }
 

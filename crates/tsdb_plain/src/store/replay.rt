@@ -1,12 +1,15 @@
 //! The replay of records. Depends on `changes`.
 ghost use Rattle.std.specs.Prelude.{◌≡◌, ℕ, ◌<◌, List, [], ◌∷◌, None, Some, All, IfOk, IfSome, IsTrue, ◌↔◌, slice_get};
+ghost use Rattle.std.specs.Prelude.{OnOk, true};
 ghost use Rattle.tsdb_map.specs.Limits.{max_number};
 ghost use Rattle.tsdb_map.specs.declared.command.Cell.{Cell as CellValue};
 ghost use Rattle.tsdb_path.specs.Nodes.{IsName, child_of, device_of};
 ghost use Rattle.tsdb_log.specs.Spelling.{IsRecord, IsCell};
 ghost use Rattle.tsdb_map.specs.Commands.{AreDifferent, IsSeries};
-ghost use Rattle.tsdb_plain.specs.Replaying.{HasNoRow, IsCellRead, IsNumberedSeries, IsRedone, IsRowRead, literal_of};
-ghost use Rattle.tsdb_plain.specs.Replaying.{names_of};
+ghost use Rattle.tsdb_plain.specs.Replaying.{HasNoRow, IsCellRead, IsMeasured, IsNumberedSeries, IsRedone, IsRowRead};
+ghost use Rattle.tsdb_plain.specs.Replaying.{literal_of, names_of};
+ghost use Rattle.tsdb_plain.specs.Steps.{IsAcceptedChange};
+ghost use Rattle.tsdb_plain.specs.Store.{store_after};
 
 use super::{LAST_STAMP, PlainStore};
 use std::alloc::Global;
@@ -55,12 +58,11 @@ impl PlainStore {
         if self.series.get(&path).is_some() {
             return Ok(false);
         }
-        self.execute(&Command::Create(Schema {
+        self.execute_owned(Command::Create(Schema {
             path,
             data_type,
             encoding,
-        }))?;
-        Ok(true)
+        }))
     }
 
     fn redo_delete(&mut self, path: Path, range: Range) -> Result<bool, Memory>
@@ -70,11 +72,22 @@ impl PlainStore {
         if self.series.get(&path).is_none() {
             return Ok(false);
         }
-        self.execute(&Command::Delete {
+        self.execute_owned(Command::Delete {
             series: path,
             range,
-        })?;
-        Ok(true)
+        })
+    }
+
+    /// Executes a change that the map accepts. True, unless memory ran out.
+    fn execute_owned(&mut self, command: Command) -> Result<bool, Memory>
+        requires { IsAcceptedChange self.old command }
+        ensures done { IfOk result (λ done. done ≡ true) }
+        ensures after { OnOk result (self.new ≡ store_after self.old command) }
+    {
+        match self.execute(&command) {
+            Ok(()) => Ok(true),
+            Err(Memory) => Err(Memory),
+        }
     }
 
     fn redo_insert(
@@ -169,6 +182,26 @@ impl PlainStore {
         ensures none { IfOk result (λ found. found ≡ None → (read : CellValue)
             → ¬ IsCellRead self.now device.now read cell) }
     {
+        let Some(measurement) = self.measurement_of(alloc, device, &cell)? else {
+            return Ok(None);
+        };
+        Ok(Some(Cell {
+            measurement,
+            value: literal_of(cell.value),
+        }))
+    }
+
+    /// The measurement of a cell of a device, if its series is there, of the device, and has the type of the value.
+    fn measurement_of(
+        &self,
+        alloc: Global,
+        device: &Path,
+        cell: &CellRecord,
+    ) -> Result<Option<Name>, Memory>
+        ensures some { IfOk result (λ found. IfSome found (λ name. IsMeasured self.now device.now name cell.now)) }
+        ensures none { IfOk result (λ found. found ≡ None → (read : CellValue)
+            → ¬ IsCellRead self.now device.now read cell.now) }
+    {
         let Some((path, data_type)) = self.series_at(cell.series) else {
             return Ok(None);
         };
@@ -178,13 +211,10 @@ impl PlainStore {
         if !is_of(path, device)? {
             return Ok(None);
         }
-        let Ok(measurement) = Name::read(alloc, path.measurement()) else {
-            return Err(Memory);
-        };
-        Ok(Some(Cell {
-            measurement,
-            value: literal_of(cell.value),
-        }))
+        match Name::read(alloc, path.measurement()) {
+            Ok(measurement) => Ok(Some(measurement)),
+            Err(_) => Err(Memory),
+        }
     }
 }
 
