@@ -17,6 +17,3 @@ pub use journal::FsJournal;
 pub use place::FsPlace;
 pub use slot_file::SlotFile;
 pub use streams::{StdSink, StdSource};
-
-#[cfg(test)]
-mod tests;

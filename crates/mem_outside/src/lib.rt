@@ -20,6 +20,3 @@ pub use place::{Fails, MemPlace};
 pub use record::StopKind;
 pub use steady::{SteadyFiles, SteadyPlace, SteadyPort};
 pub use streams::{MemSink, MemSource, SteadySink, SteadySource};
-
-#[cfg(test)]
-mod tests;

@@ -1,7 +1,7 @@
 use Rattle.std.proofs.Common.{◌≡◌, ◌≤◌, length, take, sym, ◌∙◌, arith, List, ℕ, [], ◌∷◌}
 use Rattle.std.proofs.lemmas.List.{length-take-le}
 use Rattle.tsdb_outside.specs.Disk.{in_slot}
-use Rattle.mem_outside.proofs.tests.bytes_of.Goals as goal
+use Rattle.outside_tests.proofs.memory.bytes_of.Goals as goal
 
 within : (xs : List ℕ) (n m : ℕ) → n ≤ length xs → n ≡ m → length (take n xs) ≤ m
 within xs n m le same = omega (arith, length-take-le n xs le, same)

@@ -1,6 +1,6 @@
 use Rattle.std.proofs.Common.{◌≡◌, length, sym, ◌∙◌, arith}
 use Rattle.tsdb_outside.specs.Disk.{in_slot}
-use Rattle.mem_outside.proofs.tests.act.Goals as goal
+use Rattle.outside_tests.proofs.memory.act.Goals as goal
 
 pub write_at-requires : goal.write_at-requires
 write_at-requires g c = λ image told.

@@ -1,6 +1,6 @@
 use Rattle.std.proofs.Common.{◌≡◌, length, sym, ◌∙◌, arith}
 use Rattle.tsdb_outside.specs.Disk.{in_slot}
-use Rattle.fs_outside.proofs.tests.first_and_length.Goals as goal
+use Rattle.outside_tests.proofs.directories.first_and_length.Goals as goal
 
 pub read_at-requires : goal.read_at-requires
 read_at-requires g c = λ image told.

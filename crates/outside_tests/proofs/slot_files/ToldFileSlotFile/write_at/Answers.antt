@@ -1,5 +1,5 @@
-use Rattle.fs_outside.proofs.FileLemmas.{MayWriteFile-durable}
-use Rattle.fs_outside.proofs.tests.ToldFileSlotFile.write_at.Goals as goal
+use Rattle.outside_tests.proofs.DurableFiles.{MayWriteFile-durable}
+use Rattle.outside_tests.proofs.slot_files.ToldFileSlotFile.write_at.Goals as goal
 
 pub returns-in-Ok-clause-writes : goal.returns-in-Ok-clause-writes
 returns-in-Ok-clause-writes c =
