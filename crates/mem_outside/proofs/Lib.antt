@@ -1,4 +1,5 @@
 mod Moves
 mod StopLemmas
 mod JournalLemmas
+mod CountedCalls
 mod EntryLemmas
