@@ -4,6 +4,7 @@ use Rattle.tsdb_frames.specs.Moments.{LeavesOnly, IsUntouched}
 use Rattle.tsdb_frames.proofs.MomentLemmas.{write_elsewhere, elsewhere_on}
 use Rattle.tsdb_frames.specs.Log.{payload_of}
 use Rattle.tsdb_frames.proofs.LogLemmas.{always_on_err, behind_fails, behind_done, gate_fails, long_on, staged_moments, last_moments, gate_opens_framed}
+use Rattle.tsdb_frames.proofs.StepLemmas.{gate_stays}
 use Rattle.tsdb_frames.proofs.frames.Frames.append.Goals as goal
 
 pub returns-in_err-settle-clause-moments : goal.returns-in_err-settle-clause-moments
@@ -48,6 +49,16 @@ returns-in_err-write_and_sync-2-clause-moments g c acknowledged in_doubt log =
     (g.J.Disk.state c.write_and_sync-2.new.journal) c.settle.new.self.slot c.settle.new.self.gate c.args.framed.now c.requires acknowledged in_doubt
     (g.J.Disk.lawful c.write_and_sync-2.new.journal) settled.stands staged c.args.self.now.slot c.settle.ensures.slot
     (c.settle.ensures.moments acknowledged in_doubt log) c.write_and_sync.ensures.moments c.write_and_sync-2.ensures.moments
+
+pub invariant_of-self : goal.invariant_of-self
+invariant_of-self g c = record {
+  within = record {
+    inside = gate_stays c.settle.new.self.slot c.settle.new.self.gate (c.settle.new.self.gate + 1) (length c.args.framed.now)
+        (g.J.Disk.state c.settle.new.self.journal).seen (g.J.Disk.state c.write_and_sync.new.journal).seen
+        c.write_and_sync.ensures.torn c.settle.new.self.within.inside;
+    limit = c.settle.new.self.within.limit;
+  };
+}
 
 pub invariant_of-self-2 : goal.invariant_of-self-2
 invariant_of-self-2 g c = record {

@@ -1,6 +1,7 @@
 use Rattle.std.proofs.Common.{refl}
 use Rattle.tsdb_frames.proofs.LogLemmas.{always_on_err, settle_fails, settle_closes, settle_moments}
 use Rattle.tsdb_frames.proofs.MomentLemmas.{write_elsewhere, idle_elsewhere}
+use Rattle.tsdb_frames.proofs.StepLemmas.{gate_stays}
 use Rattle.tsdb_frames.proofs.frames.Frames.settle.Goals as goal
 
 pub returns-in_err-write_and_sync-clause-failed : goal.returns-in_err-write_and_sync-clause-failed
@@ -40,3 +41,21 @@ returns-in_ok-write_and_sync-clause-elsewhere g c =
 pub returns-else-self-clause-elsewhere : goal.returns-else-self-clause-elsewhere
 returns-else-self-clause-elsewhere g c =
     idle_elsewhere c.args.self.now.slot (g.J.Disk.state c.args.self.now.journal) (g.J.Disk.lawful c.args.self.now.journal)
+
+pub invariant_of-self : goal.invariant_of-self
+invariant_of-self g c = record {
+  within = record {
+    inside = gate_stays c.args.self.now.slot c.args.self.now.gate c.args.self.now.gate 1 (g.J.Disk.state c.args.self.now.journal).seen
+        (g.J.Disk.state c.write_and_sync.new.journal).seen c.write_and_sync.ensures.torn c.args.self.now.within.inside;
+    limit = c.args.self.now.within.limit;
+  };
+}
+
+pub invariant_of-self-then-self : goal.invariant_of-self-then-self
+invariant_of-self-then-self g c = record {
+  within = record {
+    inside = gate_stays c.args.self.now.slot c.args.self.now.gate c.args.self.now.gate 1 (g.J.Disk.state c.args.self.now.journal).seen
+        (g.J.Disk.state c.write_and_sync.new.journal).seen c.write_and_sync.ensures.torn c.args.self.now.within.inside;
+    limit = c.args.self.now.within.limit;
+  };
+}
