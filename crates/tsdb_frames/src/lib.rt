@@ -26,6 +26,3 @@ pub use fault::{FrameFault, ScanFault};
 pub use frames::{Frames, ScanRefused};
 pub use framing::frame;
 pub use record::Frame;
-
-#[cfg(test)]
-mod tests;

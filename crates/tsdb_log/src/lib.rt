@@ -23,6 +23,3 @@ pub use laws::{one_spelling, spelling_fits_frame};
 pub use reading::read_record;
 pub use record::{CellRecord, LogRecord, MAX_CELLS};
 pub use writing::write_record;
-
-#[cfg(test)]
-mod tests;

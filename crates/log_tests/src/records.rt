@@ -1,10 +1,11 @@
+//! Records and their bytes, each of them cut and inverted.
 ghost use Rattle.std.specs.Prelude.{IfOk};
 ghost use Rattle.tsdb_log.specs.Spelling.{HasFewParts};
 
-use super::*;
 use std::alloc::Global;
 use std::test::Fail;
 use tsdb_base::{DataType, Encoding, FileNumber, List, Range, SeriesId, Space, Stamp, Text, Value};
+use tsdb_log::{CellRecord, LogFault, LogRecord, read_record, write_record};
 use tsdb_path::Path;
 
 /// A payload. By hand: the places of its fields, and the bytes that give no record when they are inverted, each with
