@@ -24,12 +24,13 @@ use fault::Fault;
 use std::env;
 use std::sync::Wait;
 use std::thread::Threads;
+use std::time::Clock;
 use table::Rounds;
 
 /// Measures the group of this name, or all where it is empty. The result depends on all that was
 /// computed, so that no compiler leaves the work out. `handle` is the runtime again, as the right to
 /// start threads and to wait.
-fn measure<R: Threads + Wait + Sync>(
+fn measure<R: Threads + Wait + Clock + Sync>(
     rt: &HostRuntime,
     handle: &R,
     group: &str,

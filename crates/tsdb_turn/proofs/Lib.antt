@@ -3,5 +3,7 @@ pub mod Changes
 pub mod Steps
 pub mod Seats
 pub mod Values
+pub mod Numbers
+pub mod Kept
 pub mod Crossing
 pub mod Passes

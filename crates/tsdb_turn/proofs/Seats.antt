@@ -10,13 +10,14 @@ use lib.ListN.{get_elem?}
 use Rattle.atomic_table.specs.Seated.{TableId}
 use Rattle.atomic_table.specs.Table.{State, Me, opening, Splits, Joins, Seen, Final}
 use Rattle.atomic_table.proofs.Lists.{set_else, at_longer}
-use Rattle.tsdb_turn.specs.Passes.{PassState, IsLastOf, new_pass, new_passes}
+use Rattle.tsdb_turn.specs.Passes.{PassState, IsLastOf, AreNumbered, new_pass, new_passes}
 use Rattle.tsdb_turn.specs.Rule.{known, view, tickets, tickets_of, width_of, times, times_of, LeftAs, Stands, Knows, Rule}
-use Rattle.tsdb_turn.specs.Steps.{dealt, first_known, but_first, rest_of, first_of, join_views, spent, known_of}
+use Rattle.tsdb_turn.specs.Steps.{AreWords, dealt, first_known, but_first, rest_of, first_of, join_views, spent, known_of}
 use Rattle.tsdb_turn.specs.declared.view.Known.{Known}
 use Rattle.tsdb_turn.specs.declared.view.Stage.TheVariants.{Outside, Inside}
 use Rattle.tsdb_turn.specs.declared.view.View.{View}
-use Rattle.tsdb_turn.proofs.Totals.{total-append, total-set, two-le-total}
+use Rattle.tsdb_turn.proofs.Totals.{total-append, total-set, le-total, two-le-total}
+use Rattle.tsdb_turn.proofs.Numbers.{passes_at, times-known, count_all, each_one}
 use Rattle.tsdb_turn.proofs.Changes.{same, set-at, each-set, each-append, some-longer, some-last}
 
 module _ {T : Type 0} where
@@ -74,12 +75,12 @@ module _ {T : Type 0} where
       (λ ne. let rest = dealt_once start m (suc n) count in
       let none_here : cond {A = ℕ} (n == m) 1 0 ≡ 0 = ap (λ b. cond {A = ℕ} b 1 0) (ne_eqb n m ne) in omega arith)
 
-module _ {T : Type 0} (fits : ℕ → T → T → T → Type 0) (numbered : T → Type 0) (seats : ℕ) (start : T) where
+module _ {T : Type 0} (fits : ℕ → T → T → T → Type 0) (kept : T → Type 0) (seats : ℕ) (start : T) where
   abbrev Holds : State (Option T) (View T) → Type 0
-  Holds = Rule fits numbered seats start
+  Holds = Rule fits kept seats start
 
   abbrev KnowsAll : T → List (Known T) → Type 0
-  KnowsAll value ks = AllByRecursion (Knows fits numbered seats start value) ks
+  KnowsAll value ks = AllByRecursion (Knows fits kept seats start value) ks
 
   dealt_known : (n count : ℕ) → n + count ≤ seats → ((m : ℕ) → fits m start start start) → KnowsAll start (dealt start n count)
   dealt_known n zero room own = tt
@@ -93,9 +94,9 @@ module _ {T : Type 0} (fits : ℕ → T → T → T → Type 0) (numbered : T �
   only P v here zero w at = subst (λ (x : View T). P 0 x) (cc) here
   only P v here (suc i) w at = absurd (cc)
 
-  pub opens : (ticket : ℕ) → ticket < 2 ^ 64 → 0 < seats → seats < 2 ^ 32 → ((m : ℕ) → fits m start start start) → numbered start
-      → Holds (opening (ticket ∷ ticket ∷ []) (Some start ∷ []) (view Outside (dealt start 0 seats)))
-  opens ticket fits_word some-one few own numbers =
+  pub opens : (ticket : ℕ) (ws : List ℕ) → AreWords seats ticket ws → ticket < 2 ^ 64 → 0 < seats → seats < 2 ^ 32 → ((m : ℕ) → fits m start start start) → kept start
+      → Holds (opening ws (Some start ∷ []) (view Outside (dealt start 0 seats)))
+  opens ticket ws words fits_word some-one few own keeps =
       let v : View T = view Outside (dealt start 0 seats) in
       let wide = length-dealt start 0 seats in
       record {
@@ -104,7 +105,9 @@ module _ {T : Type 0} (fits : ℕ → T → T → T → Type 0) (numbered : T �
         holder = λ t. 0;
         value = start;
         away = false;
-        words = let e = mod-eq_of_lt fits_word in λ i. sym e i ∷ sym e i ∷ [];
+        words = words.count;
+        drawn_word = words.drawn ∙ sym (mod-eq_of_lt fits_word);
+        served_word = words.served ∙ sym (mod-eq_of_lt fits_word);
         slot = refl;
         queue = omega arith;
         numbers = omega arith;
@@ -115,7 +118,7 @@ module _ {T : Type 0} (fits : ℕ → T → T → T → Type 0) (numbered : T �
         taken = λ out. absurd (cc);
         follows = only (λ i w. KnowsAll start w.known) v (dealt_known 0 seats (omega arith) own);
         latest = (0, v, refl, dealt_left 0 seats some-one);
-        entries = numbers;
+        keeps = keeps;
       }
 
   -- the view that is inside is none that is outside
@@ -137,6 +140,8 @@ module _ {T : Type 0} (fits : ℕ → T → T → T → Type 0) (numbered : T �
         value = r.value;
         away = r.away;
         words = r.words;
+        drawn_word = r.drawn_word;
+        served_word = r.served_word;
         slot = r.slot;
         queue =
             let a = total-append tickets_of (slice_set s.views id left) (right ∷ []) in
@@ -176,7 +181,7 @@ module _ {T : Type 0} (fits : ℕ → T → T → T → Type 0) (numbered : T �
             (left-parts r.value v.known here))
             (λ ne. some-longer (λ w. LeftAs r.value w.known) (slice_set s.views id left) (right ∷ [])
             (r.latest.0, r.latest.1, set_else s.views id r.latest.0 left ne ∙ r.latest.2, r.latest.3));
-        entries = r.entries;
+        keeps = r.keeps;
       }
 
   pub joins : (id : ℕ) (v : View T) (other : ℕ) (w : View T) → v.stage ≡ Outside → w.stage ≡ Outside → Joins Holds id v other w (join_views v w) spent
@@ -195,6 +200,8 @@ module _ {T : Type 0} (fits : ℕ → T → T → T → Type 0) (numbered : T �
         value = r.value;
         away = r.away;
         words = r.words;
+        drawn_word = r.drawn_word;
+        served_word = r.served_word;
         slot = r.slot;
         queue =
             let a = total-set tickets_of mid other w gone there in
@@ -246,7 +253,7 @@ module _ {T : Type 0} (fits : ℕ → T → T → T → Type 0) (numbered : T �
               left-join-first r.value w.known v.known (subst (λ (u : View T). LeftAs r.value u.known) (same s.views r.latest.0 other r.latest.1 w r.latest.2 there' e) r.latest.3),
             ))
             (λ ne'. (r.latest.0, r.latest.1, set_else mid other r.latest.0 gone ne' ∙ set_else s.views id r.latest.0 both ne ∙ r.latest.2, r.latest.3)));
-        entries = r.entries;
+        keeps = r.keeps;
       }
 
   no_width : (ks : List (Known T)) (value : T) → length ks ≡ 0 → ¬ LeftAs value ks
@@ -282,13 +289,18 @@ module _ {T : Type 0} (fits : ℕ → T → T → T → Type 0) (numbered : T �
   each_follows value [] all = tt
   each_follows value (k ∷ ks) all = (all.0.follows, each_follows value ks all.1)
 
+  pub each_made : (value : T) (ks : List (Known T)) → KnowsAll value ks → AllByRecursion (λ (k : Known T). k.number < seats) ks
+  each_made value [] all = tt
+  each_made value (k ∷ ks) all = (all.0.made, each_made value ks all.1)
+
   -- what a seat that has all numbers learns at the close
   pub record Ends (ks : List (Known T)) (homes : List (slots.Option (Option T))) : Type 0 where
     pub value : T
     pub home : homes ≡ some (Some value) ∷ []
     pub follows : KnowsAll value ks
     pub latest : LeftAs value ks
-    pub entries : numbered value
+    pub once : (n : ℕ) → times n ks ≤ 1
+    pub keeps : kept value
 
   pub ends : (id : ℕ) (v : View T) → v.stage ≡ Outside → length v.known ≡ seats → (s : State (Option T) (View T)) → Seen Holds id v s → Ends v.known s.homes
   ends id v out all s seen =
@@ -298,7 +310,8 @@ module _ {T : Type 0} (fits : ℕ → T → T → T → Type 0) (numbered : T �
         home = rw (r.slot, home_at_end s r id v seen.1 out all) refl;
         follows = r.follows id v seen.1;
         latest = last_at_end s r id v seen.1 all;
-        entries = r.entries;
+        once = λ n. let most = le-total (times_of n) s.views id v seen.1 in let d = r.distinct n in omega arith;
+        keeps = r.keeps;
       }
 
 -- what is dealt next, and what is left
@@ -336,26 +349,43 @@ left_of value (p ∷ ps) h =
     (λ e. let t = left_of value ps e in (suc t.0, t.1, (let l = t.2 in omega arith), t.3, t.4))
     h
 
+-- Where each number stands once at most, and as many passes as numbers have numbers below, each stands once.
+numbered_each : {T : Type 0} (passes : List (PassState T)) (seats : ℕ) → length passes ≡ seats → All (λ p. p.number < seats) passes
+    → ((n : ℕ) → times n (map known_of passes) ≤ 1) → AreNumbered seats passes
+numbered_each {T} passes seats all below once =
+    let at : ℕ → ℕ = λ n. passes_at n passes in
+    let same : (n : ℕ) → times n (map known_of passes) ≡ at n = λ n. times-known n passes in
+    let few : (n : ℕ) → at n ≤ 1 = λ n. let h = once n in let e = same n in omega arith in
+    record {
+      below = below;
+      each = λ n low. let whole = count_all seats passes below in let fill = each_one at seats n few low in let most = few n in omega arith;
+    }
+
 -- what the last value is to the passes
-pub record Closes {T : Type 0} (fits : ℕ → T → T → T → Type 0) (numbered : T → Type 0) (passes : List (PassState T)) (taken : Option T) : Type 0 where
+pub record Closes {T : Type 0} (fits : ℕ → T → T → T → Type 0) (kept : T → Type 0) (seats : ℕ) (passes : List (PassState T)) (taken : Option T) : Type 0 where
   pub value : T
   pub is : taken ≡ Some value
   pub follows : All (λ p. fits p.number p.start p.last value) passes
   pub latest : IsLastOf passes value
-  pub entries : numbered value
+  pub numbers : AreNumbered seats passes
+  pub keeps : kept value
 
-pub closes : {T : Type 0} (fits : ℕ → T → T → T → Type 0) (numbered : T → Type 0) (seats : ℕ) (start : T) (id : ℕ) (me : Me (Option T) (View T)) (passes : List (PassState T)) (words : List ℕ) (items : List (Option T)) (taken : Option T)
-    → me ≡ (view Outside (map known_of passes), []) → length passes ≡ seats → Final (Seen (Rule fits numbered seats start) id me.0) words items → get_elem? items 0 ≡ some taken → Closes fits numbered passes taken
-closes {T} fits numbered seats start id me passes words items taken e all final at =
+pub closes : {T : Type 0} (fits : ℕ → T → T → T → Type 0) (kept : T → Type 0) (seats : ℕ) (start : T) (id : ℕ) (me : Me (Option T) (View T)) (passes : List (PassState T)) (words : List ℕ) (items : List (Option T)) (taken : Option T)
+    → me ≡ (view Outside (map known_of passes), []) → length passes ≡ seats → Final (Seen (Rule fits kept seats start) id me.0) words items → get_elem? items 0 ≡ some taken → Closes fits kept seats passes taken
+closes {T} fits kept seats start id me passes words items taken e all final at =
     let known_all : me.0.known ≡ map known_of passes = ap (λ m. m.0.known) e in
     let wide : length me.0.known ≡ seats = ap length known_all ∙ length-map passes known_of ∙ all in
-    let end = ends fits numbered seats start id me.0 (ap (λ m. m.0.stage) e) wide final.0 final.1 in
+    let end = ends fits kept seats start id me.0 (ap (λ m. m.0.stage) e) wide final.0 final.1 in
     let there : get_elem? items 0 ≡ some (Some end.value) = final.4 0 (Some end.value) (ap (λ hs. get_elem? hs 0) end.home) in
     record {
       value = end.value;
       is = some-injective taken (Some end.value) (sym at ∙ there);
       follows = all_of (λ (k : Known T). fits k.number k.start k.last end.value) known_of passes
-          (subst (λ ks. AllByRecursion (λ (k : Known T). fits k.number k.start k.last end.value) ks) known_all (each_follows fits numbered seats start end.value me.0.known end.follows));
+          (subst (λ ks. AllByRecursion (λ (k : Known T). fits k.number k.start k.last end.value) ks) known_all (each_follows fits kept seats start end.value me.0.known end.follows));
       latest = left_of end.value passes (subst (λ ks. LeftAs end.value ks) known_all end.latest);
-      entries = end.entries;
+      numbers = numbered_each passes seats all
+          (all_of (λ (k : Known T). k.number < seats) known_of passes
+          (subst (λ ks. AllByRecursion (λ (k : Known T). k.number < seats) ks) known_all (each_made fits kept seats start end.value me.0.known end.follows)))
+          (λ n. subst (λ ks. times n ks ≤ 1) known_all (end.once n));
+      keeps = end.keeps;
     }

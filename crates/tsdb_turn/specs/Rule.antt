@@ -1,7 +1,8 @@
 -- The rule of the table: what holds of its two words, its slot and what its seats know, between any two atomic steps.
--- Word 0 counts the tickets that were drawn and word 1 those that were served; the slot has the value.
+-- Two of its words count the tickets that were drawn and those that were served; the others have no meaning here.
+-- The slot has the value.
 use Rattle.std.specs.Prelude.{◌≡◌, ℕ, ◌+◌, ◌%◌, ◌^◌, ◌<◌, ◌≤◌, ◌⊎◌, ◌==◌, Bool, true, cond, List, [], ◌∷◌, length}
-use Rattle.std.specs.Prelude.{Option, Some}
+use Rattle.std.specs.Prelude.{Option, Some, slice_index}
 use Rattle.std.specs.List.{AllByRecursion}
 use mathlib.Core.Option.{none, some}
 use lib.ListN.{get_elem?}
@@ -10,6 +11,16 @@ use Rattle.tsdb_turn.specs.declared.view.Known.{Known}
 use Rattle.tsdb_turn.specs.declared.view.Stage.{Stage}
 use Rattle.tsdb_turn.specs.declared.view.Stage.TheVariants.{Outside, Waiting, Inside}
 use Rattle.tsdb_turn.specs.declared.view.View.{View}
+
+-- where the words stand that count the tickets drawn and those served, and where the bells begin
+abbrev pub drawn_at : ℕ
+drawn_at = 0
+
+abbrev pub served_at : ℕ
+served_at = 8
+
+abbrev pub bells_at : ℕ
+bells_at = 16
 
 -- f of each, added up
 abbrev pub total : {A : Type 0} → (A → ℕ) → List A → ℕ
@@ -54,7 +65,7 @@ module _ {T : Type 0} where
   Stands served drawn holder away value seat (Inside t y) =
       (t ≡ served) × (t < drawn) × (holder t ≡ seat) × (y ≡ value) × (away ≡ true)
 
-module _ {T : Type 0} (fits : ℕ → T → T → T → Type 0) (numbered : T → Type 0) (seats : ℕ) (start : T) where
+module _ {T : Type 0} (fits : ℕ → T → T → T → Type 0) (kept : T → Type 0) (seats : ℕ) (start : T) where
   -- what is known under a number is so
   pub record Knows (value : T) (k : Known T) : Type 0 where
     pub made : k.number < seats
@@ -69,8 +80,10 @@ module _ {T : Type 0} (fits : ℕ → T → T → T → Type 0) (numbered : T �
     -- the value in the slot, or as it was taken out of it, and whether it is out
     pub value : T
     pub away : Bool
-    -- The words are these two numbers, modulo 2^64.
-    pub words : s.words ≡ drawn % 2 ^ 64 ∷ served % 2 ^ 64 ∷ []
+    -- Two words are these two numbers, modulo 2^64, and there is a bell for each pass.
+    pub words : length s.words ≡ bells_at + seats
+    pub drawn_word : slice_index s.words drawn_at ≡ drawn % 2 ^ 64
+    pub served_word : slice_index s.words served_at ≡ served % 2 ^ 64
     -- The slot is at home with the value, or it is out.
     pub slot : s.homes ≡ cond away none (some (Some value)) ∷ []
     -- Each ticket that was drawn and isn't served yet is with a seat.
@@ -91,5 +104,5 @@ module _ {T : Type 0} (fits : ℕ → T → T → T → Type 0) (numbered : T �
     pub follows : (i : ℕ) (v : View T) → get_elem? s.views i ≡ some v → AllByRecursion (Knows value) v.known
     -- The value is as it was left last, under some number.
     pub latest : (i : ℕ) × (v : View T) × (get_elem? s.views i ≡ some v) × LeftAs value v.known
-    -- No entry has a number that was not made.
-    pub entries : numbered value
+    -- What each turn keeps holds of the value.
+    pub keeps : kept value

@@ -1,19 +1,19 @@
 -- What the atomic steps do to what a seat knows.
 use Rattle.std.specs.Prelude.{◌≡◌, ◌≢◌, ℕ, zero, suc, ◌%◌, ◌^◌, ◌<◌, List, [], ◌∷◌, ◌++◌, Option, Some, None}
-use Rattle.std.specs.Prelude.{option_map}
+use Rattle.std.specs.Prelude.{Bool, true, false, ◌+◌, length, slice_index, option_map}
 use Rattle.std.specs.List.{AllByRecursion}
 use Rattle.std.specs.declared.snapshot.Snapshot.{Snapshot}
 use Rattle.atomic_table.specs.Seated.{TableId}
-use Rattle.atomic_table.specs.Table.{Me}
+use Rattle.atomic_table.specs.Table.{State, Me}
 use Rattle.tsdb_turn.specs.declared.logged.Logged as logged
 use Rattle.tsdb_turn.specs.declared.view.Known.{Known}
 use Rattle.tsdb_turn.specs.declared.view.Marks.{Marks}
 use Rattle.tsdb_turn.specs.declared.view.Opened.{Opened}
 use Rattle.tsdb_turn.specs.declared.view.Stage.TheVariants.{Outside, Waiting, Inside}
 use Rattle.tsdb_turn.specs.declared.view.View.{View}
-use Rattle.tsdb_turn.specs.Passes.{PassState, TurnState}
-use Rattle.tsdb_turn.specs.Rule.{known, view}
-use Rattle.tsdb_turn.specs.Values.{Extends}
+use Rattle.tsdb_turn.specs.Passes.{PassState, TurnState, seats_of}
+use Rattle.tsdb_turn.specs.Rule.{Rule, known, view, drawn_at, served_at, bells_at}
+use Rattle.tsdb_turn.specs.Values.{Follows, Extends, IsKept}
 
 -- what a seat of the table has: its view, and the slots that are out with it
 abbrev pub SeatState : Type 0 → Type 0
@@ -51,20 +51,20 @@ module _ {T : Type 0} where
   abbrev pub Draws : SeatState T → ℕ → SeatState T → Type 0
   Draws me found after = (t : ℕ) × (t % 2 ^ 64 ≡ found) × (after ≡ (view (Waiting t) me.0.known, me.1))
 
-  -- The seat has taken the slot, and the value follows all that the seat knows.
-  pub record Takes (fits : ℕ → T → T → T → Type 0) (t : ℕ) (ks : List (Known T)) (after : SeatState T) : Type 0 where
+  -- The seat has taken the slot, and has learnt this of the value and of each number that it knows.
+  pub record Takes (learns : ℕ → T → T → T → Type 0) (t : ℕ) (ks : List (Known T)) (after : SeatState T) : Type 0 where
     pub value : T
     pub seat : after ≡ (view (Inside t value) ks, (0, Some value) ∷ [])
-    pub follows : AllByRecursion (λ k. fits k.number k.start k.last value) ks
+    pub learnt : AllByRecursion (λ k. learns k.number k.start k.last value) ks
 
   -- with some ticket
   abbrev pub HasTaken : (ℕ → T → T → T → Type 0) → SeatState T → SeatState T → Type 0
-  HasTaken fits me after = (t : ℕ) × Takes fits t me.0.known after
+  HasTaken learns me after = (t : ℕ) × Takes learns t me.0.known after
 
   -- A seat that waits takes the slot where its ticket is served, and else nothing changes.
-  pub record Reads (fits : ℕ → T → T → T → Type 0) (t : ℕ) (me : SeatState T) (found : ℕ) (after : SeatState T)
+  pub record Reads (learns : ℕ → T → T → T → Type 0) (t : ℕ) (me : SeatState T) (found : ℕ) (after : SeatState T)
       : Type 0 where
-    pub hit : found ≡ t % 2 ^ 64 → Takes fits t me.0.known after
+    pub hit : found ≡ t % 2 ^ 64 → Takes learns t me.0.known after
     pub miss : found ≢ t % 2 ^ 64 → after ≡ me
 
   -- a seat that is outside and has left this value under its one number
@@ -75,6 +75,18 @@ module _ {T : Type 0} where
   abbrev pub Departs : SeatState T → SeatState T → Type 0
   Departs me after =
       (k : Known T) (value : T) → me ≡ (view me.0.stage (k ∷ []), (0, Some value) ∷ []) → after ≡ left_as k value
+
+  -- A look finds which ticket is served: where it is the own one the seat has taken the slot, and else nothing changes.
+  pub record Looks (learns : ℕ → T → T → T → Type 0) (ticket : ℕ) (me : SeatState T) (found : ℕ) (after : SeatState T)
+      : Type 0 where
+    pub hit : found ≡ ticket → HasTaken learns me after
+    pub miss : found ≢ ticket → after ≡ me
+
+  -- The seat has taken the slot where this is so, and else nothing changes.
+  pub record MayTake (learns : ℕ → T → T → T → Type 0) (me : SeatState T) (taken : Bool) (after : SeatState T)
+      : Type 0 where
+    pub hit : taken ≡ true → HasTaken learns me after
+    pub miss : taken ≡ false → after ≡ me
 
   -- what a pass has of the table's seat, outside and inside
   abbrev pub Sits : Known T → Option T → SeatState T → Type 0
@@ -120,6 +132,11 @@ module _ {T : Type 0} where
   abbrev pub SitsAs : PassState T → SeatState T → Type 0
   SitsAs pass me = Sits (known_of pass) pass.entered me
 
+  -- The same, and the number of the pass is below the number of seats.
+  pub record HasSeat (pass : PassState T) (me : SeatState T) : Type 0 where
+    pub sits : SitsAs pass me
+    pub below : pass.number < seats_of pass.turn
+
 -- a seat that is inside and has a value to leave
 abbrev pub MayPutBack : {T Entry Account : Type 0} → logged.Ghosts T Entry Account → SeatState T → T → Type 0
 MayPutBack {T} means me value =
@@ -130,8 +147,34 @@ MayPutBack {T} means me value =
 abbrev pub IsMarkedBy : {T : Type 0} → T → Marks T → Type 0
 IsMarkedBy value marks = (marks.start.value ≡ value) × (marks.last.value ≡ value)
 
--- the table has the two words and the one slot, and some pass
+-- the rule of a turn, over what its users mean by a value
+abbrev pub RuleOf : {T Entry Account : Type 0} → logged.Ghosts T Entry Account → ℕ → T → State (Option T) (View T)
+    → Type 0
+RuleOf means seats start = Rule (Follows means) (IsKept means seats start) seats start
+
+-- what a pass learns of its number and its start, and of the value, when it enters a turn
+pub record Learns {T Entry Account : Type 0} (means : logged.Ghosts T Entry Account) (turn : TurnState T) (number : ℕ)
+    (start last value : T) : Type 0 where
+  pub made : number < turn.seats
+  pub opened : start ≡ turn.start
+  pub follows : Follows means number start last value
+  pub kept : IsKept means turn.seats turn.start value
+
+-- What a pass learns when it enters the turn is at least this.
+abbrev pub Teaches : {T Entry Account : Type 0} → logged.Ghosts T Entry Account → TurnState T
+    → (ℕ → T → T → T → Type 0) → Type 0
+Teaches {T} means turn learns =
+    (n : ℕ) (start last value : T) → Learns means turn n start last value → learns n start last value
+
+-- the words at the opening
+pub record AreWords (seats ticket : ℕ) (words : List ℕ) : Type 0 where
+  pub count : length words ≡ bells_at + seats
+  pub drawn : slice_index words drawn_at ≡ ticket
+  pub served : slice_index words served_at ≡ ticket
+
+-- the table has a bell for each pass behind its other words, the one slot, and some pass
 pub record IsLaid (id : TableId) (seats : ℕ) : Type 0 where
-  pub two : id.words ≡ 2
+  pub bells : id.words ≡ bells_at + seats
   pub one : id.slots ≡ 1
   pub some_pass : 0 < seats
+  pub few : seats < 2 ^ 32

@@ -35,3 +35,21 @@ module _ {V Entry Account : Type 0} (means : logged.Ghosts V Entry Account) wher
   -- no entry has a number that no pass has
   abbrev pub IsNumbered : ℕ → V → Type 0
   IsNumbered seats value = All (λ e. means.number_of e < seats) (means.entries_of value)
+
+  -- the value is left by a number of turns, one after another, the first of which entered the start
+  pub data IsReached (seats : ℕ) (start : V) : V → Type 0 where
+    at_start : IsReached seats start start
+    by_turn : {entered value : V} → (number : ℕ) → number < seats → IsReached seats start entered
+        → Extends number start entered value → IsReached seats start value
+
+  -- what each turn keeps: the value comes from the start, by turns, and its entries have the numbers of passes
+  pub record IsKept (seats : ℕ) (start value : V) : Type 0 where
+    pub numbers : IsNumbered seats value
+    pub reached : IsReached seats start value
+
+  -- Each turn keeps R: where it holds of the start and of the value that a pass entered, it holds of each value that
+  -- this pass may leave.
+  abbrev pub IsKeptByTurns : ℕ → (V → V → Type 0) → Type 0
+  IsKeptByTurns seats R =
+      (number : ℕ) (start entered value : V) → number < seats → R start entered → Extends number start entered value
+      → R start value

@@ -10,13 +10,14 @@
 //! the same and the reach is no lower (`specs/Values.antt`).
 #![tactic(auto)]
 
+mod laws;
 mod logged;
 mod pass;
-#[cfg(test)]
-mod tests;
 mod turn;
 mod view;
+mod wait;
 
+pub use laws::{Relation, kept_by_turns};
 pub use logged::Logged;
 pub use pass::Pass;
 pub use turn::{Refused, Turn};

@@ -1,7 +1,8 @@
 //! A pass: what one user of a turn knows of the value. It depends on the views of the table's seats.
-ghost use Rattle.std.specs.Prelude.{◌≡◌, ◌∷◌, [], None};
+ghost use Rattle.std.specs.Prelude.{◌≡◌, ◌<◌, ◌∷◌, [], None};
+ghost use Rattle.tsdb_turn.specs.Passes.{seats_of};
 ghost use Rattle.tsdb_turn.specs.Rule.{view};
-ghost use Rattle.tsdb_turn.specs.Steps.{SitsAs, known_of, pass_state};
+ghost use Rattle.tsdb_turn.specs.Steps.{HasSeat, known_of, pass_state};
 ghost use Rattle.tsdb_turn.specs.declared.view.Stage.TheVariants.{Outside};
 
 use crate::view::{Marks, View};
@@ -23,19 +24,19 @@ pub struct Pass<V> {
 
 impl<V> Model for Pass<V> {
     ghost use Rattle.tsdb_turn.specs.Passes.{PassState};
-    ghost use Rattle.tsdb_turn.specs.Steps.{SitsAs, pass_state};
+    ghost use Rattle.tsdb_turn.specs.Steps.{HasSeat, pass_state};
 
     ghost Value = { PassState V };
 
     ghost view = { λ p. pass_state p.seat.table_id p.number p.marks p.entered };
 
-    ghost invariant = { λ p. SitsAs (pass_state p.seat.table_id p.number p.marks p.entered) p.seat.me };
+    ghost invariant = { λ p. HasSeat (pass_state p.seat.table_id p.number p.marks p.entered) p.seat.me };
 }
 
 impl<V> Pass<V> {
     // A pass whose seat has one number and is outside.
     pub(crate) fn outside(number: u32, seat: Seat<Option<V>, View<V>>, marks: Marks<V>) -> Pass<V>
-        requires { SitsAs (pass_state seat.table_id number marks None) seat.me }
+        requires { HasSeat (pass_state seat.table_id number marks None) seat.me }
         ensures { result ≡ pass_state seat.table_id number marks None }
     {
         Pass {
@@ -63,7 +64,8 @@ impl<V> Pass<V> {
 
     /// The number of the pass, below the number of seats of its turn.
     pub fn number(&self) -> u32
-        ensures { result ≡ self.now.number }
+        ensures number { result ≡ self.now.number }
+        ensures seats { result < seats_of self.now.turn }
     {
         self.number
     }

@@ -1,30 +1,38 @@
-//! The turn: two words for tickets, and one slot for the value. It depends on the rule in `view` and on `pass`.
+//! The turn: two words for tickets, a bell for each seat, and one slot for the value. It depends on the rule in `view`,
+//! on `pass`, and on `wait`, which has all that is done about sleepers.
 //!
-//! Word 0 counts the tickets that were drawn and word 1 those that were served, both modulo 2^64. A user draws a
-//! ticket, waits until it is the one that is served, and takes the value out of the slot. To leave, it puts a value
-//! into the slot and serves the next ticket.
+//! One word counts the tickets that were drawn and one those that were served, both modulo 2^64. A user draws a ticket,
+//! waits until it is the one that is served, and takes the value out of the slot. To leave, it puts a value into the
+//! slot and serves the next ticket.
 ghost use Rattle.std.specs.Prelude.{◌≡◌, ◌<◌, ◌^◌, [], ◌∷◌, IfOk, IfErr, All, Some, None, map, vec_len};
 ghost use Rattle.std.specs.Vec.{vec_capacity};
-ghost use Rattle.tsdb_turn.specs.Passes.{FollowsPass, MayLeave, IsOutside, IsLastOf, new_passes};
+ghost use Rattle.tsdb_turn.specs.Passes.{FollowsPass, MayLeave, IsOutside, IsLastOf, AreNumbered, new_passes, seats_of};
 ghost use Rattle.tsdb_turn.specs.Rule.{view};
-ghost use Rattle.tsdb_turn.specs.Steps.{Draws, HasTaken, Leaves, SitsOutside, SitsWaiting, HasSlot, MayPutBack};
-ghost use Rattle.tsdb_turn.specs.Steps.{IsMarkedBy, dealt, known_of};
-ghost use Rattle.tsdb_turn.specs.Values.{Follows, IsNumbered};
+ghost use Rattle.tsdb_turn.specs.Steps.{Draws, Leaves, SitsOutside, HasSlot, MayPutBack};
+ghost use Rattle.tsdb_turn.specs.Steps.{IsMarkedBy, AreWords, dealt, known_of};
+ghost use Rattle.tsdb_turn.specs.Values.{IsKept};
 ghost use Rattle.tsdb_turn.specs.declared.view.Stage.TheVariants.{Outside};
 
 use crate::logged::Logged;
 use crate::pass::Pass;
-use crate::view::{Await, Deal, Depart, Draw, Gather, Marks, Opened, TurnRule, View};
+use crate::view::{Deal, Depart, Draw, Gather, Marks, Opened, TurnRule, View};
 use atomic_table::{Refused as NoTable, Seat, Table};
 use std::alloc::{AllocError, Global};
-use std::marker::Model;
+use std::marker::{Brand, Model};
 use std::snapshot::Snapshot;
 use std::sync::Wait;
 
-// The tickets that were drawn, and those that were served.
-const DRAWN: usize = 0;
+// The words of the tickets that were drawn, and of those that were served. Each has 64 bytes of its own, so that a
+// thread which draws does not slow those that look.
+pub(crate) const DRAWN: usize = 0;
 
-const SERVED: usize = 1;
+pub(crate) const SERVED: usize = 8;
+
+// Where the bells begin.
+pub(crate) const BELLS: usize = 16;
+
+// The first ticket is drawn shortly before the tickets pass 2^64, so that every user and every test sees that.
+const FIRST_TICKET: u64 = u64::MAX - 500;
 
 /// There was no memory. The value comes back.
 #[derive(Drop)]
@@ -36,7 +44,7 @@ pub struct Refused<V> {
 ///
 /// Contracts see it as a `TurnState` of `specs/Passes.antt`.
 pub struct Turn<V: Logged> {
-    table: Table<Option<V>, View<V>, Opened<V>, TurnRule, Global>,
+    pub(crate) table: Table<Option<V>, View<V>, Opened<V>, TurnRule, Global>,
 }
 
 impl<V: Logged> Model for Turn<V> {
@@ -61,30 +69,13 @@ impl<V: Logged> Turn<V> {
         ensures passes { IfOk result (λ made. made.1.items ≡ new_passes made.0.id value 0 seats) }
         ensures refused { IfErr result (λ refused. refused.value ≡ value) }
     {
-        Turn::from_ticket(alloc, value, seats, 0)
-    }
-
-    // The first ticket is `ticket`.
-    pub(crate) fn from_ticket(
-        alloc: Global,
-        value: V,
-        seats: u32,
-        ticket: u64,
-    ) -> Result<(Turn<V>, Vec<Pass<V>>), Refused<V>>
-        requires seats { 0 < seats }
-        requires empty { V.entries_of value ≡ [] }
-        requires start { V.comes_from value value }
-        ensures turn { IfOk result (λ made. (made.0.start ≡ value) × (made.0.seats ≡ seats)) }
-        ensures passes { IfOk result (λ made. made.1.items ≡ new_passes made.0.id value 0 seats) }
-        ensures refused { IfErr result (λ refused. refused.value ≡ value) }
-    {
         let Ok(marks) = marks_of(alloc, &value, seats) else {
             return Err(Refused { value });
         };
         let Ok(mut passes) = Vec::with_capacity(alloc, seats as usize) else {
             return Err(Refused { value });
         };
-        let (turn, seat) = Turn::open(alloc, value, seats, ticket)?;
+        let (turn, seat) = Turn::open(alloc, value, seats)?;
         turn.deal(seat, marks, &mut passes);
         Ok((turn, passes))
     }
@@ -94,7 +85,6 @@ impl<V: Logged> Turn<V> {
         alloc: Global,
         value: V,
         seats: u32,
-        ticket: u64,
     ) -> Result<(Turn<V>, Seat<Option<V>, View<V>>), Refused<V>>
         requires seats { 0 < seats }
         requires empty { V.entries_of value ≡ [] }
@@ -104,6 +94,9 @@ impl<V: Logged> Turn<V> {
         ensures seat { IfOk result (λ made. made.1.me ≡ (view Outside (dealt value 0 seats), [])) }
         ensures refused { IfErr result (λ refused. refused.value ≡ value) }
     {
+        let Ok(words) = words_of(alloc, seats) else {
+            return Err(Refused { value });
+        };
         let Ok(mut slots) = Vec::with_capacity(alloc, 1) else {
             return Err(Refused { value });
         };
@@ -112,7 +105,7 @@ impl<V: Logged> Turn<V> {
             start: Snapshot::of(&value),
         };
         slots.push_reserved(Some(value));
-        match Table::new(alloc, &[ticket, ticket], slots, &about) {
+        match Table::new(alloc, words.as_slice(), slots, &about) {
             Ok((table, seat)) => Ok((Turn { table }, seat)),
             Err(NoTable { mut slots }) => {
                 let Some(Some(value)) = slots.pop() else {
@@ -147,15 +140,28 @@ impl<V: Logged> Turn<V> {
         }
     }
 
+    /// How many passes there are.
+    pub fn seats(&self) -> u32
+        ensures seats { result ≡ self.now.seats }
+        ensures own { result ≡ seats_of self.now.id }
+    {
+        (self.table.word_count() - BELLS) as u32
+    }
+
     /// Draws a ticket, waits until it is served and takes the value. It parks while it waits, and takes no memory.
     pub fn enter<R: Wait>(&self, rt: &R, pass: &mut Pass<V>) -> V
         requires { IsOutside self.now.id pass.old }
         ensures pass { pass.new ≡ record pass.old { entered = Some result } }
+        ensures number { pass.old.number < self.now.seats }
+        ensures start { pass.old.start ≡ self.now.start }
         ensures value { FollowsPass V.Logged pass.old result }
+        ensures kept { IsKept V.Logged self.now.seats self.now.start result }
     {
         let seat = &mut pass.seat;
+        // The ticket is drawn before the first look: a pass that leaves and sees no ticket out wakes nobody, and then
+        // this look finds that the ticket is served.
         let ticket = self.draw(seat);
-        self.wait(rt, seat, ticket);
+        self.wait::<Brand, R>(rt, seat, ticket);
         let value = self.take(seat);
         pass.entered = Some(Snapshot::of(&value));
         value
@@ -169,24 +175,6 @@ impl<V: Logged> Turn<V> {
         ensures ticket { Draws seat.old.me result seat.new.me }
     {
         self.table.shared.fetch_add::<Draw>(seat, DRAWN, 1)
-    }
-
-    // Waits until the ticket is served, and takes the slot.
-    fn wait<R: Wait>(&self, rt: &R, seat: &mut Seat<Option<V>, View<V>>, ticket: u64)
-        requires own { seat.old.table_id ≡ self.now.id }
-        requires waiting { SitsWaiting ticket seat.old.me }
-        ensures own { (seat.new.table_id ≡ seat.old.table_id) × (seat.new.id ≡ seat.old.id) }
-        ensures taken { HasTaken (Follows V.Logged) seat.old.me seat.new.me }
-    {
-        let shared = &self.table.shared;
-        for _ in rt.forever() {
-            let served = shared.load::<Await>(seat, SERVED);
-            if served == ticket {
-                return;
-            }
-            shared.park(rt, SERVED, (served % (1 << 32)) as u32);
-        }
-        unreachable!()
     }
 
     // Moves the value out of the slot.
@@ -225,10 +213,10 @@ impl<V: Logged> Turn<V> {
         let shared = &self.table.shared;
         let empty = shared.exchange(seat, 0, Some(value));
         let None = empty else { unreachable!() };
+        // The ticket is served before anybody is woken: a pass that announces its sleep too late for `wake_next` looks
+        // once more behind that, and finds its ticket served.
         let served = shared.fetch_add::<Depart>(seat, SERVED, 1).wrapping_add(1);
-        if shared.peek(DRAWN) != served {
-            shared.wake_all(SERVED);
-        }
+        self.wake_next(seat, served);
     }
 
     /// Takes all passes and gives the value. It takes no memory.
@@ -237,7 +225,8 @@ impl<V: Logged> Turn<V> {
         requires outside { All (IsOutside self.id) passes.items }
         ensures value { All (λ pass. FollowsPass V.Logged pass result) passes.items }
         ensures last { IsLastOf passes.items result }
-        ensures numbers { IsNumbered V.Logged self.seats result }
+        ensures passes { AreNumbered self.seats passes.items }
+        ensures kept { IsKept V.Logged self.seats self.start result }
     {
         let seat = self.gather(passes);
         let Turn { table } = self;
@@ -279,4 +268,14 @@ fn marks_of<V>(alloc: Global, value: &V, seats: u32) -> Result<Vec<Marks<V>>, Al
         marks.push_reserved(Marks::of(value));
     }
     Ok(marks)
+}
+
+// The words at the opening: the first ticket at two places, and bells that nobody waits for.
+fn words_of(alloc: Global, seats: u32) -> Result<Vec<u64>, AllocError>
+    ensures { IfOk result (λ words. AreWords seats FIRST_TICKET words.items) }
+{
+    let mut words = vec![in alloc; 0u64; BELLS + seats as usize]?;
+    words[DRAWN] = FIRST_TICKET;
+    words[SERVED] = FIRST_TICKET;
+    Ok(words)
 }

@@ -1,14 +1,14 @@
 //! What a seat of the table knows, the rule that every atomic step keeps, and what each step does. It depends on
 //! `atomic_table`.
 ghost use Rattle.std.specs.Prelude.{◌≡◌, ℕ};
-ghost use Rattle.tsdb_turn.specs.Rule.{Rule, view};
-ghost use Rattle.tsdb_turn.specs.Steps.{dealt, rest_of, first_of, join_views, spent, Draws, Reads, Departs};
-ghost use Rattle.tsdb_turn.specs.Values.{Follows, IsNumbered};
+ghost use Rattle.tsdb_turn.specs.Rule.{view};
+ghost use Rattle.tsdb_turn.specs.Steps.{RuleOf, dealt, rest_of, first_of, join_views, spent, Draws, Reads, Departs};
 ghost use Rattle.tsdb_turn.specs.declared.view.Stage.TheVariants.{Outside, Waiting};
 
 use crate::logged::Logged;
 use atomic_table::{Join, Play, Split, TableRule};
 use std::collections::LinkedList;
+use std::marker::{Brand, PhantomData};
 use std::snapshot::Snapshot;
 
 /// Where a seat stands. Its ticket has no upper bound here; the words have it modulo 2^64. No value of it is made.
@@ -62,7 +62,7 @@ impl<V> Marks<V> {
 pub struct TurnRule;
 
 impl<V: Logged> TableRule<Option<V>, View<V>, Opened<V>> for TurnRule {
-    ghost holds = { λ key. Rule (Follows V.Logged) (IsNumbered V.Logged key.seats) key.seats key.start.value };
+    ghost holds = { λ key. RuleOf V.Logged key.seats key.start.value };
 
     ghost first = { λ key. view Outside (dealt key.start.value 0 key.seats) };
 }
@@ -92,11 +92,30 @@ impl<T> Play<Option<T>, View<T>> for Draw {
     ghost then = { λ st me found after. Draws me found after };
 }
 
-/// Reads which ticket is served, and takes the slot where it is the own one.
-pub struct Await;
+/// What a seat learns when it takes the slot. It speaks of one turn, which a step cannot name, so each call picks it.
+pub trait Lesson<T> {
+    // Of the number, its start, the value as it was last left under it, and the value in the slot.
+    ghost learns: { ℕ → T → T → T → Type 0 };
+}
 
-impl<V: Logged> Play<Option<V>, View<V>> for Await {
-    ghost then = { λ st me found after. (t : ℕ) → me.0.stage ≡ Waiting t → Reads (Follows V.Logged) t me found after };
+impl<T> Lesson<T> for Brand {
+    ghost learns = { λ number start last value. Unit {0} };
+}
+
+/// Reads which ticket is served, and takes the slot where it is the own one.
+pub struct Await<L> {
+    lesson: PhantomData<L>,
+}
+
+impl<T, L: Lesson<T>> Play<Option<T>, View<T>> for Await<L> {
+    ghost then = { λ st me found after. (t : ℕ) → me.0.stage ≡ Waiting t → Reads L.learns t me found after };
+}
+
+/// Changes a bell, which tells nothing.
+pub struct Ring;
+
+impl<T> Play<Option<T>, View<T>> for Ring {
+    ghost then = { λ st me found after. after ≡ me };
 }
 
 /// Gives the slot back and serves the next ticket.

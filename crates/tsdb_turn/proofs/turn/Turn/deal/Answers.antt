@@ -1,8 +1,8 @@
-use Rattle.std.proofs.Common.{◌≡◌, ◌+◌, rules, List, [], ◌∷◌, ◌++◌, None, Some, suc, vec_len, ap, sym, ◌∙◌, arith}
+use Rattle.std.proofs.Common.{◌≡◌, ◌+◌, rules, List, [], ◌∷◌, ◌++◌, None, Some, suc, vec_len, ◌<◌, ap, sym, subst, ◌∙◌, arith}
 use Rattle.std.proofs.lemmas.List.Elements.{All-pop}
-use Rattle.tsdb_turn.specs.Passes.{PassState, new_pass, new_passes}
-use Rattle.tsdb_turn.specs.Rule.{known, view}
-use Rattle.tsdb_turn.specs.Values.{Follows, IsNumbered}
+use Rattle.tsdb_turn.specs.Passes.{PassState, TurnState, seats_of, new_pass, new_passes}
+use Rattle.tsdb_turn.specs.Rule.{bells_at, known, view}
+use Rattle.tsdb_turn.specs.Values.{Follows, IsKept}
 use Rattle.tsdb_turn.specs.declared.view.Marks.{Marks}
 use Rattle.tsdb_turn.specs.declared.view.Stage.TheVariants.{Outside}
 use Rattle.tsdb_turn.proofs.Seats.{splits, dealt_parts, passes_more}
@@ -15,7 +15,7 @@ split_seat-own-requires g c =
     let seat = c.loop-own_marks.seat in (
       search rules,
       omega arith,
-      splits (Follows g.V.Logged) (IsNumbered g.V.Logged seats) seats shared.key.start.value seat.id seat.me.0 (ap (λ m. m.0.stage) c.loop-own_marks.invariant.seat),
+      splits (Follows g.V.Logged) (IsKept g.V.Logged seats shared.key.start.value) seats shared.key.start.value seat.id seat.me.0 (ap (λ m. m.0.stage) c.loop-own_marks.invariant.seat),
     )
 
 pub outside-requires : goal.outside-requires
@@ -24,7 +24,12 @@ outside-requires g c =
     let n = c.loop-own_marks.number in
     let own = (All-pop (λ (m : Marks g.row.V.Denot). (m.start.value ≡ start) × (m.last.value ≡ start)) c.loop-own_marks.marks.items c.pop.new.self.items (Some c.in-Some.own_marks) c.in-Some.ensures.items c.loop-own_marks.invariant.marks).1 in
     let parts = dealt_parts c.loop-own_marks.seat.me start n (vec_len c.pop.new.self) (vec_len c.loop-own_marks.marks) (omega (arith, c.in-Some.ensures.cases)) c.loop-own_marks.invariant.seat in
-    c.split_seat-own.ensures.4 ∙ (λ i. (parts.0 i, [])) ∙ (λ i. (view Outside (known n (sym own.0 i) (sym own.1 i) ∷ []), []))
+    let words = subst (λ (t : TurnState g.row.V.Denot). t.id.words ≡ bells_at + t.seats) c.self.view_is c.self.invariant.bells in
+    let count = c.loop-own_marks.invariant.count in
+    record {
+      sits = c.split_seat-own.ensures.4 ∙ (λ i. (parts.0 i, [])) ∙ (λ i. (view Outside (known n (sym own.0 i) (sym own.1 i) ∷ []), []));
+      below = subst (λ id. n < seats_of id) (sym (c.split_seat-own.ensures.3 ∙ c.loop-own_marks.invariant.table)) (omega (arith, c.in-Some.ensures.cases));
+    }
 
 pub loop-own_marks-preserved : goal.loop-own_marks-preserved
 loop-own_marks-preserved g c =

@@ -10,5 +10,5 @@ put_back-requires-clause-inside g c =
     let p = c.pass.inside in
     let k = known p.number p.marks.start.value p.marks.last.value in
     let owed = subst (λ (q : PassState g.row.V.Denot). IsSomeAnd q.entered (λ e. Extends g.V.Logged q.number q.start e c.args.value)) (sym c.pass.view_is) c.requires.value in
-    let h = sits_inside k (option_map (λ s. s.value) p.entered) p.seat.me (λ e. Extends g.V.Logged k.number k.start e c.args.value) c.pass.invariant owed in
+    let h = sits_inside k (option_map (λ s. s.value) p.entered) p.seat.me (λ e. Extends g.V.Logged k.number k.start e c.args.value) c.pass.invariant.sits owed in
     (h.0, k, h.1, h.2, h.3)

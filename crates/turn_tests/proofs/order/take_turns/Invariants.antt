@@ -1,6 +1,6 @@
 use Rattle.std.proofs.Common.{◌≡◌}
 use Rattle.tsdb_turn.specs.Passes.{IsOutside}
-use Rattle.tsdb_turn.proofs.tests.take_turns.Given as goal
+use Rattle.turn_tests.proofs.order.take_turns.Given as goal
 
 abbrev pub invariant-loop-place : goal.invariant-loop-place
 invariant-loop-place g l = record {

@@ -1,7 +1,7 @@
 use denote.Param.Send.{sendable}
 use Rattle.std.proofs.Crossing.{crosses}
 use Rattle.tsdb_turn.proofs.Crossing.{pass_send}
-use Rattle.tsdb_turn.proofs.tests.take_turns_in_threads.Goals as goal
+use Rattle.turn_tests.proofs.order.take_turns_in_threads.Goals as goal
 
 pub for_each_mut-requires-send-T : goal.for_each_mut-requires-send-T
 for_each_mut-requires-send-T g c κs within = search (sendable, crosses, pass_send) depth 40

@@ -1,7 +1,7 @@
 use Rattle.std.proofs.Common.{length, All, ap, sym, subst, ◌∙◌}
 use Rattle.tsdb_turn.specs.Passes.{IsOutside}
 use Rattle.tsdb_turn.proofs.Passes.{length-new_passes, new_passes-outside}
-use Rattle.tsdb_bench.proofs.turns.contend.Goals as goal
+use Rattle.tsdb_bench.proofs.turns.run_turns.Goals as goal
 
 pub take_turns_in_threads-requires-clause-outside : goal.take_turns_in_threads-requires-clause-outside
 take_turns_in_threads-requires-clause-outside g c κs within =

@@ -1,0 +1,15 @@
+use Rattle.std.proofs.Common.{rules, ◌+◌, ◌%◌, ◌^◌, arith, ap}
+use Rattle.tsdb_turn.specs.Values.{Follows, IsKept}
+use Rattle.tsdb_turn.proofs.Steps.{rings}
+use Rattle.tsdb_turn.proofs.turn.Turn.wake_next.Goals as goal
+
+pub fetch_add-requires : goal.fetch_add-requires
+fetch_add-requires g c =
+    let shared = c.self.inside.table.shared in
+    let seat = c.loop-ahead.seat in
+    let words = ap (λ t. t.id.words) c.self.view_is in
+    let word = c.bell_of-bell.ensures.word in (
+      search rules,
+      omega arith,
+      rings (Follows g.V.Logged) (IsKept g.V.Logged shared.key.seats shared.key.start.value) shared.key.seats shared.key.start.value shared.table_id.slots seat.id c.bell_of-bell.result seat.me (λ n. (n + 1) % 2 ^ 64) c.bell_of-bell.ensures.bell,
+    )
