@@ -9,6 +9,3 @@ mod watermarks;
 
 pub use pair::Pair;
 pub use watermarks::{Watermarks, space_of};
-
-#[cfg(test)]
-mod tests;

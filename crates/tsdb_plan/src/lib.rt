@@ -10,8 +10,6 @@ mod entry;
 mod inner_plan;
 mod laws;
 mod overlap;
-#[cfg(test)]
-mod tests;
 
 pub use cross_plan::cross;
 pub use entry::{CrossRun, FileEntry, Hull, Run};
