@@ -6,6 +6,3 @@ mod marks;
 mod stretches;
 
 pub use marks::{Mark, Marks};
-
-#[cfg(test)]
-mod tests;

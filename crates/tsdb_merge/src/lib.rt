@@ -8,8 +8,6 @@
 mod head;
 mod merge;
 mod points;
-#[cfg(test)]
-mod tests;
 mod tree;
 
 pub use merge::{Merge, merge_is_one};

@@ -2,10 +2,10 @@
 ghost use Rattle.std.specs.Prelude.{◌≡◌, ◌<◌, ◌^◌, ◌≤◌};
 ghost use Rattle.std.specs.Vec.Iter.{into_iter_items};
 
-use super::*;
 use std::alloc::{AllocError, Global};
 use std::test::Fail;
 use tsdb_base::{Point, Value};
+use tsdb_merge::{ListPoints, Merge, Points, PullFault, is_rising};
 
 fn crosses_threads<T: Send>(_value: &T) {}
 
@@ -72,16 +72,34 @@ fn merged(alloc: Global, sources: Vec<ListPoints>) -> Result<Vec<Point>, Fail> {
     Err(Fail::from("no end"))
 }
 
+/// Whether the points have these times and are of these sources.
+fn are_points(points: &[Point], wanted: &[(i64, i64)]) -> bool {
+    points.len() == wanted.len()
+        && points.iter().zip(wanted).all(|(found, (time, source))| found.time == *time
+            && found.value == Value::I64(*source))
+}
+
+/// Whether the sources of the table are merged to these points.
+fn merges_to(
+    alloc: Global,
+    table: &[(u8, i64)],
+    count: u8,
+    wanted: &[(i64, i64)],
+) -> Result<bool, Fail> {
+    let found = merged(alloc, sources(alloc, table, count)?)?;
+    Ok(are_points(&found, wanted))
+}
+
+const TABLE: [(u8, i64); 3] = [(0, 1), (1, 2), (2, 2)];
+
+const ENDS: [(u8, i64); 4] = [(0, i64::MIN), (1, i64::MIN), (0, i64::MAX), (1, i64::MAX)];
+
 #[test]
 fn the_last_source_wins(rt: HostRuntime) -> Result<(), Fail> {
     let alloc = rt.alloc();
-    let table = [(0, 1), (1, 2), (2, 2)];
-    let wanted = vec![in alloc; point(1, 0), point(2, 2)]?;
-    assert_eq!(rt; merged(alloc, sources(alloc, &table, 3)?)?, wanted);
-    let ends = [(0, i64::MIN), (1, i64::MIN), (0, i64::MAX), (1, i64::MAX)];
-    let wanted = vec![in alloc; point(i64::MIN, 1), point(i64::MAX, 1)]?;
-    assert_eq!(rt; merged(alloc, sources(alloc, &ends, 2)?)?, wanted);
-    assert_eq!(rt; merged(alloc, Vec::new(alloc))?, Vec::new(alloc));
+    assert!(rt; merges_to(alloc, &TABLE, 3, &[(1, 0), (2, 2)])?);
+    assert!(rt; merges_to(alloc, &ENDS, 2, &[(i64::MIN, 1), (i64::MAX, 1)])?);
+    assert!(rt; merges_to(alloc, &[], 0, &[])?);
     assert!(rt; !is_rising(&[point(1, 0), point(1, 0)]));
     assert!(rt; is_rising(&[point(1, 0), point(2, 0)]));
     Ok(())
@@ -187,26 +205,39 @@ fn faults(alloc: Global, merge: &mut Merge<Failing>) -> Result<Vec<PullFault>, A
     Ok(found)
 }
 
+/// Whether the fault of one source behind some points is the answer from then on.
+fn is_repeated(alloc: Global, which: u8, before: u64, fault: PullFault) -> Result<bool, Fail> {
+    let mut merge = make_failing(alloc, which, before, fault)?;
+    let found = faults(alloc, &mut merge)?;
+    Ok(!found.is_empty() && found.iter().all(|one| *one == fault) && merge.pull() == Err(fault))
+}
+
+/// Whether the source that would fail at its fifth pull is never asked for it.
+fn is_not_asked_again(alloc: Global, fault: PullFault) -> Result<bool, Fail> {
+    let mut merge = make_failing(alloc, 2, 4, fault)?;
+    Ok(faults(alloc, &mut merge)?.is_empty())
+}
+
+/// Whether the fault is repeated whichever source has it, and behind however many points.
+fn is_always_repeated(alloc: Global, fault: PullFault) -> Result<bool, Fail> {
+    for which in 0..3u8 {
+        for before in 0..4u64 {
+            if !is_repeated(alloc, which, before, fault)? {
+                return Ok(false);
+            }
+        }
+    }
+    is_not_asked_again(alloc, fault)
+}
+
 #[test]
 fn a_fault_is_repeated(rt: HostRuntime) -> Result<(), Fail> {
-    let alloc = rt.alloc();
     for fault in [
         PullFault::Failed,
         PullFault::Damaged { at: 7 },
         PullFault::Memory,
     ] {
-        for which in 0..3u8 {
-            for before in 0..4u64 {
-                let mut merge = make_failing(alloc, which, before, fault)?;
-                let found = faults(alloc, &mut merge)?;
-                assert!(rt; !found.is_empty());
-                assert!(rt; found.iter().all(|one| *one == fault));
-                assert_eq!(rt; merge.pull(), Err(fault));
-            }
-        }
-        // No pull asks the source for a fifth time.
-        let mut merge = make_failing(alloc, 2, 4, fault)?;
-        assert!(rt; faults(alloc, &mut merge)?.is_empty());
+        assert!(rt; is_always_repeated(rt.alloc(), fault)?);
     }
     Ok(())
 }
