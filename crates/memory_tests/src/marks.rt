@@ -29,13 +29,17 @@ fn covers_until_purged(marks: &mut Marks, series: &[Path; 1]) -> Result<bool, Fa
     Ok(is_covered && is_newer && listed == 1 && is_purged)
 }
 
-#[test]
-fn one_mark(rt: HostRuntime) -> Result<(), Fail> {
-    let alloc = rt.alloc();
+fn one_mark_covers(alloc: Global) -> Result<bool, Fail> {
+    let series = [Path::read(alloc, b"root.g.d.s")?];
     let mut marks = Marks::new(alloc);
     marks.reserve()?;
     marks.add(mark(alloc, b"root.g.d.s", 1, 5, 4)?);
-    assert!(rt; covers_until_purged(&mut marks, &[Path::read(alloc, b"root.g.d.s")?])?);
+    covers_until_purged(&mut marks, &series)
+}
+
+#[test]
+fn one_mark(rt: HostRuntime) -> Result<(), Fail> {
+    assert!(rt; one_mark_covers(rt.alloc())?);
     Ok(())
 }
 
@@ -143,14 +147,23 @@ fn keeps_only(marks: &Marks, paths: &Paths) -> Result<bool, Fail> {
     Ok(only.marks().len() == 2 && has_ninth && only.survives(&paths.here, MIN, Stamp(0)))
 }
 
+/// Whether all is as wanted once all marks are there, and once they are purged.
+fn ends_as_wanted(marks: &mut Marks, paths: &Paths) -> Result<bool, Fail> {
+    let is_kept = meets_as_wanted(marks, &paths.here) && keeps_only(marks, paths)?;
+    marks.purge(None);
+    Ok(is_kept && marks.survives(&paths.here, MIN, Stamp(0)))
+}
+
+/// Whether the marks answer as the list does, and are at last as wanted.
+fn marks_agree(alloc: Global) -> Result<bool, Fail> {
+    let paths = read_paths(alloc)?;
+    let mut marks = Marks::new(alloc);
+    let wrong = first_wrong(alloc, &mut marks, &paths)?;
+    Ok(wrong.is_none() && ends_as_wanted(&mut marks, &paths)?)
+}
+
 #[test]
 fn marks_beside_a_slow_list(rt: HostRuntime) -> Result<(), Fail> {
-    let paths = read_paths(rt.alloc())?;
-    let mut marks = Marks::new(rt.alloc());
-    let wrong = first_wrong(rt.alloc(), &mut marks, &paths)?;
-    assert_eq!(rt; wrong, None);
-    assert!(rt; meets_as_wanted(&marks, &paths.here) && keeps_only(&marks, &paths)?);
-    marks.purge(None);
-    assert!(rt; marks.survives(&paths.here, MIN, Stamp(0)));
+    assert!(rt; marks_agree(rt.alloc())?);
     Ok(())
 }

@@ -25,19 +25,25 @@ fn source(points: Vec<Point>) -> Result<ListPoints, Fail> {
     }
 }
 
+/// The points that a table has for the source at this place.
+fn points_of(alloc: Global, table: &[(u8, i64)], k: u8) -> Result<Vec<Point>, Fail> {
+    let mut points = Vec::new(alloc);
+    for (place, time) in table {
+        if *place == k {
+            points
+                .push(point(*time, i64::from(k)))
+                .map_err(AllocError::from)?;
+        }
+    }
+    Ok(points)
+}
+
 /// The sources of a table: a point for each pair of a source and a time, in the order of the sources.
 fn sources(alloc: Global, table: &[(u8, i64)], count: u8) -> Result<Vec<ListPoints>, Fail> {
     let mut list = Vec::new(alloc);
     for k in 0..count {
-        let mut points = Vec::new(alloc);
-        for (place, time) in table {
-            if *place == k {
-                points
-                    .push(point(*time, i64::from(k)))
-                    .map_err(AllocError::from)?;
-            }
-        }
-        list.push(source(points)?).map_err(AllocError::from)?;
+        list.push(source(points_of(alloc, table, k)?)?)
+            .map_err(AllocError::from)?;
     }
     Ok(list)
 }
@@ -58,9 +64,8 @@ fn slow_merge(alloc: Global, table: &[(u8, i64)], count: u8) -> Result<Vec<Point
     Ok(merged)
 }
 
-fn merged(alloc: Global, sources: Vec<ListPoints>) -> Result<Vec<Point>, Fail> {
-    let mut merge = Merge::new(alloc, sources)?;
-    crosses_threads(&merge);
+/// All points of a merge of lists.
+fn pull_all(alloc: Global, merge: &mut Merge<ListPoints>) -> Result<Vec<Point>, Fail> {
     let mut points = Vec::new(alloc);
     for _ in 0..100 {
         match merge.pull() {
@@ -72,6 +77,12 @@ fn merged(alloc: Global, sources: Vec<ListPoints>) -> Result<Vec<Point>, Fail> {
     Err(Fail::from("no end"))
 }
 
+fn merged(alloc: Global, sources: Vec<ListPoints>) -> Result<Vec<Point>, Fail> {
+    let mut merge = Merge::new(alloc, sources)?;
+    crosses_threads(&merge);
+    pull_all(alloc, &mut merge)
+}
+
 /// Whether the points have these times and are of these sources.
 fn are_points(points: &[Point], wanted: &[(i64, i64)]) -> bool {
     points.len() == wanted.len()
@@ -79,46 +90,69 @@ fn are_points(points: &[Point], wanted: &[(i64, i64)]) -> bool {
             && found.value == Value::I64(*source))
 }
 
-/// Whether the sources of the table are merged to these points.
-fn merges_to(
-    alloc: Global,
-    table: &[(u8, i64)],
-    count: u8,
-    wanted: &[(i64, i64)],
-) -> Result<bool, Fail> {
-    let found = merged(alloc, sources(alloc, table, count)?)?;
-    Ok(are_points(&found, wanted))
+/// Sources as a table, how many there are, and times and sources of the points of their merge.
+type MergeRow = (&'static [(u8, i64)], u8, &'static [(i64, i64)]);
+
+const MERGES: [MergeRow; 3] = [
+    (&[(0, 1), (1, 2), (2, 2)], 3, &[(1, 0), (2, 2)]),
+    (
+        &[(0, i64::MIN), (1, i64::MIN), (0, i64::MAX), (1, i64::MAX)],
+        2,
+        &[(i64::MIN, 1), (i64::MAX, 1)],
+    ),
+    (&[], 0, &[]),
+];
+
+/// The first row of the table that is merged otherwise.
+fn first_wrong_merge(alloc: Global) -> Result<Option<usize>, Fail> {
+    for (row, (table, count, wanted)) in MERGES.iter().enumerate() {
+        let found = merged(alloc, sources(alloc, table, *count)?)?;
+        if !are_points(&found, wanted) {
+            return Ok(Some(row));
+        }
+    }
+    Ok(None)
 }
 
-const TABLE: [(u8, i64); 3] = [(0, 1), (1, 2), (2, 2)];
-
-const ENDS: [(u8, i64); 4] = [(0, i64::MIN), (1, i64::MIN), (0, i64::MAX), (1, i64::MAX)];
+/// Whether times that are equal do not rise, and times one behind the other do.
+fn tells_rising() -> bool {
+    !is_rising(&[point(1, 0), point(1, 0)]) && is_rising(&[point(1, 0), point(2, 0)])
+}
 
 #[test]
 fn the_last_source_wins(rt: HostRuntime) -> Result<(), Fail> {
-    let alloc = rt.alloc();
-    assert!(rt; merges_to(alloc, &TABLE, 3, &[(1, 0), (2, 2)])?);
-    assert!(rt; merges_to(alloc, &ENDS, 2, &[(i64::MIN, 1), (i64::MAX, 1)])?);
-    assert!(rt; merges_to(alloc, &[], 0, &[])?);
-    assert!(rt; !is_rising(&[point(1, 0), point(1, 0)]));
-    assert!(rt; is_rising(&[point(1, 0), point(2, 0)]));
+    let wrong = first_wrong_merge(rt.alloc())?;
+    assert_eq!(rt; wrong, None);
+    assert!(rt; tells_rising());
     Ok(())
+}
+
+/// The pairs of a source and a time whose bits are chosen.
+fn table_of(alloc: Global, chosen: u32, bits: u8, times: u8) -> Result<Vec<(u8, i64)>, Fail>
+    requires { bits ≤ 16 }
+{
+    let mut table = Vec::new(alloc);
+    for bit in 0..bits {
+        if chosen >> bit & 1 == 1 {
+            let time = i64::from(bit.checked_rem(times).unwrap_or(0));
+            let place = bit.checked_div(times).unwrap_or(0);
+            table.push((place, time)).map_err(AllocError::from)?;
+        }
+    }
+    Ok(table)
+}
+
+/// Whether the merge of the table's sources is the slow one.
+fn is_slow_merge(alloc: Global, table: &[(u8, i64)], count: u8) -> Result<bool, Fail> {
+    let found = merged(alloc, sources(alloc, table, count)?)?;
+    Ok(found == slow_merge(alloc, table, count)?)
 }
 
 /// Up to `count` sources, each with any of the times below `times`, beside the slow merge.
 fn all_tables(alloc: Global, count: u8, times: u8) -> Result<bool, Fail> {
     let bits = count.saturating_mul(times).min(16);
     for chosen in 0..1u32 << bits {
-        let mut table = Vec::new(alloc);
-        for bit in 0..bits {
-            if chosen >> bit & 1 == 1 {
-                let time = i64::from(bit.checked_rem(times).unwrap_or(0));
-                let place = bit.checked_div(times).unwrap_or(0);
-                table.push((place, time)).map_err(AllocError::from)?;
-            }
-        }
-        let found = merged(alloc, sources(alloc, &table, count)?)?;
-        if found != slow_merge(alloc, &table, count)? {
+        if !is_slow_merge(alloc, &table_of(alloc, chosen, bits, times)?, count)? {
             return Ok(false);
         }
     }
@@ -167,23 +201,28 @@ impl Points for Failing {
     ghost rising = { λ f. f.points.rising };
 }
 
+/// Three points of a source, in order of time.
+fn three_points(alloc: Global, k: u8) -> Result<ListPoints, Fail> {
+    let of = i64::from(k);
+    let mut points = Vec::new(alloc);
+    for time in [of, 10, 20 + of] {
+        points.push(point(time, of)).map_err(AllocError::from)?;
+    }
+    source(points)
+}
+
 /// Three sources of three points each, of which one fails behind some points.
-fn make_failing(
+fn failing_sources(
     alloc: Global,
     which: u8,
     before: u64,
     fault: PullFault,
-) -> Result<Merge<Failing>, Fail> {
+) -> Result<Vec<Failing>, Fail> {
     let mut list = Vec::new(alloc);
     for k in 0..3u8 {
-        let first = i64::from(k);
-        let points = vec![in alloc;
-            point(first, first),
-            point(10, first),
-            point(20 + first, first),
-        ]?;
+        let points = three_points(alloc, k)?;
         let one = Failing {
-            points: source(points)?,
+            points,
             before: if k == which { before } else { 100 },
             fault,
             failures: 0,
@@ -191,7 +230,16 @@ fn make_failing(
         };
         list.push(one).map_err(AllocError::from)?;
     }
-    Ok(Merge::new(alloc, list)?)
+    Ok(list)
+}
+
+fn make_failing(
+    alloc: Global,
+    which: u8,
+    before: u64,
+    fault: PullFault,
+) -> Result<Merge<Failing>, Fail> {
+    Ok(Merge::new(alloc, failing_sources(alloc, which, before, fault)?)?)
 }
 
 /// The answers of a merge from its first fault on, up to the tenth pull.
@@ -205,17 +253,32 @@ fn faults(alloc: Global, merge: &mut Merge<Failing>) -> Result<Vec<PullFault>, A
     Ok(found)
 }
 
+/// Whether ten pulls meet the fault, and no other.
+fn meets_only(alloc: Global, merge: &mut Merge<Failing>, fault: PullFault) -> Result<bool, Fail> {
+    let found = faults(alloc, merge)?;
+    Ok(!found.is_empty() && found.iter().all(|one| *one == fault))
+}
+
+/// Whether the fault is the answer of one more pull.
+fn answers_again(merge: &mut Merge<Failing>, fault: PullFault) -> bool {
+    merge.pull().err() == Some(fault)
+}
+
 /// Whether the fault of one source behind some points is the answer from then on.
 fn is_repeated(alloc: Global, which: u8, before: u64, fault: PullFault) -> Result<bool, Fail> {
     let mut merge = make_failing(alloc, which, before, fault)?;
-    let found = faults(alloc, &mut merge)?;
-    Ok(!found.is_empty() && found.iter().all(|one| *one == fault) && merge.pull() == Err(fault))
+    Ok(meets_only(alloc, &mut merge, fault)? && answers_again(&mut merge, fault))
+}
+
+/// Whether ten pulls meet no fault.
+fn has_no_fault(alloc: Global, merge: &mut Merge<Failing>) -> Result<bool, Fail> {
+    Ok(faults(alloc, merge)?.is_empty())
 }
 
 /// Whether the source that would fail at its fifth pull is never asked for it.
 fn is_not_asked_again(alloc: Global, fault: PullFault) -> Result<bool, Fail> {
     let mut merge = make_failing(alloc, 2, 4, fault)?;
-    Ok(faults(alloc, &mut merge)?.is_empty())
+    has_no_fault(alloc, &mut merge)
 }
 
 /// Whether the fault is repeated whichever source has it, and behind however many points.
