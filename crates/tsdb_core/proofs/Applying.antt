@@ -134,6 +134,39 @@ module _ {J F : Type 0} {means : disk.Ghosts J} {counts : counted.Ghosts J} wher
   no_memory old new command item (Err memory) error order same =
       record { order = order_with 1 old.next_file (memory_of old) order; is = tt; log = same }
 
+  -- the series is there already
+  pub create_exists : (old : Core J F means counts) (schema : Schema) (found : Bool)
+      → IsInOrder (state_with 1 (memory_of old))
+      → found ≡ is_some (type_at (memory_of old).schemas schema.path) → found ≡ true
+      → IsApplied old old (Create schema) (create_record schema) Exists
+  create_exists old schema found order has there = record {
+    order = order_with 1 old.next_file (memory_of old) order;
+    is = ap (λ b. cond b Exists Done) (sym has ∙ there);
+    log = refl;
+  }
+
+  -- the series is not there
+  pub delete_no_path : (old : Core J F means counts) (path : List ℕ) (range : Range) (found : Bool)
+      → IsInOrder (state_with 1 (memory_of old))
+      → found ≡ is_some (type_at (memory_of old).schemas path) → found ≡ false
+      → IsApplied old old (Delete path range) (item.Delete path range) NoPath
+  delete_no_path old path range found order has free = record {
+    order = order_with 1 old.next_file (memory_of old) order;
+    is = ap (λ b. cond b Done NoPath) (sym has ∙ free);
+    log = refl;
+  }
+
+  -- the stamps are used up
+  pub full_applied : (old : Core J F means counts) (command : Command) (item : LogRecord) (counter : ℕ)
+      → IsInOrder (state_with 1 (memory_of old)) → answer_in (memory_of old).schemas command ≡ Done
+      → counter ≡ (memory_of old).stamp → counter ≡ end_of_numbers
+      → IsApplied old old command item (Full counter)
+  full_applied old command item counter order is value end = record {
+    order = order_with 1 old.next_file (memory_of old) order;
+    is = (is, sym value ∙ end, value);
+    log = refl;
+  }
+
   pub create_applied : (old new : Core J F means counts) (schema : Schema) (payload : List ℕ)
       (outcome : Result (Unit {0}) Failed) (answer : Answer) (counter : ℕ) (found : Bool)
       → IsInOrder (state_with 1 (memory_of old)) → IsSchema schema

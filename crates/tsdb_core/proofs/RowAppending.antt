@@ -1,14 +1,16 @@
 -- What the private calls of a row leave, from the answers of their parts.
 use Rattle.std.proofs.Common.{◌≡◌, ◌⊎◌, inl, inr, ℕ, ◌<◌, ◌≤◌, ℤ, List, length, Result, Ok, Err, refl, sym, ap, subst}
-use Rattle.std.proofs.Common.{◌∙◌}
+use Rattle.std.proofs.Common.{◌≢◌, ◌∙◌, Bool, true, false, ⊎_elim, cond}
 use Rattle.std.specs.Prelude.{IfOk, OnErr, OnOk}
-use Rattle.tsdb_base.specs.declared.answers.Answer.TheVariants.{Device, Full}
+use Rattle.tsdb_base.specs.declared.answers.Answer.{Answer}
+use Rattle.tsdb_base.specs.declared.answers.Answer.TheVariants as answers
+use Rattle.tsdb_base.specs.declared.answers.Answer.TheVariants.{Device, Done, Full, NoPath, WrongType}
 use Rattle.tsdb_base.specs.declared.fault.Memory.{Memory}
 use Rattle.tsdb_core.proofs.Appending.{outcome_of}
 use Rattle.tsdb_core.proofs.Inserting.{inserted, with_row}
 use Rattle.tsdb_core.proofs.RowPlaces.{insert_is_done, as_many, can_insert}
 use Rattle.tsdb_core.proofs.RowOutcomes.{placed_fits, placed_memory}
-use Rattle.tsdb_core.specs.Calls.{FitsPair, IsPairLimit}
+use Rattle.tsdb_core.specs.Calls.{FitsPair, IsPairLimit, all_fit, answer_in, are_there}
 use Rattle.tsdb_core.specs.Core.{limit_of, log_of, memory_of, state_of}
 use Rattle.tsdb_core.specs.Limits.{end_of_numbers}
 use Rattle.tsdb_core.specs.Logs.{CanFollow, replay_of}
@@ -19,13 +21,14 @@ use Rattle.tsdb_core.specs.RowCalls.{HasPlace, IsPlaced, IsRowApplied}
 use Rattle.tsdb_core.specs.Rows.{AreItems, CanInsert}
 use Rattle.tsdb_core.specs.State.{MemoryState, SeriesEntry}
 use Rattle.tsdb_core.specs.Steps.{Freezes, Inserts}
-use Rattle.tsdb_core.specs.Outcomes.{IsFailed, IsFreezeEnd, IsOutcome, KeepsRest}
+use Rattle.tsdb_core.specs.Outcomes.{IsCommitted, IsFailed, IsFreezeEnd, IsOutcome, KeepsRest}
 use Rattle.tsdb_core.specs.declared.engine.Core.{Core}
 use Rattle.tsdb_frames.specs.Appends.{IsAppend}
 use Rattle.tsdb_log.specs.Spelling.{IsRecord, spelling}
 use Rattle.tsdb_log.specs.declared.record.CellRecord.{CellRecord}
 use Rattle.tsdb_log.specs.declared.record.LogRecord.TheVariants as logged
 use Rattle.tsdb_map.specs.Commands.{IsRow}
+use Rattle.tsdb_map.specs.declared.command.Command.TheVariants.{Insert}
 use Rattle.tsdb_map.specs.declared.command.Row.{Row}
 use Rattle.tsdb_outside.specs.declared.disk.Disk as disk
 use Rattle.tsdb_outside.specs.declared.faults.Counted as counted
@@ -59,6 +62,13 @@ pub few_items : (schemas : List SeriesEntry) (device : List ℕ) (row : Row) (it
     → length items ≤ 1000
 few_items schemas device row items is are = subst (λ n. n ≤ 1000) (sym (as_many schemas device row.cells items are))
     is.few
+
+-- a row that is refused names a series that is not there, or has a literal that does not fit
+refusal_of_row : (there fit : Bool) (answer : Answer) → answer ≡ cond there (cond fit Done WrongType) NoPath
+    → answer ≢ Done → (answer ≡ NoPath) ⊎ (answer ≡ WrongType)
+refusal_of_row true true answer is apart = absurd (apart is)
+refusal_of_row true false answer is apart = inr is
+refusal_of_row false fit answer is apart = inl is
 
 module _ {J F : Type 0} {means : disk.Ghosts J} {counts : counted.Ghosts J} where
   -- the append of a row that can be put
@@ -179,3 +189,31 @@ module _ {J F : Type 0} {means : disk.Ghosts J} {counts : counted.Ghosts J} wher
     is = (insert_is_done (memory_of old).schemas device row items are, sym is ∙ full, is);
     log = refl;
   }
+
+  -- the row is refused
+  pub row_refused_by : (old : Core J F means counts) (device : List ℕ) (row : Row) (answer : Answer)
+      → IsInOrder (state_of old)
+      → (answer ≡ answer_in (memory_of old).schemas (Insert device row)) × (answer ≢ Done)
+      → IsRowApplied old old device row answer
+  row_refused_by old device row answer order read =
+      ⊎_elim (λ e. subst (IsRowApplied old old device row) (sym e)
+      (record { order = order; is = sym read.0 ∙ e; log = refl }))
+      (λ e. subst (IsRowApplied old old device row) (sym e)
+      (record { order = order; is = sym read.0 ∙ e; log = refl }))
+      (refusal_of_row (are_there (memory_of old).schemas device row.cells)
+      (all_fit (memory_of old).schemas device row.cells) answer read.0 read.1)
+
+  -- what is left where a record could not be written for want of memory after place was made
+  pub place_left : (old between new : Core J F means counts) (row : Row) → HasPlace row old between → new ≡ between
+      → (new ≡ old) ⊎ IsFreezeEnd IsCommitted row old new
+  place_left old between new row (inl (fits, same)) stays = inl (stays ∙ same)
+  place_left old between new row (inr frozen) stays =
+      inr (subst (λ (c : Core J F means counts). IsFreezeEnd IsCommitted row old c) (sym stays) frozen)
+
+  -- there was no memory
+  pub row_without_memory : {T : Type 0} (old new : Core J F means counts) (device : List ℕ) (row : Row)
+      (result : Result T Memory)
+      → IsInOrder (state_of old) → (new ≡ old) ⊎ IsFreezeEnd IsCommitted row old new
+      → OnErr result (IsRowApplied old new device row answers.Memory)
+  row_without_memory old new device row (Ok x) order left = tt
+  row_without_memory old new device row (Err error) order left = record { order = order; is = tt; log = left }

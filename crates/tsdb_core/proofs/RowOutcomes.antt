@@ -32,6 +32,32 @@ use Rattle.tsdb_outside.specs.Causes.{Rose}
 use Rattle.tsdb_outside.specs.declared.disk.Disk as disk
 use Rattle.tsdb_outside.specs.declared.faults.Counted as counted
 
+-- only one answer is done, and only one is that of a device that failed
+
+abbrev OnlyDone : Answer → Type 0
+OnlyDone Done = Unit {0}
+OnlyDone NoPath = ⊥
+OnlyDone WrongType = ⊥
+OnlyDone Exists = ⊥
+OnlyDone Device = ⊥
+OnlyDone answers.Memory = ⊥
+OnlyDone (Full counter) = ⊥
+
+only_done : (answer : Answer) → answer ≡ Done → OnlyDone answer
+only_done answer is = subst OnlyDone (sym is) tt
+
+abbrev OnlyDevice : Answer → Type 0
+OnlyDevice Done = ⊥
+OnlyDevice NoPath = ⊥
+OnlyDevice WrongType = ⊥
+OnlyDevice Exists = ⊥
+OnlyDevice Device = Unit {0}
+OnlyDevice answers.Memory = ⊥
+OnlyDevice (Full counter) = ⊥
+
+only_device : (answer : Answer) → answer ≡ Device → OnlyDevice answer
+only_device answer is = subst OnlyDevice (sym is) tt
+
 -- the count of faults
 
 rises_later : (old between new : ℕ) → old ≤ between → Rose between new → Rose old new
@@ -257,12 +283,12 @@ module _ {J F : Type 0} {means : disk.Ghosts J} {counts : counted.Ghosts J} wher
       → IsRowLogged device row old new answer → answer ≡ Done
       → PutsRow (limit_of old) device row (memory_of old) (memory_of new)
   row_puts old new device row Done log is = puts_row old new device row (put_of old new device row log)
-  row_puts old new device row NoPath log is = cc
-  row_puts old new device row WrongType log is = cc
-  row_puts old new device row Exists log is = cc
-  row_puts old new device row Device log is = cc
-  row_puts old new device row answers.Memory log is = cc
-  row_puts old new device row (Full counter) log is = cc
+  row_puts old new device row NoPath log is = absurd (only_done NoPath is)
+  row_puts old new device row WrongType log is = absurd (only_done WrongType is)
+  row_puts old new device row Exists log is = absurd (only_done Exists is)
+  row_puts old new device row Device log is = absurd (only_done Device is)
+  row_puts old new device row answers.Memory log is = absurd (only_done answers.Memory is)
+  row_puts old new device row (Full counter) log is = absurd (only_done (Full counter) is)
 
   pub row_same : (old new : Core J F means counts) (device : List ℕ) (row : Row) (answer : Answer)
       → IsRowLogged device row old new answer → answer ≢ Done
@@ -303,25 +329,25 @@ module _ {J F : Type 0} {means : disk.Ghosts J} {counts : counted.Ghosts J} wher
   row_stamp old new device row WrongType log = ap (λ (m : MemoryState). m.stamp) (same_memory old new log)
   row_stamp old new device row Exists log = ap (λ (m : MemoryState). m.stamp) (same_memory old new log)
   row_stamp old new device row Device log = same_stamp (limit_of old) row (memory_of old) (memory_of new)
-      (row_same old new device row Device log (λ e. cc))
+      (row_same old new device row Device log (only_done Device))
   row_stamp old new device row answers.Memory log =
       same_stamp (limit_of old) row (memory_of old) (memory_of new)
-      (row_same old new device row answers.Memory log (λ e. cc))
+      (row_same old new device row answers.Memory log (only_done answers.Memory))
   row_stamp old new device row (Full counter) log = ap (λ (m : MemoryState). m.stamp) (same_memory old new log)
 
   pub row_rose : (old new : Core J F means counts) (device : List ℕ) (row : Row) (answer : Answer)
       → IsRowLogged device row old new answer → answer ≡ Device
       → Rose (faults_of (log_of old)) (faults_of (log_of new))
-  row_rose old new device row Done log is = cc
-  row_rose old new device row NoPath log is = cc
-  row_rose old new device row WrongType log is = cc
-  row_rose old new device row Exists log is = cc
+  row_rose old new device row Done log is = absurd (only_device Done is)
+  row_rose old new device row NoPath log is = absurd (only_device NoPath is)
+  row_rose old new device row WrongType log is = absurd (only_device WrongType is)
+  row_rose old new device row Exists log is = absurd (only_device Exists is)
   row_rose old new device row Device (inl failed) is =
       rises_later (faults_of (log_of old)) (faults_of (log_of failed.between)) (faults_of (log_of new))
       (placed_later row old failed.between failed.place) failed.end.rose
   row_rose old new device row Device (inr (no_place, failed)) is = failed.rose
-  row_rose old new device row answers.Memory log is = cc
-  row_rose old new device row (Full counter) log is = cc
+  row_rose old new device row answers.Memory log is = absurd (only_device answers.Memory is)
+  row_rose old new device row (Full counter) log is = absurd (only_device (Full counter) is)
 
   pub row_later : (old new : Core J F means counts) (device : List ℕ) (row : Row) (answer : Answer)
       → IsRowLogged device row old new answer
@@ -355,9 +381,9 @@ module _ {J F : Type 0} {means : disk.Ghosts J} {counts : counted.Ghosts J} wher
       done : (answer : Answer) → IsRowLogged device row old new answer → answer ≡ Done
           → IsDone (state_of old) (state_of new) (Insert device row)
       done Done log e = put_is_done old new device row applied.order is (put_of old new device row log)
-      done NoPath log e = cc
-      done WrongType log e = cc
-      done Exists log e = cc
-      done Device log e = cc
-      done answers.Memory log e = cc
-      done (Full counter) log e = cc
+      done NoPath log e = absurd (only_done NoPath e)
+      done WrongType log e = absurd (only_done WrongType e)
+      done Exists log e = absurd (only_done Exists e)
+      done Device log e = absurd (only_done Device e)
+      done answers.Memory log e = absurd (only_done answers.Memory e)
+      done (Full counter) log e = absurd (only_done (Full counter) e)

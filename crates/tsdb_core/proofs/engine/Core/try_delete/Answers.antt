@@ -1,5 +1,6 @@
-use Rattle.std.proofs.Common.{◌∙◌, ap, refl}
-use Rattle.tsdb_core.proofs.Applying.{delete_applied, no_memory, same_core}
+use Rattle.std.proofs.Common.{◌∙◌, ap, cond, refl, sym}
+use Rattle.tsdb_base.specs.declared.answers.Answer.TheVariants.{Done, NoPath}
+use Rattle.tsdb_core.proofs.Applying.{delete_applied, delete_no_path, full_applied, no_memory, same_core}
 use Rattle.tsdb_frames.specs.Log.{payload_of}
 use Rattle.tsdb_log.specs.declared.record.LogRecord.TheVariants as item
 use Rattle.tsdb_map.specs.declared.command.Command.TheVariants.{Delete}
@@ -25,3 +26,22 @@ returns g c =
     c.in_ok-outcome.ensures.append
     (record { limit = refl; next_file = refl }) c.in_ok-outcome.ensures.done c.in_ok-outcome.ensures.failed
     c.answer_of.ensures
+
+pub returns-then-not-has : goal.returns-then-not-has
+returns-then-not-has g c =
+    delete_no_path c.args.self.now c.args.series.now c.args.range.now c.has.result c.stamp-counter.ensures.order
+    c.has.ensures.there c.if-not-has.true
+
+pub returns-then-counter : goal.returns-then-counter
+returns-then-counter g c =
+    full_applied c.args.self.now (Delete c.args.series.now c.args.range.now) (item.Delete c.args.series.now
+    c.args.range.now)
+    c.stamp-counter.result c.stamp-counter.ensures.order
+    (ap (λ b. cond b Done NoPath) (sym c.has.ensures.there ∙ c.if-not-has.false)) c.stamp-counter.ensures.value
+    c.if-counter.true
+
+pub returns-in_err-framed : goal.returns-in_err-framed
+returns-in_err-framed g c =
+    no_memory c.args.self.now c.args.self.now (Delete c.args.series.now c.args.range.now) (item.Delete
+    c.args.series.now c.args.range.now)
+    c.from_residual.result c.from_residual.ensures.0 c.stamp-counter.ensures.order refl
