@@ -23,6 +23,3 @@ pub use laws::{
 };
 pub use opening::Opening;
 pub use options::Options;
-
-#[cfg(test)]
-mod tests;

@@ -1,36 +1,27 @@
 //! All lists of up to five commands over two series and three times, with a pair limit of two points: the core, the
-//! plain slow state and the plain map execute each. Depends on `asks` and `slow_state`.
-use super::asks::{ask, ask_freeze, plain_reply};
+//! plain slow state and the plain map execute each. Depends on `cores`, `slow_state` and `words`.
+ghost use Rattle.tsdb_map.specs.Commands.{IsWellFormed};
+
+use super::cores::{ask, ask_freeze, close_core, counts, open_core, place_of};
 use super::slow_state::SlowState;
-use super::{close_core, command_of, counts, open_core, place_of, time_of};
-use crate::Core;
+use super::words::{command_of, time_of};
+use mem_outside::{MemFiles, MemJournal};
 use std::alloc::Global;
 use std::test::Fail;
-use tsdb_base::{Answer, List, Range, Space, Stamp, Value};
-use tsdb_map::{Command, Item, Plain, Reply};
+use tests_support as lines;
+use tsdb_base::{Answer, Space, Stamp, Value};
+use tsdb_core::Core;
+use tsdb_map::{Command, Plain, Reply};
 use tsdb_outside::{Files, Journal};
-use tsdb_path::{Name, Path};
-
-/// How many words the lists are made of.
-const COUNT: usize = 12;
 
 /// The words that the lists are made of.
-fn word_of(number: usize) -> &'static [u8] {
-    match number {
-        0 => b"Cs",
-        1 => b"Ct",
-        2 => b"I1s",
-        3 => b"I2s",
-        4 => b"I3s",
-        5 => b"I1t",
-        6 => b"I2t",
-        7 => b"I3t",
-        8 => b"I2st",
-        9 => b"D12s",
-        10 => b"D23t",
-        _ => b"F",
-    }
-}
+const WORDS: [&str; 12] = [
+    "Cs", "Ct", "I1s", "I2s", "I3s", "I1t", "I2t", "I3t", "I2st", "D12s", "D23t", "F",
+];
+
+const SELECT_S: &str = "select s from root.g.d where time>=1 and time<=3";
+
+const SELECT_T: &str = "select t from root.g.d where time>=1 and time<=3";
 
 /// The three that execute a list.
 #[derive(Drop)]
@@ -63,19 +54,6 @@ fn slow_answer(slow: &mut SlowState, word: &[u8], value: i64) -> Result<Option<A
         }
         [b'D', from, to, name] => Some(slow.delete(*name, time_of(*from), time_of(*to))?),
         _ => None,
-    })
-}
-
-/// A select of all points of the series.
-fn select_of(alloc: Global, name: u8) -> Result<Command, Fail> {
-    let item = Item {
-        measurement: Name::read(alloc, &[name])?,
-        aggregate: None,
-    };
-    Ok(Command::Select {
-        device: Path::read(alloc, b"root.g.d")?,
-        items: List::of(vec![in alloc; item]?),
-        range: Range { from: 1, to: 3 },
     })
 }
 
@@ -112,15 +90,17 @@ impl<J: Journal, F: Files> Three<J, F> {
     }
 
     /// Executes the command of a word.
-    fn command(&mut self, command: &Command, word: &[u8], value: i64) -> Result<Came, Fail> {
+    fn command(&mut self, command: &Command, word: &str, value: i64) -> Result<Came, Fail>
+        requires { IsWellFormed command.now }
+    {
         let answer = ask(&mut self.core, command);
-        if answer != slow_answer(&mut self.slow, word, value)? {
+        if answer != slow_answer(&mut self.slow, word.as_bytes(), value)? {
             return Ok(Came::Apart);
         }
         let Some(answer) = answer else {
             return Ok(Came::Stayed);
         };
-        match plain_reply(&mut self.plain, command)? {
+        match self.plain.apply(command)? {
             Reply::Plain(said) if said == answer => {
                 Ok(if answer == Answer::Done {
                     Came::Changed
@@ -133,7 +113,7 @@ impl<J: Journal, F: Files> Three<J, F> {
     }
 
     /// Executes a word, which writes this value.
-    fn execute(&mut self, alloc: Global, word: &[u8], value: i64) -> Result<Came, Fail> {
+    fn execute(&mut self, alloc: Global, word: &str, value: i64) -> Result<Came, Fail> {
         match command_of(alloc, word, value)? {
             Some(command) => self.command(&command, word, value),
             None => self.freeze(),
@@ -149,24 +129,25 @@ impl<J: Journal, F: Files> Three<J, F> {
             && self.core.working(Space::Unsequence) == self.slow.working(Space::Unsequence) as u64
     }
 
-    /// Whether the slow state stands for the plain map's world, at each time of the series.
-    fn stands_for(&mut self, alloc: Global, name: u8) -> Result<bool, Fail> {
-        let values = values_of(&plain_reply(&mut self.plain, &select_of(alloc, name)?)?);
-        Ok(
-            values[0] == self.slow.value(name, 1)
-                && values[1] == self.slow.value(name, 2)
-                && values[2] == self.slow.value(name, 3),
-        )
+    /// Whether the slow state stands for the plain map's world, at each time of the series that the line selects.
+    fn stands_for(&mut self, alloc: Global, line: &str, name: u8) -> Result<bool, Fail> {
+        let reply = self.plain.apply(&lines::command_of(alloc, line)?)?;
+        let slow = [1, 2, 3].map(|time| self.slow.value(name, time));
+        Ok(values_of(&reply) == slow)
     }
 
     /// Whether the three agree on the pairs and on the values.
     fn agree(&mut self, alloc: Global) -> Result<bool, Fail> {
-        Ok(self.has_same_pairs() && self.stands_for(alloc, b's')? && self.stands_for(alloc, b't')?)
+        Ok(
+            self.has_same_pairs()
+                && self.stands_for(alloc, SELECT_S, b's')?
+                && self.stands_for(alloc, SELECT_T, b't')?,
+        )
     }
 
-    /// Executes the words of a text. Whether each changes something, and the three agree behind it.
-    fn change_all(&mut self, alloc: Global, words: &[u8]) -> Result<bool, Fail> {
-        for word in words.split(|byte| *byte == b' ') {
+    /// Executes the words. Whether each changes something, and the three agree behind it.
+    fn change_all(&mut self, alloc: Global, words: &[&str]) -> Result<bool, Fail> {
+        for word in words {
             match self.execute(alloc, word, 7)? {
                 Came::Changed if self.agree(alloc)? => (),
                 _ => return Ok(false),
@@ -184,8 +165,9 @@ impl<J: Journal, F: Files> Three<J, F> {
             if alike <= 1 {
                 return Ok(1);
             }
-            alike = (alike / COUNT).max(1);
-            let came = self.execute(alloc, word_of(number / alike % COUNT), value)?;
+            alike = (alike / WORDS.len()).max(1);
+            let word = WORDS[number / alike % WORDS.len()];
+            let came = self.execute(alloc, word, value)?;
             if number % alike == 0 && !self.agree(alloc)? {
                 return Ok(0);
             }
@@ -197,33 +179,52 @@ impl<J: Journal, F: Files> Three<J, F> {
         }
         Ok(1)
     }
+
+    /// Executes a start and then a list. What `list` gives, or 0 where the three do not agree before it.
+    fn list_behind(
+        &mut self,
+        alloc: Global,
+        start: &[&str],
+        number: usize,
+        lists: usize,
+    ) -> Result<usize, Fail> {
+        if self.agree(alloc)? && self.change_all(alloc, start)? {
+            self.list(alloc, number, lists)
+        } else {
+            Ok(0)
+        }
+    }
+}
+
+/// Three over a new store with this pair limit.
+fn three_of(
+    alloc: Global,
+    core: Core<MemJournal, MemFiles>,
+    limit: usize,
+) -> Three<MemJournal, MemFiles> {
+    Three {
+        core,
+        slow: SlowState::new(alloc, limit),
+        plain: Plain::new(alloc),
+    }
 }
 
 /// Executes a list behind a start, over a new store with a limit of two points. What `list` gives, or 0 where the three
 /// do not agree before it.
-fn serve(alloc: Global, start: &[u8], number: usize, lists: usize) -> Result<usize, Fail> {
+fn serve(alloc: Global, start: &[&str], number: usize, lists: usize) -> Result<usize, Fail> {
     let mut place = place_of(alloc, &[])?;
     let (core, files) = open_core(alloc, &mut place, 2)?;
-    let mut three = Three {
-        core,
-        slow: SlowState::new(alloc, 2),
-        plain: Plain::new(alloc),
-    };
-    let started = if start.is_empty() {
-        three.agree(alloc)?
-    } else {
-        three.change_all(alloc, start)?
-    };
-    let alike = three.list(alloc, number, lists)?;
+    let mut three = three_of(alloc, core, 2);
+    let alike = three.list_behind(alloc, start, number, lists);
     let Three { core, .. } = three;
     close_core(&mut place, core, files);
-    Ok(if started { alike } else { 0 })
+    alike
 }
 
 /// The number of the first list on which the three do not agree, among so many lists of one length behind a start. A
 /// word that changes nothing ends a list: that core and log are as before is proved, so what comes behind it is what
 /// comes without it. Shorter lists are those with which these begin.
-fn first_apart(alloc: Global, start: &[u8], lists: usize) -> Result<Option<usize>, Fail> {
+fn first_apart(alloc: Global, start: &[&str], lists: usize) -> Result<Option<usize>, Fail> {
     let mut next = 0usize;
     for number in 0..lists {
         if number == next {
@@ -239,15 +240,25 @@ fn first_apart(alloc: Global, start: &[u8], lists: usize) -> Result<Option<usize
 
 #[test]
 fn short_lists(rt: HostRuntime) -> Result<(), Fail> {
-    assert_eq!(rt; first_apart(rt.alloc(), b"", 248_832)?, None);
+    assert_eq!(rt; first_apart(rt.alloc(), &[], 248_832)?, None);
     Ok(())
 }
 
 // Where a mark covers a point of the older of two frozen pairs, it is kept; once it covers nothing, it goes.
 #[test]
 fn short_lists_behind_a_mark(rt: HostRuntime) -> Result<(), Fail> {
-    assert_eq!(rt; first_apart(rt.alloc(), b"Cs Ct I2s F D22s", 1_728)?, None);
+    let start = ["Cs", "Ct", "I2s", "F", "D22s"];
+    assert_eq!(rt; first_apart(rt.alloc(), &start, 1_728)?, None);
     Ok(())
+}
+
+/// Whether the three agree behind each of five rows, the last of which is one above a limit of four.
+fn agree_on_five_rows(
+    three: &mut Three<MemJournal, MemFiles>,
+    alloc: Global,
+) -> Result<bool, Fail> {
+    let are_alike = three.change_all(alloc, &["Cs", "I1s", "I2s", "I3s", "I4s", "I5s"])?;
+    Ok(are_alike && counts(&three.core) == [1, 1, 0, 5])
 }
 
 #[test]
@@ -255,14 +266,10 @@ fn fifth_row_of_all_three(rt: HostRuntime) -> Result<(), Fail> {
     let alloc = rt.alloc();
     let mut place = place_of(alloc, &[])?;
     let (core, files) = open_core(alloc, &mut place, 4)?;
-    let mut three = Three {
-        core,
-        slow: SlowState::new(alloc, 4),
-        plain: Plain::new(alloc),
-    };
-    assert!(rt; three.change_all(alloc, b"Cs I1s I2s I3s I4s I5s")?);
-    assert_eq!(rt; counts(alloc, &three.core)?.as_str(), "1 1 0 5");
+    let mut three = three_of(alloc, core, 4);
+    let are_alike = agree_on_five_rows(&mut three, alloc);
     let Three { core, .. } = three;
     close_core(&mut place, core, files);
+    assert!(rt; are_alike?);
     Ok(())
 }
