@@ -14,6 +14,3 @@ pub use reading::{read_field, read_name, read_path, read_value};
 pub use rest::Rest;
 pub use statistics::{read_stats, write_stats};
 pub use writing::{write_name, write_path, write_value};
-
-#[cfg(test)]
-mod tests;

@@ -6,6 +6,3 @@ mod extreme;
 mod statistics;
 
 pub use statistics::{join, stats_of};
-
-#[cfg(test)]
-mod tests;
