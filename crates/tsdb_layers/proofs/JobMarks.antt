@@ -1,0 +1,88 @@
+-- The marks at a job's beginning against those of now: an output has the value of its inputs, whatever was deleted
+-- since.
+use Rattle.std.proofs.Common.{◌≡◌, ℕ, ◌≤◌, Bool, true, false, cond, List, [], ◌∷◌, map, refl, sym, ap, ◌∙◌, arith}
+use Rattle.std.specs.Prelude.{◌&&◌, ◌||◌, nat_le, nat_lt, Option, None}
+use Rattle.std.specs.FinMap.{get}
+use Rattle.std.specs.List.{AllByRecursion as Each}
+use Rattle.std.specs.Option.{option_or}
+use Rattle.std.proofs.lemmas.Bool.Decides.{nat_tests}
+use Rattle.tsdb_layers.proofs.Tests.{clear_alike, clear_either, clear_filter}
+use Rattle.tsdb_layers.proofs.Values.{value_of_survivors}
+use Rattle.tsdb_layers.specs.Layers.{Layer, survivor, value_in}
+use Rattle.tsdb_layers.specs.Marks.{marks_up_to, survives}
+use Rattle.tsdb_layers.specs.Places.{Place}
+use Rattle.tsdb_marks.specs.declared.marks.Mark.{Mark}
+
+split_test : (old born version : ℕ) → old ≤ born
+    → nat_lt old version ≡ ((nat_le version born && nat_lt old version) || nat_lt born version)
+split_test old born version h = grind (arith, nat_tests)
+
+-- marks are those up to a stamp, and the newer ones
+survives_up_to : (marks : List Mark) (place : Place) (old born : ℕ) → old ≤ born
+    → survives marks place old ≡ (survives (marks_up_to born marks) place old && survives marks place born)
+survives_up_to marks place old born h =
+    clear_alike (nat_lt old) (λ version. (nat_le version born && nat_lt old version) || nat_lt born version) marks place
+    (λ version. split_test old born version h)
+    ∙ clear_either (λ version. nat_le version born && nat_lt old version) (nat_lt born) marks place
+    ∙ ap (λ b. b && survives marks place born)
+    (sym (clear_filter (nat_lt old) (λ version. nat_le version born) marks place))
+
+cond_both : {X : Type 0} (a b : Bool) (o : Option X) → cond (a && b) o None ≡ cond b (cond a o None) None
+cond_both true true o = refl
+cond_both true false o = refl
+cond_both false true o = refl
+cond_both false false o = refl
+
+pub survivor_up_to : (marks : List Mark) (place : Place) (born : ℕ) (layer : Layer) → layer.born ≤ born
+    → survivor marks place layer
+    ≡ cond (survives marks place born) (survivor (marks_up_to born marks) place layer) None
+survivor_up_to marks place born layer h =
+    ap (λ b. cond b (get layer.content place) None) (survives_up_to marks place layer.born born h)
+    ∙ cond_both (survives (marks_up_to born marks) place layer.born) (survives marks place born)
+    (get layer.content place)
+
+cond_or : {X : Type 0} (b : Bool) (o p : Option X)
+    → option_or (cond b o None) (cond b p None) ≡ cond b (option_or o p) None
+cond_or true o p = refl
+cond_or false o p = refl
+
+none_by : {X : Type 0} (b : Bool) → ◌≡◌ {A = Option X} None (cond b None None)
+none_by true = refl
+none_by false = refl
+
+-- the value of layers no younger than a stamp is that under the marks up to it, where nothing newer covers the place
+pub value_up_to : (marks : List Mark) (place : Place) (born : ℕ) (layers : List Layer)
+    → Each (λ layer. layer.born ≤ born) layers
+    → value_in marks place layers
+    ≡ cond (survives marks place born) (value_in (marks_up_to born marks) place layers) None
+value_up_to marks place born [] older = none_by (survives marks place born)
+value_up_to marks place born (layer ∷ layers) older =
+    let rest = value_up_to marks place born layers older.1 in
+    let first = survivor_up_to marks place born layer older.0 in
+    (λ i. option_or (rest i) (first i))
+    ∙ cond_or (survives marks place born) (value_in (marks_up_to born marks) place layers)
+    (survivor (marks_up_to born marks) place layer)
+
+-- layers of one born
+pub value_of_born : (marks : List Mark) (place : Place) (born : ℕ) (layers : List Layer)
+    → Each (λ layer. layer.born ≡ born) layers
+    → value_in marks place layers ≡ cond (survives marks place born) (value_in [] place layers) None
+value_of_born marks place born [] same = none_by (survives marks place born)
+value_of_born marks place born (layer ∷ layers) same =
+    let rest = value_of_born marks place born layers same.1 in
+    let first : survivor marks place layer ≡ cond (survives marks place born) (survivor [] place layer) None =
+    ap (λ b. cond (survives marks place b) (get layer.content place) None) same.0 in
+    (λ i. option_or (rest i) (first i))
+    ∙ cond_or (survives marks place born) (value_in [] place layers) (survivor [] place layer)
+
+-- the output of a job has the value of its inputs under the marks of now
+pub output_value : (marks at_beginning : List Mark) (place : Place) (born : ℕ) (inputs output : List Layer)
+    → Each (λ layer. layer.born ≤ born) inputs → Each (λ layer. layer.born ≡ born) output
+    → map (survivor at_beginning place) inputs ≡ map (survivor (marks_up_to born marks) place) inputs
+    → value_in [] place output ≡ value_in at_beginning place inputs
+    → value_in marks place output ≡ value_in marks place inputs
+output_value marks at_beginning place born inputs output older same kept is =
+    value_of_born marks place born output same
+    ∙ ap (λ o. cond (survives marks place born) o None)
+    (is ∙ value_of_survivors at_beginning (marks_up_to born marks) place inputs inputs kept)
+    ∙ sym (value_up_to marks place born inputs older)

@@ -1,0 +1,179 @@
+-- A point that is put into the working pair: the order stays, and its place alone has a new value.
+use Rattle.std.proofs.Common.{◌≡◌, ℤ, ◌≤ℤ◌, ◌<ℤ◌, Bool, true, false, cond, List, inl, inr}
+use Rattle.std.proofs.Common.{refl, sym, ap, ◌∙◌, subst, arith}
+use Rattle.std.specs.Prelude.{Option, Some, None, IfSome, int_lt}
+use Rattle.std.specs.FinMap.{get}
+use Rattle.std.specs.Option.{IsSomeAnd}
+use Rattle.std.specs.Ordering.{eq_by_cmp}
+use Rattle.std.proofs.lemmas.Int.{ints}
+use Rattle.tsdb_base.specs.declared.ids.Space.TheVariants.{Sequence, Unsequence}
+use Rattle.tsdb_base.specs.declared.value.Value.{Value}
+use Rattle.tsdb_layers.proofs.Places.{get_put, is_place}
+use Rattle.tsdb_layers.proofs.Values.{value_none}
+use Rattle.tsdb_layers.specs.Layers.{HasPoint, Layer, value_in}
+use Rattle.tsdb_layers.specs.Order.{IsBelow, Watermarks}
+use Rattle.tsdb_layers.specs.Places.{Content, Place, place_cmp, put}
+use Rattle.tsdb_memtable.specs.Watermarks.{space_by}
+use Rattle.tsdb_path.specs.Nodes.{device_of}
+use Rattle.tsdb_state.proofs.Values.{AreReached, joined, stored, stored_late, value_is}
+use Rattle.tsdb_state.specs.Records.{put_in_pair, put_in_space}
+use Rattle.tsdb_state.specs.State.{File, FrozenPair, Pair, StoreState, Told}
+use Rattle.tsdb_state.specs.StoreOrder.{LayersInOrder}
+use Rattle.tsdb_state.specs.Views.{layer_of}
+use Rattle.tsdb_state.specs.Worlds.{value_of}
+
+-- what holds of the points of a content, and of one more
+pub put_holds : (P : Place → Type 0) (content : Content) (place : Place) (value : Value)
+    → ((q : Place) (w : Value) → HasPoint (layer_of content) q w → P q) → P place
+    → (q : Place) (w : Value) → HasPoint (layer_of (put place value content)) q w → P q
+put_holds P content place value all one q w (inr none) = absurd none
+put_holds P content place value all one q w (inl is) =
+    by (eq_by_cmp place_cmp q place) refl (sym (get_put content place value q) ∙ is)
+  where
+    by : (b : Bool) → eq_by_cmp place_cmp q place ≡ b → cond b (Some value) (get content q) ≡ Some w → P q
+    by true e is = subst P (sym (is_place q place e)) one
+    by false e is = all q w (inl is)
+
+-- the two cases of the watermark rule
+
+above_watermark : (last time : ℤ) → int_lt last time ≡ true → last <ℤ time
+above_watermark last time e = grind (arith, ints)
+
+at_most_watermark : (last time : ℤ) → int_lt last time ≡ false → time ≤ℤ last
+at_most_watermark last time e = grind (arith, ints)
+
+not_both : (last time : ℤ) → last <ℤ time → time ≤ℤ last → ⊥
+not_both last time h k = grind (arith, ints)
+
+-- the space of a place: above the watermark, or at most at it
+pub data Goes (watermarks : Watermarks) (place : Place) (value : Value) (pair new : Pair) : Type 0 where
+  Early : IfSome (get watermarks (device_of place.path)) (λ last. last <ℤ place.time)
+      → new ≡ record pair { sequence = put place value pair.sequence } → Goes watermarks place value pair new
+  Late : IsSomeAnd (get watermarks (device_of place.path)) (λ last. place.time ≤ℤ last)
+      → new ≡ record pair { unsequence = put place value pair.unsequence } → Goes watermarks place value pair new
+
+pub goes : (watermarks : Watermarks) (place : Place) (value : Value) (pair : Pair)
+    → Goes watermarks place value pair (put_in_pair watermarks place value pair)
+goes watermarks place value pair = by (get watermarks (device_of place.path)) refl
+  where
+    if_early : (o : Option ℤ) → get watermarks (device_of place.path) ≡ o
+        → IfSome o (λ last. last <ℤ place.time)
+        → IfSome (get watermarks (device_of place.path)) (λ last. last <ℤ place.time)
+    if_early o e h = subst (λ o. IfSome o (λ last. last <ℤ place.time)) (sym e) h
+
+    tested : (last : ℤ) (b : Bool) → get watermarks (device_of place.path) ≡ Some last → int_lt last place.time ≡ b
+        → Goes watermarks place value pair (put_in_space (cond b Sequence Unsequence) place value pair)
+    tested last true e t = Early (if_early (Some last) e (above_watermark last place.time t)) refl
+    tested last false e t = Late
+        (subst (λ o. IsSomeAnd o (λ last. place.time ≤ℤ last)) (sym e) (at_most_watermark last place.time t)) refl
+
+    by : (o : Option ℤ) → get watermarks (device_of place.path) ≡ o
+        → Goes watermarks place value pair (put_in_space (space_by o place.time) place value pair)
+    by None e = Early (if_early None e tt) refl
+    by (Some last) e = tested last (int_lt last place.time) e refl
+
+module _ (told : Told) (watermarks : Watermarks) (sequence unsequence : List File) (frozen : List FrozenPair)
+    (pair : Pair) (place : Place) (value : Value) where
+  abbrev In : Pair → Type 0
+  In pair = LayersInOrder told watermarks sequence unsequence frozen pair
+
+  pub put_in_order : In pair → In (put_in_pair watermarks place value pair)
+  put_in_order order = by (put_in_pair watermarks place value pair) (goes watermarks place value pair)
+    where
+      by : (new : Pair) → Goes watermarks place value pair new → In new
+      by new (Early above is) = subst In (sym is) (record {
+        rises = order.rises;
+        late = order.late;
+        below = order.below;
+        late_below = order.late_below;
+        working_below = order.working_below;
+        above = put_holds (λ q. IfSome (get watermarks (device_of q.path)) (λ last. last <ℤ q.time)) pair.sequence place
+            value order.above above;
+      })
+      by new (Late below is) = subst In (sym is) (record {
+        rises = order.rises;
+        late = order.late;
+        below = order.below;
+        late_below = order.late_below;
+        above = order.above;
+        working_below = put_holds (λ q. IsSomeAnd (get watermarks (device_of q.path)) (λ last. q.time ≤ℤ last))
+            pair.unsequence place value order.working_below below;
+      })
+
+-- what is above the watermark has no late point
+
+contradiction : (o : Option ℤ) (time : ℤ) → IfSome o (λ last. last <ℤ time) → IsSomeAnd o (λ last. time ≤ℤ last) → ⊥
+contradiction None time above below = below
+contradiction (Some last) time above below = not_both last time above below
+
+no_late : (watermarks : Watermarks) (layers : List Layer) (place : Place)
+    → IfSome (get watermarks (device_of place.path)) (λ last. last <ℤ place.time) → IsBelow watermarks layers
+    → (value : Value) → HasPoint layers place value → ⊥
+no_late watermarks layers place above below value has =
+    contradiction (get watermarks (device_of place.path)) place.time above (below place value has)
+
+none_is : (o : Option Value) → ((value : Value) → o ≡ Some value → ⊥) → o ≡ None
+none_is None never = refl
+none_is (Some value) never = absurd (never value refl)
+
+module _ (told : Told) (state : StoreState) (place : Place) (value : Value)
+    (order : LayersInOrder told state.watermarks state.sequence state.unsequence state.frozen state.working)
+    (reached : AreReached state.marks state.stamp) where
+  abbrev new_pair : Pair
+  new_pair = put_in_pair state.watermarks place value state.working
+
+  -- the state with another working pair
+  abbrev pub with_working : Pair → StoreState
+  with_working pair = record state { working = pair }
+
+  abbrev below_at : Place → Option Value
+  below_at q = value_in state.marks q (stored told state.sequence state.frozen)
+
+  abbrev late_at : Place → Option Value
+  late_at q = value_in state.marks q (stored_late told state.unsequence state.frozen)
+
+  abbrev Is : Pair → Place → Type 0
+  Is new q = value_of told (with_working new) q
+      ≡ cond (eq_by_cmp place_cmp q place) (Some value) (value_of told state q)
+
+  here_or : (b : Bool) (w s l u : Option Value) → (b ≡ true → l ≡ None) → (b ≡ true → u ≡ None)
+      → joined (cond b (Some value) w) l s u ≡ cond b (Some value) (joined w l s u)
+  here_or true w s l u e f = (λ i. joined (Some value) (e refl i) s (f refl i))
+  here_or false w s l u e f = refl
+
+  here_late : (b : Bool) (w s l u : Option Value)
+      → joined w (cond b (Some value) l) s u ≡ cond b (Some value) (joined w l s u)
+  here_late true w s l u = refl
+  here_late false w s l u = refl
+
+  pub put_value : (q : Place) → Is new_pair q
+  put_value q = by new_pair (goes state.watermarks place value state.working)
+    where
+      at_place : (layers : List Layer) → IsBelow state.watermarks layers
+          → IfSome (get state.watermarks (device_of place.path)) (λ last. last <ℤ place.time)
+          → eq_by_cmp place_cmp q place ≡ true → (value : Value) → HasPoint layers q value → ⊥
+      at_place layers below above e value has =
+          no_late state.watermarks layers place above below value
+          (subst (λ (p : Place). HasPoint layers p value) (is_place q place e) has)
+
+      by : (new : Pair) → Goes state.watermarks place value state.working new → Is new q
+      by new (Early above is) = subst (λ new. Is new q) (sym is)
+          (value_is told (with_working (record state.working { sequence = put place value state.working.sequence })) q
+          reached
+          ∙ ap (λ o. joined o (get state.working.unsequence q) (below_at q) (late_at q))
+          (get_put state.working.sequence place value q)
+          ∙ here_or (eq_by_cmp place_cmp q place) (get state.working.sequence q) (below_at q)
+          (get state.working.unsequence q) (late_at q)
+          (λ e. none_is (get state.working.unsequence q)
+          (λ v has. at_place (layer_of state.working.unsequence) order.working_below above e v (inl has)))
+          (λ e. value_none state.marks q (stored_late told state.unsequence state.frozen)
+          (λ v has. at_place (stored_late told state.unsequence state.frozen) order.late_below above e v has))
+          ∙ ap (cond (eq_by_cmp place_cmp q place) (Some value)) (sym (value_is told state q reached)))
+      by new (Late below is) = subst (λ new. Is new q) (sym is)
+          (value_is told (with_working (record state.working { unsequence = put place value state.working.unsequence }))
+          q reached
+          ∙ ap (λ o. joined (get state.working.sequence q) o (below_at q) (late_at q))
+          (get_put state.working.unsequence place value q)
+          ∙ here_late (eq_by_cmp place_cmp q place) (get state.working.sequence q) (below_at q)
+          (get state.working.unsequence q) (late_at q)
+          ∙ ap (cond (eq_by_cmp place_cmp q place) (Some value)) (sym (value_is told state q reached)))

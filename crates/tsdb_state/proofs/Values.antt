@@ -1,0 +1,75 @@
+-- The value of a state from its four parts: what is stored in each space, and the working pair over it.
+use Rattle.std.proofs.Common.{◌≡◌, ℕ, ◌+◌, ◌≤◌, List, [], ◌∷◌, ◌++◌, map, sym, ap, ◌∙◌, append_assoc, arith}
+use Rattle.std.specs.Prelude.{Option}
+use Rattle.std.specs.FinMap.{get}
+use Rattle.std.specs.List.{AllByRecursion as Each}
+use Rattle.std.specs.Option.{option_or}
+use Rattle.tsdb_base.specs.declared.value.Value.{Value}
+use Rattle.tsdb_layers.proofs.Tests.{newest_survivor}
+use Rattle.tsdb_layers.proofs.Values.{value_append}
+use Rattle.tsdb_layers.specs.Layers.{Layer, value_in}
+use Rattle.tsdb_layers.specs.Places.{Place}
+use Rattle.tsdb_marks.specs.declared.marks.Mark.{Mark}
+use Rattle.tsdb_state.specs.State.{File, FrozenPair, StoreState, Told}
+use Rattle.tsdb_state.specs.Views.{file_layers, sequence_layer, sequence_layers, unsequence_layer}
+use Rattle.tsdb_state.specs.Views.{unsequence_layers, working_pair}
+use Rattle.tsdb_state.specs.Worlds.{value_of}
+
+-- what is stored in each space: files, and the parts of frozen pairs
+abbrev pub stored : Told → List File → List FrozenPair → List Layer
+stored told sequence frozen = file_layers told sequence ++ map sequence_layer frozen
+
+abbrev pub stored_late : Told → List File → List FrozenPair → List Layer
+stored_late told unsequence frozen = file_layers told unsequence ++ map unsequence_layer frozen
+
+abbrev pub AreReached : List Mark → ℕ → Type 0
+AreReached marks stamp = Each (λ mark. mark.version.0 ≤ stamp) marks
+
+-- the value, from those of the four parts
+abbrev pub joined : Option Value → Option Value → Option Value → Option Value → Option Value
+joined working late_working below late = option_or (option_or late_working late) (option_or working below)
+
+row_value : (marks : List Mark) (place : Place) (files pairs : List Layer) (last : Layer)
+    → AreReached marks last.born
+    → value_in marks place (files ++ (pairs ++ last ∷ []))
+    ≡ option_or (get last.content place) (value_in marks place (files ++ pairs))
+row_value marks place files pairs last reached =
+    ap (value_in marks place) (sym (append_assoc files pairs (last ∷ [])))
+    ∙ value_append marks place (files ++ pairs) (last ∷ [])
+    ∙ ap (λ o. option_or o (value_in marks place (files ++ pairs))) (newest_survivor marks place last reached)
+
+pub value_is : (told : Told) (state : StoreState) (place : Place) → AreReached state.marks state.stamp
+    → value_of told state place
+    ≡ joined (get state.working.sequence place) (get state.working.unsequence place)
+    (value_in state.marks place (stored told state.sequence state.frozen))
+    (value_in state.marks place (stored_late told state.unsequence state.frozen))
+value_is told state place reached =
+    value_append state.marks place (sequence_layers told state) (unsequence_layers told state)
+    ∙ (λ i. option_or
+    (row_value state.marks place (file_layers told state.unsequence) (map unsequence_layer state.frozen)
+    (unsequence_layer (working_pair state)) reached i)
+    (row_value state.marks place (file_layers told state.sequence) (map sequence_layer state.frozen)
+    (sequence_layer (working_pair state)) reached i))
+
+-- states with equal parts have equal values
+pub value_by_parts : (told other : Told) (state new : StoreState) (place : Place)
+    → AreReached state.marks state.stamp → AreReached new.marks new.stamp
+    → get new.working.sequence place ≡ get state.working.sequence place
+    → get new.working.unsequence place ≡ get state.working.unsequence place
+    → value_in new.marks place (stored other new.sequence new.frozen)
+    ≡ value_in state.marks place (stored told state.sequence state.frozen)
+    → value_in new.marks place (stored_late other new.unsequence new.frozen)
+    ≡ value_in state.marks place (stored_late told state.unsequence state.frozen)
+    → value_of other new place ≡ value_of told state place
+value_by_parts told other state new place reached new_reached sw uw s u =
+    value_is other new place new_reached
+    ∙ (λ i. joined (sw i) (uw i) (s i) (u i))
+    ∙ sym (value_is told state place reached)
+
+up_one : (a b : ℕ) → a ≤ b → a ≤ b + 1
+up_one a b h = omega arith
+
+pub reached_more : (marks : List Mark) (stamp : ℕ) → AreReached marks stamp → AreReached marks (stamp + 1)
+reached_more [] stamp reached = tt
+reached_more (mark ∷ marks) stamp reached =
+    (up_one mark.version.0 stamp reached.0, reached_more marks stamp reached.1)

@@ -1,0 +1,10 @@
+pub mod Limits
+pub mod State
+pub mod Views
+pub mod Worlds
+pub mod Limit
+pub mod StoreOrder
+pub mod Records
+pub mod Jobs
+pub mod Order
+pub mod Steps

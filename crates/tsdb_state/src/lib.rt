@@ -1,0 +1,7 @@
+//! The engine state, its steps, and their laws. Depends on `tsdb_base`, `tsdb_path`, `tsdb_map`, `tsdb_marks`,
+//! `tsdb_memtable`, `tsdb_plan`, `tsdb_log` and `tsdb_layers`.
+//!
+//! The definitions stand in `specs/`: `State` is the engine state, `Views` its layers, `Worlds` its values and the
+//! world that it stands for, `StoreOrder` when what records give is in order, `Jobs` and `Order` when all of it is,
+//! `Records` what each record of the log does, and `Steps` the steps of an engine. There is no code but laws.
+#![tactic(auto)]
