@@ -69,3 +69,21 @@ pub below_both : (watermarks : Watermarks) (xs ys : List Layer) → IsBelow wate
     → IsBelow watermarks (xs ++ ys)
 below_both watermarks xs ys first second place value has =
     ⊎_elim (first place value) (second place value) (has_cases xs ys place value has)
+
+pub part_itself : (xs : List Layer) → IsPartOf xs xs
+part_itself xs place value has = has
+
+-- layers in the middle of others, in place of some that have all of their points
+pub part_middle : (a b xs ys : List Layer) → IsPartOf xs ys → IsPartOf (a ++ (xs ++ b)) (a ++ (ys ++ b))
+part_middle a b xs ys part =
+    part_append a (xs ++ b) a (ys ++ b) (part_itself a) (part_append xs b ys b part (part_itself b))
+
+pub rises_middle : (a b xs ys : List Layer) → IsPartOf xs ys → Rises xs → Rises (a ++ (ys ++ b))
+    → Rises (a ++ (xs ++ b))
+rises_middle a b xs ys part rises all =
+    let rest = rises_right a (ys ++ b) all in
+    rises_append a (xs ++ b) (rises_left a (ys ++ b) all)
+    (rises_append xs b rises (rises_right ys b rest)
+    (before_part xs b ys b part (part_itself b) (rises_across ys b rest)))
+    (before_part a (xs ++ b) a (ys ++ b) (part_itself a) (part_append xs b ys b part (part_itself b))
+    (rises_across a (ys ++ b) all))

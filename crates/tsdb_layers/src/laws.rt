@@ -56,8 +56,8 @@ pub fn an_output_keeps_the_value()
         → value_in marks place output ≡ value_in marks place inputs }
 {}
 
-/// A value that is put into a layer below which and above which no layer hides it is the value of its place, and no other
-/// place has another value.
+/// A value that is put into a layer that is newer than all marks, and above which no layer has a value at its place, is
+/// the value of its place. No other place has another value.
 pub fn a_point_is_put()
     ensures here { (marks : List Mark) (place : Place) (value : Value) (born : ℕ) (content : Content)
         (below above : List Layer)

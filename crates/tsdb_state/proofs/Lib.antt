@@ -1,3 +1,13 @@
 pub mod Values
 pub mod Purges
 pub mod Putting
+pub mod Series
+pub mod Stamps
+pub mod Creating
+pub mod Worlds
+pub mod Inserting
+pub mod Freezing
+pub mod Cutting
+pub mod Deleting
+pub mod Typed
+pub mod Flushing

@@ -1,7 +1,7 @@
 -- A point that is put into the working pair: the order stays, and its place alone has a new value.
-use Rattle.std.proofs.Common.{◌≡◌, ℤ, ◌≤ℤ◌, ◌<ℤ◌, Bool, true, false, cond, List, inl, inr}
+use Rattle.std.proofs.Common.{⊎_elim, ◌≡◌, ℤ, ◌≤ℤ◌, ◌<ℤ◌, Bool, true, false, cond, List, inl, inr}
 use Rattle.std.proofs.Common.{refl, sym, ap, ◌∙◌, subst, arith}
-use Rattle.std.specs.Prelude.{Option, Some, None, IfSome, int_lt}
+use Rattle.std.specs.Prelude.{◌⊎◌, Option, Some, None, IfSome, int_lt}
 use Rattle.std.specs.FinMap.{get}
 use Rattle.std.specs.Option.{IsSomeAnd}
 use Rattle.std.specs.Ordering.{eq_by_cmp}
@@ -19,19 +19,22 @@ use Rattle.tsdb_state.proofs.Values.{AreReached, joined, stored, stored_late, va
 use Rattle.tsdb_state.specs.Records.{put_in_pair, put_in_space}
 use Rattle.tsdb_state.specs.State.{File, FrozenPair, Pair, StoreState, Told}
 use Rattle.tsdb_state.specs.StoreOrder.{LayersInOrder}
-use Rattle.tsdb_state.specs.Views.{layer_of}
+use Rattle.tsdb_state.specs.Views.{layer_of, pair_layers}
 use Rattle.tsdb_state.specs.Worlds.{value_of}
 
 -- what holds of the points of a content, and of one more
-pub put_holds : (P : Place → Type 0) (content : Content) (place : Place) (value : Value)
-    → ((q : Place) (w : Value) → HasPoint (layer_of content) q w → P q) → P place
-    → (q : Place) (w : Value) → HasPoint (layer_of (put place value content)) q w → P q
+pub put_holds : (P : Place → Value → Type 0) (content : Content) (place : Place) (value : Value)
+    → ((q : Place) (w : Value) → HasPoint (layer_of content) q w → P q w) → P place value
+    → (q : Place) (w : Value) → HasPoint (layer_of (put place value content)) q w → P q w
 put_holds P content place value all one q w (inr none) = absurd none
 put_holds P content place value all one q w (inl is) =
     by (eq_by_cmp place_cmp q place) refl (sym (get_put content place value q) ∙ is)
   where
-    by : (b : Bool) → eq_by_cmp place_cmp q place ≡ b → cond b (Some value) (get content q) ≡ Some w → P q
-    by true e is = subst P (sym (is_place q place e)) one
+    same_value : (v w : Value) → Some v ≡ Some w → v ≡ w
+    same_value v w e = cc
+
+    by : (b : Bool) → eq_by_cmp place_cmp q place ≡ b → cond b (Some value) (get content q) ≡ Some w → P q w
+    by true e is = subst (λ p. P p w) (sym (is_place q place e)) (subst (P place) (same_value value w is) one)
     by false e is = all q w (inl is)
 
 -- the two cases of the watermark rule
@@ -87,7 +90,8 @@ module _ (told : Told) (watermarks : Watermarks) (sequence unsequence : List Fil
         below = order.below;
         late_below = order.late_below;
         working_below = order.working_below;
-        above = put_holds (λ q. IfSome (get watermarks (device_of q.path)) (λ last. last <ℤ q.time)) pair.sequence place
+        above = put_holds (λ q w. IfSome (get watermarks (device_of q.path))
+            (λ last. last <ℤ q.time)) pair.sequence place
             value order.above above;
       })
       by new (Late below is) = subst In (sym is) (record {
@@ -96,7 +100,7 @@ module _ (told : Told) (watermarks : Watermarks) (sequence unsequence : List Fil
         below = order.below;
         late_below = order.late_below;
         above = order.above;
-        working_below = put_holds (λ q. IsSomeAnd (get watermarks (device_of q.path)) (λ last. q.time ≤ℤ last))
+        working_below = put_holds (λ q w. IsSomeAnd (get watermarks (device_of q.path)) (λ last. q.time ≤ℤ last))
             pair.unsequence place value order.working_below below;
       })
 
@@ -177,3 +181,32 @@ module _ (told : Told) (state : StoreState) (place : Place) (value : Value)
           ∙ here_late (eq_by_cmp place_cmp q place) (get state.working.sequence q) (below_at q)
           (get state.working.unsequence q) (late_at q)
           ∙ ap (cond (eq_by_cmp place_cmp q place) (Some value)) (sym (value_is told state q reached)))
+
+-- what holds of the points of a pair, and of one more, in whichever space it goes
+pub pair_holds : (P : Place → Value → Type 0) (watermarks : Watermarks) (place : Place) (value : Value) (pair : Pair)
+    → ((q : Place) (w : Value) → HasPoint (pair_layers pair) q w → P q w) → P place value
+    → (q : Place) (w : Value) → HasPoint (pair_layers (put_in_pair watermarks place value pair)) q w → P q w
+pair_holds P watermarks place value pair all one q w has =
+    by (put_in_pair watermarks place value pair) (goes watermarks place value pair) has
+  where
+    split : (new : Pair) → HasPoint (pair_layers new) q w
+        → HasPoint (layer_of new.sequence) q w ⊎ HasPoint (layer_of new.unsequence) q w
+    split new (inl h) = inl (inl h)
+    split new (inr (inl h)) = inr (inl h)
+    split new (inr (inr h)) = absurd h
+
+    first : (q : Place) (w : Value) → HasPoint (layer_of pair.sequence) q w → P q w
+    first q w (inl h) = all q w (inl h)
+    first q w (inr h) = absurd h
+
+    second : (q : Place) (w : Value) → HasPoint (layer_of pair.unsequence) q w → P q w
+    second q w (inl h) = all q w (inr (inl h))
+    second q w (inr h) = absurd h
+
+    by : (new : Pair) → Goes watermarks place value pair new → HasPoint (pair_layers new) q w → P q w
+    by new (Early above is) h = ⊎_elim (put_holds P pair.sequence place value first one q w) (second q w)
+        (split (record pair { sequence = put place value pair.sequence })
+        (subst (λ (p : Pair). HasPoint (pair_layers p) q w) is h))
+    by new (Late below is) h = ⊎_elim (first q w) (put_holds P pair.unsequence place value second one q w)
+        (split (record pair { unsequence = put place value pair.unsequence })
+        (subst (λ (p : Pair). HasPoint (pair_layers p) q w) is h))

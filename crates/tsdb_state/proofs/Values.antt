@@ -29,7 +29,7 @@ AreReached marks stamp = Each (λ mark. mark.version.0 ≤ stamp) marks
 abbrev pub joined : Option Value → Option Value → Option Value → Option Value → Option Value
 joined working late_working below late = option_or (option_or late_working late) (option_or working below)
 
-row_value : (marks : List Mark) (place : Place) (files pairs : List Layer) (last : Layer)
+pub row_value : (marks : List Mark) (place : Place) (files pairs : List Layer) (last : Layer)
     → AreReached marks last.born
     → value_in marks place (files ++ (pairs ++ last ∷ []))
     ≡ option_or (get last.content place) (value_in marks place (files ++ pairs))

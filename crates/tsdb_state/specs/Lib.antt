@@ -5,6 +5,7 @@ pub mod Worlds
 pub mod Limit
 pub mod StoreOrder
 pub mod Records
+pub mod Commands
 pub mod Jobs
 pub mod Order
 pub mod Steps

@@ -5,3 +5,11 @@
 //! world that it stands for, `StoreOrder` when what records give is in order, `Jobs` and `Order` when all of it is,
 //! `Records` what each record of the log does, and `Steps` the steps of an engine. There is no code but laws.
 #![tactic(auto)]
+
+mod laws;
+
+pub use laws::{
+    create_follows_the_map, create_keeps_order, delete_follows_the_map, delete_keeps_order,
+    flush_keeps_order_and_world, freeze_keeps_order_and_world, insert_follows_the_map,
+    insert_keeps_order,
+};
