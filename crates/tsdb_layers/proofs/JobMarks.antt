@@ -3,13 +3,15 @@
 use Rattle.std.proofs.Common.{◌≡◌, ℕ, ◌≤◌, Bool, true, false, cond, List, [], ◌∷◌, map, refl, sym, ap, ◌∙◌, arith}
 use Rattle.std.specs.Prelude.{◌&&◌, ◌||◌, nat_le, nat_lt, Option, None}
 use Rattle.std.specs.FinMap.{get}
-use Rattle.std.specs.List.{AllByRecursion as Each}
+use Rattle.std.specs.List.{AllByRecursion as Each, list_any}
 use Rattle.std.specs.Option.{option_or}
 use Rattle.std.proofs.lemmas.Bool.Decides.{nat_tests}
+use Rattle.tsdb_layers.proofs.Lists.{any_among}
 use Rattle.tsdb_layers.proofs.Tests.{clear_alike, clear_either, clear_filter}
 use Rattle.tsdb_layers.proofs.Values.{value_of_survivors}
 use Rattle.tsdb_layers.specs.Layers.{Layer, survivor, value_in}
-use Rattle.tsdb_layers.specs.Marks.{marks_up_to, survives}
+use Rattle.tsdb_layers.specs.Lists.{Among}
+use Rattle.tsdb_layers.specs.Marks.{marks_up_to, purge, survives}
 use Rattle.tsdb_layers.specs.Places.{Place}
 use Rattle.tsdb_marks.specs.declared.marks.Mark.{Mark}
 
@@ -86,3 +88,37 @@ output_value marks at_beginning place born inputs output older same kept is =
     ∙ ap (λ o. cond (survives marks place born) o None)
     (is ∙ value_of_survivors at_beginning (marks_up_to born marks) place inputs inputs kept)
     ∙ sym (value_up_to marks place born inputs older)
+
+-- a purge leaves the survivors up to a stamp of what is as old as one of its borns
+purge_up_to : (borns : List ℕ) (born old version : ℕ) → Among old borns
+    → (list_any (λ b. nat_lt b version) borns && (nat_le version born && nat_lt old version))
+    ≡ (nat_le version born && nat_lt old version)
+purge_up_to borns born old version among = by (nat_lt old version) refl
+  where
+    whole : (a : Bool) → (a && true) ≡ a
+    whole true = refl
+    whole false = refl
+
+    none : (a b : Bool) → (a && (b && false)) ≡ (b && false)
+    none true b = refl
+    none false true = refl
+    none false false = refl
+
+    by : (b : Bool) → nat_lt old version ≡ b
+        → (list_any (λ b. nat_lt b version) borns && (nat_le version born && b)) ≡ (nat_le version born && b)
+    by true e = ap (λ c. c && (nat_le version born && true)) (any_among (λ b. nat_lt b version) borns old among e)
+    by false e = none (list_any (λ b. nat_lt b version) borns) (nat_le version born)
+
+pub survivor_purged_up_to : (borns : List ℕ) (marks : List Mark) (born : ℕ) (place : Place) (layer : Layer)
+    → Among layer.born borns
+    → survivor (marks_up_to born (purge borns marks)) place layer ≡ survivor (marks_up_to born marks) place layer
+survivor_purged_up_to borns marks born place layer among =
+    ap (λ b. cond b (get layer.content place) None)
+    (clear_filter (nat_lt layer.born) (λ version. nat_le version born) (purge borns marks) place
+    ∙ clear_filter (λ version. nat_le version born && nat_lt layer.born version)
+    (λ version. list_any (λ b. nat_lt b version) borns) marks place
+    ∙ clear_alike
+    (λ version. list_any (λ b. nat_lt b version) borns && (nat_le version born && nat_lt layer.born version))
+    (λ version. nat_le version born && nat_lt layer.born version) marks place
+    (λ version. purge_up_to borns born layer.born version among)
+    ∙ sym (clear_filter (nat_lt layer.born) (λ version. nat_le version born) marks place))

@@ -171,7 +171,7 @@ tail_same : {X : Type 0} (x y : X) (xs ys : List X) → x ∷ xs ≡ y ∷ ys �
 tail_same x y xs ys e = cc
 
 -- a run that begins a list, beside one that begins later
-first_apart : {X : Type 0} (run rest before other behind : List X) (o : X)
+pub first_apart : {X : Type 0} (run rest before other behind : List X) (o : X)
     → ((x : X) → Among x run → Among x (o ∷ other) → ⊥)
     → run ++ rest ≡ before ++ (o ∷ other ++ behind) → Holds (o ∷ other) rest
 first_apart [] rest before other behind o share is = record { before = before; behind = behind; is = is }
@@ -182,7 +182,7 @@ first_apart (r ∷ run) rest (b ∷ before) other behind o share is =
     (tail_same r b (run ++ rest) (before ++ (o ∷ other ++ behind)) is)
 
 -- and it ends before that one
-ends_before : {X : Type 0} (run rest before : List X) (o : X) (other behind : List X)
+pub ends_before : {X : Type 0} (run rest before : List X) (o : X) (other behind : List X)
     → ((x : X) → Among x run → Among x (o ∷ other) → ⊥)
     → run ++ rest ≡ before ++ (o ∷ other ++ behind) → (more : List X) × (before ≡ run ++ more)
 ends_before [] rest before o other behind share is = (before, refl)
@@ -217,3 +217,14 @@ runs_apart r run o other (a ∷ front) b (c ∷ cs) d share is =
     })) (λ h. inr h)
     (runs_apart r run o other front b cs d share
     (tail_same a c (front ++ (r ∷ run ++ b)) (cs ++ (o ∷ other ++ d)) is))
+
+pub filter_append : {X : Type 0} (test : X → Bool) (xs ys : List X)
+    → filter test (xs ++ ys) ≡ filter test xs ++ filter test ys
+filter_append test [] ys = refl
+filter_append test (x ∷ xs) ys = by (test x) (filter_append test xs ys)
+  where
+    by : (b : Bool) → filter test (xs ++ ys) ≡ filter test xs ++ filter test ys
+        → cond b (x ∷ filter test (xs ++ ys)) (filter test (xs ++ ys))
+        ≡ cond b (x ∷ filter test xs) (filter test xs) ++ filter test ys
+    by true e = ap (λ zs. x ∷ zs) e
+    by false e = e

@@ -11,3 +11,7 @@ pub mod Cutting
 pub mod Deleting
 pub mod Typed
 pub mod Flushing
+pub mod Runs
+pub mod Replacing
+pub mod Committing
+pub mod OtherJobs

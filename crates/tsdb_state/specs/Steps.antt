@@ -166,17 +166,17 @@ IsOutput told job output = (place : Place)
     → value_in [] place (file_layers told output) ≡ value_in job.marks place (file_layers told (job_inputs job))
 
 -- the place of an output in its list: of a sequence output the job's, of another one that of the first input
-abbrev pub IsOutputPlace : Space → Compaction → EngineState → ℕ → Type 0
+abbrev pub IsOutputPlace : Space → Compaction → StoreState → ℕ → Type 0
 IsOutputPlace Sequence job state place = place ≡ job.place
 IsOutputPlace Unsequence job state place =
-    (run : IsRun job.unsequence state.store.unsequence) × (place ≡ length run.before)
+    (run : IsRun job.unsequence state.unsequence) × (place ≡ length run.before)
 
 -- COMMIT A COMPACTION: its output is a file of its number, or none where there is no point
 pub record CommitsCompaction (told : Told) (entries : Entries) (job : Compaction) (others : List Compaction)
     (output : List File) (place : ℕ) (state : EngineState)
     : Type 0 where
   pub out : IsWithOne job others state.compactions
-  pub stands : IsOutputPlace job.space job state place
+  pub stands : IsOutputPlace job.space job state.store place
   pub gives : IsOutput told job output
   pub file : (output ≡ []) ⊎ ((output ≡ record { number = job.output; born = job.born } ∷ [])
       × Describes (entries job.output) (told job.output))

@@ -1,6 +1,6 @@
 //! Laws of the records of a log: what each of them does to a store in order. The functions do nothing; their contracts
 //! are the laws.
-ghost use Rattle.std.specs.Prelude.{◌≡◌, ◌≢◌, ◌∷◌, ℕ, ℤ, List};
+ghost use Rattle.std.specs.Prelude.{◌≡◌, ◌≢◌, ◌⊎◌, ◌≤◌, ◌∷◌, ℕ, ℤ, List, []};
 ghost use Rattle.tsdb_base.specs.declared.answers.Answer.{Answer};
 ghost use Rattle.tsdb_base.specs.declared.point.Range.{Range};
 ghost use Rattle.tsdb_log.specs.declared.record.CellRecord.{CellRecord};
@@ -12,8 +12,13 @@ ghost use Rattle.tsdb_map.specs.declared.command.Schema.{Schema};
 ghost use Rattle.tsdb_map.specs.declared.reply.Reply.{Reply};
 ghost use Rattle.tsdb_state.specs.Commands.{AreCells, KeepsBytes};
 ghost use Rattle.tsdb_state.specs.Records.{CanCreate, CanDelete, CanFreeze, CanInsert, IsNumberOf, created, deleted};
-ghost use Rattle.tsdb_state.specs.Records.{flushed, froze, inserted};
-ghost use Rattle.tsdb_state.specs.State.{FrozenPair, StoreState, Told};
+ghost use Rattle.tsdb_layers.specs.Layers.{value_in};
+ghost use Rattle.tsdb_layers.specs.Places.{Place};
+ghost use Rattle.tsdb_state.specs.Jobs.{HasKind, KeepsItsMarks, Stands, job_inputs};
+ghost use Rattle.tsdb_state.specs.Records.{flushed, froze, inserted, replaced};
+ghost use Rattle.tsdb_state.specs.State.{Compaction, File, FrozenPair, StoreState, Told};
+ghost use Rattle.tsdb_state.specs.Steps.{IsOutput, IsOutputPlace, replacement};
+ghost use Rattle.tsdb_state.specs.Views.{file_layers};
 ghost use Rattle.tsdb_state.specs.StoreOrder.{StoreInOrder};
 ghost use Rattle.tsdb_state.specs.Worlds.{KeepsWorld, StandsFor};
 
@@ -97,4 +102,31 @@ pub fn flush_keeps_order_and_world()
         → (sequence ≢ 0 → told sequence ≡ oldest.pair.sequence)
         → (unsequence ≢ 0 → told unsequence ≡ oldest.pair.unsequence)
         → StoreInOrder told state → KeepsWorld told state (flushed sequence unsequence state) }
+{}
+
+/// A compaction whose output has what its inputs had at its beginning keeps a store in order, and its world, whatever was
+/// put, deleted or flushed since.
+pub fn compaction_keeps_order_and_world()
+    ensures order { (told : Told) (state : StoreState) (job : Compaction) (output : List File) (place : ℕ)
+        → StoreInOrder told state → KeepsItsMarks told state.stamp state.marks job → IsOutput told job output
+        → 1 ≤ job.output → (output ≡ []) ⊎ (output ≡ record { number = job.output; born = job.born } ∷ [])
+        → HasKind job.space job → Stands job.space told state.sequence state.unsequence job
+        → IsOutputPlace job.space job state place
+        → StoreInOrder told (replaced (replacement job output place) state) }
+    ensures world { (told : Told) (state : StoreState) (job : Compaction) (output : List File) (place : ℕ)
+        → StoreInOrder told state → KeepsItsMarks told state.stamp state.marks job → IsOutput told job output
+        → 1 ≤ job.output → (output ≡ []) ⊎ (output ≡ record { number = job.output; born = job.born } ∷ [])
+        → HasKind job.space job → Stands job.space told state.sequence state.unsequence job
+        → IsOutputPlace job.space job state place
+        → KeepsWorld told state (replaced (replacement job output place) state) }
+{}
+
+/// The output of a job has, under the marks of now, the value of its last input with a surviving point, whatever was
+/// deleted since the job began.
+pub fn an_output_has_its_inputs_value()
+    ensures { (told : Told) (state : StoreState) (job : Compaction) (output : List File) (place : Place)
+        → KeepsItsMarks told state.stamp state.marks job → IsOutput told job output
+        → (output ≡ []) ⊎ (output ≡ record { number = job.output; born = job.born } ∷ [])
+        → value_in state.marks place (file_layers told output)
+        ≡ value_in state.marks place (file_layers told (job_inputs job)) }
 {}

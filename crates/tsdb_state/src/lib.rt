@@ -9,7 +9,7 @@
 mod laws;
 
 pub use laws::{
-    create_follows_the_map, create_keeps_order, delete_follows_the_map, delete_keeps_order,
-    flush_keeps_order_and_world, freeze_keeps_order_and_world, insert_follows_the_map,
-    insert_keeps_order,
+    an_output_has_its_inputs_value, compaction_keeps_order_and_world, create_follows_the_map,
+    create_keeps_order, delete_follows_the_map, delete_keeps_order, flush_keeps_order_and_world,
+    freeze_keeps_order_and_world, insert_follows_the_map, insert_keeps_order,
 };
