@@ -15,3 +15,7 @@ pub mod Runs
 pub mod Replacing
 pub mod Committing
 pub mod OtherJobs
+pub mod Counting
+pub mod Numbering
+pub mod CommitNumbers
+pub mod Holding

@@ -96,6 +96,7 @@ drawn_numbers flushes compactions = flat_map drawn_by flushes ++ map (λ job. jo
 -- the numbers of files, and those drawn, differ, and lie from 1 to below the next one; so do those that records have
 -- named, among which is none that is drawn
 pub record NumbersInOrder (named : List ℕ) (next : ℕ) (files : List File) (drawn : List ℕ) : Type 0 where
+  pub from_one : 1 ≤ next
   pub end : next ≤ end_of_numbers
   pub differ : (number : ℕ) → count number (numbers_of files) + count number drawn ≤ 1
   pub range : (number : ℕ) → 1 ≤ count number (numbers_of files) + count number drawn → (1 ≤ number) × (number < next)

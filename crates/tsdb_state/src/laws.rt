@@ -104,8 +104,8 @@ pub fn flush_keeps_order_and_world()
         → StoreInOrder told state → KeepsWorld told state (flushed sequence unsequence state) }
 {}
 
-/// A compaction whose output has what its inputs had at its beginning keeps a store in order, and its world, whatever was
-/// put, deleted or flushed since.
+/// A compaction whose output has what its inputs had at its beginning keeps a store in order and its world, whatever
+/// was put, deleted or flushed since.
 pub fn compaction_keeps_order_and_world()
     ensures order { (told : Told) (state : StoreState) (job : Compaction) (output : List File) (place : ℕ)
         → StoreInOrder told state → KeepsItsMarks told state.stamp state.marks job → IsOutput told job output
