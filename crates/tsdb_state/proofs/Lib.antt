@@ -11,6 +11,8 @@ pub mod Cutting
 pub mod Deleting
 pub mod Typed
 pub mod Flushing
+pub mod OneWorld
+pub mod NewStore
 pub mod Runs
 pub mod Replacing
 pub mod Committing

@@ -9,3 +9,4 @@ pub mod Commands
 pub mod Jobs
 pub mod Order
 pub mod Steps
+pub mod NewStore

@@ -7,9 +7,13 @@
 #![tactic(auto)]
 
 mod laws;
+mod world_laws;
 
 pub use laws::{
     an_output_has_its_inputs_value, compaction_keeps_order_and_world, create_follows_the_map,
     create_keeps_order, delete_follows_the_map, delete_keeps_order, flush_keeps_order_and_world,
     freeze_keeps_order_and_world, insert_follows_the_map, insert_keeps_order,
+};
+pub use world_laws::{
+    a_new_store_is_in_order, a_store_in_order_stands_for_a_world, a_store_stands_for_one_world,
 };
