@@ -22,7 +22,7 @@ count_new_file n m born = by (m == 0)
     by true = refl
     by false = refl
 
-count_new_two : (n a b : ℕ)
+pub count_new_two : (n a b : ℕ)
     → count n (new_numbers (a ∷ b ∷ [])) ≡ count n (new_numbers (a ∷ [])) + count n (new_numbers (b ∷ []))
 count_new_two n a b = by (a == 0)
   where
@@ -31,7 +31,7 @@ count_new_two n a b = by (a == 0)
     by true = omega arith
     by false = omega arith
 
-count_new_one : (n m : ℕ) → count n (new_numbers (m ∷ [])) ≤ count n (m ∷ [])
+pub count_new_one : (n m : ℕ) → count n (new_numbers (m ∷ [])) ≤ count n (m ∷ [])
 count_new_one n m = by (m == 0)
   where
     by : (z : Bool) → count n (cond z [] (m ∷ [])) ≤ count n (m ∷ [])
@@ -117,10 +117,10 @@ committed_flush_numbers told known named flush others state commits order =
     )
 
 -- the output of a job is a file of its number, or none
-abbrev IsFileOrNone : Compaction → List File → Type 0
+abbrev pub IsFileOrNone : Compaction → List File → Type 0
 IsFileOrNone job output = (output ≡ []) ⊎ (output ≡ record { number = job.output; born = job.born } ∷ [])
 
-count_output : (n : ℕ) (job : Compaction) (output : List File) → IsFileOrNone job output
+pub count_output : (n : ℕ) (job : Compaction) (output : List File) → IsFileOrNone job output
     → (count n (new_numbers (output_number output ∷ [])) ≤ count n (job.output ∷ []))
     × (count n (numbers_of output) ≤ count n (job.output ∷ []))
 count_output n job output (inl none) = (

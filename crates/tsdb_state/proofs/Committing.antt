@@ -17,7 +17,8 @@ use Rattle.tsdb_layers.specs.Order.{Rises}
 use Rattle.tsdb_layers.specs.Places.{Place}
 use Rattle.tsdb_state.proofs.Replacing.{crossed_in_order, crossed_keeps, merged_in_order, merged_keeps}
 use Rattle.tsdb_state.proofs.Runs.{dropped_first, output_is, replaced_run}
-use Rattle.tsdb_state.specs.Jobs.{HasKind, KeepsItsMarks, Stands, job_inputs}
+use Rattle.tsdb_layers.specs.Lists.{IsRun}
+use Rattle.tsdb_state.specs.Jobs.{HasGap, HasKind, KeepsItsMarks, Stands, job_inputs}
 use Rattle.tsdb_state.specs.Records.{new_file, numbers_of, purged, replace, replace_in, replaced}
 use Rattle.tsdb_state.specs.State.{Compaction, File, StoreState, Told}
 use Rattle.tsdb_state.specs.Steps.{IsOutput, IsOutputPlace, output_number, replacement}
@@ -113,18 +114,31 @@ module _ (told : Told) (state : StoreState) (job : Compaction) (output : List Fi
   part : (layers : List Layer) → J ≡ layers → IsPartOf Q layers
   part layers are = subst (IsPartOf Q) are (output_points told state job output marked gives file)
 
+  -- the store after the record, before its marks are purged
+  pub crossed_is : (gap : HasGap told state.sequence state.unsequence job) → place ≡ job.place
+      → After Sequence ≡ record state {
+        sequence = gap.run.before ++ (output ++ gap.run.behind);
+        unsequence = gap.later;
+      }
+  crossed_is gap at = λ i. record state {
+    sequence = list_is job.sequence state.sequence gap.run.before gap.run.behind gap.run.is (at ∙ sym gap.place) i;
+    unsequence = (ap (drop (length (numbers_of job.unsequence))) gap.first
+        ∙ dropped_first job.unsequence gap.later) i;
+  }
+
+  pub merged_is : (run : IsRun job.unsequence state.unsequence) → place ≡ length run.before
+      → After Unsequence ≡ record state { unsequence = run.before ++ (output ++ run.behind) }
+  merged_is run at = λ i. record state {
+    unsequence = list_is job.unsequence state.unsequence run.before run.behind run.is at i;
+  }
+
   by_space : (space : Space) → HasKind space job → Stands space told state.sequence state.unsequence job
       → IsOutputPlace space job state place → Both (After space)
   by_space Sequence kind gap at =
       let late = file_layers told job.unsequence in
       let both = file_layers told job.sequence ++ late in
       let values = λ (p : Place). value p both inputs_are in
-      subst Both (λ i. record state {
-        sequence = sym (list_is job.sequence state.sequence gap.run.before gap.run.behind gap.run.is
-            (at ∙ sym gap.place)) i;
-        unsequence = sym (ap (drop (length (numbers_of job.unsequence))) gap.first
-            ∙ dropped_first job.unsequence gap.later) i;
-      }) (
+      subst Both (sym (crossed_is gap at)) (
         crossed_in_order told state gap.run.before job.sequence gap.run.behind job.unsequence gap.later output
             gap.run.is
             gap.first gap.below gap.above values (part both inputs_are) rises reached order,
@@ -135,9 +149,7 @@ module _ (told : Told) (state : StoreState) (job : Compaction) (output : List Fi
       let late = file_layers told job.unsequence in
       let late_only : J ≡ late = ap (λ files. file_layers told (files ++ job.unsequence)) kind.0 in
       let values = λ (p : Place). value p late late_only in
-      subst Both (λ i. record state {
-        unsequence = sym (list_is job.unsequence state.unsequence at.0.before at.0.behind at.0.is at.1) i;
-      }) (
+      subst Both (sym (merged_is at.0 at.1)) (
         merged_in_order told state at.0.before job.unsequence at.0.behind output at.0.is values (part late late_only)
             reached order,
         merged_keeps told state at.0.before job.unsequence at.0.behind output at.0.is values (part late late_only)

@@ -86,10 +86,10 @@ module _ (told : Told) (state : StoreState) (oldest : FrozenPair) (newer : List 
     (first_is : IsNumberOf first oldest.pair.sequence) (second_is : IsNumberOf second oldest.pair.unsequence)
     (first_has : first ≢ 0 → told first ≡ oldest.pair.sequence)
     (second_has : second ≢ 0 → told second ≡ oldest.pair.unsequence) (order : StoreInOrder told state) where
-  abbrev new_sequence : List File
+  abbrev pub new_sequence : List File
   new_sequence = new_file first oldest.born
 
-  abbrev new_unsequence : List File
+  abbrev pub new_unsequence : List File
   new_unsequence = new_file second oldest.born
 
   abbrev files : List Layer
@@ -99,14 +99,14 @@ module _ (told : Told) (state : StoreState) (oldest : FrozenPair) (newer : List 
   late = file_layers told state.unsequence
 
   -- the state before its marks are purged
-  abbrev moved : StoreState
+  abbrev pub moved : StoreState
   moved = record state {
     frozen = newer;
     sequence = state.sequence ++ new_sequence;
     unsequence = state.unsequence ++ new_unsequence;
   }
 
-  flushed_is : flushed first second state ≡ purged moved
+  pub flushed_is : flushed first second state ≡ purged moved
   flushed_is = ap (λ frozen. flush_oldest first second frozen state) are
 
   regroup : (old : List File) (new : List File) (pairs : List Layer)
@@ -131,7 +131,7 @@ module _ (told : Told) (state : StoreState) (oldest : FrozenPair) (newer : List 
       (part_value told second oldest.born oldest.pair.unsequence second_is second_has state.marks place)
       ∙ ap (λ layers. value_in state.marks place (late ++ layers)) (sym (frozen_is unsequence_layer)))
 
-  first_points : IsPartOf (file_layers told new_sequence) (sequence_layer oldest ∷ [])
+  pub first_points : IsPartOf (file_layers told new_sequence) (sequence_layer oldest ∷ [])
   first_points = part_points told first oldest.born oldest.pair.sequence first_is first_has
 
   second_points : IsPartOf (file_layers told new_unsequence) (unsequence_layer oldest ∷ [])

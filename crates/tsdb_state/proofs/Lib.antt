@@ -21,3 +21,9 @@ pub mod Counting
 pub mod Numbering
 pub mod CommitNumbers
 pub mod Holding
+pub mod EngineRecords
+pub mod Fresh
+pub mod EngineFlush
+pub mod EngineCompaction
+pub mod EngineRest
+pub mod EngineDoubts

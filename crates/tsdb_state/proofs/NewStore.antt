@@ -1,14 +1,14 @@
 -- A new store is in order, and stands for the world without series.
-use Rattle.std.proofs.Common.{◌≡◌, ℕ, ℤ, List, [], ◌++◌, refl, sym, ◌∙◌, inl, inr, arith}
-use Rattle.std.proofs.Common.{None, Some, Option}
-use Rattle.std.specs.Prelude.{◌⊎◌, IfSome}
+use Rattle.std.proofs.Common.{◌≡◌, ℕ, List, [], refl, sym, ◌∙◌, inl, inr, arith}
+use Rattle.std.proofs.Common.{None, Some}
+use Rattle.std.specs.Prelude.{◌⊎◌}
 use Rattle.std.specs.Cmp.Lexicographic.{slice_cmp}
 use Rattle.std.specs.FinMap.{empty, get, get-empty}
 use Rattle.std.specs.Ordering.{int_cmp, nat_cmp}
 use Rattle.tsdb_base.specs.declared.value.Value.{Value}
 use Rattle.tsdb_layers.proofs.Values.{value_none}
 use Rattle.tsdb_layers.specs.Layers.{HasPoint}
-use Rattle.tsdb_layers.specs.Places.{Content, Place, place_cmp}
+use Rattle.tsdb_layers.specs.Places.{Place, place_cmp}
 use Rattle.std.specs.Option.{option_map}
 use Rattle.tsdb_map.specs.World.{Series, points_of}
 use Rattle.tsdb_state.specs.NewStore.{new_store}

@@ -1,5 +1,6 @@
 -- A state stands for one world at most, and a store in order stands for one.
-use Rattle.std.proofs.Common.{◌≡◌, ℕ, ℤ, Bool, true, false, cond, List, [], ◌∷◌, ◌++◌, map, refl, sym, ap, ◌∙◌, subst, inl, inr}
+use Rattle.std.proofs.Common.{◌≡◌, ℕ, ℤ, Bool, true, false, cond, List, [], ◌∷◌, ◌++◌, refl, sym, ap, ◌∙◌}
+use Rattle.std.proofs.Common.{inl, inr}
 use Rattle.std.proofs.Common.{None, Some, Option}
 use Rattle.std.specs.Prelude.{◌⊎◌, ◌&&◌, find}
 use Rattle.std.specs.Cmp.{int_cmp_total, tied_itself}
@@ -12,7 +13,6 @@ use Rattle.std.specs.Option.{option_map}
 use Rattle.std.specs.Ordering.{eq_by_cmp, int_cmp, is_eq, nat_cmp}
 use Rattle.std.specs.declared.cmp.Ordering.{Ordering}
 use Rattle.std.specs.declared.cmp.Ordering.TheVariants.{Less, Equal, Greater}
-use Rattle.tsdb_base.specs.Values.{type_of}
 use Rattle.tsdb_base.specs.declared.value.Value.{Value}
 use Rattle.tsdb_layers.proofs.Places.{is_path_same, is_place, path_itself}
 use Rattle.tsdb_layers.proofs.Values.{value_is_point}
@@ -24,7 +24,7 @@ use Rattle.tsdb_state.proofs.Worlds.{type_in}
 use Rattle.tsdb_state.specs.State.{SeriesEntry, StoreState, Told}
 use Rattle.tsdb_state.specs.StoreOrder.{HasLiveValues}
 use Rattle.tsdb_state.specs.Views.{all_layers}
-use Rattle.tsdb_state.specs.Worlds.{StandsFor, is_live_at, type_at, value_of}
+use Rattle.tsdb_state.specs.Worlds.{StandsFor, is_live_at, value_of}
 
 -- a world is its types and its values
 
@@ -77,7 +77,8 @@ is_key place [] value found = absurd (cc)
 is_key place (entry ∷ es) value found =
     by (eq_by_cmp place_cmp place entry.0) refl (λ e. is_key place es value e) found
   where
-    by : (b : Bool) → eq_by_cmp place_cmp place entry.0 ≡ b → (find_key place_cmp place es ≡ Some value → HasKey place es)
+    by : (b : Bool) → eq_by_cmp place_cmp place entry.0 ≡ b → (find_key place_cmp place es ≡ Some value
+        → HasKey place es)
         → cond b (Some entry.1) (find_key place_cmp place es) ≡ Some value → (entry.0 ≡ place) ⊎ HasKey place es
     by true e rest found = inl (sym (is_place place entry.0 e))
     by false e rest found = inr (rest found)
@@ -134,7 +135,8 @@ module _ (told : Told) (state : StoreState) where
 
       head : (c : Bool) → eq_by_cmp int_cmp time entry.0.time ≡ c → is_path path entry.0.path ≡ true → (w : Value)
           → value_of told state entry.0 ≡ Some w
-          → (find_key int_cmp time rest ≡ Some value → value_of told state (record { path = path; time = time }) ≡ Some value)
+          → (find_key int_cmp time rest ≡ Some value
+          → value_of told state (record { path = path; time = time }) ≡ Some value)
           → cond c (Some w) (find_key int_cmp time rest) ≡ Some value
           → value_of told state (record { path = path; time = time }) ≡ Some value
       head true e p w is more found =
@@ -145,7 +147,8 @@ module _ (told : Told) (state : StoreState) where
       head false e p w is more found = more found
 
       by : (b : Bool) → is_path path entry.0.path ≡ b → (o : Option Value) → value_of told state entry.0 ≡ o
-          → (find_key int_cmp time rest ≡ Some value → value_of told state (record { path = path; time = time }) ≡ Some value)
+          → (find_key int_cmp time rest ≡ Some value
+          → value_of told state (record { path = path; time = time }) ≡ Some value)
           → find_key int_cmp time (cond b (with_value entry.0.time o rest) rest) ≡ Some value
           → value_of told state (record { path = path; time = time }) ≡ Some value
       by false p o is more found = more found
@@ -294,7 +297,8 @@ module _ (told : Told) (state : StoreState) where
           ≡ value_of told state place
       by place None found = get-empty int_cmp place.time ∙ none (value_of told state place) refl
         where
-          none : (o : Option Value) → value_of told state place ≡ o → ◌≡◌ {A = Option Value} None (value_of told state place)
+          none : (o : Option Value) → value_of told state place ≡ o
+              → ◌≡◌ {A = Option Value} None (value_of told state place)
           none None e = sym e
           none (Some value) e = absurd (let type = live place value e in
               let missing = ap (option_map (λ (s : SeriesEntry). s.schema.data_type)) found in cc)

@@ -7,12 +7,18 @@
 #![tactic(auto)]
 
 mod laws;
+mod step_laws;
 mod world_laws;
 
 pub use laws::{
     an_output_has_its_inputs_value, compaction_keeps_order_and_world, create_follows_the_map,
     create_keeps_order, delete_follows_the_map, delete_keeps_order, flush_keeps_order_and_world,
     freeze_keeps_order_and_world, insert_follows_the_map, insert_keeps_order,
+};
+pub use step_laws::{
+    commands_keep_order, commands_may_be_in_doubt, commits_can_follow, compactions_keep_order,
+    failed_appends_keep_order, failed_commits_keep_order, flushes_keep_order,
+    freeze_keeps_the_engine_in_order, pins_and_sweeps_keep_order,
 };
 pub use world_laws::{
     a_new_store_is_in_order, a_store_in_order_stands_for_a_world, a_store_stands_for_one_world,

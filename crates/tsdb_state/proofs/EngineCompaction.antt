@@ -1,0 +1,481 @@
+-- Compactions keep an engine in order: one begins, ends without its record, or is committed.
+use Rattle.std.proofs.Common.{◌≡◌, ℕ, ◌+◌, ◌≤◌, Bool, true, false, cond, List, [], ◌∷◌, ◌++◌, drop}
+use Rattle.std.proofs.Common.{length}
+use Rattle.std.proofs.Common.{take, inl, inr, ⊎_elim, refl, sym, ap, ◌∙◌, subst, arith}
+use Rattle.std.specs.Prelude.{◌==◌, nat_le}
+use Rattle.std.specs.List.{AllByRecursion as Each}
+use Rattle.std.proofs.lemmas.Bool.Decides.{nat_tests}
+use Rattle.tsdb_base.specs.declared.ids.Space.{Space}
+use Rattle.tsdb_base.specs.declared.ids.Space.TheVariants.{Sequence, Unsequence}
+use Rattle.tsdb_layers.proofs.Lists.{each_among, each_append, each_left, each_right}
+use Rattle.tsdb_layers.proofs.Lists.{each_weaker, with_one_apart, with_one_each, with_one_is, with_one_pairs}
+use Rattle.tsdb_layers.specs.Layers.{survivor}
+use Rattle.tsdb_layers.specs.Lists.{Among, IsRun, IsWithOne, count}
+use Rattle.tsdb_layers.specs.Marks.{marks_up_to, purge}
+use Rattle.tsdb_marks.specs.declared.marks.Mark.{Mark}
+use Rattle.tsdb_state.proofs.CommitNumbers.{IsFileOrNone, committed_numbers, count_output}
+use Rattle.tsdb_state.proofs.Committing.{committed_in_order, committed_keeps, crossed_is, merged_is}
+use Rattle.tsdb_state.proofs.EngineRecords.{purge_kept}
+use Rattle.tsdb_state.proofs.Fresh.{are_new, doubt_more}
+use Rattle.tsdb_state.proofs.Holding.{held_by_job, held_with_job, rights_returned, rights_taken, room_with_compaction}
+use Rattle.tsdb_state.proofs.Holding.{room_without_compaction}
+use Rattle.tsdb_state.proofs.Numbering.{began_numbers, count_drawn, count_files, count_map_one, count_out}
+use Rattle.tsdb_state.proofs.Numbering.{ended_numbers}
+use Rattle.tsdb_state.proofs.OtherJobs.{apart_turned, inputs_listed, stands_crossed, stands_merged}
+use Rattle.tsdb_state.proofs.Runs.{drop_at, length_numbers, take_front}
+use Rattle.tsdb_state.specs.Jobs.{AreApart, CompactionsInOrder, Describes, EntriesMatch, HasGap, HasKind, IsFlushOut}
+use Rattle.tsdb_state.specs.Jobs.{KeepsItsMarks, Stands, drawn_numbers, held_numbers, job_inputs}
+use Rattle.tsdb_state.specs.Order.{DoubtInOrder, IsInOrder, files_of}
+use Rattle.tsdb_state.specs.Records.{CanFollow, CanReplace, HasInputs, Replacement, StandAt, after, files_at, inputs_of}
+use Rattle.tsdb_state.specs.Records.{names}
+use Rattle.tsdb_state.specs.Records.{new_numbers, number_list, numbers_of, purged, replace_in, replaced}
+use Rattle.tsdb_state.specs.State.{Compaction, EngineState, Entries, File, StoreState, Told}
+use Rattle.tsdb_state.specs.Steps.{Begins, CommitsCompaction, EndsCompaction, IsOutputPlace, began, committed}
+use Rattle.tsdb_state.specs.Steps.{compaction_record, ended, file_numbers, output_number, replacement}
+use Rattle.tsdb_state.specs.StoreOrder.{StoreInOrder}
+use Rattle.tsdb_state.specs.Views.{borns_of, file_layer}
+use Rattle.tsdb_state.specs.Worlds.{KeepsWorld}
+
+-- all marks are up to the newest version
+up_to_all : (born : ℕ) (marks : List Mark) → Each (λ (mark : Mark). mark.version.0 ≤ born) marks
+    → marks_up_to born marks ≡ marks
+up_to_all born [] old = refl
+up_to_all born (mark ∷ marks) old =
+    ap (λ b. cond b (mark ∷ marks_up_to born marks) (marks_up_to born marks)) (low mark.version.0 born old.0)
+    ∙ ap (λ marks. mark ∷ marks) (up_to_all born marks old.1)
+  where
+    low : (a b : ℕ) → a ≤ b → nat_le a b ≡ true
+    low a b h = grind (arith, nat_tests)
+
+itself : (a b : ℕ) → a ≡ b → a ≤ b
+itself a b e = omega arith
+
+-- what is among a list is counted there
+
+is_itself : (n : ℕ) → (n == n) ≡ true
+is_itself n = grind (arith, nat_tests)
+
+is_same : (a n : ℕ) → (a == n) ≡ true → a ≡ n
+is_same a n e = grind (arith, nat_tests)
+
+one_more : (b : Bool) (m : ℕ) → b ≡ true → 1 ≤ cond b 1 0 + m
+one_more b m e = subst (λ c. 1 ≤ cond c 1 0 + m) (sym e) (least m)
+  where
+    least : (m : ℕ) → 1 ≤ 1 + m
+    least m = omega arith
+
+later : (b : Bool) (m : ℕ) → 1 ≤ m → 1 ≤ cond b 1 0 + m
+later true m h = omega arith
+later false m h = omega arith
+
+among_counted : (file : File) (files : List File) → Among file files → 1 ≤ count file.number (numbers_of files)
+among_counted file [] among = absurd among
+among_counted file (first ∷ files) (inl is) = one_more (first.number == file.number)
+    (count file.number (numbers_of files))
+    (ap (λ (f : File). f.number == file.number) is ∙ is_itself file.number)
+among_counted file (first ∷ files) (inr among) = later (first.number == file.number)
+    (count file.number (numbers_of files)) (among_counted file files among)
+
+all_counted : (inputs files : List File) (n : ℕ) → Each (λ file. Among file files) inputs
+    → 1 ≤ count n (numbers_of inputs) → 1 ≤ count n (numbers_of files)
+all_counted [] files n all h = absurd (omega arith)
+all_counted (file ∷ inputs) files n all h =
+    by (file.number == n) refl (λ k. all_counted inputs files n all.1 k) h
+  where
+    by : (b : Bool) → (file.number == n) ≡ b
+        → (1 ≤ count n (numbers_of inputs) → 1 ≤ count n (numbers_of files))
+        → 1 ≤ cond b 1 0 + count n (numbers_of inputs) → 1 ≤ count n (numbers_of files)
+    by true e rest h = subst (λ m. 1 ≤ count m (numbers_of files)) (is_same file.number n e)
+        (among_counted file files all.0)
+    by false e rest h = rest (less (count n (numbers_of inputs)) h)
+      where
+        less : (m : ℕ) → 1 ≤ 0 + m → 1 ≤ m
+        less m h = omega arith
+
+-- a record's numbers
+number_list_is : (files : List File) → number_list (file_numbers files) ≡ numbers_of files
+number_list_is [] = refl
+number_list_is (file ∷ files) = ap (λ numbers. file.number ∷ numbers) (number_list_is files)
+
+-- where files stand, from the place on
+files_at_is : (before run behind all : List File) (place : ℕ) → all ≡ before ++ (run ++ behind) → place ≡ length before
+    → files_at place (numbers_of run) all ≡ run
+files_at_is before run behind all place is at =
+    (λ i. take (length_numbers run i) (drop (at i) (is i)))
+    ∙ ap (take (length run)) (drop_at before (run ++ behind) (length before) 0 (plain (length before)))
+    ∙ take_front run behind
+  where
+    plain : (a : ℕ) → a ≡ a + 0
+    plain a = omega arith
+
+length_append : {X : Type 0} (xs ys : List X) → length (xs ++ ys) ≡ length xs + length ys
+length_append [] ys = omega arith
+length_append (x ∷ xs) ys = let rest = length_append xs ys in omega arith
+
+stand_at : (before run behind all : List File) (place : ℕ) → all ≡ before ++ (run ++ behind) → place ≡ length before
+    → StandAt place (numbers_of run) all
+stand_at before run behind all place is at = record {
+  within = fits place (length (numbers_of run)) (length all) (length before) (length run) (length behind) at
+      (length_numbers run)
+      (ap length is ∙ length_append before (run ++ behind)
+      ∙ ap (λ n. length before + n) (length_append run behind));
+  are = ap numbers_of (files_at_is before run behind all place is at);
+}
+  where
+    fits : (place count all a b c : ℕ) → place ≡ a → count ≡ b → all ≡ a + (b + c) → place + count ≤ all
+    fits place count all a b c e f g = omega arith
+
+module _ (told : Told) (known : Entries) (named : List ℕ) (state : EngineState)
+    (order : IsInOrder told known named state) where
+  abbrev s : StoreState
+  s = state.store
+
+  listed_born : (file : File) → Among file (s.sequence ++ s.unsequence) → file.born ≤ s.stamp
+  listed_born file among = each_among (λ (f : File). f.born ≤ s.stamp) (s.sequence ++ s.unsequence) file
+      (each_append (λ (f : File). f.born ≤ s.stamp) s.sequence s.unsequence order.store.stamps.sequence_born
+      order.store.stamps.unsequence_born) among
+
+  pub begin_step : (job : Compaction) → Begins told job state → IsInOrder told known named (began job state)
+  begin_step job begins =
+      let listed = inputs_listed told s.sequence s.unsequence job job.space begins.kind begins.stand in
+      record {
+        store = order.store;
+        flushes = order.flushes;
+        compactions = record {
+          kinds = (begins.kind, order.compactions.kinds);
+          stand = (begins.stand, order.compactions.stand);
+          apart = (begins.apart, order.compactions.apart);
+          marked = (
+            record {
+              reached = itself job.born s.stamp begins.born;
+              older = each_weaker (λ file. Among file (s.sequence ++ s.unsequence)) (λ file. file.born ≤ job.born)
+                  (λ file among. subst (λ n. file.born ≤ n) (sym begins.born) (listed_born file among)) (job_inputs job)
+                  listed;
+              same = λ place. subst (λ marks. Each (λ (file : File). survivor job.marks place (file_layer told file)
+                  ≡ survivor marks place (file_layer told file)) (job_inputs job))
+                  (sym (ap (λ n. marks_up_to n s.marks) begins.born
+                  ∙ up_to_all s.stamp s.marks order.store.stamps.versions)) (begins.marks place);
+            },
+            order.compactions.marked,
+          );
+        };
+        numbers = began_numbers told named job state begins order.numbers;
+        entries = order.entries;
+        rights = rights_taken state.rights (files_of state) (held_numbers state.compactions state.pins)
+            (numbers_of (job_inputs job)) (held_numbers (job ∷ state.compactions) state.pins) order.rights
+            (λ n. held_with_job n job state.compactions state.pins)
+            (λ n h. there n (all_counted (job_inputs job) (s.sequence ++ s.unsequence) n listed h));
+        room = room_with_compaction job state.room state.flushes state.compactions order.room;
+        doubt = order.doubt;
+      }
+    where
+      there : (n : ℕ) → 1 ≤ count n (numbers_of (s.sequence ++ s.unsequence))
+          → 1 ≤ count n (numbers_of (files_of state))
+      there n h = omega (arith, count_files n (s.sequence ++ s.unsequence) state.outgoing)
+
+  -- the jobs without one
+  others_in_order : (job : Compaction) (others : List Compaction) → IsWithOne job others state.compactions
+      → CompactionsInOrder told s.stamp s.marks s.sequence s.unsequence others
+  others_in_order job others out = record {
+    kinds = with_one_each (λ job. HasKind job.space job) job others state.compactions out order.compactions.kinds;
+    stand = with_one_each (λ job. Stands job.space told s.sequence s.unsequence job) job others state.compactions out
+        order.compactions.stand;
+    apart = with_one_pairs AreApart job others state.compactions out order.compactions.apart;
+    marked = with_one_each (KeepsItsMarks told s.stamp s.marks) job others state.compactions out
+        order.compactions.marked;
+  }
+
+  more_files : (built : List File) (n : ℕ) → count n (numbers_of (files_of state))
+      ≤ count n (numbers_of ((s.sequence ++ s.unsequence) ++ (state.outgoing ++ built)))
+  more_files built n = omega (arith, count_out n (s.sequence ++ s.unsequence) state.outgoing built)
+
+  pub end_step : (job : Compaction) (others : List Compaction) (built : List File)
+      → EndsCompaction job others built state → IsInOrder told known named (ended job others built state)
+  end_step job others built ends = record {
+    store = order.store;
+    flushes = order.flushes;
+    compactions = others_in_order job others ends.out;
+    numbers = ended_numbers named job others built state ends order.numbers;
+    entries = order.entries;
+    rights = rights_returned state.rights (files_of state) (files_of (ended job others built state))
+        (held_numbers state.compactions state.pins) (numbers_of (job_inputs job)) (held_numbers others state.pins)
+        order.rights (λ n. held_by_job n job others state.compactions state.pins ends.out) (more_files built);
+    room = room_without_compaction job others state.room state.flushes state.compactions ends.out order.room;
+    doubt = doubt_more told named s state.outgoing built state.doubt order.doubt;
+  }
+
+  module _ (job : Compaction) (others : List Compaction) (output : List File) (place : ℕ)
+      (commits : CommitsCompaction told known job others output place state) where
+    kind : HasKind job.space job
+    kind = with_one_is (λ job. HasKind job.space job) job others state.compactions commits.out order.compactions.kinds
+
+    stands : Stands job.space told s.sequence s.unsequence job
+    stands = with_one_is (λ job. Stands job.space told s.sequence s.unsequence job) job others state.compactions
+        commits.out order.compactions.stand
+
+    marked : KeepsItsMarks told s.stamp s.marks job
+    marked = with_one_is (KeepsItsMarks told s.stamp s.marks) job others state.compactions commits.out
+        order.compactions.marked
+
+    apart : Each (AreApart job) others
+    apart = with_one_apart AreApart apart_turned job others state.compactions commits.out order.compactions.apart
+
+    pub file : IsFileOrNone job output
+    file = ⊎_elim (λ none. inl none) (λ there. inr there.0) commits.file
+
+    drawn : (n : ℕ) → count n (job.output ∷ []) ≤ count n (drawn_numbers state.flushes state.compactions)
+    drawn n = omega (
+      arith,
+      count_drawn n state.flushes state.compactions,
+      count_map_one (λ (job : Compaction). job.output) n job others state.compactions commits.out,
+    )
+
+    some : 1 ≤ job.output
+    some = (order.numbers.range job.output (counted job.output (drawn job.output))).0
+      where
+        counted : (n : ℕ) → count n (n ∷ []) ≤ count n (drawn_numbers state.flushes state.compactions)
+            → 1 ≤ count n (numbers_of (files_of state)) + count n (drawn_numbers state.flushes state.compactions)
+        counted n h = omega (arith, one_more (n == n) 0 (is_itself n))
+
+    abbrev item : Replacement
+    item = replacement job output place
+
+    -- the record says this replacement
+    logged : (P : Replacement → Type 0) → P item → P (record {
+      born = job.born;
+      space = job.space;
+      place = place;
+      output = output_number output;
+      sequence = number_list (file_numbers job.sequence);
+      unsequence = number_list (file_numbers job.unsequence);
+    })
+    logged P = subst P (λ i. record {
+      born = job.born;
+      space = job.space;
+      place = place;
+      output = output_number output;
+      sequence = sym (number_list_is job.sequence) i;
+      unsequence = sym (number_list_is job.unsequence) i;
+    })
+
+    pub commit_in_order : StoreInOrder told (after (compaction_record job output place) s)
+    commit_in_order = logged (λ item. StoreInOrder told (replaced item s))
+        (committed_in_order told s job output place order.store marked commits.gives some file kind stands
+        commits.stands)
+
+    pub commit_keeps : KeepsWorld told s (after (compaction_record job output place) s)
+    commit_keeps = logged (λ item. KeepsWorld told s (replaced item s))
+        (committed_keeps told s job output place order.store marked commits.gives some file kind stands commits.stands)
+
+    abbrev Is : File → Type 0
+    Is file = Describes (known file.number) (told file.number)
+
+    described : Each Is output
+    described = ⊎_elim (λ none. subst (Each Is) (sym none) tt) (λ there. subst (Each Is) (sym there.0) (there.1, tt))
+        commits.file
+
+    others_now : CompactionsInOrder told s.stamp s.marks s.sequence s.unsequence others
+    others_now = others_in_order job others commits.out
+
+    -- what a store after the commit has
+    record IsGood (store : StoreState) : Type 0 where
+      jobs : CompactionsInOrder told store.stamp store.marks store.sequence store.unsequence others
+      entries : EntriesMatch told known (store.sequence ++ store.unsequence)
+      lists : (n : ℕ)
+          → count n (numbers_of (store.sequence ++ store.unsequence)) + count n (numbers_of (job_inputs job))
+          ≡ count n (numbers_of (s.sequence ++ s.unsequence)) + count n (numbers_of output)
+      flushes : Each (IsFlushOut store.stamp store.frozen store.working) state.flushes
+
+    -- the other jobs, where they stand in the new lists
+    jobs_in : (sequence unsequence : List File)
+        → Each (λ job. Stands job.space told sequence unsequence job) others
+        → CompactionsInOrder told s.stamp
+        (purge (borns_of (record s { sequence = sequence; unsequence = unsequence })) s.marks) sequence unsequence
+        others
+    jobs_in sequence unsequence stand = record {
+      kinds = others_now.kinds;
+      stand = stand;
+      apart = others_now.apart;
+      marked = all others others_now.kinds stand others_now.marked;
+    }
+      where
+        new : StoreState
+        new = record s { sequence = sequence; unsequence = unsequence }
+
+        all : (jobs : List Compaction) → Each (λ job. HasKind job.space job) jobs
+            → Each (λ job. Stands job.space told sequence unsequence job) jobs
+            → Each (KeepsItsMarks told s.stamp s.marks) jobs
+            → Each (KeepsItsMarks told s.stamp
+            (purge (borns_of (record s { sequence = sequence; unsequence = unsequence })) s.marks)) jobs
+        all [] kinds stand keeps = tt
+        all (job ∷ jobs) kinds stand keeps = (
+          purge_kept told s.stamp s.marks (record s { sequence = sequence; unsequence = unsequence }) job kinds.0
+              stand.0
+              keeps.0,
+          all jobs kinds.1 stand.1 keeps.1,
+        )
+
+    middle : (P : File → Type 0) (before run behind : List File) → Each P (before ++ (run ++ behind)) → Each P output
+        → Each P (before ++ (output ++ behind))
+    middle P before run behind all new = each_append P before (output ++ behind) (each_left P before (run ++ behind)
+        all)
+        (each_append P output behind new (each_right P run behind (each_right P before (run ++ behind) all)))
+
+    old_sequence : Each Is s.sequence
+    old_sequence = each_left Is s.sequence s.unsequence order.entries
+
+    old_unsequence : Each Is s.unsequence
+    old_unsequence = each_right Is s.sequence s.unsequence order.entries
+
+    count_three : (n : ℕ) (before run behind : List File) → count n (numbers_of (before ++ (run ++ behind)))
+        ≡ count n (numbers_of before) + (count n (numbers_of run) + count n (numbers_of behind))
+    count_three n before run behind =
+        count_files n before (run ++ behind) ∙ ap (λ m. count n (numbers_of before) + m) (count_files n run behind)
+
+    of_list : (n : ℕ) (a b : List File) → a ≡ b → count n (numbers_of a) ≡ count n (numbers_of b)
+    of_list n a b e = ap (λ files. count n (numbers_of files)) e
+
+    crossed_good : job.space ≡ Sequence → (gap : HasGap told s.sequence s.unsequence job)
+        → IsGood (purged (record s { sequence = gap.run.before ++ (output ++ gap.run.behind); unsequence = gap.later }))
+    crossed_good here gap = record {
+      jobs = jobs_in (gap.run.before ++ (output ++ gap.run.behind)) gap.later
+          (stand others apart others_now.kinds others_now.stand);
+      entries = each_append Is (gap.run.before ++ (output ++ gap.run.behind)) gap.later
+          (middle Is gap.run.before job.sequence gap.run.behind (subst (Each Is) gap.run.is old_sequence) described)
+          (each_right Is job.unsequence gap.later (subst (Each Is) gap.first old_unsequence));
+      lists = λ n. omega (
+        arith,
+        count_files n (gap.run.before ++ (output ++ gap.run.behind)) gap.later,
+        count_three n gap.run.before output gap.run.behind,
+        count_files n job.sequence job.unsequence,
+        count_files n s.sequence s.unsequence,
+        of_list n s.sequence (gap.run.before ++ (job.sequence ++ gap.run.behind)) gap.run.is,
+        count_three n gap.run.before job.sequence gap.run.behind,
+        of_list n s.unsequence (job.unsequence ++ gap.later) gap.first,
+        count_files n job.unsequence gap.later,
+      );
+      flushes = order.flushes;
+    }
+      where
+        stand : (jobs : List Compaction) → Each (AreApart job) jobs → Each (λ job. HasKind job.space job) jobs
+            → Each (λ job. Stands job.space told s.sequence s.unsequence job) jobs
+            → Each (λ job. Stands job.space told (gap.run.before ++ (output ++ gap.run.behind)) gap.later job) jobs
+        stand [] apart kinds stands = tt
+        stand (other ∷ jobs) apart kinds stands = (
+          stands_crossed told s.sequence (gap.run.before ++ (output ++ gap.run.behind)) s.unsequence gap.later job other
+              other.space gap.first here refl apart.0 kinds.0 stands.0,
+          stand jobs apart.1 kinds.1 stands.1,
+        )
+
+    merged_good : (two : 2 ≤ length job.unsequence) → job.sequence ≡ [] → (run : IsRun job.unsequence s.unsequence)
+        → IsGood (purged (record s { unsequence = run.before ++ (output ++ run.behind) }))
+    merged_good two none run = record {
+      jobs = jobs_in s.sequence (run.before ++ (output ++ run.behind))
+          (stand others apart others_now.kinds others_now.stand);
+      entries = each_append Is s.sequence (run.before ++ (output ++ run.behind)) old_sequence
+          (middle Is run.before job.unsequence run.behind (subst (Each Is) run.is old_unsequence) described);
+      lists = λ n. omega (
+        arith,
+        count_files n s.sequence (run.before ++ (output ++ run.behind)),
+        count_three n run.before output run.behind,
+        count_files n job.sequence job.unsequence,
+        of_list n job.sequence [] none,
+        count_files n s.sequence s.unsequence,
+        of_list n s.unsequence (run.before ++ (job.unsequence ++ run.behind)) run.is,
+        count_three n run.before job.unsequence run.behind,
+      );
+      flushes = order.flushes;
+    }
+      where
+        stand : (jobs : List Compaction) → Each (AreApart job) jobs → Each (λ job. HasKind job.space job) jobs
+            → Each (λ job. Stands job.space told s.sequence s.unsequence job) jobs
+            → Each (λ job. Stands job.space told s.sequence (run.before ++ (output ++ run.behind)) job) jobs
+        stand [] apart kinds stands = tt
+        stand (other ∷ jobs) apart kinds stands = (
+          stands_merged told s.sequence s.unsequence run.before run.behind output job other other.space run.is two
+              apart.0
+              kinds.0 stands.0,
+          stand jobs apart.1 kinds.1 stands.1,
+        )
+
+    by_space : (space : Space) → job.space ≡ space → HasKind space job → Stands space told s.sequence s.unsequence job
+        → IsOutputPlace space job s place → IsGood (purged (replace_in space item s))
+    by_space Sequence here of_kind gap at = subst (λ store. IsGood (purged store))
+        (sym (crossed_is told s job output place order.store marked commits.gives some file gap at))
+        (crossed_good here gap)
+    by_space Unsequence here of_kind run at = subst (λ store. IsGood (purged store))
+        (sym (merged_is told s job output place order.store marked commits.gives some file at.0 at.1))
+        (merged_good of_kind.1 of_kind.0 at.0)
+
+    good : IsGood (after (compaction_record job output place) s)
+    good = logged (λ item. IsGood (replaced item s)) (by_space job.space refl kind stands commits.stands)
+
+    pub commit_step : IsInOrder told known (names (compaction_record job output place) ++ named)
+        (committed job others output place state)
+    commit_step = record {
+      store = commit_in_order;
+      flushes = good.flushes;
+      compactions = good.jobs;
+      numbers = committed_numbers named job others output place state commits.out file good.lists order.numbers;
+      entries = good.entries;
+      rights = rights_returned state.rights (files_of state) (files_of (committed job others output place state))
+          (held_numbers state.compactions state.pins) (numbers_of (job_inputs job)) (held_numbers others state.pins)
+          order.rights (λ n. held_by_job n job others state.compactions state.pins commits.out) files_more;
+      room = room_without_compaction job others state.room state.flushes state.compactions commits.out order.room;
+      doubt = tt;
+    }
+      where
+        files_more : (n : ℕ) → count n (numbers_of (files_of state))
+            ≤ count n (numbers_of (files_of (committed job others output place state)))
+        files_more n = omega (
+          arith,
+          good.lists n,
+          count_files n (s.sequence ++ s.unsequence) state.outgoing,
+          count_out n ((after (compaction_record job output place) s).sequence
+              ++ (after (compaction_record job output place) s).unsequence) state.outgoing (job_inputs job),
+          count_files n ((after (compaction_record job output place) s).sequence
+              ++ (after (compaction_record job output place) s).unsequence) state.outgoing,
+        )
+
+    -- the record can follow
+
+    has_inputs : (space : Space) → HasKind space job → Stands space told s.sequence s.unsequence job
+        → IsOutputPlace space job s place → HasInputs space item s
+    has_inputs Sequence of_kind gap at = (
+      ⊎_elim (λ k. inl (ap numbers_of k.0, subst (λ n. 2 ≤ n) (sym (length_numbers job.sequence)) k.1))
+          (λ k. inr (subst (λ n. 1 ≤ n) (sym (length_numbers job.unsequence)) k)) of_kind,
+      stand_at gap.run.before job.sequence gap.run.behind s.sequence place gap.run.is (at ∙ sym gap.place),
+      stand_at [] job.unsequence gap.later s.unsequence 0 gap.first refl,
+    )
+    has_inputs Unsequence of_kind run at = (
+      ap numbers_of of_kind.0,
+      subst (λ n. 2 ≤ n) (sym (length_numbers job.unsequence)) of_kind.1,
+      stand_at at.0.before job.unsequence at.0.behind s.unsequence place at.0.is at.1,
+    )
+
+    inputs_are : (space : Space) → HasKind space job → Stands space told s.sequence s.unsequence job
+        → IsOutputPlace space job s place → inputs_of space item s ≡ job_inputs job
+    inputs_are Sequence of_kind gap at = λ i.
+        files_at_is gap.run.before job.sequence gap.run.behind s.sequence place gap.run.is (at ∙ sym gap.place) i
+        ++ files_at_is [] job.unsequence gap.later s.unsequence 0 gap.first refl i
+    inputs_are Unsequence of_kind run at =
+        files_at_is at.0.before job.unsequence at.0.behind s.unsequence place at.0.is at.1
+        ∙ ap (λ files. files ++ job.unsequence) (sym of_kind.0)
+
+    pub commit_can : CanFollow named (compaction_record job output place) s
+    commit_can = logged (λ item. CanReplace named item s) (record {
+      inputs = has_inputs job.space kind stands commits.stands;
+      older = subst (Each (λ (f : File). f.born ≤ job.born)) (sym (inputs_are job.space kind stands commits.stands))
+          marked.older;
+      reached = marked.reached;
+      fresh = are_new named state.next_file (files_of state) (drawn_numbers state.flushes state.compactions)
+          (new_numbers (output_number output ∷ [])) order.numbers
+          (λ n. omega (arith, (count_output n job output file).0, drawn n));
+    })
+
+    -- the record in doubt, where its output is on its way out
+    pub commit_doubt : (outgoing : List File)
+        → Each (λ number. Among number (numbers_of outgoing)) (names (compaction_record job output place))
+        → DoubtInOrder told named s outgoing (compaction_record job output place)
+    commit_doubt outgoing kept =
+        record { can = commit_can; order = commit_in_order; world = commit_keeps; kept = kept }

@@ -1,0 +1,343 @@
+-- Flushes keep an engine in order: one is taken, ends without its record, or is committed.
+use Rattle.std.proofs.Common.{◌≡◌, ℕ, ◌+◌, ◌<◌, ◌≤◌, Bool, true, false, cond, List, [], ◌∷◌, ◌++◌}
+use Rattle.std.proofs.Common.{refl}
+use Rattle.std.proofs.Common.{sym, ap, ◌∙◌, subst, arith}
+use Rattle.std.specs.Prelude.{◌≢◌, ◌==◌, Option, Some, None}
+use Rattle.std.specs.List.{AllByRecursion as Each}
+use Rattle.tsdb_layers.proofs.Lists.{count_append, each_append, each_left, each_right, each_weaker, with_one_each}
+use Rattle.tsdb_layers.proofs.Lists.{with_one_is}
+use Rattle.tsdb_layers.proofs.Rising.{before_part, part_left}
+use Rattle.tsdb_layers.specs.Lists.{Among, EachPair, count, if_some}
+use Rattle.tsdb_layers.specs.Order.{IsBefore}
+use Rattle.tsdb_layers.specs.Places.{Content}
+use Rattle.tsdb_state.proofs.CommitNumbers.{committed_flush_numbers, count_new_two, count_number}
+use Rattle.tsdb_state.proofs.EngineRecords.{purge_kept}
+use Rattle.tsdb_state.proofs.Flushing.{first_points, flushed_in_order, flushed_is, flushed_keeps}
+use Rattle.tsdb_state.proofs.Fresh.{are_new, count_here, doubt_more, rights_more}
+use Rattle.tsdb_state.proofs.Holding.{room_with_flush, room_without_flush}
+use Rattle.tsdb_state.proofs.Numbering.{count_drawn, count_files, count_out, count_with_one, ended_flush_numbers}
+use Rattle.tsdb_state.proofs.Numbering.{took_flush_numbers}
+use Rattle.tsdb_state.proofs.OtherJobs.{stands_more}
+use Rattle.tsdb_state.specs.Jobs.{CompactionsInOrder, Describes, HasKind, IsDrawnFor, IsFlushOut, KeepsItsMarks}
+use Rattle.tsdb_state.specs.Jobs.{RightsMatch, Stands, drawn_by, drawn_numbers, held_numbers}
+use Rattle.tsdb_state.specs.Limit.{IsEmptyPair}
+use Rattle.tsdb_state.specs.Order.{DoubtInOrder, IsInOrder, files_of}
+use Rattle.tsdb_state.specs.Records.{CanFlush, IsNumberOf, flushed, names, new_file, new_numbers, numbers_of, purged}
+use Rattle.tsdb_state.specs.State.{Compaction, EngineState, Entries, File, FlushJob, FrozenPair, Pair, StoreState, Told}
+use Rattle.tsdb_state.specs.Steps.{CommitsFlush, EndsFlush, IsBuilt, TakesFlush, committed_flush, ended_flush}
+use Rattle.tsdb_state.specs.Steps.{flush_record, number_or_none, took_flush}
+use Rattle.tsdb_state.specs.StoreOrder.{LateIsBelow, StoreInOrder}
+use Rattle.tsdb_state.specs.Views.{file_layers, sequence_layer, unsequence_layer}
+use Rattle.tsdb_state.specs.Worlds.{KeepsWorld}
+
+up_to : (a b c : ℕ) → a ≡ b → b < c → a ≤ c
+up_to a b c e h = omega arith
+
+equal_le : (a b : ℕ) → a ≡ b → a ≤ b
+equal_le a b e = omega arith
+
+not_later : (a b c : ℕ) → a ≡ b → b < c → c ≡ a → ⊥
+not_later a b c e h k = omega arith
+
+-- the flush of the oldest pair
+new_flush : (stamp : ℕ) (frozen : List FrozenPair) (working : Pair) (oldest : FrozenPair) (newer : List FrozenPair)
+    (flush : FlushJob) → frozen ≡ oldest ∷ newer → flush.born ≡ oldest.born → flush.pair ≡ oldest.pair
+    → Each (λ pair. pair.born ≤ stamp) frozen → EachPair (λ pair later. pair.born < later.born) frozen
+    → (¬ IsEmptyPair working → Each (λ pair. pair.born < stamp) frozen)
+    → IsDrawnFor flush.sequence flush.pair.sequence → IsDrawnFor flush.unsequence flush.pair.unsequence
+    → IsFlushOut stamp frozen working flush
+new_flush stamp frozen working oldest newer flush are born pair reached rise before sequence unsequence = record {
+  reached = subst (λ n. n ≤ stamp) (sym born) (subst (Each (λ pair. pair.born ≤ stamp)) are reached).0;
+  before = λ some. subst (λ n. n < stamp) (sym born) (subst (Each (λ pair. pair.born < stamp)) are (before some)).0;
+  oldest = subst (Each (λ pair. flush.born ≤ pair.born)) (sym are) (
+    equal_le flush.born oldest.born born,
+    each_weaker (λ (later : FrozenPair). oldest.born < later.born) (λ later. flush.born ≤ later.born)
+        (λ later h. up_to flush.born oldest.born later.born born h) newer rises.0,
+  );
+  pair = subst (Each (λ pair. pair.born ≡ flush.born → pair.pair ≡ flush.pair)) (sym are) (
+    (λ e. sym pair),
+    each_weaker (λ (later : FrozenPair). oldest.born < later.born)
+        (λ later. later.born ≡ flush.born → later.pair ≡ flush.pair)
+        (λ later h e. absurd (not_later flush.born oldest.born later.born born h e)) newer rises.0,
+  );
+  sequence = sequence;
+  unsequence = unsequence;
+}
+  where
+    rises : EachPair (λ (pair later : FrozenPair). pair.born < later.born) (oldest ∷ newer)
+    rises = subst (EachPair (λ (pair later : FrozenPair). pair.born < later.born)) are rise
+
+-- flushes that are out, without the oldest pair
+tail_flush : (stamp : ℕ) (frozen : List FrozenPair) (working : Pair) (oldest : FrozenPair) (newer : List FrozenPair)
+    (flush : FlushJob) → frozen ≡ oldest ∷ newer → IsFlushOut stamp frozen working flush
+    → IsFlushOut stamp newer working flush
+tail_flush stamp frozen working oldest newer flush are out = record {
+  reached = out.reached;
+  before = out.before;
+  oldest = (subst (Each (λ pair. flush.born ≤ pair.born)) are out.oldest).1;
+  pair = (subst (Each (λ pair. pair.born ≡ flush.born → pair.pair ≡ flush.pair)) are out.pair).1;
+  sequence = out.sequence;
+  unsequence = out.unsequence;
+}
+
+-- the numbers of a record
+
+number_is : (o : Option ℕ) (content : Content) → IsDrawnFor o content → ((n : ℕ) → o ≡ Some n → 1 ≤ n)
+    → IsNumberOf (number_or_none o).0 content
+number_is None content drawn some = ((λ e. drawn), λ ne. absurd (ne refl))
+number_is (Some n) content drawn some = ((λ e. absurd (zero n e (some n refl))), λ ne. drawn)
+  where
+    zero : (n : ℕ) → n ≡ 0 → 1 ≤ n → ⊥
+    zero n e h = omega arith
+
+number_has : (told : Told) (known : Entries) (o : Option ℕ) (content : Content) → IsBuilt told known o content
+    → (number_or_none o).0 ≢ 0 → told (number_or_none o).0 ≡ content
+number_has told known None content built ne = absurd (ne refl)
+number_has told known (Some n) content built ne = built.0
+
+new_entry : (told : Told) (known : Entries) (o : Option ℕ) (born : ℕ) (content : Content)
+    → IsBuilt told known o content
+    → Each (λ (file : File). Describes (known file.number) (told file.number)) (new_file (number_or_none o).0 born)
+new_entry told known None born content built = tt
+new_entry told known (Some n) born content built = by (n == 0)
+  where
+    by : (b : Bool) → Each (λ (file : File). Describes (known file.number) (told file.number))
+        (cond b [] (record { number = n; born = born } ∷ []))
+    by true = tt
+    by false = (subst (Describes (known n)) (sym built.0) built.1, tt)
+
+counted_some : (o : Option ℕ) (n : ℕ) → o ≡ Some n → 1 ≤ count n (if_some o)
+counted_some None n e = absurd (cc)
+counted_some (Some m) n e = subst (λ k. 1 ≤ count n (k ∷ [])) (sym same) (here n)
+  where
+    same : m ≡ n
+    same = cc
+
+    here : (n : ℕ) → 1 ≤ count n (n ∷ [])
+    here n = at_least (count n (n ∷ [])) 0 (count_here n [])
+      where
+        at_least : (a b : ℕ) → a ≡ 1 + b → 1 ≤ a
+        at_least a b e = omega arith
+
+module _ (told : Told) (known : Entries) (named : List ℕ) (state : EngineState)
+    (order : IsInOrder told known named state) where
+  abbrev s : StoreState
+  s = state.store
+
+  pub take_flush_step : (flush : FlushJob) → TakesFlush flush state
+      → IsInOrder told known named (took_flush flush state)
+  take_flush_step flush takes = record {
+    store = order.store;
+    flushes = (
+      new_flush s.stamp s.frozen s.working takes.oldest takes.newer flush takes.are takes.born takes.pair
+          order.store.stamps.frozen_born order.store.stamps.frozen_rise order.store.stamps.working_born takes.sequence
+          takes.unsequence,
+      order.flushes,
+    );
+    compactions = order.compactions;
+    numbers = took_flush_numbers named flush state takes order.numbers;
+    entries = order.entries;
+    rights = order.rights;
+    room = room_with_flush flush state.room state.flushes state.compactions order.room;
+    doubt = order.doubt;
+  }
+
+  more_files : (built : List File) (n : ℕ) → count n (numbers_of (files_of state))
+      ≤ count n (numbers_of ((s.sequence ++ s.unsequence) ++ (state.outgoing ++ built)))
+  more_files built n = omega (arith, count_out n (s.sequence ++ s.unsequence) state.outgoing built)
+
+  pub end_flush_step : (flush : FlushJob) (others : List FlushJob) (built : List File)
+      → EndsFlush flush others built state → IsInOrder told known named (ended_flush flush others built state)
+  end_flush_step flush others built ends = record {
+    store = order.store;
+    flushes = with_one_each (IsFlushOut s.stamp s.frozen s.working) flush others state.flushes ends.out order.flushes;
+    compactions = order.compactions;
+    numbers = ended_flush_numbers named flush others built state ends order.numbers;
+    entries = order.entries;
+    rights = rights_more state.rights (files_of state) (files_of (ended_flush flush others built state))
+        (held_numbers state.compactions state.pins) order.rights (more_files built);
+    room = room_without_flush flush others state.room state.flushes state.compactions ends.out order.room;
+    doubt = doubt_more told named s state.outgoing built state.doubt order.doubt;
+  }
+
+  module _ (flush : FlushJob) (others : List FlushJob) (commits : CommitsFlush told known flush others state) where
+    out : IsFlushOut s.stamp s.frozen s.working flush
+    out = with_one_is (IsFlushOut s.stamp s.frozen s.working) flush others state.flushes commits.out order.flushes
+
+    pair_is : commits.oldest.pair ≡ flush.pair
+    pair_is = (subst (Each (λ pair. pair.born ≡ flush.born
+        → pair.pair ≡ flush.pair)) commits.are out.pair).0 commits.born
+
+    drawn : (n : ℕ) → count n (if_some flush.sequence) + count n (if_some flush.unsequence)
+        ≤ count n (drawn_numbers state.flushes state.compactions)
+    drawn n = omega (
+      arith,
+      count_drawn n state.flushes state.compactions,
+      count_with_one drawn_by n flush others state.flushes commits.out,
+      count_append n (if_some flush.sequence) (if_some flush.unsequence),
+    )
+
+    positive : (n : ℕ) → 1 ≤ count n (if_some flush.sequence) + count n (if_some flush.unsequence) → 1 ≤ n
+    positive n h = (order.numbers.range n (omega (arith, drawn n))).0
+
+    first_some : (n : ℕ) → flush.sequence ≡ Some n → 1 ≤ n
+    first_some n e = positive n (omega (arith, counted_some flush.sequence n e))
+
+    second_some : (n : ℕ) → flush.unsequence ≡ Some n → 1 ≤ n
+    second_some n e = positive n (omega (arith, counted_some flush.unsequence n e))
+
+    abbrev first : ℕ
+    first = (number_or_none flush.sequence).0
+
+    abbrev second : ℕ
+    second = (number_or_none flush.unsequence).0
+
+    first_is : IsNumberOf first commits.oldest.pair.sequence
+    first_is = subst (λ (pair : Pair). IsNumberOf first pair.sequence) (sym pair_is)
+        (number_is flush.sequence flush.pair.sequence out.sequence first_some)
+
+    second_is : IsNumberOf second commits.oldest.pair.unsequence
+    second_is = subst (λ (pair : Pair). IsNumberOf second pair.unsequence) (sym pair_is)
+        (number_is flush.unsequence flush.pair.unsequence out.unsequence second_some)
+
+    first_has : first ≢ 0 → told first ≡ commits.oldest.pair.sequence
+    first_has ne = number_has told known flush.sequence flush.pair.sequence commits.sequence ne
+        ∙ ap (λ (pair : Pair). pair.sequence) (sym pair_is)
+
+    second_has : second ≢ 0 → told second ≡ commits.oldest.pair.unsequence
+    second_has ne = number_has told known flush.unsequence flush.pair.unsequence commits.unsequence ne
+        ∙ ap (λ (pair : Pair). pair.unsequence) (sym pair_is)
+
+    abbrev more_sequence : List File
+    more_sequence = new_file first commits.oldest.born
+
+    abbrev more_unsequence : List File
+    more_unsequence = new_file second commits.oldest.born
+
+    -- the store before its marks are purged
+    abbrev put : StoreState
+    put = record s {
+      frozen = commits.newer;
+      sequence = s.sequence ++ more_sequence;
+      unsequence = s.unsequence ++ more_unsequence;
+    }
+
+    is_put : flushed first second s ≡ purged put
+    is_put = flushed_is told s commits.oldest commits.newer first second commits.are first_is second_is first_has
+        second_has order.store
+
+    pub flush_in_order : StoreInOrder told (flushed first second s)
+    flush_in_order = flushed_in_order told s commits.oldest commits.newer first second commits.are first_is second_is
+        first_has second_has order.store
+
+    pub flush_keeps : KeepsWorld told s (flushed first second s)
+    flush_keeps = flushed_keeps told s commits.oldest commits.newer first second commits.are first_is second_is
+        first_has
+        second_has order.store
+
+    late_before : IsBefore (file_layers told s.unsequence) (file_layers told more_sequence)
+    late_before = before_part (file_layers told s.unsequence) (file_layers told more_sequence)
+        (file_layers told s.unsequence ++ unsequence_layer commits.oldest ∷ []) (sequence_layer commits.oldest ∷ [])
+        (part_left (file_layers told s.unsequence) (unsequence_layer commits.oldest ∷ []))
+        (first_points told s commits.oldest commits.newer first second commits.are first_is second_is first_has
+        second_has
+        order.store)
+        (subst (LateIsBelow (file_layers told s.unsequence)) commits.are order.store.layers.late).0
+
+    jobs : CompactionsInOrder told s.stamp (purged put).marks put.sequence put.unsequence state.compactions
+    jobs = record {
+      kinds = order.compactions.kinds;
+      stand = stand state.compactions order.compactions.stand;
+      apart = order.compactions.apart;
+      marked = all state.compactions order.compactions.kinds order.compactions.stand order.compactions.marked;
+    }
+      where
+        stands : (job : Compaction) → Stands job.space told s.sequence s.unsequence job
+            → Stands job.space told put.sequence put.unsequence job
+        stands job = stands_more told s.sequence s.unsequence more_sequence more_unsequence job job.space late_before
+
+        stand : (jobs : List Compaction) → Each (λ job. Stands job.space told s.sequence s.unsequence job) jobs
+            → Each (λ job. Stands job.space told put.sequence put.unsequence job) jobs
+        stand = each_weaker (λ job. Stands job.space told s.sequence s.unsequence job)
+            (λ job. Stands job.space told put.sequence put.unsequence job) stands
+
+        all : (jobs : List Compaction) → Each (λ job. HasKind job.space job) jobs
+            → Each (λ job. Stands job.space told s.sequence s.unsequence job) jobs
+            → Each (KeepsItsMarks told s.stamp s.marks) jobs → Each (KeepsItsMarks told s.stamp (purged put).marks) jobs
+        all [] kinds stand marked = tt
+        all (job ∷ jobs) kinds stand marked = (
+          purge_kept told s.stamp s.marks put job kinds.0 (stands job stand.0) marked.0,
+          all jobs kinds.1 stand.1 marked.1,
+        )
+
+    entries : Each (λ (file : File). Describes (known file.number) (told file.number)) (put.sequence ++ put.unsequence)
+    entries =
+        let P = λ (file : File). Describes (known file.number) (told file.number) in
+        each_append P put.sequence put.unsequence
+        (each_append P s.sequence more_sequence (each_left P s.sequence s.unsequence order.entries)
+        (new_entry told known flush.sequence commits.oldest.born flush.pair.sequence commits.sequence))
+        (each_append P s.unsequence more_unsequence (each_right P s.sequence s.unsequence order.entries)
+        (new_entry told known flush.unsequence commits.oldest.born flush.pair.unsequence commits.unsequence))
+
+    -- the store of the flush, seen as that before its purge
+    as_put : (P : StoreState → Type 0) → P (purged put) → P (flushed first second s)
+    as_put P = subst P (sym is_put)
+
+    files_more : (n : ℕ) → count n (numbers_of (files_of state))
+        ≤ count n (numbers_of ((put.sequence ++ put.unsequence) ++ (state.outgoing ++ [])))
+    files_more n = omega (
+      arith,
+      count_files n (s.sequence ++ s.unsequence) state.outgoing,
+      count_files n s.sequence s.unsequence,
+      count_files n (put.sequence ++ put.unsequence) (state.outgoing ++ []),
+      count_files n put.sequence put.unsequence,
+      count_files n s.sequence more_sequence,
+      count_files n s.unsequence more_unsequence,
+      count_files n state.outgoing [],
+    )
+
+    pub commit_flush_step : IsInOrder told known (names (flush_record flush) ++ named)
+        (committed_flush flush others state)
+    commit_flush_step = record {
+      store = flush_in_order;
+      flushes = as_put (λ store. Each (IsFlushOut store.stamp store.frozen store.working) others)
+          (each_weaker (IsFlushOut s.stamp s.frozen s.working) (IsFlushOut s.stamp commits.newer s.working)
+          (λ other. tail_flush s.stamp s.frozen s.working commits.oldest commits.newer other commits.are) others
+          (with_one_each (IsFlushOut s.stamp s.frozen s.working) flush others state.flushes commits.out order.flushes));
+      compactions = as_put (λ store. CompactionsInOrder told store.stamp store.marks store.sequence store.unsequence
+          state.compactions) jobs;
+      numbers = committed_flush_numbers told known named flush others state commits order.numbers;
+      entries = as_put (λ store. Each (λ (file : File). Describes (known file.number) (told file.number))
+          (store.sequence ++ store.unsequence)) entries;
+      rights = as_put (λ store. RightsMatch state.rights
+          ((store.sequence ++ store.unsequence) ++ (state.outgoing ++ [])) (held_numbers state.compactions state.pins))
+          (rights_more state.rights (files_of state) ((put.sequence ++ put.unsequence) ++ (state.outgoing ++ []))
+          (held_numbers state.compactions state.pins) order.rights files_more);
+      room = room_without_flush flush others state.room state.flushes state.compactions commits.out order.room;
+      doubt = tt;
+    }
+
+    pub flush_can : CanFlush named first second s
+    flush_can = record {
+      oldest = commits.oldest;
+      newer = commits.newer;
+      are = commits.are;
+      sequence_part = first_is;
+      unsequence_part = second_is;
+      fresh = are_new named state.next_file (files_of state) (drawn_numbers state.flushes state.compactions)
+          (new_numbers (first ∷ second ∷ [])) order.numbers
+          (λ n. omega (
+            arith,
+            count_new_two n first second,
+            count_number n flush.sequence,
+            count_number n flush.unsequence,
+            drawn n,
+          ));
+    }
+
+    -- the record in doubt, where its files are on their way out
+    pub flush_doubt : (outgoing : List File)
+        → Each (λ number. Among number (numbers_of outgoing)) (names (flush_record flush))
+        → DoubtInOrder told named s outgoing (flush_record flush)
+    flush_doubt outgoing kept =
+        record { can = flush_can; order = flush_in_order; world = flush_keeps; kept = kept }

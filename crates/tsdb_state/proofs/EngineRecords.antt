@@ -1,0 +1,216 @@
+-- Commands and freezes keep an engine in order.
+use Rattle.std.proofs.Common.{◌≡◌, ℕ, ℤ, ◌+◌, ◌<◌, ◌≤◌, List, [], ◌∷◌, ◌++◌, refl, arith}
+use Rattle.std.specs.Prelude.{None}
+use Rattle.std.specs.List.{AllByRecursion as Each}
+use Rattle.tsdb_base.specs.declared.point.Range.{Range}
+use Rattle.tsdb_layers.proofs.Lists.{each_append, each_weaker}
+use Rattle.tsdb_layers.specs.Lists.{Among}
+use Rattle.tsdb_layers.specs.Marks.{purge}
+use Rattle.tsdb_log.specs.declared.record.CellRecord.{CellRecord}
+use Rattle.tsdb_log.specs.declared.record.LogRecord.{LogRecord}
+use Rattle.tsdb_log.specs.declared.record.LogRecord.TheVariants.{Create, Delete, Freeze, Insert}
+use Rattle.tsdb_map.specs.declared.command.Schema.{Schema}
+use Rattle.tsdb_marks.specs.declared.marks.Mark.{Mark}
+use Rattle.tsdb_state.proofs.Creating.{created_in_order}
+use Rattle.tsdb_state.proofs.Deleting.{deleted_in_order}
+use Rattle.tsdb_state.proofs.Freezing.{froze_in_order, froze_keeps}
+use Rattle.tsdb_state.proofs.Inserting.{inserted_in_order}
+use Rattle.tsdb_state.proofs.OtherJobs.{born_listed, inputs_listed, marked_delete, marked_purge, marked_up}
+use Rattle.tsdb_state.specs.Commands.{KeepsBytes}
+use Rattle.tsdb_state.specs.Jobs.{CompactionsInOrder, HasKind, IsFlushOut, KeepsItsMarks, Stands, job_inputs}
+use Rattle.tsdb_state.specs.Limit.{IsEmptyPair, empty_pair}
+use Rattle.tsdb_state.specs.Order.{DoubtInOrder, IsInOrder}
+use Rattle.tsdb_state.specs.Records.{CanCreate, CanDelete, CanFreeze, CanInsert, add_mark, created, cut_pair, deleted}
+use Rattle.tsdb_state.specs.Records.{froze, inserted}
+use Rattle.tsdb_state.specs.State.{Compaction, EngineState, Entries, File, FlushJob, FrozenPair, Pair, StoreState, Told}
+use Rattle.tsdb_state.specs.Steps.{failed}
+use Rattle.tsdb_state.specs.Views.{borns_of, working_pair}
+
+more : (a b : ℕ) → a ≤ b → a ≤ b + 1
+more a b h = omega arith
+
+less : (a b : ℕ) → a ≤ b → a < b + 1
+less a b h = omega arith
+
+never_itself : (a b : ℕ) → a < b → b ≡ a → ⊥
+never_itself a b h e = omega arith
+
+-- flushes that are out, where the stamp rises
+pub flushes_up : (stamp : ℕ) (frozen : List FrozenPair) (working new : Pair) (flushes : List FlushJob)
+    → Each (IsFlushOut stamp frozen working) flushes → Each (IsFlushOut (stamp + 1) frozen new) flushes
+flushes_up stamp frozen working new = each_weaker (IsFlushOut stamp frozen working) (IsFlushOut (stamp + 1) frozen new)
+    (λ flush out. record {
+      reached = more flush.born stamp out.reached;
+      before = λ some. less flush.born stamp out.reached;
+      oldest = out.oldest;
+      pair = out.pair;
+      sequence = out.sequence;
+      unsequence = out.unsequence;
+    })
+
+-- and where the working pair, which has a point, is frozen
+flushes_frozen : (state : StoreState) (flushes : List FlushJob) → ¬ IsEmptyPair state.working
+    → Each (IsFlushOut state.stamp state.frozen state.working) flushes
+    → Each (IsFlushOut state.stamp (state.frozen ++ working_pair state ∷ []) empty_pair) flushes
+flushes_frozen state flushes some = each_weaker (IsFlushOut state.stamp state.frozen state.working)
+    (IsFlushOut state.stamp (state.frozen ++ working_pair state ∷ []) empty_pair)
+    (λ flush out. record {
+      reached = out.reached;
+      before = λ empty. absurd (empty (refl, refl));
+      oldest = each_append (λ (pair : FrozenPair). flush.born ≤ pair.born) state.frozen (working_pair state ∷ [])
+          out.oldest (out.reached, tt);
+      pair = each_append (λ (pair : FrozenPair). pair.born ≡ flush.born → pair.pair ≡ flush.pair) state.frozen
+          (working_pair state ∷ []) out.pair
+          ((λ e. absurd (never_itself flush.born state.stamp (out.before some) e)), tt);
+      sequence = out.sequence;
+      unsequence = out.unsequence;
+    }) flushes
+
+-- compactions that are out, where only marks and the stamp change
+with_marks : (told : Told) (stamp new : ℕ) (marks others : List Mark) (sequence unsequence : List File)
+    (jobs : List Compaction)
+    → ((job : Compaction) → HasKind job.space job → Stands job.space told sequence unsequence job
+    → KeepsItsMarks told stamp marks job → KeepsItsMarks told new others job)
+    → CompactionsInOrder told stamp marks sequence unsequence jobs
+    → CompactionsInOrder told new others sequence unsequence jobs
+with_marks told stamp new marks others sequence unsequence jobs change order = record {
+  kinds = order.kinds;
+  stand = order.stand;
+  apart = order.apart;
+  marked = all jobs order.kinds order.stand order.marked;
+}
+  where
+    all : (jobs : List Compaction) → Each (λ job. HasKind job.space job) jobs
+        → Each (λ job. Stands job.space told sequence unsequence job) jobs
+        → Each (KeepsItsMarks told stamp marks) jobs → Each (KeepsItsMarks told new others) jobs
+    all [] kinds stand marked = tt
+    all (job ∷ jobs) kinds stand marked =
+        (change job kinds.0 stand.0 marked.0, all jobs kinds.1 stand.1 marked.1)
+
+-- a purge looks at the borns of all inputs
+pub purge_kept : (told : Told) (stamp : ℕ) (marks : List Mark) (state : StoreState) (job : Compaction)
+    → HasKind job.space job → Stands job.space told state.sequence state.unsequence job
+    → KeepsItsMarks told stamp marks job
+    → KeepsItsMarks told stamp (purge (borns_of state) marks) job
+purge_kept told stamp marks state job kind stands marked = marked_purge told stamp marks (borns_of state) job marked
+    (each_weaker (λ file. Among file (state.sequence ++ state.unsequence)) (λ file. Among file.born (borns_of state))
+    (born_listed state) (job_inputs job) (inputs_listed told state.sequence state.unsequence job job.space kind stands))
+
+module _ (told : Told) (known : Entries) (named : List ℕ) (state : EngineState)
+    (order : IsInOrder told known named state) where
+  abbrev s : StoreState
+  s = state.store
+
+  -- the state with another store that has the same files, and nothing in doubt
+  abbrev with_store : StoreState → EngineState
+  with_store store = record state { store = store; doubt = None }
+
+  pub create_step : (schema : Schema) → CanCreate schema s → IsInOrder told known named (with_store (created schema s))
+  create_step schema can = record {
+    store = created_in_order told schema s order.store can;
+    flushes = flushes_up s.stamp s.frozen s.working s.working state.flushes order.flushes;
+    compactions = with_marks told s.stamp (s.stamp + 1) s.marks s.marks s.sequence s.unsequence state.compactions
+        (λ job kind stands. marked_up told s.stamp s.marks job) order.compactions;
+    numbers = order.numbers;
+    entries = order.entries;
+    rights = order.rights;
+    room = order.room;
+    doubt = tt;
+  }
+
+  pub insert_step : (time : ℤ) (cells : List CellRecord) → CanInsert time cells s → KeepsBytes time cells s
+      → IsInOrder told known named (with_store (inserted time cells s))
+  insert_step time cells can bytes = record {
+    store = inserted_in_order told time cells s order.store can bytes;
+    flushes = flushes_up s.stamp s.frozen s.working (inserted time cells s).working state.flushes order.flushes;
+    compactions = with_marks told s.stamp (s.stamp + 1) s.marks s.marks s.sequence s.unsequence state.compactions
+        (λ job kind stands. marked_up told s.stamp s.marks job) order.compactions;
+    numbers = order.numbers;
+    entries = order.entries;
+    rights = order.rights;
+    room = order.room;
+    doubt = tt;
+  }
+
+  pub delete_step : (path : List ℕ) (range : Range) → CanDelete path s
+      → IsInOrder told known named (with_store (deleted path range s))
+  delete_step path range can = record {
+    store = deleted_in_order told path range s order.store can;
+    flushes = flushes_up s.stamp s.frozen s.working (cut_pair path range s.working) state.flushes order.flushes;
+    compactions = with_marks told s.stamp (s.stamp + 1) s.marks (deleted path range s).marks s.sequence s.unsequence
+        state.compactions
+        (λ job kind stands marked. purge_kept told (s.stamp + 1) (add_mark path range (s.stamp + 1) s.marks) s job kind
+        stands (marked_delete told s.stamp s.marks path range job marked)) order.compactions;
+    numbers = order.numbers;
+    entries = order.entries;
+    rights = order.rights;
+    room = order.room;
+    doubt = tt;
+  }
+
+  pub freeze_step : CanFreeze s → IsInOrder told known named (with_store (froze s))
+  freeze_step can = record {
+    store = froze_in_order told s order.store can;
+    flushes = flushes_frozen s state.flushes can.some order.flushes;
+    compactions = order.compactions;
+    numbers = order.numbers;
+    entries = order.entries;
+    rights = order.rights;
+    room = order.room;
+    doubt = tt;
+  }
+
+  -- a record in doubt
+  pub fail_step : (item : LogRecord) → DoubtInOrder told named s state.outgoing item
+      → IsInOrder told known named (failed item state)
+  fail_step item doubt = record {
+    store = order.store;
+    flushes = order.flushes;
+    compactions = order.compactions;
+    numbers = order.numbers;
+    entries = order.entries;
+    rights = order.rights;
+    room = order.room;
+    doubt = doubt;
+  }
+
+  pub settle_step : IsInOrder told known named (with_store s)
+  settle_step = record {
+    store = order.store;
+    flushes = order.flushes;
+    compactions = order.compactions;
+    numbers = order.numbers;
+    entries = order.entries;
+    rights = order.rights;
+    room = order.room;
+    doubt = tt;
+  }
+
+  -- commands and freezes in doubt
+
+  pub create_doubt : (schema : Schema) → CanCreate schema s
+      → DoubtInOrder told named s state.outgoing (Create schema.path schema.data_type schema.encoding)
+  create_doubt schema can =
+      record { can = can; order = created_in_order told schema s order.store can; world = tt; kept = tt }
+
+  pub insert_doubt : (time : ℤ) (cells : List CellRecord) → CanInsert time cells s → KeepsBytes time cells s
+      → DoubtInOrder told named s state.outgoing (Insert time cells)
+  insert_doubt time cells can bytes = record {
+    can = can;
+    order = inserted_in_order told time cells s order.store can bytes;
+    world = tt;
+    kept = tt;
+  }
+
+  pub delete_doubt : (path : List ℕ) (range : Range) → CanDelete path s
+      → DoubtInOrder told named s state.outgoing (Delete path range)
+  delete_doubt path range can =
+      record { can = can; order = deleted_in_order told path range s order.store can; world = tt; kept = tt }
+
+  pub freeze_doubt : CanFreeze s → DoubtInOrder told named s state.outgoing Freeze
+  freeze_doubt can = record {
+    can = can;
+    order = froze_in_order told s order.store can;
+    world = froze_keeps told s order.store can;
+    kept = tt;
+  }
