@@ -51,12 +51,12 @@ cells_hold P schemas state time (cell ∷ cells) pair all each =
     (pair_holds P state.watermarks (place_of schemas time cell) cell.value pair all each.0) each.1
 
 -- a series with the number, which is there
-record Found (device : List ℕ) (schemas : List SeriesEntry) (cell : CellRecord) : Type 0 where
-  series : SeriesEntry
-  at : slice_get schemas cell.series.0 ≡ Some series
-  of : IsOfDevice device cell series
+pub record Found (device : List ℕ) (schemas : List SeriesEntry) (cell : CellRecord) : Type 0 where
+  pub series : SeriesEntry
+  pub at : slice_get schemas cell.series.0 ≡ Some series
+  pub of : IsOfDevice device cell series
 
-found_in : (device : List ℕ) (schemas : List SeriesEntry) (cell : CellRecord)
+pub found_in : (device : List ℕ) (schemas : List SeriesEntry) (cell : CellRecord)
     → IsSomeAnd (slice_get schemas cell.series.0) (IsOfDevice device cell) → Found device schemas cell
 found_in device schemas cell there = by (slice_get schemas cell.series.0) refl there
   where
@@ -72,7 +72,7 @@ pub record IsReady (told : Told) (state : StoreState) : Type 0 where
   pub once : EachPair ArePathsApart state.schemas
   pub live : HasLiveValues told state
 
-abbrev Theres : List ℕ → StoreState → List CellRecord → Type 0
+abbrev pub Theres : List ℕ → StoreState → List CellRecord → Type 0
 Theres device state cells = Each
     (λ cell. IsSomeAnd (slice_get state.schemas cell.series.0) (IsOfDevice device cell)) cells
 
@@ -84,7 +84,7 @@ abbrev pub with_row : ℤ → List CellRecord → StoreState → StoreState
 with_row time cells state =
     record state { working = put_cells state.schemas state.watermarks time cells state.working }
 
-cell_type : (device : List ℕ) (state : StoreState) (cell : CellRecord)
+pub cell_type : (device : List ℕ) (state : StoreState) (cell : CellRecord)
     → EachPair ArePathsApart state.schemas → Found device state.schemas cell
     → type_at state.schemas (path_of state.schemas cell.series.0) ≡ Some (type_of cell.value)
 cell_type device state cell once found =
@@ -93,7 +93,7 @@ cell_type device state cell once found =
     found.of.live
     ∙ ap Some (sym found.of.type)
 
-value_ready : (told : Told) (state : StoreState) (place : Place) (value : Value) → IsReady told state
+pub value_ready : (told : Told) (state : StoreState) (place : Place) (value : Value) → IsReady told state
     → type_at state.schemas place.path ≡ Some (type_of value) → IsReady told (with_value place value state)
 value_ready told state place value ready typed = record {
   layers = put_in_order told state.watermarks state.sequence state.unsequence state.frozen state.working place value

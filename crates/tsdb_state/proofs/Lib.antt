@@ -27,3 +27,6 @@ pub mod EngineFlush
 pub mod EngineCompaction
 pub mod EngineRest
 pub mod EngineDoubts
+pub mod Pinning
+pub mod Parts
+pub mod Winning

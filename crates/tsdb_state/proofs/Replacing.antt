@@ -31,7 +31,7 @@ use Rattle.tsdb_state.specs.Views.{file_layer, file_layers, layer_of, sequence_l
 use Rattle.tsdb_state.specs.Worlds.{KeepsWorld, value_of}
 
 -- late layers are before all frozen sequence parts
-late_before : (late : List Layer) (pairs : List FrozenPair) → LateIsBelow late pairs
+pub late_before : (late : List Layer) (pairs : List FrozenPair) → LateIsBelow late pairs
     → IsBefore late (map sequence_layer pairs)
 late_before late [] below = λ p q v w a b same. absurd b
 late_before late (pair ∷ pairs) below =

@@ -45,6 +45,16 @@ unsequence_layers told state =
 abbrev pub all_layers : Told → StoreState → List Layer
 all_layers told state = sequence_layers told state ++ unsequence_layers told state
 
+-- all layers but the working sequence part
+abbrev pub flushed_layers : Told → StoreState → List Layer
+flushed_layers told state =
+    (file_layers told state.sequence ++ file_layers told state.unsequence)
+    ++ ((map sequence_layer state.frozen ++ map unsequence_layer state.frozen) ++ layer_of state.working.unsequence)
+
+-- the pairs from the oldest to the working one
+abbrev pub pairs_of : StoreState → List FrozenPair
+pairs_of state = state.frozen ++ working_pair state ∷ []
+
 -- the borns of the listed files and of the frozen pairs
 abbrev pub borns_of : StoreState → List ℕ
 borns_of state = map (λ file. file.born) (state.sequence ++ state.unsequence) ++ map (λ pair. pair.born) state.frozen

@@ -7,6 +7,7 @@
 #![tactic(auto)]
 
 mod laws;
+mod order_laws;
 mod step_laws;
 mod world_laws;
 
@@ -14,6 +15,10 @@ pub use laws::{
     an_output_has_its_inputs_value, compaction_keeps_order_and_world, create_follows_the_map,
     create_keeps_order, delete_follows_the_map, delete_keeps_order, flush_keeps_order_and_world,
     freeze_keeps_order_and_world, insert_follows_the_map, insert_keeps_order,
+};
+pub use order_laws::{
+    a_pin_stands_for_its_world, last_write_wins, order_of_jobs, order_of_stamps_and_points,
+    order_of_times, other_values_stay, sequence_files_do_not_overlap,
 };
 pub use step_laws::{
     commands_keep_order, commands_may_be_in_doubt, commits_can_follow, compactions_keep_order,
