@@ -30,3 +30,4 @@ pub mod EngineDoubts
 pub mod Pinning
 pub mod Parts
 pub mod Winning
+pub mod Told

@@ -27,4 +27,5 @@ pub use step_laws::{
 };
 pub use world_laws::{
     a_new_store_is_in_order, a_store_in_order_stands_for_a_world, a_store_stands_for_one_world,
+    an_opened_engine_is_in_order, what_is_told_elsewhere_is_free,
 };

@@ -19,13 +19,13 @@ ghost use Rattle.tsdb_state.specs.Records.{CanInsert, inserted, numbers_of, plac
 ghost use Rattle.tsdb_state.specs.State.{EngineState, Entries, FrozenPair, Pin, StoreState, Told};
 ghost use Rattle.tsdb_state.specs.Steps.{PinStandsFor, TakesPin};
 ghost use Rattle.tsdb_state.specs.StoreOrder.{HasLiveValues, SeriesInOrder, StampsInOrder, StoreInOrder};
-ghost use Rattle.tsdb_state.specs.Views.{file_layers, flushed_layers, layer_of, pairs_of, sequence_layer, sequence_layers};
-ghost use Rattle.tsdb_state.specs.Views.{unsequence_layer, working_pair};
+ghost use Rattle.tsdb_state.specs.Views.{file_layers, flushed_layers, layer_of, pairs_of, sequence_layer};
+ghost use Rattle.tsdb_state.specs.Views.{sequence_layers, unsequence_layer, working_pair};
 ghost use Rattle.tsdb_state.specs.Worlds.{StandsFor, value_of};
 
-/// The parts of the order that speak of times, for each device: sequence parts rise, from files to the working pair; all
-/// but the working sequence part is at most at the watermark, and that is above it; unsequence times of files, and of a
-/// frozen pair, lie below the sequence times of the pairs from there on.
+/// The parts of the order that speak of times, for each device: sequence parts rise, from files to the working pair.
+/// All but the working sequence part is at most at the watermark, and that is above it. Unsequence times of files, and
+/// of a frozen pair, lie below the sequence times of the pairs from there on.
 pub fn order_of_times()
     ensures sequence_parts_rise { (told : Told) (state : StoreState)
         → StoreInOrder told state → Rises (sequence_layers told state) }

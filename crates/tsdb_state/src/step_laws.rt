@@ -160,3 +160,17 @@ pub fn commits_can_follow()
         → IsInOrder told known named state → CommitsCompaction told known job others output place state
         → CanFollow named (compaction_record job output place) state.store }
 {}
+
+/// A step that appends no record leaves the store as it is, and so the world.
+pub fn other_steps_leave_the_store()
+    ensures flush { (flush : FlushJob) (others : List FlushJob) (built : List File) (state : EngineState)
+        → ((took_flush flush state).store ≡ state.store)
+        × ((ended_flush flush others built state).store ≡ state.store) }
+    ensures compaction { (job : Compaction) (others : List Compaction) (built : List File) (state : EngineState)
+        → ((began job state).store ≡ state.store) × ((ended job others built state).store ≡ state.store) }
+    ensures pin { (pin : Pin) (others : List Pin) (state : EngineState)
+        → ((pinned pin state).store ≡ state.store) × ((unpinned pin others state).store ≡ state.store) }
+    ensures sweep { (numbers : List ℕ) (state : EngineState) → (swept numbers state).store ≡ state.store }
+    ensures doubt { (item : LogRecord) (state : EngineState)
+        → ((failed item state).store ≡ state.store) × ((settled state).store ≡ state.store) }
+{}

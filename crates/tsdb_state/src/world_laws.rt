@@ -1,11 +1,15 @@
 //! Laws of the world that a store stands for. The functions do nothing; their contracts are the laws.
-ghost use Rattle.std.specs.Prelude.{◌≡◌};
+ghost use Rattle.std.specs.List.{AllByRecursion};
+ghost use Rattle.std.specs.Prelude.{◌≡◌, ◌++◌, ℕ, List, [], None};
 ghost use Rattle.std.specs.FinMap.{empty};
 ghost use Rattle.tsdb_map.specs.World.{World};
-ghost use Rattle.tsdb_state.specs.NewStore.{new_store};
-ghost use Rattle.tsdb_state.specs.State.{StoreState, Told};
+ghost use Rattle.tsdb_layers.specs.Places.{Place};
+ghost use Rattle.tsdb_state.specs.Jobs.{EntriesMatch, NumbersInOrder};
+ghost use Rattle.tsdb_state.specs.NewStore.{new_store, opened};
+ghost use Rattle.tsdb_state.specs.Order.{IsInOrder};
+ghost use Rattle.tsdb_state.specs.State.{EngineState, Entries, StoreState, Told};
 ghost use Rattle.tsdb_state.specs.StoreOrder.{StoreInOrder};
-ghost use Rattle.tsdb_state.specs.Worlds.{StandsFor};
+ghost use Rattle.tsdb_state.specs.Worlds.{StandsFor, value_of};
 
 /// A store stands for one world at most.
 pub fn a_store_stands_for_one_world()
@@ -23,4 +27,30 @@ pub fn a_store_in_order_stands_for_a_world()
 pub fn a_new_store_is_in_order()
     ensures order { (told : Told) → StoreInOrder told new_store }
     ensures world { (told : Told) → StandsFor told new_store empty }
+{}
+
+/// What is told of a file that is not listed, and what is kept of it, is free: a state in order stays so, and has the
+/// same values. So a caller may add what a new file has before its commit. Nothing may be in doubt then, which an append
+/// settles first.
+pub fn what_is_told_elsewhere_is_free()
+    ensures order { (told other : Told) (known entries : Entries) (named : List ℕ) (state : EngineState)
+        → IsInOrder told known named state → state.doubt ≡ None
+        → AllByRecursion (λ file. told file.number ≡ other file.number)
+        (state.store.sequence ++ state.store.unsequence)
+        → AllByRecursion (λ file. known file.number ≡ entries file.number)
+        (state.store.sequence ++ state.store.unsequence)
+        → IsInOrder other entries named state }
+    ensures values { (told other : Told) (state : StoreState) (place : Place)
+        → AllByRecursion (λ file. told file.number ≡ other file.number) state.sequence
+        → AllByRecursion (λ file. told file.number ≡ other file.number) state.unsequence
+        → value_of told state place ≡ value_of other state place }
+{}
+
+/// A store in order makes an engine in order, with nothing out, over the next number of a file.
+pub fn an_opened_engine_is_in_order()
+    ensures { (told : Told) (known : Entries) (named : List ℕ) (next : ℕ) (state : StoreState)
+        → StoreInOrder told state
+        → NumbersInOrder named next ((state.sequence ++ state.unsequence) ++ []) []
+        → EntriesMatch told known (state.sequence ++ state.unsequence)
+        → IsInOrder told known named (opened next state) }
 {}
