@@ -31,3 +31,4 @@ pub mod Pinning
 pub mod Parts
 pub mod Winning
 pub mod Told
+pub mod Plans

@@ -8,5 +8,6 @@ pub mod Records
 pub mod Commands
 pub mod Jobs
 pub mod Order
+pub mod Plans
 pub mod Steps
 pub mod NewStore

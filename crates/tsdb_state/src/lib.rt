@@ -8,6 +8,7 @@
 
 mod laws;
 mod order_laws;
+mod plan_laws;
 mod step_laws;
 mod world_laws;
 
@@ -20,10 +21,13 @@ pub use order_laws::{
     a_pin_stands_for_its_world, last_write_wins, order_of_jobs, order_of_stamps_and_points,
     order_of_times, other_values_stay, sequence_files_do_not_overlap,
 };
+pub use plan_laws::{
+    a_cross_plan_has_its_gap, an_inner_sequence_plan_stands, an_inner_unsequence_plan_stands,
+};
 pub use step_laws::{
     commands_keep_order, commands_may_be_in_doubt, commits_can_follow, compactions_keep_order,
     failed_appends_keep_order, failed_commits_keep_order, flushes_keep_order,
-    freeze_keeps_the_engine_in_order, pins_and_sweeps_keep_order,
+    freeze_keeps_the_engine_in_order, other_steps_leave_the_store, pins_and_sweeps_keep_order,
 };
 pub use world_laws::{
     a_new_store_is_in_order, a_store_in_order_stands_for_a_world, a_store_stands_for_one_world,

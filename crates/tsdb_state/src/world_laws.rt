@@ -30,8 +30,8 @@ pub fn a_new_store_is_in_order()
 {}
 
 /// What is told of a file that is not listed, and what is kept of it, is free: a state in order stays so, and has the
-/// same values. So a caller may add what a new file has before its commit. Nothing may be in doubt then, which an append
-/// settles first.
+/// same values. So a caller may add what a new file has before its commit. Nothing may be in doubt then; an append
+/// settles that first.
 pub fn what_is_told_elsewhere_is_free()
     ensures order { (told other : Told) (known entries : Entries) (named : List ℕ) (state : EngineState)
         → IsInOrder told known named state → state.doubt ≡ None
