@@ -1,6 +1,5 @@
 -- A deletion: the order stays, and the points in the range are gone, wherever they were.
 use Rattle.std.proofs.Common.{◌≡◌, ℕ, ◌+◌, ◌<◌, ◌≤◌, Bool, true, false, cond, List, [], ◌∷◌, ◌++◌, map, inl, inr}
-use Rattle.std.proofs.Common.{⊎_elim}
 use Rattle.std.proofs.Common.{refl, sym, ap, ◌∙◌, subst, arith}
 use Rattle.std.specs.Prelude.{not, int_lt, Option, Some, None, is_some, IsSome}
 use Rattle.std.specs.FinMap.{get}
@@ -13,7 +12,6 @@ use Rattle.tsdb_base.specs.declared.value.DataType.{DataType}
 use Rattle.tsdb_base.specs.declared.value.Value.{Value}
 use Rattle.tsdb_layers.proofs.Lists.{each_append, each_map, each_weaker, pairs_push}
 use Rattle.tsdb_layers.proofs.Places.{get_cut}
-use Rattle.tsdb_layers.proofs.Values.{has_cases, has_left, has_right}
 use Rattle.tsdb_layers.specs.Layers.{HasPoint, Layer, value_in}
 use Rattle.tsdb_layers.specs.Lists.{EachPair}
 use Rattle.tsdb_layers.specs.Places.{Content, Place, cut as cut_content, is_within}
@@ -25,11 +23,12 @@ use Rattle.tsdb_marks.specs.declared.marks.Mark.{Mark}
 use Rattle.tsdb_state.proofs.Cutting.{cut_limit, cut_point, cut_points, marked_value}
 use Rattle.tsdb_state.proofs.Purges.{stamps_purged, value_purged}
 use Rattle.tsdb_state.proofs.Stamps.{stamps_up}
+use Rattle.tsdb_state.proofs.Typed.{PartsTyped, all_typed, parts_typed, typed_part}
 use Rattle.tsdb_state.proofs.Values.{AreReached, joined, reached_more, stored, stored_late, value_is}
 use Rattle.tsdb_state.proofs.Worlds.{change_type, cut_at, type_in}
 use Rattle.tsdb_state.specs.Records.{CanDelete, add_mark, cut_pair, deleted}
 use Rattle.tsdb_state.specs.State.{File, FrozenPair, StoreState, Told}
-use Rattle.tsdb_state.specs.StoreOrder.{IsOfSeries, StampsInOrder, StoreInOrder}
+use Rattle.tsdb_state.specs.StoreOrder.{StampsInOrder, StoreInOrder}
 use Rattle.tsdb_state.specs.Views.{file_layer, file_layers, layer_of, pair_layers, sequence_layer}
 use Rattle.tsdb_state.specs.Views.{unsequence_layer}
 use Rattle.tsdb_state.specs.Worlds.{StandsFor, type_at, value_of}
@@ -127,26 +126,18 @@ module _ (told : Told) (path : List ℕ) (range : Range) (state : StoreState) (o
       → value_of told (deleted path range state) place ≡ cond (at place) None (value_of told state place)
   deleted_value place = value_purged told marked place marks_reached ∙ marked_is place
 
-  abbrev IsTyped : Place → Value → Type 0
-  IsTyped place value = IsOfSeries state.schemas place.path (type_of value)
-
-  abbrev stays : List Layer
-  stays = file_layers told state.sequence ++ file_layers told state.unsequence
-
-  abbrev frozen : List Layer
-  frozen = map sequence_layer state.frozen ++ map unsequence_layer state.frozen
-
-  typed : (place : Place) (value : Value)
-      → HasPoint (stays ++ (frozen ++ pair_layers (cut_pair path range state.working))) place value
-      → IsTyped place value
-  typed place value has = order.series.typed place value
-      (⊎_elim (has_left stays (frozen ++ pair_layers state.working) place value)
-      (λ h. has_right stays (frozen ++ pair_layers state.working) place value
-      (⊎_elim (has_left frozen (pair_layers state.working) place value)
-      (λ k. has_right frozen (pair_layers state.working) place value
-      (cut_points path range state.working place value k))
-      (has_cases frozen (pair_layers (cut_pair path range state.working)) place value h)))
-      (has_cases stays (frozen ++ pair_layers (cut_pair path range state.working)) place value has))
+  typed : PartsTyped told state.schemas state.sequence state.unsequence state.frozen (cut_pair path range state.working)
+  typed =
+      let old = parts_typed told state.schemas state.sequence state.unsequence state.frozen state.working
+      order.series.typed in
+      record {
+        files = old.files;
+        late = old.late;
+        sequences = old.sequences;
+        unsequences = old.unsequences;
+        pair = typed_part state.schemas (pair_layers (cut_pair path range state.working)) (pair_layers state.working)
+            (cut_points path range state.working) old.pair;
+      }
 
   marked_stamps : StampsInOrder (state.stamp + 1) marked.marks state.sequence state.unsequence state.frozen
       marked.working
@@ -178,7 +169,12 @@ module _ (told : Told) (path : List ℕ) (range : Range) (state : StoreState) (o
       above = λ place value has. order.layers.above place value (one state.working.sequence place value has);
     };
     stamps = stamps_purged told marked marked_stamps;
-    series = record { formed = order.series.formed; once = order.series.once; typed = typed };
+    series = record {
+      formed = order.series.formed;
+      once = order.series.once;
+      typed = all_typed told state.schemas state.sequence state.unsequence state.frozen
+          (cut_pair path range state.working) typed;
+    };
     live = λ place value is. live place value (at place) (sym (deleted_value place) ∙ is);
     limit = cut_limit path range state.working order.limit;
   }

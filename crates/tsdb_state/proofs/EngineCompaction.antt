@@ -1,9 +1,10 @@
 -- Compactions keep an engine in order: one begins, ends without its record, or is committed.
-use Rattle.std.proofs.Common.{◌≡◌, ℕ, ◌+◌, ◌≤◌, Bool, true, false, cond, List, [], ◌∷◌, ◌++◌, drop}
+use Rattle.std.proofs.Common.{length-append, ◌≡◌, ℕ, ◌+◌, ◌≤◌, Bool, true, false, cond, List, [], ◌∷◌, ◌++◌, drop}
 use Rattle.std.proofs.Common.{length}
 use Rattle.std.proofs.Common.{take, inl, inr, ⊎_elim, refl, sym, ap, ◌∙◌, subst, arith}
 use Rattle.std.specs.Prelude.{◌==◌, nat_le}
 use Rattle.std.specs.List.{AllByRecursion as Each}
+use Rattle.std.proofs.Math.Seq.{drop-append_seam, take-append_seam}
 use Rattle.std.proofs.lemmas.Bool.Decides.{nat_tests}
 use Rattle.tsdb_base.specs.declared.ids.Space.{Space}
 use Rattle.tsdb_base.specs.declared.ids.Space.TheVariants.{Sequence, Unsequence}
@@ -22,7 +23,7 @@ use Rattle.tsdb_state.proofs.Holding.{room_without_compaction}
 use Rattle.tsdb_state.proofs.Numbering.{began_numbers, count_drawn, count_files, count_map_one, count_out}
 use Rattle.tsdb_state.proofs.Numbering.{ended_numbers}
 use Rattle.tsdb_state.proofs.OtherJobs.{apart_turned, inputs_listed, stands_crossed, stands_merged}
-use Rattle.tsdb_state.proofs.Runs.{drop_at, length_numbers, take_front}
+use Rattle.tsdb_state.proofs.Runs.{length_numbers}
 use Rattle.tsdb_state.specs.Jobs.{AreApart, CompactionsInOrder, Describes, EntriesMatch, HasGap, HasKind, IsFlushOut}
 use Rattle.tsdb_state.specs.Jobs.{KeepsItsMarks, Stands, drawn_numbers, held_numbers, job_inputs}
 use Rattle.tsdb_state.specs.Order.{DoubtInOrder, IsInOrder, files_of}
@@ -102,23 +103,15 @@ files_at_is : (before run behind all : List File) (place : ℕ) → all ≡ befo
     → files_at place (numbers_of run) all ≡ run
 files_at_is before run behind all place is at =
     (λ i. take (length_numbers run i) (drop (at i) (is i)))
-    ∙ ap (take (length run)) (drop_at before (run ++ behind) (length before) 0 (plain (length before)))
-    ∙ take_front run behind
-  where
-    plain : (a : ℕ) → a ≡ a + 0
-    plain a = omega arith
-
-length_append : {X : Type 0} (xs ys : List X) → length (xs ++ ys) ≡ length xs + length ys
-length_append [] ys = omega arith
-length_append (x ∷ xs) ys = let rest = length_append xs ys in omega arith
+    ∙ ap (take (length run)) (drop-append_seam before (run ++ behind)) ∙ take-append_seam run behind
 
 stand_at : (before run behind all : List File) (place : ℕ) → all ≡ before ++ (run ++ behind) → place ≡ length before
     → StandAt place (numbers_of run) all
 stand_at before run behind all place is at = record {
   within = fits place (length (numbers_of run)) (length all) (length before) (length run) (length behind) at
       (length_numbers run)
-      (ap length is ∙ length_append before (run ++ behind)
-      ∙ ap (λ n. length before + n) (length_append run behind));
+      (ap length is ∙ length-append before (run ++ behind)
+      ∙ ap (λ n. length before + n) (length-append run behind));
   are = ap numbers_of (files_at_is before run behind all place is at);
 }
   where

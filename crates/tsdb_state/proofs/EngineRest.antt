@@ -1,7 +1,7 @@
 -- Pins and sweeps keep an engine in order.
 use Rattle.std.proofs.Common.{◌≡◌, ℕ, ◌+◌, ◌≤◌, Bool, true, false, cond, List, [], ◌∷◌, ◌++◌, map, inl, inr}
 use Rattle.std.proofs.Common.{refl}
-use Rattle.std.proofs.Common.{append_assoc, suc, zero, sym, ap, ◌∙◌, subst, arith}
+use Rattle.std.proofs.Common.{suc, zero, sym, ap, ◌∙◌, subst, arith}
 use Rattle.std.specs.FinMap.{len, retain_keys}
 use Rattle.std.specs.Prelude.{◌==◌, ◌||◌, nat_eq, nat_lt, not, Option, Some, None, IfSome}
 use Rattle.std.specs.List.{AllByRecursion as Each, filter, flat_map, list_any}
@@ -13,7 +13,7 @@ use Rattle.tsdb_layers.specs.Places.{is_within}
 use Rattle.tsdb_layers.specs.Lists.{Among, IsWithOne, count}
 use Rattle.tsdb_log.specs.declared.record.LogRecord.{LogRecord}
 use Rattle.tsdb_state.proofs.Holding.{held_by_pin, held_with_pin, rights_returned, rights_taken, swept_rights}
-use Rattle.tsdb_state.proofs.Numbering.{count_files, count_filter, swept_numbers}
+use Rattle.tsdb_state.proofs.Numbering.{count_files, count_flat, count_filter, swept_numbers}
 use Rattle.tsdb_state.specs.Jobs.{held_numbers, pin_numbers, source_numbers}
 use Rattle.tsdb_state.specs.Order.{DoubtInOrder, IsInOrder, files_of}
 use Rattle.tsdb_state.specs.Records.{names, numbers_of}
@@ -23,16 +23,6 @@ use Rattle.tsdb_state.specs.Steps.{Sweeps, TakesPin, file_sources, has_series, p
 use Rattle.tsdb_state.specs.Steps.{sources_of, swept}
 use Rattle.tsdb_state.specs.Steps.{unpinned}
 use Rattle.tsdb_state.specs.Views.{sequence_layer, unsequence_layer, working_pair}
-
-flat_append : {X Y : Type 0} (f : X → List Y) (xs ys : List X) → flat_map f (xs ++ ys) ≡ flat_map f xs ++ flat_map f ys
-flat_append f [] ys = refl
-flat_append f (x ∷ xs) ys = ap (λ zs. f x ++ zs) (flat_append f xs ys)
-    ∙ sym (append_assoc (f x) (flat_map f xs) (flat_map f ys))
-
-count_flat : (n : ℕ) (xs ys : List Source) → count n (flat_map source_numbers (xs ++ ys))
-    ≡ count n (flat_map source_numbers xs) + count n (flat_map source_numbers ys)
-count_flat n xs ys = ap (count n) (flat_append source_numbers xs ys)
-    ∙ count_append n (flat_map source_numbers xs) (flat_map source_numbers ys)
 
 files_only : (files : List File) → flat_map source_numbers (map FromFile files) ≡ numbers_of files
 files_only [] = refl
@@ -62,10 +52,10 @@ module _ (known : Entries) (state : StoreState) (path : List ℕ) (range : Range
       ≤ count n (numbers_of (state.sequence ++ state.unsequence))
   sources_listed n = omega (
     arith,
-    count_flat n (file_sources known path state.sequence ++ parts sequence_layer)
+    count_flat source_numbers n (file_sources known path state.sequence ++ parts sequence_layer)
         (file_sources known path state.unsequence ++ parts unsequence_layer),
-    count_flat n (file_sources known path state.sequence) (parts sequence_layer),
-    count_flat n (file_sources known path state.unsequence) (parts unsequence_layer),
+    count_flat source_numbers n (file_sources known path state.sequence) (parts sequence_layer),
+    count_flat source_numbers n (file_sources known path state.unsequence) (parts unsequence_layer),
     of_files n state.sequence,
     of_files n state.unsequence,
     of_parts n (map sequence_layer (state.frozen ++ working_pair state ∷ [])),

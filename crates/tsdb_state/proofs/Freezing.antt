@@ -1,7 +1,7 @@
 -- A freeze: the order and the values stay.
 use Rattle.std.proofs.Common.{◌≡◌, ℕ, ◌+◌, ◌<◌, ◌≤◌, ℤ, ◌≤ℤ◌, ◌<ℤ◌, Bool, true, false, cond, List, [], ◌∷◌}
 use Rattle.std.proofs.Common.{◌++◌}
-use Rattle.std.proofs.Common.{append_assoc, length, map, inl, inr, ⊎_elim, refl, sym, ap, ◌∙◌, subst, arith}
+use Rattle.std.proofs.Common.{append_assoc, length, map, inl, inr, refl, sym, ap, ◌∙◌, subst, arith}
 use Rattle.std.specs.Prelude.{Option, Some, None, IfSome, int_lt}
 use Rattle.std.specs.Cmp.Lexicographic.{nat_list_cmp_total}
 use Rattle.std.specs.FinMap.{empty, entries, find, get, get-empty, get-entries, get-insert}
@@ -9,24 +9,24 @@ use Rattle.std.specs.Option.{IsSomeAnd, option_or, unwrap_or}
 use Rattle.std.specs.Ordering.{is_eq}
 use Rattle.std.proofs.lemmas.Int.{ints}
 use mathlib.Core.List.{map-append}
-use Rattle.tsdb_base.specs.Values.{type_of}
 use Rattle.tsdb_base.specs.declared.value.Value.{Value}
 use Rattle.tsdb_layers.proofs.Lists.{each_append, pairs_push}
 use Rattle.tsdb_layers.proofs.Places.{is_path_same, is_place, path_itself}
 use Rattle.tsdb_layers.proofs.Rising.{below_both, rises_append}
-use Rattle.tsdb_layers.proofs.Values.{has_cases, has_left, has_right}
 use Rattle.tsdb_layers.specs.Layers.{HasPoint, Layer, value_in}
 use Rattle.tsdb_layers.specs.Lists.{Among}
 use Rattle.tsdb_layers.specs.Order.{IsAbove, IsBefore, IsBelow, Rises, Watermarks}
 use Rattle.tsdb_layers.specs.Places.{Content, Place, is_path, place_cmp}
 use Rattle.tsdb_memtable.specs.Watermarks.{later_time}
 use Rattle.tsdb_path.specs.Nodes.{device_of}
+use Rattle.tsdb_state.proofs.Typed.{AreTyped, PartsTyped, all_typed, parts_typed, typed_append, typed_left}
+use Rattle.tsdb_state.proofs.Typed.{typed_right}
 use Rattle.tsdb_state.proofs.Values.{joined, row_value, stored, stored_late, value_is}
 use Rattle.tsdb_state.specs.Limit.{IsEmptyPair, empty_pair}
 use Rattle.tsdb_state.specs.Limits.{max_frozen}
 use Rattle.tsdb_state.specs.Records.{CanFreeze, froze, raise_all, raise_to}
 use Rattle.tsdb_state.specs.State.{FrozenPair, StoreState, Told}
-use Rattle.tsdb_state.specs.StoreOrder.{IsOfSeries, LateIsBelow, StoreInOrder}
+use Rattle.tsdb_state.specs.StoreOrder.{LateIsBelow, StoreInOrder}
 use Rattle.tsdb_state.specs.Views.{file_layers, layer_of, pair_layers, sequence_layer, unsequence_layer, working_pair}
 use Rattle.tsdb_state.specs.Worlds.{KeepsWorld, value_of}
 
@@ -216,26 +216,6 @@ module _ (told : Told) (state : StoreState) (order : StoreInOrder told state) (c
       late_is = ap (value_in state.marks place) unsequences_are
           ∙ row_value state.marks place late unsequences (unsequence_layer pair) order.stamps.versions
 
-  abbrev IsTyped : Place → Value → Type 0
-  IsTyped place value = IsOfSeries state.schemas place.path (type_of value)
-
-  abbrev stays : List Layer
-  stays = files ++ late
-
-  typed_file : (place : Place) (value : Value) → HasPoint stays place value → IsTyped place value
-  typed_file place value has = order.series.typed place value
-      (has_left stays ((sequences ++ unsequences) ++ pair_layers state.working) place value has)
-
-  typed_pair : (place : Place) (value : Value) → HasPoint (pair_layers state.working) place value → IsTyped place value
-  typed_pair place value has = order.series.typed place value
-      (has_right stays ((sequences ++ unsequences) ++ pair_layers state.working) place value
-      (has_right (sequences ++ unsequences) (pair_layers state.working) place value has))
-
-  typed_frozen : (place : Place) (value : Value) → HasPoint (sequences ++ unsequences) place value → IsTyped place value
-  typed_frozen place value has = order.series.typed place value
-      (has_right stays ((sequences ++ unsequences) ++ pair_layers state.working) place value
-      (has_left (sequences ++ unsequences) (pair_layers state.working) place value has))
-
   none_in : (place : Place) (value : Value) → HasPoint (pair_layers empty_pair) place value → ⊥
   none_in place value has = by has
     where
@@ -247,37 +227,21 @@ module _ (told : Told) (state : StoreState) (order : StoreInOrder told state) (c
       by (inr (inl h)) = none (get empty place) (get-empty place_cmp place) h
       by (inr (inr h)) = h
 
-  typed : (place : Place) (value : Value)
-      → HasPoint (stays ++ ((map sequence_layer (state.frozen ++ pair ∷ [])
-      ++ map unsequence_layer (state.frozen ++ pair ∷ [])) ++ pair_layers empty_pair)) place value
-      → IsTyped place value
-  typed place value has =
-      ⊎_elim (typed_file place value)
-      (λ h. ⊎_elim
-      (λ k. ⊎_elim
-      (λ first. of_row sequences (sequence_layer pair)
-      (λ g. typed_frozen place value (has_left sequences unsequences place value g))
-      (λ g. typed_pair place value (inl g))
-      (subst (λ layers. HasPoint layers place value) (map-append sequence_layer state.frozen (pair ∷ [])) first))
-      (λ second. of_row unsequences (unsequence_layer pair)
-      (λ g. typed_frozen place value (has_right sequences unsequences place value g))
-      (λ g. typed_pair place value (inr (inl g)))
-      (subst (λ layers. HasPoint layers place value) (map-append unsequence_layer state.frozen (pair ∷ [])) second))
-      (has_cases (map sequence_layer (state.frozen ++ pair ∷ [])) (map unsequence_layer (state.frozen ++ pair ∷ []))
-      place
-      value k))
-      (λ k. absurd (none_in place value k))
-      (has_cases (map sequence_layer (state.frozen ++ pair ∷ []) ++ map unsequence_layer (state.frozen ++ pair ∷ []))
-      (pair_layers empty_pair) place value h))
-      (has_cases stays ((map sequence_layer (state.frozen ++ pair ∷ []) ++ map unsequence_layer (state.frozen ++ pair ∷
-      []))
-      ++ pair_layers empty_pair) place value has)
-    where
-      of_row : (layers : List Layer) (last : Layer) → (HasPoint layers place value → IsTyped place value)
-          → (get last.content place ≡ Some value → IsTyped place value)
-          → HasPoint (layers ++ last ∷ []) place value → IsTyped place value
-      of_row layers last first second has =
-          ⊎_elim first (λ h. ⊎_elim second (λ none. absurd none) h) (has_cases layers (last ∷ []) place value has)
+  froze_typed : PartsTyped told state.schemas state.sequence state.unsequence (state.frozen ++ pair ∷ []) empty_pair
+  froze_typed =
+      let old = parts_typed told state.schemas state.sequence state.unsequence state.frozen state.working
+      order.series.typed in
+      record {
+        files = old.files;
+        late = old.late;
+        sequences = subst (AreTyped state.schemas) (sym (map-append sequence_layer state.frozen (pair ∷ [])))
+            (typed_append state.schemas sequences (sequence_layer pair ∷ []) old.sequences
+            (typed_left state.schemas (sequence_layer pair ∷ []) (unsequence_layer pair ∷ []) old.pair));
+        unsequences = subst (AreTyped state.schemas) (sym (map-append unsequence_layer state.frozen (pair ∷ [])))
+            (typed_append state.schemas unsequences (unsequence_layer pair ∷ []) old.unsequences
+            (typed_right state.schemas (sequence_layer pair ∷ []) (unsequence_layer pair ∷ []) old.pair));
+        pair = λ place value has. absurd (none_in place value has);
+      }
 
   abbrev raised : Watermarks
   raised = raise_all (entries state.working.sequence) state.watermarks
@@ -327,7 +291,13 @@ module _ (told : Told) (state : StoreState) (order : StoreInOrder told state) (c
       versions = order.stamps.versions;
       versions_rise = order.stamps.versions_rise;
     };
-    series = record { formed = order.series.formed; once = order.series.once; typed = typed };
+    series = record {
+      formed = order.series.formed;
+      once = order.series.once;
+      typed = all_typed told state.schemas
+          state.sequence state.unsequence (state.frozen ++ pair ∷ []) empty_pair
+          froze_typed;
+    };
     live = λ place value is. order.live place value (sym (froze_value place) ∙ is);
     limit = inl (refl, refl);
   }

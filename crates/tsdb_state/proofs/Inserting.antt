@@ -1,5 +1,5 @@
 -- A row: the order stays, its places have its values, and the state stands for the plain map's world after it.
-use Rattle.std.proofs.Common.{◌≡◌, ℕ, ℤ, ◌≤◌, Bool, true, false, cond, List, [], ◌∷◌, ◌++◌, map, inl, inr, ⊎_elim}
+use Rattle.std.proofs.Common.{◌≡◌, ℕ, ℤ, ◌≤◌, Bool, true, false, cond, List, [], ◌∷◌, map, inl, inr}
 use Rattle.std.proofs.Common.{refl, sym, ap, ◌∙◌, subst}
 use Rattle.std.specs.Prelude.{◌⊎◌, ◌&&◌, Option, Some, None, is_some, slice_get}
 use Rattle.std.specs.FinMap.{get, get-empty, insert}
@@ -12,8 +12,7 @@ use Rattle.tsdb_base.specs.declared.value.DataType.{DataType}
 use Rattle.tsdb_base.specs.declared.value.Value.{Value}
 use Rattle.tsdb_layers.proofs.Lists.{each_weaker}
 use Rattle.tsdb_layers.proofs.Places.{is_place}
-use Rattle.tsdb_layers.proofs.Values.{has_cases, has_left, has_right}
-use Rattle.tsdb_layers.specs.Layers.{HasPoint, Layer}
+use Rattle.tsdb_layers.specs.Layers.{HasPoint}
 use Rattle.tsdb_layers.specs.Lists.{EachPair}
 use Rattle.tsdb_layers.specs.Places.{Place, place_cmp}
 use Rattle.tsdb_log.specs.declared.record.CellRecord.{CellRecord}
@@ -28,6 +27,7 @@ use Rattle.tsdb_path.specs.Nodes.{child_of, device_of}
 use Rattle.tsdb_state.proofs.Putting.{pair_holds, put_in_order, put_value}
 use Rattle.tsdb_state.proofs.Series.{ArePathsApart, among_at, path_at, series_at, type_of_live}
 use Rattle.tsdb_state.proofs.Stamps.{stamps_up, value_stamp}
+use Rattle.tsdb_state.proofs.Typed.{PartsTyped, all_typed, parts_typed}
 use Rattle.tsdb_state.proofs.Values.{AreReached}
 use Rattle.tsdb_state.proofs.Worlds.{change_type, put_at, type_in}
 use Rattle.tsdb_state.specs.Commands.{AreCells, IsCell, KeepsBytes}
@@ -36,7 +36,7 @@ use Rattle.tsdb_state.specs.Limits.{max_pair_points}
 use Rattle.tsdb_state.specs.Records.{CanInsert, IsOfDevice, inserted, path_of, place_of, put_cells, put_in_pair}
 use Rattle.tsdb_state.specs.State.{Pair, SeriesEntry, StoreState, Told}
 use Rattle.tsdb_state.specs.StoreOrder.{HasLiveValues, IsOfSeries, LayersInOrder, StoreInOrder}
-use Rattle.tsdb_state.specs.Views.{file_layers, pair_layers, sequence_layer, unsequence_layer}
+use Rattle.tsdb_state.specs.Views.{pair_layers}
 use Rattle.tsdb_state.specs.Worlds.{StandsFor, type_at, value_of}
 
 -- what holds of the points of a pair, and of the cells of a row
@@ -174,12 +174,6 @@ module _ (told : Told) (time : ℤ) (cells : List CellRecord) (state : StoreStat
       by (inr points) (inl none) = inr (inl (row_of none))
       by (inr points) (inr few) = inr (inr (record { points = points; bytes = few }))
 
-  abbrev files : List Layer
-  files = file_layers told state.sequence ++ file_layers told state.unsequence
-
-  abbrev frozen : List Layer
-  frozen = map sequence_layer state.frozen ++ map unsequence_layer state.frozen
-
   abbrev IsTyped : Place → Value → Type 0
   IsTyped place value = IsOfSeries state.schemas place.path (type_of value)
 
@@ -192,20 +186,19 @@ module _ (told : Told) (time : ℤ) (cells : List CellRecord) (state : StoreStat
       (subst (IsOfSeries state.schemas f.series.schema.path) (sym f.of.type)
       (series_at state.schemas cell.series.0 f.series f.at))
 
-  typed : (place : Place) (value : Value)
-      → HasPoint (files ++ (frozen ++ pair_layers row_state.working)) place value → IsTyped place value
-  typed place value has =
-      ⊎_elim (λ h. order.series.typed place value (has_left files (frozen ++ pair_layers state.working) place value h))
-      (λ h. ⊎_elim
-      (λ k. order.series.typed place value (has_right files (frozen ++ pair_layers state.working) place value
-      (has_left frozen (pair_layers state.working) place value k)))
-      (cells_hold IsTyped state.schemas state time cells state.working
-      (λ q w k. order.series.typed q w (has_right files (frozen ++ pair_layers state.working) q w
-      (has_right frozen (pair_layers state.working) q w k)))
-      (each_weaker (λ cell. IsSomeAnd (slice_get state.schemas cell.series.0) (IsOfDevice can.device cell))
-      (λ cell. IsTyped (place_of state.schemas time cell) cell.value) cell_typed cells can.there) place value)
-      (has_cases frozen (pair_layers row_state.working) place value h))
-      (has_cases files (frozen ++ pair_layers row_state.working) place value has)
+  typed : PartsTyped told state.schemas state.sequence state.unsequence state.frozen row_state.working
+  typed =
+      let old = parts_typed told state.schemas state.sequence state.unsequence state.frozen state.working
+      order.series.typed in
+      record {
+        files = old.files;
+        late = old.late;
+        sequences = old.sequences;
+        unsequences = old.unsequences;
+        pair = cells_hold IsTyped state.schemas state time cells state.working old.pair
+            (each_weaker (λ cell. IsSomeAnd (slice_get state.schemas cell.series.0) (IsOfDevice can.device cell))
+            (λ cell. IsTyped (place_of state.schemas time cell) cell.value) cell_typed cells can.there);
+      }
 
   pub inserted_in_order : KeepsBytes time cells state → StoreInOrder told (inserted time cells state)
   inserted_in_order bytes =
@@ -214,7 +207,11 @@ module _ (told : Told) (time : ℤ) (cells : List CellRecord) (state : StoreStat
         layers = row.layers;
         stamps = stamps_up state.stamp state.marks state.sequence state.unsequence state.frozen state.working
             row_state.working order.stamps;
-        series = record { formed = order.series.formed; once = order.series.once; typed = typed };
+        series = record {
+          formed = order.series.formed;
+          once = order.series.once;
+          typed = all_typed told state.schemas state.sequence state.unsequence state.frozen row_state.working typed;
+        };
         live = λ place value is. row.live place value (sym (inserted_value place) ∙ is);
         limit = limit bytes;
       }

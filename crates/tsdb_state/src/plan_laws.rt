@@ -12,8 +12,8 @@ ghost use Rattle.tsdb_state.specs.Plans.{ClaimLate, IsCrossJob, IsInnerSequenceJ
 ghost use Rattle.tsdb_state.specs.Plans.{IsSequenceFree, file_entries};
 ghost use Rattle.tsdb_state.specs.State.{Compaction, Entries, File, Told};
 
-/// The files of a cross plan stand as a cross job asks: sequence files before the run have only times below those of the
-/// late files, and files behind it only times above them, by the hulls that are kept of them.
+/// The files of a cross plan stand as a cross job asks: sequence files before the run have only times below those of
+/// the late files, and files behind it only times above them, by the hulls that are kept of them.
 pub fn a_cross_plan_has_its_gap()
     ensures stands { (told : Told) (known : Entries) (early_claimed late_claimed : File → Bool)
         (sequence unsequence : List File) (run : CrossRun) (job : Compaction)
