@@ -35,11 +35,11 @@ map_same told f g (file ∷ files) same = λ i. same.0 i ∷ map_same told f g f
 module _ (told : Told) (state : StoreState) (job : Compaction) (output : List File)
     (marked : KeepsItsMarks told state.stamp state.marks job) (gives : IsOutput told job output)
     (file : (output ≡ []) ⊎ (output ≡ record { number = job.output; born = job.born } ∷ [])) where
-  abbrev I : List Layer
-  I = file_layers told (job_inputs job)
+  abbrev input_layers : List Layer
+  input_layers = file_layers told (job_inputs job)
 
-  abbrev O : List Layer
-  O = file_layers told output
+  abbrev output_layers : List Layer
+  output_layers = file_layers told output
 
   abbrev one : List File
   one = record { number = job.output; born = job.born } ∷ []
@@ -47,25 +47,25 @@ module _ (told : Told) (state : StoreState) (job : Compaction) (output : List Fi
   by_file : (P : List File → Type 0) → P [] → P one → P output
   by_file P none there = ⊎_elim (λ e. subst P (sym e) none) (λ e. subst P (sym e) there) file
 
-  output_rises : Rises O
+  output_rises : Rises output_layers
   output_rises = by_file (λ files. Rises (file_layers told files)) tt ((λ p q v w a b same. absurd b), tt)
 
   output_reached : Each (λ (f : File). f.born ≤ state.stamp) output
   output_reached = by_file (Each (λ (f : File). f.born ≤ state.stamp)) tt (marked.reached, tt)
 
-  output_born : Each (λ (layer : Layer). layer.born ≡ job.born) O
+  output_born : Each (λ (layer : Layer). layer.born ≡ job.born) output_layers
   output_born = by_file (λ files. Each (λ (layer : Layer). layer.born
       ≡ job.born) (file_layers told files)) tt (refl, tt)
 
   -- at each place the output has the value that the inputs have
-  pub output_has : (p : Place) → value_in state.marks p O ≡ value_in state.marks p I
-  output_has p = output_value state.marks job.marks p job.born I O
+  pub output_has : (p : Place) → value_in state.marks p output_layers ≡ value_in state.marks p input_layers
+  output_has p = output_value state.marks job.marks p job.born input_layers output_layers
       (each_map (λ (layer : Layer). layer.born ≤ job.born) (file_layer told) (job_inputs job) marked.older) output_born
       (map_same told (survivor job.marks p) (survivor (marks_up_to job.born state.marks) p) (job_inputs job)
       (marked.same p)) (gives p)
 
-  output_points : IsPartOf O I
-  output_points p value has = value_is_point job.marks p I value (sym (gives p) ∙ by_file
+  output_points : IsPartOf output_layers input_layers
+  output_points p value has = value_is_point job.marks p input_layers value (sym (gives p) ∙ by_file
       (λ files. HasPoint (file_layers told files) p value → value_in [] p (file_layers told files) ≡ Some value)
       (λ h. absurd h) only has)
     where
@@ -77,16 +77,16 @@ module _ (told : Told) (state : StoreState) (job : Compaction) (output : List Fi
     (order : StoreInOrder told state) (marked : KeepsItsMarks told state.stamp state.marks job)
     (gives : IsOutput told job output) (some : 1 ≤ job.output)
     (file : (output ≡ []) ⊎ (output ≡ record { number = job.output; born = job.born } ∷ [])) where
-  abbrev J : List Layer
-  J = file_layers told (job_inputs job)
+  abbrev inputs : List Layer
+  inputs = file_layers told (job_inputs job)
 
-  abbrev Q : List Layer
-  Q = file_layers told output
+  abbrev outputs : List Layer
+  outputs = file_layers told output
 
   new_is : new_file (output_number output) job.born ≡ output
   new_is = output_is job output some file
 
-  inputs_are : J ≡ file_layers told job.sequence ++ file_layers told job.unsequence
+  inputs_are : inputs ≡ file_layers told job.sequence ++ file_layers told job.unsequence
   inputs_are = map-append (file_layer told) job.sequence job.unsequence
 
   abbrev After : Space → StoreState
@@ -102,17 +102,18 @@ module _ (told : Told) (state : StoreState) (job : Compaction) (output : List Fi
   list_is run all before behind is at =
       (λ i. replace (at i) (length (numbers_of run)) (new_is i) (is i)) ∙ replaced_run before run behind output
 
-  rises : Rises Q
+  rises : Rises outputs
   rises = output_rises told state job output marked gives file
 
   reached : Each (λ (f : File). f.born ≤ state.stamp) output
   reached = output_reached told state job output marked gives file
 
-  value : (p : Place) (layers : List Layer) → J ≡ layers → value_in state.marks p Q ≡ value_in state.marks p layers
+  value : (p : Place) (layers : List Layer) → inputs ≡ layers
+      → value_in state.marks p outputs ≡ value_in state.marks p layers
   value p layers are = output_has told state job output marked gives file p ∙ ap (value_in state.marks p) are
 
-  part : (layers : List Layer) → J ≡ layers → IsPartOf Q layers
-  part layers are = subst (IsPartOf Q) are (output_points told state job output marked gives file)
+  part : (layers : List Layer) → inputs ≡ layers → IsPartOf outputs layers
+  part layers are = subst (IsPartOf outputs) are (output_points told state job output marked gives file)
 
   -- the store after the record, before its marks are purged
   pub crossed_is : (gap : HasGap told state.sequence state.unsequence job) → place ≡ job.place
@@ -147,7 +148,7 @@ module _ (told : Told) (state : StoreState) (job : Compaction) (output : List Fi
       )
   by_space Unsequence kind run at =
       let late = file_layers told job.unsequence in
-      let late_only : J ≡ late = ap (λ files. file_layers told (files ++ job.unsequence)) kind.0 in
+      let late_only : inputs ≡ late = ap (λ files. file_layers told (files ++ job.unsequence)) kind.0 in
       let values = λ (p : Place). value p late late_only in
       subst Both (sym (merged_is at.0 at.1)) (
         merged_in_order told state at.0.before job.unsequence at.0.behind output at.0.is values (part late late_only)

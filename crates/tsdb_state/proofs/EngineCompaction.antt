@@ -120,17 +120,17 @@ stand_at before run behind all place is at = record {
 
 module _ (told : Told) (known : Entries) (named : List ℕ) (state : EngineState)
     (order : IsInOrder told known named state) where
-  abbrev s : StoreState
-  s = state.store
+  abbrev old : StoreState
+  old = state.store
 
-  listed_born : (file : File) → Among file (s.sequence ++ s.unsequence) → file.born ≤ s.stamp
-  listed_born file among = each_among (λ (f : File). f.born ≤ s.stamp) (s.sequence ++ s.unsequence) file
-      (each_append (λ (f : File). f.born ≤ s.stamp) s.sequence s.unsequence order.store.stamps.sequence_born
+  listed_born : (file : File) → Among file (old.sequence ++ old.unsequence) → file.born ≤ old.stamp
+  listed_born file among = each_among (λ (f : File). f.born ≤ old.stamp) (old.sequence ++ old.unsequence) file
+      (each_append (λ (f : File). f.born ≤ old.stamp) old.sequence old.unsequence order.store.stamps.sequence_born
       order.store.stamps.unsequence_born) among
 
   pub begin_step : (job : Compaction) → Begins told job state → IsInOrder told known named (began job state)
   begin_step job begins =
-      let listed = inputs_listed told s.sequence s.unsequence job job.space begins.kind begins.stand in
+      let listed = inputs_listed told old.sequence old.unsequence job job.space begins.kind begins.stand in
       record {
         store = order.store;
         flushes = order.flushes;
@@ -140,14 +140,14 @@ module _ (told : Told) (known : Entries) (named : List ℕ) (state : EngineState
           apart = (begins.apart, order.compactions.apart);
           marked = (
             record {
-              reached = itself job.born s.stamp begins.born;
-              older = each_weaker (λ file. Among file (s.sequence ++ s.unsequence)) (λ file. file.born ≤ job.born)
+              reached = itself job.born old.stamp begins.born;
+              older = each_weaker (λ file. Among file (old.sequence ++ old.unsequence)) (λ file. file.born ≤ job.born)
                   (λ file among. subst (λ n. file.born ≤ n) (sym begins.born) (listed_born file among)) (job_inputs job)
                   listed;
               same = λ place. subst (λ marks. Each (λ (file : File). survivor job.marks place (file_layer told file)
                   ≡ survivor marks place (file_layer told file)) (job_inputs job))
-                  (sym (ap (λ n. marks_up_to n s.marks) begins.born
-                  ∙ up_to_all s.stamp s.marks order.store.stamps.versions)) (begins.marks place);
+                  (sym (ap (λ n. marks_up_to n old.marks) begins.born
+                  ∙ up_to_all old.stamp old.marks order.store.stamps.versions)) (begins.marks place);
             },
             order.compactions.marked,
           );
@@ -157,30 +157,31 @@ module _ (told : Told) (known : Entries) (named : List ℕ) (state : EngineState
         rights = rights_taken state.rights (files_of state) (held_numbers state.compactions state.pins)
             (numbers_of (job_inputs job)) (held_numbers (job ∷ state.compactions) state.pins) order.rights
             (λ n. held_with_job n job state.compactions state.pins)
-            (λ n h. there n (all_counted (job_inputs job) (s.sequence ++ s.unsequence) n listed h));
+            (λ n h. there n (all_counted (job_inputs job) (old.sequence ++ old.unsequence) n listed h));
         room = room_with_compaction job state.room state.flushes state.compactions order.room;
         doubt = order.doubt;
       }
     where
-      there : (n : ℕ) → 1 ≤ count n (numbers_of (s.sequence ++ s.unsequence))
+      there : (n : ℕ) → 1 ≤ count n (numbers_of (old.sequence ++ old.unsequence))
           → 1 ≤ count n (numbers_of (files_of state))
-      there n h = omega (arith, count_files n (s.sequence ++ s.unsequence) state.outgoing)
+      there n h = omega (arith, count_files n (old.sequence ++ old.unsequence) state.outgoing)
 
   -- the jobs without one
   others_in_order : (job : Compaction) (others : List Compaction) → IsWithOne job others state.compactions
-      → CompactionsInOrder told s.stamp s.marks s.sequence s.unsequence others
+      → CompactionsInOrder told old.stamp old.marks old.sequence old.unsequence others
   others_in_order job others out = record {
     kinds = with_one_each (λ job. HasKind job.space job) job others state.compactions out order.compactions.kinds;
-    stand = with_one_each (λ job. Stands job.space told s.sequence s.unsequence job) job others state.compactions out
+    stand = with_one_each
+        (λ job. Stands job.space told old.sequence old.unsequence job) job others state.compactions out
         order.compactions.stand;
     apart = with_one_pairs AreApart job others state.compactions out order.compactions.apart;
-    marked = with_one_each (KeepsItsMarks told s.stamp s.marks) job others state.compactions out
+    marked = with_one_each (KeepsItsMarks told old.stamp old.marks) job others state.compactions out
         order.compactions.marked;
   }
 
   more_files : (built : List File) (n : ℕ) → count n (numbers_of (files_of state))
-      ≤ count n (numbers_of ((s.sequence ++ s.unsequence) ++ (state.outgoing ++ built)))
-  more_files built n = omega (arith, count_out n (s.sequence ++ s.unsequence) state.outgoing built)
+      ≤ count n (numbers_of ((old.sequence ++ old.unsequence) ++ (state.outgoing ++ built)))
+  more_files built n = omega (arith, count_out n (old.sequence ++ old.unsequence) state.outgoing built)
 
   pub end_step : (job : Compaction) (others : List Compaction) (built : List File)
       → EndsCompaction job others built state → IsInOrder told known named (ended job others built state)
@@ -194,7 +195,7 @@ module _ (told : Told) (known : Entries) (named : List ℕ) (state : EngineState
         (held_numbers state.compactions state.pins) (numbers_of (job_inputs job)) (held_numbers others state.pins)
         order.rights (λ n. held_by_job n job others state.compactions state.pins ends.out) (more_files built);
     room = room_without_compaction job others state.room state.flushes state.compactions ends.out order.room;
-    doubt = doubt_more told named s state.outgoing built state.doubt order.doubt;
+    doubt = doubt_more told named old state.outgoing built state.doubt order.doubt;
   }
 
   module _ (job : Compaction) (others : List Compaction) (output : List File) (place : ℕ)
@@ -202,12 +203,12 @@ module _ (told : Told) (known : Entries) (named : List ℕ) (state : EngineState
     kind : HasKind job.space job
     kind = with_one_is (λ job. HasKind job.space job) job others state.compactions commits.out order.compactions.kinds
 
-    stands : Stands job.space told s.sequence s.unsequence job
-    stands = with_one_is (λ job. Stands job.space told s.sequence s.unsequence job) job others state.compactions
+    stands : Stands job.space told old.sequence old.unsequence job
+    stands = with_one_is (λ job. Stands job.space told old.sequence old.unsequence job) job others state.compactions
         commits.out order.compactions.stand
 
-    marked : KeepsItsMarks told s.stamp s.marks job
-    marked = with_one_is (KeepsItsMarks told s.stamp s.marks) job others state.compactions commits.out
+    marked : KeepsItsMarks told old.stamp old.marks job
+    marked = with_one_is (KeepsItsMarks told old.stamp old.marks) job others state.compactions commits.out
         order.compactions.marked
 
     apart : Each (AreApart job) others
@@ -251,14 +252,15 @@ module _ (told : Told) (known : Entries) (named : List ℕ) (state : EngineState
       unsequence = sym (number_list_is job.unsequence) i;
     })
 
-    pub commit_in_order : StoreInOrder told (after (compaction_record job output place) s)
-    commit_in_order = logged (λ item. StoreInOrder told (replaced item s))
-        (committed_in_order told s job output place order.store marked commits.gives some file kind stands
+    pub commit_in_order : StoreInOrder told (after (compaction_record job output place) old)
+    commit_in_order = logged (λ item. StoreInOrder told (replaced item old))
+        (committed_in_order told old job output place order.store marked commits.gives some file kind stands
         commits.stands)
 
-    pub commit_keeps : KeepsWorld told s (after (compaction_record job output place) s)
-    commit_keeps = logged (λ item. KeepsWorld told s (replaced item s))
-        (committed_keeps told s job output place order.store marked commits.gives some file kind stands commits.stands)
+    pub commit_keeps : KeepsWorld told old (after (compaction_record job output place) old)
+    commit_keeps = logged (λ item. KeepsWorld told old (replaced item old))
+        (committed_keeps told old job output place order.store marked commits.gives some file kind stands
+        commits.stands)
 
     abbrev Is : File → Type 0
     Is file = Describes (known file.number) (told file.number)
@@ -267,7 +269,7 @@ module _ (told : Told) (known : Entries) (named : List ℕ) (state : EngineState
     described = ⊎_elim (λ none. subst (Each Is) (sym none) tt) (λ there. subst (Each Is) (sym there.0) (there.1, tt))
         commits.file
 
-    others_now : CompactionsInOrder told s.stamp s.marks s.sequence s.unsequence others
+    others_now : CompactionsInOrder told old.stamp old.marks old.sequence old.unsequence others
     others_now = others_in_order job others commits.out
 
     -- what a store after the commit has
@@ -276,14 +278,14 @@ module _ (told : Told) (known : Entries) (named : List ℕ) (state : EngineState
       entries : EntriesMatch told known (store.sequence ++ store.unsequence)
       lists : (n : ℕ)
           → count n (numbers_of (store.sequence ++ store.unsequence)) + count n (numbers_of (job_inputs job))
-          ≡ count n (numbers_of (s.sequence ++ s.unsequence)) + count n (numbers_of output)
+          ≡ count n (numbers_of (old.sequence ++ old.unsequence)) + count n (numbers_of output)
       flushes : Each (IsFlushOut store.stamp store.frozen store.working) state.flushes
 
     -- the other jobs, where they stand in the new lists
     jobs_in : (sequence unsequence : List File)
         → Each (λ job. Stands job.space told sequence unsequence job) others
-        → CompactionsInOrder told s.stamp
-        (purge (borns_of (record s { sequence = sequence; unsequence = unsequence })) s.marks) sequence unsequence
+        → CompactionsInOrder told old.stamp
+        (purge (borns_of (record old { sequence = sequence; unsequence = unsequence })) old.marks) sequence unsequence
         others
     jobs_in sequence unsequence stand = record {
       kinds = others_now.kinds;
@@ -293,16 +295,16 @@ module _ (told : Told) (known : Entries) (named : List ℕ) (state : EngineState
     }
       where
         new : StoreState
-        new = record s { sequence = sequence; unsequence = unsequence }
+        new = record old { sequence = sequence; unsequence = unsequence }
 
         all : (jobs : List Compaction) → Each (λ job. HasKind job.space job) jobs
             → Each (λ job. Stands job.space told sequence unsequence job) jobs
-            → Each (KeepsItsMarks told s.stamp s.marks) jobs
-            → Each (KeepsItsMarks told s.stamp
-            (purge (borns_of (record s { sequence = sequence; unsequence = unsequence })) s.marks)) jobs
+            → Each (KeepsItsMarks told old.stamp old.marks) jobs
+            → Each (KeepsItsMarks told old.stamp
+            (purge (borns_of (record old { sequence = sequence; unsequence = unsequence })) old.marks)) jobs
         all [] kinds stand keeps = tt
         all (job ∷ jobs) kinds stand keeps = (
-          purge_kept told s.stamp s.marks (record s { sequence = sequence; unsequence = unsequence }) job kinds.0
+          purge_kept told old.stamp old.marks (record old { sequence = sequence; unsequence = unsequence }) job kinds.0
               stand.0
               keeps.0,
           all jobs kinds.1 stand.1 keeps.1,
@@ -314,11 +316,11 @@ module _ (told : Told) (known : Entries) (named : List ℕ) (state : EngineState
         all)
         (each_append P output behind new (each_right P run behind (each_right P before (run ++ behind) all)))
 
-    old_sequence : Each Is s.sequence
-    old_sequence = each_left Is s.sequence s.unsequence order.entries
+    old_sequence : Each Is old.sequence
+    old_sequence = each_left Is old.sequence old.unsequence order.entries
 
-    old_unsequence : Each Is s.unsequence
-    old_unsequence = each_right Is s.sequence s.unsequence order.entries
+    old_unsequence : Each Is old.unsequence
+    old_unsequence = each_right Is old.sequence old.unsequence order.entries
 
     count_three : (n : ℕ) (before run behind : List File) → count n (numbers_of (before ++ (run ++ behind)))
         ≡ count n (numbers_of before) + (count n (numbers_of run) + count n (numbers_of behind))
@@ -328,8 +330,11 @@ module _ (told : Told) (known : Entries) (named : List ℕ) (state : EngineState
     of_list : (n : ℕ) (a b : List File) → a ≡ b → count n (numbers_of a) ≡ count n (numbers_of b)
     of_list n a b e = ap (λ files. count n (numbers_of files)) e
 
-    crossed_good : job.space ≡ Sequence → (gap : HasGap told s.sequence s.unsequence job)
-        → IsGood (purged (record s { sequence = gap.run.before ++ (output ++ gap.run.behind); unsequence = gap.later }))
+    crossed_good : job.space ≡ Sequence → (gap : HasGap told old.sequence old.unsequence job)
+        → IsGood (purged (record old {
+          sequence = gap.run.before ++ (output ++ gap.run.behind);
+          unsequence = gap.later;
+        }))
     crossed_good here gap = record {
       jobs = jobs_in (gap.run.before ++ (output ++ gap.run.behind)) gap.later
           (stand others apart others_now.kinds others_now.stand);
@@ -341,67 +346,69 @@ module _ (told : Told) (known : Entries) (named : List ℕ) (state : EngineState
         count_files n (gap.run.before ++ (output ++ gap.run.behind)) gap.later,
         count_three n gap.run.before output gap.run.behind,
         count_files n job.sequence job.unsequence,
-        count_files n s.sequence s.unsequence,
-        of_list n s.sequence (gap.run.before ++ (job.sequence ++ gap.run.behind)) gap.run.is,
+        count_files n old.sequence old.unsequence,
+        of_list n old.sequence (gap.run.before ++ (job.sequence ++ gap.run.behind)) gap.run.is,
         count_three n gap.run.before job.sequence gap.run.behind,
-        of_list n s.unsequence (job.unsequence ++ gap.later) gap.first,
+        of_list n old.unsequence (job.unsequence ++ gap.later) gap.first,
         count_files n job.unsequence gap.later,
       );
       flushes = order.flushes;
     }
       where
         stand : (jobs : List Compaction) → Each (AreApart job) jobs → Each (λ job. HasKind job.space job) jobs
-            → Each (λ job. Stands job.space told s.sequence s.unsequence job) jobs
+            → Each (λ job. Stands job.space told old.sequence old.unsequence job) jobs
             → Each (λ job. Stands job.space told (gap.run.before ++ (output ++ gap.run.behind)) gap.later job) jobs
         stand [] apart kinds stands = tt
         stand (other ∷ jobs) apart kinds stands = (
-          stands_crossed told s.sequence (gap.run.before ++ (output ++ gap.run.behind)) s.unsequence gap.later job other
+          stands_crossed told old.sequence (gap.run.before ++ (output ++ gap.run.behind)) old.unsequence gap.later job
+              other
               other.space gap.first here refl apart.0 kinds.0 stands.0,
           stand jobs apart.1 kinds.1 stands.1,
         )
 
-    merged_good : (two : 2 ≤ length job.unsequence) → job.sequence ≡ [] → (run : IsRun job.unsequence s.unsequence)
-        → IsGood (purged (record s { unsequence = run.before ++ (output ++ run.behind) }))
+    merged_good : (two : 2 ≤ length job.unsequence) → job.sequence ≡ [] → (run : IsRun job.unsequence old.unsequence)
+        → IsGood (purged (record old { unsequence = run.before ++ (output ++ run.behind) }))
     merged_good two none run = record {
-      jobs = jobs_in s.sequence (run.before ++ (output ++ run.behind))
+      jobs = jobs_in old.sequence (run.before ++ (output ++ run.behind))
           (stand others apart others_now.kinds others_now.stand);
-      entries = each_append Is s.sequence (run.before ++ (output ++ run.behind)) old_sequence
+      entries = each_append Is old.sequence (run.before ++ (output ++ run.behind)) old_sequence
           (middle Is run.before job.unsequence run.behind (subst (Each Is) run.is old_unsequence) described);
       lists = λ n. omega (
         arith,
-        count_files n s.sequence (run.before ++ (output ++ run.behind)),
+        count_files n old.sequence (run.before ++ (output ++ run.behind)),
         count_three n run.before output run.behind,
         count_files n job.sequence job.unsequence,
         of_list n job.sequence [] none,
-        count_files n s.sequence s.unsequence,
-        of_list n s.unsequence (run.before ++ (job.unsequence ++ run.behind)) run.is,
+        count_files n old.sequence old.unsequence,
+        of_list n old.unsequence (run.before ++ (job.unsequence ++ run.behind)) run.is,
         count_three n run.before job.unsequence run.behind,
       );
       flushes = order.flushes;
     }
       where
         stand : (jobs : List Compaction) → Each (AreApart job) jobs → Each (λ job. HasKind job.space job) jobs
-            → Each (λ job. Stands job.space told s.sequence s.unsequence job) jobs
-            → Each (λ job. Stands job.space told s.sequence (run.before ++ (output ++ run.behind)) job) jobs
+            → Each (λ job. Stands job.space told old.sequence old.unsequence job) jobs
+            → Each (λ job. Stands job.space told old.sequence (run.before ++ (output ++ run.behind)) job) jobs
         stand [] apart kinds stands = tt
         stand (other ∷ jobs) apart kinds stands = (
-          stands_merged told s.sequence s.unsequence run.before run.behind output job other other.space run.is two
+          stands_merged told old.sequence old.unsequence run.before run.behind output job other other.space run.is two
               apart.0
               kinds.0 stands.0,
           stand jobs apart.1 kinds.1 stands.1,
         )
 
-    by_space : (space : Space) → job.space ≡ space → HasKind space job → Stands space told s.sequence s.unsequence job
-        → IsOutputPlace space job s place → IsGood (purged (replace_in space item s))
+    by_space : (space : Space) → job.space ≡ space → HasKind space job
+        → Stands space told old.sequence old.unsequence job
+        → IsOutputPlace space job old place → IsGood (purged (replace_in space item old))
     by_space Sequence here of_kind gap at = subst (λ store. IsGood (purged store))
-        (sym (crossed_is told s job output place order.store marked commits.gives some file gap at))
+        (sym (crossed_is told old job output place order.store marked commits.gives some file gap at))
         (crossed_good here gap)
     by_space Unsequence here of_kind run at = subst (λ store. IsGood (purged store))
-        (sym (merged_is told s job output place order.store marked commits.gives some file at.0 at.1))
+        (sym (merged_is told old job output place order.store marked commits.gives some file at.0 at.1))
         (merged_good of_kind.1 of_kind.0 at.0)
 
-    good : IsGood (after (compaction_record job output place) s)
-    good = logged (λ item. IsGood (replaced item s)) (by_space job.space refl kind stands commits.stands)
+    good : IsGood (after (compaction_record job output place) old)
+    good = logged (λ item. IsGood (replaced item old)) (by_space job.space refl kind stands commits.stands)
 
     pub commit_step : IsInOrder told known (names (compaction_record job output place) ++ named)
         (committed job others output place state)
@@ -423,40 +430,40 @@ module _ (told : Told) (known : Entries) (named : List ℕ) (state : EngineState
         files_more n = omega (
           arith,
           good.lists n,
-          count_files n (s.sequence ++ s.unsequence) state.outgoing,
-          count_out n ((after (compaction_record job output place) s).sequence
-              ++ (after (compaction_record job output place) s).unsequence) state.outgoing (job_inputs job),
-          count_files n ((after (compaction_record job output place) s).sequence
-              ++ (after (compaction_record job output place) s).unsequence) state.outgoing,
+          count_files n (old.sequence ++ old.unsequence) state.outgoing,
+          count_out n ((after (compaction_record job output place) old).sequence
+              ++ (after (compaction_record job output place) old).unsequence) state.outgoing (job_inputs job),
+          count_files n ((after (compaction_record job output place) old).sequence
+              ++ (after (compaction_record job output place) old).unsequence) state.outgoing,
         )
 
     -- the record can follow
 
-    has_inputs : (space : Space) → HasKind space job → Stands space told s.sequence s.unsequence job
-        → IsOutputPlace space job s place → HasInputs space item s
+    has_inputs : (space : Space) → HasKind space job → Stands space told old.sequence old.unsequence job
+        → IsOutputPlace space job old place → HasInputs space item old
     has_inputs Sequence of_kind gap at = (
       ⊎_elim (λ k. inl (ap numbers_of k.0, subst (λ n. 2 ≤ n) (sym (length_numbers job.sequence)) k.1))
           (λ k. inr (subst (λ n. 1 ≤ n) (sym (length_numbers job.unsequence)) k)) of_kind,
-      stand_at gap.run.before job.sequence gap.run.behind s.sequence place gap.run.is (at ∙ sym gap.place),
-      stand_at [] job.unsequence gap.later s.unsequence 0 gap.first refl,
+      stand_at gap.run.before job.sequence gap.run.behind old.sequence place gap.run.is (at ∙ sym gap.place),
+      stand_at [] job.unsequence gap.later old.unsequence 0 gap.first refl,
     )
     has_inputs Unsequence of_kind run at = (
       ap numbers_of of_kind.0,
       subst (λ n. 2 ≤ n) (sym (length_numbers job.unsequence)) of_kind.1,
-      stand_at at.0.before job.unsequence at.0.behind s.unsequence place at.0.is at.1,
+      stand_at at.0.before job.unsequence at.0.behind old.unsequence place at.0.is at.1,
     )
 
-    inputs_are : (space : Space) → HasKind space job → Stands space told s.sequence s.unsequence job
-        → IsOutputPlace space job s place → inputs_of space item s ≡ job_inputs job
+    inputs_are : (space : Space) → HasKind space job → Stands space told old.sequence old.unsequence job
+        → IsOutputPlace space job old place → inputs_of space item old ≡ job_inputs job
     inputs_are Sequence of_kind gap at = λ i.
-        files_at_is gap.run.before job.sequence gap.run.behind s.sequence place gap.run.is (at ∙ sym gap.place) i
-        ++ files_at_is [] job.unsequence gap.later s.unsequence 0 gap.first refl i
+        files_at_is gap.run.before job.sequence gap.run.behind old.sequence place gap.run.is (at ∙ sym gap.place) i
+        ++ files_at_is [] job.unsequence gap.later old.unsequence 0 gap.first refl i
     inputs_are Unsequence of_kind run at =
-        files_at_is at.0.before job.unsequence at.0.behind s.unsequence place at.0.is at.1
+        files_at_is at.0.before job.unsequence at.0.behind old.unsequence place at.0.is at.1
         ∙ ap (λ files. files ++ job.unsequence) (sym of_kind.0)
 
-    pub commit_can : CanFollow named (compaction_record job output place) s
-    commit_can = logged (λ item. CanReplace named item s) (record {
+    pub commit_can : CanFollow named (compaction_record job output place) old
+    commit_can = logged (λ item. CanReplace named item old) (record {
       inputs = has_inputs job.space kind stands commits.stands;
       older = subst (Each (λ (f : File). f.born ≤ job.born)) (sym (inputs_are job.space kind stands commits.stands))
           marked.older;
@@ -469,6 +476,6 @@ module _ (told : Told) (known : Entries) (named : List ℕ) (state : EngineState
     -- the record in doubt, where its output is on its way out
     pub commit_doubt : (outgoing : List File)
         → Each (λ number. Among number (numbers_of outgoing)) (names (compaction_record job output place))
-        → DoubtInOrder told named s outgoing (compaction_record job output place)
+        → DoubtInOrder told named old outgoing (compaction_record job output place)
     commit_doubt outgoing kept =
         record { can = commit_can; order = commit_in_order; world = commit_keeps; kept = kept }

@@ -121,15 +121,15 @@ counted_some (Some m) n e = subst (λ k. 1 ≤ count n (k ∷ [])) (sym same) (h
 
 module _ (told : Told) (known : Entries) (named : List ℕ) (state : EngineState)
     (order : IsInOrder told known named state) where
-  abbrev s : StoreState
-  s = state.store
+  abbrev old : StoreState
+  old = state.store
 
   pub take_flush_step : (flush : FlushJob) → TakesFlush flush state
       → IsInOrder told known named (took_flush flush state)
   take_flush_step flush takes = record {
     store = order.store;
     flushes = (
-      new_flush s.stamp s.frozen s.working takes.oldest takes.newer flush takes.are takes.born takes.pair
+      new_flush old.stamp old.frozen old.working takes.oldest takes.newer flush takes.are takes.born takes.pair
           order.store.stamps.frozen_born order.store.stamps.frozen_rise order.store.stamps.working_born takes.sequence
           takes.unsequence,
       order.flushes,
@@ -143,26 +143,27 @@ module _ (told : Told) (known : Entries) (named : List ℕ) (state : EngineState
   }
 
   more_files : (built : List File) (n : ℕ) → count n (numbers_of (files_of state))
-      ≤ count n (numbers_of ((s.sequence ++ s.unsequence) ++ (state.outgoing ++ built)))
-  more_files built n = omega (arith, count_out n (s.sequence ++ s.unsequence) state.outgoing built)
+      ≤ count n (numbers_of ((old.sequence ++ old.unsequence) ++ (state.outgoing ++ built)))
+  more_files built n = omega (arith, count_out n (old.sequence ++ old.unsequence) state.outgoing built)
 
   pub end_flush_step : (flush : FlushJob) (others : List FlushJob) (built : List File)
       → EndsFlush flush others built state → IsInOrder told known named (ended_flush flush others built state)
   end_flush_step flush others built ends = record {
     store = order.store;
-    flushes = with_one_each (IsFlushOut s.stamp s.frozen s.working) flush others state.flushes ends.out order.flushes;
+    flushes = with_one_each (IsFlushOut old.stamp old.frozen old.working) flush others state.flushes ends.out
+        order.flushes;
     compactions = order.compactions;
     numbers = ended_flush_numbers named flush others built state ends order.numbers;
     entries = order.entries;
     rights = rights_more state.rights (files_of state) (files_of (ended_flush flush others built state))
         (held_numbers state.compactions state.pins) order.rights (more_files built);
     room = room_without_flush flush others state.room state.flushes state.compactions ends.out order.room;
-    doubt = doubt_more told named s state.outgoing built state.doubt order.doubt;
+    doubt = doubt_more told named old state.outgoing built state.doubt order.doubt;
   }
 
   module _ (flush : FlushJob) (others : List FlushJob) (commits : CommitsFlush told known flush others state) where
-    out : IsFlushOut s.stamp s.frozen s.working flush
-    out = with_one_is (IsFlushOut s.stamp s.frozen s.working) flush others state.flushes commits.out order.flushes
+    out : IsFlushOut old.stamp old.frozen old.working flush
+    out = with_one_is (IsFlushOut old.stamp old.frozen old.working) flush others state.flushes commits.out order.flushes
 
     pair_is : commits.oldest.pair ≡ flush.pair
     pair_is = (subst (Each (λ pair. pair.born ≡ flush.born
@@ -216,35 +217,35 @@ module _ (told : Told) (known : Entries) (named : List ℕ) (state : EngineState
 
     -- the store before its marks are purged
     abbrev put : StoreState
-    put = record s {
+    put = record old {
       frozen = commits.newer;
-      sequence = s.sequence ++ more_sequence;
-      unsequence = s.unsequence ++ more_unsequence;
+      sequence = old.sequence ++ more_sequence;
+      unsequence = old.unsequence ++ more_unsequence;
     }
 
-    is_put : flushed first second s ≡ purged put
-    is_put = flushed_is told s commits.oldest commits.newer first second commits.are first_is second_is first_has
+    is_put : flushed first second old ≡ purged put
+    is_put = flushed_is told old commits.oldest commits.newer first second commits.are first_is second_is first_has
         second_has order.store
 
-    pub flush_in_order : StoreInOrder told (flushed first second s)
-    flush_in_order = flushed_in_order told s commits.oldest commits.newer first second commits.are first_is second_is
+    pub flush_in_order : StoreInOrder told (flushed first second old)
+    flush_in_order = flushed_in_order told old commits.oldest commits.newer first second commits.are first_is second_is
         first_has second_has order.store
 
-    pub flush_keeps : KeepsWorld told s (flushed first second s)
-    flush_keeps = flushed_keeps told s commits.oldest commits.newer first second commits.are first_is second_is
+    pub flush_keeps : KeepsWorld told old (flushed first second old)
+    flush_keeps = flushed_keeps told old commits.oldest commits.newer first second commits.are first_is second_is
         first_has
         second_has order.store
 
-    late_before : IsBefore (file_layers told s.unsequence) (file_layers told more_sequence)
-    late_before = before_part (file_layers told s.unsequence) (file_layers told more_sequence)
-        (file_layers told s.unsequence ++ unsequence_layer commits.oldest ∷ []) (sequence_layer commits.oldest ∷ [])
-        (part_left (file_layers told s.unsequence) (unsequence_layer commits.oldest ∷ []))
-        (first_points told s commits.oldest commits.newer first second commits.are first_is second_is first_has
+    late_before : IsBefore (file_layers told old.unsequence) (file_layers told more_sequence)
+    late_before = before_part (file_layers told old.unsequence) (file_layers told more_sequence)
+        (file_layers told old.unsequence ++ unsequence_layer commits.oldest ∷ []) (sequence_layer commits.oldest ∷ [])
+        (part_left (file_layers told old.unsequence) (unsequence_layer commits.oldest ∷ []))
+        (first_points told old commits.oldest commits.newer first second commits.are first_is second_is first_has
         second_has
         order.store)
-        (subst (LateIsBelow (file_layers told s.unsequence)) commits.are order.store.layers.late).0
+        (subst (LateIsBelow (file_layers told old.unsequence)) commits.are order.store.layers.late).0
 
-    jobs : CompactionsInOrder told s.stamp (purged put).marks put.sequence put.unsequence state.compactions
+    jobs : CompactionsInOrder told old.stamp (purged put).marks put.sequence put.unsequence state.compactions
     jobs = record {
       kinds = order.compactions.kinds;
       stand = stand state.compactions order.compactions.stand;
@@ -252,21 +253,23 @@ module _ (told : Told) (known : Entries) (named : List ℕ) (state : EngineState
       marked = all state.compactions order.compactions.kinds order.compactions.stand order.compactions.marked;
     }
       where
-        stands : (job : Compaction) → Stands job.space told s.sequence s.unsequence job
+        stands : (job : Compaction) → Stands job.space told old.sequence old.unsequence job
             → Stands job.space told put.sequence put.unsequence job
-        stands job = stands_more told s.sequence s.unsequence more_sequence more_unsequence job job.space late_before
+        stands job = stands_more told old.sequence old.unsequence more_sequence more_unsequence job job.space
+            late_before
 
-        stand : (jobs : List Compaction) → Each (λ job. Stands job.space told s.sequence s.unsequence job) jobs
+        stand : (jobs : List Compaction) → Each (λ job. Stands job.space told old.sequence old.unsequence job) jobs
             → Each (λ job. Stands job.space told put.sequence put.unsequence job) jobs
-        stand = each_weaker (λ job. Stands job.space told s.sequence s.unsequence job)
+        stand = each_weaker (λ job. Stands job.space told old.sequence old.unsequence job)
             (λ job. Stands job.space told put.sequence put.unsequence job) stands
 
         all : (jobs : List Compaction) → Each (λ job. HasKind job.space job) jobs
-            → Each (λ job. Stands job.space told s.sequence s.unsequence job) jobs
-            → Each (KeepsItsMarks told s.stamp s.marks) jobs → Each (KeepsItsMarks told s.stamp (purged put).marks) jobs
+            → Each (λ job. Stands job.space told old.sequence old.unsequence job) jobs
+            → Each (KeepsItsMarks told old.stamp old.marks) jobs
+            → Each (KeepsItsMarks told old.stamp (purged put).marks) jobs
         all [] kinds stand marked = tt
         all (job ∷ jobs) kinds stand marked = (
-          purge_kept told s.stamp s.marks put job kinds.0 (stands job stand.0) marked.0,
+          purge_kept told old.stamp old.marks put job kinds.0 (stands job stand.0) marked.0,
           all jobs kinds.1 stand.1 marked.1,
         )
 
@@ -274,25 +277,25 @@ module _ (told : Told) (known : Entries) (named : List ℕ) (state : EngineState
     entries =
         let P = λ (file : File). Describes (known file.number) (told file.number) in
         each_append P put.sequence put.unsequence
-        (each_append P s.sequence more_sequence (each_left P s.sequence s.unsequence order.entries)
+        (each_append P old.sequence more_sequence (each_left P old.sequence old.unsequence order.entries)
         (new_entry told known flush.sequence commits.oldest.born flush.pair.sequence commits.sequence))
-        (each_append P s.unsequence more_unsequence (each_right P s.sequence s.unsequence order.entries)
+        (each_append P old.unsequence more_unsequence (each_right P old.sequence old.unsequence order.entries)
         (new_entry told known flush.unsequence commits.oldest.born flush.pair.unsequence commits.unsequence))
 
     -- the store of the flush, seen as that before its purge
-    as_put : (P : StoreState → Type 0) → P (purged put) → P (flushed first second s)
+    as_put : (P : StoreState → Type 0) → P (purged put) → P (flushed first second old)
     as_put P = subst P (sym is_put)
 
     files_more : (n : ℕ) → count n (numbers_of (files_of state))
         ≤ count n (numbers_of ((put.sequence ++ put.unsequence) ++ (state.outgoing ++ [])))
     files_more n = omega (
       arith,
-      count_files n (s.sequence ++ s.unsequence) state.outgoing,
-      count_files n s.sequence s.unsequence,
+      count_files n (old.sequence ++ old.unsequence) state.outgoing,
+      count_files n old.sequence old.unsequence,
       count_files n (put.sequence ++ put.unsequence) (state.outgoing ++ []),
       count_files n put.sequence put.unsequence,
-      count_files n s.sequence more_sequence,
-      count_files n s.unsequence more_unsequence,
+      count_files n old.sequence more_sequence,
+      count_files n old.unsequence more_unsequence,
       count_files n state.outgoing [],
     )
 
@@ -301,9 +304,10 @@ module _ (told : Told) (known : Entries) (named : List ℕ) (state : EngineState
     commit_flush_step = record {
       store = flush_in_order;
       flushes = as_put (λ store. Each (IsFlushOut store.stamp store.frozen store.working) others)
-          (each_weaker (IsFlushOut s.stamp s.frozen s.working) (IsFlushOut s.stamp commits.newer s.working)
-          (λ other. tail_flush s.stamp s.frozen s.working commits.oldest commits.newer other commits.are) others
-          (with_one_each (IsFlushOut s.stamp s.frozen s.working) flush others state.flushes commits.out order.flushes));
+          (each_weaker (IsFlushOut old.stamp old.frozen old.working) (IsFlushOut old.stamp commits.newer old.working)
+          (λ other. tail_flush old.stamp old.frozen old.working commits.oldest commits.newer other commits.are) others
+          (with_one_each (IsFlushOut old.stamp old.frozen old.working) flush others state.flushes commits.out
+          order.flushes));
       compactions = as_put (λ store. CompactionsInOrder told store.stamp store.marks store.sequence store.unsequence
           state.compactions) jobs;
       numbers = committed_flush_numbers told known named flush others state commits order.numbers;
@@ -317,7 +321,7 @@ module _ (told : Told) (known : Entries) (named : List ℕ) (state : EngineState
       doubt = tt;
     }
 
-    pub flush_can : CanFlush named first second s
+    pub flush_can : CanFlush named first second old
     flush_can = record {
       oldest = commits.oldest;
       newer = commits.newer;
@@ -338,6 +342,6 @@ module _ (told : Told) (known : Entries) (named : List ℕ) (state : EngineState
     -- the record in doubt, where its files are on their way out
     pub flush_doubt : (outgoing : List File)
         → Each (λ number. Among number (numbers_of outgoing)) (names (flush_record flush))
-        → DoubtInOrder told named s outgoing (flush_record flush)
+        → DoubtInOrder told named old outgoing (flush_record flush)
     flush_doubt outgoing kept =
         record { can = flush_can; order = flush_in_order; world = flush_keeps; kept = kept }

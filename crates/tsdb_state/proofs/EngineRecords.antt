@@ -98,49 +98,21 @@ purge_kept told stamp marks state job kind stands marked = marked_purge told sta
 
 module _ (told : Told) (known : Entries) (named : List ℕ) (state : EngineState)
     (order : IsInOrder told known named state) where
-  abbrev s : StoreState
-  s = state.store
+  abbrev old : StoreState
+  old = state.store
 
   -- the state with another store that has the same files, and nothing in doubt
   abbrev with_store : StoreState → EngineState
   with_store store = record state { store = store; doubt = None }
 
-  pub create_step : (schema : Schema) → CanCreate schema s → IsInOrder told known named (with_store (created schema s))
+  pub create_step : (schema : Schema) → CanCreate schema old
+      → IsInOrder told known named (with_store (created schema old))
   create_step schema can = record {
-    store = created_in_order told schema s order.store can;
-    flushes = flushes_up s.stamp s.frozen s.working s.working state.flushes order.flushes;
-    compactions = with_marks told s.stamp (s.stamp + 1) s.marks s.marks s.sequence s.unsequence state.compactions
-        (λ job kind stands. marked_up told s.stamp s.marks job) order.compactions;
-    numbers = order.numbers;
-    entries = order.entries;
-    rights = order.rights;
-    room = order.room;
-    doubt = tt;
-  }
-
-  pub insert_step : (time : ℤ) (cells : List CellRecord) → CanInsert time cells s → KeepsBytes time cells s
-      → IsInOrder told known named (with_store (inserted time cells s))
-  insert_step time cells can bytes = record {
-    store = inserted_in_order told time cells s order.store can bytes;
-    flushes = flushes_up s.stamp s.frozen s.working (inserted time cells s).working state.flushes order.flushes;
-    compactions = with_marks told s.stamp (s.stamp + 1) s.marks s.marks s.sequence s.unsequence state.compactions
-        (λ job kind stands. marked_up told s.stamp s.marks job) order.compactions;
-    numbers = order.numbers;
-    entries = order.entries;
-    rights = order.rights;
-    room = order.room;
-    doubt = tt;
-  }
-
-  pub delete_step : (path : List ℕ) (range : Range) → CanDelete path s
-      → IsInOrder told known named (with_store (deleted path range s))
-  delete_step path range can = record {
-    store = deleted_in_order told path range s order.store can;
-    flushes = flushes_up s.stamp s.frozen s.working (cut_pair path range s.working) state.flushes order.flushes;
-    compactions = with_marks told s.stamp (s.stamp + 1) s.marks (deleted path range s).marks s.sequence s.unsequence
+    store = created_in_order told schema old order.store can;
+    flushes = flushes_up old.stamp old.frozen old.working old.working state.flushes order.flushes;
+    compactions = with_marks told old.stamp (old.stamp + 1) old.marks old.marks old.sequence old.unsequence
         state.compactions
-        (λ job kind stands marked. purge_kept told (s.stamp + 1) (add_mark path range (s.stamp + 1) s.marks) s job kind
-        stands (marked_delete told s.stamp s.marks path range job marked)) order.compactions;
+        (λ job kind stands. marked_up told old.stamp old.marks job) order.compactions;
     numbers = order.numbers;
     entries = order.entries;
     rights = order.rights;
@@ -148,10 +120,43 @@ module _ (told : Told) (known : Entries) (named : List ℕ) (state : EngineState
     doubt = tt;
   }
 
-  pub freeze_step : CanFreeze s → IsInOrder told known named (with_store (froze s))
+  pub insert_step : (time : ℤ) (cells : List CellRecord) → CanInsert time cells old → KeepsBytes time cells old
+      → IsInOrder told known named (with_store (inserted time cells old))
+  insert_step time cells can bytes = record {
+    store = inserted_in_order told time cells old order.store can bytes;
+    flushes = flushes_up old.stamp old.frozen old.working (inserted time cells old).working state.flushes order.flushes;
+    compactions = with_marks told old.stamp (old.stamp + 1) old.marks old.marks old.sequence old.unsequence
+        state.compactions
+        (λ job kind stands. marked_up told old.stamp old.marks job) order.compactions;
+    numbers = order.numbers;
+    entries = order.entries;
+    rights = order.rights;
+    room = order.room;
+    doubt = tt;
+  }
+
+  pub delete_step : (path : List ℕ) (range : Range) → CanDelete path old
+      → IsInOrder told known named (with_store (deleted path range old))
+  delete_step path range can = record {
+    store = deleted_in_order told path range old order.store can;
+    flushes = flushes_up old.stamp old.frozen old.working (cut_pair path range old.working) state.flushes order.flushes;
+    compactions = with_marks told old.stamp (old.stamp + 1) old.marks (deleted path range old).marks old.sequence
+        old.unsequence
+        state.compactions
+        (λ job kind stands marked. purge_kept told (old.stamp + 1) (add_mark path range (old.stamp + 1) old.marks) old
+        job kind
+        stands (marked_delete told old.stamp old.marks path range job marked)) order.compactions;
+    numbers = order.numbers;
+    entries = order.entries;
+    rights = order.rights;
+    room = order.room;
+    doubt = tt;
+  }
+
+  pub freeze_step : CanFreeze old → IsInOrder told known named (with_store (froze old))
   freeze_step can = record {
-    store = froze_in_order told s order.store can;
-    flushes = flushes_frozen s state.flushes can.some order.flushes;
+    store = froze_in_order told old order.store can;
+    flushes = flushes_frozen old state.flushes can.some order.flushes;
     compactions = order.compactions;
     numbers = order.numbers;
     entries = order.entries;
@@ -161,7 +166,7 @@ module _ (told : Told) (known : Entries) (named : List ℕ) (state : EngineState
   }
 
   -- a record in doubt
-  pub fail_step : (item : LogRecord) → DoubtInOrder told named s state.outgoing item
+  pub fail_step : (item : LogRecord) → DoubtInOrder told named old state.outgoing item
       → IsInOrder told known named (failed item state)
   fail_step item doubt = record {
     store = order.store;
@@ -174,7 +179,7 @@ module _ (told : Told) (known : Entries) (named : List ℕ) (state : EngineState
     doubt = doubt;
   }
 
-  pub settle_step : IsInOrder told known named (with_store s)
+  pub settle_step : IsInOrder told known named (with_store old)
   settle_step = record {
     store = order.store;
     flushes = order.flushes;
@@ -188,29 +193,29 @@ module _ (told : Told) (known : Entries) (named : List ℕ) (state : EngineState
 
   -- commands and freezes in doubt
 
-  pub create_doubt : (schema : Schema) → CanCreate schema s
-      → DoubtInOrder told named s state.outgoing (Create schema.path schema.data_type schema.encoding)
+  pub create_doubt : (schema : Schema) → CanCreate schema old
+      → DoubtInOrder told named old state.outgoing (Create schema.path schema.data_type schema.encoding)
   create_doubt schema can =
-      record { can = can; order = created_in_order told schema s order.store can; world = tt; kept = tt }
+      record { can = can; order = created_in_order told schema old order.store can; world = tt; kept = tt }
 
-  pub insert_doubt : (time : ℤ) (cells : List CellRecord) → CanInsert time cells s → KeepsBytes time cells s
-      → DoubtInOrder told named s state.outgoing (Insert time cells)
+  pub insert_doubt : (time : ℤ) (cells : List CellRecord) → CanInsert time cells old → KeepsBytes time cells old
+      → DoubtInOrder told named old state.outgoing (Insert time cells)
   insert_doubt time cells can bytes = record {
     can = can;
-    order = inserted_in_order told time cells s order.store can bytes;
+    order = inserted_in_order told time cells old order.store can bytes;
     world = tt;
     kept = tt;
   }
 
-  pub delete_doubt : (path : List ℕ) (range : Range) → CanDelete path s
-      → DoubtInOrder told named s state.outgoing (Delete path range)
+  pub delete_doubt : (path : List ℕ) (range : Range) → CanDelete path old
+      → DoubtInOrder told named old state.outgoing (Delete path range)
   delete_doubt path range can =
-      record { can = can; order = deleted_in_order told path range s order.store can; world = tt; kept = tt }
+      record { can = can; order = deleted_in_order told path range old order.store can; world = tt; kept = tt }
 
-  pub freeze_doubt : CanFreeze s → DoubtInOrder told named s state.outgoing Freeze
+  pub freeze_doubt : CanFreeze old → DoubtInOrder told named old state.outgoing Freeze
   freeze_doubt can = record {
     can = can;
-    order = froze_in_order told s order.store can;
-    world = froze_keeps told s order.store can;
+    order = froze_in_order told old order.store can;
+    world = froze_keeps told old order.store can;
     kept = tt;
   }

@@ -35,63 +35,68 @@ late_behind late [] pair behind below =
 late_behind late (first ∷ before) pair behind below =
     late_behind (late ++ unsequence_layer first ∷ []) before pair behind below.1
 
-module _ (told : Told) (s : StoreState)
-    (order : LayersInOrder told s.watermarks s.sequence s.unsequence s.frozen s.working) where
-  abbrev F : List Layer
-  F = file_layers told s.sequence
+module _ (told : Told) (state : StoreState)
+    (order : LayersInOrder told state.watermarks state.sequence state.unsequence state.frozen state.working) where
+  abbrev files : List Layer
+  files = file_layers told state.sequence
 
-  abbrev U : List Layer
-  U = file_layers told s.unsequence
+  abbrev late : List Layer
+  late = file_layers told state.unsequence
 
-  abbrev M : List Layer
-  M = map sequence_layer s.frozen
+  abbrev sequences : List Layer
+  sequences = map sequence_layer state.frozen
 
-  abbrev N : List Layer
-  N = map unsequence_layer s.frozen
+  abbrev unsequences : List Layer
+  unsequences = map unsequence_layer state.frozen
 
-  abbrev W : List Layer
-  W = sequence_layer (working_pair s) ∷ []
+  abbrev working : List Layer
+  working = sequence_layer (working_pair state) ∷ []
 
-  pub parts_rise : Rises (sequence_layers told s)
-  parts_rise = subst Rises (append_assoc F M W)
-      (rises_append (F ++ M) W order.rises ((λ p q v w a b same. absurd b), tt)
-      (below_above s.watermarks (F ++ M) W order.below order.above))
+  pub parts_rise : Rises (sequence_layers told state)
+  parts_rise = subst Rises (append_assoc files sequences working)
+      (rises_append (files ++ sequences) working order.rises ((λ p q v w a b same. absurd b), tt)
+      (below_above state.watermarks (files ++ sequences) working order.below order.above))
 
-  pub files_rise : Rises F
-  files_rise = rises_left F M order.rises
+  pub files_rise : Rises files
+  files_rise = rises_left files sequences order.rises
 
-  pub parts_below : IsBelow s.watermarks (flushed_layers told s)
+  pub parts_below : IsBelow state.watermarks (flushed_layers told state)
   parts_below =
       let low = order.below in
-      let late = order.late_below in
-      below_both s.watermarks (F ++ U) ((M ++ N) ++ layer_of s.working.unsequence)
-      (below_both s.watermarks F U (below_part s.watermarks F (F ++ M) (part_left F M) low)
-      (below_part s.watermarks U (U ++ N) (part_left U N) late))
-      (below_both s.watermarks (M ++ N) (layer_of s.working.unsequence)
-      (below_both s.watermarks M N (below_part s.watermarks M (F ++ M) (part_right F M) low)
-      (below_part s.watermarks N (U ++ N) (part_right U N) late)) order.working_below)
+      below_both state.watermarks (files ++ late) ((sequences ++ unsequences) ++ layer_of state.working.unsequence)
+      (below_both state.watermarks files late (below_part state.watermarks files (files ++ sequences) (part_left files
+      sequences) low)
+      (below_part state.watermarks late (late ++ unsequences) (part_left late unsequences) order.late_below))
+      (below_both state.watermarks (sequences ++ unsequences) (layer_of state.working.unsequence)
+      (below_both state.watermarks sequences unsequences (below_part state.watermarks sequences (files ++ sequences)
+      (part_right files sequences) low)
+      (below_part state.watermarks unsequences (late ++ unsequences) (part_right late unsequences) order.late_below))
+      order.working_below)
 
   pairs_are : (pairs : List FrozenPair)
-      → map sequence_layer (pairs ++ working_pair s ∷ []) ≡ map sequence_layer pairs ++ W
-  pairs_are pairs = map-append sequence_layer pairs (working_pair s ∷ [])
+      → map sequence_layer (pairs ++ working_pair state ∷ []) ≡ map sequence_layer pairs ++ working
+  pairs_are pairs = map-append sequence_layer pairs (working_pair state ∷ [])
 
-  pub late_files_below : IsBefore U (map sequence_layer (pairs_of s))
-  late_files_below = subst (IsBefore U) (sym (pairs_are s.frozen))
-      (before_each U M W (late_before U s.frozen order.late)
-      (below_above s.watermarks U W (below_part s.watermarks U (U ++ N) (part_left U N) order.late_below) order.above))
+  pub late_files_below : IsBefore late (map sequence_layer (pairs_of state))
+  late_files_below = subst (IsBefore late) (sym (pairs_are state.frozen))
+      (before_each late sequences working (late_before late state.frozen order.late)
+      (below_above state.watermarks late working (below_part state.watermarks late (late ++ unsequences) (part_left late
+      unsequences) order.late_below) order.above))
 
   pub late_pair_below : (before : List FrozenPair) (pair : FrozenPair) (behind : List FrozenPair)
-      → s.frozen ≡ before ++ pair ∷ behind
-      → IsBefore (unsequence_layer pair ∷ []) (sequence_layer pair ∷ map sequence_layer (behind ++ working_pair s ∷ []))
+      → state.frozen ≡ before ++ pair ∷ behind
+      → IsBefore (unsequence_layer pair ∷ []) (sequence_layer pair ∷ map sequence_layer (behind ++ working_pair state ∷
+      []))
   late_pair_below before pair behind are =
       subst (λ layers. IsBefore (unsequence_layer pair ∷ []) (sequence_layer pair ∷ layers)) (sym (pairs_are behind))
-      (before_each (unsequence_layer pair ∷ []) (sequence_layer pair ∷ map sequence_layer behind) W
-      (late_behind U before pair behind (subst (LateIsBelow U) are order.late))
-      (below_above s.watermarks (unsequence_layer pair ∷ []) W
-      (below_part s.watermarks (unsequence_layer pair ∷ []) (U ++ N) part order.late_below) order.above))
+      (before_each (unsequence_layer pair ∷ []) (sequence_layer pair ∷ map sequence_layer behind) working
+      (late_behind late before pair behind (subst (LateIsBelow late) are order.late))
+      (below_above state.watermarks (unsequence_layer pair ∷ []) working
+      (below_part state.watermarks (unsequence_layer pair ∷ []) (late ++ unsequences) part order.late_below)
+      order.above))
     where
-      part : IsPartOf (unsequence_layer pair ∷ []) (U ++ N)
-      part place value has = part_right U N place value
+      part : IsPartOf (unsequence_layer pair ∷ []) (late ++ unsequences)
+      part place value has = part_right late unsequences place value
           (subst (λ pairs. HasPoint (map unsequence_layer pairs) place value) (sym are)
           (subst (λ layers. HasPoint layers place value) (sym (map-append unsequence_layer before (pair ∷ behind)))
           (part_right (map unsequence_layer before) (unsequence_layer pair ∷ map unsequence_layer behind) place value

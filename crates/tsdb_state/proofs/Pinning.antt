@@ -49,93 +49,93 @@ zero_is n e = grind (arith, nat_tests)
 
 module _ (told : Told) (known : Entries) (marks : List Mark) (path : List ℕ) (range : Range) (time : ℤ)
     (within : is_in range time ≡ true) where
-  abbrev q : Place
-  q = record { path = path; time = time }
+  abbrev here : Place
+  here = record { path = path; time = time }
 
   -- files without the series
 
   no_point : (file : File) → Describes (known file.number) (told file.number) → has_series known path file ≡ false
-      → get (told file.number) q ≡ None
-  no_point file describes none = by (get (told file.number) q) refl
+      → get (told file.number) here ≡ None
+  no_point file describes none = by (get (told file.number) here) refl
     where
-      by : (o : Option Value) → get (told file.number) q ≡ o → o ≡ None
+      by : (o : Option Value) → get (told file.number) here ≡ o → o ≡ None
       by None e = refl
       by (Some v) e = absurd (false≢true (sym none ∙ any_among (is_path path) (known file.number).series path
-          ((describes.series path).1 (q, v, refl, e)) (path_itself path)))
+          ((describes.series path).1 (here, v, refl, e)) (path_itself path)))
 
   files_value : (files : List File) → EntriesMatch told known files
-      → value_in marks q (map (source_layer told) (file_sources known path files))
-      ≡ value_in marks q (file_layers told files)
+      → value_in marks here (map (source_layer told) (file_sources known path files))
+      ≡ value_in marks here (file_layers told files)
   files_value [] match = refl
   files_value (file ∷ files) match = by (has_series known path file) refl (files_value files match.1)
     where
       by : (b : Bool) → has_series known path file ≡ b
-          → value_in marks q (map (source_layer told) (file_sources known path files))
-          ≡ value_in marks q (file_layers told files)
-          → value_in marks q (map (source_layer told) (map FromFile
+          → value_in marks here (map (source_layer told) (file_sources known path files))
+          ≡ value_in marks here (file_layers told files)
+          → value_in marks here (map (source_layer told) (map FromFile
           (cond b (file ∷ filter (has_series known path) files) (filter (has_series known path) files))))
-          ≡ value_in marks q (file_layer told file ∷ file_layers told files)
-      by true e rest = ap (λ o. option_or o (survivor marks q (file_layer told file))) rest
+          ≡ value_in marks here (file_layer told file ∷ file_layers told files)
+      by true e rest = ap (λ o. option_or o (survivor marks here (file_layer told file))) rest
       by false e rest = rest
-          ∙ sym (without_first marks q (file_layer told file) (file_layers told files) (no_point file match.0 e))
+          ∙ sym (without_first marks here (file_layer told file) (file_layers told files) (no_point file match.0 e))
 
   -- parts cut to the range
 
-  is_inside : is_within path range q ≡ true
+  is_inside : is_within path range here ≡ true
   is_inside = λ i. path_itself path i && within i
 
-  inside : (content : Content) → get (retain_keys content (is_within path range)) q ≡ get content q
-  inside content = get-retain_keys content (is_within path range) q
-      (λ x e. ap (is_within path range) (sym (place_cmp-IsAntisymmetric q x e)))
-      ∙ ap (λ b. cond b (get content q) None) is_inside
+  inside : (content : Content) → get (retain_keys content (is_within path range)) here ≡ get content here
+  inside content = get-retain_keys content (is_within path range) here
+      (λ x e. ap (is_within path range) (sym (place_cmp-IsAntisymmetric here x e)))
+      ∙ ap (λ b. cond b (get content here) None) is_inside
 
   abbrev has_some : Layer → Bool
   has_some layer = nat_lt 0 (len (retain_keys layer.content (is_within path range)))
 
-  no_part : (layer : Layer) → has_some layer ≡ false → get layer.content q ≡ None
+  no_part : (layer : Layer) → has_some layer ≡ false → get layer.content here ≡ None
   no_part layer none = sym (inside layer.content)
-      ∙ ap (λ content. get content q)
+      ∙ ap (λ content. get content here)
       (empty_of_len (retain_keys layer.content (is_within path range)) (zero_is _ none))
-      ∙ get-empty place_cmp q
+      ∙ get-empty place_cmp here
 
   parts_value : (layers : List Layer)
-      → value_in marks q (map (source_layer told) (part_sources path range layers)) ≡ value_in marks q layers
+      → value_in marks here (map (source_layer told) (part_sources path range layers)) ≡ value_in marks here layers
   parts_value [] = refl
   parts_value (layer ∷ layers) = by (has_some layer) refl (parts_value layers)
     where
       by : (b : Bool) → has_some layer ≡ b
-          → value_in marks q (map (source_layer told) (part_sources path range layers)) ≡ value_in marks q layers
-          → value_in marks q (map (source_layer told) (map (λ layer. FromPart (part_within path range layer))
+          → value_in marks here (map (source_layer told) (part_sources path range layers)) ≡ value_in marks here layers
+          → value_in marks here (map (source_layer told) (map (λ layer. FromPart (part_within path range layer))
           (cond b (layer ∷ filter has_some layers) (filter has_some layers))))
-          ≡ value_in marks q (layer ∷ layers)
-      by true e rest = λ i. option_or (rest i) (cond (survives marks q layer.born) (inside layer.content i) None)
-      by false e rest = rest ∙ sym (without_first marks q layer layers (no_part layer e))
+          ≡ value_in marks here (layer ∷ layers)
+      by true e rest = λ i. option_or (rest i) (cond (survives marks here layer.born) (inside layer.content i) None)
+      by false e rest = rest ∙ sym (without_first marks here layer layers (no_part layer e))
 
   -- one space
   row_is : (f : FrozenPair → Layer) (files : List File) (frozen : List FrozenPair) (working : FrozenPair)
       → EntriesMatch told known files
-      → value_in marks q (map (source_layer told)
+      → value_in marks here (map (source_layer told)
       (file_sources known path files ++ part_sources path range (map f (frozen ++ working ∷ []))))
-      ≡ value_in marks q (file_layers told files ++ (map f frozen ++ f working ∷ []))
+      ≡ value_in marks here (file_layers told files ++ (map f frozen ++ f working ∷ []))
   row_is f files frozen working match =
-      ap (value_in marks q) (map-append (source_layer told) (file_sources known path files)
+      ap (value_in marks here) (map-append (source_layer told) (file_sources known path files)
       (part_sources path range (map f (frozen ++ working ∷ []))))
-      ∙ value_append marks q (map (source_layer told) (file_sources known path files))
+      ∙ value_append marks here (map (source_layer told) (file_sources known path files))
       (map (source_layer told) (part_sources path range (map f (frozen ++ working ∷ []))))
       ∙ (λ i. option_or (parts_value (map f (frozen ++ working ∷ [])) i) (files_value files match i))
-      ∙ sym (value_append marks q (file_layers told files) (map f (frozen ++ working ∷ [])))
-      ∙ ap (λ layers. value_in marks q (file_layers told files ++ layers)) (map-append f frozen (working ∷ []))
+      ∙ sym (value_append marks here (file_layers told files) (map f (frozen ++ working ∷ [])))
+      ∙ ap (λ layers. value_in marks here (file_layers told files ++ layers)) (map-append f frozen (working ∷ []))
 
   sources_are : (state : StoreState) → EntriesMatch told known (state.sequence ++ state.unsequence)
-      → value_in marks q (map (source_layer told) (sources_of known state path range))
-      ≡ value_in marks q (all_layers told state)
+      → value_in marks here (map (source_layer told) (sources_of known state path range))
+      ≡ value_in marks here (all_layers told state)
   sources_are state match =
       let low = file_sources known path state.sequence
       ++ part_sources path range (map sequence_layer (state.frozen ++ working_pair state ∷ [])) in
       let high = file_sources known path state.unsequence
       ++ part_sources path range (map unsequence_layer (state.frozen ++ working_pair state ∷ [])) in
-      ap (value_in marks q) (map-append (source_layer told) low high)
-      ∙ value_append marks q (map (source_layer told) low) (map (source_layer told) high)
+      ap (value_in marks here) (map-append (source_layer told) low high)
+      ∙ value_append marks here (map (source_layer told) low) (map (source_layer told) high)
       ∙ (λ i. option_or
       (row_is unsequence_layer state.unsequence state.frozen (working_pair state)
       (each_right
@@ -145,30 +145,31 @@ module _ (told : Told) (known : Entries) (marks : List Mark) (path : List ℕ) (
       (each_left
       (λ (file : File). Describes (known file.number) (told file.number)) state.sequence state.unsequence match)
       i))
-      ∙ sym (value_append marks q (sequence_layers told state) (unsequence_layers told state))
+      ∙ sym (value_append marks here (sequence_layers told state) (unsequence_layers told state))
 
 module _ (told : Told) (known : Entries) (state : EngineState)
     (match : EntriesMatch told known (state.store.sequence ++ state.store.unsequence)) (world : World)
     (stands : StandsFor told state.store world) where
-  abbrev s : StoreState
-  s = state.store
+  abbrev store : StoreState
+  store = state.store
 
   abbrev At : List ℕ → ℤ → Place
   At path time = record { path = path; time = time }
 
   columns_stand : (marks : List Mark) (range : Range) (columns : List Column)
       → Each (λ column. (time : ℤ) (born : ℕ) → survives marks (At column.path time) born
-      ≡ survives s.marks (At column.path time) born) columns
-      → Each (λ column. column.sources ≡ sources_of known s column.path range) columns
+      ≡ survives store.marks (At column.path time) born) columns
+      → Each (λ column. column.sources ≡ sources_of known store column.path range) columns
       → Each (λ column. (time : ℤ) → is_in range time ≡ true → value_at world column.path time
       ≡ value_in marks (At column.path time) (map (source_layer told) column.sources)) columns
   columns_stand marks range [] alike are = tt
   columns_stand marks range (column ∷ columns) alike are = (
     λ time within.
         stands.values (At column.path time)
-        ∙ sym (marks_alike marks s.marks (At column.path time) (map (source_layer told) column.sources) (alike.0 time)
-        ∙ ap (λ sources. value_in s.marks (At column.path time) (map (source_layer told) sources)) are.0
-        ∙ sources_are told known s.marks column.path range time within s match),
+        ∙ sym (marks_alike marks store.marks (At column.path time) (map (source_layer told) column.sources) (alike.0
+        time)
+        ∙ ap (λ sources. value_in store.marks (At column.path time) (map (source_layer told) sources)) are.0
+        ∙ sources_are told known store.marks column.path range time within store match),
     columns_stand marks range columns alike.1 are.1,
   )
 

@@ -98,76 +98,83 @@ module _ (told : Told) (state : StoreState) (before run behind first later outpu
     (output_points : IsPartOf (file_layers told output) (file_layers told run ++ file_layers told first))
     (output_rises : Rises (file_layers told output)) (output_born : Each (IsReached state.stamp) output)
     (order : StoreInOrder told state) where
-  abbrev B : List Layer
-  B = file_layers told before
+  abbrev before_layers : List Layer
+  before_layers = file_layers told before
 
-  abbrev R : List Layer
-  R = file_layers told run
+  abbrev run_layers : List Layer
+  run_layers = file_layers told run
 
-  abbrev H : List Layer
-  H = file_layers told behind
+  abbrev behind_layers : List Layer
+  behind_layers = file_layers told behind
 
-  abbrev L : List Layer
-  L = file_layers told first
+  abbrev first_layers : List Layer
+  first_layers = file_layers told first
 
-  abbrev O : List Layer
-  O = file_layers told output
+  abbrev output_layers : List Layer
+  output_layers = file_layers told output
 
-  abbrev M : List Layer
-  M = map sequence_layer state.frozen
+  abbrev sequences : List Layer
+  sequences = map sequence_layer state.frozen
 
-  abbrev N : List Layer
-  N = map unsequence_layer state.frozen
+  abbrev unsequences : List Layer
+  unsequences = map unsequence_layer state.frozen
 
   -- the state before its marks are purged
   abbrev pub crossed : StoreState
   crossed = record state { sequence = before ++ (output ++ behind); unsequence = later }
 
-  sequences_are : stored told state.sequence state.frozen ≡ B ++ (R ++ (H ++ M))
-  sequences_are = ap (λ files. file_layers told files ++ M) sequence_is ∙ regroup told before run behind M
+  sequences_are : stored told state.sequence state.frozen
+      ≡ before_layers ++ (run_layers ++ (behind_layers ++ sequences))
+  sequences_are = ap (λ files. file_layers told files ++ sequences) sequence_is
+      ∙ regroup told before run behind sequences
 
-  late_are : stored_late told state.unsequence state.frozen ≡ L ++ (file_layers told later ++ N)
-  late_are = ap (λ files. file_layers told files ++ N) late_is
-      ∙ ap (λ layers. layers ++ N) (map-append (file_layer told) first later)
-      ∙ append_assoc L (file_layers told later) N
+  late_are : stored_late told state.unsequence state.frozen ≡ first_layers ++ (file_layers told later ++ unsequences)
+  late_are = ap (λ files. file_layers told files ++ unsequences) late_is
+      ∙ ap (λ layers. layers ++ unsequences) (map-append (file_layer told) first later)
+      ∙ append_assoc first_layers (file_layers told later) unsequences
 
-  late_files : file_layers told state.unsequence ≡ L ++ file_layers told later
+  late_files : file_layers told state.unsequence ≡ first_layers ++ file_layers told later
   late_files = ap (file_layers told) late_is ∙ map-append (file_layer told) first later
 
-  rises : Rises (B ++ (R ++ (H ++ M)))
+  rises : Rises (before_layers ++ (run_layers ++ (behind_layers ++ sequences)))
   rises = subst Rises sequences_are order.layers.rises
 
-  late_below_frozen : IsBefore L M
-  late_below_frozen = late_before L state.frozen
-      (late_part L (file_layers told state.unsequence) state.frozen
-      (subst (IsPartOf L) (sym late_files) (part_left L (file_layers told later))) order.layers.late)
+  late_below_frozen : IsBefore first_layers sequences
+  late_below_frozen = late_before first_layers state.frozen
+      (late_part first_layers (file_layers told state.unsequence) state.frozen
+      (subst (IsPartOf first_layers) (sym late_files) (part_left first_layers (file_layers told later)))
+      order.layers.late)
 
-  late_above : IsBefore L (H ++ M)
-  late_above = before_each L H M above late_below_frozen
+  late_above : IsBefore first_layers (behind_layers ++ sequences)
+  late_above = before_each first_layers behind_layers sequences above late_below_frozen
 
-  late_below_working : IsBefore L (layer_of state.working.sequence)
-  late_below_working = below_above state.watermarks L (layer_of state.working.sequence)
-      (below_part state.watermarks L (L ++ (file_layers told later ++ N))
-      (part_left L (file_layers told later ++ N)) (subst (IsBelow state.watermarks) late_are order.layers.late_below))
+  late_below_working : IsBefore first_layers (layer_of state.working.sequence)
+  late_below_working = below_above state.watermarks first_layers (layer_of state.working.sequence)
+      (below_part state.watermarks first_layers (first_layers ++ (file_layers told later ++ unsequences))
+      (part_left first_layers (file_layers told later ++ unsequences)) (subst (IsBelow state.watermarks) late_are
+      order.layers.late_below))
       order.layers.above
 
   -- where a late input has a value, nothing that stands above its new place has one
-  sinks : (place : Place) → (value_in state.marks place L ≡ None)
-      ⊎ ((get state.working.sequence place ≡ None) × (value_in state.marks place (H ++ M) ≡ None))
-  sinks place = by (value_in state.marks place L) refl
+  sinks : (place : Place) → (value_in state.marks place first_layers ≡ None)
+      ⊎ ((get state.working.sequence place ≡ None) × (value_in state.marks place (behind_layers ++ sequences) ≡ None))
+  sinks place = by (value_in state.marks place first_layers) refl
     where
       none_there : (o : Option Value) → ((w : Value) → o ≡ Some w → ⊥) → o ≡ None
       none_there None never = refl
       none_there (Some w) never = absurd (never w refl)
 
-      by : (o : Option Value) → value_in state.marks place L ≡ o → (o ≡ None)
-          ⊎ ((get state.working.sequence place ≡ None) × (value_in state.marks place (H ++ M) ≡ None))
+      by : (o : Option Value) → value_in state.marks place first_layers ≡ o → (o ≡ None)
+          ⊎ ((get state.working.sequence place ≡ None) × (value_in state.marks place (behind_layers ++ sequences)
+          ≡ None))
       by None e = inl refl
       by (Some v) e = inr (
-        none_there (get state.working.sequence place) (λ w is. no_both L (layer_of state.working.sequence) place v w
-            late_below_working (value_is_point state.marks place L v e) (inl is)),
-        value_none state.marks place (H ++ M) (λ w has. no_both L (H ++ M) place v w late_above
-            (value_is_point state.marks place L v e) has),
+        none_there (get state.working.sequence place)
+            (λ w is. no_both first_layers (layer_of state.working.sequence) place v w
+            late_below_working (value_is_point state.marks place first_layers v e) (inl is)),
+        value_none state.marks place (behind_layers ++ sequences)
+            (λ w has. no_both first_layers (behind_layers ++ sequences) place v w late_above
+            (value_is_point state.marks place first_layers v e) has),
       )
 
   crossed_value : (place : Place) → value_of told crossed place ≡ value_of told state place
@@ -175,66 +182,92 @@ module _ (told : Told) (state : StoreState) (before run behind first later outpu
       value_is told crossed place order.stamps.versions
       ∙ (λ i. joined (get state.working.sequence place) (get state.working.unsequence place) (new_below i)
       (value_in state.marks place (stored_late told later state.frozen)))
-      ∙ sink (get state.working.unsequence place) (value_in state.marks place (file_layers told later ++ N))
-      (value_in state.marks place L) (get state.working.sequence place) (value_in state.marks place (H ++ M))
-      (value_in state.marks place R) (value_in state.marks place B) (sinks place)
+      ∙ sink (get state.working.unsequence place) (value_in state.marks place (file_layers told later ++ unsequences))
+      (value_in state.marks place first_layers) (get state.working.sequence place) (value_in state.marks place
+      (behind_layers ++ sequences))
+      (value_in state.marks place run_layers) (value_in state.marks place before_layers) (sinks place)
       ∙ (λ i. joined (get state.working.sequence place) (get state.working.unsequence place) (sym old_below i)
       (sym old_late i))
       ∙ sym (value_is told state place order.stamps.versions)
     where
-      three : (xs : List Layer) → value_in state.marks place (B ++ (xs ++ (H ++ M)))
-          ≡ option_or (option_or (value_in state.marks place (H ++ M)) (value_in state.marks place xs))
-          (value_in state.marks place B)
-      three xs = value_append state.marks place B (xs ++ (H ++ M))
-          ∙ ap (λ o. option_or o (value_in state.marks place B)) (value_append state.marks place xs (H ++ M))
+      three : (xs : List Layer) → value_in state.marks place (before_layers ++ (xs ++ (behind_layers ++ sequences)))
+          ≡ option_or (option_or (value_in state.marks place (behind_layers ++ sequences)) (value_in state.marks place
+          xs))
+          (value_in state.marks place before_layers)
+      three xs = value_append state.marks place before_layers (xs ++ (behind_layers ++ sequences))
+          ∙ ap
+          (λ o. option_or o (value_in state.marks place before_layers)) (value_append state.marks place xs
+          (behind_layers ++ sequences))
 
       new_below : value_in state.marks place (stored told (before ++ (output ++ behind)) state.frozen)
-          ≡ option_or (option_or (value_in state.marks place (H ++ M))
-          (option_or (value_in state.marks place L) (value_in state.marks place R))) (value_in state.marks place B)
-      new_below = ap (value_in state.marks place) (regroup told before output behind M) ∙ three O
-          ∙ ap (λ o. option_or (option_or (value_in state.marks place (H ++ M)) o) (value_in state.marks place B))
-          (output_value place ∙ value_append state.marks place R L)
+          ≡ option_or (option_or (value_in state.marks place (behind_layers ++ sequences))
+          (option_or (value_in state.marks place first_layers) (value_in state.marks place run_layers))) (value_in
+          state.marks place before_layers)
+      new_below = ap (value_in state.marks place) (regroup told before output behind sequences) ∙ three output_layers
+          ∙ ap
+          (λ o. option_or (option_or (value_in state.marks place (behind_layers ++ sequences)) o) (value_in state.marks
+          place before_layers))
+          (output_value place ∙ value_append state.marks place run_layers first_layers)
 
       old_below : value_in state.marks place (stored told state.sequence state.frozen)
-          ≡ option_or (option_or (value_in state.marks place (H ++ M)) (value_in state.marks place R))
-          (value_in state.marks place B)
-      old_below = ap (value_in state.marks place) sequences_are ∙ three R
+          ≡ option_or (option_or (value_in state.marks place (behind_layers ++ sequences)) (value_in state.marks place
+          run_layers))
+          (value_in state.marks place before_layers)
+      old_below = ap (value_in state.marks place) sequences_are ∙ three run_layers
 
       old_late : value_in state.marks place (stored_late told state.unsequence state.frozen)
-          ≡ option_or (value_in state.marks place (file_layers told later ++ N)) (value_in state.marks place L)
+          ≡ option_or (value_in state.marks place (file_layers told later ++ unsequences)) (value_in state.marks place
+          first_layers)
       old_late = ap (value_in state.marks place) late_are
-          ∙ value_append state.marks place L (file_layers told later ++ N)
+          ∙ value_append state.marks place first_layers (file_layers told later ++ unsequences)
 
-  before_rest : IsBefore B (R ++ (H ++ M))
-  before_rest = rises_across B (R ++ (H ++ M)) rises
+  before_rest : IsBefore before_layers (run_layers ++ (behind_layers ++ sequences))
+  before_rest = rises_across before_layers (run_layers ++ (behind_layers ++ sequences)) rises
 
-  crossed_rises : Rises (B ++ (O ++ (H ++ M)))
+  crossed_rises : Rises (before_layers ++ (output_layers ++ (behind_layers ++ sequences)))
   crossed_rises =
-      let rest = rises_right B (R ++ (H ++ M)) rises in
-      let over : IsBefore O (H ++ M) = before_part O (H ++ M) (R ++ L) (H ++ M) output_points (part_itself (H ++ M))
-      (before_both R L (H ++ M) (rises_across R (H ++ M) rest) late_above) in
-      let under : IsBefore B O = before_part B O B (R ++ L) (part_itself B) output_points
-      (before_each B R L (before_part B R B (R ++ (H ++ M)) (part_itself B) (part_left R (H ++ M)) before_rest) below)
+      let rest = rises_right before_layers (run_layers ++ (behind_layers ++ sequences)) rises in
+      let over : IsBefore output_layers (behind_layers ++ sequences) = before_part output_layers (behind_layers ++
+      sequences) (run_layers ++ first_layers) (behind_layers ++ sequences) output_points (part_itself (behind_layers
+      ++ sequences))
+      (before_both run_layers first_layers (behind_layers ++ sequences) (rises_across run_layers (behind_layers ++
+      sequences) rest) late_above) in
+      let under : IsBefore before_layers output_layers = before_part before_layers output_layers before_layers
+      (run_layers ++ first_layers) (part_itself before_layers) output_points
+      (before_each before_layers run_layers first_layers (before_part before_layers run_layers before_layers (run_layers
+      ++ (behind_layers ++ sequences)) (part_itself before_layers) (part_left run_layers (behind_layers ++
+      sequences)) before_rest) below)
       in
-      rises_append B (O ++ (H ++ M)) (rises_left B (R ++ (H ++ M)) rises)
-      (rises_append O (H ++ M) output_rises (rises_right R (H ++ M) rest) over)
-      (before_each B O (H ++ M) under
-      (before_part B (H ++ M) B (R ++ (H ++ M)) (part_itself B) (part_right R (H ++ M)) before_rest))
+      rises_append before_layers (output_layers ++ (behind_layers ++ sequences)) (rises_left before_layers (run_layers
+      ++ (behind_layers ++ sequences)) rises)
+      (rises_append output_layers (behind_layers ++ sequences) output_rises (rises_right run_layers (behind_layers ++
+      sequences) rest) over)
+      (before_each before_layers output_layers (behind_layers ++ sequences) under
+      (before_part before_layers (behind_layers ++ sequences) before_layers (run_layers ++ (behind_layers ++ sequences))
+      (part_itself before_layers) (part_right run_layers (behind_layers ++ sequences)) before_rest))
 
-  crossed_below : IsBelow state.watermarks (B ++ (O ++ (H ++ M)))
+  crossed_below : IsBelow state.watermarks (before_layers ++ (output_layers ++ (behind_layers ++ sequences)))
   crossed_below =
       let old = subst (IsBelow state.watermarks) sequences_are order.layers.below in
       let late = subst (IsBelow state.watermarks) late_are order.layers.late_below in
-      let part : (xs : List Layer) → IsPartOf xs (B ++ (R ++ (H ++ M))) → IsBelow state.watermarks xs =
-      λ xs part. below_part state.watermarks xs (B ++ (R ++ (H ++ M))) part old in
-      below_both state.watermarks B (O ++ (H ++ M)) (part B (part_left B (R ++ (H ++ M))))
-      (below_both state.watermarks O (H ++ M)
-      (below_part state.watermarks O (R ++ L) output_points
-      (below_both state.watermarks R L
-      (part R (λ p v h. part_right B (R ++ (H ++ M)) p v (part_left R (H ++ M) p v h)))
-      (below_part state.watermarks L (L ++ (file_layers told later ++ N)) (part_left L (file_layers told later ++ N))
+      let part : (xs : List Layer) → IsPartOf xs (before_layers ++ (run_layers ++ (behind_layers ++ sequences)))
+      → IsBelow state.watermarks xs =
+      λ xs part. below_part state.watermarks xs (before_layers ++ (run_layers ++ (behind_layers ++ sequences))) part old
+      in
+      below_both state.watermarks before_layers (output_layers ++ (behind_layers ++ sequences)) (part before_layers
+      (part_left before_layers (run_layers ++ (behind_layers ++ sequences))))
+      (below_both state.watermarks output_layers (behind_layers ++ sequences)
+      (below_part state.watermarks output_layers (run_layers ++ first_layers) output_points
+      (below_both state.watermarks run_layers first_layers
+      (part run_layers
+      (λ p v h. part_right before_layers (run_layers ++ (behind_layers ++ sequences)) p v (part_left run_layers
+      (behind_layers ++ sequences) p v h)))
+      (below_part state.watermarks first_layers (first_layers ++ (file_layers told later ++ unsequences)) (part_left
+      first_layers (file_layers told later ++ unsequences))
       late)))
-      (part (H ++ M) (λ p v h. part_right B (R ++ (H ++ M)) p v (part_right R (H ++ M) p v h))))
+      (part (behind_layers ++ sequences)
+      (λ p v h. part_right before_layers (run_layers ++ (behind_layers ++ sequences)) p v (part_right run_layers
+      (behind_layers ++ sequences) p v h))))
 
   crossed_stamps : StampsInOrder state.stamp state.marks crossed.sequence later state.frozen state.working
   crossed_stamps = record {
@@ -252,9 +285,9 @@ module _ (told : Told) (state : StoreState) (before run behind first later outpu
   }
 
   files_are : (middle : List File)
-      → file_layers told (before ++ (middle ++ behind)) ≡ B ++ (file_layers told middle ++ H)
+      → file_layers told (before ++ (middle ++ behind)) ≡ before_layers ++ (file_layers told middle ++ behind_layers)
   files_are middle = map-append (file_layer told) before (middle ++ behind)
-      ∙ ap (λ layers. B ++ layers) (map-append (file_layer told) middle behind)
+      ∙ ap (λ layers. before_layers ++ layers) (map-append (file_layer told) middle behind)
 
   crossed_typed : PartsTyped told state.schemas crossed.sequence later state.frozen state.working
   crossed_typed =
@@ -265,13 +298,17 @@ module _ (told : Told) (state : StoreState) (before run behind first later outpu
       let late = subst (AreTyped schemas) late_files old.late in
       record {
         files = subst (AreTyped schemas) (sym (files_are output))
-            (typed_append schemas B (O ++ H) (typed_left schemas B (R ++ H) files)
-            (typed_append schemas O H
-            (typed_part schemas O (R ++ L) output_points (typed_append schemas R L
-            (typed_left schemas R H (typed_right schemas B (R ++ H) files)) (typed_left schemas L (file_layers told
+            (typed_append schemas before_layers (output_layers ++ behind_layers) (typed_left schemas before_layers
+            (run_layers ++ behind_layers) files)
+            (typed_append schemas output_layers behind_layers
+            (typed_part schemas output_layers (run_layers ++ first_layers) output_points (typed_append schemas
+            run_layers first_layers
+            (typed_left schemas run_layers behind_layers (typed_right schemas before_layers (run_layers ++
+            behind_layers) files)) (typed_left schemas first_layers (file_layers told
             later) late)))
-            (typed_right schemas R H (typed_right schemas B (R ++ H) files))));
-        late = typed_right schemas L (file_layers told later) late;
+            (typed_right schemas run_layers behind_layers (typed_right schemas before_layers (run_layers ++
+            behind_layers) files))));
+        late = typed_right schemas first_layers (file_layers told later) late;
         sequences = old.sequences;
         unsequences = old.unsequences;
         pair = old.pair;
@@ -280,13 +317,15 @@ module _ (told : Told) (state : StoreState) (before run behind first later outpu
   pub crossed_in_order : StoreInOrder told (purged crossed)
   crossed_in_order = record {
     layers = record {
-      rises = subst Rises (sym (regroup told before output behind M)) crossed_rises;
+      rises = subst Rises (sym (regroup told before output behind sequences)) crossed_rises;
       late = late_part (file_layers told later) (file_layers told state.unsequence) state.frozen
-          (subst (IsPartOf (file_layers told later)) (sym late_files) (part_right L (file_layers told later)))
+          (subst (IsPartOf (file_layers told later)) (sym late_files) (part_right first_layers (file_layers told
+          later)))
           order.layers.late;
-      below = subst (IsBelow state.watermarks) (sym (regroup told before output behind M)) crossed_below;
-      late_below = below_part state.watermarks (file_layers told later ++ N) (L ++ (file_layers told later ++ N))
-          (part_right L (file_layers told later ++ N)) (subst (IsBelow state.watermarks) late_are
+      below = subst (IsBelow state.watermarks) (sym (regroup told before output behind sequences)) crossed_below;
+      late_below = below_part state.watermarks (file_layers told later ++ unsequences) (first_layers ++ (file_layers
+          told later ++ unsequences))
+          (part_right first_layers (file_layers told later ++ unsequences)) (subst (IsBelow state.watermarks) late_are
           order.layers.late_below);
       working_below = order.layers.working_below;
       above = order.layers.above;
@@ -315,39 +354,41 @@ module _ (told : Told) (state : StoreState) (before run behind output : List Fil
     ≡ value_in state.marks place (file_layers told run))
     (output_points : IsPartOf (file_layers told output) (file_layers told run))
     (output_born : Each (IsReached state.stamp) output) (order : StoreInOrder told state) where
-  abbrev B' : List Layer
-  B' = file_layers told before
+  abbrev front_layers : List Layer
+  front_layers = file_layers told before
 
-  abbrev H' : List Layer
-  H' = file_layers told behind
+  abbrev back_layers : List Layer
+  back_layers = file_layers told behind
 
-  abbrev N' : List Layer
-  N' = map unsequence_layer state.frozen
+  abbrev late_pairs : List Layer
+  late_pairs = map unsequence_layer state.frozen
 
   abbrev pub merged : StoreState
   merged = record state { unsequence = before ++ (output ++ behind) }
 
-  rows_are : stored_late told state.unsequence state.frozen ≡ B' ++ (file_layers told run ++ (H' ++ N'))
-  rows_are = ap (λ files. file_layers told files ++ N') late_is ∙ regroup told before run behind N'
+  rows_are : stored_late told state.unsequence state.frozen
+      ≡ front_layers ++ (file_layers told run ++ (back_layers ++ late_pairs))
+  rows_are = ap (λ files. file_layers told files ++ late_pairs) late_is ∙ regroup told before run behind late_pairs
 
   lists_are : (middle : List File)
-      → file_layers told (before ++ (middle ++ behind)) ≡ B' ++ (file_layers told middle ++ H')
+      → file_layers told (before ++ (middle ++ behind)) ≡ front_layers ++ (file_layers told middle ++ back_layers)
   lists_are middle = map-append (file_layer told) before (middle ++ behind)
-      ∙ ap (λ layers. B' ++ layers) (map-append (file_layer told) middle behind)
+      ∙ ap (λ layers. front_layers ++ layers) (map-append (file_layer told) middle behind)
 
-  list_is : file_layers told state.unsequence ≡ B' ++ (file_layers told run ++ H')
+  list_is : file_layers told state.unsequence ≡ front_layers ++ (file_layers told run ++ back_layers)
   list_is = ap (file_layers told) late_is ∙ lists_are run
 
   merged_part : IsPartOf (file_layers told merged.unsequence) (file_layers told state.unsequence)
   merged_part place value has = subst (λ layers. HasPoint layers place value) (sym list_is)
-      (part_middle B' H' (file_layers told output) (file_layers told run) output_points place value
+      (part_middle front_layers back_layers (file_layers told output) (file_layers told run) output_points place value
       (subst (λ layers. HasPoint layers place value) (lists_are output) has))
 
   merged_value : (place : Place) → value_of told merged place ≡ value_of told state place
   merged_value place = value_by_parts told told state merged place order.stamps.versions order.stamps.versions refl refl
       refl
-      (ap (value_in state.marks place) (regroup told before output behind N')
-      ∙ value_middle state.marks state.marks place B' (H' ++ N') (file_layers told output) (file_layers told run) refl
+      (ap (value_in state.marks place) (regroup told before output behind late_pairs)
+      ∙ value_middle state.marks state.marks place front_layers (back_layers ++ late_pairs) (file_layers told output)
+      (file_layers told run) refl
       refl
       (output_value place)
       ∙ ap (value_in state.marks place) (sym rows_are))
@@ -377,10 +418,11 @@ module _ (told : Told) (state : StoreState) (before run behind output : List Fil
               merged_part
               order.layers.late;
           below = order.layers.below;
-          late_below = subst (IsBelow state.watermarks) (sym (regroup told before output behind N'))
-              (below_part state.watermarks (B' ++ (file_layers told output ++ (H' ++ N')))
-              (B' ++ (file_layers told run ++ (H' ++ N')))
-              (part_middle B' (H' ++ N') (file_layers told output) (file_layers told run) output_points)
+          late_below = subst (IsBelow state.watermarks) (sym (regroup told before output behind late_pairs))
+              (below_part state.watermarks (front_layers ++ (file_layers told output ++ (back_layers ++ late_pairs)))
+              (front_layers ++ (file_layers told run ++ (back_layers ++ late_pairs)))
+              (part_middle front_layers (back_layers ++ late_pairs) (file_layers told output) (file_layers told run)
+              output_points)
               (subst (IsBelow state.watermarks) rows_are order.layers.late_below));
           working_below = order.layers.working_below;
           above = order.layers.above;

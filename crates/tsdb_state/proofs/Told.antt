@@ -32,27 +32,27 @@ module _ (told other : Told) where
       λ i. record { born = file.born; content = same.0 i } ∷ layers_same files same.1 i
 
   module _ (state : StoreState) (sequence : Each Same state.sequence) (unsequence : Each Same state.unsequence) where
-    F : file_layers told state.sequence ≡ file_layers other state.sequence
-    F = layers_same state.sequence sequence
+    files_same : file_layers told state.sequence ≡ file_layers other state.sequence
+    files_same = layers_same state.sequence sequence
 
-    U : file_layers told state.unsequence ≡ file_layers other state.unsequence
-    U = layers_same state.unsequence unsequence
+    late_same : file_layers told state.unsequence ≡ file_layers other state.unsequence
+    late_same = layers_same state.unsequence unsequence
 
     pub value_same : (place : Place) → value_of told state place ≡ value_of other state place
     value_same place = λ i. value_in state.marks place
-        ((F i ++ (map sequence_layer state.frozen
+        ((files_same i ++ (map sequence_layer state.frozen
         ++ sequence_layer (record { born = state.stamp; pair = state.working }) ∷ []))
-        ++ (U i ++ (map unsequence_layer state.frozen
+        ++ (late_same i ++ (map unsequence_layer state.frozen
         ++ unsequence_layer (record { born = state.stamp; pair = state.working }) ∷ [])))
 
     pub store_same : StoreInOrder told state → StoreInOrder other state
     store_same order = record {
       layers = record {
-        rises = subst (λ layers. Rises (layers ++ map sequence_layer state.frozen)) F order.layers.rises;
-        late = subst (λ layers. LateIsBelow layers state.frozen) U order.layers.late;
-        below = subst (λ layers. IsBelow state.watermarks (layers ++ map sequence_layer state.frozen)) F
+        rises = subst (λ layers. Rises (layers ++ map sequence_layer state.frozen)) files_same order.layers.rises;
+        late = subst (λ layers. LateIsBelow layers state.frozen) late_same order.layers.late;
+        below = subst (λ layers. IsBelow state.watermarks (layers ++ map sequence_layer state.frozen)) files_same
             order.layers.below;
-        late_below = subst (λ layers. IsBelow state.watermarks (layers ++ map unsequence_layer state.frozen)) U
+        late_below = subst (λ layers. IsBelow state.watermarks (layers ++ map unsequence_layer state.frozen)) late_same
             order.layers.late_below;
         working_below = order.layers.working_below;
         above = order.layers.above;
@@ -62,7 +62,8 @@ module _ (told other : Told) where
         formed = order.series.formed;
         once = order.series.once;
         typed = subst (λ (layers : List Layer). AreTyped state.schemas layers)
-            (λ i. (F i ++ U i) ++ ((map sequence_layer state.frozen ++ map unsequence_layer state.frozen)
+            (λ i. (files_same i ++ late_same i) ++ ((map sequence_layer state.frozen ++ map unsequence_layer
+            state.frozen)
             ++ pair_layers state.working)) order.series.typed;
       };
       live = λ place value is. order.live place value (value_same place ∙ is);
