@@ -1,14 +1,17 @@
-//! Replay: what the records of a log lead to, what a log stands for of which a record may be in doubt, and where a log
-//! is damaged. It speaks of any state and of any step that a record makes. Depends on `tsdb_base`, `tsdb_log`,
-//! `tsdb_frames` and `tsdb_outside`.
+//! Replay: what the records of a log lead to, where a log is damaged, and what a log and the files beside it stand for.
+//! Depends on `tsdb_base`, `tsdb_path`, `tsdb_map`, `tsdb_log`, `tsdb_frames`, `tsdb_outside`, `tsdb_pages`,
+//! `tsdb_layers` and `tsdb_state`.
 //!
-//! It has definitions (`specs/`) and laws. `Replays` is replay, and what a log stands for; `Damage` the first place at
-//! which a log has no replay.
+//! It has definitions (`specs/`) and laws. `Replays` is replay over any step, and what a log stands for of which a
+//! record is in doubt; `Damage` the first place at which a log has no replay; `Stores` the step of each record, the
+//! files that are whole, the world that a store stands for, and sound stores.
 #![tactic(auto)]
 
 mod laws;
 
 pub use laws::{
-    Replayed, log_is_damaged_at_one_place, log_is_replayed_to_one_state, record_in_doubt_leads_on,
-    replay_goes_on,
+    Replayed, StoreRecords, a_new_log_stands_for_no_series,
+    a_stop_leaves_the_world_of_a_sound_store, log_is_damaged_at_one_place,
+    log_is_replayed_to_one_state, record_in_doubt_leads_on, replay_goes_on,
+    store_in_doubt_stands_for_one_of_two_worlds, store_stands_for_one_world, strays_say_nothing,
 };

@@ -1,0 +1,209 @@
+-- A store stands for one world; strays say nothing; whatever a stop leaves of a sound store stands for its world.
+use Rattle.std.proofs.Common.{◌≡◌, ◌⊎◌, inl, inr, ℕ, List, [], ◌∷◌, ◌++◌, map, Option, None, Some, refl, sym, ◌∙◌, ap, subst}
+use Rattle.std.specs.Prelude.{IsSome}
+use Rattle.std.specs.FinMap.{empty, get}
+use Rattle.std.specs.List.{All, AllByRecursion as Each}
+use Rattle.std.specs.Option.{option_map}
+use Rattle.std.proofs.lemmas.Bool.{false≢true}
+use Rattle.std.proofs.lemmas.List.Elements.{All-nil}
+use Rattle.tsdb_frames.specs.Log.{HasRecordsOrOneMore}
+use Rattle.tsdb_frames.specs.Slots.{IsPayload}
+use Rattle.tsdb_layers.specs.Places.{Content, Place}
+use Rattle.tsdb_layers.specs.Layers.{Layer, value_in}
+use Rattle.tsdb_layers.proofs.Lists.{each_both, each_left, each_right, each_weaker}
+use Rattle.tsdb_layers.proofs.Places.{same_content}
+use Rattle.tsdb_log.specs.Spelling.{IsRecord, spelling}
+use Rattle.tsdb_log.specs.declared.record.LogRecord.{LogRecord}
+use Rattle.tsdb_map.specs.World.{World}
+use Rattle.tsdb_outside.specs.Disk.{Image, Keeps, State, in_slot}
+use Rattle.tsdb_outside.specs.declared.disk.Slot.{Slot}
+use Rattle.tsdb_pages.specs.File.{IsFile}
+use Rattle.tsdb_pages.specs.declared.tree.Tree.{Tree}
+use Rattle.tsdb_pages.proofs.Files.{one_tree}
+use Rattle.tsdb_replay.specs.Replays.{IsReplayOfOneOf, Replays}
+use Rattle.tsdb_replay.specs.Stores.{Files, IsContentOf, IsSound, IsStoreOf, IsWhole, LeadsToWorld, Recorded}
+use Rattle.tsdb_replay.specs.Stores.{StandsFor, StandsForOneOf, store_steps, store_steps_determinate}
+use Rattle.tsdb_replay.proofs.Doubts.{one_or_more}
+use Rattle.tsdb_replay.proofs.Parted.{replay_once}
+use Rattle.tsdb_state.proofs.NewStore.{new_store_in_order, new_store_stands}
+use Rattle.tsdb_state.proofs.OneWorld.{stands_once as one_world}
+use Rattle.tsdb_state.specs.Records.{after, names}
+use Rattle.tsdb_state.specs.State.{File, StoreState, Told}
+use Rattle.tsdb_state.specs.Views.{all_layers, file_layer, file_layers}
+use Rattle.tsdb_state.specs.Worlds as state
+
+-- the store after a record
+abbrev store_steps_after : LogRecord → Recorded → Recorded
+store_steps_after item recorded =
+    record { named = recorded.named ++ names item; store = after item recorded.store }
+
+-- two options that have the same values are one
+alike : {X : Type 0} (a b : Option X) → ((x : X) → a ≡ Some x → b ≡ Some x) → ((x : X) → b ≡ Some x → a ≡ Some x) → a ≡ b
+alike None None to from = refl
+alike None (Some y) to from = from y refl
+alike (Some x) b to from = sym (to x refl)
+
+-- a tree has one content
+one_content : (tree : Tree) (a b : Content) → IsContentOf tree a → IsContentOf tree b → a ≡ b
+one_content tree a b is_a is_b =
+    same_content a b (λ place. alike (get a place) (get b place)
+    (λ value has. (is_b place value).1 ((is_a place value).0 has))
+    (λ value has. (is_a place value).1 ((is_b place value).0 has)))
+
+same_bytes : (found : Option (List ℕ)) (a b : List ℕ) → found ≡ Some a → found ≡ Some b → a ≡ b
+same_bytes found a b x y = let e : Some a ≡ Some b = sym x ∙ y in cc
+
+-- the points of a file that is there are told by its bytes
+one_told : (files : Files) (a b : Told) (file : File) → IsWhole files a file → IsWhole files b file
+    → a file.number ≡ b file.number
+one_told files a b file one other =
+    let bytes = same_bytes (files file.number) one.bytes other.bytes one.there other.there in
+    let tree : one.tree ≡ other.tree =
+    one_tree one.tree other.tree one.bytes one.is_tree one.is_made other.is_tree other.is_made one.is_file
+    (subst (λ l. IsFile other.tree l) (sym bytes) other.is_file) in
+    one_content other.tree (a file.number) (b file.number)
+    (subst (λ t. IsContentOf t (a file.number)) tree one.content) other.content
+
+-- what is told of the listed files alone makes the layers of a store
+same_file_layers : (a b : Told) (files : List File) → Each (λ (file : File). a file.number ≡ b file.number) files
+    → file_layers a files ≡ file_layers b files
+same_file_layers a b [] same = refl
+same_file_layers a b (file ∷ files) same = let rest = same_file_layers a b files same.1 in
+    ap (λ (content : Content). record { born = file.born; content = content } ∷ file_layers a files) same.0
+    ∙ ap (λ (layers : List Layer). file_layer b file ∷ layers) rest
+
+same_layers : (a b : Told) (store : StoreState)
+    → Each (λ (file : File). a file.number ≡ b file.number) (store.sequence ++ store.unsequence)
+    → all_layers a store ≡ all_layers b store
+same_layers a b store same =
+    let first = same_file_layers a b store.sequence (each_left _ store.sequence store.unsequence same) in
+    let late = same_file_layers a b store.unsequence (each_right _ store.sequence store.unsequence same) in
+    simp (first, late)
+
+-- the state stands for the same world by whatever else is told of other files
+stands_by : (a b : Told) (store : StoreState) (world : World)
+    → Each (λ (file : File). a file.number ≡ b file.number) (store.sequence ++ store.unsequence)
+    → state.StandsFor a store world → state.StandsFor b store world
+stands_by a b store world same stands = record {
+  types = stands.types;
+  values = λ place. stands.values place
+      ∙ ap (λ (layers : List Layer). value_in store.marks place layers) (same_layers a b store same);
+}
+
+-- a store with its files stands for one world
+store_stands_once : (files : Files) (store : StoreState) (a b : World) → IsStoreOf files store a → IsStoreOf files store b
+    → a ≡ b
+store_stands_once files store a b one other =
+    let told = each_both (IsWhole files one.told) (IsWhole files other.told)
+    (λ (file : File). one.told file.number ≡ other.told file.number) (one_told files one.told other.told)
+    (store.sequence ++ store.unsequence) one.whole other.whole in
+    one_world other.told store a b (stands_by one.told other.told store a told one.stands) other.stands
+
+-- a log with the files that are there stands for one world
+pub stands_once : (files : Files) (bytes : List ℕ) (a b : World) → StandsFor files bytes a → StandsFor files bytes b
+    → a ≡ b
+stands_once files bytes a b one other =
+    let recorded : one.recorded ≡ other.recorded =
+    replay_once store_steps store_steps_determinate bytes one.recorded other.recorded one.replayed other.replayed in
+    store_stands_once files other.recorded.store a b
+    (subst (λ (r : Recorded). IsStoreOf files r.store a) recorded one.store) other.store
+
+-- files that are there besides say nothing
+pub stands_with_more : (files more : Files) (bytes : List ℕ) (world : World)
+    → ((number : ℕ) (bytes : List ℕ) → files number ≡ Some bytes → more number ≡ Some bytes)
+    → StandsFor files bytes world → StandsFor more bytes world
+stands_with_more files more bytes world there stands = record {
+  recorded = stands.recorded;
+  replayed = stands.replayed;
+  store = record {
+    told = stands.store.told;
+    whole = each_weaker (IsWhole files stands.store.told) (IsWhole more stands.store.told)
+        (λ file whole. record {
+          bytes = whole.bytes;
+          tree = whole.tree;
+          there = there file.number whole.bytes whole.there;
+          is_tree = whole.is_tree;
+          is_made = whole.is_made;
+          is_file = whole.is_file;
+          content = whole.content;
+        })
+        (stands.recorded.store.sequence ++ stands.recorded.store.unsequence) stands.store.whole;
+    order = stands.store.order;
+    stands = stands.store.stands;
+  };
+}
+
+-- a slot with the records of a store, or with these and the one in doubt, stands for the world or for the next one
+pub stands_for_one_of : (files : Files) (items : List LogRecord) (doubt : Option LogRecord) (recorded : Recorded)
+    (world : World) (next : Option World) (bytes : List ℕ) → All IsRecord items
+    → Replays store_steps store_steps.new_store items recorded → IsStoreOf files recorded.store world
+    → LeadsToWorld files recorded doubt next
+    → HasRecordsOrOneMore (map spelling items) (option_map spelling doubt) bytes
+    → StandsForOneOf files bytes world next
+stands_for_one_of files items None recorded world None bytes good replayed store leads has = record {
+  recorded = recorded;
+  replayed = one_or_more store_steps items None recorded bytes good replayed tt has;
+  store = store;
+}
+stands_for_one_of files items None recorded world (Some next) bytes good replayed store leads has = absurd leads
+stands_for_one_of files items (Some item) recorded world None bytes good replayed store leads has = absurd leads
+stands_for_one_of files items (Some item) recorded world (Some next) bytes good replayed store leads has =
+    by (one_or_more store_steps items (Some item) recorded bytes good replayed
+    (leads.0, (store_steps_after item recorded, (leads.1, refl))) has)
+  where
+    by : IsReplayOfOneOf store_steps (Some item) bytes recorded → StandsForOneOf files bytes world (Some next)
+    by (inl is) = inl (record { recorded = recorded; replayed = is; store = store })
+    by (inr is) = inr (record {
+      recorded = is.0;
+      replayed = is.2;
+      store = subst (λ (r : Recorded). IsStoreOf files r.store next) (sym is.1.1) leads.2;
+    })
+
+seen_some : (seen : Option Image) → IsSome seen → (image : Image) × (seen ≡ Some image)
+seen_some None some = absurd (false≢true some)
+seen_some (Some image) some = (image, refl)
+
+-- whatever a stop leaves of a sound store stands for its world
+pub sound_images : (slot : Slot) (disk : State) (files : Files) (world : World) (image : Image)
+    → IsSound slot disk files world → disk.may_leave image → StandsFor files (in_slot slot image) world
+sound_images slot disk files world image sound left =
+    let seen = seen_some disk.seen sound.told in
+    let there = sound.stands seen.0 seen.1 in
+    record {
+      recorded = there.recorded;
+      replayed = record {
+        items = there.replayed.items;
+        good = there.replayed.good;
+        records = sound.settled (map spelling there.replayed.items) seen.0 image seen.1 there.replayed.records left;
+        replayed = there.replayed.replayed;
+      };
+      store = there.store;
+    }
+
+-- a call that writes nothing leaves a store sound
+pub sound_kept : (slot : Slot) (old new : State) (files : Files) (world : World) → Keeps old new
+    → IsSound slot old files world → IsSound slot new files world
+sound_kept slot old new files world keeps sound = record {
+  told = subst (λ (s : Option Image). IsSome s) (sym keeps.seen) sound.told;
+  settled = λ payloads seen image told has left.
+      sound.settled payloads seen image (sym keeps.seen ∙ told) has (keeps.crash image left);
+  stands = λ image told. sound.stands image (sym keeps.seen ∙ told);
+}
+
+-- the log of a new store has no records, and stands for the world without series
+pub new_log_stands : (files : Files) → StandsFor files (0 ∷ []) empty
+new_log_stands files = record {
+  recorded = store_steps.new_store;
+  replayed = record {
+    items = [];
+    good = All-nil IsRecord;
+    records = record { fit = All-nil IsPayload; gate = 0; rest = []; split = refl; closed = λ e. absurd cc };
+    replayed = refl;
+  };
+  store = record {
+    told = λ number. empty;
+    whole = tt;
+    order = new_store_in_order (λ number. empty);
+    stands = new_store_stands (λ number. empty);
+  };
+}
