@@ -119,7 +119,14 @@ fn run_turns<R: Threads + Wait + Clock + Sync>(
     let Ok((turn, mut all)) = Turn::new(alloc, Count { value: 0 }, passes) else {
         return Err(Fault::Memory);
     };
-    take_turns_in_threads(handle, &turn, all.as_mut_slice(), passes as usize, times, held);
+    take_turns_in_threads(
+        handle,
+        &turn,
+        all.as_mut_slice(),
+        passes as usize,
+        times,
+        held,
+    );
     let count = turn.close(all);
     Ok(count.value)
 }
@@ -167,7 +174,14 @@ fn hold<R: Threads + Wait + Clock + Sync>(
     let start = Instant::now(rt)?;
     let turns = run_turns(rt.alloc(), handle, 4, times, Duration::from_micros(100))?;
     let held = times * 400_000;
-    row(rt, rounds, "turns of 100 microseconds, 4 passes in threads", "ns held", held, start)?;
+    row(
+        rt,
+        rounds,
+        "turns of 100 microseconds, 4 passes in threads",
+        "ns held",
+        held,
+        start,
+    )?;
     Ok(turns)
 }
 
@@ -195,5 +209,10 @@ pub fn turns<R: Threads + Wait + Clock + Sync>(
         "turn of 8 passes in threads",
     )?;
     let held = hold(rt, handle, rounds)?;
-    Ok(one.wrapping_add(four).wrapping_add(eight).wrapping_add(held).max(1))
+    Ok(
+        one.wrapping_add(four)
+            .wrapping_add(eight)
+            .wrapping_add(held)
+            .max(1),
+    )
 }
