@@ -35,7 +35,7 @@ use Rattle.tsdb_state.specs.Worlds as state
 -- the store after a record
 abbrev store_steps_after : LogRecord → Recorded → Recorded
 store_steps_after item recorded =
-    record { named = recorded.named ++ names item; store = after item recorded.store }
+    record { named = names item ++ recorded.named; store = after item recorded.store }
 
 -- two options that have the same values are one
 alike : {X : Type 0} (a b : Option X) → ((x : X) → a ≡ Some x → b ≡ Some x) → ((x : X) → b ≡ Some x → a ≡ Some x) → a ≡ b

@@ -36,7 +36,7 @@ pub record Recorded : Type 0 where
 abbrev pub store_steps : Steps Recorded
 store_steps = steps_by (record { named = []; store = new_store })
     (λ item recorded. CanFollow recorded.named item recorded.store)
-    (λ item recorded. record { named = recorded.named ++ names item; store = after item recorded.store })
+    (λ item recorded. record { named = names item ++ recorded.named; store = after item recorded.store })
 
 -- a record leads to one store
 pub store_steps_determinate : IsDeterminate store_steps
@@ -108,7 +108,3 @@ pub record IsSound (slot : Slot) (disk : State) (files : Files) (world : World) 
 -- each kept file is there
 abbrev pub HoldsKept : List StoredFile → Files → Type 0
 HoldsKept kept files = Each (λ (file : StoredFile). files file.number ≡ Some file.bytes) kept
-
--- the log in these bytes stands for the world with whatever files hold the kept ones
-abbrev pub StandsWithKept : List StoredFile → List ℕ → World → Type 0
-StandsWithKept kept bytes world = (files : Files) → HoldsKept kept files → StandsFor files bytes world

@@ -14,7 +14,7 @@ use Rattle.tsdb_state.proofs.Counting.{numbers_named}
 use Rattle.tsdb_state.proofs.Numbering.{HasNumbers, count_drawn, count_files, count_map_one, count_with_one}
 
 -- a new file has the number that its record names, or there is none
-count_new_file : (n m born : ℕ) → count n (numbers_of (new_file m born)) ≡ count n (new_numbers (m ∷ []))
+pub count_new_file : (n m born : ℕ) → count n (numbers_of (new_file m born)) ≡ count n (new_numbers (m ∷ []))
 count_new_file n m born = by (m == 0)
   where
     by : (b : Bool) → count n (numbers_of (cond b [] (record { number = m; born = born } ∷ [])))

@@ -32,7 +32,7 @@ one_more : (b : Bool) (m : ℕ) → m ≡ 0 → cond b 1 0 + m ≤ 1
 one_more true m e = omega (arith, e)
 one_more false m e = omega (arith, e)
 
-is_none : (m : ℕ) → (1 ≤ m → ⊥) → m ≡ 0
+pub is_none : (m : ℕ) → (1 ≤ m → ⊥) → m ≡ 0
 is_none zero not = refl
 is_none (suc m) not = absurd (not (omega arith))
 

@@ -92,7 +92,7 @@ columns_listed known state range n (column ∷ columns) are h =
 same_number : (a n : ℕ) → (a == n) ≡ true → a ≡ n
 same_number a n e = grind (arith, nat_tests)
 
-not_among : (n : ℕ) (numbers : List ℕ) → (Among n numbers → ⊥) → list_any (nat_eq n) numbers ≡ false
+pub not_among : (n : ℕ) (numbers : List ℕ) → (Among n numbers → ⊥) → list_any (nat_eq n) numbers ≡ false
 not_among n [] never = refl
 not_among n (m ∷ numbers) never = by (nat_eq n m) refl (not_among n numbers (λ h. never (inr h)))
   where

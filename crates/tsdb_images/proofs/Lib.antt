@@ -1,0 +1,5 @@
+pub mod After
+pub mod Kept
+pub mod Leaving
+pub mod Numbers
+pub mod Storing
