@@ -34,6 +34,7 @@ module _ (first : Image) (calls : List Call) (call : Call) where
   longer = grind (arith, common_steps)
 
   call_elapses : Elapses (state_after first calls) (state_after first (calls ++ call ∷ []))
+      (state_after first (calls ++ call ∷ [])).may_leave
   call_elapses = record {
     later = omega (arith, longer);
     nothing_else = λ t image le left. since t image left;
@@ -166,7 +167,7 @@ write_may slot at bytes succeeded old new (inr same) within =
     of_disk (MayWrite slot at (length bytes) (disk_state old)) new (disk_first old) (disk_calls old) same.first same.calls (record {
       torn = TornIn-same slot at (length bytes) (disk_seen old);
       crash = λ image left. (image, left, TornIn-same slot at (length bytes) image);
-      time = Elapses-same (disk_state old);
+      time = Elapses-same (disk_state old) (disk_state old).may_leave;
     })
 
 pub write_bytes : (slot : Slot) (at : ℕ) (bytes : List ℕ) (old new : RecordedDisk)

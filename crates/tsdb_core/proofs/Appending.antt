@@ -15,7 +15,7 @@ use Rattle.tsdb_core.specs.Outcomes.{IsOutcome, KeepsRest}
 use Rattle.tsdb_core.specs.declared.engine.Core.{Core}
 use Rattle.tsdb_frames.specs.Frames.{IsLog, disk_of, slot_of}
 use Rattle.tsdb_frames.specs.Log.{HasRecordsOrOneMore}
-use Rattle.tsdb_frames.specs.Moments.{LeavesFirstThen, LeavesOnly}
+use Rattle.tsdb_outside.specs.Moments.{LeavesFirstThen, LeavesOnly}
 use Rattle.tsdb_frames.specs.Slots.{HasRecords}
 use Rattle.tsdb_frames.specs.declared.frames.Frames.{Frames}
 use Rattle.tsdb_log.specs.Spelling.{IsRecord, spelling}

@@ -5,7 +5,7 @@ use Rattle.tsdb_core.specs.Replay.{LeadsTo, ReplayState, Replays, new_store}
 use Rattle.tsdb_core.specs.State.{MemoryState}
 use Rattle.tsdb_frames.specs.Frames.{IsLog, disk_of, slot_of}
 use Rattle.tsdb_frames.specs.Log.{IsSettled}
-use Rattle.tsdb_frames.specs.Moments.{LeavesOnly}
+use Rattle.tsdb_outside.specs.Moments.{LeavesOnly}
 use Rattle.tsdb_frames.specs.Slots.{HasRecords}
 use Rattle.tsdb_frames.specs.declared.frames.Frames.{Frames}
 use Rattle.tsdb_log.specs.Spelling.{IsRecord, spelling}

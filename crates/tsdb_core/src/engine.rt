@@ -13,7 +13,7 @@ ghost use Rattle.tsdb_core.specs.Logs.{IsClosed, IsReplayedToOneOf, IsStored, re
 ghost use Rattle.tsdb_core.specs.Records.{IsFrameOf, IsStampAfter, KeepsWorld, PutsRow};
 ghost use Rattle.tsdb_core.specs.Records.{answer_by, create_record, freeze_answer_by};
 ghost use Rattle.tsdb_frames.specs.Frames.{disk_of, faults_of, slot_of};
-ghost use Rattle.tsdb_frames.specs.Moments.{LeavesOnly};
+ghost use Rattle.tsdb_outside.specs.Moments.{LeavesOnly};
 ghost use Rattle.tsdb_frames.specs.Log.{IsFrame, payload_of};
 ghost use Rattle.tsdb_log.specs.Spelling.{FitsFrame, HasFewParts, IsRecord, spelling};
 ghost use Rattle.tsdb_log.specs.declared.record.LogRecord.{LogRecord};

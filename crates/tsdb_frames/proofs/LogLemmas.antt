@@ -8,7 +8,7 @@ use Rattle.tsdb_outside.specs.declared.disk.Slot.{Slot}
 use Rattle.tsdb_frames.specs.Slots.{with_length, frame_bytes, open_records, HasRecords}
 use Rattle.tsdb_frames.specs.Laws.{records_once}
 use Rattle.tsdb_frames.specs.Log.{payload_of, IsFrame, IsSlotOf, IsLogOn, IsSettled, HasRecordsOrOneMore}
-use Rattle.tsdb_frames.specs.Moments.{LeavesOnly, LeavesFirstThen}
+use Rattle.tsdb_outside.specs.Moments.{LeavesOnly, LeavesFirstThen}
 use Rattle.tsdb_frames.specs.Steps.{IsTornFrom, IsWrittenFrom}
 use Rattle.tsdb_frames.proofs.RecordLemmas.{open_records_more}
 use Rattle.tsdb_frames.proofs.SlotLemmas.{records_or_one_more, behind_torn, gate_torn, behind_written, gate_closed, gate_opened}

@@ -1,16 +1,17 @@
 -- How the moments of calls go together.
 use Rattle.std.proofs.Common.{inl, inr, ⊎_elim, ℕ, refl, ◌∙◌, ap, arith}
-use Rattle.tsdb_outside.specs.Disk.{Image, State, IsLawful}
+use Rattle.tsdb_outside.specs.Disk.{Image, State, IsLawful, Elapses}
 use Rattle.tsdb_outside.specs.declared.disk.Slot.{Slot}
 use Rattle.tsdb_outside.specs.declared.disk.Slot.TheVariants.{A, B}
-use Rattle.tsdb_frames.specs.Moments.{Passes, LeavesOnly, LeavesFirstThen, IsUntouched}
+use Rattle.tsdb_outside.specs.Moments.{LeavesOnly, LeavesFirstThen, IsUntouched}
 use Rattle.tsdb_frames.specs.Steps.{IsTornFrom}
 
 pub weaker : (old new : State) (P Q : Image → Type 0) → ((image : Image) → P image → Q image) → LeavesOnly old new P → LeavesOnly old new Q
 weaker old new P Q wider leaves = record { passes = leaves.passes; each = λ image left. wider image (leaves.each image left) }
 
 module _ (old mid new : State) (laws : IsLawful new) where
-  passes_on : Passes old mid → Passes mid new → Passes old new
+  passes_on : Elapses old mid (mid.left_since old.moment) → Elapses mid new (new.left_since mid.moment)
+      → Elapses old new (new.left_since old.moment)
   passes_on first second = record {
     later = omega (arith, first.later, second.later);
     nothing_else = λ t image le left. ⊎_elim

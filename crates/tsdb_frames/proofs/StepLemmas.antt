@@ -10,7 +10,7 @@ use Rattle.tsdb_outside.specs.declared.disk.Slot.{Slot}
 use Rattle.tsdb_outside.specs.declared.disk.Slot.TheVariants.{A, B}
 use Rattle.tsdb_outside.specs.declared.faults.Failed.{Failed}
 use Rattle.tsdb_outside.proofs.DiskLemmas.{TornIn-same, length-overwrite}
-use Rattle.tsdb_frames.specs.Moments.{Passes, LeavesOnly}
+use Rattle.tsdb_outside.specs.Moments.{LeavesOnly}
 use Rattle.tsdb_frames.specs.Steps.{IsTornFrom, IsWrittenFrom}
 use Rattle.tsdb_frames.proofs.MomentLemmas.{leaves_on}
 
@@ -19,7 +19,7 @@ pub always_on_ok : {P : Type 0} (result : Result (Unit {0}) Failed) → P → On
 always_on_ok (Ok value) holds = holds
 always_on_ok (Err error) holds = tt
 
-passes_of : (old new : State) → IsLawful new → Elapses old new → Passes old new
+passes_of : (old new : State) → IsLawful new → Elapses old new new.may_leave → Elapses old new (new.left_since old.moment)
 passes_of old new laws time = record {
   later = time.later;
   nothing_else = λ t image le left. ⊎_elim (λ earlier. inl earlier) (λ now. inr (laws.counts_now old.moment image time.later now))

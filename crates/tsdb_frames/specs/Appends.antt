@@ -7,7 +7,7 @@ use Rattle.tsdb_outside.specs.declared.faults.Counted as counted
 use Rattle.tsdb_outside.specs.declared.faults.Failed.{Failed}
 use Rattle.tsdb_frames.specs.Frames.{disk_of, faults_of, slot_of, IsLog}
 use Rattle.tsdb_frames.specs.Log.{HasRecordsOrOneMore}
-use Rattle.tsdb_frames.specs.Moments.{LeavesFirstThen}
+use Rattle.tsdb_outside.specs.Moments.{LeavesFirstThen}
 use Rattle.tsdb_frames.specs.declared.frames.Frames.{Frames}
 
 module _ {J : Type 0} {means : disk.Ghosts J} {counts : counted.Ghosts J} where

@@ -3,6 +3,5 @@ pub mod Causes
 pub mod Frames
 pub mod Laws
 pub mod Log
-pub mod Moments
 pub mod Slots
 pub mod Steps

@@ -37,7 +37,7 @@ pub struct ScanRefused<J> {
 impl<J: Journal> Frames<J> {
     ghost use Rattle.tsdb_frames.specs.Frames.{journal_of, disk_of, faults_of, slot_of, is_in_doubt, IsLog};
     ghost use Rattle.tsdb_frames.specs.Log.{IsFrame, payload_of, HasRecordsOrOneMore, IsSettled};
-    ghost use Rattle.tsdb_frames.specs.Moments.{LeavesOnly, LeavesFirstThen, IsUntouched};
+    ghost use Rattle.tsdb_outside.specs.Moments.{LeavesOnly, LeavesFirstThen, IsUntouched};
     ghost use Rattle.tsdb_frames.specs.Slots.{payloads_of, HasRecords, ArePlaced, IsTorn, IsTornBehind};
 
     /// Reads the records of a slot, and takes its journal for a log. The slot is read once.

@@ -4,7 +4,7 @@ ghost use Rattle.std.specs.Option.{ForSome};
 ghost use Rattle.tsdb_outside.specs.Causes.{HasCause};
 ghost use Rattle.tsdb_outside.specs.Disk.{Image, in_slot, TornIn, WhereTold};
 ghost use Rattle.tsdb_outside.specs.Limits.{FitsSlot};
-ghost use Rattle.tsdb_frames.specs.Moments.{LeavesOnly};
+ghost use Rattle.tsdb_outside.specs.Moments.{LeavesOnly};
 ghost use Rattle.tsdb_frames.specs.Steps.{IsTornFrom, IsWrittenFrom};
 
 use tsdb_outside::{Failed, Journal, Slot};

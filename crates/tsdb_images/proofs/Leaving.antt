@@ -5,7 +5,7 @@ use Rattle.std.specs.List.{AllByRecursion as Each}
 use Rattle.std.specs.Option.{option_map}
 use Rattle.tsdb_frames.proofs.SlotLemmas.{records_or_one_more}
 use Rattle.tsdb_frames.specs.Log.{HasRecordsOrOneMore, IsLogOn, IsSettled}
-use Rattle.tsdb_frames.specs.Moments.{LeavesFirstThen, LeavesOnly}
+use Rattle.tsdb_outside.specs.Moments.{LeavesFirstThen, LeavesOnly}
 use Rattle.tsdb_images.proofs.After.{listed_after}
 use Rattle.tsdb_images.proofs.Kept.{holds_found, kept_by_number, whole_as}
 use Rattle.tsdb_images.specs.Stored.{IsKept, IsStored, LeadsTo, LeavesOneOf, kept_bytes}

@@ -4,7 +4,7 @@ ghost use Rattle.std.specs.declared.option.Option.{Option};
 ghost use Rattle.std.specs.List.{All, AllByRecursion};
 ghost use Rattle.std.specs.Option.{option_map};
 ghost use Rattle.tsdb_frames.specs.Log.{HasRecordsOrOneMore, IsLogOn, IsSettled};
-ghost use Rattle.tsdb_frames.specs.Moments.{LeavesFirstThen, LeavesOnly};
+ghost use Rattle.tsdb_outside.specs.Moments.{LeavesFirstThen, LeavesOnly};
 ghost use Rattle.tsdb_images.specs.Stored.{IsKept, IsStored, LeadsTo, LeavesOneOf, kept_bytes};
 ghost use Rattle.tsdb_layers.specs.Lists.{count};
 ghost use Rattle.tsdb_log.specs.Spelling.{IsRecord, spelling};

@@ -6,8 +6,8 @@ use Rattle.tsdb_outside.specs.declared.disk.Slot.{Slot}
 use Rattle.tsdb_outside.specs.declared.disk.Slot.TheVariants.{A, B}
 
 -- no time goes by
-pub Elapses-same : (state : State) → Elapses state state
-Elapses-same state = record {
+pub Elapses-same : (state : State) (P : Image → Type 0) → Elapses state state P
+Elapses-same state P = record {
   later = omega arith;
   nothing_else = λ t image le left. inl left;
   keeps = λ t image le left. left;
@@ -15,7 +15,7 @@ Elapses-same state = record {
 
 -- nothing has changed
 pub Keeps-same : (state : State) → Keeps state state
-Keeps-same state = record { seen = refl; crash = λ image left. left; time = Elapses-same state }
+Keeps-same state = record { seen = refl; crash = λ image left. left; time = Elapses-same state state.may_leave }
 
 -- a write that is cut short may leave all as it was
 pub Torn-same : (at n : ℕ) (old : List ℕ) → Torn at n old old
@@ -30,7 +30,7 @@ pub MayWrite-silent : (slot : Slot) (at n : ℕ) → MayWrite slot at n silent_s
 MayWrite-silent slot at n = record {
   torn = refl;
   crash = λ image left. (image, tt, TornIn-same slot at n image);
-  time = Elapses-same silent_state;
+  time = Elapses-same silent_state silent_state.may_leave;
 }
 
 -- a write that is cut short may leave all as written

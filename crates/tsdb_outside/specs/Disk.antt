@@ -83,21 +83,21 @@ NothingNew {X} old new = (image : X) → new image → old image
 abbrev pub Durable : Slot → List ℕ → (Image → Type 0) → Type 0
 Durable slot bytes may_leave = (image : Image) → may_leave image → in_slot slot image ≡ bytes
 
--- Time goes on: a stop since t may have left what it might have left before, or what it may leave now.
-pub record Elapses (old new : State) : Type 0 where
+-- Time goes on: what a stop since t may have left was left before, or it has P.
+pub record Elapses (old new : State) (P : Image → Type 0) : Type 0 where
   pub later : old.moment ≤ new.moment
   pub nothing_else : (t : ℕ) (image : Image) → t ≤ old.moment → new.left_since t image
-      → old.left_since t image ⊎ new.may_leave image
+      → old.left_since t image ⊎ P image
   pub keeps : (t : ℕ) (image : Image) → t ≤ old.moment → old.left_since t image → new.left_since t image
 
--- What a call that writes nothing leaves as it was.
+-- What a call that writes nothing leaves as it was. A stop in it leaves what it may leave behind the call, or before.
 pub record Keeps (old new : State) : Type 0 where
   pub seen : new.seen ≡ old.seen
   pub crash : NothingNew old.may_leave new.may_leave
-  pub time : Elapses old new
+  pub time : Elapses old new new.may_leave
 
 -- What a write of n bytes may do, whether it succeeds or fails.
 pub record MayWrite (slot : Slot) (at n : ℕ) (old new : State) : Type 0 where
   pub torn : WhereTold (TornIn slot at n) old.seen new.seen
   pub crash : Follows (TornIn slot at n) old.may_leave new.may_leave
-  pub time : Elapses old new
+  pub time : Elapses old new new.may_leave

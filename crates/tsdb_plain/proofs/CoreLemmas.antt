@@ -21,7 +21,7 @@ use Rattle.tsdb_outside.specs.declared.faults.Counted as counted
 use Rattle.tsdb_outside.specs.declared.faults.Failed.{Failed}
 use Rattle.tsdb_frames.specs.Frames as frames
 use Rattle.tsdb_frames.specs.Log.{HasRecordsOrOneMore, IsSettled}
-use Rattle.tsdb_frames.specs.Moments.{LeavesFirstThen, LeavesOnly}
+use Rattle.tsdb_outside.specs.Moments.{LeavesFirstThen, LeavesOnly}
 use Rattle.tsdb_frames.specs.Slots.{HasRecords}
 use Rattle.tsdb_frames.specs.declared.frames.Frames.{Frames}
 use Rattle.tsdb_frames.proofs.MomentLemmas.{weaker}

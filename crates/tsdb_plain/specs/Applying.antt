@@ -8,7 +8,7 @@ use Rattle.tsdb_map.specs.declared.reply.Reply.TheVariants.{Plain}
 use Rattle.tsdb_outside.specs.Causes.{Rose}
 use Rattle.tsdb_outside.specs.declared.disk.Disk as disk
 use Rattle.tsdb_outside.specs.declared.faults.Counted as counted
-use Rattle.tsdb_frames.specs.Moments.{LeavesOnly}
+use Rattle.tsdb_outside.specs.Moments.{LeavesOnly}
 use Rattle.tsdb_plain.specs.Core.{disk_of, faults_of, state_of, IsStored}
 use Rattle.tsdb_plain.specs.Images.{StandsForOneOf}
 use Rattle.tsdb_plain.specs.Replies.{IsPlainReply, IsWritten}

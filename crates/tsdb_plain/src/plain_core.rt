@@ -10,7 +10,7 @@ ghost use Rattle.tsdb_outside.specs.Causes.{Rose};
 ghost use Rattle.tsdb_outside.specs.Disk.{Keeps};
 ghost use Rattle.tsdb_outside.specs.declared.disk.Slot.{Slot};
 ghost use Rattle.tsdb_frames.specs.Log.{IsFrame, IsSettled, payload_of};
-ghost use Rattle.tsdb_frames.specs.Moments.{LeavesOnly};
+ghost use Rattle.tsdb_outside.specs.Moments.{LeavesOnly};
 ghost use Rattle.tsdb_log.specs.Spelling.{FitsFrame, HasFewParts, IsRecord, spelling};
 ghost use Rattle.tsdb_plain.specs.Applying.{IsApplied};
 ghost use Rattle.tsdb_plain.specs.Causes.{AnswersDamage};

@@ -1,7 +1,7 @@
 -- From the place to the core and back: what the calls of a run leave of the store, put together.
 use Rattle.std.proofs.Common.{◌≡◌, ◌⊎◌, inl, inr, ⊎_elim, ℕ, ◌+◌, ◌≤◌, List, [], Option, None, Some, refl, sym, subst, arith}
 use Rattle.std.specs.Prelude.{◌-◌, ◌^◌, min, IfSome, IsSome}
-use Rattle.tsdb_frames.specs.Moments.{LeavesOnly}
+use Rattle.tsdb_outside.specs.Moments.{LeavesOnly}
 use Rattle.tsdb_frames.proofs.MomentLemmas.{leaves_on, weaker}
 use Rattle.tsdb_map.specs.History.{Entry, IsLegal}
 use Rattle.tsdb_map.specs.State as plain

@@ -6,7 +6,7 @@ use Rattle.tsdb_map.specs.declared.command.Command.{Command}
 use Rattle.tsdb_outside.specs.Disk.{Image, State}
 use Rattle.tsdb_outside.specs.declared.disk.Disk as disk
 use Rattle.tsdb_outside.specs.declared.faults.Counted as counts_are
-use Rattle.tsdb_frames.specs.Moments.{LeavesOnly}
+use Rattle.tsdb_outside.specs.Moments.{LeavesOnly}
 use Rattle.tsdb_plain.specs.Core.{IsStored, disk_of, state_of}
 use Rattle.tsdb_plain.specs.declared.plain_core.PlainCore.{PlainCore}
 use Rattle.tsdb_script.specs.declared.numbered.Numbered.{Numbered}

@@ -15,7 +15,7 @@ ghost use Rattle.tsdb_outside.specs.Causes.{HasCause};
 ghost use Rattle.tsdb_outside.specs.Disk.{in_slot};
 ghost use Rattle.tsdb_frames.specs.Frames.{disk_of, faults_of, slot_of, IsLog};
 ghost use Rattle.tsdb_frames.specs.Log.{HasRecordsOrOneMore, IsFrame, payload_of};
-ghost use Rattle.tsdb_frames.specs.Moments.{LeavesFirstThen};
+ghost use Rattle.tsdb_outside.specs.Moments.{LeavesFirstThen};
 ghost use Rattle.tsdb_plain.specs.Model.{IsSeriesEntry};
 ghost use Rattle.tsdb_plain.specs.Steps.{entry_of, type_with, with_entry, IsAcceptedChange};
 ghost use Rattle.tsdb_frames.specs.Appends.{IsAppend};

@@ -5,7 +5,7 @@ use Rattle.tsdb_core.specs.Core.{log_of, memory_of}
 use Rattle.tsdb_core.specs.Logs.{IsClosed, IsReplayedToOneOf, replay_of}
 use Rattle.tsdb_frames.specs.Frames.{disk_of, faults_of, slot_of}
 use Rattle.tsdb_frames.specs.Log.{IsSettled}
-use Rattle.tsdb_frames.specs.Moments.{LeavesOnly}
+use Rattle.tsdb_outside.specs.Moments.{LeavesOnly}
 use Rattle.tsdb_log.specs.Spelling.{spelling}
 use Rattle.tsdb_outside.specs.Causes.{Rose}
 use Rattle.tsdb_outside.specs.Disk.{in_slot}

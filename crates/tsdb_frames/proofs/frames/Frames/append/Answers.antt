@@ -1,6 +1,6 @@
 use Rattle.std.proofs.Common.{subst, inl, inr, refl, length, ◌+◌, arith}
 use Rattle.tsdb_outside.specs.declared.disk.Slot.{Slot}
-use Rattle.tsdb_frames.specs.Moments.{LeavesOnly, IsUntouched}
+use Rattle.tsdb_outside.specs.Moments.{LeavesOnly, IsUntouched}
 use Rattle.tsdb_frames.proofs.MomentLemmas.{write_elsewhere, elsewhere_on}
 use Rattle.tsdb_frames.specs.Log.{payload_of}
 use Rattle.tsdb_frames.proofs.LogLemmas.{always_on_err, behind_fails, behind_done, gate_fails, long_on, staged_moments, last_moments, gate_opens_framed}

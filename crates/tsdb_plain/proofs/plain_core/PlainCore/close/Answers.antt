@@ -2,7 +2,7 @@ use Rattle.std.proofs.Common.{◌∙◌, sym, subst, map, Result, Ok, Err}
 use Rattle.std.specs.Prelude.{OnOk, OnErr}
 use Rattle.tsdb_log.specs.Spelling.{spelling}
 use Rattle.tsdb_outside.specs.Causes.{Rose}
-use Rattle.tsdb_frames.specs.Moments.{LeavesOnly}
+use Rattle.tsdb_outside.specs.Moments.{LeavesOnly}
 use Rattle.tsdb_frames.specs.Log.{IsSettled}
 use Rattle.tsdb_plain.specs.Core.{disk_of, faults_of, state_of}
 use Rattle.tsdb_plain.specs.Images.{IsSound, StandsForOneOf}

@@ -1,24 +1,17 @@
--- What a stop leaves at the moments of a call.
+-- What a stop leaves at the moments of a call that is made of several calls of a disk.
 use Rattle.std.specs.Prelude.{◌≡◌, ◌⊎◌, ℕ, ◌≤◌}
-use Rattle.tsdb_outside.specs.Disk.{Image, State, in_slot}
+use Rattle.tsdb_outside.specs.Disk.{Image, State, Elapses, in_slot}
 use Rattle.tsdb_outside.specs.declared.disk.Slot.{Slot}
 use Rattle.tsdb_outside.specs.declared.disk.Slot.TheVariants.{A, B}
 
--- Time has passed: what a stop since t might have left was left before the call, or was left since its beginning.
-pub record Passes (old new : State) : Type 0 where
-  pub later : old.moment ≤ new.moment
-  pub nothing_else : (t : ℕ) (image : Image) → t ≤ old.moment → new.left_since t image
-      → old.left_since t image ⊎ new.left_since old.moment image
-  pub keeps : (t : ℕ) (image : Image) → t ≤ old.moment → old.left_since t image → new.left_since t image
-
 -- At each moment of the call a stop leaves what has P.
 pub record LeavesOnly (old new : State) (P : Image → Type 0) : Type 0 where
-  pub passes : Passes old new
+  pub passes : Elapses old new (new.left_since old.moment)
   pub each : (image : Image) → new.left_since old.moment image → P image
 
 -- Until some moment of the call a stop leaves what has P, and from then on what has Q.
 pub record TurnsFrom (old new : State) (P Q : Image → Type 0) : Type 0 where
-  pub passes : Passes old new
+  pub passes : Elapses old new (new.left_since old.moment)
   pub turn : ℕ
   pub begins : old.moment ≤ turn
   pub ends : turn ≤ new.moment
