@@ -6,7 +6,7 @@ use tsdb_base::{FileNumber, List, Stamp};
 use tsdb_path::Path;
 use tsdb_plan::{
     CrossRun, FileEntry, Hull, Run, cross, ends_are_greatest, firsts_are_least, have_rising_hulls,
-    inner,
+    inner, shorter_are_eligible,
 };
 
 const HALF: u64 = 134_217_728;
@@ -407,5 +407,6 @@ fn cross_plans_of_all_small_lists(rt: HostRuntime) -> Result<(), Fail> {
     }
     firsts_are_least();
     ends_are_greatest();
+    shorter_are_eligible();
     Ok(())
 }

@@ -2,7 +2,6 @@
 use Rattle.std.proofs.Common.{◌≡◌, ℕ, ◌+◌, ◌-◌, ◌<◌, ◌≤◌, min, max, List, [], ◌∷◌, ◌++◌, Option, Some, None, length, take, drop, get_or, inl, inr, ⊎_elim, sym, ap, ◌∙◌, subst, true, append-nil, append_assoc, arith}
 use Rattle.std.specs.Prelude.{IfSome, IfNone, fold}
 use Rattle.std.specs.List.{AllZip}
-use Rattle.std.proofs.lemmas.Bool.{cases_lt}
 use Rattle.std.proofs.lemmas.List.{take_more}
 use Rattle.tsdb_plan.specs.declared.entry.CrossRun.{CrossRun}
 use Rattle.tsdb_plan.specs.declared.entry.FileEntry.{FileEntry}
@@ -13,7 +12,7 @@ use Rattle.tsdb_plan.specs.Limits.{max_bytes}
 use Rattle.tsdb_plan.specs.Places.{IsFirstPlace, IsPastLast}
 use Rattle.tsdb_plan.specs.Steps.{Reaches, IsBestUpTo}
 use Rattle.tsdb_plan.proofs.Hulls.{start_either, start_left, start_right, start_of_one, start_of_none, end_either, end_left, end_right, end_of_one, end_of_none}
-use Rattle.tsdb_plan.proofs.PlaceLemmas.{IsFirstPlace-further, IsFirstPlace-one, IsFirstPlace-none, IsFirstPlace-either, IsPastLast-further, IsPastLast-one, IsPastLast-none, IsPastLast-either}
+use Rattle.tsdb_plan.proofs.PlaceLemmas.{IsFirstPlace-further, IsFirstPlace-none, IsFirstPlace-either, IsPastLast-further, IsPastLast-none, IsPastLast-either}
 use Rattle.tsdb_plan.proofs.Rows.{stops_at_claimed, stops_at_bytes}
 
 -- a prefix of one file more
@@ -81,37 +80,10 @@ pasts sequence prefix own h = from sequence [] prefix own 0 (past_of_none sequen
         (λ x r. end_either done (file ∷ []) x r) (λ x p. end_left done (file ∷ []) x p) (λ x q. end_right done (file ∷ []) x q) sequence past n h g.0 in
         subst (λ p. IsPastOf p sequence (fold max (max past n) ns)) (append_assoc done (file ∷ []) files) (from sequence (done ++ file ∷ []) files ns (max past n) longer g.1)
 
--- an eligible run of a prefix has this place and this end
-pub one_run : (sequence unsequence : List FileEntry) (d : FileEntry) (n first past : ℕ) (other : CrossRun) → IsFirstOf (take n unsequence) sequence first → IsPastOf (take n unsequence) sequence past → IsEligible sequence unsequence other → other.prefix ≡ n → (other.first ≡ first) × (other.end ≡ max first past)
-one_run sequence unsequence d n first past other f p h e =
-    let of : IsFirstOf (take n unsequence) sequence other.first = subst (λ m. IsFirstOf (take m unsequence) sequence other.first) e h.first in
-    let op : IsPastOf (take n unsequence) sequence h.end.0 = subst (λ m. IsPastOf (take m unsequence) sequence h.end.0) e h.end.1 in
-    let a = IsFirstPlace-one (HasTimeFromStart (take n unsequence)) sequence d other.first first of f in
-    let b = IsFirstPlace-one (HasTimeFromStart (take n unsequence)) sequence d first other.first f of in
-    let x = IsPastLast-one (HasTimeUpToEnd (take n unsequence)) sequence d h.end.0 past op p in
-    let y = IsPastLast-one (HasTimeUpToEnd (take n unsequence)) sequence d past h.end.0 p op in
-    let same : other.first ≡ first = omega arith in
-    let last : h.end.0 ≡ past = omega arith in
-    (same, h.end.2 ∙ ap (λ m. max m h.end.0) same ∙ ap (max first) last)
-
--- the best plan of one file more, where the longer prefix is eligible and where it is not
+-- the best plan of one file more
 pub best_more : (sequence unsequence : List FileEntry) (place first past end room : ℕ) → place < length unsequence → AreFree (take (place + 1) unsequence) → room + bytes_of (take (place + 1) unsequence) ≡ max_bytes → IsFirstOf (take (place + 1) unsequence) sequence first → IsPastOf (take (place + 1) unsequence) sequence past → end ≡ max first past → bytes_of (take (end - first) (drop first sequence)) ≤ room → IsBestUpTo sequence unsequence (place + 1) (Some (record { prefix = place + 1; first = first; end = end }))
 best_more sequence unsequence place first past end room l free sum f p e fits =
     (record { some = omega arith; within = omega arith; free = free; first = f; end = (past, p, e); fits = omega arith }, λ other eligible short. short)
-
-pub best_same : (sequence unsequence : List FileEntry) (file : FileEntry) (place first past end room : ℕ) (plan : Option CrossRun) → room + bytes_of (take (place + 1) unsequence) ≡ max_bytes → IsFirstOf (take (place + 1) unsequence) sequence first → IsPastOf (take (place + 1) unsequence) sequence past → end ≡ max first past → (bytes_of (take (end - first) (drop first sequence)) ≤ room → ⊥) → IsBestUpTo sequence unsequence place plan → IsBestUpTo sequence unsequence (place + 1) plan
-best_same sequence unsequence file place first past end room plan sum f p e big best = step plan best
-  where
-    longer : (other : CrossRun) → IsEligible sequence unsequence other → other.prefix ≡ place + 1 → ⊥
-    longer other eligible same =
-        let run = one_run sequence unsequence file (place + 1) first past other f p eligible same in
-        let bytes : bytes_of (take other.prefix unsequence) ≡ bytes_of (take (place + 1) unsequence) = ap (λ n. bytes_of (take n unsequence)) same in
-        let span : bytes_of (take (other.end - other.first) (drop other.first sequence)) ≡ bytes_of (take (end - first) (drop first sequence)) = ap (λ n. bytes_of (take (other.end - n) (drop n sequence))) run.0 ∙ ap (λ n. bytes_of (take (n - first) (drop first sequence))) (run.1 ∙ sym e) in
-        big (omega (arith, eligible.fits))
-
-    step : (plan : Option CrossRun) → IsBestUpTo sequence unsequence place plan → IsBestUpTo sequence unsequence (place + 1) plan
-    step None best = λ other eligible short. ⊎_elim (λ (l : place < other.prefix). longer other eligible (omega arith)) (λ (l : other.prefix ≤ place). best other eligible l) (cases_lt place other.prefix)
-    step (Some run) best = (best.0, λ other eligible short. ⊎_elim (λ (l : place < other.prefix). absurd (longer other eligible (omega arith))) (λ (l : other.prefix ≤ place). best.1 other eligible l) (cases_lt place other.prefix))
 
 -- where no eligible run has a longer prefix, the best so far is the best
 pub best_is_plan : (sequence unsequence : List FileEntry) (count : ℕ) (plan : Option CrossRun) → IsBestUpTo sequence unsequence count plan → ((other : CrossRun) → IsEligible sequence unsequence other → other.prefix ≤ count) → IfSome plan (IsCrossPlan sequence unsequence) × IfNone plan (HasNoCrossPlan sequence unsequence)

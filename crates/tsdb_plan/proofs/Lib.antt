@@ -3,4 +3,5 @@ pub mod Hulls
 pub mod ListFacts
 pub mod PlaceLemmas
 pub mod Rows
+pub mod Shorter
 pub mod Walk

@@ -4,21 +4,6 @@ use Rattle.std.proofs.lemmas.Bool.{cases_lt}
 use Rattle.std.proofs.lemmas.List.{get_or-take, get_or-drop, length-take-le, length-drop}
 use Rattle.tsdb_plan.specs.Places.{IsFirstPlace, IsPastLast}
 
--- there is one such place alone
-pub IsFirstPlace-one : {X : Type 0} (P : X → Type 0) (xs : List X) (d : X) (i k : ℕ) → IsFirstPlace P xs i → IsFirstPlace P xs k → i ≤ k
-IsFirstPlace-one P xs d i k h g =
-    ⊎_elim
-    (λ (l : k < i). let m : k < length xs = omega (arith, h.within) in absurd (h.none_before k d (omega arith) l (g.there m d)))
-    (λ (l : i ≤ k). l)
-    (cases_lt k i)
-
-pub IsPastLast-one : {X : Type 0} (P : X → Type 0) (xs : List X) (d : X) (i k : ℕ) → IsPastLast P xs i → IsPastLast P xs k → i ≤ k
-IsPastLast-one P xs d i k h g =
-    ⊎_elim
-    (λ (l : k < i). let some : 0 < i = omega arith in absurd (g.none_behind (i - 1) d (omega arith) (omega (arith, h.within)) (h.there some d)))
-    (λ (l : i ≤ k). l)
-    (cases_lt k i)
-
 -- the first place of either is the lesser of both
 pub IsFirstPlace-either : {X : Type 0} (P Q R : X → Type 0) → ((x : X) → R x → P x ⊎ Q x) → ((x : X) → P x → R x) → ((x : X) → Q x → R x) → (xs : List X) (i k : ℕ) → IsFirstPlace P xs i → IsFirstPlace Q xs k → IsFirstPlace R xs (min i k)
 IsFirstPlace-either P Q R which f g xs i k h m = record {

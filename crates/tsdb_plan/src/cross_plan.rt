@@ -58,7 +58,8 @@ fn past_reached(files: &[FileEntry], hulls: &[Hull]) -> usize
 ///
 /// The sequence files that a prefix meets begin with the first that, on some device of the prefix, has a time at or
 /// above the prefix's least, and end with the last that has a time at or below its greatest. There may be none of
-/// them; then `first` and `end` are one place.
+/// them; then `first` and `end` are one place. A longer prefix meets no fewer of them, so the walk ends with the first
+/// prefix that does not fit.
 pub fn cross(sequence: &[FileEntry], unsequence: &[FileEntry]) -> Option<CrossRun>
     requires sequence { HaveRisingHulls sequence.now }
     requires unsequence { HaveRisingHulls unsequence.now }
@@ -80,13 +81,14 @@ pub fn cross(sequence: &[FileEntry], unsequence: &[FileEntry]) -> Option<CrossRu
         first = first_reaching(&sequence[..first], file.hulls.items());
         past += past_reached(&sequence[past..], file.hulls.items());
         let end = first.max(past);
-        if fits(&sequence[first..end], room) {
-            plan = Some(CrossRun {
-                prefix: place + 1,
-                first,
-                end,
-            });
+        if !fits(&sequence[first..end], room) {
+            break;
         }
+        plan = Some(CrossRun {
+            prefix: place + 1,
+            first,
+            end,
+        });
     }
     plan
 }

@@ -14,7 +14,7 @@ mod overlap;
 pub use cross_plan::cross;
 pub use entry::{CrossRun, FileEntry, Hull, Run};
 pub use inner_plan::inner;
-pub use laws::{ends_are_greatest, firsts_are_least};
+pub use laws::{ends_are_greatest, firsts_are_least, shorter_are_eligible};
 pub use overlap::have_rising_hulls;
 
 /// The most files that an inner run has.
