@@ -5,4 +5,6 @@ pub mod Orders
 pub mod Roots
 pub mod Left
 pub mod Whole
+pub mod Found
+pub mod LeafOfNames
 pub mod OneSpelling

@@ -253,13 +253,14 @@ leaves_few (leaf ∷ next ∷ leaves) sizes =
     omega (arith, n, full, rest)
 
 -- the root and the leaves of an index
-pub record IndexParts (place root : ℕ) (bytes : List ℕ) : Type 0 where
+pub record IndexParts (place root : ℕ) (bytes : List ℕ) (entries : List IndexEntry) : Type 0 where
   pub pointers-are : List Pointer
   pub leaves : List Leaf
   pub is-root : IsRoot place root (drop (root - place) bytes) pointers-are
   pub leaves-are : AreLeavesAt root pointers-are (take (root - place) bytes) leaves
+  pub all : all_of leaves ≡ entries
 
-pub index_parts : (place root : ℕ) (bytes : List ℕ) (entries : List IndexEntry) → place ≤ root → root ≤ place + length bytes → place + length bytes < 2 ^ 64 → IsRead place root bytes entries → IndexParts place root bytes
+pub index_parts : (place root : ℕ) (bytes : List ℕ) (entries : List IndexEntry) → place ≤ root → root ≤ place + length bytes → place + length bytes < 2 ^ 64 → IsRead place root bytes entries → IndexParts place root bytes entries
 index_parts place root bytes entries from to room read =
     let leaves = read.spelling.leaves in
     let flat = flat_map leaf_field leaves in
@@ -285,6 +286,7 @@ index_parts place root bytes entries from to room read =
         bytes-are = back ∙ ap (λ (n : ℕ). 82 ∷ number32 n ++ pointers place leaves) (sym made.count) ∙ ap (λ (l : List ℕ). 82 ∷ number32 (length ps) ++ l) made.pointers-are;
       };
       leaves-are = subst (λ (b : List ℕ). AreLeavesAt root ps b leaves) (sym front) made.leaves-are;
+      all = all;
     }
 
 -- a first bad part is in no index

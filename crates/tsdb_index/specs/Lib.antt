@@ -2,5 +2,6 @@ pub mod Limits
 pub mod Spelling
 pub mod Entries
 pub mod Parts
+pub mod Finding
 pub mod Steps
 pub mod Faults

@@ -194,7 +194,7 @@ fn read_root(alloc: Global, bytes: &[u8], place: u64, root: u64) -> Result<Vec<P
 }
 
 /// The entries of the leaf that all of these bytes are, as the pointer at it and the pointers behind it say.
-fn read_leaf(
+pub fn read_leaf(
     alloc: Global,
     bytes: &[u8],
     pointer: &Pointer,
@@ -210,7 +210,7 @@ fn read_leaf(
 }
 
 /// Where a leaf ends: at the next leaf, or at the root.
-fn end_of(behind: &[Pointer], root: u64) -> u64
+pub fn end_of(behind: &[Pointer], root: u64) -> u64
     ensures { result ≡ leaf_end root behind.now }
 {
     match behind {
@@ -220,7 +220,7 @@ fn end_of(behind: &[Pointer], root: u64) -> u64
 }
 
 /// The entries of the leaves that all of these bytes are, which end at `root`.
-fn read_leaves(
+pub fn read_leaves(
     alloc: Global,
     bytes: &[u8],
     pointers: &[Pointer],

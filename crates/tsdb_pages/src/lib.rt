@@ -4,11 +4,13 @@
 //! tsdb_index.
 //!
 //! ```text
-//! file  = "TsFile" 51 group+ index root:8 "TsFile"     the place of the root in eight bytes
-//! group = 47 device chunk+
-//! chunk = 43 measurement type encoding page+
-//! page  = 50 length:4 body
-//! body  = length:4 times values                        the length of the times; times in TS_2DIFF
+//! file  = head group{1..} index tail       nothing between, nothing behind
+//! head  = "TsFile" 51
+//! group = 47 device:name chunk{1..}
+//! chunk = 43 measurement:name type:u8 encoding:u8 page{1..}
+//! page  = 50 length:u32 body               the length of the body
+//! body  = length:u32 times values          the length of the times; times in TS_2DIFF, values in the chunk's encoding
+//! tail  = root:u64 "TsFile"                the place of the root
 //! ```
 #![tactic(auto)]
 
