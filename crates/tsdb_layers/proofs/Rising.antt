@@ -3,7 +3,7 @@ use Rattle.std.proofs.Common.{List, [], ◌∷◌, ◌++◌, inl, inr, ⊎_elim}
 use Rattle.tsdb_base.specs.declared.value.Value.{Value}
 use Rattle.tsdb_layers.proofs.Values.{has_cases, has_left, has_right}
 use Rattle.tsdb_layers.specs.Layers.{HasPoint, Layer}
-use Rattle.tsdb_layers.specs.Order.{IsAbove, IsBefore, IsBelow, Rises, Watermarks}
+use Rattle.tsdb_layers.specs.Order.{IsBefore, IsBelow, Rises, Watermarks}
 use Rattle.tsdb_layers.specs.Places.{Place}
 
 -- each point of the one list is one of the other
@@ -60,10 +60,6 @@ rises_append (x ∷ xs) ys first second across = (
 pub below_part : (watermarks : Watermarks) (xs ys : List Layer) → IsPartOf xs ys → IsBelow watermarks ys
     → IsBelow watermarks xs
 below_part watermarks xs ys part below place value has = below place value (part place value has)
-
-pub above_part : (watermarks : Watermarks) (xs ys : List Layer) → IsPartOf xs ys → IsAbove watermarks ys
-    → IsAbove watermarks xs
-above_part watermarks xs ys part above place value has = above place value (part place value has)
 
 pub below_both : (watermarks : Watermarks) (xs ys : List Layer) → IsBelow watermarks xs → IsBelow watermarks ys
     → IsBelow watermarks (xs ++ ys)
