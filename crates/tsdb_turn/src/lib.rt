@@ -10,6 +10,7 @@
 //! the same and the reach is no lower (`specs/Values.antt`).
 #![tactic(auto)]
 
+mod bell;
 mod laws;
 mod logged;
 mod pass;

@@ -1,5 +1,5 @@
 //! The turn: two words for tickets, a bell for each seat, and one slot for the value. It depends on the rule in `view`,
-//! on `pass`, and on `wait`, which has all that is done about sleepers.
+//! on `pass`, and on `wait` and `bell`, which have all that is done about sleepers.
 //!
 //! One word counts the tickets that were drawn and one those that were served, both modulo 2^64. A user draws a ticket,
 //! waits until it is the one that is served, and takes the value out of the slot. To leave, it puts a value into the

@@ -1,22 +1,19 @@
-//! Waiting for a ticket, and waking the next that waits. It depends on the turn's table.
+//! Waiting for a ticket, and waking the next that waits. It depends on the turn's table, and on `bell`.
 //!
 //! A pass that waits looks for a while whether its ticket is served, the longer the sooner it comes next. Then it sets
 //! the lowest bit of its bell, looks once more, and parks on the bell. A pass that leaves adds 1 to the bell of the
 //! first that sleeps next, which clears that bit, and wakes it. Each ticket that is out has a bell of its own; where
 //! the tickets pass 2^64 two may share one, and both are woken.
-ghost use Rattle.std.specs.Prelude.{◌≡◌, ◌≤◌, ◌<◌};
-ghost use Rattle.tsdb_turn.specs.Rule.{bells_at};
+ghost use Rattle.std.specs.Prelude.{◌≡◌};
 ghost use Rattle.tsdb_turn.specs.Steps.{HasTaken, Looks, MayTake, SitsWaiting, Teaches};
 
+use crate::bell::ASLEEP;
 use crate::logged::Logged;
-use crate::turn::{BELLS, DRAWN, SERVED, Turn};
+use crate::turn::{DRAWN, SERVED, Turn};
 use crate::view::{Await, Lesson, Ring, View};
 use atomic_table::Seat;
 use std::sync::Wait;
 use std::{hint, thread};
-
-// The bit of a bell that says that somebody sleeps, or is about to.
-const ASLEEP: u64 = 1;
 
 // A pass that leaves looks at the bells of so many tickets, and wakes the first that sleeps. The second of them wakes
 // ahead of its turn, and is up when that comes.
@@ -57,7 +54,7 @@ impl<V: Logged> Turn<V> {
     }
 
     // Looks which ticket is served, and takes the slot where it is the own one.
-    fn look<L: Lesson<V>>(&self, seat: &mut Seat<Option<V>, View<V>>, ticket: u64) -> u64
+    pub(crate) fn look<L: Lesson<V>>(&self, seat: &mut Seat<Option<V>, View<V>>, ticket: u64) -> u64
         requires own { seat.old.table_id ≡ self.now.id }
         requires waiting { SitsWaiting ticket seat.old.me }
         requires lesson { Teaches V.Logged self.now L.learns }
@@ -88,7 +85,7 @@ impl<V: Logged> Turn<V> {
         false
     }
 
-    // Says that it sleeps, looks once more, and parks. Says whether the ticket is served.
+    // Announces its sleep, looks once more, and parks. Says whether the ticket is served.
     fn sleep<L: Lesson<V>, R: Wait>(
         &self,
         rt: &R,
@@ -101,15 +98,14 @@ impl<V: Logged> Turn<V> {
         ensures own { (seat.new.table_id ≡ seat.old.table_id) × (seat.new.id ≡ seat.old.id) }
         ensures takes { MayTake L.learns seat.old.me result seat.new.me }
     {
-        let shared = &self.table.shared;
-        let bell = self.bell_of(ticket);
-        let rung = shared.fetch_or::<Ring>(seat, bell, ASLEEP) | ASLEEP;
-        let is_served = self.look::<L>(seat, ticket) == ticket;
-        if !is_served {
-            // It parks on what it wrote before the look, so it does not sleep where the bell was rung since.
-            shared.park(rt, bell, (rung % (1 << 32)) as u32);
+        let announced = self.announce(seat, ticket);
+        match self.look_again::<L>(seat, ticket, announced) {
+            None => true,
+            Some(missed) => {
+                self.park(rt, &missed, missed.word());
+                false
+            }
         }
-        is_served
     }
 
     // Wakes the first that sleeps of those that come next, by one call of the system at most.
@@ -130,15 +126,6 @@ impl<V: Logged> Turn<V> {
                 return;
             }
         }
-    }
-
-    // The word that the pass with this ticket parks on.
-    fn bell_of(&self, ticket: u64) -> usize
-        ensures bell { bells_at ≤ result }
-        ensures word { result < self.now.id.words }
-    {
-        let bells = self.table.word_count() - BELLS;
-        BELLS + (ticket % bells as u64) as usize
     }
 }
 
