@@ -1,4 +1,3 @@
-pub mod RecordLemmas
 pub mod ReplayLemmas
 pub mod StoreLemmas
 pub mod NumberLemmas

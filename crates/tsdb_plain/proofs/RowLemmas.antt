@@ -21,7 +21,7 @@ use Rattle.tsdb_plain.specs.Model.{IsNumbered}
 use Rattle.tsdb_plain.specs.Replaying.{HasNoRow, IsReplayed, IsRowRead, names_of}
 use Rattle.tsdb_plain.specs.Store.{AreCellsOf, Redoes, Store}
 use Rattle.tsdb_plain.proofs.NumberLemmas.{numbered_after, store_grows}
-use Rattle.tsdb_plain.proofs.RecordLemmas.{child_once, inserted, same_cells}
+use Rattle.tsdb_plain.specs.RecordLaws.{child_once, inserted, same_cells}
 use Rattle.tsdb_plain.proofs.StoreLemmas.{names_all, row_accepted}
 
 abbrev made_store : World → ℕ → List (List ℕ) → Store

@@ -6,4 +6,6 @@ pub mod Causes
 pub mod Model
 pub mod Steps
 pub mod Replaying
+pub mod RecordLaws
+pub mod ReplaySteps
 pub mod Applying
