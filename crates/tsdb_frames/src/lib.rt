@@ -3,9 +3,9 @@
 //! `tsdb_base`.
 //!
 //! ```text
-//! slot  = open* gate any*         this gate is closed: any byte but 01
-//! open  = 01 length:4 record      the length is from 1 to 4,294,967,295
-//! frame = length:4 record 00      what is written behind a closed gate: a record and the next gate
+//! slot   = open{0..} gate any{0..}     this gate is closed: any byte but 01
+//! open   = 01 length:u32 payload       an open gate and its record; the length is from 1 to 4,294,967,295
+//! frame  = length:u32 payload 00       what is written behind a closed gate: a record and the next gate
 //! ```
 //!
 //! With g the place of the closed gate, a record is added in four steps: the frame is written at g + 1; the slot is

@@ -2,12 +2,14 @@
 //! tsdb_path and tsdb_base.
 //!
 //! ```text
-//! create   = 01 path type encoding
-//! insert   = 02 time:8 count:2 cell*              cell = series:8 type value
-//! delete   = 03 path from:8 to:8
+//! create   = 01 path:name type:u8 encoding:u8
+//! insert   = 02 time:i64 count:u16 cell{count}
+//! cell     = series:u64 type:u8 value                   a value of the type before it
+//! delete   = 03 path:name from:i64 to:i64
 //! freeze   = 04
-//! flushed  = 05 sequence:8 unsequence:8
-//! replaced = 06 born:8 space place:8 output:8 count:4 file* count:4 file*
+//! flushed  = 05 sequence:u64 unsequence:u64
+//! replaced = 06 born:u64 space:u8 place:u64 output:u64 files files
+//! files    = count:u32 number:u64{count}                the inputs: of the sequence space, and then of the other
 //! ```
 #![tactic(auto)]
 
