@@ -1,7 +1,6 @@
 pub mod TextLemmas
 pub mod PartLemmas
 pub mod FormLemmas
-pub mod AgainLemmas
 pub mod StatementLemmas
 pub mod TokenLemmas
 pub mod LexLemmas

@@ -1,10 +1,8 @@
 -- A line is read pass by pass.
-use Rattle.std.proofs.Common.{◌≡◌, ℕ, ◌<◌, ◌≤◌, ◌||◌, Bool, true, false, true≢false, List, [], ◌∷◌, ◌++◌, length, codes, refl, sym, ap, ◌∙◌, arith, subst, inl, inr}
-use Rattle.std.specs.Prelude.{◌⊎◌, Some, slice_get}
+use Rattle.std.proofs.Common.{◌≡◌, ℕ, ◌<◌, ◌≤◌, ◌||◌, Bool, true, false, true≢false, List, [], ◌∷◌, ◌++◌, length, refl, sym, ap, ◌∙◌, arith, subst, inl, inr}
+use Rattle.std.specs.Prelude.{◌⊎◌}
 use Rattle.std.specs.Str.Parse.{digits_value}
-use Rattle.std.specs.List.{AllZip, list_any}
 use Rattle.std.proofs.lemmas.Bool.{cases_lt, cases_Bool}
-use Rattle.tsdb_base.specs.declared.ids.Space.TheVariants.{Sequence, Unsequence}
 use Rattle.tsdb_map.specs.declared.command.Command.{Command}
 use Rattle.tsdb_map.specs.declared.command.Command.TheVariants as command
 use Rattle.tsdb_script.specs.declared.numbered.Numbered.{Numbered}
@@ -12,16 +10,15 @@ use Rattle.tsdb_script.specs.declared.syntax.Syntax.{Syntax}
 use Rattle.tsdb_script.specs.declared.syntax.Syntax.TheVariants.{Create, Insert, Delete, Select, Flush, CompactInner, CompactCross, ShowFiles}
 use Rattle.tsdb_script.specs.declared.token.Token.{Token}
 use Rattle.tsdb_script.specs.declared.token.Token.TheVariants.{Word}
-use Rattle.tsdb_script.specs.Forms.{Fits, HasNoForm, Place, Stands, form, keyword}
+use Rattle.tsdb_script.specs.Forms.{Fits, HasNoForm}
 use Rattle.tsdb_script.specs.LineSteps.{HasNoSession, HasRoom, HasSession}
 use Rattle.tsdb_script.specs.Meaning.{Means, Objects, Says}
-use Rattle.tsdb_script.specs.Reading.{Line, content_of, first_words, is_skipped, session_count, passes, BeginsStatement, FirstObjects, IsBad, IsBuilt, IsCommand, IsNotBuilt, IsOfSession, IsSkipped, ObjectsIn}
+use Rattle.tsdb_script.specs.Reading.{Line, content_of, is_skipped, session_count, passes, BeginsStatement, FirstObjects, IsBad, IsBuilt, IsCommand, IsNotBuilt, IsOfSession, IsSkipped, ObjectsIn}
 use Rattle.tsdb_script.specs.Reading.{Pass, Limits, Tokens, Session, Room, FirstWord, Form, Built, Meaning}
 use Rattle.tsdb_script.specs.Tokens.{is_keyword, AreTokens, HasNoTokens}
-use Rattle.tsdb_script.proofs.FormLemmas.{Stand}
 use Rattle.tsdb_script.proofs.TokenLemmas.{same_kind, same_tokens, not_both}
 use Rattle.tsdb_script.proofs.MeaningLaws.{one_command, one_objection, no_objection}
-use Rattle.tsdb_script.proofs.StatementLemmas.{same_statement}
+use Rattle.tsdb_script.proofs.StatementLemmas.{form_begins, same_statement}
 
 -- a line that says something, and is short enough
 pub record IsWithin (line : Line) : Type 0 where
@@ -187,47 +184,9 @@ one_line_fault line kind other (inl h) (inr k) = absurd (true≢false (sym h.0 �
 one_line_fault line kind other (inr h) (inl k) = absurd (true≢false (sym k.0 ∙ h.0))
 one_line_fault line kind other (inr h) (inr k) = first_kind passes line kind other h.1 k.1
 
-any_at : {X : Type 0} (p : X → Bool) (xs ys : List X) (x : X) → p x ≡ true → list_any p (xs ++ x ∷ ys) ≡ true
-any_at p [] ys x is = ap (λ t. t || list_any p ys) is
-any_at p (y ∷ xs) ys x is = ap (λ t. p y || t) (any_at p xs ys x is) ∙ or_true (p y)
-  where
-    or_true : (t : Bool) → (t || true) ≡ true
-    or_true true = refl
-    or_true false = refl
-
-keyword_begins : (before behind : List (List ℕ)) (name : List ℕ) (places : List Place) (statement : List Token) → before ++ name ∷ behind ≡ first_words
-    → Stand (keyword name ∷ places) statement → BeginsStatement statement
-keyword_begins before behind name places [] words h = absurd h.all
-keyword_begins before behind name places (Word word ∷ rest) words h = subst (λ ws. list_any (is_keyword word) ws ≡ true) words (any_at (is_keyword word) before behind name h.all.0)
-keyword_begins before behind name places (_ ∷ rest) words h = absurd h.all.0
-
-begins_by : (before behind : List (List ℕ)) (name : List ℕ) (all : List Place) (statement : List Token) → before ++ name ∷ behind ≡ first_words
-    → slice_get all 0 ≡ Some (keyword name) → AllZip Stands all statement → BeginsStatement statement
-begins_by before behind name [] statement words first stand = absurd cc
-begins_by before behind name (place ∷ places) statement words first stand =
-    let is : place ≡ keyword name = cc in
-    keyword_begins before behind name places statement words (record { all = subst (λ p. AllZip Stands (p ∷ places) statement) is stand })
-
 -- a form begins with one of the words that begin a statement
 fits_begins : (statement : List Token) (syntax : Syntax) → Fits statement syntax → BeginsStatement statement
-fits_begins statement (Create path data_type encoding) fit =
-    begins_by [] _ (codes "create") (form (Create path data_type encoding) fit.behind) statement refl refl fit.stand
-fits_begins statement (Insert device names time values) fit =
-    begins_by (codes "create" ∷ []) _ (codes "insert") (form (Insert device names time values) fit.behind) statement refl refl fit.stand
-fits_begins statement (Delete path conditions) fit =
-    begins_by (codes "create" ∷ codes "insert" ∷ []) _ (codes "delete") (form (Delete path conditions) fit.behind) statement refl refl fit.stand
-fits_begins statement (Select columns device conditions) fit =
-    begins_by (codes "create" ∷ codes "insert" ∷ codes "delete" ∷ []) _ (codes "select") (form (Select columns device conditions) fit.behind) statement refl refl fit.stand
-fits_begins statement Flush fit =
-    begins_by (codes "create" ∷ codes "insert" ∷ codes "delete" ∷ codes "select" ∷ []) _ (codes "flush") (form Flush fit.behind) statement refl refl fit.stand
-fits_begins statement (CompactInner Sequence) fit =
-    begins_by (codes "create" ∷ codes "insert" ∷ codes "delete" ∷ codes "select" ∷ codes "flush" ∷ []) _ (codes "compact") (form (CompactInner Sequence) fit.behind) statement refl refl fit.stand
-fits_begins statement (CompactInner Unsequence) fit =
-    begins_by (codes "create" ∷ codes "insert" ∷ codes "delete" ∷ codes "select" ∷ codes "flush" ∷ []) _ (codes "compact") (form (CompactInner Unsequence) fit.behind) statement refl refl fit.stand
-fits_begins statement CompactCross fit =
-    begins_by (codes "create" ∷ codes "insert" ∷ codes "delete" ∷ codes "select" ∷ codes "flush" ∷ []) _ (codes "compact") (form CompactCross fit.behind) statement refl refl fit.stand
-fits_begins statement ShowFiles fit =
-    begins_by (codes "create" ∷ codes "insert" ∷ codes "delete" ∷ codes "select" ∷ codes "flush" ∷ codes "compact" ∷ []) _ (codes "show") (form ShowFiles fit.behind) statement refl refl fit.stand
+fits_begins statement syntax fit = let b = form_begins statement syntax fit in subst BeginsStatement (sym b.2) b.3
 
 -- no pass objects to a command
 command_passes : (line : Line) (numbered : Numbered) → IsCommand line numbered → (pass : Pass) → Passes pass line

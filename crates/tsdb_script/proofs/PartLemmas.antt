@@ -1,38 +1,113 @@
--- The parts of a list, one after another.
-use Rattle.std.proofs.Common.{◌≡◌, ◌≤◌, ◌<◌, ◌-◌, ℕ, zero, suc, Bool, true, false, cond, List, [], ◌∷◌, ◌++◌, Option, None, Some, option_map, refl, sym, ap, ◌∙◌, append_assoc, append-nil, arith}
-use Rattle.tsdb_script.specs.Parse.{Tokens, onto, parts_at, ◌>>=◌}
+-- The loops of the parser: the items of a list, the places of a form, and the forms.
+use Rattle.std.proofs.Common.{◌≡◌, ◌≤◌, ◌<◌, ◌+◌, ◌-◌, ℕ, zero, suc, Bool, true, false, true≢false, cond, drop, List, [], ◌∷◌, ◌++◌, Option, None, Some, option_map, refl, sym, ap, ◌∙◌, append_assoc, append-nil, arith}
+use Rattle.std.specs.Prelude.{◌&&◌}
+use Rattle.tsdb_script.specs.declared.form.Place.{Place}
+use Rattle.tsdb_script.specs.declared.syntax.Part.{Part}
+use Rattle.tsdb_script.specs.declared.token.Token.{Token}
+use Rattle.tsdb_script.specs.Forms.{is_at}
+use Rattle.tsdb_script.specs.Parse.{Tokens, onto, items_at, stands_at, fixed_at, is_keyword_place, begins_at, place_at, before, read_at, end_at, ◌>>=◌}
 
-abbrev pub with_parts : {X : Type 0} → List X → List X × Tokens → List X × Tokens
-with_parts front parts = (front ++ parts.0, parts.1)
+abbrev pub with_items : {X : Type 0} → List X → List X × Tokens → List X × Tokens
+with_items front items = (front ++ items.0, items.1)
 
-with_parts-onto : {X : Type 0} (front : List X) (x : X) (o : Option (List X × Tokens)) → option_map (with_parts front) (option_map (onto x) o) ≡ option_map (with_parts (front ++ x ∷ [])) o
-with_parts-onto front x None = refl
-with_parts-onto front x (Some parts) = ap (λ l. Some (l, parts.1)) (sym (append_assoc front (x ∷ []) parts.0))
+with_items-onto : {X : Type 0} (front : List X) (x : X) (o : Option (List X × Tokens)) → option_map (with_items front) (option_map (onto x) o) ≡ option_map (with_items (front ++ x ∷ [])) o
+with_items-onto front x None = refl
+with_items-onto front x (Some items) = ap (λ l. Some (l, items.1)) (sym (append_assoc front (x ∷ []) items.0))
 
-module _ {X : Type 0} (more : Tokens → Bool) (next : Tokens → Option (X × Tokens)) where
-  -- one more part
-  pub parts_step : (turns : ℕ) (tokens rest : Tokens) (front : List X) (x : X) (all : Option (List X × Tokens))
-      → 0 < turns → more tokens ≡ true → next tokens ≡ Some (x, rest) → option_map (with_parts front) (parts_at more next turns tokens) ≡ all
-      → option_map (with_parts (front ++ x ∷ [])) (parts_at more next (turns - 1) rest) ≡ all
-  parts_step zero tokens rest front x all some is found so_far = absurd (omega (arith, some))
-  parts_step (suc n) tokens rest front x all some is found so_far =
+module _ {X : Type 0} (between : Place) (item : Tokens → Option (X × Tokens)) where
+  -- one more item
+  pub items_step : (turns : ℕ) (tokens inner rest : Tokens) (front : List X) (x : X) (all : Option (List X × Tokens))
+      → 0 < turns → stands_at between tokens ≡ true → fixed_at between tokens ≡ Some inner → item inner ≡ Some (x, rest) → option_map (with_items front) (items_at between item turns tokens) ≡ all
+      → option_map (with_items (front ++ x ∷ [])) (items_at between item (turns - 1) rest) ≡ all
+  items_step zero tokens inner rest front x all some is taken found so_far = absurd (omega (arith, some))
+  items_step (suc n) tokens inner rest front x all some is taken found so_far =
       let one : suc n - 1 ≡ n = omega arith in
-      ap (λ k. option_map (with_parts (front ++ x ∷ [])) (parts_at more next k rest)) one
-      ∙ sym (with_parts-onto front x (parts_at more next n rest))
-      ∙ sym (ap (λ t. option_map (with_parts front) (cond t (next tokens >>= (λ part. option_map (onto part.0) (parts_at more next n part.1))) (Some ([], tokens)))) is
-      ∙ ap (λ o. option_map (with_parts front) (o >>= (λ part. option_map (onto part.0) (parts_at more next n part.1)))) found)
+      ap (λ k. option_map (with_items (front ++ x ∷ [])) (items_at between item k rest)) one
+      ∙ sym (with_items-onto front x (items_at between item n rest))
+      ∙ sym (ap (λ t. option_map (with_items front) (cond t (fixed_at between tokens >>= (λ rest. item rest >>= (λ part. option_map (onto part.0) (items_at between item n part.1)))) (Some ([], tokens)))) is
+      ∙ ap (λ o. option_map (with_items front) (o >>= (λ rest. item rest >>= (λ part. option_map (onto part.0) (items_at between item n part.1))))) taken
+      ∙ ap (λ o. option_map (with_items front) (o >>= (λ part. option_map (onto part.0) (items_at between item n part.1)))) found)
       ∙ so_far
 
-  -- no further part
-  pub parts_over : (turns : ℕ) (tokens : Tokens) (front : List X) (all : Option (List X × Tokens))
-      → more tokens ≡ false → option_map (with_parts front) (parts_at more next turns tokens) ≡ all → all ≡ Some (front, tokens)
-  parts_over zero tokens front all is so_far = sym so_far ∙ ap (λ l. Some (l, tokens)) (append-nil front)
-  parts_over (suc n) tokens front all is so_far =
+  -- no further item
+  pub items_over : (turns : ℕ) (tokens : Tokens) (front : List X) (all : Option (List X × Tokens))
+      → stands_at between tokens ≡ false → option_map (with_items front) (items_at between item turns tokens) ≡ all → all ≡ Some (front, tokens)
+  items_over zero tokens front all is so_far = sym so_far ∙ ap (λ l. Some (l, tokens)) (append-nil front)
+  items_over (suc n) tokens front all is so_far =
       sym so_far
-      ∙ ap (λ t. option_map (with_parts front) (cond t (next tokens >>= (λ part. option_map (onto part.0) (parts_at more next n part.1))) (Some ([], tokens)))) is
+      ∙ ap (λ t. option_map (with_items front) (cond t (fixed_at between tokens >>= (λ rest. item rest >>= (λ part. option_map (onto part.0) (items_at between item n part.1)))) (Some ([], tokens)))) is
       ∙ ap (λ l. Some (l, tokens)) (append-nil front)
 
-  pub parts_out : (turns : ℕ) (tokens : Tokens) (front : List X) (all : Option (List X × Tokens))
-      → turns ≤ 0 → option_map (with_parts front) (parts_at more next turns tokens) ≡ all → all ≡ Some (front, tokens)
-  parts_out zero tokens front all is so_far = sym so_far ∙ ap (λ l. Some (l, tokens)) (append-nil front)
-  parts_out (suc n) tokens front all is so_far = absurd (omega (arith, is))
+  pub items_out : (turns : ℕ) (tokens : Tokens) (front : List X) (all : Option (List X × Tokens))
+      → turns ≤ 0 → option_map (with_items front) (items_at between item turns tokens) ≡ all → all ≡ Some (front, tokens)
+  items_out zero tokens front all is so_far = sym so_far ∙ ap (λ l. Some (l, tokens)) (append-nil front)
+  items_out (suc n) tokens front all is so_far = absurd (omega (arith, is))
+
+-- ---- the keywords that a form begins with
+
+next_left : (at : ℕ) (tokens : Tokens) (t : Token) (rest : Tokens) → drop at tokens ≡ t ∷ rest → drop (at + 1) tokens ≡ rest
+next_left zero tokens t rest e = ap (drop 1) e
+next_left (suc n) [] t rest e = cc
+next_left (suc n) (x ∷ tokens) t rest e =
+    let one : suc n + 1 ≡ suc (n + 1) = omega arith in
+    ap (λ k. drop k (x ∷ tokens)) one ∙ next_left n tokens t rest e
+
+begins_step : (left : Tokens) (row behind : List Place) (p : Place) (all : Bool) → row ≡ p ∷ behind → is_keyword_place p ≡ true → stands_at p left ≡ true → begins_at row left ≡ all
+    → (t : Token) × (rest : Tokens) × (left ≡ t ∷ rest) × (begins_at behind rest ≡ all)
+begins_step [] row behind p all e key stands so_far = absurd (true≢false (sym stands))
+begins_step (t ∷ rest) row behind p all e key stands so_far =
+    (t, rest, refl, sym (ap (λ l. begins_at l (t ∷ rest)) e ∙ ap (λ b. cond b (is_at p t && begins_at behind rest) true) key ∙ ap (λ b. b && begins_at behind rest) stands) ∙ so_far)
+
+pub begins_next : (at : ℕ) (tokens : Tokens) (row behind : List Place) (p : Place) (all : Bool) → row ≡ p ∷ behind → is_keyword_place p ≡ true → stands_at p (drop at tokens) ≡ true
+    → begins_at row (drop at tokens) ≡ all → begins_at behind (drop (at + 1) tokens) ≡ all
+begins_next at tokens row behind p all e key stands so_far =
+    let s = begins_step (drop at tokens) row behind p all e key stands so_far in
+    ap (begins_at behind) (next_left at tokens s.0 s.1 s.2) ∙ s.3
+
+-- ---- the parts at the places of a form
+
+abbrev pub behind_parts : List Part → List Part → List Part
+behind_parts front parts = front ++ parts
+
+module _ (row behind : List Place) (p : Place) (tokens : Tokens) (front : List Part) (all : Option (List Part)) (e : row ≡ p ∷ behind) (so_far : option_map (behind_parts front) (read_at row tokens) ≡ all) where
+  -- a place without a part
+  pub read_fixed : (rest : Tokens) → place_at p tokens ≡ Some (None, rest) → option_map (behind_parts front) (read_at behind rest) ≡ all
+  read_fixed rest found =
+      plain (read_at behind rest)
+      ∙ sym (ap (λ l. option_map (behind_parts front) (read_at l tokens)) e
+      ∙ ap (λ o. option_map (behind_parts front) (o >>= (λ found. option_map (before found.0) (read_at behind found.1)))) found)
+      ∙ so_far
+    where
+      plain : (o : Option (List Part)) → option_map (behind_parts front) o ≡ option_map (behind_parts front) (option_map (before None) o)
+      plain None = refl
+      plain (Some parts) = refl
+
+  -- a place with a part
+  pub read_part : (rest : Tokens) (x : Part) → place_at p tokens ≡ Some (Some x, rest) → option_map (behind_parts (front ++ x ∷ [])) (read_at behind rest) ≡ all
+  read_part rest x found =
+      onto_front (read_at behind rest)
+      ∙ sym (ap (λ l. option_map (behind_parts front) (read_at l tokens)) e
+      ∙ ap (λ o. option_map (behind_parts front) (o >>= (λ found. option_map (before found.0) (read_at behind found.1)))) found)
+      ∙ so_far
+    where
+      onto_front : (o : Option (List Part)) → option_map (behind_parts (front ++ x ∷ [])) o ≡ option_map (behind_parts front) (option_map (before (Some x)) o)
+      onto_front None = refl
+      onto_front (Some parts) = ap (λ (l : List Part). Some l) (append_assoc front (x ∷ []) parts)
+
+  -- a place at which nothing stands that fits
+  pub read_out : place_at p tokens ≡ None → all ≡ None
+  read_out none =
+      sym so_far ∙ ap (λ l. option_map (behind_parts front) (read_at l tokens)) e
+      ∙ ap (λ o. option_map (behind_parts front) (o >>= (λ found. option_map (before found.0) (read_at behind found.1)))) none
+
+-- no further place
+module _ (row : List Place) (tokens : Tokens) (front : List Part) (all : Option (List Part)) (e : row ≡ []) (so_far : option_map (behind_parts front) (read_at row tokens) ≡ all) where
+  pub read_end : (u : Unit {0}) → end_at tokens ≡ Some u → all ≡ Some front
+  read_end u end =
+      sym so_far ∙ ap (λ l. option_map (behind_parts front) (read_at l tokens)) e
+      ∙ ap (λ o. option_map (behind_parts front) (o >>= (λ nothing. Some []))) end ∙ ap (λ (l : List Part). Some l) (append-nil front)
+
+  pub read_bad : end_at tokens ≡ None → all ≡ None
+  read_bad none =
+      sym so_far ∙ ap (λ l. option_map (behind_parts front) (read_at l tokens)) e
+      ∙ ap (λ o. option_map (behind_parts front) (o >>= (λ nothing. Some []))) none

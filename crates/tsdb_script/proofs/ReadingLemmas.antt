@@ -10,6 +10,7 @@ use Rattle.tsdb_script.specs.Reading.{Line, line_behind, lines_of, sessions_of, 
 use Rattle.tsdb_script.proofs.LineLemmas.{one_line_command, one_line_fault, command_not_bad, skipped_not_bad, past_limit, built_command}
 use Rattle.tsdb_script.proofs.LinesLemmas.{concat-lines_of, goes_on, GoesOn}
 use Rattle.tsdb_script.proofs.MeaningLaws.{well_formed as well_formed_meaning}
+use Rattle.tsdb_script.proofs.StatementLemmas.{has_parts}
 use Rattle.tsdb_script.proofs.SessionLemmas.{as_many, session_number, sessions-push}
 
 -- ---- the last of some lines
@@ -200,7 +201,7 @@ pub well_formed_lines : (lines : List (List ℕ)) (script : List Numbered) → G
 well_formed_lines lines script no_line = All-nil (λ (numbered : Numbered). IsWellFormed numbered.command)
 well_formed_lines lines script (skipped_line front before line gives is) = well_formed_lines front before gives
 well_formed_lines lines script (command_line front before line numbered gives is) =
-    All-push (λ (numbered : Numbered). IsWellFormed numbered.command) before numbered (well_formed_lines front before gives) (well_formed_meaning is.syntax numbered.command is.fits.parts is.means)
+    All-push (λ (numbered : Numbered). IsWellFormed numbered.command) before numbered (well_formed_lines front before gives) (well_formed_meaning is.syntax numbered.command (has_parts is.statement is.syntax is.fits) is.means)
 
 built_lines : (lines : List (List ℕ)) (script : List Numbered) → Give lines script → All (λ numbered. IsBuilt numbered.command) script
 built_lines lines script no_line = All-nil (λ (numbered : Numbered). IsBuilt numbered.command)

@@ -1,15 +1,362 @@
--- What the parser returns, by the forms.
-use Rattle.std.proofs.Common.{◌≡◌, List, None, Some, Result, Ok, Err, sym, ◌∙◌}
-use Rattle.std.specs.Prelude.{IfOk, IfErr}
+-- The parser finds exactly the statements whose forms the tokens fit.
+use Rattle.std.proofs.Common.{◌≡◌, ◌<◌, ℕ, ◌||◌, Bool, true, false, true≢false, cond, inl, inr, List, [], ◌∷◌, length, Option, None, Some, Result, Ok, Err, option_map, refl, sym, ap, ◌∙◌, subst, codes}
+use Rattle.std.specs.Prelude.{◌⊎◌, ◌&&◌, not, IsTrue, IfOk, IfErr}
+use Rattle.std.specs.List.{AllByRecursion, list_any}
+use Rattle.std.specs.Str.{bytes_eq, str_to_ascii_lowercase}
+use Rattle.std.proofs.lemmas.Slice.Eq.{bytes_eq-Decides}
 use Rattle.tsdb_script.specs.declared.fault.LineFault.{LineFault}
 use Rattle.tsdb_script.specs.declared.fault.LineFault.TheVariants.{Bad, Memory}
+use Rattle.tsdb_script.specs.declared.form.Form.{Form}
+use Rattle.tsdb_script.specs.declared.form.Form.TheVariants as form
+use Rattle.tsdb_script.specs.declared.form.Keyword.TheVariants as key
+use Rattle.tsdb_script.specs.declared.form.Place.{Place}
+use Rattle.tsdb_script.specs.declared.form.Place.TheVariants as place
+use Rattle.tsdb_script.specs.declared.form.TheConstants.{FORMS}
+use Rattle.tsdb_script.specs.declared.syntax.Part.{Part}
+use Rattle.tsdb_script.specs.declared.syntax.Part.TheVariants as part
 use Rattle.tsdb_script.specs.declared.syntax.Syntax.{Syntax}
 use Rattle.tsdb_script.specs.declared.token.Token.{Token}
-use Rattle.tsdb_script.specs.Forms.{Fits, HasNoForm}
-use Rattle.tsdb_script.specs.Parse.{Gives, statement_at}
+use Rattle.tsdb_script.specs.declared.token.Token.TheVariants.{Word, Open, Close, Semicolon}
+use Rattle.tsdb_script.specs.Forms.{asks_first, is_at, keyword_text, places, statement_of, IsName, IsValue, IsColumn, Stands, Stand, HasParts, Fits, HasNoForm}
+use Rattle.tsdb_script.specs.Parse.{Gives, Tokens, ◌>>=◌, stands_at, fixed_at, word_at, end_at, operand_at, column_at, conditions_at, list_at, place_at, before, read_at, is_keyword_place, begins_at, form_at, statement_at, create_of, insert_of, delete_of, select_of, bare_of, made_of}
 use Rattle.tsdb_script.specs.Steps.{FaultsWith}
-use Rattle.tsdb_script.proofs.AgainLemmas.{statement_again}
-use Rattle.tsdb_script.proofs.FormLemmas.{statement_found}
+use Rattle.tsdb_script.specs.Tokens.{is_keyword}
+use Rattle.tsdb_script.proofs.FormLemmas.{some_is, step, leads, mapped, fixed_found, fixed_again, word_found, finds_name, finds_value, finds_column, list_found, list_again, some_listed, conditions_found, conditions_again}
+
+-- ---- the table: keywords tell the forms apart, and no list goes on with what stands behind it
+
+-- a word is one keyword at most
+other_keyword : (w name other : List ℕ) → is_keyword w name ≡ true → is_keyword name other ≡ false → is_keyword w other ≡ false
+other_keyword w name other is apart =
+    ap (λ l. bytes_eq l (str_to_ascii_lowercase other)) ((bytes_eq-Decides (str_to_ascii_lowercase w) (str_to_ascii_lowercase name)).0 is) ∙ apart
+
+both : (a b : Bool) → (a && b) ≡ true → (a ≡ true) × (b ≡ true)
+both true b e = (refl, e)
+both false b e = absurd (true≢false (sym e))
+
+neither : (a b : Bool) → (a || b) ≡ false → (a ≡ false) × (b ≡ false)
+neither true b e = absurd (true≢false e)
+neither false b e = (refl, e)
+
+is_not : (b : Bool) → not b ≡ true → b ≡ false
+is_not true e = absurd (true≢false (sym e))
+is_not false e = refl
+
+-- two forms begin with other keywords
+abbrev pub differ : List Place → List Place → Bool
+differ (place.Keyword a ∷ p) (place.Keyword b ∷ q) = not (is_keyword (keyword_text a) (keyword_text b)) || differ p q
+differ p q = false
+
+-- what stands here ends a list
+abbrev pub ends_list : List Place → Bool
+ends_list [] = true
+ends_list (place.Close ∷ behind) = true
+ends_list (place.Keyword k ∷ behind) = not (is_keyword (keyword_text k) (codes "where") || is_keyword (keyword_text k) (codes "and"))
+ends_list behind = false
+
+abbrev pub is_list : Place → Bool
+is_list place.Names = true
+is_list place.Values = true
+is_list place.Columns = true
+is_list place.Where = true
+is_list other = false
+
+abbrev pub are_ended : List Place → Bool
+are_ended [] = true
+are_ended (at ∷ behind) = cond (is_list at) (ends_list behind) true && are_ended behind
+
+all_ended : (f : Form) → are_ended (places f) ≡ true
+all_ended form.Create = refl
+all_ended form.Insert = refl
+all_ended form.Delete = refl
+all_ended form.Select = refl
+all_ended form.Flush = refl
+all_ended form.CompactSequence = refl
+all_ended form.CompactUnsequence = refl
+all_ended form.CompactCross = refl
+all_ended form.ShowFiles = refl
+
+all_differ : (f g : Form) → (f ≡ g) ⊎ (differ (places f) (places g) ≡ true)
+all_differ form.Create form.Create = inl refl
+all_differ form.Insert form.Insert = inl refl
+all_differ form.Delete form.Delete = inl refl
+all_differ form.Select form.Select = inl refl
+all_differ form.Flush form.Flush = inl refl
+all_differ form.CompactSequence form.CompactSequence = inl refl
+all_differ form.CompactUnsequence form.CompactUnsequence = inl refl
+all_differ form.CompactCross form.CompactCross = inl refl
+all_differ form.ShowFiles form.ShowFiles = inl refl
+all_differ _ _ = inr refl
+
+abbrev pub Has : Form → List Form → Type 0
+Has f [] = ⊥
+Has f (g ∷ forms) = (f ≡ g) ⊎ Has f forms
+
+pub has_all : (f : Form) → Has f FORMS.now
+has_all form.Insert = inl refl
+has_all form.Select = inr (inl refl)
+has_all form.Delete = inr (inr (inl refl))
+has_all form.Create = inr (inr (inr (inl refl)))
+has_all form.Flush = inr (inr (inr (inr (inl refl))))
+has_all form.CompactSequence = inr (inr (inr (inr (inr (inl refl)))))
+has_all form.CompactUnsequence = inr (inr (inr (inr (inr (inr (inl refl))))))
+has_all form.CompactCross = inr (inr (inr (inr (inr (inr (inr (inl refl)))))))
+has_all form.ShowFiles = inr (inr (inr (inr (inr (inr (inr (inr (inl refl))))))))
+
+apart : (p q : List Place) (tokens : Tokens) → differ p q ≡ true → begins_at p tokens ≡ true → ¬ (begins_at q tokens ≡ true)
+apart (place.Keyword a ∷ p) (place.Keyword b ∷ q) [] d h k = true≢false (sym h)
+apart (place.Keyword a ∷ p) (place.Keyword b ∷ q) (Word w ∷ rest) d h k =
+    let one = both (is_keyword w (keyword_text a)) (begins_at p rest) h in
+    let other = both (is_keyword w (keyword_text b)) (begins_at q rest) k in
+    elim (is_keyword (keyword_text a) (keyword_text b)) as (λ t. is_keyword (keyword_text a) (keyword_text b) ≡ t → (not t || differ p q) ≡ true → ⊥) [
+      | true ↦ λ same d. apart p q rest d one.1 other.1
+      | false ↦ λ not_same d. true≢false (sym other.0 ∙ other_keyword w (keyword_text a) (keyword_text b) one.0 not_same)
+    ] refl d
+apart (place.Keyword a ∷ p) (place.Keyword b ∷ q) (_ ∷ rest) d h k = true≢false (sym h)
+apart _ _ tokens d h k = true≢false (sym d)
+
+-- ---- places
+
+fixed_place : (at : Place) (tokens : Tokens) (r : Option Part × Tokens) (others : List Part) → (fixed_at at tokens >>= (λ rest. Some (None, rest))) ≡ Some r
+    → (fixed : Token) × (tokens ≡ fixed ∷ r.1) × IsTrue (is_at at fixed) × (before r.0 others ≡ others)
+fixed_place at tokens r others e =
+    let a = step _ _ _ e in
+    let f = fixed_found at tokens a.0 a.1 in
+    let is : ◌≡◌ {A = Option Part × Tokens} (None, a.0) r = some_is _ r a.2 in
+    (f.0, f.1 ∙ ap (λ (r : Option Part × Tokens). f.0 ∷ r.1) is, f.2, ap (λ (r : Option Part × Tokens). before r.0 others) (sym is))
+
+place_found : (at : Place) (tokens : Tokens) (r : Option Part × Tokens) (others : List Part) → place_at at tokens ≡ Some r → Stands at tokens r.1 (before r.0 others) others
+unfolding place_at
+place_found place.Word tokens r others e =
+    let a = step _ _ _ e in
+    subst (λ (r : Option Part × Tokens). Stands place.Word tokens r.1 (before r.0 others) others) (some_is (Some (part.Word a.0.0), a.0.1) r a.2) (a.0.0, word_found tokens a.0 a.1, refl)
+place_found place.Names tokens r others e =
+    let a = step _ _ _ e in
+    subst (λ (r : Option Part × Tokens). Stands place.Names tokens r.1 (before r.0 others) others) (some_is (Some (part.Names a.0.0), a.0.1) r a.2)
+    (a.0.0, list_found place.Comma IsName word_at finds_name tokens a.0 a.1, refl)
+place_found place.Values tokens r others e =
+    let a = step _ _ _ e in
+    subst (λ (r : Option Part × Tokens). Stands place.Values tokens r.1 (before r.0 others) others) (some_is (Some (part.Values a.0.0), a.0.1) r a.2)
+    (a.0.0, list_found place.Comma IsValue operand_at finds_value tokens a.0 a.1, refl)
+place_found place.Columns tokens r others e =
+    let a = step _ _ _ e in
+    subst (λ (r : Option Part × Tokens). Stands place.Columns tokens r.1 (before r.0 others) others) (some_is (Some (part.Columns a.0.0), a.0.1) r a.2)
+    (a.0.0, list_found place.Comma IsColumn column_at finds_column tokens a.0 a.1, refl)
+place_found place.Where tokens r others e =
+    let a = step _ _ _ e in
+    subst (λ (r : Option Part × Tokens). Stands place.Where tokens r.1 (before r.0 others) others) (some_is (Some (part.Conditions a.0.0), a.0.1) r a.2)
+    (a.0.0, conditions_found tokens a.0 a.1, refl)
+place_found (place.Keyword k) tokens r others e = fixed_place (place.Keyword k) tokens r others e
+place_found place.Timestamp tokens r others e = fixed_place place.Timestamp tokens r others e
+place_found place.Open tokens r others e = fixed_place place.Open tokens r others e
+place_found place.Close tokens r others e = fixed_place place.Close tokens r others e
+place_found place.Comma tokens r others e = fixed_place place.Comma tokens r others e
+place_found place.Equal tokens r others e = fixed_place place.Equal tokens r others e
+
+-- no list goes on with these tokens
+record Ends (rest : Tokens) : Type 0 where
+  no_comma : stands_at place.Comma rest ≡ false
+  no_open : stands_at place.Open rest ≡ false
+  no_where : stands_at (place.Keyword key.Where) rest ≡ false
+  no_and : stands_at (place.Keyword key.And) rest ≡ false
+
+-- what a place gives, found again
+abbrev pub GivesAgain : Place → Tokens → Tokens → List Part → List Part → Type 0
+GivesAgain at tokens rest parts others = (found : Option Part) × (place_at at tokens ≡ Some (found, rest)) × (parts ≡ before found others)
+
+fixed_gives : (at : Place) (tokens rest : Tokens) (parts others : List Part) (fixed : Token) → tokens ≡ fixed ∷ rest → IsTrue (is_at at fixed) → parts ≡ others
+    → (found : Option Part) × (◌>>=◌ {B = Option Part × Tokens} (fixed_at at tokens) (λ rest. Some (None, rest)) ≡ Some (found, rest)) × (parts ≡ before found others)
+fixed_gives at tokens rest parts others fixed e is same =
+    let found : Option Part = None in
+    let taken : ◌>>=◌ {B = Option Part × Tokens} (fixed_at at tokens) (λ rest. Some (found, rest)) ≡ Some (found, rest) = leads (fixed_at at tokens) rest _ _ (fixed_again at fixed tokens rest e is) refl in
+    (found, taken, same)
+
+place_again : (at : Place) (tokens rest : Tokens) (parts others : List Part) → (is_list at ≡ true → Ends rest) → Stands at tokens rest parts others → GivesAgain at tokens rest parts others
+unfolding place_at
+place_again place.Word tokens rest parts others ends h = (Some (part.Word h.0), leads (word_at tokens) (h.0, rest) _ _ (ap word_at h.1) refl, h.2)
+place_again place.Names tokens rest parts others ends h =
+    (Some (part.Names h.0), leads _ (h.0, rest) _ _ (list_again place.Comma IsName word_at finds_name refl rest (ends refl).no_comma (ends refl).no_open h.0 tokens h.1) refl, h.2)
+place_again place.Values tokens rest parts others ends h =
+    (Some (part.Values h.0), leads _ (h.0, rest) _ _ (list_again place.Comma IsValue operand_at finds_value refl rest (ends refl).no_comma (ends refl).no_open h.0 tokens h.1) refl, h.2)
+place_again place.Columns tokens rest parts others ends h =
+    (Some (part.Columns h.0), leads _ (h.0, rest) _ _ (list_again place.Comma IsColumn column_at finds_column refl rest (ends refl).no_comma (ends refl).no_open h.0 tokens h.1) refl, h.2)
+place_again place.Where tokens rest parts others ends h =
+    (Some (part.Conditions h.0), leads _ (h.0, rest) _ _ (conditions_again h.0 tokens rest (ends refl).no_where (ends refl).no_and (ends refl).no_open h.1) refl, h.2)
+place_again (place.Keyword k) tokens rest parts others ends h = fixed_gives (place.Keyword k) tokens rest parts others h.0 h.1 h.2 h.3
+place_again place.Timestamp tokens rest parts others ends h = fixed_gives place.Timestamp tokens rest parts others h.0 h.1 h.2 h.3
+place_again place.Open tokens rest parts others ends h = fixed_gives place.Open tokens rest parts others h.0 h.1 h.2 h.3
+place_again place.Close tokens rest parts others ends h = fixed_gives place.Close tokens rest parts others h.0 h.1 h.2 h.3
+place_again place.Comma tokens rest parts others ends h = fixed_gives place.Comma tokens rest parts others h.0 h.1 h.2 h.3
+place_again place.Equal tokens rest parts others ends h = fixed_gives place.Equal tokens rest parts others h.0 h.1 h.2 h.3
+
+-- what stands behind a list ends it
+ends_at : (behind : List Place) (rest : Tokens) (parts : List Part) → ends_list behind ≡ true → Stand behind rest parts → Ends rest
+ends_at [] rest parts e (inl is, _) = subst Ends (sym is) (record { no_comma = refl; no_open = refl; no_where = refl; no_and = refl })
+ends_at [] rest parts e (inr is, _) = subst Ends (sym is) (record { no_comma = refl; no_open = refl; no_where = refl; no_and = refl })
+ends_at (place.Close ∷ behind) rest parts e h = subst Ends (sym h.2.1) (closed h.2.0 h.0 h.2.2)
+  where
+    closed : (t : Token) (more : Tokens) → IsTrue (is_at place.Close t) → Ends (t ∷ more)
+    closed Close more is = record { no_comma = refl; no_open = refl; no_where = refl; no_and = refl }
+    closed _ more is = absurd (true≢false (sym is))
+ends_at (place.Keyword k ∷ behind) rest parts e h = subst Ends (sym h.2.1) (worded h.2.0 h.0 h.2.2)
+  where
+    worded : (t : Token) (more : Tokens) → IsTrue (is_at (place.Keyword k) t) → Ends (t ∷ more)
+    worded (Word w) more is =
+        let other = neither (is_keyword (keyword_text k) (codes "where")) (is_keyword (keyword_text k) (codes "and")) (is_not _ e) in
+        record { no_comma = refl; no_open = refl; no_where = other_keyword w (keyword_text k) (codes "where") is other.0; no_and = other_keyword w (keyword_text k) (codes "and") is other.1 }
+    worded _ more is = absurd (true≢false (sym is))
+ends_at (_ ∷ behind) rest parts e h = absurd (true≢false (sym e))
+
+-- ---- forms
+
+end_is : (tokens : Tokens) (u : Unit {0}) → end_at tokens ≡ Some u → (tokens ≡ []) ⊎ (tokens ≡ Semicolon ∷ [])
+end_is [] u e = inl refl
+end_is (Semicolon ∷ []) u e = inr refl
+end_is (Semicolon ∷ t ∷ rest) u e = cc
+end_is (_ ∷ rest) u e = cc
+
+end_again : (tokens : Tokens) → (tokens ≡ []) ⊎ (tokens ≡ Semicolon ∷ []) → end_at tokens ≡ Some tt
+end_again tokens (inl e) = ap end_at e
+end_again tokens (inr e) = ap end_at e
+
+read_found : (row : List Place) (tokens : Tokens) (parts : List Part) → read_at row tokens ≡ Some parts → Stand row tokens parts
+read_found [] tokens parts e = let a = step {A = Unit {0}} (end_at tokens) (λ _. Some []) parts e in (end_is tokens a.0 a.1, sym (some_is [] parts a.2))
+read_found (at ∷ row) tokens parts e =
+    let a = step _ _ _ e in
+    let s = mapped (before a.0.0) (read_at row a.0.1) parts a.2 in
+    (a.0.1, s.0, subst (λ (l : List Part). Stands at tokens a.0.1 l s.0) s.2 (place_found at tokens a.0 s.0 a.1), read_found row a.0.1 s.0 s.1)
+
+read_again : (row : List Place) (tokens : Tokens) (parts : List Part) → are_ended row ≡ true → Stand row tokens parts → read_at row tokens ≡ Some parts
+read_again [] tokens parts ended h = leads {A = Unit {0}} (end_at tokens) tt (λ _. Some []) _ (end_again tokens h.0) (ap (λ (l : List Part). Some l) (sym h.1))
+read_again (at ∷ row) tokens parts ended h =
+    let two = both (cond (is_list at) (ends_list row) true) (are_ended row) ended in
+    let ends : is_list at ≡ true → ends_list row ≡ true = λ is. sym (ap (λ t. cond t (ends_list row) true) is) ∙ two.0 in
+    let a = place_again at tokens h.0 parts h.1 (λ is. ends_at row h.0 h.1 (ends is) h.3) h.2 in
+    leads (place_at at tokens) (a.0, h.0) _ _ a.1 (ap (option_map (before a.0)) (read_again row h.0 h.1 two.1 h.3) ∙ ap (λ (l : List Part). Some l) (sym a.2))
+
+-- where tokens stand at places, they begin with the first keywords
+pub begins_again : (row : List Place) (tokens : Tokens) (parts : List Part) → Stand row tokens parts → begins_at row tokens ≡ true
+begins_again [] tokens parts h = refl
+begins_again (place.Keyword k ∷ row) tokens parts h =
+    ap (begins_at (place.Keyword k ∷ row)) h.2.1 ∙ ap (λ t. t && begins_at row h.0) h.2.2 ∙ begins_again row h.0 h.1 h.3
+begins_again (_ ∷ row) [] parts h = refl
+begins_again (_ ∷ row) (t ∷ rest) parts h = refl
+
+-- ---- the first word of a form
+
+abbrev pub keyword_first : List Place → Bool
+keyword_first [] = false
+keyword_first (at ∷ row) = is_keyword_place at
+
+all_keyword_first : (f : Form) → keyword_first (places f) ≡ true
+all_keyword_first form.Create = refl
+all_keyword_first form.Insert = refl
+all_keyword_first form.Delete = refl
+all_keyword_first form.Select = refl
+all_keyword_first form.Flush = refl
+all_keyword_first form.CompactSequence = refl
+all_keyword_first form.CompactUnsequence = refl
+all_keyword_first form.CompactCross = refl
+all_keyword_first form.ShowFiles = refl
+
+any_has : (test : Form → Bool) (f : Form) (forms : List Form) → Has f forms → test f ≡ true → list_any test forms ≡ true
+any_has test f [] has is = absurd has
+any_has test f (g ∷ forms) (inl same) is = ap (λ t. t || list_any test forms) (ap test (sym same) ∙ is)
+any_has test f (g ∷ forms) (inr later) is =
+    elim (test g) as (λ t. (t || list_any test forms) ≡ true) [ true ↦ refl | false ↦ any_has test f forms later is ]
+
+row_begins : (row : List Place) (tokens : Tokens) → keyword_first row ≡ true → begins_at row tokens ≡ true → (t : Token) × (rest : Tokens) × (tokens ≡ t ∷ rest) × (asks_first t row ≡ true)
+row_begins [] tokens first begins = absurd (true≢false (sym first))
+row_begins (at ∷ row) [] first begins = absurd (true≢false (sym begins ∙ ap (λ t. cond t false true) first))
+row_begins (at ∷ row) (t ∷ rest) first begins =
+    (t, rest, refl, (both (is_at at t) (begins_at row rest) (sym (ap (λ b. cond b (is_at at t && begins_at row rest) true) first) ∙ begins)).0)
+
+-- a statement begins with a word that a form begins with
+pub form_begins : (tokens : Tokens) (syntax : Syntax) → Fits tokens syntax → (t : Token) × (rest : Tokens) × (tokens ≡ t ∷ rest) × (list_any (λ f. asks_first t (places f)) FORMS.now ≡ true)
+form_begins tokens syntax h =
+    let b = row_begins (places h.form) tokens (all_keyword_first h.form) (begins_again (places h.form) tokens h.parts h.stand) in
+    (b.0, b.1, b.2, any_has (λ f. asks_first b.0 (places f)) h.form FORMS.now (has_all h.form) b.3)
+
+form_again : (forms : List Form) (f : Form) (tokens : Tokens) → Has f forms → begins_at (places f) tokens ≡ true → form_at forms tokens ≡ Some f
+form_again [] f tokens has begins = absurd has
+form_again (g ∷ forms) f tokens has begins =
+    elim (begins_at (places g) tokens) as (λ t. begins_at (places g) tokens ≡ t → cond t (Some g) (form_at forms tokens) ≡ Some f) [
+      | true ↦ λ too. elim (all_differ f g) [ inl same ↦ ap (λ (f : Form). Some f) (sym same) | inr other ↦ absurd (apart (places f) (places g) tokens other begins too) ]
+      | false ↦ λ out. elim has [
+        | inl same ↦ absurd (true≢false (sym begins ∙ ap (λ f. begins_at (places f) tokens) same ∙ out))
+        | inr later ↦ form_again forms f tokens later begins
+      ]
+    ] refl
+
+-- the parts are taken as the table of statements has them
+
+create_is : (parts : List Part) → create_of parts ≡ statement_of form.Create parts
+unfolding create_of
+create_is [] = refl
+create_is (part.Word p ∷ []) = refl
+create_is (part.Word p ∷ part.Word t ∷ []) = refl
+create_is (part.Word p ∷ part.Word t ∷ part.Word c ∷ []) = refl
+create_is (part.Word p ∷ part.Word t ∷ part.Word c ∷ x ∷ more) = refl
+create_is (part.Word p ∷ part.Word t ∷ _ ∷ more) = refl
+create_is (part.Word p ∷ _ ∷ more) = refl
+create_is (_ ∷ more) = refl
+
+insert_is : (parts : List Part) → insert_of parts ≡ statement_of form.Insert parts
+unfolding insert_of
+insert_is [] = refl
+insert_is (part.Word d ∷ []) = refl
+insert_is (part.Word d ∷ part.Names ns ∷ []) = refl
+insert_is (part.Word d ∷ part.Names ns ∷ part.Word t ∷ []) = refl
+insert_is (part.Word d ∷ part.Names ns ∷ part.Word t ∷ part.Values vs ∷ []) = refl
+insert_is (part.Word d ∷ part.Names ns ∷ part.Word t ∷ part.Values vs ∷ x ∷ more) = refl
+insert_is (part.Word d ∷ part.Names ns ∷ part.Word t ∷ _ ∷ more) = refl
+insert_is (part.Word d ∷ part.Names ns ∷ _ ∷ more) = refl
+insert_is (part.Word d ∷ _ ∷ more) = refl
+insert_is (_ ∷ more) = refl
+
+delete_is : (parts : List Part) → delete_of parts ≡ statement_of form.Delete parts
+unfolding delete_of
+delete_is [] = refl
+delete_is (part.Word p ∷ []) = refl
+delete_is (part.Word p ∷ part.Conditions cs ∷ []) = refl
+delete_is (part.Word p ∷ part.Conditions cs ∷ x ∷ more) = refl
+delete_is (part.Word p ∷ _ ∷ more) = refl
+delete_is (_ ∷ more) = refl
+
+select_is : (parts : List Part) → select_of parts ≡ statement_of form.Select parts
+unfolding select_of
+select_is [] = refl
+select_is (part.Columns cs ∷ []) = refl
+select_is (part.Columns cs ∷ part.Word d ∷ []) = refl
+select_is (part.Columns cs ∷ part.Word d ∷ part.Conditions ws ∷ []) = refl
+select_is (part.Columns cs ∷ part.Word d ∷ part.Conditions ws ∷ x ∷ more) = refl
+select_is (part.Columns cs ∷ part.Word d ∷ _ ∷ more) = refl
+select_is (part.Columns cs ∷ _ ∷ more) = refl
+select_is (_ ∷ more) = refl
+
+made_is : (f : Form) (parts : List Part) → made_of f parts ≡ statement_of f parts
+unfolding bare_of
+made_is form.Create parts = create_is parts
+made_is form.Insert parts = insert_is parts
+made_is form.Delete parts = delete_is parts
+made_is form.Select parts = select_is parts
+made_is _ [] = refl
+made_is _ (x ∷ more) = refl
+
+statement_found : (tokens : Tokens) (syntax : Syntax) → statement_at tokens ≡ Some syntax → Fits tokens syntax
+unfolding statement_at
+statement_found tokens syntax e =
+    let a = step (form_at FORMS.now tokens) (λ f. read_at (places f) tokens >>= (λ parts. made_of f parts)) syntax e in
+    let b = step (read_at (places a.0) tokens) (λ parts. made_of a.0 parts) syntax a.2 in
+    record { form = a.0; parts = b.0; stand = read_found (places a.0) tokens b.0 b.1; says = sym (made_is a.0 b.0) ∙ b.2 }
+
+statement_again : (tokens : Tokens) (syntax : Syntax) → Fits tokens syntax → statement_at tokens ≡ Some syntax
+unfolding statement_at
+statement_again tokens syntax h =
+    leads (form_at FORMS.now tokens) h.form _ _ (form_again FORMS.now h.form tokens (has_all h.form) (begins_again (places h.form) tokens h.parts h.stand))
+    (leads (read_at (places h.form) tokens) h.parts _ _ (read_again (places h.form) tokens h.parts (all_ended h.form) h.stand) (made_is h.form h.parts ∙ h.says))
+
+-- ---- what the parser returns
 
 pub statement_ok : (tokens : List Token) (result : Result Syntax LineFault) → Gives (λ syntax. syntax) result (statement_at tokens) → IfOk result (Fits tokens)
 statement_ok tokens (Ok syntax) found = statement_found tokens syntax found
@@ -23,3 +370,42 @@ statement_err tokens (Err Memory) found = tt
 -- tokens fit the form of at most one statement
 pub same_statement : (tokens : List Token) (one other : Syntax) → Fits tokens one → Fits tokens other → one ≡ other
 same_statement tokens one other h k = let e : Some one ≡ Some other = sym (statement_again tokens one h) ∙ statement_again tokens other k in cc
+
+-- ---- lists have parts
+
+abbrev pub IsFilled : Part → Type 0
+IsFilled (part.Names names) = 0 < length names
+IsFilled (part.Values values) = 0 < length values
+IsFilled (part.Columns columns) = 0 < length columns
+IsFilled other = Unit {0}
+
+filled : (row : List Place) (tokens : Tokens) (parts : List Part) → Stand row tokens parts → AllByRecursion IsFilled parts
+filled [] tokens parts h = subst (AllByRecursion IsFilled) (sym h.1) tt
+filled (place.Word ∷ row) tokens parts h = subst (AllByRecursion IsFilled) (sym h.2.2) (tt, filled row h.0 h.1 h.3)
+filled (place.Names ∷ row) tokens parts h =
+    subst (AllByRecursion IsFilled) (sym h.2.2) (some_listed place.Comma IsName word_at finds_name h.2.0 tokens h.0 h.2.1, filled row h.0 h.1 h.3)
+filled (place.Values ∷ row) tokens parts h =
+    subst (AllByRecursion IsFilled) (sym h.2.2) (some_listed place.Comma IsValue operand_at finds_value h.2.0 tokens h.0 h.2.1, filled row h.0 h.1 h.3)
+filled (place.Columns ∷ row) tokens parts h =
+    subst (AllByRecursion IsFilled) (sym h.2.2) (some_listed place.Comma IsColumn column_at finds_column h.2.0 tokens h.0 h.2.1, filled row h.0 h.1 h.3)
+filled (place.Where ∷ row) tokens parts h = subst (AllByRecursion IsFilled) (sym h.2.2) (tt, filled row h.0 h.1 h.3)
+filled (_ ∷ row) tokens parts h = subst (AllByRecursion IsFilled) (sym h.2.3) (filled row h.0 h.1 h.3)
+
+with_parts : (f : Form) (parts : List Part) (syntax : Syntax) → statement_of f parts ≡ Some syntax → AllByRecursion IsFilled parts → HasParts syntax
+with_parts form.Create (part.Word p ∷ part.Word t ∷ part.Word c ∷ []) syntax e all = subst HasParts (some_is _ syntax e) tt
+with_parts form.Insert (part.Word d ∷ part.Names ns ∷ part.Word t ∷ part.Values vs ∷ []) syntax e all = subst HasParts (some_is _ syntax e) (all.1.0, all.1.1.1.0)
+with_parts form.Delete (part.Word p ∷ part.Conditions cs ∷ []) syntax e all = subst HasParts (some_is _ syntax e) tt
+with_parts form.Select (part.Columns cs ∷ part.Word d ∷ part.Conditions ws ∷ []) syntax e all = subst HasParts (some_is _ syntax e) all.0
+with_parts form.Flush [] syntax e all = subst HasParts (some_is _ syntax e) tt
+with_parts form.CompactSequence [] syntax e all = subst HasParts (some_is _ syntax e) tt
+with_parts form.CompactUnsequence [] syntax e all = subst HasParts (some_is _ syntax e) tt
+with_parts form.CompactCross [] syntax e all = subst HasParts (some_is _ syntax e) tt
+with_parts form.ShowFiles [] syntax e all = subst HasParts (some_is _ syntax e) tt
+with_parts _ _ syntax e all = cc
+
+pub has_parts : (tokens : Tokens) (syntax : Syntax) → Fits tokens syntax → HasParts syntax
+has_parts tokens syntax h = with_parts h.form h.parts syntax h.says (filled (places h.form) tokens h.parts h.stand)
+
+pub parts_ok : (tokens : List Token) (result : Result Syntax LineFault) → IfOk result (Fits tokens) → IfOk result HasParts
+parts_ok tokens (Ok syntax) fits = has_parts tokens syntax fits
+parts_ok tokens (Err e) fits = tt

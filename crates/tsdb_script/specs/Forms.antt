@@ -1,13 +1,22 @@
--- Which tokens fit the form of a statement. A form is a list of places, each for one token.
-use Rattle.std.specs.Prelude.{◌≡◌, ◌⊎◌, ℕ, ◌<◌, ◌||◌, IsTrue, List, [], ◌∷◌, ◌++◌, None, Some, length, codes}
-use Rattle.std.specs.List.{AllZip, flat_map}
+-- Which tokens fit the form of a statement. A form is a row of places, in the table of `src/form.rt`.
+use Rattle.std.specs.Prelude.{◌≡◌, ◌⊎◌, ℕ, ◌<◌, ◌||◌, Bool, true, false, IsTrue, List, [], ◌∷◌, Option, None, Some, length, codes}
 use Rattle.tsdb_base.specs.declared.ids.Space.TheVariants.{Sequence, Unsequence}
+use Rattle.tsdb_script.specs.declared.form.Form.{Form}
+use Rattle.tsdb_script.specs.declared.form.Form.TheVariants as form
+use Rattle.tsdb_script.specs.declared.form.Keyword.{Keyword}
+use Rattle.tsdb_script.specs.declared.form.Keyword.TheVariants as key
+use Rattle.tsdb_script.specs.declared.form.Place.{Place}
+use Rattle.tsdb_script.specs.declared.form.Place.TheVariants as place
+use Rattle.tsdb_script.specs.declared.form.TheConstants.{CREATE, INSERT, DELETE, SELECT, FLUSH, COMPACT_SEQUENCE}
+use Rattle.tsdb_script.specs.declared.form.TheConstants.{COMPACT_UNSEQUENCE, COMPACT_CROSS, SHOW_FILES}
 use Rattle.tsdb_script.specs.declared.syntax.Column.{Column}
 use Rattle.tsdb_script.specs.declared.syntax.Comparison.{Comparison}
 use Rattle.tsdb_script.specs.declared.syntax.Comparison.TheVariants as compared
 use Rattle.tsdb_script.specs.declared.syntax.Condition.{Condition}
 use Rattle.tsdb_script.specs.declared.syntax.Operand.{Operand}
 use Rattle.tsdb_script.specs.declared.syntax.Operand.TheVariants as operand
+use Rattle.tsdb_script.specs.declared.syntax.Part.{Part}
+use Rattle.tsdb_script.specs.declared.syntax.Part.TheVariants as part
 use Rattle.tsdb_script.specs.declared.syntax.Syntax.{Syntax}
 use Rattle.tsdb_script.specs.declared.syntax.Syntax.TheVariants.{Create, Insert, Delete, Select, Flush, CompactInner}
 use Rattle.tsdb_script.specs.declared.syntax.Syntax.TheVariants.{CompactCross, ShowFiles}
@@ -15,26 +24,54 @@ use Rattle.tsdb_script.specs.declared.token.Token.{Token}
 use Rattle.tsdb_script.specs.declared.token.Token.TheVariants as token
 use Rattle.tsdb_script.specs.Tokens.{is_keyword}
 
--- a place for a keyword, for one of two keywords, or for this token alone
-pub data Place : Type 0 where
-  keyword : List ℕ → Place
-  either : List ℕ → List ℕ → Place
-  this : Token → Place
+-- a keyword in lower case
+abbrev pub keyword_text : Keyword → List ℕ
+keyword_text key.And = codes "and"
+keyword_text key.Compact = codes "compact"
+keyword_text key.Create = codes "create"
+keyword_text key.Cross = codes "cross"
+keyword_text key.DataType = codes "datatype"
+keyword_text key.Delete = codes "delete"
+keyword_text key.Encoding = codes "encoding"
+keyword_text key.Files = codes "files"
+keyword_text key.Flush = codes "flush"
+keyword_text key.From = codes "from"
+keyword_text key.Inner = codes "inner"
+keyword_text key.Insert = codes "insert"
+keyword_text key.Into = codes "into"
+keyword_text key.Select = codes "select"
+keyword_text key.Sequence = codes "sequence"
+keyword_text key.Show = codes "show"
+keyword_text key.Time = codes "time"
+keyword_text key.TimeSeries = codes "timeseries"
+keyword_text key.Unsequence = codes "unsequence"
+keyword_text key.Values = codes "values"
+keyword_text key.Where = codes "where"
+keyword_text key.With = codes "with"
 
--- the token can stand at the place; a keyword in any ASCII case
-abbrev pub Stands : Place → Token → Type 0
-Stands (keyword name) (token.Word word) = IsTrue (is_keyword word name)
-Stands (either name other) (token.Word word) = IsTrue (is_keyword word name || is_keyword word other)
-Stands (this wanted) token = wanted ≡ token
-Stands place token = ⊥
+-- the places of a form, from the left
+abbrev pub places : Form → List Place
+places form.Create = CREATE.now
+places form.Insert = INSERT.now
+places form.Delete = DELETE.now
+places form.Select = SELECT.now
+places form.Flush = FLUSH.now
+places form.CompactSequence = COMPACT_SEQUENCE.now
+places form.CompactUnsequence = COMPACT_UNSEQUENCE.now
+places form.CompactCross = COMPACT_CROSS.now
+places form.ShowFiles = SHOW_FILES.now
 
-abbrev pub word : List ℕ → Place
-word bytes = this (token.Word bytes)
+-- ---- what stands at a place
 
--- a value: a word or a text
-abbrev pub operand_token : Operand → Token
-operand_token (operand.Word bytes) = token.Word bytes
-operand_token (operand.Text content) = token.Text content
+-- the token is the keyword or mark that the place asks for
+abbrev pub is_at : Place → Token → Bool
+is_at (place.Keyword keyword) (token.Word word) = is_keyword word (keyword_text keyword)
+is_at place.Timestamp (token.Word word) = is_keyword word (codes "timestamp") || is_keyword word (codes "time")
+is_at place.Open token.Open = true
+is_at place.Close token.Close = true
+is_at place.Comma token.Comma = true
+is_at place.Equal token.Equal = true
+is_at place token = false
 
 abbrev pub comparison_token : Comparison → Token
 comparison_token compared.Less = token.Less
@@ -43,53 +80,98 @@ comparison_token compared.Greater = token.Greater
 comparison_token compared.GreaterEqual = token.GreaterEqual
 comparison_token compared.Equal = token.Equal
 
-abbrev pub name_places : List ℕ → List Place
-name_places name = word name ∷ []
+-- a part of a statement stands in the tokens up to the rest
+abbrev pub Standing : Type 0 → Type 1
+Standing X = X → List Token → List Token → Type 0
 
-abbrev pub value_places : Operand → List Place
-value_places value = this (operand_token value) ∷ []
+abbrev pub IsName : Standing (List ℕ)
+IsName name tokens rest = tokens ≡ token.Word name ∷ rest
+
+-- a value: a word or a text
+abbrev pub IsValue : Standing Operand
+IsValue (operand.Word word) tokens rest = tokens ≡ token.Word word ∷ rest
+IsValue (operand.Text content) tokens rest = tokens ≡ token.Text content ∷ rest
 
 -- `M` or `W ( M )`
-abbrev pub column_places : Column → List Place
-column_places column = elim column.aggregate [
-  | None ↦ word column.measurement ∷ []
-  | Some name ↦ word name ∷ this token.Open ∷ word column.measurement
-      ∷ this token.Close ∷ []
-]
+abbrev pub Called : Option (List ℕ) → Standing (List ℕ)
+Called None measurement tokens rest = tokens ≡ token.Word measurement ∷ rest
+Called (Some name) measurement tokens rest =
+    tokens ≡ token.Word name ∷ token.Open ∷ token.Word measurement ∷ token.Close ∷ rest
+
+abbrev pub IsColumn : Standing Column
+IsColumn column tokens rest = Called column.aggregate column.measurement tokens rest
+
+-- what the place asks for, and then the part
+abbrev pub Behind : {X : Type 0} → Place → Standing X → Standing X
+Behind place Is x tokens rest = (fixed : Token) × (more : List Token)
+    × (tokens ≡ fixed ∷ more) × IsTrue (is_at place fixed) × Is x more rest
 
 -- `time` op `N`
-abbrev pub condition_places : Condition → List Place
-condition_places condition = keyword (codes "time") ∷ this (comparison_token condition.comparison) ∷ word condition.number ∷ []
+abbrev pub IsCompared : Standing Condition
+IsCompared condition tokens rest =
+    tokens ≡ comparison_token condition.comparison ∷ token.Word condition.number ∷ rest
 
--- parts with commas between them, and what stands behind
-abbrev pub each_of : {X : Type 0} → (X → List Place) → List X → List Place → List Place
-each_of places [] behind = behind
-each_of places (x ∷ xs) behind = places x ++ (flat_map (λ x. this token.Comma ∷ places x) xs ++ behind)
+abbrev pub IsCondition : Standing Condition
+IsCondition = Behind (place.Keyword key.Time) IsCompared
 
--- nothing, or `where` and conditions with `and` between them, and what stands behind
-abbrev pub where_places : List Condition → List Place → List Place
-where_places [] behind = behind
-where_places (c ∷ cs) behind = keyword (codes "where") ∷ (condition_places c ++ (flat_map (λ c. keyword (codes "and") ∷ condition_places c) cs ++ behind))
+-- parts, one after another
+abbrev pub AreRow : {X : Type 0} → Standing X → Standing (List X)
+AreRow Is [] tokens rest = tokens ≡ rest
+AreRow Is (x ∷ xs) tokens rest = (more : List Token) × Is x tokens more × AreRow Is xs more rest
 
--- the form of a statement, and what stands behind
-abbrev pub form : Syntax → List Place → List Place
-form (Create path type encoding) behind =
-    keyword (codes "create") ∷ keyword (codes "timeseries") ∷ word path ∷ keyword (codes "with")
-    ∷ keyword (codes "datatype") ∷ this token.Equal ∷ word type ∷ this token.Comma
-    ∷ keyword (codes "encoding") ∷ this token.Equal ∷ word encoding ∷ behind
-form (Insert device names time values) behind =
-    keyword (codes "insert") ∷ keyword (codes "into") ∷ word device
-    ∷ this token.Open ∷ either (codes "timestamp") (codes "time") ∷ this token.Comma ∷ each_of name_places names (this token.Close
-    ∷ keyword (codes "values") ∷ this token.Open ∷ word time ∷ this token.Comma ∷ each_of value_places values (this token.Close ∷ behind))
-form (Delete path conditions) behind =
-    keyword (codes "delete") ∷ keyword (codes "from") ∷ word path ∷ where_places conditions behind
-form (Select columns device conditions) behind =
-    keyword (codes "select") ∷ each_of column_places columns (keyword (codes "from") ∷ word device ∷ where_places conditions behind)
-form Flush behind = keyword (codes "flush") ∷ behind
-form (CompactInner Sequence) behind = keyword (codes "compact") ∷ keyword (codes "inner") ∷ keyword (codes "sequence") ∷ behind
-form (CompactInner Unsequence) behind = keyword (codes "compact") ∷ keyword (codes "inner") ∷ keyword (codes "unsequence") ∷ behind
-form CompactCross behind = keyword (codes "compact") ∷ keyword (codes "cross") ∷ behind
-form ShowFiles behind = keyword (codes "show") ∷ keyword (codes "files") ∷ behind
+-- one part at least, with this between them
+abbrev pub AreListed : {X : Type 0} → Place → Standing X → Standing (List X)
+AreListed between Is [] tokens rest = ⊥
+AreListed between Is (x ∷ xs) tokens rest = (more : List Token) × Is x tokens more × AreRow (Behind between Is) xs more rest
+
+-- nothing, or `where` and conditions with `and` between them
+abbrev pub AreConditions : Standing (List Condition)
+AreConditions [] tokens rest = tokens ≡ rest
+AreConditions (c ∷ cs) tokens rest =
+    Behind (place.Keyword key.Where) (AreListed (place.Keyword key.And) IsCondition) (c ∷ cs) tokens rest
+
+-- what stands at the place are the tokens up to the rest, which give the parts up to the others
+abbrev pub Stands : Place → List Token → List Token → List Part → List Part → Type 0
+Stands place.Word tokens rest parts others = (word : List ℕ)
+    × IsName word tokens rest × (parts ≡ part.Word word ∷ others)
+Stands place.Names tokens rest parts others = (names : List (List ℕ))
+    × AreListed place.Comma IsName names tokens rest × (parts ≡ part.Names names ∷ others)
+Stands place.Values tokens rest parts others = (values : List Operand)
+    × AreListed place.Comma IsValue values tokens rest × (parts ≡ part.Values values ∷ others)
+Stands place.Columns tokens rest parts others = (columns : List Column)
+    × AreListed place.Comma IsColumn columns tokens rest × (parts ≡ part.Columns columns ∷ others)
+Stands place.Where tokens rest parts others = (conditions : List Condition)
+    × AreConditions conditions tokens rest × (parts ≡ part.Conditions conditions ∷ others)
+Stands place tokens rest parts others = (fixed : Token)
+    × (tokens ≡ fixed ∷ rest) × IsTrue (is_at place fixed) × (parts ≡ others)
+
+-- the first place asks for this token
+abbrev pub asks_first : Token → List Place → Bool
+asks_first token [] = false
+asks_first token (place ∷ behind) = is_at place token
+
+-- the tokens stand at these places and give these parts, with one `;` behind them or none
+abbrev pub Stand : List Place → List Token → List Part → Type 0
+Stand [] tokens parts = ((tokens ≡ []) ⊎ (tokens ≡ token.Semicolon ∷ [])) × (parts ≡ [])
+Stand (place ∷ places) tokens parts = (rest : List Token) × (others : List Part)
+    × Stands place tokens rest parts others × Stand places rest others
+
+-- ---- statements
+
+-- the statement of a form with these parts
+abbrev pub statement_of : Form → List Part → Option Syntax
+statement_of form.Create (part.Word path ∷ part.Word type ∷ part.Word encoding ∷ []) = Some (Create path type encoding)
+statement_of form.Insert (part.Word device ∷ part.Names names ∷ part.Word time ∷ part.Values values ∷ []) =
+    Some (Insert device names time values)
+statement_of form.Delete (part.Word path ∷ part.Conditions conditions ∷ []) = Some (Delete path conditions)
+statement_of form.Select (part.Columns columns ∷ part.Word device ∷ part.Conditions conditions ∷ []) =
+    Some (Select columns device conditions)
+statement_of form.Flush [] = Some Flush
+statement_of form.CompactSequence [] = Some (CompactInner Sequence)
+statement_of form.CompactUnsequence [] = Some (CompactInner Unsequence)
+statement_of form.CompactCross [] = Some CompactCross
+statement_of form.ShowFiles [] = Some ShowFiles
+statement_of form parts = None
 
 -- a list that wants a part has one
 abbrev pub HasParts : Syntax → Type 0
@@ -97,12 +179,12 @@ HasParts (Insert device names time values) = (0 < length names) × (0 < length v
 HasParts (Select columns device conditions) = 0 < length columns
 HasParts syntax = Unit {0}
 
--- the tokens fit the form of this statement, with one `;` behind it or none
+-- the tokens fit the form of this statement
 pub record Fits (tokens : List Token) (syntax : Syntax) : Type 0 where
-  pub parts : HasParts syntax
-  pub behind : List Place
-  pub finish : (behind ≡ []) ⊎ (behind ≡ this token.Semicolon ∷ [])
-  pub stand : AllZip Stands (form syntax behind) tokens
+  pub form : Form
+  pub parts : List Part
+  pub stand : Stand (places form) tokens parts
+  pub says : statement_of form parts ≡ Some syntax
 
 -- the tokens fit no form, which is a fault of kind 3
 abbrev pub HasNoForm : List Token → ℕ → Type 0

@@ -1,22 +1,30 @@
 -- What the parser finds, step by step, as functions on lists of tokens. No public clause cites them.
-use Rattle.std.specs.Prelude.{◌≡◌, ℕ, zero, suc, length, ◌||◌, Bool, true, false, List, [], ◌∷◌, Option, None, Some}
-use Rattle.std.specs.Prelude.{Result, Ok, Err, option_map, codes, if◌then◌else◌}
-use Rattle.tsdb_base.specs.declared.ids.Space.{Space}
+use Rattle.std.specs.Prelude.{◌≡◌, ℕ, zero, suc, length, ◌&&◌, Bool, true, false, List, [], ◌∷◌, Option, None, Some}
+use Rattle.std.specs.Prelude.{Result, Ok, Err, option_map, if◌then◌else◌}
 use Rattle.tsdb_base.specs.declared.ids.Space.TheVariants.{Sequence, Unsequence}
 use Rattle.tsdb_script.specs.declared.fault.LineFault.{LineFault}
 use Rattle.tsdb_script.specs.declared.fault.LineFault.TheVariants.{Bad, Memory}
+use Rattle.tsdb_script.specs.declared.form.Form.{Form}
+use Rattle.tsdb_script.specs.declared.form.Form.TheVariants as form
+use Rattle.tsdb_script.specs.declared.form.Keyword.TheVariants as key
+use Rattle.tsdb_script.specs.declared.form.Place.{Place}
+use Rattle.tsdb_script.specs.declared.form.Place.TheVariants as place
+use Rattle.tsdb_script.specs.declared.form.TheConstants.{FORMS}
 use Rattle.tsdb_script.specs.declared.syntax.Column.{Column}
 use Rattle.tsdb_script.specs.declared.syntax.Comparison.{Comparison}
 use Rattle.tsdb_script.specs.declared.syntax.Comparison.TheVariants as compared
 use Rattle.tsdb_script.specs.declared.syntax.Condition.{Condition}
 use Rattle.tsdb_script.specs.declared.syntax.Operand.{Operand}
 use Rattle.tsdb_script.specs.declared.syntax.Operand.TheVariants as operand
+use Rattle.tsdb_script.specs.declared.syntax.Part.{Part}
+use Rattle.tsdb_script.specs.declared.syntax.Part.TheVariants as part
 use Rattle.tsdb_script.specs.declared.syntax.Syntax.{Syntax}
 use Rattle.tsdb_script.specs.declared.syntax.Syntax.TheVariants.{Create, Insert, Delete, Select, Flush, CompactInner}
 use Rattle.tsdb_script.specs.declared.syntax.Syntax.TheVariants.{CompactCross, ShowFiles}
 use Rattle.tsdb_script.specs.declared.token.Token.{Token}
 use Rattle.tsdb_script.specs.declared.token.Token.TheVariants.{Word, Text, Open, Close, Comma, Semicolon, Equal, Less}
 use Rattle.tsdb_script.specs.declared.token.Token.TheVariants.{LessEqual, Greater, GreaterEqual}
+use Rattle.tsdb_script.specs.Forms.{is_at, places}
 use Rattle.tsdb_script.specs.Tokens.{is_keyword}
 
 infixl 10 ◌>>=◌
@@ -33,33 +41,21 @@ Gives view (Err Memory) found = Unit {0}
 abbrev pub Tokens : Type 0
 Tokens = List Token
 
+abbrev pub says : List ℕ → Token → Bool
+says name (Word word) = is_keyword word name
+says name token = false
+
+abbrev pub stands_at : Place → Tokens → Bool
+stands_at place [] = false
+stands_at place (token ∷ rest) = is_at place token
+
+abbrev pub fixed_at : Place → Tokens → Option Tokens
+fixed_at place [] = None
+fixed_at place (token ∷ rest) = if is_at place token then Some rest else None
+
 abbrev pub word_at : Tokens → Option (List ℕ × Tokens)
 word_at (Word word ∷ rest) = Some (word, rest)
 word_at tokens = None
-
-abbrev pub keyword_at : List ℕ → Tokens → Option Tokens
-keyword_at name (Word word ∷ rest) = if is_keyword word name then Some rest else None
-keyword_at name tokens = None
-
-abbrev pub timestamp_at : Tokens → Option Tokens
-timestamp_at (Word word ∷ rest) = if is_keyword word (codes "timestamp") || is_keyword word (codes "time") then Some rest else None
-timestamp_at tokens = None
-
-abbrev pub open_at : Tokens → Option Tokens
-open_at (Open ∷ rest) = Some rest
-open_at tokens = None
-
-abbrev pub close_at : Tokens → Option Tokens
-close_at (Close ∷ rest) = Some rest
-close_at tokens = None
-
-abbrev pub comma_at : Tokens → Option Tokens
-comma_at (Comma ∷ rest) = Some rest
-comma_at tokens = None
-
-abbrev pub equal_at : Tokens → Option Tokens
-equal_at (Equal ∷ rest) = Some rest
-equal_at tokens = None
 
 abbrev pub end_at : Tokens → Option (Unit {0})
 end_at [] = Some tt
@@ -81,174 +77,168 @@ comparison_at tokens = None
 
 unfoldable pub condition_at : Tokens → Option (Condition × Tokens)
 condition_at tokens = do
-  rest ← keyword_at (codes "time") tokens
+  rest ← fixed_at (place.Keyword key.Time) tokens
   comparison ← comparison_at rest
   number ← word_at comparison.1
   Some (record { comparison = comparison.0; number = number.0 }, number.1)
 
-abbrev pub opens : Tokens → Bool
-opens (Open ∷ rest) = true
-opens tokens = false
-
-abbrev pub is_comma : Tokens → Bool
-is_comma (Comma ∷ rest) = true
-is_comma tokens = false
-
-abbrev pub says : List ℕ → Tokens → Bool
-says name (Word word ∷ rest) = is_keyword word name
-says name tokens = false
-
 unfoldable pub called_at : List ℕ → Tokens → Option (Column × Tokens)
 called_at aggregate tokens = do
-  rest ← open_at tokens
+  rest ← fixed_at place.Open tokens
   measurement ← word_at rest
-  rest ← close_at measurement.1
+  rest ← fixed_at place.Close measurement.1
   Some (record { aggregate = Some aggregate; measurement = measurement.0 }, rest)
 
 unfoldable pub column_at : Tokens → Option (Column × Tokens)
 column_at tokens = do
   first ← word_at tokens
-  if opens first.1 then called_at first.0 first.1
+  if stands_at place.Open first.1 then called_at first.0 first.1
       else Some (record { aggregate = None; measurement = first.0 }, first.1)
 
--- a part put before a list of parts
+-- an item put before a list of items
 abbrev pub onto : {X : Type 0} → X → List X × Tokens → List X × Tokens
-onto x parts = (x ∷ parts.0, parts.1)
+onto x items = (x ∷ items.0, items.1)
 
--- the parts as long as there are more, but at most so many
-abbrev pub parts_at : {X : Type 0} → (Tokens → Bool) → (Tokens → Option (X × Tokens)) → ℕ → Tokens
-    → Option (List X × Tokens)
-parts_at more next zero tokens = Some ([], tokens)
-parts_at more next (suc n) tokens =
-    if more tokens then next tokens >>= (λ part. option_map (onto part.0) (parts_at more next n part.1))
+-- the items as long as there are more, but at most so many
+abbrev pub items_at : {X : Type 0} → Place → (Tokens → Option (X × Tokens)) → ℕ → Tokens → Option (List X × Tokens)
+items_at between item zero tokens = Some ([], tokens)
+items_at between item (suc n) tokens =
+    if stands_at between tokens
+    then fixed_at between tokens >>= (λ rest. item rest >>= (λ x. option_map (onto x.0) (items_at between item n x.1)))
     else Some ([], tokens)
 
-abbrev pub next_word : Tokens → Option (List ℕ × Tokens)
-next_word tokens = comma_at tokens >>= word_at
-
-abbrev pub next_operand : Tokens → Option (Operand × Tokens)
-next_operand tokens = comma_at tokens >>= operand_at
-
-abbrev pub next_column : Tokens → Option (Column × Tokens)
-next_column tokens = comma_at tokens >>= column_at
-
-abbrev pub next_condition : Tokens → Option (Condition × Tokens)
-next_condition tokens = keyword_at (codes "and") tokens >>= condition_at
-
--- one part, and more behind it
-abbrev pub list_at : {X : Type 0} → (Tokens → Bool) → (Tokens → Option (X × Tokens)) → (Tokens → Option (X × Tokens))
-    → Tokens → Option (List X × Tokens)
-list_at more next first tokens = first tokens >>=
-    (λ part. option_map (onto part.0) (parts_at more next (length part.1) part.1))
-
-unfoldable pub words_at : Tokens → Option (List (List ℕ) × Tokens)
-words_at tokens = list_at is_comma next_word word_at tokens
-
-unfoldable pub values_at : Tokens → Option (List Operand × Tokens)
-values_at tokens = list_at is_comma next_operand operand_at tokens
-
-unfoldable pub columns_at : Tokens → Option (List Column × Tokens)
-columns_at tokens = list_at is_comma next_column column_at tokens
+-- one item, and more behind it
+abbrev pub list_at : {X : Type 0} → Place → (Tokens → Option (X × Tokens)) → Tokens → Option (List X × Tokens)
+list_at between item tokens = item tokens >>= (λ x. option_map (onto x.0) (items_at between item (length x.1) x.1))
 
 unfoldable pub conditions_at : Tokens → Option (List Condition × Tokens)
 conditions_at tokens =
-    if says (codes "where") tokens
-    then keyword_at (codes "where") tokens >>= list_at (says (codes "and")) next_condition condition_at
+    if stands_at (place.Keyword key.Where) tokens
+    then fixed_at (place.Keyword key.Where) tokens >>= list_at (place.Keyword key.And) condition_at
     else Some ([], tokens)
 
-unfoldable pub create_at : Tokens → Option Syntax
-create_at tokens = do
-  rest ← keyword_at (codes "timeseries") tokens
-  path ← word_at rest
-  rest ← keyword_at (codes "with") path.1
-  rest ← keyword_at (codes "datatype") rest
-  rest ← equal_at rest
-  type ← word_at rest
-  rest ← comma_at type.1
-  rest ← keyword_at (codes "encoding") rest
-  rest ← equal_at rest
-  encoding ← word_at rest
-  nothing ← end_at encoding.1
-  Some (Create path.0 type.0 encoding.0)
+-- what stands at a place: its part, where it has one
+unfoldable pub place_at : Place → Tokens → Option (Option Part × Tokens)
+place_at place.Word tokens = do
+  word ← word_at tokens
+  Some (Some (part.Word word.0), word.1)
+place_at place.Names tokens = do
+  names ← list_at place.Comma word_at tokens
+  Some (Some (part.Names names.0), names.1)
+place_at place.Values tokens = do
+  values ← list_at place.Comma operand_at tokens
+  Some (Some (part.Values values.0), values.1)
+place_at place.Columns tokens = do
+  columns ← list_at place.Comma column_at tokens
+  Some (Some (part.Columns columns.0), columns.1)
+place_at place.Where tokens = do
+  conditions ← conditions_at tokens
+  Some (Some (part.Conditions conditions.0), conditions.1)
+place_at place tokens = do
+  rest ← fixed_at place tokens
+  Some (None, rest)
 
-unfoldable pub insert_at : Tokens → Option Syntax
-insert_at tokens = do
-  rest ← keyword_at (codes "into") tokens
-  device ← word_at rest
-  rest ← open_at device.1
-  rest ← timestamp_at rest
-  rest ← comma_at rest
-  names ← words_at rest
-  rest ← close_at names.1
-  rest ← keyword_at (codes "values") rest
-  rest ← open_at rest
-  time ← word_at rest
-  rest ← comma_at time.1
-  values ← values_at rest
-  rest ← close_at values.1
-  nothing ← end_at rest
+-- a part, where there is one, put before others
+abbrev pub before : Option Part → List Part → List Part
+before None parts = parts
+before (Some part) parts = part ∷ parts
+
+-- the parts that stand at the places
+abbrev pub read_at : List Place → Tokens → Option (List Part)
+read_at [] tokens = end_at tokens >>= (λ nothing. Some [])
+read_at (place ∷ places) tokens = place_at place tokens >>= (λ found. option_map (before found.0) (read_at places found.1))
+
+abbrev pub is_keyword_place : Place → Bool
+is_keyword_place (place.Keyword keyword) = true
+is_keyword_place place = false
+
+-- the tokens begin with the keywords that the places begin with
+abbrev pub begins_at : List Place → Tokens → Bool
+begins_at [] tokens = true
+begins_at (place ∷ places) [] = if is_keyword_place place then false else true
+begins_at (place ∷ places) (token ∷ tokens) = if is_keyword_place place then is_at place token && begins_at places tokens else true
+
+-- the first of these forms whose keywords the tokens begin with
+abbrev pub form_at : List Form → Tokens → Option Form
+form_at [] tokens = None
+form_at (form ∷ forms) tokens = if begins_at (places form) tokens then Some form else form_at forms tokens
+
+-- ---- a statement of its parts
+
+abbrev pub word_part : List Part → Option (List ℕ × List Part)
+word_part (part.Word word ∷ parts) = Some (word, parts)
+word_part parts = None
+
+abbrev pub names_part : List Part → Option (List (List ℕ) × List Part)
+names_part (part.Names names ∷ parts) = Some (names, parts)
+names_part parts = None
+
+abbrev pub values_part : List Part → Option (List Operand × List Part)
+values_part (part.Values values ∷ parts) = Some (values, parts)
+values_part parts = None
+
+abbrev pub columns_part : List Part → Option (List Column × List Part)
+columns_part (part.Columns columns ∷ parts) = Some (columns, parts)
+columns_part parts = None
+
+abbrev pub conditions_part : List Part → Option (List Condition × List Part)
+conditions_part (part.Conditions conditions ∷ parts) = Some (conditions, parts)
+conditions_part parts = None
+
+abbrev pub no_part : List Part → Option (Unit {0})
+no_part [] = Some tt
+no_part parts = None
+
+unfoldable pub create_of : List Part → Option Syntax
+create_of parts = do
+  path ← word_part parts
+  data_type ← word_part path.1
+  encoding ← word_part data_type.1
+  nothing ← no_part encoding.1
+  Some (Create path.0 data_type.0 encoding.0)
+
+unfoldable pub insert_of : List Part → Option Syntax
+insert_of parts = do
+  device ← word_part parts
+  names ← names_part device.1
+  time ← word_part names.1
+  values ← values_part time.1
+  nothing ← no_part values.1
   Some (Insert device.0 names.0 time.0 values.0)
 
-unfoldable pub delete_at : Tokens → Option Syntax
-delete_at tokens = do
-  rest ← keyword_at (codes "from") tokens
-  path ← word_at rest
-  conditions ← conditions_at path.1
-  nothing ← end_at conditions.1
+unfoldable pub delete_of : List Part → Option Syntax
+delete_of parts = do
+  path ← word_part parts
+  conditions ← conditions_part path.1
+  nothing ← no_part conditions.1
   Some (Delete path.0 conditions.0)
 
-unfoldable pub select_at : Tokens → Option Syntax
-select_at tokens = do
-  columns ← columns_at tokens
-  rest ← keyword_at (codes "from") columns.1
-  device ← word_at rest
-  conditions ← conditions_at device.1
-  nothing ← end_at conditions.1
+unfoldable pub select_of : List Part → Option Syntax
+select_of parts = do
+  columns ← columns_part parts
+  device ← word_part columns.1
+  conditions ← conditions_part device.1
+  nothing ← no_part conditions.1
   Some (Select columns.0 device.0 conditions.0)
 
-unfoldable pub flush_at : Tokens → Option Syntax
-flush_at tokens = do
-  nothing ← end_at tokens
-  Some Flush
+unfoldable pub bare_of : Syntax → List Part → Option Syntax
+bare_of syntax parts = do
+  nothing ← no_part parts
+  Some syntax
 
-abbrev pub space_at : List ℕ → Option Space
-space_at name = if is_keyword name (codes "sequence") then Some Sequence else if is_keyword name (codes "unsequence") then Some Unsequence else None
-
-unfoldable pub inner_at : Tokens → Option Syntax
-inner_at tokens = do
-  name ← word_at tokens
-  space ← space_at name.0
-  nothing ← end_at name.1
-  Some (CompactInner space)
-
-unfoldable pub cross_at : Tokens → Option Syntax
-cross_at tokens = do
-  nothing ← end_at tokens
-  Some CompactCross
-
-unfoldable pub compact_at : Tokens → Option Syntax
-compact_at tokens = do
-  first ← word_at tokens
-  if is_keyword first.0 (codes "cross") then cross_at first.1 else if is_keyword first.0 (codes "inner") then inner_at first.1 else None
-
-unfoldable pub show_at : Tokens → Option Syntax
-show_at tokens = do
-  rest ← keyword_at (codes "files") tokens
-  nothing ← end_at rest
-  Some ShowFiles
-
-abbrev pub form_at : List ℕ → Tokens → Option Syntax
-form_at word rest =
-    if is_keyword word (codes "insert") then insert_at rest
-    else if is_keyword word (codes "select") then select_at rest
-    else if is_keyword word (codes "delete") then delete_at rest
-    else if is_keyword word (codes "create") then create_at rest
-    else if is_keyword word (codes "flush") then flush_at rest
-    else if is_keyword word (codes "compact") then compact_at rest
-    else if is_keyword word (codes "show") then show_at rest
-    else None
+abbrev pub made_of : Form → List Part → Option Syntax
+made_of form.Create parts = create_of parts
+made_of form.Insert parts = insert_of parts
+made_of form.Delete parts = delete_of parts
+made_of form.Select parts = select_of parts
+made_of form.Flush parts = bare_of Flush parts
+made_of form.CompactSequence parts = bare_of (CompactInner Sequence) parts
+made_of form.CompactUnsequence parts = bare_of (CompactInner Unsequence) parts
+made_of form.CompactCross parts = bare_of CompactCross parts
+made_of form.ShowFiles parts = bare_of ShowFiles parts
 
 unfoldable pub statement_at : Tokens → Option Syntax
 statement_at tokens = do
-  first ← word_at tokens
-  form_at first.0 first.1
+  form ← form_at FORMS.now tokens
+  parts ← read_at (places form) tokens
+  made_of form parts

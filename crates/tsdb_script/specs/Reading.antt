@@ -1,6 +1,6 @@
 -- What a script says: its lines, what is objected to a line, and the commands that the lines give.
 use Rattle.std.specs.Prelude.{◌≡◌, ◌⊎◌, ℕ, ◌+◌, ◌<◌, ◌≤◌, ◌==◌, ◌||◌, Bool, true, false, IsTrue, All, List, [], ◌∷◌}
-use Rattle.std.specs.Prelude.{◌++◌, length, map, codes, if◌then◌else◌}
+use Rattle.std.specs.Prelude.{◌++◌, length, map, if◌then◌else◌}
 use Rattle.std.specs.List.{concat, list_all, list_any}
 use Rattle.std.specs.Set.{distinct_count}
 use Rattle.std.specs.Str.Parse.{IsNumeral, digits_value}
@@ -13,10 +13,11 @@ use Rattle.tsdb_script.specs.declared.syntax.Syntax.{Syntax}
 use Rattle.tsdb_script.specs.declared.syntax.Syntax.TheVariants.{Flush, CompactInner, CompactCross, ShowFiles}
 use Rattle.tsdb_script.specs.declared.token.Token.{Token}
 use Rattle.tsdb_script.specs.declared.token.Token.TheVariants.{Word}
-use Rattle.tsdb_script.specs.Forms.{Fits, HasNoForm}
+use Rattle.tsdb_script.specs.declared.form.TheConstants.{FORMS}
+use Rattle.tsdb_script.specs.Forms.{asks_first, places, Fits, HasNoForm}
 use Rattle.tsdb_script.specs.Limits.{max_commands, max_line_bytes, max_script_bytes, max_sessions}
 use Rattle.tsdb_script.specs.Meaning.{Means, Objects}
-use Rattle.tsdb_script.specs.Tokens.{is_blank, is_keyword, starts, AreTokens, HasNoTokens}
+use Rattle.tsdb_script.specs.Tokens.{is_blank, starts, AreTokens, HasNoTokens}
 
 -- ---- lines
 
@@ -70,13 +71,10 @@ pub record IsOfSession (line : Line) (session : ℕ) (statement : List Token) : 
 abbrev pub session_count : List ℕ → ℕ
 session_count sessions = distinct_count (λ a b. a == b) sessions
 
--- the words that begin a statement
-abbrev pub first_words : List (List ℕ)
-first_words = codes "create" ∷ codes "insert" ∷ codes "delete" ∷ codes "select" ∷ codes "flush" ∷ codes "compact" ∷ codes "show" ∷ []
-
+-- the first token is one that a form begins with
 abbrev pub BeginsStatement : List Token → Type 0
-BeginsStatement (Word word ∷ rest) = IsTrue (list_any (is_keyword word) first_words)
-BeginsStatement tokens = ⊥
+BeginsStatement [] = ⊥
+BeginsStatement (token ∷ rest) = IsTrue (list_any (λ form. asks_first token (places form)) FORMS.now)
 
 -- the forms that are not built yet
 abbrev pub IsNotBuilt : Syntax → Type 0

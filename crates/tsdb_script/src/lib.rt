@@ -4,6 +4,7 @@
 
 mod conditions;
 mod fault;
+mod form;
 mod laws;
 mod lexer;
 mod line;

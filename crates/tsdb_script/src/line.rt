@@ -13,7 +13,7 @@ use crate::lexer::tokens;
 use crate::lines::{begins_with, content, is_skipped};
 use crate::meaning::command_of;
 use crate::numbered::Numbered;
-use crate::parser::{Tokens, statement};
+use crate::parser::{Tokens, begins_form, statement};
 use crate::syntax::Syntax;
 use crate::token::{Token, Word};
 use std::alloc::Global;
@@ -136,16 +136,10 @@ fn has_room(script: &[Numbered], sessions: &[u16], session: u16) -> bool
 fn begins_statement(tokens: &Tokens) -> bool
     ensures { IsTrue result ↔ BeginsStatement tokens.now.items }
 {
-    let Some(Token::Word(word)) = tokens.front() else {
-        return false;
-    };
-    word.is(b"create")
-        || word.is(b"insert")
-        || word.is(b"delete")
-        || word.is(b"select")
-        || word.is(b"flush")
-        || word.is(b"compact")
-        || word.is(b"show")
+    match tokens.front() {
+        Some(token) => begins_form(token),
+        None => false,
+    }
 }
 
 /// Whether a statement has a form that is not built yet.

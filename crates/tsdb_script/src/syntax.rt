@@ -33,6 +33,16 @@ pub struct Column<'a> {
     pub measurement: Word<'a>,
 }
 
+/// What stands at a place of a form that gives a part.
+#[derive(Drop)]
+pub enum Part<'a> {
+    Word(Word<'a>),
+    Names(List<Word<'a>>),
+    Values(List<Operand<'a>>),
+    Columns(List<Column<'a>>),
+    Conditions(List<Condition<'a>>),
+}
+
 /// A statement, by its form.
 #[derive(Drop)]
 pub enum Syntax<'a> {
