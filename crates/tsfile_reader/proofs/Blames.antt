@@ -21,10 +21,10 @@ use Rattle.tsdb_pages.proofs.Marks.{marked_same}
 use Rattle.tsdb_pages.proofs.OneFile.{same_entries}
 use Rattle.tsdb_path.specs.Nodes.{IsPath}
 use Rattle.tsfile_reader.specs.Blame.{AreAlike, AreGroups, HasGroups, IsBlamed, IsFirstBadPart, IsFirstWrongLeaf, IsNoFile, data_in, leaf, outline, part}
-use Rattle.tsfile_reader.specs.Outline.{HasIndex, HasOutline, HasRoot, IsBadOutline, between, no_head, no_leaf, no_root, no_tail, short, tail_place}
+use Rattle.tsfile_reader.specs.Outline.{HasHead, HasIndex, HasOutline, HasRoot, HasTail, IsBadFront, IsBadOutline, between, in_front, least_length, no_head, no_leaf, no_root, no_tail, short, tail_place}
 use Rattle.tsfile_reader.proofs.GroupLoop.{entries_counted}
 use Rattle.tsfile_reader.proofs.OneBlame.{none_bad, one_place}
-use Rattle.tsfile_reader.proofs.OneOutline.{good_outline, outline_of_tree, rises, root_same, tail_same, tree_not_bad}
+use Rattle.tsfile_reader.proofs.OneOutline.{good_front, good_outline, outline_of_tree, rises, root_same, tail_same, tree_not_bad}
 use Rattle.tsfile_reader.proofs.Outlines.{length_between}
 use Rattle.tsfile_reader.proofs.Rows.{IsFullGroup, after_groups, good_groups, groups_end, groups_text}
 
@@ -37,33 +37,32 @@ one_bad_leaf root (p ∷ ps) bytes x y (inl a) (inr b) = absurd (a.1 b.0.0 b.0.1
 one_bad_leaf root (p ∷ ps) bytes x y (inr a) (inl b) = absurd (b.1 a.0.0 a.0.1)
 one_bad_leaf root (p ∷ ps) bytes x y (inr a) (inr b) = one_bad_leaf root ps (drop (end_of root ps - p.place) bytes) x y a.1 b.1
 
+one_bad_front : (b : List ℕ) (x y : ℕ) → length b < 2 ^ 64 → IsBadFront b x → IsBadFront b y → x ≡ y
+one_bad_front b x y room (short less) (short other) = refl
+one_bad_front b x y room (short less) (no_tail long none) = absurd (omega (arith, less, long))
+one_bad_front b x y room (short less) (no_head long r tail none) = absurd (omega (arith, less, long))
+one_bad_front b x y room (short less) (no_root long r tail starts none) = absurd (omega (arith, less, long))
+one_bad_front b x y room (no_tail long none) (short less) = absurd (omega (arith, less, long))
+one_bad_front b x y room (no_tail long none) (no_tail other also) = refl
+one_bad_front b x y room (no_tail long none) (no_head other r tail also) = absurd (none r tail)
+one_bad_front b x y room (no_tail long none) (no_root other r tail starts also) = absurd (none r tail)
+one_bad_front b x y room (no_head long r tail none) (short less) = absurd (omega (arith, less, long))
+one_bad_front b x y room (no_head long r tail none) (no_tail other also) = absurd (also r tail)
+one_bad_front b x y room (no_head long r tail none) (no_head other s end also) = refl
+one_bad_front b x y room (no_head long r tail none) (no_root other s end starts also) = absurd (none starts)
+one_bad_front b x y room (no_root long r tail starts none) (short less) = absurd (omega (arith, less, long))
+one_bad_front b x y room (no_root long r tail starts none) (no_tail other also) = absurd (also r tail)
+one_bad_front b x y room (no_root long r tail starts none) (no_head other s end also) = absurd (also starts)
+one_bad_front b x y room (no_root long r tail starts none) (no_root other s end begins also) = tail_same b r s room tail end
+
+-- where a root stands, the front is not bad
+front_with_root : (b : List ℕ) (root place at : ℕ) (ps : List Pointer) → length b < 2 ^ 64 → least_length ≤ length b → HasTail b root → HasHead b → HasRoot b root place ps → IsBadFront b at → ⊥
+front_with_root b root place at ps room long tail starts there bad = good_front b root place ps at room (record { long = long; tail = tail; starts = starts; points = there }) bad
+
 one_bad_outline : (b : List ℕ) (x y : ℕ) → length b < 2 ^ 64 → IsBadOutline b x → IsBadOutline b y → x ≡ y
-one_bad_outline b x y room (short less) (short other) = refl
-one_bad_outline b x y room (short less) (no_tail long none) = absurd (omega (arith, less, long))
-one_bad_outline b x y room (short less) (no_head long r tail none) = absurd (omega (arith, less, long))
-one_bad_outline b x y room (short less) (no_root long r tail starts none) = absurd (omega (arith, less, long))
-one_bad_outline b x y room (short less) (no_leaf long r tail starts p ps there at bad) = absurd (omega (arith, less, long))
-one_bad_outline b x y room (no_tail long none) (short less) = absurd (omega (arith, less, long))
-one_bad_outline b x y room (no_tail long none) (no_tail other also) = refl
-one_bad_outline b x y room (no_tail long none) (no_head other r tail also) = absurd (none r tail)
-one_bad_outline b x y room (no_tail long none) (no_root other r tail starts also) = absurd (none r tail)
-one_bad_outline b x y room (no_tail long none) (no_leaf other r tail starts p ps there at bad) = absurd (none r tail)
-one_bad_outline b x y room (no_head long r tail none) (short less) = absurd (omega (arith, less, long))
-one_bad_outline b x y room (no_head long r tail none) (no_tail other also) = absurd (also r tail)
-one_bad_outline b x y room (no_head long r tail none) (no_head other s end also) = refl
-one_bad_outline b x y room (no_head long r tail none) (no_root other s end starts also) = absurd (none starts)
-one_bad_outline b x y room (no_head long r tail none) (no_leaf other s end starts p ps there at bad) = absurd (none starts)
-one_bad_outline b x y room (no_root long r tail starts none) (short less) = absurd (omega (arith, less, long))
-one_bad_outline b x y room (no_root long r tail starts none) (no_tail other also) = absurd (also r tail)
-one_bad_outline b x y room (no_root long r tail starts none) (no_head other s end also) = absurd (also starts)
-one_bad_outline b x y room (no_root long r tail starts none) (no_root other s end begins also) = tail_same b r s room tail end
-one_bad_outline b x y room (no_root long r tail starts none) (no_leaf other s end begins p ps there at bad) =
-    absurd (none p ps (subst (λ (n : ℕ). HasRoot b n p ps) (tail_same b s r room end tail) there))
-one_bad_outline b x y room (no_leaf long r tail starts p ps there at bad) (short less) = absurd (omega (arith, less, long))
-one_bad_outline b x y room (no_leaf long r tail starts p ps there at bad) (no_tail other also) = absurd (also r tail)
-one_bad_outline b x y room (no_leaf long r tail starts p ps there at bad) (no_head other s end also) = absurd (also starts)
-one_bad_outline b x y room (no_leaf long r tail starts p ps there at bad) (no_root other s end begins also) =
-    absurd (also p ps (subst (λ (n : ℕ). HasRoot b n p ps) (tail_same b r s room tail end) there))
+one_bad_outline b x y room (in_front at bad) (in_front by also) = one_bad_front b at by room bad also
+one_bad_outline b x y room (in_front at bad) (no_leaf long r tail starts p ps there by also) = absurd (front_with_root b r p at ps room long tail starts there bad)
+one_bad_outline b x y room (no_leaf long r tail starts p ps there at bad) (in_front by also) = absurd (front_with_root b r p by ps room long tail starts there also)
 one_bad_outline b x y room (no_leaf long r tail starts p ps there at bad) (no_leaf other s end begins q qs here by other_bad) =
     let same = tail_same b r s room tail end in
     let one = root_same b s p q ps qs (subst (λ (n : ℕ). HasRoot b n p ps) same there) here in

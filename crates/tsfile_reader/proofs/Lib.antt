@@ -12,3 +12,4 @@ pub mod OneBlame
 pub mod Blames
 pub mod Checking
 pub mod Alike
+pub mod Finds

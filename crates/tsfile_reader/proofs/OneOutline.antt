@@ -1,6 +1,7 @@
 -- A file has one outline, and one that has it is blamed nowhere in it.
 use Rattle.std.proofs.Common.{◌≡◌, ℕ, ◌-◌, ◌<◌, ◌≤◌, ◌^◌, List, [], ◌∷◌, length, take, drop, Err, refl, sym, ap, subst, ◌∙◌, arith}
 use Rattle.std.specs.Prelude.{Option, None, Some, IfSome, IfOk}
+use Rattle.std.specs.List.{flat_map}
 use Rattle.tsdb_base.specs.FieldLaws.{number64-prefix_free}
 use Rattle.tsdb_index.specs.declared.index.Index.{Index}
 use Rattle.tsdb_index.specs.declared.index.IndexEntry.{IndexEntry}
@@ -19,7 +20,7 @@ use Rattle.tsfile_reader.specs.declared.fault.ReadFault.{ReadFault}
 use Rattle.tsfile_reader.specs.declared.fault.ReadFault.TheVariants.{Failed, Damaged, Memory}
 use Rattle.tsfile_reader.specs.Answers.{Answers, IfDamaged, IsNotDamaged}
 use Rattle.tsfile_reader.specs.Meta.{IsMetaOf}
-use Rattle.tsfile_reader.specs.Outline.{HasIndex, HasOutline, HasRoot, HasTail, IsBadOutline, between, no_head, no_leaf, no_root, no_tail, short, tail_place}
+use Rattle.tsfile_reader.specs.Outline.{HasFront, HasIndex, HasOutline, HasRoot, HasTail, IsBadFront, IsBadOutline, between, in_front, no_head, no_leaf, no_root, no_tail, short, tail_place}
 use Rattle.tsfile_reader.specs.Steps.{IsOutlineIn}
 use Rattle.tsfile_reader.proofs.Outlines.{before_tail, between_back, between_front, first_inside, length_between}
 
@@ -51,7 +52,7 @@ rises b root place ps has = record {
 }
 
 -- the leaves stand at the pointers
-pub leaves_there : (b : List ℕ) (root place : ℕ) (ps : List Pointer) (es : List IndexEntry) → length b < 2 ^ 64 → HasRoot b root place ps → HasIndex b root place es → (leaves : List (List IndexEntry)) × AreLeavesAt root ps (between place root b) leaves
+pub leaves_there : (b : List ℕ) (root place : ℕ) (ps : List Pointer) (es : List IndexEntry) → length b < 2 ^ 64 → HasRoot b root place ps → HasIndex b root place es → (leaves : List (List IndexEntry)) × AreLeavesAt root ps (between place root b) leaves × (es ≡ flat_map (λ leaf. leaf) leaves)
 leaves_there b root place ps es room has index =
     let r = rises b root place ps has in
     let low = r.low in
@@ -64,14 +65,21 @@ leaves_there b root place ps es room has index =
     let front = between_front b place root (tail_place b) (omega (arith, low)) (omega (arith, high)) in
     let there : HasRoot b root place parts.pointers-are = record { behind-head = has.behind-head; is = subst (λ (l : List ℕ). IsRoot place root l parts.pointers-are) back parts.is-root } in
     let same = (root_same b root place place qs ps there has).0 in
-    (parts.leaves, subst (λ (l : List ℕ). AreLeavesAt root ps l parts.leaves) front (subst (λ (l : List Pointer). AreLeavesAt root l (take (root - place) (between place (tail_place b) b)) parts.leaves) same parts.leaves-are))
+    (parts.leaves, subst (λ (l : List ℕ). AreLeavesAt root ps l parts.leaves) front (subst (λ (l : List Pointer). AreLeavesAt root l (take (root - place) (between place (tail_place b) b)) parts.leaves) same parts.leaves-are), sym parts.all)
+
+-- the parts before the leaves
+pub front_of : (b : List ℕ) (root place : ℕ) (ps : List Pointer) (es : List IndexEntry) → HasOutline b root place ps es → HasFront b root place ps
+front_of b root place ps es has = record { long = has.long; tail = has.tail; starts = has.starts; points = has.points }
+
+pub good_front : (b : List ℕ) (root place : ℕ) (ps : List Pointer) (at : ℕ) → length b < 2 ^ 64 → HasFront b root place ps → IsBadFront b at → ⊥
+good_front b root place ps at room has (short less) = let long = has.long in omega (arith, less, long)
+good_front b root place ps at room has (no_tail long none) = none root has.tail
+good_front b root place ps at room has (no_head long other tail none) = none has.starts
+good_front b root place ps at room has (no_root long other tail starts none) =
+    none place ps (subst (λ (r : ℕ). HasRoot b r place ps) (tail_same b root other room has.tail tail) has.points)
 
 pub good_outline : (b : List ℕ) (root place : ℕ) (ps : List Pointer) (es : List IndexEntry) (at : ℕ) → length b < 2 ^ 64 → HasOutline b root place ps es → IsBadOutline b at → ⊥
-good_outline b root place ps es at room has (short less) = let long = has.long in omega (arith, less, long)
-good_outline b root place ps es at room has (no_tail long none) = none root has.tail
-good_outline b root place ps es at room has (no_head long other tail none) = none has.starts
-good_outline b root place ps es at room has (no_root long other tail starts none) =
-    none place ps (subst (λ (r : ℕ). HasRoot b r place ps) (tail_same b root other room has.tail tail) has.points)
+good_outline b root place ps es at room has (in_front at_front is_bad) = good_front b root place ps at_front room (front_of b root place ps es has) is_bad
 good_outline b root place ps es at room has (no_leaf long other tail starts q qs there at_leaf is_bad) =
     let same = tail_same b other root room tail has.tail in
     let here = subst (λ (r : ℕ). HasRoot b r q qs) same there in

@@ -52,17 +52,29 @@ pub record HasOutline (bytes : List ℕ) (root place : ℕ) (pointers : List Poi
   pub points : HasRoot bytes root place pointers
   pub index : HasIndex bytes root place entries
 
--- The first of these parts that is not as defined begins at this place.
-pub data IsBadOutline (bytes : List ℕ) : ℕ → Type 0 where
+-- length, tail, head and root are as defined
+pub record HasFront (bytes : List ℕ) (root place : ℕ) (pointers : List Pointer) : Type 0 where
+  pub long : least_length ≤ length bytes
+  pub tail : HasTail bytes root
+  pub starts : HasHead bytes
+  pub points : HasRoot bytes root place pointers
+
+-- The first of length, tail, head and root that is not as defined begins at this place.
+pub data IsBadFront (bytes : List ℕ) : ℕ → Type 0 where
   -- the file is too short for a head and a tail
-  short : length bytes < least_length → IsBadOutline bytes 0
+  short : length bytes < least_length → IsBadFront bytes 0
   -- its last bytes are no tail
-  no_tail : least_length ≤ length bytes → ((root : ℕ) → HasTail bytes root → ⊥) → IsBadOutline bytes (tail_place bytes)
+  no_tail : least_length ≤ length bytes → ((root : ℕ) → HasTail bytes root → ⊥) → IsBadFront bytes (tail_place bytes)
   -- its first bytes are no head
-  no_head : least_length ≤ length bytes → (root : ℕ) → HasTail bytes root → (HasHead bytes → ⊥) → IsBadOutline bytes 0
+  no_head : least_length ≤ length bytes → (root : ℕ) → HasTail bytes root → (HasHead bytes → ⊥) → IsBadFront bytes 0
   -- at the place that the tail gives stands no root
   no_root : least_length ≤ length bytes → (root : ℕ) → HasTail bytes root → HasHead bytes
-      → ((place : ℕ) (pointers : List Pointer) → HasRoot bytes root place pointers → ⊥) → IsBadOutline bytes root
+      → ((place : ℕ) (pointers : List Pointer) → HasRoot bytes root place pointers → ⊥) → IsBadFront bytes root
+
+-- The first of these parts and the leaves that is not as defined begins at this place.
+pub data IsBadOutline (bytes : List ℕ) : ℕ → Type 0 where
+  -- the length, the tail, the head or the root
+  in_front : (at : ℕ) → IsBadFront bytes at → IsBadOutline bytes at
   -- at this place, which the root gives, stands no leaf, and at those before it one does
   no_leaf : least_length ≤ length bytes → (root : ℕ) → HasTail bytes root → HasHead bytes
       → (place : ℕ) (pointers : List Pointer) → HasRoot bytes root place pointers

@@ -13,8 +13,7 @@ use Rattle.tsdb_index.specs.declared.index.Index.{Index}
 use Rattle.tsdb_index.specs.declared.index.IndexEntry.{IndexEntry}
 use Rattle.tsdb_index.specs.declared.pointer.Pointer.{Pointer}
 use Rattle.tsdb_index.specs.Limits.{max_leaf_entries}
-use Rattle.tsdb_index.specs.Parts.{BeginAt, IsPointer, pointer_bytes}
-use Rattle.tsdb_index.specs.Steps.{IsCounted}
+use Rattle.tsdb_index.specs.Parts.{IsRoot}
 use Rattle.tsdb_pages.specs.declared.tree.Chunk.{Chunk}
 use Rattle.tsdb_pages.specs.declared.tree.Page.{Page}
 use Rattle.tsdb_pages.specs.File.{ArePageEntries, AreEntries, IsEntry, chunk_field, head, page_field}
@@ -28,9 +27,9 @@ use Rattle.tsfile_reader.specs.declared.fault.ReadFault.TheVariants.{Failed, Dam
 use Rattle.tsfile_reader.specs.declared.page.ChunkHead.{ChunkHead}
 use Rattle.tsfile_reader.specs.declared.parts.Pages.{Pages}
 use Rattle.tsfile_reader.specs.declared.ends.Ends.{Ends}
-use Rattle.tsfile_reader.specs.declared.ends.Root.{Root}
+use Rattle.tsfile_reader.specs.declared.ends.Front.{Front}
 use Rattle.tsfile_reader.specs.Blame.{AreAlike}
-use Rattle.tsfile_reader.specs.Outline.{HasHead, HasOutline, HasTail, between, least_length, tail_place}
+use Rattle.tsfile_reader.specs.Outline.{HasFront, HasHead, HasOutline, HasTail, least_length}
 use Rattle.tsfile_reader.specs.Page.{AreGood}
 use Rattle.tsfile_reader.specs.Parts.{AreParts, MayEnd, MayFollow, Part, part_field, parts_field}
 
@@ -141,11 +140,14 @@ pub record HasEnds (bytes : List ℕ) (ends : Ends) : Type 0 where
   pub tail : HasTail bytes ends.root
   pub starts : HasHead bytes
 
--- from the root's place to the tail stand these pointers, of which the first is at this place behind the head
-pub record HasPointers (bytes : List ℕ) (ends : Ends) (root : Root) : Type 0 where
-  pub bytes-are : root.bytes.items ≡ between ends.root (tail_place bytes) bytes
-  pub are_pointers : IsCounted 82 number32 (2 ^ 32) pointer_bytes IsPointer root.bytes.items root.pointers.items
-  pub begin : BeginAt root.place root.pointers.items
+-- the file has this length, tail, head and root
+abbrev pub IsFrontIn : List ℕ → Front → Type 0
+IsFrontIn bytes front = (front.ends.size ≡ length bytes)
+    × HasFront bytes front.ends.root front.root.place front.root.pointers.items
+
+-- the pointers are those of a root, also where the file does not tell its bytes
+abbrev pub HasSomeRoot : Front → Type 0
+HasSomeRoot front = (bytes : List ℕ) × IsRoot front.root.place front.ends.root bytes front.root.pointers.items
 
 -- the file has this outline
 abbrev pub IsOutlineIn : List ℕ → Ends → ℕ → List Pointer → Index → Type 0

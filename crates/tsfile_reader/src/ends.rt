@@ -16,11 +16,17 @@ pub struct Ends {
 /// The root of a file.
 #[derive(Drop)]
 pub struct Root {
-    pub bytes: Vec<u8>,
     pub pointers: Vec<Pointer>,
     /// Where the first leaf stands.
     pub place: u64,
     pub ghost behind_head: { 7 ≤ place },
+}
+
+/// What the tail, the head and the root of a file say.
+#[derive(Drop)]
+pub struct Front {
+    pub ends: Ends,
+    pub root: Root,
 }
 
 /// What the tail, the head, the root and the leaves of a file say.

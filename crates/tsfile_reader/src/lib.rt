@@ -17,6 +17,7 @@
 
 mod ends;
 mod fault;
+mod finding;
 mod laws;
 mod outline;
 mod page;
@@ -26,6 +27,7 @@ mod reader;
 mod same;
 
 pub use fault::ReadFault;
+pub use finding::find_entry;
 pub use laws::{no_file_is_blamed, one_blame};
 pub use reader::{check_file, read_meta, read_points};
 

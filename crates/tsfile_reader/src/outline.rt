@@ -1,14 +1,16 @@
-//! What the tail, the head and the root of a file say. Depends on `fault`, tsdb_fields and tsdb_index.
+//! What the tail, the head and the root of a file say. Depends on `ends`, tsdb_fields and tsdb_index.
 ghost use Rattle.std.specs.Prelude.{◌≡◌, ℕ, ◌+◌, ◌<◌, ◌≤◌, ◌^◌, ◌++◌, ◌↔◌, IsTrue, List, length, MatchOption};
 ghost use Rattle.tsdb_base.specs.Fields.{number64};
+ghost use Rattle.tsdb_index.specs.declared.pointer.Pointer.{Pointer as PointerIn};
 ghost use Rattle.tsdb_index.specs.Faults.{ReadsWhole};
-ghost use Rattle.tsdb_index.specs.Parts.{BeginAt};
+ghost use Rattle.tsdb_index.specs.Parts.{BeginAt, IsRoot};
 ghost use Rattle.tsdb_pages.specs.File.{head as head_bytes, magic};
 ghost use Rattle.tsfile_reader.specs.Outline.{IsTail};
 
+use crate::ends::Root;
 use std::alloc::Global;
 use tsdb_fields::{FieldFault, Rest, read_field};
-use tsdb_index::Pointer;
+use tsdb_index::{Pointer, are_root, pointers_in};
 
 /// The first bytes of a file.
 pub const HEAD: [u8; 7] = *b"TsFile\x51";
@@ -43,7 +45,7 @@ pub fn root_in_tail(alloc: Global, tail: &[u8], size: u64) -> Result<u64, FieldF
 }
 
 /// The place of the first leaf that these pointers give, if it is behind the head and before the root.
-pub fn first_place(pointers: &[Pointer], root: u64) -> Option<u64>
+fn first_place(pointers: &[Pointer], root: u64) -> Option<u64>
     ensures { MatchOption result
         ((place : ℕ) → BeginAt place pointers.now → length head_bytes ≤ place → place < root → ⊥)
         (λ place. BeginAt place pointers.now × (length head_bytes ≤ place) × (place < root)) }
@@ -52,4 +54,21 @@ pub fn first_place(pointers: &[Pointer], root: u64) -> Option<u64>
         [first, ..] if HEAD_BYTES <= first.place && first.place < root => Some(first.place),
         _ => None,
     }
+}
+
+/// The root that all of these bytes are, which stands at this place. A fault has no place of its own.
+pub fn root_in(alloc: Global, bytes: &[u8], at: u64) -> Result<Root, FieldFault>
+    ensures { ReadsWhole
+        (λ (root : ℕ × List PointerIn). (length head_bytes ≤ root.0) × IsRoot root.0 at bytes.now root.1)
+        (λ root. (root.place, root.pointers.items)) result }
+{
+    let bad = FieldFault::Bad { at: 0 };
+    let pointers = pointers_in(alloc, bytes)?;
+    let Some(place) = first_place(&pointers, at) else {
+        return Err(bad);
+    };
+    if !are_root(&pointers, place, at) {
+        return Err(bad);
+    }
+    Ok(Root { pointers, place })
 }

@@ -3,14 +3,15 @@
 ghost use Rattle.std.specs.Prelude.{◌≡◌, ℕ, ◌+◌, ◌-◌, ◌<◌, ◌≤◌, ◌^◌, length, take, drop, IfOk, IfSome};
 ghost use Rattle.std.specs.Option.{ForSome};
 ghost use Rattle.tsfile_reader.specs.Answers.{Answers, HasReadCause, IfDamaged, IsNotDamaged};
-ghost use Rattle.tsfile_reader.specs.Outline.{IsBadOutline};
-ghost use Rattle.tsfile_reader.specs.Steps.{HasEnds, HasPointers, IsOutlineIn};
+ghost use Rattle.tsfile_reader.specs.Outline.{IsBadFront, IsBadOutline};
+ghost use Rattle.tsfile_reader.specs.Steps.{HasEnds, HasSomeRoot, IsFrontIn, IsOutlineIn};
 
-use crate::ends::{Ends, Outline, Root};
+use crate::ends::{Ends, Front, Outline};
 use crate::fault::ReadFault;
-use crate::outline::{HEAD_BYTES, TAIL_BYTES, first_place, is_head, root_in_tail};
+use crate::outline::{HEAD_BYTES, TAIL_BYTES, is_head, root_in, root_in_tail};
 use std::alloc::Global;
-use tsdb_index::{Index, pointers_in, read_index};
+use tsdb_base::List;
+use tsdb_index::Index;
 use tsdb_outside::Port;
 
 /// Reads so many bytes of the file from this place on.
@@ -35,7 +36,7 @@ pub fn read_part<P: Port>(
 
 /// Reads the tail and the head.
 fn read_ends<P: Port>(alloc: Global, port: &mut P, right: &P::Right) -> Result<Ends, ReadFault>
-    ensures answers { Answers HasEnds IsBadOutline (P.Right.file right.now).bytes result }
+    ensures answers { Answers HasEnds IsBadFront (P.Right.file right.now).bytes result }
     ensures limit { IfDamaged result (λ at. IfSome (P.Right.file right.now).bytes (λ bytes. length bytes < 2 ^ 63)) }
     ensures cause { HasReadCause (P.faults port.old) (P.faults port.new) result }
 {
@@ -61,28 +62,36 @@ fn read_root<P: Port>(
     port: &mut P,
     right: &P::Right,
     ends: Ends,
-) -> Result<Root, ReadFault>
+) -> Result<Front, ReadFault>
     requires { IfSome (P.Right.file right.now).bytes (λ bytes. HasEnds bytes ends) }
-    ensures answers { Answers (λ bytes root. HasPointers bytes ends root) IsBadOutline
-        (P.Right.file right.now).bytes result }
-    ensures place { IfOk result (λ root. root.place < ends.root) }
+    ensures answers { Answers IsFrontIn IsBadFront (P.Right.file right.now).bytes result }
+    ensures root { IfOk result HasSomeRoot }
+    ensures place { IfOk result (λ front. front.root.place < front.ends.root) }
     ensures limit { IfDamaged result (λ at. IfSome (P.Right.file right.now).bytes (λ bytes. length bytes < 2 ^ 63)) }
     ensures cause { HasReadCause (P.faults port.old) (P.faults port.new) result }
 {
     let size = (ends.size - TAIL_BYTES).saturating_sub(ends.root);
     let bytes = read_part(alloc, port, right, ends.root, size)?;
-    let pointers = match pointers_in(alloc, &bytes) {
-        Ok(pointers) => pointers,
-        Err(fault) => return Err(ReadFault::of_part(fault, ends.root)),
-    };
-    let Some(place) = first_place(&pointers, ends.root) else {
-        return Err(ReadFault::Damaged { at: ends.root });
-    };
-    Ok(Root {
-        bytes,
-        pointers,
-        place,
-    })
+    match root_in(alloc, &bytes, ends.root) {
+        Ok(root) => Ok(Front { ends, root }),
+        Err(fault) => Err(ReadFault::of_part(fault, ends.root)),
+    }
+}
+
+/// Reads what the tail, the head and the root say.
+pub fn read_front<P: Port>(
+    alloc: Global,
+    port: &mut P,
+    right: &P::Right,
+) -> Result<Front, ReadFault>
+    ensures answers { Answers IsFrontIn IsBadFront (P.Right.file right.now).bytes result }
+    ensures root { IfOk result HasSomeRoot }
+    ensures place { IfOk result (λ front. front.root.place < front.ends.root) }
+    ensures limit { IfDamaged result (λ at. IfSome (P.Right.file right.now).bytes (λ bytes. length bytes < 2 ^ 63)) }
+    ensures cause { HasReadCause (P.faults port.old) (P.faults port.new) result }
+{
+    let ends = read_ends(alloc, port, right)?;
+    read_root(alloc, port, right, ends)
 }
 
 /// Reads the leaves of a file with these ends and this root.
@@ -90,21 +99,23 @@ fn read_leaves<P: Port>(
     alloc: Global,
     port: &mut P,
     right: &P::Right,
-    ends: Ends,
-    root: &Root,
+    front: &Front,
 ) -> Result<Index, ReadFault>
-    requires ends { IfSome (P.Right.file right.now).bytes (λ bytes. HasEnds bytes ends) }
-    requires pointers { IfSome (P.Right.file right.now).bytes (λ bytes. HasPointers bytes ends root.now) }
-    requires place { root.now.place < ends.root }
-    ensures answers { Answers (λ bytes. IsOutlineIn bytes ends root.now.place root.now.pointers.items) IsBadOutline
-        (P.Right.file right.now).bytes result }
+    requires front { IfSome (P.Right.file right.now).bytes (λ bytes. IsFrontIn bytes front.now) }
+    requires root { HasSomeRoot front.now }
+    requires place { front.now.root.place < front.now.ends.root }
+    ensures answers { Answers
+        (λ bytes. IsOutlineIn bytes front.now.ends front.now.root.place front.now.root.pointers.items)
+        IsBadOutline (P.Right.file right.now).bytes result }
     ensures limit { IfDamaged result (λ at. IfSome (P.Right.file right.now).bytes (λ bytes. length bytes < 2 ^ 63)) }
     ensures cause { HasReadCause (P.faults port.old) (P.faults port.new) result }
 {
-    let mut bytes = read_part(alloc, port, right, root.place, ends.root - root.place)?;
-    bytes.extend_from_slice(&root.bytes)?;
-    match read_index(alloc, &bytes, root.place, ends.root) {
-        Ok(index) => Ok(index),
+    let (place, root) = (front.root.place, front.ends.root);
+    let bytes = read_part(alloc, port, right, place, root - place)?;
+    match tsdb_index::read_leaves(alloc, &bytes, &front.root.pointers, root) {
+        Ok(entries) => Ok(Index {
+            entries: List::of(entries),
+        }),
         Err(fault) => Err(ReadFault::of_index(fault)),
     }
 }
@@ -121,13 +132,12 @@ pub fn read_outline<P: Port>(
     ensures limit { IfDamaged result (λ at. IfSome (P.Right.file right.now).bytes (λ bytes. length bytes < 2 ^ 63)) }
     ensures cause { HasReadCause (P.faults port.old) (P.faults port.new) result }
 {
-    let ends = read_ends(alloc, port, right)?;
-    let root = read_root(alloc, port, right, ends)?;
-    let index = read_leaves(alloc, port, right, ends, &root)?;
+    let front = read_front(alloc, port, right)?;
+    let index = read_leaves(alloc, port, right, &front)?;
     Ok(Outline {
-        ends,
-        place: root.place,
-        pointers: root.pointers,
+        ends: front.ends,
+        place: front.root.place,
+        pointers: front.root.pointers,
         index,
     })
 }

@@ -1,22 +1,19 @@
-use Rattle.std.proofs.Common.{◌^◌, ℕ, List, Err, Vec, Global, subst, arith}
-use Rattle.tsdb_base.specs.Fields.{number32}
-use Rattle.tsdb_index.specs.declared.pointer.Pointer.{Pointer}
-use Rattle.tsdb_index.specs.Faults.{ReadsWhole}
-use Rattle.tsdb_index.specs.Parts.{IsPointer, pointer_bytes}
-use Rattle.tsdb_index.specs.Steps.{IsCounted}
-use Rattle.tsfile_reader.specs.Steps.{HasPointers}
-use Rattle.tsfile_reader.proofs.Outlines.{root_bad, root_misplaced}
+use Rattle.std.proofs.Common.{arith}
+use Rattle.tsfile_reader.specs.declared.ends.Root.{Root}
+use Rattle.tsfile_reader.specs.Steps.{IsFrontIn}
+use Rattle.tsfile_reader.proofs.Outlines.{first_inside, root_bad, root_found}
 use Rattle.tsfile_reader.proofs.port.read_root.Goals as goal
 
-pub returns-in-Err-clause-answers : goal.returns-in-Err-clause-answers
-returns-in-Err-clause-answers g c =
-    let o = (g.P.Right.ReadRight.file c.args.right.now).bytes in
-    let read = subst (λ (l : List ℕ). ReadsWhole (IsCounted 82 number32 (2 ^ 32) pointer_bytes IsPointer l) (λ (ps : Vec Pointer Global). ps.items) (Err c.in-Err.fault)) c.deref.ensures.value c.in-Err.ensures in
-    root_bad (λ bytes root. HasPointers bytes c.args.ends root) o c.args.ends c.saturating_sub-size.result c.in_ok-bytes.bytes.items (λ (ps : Vec Pointer Global). ps.items) c.in-Err.fault c.of_part.result c.requires (omega arith) c.in_ok-bytes.ensures.bytes read c.of_part.ensures
+pub returns-in-Ok-clause-answers : goal.returns-in-Ok-clause-answers
+returns-in-Ok-clause-answers g c =
+    root_found (g.P.Right.ReadRight.file c.args.right.now).bytes c.args.ends c.in-Ok.root c.saturating_sub-size.result c.in_ok-bytes.bytes.items c.deref.result.now c.requires (omega arith) c.in_ok-bytes.ensures.bytes c.deref.ensures.value c.in-Ok.ensures.0 c.in-Ok.ensures.1
 
-pub returns-in_default-clause-answers : goal.returns-in_default-clause-answers
-returns-in_default-clause-answers g c =
-    let o = (g.P.Right.ReadRight.file c.args.right.now).bytes in
-    let counted = rw c.deref.ensures.value at c.in-Ok.ensures in
-    let none = rw c.deref-2.ensures.value at c.in_default.ensures in
-    root_misplaced o c.args.ends c.saturating_sub-size.result c.in_ok-bytes.bytes.items c.in-Ok.pointers.items c.requires (omega arith) c.in_ok-bytes.ensures.bytes counted none
+pub returns-in-Ok-clause-root : goal.returns-in-Ok-clause-root
+returns-in-Ok-clause-root g c = (c.deref.result.now, c.in-Ok.ensures.1)
+
+pub returns-clause-answers : goal.returns-clause-answers
+returns-clause-answers g c =
+    root_bad IsFrontIn (g.P.Right.ReadRight.file c.args.right.now).bytes c.args.ends c.saturating_sub-size.result c.in_ok-bytes.bytes.items c.deref.result.now (λ (root : Root). (root.place, root.pointers.items)) c.in-Err.fault c.of_part.result c.requires (omega arith) c.in_ok-bytes.ensures.bytes c.deref.ensures.value c.in-Err.ensures c.of_part.ensures
+
+pub returns-in-Ok-clause-place : goal.returns-in-Ok-clause-place
+returns-in-Ok-clause-place g c = first_inside c.in-Ok.root.place c.args.ends.root c.deref.result.now c.in-Ok.root.pointers.items c.in-Ok.ensures.1

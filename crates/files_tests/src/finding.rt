@@ -1,0 +1,357 @@
+//! Tests of `find_entry`: names at the ends of leaves and names that no series has, leaves that are not read, faults of
+//! the port, and damage. Depends on tsfile_reader, tsfile_writer, tsdb_pages, tsdb_index, mem_outside, tsdb_outside,
+//! tsdb_path and tsdb_base.
+
+use mem_outside::{Fails, MemPlace, MemPort, SteadyPlace, SteadyPort};
+use std::alloc::Global;
+use std::test::Fail;
+use tsdb_base::{DataType, Encoding, FileNumber, List, Point, Value};
+use tsdb_index::{FileMeta, IndexEntry};
+use tsdb_outside::{Files, Place, Port};
+use tsdb_pages::{Chunk, Group, Page, Tree, is_tree};
+use tsdb_path::{Name, Path};
+use tsfile_reader::{ReadFault, find_entry, read_meta};
+use tsfile_writer::write_tree;
+
+/// How many series the file has: two full leaves, and one of 88 entries.
+const SERIES: u64 = 600;
+
+/// How many bytes a pointer of the root has: `root.g.d`, a name of four bytes, and a place.
+const POINTER: usize = 24;
+
+/// A port that never fails.
+fn steady_port(alloc: Global) -> Result<SteadyPort, Fail> {
+    let slots = [vec![in alloc; 0]?, vec![in alloc; 0]?];
+    let mut place = SteadyPlace::new(alloc, slots, Vec::new(alloc))?;
+    let (_journal, mut files) = place.take_up(b"store")?;
+    Ok(files.port()?)
+}
+
+/// A port of which this call fails, counted from 1.
+fn port_failing_at(alloc: Global, number: u64) -> Result<MemPort, Fail> {
+    let slots = [vec![in alloc; 0]?, vec![in alloc; 0]?];
+    let fails = Fails {
+        journal: Vec::new(alloc),
+        files: vec![in alloc; number]?,
+    };
+    let mut place = MemPlace::new(alloc, slots, Vec::new(alloc), fails)?;
+    let (_journal, mut files) = place.take_up(b"store")?;
+    Ok(files.port()?)
+}
+
+/// The chunk of the measurement with this number, of one point.
+fn one_chunk(alloc: Global, number: u64) -> Result<Chunk, Fail> {
+    let name = format!(in alloc; "s{number:03}")?;
+    let point = Point {
+        time: 1,
+        value: Value::Bool(true),
+    };
+    let page = Page {
+        points: List::of(vec![in alloc; point]?),
+    };
+    Ok(Chunk {
+        measurement: Name::read(alloc, name.as_bytes())?,
+        data_type: DataType::Boolean,
+        encoding: Encoding::Plain,
+        pages: List::of(vec![in alloc; page]?),
+    })
+}
+
+/// The file of `root.g.d` with the measurements `s000` to `s599`.
+fn wide_file(alloc: Global) -> Result<Vec<u8>, Fail> {
+    let mut chunks = Vec::new(alloc);
+    for number in 0..SERIES {
+        chunks.push(one_chunk(alloc, number)?)?;
+    }
+    let group = Group {
+        device: Path::read(alloc, b"root.g.d")?,
+        chunks: List::of(chunks),
+    };
+    let tree = Tree {
+        groups: List::of(vec![in alloc; group]?),
+    };
+    if !is_tree(&tree) {
+        return Err("no tree".into());
+    }
+    Ok(write_tree(alloc, &tree)?)
+}
+
+/// Stores these bytes through the port, looks a series up in them, and removes them.
+fn find_in<P: Port>(
+    alloc: Global,
+    port: &mut P,
+    bytes: &[u8],
+    device: &Path,
+    measurement: &Name,
+) -> Result<Option<IndexEntry>, ReadFault> {
+    let Ok(mut sealed) = port.put(FileNumber(1), bytes) else {
+        return Err(ReadFault::Failed);
+    };
+    let outcome = match P::share(&mut sealed) {
+        Ok(right) => {
+            let outcome = find_entry(alloc, port, &right, device, measurement);
+            P::give_back(&mut sealed, right);
+            outcome
+        }
+        Err(_) => Err(ReadFault::Memory),
+    };
+    let _ = port.remove(sealed);
+    outcome
+}
+
+/// The index of these bytes.
+fn meta_of(alloc: Global, port: &mut SteadyPort, bytes: &[u8]) -> Result<FileMeta, ReadFault> {
+    let Ok(mut sealed) = port.put(FileNumber(1), bytes) else {
+        return Err(ReadFault::Failed);
+    };
+    let outcome = match SteadyPort::share(&mut sealed) {
+        Ok(right) => {
+            let outcome = read_meta(alloc, port, &right);
+            SteadyPort::give_back(&mut sealed, right);
+            outcome
+        }
+        Err(_) => Err(ReadFault::Memory),
+    };
+    let _ = port.remove(sealed);
+    outcome
+}
+
+/// A device, a measurement, and the number of their entry in the index.
+type Row = (&'static str, &'static str, Option<usize>);
+
+/// The first and the last entry of each leaf, one in the middle, and names before, between and behind.
+const ROWS: [Row; 16] = [
+    ("root.g.d", "s000", Some(0)),
+    ("root.g.d", "s100", Some(100)),
+    ("root.g.d", "s255", Some(255)),
+    ("root.g.d", "s256", Some(256)),
+    ("root.g.d", "s511", Some(511)),
+    ("root.g.d", "s512", Some(512)),
+    ("root.g.d", "s599", Some(599)),
+    ("root.g.d", "s", None),
+    ("root.g.d", "s2555", None),
+    ("root.g.d", "s2560", None),
+    ("root.g.d", "s600", None),
+    ("root.g.d", "t", None),
+    ("root.g", "s256", None),
+    ("root.g.c", "s999", None),
+    ("root.g.d.d", "s000", None),
+    ("root.g.e", "a", None),
+];
+
+/// Whether this was found: the entry with this number, or none.
+fn is_found(
+    outcome: &Result<Option<IndexEntry>, ReadFault>,
+    meta: &FileMeta,
+    number: Option<usize>,
+) -> bool {
+    match (outcome, number) {
+        (Ok(Some(entry)), Some(number)) => match meta.index.entries.items().get(number) {
+            Some(wanted) => entry == wanted,
+            None => false,
+        },
+        (Ok(None), None) => true,
+        _ => false,
+    }
+}
+
+/// Looks one series up, and whether it is found as the row says.
+fn is_right(
+    alloc: Global,
+    port: &mut SteadyPort,
+    bytes: &[u8],
+    meta: &FileMeta,
+    row: Row,
+) -> Result<bool, Fail> {
+    let (device, measurement, number) = row;
+    let device = Path::read(alloc, device.as_bytes())?;
+    let measurement = Name::read(alloc, measurement.as_bytes())?;
+    let outcome = find_in(alloc, port, bytes, &device, &measurement);
+    Ok(is_found(&outcome, meta, number))
+}
+
+/// The place of the first row that is not found as it says.
+fn first_wrong(
+    alloc: Global,
+    port: &mut SteadyPort,
+    bytes: &[u8],
+    meta: &FileMeta,
+    rows: &[Row],
+) -> Result<Option<usize>, Fail> {
+    for place in 0..rows.len() {
+        if !is_right(alloc, port, bytes, meta, rows[place])? {
+            return Ok(Some(place));
+        }
+    }
+    Ok(None)
+}
+
+#[test]
+fn each_series_is_found(rt: HostRuntime) -> Result<(), Fail> {
+    let alloc = rt.alloc();
+    let mut port = steady_port(alloc)?;
+    let bytes = wide_file(alloc)?;
+    let Ok(meta) = meta_of(alloc, &mut port, &bytes) else {
+        return Err("no index".into());
+    };
+    assert_eq!(rt; first_wrong(alloc, &mut port, &bytes, &meta, &ROWS)?, None);
+    Ok(())
+}
+
+/// The place that stands in these eight bytes, or the greatest one where they are not there.
+fn place_at(bytes: &[u8], at: usize) -> usize {
+    let mut place = 0usize;
+    for byte in bytes.iter().skip(at).take(8) {
+        place = place.wrapping_mul(256).wrapping_add(usize::from(*byte));
+    }
+    place
+}
+
+/// The place of the root.
+fn root_of(bytes: &[u8]) -> usize {
+    place_at(bytes, bytes.len().saturating_sub(14))
+}
+
+/// The place of the leaf with this number, as the root says.
+fn leaf_of(bytes: &[u8], number: usize) -> usize {
+    let pointer = number.wrapping_mul(POINTER).wrapping_add(5 + 16);
+    place_at(bytes, root_of(bytes).wrapping_add(pointer))
+}
+
+/// The bytes with the last bit of this one changed.
+fn spoiled(alloc: Global, bytes: &[u8], at: usize) -> Result<Vec<u8>, Fail> {
+    let mut changed = Vec::from_slice(alloc, bytes)?;
+    if at < changed.len() {
+        changed[at] ^= 1;
+    }
+    Ok(changed)
+}
+
+/// What looking `root.g.d` and this name up answers.
+fn fault_of(
+    alloc: Global,
+    port: &mut SteadyPort,
+    bytes: &[u8],
+    name: &str,
+) -> Result<Option<ReadFault>, Fail> {
+    let device = Path::read(alloc, b"root.g.d")?;
+    let measurement = Name::read(alloc, name.as_bytes())?;
+    Ok(find_in(alloc, port, bytes, &device, &measurement).err())
+}
+
+/// A part of the file.
+#[derive(Clone, Copy)]
+enum Part {
+    Head,
+    /// The first byte of the first group.
+    Group,
+    Leaf(usize),
+    Root,
+    /// The order of the root's pointers: the place of the first leaf.
+    FirstPlace,
+    Tail,
+}
+
+impl Part {
+    /// The place of its byte that is spoiled.
+    fn spot(self, bytes: &[u8]) -> usize {
+        match self {
+            Part::Head => 3,
+            Part::Group => 7,
+            Part::Leaf(number) => leaf_of(bytes, number),
+            Part::Root => root_of(bytes),
+            Part::FirstPlace => root_of(bytes).wrapping_add(5 + 16),
+            Part::Tail => bytes.len().saturating_sub(1),
+        }
+    }
+
+    /// The place at which it is blamed.
+    fn place(self, bytes: &[u8]) -> usize {
+        match self {
+            Part::Head => 0,
+            Part::FirstPlace => root_of(bytes),
+            Part::Tail => bytes.len().saturating_sub(14),
+            part => part.spot(bytes),
+        }
+    }
+}
+
+/// A part with a spoiled byte, a name that is looked up, and the part that is blamed, if one is.
+type Spoiled = (Part, &'static str, Option<Part>);
+
+/// Groups and the other leaves are not read. A name before all leaves needs none.
+const SPOILED: [Spoiled; 12] = [
+    (Part::Head, "s300", Some(Part::Head)),
+    (Part::Tail, "s300", Some(Part::Tail)),
+    (Part::Root, "s300", Some(Part::Root)),
+    (Part::FirstPlace, "s300", Some(Part::FirstPlace)),
+    (Part::Group, "s300", None),
+    (Part::Leaf(0), "s300", None),
+    (Part::Leaf(2), "s300", None),
+    (Part::Leaf(1), "s300", Some(Part::Leaf(1))),
+    (Part::Leaf(1), "s255", None),
+    (Part::Leaf(1), "s2555", None),
+    (Part::Leaf(2), "t", Some(Part::Leaf(2))),
+    (Part::Leaf(0), "r", None),
+];
+
+/// Whether looking the name up blames what the row says.
+fn is_blamed(
+    alloc: Global,
+    port: &mut SteadyPort,
+    bytes: &[u8],
+    row: Spoiled,
+) -> Result<bool, Fail> {
+    let (part, name, blamed) = row;
+    let changed = spoiled(alloc, bytes, part.spot(bytes))?;
+    let fault = fault_of(alloc, port, &changed, name)?;
+    Ok(match (fault, blamed) {
+        (Some(ReadFault::Damaged { at }), Some(part)) => at == part.place(bytes) as u64,
+        (None, None) => true,
+        _ => false,
+    })
+}
+
+/// The place of the first row that is not so.
+fn first_unblamed(
+    alloc: Global,
+    port: &mut SteadyPort,
+    bytes: &[u8],
+    rows: &[Spoiled],
+) -> Result<Option<usize>, Fail> {
+    for place in 0..rows.len() {
+        if !is_blamed(alloc, port, bytes, rows[place])? {
+            return Ok(Some(place));
+        }
+    }
+    Ok(None)
+}
+
+#[test]
+fn parts_that_are_read(rt: HostRuntime) -> Result<(), Fail> {
+    let alloc = rt.alloc();
+    let mut port = steady_port(alloc)?;
+    let bytes = wide_file(alloc)?;
+    assert_eq!(rt; first_unblamed(alloc, &mut port, &bytes, &SPOILED)?, None);
+    Ok(())
+}
+
+/// Whether the look-up fails exactly where this call of the port does. The port makes a call for the file, its length,
+/// the tail, the head, the root and the leaf.
+fn fails_as_its_port(alloc: Global, bytes: &[u8], call: u64) -> Result<bool, Fail> {
+    let mut port = port_failing_at(alloc, call)?;
+    let device = Path::read(alloc, b"root.g.d")?;
+    let measurement = Name::read(alloc, b"s300")?;
+    let outcome = find_in(alloc, &mut port, bytes, &device, &measurement);
+    Ok((outcome.err() == Some(ReadFault::Failed)) == (call <= 6))
+}
+
+#[test]
+fn calls_of_the_port(rt: HostRuntime) -> Result<(), Fail> {
+    let alloc = rt.alloc();
+    let bytes = wide_file(alloc)?;
+    for call in 1..9u64 {
+        assert!(rt; fails_as_its_port(alloc, &bytes, call)?);
+    }
+    Ok(())
+}
