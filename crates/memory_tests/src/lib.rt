@@ -3,6 +3,8 @@
 #![tactic(auto)]
 
 #[cfg(test)]
+mod lazy;
+#[cfg(test)]
 mod marks;
 #[cfg(test)]
 mod memtable;

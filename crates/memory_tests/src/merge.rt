@@ -1,5 +1,5 @@
 //! Merges beside a plain slow one, and sources that fail.
-ghost use Rattle.std.specs.Prelude.{◌≡◌, ◌<◌, ◌^◌, ◌≤◌};
+ghost use Rattle.std.specs.Prelude.{◌≡◌, ◌<◌, ◌^◌, ◌≤◌, Some, length};
 ghost use Rattle.std.specs.Vec.Iter.{into_iter_items};
 
 use std::alloc::{AllocError, Global};
@@ -26,7 +26,7 @@ fn source(points: Vec<Point>) -> Result<ListPoints, Fail> {
 }
 
 /// The points that a table has for the source at this place.
-fn points_of(alloc: Global, table: &[(u8, i64)], k: u8) -> Result<Vec<Point>, Fail> {
+pub fn points_of(alloc: Global, table: &[(u8, i64)], k: u8) -> Result<Vec<Point>, Fail> {
     let mut points = Vec::new(alloc);
     for (place, time) in table {
         if *place == k {
@@ -49,7 +49,7 @@ fn sources(alloc: Global, table: &[(u8, i64)], count: u8) -> Result<Vec<ListPoin
 }
 
 /// For each time from the least to the greatest, the last source that has it.
-fn slow_merge(alloc: Global, table: &[(u8, i64)], count: u8) -> Result<Vec<Point>, AllocError> {
+pub fn slow_merge(alloc: Global, table: &[(u8, i64)], count: u8) -> Result<Vec<Point>, AllocError> {
     let mut merged = Vec::new(alloc);
     for time in 0..4i64 {
         for k in (0..count).rev() {
@@ -128,7 +128,7 @@ fn the_last_source_wins(rt: HostRuntime) -> Result<(), Fail> {
 }
 
 /// The pairs of a source and a time whose bits are chosen.
-fn table_of(alloc: Global, chosen: u32, bits: u8, times: u8) -> Result<Vec<(u8, i64)>, Fail>
+pub fn table_of(alloc: Global, chosen: u32, bits: u8, times: u8) -> Result<Vec<(u8, i64)>, Fail>
     requires { bits ≤ 16 }
 {
     let mut table = Vec::new(alloc);
@@ -179,7 +179,9 @@ struct Failing {
 }
 
 impl Points for Failing {
-    ghost left = { λ f. into_iter_items f.points.left };
+    ghost left = { λ f. Some (into_iter_items f.points.left) };
+
+    ghost most = { λ f. length (into_iter_items f.points.left) };
 
     ghost failures = { λ f. f.failures };
 

@@ -1,4 +1,5 @@
 pub mod ListFacts
+pub mod MergeWithin
 pub mod WinnerLemmas
 pub mod GroupLemmas
 pub mod EntryLemmas

@@ -24,14 +24,15 @@ pub spends_then : {S T : Type 0} (m n most : ℕ) (a b c : LoaderState) (p q r :
 spends_then m n most a b c p q r x result within first second = record {
   held = second.held ∙ first.held;
   most_loads = omega (arith, within, first.most_loads, second.most_loads);
+  loads_later = omega (arith, first.loads_later, second.loads_later);
   count_is = omega (arith, first.count_is, second.count_is);
   cause = cause_earlier a.failures b.failures c.failures a.damages b.damages c.damages result first.cause.failures_later first.cause.damages_later second.cause;
 }
 
 -- nothing was loaded
 pub spends_nothing : {T : Type 0} (most : ℕ) (a : LoaderState) (p : ℕ) (result : Result T PullFault) → IfErr result (λ fault. fault ≡ Memory) → Spends most a a p p result
-spends_nothing most a p (Ok x) e = record { held = refl; most_loads = omega arith; count_is = omega arith; cause = record { failures_later = omega arith; damages_later = omega arith; fault = tt } }
-spends_nothing most a p (Err fault) e = record { held = refl; most_loads = omega arith; count_is = omega arith; cause = record { failures_later = omega arith; damages_later = omega arith; fault = rw e tt } }
+spends_nothing most a p (Ok x) e = record { held = refl; most_loads = omega arith; loads_later = omega arith; count_is = omega arith; cause = record { failures_later = omega arith; damages_later = omega arith; fault = tt } }
+spends_nothing most a p (Err fault) e = record { held = refl; most_loads = omega arith; loads_later = omega arith; count_is = omega arith; cause = record { failures_later = omega arith; damages_later = omega arith; fault = rw e tt } }
 
 -- more may be spent, and another answer comes that needs no cause
 pub spends_at_most : {S T : Type 0} (m most : ℕ) (a b : LoaderState) (p q : ℕ) (x : S) (result : Result T PullFault) → m ≤ most → IfErr result (λ fault. fault ≡ Memory) → Spends m a b p q (Ok x) → Spends most a b p q result
@@ -42,6 +43,7 @@ pub spends_fault : {S T : Type 0} (m most : ℕ) (a b : LoaderState) (p q : ℕ)
 spends_fault m most a b p q fault within h = record {
   held = h.held;
   most_loads = omega (arith, within, h.most_loads);
+  loads_later = h.loads_later;
   count_is = h.count_is;
   cause = record { failures_later = h.cause.failures_later; damages_later = h.cause.damages_later; fault = h.cause.fault };
 }

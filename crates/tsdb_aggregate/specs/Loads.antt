@@ -20,10 +20,12 @@ pub record LoaderState : Type 0 where
   pub damages : ℕ
   pub loads : ℕ
 
--- loads that cost no more than `most`, which `pages` counts too; what is held stays, and a fault has its cause
+-- loads that cost no more than `most`, which `pages` counts too; no count falls, what is held stays, and a fault has its
+-- cause
 pub record Spends {T : Type 0} (most : ℕ) (before now : LoaderState) (pages pages_now : ℕ)
     (result : Result T PullFault) : Type 0 where
   pub held : now.held ≡ before.held
   pub most_loads : now.loads ≤ before.loads + most
+  pub loads_later : before.loads ≤ now.loads
   pub count_is : pages_now + before.loads ≡ pages + now.loads
   pub cause : HasPullCause before.failures now.failures before.damages now.damages result

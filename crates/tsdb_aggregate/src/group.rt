@@ -1,8 +1,9 @@
 //! The winners of pieces whose hulls meet. It depends on `entry`, `loader` and `total`, and on `tsdb_merge`.
-ghost use Rattle.std.specs.Prelude.{◌≡◌, ◌<◌, ◌≤◌, All, AllPairs, IfOk, length, map, sum_by};
+ghost use Rattle.std.specs.Option.{option_to_list};
+ghost use Rattle.std.specs.Prelude.{◌≡◌, ◌+◌, ◌<◌, ◌≤◌, All, AllPairs, IfOk, length, map, sum_by};
 ghost use Rattle.std.specs.List.Sorted.{IsPermutation};
 ghost use Rattle.std.specs.Vec.Iter.{into_iter_items};
-ghost use Rattle.tsdb_merge.specs.Winners.{IsRising, Takes};
+ghost use Rattle.tsdb_merge.specs.Winners.{IsRising, TakesTold};
 ghost use Rattle.tsdb_aggregate.specs.Loads.{Spends};
 ghost use Rattle.tsdb_aggregate.specs.Pieces.{AreApart, HasOrder};
 ghost use Rattle.tsdb_aggregate.specs.Steps.{HasTotal, IsMergeWithin, parts_of};
@@ -52,7 +53,8 @@ fn load_all<D: Loader, L: Ledger>(
 
 /// The next point of a merge of lists, which do not fail.
 fn next(merge: &mut Merge<ListPoints>) -> Result<Option<Point>, Memory>
-    ensures { IfOk result (λ point. Takes merge.old.left point merge.new.left) }
+    ensures next { IfOk result (λ point. TakesTold merge.old.left point merge.new.left) }
+    ensures fewer { IfOk result (λ point. length (option_to_list point) + merge.new.most ≤ merge.old.most) }
 {
     match merge.pull() {
         Ok(point) => Ok(point),
@@ -61,6 +63,7 @@ fn next(merge: &mut Merge<ListPoints>) -> Result<Option<Point>, Memory>
 }
 
 /// The points of the merge of the lists that are in the range.
+#[tactic(auto, using(crate::proofs::MergeWithin::all_taken, crate::proofs::MergeWithin::none_taken, crate::proofs::MergeWithin::told_lists, crate::proofs::MergeWithin::took,))]
 fn merge_within(alloc: Global, lists: Vec<ListPoints>, range: &Range) -> Result<Vec<Point>, Memory>
     ensures { IfOk result (λ points.
         IsMergeWithin (map (λ list. into_iter_items list.left) lists.items) range.now points.items) }

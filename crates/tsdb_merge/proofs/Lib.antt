@@ -1,3 +1,7 @@
+pub mod Joined
 pub mod MergeLemmas
 pub mod Pulls
+pub mod ReadLemmas
 pub mod RisingLemmas
+pub mod SourceLemmas
+pub mod TreeLemmas

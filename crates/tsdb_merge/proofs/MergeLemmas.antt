@@ -219,16 +219,16 @@ none_in_merge : (t : ℤ) (lists : List (List Point)) (out : List Point) → IsM
 none_in_merge t lists out merge none =
     All-from_contains (λ q. q.time ≢ t) out (λ p h e. not_winner p lists (subst (λ s. All (HasNoneAt s) lists) (sym e) none) (All-contains (IsWinner lists) out p merge.winners h))
 
-winner_high : (p : Point) (low high : List (List Point)) → IsWinner high p → IsWinner (low ++ high) p
+pub winner_high : (p : Point) (low high : List (List Point)) → IsWinner high p → IsWinner (low ++ high) p
 winner_high p [] high w = w
 winner_high p (first ∷ later) high w = inl (winner_high p later high w)
 
-winner_low : (p : Point) (low high : List (List Point)) → IsWinner low p → All (HasNoneAt p.time) high → IsWinner (low ++ high) p
+pub winner_low : (p : Point) (low high : List (List Point)) → IsWinner low p → All (HasNoneAt p.time) high → IsWinner (low ++ high) p
 winner_low p [] high w none = absurd w
 winner_low p (first ∷ later) high (inl w) none = inl (winner_low p later high w none)
 winner_low p (first ∷ later) high (inr w) none = inr (w.0, All-append (HasNoneAt p.time) later high w.1 none)
 
-winner_cases : (p : Point) (low high : List (List Point)) → IsWinner (low ++ high) p → IsWinner high p ⊎ (IsWinner low p × All (HasNoneAt p.time) high)
+pub winner_cases : (p : Point) (low high : List (List Point)) → IsWinner (low ++ high) p → IsWinner high p ⊎ (IsWinner low p × All (HasNoneAt p.time) high)
 winner_cases p [] high w = inl w
 winner_cases p (first ∷ later) high (inl w) = ⊎_elim (λ a. inl a) (λ b. inr (inl b.0, b.1)) (winner_cases p later high w)
 winner_cases p (first ∷ later) high (inr w) =

@@ -1,80 +1,67 @@
 -- Counts of two trees together, and points read ahead.
-use Rattle.std.proofs.Common.{◌≡◌, ℕ, List, [], ◌∷◌, ◌++◌, Ok, Err, inl, inr, refl, sym, ap, map, take, drop, ◌∙◌, arith}
-use Rattle.std.proofs.lemmas.List.{map-append, take-append-drop}
+use Rattle.std.proofs.Common.{◌≡◌, ℕ, List, [], ◌∷◌, ◌++◌, Result, Ok, Err, inl, inr, refl, ◌≤◌, arith}
 use Rattle.tsdb_base.specs.declared.point.Point.{Point}
 use Rattle.tsdb_merge.specs.declared.points.PullFault.{PullFault}
 use Rattle.tsdb_merge.specs.declared.points.PullFault.TheVariants.{Failed, Damaged, Memory}
-use Rattle.tsdb_merge.specs.Causes.{SomeRose, NoneFell, SomeHasRisen}
-use Rattle.tsdb_merge.specs.declared.head.Head.{Head}
-use Rattle.tsdb_merge.specs.declared.head.Head.TheVariants.{Unread, End, Next}
-use Rattle.tsdb_merge.specs.Steps.{merge_two, with_head, HasSomeCause}
+use Rattle.tsdb_merge.specs.Causes.{Rose, SomeRose, NoneFell, SomeHasRisen}
+use Rattle.tsdb_merge.specs.Causes.{HasSomeCause}
+use Rattle.tsdb_merge.specs.Steps.{merge_two}
 
-pub NoneFell-same : (ns : List ℕ) → NoneFell ns ns
-NoneFell-same [] = tt
-NoneFell-same (n ∷ ns) = (omega arith, NoneFell-same ns)
+pub none_fell : (ns : List ℕ) → NoneFell ns ns
+none_fell [] = tt
+none_fell (n ∷ ns) = (omega arith, none_fell ns)
 
-pub NoneFell-append : (ar bs cs ds : List ℕ) → NoneFell ar bs → NoneFell cs ds → NoneFell (ar ++ cs) (bs ++ ds)
-NoneFell-append [] [] cs ds h k = k
-NoneFell-append [] (b ∷ bs) cs ds h k = absurd h
-NoneFell-append (a ∷ ar) [] cs ds h k = absurd h
-NoneFell-append (a ∷ ar) (b ∷ bs) cs ds h k = (h.0, NoneFell-append ar bs cs ds h.1 k)
+pub none_fell_both : (ar bs cs ds : List ℕ) → NoneFell ar bs → NoneFell cs ds → NoneFell (ar ++ cs) (bs ++ ds)
+none_fell_both [] [] cs ds h k = k
+none_fell_both [] (b ∷ bs) cs ds h k = absurd h
+none_fell_both (a ∷ ar) [] cs ds h k = absurd h
+none_fell_both (a ∷ ar) (b ∷ bs) cs ds h k = (h.0, none_fell_both ar bs cs ds h.1 k)
 
-some_rose_left : (ar bs cs ds : List ℕ) → SomeRose ar bs → SomeRose (ar ++ cs) (bs ++ ds)
-some_rose_left [] bs cs ds h = absurd h
-some_rose_left (a ∷ ar) [] cs ds h = absurd h
-some_rose_left (a ∷ ar) (b ∷ bs) cs ds (inl h) = inl h
-some_rose_left (a ∷ ar) (b ∷ bs) cs ds (inr h) = inr (some_rose_left ar bs cs ds h)
+pub none_fell_then : (ar bs cs : List ℕ) → NoneFell ar bs → NoneFell bs cs → NoneFell ar cs
+none_fell_then [] [] [] h k = tt
+none_fell_then [] [] (c ∷ cs) h k = absurd k
+none_fell_then [] (b ∷ bs) cs h k = absurd h
+none_fell_then (a ∷ ar) [] cs h k = absurd h
+none_fell_then (a ∷ ar) (b ∷ bs) [] h k = absurd k
+none_fell_then (a ∷ ar) (b ∷ bs) (c ∷ cs) h k = (let l = h.0 in let m = k.0 in omega (arith, l, m), none_fell_then ar bs cs h.1 k.1)
 
-some_rose_right : (ar bs cs ds : List ℕ) → NoneFell ar bs → SomeRose cs ds → SomeRose (ar ++ cs) (bs ++ ds)
-some_rose_right [] [] cs ds h r = r
-some_rose_right [] (b ∷ bs) cs ds h r = absurd h
-some_rose_right (a ∷ ar) [] cs ds h r = absurd h
-some_rose_right (a ∷ ar) (b ∷ bs) cs ds h r = inr (some_rose_right ar bs cs ds h.1 r)
+rose_later : (a b c : ℕ) → a ≤ b → Rose b c → Rose a c
+rose_later a b c l r = omega (arith, l, r)
 
--- a cause in one of two trees is one in both together
-pub cause_low : (fault : PullFault) (f g h i d e k l : List ℕ) → SomeHasRisen fault f g d e → SomeHasRisen fault (f ++ h) (g ++ i) (d ++ k) (e ++ l)
-cause_low Failed f g h i d e k l rose = some_rose_left f g h i rose
-cause_low (Damaged at) f g h i d e k l rose = some_rose_left d e k l rose
-cause_low Memory f g h i d e k l rose = tt
+some_rose_later : (ar bs cs : List ℕ) → NoneFell ar bs → SomeRose bs cs → SomeRose ar cs
+some_rose_later [] [] cs h r = r
+some_rose_later [] (b ∷ bs) cs h r = absurd h
+some_rose_later (a ∷ ar) [] cs h r = absurd h
+some_rose_later (a ∷ ar) (b ∷ bs) [] h r = absurd r
+some_rose_later (a ∷ ar) (b ∷ bs) (c ∷ cs) h (inl r) = inl (rose_later a b c h.0 r)
+some_rose_later (a ∷ ar) (b ∷ bs) (c ∷ cs) h (inr r) = inr (some_rose_later ar bs cs h.1 r)
 
-pub cause_high : (fault : PullFault) (f g h i d e k l : List ℕ) → NoneFell f g → NoneFell d e → SomeHasRisen fault h i k l → SomeHasRisen fault (f ++ h) (g ++ i) (d ++ k) (e ++ l)
-cause_high Failed f g h i d e k l fine good rose = some_rose_right f g h i fine rose
-cause_high (Damaged at) f g h i d e k l fine good rose = some_rose_right d e k l good rose
-cause_high Memory f g h i d e k l fine good rose = tt
+has_risen_later : (fault : PullFault) (f g h d e k : List ℕ) → NoneFell f g → NoneFell d e → SomeHasRisen fault g h e k → SomeHasRisen fault f h d k
+has_risen_later Failed f g h d e k fine good rose = some_rose_later f g h fine rose
+has_risen_later (Damaged at) f g h d e k fine good rose = some_rose_later d e k good rose
+has_risen_later Memory f g h d e k fine good rose = tt
+
+-- a call that met no fault, and then one that may have
+pub cause_then : {S T : Type 0} (f g h d e k : List ℕ) (x : S) (result : Result T PullFault) → HasSomeCause {T = S} f g d e (Ok x) → HasSomeCause {T = T} g h e k result → HasSomeCause {T = T} f h d k result
+cause_then f g h d e k x (Ok y) one two = record {
+  failures_later = none_fell_then f g h one.failures_later two.failures_later;
+  damages_later = none_fell_then d e k one.damages_later two.damages_later;
+  fault = tt;
+}
+cause_then f g h d e k x (Err fault) one two = record {
+  failures_later = none_fell_then f g h one.failures_later two.failures_later;
+  damages_later = none_fell_then d e k one.damages_later two.damages_later;
+  fault = has_risen_later fault f g h d e k one.failures_later one.damages_later two.fault;
+}
+
+pub cause_none : {T : Type 0} (f d : List ℕ) (x : T) → HasSomeCause {T = T} f f d d (Ok x)
+cause_none f d x = record { failures_later = none_fell f; damages_later = none_fell d; fault = tt }
+
+-- the same faults, whatever else a call returns
+pub cause_ok : {S T : Type 0} (f g d e : List ℕ) (x : S) (y : T) → HasSomeCause {T = S} f g d e (Ok x) → HasSomeCause {T = T} f g d e (Ok y)
+cause_ok f g d e x y h = record { failures_later = h.failures_later; damages_later = h.damages_later; fault = tt }
 
 -- nothing comes behind the end of the other list
 pub merge_two-nil : (xs : List Point) → merge_two xs [] ≡ xs
 merge_two-nil [] = refl
 merge_two-nil (x ∷ xs) = refl
-
--- a fault of the lower tree, a fault of the higher one, and none
-pub low_failed : {T : Type 0} (before damaged f h d k g e : List ℕ) (fault : PullFault) → before ≡ f ++ h → damaged ≡ d ++ k → HasSomeCause {T = T} f g d e (Err fault) → HasSomeCause {T = T} before (g ++ h) damaged (e ++ k) (Err fault)
-low_failed before damaged f h d k g e fault eb ed cause = rw (eb, ed) (record {
-  failures_later = NoneFell-append f g h h cause.failures_later (NoneFell-same h);
-  damages_later = NoneFell-append d e k k cause.damages_later (NoneFell-same k);
-  fault = cause_low fault f g h h d e k k cause.fault;
-})
-
-pub high_failed : {T : Type 0} (before damaged f h d k g e i l : List ℕ) (fault : PullFault) → before ≡ f ++ h → damaged ≡ d ++ k → NoneFell f g → NoneFell d e → HasSomeCause {T = T} h i k l (Err fault) → HasSomeCause {T = T} before (g ++ i) damaged (e ++ l) (Err fault)
-high_failed before damaged f h d k g e i l fault eb ed low lower cause = rw (eb, ed) (record {
-  failures_later = NoneFell-append f g h i low cause.failures_later;
-  damages_later = NoneFell-append d e k l lower cause.damages_later;
-  fault = cause_high fault f g h i d e k l low lower cause.fault;
-})
-
-pub none_failed : {T : Type 0} (before damaged f h d k g e i l : List ℕ) (x : T) → before ≡ f ++ h → damaged ≡ d ++ k → NoneFell f g → NoneFell d e → NoneFell h i → NoneFell k l → HasSomeCause {T = T} before (g ++ i) damaged (e ++ l) (Ok x)
-none_failed before damaged f h d k g e i l x eb ed low lower high higher = rw (eb, ed) (record {
-  failures_later = NoneFell-append f g h i low high;
-  damages_later = NoneFell-append d e k l lower higher;
-  fault = tt;
-})
-
--- a function of each item of a list, from those of its two parts
-pub map_parts : {X Y : Type 0} (f : X → Y) (whole same low high : List X) (n : ℕ) → whole ≡ same → low ≡ take n same → high ≡ drop n same → map f whole ≡ map f low ++ map f high
-map_parts f whole same low high n e l h =
-    let joined : whole ≡ low ++ high = e ∙ sym (take-append-drop n same) ∙ ap (λ xs. xs ++ drop n same) (sym l) ∙ ap (λ xs. low ++ xs) (sym h) in
-    ap (map f) joined ∙ map-append f low high
-
--- where the other list has ended, its first point is taken
-pub taken_alone : (low low_now high high_now : Head) (x : Point) → low ≡ Next x → low_now ≡ Unread → high ≡ End → high_now ≡ End → (xs ys : List Point) → merge_two (with_head low xs) (with_head high ys) ≡ x ∷ merge_two (with_head low_now xs) (with_head high_now ys)
-taken_alone low low_now high high_now x a b c d xs ys = rw (a, b, c, d) (ap (λ zs. x ∷ zs) (sym (merge_two-nil xs)))

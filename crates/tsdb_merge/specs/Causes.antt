@@ -36,3 +36,10 @@ abbrev pub SomeHasRisen : PullFault → List ℕ → List ℕ → List ℕ → L
 SomeHasRisen Failed failures failures_now damages damages_now = SomeRose failures failures_now
 SomeHasRisen (Damaged at) failures failures_now damages damages_now = SomeRose damages damages_now
 SomeHasRisen Memory failures failures_now damages damages_now = Unit {0}
+
+-- no count has fallen, and the fault that is answered has its cause in one of the counts
+pub record HasSomeCause {T : Type 0} (failures failures_now damages damages_now : List ℕ)
+    (result : Result T PullFault) : Type 0 where
+  pub failures_later : NoneFell failures failures_now
+  pub damages_later : NoneFell damages damages_now
+  pub fault : IfErr result (λ fault. SomeHasRisen fault failures failures_now damages damages_now)

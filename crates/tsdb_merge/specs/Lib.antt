@@ -1,4 +1,5 @@
 pub mod Causes
 pub mod Merging
 pub mod Steps
+pub mod Supplies
 pub mod Winners

@@ -22,7 +22,18 @@ pub record IsMergeOf (lists : List (List Point)) (points : List Point) : Type 0 
   pub winners : All (IsWinner lists) points
   pub complete : (point : Point) → IsWinner lists point → Contains points point
 
+-- the list is told, and is the merge of the lists
+abbrev pub IsToldMergeOf : List (List Point) → Option (List Point) → Type 0
+IsToldMergeOf lists None = ⊥
+IsToldMergeOf lists (Some points) = IsMergeOf lists points
+
 -- the first point of a list is taken, or there is none
 abbrev pub Takes : List Point → Option Point → List Point → Type 0
 Takes before None after = (before ≡ []) × (after ≡ [])
 Takes before (Some point) after = before ≡ point ∷ after
+
+-- where the list is told, its first point is taken, or there is none, and what is left is told
+abbrev pub TakesTold : Option (List Point) → Option Point → Option (List Point) → Type 0
+TakesTold None point after = Unit {0}
+TakesTold (Some before) point None = ⊥
+TakesTold (Some before) point (Some after) = Takes before point after

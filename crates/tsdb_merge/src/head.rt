@@ -1,9 +1,7 @@
 //! The point that was read ahead from one side of a merge of two. It depends on `tsdb_base`.
-ghost use Rattle.std.specs.Prelude.{◌≡◌, ◌≢◌, List, MatchOption};
-ghost use Rattle.tsdb_base.specs.declared.point.Point.{Point};
-ghost use Rattle.tsdb_merge.specs.declared.head.Head.TheVariants.{Unread, End, Next};
-ghost use Rattle.tsdb_merge.specs.Steps.{merge_two, with_head, IsHeadOf};
-ghost use Rattle.tsdb_merge.specs.Winners.{Takes};
+ghost use Rattle.std.specs.Prelude.{◌≡◌, ◌≢◌, ◌↔◌, IsTrue, option_copied};
+ghost use Rattle.tsdb_merge.specs.declared.head.Head.TheVariants.{Unread};
+ghost use Rattle.tsdb_merge.specs.Steps.{IsHeadOf, IsNextOf};
 
 use std::cmp::Ordering;
 use std::mem;
@@ -20,52 +18,57 @@ pub enum Head {
     Next(Point),
 }
 
-/// Keeps what a pull of one side found.
-pub fn read_ahead(head: &mut Head, point: Option<Point>)
-    ensures { IsHeadOf point head.new }
+/// The point that was read ahead, if there is one.
+pub fn into_point(head: Head) -> Option<Point>
+    ensures { head ≢ Unread → IsHeadOf result head }
 {
-    *head = match point {
-        Some(point) => Head::Next(point),
-        None => Head::End,
-    };
-}
-
-/// Takes the point that was read ahead.
-fn take(head: &mut Head) -> Option<Point>
-    requires { head.old ≢ Unread }
-    ensures { MatchOption result ((head.old ≡ End) × (head.new ≡ End))
-        (λ point. (head.old ≡ Next point) × (head.new ≡ Unread)) }
-{
-    match mem::replace(head, Head::End) {
-        Head::Next(point) => {
-            *head = Head::Unread;
-            Some(point)
-        }
+    match head {
+        Head::Next(point) => Some(point),
         Head::End | Head::Unread => None,
     }
 }
 
+impl Head {
+    /// The point that was read ahead, if there is one.
+    fn point(&self) -> Option<&Point>
+        requires { self.now ≢ Unread }
+        ensures { IsHeadOf (option_copied result) self.now }
+    {
+        match self {
+            Head::Next(point) => Some(point),
+            Head::End | Head::Unread => None,
+        }
+    }
+
+    /// Whether nothing was read yet.
+    pub fn is_unread(&self) -> bool
+        ensures { IsTrue result ↔ (self.now ≡ Unread) }
+    {
+        match self {
+            Head::Unread => true,
+            Head::End | Head::Next(_) => false,
+        }
+    }
+}
+
 /// Takes the earlier of the two points that were read ahead. At one time it takes the one of `high`, and drops the
-/// other.
-pub fn take_next(low: &mut Head, high: &mut Head) -> Option<Point>
+/// other. Times are compared where they stand, and one point is moved.
+pub fn take_next(low: &mut Head, high: &mut Head) -> Head
     requires low { low.old ≢ Unread }
     requires high { high.old ≢ Unread }
-    ensures { (xs ys : List Point) → Takes (merge_two (with_head low.old xs) (with_head high.old ys)) result
-        (merge_two (with_head low.new xs) (with_head high.new ys)) }
+    ensures { IsNextOf low.old high.old low.new high.new result }
 {
-    match (take(low), take(high)) {
+    match (low.point(), high.point()) {
         (Some(x), Some(y)) => match x.time.cmp(&y.time) {
-            Ordering::Less => {
-                *high = Head::Next(y);
-                Some(x)
+            Ordering::Less => mem::replace(low, Head::Unread),
+            Ordering::Greater => mem::replace(high, Head::Unread),
+            Ordering::Equal => {
+                *low = Head::Unread;
+                mem::replace(high, Head::Unread)
             }
-            Ordering::Greater => {
-                *low = Head::Next(x);
-                Some(y)
-            }
-            Ordering::Equal => Some(y),
         },
-        (Some(x), None) => Some(x),
-        (None, y) => y,
+        (Some(_), None) => mem::replace(low, Head::Unread),
+        (None, Some(_)) => mem::replace(high, Head::Unread),
+        (None, None) => Head::End,
     }
 }

@@ -2,13 +2,18 @@
 //! `tsdb_base` for points and lists.
 //!
 //! Sources stand from the lowest to the highest priority. A merge is a balanced tree of merges of two, so that a point
-//! costs one comparison on each level of the tree and not a look at every source.
+//! costs one comparison on each level of the tree and not a look at every source. One tree serves both the merge of
+//! lists and the merge over a supply, which is asked for the points of a source when the last of them was taken.
 #![tactic(auto)]
 
 mod head;
+mod lazy;
 mod merge;
 mod points;
+mod supply;
 mod tree;
 
-pub use merge::{Merge, merge_is_one};
+pub use lazy::LazyMerge;
+pub use merge::{Merge, merge_is_one, pieces_merge_as_joined};
 pub use points::{ListPoints, Points, PullFault, is_rising};
+pub use supply::Supply;

@@ -1,7 +1,8 @@
 //! Where points come from, one by one in order of time. It depends on `tsdb_base`.
-ghost use Rattle.std.specs.Prelude.{◌≡◌, ◌↔◌, ℕ, List, IfOk, IsTrue};
+ghost use Rattle.std.specs.Prelude.{◌≡◌, ◌↔◌, ◌+◌, ◌≤◌, ℕ, List, IfOk, IfSome, IsTrue, Option, Some, length};
+ghost use Rattle.std.specs.Option.{option_to_list};
 ghost use Rattle.std.specs.Vec.Iter.{into_iter_items};
-ghost use Rattle.tsdb_merge.specs.Winners.{IsRising, Takes};
+ghost use Rattle.tsdb_merge.specs.Winners.{IsRising, TakesTold};
 ghost use Rattle.tsdb_merge.specs.Causes.{HasPullCause};
 ghost use Rattle.tsdb_base.specs.declared.point.Point.{Point};
 
@@ -68,9 +69,12 @@ impl fmt::Display for PullFault {
 impl Error for PullFault {}
 
 /// A list of points in rising order of time, given one by one.
-pub trait Points: Drop {
-    /// The points that are left.
-    ghost left: { Self → List Point };
+pub trait Points {
+    /// The points that are left, where they are told.
+    ghost left: { Self → Option (List Point) };
+
+    /// The most points that it will still give, told or not, so that a loop over them ends.
+    ghost most: { Self → ℕ };
 
     /// How often it failed. The count never falls, and one that comes to 2^64 - 1 stays there.
     ghost failures: { Self → ℕ };
@@ -81,12 +85,13 @@ pub trait Points: Drop {
     /// Takes the first point that is left, or answers none where no point is left. After an error nothing is known of
     /// what is left.
     fn pull(&mut self) -> Result<Option<Point>, PullFault>
-        ensures next { IfOk result (λ point. Takes (left self.old) point (left self.new)) }
+        ensures next { IfOk result (λ point. TakesTold (left self.old) point (left self.new)) }
+        ensures most { IfOk result (λ point. length (option_to_list point) + most self.new ≤ most self.old) }
         ensures cause { HasPullCause
             (failures self.old) (failures self.new) (damages self.old) (damages self.new) result };
 
-    /// Times rise from point to point.
-    ghost rising: { (points : Self) → IsRising (left points) };
+    /// Where the points are told, times rise from point to point.
+    ghost rising: { (points : Self) → IfSome (left points) IsRising };
 }
 
 /// Points in memory. It never fails.
@@ -123,7 +128,9 @@ impl ListPoints {
 }
 
 impl Points for ListPoints {
-    ghost left = { λ points. into_iter_items points.left };
+    ghost left = { λ points. Some (into_iter_items points.left) };
+
+    ghost most = { λ points. length (into_iter_items points.left) };
 
     ghost failures = { λ _. 0 };
 
