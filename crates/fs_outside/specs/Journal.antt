@@ -12,6 +12,10 @@ abbrev pub slot_of : {F G : Type 0} → Slot → FsJournal F G → FileSlot F
 slot_of A j = j.a
 slot_of B j = j.b
 
+-- the file of a slot
+abbrev pub file_of : {F G : Type 0} → Slot → FsJournal F G → F
+file_of slot j = (slot_of slot j).file
+
 -- what the file of a slot means
 abbrev pub file_state : {F G : Type 0} → (F → FileState) → Slot → FsJournal F G → FileState
 file_state state slot j = state (slot_of slot j).file

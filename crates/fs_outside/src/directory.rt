@@ -9,24 +9,59 @@
 //!   `slot1` but one of a single byte 0. Otherwise a log was lost, and that is a fault.
 //! - A new slot is written under another name, synced and renamed, and then the directory is synced: first `slot1`,
 //!   then `slot0`. The parent of the directory is synced before, so that its name is on the disk.
-//! - Every opening syncs the directory: the entries that it found may be those of an opening that was stopped.
+//! - Every opening syncs both slots and the directory: what a killed program left may be in the system's memory alone,
+//!   and the entries may be those of an opening that was stopped.
 use std::alloc::{AllocError, Global};
 use std::fs::{self, File, OpenOptions};
 use std::io::{self, ErrorKind, Write};
 use std::os::unix::fs::FileExt;
 use std::rt::Files;
+use std::sync::atomic::{AtomicBool, Ordering};
 
 const SLOT_A: &str = "slot0";
 
 const SLOT_B: &str = "slot1";
 
-// The slots of a store, and its directory with the lock and its path.
+/// A directory with the lock of the store in it. All who hold it share whether a sync of it has failed: the system
+/// reports once that it could not write a name, and may then forget it.
+#[derive(Drop)]
+pub struct LockedDirectory {
+    file: File,
+    sync_failed: AtomicBool,
+}
+
+impl LockedDirectory {
+    fn new(file: File) -> Self {
+        LockedDirectory {
+            file,
+            sync_failed: AtomicBool::new(false),
+        }
+    }
+
+    /// Whether a sync has failed.
+    pub fn has_failed(&self) -> bool {
+        self.sync_failed.load(Ordering::SeqCst)
+    }
+
+    /// Makes the names in it durable. After one such sync has failed, every later one fails.
+    pub fn sync(&self) -> io::Result<()> {
+        let answer = self.file.sync_all();
+        if answer.is_err() {
+            self.sync_failed.store(true, Ordering::SeqCst);
+        }
+        if self.has_failed() {
+            return Err(io::Error::from(ErrorKind::Other));
+        }
+        answer
+    }
+}
+
+// The slots of a store, and its directory with the lock.
 #[derive(Drop)]
 pub struct OpenStore {
-    pub path: String,
     pub a: File,
     pub b: File,
-    pub directory: File,
+    pub directory: LockedDirectory,
 }
 
 // The path of a name in the directory.
@@ -77,13 +112,27 @@ fn has_files<R: Files<File = File> + AllocGlobal + Clone + Drop>(
     Ok(false)
 }
 
+// Whether the slot has a name in the directory. A link that leads nowhere is there too: its log is not lost, but out
+// of reach.
+fn has_slot<R: Files<File = File> + AllocGlobal>(
+    rt: &R,
+    dir: &str,
+    name: &str,
+) -> io::Result<bool> {
+    let path = path_of(rt.alloc(), dir, name)?;
+    match fs::symlink_metadata(rt, path.as_str()) {
+        Ok(_) => Ok(true),
+        Err(error) if error.kind() == ErrorKind::NotFound => Ok(false),
+        Err(error) => Err(error),
+    }
+}
+
 // Whether there is no second slot, or one with a single byte 0, as the making of a store leaves it.
 fn has_no_second_log<R: Files<File = File> + AllocGlobal>(rt: &R, dir: &str) -> io::Result<bool> {
-    let slot = match open_slot(rt, dir, SLOT_B) {
-        Ok(slot) => slot,
-        Err(error) if error.kind() == ErrorKind::NotFound => return Ok(true),
-        Err(error) => return Err(error),
-    };
+    if !has_slot(rt, dir, SLOT_B)? {
+        return Ok(true);
+    }
+    let slot = open_slot(rt, dir, SLOT_B)?;
     let mut first = [1];
     if slot.metadata()?.len() != 1 {
         return Ok(false);
@@ -136,28 +185,20 @@ fn make_store<R: Files<File = File> + AllocGlobal + Clone + Drop>(
 /// Opens the store of the directory, which is made where there is none.
 pub fn open_store<R: Files<File = File> + AllocGlobal + Clone + Drop>(
     rt: &R,
-    dir: &[u8],
+    dir: &str,
 ) -> io::Result<OpenStore> {
-    let Ok(dir) = str::from_utf8(dir) else {
-        return Err(io::Error::from(ErrorKind::InvalidInput));
-    };
-    if dir.is_empty() {
-        return Err(io::Error::from(ErrorKind::InvalidInput));
-    }
     let directory = lock_directory(rt, dir)?;
-    let a = match open_slot(rt, dir, SLOT_A) {
-        Err(error) if error.kind() == ErrorKind::NotFound => {
-            make_store(rt, dir, &directory)?;
-            open_slot(rt, dir, SLOT_A)?
-        }
-        answer => answer?,
-    };
+    if !has_slot(rt, dir, SLOT_A)? {
+        make_store(rt, dir, &directory)?;
+    }
+    let a = open_slot(rt, dir, SLOT_A)?;
     let b = open_slot(rt, dir, SLOT_B)?;
+    a.sync_all()?;
+    b.sync_all()?;
     directory.sync_all()?;
     Ok(OpenStore {
-        path: String::from_str(rt.alloc(), dir)?,
         a,
         b,
-        directory,
+        directory: LockedDirectory::new(directory),
     })
 }

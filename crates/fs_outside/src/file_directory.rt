@@ -1,16 +1,19 @@
 //! The directory of a store, by the calls that its files need of it. A directory may tell which files it has, and of
 //! each whether a stop leaves its bytes and its name: the bytes are durable after a sync of the file, the name after a
-//! sync of the directory. The files and ports are proved over directories that tell. A directory of the system tells
-//! nothing. Depends on `file_name`.
-ghost use Rattle.std.specs.Prelude.{◌≡◌, ◌↔◌, ℕ, ◌^◌, ◌-◌, List, map, Contains, None, IfOk, IfSome, MatchOption, OnErr};
-ghost use Rattle.std.specs.Prelude.{OnOk};
+//! sync of the directory. A call that fails makes nothing durable, and leaves the files with other numbers. After a
+//! sync of the names has failed no file is created any more: the system may have forgotten what it could not write.
+//! The files and ports are proved over directories that tell. A directory of the system tells nothing. Depends on
+//! `directory` and `file_name`.
+ghost use Rattle.std.specs.Prelude.{◌≡◌, ◌↔◌, ℕ, ◌^◌, ◌-◌, Bool, List, map, Contains, None, IfOk, IfSome, IsErr, IsTrue};
+ghost use Rattle.std.specs.Prelude.{MatchOption, OnErr, OnOk, is_err};
 ghost use Rattle.std.specs.declared.option.Option.{Option};
 ghost use Rattle.tsdb_outside.specs.Causes.{HasCause};
 ghost use Rattle.tsdb_outside.specs.Files.{IsFileNumber};
-ghost use Rattle.fs_outside.specs.Directory.{DirectoryFile, IsFree, Becomes, add_new, change_one, with_bytes};
-ghost use Rattle.fs_outside.specs.Directory.{with_synced_bytes, with_synced_name, without, numbers_in, HasBytesOf};
-ghost use Rattle.fs_outside.specs.Directory.{HasLengthOf};
+ghost use Rattle.fs_outside.specs.Directory.{DirectoryFile, IsFreeIn, IsTakenIn, SameBut, Becomes, add_new, change_one};
+ghost use Rattle.fs_outside.specs.Directory.{with_bytes, with_synced_bytes, with_synced_name, without, numbers_in};
+ghost use Rattle.fs_outside.specs.Directory.{HasBytesOf, HasLengthOf};
 
+use crate::directory::LockedDirectory;
 use crate::file_name::{name_of_number, number_of_name};
 use std::alloc::{AllocError, Global};
 use std::fs::{self, File, OpenOptions};
@@ -23,6 +26,9 @@ use std::sync::Arc;
 pub trait NumberedFile: Drop {
     /// Its number.
     ghost number: { Self → ℕ };
+
+    fn number(&self) -> u64
+        ensures { result ≡ number self.now };
 }
 
 /// The calls on a directory that files and ports make. Each port has a handle of its own.
@@ -31,6 +37,9 @@ pub trait FileDirectory: Drop {
 
     /// The files that are there, or none where it does not tell.
     ghost told: { Self → Option (List DirectoryFile) };
+
+    /// Whether a sync of the names has failed.
+    ghost sync_failed: { Self → Bool };
 
     /// How often it has failed.
     ghost faults: { Self → ℕ };
@@ -43,90 +52,126 @@ pub trait FileDirectory: Drop {
     /// Creates an empty file. One that is there is left alone, and the call fails.
     fn create_new(&mut self, number: u64) -> io::Result<Self::File>
         ensures number { IfOk result (λ file. Self.File.number file ≡ number) }
-        ensures free { OnOk result (IfSome (told self.old) (IsFree number)) }
+        ensures free { OnOk result (IsFreeIn number (told self.old)) }
         ensures ok { OnOk result (Becomes (add_new number) (told self.old) (told self.new)) }
         ensures err { OnErr result (told self.new ≡ told self.old) }
+        ensures refused { IsTrue (sync_failed self.old) → IsErr result }
+        ensures same { sync_failed self.new ≡ sync_failed self.old }
         ensures cause { HasCause (faults self.old) (faults self.new) result };
 
     /// Writes a whole file that is empty.
     fn write_all(&mut self, file: &Self::File, bytes: &[u8]) -> io::Result<()>
         ensures ok { OnOk result (Becomes (change_one (Self.File.number file.now) (with_bytes bytes.now))
             (told self.old) (told self.new)) }
+        ensures err { OnErr result (SameBut (Self.File.number file.now) (told self.old) (told self.new)) }
+        ensures same { sync_failed self.new ≡ sync_failed self.old }
         ensures cause { HasCause (faults self.old) (faults self.new) result };
 
     /// Makes the bytes of a file durable.
     fn sync_file(&mut self, file: &Self::File) -> io::Result<()>
         ensures ok { OnOk result (Becomes (change_one (Self.File.number file.now) with_synced_bytes)
             (told self.old) (told self.new)) }
+        ensures err { OnErr result (told self.new ≡ told self.old) }
+        ensures same { sync_failed self.new ≡ sync_failed self.old }
         ensures cause { HasCause (faults self.old) (faults self.new) result };
 
     /// Makes the names of all files durable.
     fn sync_names(&mut self) -> io::Result<()>
         ensures ok { OnOk result (Becomes (map with_synced_name) (told self.old) (told self.new)) }
+        ensures err { OnErr result (told self.new ≡ told self.old) }
+        ensures failed { sync_failed self.new ≡ is_err result }
+        ensures refused { IsTrue (sync_failed self.old) → IsErr result }
+        ensures cause { HasCause (faults self.old) (faults self.new) result };
+
+    /// Whether a file with this number is there.
+    fn is_there(&mut self, number: u64) -> io::Result<bool>
+        ensures there { IfOk result (λ there.
+            (IsTrue there → IsTakenIn number (told self.old)) × (¬ IsTrue there → IsFreeIn number (told self.old))) }
+        ensures same { told self.new ≡ told self.old × sync_failed self.new ≡ sync_failed self.old }
         ensures cause { HasCause (faults self.old) (faults self.new) result };
 
     /// Opens a file, or returns `None` where there is none.
     fn open(&mut self, number: u64) -> io::Result<Option<Self::File>>
-        ensures none { IfOk result (λ found. MatchOption found (IfSome (told self.old) (IsFree number))
+        ensures none { IfOk result (λ found. MatchOption found (IsFreeIn number (told self.old))
             (λ file. Self.File.number file ≡ number)) }
-        ensures same { told self.new ≡ told self.old }
+        ensures same { told self.new ≡ told self.old × sync_failed self.new ≡ sync_failed self.old }
         ensures cause { HasCause (faults self.old) (faults self.new) result };
 
     /// Fills `into` with the bytes of a file from `at` on.
     fn read_at(&mut self, file: &Self::File, at: u64, into: &mut [u8]) -> io::Result<()>
         ensures bytes { OnOk result (HasBytesOf (Self.File.number file.now) at into.new (told self.old)) }
-        ensures same { told self.new ≡ told self.old }
+        ensures same { told self.new ≡ told self.old × sync_failed self.new ≡ sync_failed self.old }
         ensures cause { HasCause (faults self.old) (faults self.new) result };
 
     /// How many bytes a file has.
     fn size(&mut self, file: &Self::File) -> io::Result<u64>
         ensures size { IfOk result (λ n. HasLengthOf (Self.File.number file.now) n (told self.old)) }
-        ensures same { told self.new ≡ told self.old }
+        ensures same { told self.new ≡ told self.old × sync_failed self.new ≡ sync_failed self.old }
         ensures cause { HasCause (faults self.old) (faults self.new) result };
 
     /// Removes a file.
-    fn remove(&mut self, file: &Self::File) -> io::Result<()>
-        ensures ok { OnOk result (Becomes (without (Self.File.number file.now)) (told self.old) (told self.new)) }
+    fn remove(&mut self, number: u64) -> io::Result<()>
+        ensures ok { OnOk result (Becomes (without number) (told self.old) (told self.new)) }
+        ensures err { OnErr result (SameBut number (told self.old) (told self.new)) }
+        ensures same { sync_failed self.new ≡ sync_failed self.old }
         ensures cause { HasCause (faults self.old) (faults self.new) result };
 
     /// The numbers of the files, in any order.
     fn numbers(&mut self) -> io::Result<Vec<u64>>
         ensures exact { IfOk result (λ list. IfSome (told self.old) (λ files. (n : ℕ) → IsFileNumber n
             → (Contains list.items n ↔ Contains (numbers_in files) n))) }
-        ensures same { told self.new ≡ told self.old }
+        ensures same { told self.new ≡ told self.old × sync_failed self.new ≡ sync_failed self.old }
         ensures cause { HasCause (faults self.old) (faults self.new) result };
 }
 
-/// An open file of the system with its path, which its removal needs.
+/// An open file of the system.
 #[derive(Drop)]
 pub struct FileOnDisk {
     file: File,
-    path: String,
     number: u64,
 }
 
 impl NumberedFile for FileOnDisk {
     ghost number = { λ file. file.number };
+
+    fn number(&self) -> u64 {
+        self.number
+    }
 }
 
-/// A directory of the system, which holds the lock of the store.
+/// A directory of the system, which holds the lock of the store. What is no regular file is no file of the store.
 #[derive(Drop)]
 pub struct StoreDirectory<R> {
     rt: R,
-    dir: String,
-    directory: Arc<File>,
+    path: Arc<String>,
+    directory: Arc<LockedDirectory>,
+    sync_failed: bool,
 }
 
 impl<R: Files<File = File> + AllocGlobal + Clone + Drop> StoreDirectory<R> {
-    pub(crate) fn new(rt: R, dir: String, directory: Arc<File>) -> Self {
-        StoreDirectory { rt, dir, directory }
+    pub(crate) fn new(rt: R, path: Arc<String>, directory: Arc<LockedDirectory>) -> Self {
+        StoreDirectory {
+            rt,
+            path,
+            directory,
+            sync_failed: false,
+        }
     }
 
     fn path(&self, number: u64) -> Result<String, AllocError> {
-        let mut path = String::from_str(self.rt.alloc(), self.dir.as_str())?;
+        let mut path = String::from_str(self.rt.alloc(), self.path.as_str())?;
         path.push('/')?;
         path.push_str(name_of_number(self.rt.alloc(), number)?.as_str())?;
         Ok(path)
+    }
+}
+
+// Whether a regular file lies at this path. A link is none, wherever it leads.
+fn is_regular<R: Files<File = File>>(rt: &R, path: &str) -> io::Result<bool> {
+    match fs::symlink_metadata(rt, path) {
+        Ok(metadata) => Ok(metadata.is_file()),
+        Err(error) if error.kind() == ErrorKind::NotFound => Ok(false),
+        Err(error) => Err(error),
     }
 }
 
@@ -135,24 +180,30 @@ impl<R: Files<File = File> + AllocGlobal + Clone + Drop> FileDirectory for Store
 
     ghost told = { λ _. None };
 
+    ghost sync_failed = { λ directory. directory.sync_failed };
+
     ghost faults = { λ _. 2 ^ 64 - 1 };
 
     fn another(&self) -> Result<Self, AllocError> {
         Ok(StoreDirectory {
             rt: self.rt.clone()?,
-            dir: String::from_str(self.rt.alloc(), self.dir.as_str())?,
+            path: Arc::try_clone(&self.path)?,
             directory: Arc::try_clone(&self.directory)?,
+            sync_failed: self.sync_failed,
         })
     }
 
     fn create_new(&mut self, number: u64) -> io::Result<FileOnDisk> {
+        if self.sync_failed || self.directory.has_failed() {
+            return Err(io::Error::from(ErrorKind::Other));
+        }
         let path = self.path(number)?;
         let file = OpenOptions::new()
             .read(true)
             .write(true)
             .create_new(true)
             .open(&self.rt, path.as_str())?;
-        Ok(FileOnDisk { file, path, number })
+        Ok(FileOnDisk { file, number })
     }
 
     fn write_all(&mut self, file: &FileOnDisk, bytes: &[u8]) -> io::Result<()> {
@@ -164,20 +215,25 @@ impl<R: Files<File = File> + AllocGlobal + Clone + Drop> FileDirectory for Store
     }
 
     fn sync_names(&mut self) -> io::Result<()> {
-        self.directory.sync_all()
+        if self.sync_failed {
+            return Err(io::Error::from(ErrorKind::Other));
+        }
+        let answer = self.directory.sync();
+        self.sync_failed = answer.is_err();
+        answer
+    }
+
+    fn is_there(&mut self, number: u64) -> io::Result<bool> {
+        is_regular(&self.rt, self.path(number)?.as_str())
     }
 
     fn open(&mut self, number: u64) -> io::Result<Option<FileOnDisk>> {
         let path = self.path(number)?;
-        let file = match File::open(&self.rt, path.as_str()) {
-            Ok(file) => file,
-            Err(error) if error.kind() == ErrorKind::NotFound => return Ok(None),
-            Err(error) => return Err(error),
-        };
-        if !file.metadata()?.is_file() {
-            return Err(io::Error::from(ErrorKind::InvalidInput));
+        if !is_regular(&self.rt, path.as_str())? {
+            return Ok(None);
         }
-        Ok(Some(FileOnDisk { file, path, number }))
+        let file = File::open(&self.rt, path.as_str())?;
+        Ok(Some(FileOnDisk { file, number }))
     }
 
     fn read_at(&mut self, file: &FileOnDisk, at: u64, into: &mut [u8]) -> io::Result<()> {
@@ -188,17 +244,20 @@ impl<R: Files<File = File> + AllocGlobal + Clone + Drop> FileDirectory for Store
         Ok(file.file.metadata()?.len())
     }
 
-    fn remove(&mut self, file: &FileOnDisk) -> io::Result<()> {
-        fs::remove_file(&self.rt, file.path.as_str())
+    fn remove(&mut self, number: u64) -> io::Result<()> {
+        fs::remove_file(&self.rt, self.path(number)?.as_str())
     }
 
     fn numbers(&mut self) -> io::Result<Vec<u64>> {
         let alloc = self.rt.alloc();
         let mut numbers = Vec::new(alloc);
-        for entry in fs::read_dir(&self.rt, self.dir.as_str())? {
+        for entry in fs::read_dir(&self.rt, self.path.as_str())? {
             match entry {
                 Ok(entry) => {
-                    if let Some(number) = number_of_name(alloc, entry.file_name())? {
+                    let number = number_of_name(alloc, entry.file_name())?;
+                    if let Some(number) = number
+                        && entry.file_type()?.is_file()
+                    {
                         numbers.push(number)?;
                     }
                 }

@@ -1,6 +1,6 @@
 //! The names of the files of a store: the number in decimal without leading zeros, and `.tsfile`. Depends on
 //! `tsdb_outside`.
-ghost use Rattle.std.specs.Prelude.{◌≡◌, ◌++◌, IfOk, IfSome, codes};
+ghost use Rattle.std.specs.Prelude.{◌≡◌, ◌≢◌, ◌++◌, ◌<◌, ◌^◌, ℕ, List, None, Some, IfOk, IfSome, MatchOption, codes};
 ghost use Rattle.std.specs.Fmt.{decimal};
 ghost use Rattle.std.specs.String.{string_bytes};
 ghost use Rattle.tsdb_outside.specs.Files.{IsFileNumber};
@@ -18,15 +18,31 @@ pub fn name_of_number(alloc: Global, number: u64) -> Result<String, AllocError>
     format!(in alloc; "{number}.tsfile")
 }
 
-/// The number of the file with this name, or `None` where no file of a store has it.
+// What stands before the suffix, if the name ends in it.
+fn before_suffix(name: &str) -> Option<&str>
+    ensures { MatchOption result ((front : List ℕ) → name.now ≢ front ++ codes ".tsfile")
+        (λ digits. name.now ≡ digits.now ++ codes ".tsfile") }
+{
+    name.strip_suffix(SUFFIX)
+}
+
+// The number that these digits write, if it is one of 64 bits.
+fn number_in(digits: &str) -> Option<u64>
+    ensures { (n : ℕ) → n < 2 ^ 64 → digits.now ≡ decimal n → result ≡ Some n }
+{
+    digits.parse::<u64>().ok()
+}
+
+/// The number of the file with this name, or `None` exactly where no file of a store has it.
 pub fn number_of_name(alloc: Global, name: &str) -> Result<Option<u64>, AllocError>
     ensures number { IfOk result (λ number. IfSome number IsFileNumber) }
     ensures name { IfOk result (λ number. IfSome number (λ n. name.now ≡ file_name n)) }
+    ensures none { IfOk result (λ number. number ≡ None → (n : ℕ) → IsFileNumber n → name.now ≢ file_name n) }
 {
-    let Some(digits) = name.strip_suffix(SUFFIX) else {
+    let Some(digits) = before_suffix(name) else {
         return Ok(None);
     };
-    let Ok(number) = digits.parse::<u64>() else {
+    let Some(number) = number_in(digits) else {
         return Ok(None);
     };
     if is_file_number(number) && name_of_number(alloc, number)?.as_str() == name {

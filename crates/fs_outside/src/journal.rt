@@ -8,6 +8,7 @@ ghost use Rattle.tsdb_outside.specs.Limits.{FitsSlot};
 ghost use Rattle.fs_outside.specs.FileState.{FileFails, HasLength, HasBytes, KeepsFile, OverwritesFile, MayWriteFile};
 ghost use Rattle.fs_outside.specs.FileState.{IsFileDurable};
 
+use crate::directory::LockedDirectory;
 use crate::slot_file::SlotFile;
 use std::fs::File;
 use std::sync::Arc;
@@ -121,22 +122,21 @@ impl<F: SlotFile> FileSlot<F> {
 /// clock in common; its clauses say what each call does to its slot's file, where that file tells. The guard, as the
 /// lock of a directory, is held as long as the journal is out.
 #[derive(Drop)]
-pub struct FsJournal<F = File, G = Arc<File>> {
+pub struct FsJournal<F = File, G = Arc<LockedDirectory>> {
     a: FileSlot<F>,
     b: FileSlot<F>,
     guard: G,
 }
 
 impl<F, G> FsJournal<F, G> {
-    ghost use Rattle.fs_outside.specs.Journal.{journal_faults};
+    ghost use Rattle.tsdb_outside.specs.declared.disk.Slot.TheVariants.{A, B};
+    ghost use Rattle.fs_outside.specs.Journal.{file_of, journal_faults, sync_failed};
 
-    // The journal over these files, before the first fault.
-    pub(crate) fn new(a: F, b: F, guard: G) -> Self
-        ensures { result ≡ record {
-          a = record { file = a; sync_failed = false; faults = 0 };
-          b = record { file = b; sync_failed = false; faults = 0 };
-          guard = guard;
-        } }
+    /// The journal over these files, before the first fault. It holds the guard.
+    pub fn new(a: F, b: F, guard: G) -> Self
+        ensures files { file_of A result ≡ a × file_of B result ≡ b }
+        ensures synced { sync_failed A result ≡ false × sync_failed B result ≡ false }
+        ensures faults { journal_faults result ≡ 0 }
     {
         FsJournal {
             a: FileSlot::new(a),

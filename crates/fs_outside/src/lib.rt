@@ -7,10 +7,12 @@ mod file_directory;
 mod file_name;
 mod files;
 mod journal;
+mod open_files;
 mod place;
 mod slot_file;
 mod streams;
 
+pub use directory::LockedDirectory;
 pub use file_directory::{FileDirectory, FileOnDisk, NumberedFile, StoreDirectory};
 pub use files::{FsFiles, FsPort, FsRight, FsSealed};
 pub use journal::FsJournal;

@@ -1,9 +1,12 @@
 //! A place in the file system. Depends on `directory`, `journal` and `files`.
 ghost use Rattle.std.specs.Prelude.{◌≡◌, IfOk, None};
-ghost use Rattle.fs_outside.specs.Files.{files_faults};
+ghost use Rattle.std.specs.Arc.{arc_value};
+ghost use Rattle.std.specs.String.{string_bytes};
+ghost use Rattle.fs_outside.specs.Directory.{store_in};
+ghost use Rattle.fs_outside.specs.Files.{files_faults, files_store};
 ghost use Rattle.fs_outside.specs.Journal.{journal_faults};
 
-use crate::directory::open_store;
+use crate::directory::{LockedDirectory, open_store};
 use crate::file_directory::StoreDirectory;
 use crate::files::FsFiles;
 use crate::journal::FsJournal;
@@ -13,13 +16,21 @@ use std::rt::Files;
 use std::sync::Arc;
 use tsdb_outside::{Counted, Disk, Failed, Journal, Place, StoreFault};
 
-/// A place in the file system. The slots of a store are the files `slot0` and `slot1` of its directory; other names
-/// there are left alone. It tells nothing, since nobody knows what a real disk holds.
+/// A place in the file system. The slots of a store are the files `slot0` and `slot1` of its directory, and its stored
+/// files those with the names of files; other names there are left alone. It tells nothing, since nobody knows what a
+/// real disk holds.
 #[derive(Drop)]
 pub struct FsPlace<R> {
     rt: R,
+    asked: Option<Arc<String>>,
     faults: u64,
 }
+
+// What a place hands out.
+type Parts<R> = (
+    FsJournal<File, Arc<LockedDirectory>>,
+    FsFiles<StoreDirectory<R>>,
+);
 
 impl<R> FsPlace<R> {
     ghost use Rattle.fs_outside.specs.Place.{place_faults};
@@ -27,7 +38,11 @@ impl<R> FsPlace<R> {
     pub fn new(rt: R) -> Self
         ensures { place_faults result ≡ 0 }
     {
-        FsPlace { rt, faults: 0 }
+        FsPlace {
+            rt,
+            asked: None,
+            faults: 0,
+        }
     }
 }
 
@@ -47,19 +62,23 @@ impl<R> Disk for FsPlace<R> {
 }
 
 impl<R: Files<File = File> + AllocGlobal + Clone + Drop + Send> Place for FsPlace<R> {
-    type Journal = FsJournal<File, Arc<File>>;
+    type Journal = FsJournal<File, Arc<LockedDirectory>>;
 
     type Files = FsFiles<StoreDirectory<R>>;
 
+    ghost use Rattle.fs_outside.specs.Place.{place_asked};
+
     ghost stored = { λ _. None };
 
+    ghost asked = { place_asked };
+
     /// Both parts hold the lock of the directory.
-    fn take_up(
-        &mut self,
-        dir: &[u8],
-    ) -> Result<(FsJournal<File, Arc<File>>, FsFiles<StoreDirectory<R>>), StoreFault> {
+    fn take_up(&mut self, dir: &[u8]) -> Result<Parts<R>, StoreFault> {
         match open_parts(&self.rt, dir) {
-            Ok(parts) => Ok(parts),
+            Ok((path, parts)) => {
+                self.asked = Some(path);
+                Ok(parts)
+            }
             Err(error) if error.kind() == ErrorKind::OutOfMemory => Err(StoreFault::Memory),
             Err(_) => {
                 self.faults = self.faults.saturating_add(1);
@@ -68,7 +87,11 @@ impl<R: Files<File = File> + AllocGlobal + Clone + Drop + Send> Place for FsPlac
         }
     }
 
-    fn put_down(&mut self, journal: FsJournal<File, Arc<File>>, files: FsFiles<StoreDirectory<R>>) {
+    fn put_down(
+        &mut self,
+        journal: FsJournal<File, Arc<LockedDirectory>>,
+        files: FsFiles<StoreDirectory<R>>,
+    ) {
         self.faults = self
             .faults
             .saturating_add(journal.faults())
@@ -76,19 +99,27 @@ impl<R: Files<File = File> + AllocGlobal + Clone + Drop + Send> Place for FsPlac
     }
 }
 
-// Opens the store of the directory, and makes its parts.
+// Opens the store of the directory, and makes its parts. The path of the directory is there too.
 fn open_parts<R: Files<File = File> + AllocGlobal + Clone + Drop>(
     rt: &R,
     dir: &[u8],
-) -> io::Result<(FsJournal<File, Arc<File>>, FsFiles<StoreDirectory<R>>)>
-    ensures { IfOk result (λ parts. journal_faults parts.0 ≡ 0 × files_faults parts.1 ≡ 0) }
+) -> io::Result<(Arc<String>, Parts<R>)>
+    ensures path { IfOk result (λ opened. string_bytes (arc_value opened.0) ≡ dir.now) }
+    ensures store { IfOk result (λ opened. files_store opened.1.1 ≡ store_in dir.now) }
+    ensures faults { IfOk result (λ opened. journal_faults opened.1.0 ≡ 0 × files_faults opened.1.1 ≡ 0) }
 {
+    let Ok(dir) = str::from_utf8(dir) else {
+        return Err(io::Error::from(ErrorKind::InvalidInput));
+    };
+    if dir.is_empty() {
+        return Err(io::Error::from(ErrorKind::InvalidInput));
+    }
+    let alloc = rt.alloc();
+    let path = Arc::new(alloc, String::from_str(alloc, dir)?)?;
     let store = open_store(rt, dir)?;
-    let directory = Arc::new(rt.alloc(), store.directory)?;
+    let directory = Arc::new(alloc, store.directory)?;
     let guard = Arc::try_clone(&directory)?;
-    let files = StoreDirectory::new(rt.clone()?, store.path, directory);
-    Ok((
-        FsJournal::new(store.a, store.b, guard),
-        FsFiles::new(rt.alloc(), files),
-    ))
+    let calls = StoreDirectory::new(rt.clone()?, Arc::try_clone(&path)?, directory);
+    let files = FsFiles::new(alloc, Arc::try_clone(&path)?, calls);
+    Ok((path, (FsJournal::new(store.a, store.b, guard), files)))
 }

@@ -1,11 +1,13 @@
 -- One entry taken out of a list, and the numbers of a list.
-use Rattle.std.proofs.Common.{◌≡◌, ℕ, zero, suc, ◌+◌, ◌-◌, ◌^◌, ◌<◌, ◌≤◌, Bool, true, false, List, [], ◌∷◌, ◌++◌, length, take, drop, map, ◌⊎◌, inl, inr, ⊎_elim, refl, sym, ap, ◌∙◌, subst, arith}
-use Rattle.std.specs.Prelude.{◌≢◌, ◌↔◌, Contains, slice_index_or, Result, Ok, Err, IsOk, is_ok, if◌then◌else◌}
+use Rattle.std.proofs.Common.{◌≡◌, ℕ, zero, suc, ◌+◌, ◌-◌, ◌^◌, ◌<◌, List, [], ◌∷◌, ◌++◌, length, take, drop, map, ◌⊎◌, inl, inr, ⊎_elim, refl, sym, ap, ◌∙◌, subst, arith}
+use Rattle.std.specs.Prelude.{◌≢◌, None, Contains, MatchOption, slice_index_or, Result, Ok, Err, IsOk, is_ok, if◌then◌else◌}
+use Rattle.std.specs.declared.option.Option.{Option}
 use Rattle.std.proofs.lemmas.Bool.{false≢true}
 use Rattle.std.proofs.lemmas.List.{drop-drop, length-take-le, length-drop}
 use Rattle.tsdb_outside.specs.Files.{numbers_of}
 use Rattle.mem_outside.specs.declared.entry.Entry.{Entry}
-use Rattle.mem_outside.specs.Entry.{entry_file, entry_files, TakesNode}
+use Rattle.mem_outside.specs.Entry.{entry_file, entry_files, removed, TakesNode}
+use Rattle.mem_outside.specs.Files.{AddsFailed}
 
 Contains-head : {X : Type 0} (x : X) (xs : List X) → Contains (x ∷ xs) x
 Contains-head x xs = (0, omega arith, refl)
@@ -91,3 +93,20 @@ taken_out at xs head node rest new r l fits head_is node_is rest_is succeeds is 
     let right : length rest ≡ length xs - (at + 1) = ap length rest_at ∙ length-drop (at + 1) xs in
     let short : length head + length rest < 2 ^ 63 = omega arith in
     joins r new head rest (succeeds short) is ∙ ap (λ (l : List Entry). l ++ rest) head_is ∙ ap (λ (l : List Entry). take at xs ++ l) rest_at
+
+-- what holds where nothing is found, where nothing was found
+pub none_found : {X P : Type 0} (Q : X → Type 0) (found : Option X) → found ≡ None → MatchOption found P Q → P
+none_found {X} {P} Q found is holds = subst (λ (o : Option X). MatchOption o P Q) is holds
+
+-- the node of a file whose put failed is put behind those that were removed
+pub adds_failed : (number : ℕ) (bytes : List ℕ) (at : ℕ) (old gone new node : List Entry) (entry : Entry)
+    → gone ≡ old → node ≡ entry ∷ [] → (length gone + length node < 2 ^ 63 → new ≡ gone ++ map (removed at) node)
+    → entry_file entry ≡ record { number = number; bytes = bytes } → entry.put_at ≡ at → AddsFailed number bytes at old new
+adds_failed number bytes at old gone new node entry same one adds file put = λ short.
+    let fits : length gone + length node < 2 ^ 63 = omega (arith, ap length same, ap length one, short) in (
+      removed at entry,
+      adds fits ∙ ap (λ (l : List Entry). l ++ map (removed at) node) same ∙ ap (λ (l : List Entry). old ++ map (removed at) l) one,
+      file,
+      put,
+      refl,
+    )

@@ -3,3 +3,4 @@ mod StopLemmas
 mod JournalLemmas
 mod CountedCalls
 mod EntryLemmas
+mod PlaceLemmas

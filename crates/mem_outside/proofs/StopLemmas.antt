@@ -1,5 +1,5 @@
 -- What each kind of stop leaves is one of the things that a stop may leave.
-use Rattle.std.proofs.Common.{◌≡◌, ℕ, ◌-◌, ◌≤◌, min, Bool, true, false, List, [], ◌∷◌, length, take, None, Some, refl, sym, arith, subst}
+use Rattle.std.proofs.Common.{◌≡◌, ℕ, ◌-◌, ◌≤◌, min, Bool, true, false, List, [], ◌∷◌, length, None, Some, refl, sym, arith, subst}
 use Rattle.std.specs.Prelude.{if◌then◌else◌, Result, Ok, Err, IfOk, IfSome}
 use Rattle.std.specs.declared.option.Option.{Option}
 use Rattle.tsdb_base.specs.declared.fault.Memory.{Memory}

@@ -1,11 +1,14 @@
 -- Stored files in memory, and what a stop leaves of them.
-use Rattle.std.specs.Prelude.{◌≡◌, ℕ, Bool, true, ◌&&◌, max, nat_le, nat_lt, List, [], ◌∷◌, ◌++◌, map, None, Some, Vec}
+use Rattle.std.specs.Prelude.{◌≡◌, ℕ, ◌-◌, ◌/◌, Bool, true, false, ◌&&◌, ◌||◌, max, nat_eq, nat_le, nat_lt, List, [], ◌∷◌, ◌++◌, length}
+use Rattle.std.specs.Prelude.{take, map, filter, None, Some, Vec}
+use Rattle.mem_outside.specs.declared.record.StopKind.{StopKind}
+use Rattle.mem_outside.specs.declared.record.StopKind.TheVariants.{Written, Unwritten, Scrambled}
 use Rattle.std.specs.declared.option.Option.{Option}
 use Rattle.std.specs.List.{fold}
 use Rattle.std.specs.declared.alloc.Global.{Global}
 use Rattle.tsdb_base.specs.declared.ids.FileNumber.{FileNumber}
 use Rattle.std.specs.Arc.{arc_value}
-use Rattle.tsdb_outside.specs.Files.{StoredFile, NamedFile}
+use Rattle.tsdb_outside.specs.Files.{Store, StoredFile, NamedFile}
 use Rattle.mem_outside.specs.declared.entry.Entry.{Entry}
 
 -- the file of an entry
@@ -20,10 +23,11 @@ handed_in file = record { number = file.0.0; bytes = file.1.items }
 abbrev pub entry_files : List Entry → List StoredFile
 entry_files entries = map entry_file entries
 
--- what a token with this node names
-abbrev pub named_file : List Entry → NamedFile
-named_file [] = record { number = 0; bytes = None }
-named_file (entry ∷ rest) = record { number = entry.number; bytes = Some (arc_value entry.bytes).items }
+-- what a token of this store with this node names
+abbrev pub named_file : Store → List Entry → NamedFile
+named_file store [] = record { store = store; number = 0; bytes = None }
+named_file store (entry ∷ rest) =
+    record { store = store; number = entry.number; bytes = Some (arc_value entry.bytes).items }
 
 -- it is not removed by the call at this place or an earlier one
 abbrev pub is_kept : ℕ → Option ℕ → Bool
@@ -33,6 +37,37 @@ is_kept moment (Some at) = nat_lt moment at
 -- a stop behind this many counted calls leaves it: it was put before, and not yet handed to `remove`
 abbrev pub is_there : ℕ → Entry → Bool
 is_there moment entry = nat_le entry.put_at moment && is_kept moment entry.removed_at
+
+-- the call that put it failed, and removed it again
+abbrev pub failed_at : ℕ → Option ℕ → Bool
+failed_at put None = false
+failed_at put (Some at) = nat_eq at put
+
+-- A stop of this kind behind this many counted calls leaves the file whole. One that leaves what was there before a write
+-- leaves what was there before a removal, too, and the file of a put that failed.
+abbrev pub is_left : StopKind → ℕ → Entry → Bool
+is_left Written moment entry = is_there moment entry
+is_left Unwritten moment entry = nat_le entry.put_at moment
+is_left Scrambled moment entry = is_there moment entry
+
+-- a stop that scrambles leaves a part of the file: its put has failed, or is the next call
+abbrev pub is_cut : StopKind → ℕ → Entry → Bool
+is_cut Written moment entry = false
+is_cut Unwritten moment entry = false
+is_cut Scrambled moment entry =
+    nat_eq (entry.put_at - moment) 1 || nat_le entry.put_at moment && failed_at entry.put_at entry.removed_at
+
+-- the first half of the file of an entry
+abbrev pub half_file : Entry → StoredFile
+half_file entry = record {
+  number = entry.number;
+  bytes = take (length (arc_value entry.bytes).items / 2) (arc_value entry.bytes).items;
+}
+
+-- what such a stop leaves of these entries
+abbrev pub files_left : StopKind → ℕ → List Entry → List StoredFile
+files_left kind moment entries =
+    entry_files (filter (is_left kind moment) entries) ++ map half_file (filter (is_cut kind moment) entries)
 
 -- the greatest place in the row that it has
 abbrev pub later_place : ℕ → Option ℕ → ℕ

@@ -1,6 +1,8 @@
 -- What the places in memory mean: what their parts mean while they are in them.
-use Rattle.std.specs.Prelude.{◌≡◌, ℕ, ◌+◌, ◌-◌, ◌^◌, min, max, List, [], ◌∷◌, ◌++◌, length, map, filter, None, Some}
+use Rattle.std.specs.Prelude.{◌≡◌, ℕ, ◌+◌, ◌-◌, ◌^◌, min, max, List, [], ◌∷◌, ◌++◌, None, Some}
 use Rattle.std.specs.Prelude.{Vec}
+use Rattle.std.specs.Arc.{arc_value}
+use Rattle.std.specs.Option.{option_map}
 use Rattle.std.specs.declared.option.Option.{Option}
 use Rattle.std.specs.declared.alloc.Global.{Global}
 use Rattle.std.specs.List.{take_while}
@@ -11,7 +13,7 @@ use Rattle.mem_outside.specs.declared.journal.MemJournal.{MemJournal}
 use Rattle.mem_outside.specs.declared.place.MemPlace.{MemPlace}
 use Rattle.mem_outside.specs.declared.place.Parts.{Parts}
 use Rattle.mem_outside.specs.declared.record.StopKind.{StopKind}
-use Rattle.mem_outside.specs.Entry.{entry_files, is_there, last_of}
+use Rattle.mem_outside.specs.Entry.{files_left, last_of}
 use Rattle.mem_outside.specs.Files.{files_at_rest, files_gone, files_row, stored_files}
 use Rattle.mem_outside.specs.Record.{LeavesOf, image_after_stop}
 use Rattle.mem_outside.specs.RecordedDisk.{is_until, last_of_calls}
@@ -33,6 +35,10 @@ journal_of place = journal_in place.parts
 -- the files in the place, if they are not out
 abbrev pub files_of : MemPlace → Option MemFiles
 files_of place = files_in place.parts
+
+-- the directory whose store was taken up last, or none before the first
+abbrev pub place_asked : MemPlace → Option (List ℕ)
+place_asked place = option_map (λ name. (arc_value {X = Vec ℕ Global} name).items) place.asked
 
 -- how often the place and the parts that it was given back have failed
 abbrev pub place_faults : MemPlace → ℕ
@@ -84,11 +90,10 @@ stop_image kind None k = None
 stop_image kind (Some j) k =
     Some (image_after_stop kind (journal_first j) (take_while (is_until k) (journal_calls j)))
 
--- what a stop behind the first k counted calls leaves of the files
-abbrev pub stop_files : ℕ → Option MemFiles → Option (List StoredFile)
-stop_files k None = None
-stop_files k (Some f) = Some (entry_files (filter (is_there k) (files_at_rest f))
-    ++ entry_files (filter (is_there k) (files_gone f)))
+-- what a stop of this kind behind the first k counted calls leaves of the files
+abbrev pub stop_files : StopKind → ℕ → Option MemFiles → Option (List StoredFile)
+stop_files kind k None = None
+stop_files kind k (Some f) = Some (files_left kind k (files_at_rest f) ++ files_left kind k (files_gone f))
 
 -- whatever a stop now leaves is this
 abbrev pub IsDurable : Image → State → Type 0

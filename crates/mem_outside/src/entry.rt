@@ -6,9 +6,10 @@ ghost use Rattle.std.specs.Prelude.{slice_index_or, Contains, IfOk, IfSome, Matc
 ghost use Rattle.std.specs.Arc.{arc_value};
 ghost use Rattle.mem_outside.specs.declared.entry.Entry.{Entry};
 ghost use Rattle.mem_outside.specs.Entry.{entry_file, named_file, is_there, entry_files, last_place, last_of, removed};
-ghost use Rattle.mem_outside.specs.Entry.{handed_in, TakesNode};
+ghost use Rattle.mem_outside.specs.Entry.{handed_in, TakesNode, failed_at, is_left, is_cut, half_file, files_left};
 ghost use Rattle.tsdb_outside.specs.Files.{numbers_of};
 
+use crate::record::StopKind;
 use std::alloc::{AllocError, Global};
 use std::collections::LinkedList;
 use std::sync::Arc;
@@ -34,6 +35,52 @@ impl Entry {
                 Some(at) => moment < at,
                 None => true,
             }
+    }
+
+    // Whether a stop of this kind behind this many counted calls leaves it whole.
+    fn is_left(&self, kind: StopKind, moment: u64) -> bool
+        ensures { result ≡ is_left kind moment self.now }
+    {
+        match kind {
+            StopKind::Written | StopKind::Scrambled => self.is_there(moment),
+            StopKind::Unwritten => self.put_at <= moment,
+        }
+    }
+
+    // Whether the call that put it failed.
+    fn has_failed(&self) -> bool
+        ensures { result ≡ failed_at self.now.put_at self.now.removed_at }
+    {
+        match self.removed_at {
+            Some(at) => at == self.put_at,
+            None => false,
+        }
+    }
+
+    // Whether such a stop leaves a part of it.
+    fn is_cut(&self, kind: StopKind, moment: u64) -> bool
+        ensures { result ≡ is_cut kind moment self.now }
+    {
+        match kind {
+            StopKind::Written | StopKind::Unwritten => false,
+            StopKind::Scrambled => {
+                self.put_at.saturating_sub(moment) == 1
+                    || self.put_at <= moment && self.has_failed()
+            }
+        }
+    }
+
+    // The first half of the file, as one that was handed in.
+    fn half(&self, alloc: Global) -> Result<Entry, AllocError>
+        ensures { IfOk result (λ half. entry_file half ≡ half_file self.now) }
+    {
+        let bytes = self.bytes[..self.bytes.len() / 2].to_vec(alloc)?;
+        Ok(Entry {
+            number: self.number,
+            bytes: Arc::new(alloc, bytes)?,
+            put_at: 0,
+            removed_at: None,
+        })
     }
 
     // The greatest place in the row that it has.
@@ -87,21 +134,56 @@ pub fn last_of(entries: &LinkedList<Entry>) -> u64
         .fold(0, |last, entry| last.max(entry.last_place()))
 }
 
-/// Copies the entries that a stop behind this many counted calls leaves.
-pub fn copy_there(
+// Copies the entries that such a stop leaves whole.
+fn copy_whole(
     entries: &LinkedList<Entry>,
+    kind: StopKind,
     moment: u64,
     into: &mut LinkedList<Entry>,
 ) -> Result<(), AllocError>
     ensures { OnOk result (entry_files into.new
-        ≡ entry_files into.old ++ entry_files (filter (is_there moment) entries.now)) }
+        ≡ entry_files into.old ++ entry_files (filter (is_left kind moment) entries.now)) }
 {
     for entry in entries.iter() {
-        if entry.is_there(moment) {
+        if entry.is_left(kind, moment) {
             into.push_back(entry.copy()?)?;
         }
     }
     Ok(())
+}
+
+// Copies half of each entry of which such a stop leaves a part.
+fn copy_cut(
+    alloc: Global,
+    entries: &LinkedList<Entry>,
+    kind: StopKind,
+    moment: u64,
+    into: &mut LinkedList<Entry>,
+) -> Result<(), AllocError>
+    ensures { OnOk result (entry_files into.new
+        ≡ entry_files into.old ++ map half_file (filter (is_cut kind moment) entries.now)) }
+{
+    for entry in entries.iter() {
+        if entry.is_cut(kind, moment) {
+            into.push_back(entry.half(alloc)?)?;
+        }
+    }
+    Ok(())
+}
+
+/// Copies what a stop of this kind behind this many counted calls leaves of these entries.
+pub fn copy_left(
+    alloc: Global,
+    entries: &LinkedList<Entry>,
+    kind: StopKind,
+    moment: u64,
+    into: &mut LinkedList<Entry>,
+) -> Result<(), AllocError>
+    ensures { OnOk result (entry_files into.new
+        ≡ entry_files into.old ++ files_left kind moment entries.now) }
+{
+    copy_whole(entries, kind, moment, into)?;
+    copy_cut(alloc, entries, kind, moment, into)
 }
 
 // Marks the first entry as removed by the call at this place.
@@ -171,47 +253,70 @@ pub fn take_node(
     Ok(Some(take_at(entries, at)?))
 }
 
-/// Names a file in memory. It holds the node of the file's record.
+/// Names a file in memory. It holds the node of the file's record, and the directory of its store.
 pub struct MemSealed {
     node: LinkedList<Entry>,
+    directory: Arc<Vec<u8>>,
     rights: u64,
     // It is one node.
     ghost one: { length node ≡ 1 },
 }
 
 impl MemSealed {
-    ghost use Rattle.mem_outside.specs.Tokens.{sealed_node, sealed_rights};
+    ghost use Rattle.mem_outside.specs.Tokens.{sealed_node, sealed_store, sealed_rights, store_of};
 
-    pub(crate) fn new(alloc: Global, entry: Entry) -> Result<MemSealed, AllocError>
+    pub(crate) fn new(
+        alloc: Global,
+        directory: Arc<Vec<u8>>,
+        entry: Entry,
+    ) -> Result<MemSealed, AllocError>
         ensures node { IfOk result (λ sealed. sealed_node sealed ≡ entry ∷ []) }
+        ensures store { IfOk result (λ sealed. sealed_store sealed ≡ store_of (arc_value directory).items) }
         ensures rights { IfOk result (λ sealed. sealed_rights sealed ≡ 0) }
     {
         let mut node = LinkedList::new(alloc);
         node.push_back(entry)?;
-        Ok(MemSealed { node, rights: 0 })
+        Ok(MemSealed {
+            node,
+            directory,
+            rights: 0,
+        })
     }
 
-    pub(crate) fn of_node(node: LinkedList<Entry>) -> MemSealed
+    pub(crate) fn of_node(directory: Arc<Vec<u8>>, node: LinkedList<Entry>) -> MemSealed
         requires { length node ≡ 1 }
         ensures node { sealed_node result ≡ node }
+        ensures store { sealed_store result ≡ store_of (arc_value directory).items }
         ensures rights { sealed_rights result ≡ 0 }
     {
-        MemSealed { node, rights: 0 }
+        MemSealed {
+            node,
+            directory,
+            rights: 0,
+        }
     }
 
     pub(crate) fn into_node(self) -> LinkedList<Entry>
         ensures node { result ≡ sealed_node self }
         ensures one { length result ≡ 1 }
     {
-        let MemSealed { node, rights: _ } = self;
+        let MemSealed {
+            node,
+            directory: _,
+            rights: _,
+        } = self;
         node
     }
 
     // Gives a right out, where there is a file.
     pub(crate) fn share(&mut self) -> Result<MemRight, Memory>
-        ensures right { IfOk result (λ right. named_file (sealed_node self.old)
-            ≡ record { number = right.number; bytes = Some (arc_value right.bytes).items }) }
+        ensures right { IfOk result (λ right. named_file (sealed_store self.old) (sealed_node self.old) ≡ record {
+          store = store_of (arc_value right.directory).items;
+          number = right.number;
+          bytes = Some (arc_value right.bytes).items;
+        }) }
         ensures node { sealed_node self.new ≡ sealed_node self.old }
+        ensures store { sealed_store self.new ≡ sealed_store self.old }
         ensures ok { OnOk result (sealed_rights self.new ≡ sealed_rights self.old + 1) }
         ensures err { OnErr result (sealed_rights self.new ≡ sealed_rights self.old) }
     {
@@ -222,6 +327,7 @@ impl MemSealed {
             return Err(Memory);
         };
         let right = MemRight {
+            directory: Arc::try_clone(&self.directory)?,
             number: entry.number,
             bytes: Arc::try_clone(&entry.bytes)?,
         };
@@ -232,9 +338,11 @@ impl MemSealed {
     // Takes a right back.
     pub(crate) fn give_back(&mut self, right: MemRight)
         ensures node { sealed_node self.new ≡ sealed_node self.old }
+        ensures store { sealed_store self.new ≡ sealed_store self.old }
         ensures rights { sealed_rights self.new ≡ sealed_rights self.old - 1 }
     {
         let MemRight {
+            directory: _,
             number: _,
             bytes: _,
         } = right;
@@ -243,15 +351,19 @@ impl MemSealed {
 }
 
 impl SealedFile for MemSealed {
-    ghost use Rattle.mem_outside.specs.Tokens.{sealed_file, sealed_rights};
+    ghost use Rattle.std.proofs.Common.{refl};
+    ghost use Rattle.mem_outside.specs.Tokens.{sealed_file, sealed_rights, sealed_store, tells_node};
 
     ghost file = { sealed_file };
 
     ghost rights = { sealed_rights };
+
+    ghost tells = { λ sealed. tells_node (sealed_store sealed) sealed.node sealed.one refl };
 }
 
 /// Lets its holder read a file in memory.
 pub struct MemRight {
+    directory: Arc<Vec<u8>>,
     number: u64,
     bytes: Arc<Vec<u8>>,
 }
@@ -267,7 +379,10 @@ impl MemRight {
 }
 
 impl ReadRight for MemRight {
+    ghost use Rattle.std.proofs.Common.{refl};
     ghost use Rattle.mem_outside.specs.Tokens.{right_file};
 
     ghost file = { right_file };
+
+    ghost tells = { λ _. refl };
 }

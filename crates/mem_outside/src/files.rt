@@ -1,21 +1,25 @@
 //! The files of a store in memory, and their ports. Some of their calls fail, by number. Depends on `entry` and `row`.
 ghost use Rattle.std.specs.Prelude.{◌≡◌, ◌↔◌, ℕ, ◌+◌, ◌-◌, ◌^◌, ◌<◌, ◌≤◌, ◌∷◌, ◌++◌, [], min, max, length, take, drop};
-ghost use Rattle.std.specs.Prelude.{map, filter, All, Contains, None, Some, IfOk, IfSome, IsErr, IsOk, MatchOption};
+ghost use Rattle.std.specs.Prelude.{map, filter, All, Contains, None, Some, IfOk, IfSome, IsErr, IsErrOf, IsOk, MatchOption};
 ghost use Rattle.std.specs.Prelude.{OnErr, OnOk};
 ghost use Rattle.std.specs.Option.{ForSome};
 ghost use Rattle.std.specs.Arc.{arc_value};
 ghost use Rattle.std.specs.List.Sorted.{IsStrictlyIncreasing};
 ghost use Rattle.tsdb_outside.specs.Causes.{HasCause, HasStoreCause, Rose};
+ghost use Rattle.tsdb_outside.specs.Disk.{WhereTold};
 ghost use Rattle.tsdb_outside.specs.Files.{IsFileNumber, Names, numbers_of, plain_numbers, TakesOut, PutsBack};
 ghost use Rattle.tsdb_outside.specs.Limits.{FitsSlot};
-ghost use Rattle.mem_outside.specs.Entry.{entry_files, last_of, is_there};
-ghost use Rattle.mem_outside.specs.Files.{port_faults, port_gone, port_row, files_faults, files_at_rest, files_gone};
-ghost use Rattle.mem_outside.specs.Files.{files_row, stored_files, AddsRemoved};
-ghost use Rattle.mem_outside.specs.Row.{never_fails};
-ghost use Rattle.mem_outside.specs.Tokens.{sealed_node, sealed_file, sealed_rights, right_bytes, right_file};
+ghost use Rattle.mem_outside.specs.Entry.{entry_files, files_left, last_of};
+ghost use Rattle.mem_outside.specs.Files.{port_faults, port_gone, port_row, port_store, files_faults};
+ghost use Rattle.mem_outside.specs.Files.{files_at_rest, files_gone, files_row, files_store, stored_files, AddsRemoved};
+ghost use Rattle.mem_outside.specs.Files.{port_bytes_read, port_last, files_last, AddsFailed, IsPutAt};
+ghost use Rattle.mem_outside.specs.Row.{never_fails, IsDrawn, IsFailing};
+ghost use Rattle.tsdb_outside.specs.declared.faults.StoreFault.TheVariants as fault;
+ghost use Rattle.mem_outside.specs.Tokens.{sealed_node, sealed_file, sealed_rights, store_of, right_bytes, right_file};
 
-use crate::entry::{Entry, MemRight, MemSealed, copy_there, last_of, put_removed, take_node};
-use crate::row::Row;
+use crate::entry::{Entry, MemRight, MemSealed, copy_left, last_of, put_removed, take_node};
+use crate::record::StopKind;
+use crate::row::{Drawn, Row};
 use std::alloc::{AllocError, Global};
 use std::collections::LinkedList;
 use std::sync::Arc;
@@ -26,26 +30,40 @@ use tsdb_outside::{Counted, Failed, Files, Port, StoreFault, list_of_numbers};
 #[derive(Drop)]
 pub struct MemPort {
     alloc: Global,
+    directory: Arc<Vec<u8>>,
     row: Arc<Row>,
+    last: Drawn,
     gone: LinkedList<Entry>,
+    bytes_read: u64,
     faults: u64,
 }
 
 impl MemPort {
-    // Makes a counted call: its place in the row, and whether it fails by its number.
-    fn call(&mut self) -> (u64, Result<(), Failed>)
-        ensures never { never_fails (port_row self.old) → IsOk result.1 }
-        ensures cause { HasCause (port_faults self.old) (port_faults self.new) result.1 }
-        ensures no_fault { OnOk result.1 (port_faults self.new ≡ port_faults self.old) }
+    /// How many bytes its reads that succeeded gave. A number that comes to 2^64 - 1 stays there.
+    pub fn bytes_read(&self) -> u64
+        ensures { result ≡ port_bytes_read self.now }
+    {
+        self.bytes_read
+    }
+
+    // Makes a counted call, which may fail by its number.
+    fn call(&mut self) -> Result<(), Failed>
+        ensures drawn { IsDrawn (port_last self.new) }
+        ensures fails { IsErr result ↔ IsFailing (port_row self.old) (port_last self.new) }
+        ensures never { never_fails (port_row self.old) → IsOk result }
+        ensures cause { HasCause (port_faults self.old) (port_faults self.new) result }
+        ensures no_fault { OnOk result (port_faults self.new ≡ port_faults self.old) }
+        ensures bytes_read { port_bytes_read self.new ≡ port_bytes_read self.old }
         ensures gone { port_gone self.new ≡ port_gone self.old }
         ensures row { port_row self.new ≡ port_row self.old }
+        ensures same_store { port_store self.new ≡ port_store self.old }
     {
-        let at = self.row.draw();
-        let answer = self.row.call_on_files();
+        self.last = self.row.draw_on_files();
+        let answer = self.row.answer(self.last);
         if answer.is_err() {
             self.faults = self.faults.saturating_add(1);
         }
-        (at, answer)
+        answer
     }
 }
 
@@ -58,46 +76,72 @@ impl Port for MemPort {
 
     type Right = MemRight;
 
+    ghost store = { port_store };
+
     fn put(&mut self, number: FileNumber, bytes: &[u8]) -> Result<MemSealed, StoreFault>
         ensures file { IfOk result (λ sealed. Names number.0 bytes.now (sealed_file sealed)) }
+        ensures store { IfOk result (λ sealed. (sealed_file sealed).store ≡ port_store self.old) }
         ensures no_rights { IfOk result (λ sealed. sealed_rights sealed ≡ 0) }
         ensures cause { HasStoreCause (port_faults self.old) (port_faults self.new) result }
 
         // It tells the bytes, and fails by its number or without memory alone.
         ensures told { IfOk result (λ sealed. sealed_file sealed
-            ≡ record { number = number.0; bytes = Some bytes.now }) }
+            ≡ record { store = port_store self.old; number = number.0; bytes = Some bytes.now }) }
         ensures no_fault { never_fails (port_row self.old) → port_faults self.new ≡ port_faults self.old }
-        ensures same { port_gone self.new ≡ port_gone self.old }
+        ensures same { OnOk result (port_gone self.new ≡ port_gone self.old) }
+        ensures no_room { IsErrOf result fault.Memory → port_gone self.new ≡ port_gone self.old }
         ensures row { port_row self.new ≡ port_row self.old }
+        ensures same_store { port_store self.new ≡ port_store self.old }
+
+        // The record has the place of the call. One that failed is on it as put and removed by this call.
+        ensures place { IfOk result (λ sealed. IsPutAt (port_last self.new).place (sealed_node sealed)) }
+        ensures failed { IsErrOf result fault.Failed
+            → AddsFailed number.0 bytes.now (port_last self.new).place (port_gone self.old) (port_gone self.new) }
+        ensures drawn { IsDrawn (port_last self.new) }
+        ensures fails { IsErrOf result fault.Failed → IsFailing (port_row self.old) (port_last self.new) }
+        ensures done { OnOk result (¬ IsFailing (port_row self.old) (port_last self.new)) }
+        ensures bytes_read { port_bytes_read self.new ≡ port_bytes_read self.old }
     {
-        let (put_at, answer) = self.call();
-        answer?;
+        let answer = self.call();
         let bytes = Arc::new(self.alloc, bytes.to_vec(self.alloc)?)?;
         let entry = Entry {
             number: number.0,
             bytes,
-            put_at,
+            put_at: self.last.place,
             removed_at: None,
         };
-        Ok(MemSealed::new(self.alloc, entry)?)
+        let directory = Arc::try_clone(&self.directory)?;
+        let sealed = MemSealed::new(self.alloc, directory, entry)?;
+        if answer.is_err() {
+            put_removed(&mut self.gone, sealed.into_node(), self.last.place);
+            return Err(StoreFault::Failed);
+        }
+        Ok(sealed)
     }
 
     fn read(&mut self, right: &MemRight, at: u64, into: &mut [u8]) -> Result<(), Failed>
-        requires { ForSome (right_file right.now).bytes (λ bytes. at + length into.old ≤ length bytes) }
+        requires range { ForSome (right_file right.now).bytes (λ bytes. at + length into.old ≤ length bytes) }
+        requires store { (right_file right.now).store ≡ port_store self.old }
         ensures bytes { OnOk result (IfSome (right_file right.now).bytes
             (λ bytes. into.new ≡ take (length into.new) (drop at bytes))) }
         ensures cause { HasCause (port_faults self.old) (port_faults self.new) result }
 
         // It fails by its number alone.
+        ensures drawn { IsDrawn (port_last self.new) }
+        ensures bytes_read { OnOk result (port_bytes_read self.new
+            ≡ min (port_bytes_read self.old + length into.new) (2 ^ 64 - 1)) }
+        ensures none_read { OnErr result (port_bytes_read self.new ≡ port_bytes_read self.old) }
+        ensures fails { IsErr result ↔ IsFailing (port_row self.old) (port_last self.new) }
         ensures never { never_fails (port_row self.old) → IsOk result }
         ensures no_fault { never_fails (port_row self.old) → port_faults self.new ≡ port_faults self.old }
         ensures same { port_gone self.new ≡ port_gone self.old }
         ensures row { port_row self.new ≡ port_row self.old }
+        ensures same_store { port_store self.new ≡ port_store self.old }
     {
-        let (_, answer) = self.call();
-        answer?;
+        self.call()?;
         let at = at as usize;
         into.copy_from_slice(&right.bytes()[at..at + into.len()]);
+        self.bytes_read = self.bytes_read.saturating_add(into.len() as u64);
         Ok(())
     }
 
@@ -107,28 +151,37 @@ impl Port for MemPort {
         ensures cause { HasCause (port_faults self.old) (port_faults self.new) result }
 
         // It fails by its number alone.
+        ensures drawn { IsDrawn (port_last self.new) }
+        ensures bytes_read { port_bytes_read self.new ≡ port_bytes_read self.old }
+        ensures fails { IsErr result ↔ IsFailing (port_row self.old) (port_last self.new) }
         ensures never { never_fails (port_row self.old) → IsOk result }
         ensures no_fault { never_fails (port_row self.old) → port_faults self.new ≡ port_faults self.old }
         ensures same { port_gone self.new ≡ port_gone self.old }
         ensures row { port_row self.new ≡ port_row self.old }
+        ensures same_store { port_store self.new ≡ port_store self.old }
     {
-        let (_, answer) = self.call();
-        answer?;
+        self.call()?;
         Ok(right.bytes().len() as u64)
     }
 
     fn remove(&mut self, sealed: MemSealed) -> Result<(), Failed>
-        requires { sealed_rights sealed ≡ 0 }
+        requires rights { sealed_rights sealed ≡ 0 }
+        requires store { (sealed_file sealed).store ≡ port_store self.old }
         ensures cause { HasCause (port_faults self.old) (port_faults self.new) result }
 
         // The file is gone whatever it returns, which is by its number alone.
-        ensures gone { AddsRemoved (sealed_node sealed) (port_gone self.old) (port_gone self.new) }
+        ensures gone { AddsRemoved (port_last self.new).place (sealed_node sealed)
+            (port_gone self.old) (port_gone self.new) }
+        ensures drawn { IsDrawn (port_last self.new) }
+        ensures fails { IsErr result ↔ IsFailing (port_row self.old) (port_last self.new) }
+        ensures bytes_read { port_bytes_read self.new ≡ port_bytes_read self.old }
         ensures row { port_row self.new ≡ port_row self.old }
+        ensures same_store { port_store self.new ≡ port_store self.old }
         ensures never { never_fails (port_row self.old) → IsOk result }
         ensures no_fault { never_fails (port_row self.old) → port_faults self.new ≡ port_faults self.old }
     {
-        let (at, answer) = self.call();
-        put_removed(&mut self.gone, sealed.into_node(), at);
+        let answer = self.call();
+        put_removed(&mut self.gone, sealed.into_node(), self.last.place);
         answer
     }
 
@@ -152,15 +205,23 @@ impl Port for MemPort {
 #[derive(Drop)]
 pub struct MemFiles {
     alloc: Global,
+    directory: Arc<Vec<u8>>,
     row: Arc<Row>,
+    last: Drawn,
     at_rest: LinkedList<Entry>,
     gone: LinkedList<Entry>,
     faults: u64,
 }
 
 impl MemFiles {
-    // The files that are handed in, in a row with calls that fail.
-    pub(crate) fn new(alloc: Global, row: Arc<Row>, at_rest: LinkedList<Entry>) -> MemFiles
+    // The files that are handed in, in a row with calls that fail, of the store in this directory.
+    pub(crate) fn new(
+        alloc: Global,
+        directory: Arc<Vec<u8>>,
+        row: Arc<Row>,
+        at_rest: LinkedList<Entry>,
+    ) -> MemFiles
+        ensures store { files_store result ≡ store_of (arc_value directory).items }
         ensures at_rest { files_at_rest result ≡ at_rest }
         ensures gone { files_gone result ≡ [] }
         ensures row { files_row result ≡ arc_value row }
@@ -168,7 +229,12 @@ impl MemFiles {
     {
         MemFiles {
             alloc,
+            directory,
             row,
+            last: Drawn {
+                place: 0,
+                number: 0,
+            },
             at_rest,
             gone: LinkedList::new(alloc),
             faults: 0,
@@ -182,13 +248,15 @@ impl MemFiles {
         self.faults
     }
 
-    // Counts its faults from 0 again.
-    pub(crate) fn reset_faults(&mut self)
+    // Opens them as those of the store in this directory, and counts their faults from 0 again.
+    pub(crate) fn open(&mut self, directory: Arc<Vec<u8>>)
+        ensures store { files_store self.new ≡ store_of (arc_value directory).items }
         ensures faults { files_faults self.new ≡ 0 }
         ensures at_rest { files_at_rest self.new ≡ files_at_rest self.old }
         ensures gone { files_gone self.new ≡ files_gone self.old }
         ensures row { files_row self.new ≡ files_row self.old }
     {
+        self.directory = directory;
         self.faults = 0;
     }
 
@@ -199,29 +267,35 @@ impl MemFiles {
         last_of(&self.at_rest).max(last_of(&self.gone))
     }
 
-    // The entries that a stop behind this many counted calls leaves.
-    pub(crate) fn after_stop(&self, moment: u64) -> Result<LinkedList<Entry>, AllocError>
+    // The entries that a stop of this kind behind this many counted calls leaves.
+    pub(crate) fn after_stop(
+        &self,
+        moment: u64,
+        kind: StopKind,
+    ) -> Result<LinkedList<Entry>, AllocError>
         ensures { IfOk result (λ left. entry_files left
-            ≡ entry_files (filter (is_there moment) (files_at_rest self.now))
-            ++ entry_files (filter (is_there moment) (files_gone self.now))) }
+            ≡ files_left kind moment (files_at_rest self.now) ++ files_left kind moment (files_gone self.now)) }
     {
         let mut left = LinkedList::new(self.alloc);
-        copy_there(&self.at_rest, moment, &mut left)?;
-        copy_there(&self.gone, moment, &mut left)?;
+        copy_left(self.alloc, &self.at_rest, kind, moment, &mut left)?;
+        copy_left(self.alloc, &self.gone, kind, moment, &mut left)?;
         Ok(left)
     }
 
     // Makes a counted call, which may fail by its number.
     fn call(&mut self) -> Result<(), Failed>
+        ensures drawn { IsDrawn (files_last self.new) }
+        ensures fails { IsErr result ↔ IsFailing (files_row self.old) (files_last self.new) }
         ensures never { never_fails (files_row self.old) → IsOk result }
         ensures cause { HasCause (files_faults self.old) (files_faults self.new) result }
         ensures no_fault { OnOk result (files_faults self.new ≡ files_faults self.old) }
         ensures at_rest { files_at_rest self.new ≡ files_at_rest self.old }
         ensures gone { files_gone self.new ≡ files_gone self.old }
         ensures row { files_row self.new ≡ files_row self.old }
+        ensures same_store { files_store self.new ≡ files_store self.old }
     {
-        self.row.draw();
-        let answer = self.row.call_on_files();
+        self.last = self.row.draw_on_files();
+        let answer = self.row.answer(self.last);
         if answer.is_err() {
             self.faults = self.faults.saturating_add(1);
         }
@@ -240,7 +314,13 @@ impl Files for MemFiles {
 
     type Port = MemPort;
 
+    ghost use Rattle.std.proofs.Common.{refl};
+
+    ghost store = { files_store };
+
     ghost at_rest = { stored_files };
+
+    ghost tells = { λ _. refl };
 
     fn list(&mut self) -> Result<Vec<FileNumber>, StoreFault>
         ensures numbers { IfOk result (λ list. All IsFileNumber (plain_numbers list.items)) }
@@ -251,9 +331,12 @@ impl Files for MemFiles {
         ensures cause { HasStoreCause (files_faults self.old) (files_faults self.new) result }
 
         // It fails by its number or without memory alone, and leaves the record.
+        ensures drawn { IsDrawn (files_last self.new) }
+        ensures fails { IsErrOf result fault.Failed ↔ IsFailing (files_row self.old) (files_last self.new) }
         ensures no_fault { never_fails (files_row self.old) → files_faults self.new ≡ files_faults self.old }
         ensures record { files_at_rest self.new ≡ files_at_rest self.old × files_gone self.new ≡ files_gone self.old }
         ensures row { files_row self.new ≡ files_row self.old }
+        ensures same_store { files_store self.new ≡ files_store self.old }
     {
         self.call()?;
         let numbers = self
@@ -267,28 +350,34 @@ impl Files for MemFiles {
     fn fetch(&mut self, number: FileNumber) -> Result<Option<MemSealed>, StoreFault>
         ensures none { IfOk result (λ found. MatchOption found
             (IfSome (stored_files self.old) (λ files. ¬ Contains (numbers_of files) number.0))
-            (λ sealed. ForSome (stored_files self.old) (λ old. ForSome (stored_files self.new)
-            (TakesOut (sealed_file sealed) old)))) }
+            (λ sealed. WhereTold (TakesOut (sealed_file sealed)) (stored_files self.old) (stored_files self.new))) }
         ensures number { IfOk result (λ found. IfSome found (λ sealed.
             (sealed_file sealed).number ≡ number.0 × sealed_rights sealed ≡ 0)) }
+        ensures store { IfOk result (λ found. IfSome found (λ sealed.
+            (sealed_file sealed).store ≡ files_store self.old)) }
         ensures same { IfOk result (λ found. found ≡ None → stored_files self.new ≡ stored_files self.old) }
         ensures err { OnErr result (stored_files self.new ≡ stored_files self.old) }
         ensures cause { HasStoreCause (files_faults self.old) (files_faults self.new) result }
 
         // It fails by its number or without memory alone.
+        ensures drawn { IsDrawn (files_last self.new) }
+        ensures fails { IsErrOf result fault.Failed ↔ IsFailing (files_row self.old) (files_last self.new) }
         ensures no_fault { never_fails (files_row self.old) → files_faults self.new ≡ files_faults self.old }
         ensures gone { files_gone self.new ≡ files_gone self.old }
         ensures row { files_row self.new ≡ files_row self.old }
+        ensures same_store { files_store self.new ≡ files_store self.old }
     {
         self.call()?;
+        let directory = Arc::try_clone(&self.directory)?;
         match take_node(&mut self.at_rest, number.0)? {
-            Some(node) => Ok(Some(MemSealed::of_node(node))),
+            Some(node) => Ok(Some(MemSealed::of_node(directory, node))),
             None => Ok(None),
         }
     }
 
     fn port(&mut self) -> Result<MemPort, Memory>
         ensures no_faults { IfOk result (λ port. port_faults port ≡ 0) }
+        ensures store { IfOk result (λ port. port_store port ≡ files_store self.old) }
         ensures same { stored_files self.new ≡ stored_files self.old }
         ensures faults { files_faults self.new ≡ files_faults self.old }
 
@@ -299,13 +388,20 @@ impl Files for MemFiles {
     {
         Ok(MemPort {
             alloc: self.alloc,
+            directory: Arc::try_clone(&self.directory)?,
             row: Arc::try_clone(&self.row)?,
+            last: Drawn {
+                place: 0,
+                number: 0,
+            },
             gone: LinkedList::new(self.alloc),
+            bytes_read: 0,
             faults: 0,
         })
     }
 
     fn end_port(&mut self, port: MemPort)
+        requires { port_store port ≡ files_store self.old }
         ensures same { stored_files self.new ≡ stored_files self.old }
         ensures later { files_faults self.old ≤ files_faults self.new }
         ensures faults { min (files_faults self.old + port_faults port) (2 ^ 64 - 1) ≤ files_faults self.new }
@@ -316,6 +412,7 @@ impl Files for MemFiles {
         ensures no_more { files_faults self.new ≡ min (files_faults self.old + port_faults port) (2 ^ 64 - 1) }
         ensures at_rest { files_at_rest self.new ≡ files_at_rest self.old }
         ensures row { files_row self.new ≡ files_row self.old }
+        ensures same_store { files_store self.new ≡ files_store self.old }
     {
         let mut port = port;
         self.faults = self.faults.saturating_add(port.faults);
@@ -323,8 +420,9 @@ impl Files for MemFiles {
     }
 
     fn keep(&mut self, sealed: MemSealed)
-        requires { sealed_rights sealed ≡ 0 }
-        ensures stays { PutsBack (sealed_file sealed) (stored_files self.old) (stored_files self.new) }
+        requires rights { sealed_rights sealed ≡ 0 }
+        requires store { (sealed_file sealed).store ≡ files_store self.old }
+        ensures stays { WhereTold (PutsBack (sealed_file sealed)) (stored_files self.old) (stored_files self.new) }
         ensures faults { files_faults self.new ≡ files_faults self.old }
 
         // It has the node of the file behind its own, as long as these are fewer than 2^63.
@@ -332,6 +430,7 @@ impl Files for MemFiles {
             → files_at_rest self.new ≡ files_at_rest self.old ++ sealed_node sealed }
         ensures gone { files_gone self.new ≡ files_gone self.old }
         ensures row { files_row self.new ≡ files_row self.old }
+        ensures same_store { files_store self.new ≡ files_store self.old }
     {
         let mut node = sealed.into_node();
         let _ = self.at_rest.append(&mut node);

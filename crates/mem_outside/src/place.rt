@@ -1,6 +1,7 @@
 //! The places in memory. Depends on `journal` and `files`.
 ghost use Rattle.std.specs.Prelude.{◌≡◌, ◌↔◌, ◌+◌, ◌-◌, ◌^◌, ◌<◌, ◌≤◌, ◌++◌, [], min, map, None, Some, IfOk, IfSome};
-ghost use Rattle.std.specs.Prelude.{IsOk, IsSome, OnErr, OnOk};
+ghost use Rattle.std.specs.Prelude.{IsErrOf, IsOk, IsSome, OnErr, OnOk};
+ghost use Rattle.tsdb_outside.specs.declared.faults.StoreFault.TheVariants as fault;
 ghost use Rattle.tsdb_outside.specs.Causes.{HasStoreCause};
 ghost use Rattle.mem_outside.specs.PlaceLaws.{place_is_lawful};
 
@@ -36,6 +37,7 @@ pub struct Parts {
 pub struct MemPlace {
     alloc: Global,
     parts: Option<Parts>,
+    asked: Option<Arc<Vec<u8>>>,
     faults: u64,
 }
 
@@ -44,7 +46,8 @@ impl MemPlace {
     ghost use Rattle.mem_outside.specs.Slots.{pair_image};
     ghost use Rattle.mem_outside.specs.Journal.{journal_numbers};
     ghost use Rattle.mem_outside.specs.Place.{journal_of, files_of, failing_of, place_faults, place_state};
-    ghost use Rattle.mem_outside.specs.Place.{place_stored, moments_of, LeftAt, stop_image, stop_files, IsDurable};
+    ghost use Rattle.mem_outside.specs.Place.{place_stored, place_asked, moments_of, LeftAt, stop_image, stop_files};
+    ghost use Rattle.mem_outside.specs.Place.{IsDurable};
     ghost use Rattle.mem_outside.specs.Place.{slots_image};
 
     /// A place with these slots, all of their bytes durable, and these files, whose numbers differ and are those that a
@@ -62,6 +65,8 @@ impl MemPlace {
         ensures numbers { IfOk result (λ place. IfSome (journal_of place)
             (λ journal. journal_numbers journal ≡ record { fails = fails.journal; made = 0; faults = 0 })) }
         ensures failing { IfOk result (λ place. failing_of (files_of place) ≡ fails.files.items) }
+        ensures in_it { IfOk result (λ place. IsSome (journal_of place)) }
+        ensures asked { IfOk result (λ place. place_asked place ≡ None) }
         ensures no_faults { IfOk result (λ place. place_faults place ≡ 0) }
     {
         let [a, b] = slots;
@@ -83,14 +88,18 @@ impl MemPlace {
         ensures numbers { IfOk result (λ place. IfSome (journal_of place)
             (λ journal. journal_numbers journal ≡ record { fails = fails.journal; made = 0; faults = 0 })) }
         ensures failing { IfOk result (λ place. failing_of (files_of place) ≡ fails.files.items) }
+        ensures in_it { IfOk result (λ place. IsSome (journal_of place)) }
+        ensures asked { IfOk result (λ place. place_asked place ≡ None) }
         ensures no_faults { IfOk result (λ place. place_faults place ≡ 0) }
     {
         let row = Arc::new(alloc, Row::new(fails.files))?;
         let journal = MemJournal::new(alloc, slots, fails.journal, Arc::try_clone(&row)?)?;
-        let files = MemFiles::new(alloc, row, at_rest);
+        let directory = Arc::new(alloc, Vec::new(alloc))?;
+        let files = MemFiles::new(alloc, directory, row, at_rest);
         Ok(MemPlace {
             alloc,
             parts: Some(Parts { journal, files }),
+            asked: None,
             faults: 0,
         })
     }
@@ -111,25 +120,29 @@ impl MemPlace {
     }
 
     /// A place with what a stop of this kind leaves behind the first `moment` counted calls of the row: an image of the
-    /// slots, and each file that was handed in or put and not yet handed to `remove`. None of its calls fails.
+    /// slots, and each file that was handed in or put and not yet handed to `remove`. An `Unwritten` stop also leaves each
+    /// file that was handed to `remove` and each whose `put` failed. A `Scrambled` one also leaves the first half of each
+    /// file whose `put` failed or is the next call. None of its calls fails.
     pub fn after_stop(&self, moment: u64, kind: StopKind) -> Result<MemPlace, Memory>
         requires { IsSome (journal_of self.now) }
         ensures seen { IfOk result (λ place. (place_state place).seen ≡ stop_image kind (journal_of self.now) moment) }
         ensures allowed { IfOk result (λ place. IfSome (place_state place).seen (LeftAt (journal_of self.now) moment)) }
-        ensures stored { IfOk result (λ place. place_stored place ≡ stop_files moment (files_of self.now)) }
+        ensures stored { IfOk result (λ place. place_stored place ≡ stop_files kind moment (files_of self.now)) }
         ensures durable { IfOk result (λ place. IfSome (place_state place).seen
             (λ image. IsDurable image (place_state place))) }
         ensures moment { IfOk result (λ place. (place_state place).moment ≡ 0) }
         ensures numbers { IfOk result (λ place. IfSome (journal_of place)
             (λ journal. (journal_numbers journal).fails.items ≡ [])) }
         ensures never { IfOk result (λ place. failing_of (files_of place) ≡ []) }
+        ensures in_it { IfOk result (λ place. IsSome (journal_of place)) }
+        ensures asked { IfOk result (λ place. place_asked place ≡ None) }
         ensures no_faults { IfOk result (λ place. place_faults place ≡ 0) }
     {
         match &self.parts {
             Some(parts) => {
                 let count = parts.journal.count_until(moment);
                 let slots = parts.journal.after_stop(count, kind)?;
-                let at_rest = parts.files.after_stop(moment)?;
+                let at_rest = parts.files.after_stop(moment, kind)?;
                 let fails = Fails {
                     journal: Vec::new(self.alloc),
                     files: Vec::new(self.alloc),
@@ -159,7 +172,9 @@ impl Place for MemPlace {
     ghost use Rattle.tsdb_outside.specs.Disk.{Keeps};
     ghost use Rattle.mem_outside.specs.Files.{files_faults, files_at_rest, files_gone, files_row, stored_files};
     ghost use Rattle.mem_outside.specs.Journal.{journal_state, journal_faults, with_no_faults};
-    ghost use Rattle.mem_outside.specs.Place.{journal_of, files_of, place_faults, place_state, place_stored, SameFiles};
+    ghost use Rattle.mem_outside.specs.Files.{files_store};
+    ghost use Rattle.mem_outside.specs.Place.{journal_of, files_of, place_asked, place_faults, place_state};
+    ghost use Rattle.mem_outside.specs.Place.{place_stored, SameFiles};
 
     type Journal = MemJournal;
 
@@ -167,22 +182,35 @@ impl Place for MemPlace {
 
     ghost stored = { place_stored };
 
+    ghost asked = { place_asked };
+
     /// It has one store, whatever the directory. While its parts are out a further one is refused with a fault.
-    fn take_up(&mut self, _dir: &[u8]) -> Result<(MemJournal, MemFiles), StoreFault>
+    fn take_up(&mut self, dir: &[u8]) -> Result<(MemJournal, MemFiles), StoreFault>
         ensures keeps { IfOk result (λ parts. Keeps (place_state self.old) (journal_state parts.0)) }
         ensures at_rest { IfOk result (λ parts. stored_files parts.1 ≡ place_stored self.old) }
         ensures no_faults { IfOk result (λ parts. journal_faults parts.0 ≡ 0 × files_faults parts.1 ≡ 0) }
+        ensures directory { IfOk result (λ parts. (files_store parts.1).directory ≡ dir.now) }
+        ensures asked { OnOk result (place_asked self.new ≡ Some dir.now) }
         ensures err { OnErr result (Keeps (place_state self.old) (place_state self.new)
             × place_stored self.new ≡ place_stored self.old) }
+        ensures still_asked { OnErr result (place_asked self.new ≡ place_asked self.old) }
         ensures cause { HasStoreCause (place_faults self.old) (place_faults self.new) result }
 
-        // It succeeds exactly where the parts are in it.
-        ensures ok { IsOk result ↔ IsSome (journal_of self.old) }
+        // It hands its parts out where they are in it, unless memory runs out, and fails where they are not.
+        ensures ok { IsOk result → IsSome (journal_of self.old) }
+        ensures refused { IsErrOf result fault.Failed ↔ journal_of self.old ≡ None }
         ensures journal { IfOk result (λ parts. IfSome (journal_of self.old) (λ j. parts.0 ≡ with_no_faults j)) }
         ensures files { IfOk result (λ parts. IfSome (files_of self.old) (λ f. SameFiles f parts.1)) }
-        ensures out { journal_of self.new ≡ None × files_of self.new ≡ None }
-        ensures no_fault { OnOk result (place_faults self.new ≡ place_faults self.old) }
+        ensures out { OnOk result (journal_of self.new ≡ None × files_of self.new ≡ None) }
+        ensures same { OnErr result (journal_of self.new ≡ journal_of self.old × files_of self.new ≡ files_of self.old) }
+        ensures no_fault { IsSome (journal_of self.old) → place_faults self.new ≡ place_faults self.old }
     {
+        if self.parts.is_none() {
+            self.faults = self.faults.saturating_add(1);
+            return Err(StoreFault::Failed);
+        }
+        let directory = Arc::new(self.alloc, dir.to_vec(self.alloc)?)?;
+        let asked = Arc::try_clone(&directory)?;
         match self.parts.take() {
             Some(parts) => {
                 let Parts {
@@ -190,19 +218,18 @@ impl Place for MemPlace {
                     mut files,
                 } = parts;
                 journal.reset_faults();
-                files.reset_faults();
+                files.open(directory);
+                self.asked = Some(asked);
                 Ok((journal, files))
             }
-            None => {
-                self.faults = self.faults.saturating_add(1);
-                Err(StoreFault::Failed)
-            }
+            None => unreachable!(),
         }
     }
 
     fn put_down(&mut self, journal: MemJournal, files: MemFiles)
         ensures keeps { Keeps (journal_state journal) (place_state self.new) }
         ensures stored { place_stored self.new ≡ stored_files files }
+        ensures asked { place_asked self.new ≡ place_asked self.old }
         ensures later { place_faults self.old ≤ place_faults self.new }
         ensures faults { min (place_faults self.old + journal_faults journal + files_faults files) (2 ^ 64 - 1)
             ≤ place_faults self.new }

@@ -10,14 +10,16 @@ ghost use Rattle.std.specs.List.{prefix_len};
 use std::alloc::{AllocError, Global};
 use tsdb_outside::Slot;
 
-/// What a stop does to each range that was written and not synced since.
+/// What a stop does to each range that was written and not synced since, and which files it leaves besides those that
+/// are durable.
 #[derive(Clone, Copy, Debug, PartialEq, Eq)]
 pub enum StopKind {
-    /// It has what was written.
+    /// It has what was written, and there is no other file.
     Written,
-    /// It has what was there before.
+    /// It has what was there before. Files that were removed, and those whose `put` failed, are there too.
     Unwritten,
-    /// It has each byte of what was written with all bits turned over.
+    /// It has each byte of what was written with all bits turned over. Of a file whose `put` failed or is under way the
+    /// first half is there.
     Scrambled,
 }
 

@@ -1,8 +1,9 @@
 //! Files and places in memory that never fail. Depends on `files` and `place`.
 ghost use Rattle.std.specs.Prelude.{◌≡◌, ◌↔◌, ℕ, ◌+◌, ◌-◌, ◌^◌, ◌<◌, ◌≤◌, ◌++◌, [], min, length, map, None, Some, IfOk};
-ghost use Rattle.std.specs.Prelude.{IfSome, IsOk, IsSome, OnErr, OnOk};
+ghost use Rattle.std.specs.Prelude.{IfSome, IsErrOf, IsOk, IsSome, OnErr, OnOk};
 ghost use Rattle.std.specs.declared.option.Option.{Option};
-ghost use Rattle.mem_outside.specs.Files.{port_faults, port_row, files_faults, files_row, stored_files};
+ghost use Rattle.mem_outside.specs.Files.{port_faults, port_row, port_store, files_faults, files_row, files_store};
+ghost use Rattle.mem_outside.specs.Files.{stored_files};
 ghost use Rattle.mem_outside.specs.Place.{files_of, failing_of};
 ghost use Rattle.mem_outside.specs.PlaceLaws.{place_is_lawful};
 ghost use Rattle.mem_outside.specs.Row.{never_fails};
@@ -36,6 +37,8 @@ impl Port for SteadyPort {
     type Sealed = MemSealed;
 
     type Right = MemRight;
+
+    ghost store = { λ steady. port_store steady.port };
 
     fn put(&mut self, number: FileNumber, bytes: &[u8]) -> Result<MemSealed, StoreFault> {
         self.port.put(number, bytes)
@@ -89,7 +92,13 @@ impl Files for SteadyFiles {
 
     type Port = SteadyPort;
 
+    ghost use Rattle.std.proofs.Common.{refl};
+
+    ghost store = { λ steady. files_store steady.files };
+
     ghost at_rest = { λ steady. stored_files steady.files };
+
+    ghost tells = { λ _. refl };
 
     fn list(&mut self) -> Result<Vec<FileNumber>, StoreFault> {
         self.files.list()
@@ -125,8 +134,8 @@ pub struct SteadyPlace {
 impl SteadyPlace {
     ghost use Rattle.mem_outside.specs.Entry.{handed_in};
     ghost use Rattle.mem_outside.specs.Journal.{journal_numbers};
-    ghost use Rattle.mem_outside.specs.Place.{journal_of, place_faults, place_state, place_stored, IsDurable};
-    ghost use Rattle.mem_outside.specs.Place.{slots_image};
+    ghost use Rattle.mem_outside.specs.Place.{journal_of, place_asked, place_faults, place_state, place_stored};
+    ghost use Rattle.mem_outside.specs.Place.{slots_image, IsDurable};
     ghost use Rattle.mem_outside.specs.Steady.{inner_place};
 
     /// A place with these slots, all of their bytes durable, and these files, whose numbers differ and are those that a
@@ -142,6 +151,8 @@ impl SteadyPlace {
         ensures stored { IfOk result (λ place. place_stored (inner_place place) ≡ Some (map handed_in files.items)) }
         ensures numbers { IfOk result (λ place. IfSome (journal_of (inner_place place))
             (λ journal. (journal_numbers journal).fails.items ≡ [])) }
+        ensures in_it { IfOk result (λ place. IsSome (journal_of (inner_place place))) }
+        ensures asked { IfOk result (λ place. place_asked (inner_place place) ≡ None) }
         ensures no_faults { IfOk result (λ place. place_faults (inner_place place) ≡ 0) }
     {
         let fails = Fails {
@@ -171,8 +182,12 @@ impl Disk for SteadyPlace {
 }
 
 impl Place for SteadyPlace {
-    ghost use Rattle.mem_outside.specs.Place.{place_stored};
-    ghost use Rattle.mem_outside.specs.Steady.{inner_place};
+    ghost use Rattle.tsdb_outside.specs.Causes.{HasStoreCause};
+    ghost use Rattle.tsdb_outside.specs.Disk.{Keeps};
+    ghost use Rattle.tsdb_outside.specs.declared.faults.StoreFault.TheVariants as fault;
+    ghost use Rattle.mem_outside.specs.Journal.{journal_faults, journal_state};
+    ghost use Rattle.mem_outside.specs.Place.{journal_of, place_asked, place_faults, place_state, place_stored};
+    ghost use Rattle.mem_outside.specs.Steady.{inner_files, inner_place};
 
     type Journal = MemJournal;
 
@@ -180,12 +195,43 @@ impl Place for SteadyPlace {
 
     ghost stored = { λ place. place_stored (inner_place place) };
 
-    fn take_up(&mut self, dir: &[u8]) -> Result<(MemJournal, SteadyFiles), StoreFault> {
+    ghost asked = { λ place. place_asked (inner_place place) };
+
+    fn take_up(&mut self, dir: &[u8]) -> Result<(MemJournal, SteadyFiles), StoreFault>
+        ensures keeps { IfOk result (λ parts. Keeps (place_state (inner_place self.old)) (journal_state parts.0)) }
+        ensures at_rest { IfOk result (λ parts. stored_files (inner_files parts.1)
+            ≡ place_stored (inner_place self.old)) }
+        ensures no_faults { IfOk result (λ parts. journal_faults parts.0 ≡ 0
+            × files_faults (inner_files parts.1) ≡ 0) }
+        ensures directory { IfOk result (λ parts. (files_store (inner_files parts.1)).directory ≡ dir.now) }
+        ensures asked { OnOk result (place_asked (inner_place self.new) ≡ Some dir.now) }
+        ensures err { OnErr result (Keeps (place_state (inner_place self.old)) (place_state (inner_place self.new))
+            × place_stored (inner_place self.new) ≡ place_stored (inner_place self.old)) }
+        ensures still_asked { OnErr result (place_asked (inner_place self.new) ≡ place_asked (inner_place self.old)) }
+        ensures cause { HasStoreCause (place_faults (inner_place self.old)) (place_faults (inner_place self.new)) result }
+
+        // Where its parts are in it, it hands them out unless memory runs out, and its count stays.
+        ensures ok { IsSome (journal_of (inner_place self.old)) → ¬ IsErrOf result fault.Failed }
+        ensures no_fault { IsSome (journal_of (inner_place self.old))
+            → place_faults (inner_place self.new) ≡ place_faults (inner_place self.old) }
+    {
         let (journal, files) = self.place.take_up(dir)?;
         Ok((journal, SteadyFiles { files }))
     }
 
-    fn put_down(&mut self, journal: MemJournal, files: SteadyFiles) {
+    fn put_down(&mut self, journal: MemJournal, files: SteadyFiles)
+        ensures keeps { Keeps (journal_state journal) (place_state (inner_place self.new)) }
+        ensures stored { place_stored (inner_place self.new) ≡ stored_files (inner_files files) }
+        ensures asked { place_asked (inner_place self.new) ≡ place_asked (inner_place self.old) }
+        ensures later { place_faults (inner_place self.old) ≤ place_faults (inner_place self.new) }
+        ensures faults { min (place_faults (inner_place self.old) + journal_faults journal
+            + files_faults (inner_files files)) (2 ^ 64 - 1) ≤ place_faults (inner_place self.new) }
+
+        // It has its parts again, and its count rises by the faults of the journal alone.
+        ensures in_it { IsSome (journal_of (inner_place self.new)) }
+        ensures no_more { place_faults (inner_place self.new)
+            ≡ min (place_faults (inner_place self.old) + journal_faults journal) (2 ^ 64 - 1) }
+    {
         self.place.put_down(journal, files.files);
     }
 }

@@ -138,7 +138,10 @@ fn read_file<P: Port>(
     port: &mut P,
     right: &P::Right,
     reading: Reading,
-) -> Result<u64, Fault> {
+) -> Result<u64, Fault>
+    requires { (P.Right.file right.now).store ≡ P.store port.old }
+    ensures { P.store port.new ≡ P.store port.old }
+{
     let meta = match reading {
         Reading::Whole => check_file(rt.alloc(), port, right)?,
         Reading::Index => read_meta(rt.alloc(), port, right)?,
@@ -154,7 +157,10 @@ fn repeat<P: Port>(
     port: &mut P,
     right: &P::Right,
     file: &FileOf,
-) -> Result<u64, Fault> {
+) -> Result<u64, Fault>
+    requires { (P.Right.file right.now).store ≡ P.store port.old }
+    ensures { P.store port.new ≡ P.store port.old }
+{
     let many = rounds.of(file.reading.rounds());
     let mut check = 0u64;
     let start = Instant::now(rt)?;
@@ -183,7 +189,9 @@ fn store_and_read<P: Port>(
     rounds: Rounds,
     port: &mut P,
     file: &FileOf,
-) -> Result<u64, Fault> {
+) -> Result<u64, Fault>
+    ensures { P.store port.new ≡ P.store port.old }
+{
     let mut sealed = port.put(FileNumber(1), file.bytes)?;
     let outcome = match P::share(&mut sealed) {
         Ok(right) => {
@@ -203,7 +211,9 @@ fn read_all<P: Port>(
     rounds: Rounds,
     port: &mut P,
     files: &[FileOf],
-) -> Result<u64, Fault> {
+) -> Result<u64, Fault>
+    ensures { P.store port.new ≡ P.store port.old }
+{
     let mut check = 0u64;
     for file in files {
         check = check.wrapping_add(store_and_read(rt, rounds, port, file)?);

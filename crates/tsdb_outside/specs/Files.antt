@@ -1,7 +1,7 @@
 -- What stored files mean, and the images of a place that keeps some of them. The rules stand at the head of
 -- src/files.rt.
 use Rattle.std.specs.Prelude.{◌≡◌, ℕ, ◌+◌, ◌^◌, ◌<◌, ◌≤◌, List, [], ◌∷◌, ◌++◌, length, map, Bool, ◌&&◌, nat_eq, nat_le}
-use Rattle.std.specs.Prelude.{nat_lt, Contains, IfSome, None, Some}
+use Rattle.std.specs.Prelude.{nat_lt, Contains, IfSome, is_some}
 use Rattle.std.specs.declared.option.Option.{Option}
 use Rattle.std.specs.List.{IsDistinct}
 use Rattle.tsdb_base.specs.declared.ids.FileNumber.{FileNumber}
@@ -12,10 +12,20 @@ pub record StoredFile : Type 0 where
   pub number : ℕ
   pub bytes : List ℕ
 
--- what a token says of its file: the number, and the bytes where it tells them
+-- which store: the directory that it was taken up from, and whether it tells what its files hold
+pub record Store : Type 0 where
+  pub directory : List ℕ
+  pub tells : Bool
+
+-- what a token says of its file: the store, the number, and the bytes where the store tells them
 pub record NamedFile : Type 0 where
+  pub store : Store
   pub number : ℕ
   pub bytes : Option (List ℕ)
+
+-- the bytes are told exactly where the store tells them
+abbrev pub Tells : NamedFile → Type 0
+Tells name = name.store.tells ≡ is_some name.bytes
 
 -- numbers that a file may have
 pub record IsFileNumber (n : ℕ) : Type 0 where
@@ -55,9 +65,9 @@ pub record TakesOut (name : NamedFile) (old new : List StoredFile) : Type 0 wher
   pub new_is : new ≡ before ++ after
 
 -- The file that a token names is put behind the others. There are fewer than 2^63 files, since their numbers differ.
-abbrev pub PutsBack : NamedFile → Option (List StoredFile) → Option (List StoredFile) → Type 0
-PutsBack name old new = IfSome old (λ files. IfSome name.bytes (λ bytes. length files + 1 < 2 ^ 63
-    → new ≡ Some (files ++ record { number = name.number; bytes = bytes } ∷ [])))
+abbrev pub PutsBack : NamedFile → List StoredFile → List StoredFile → Type 0
+PutsBack name old new = IfSome name.bytes (λ bytes. length old + 1 < 2 ^ 63
+    → new ≡ old ++ record { number = name.number; bytes = bytes } ∷ [])
 
 -- The bytes of both slots, with the files.
 pub record StoreImage : Type 0 where

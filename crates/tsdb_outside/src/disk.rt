@@ -14,7 +14,7 @@
 //!
 //! Depends on `faults` and `files`.
 ghost use Rattle.std.specs.Prelude.{◌≡◌, ℕ, List, ◌+◌, ◌-◌, ◌^◌, ◌<◌, ◌≤◌, min, length, take, drop, IfOk, OnOk, OnErr};
-ghost use Rattle.std.specs.Prelude.{IfSome};
+ghost use Rattle.std.specs.Prelude.{IfSome, Some};
 ghost use Rattle.std.specs.declared.option.Option.{Option};
 ghost use Rattle.std.specs.Option.{ForSome};
 ghost use Rattle.tsdb_outside.specs.Causes.{HasCause, HasStoreCause};
@@ -89,6 +89,9 @@ pub trait Place: Disk {
     /// The files of its store, or none where it does not tell.
     ghost stored: { Self → Option (List StoredFile) };
 
+    /// The directory whose store was taken up last, or none before the first.
+    ghost asked: { Self → Option (List ℕ) };
+
     /// Hands out the journal and the files of the store in the directory, which mean what the place meant. They have no
     /// fault so far, and no `Sealed` is out. Where the directory has no store it makes one, whose slots have one synced
     /// byte 0 each. After an error the place means what it meant before.
@@ -96,14 +99,18 @@ pub trait Place: Disk {
         ensures keeps { IfOk result (λ parts. Keeps (Self.state self.old) (Self.Journal.state parts.0)) }
         ensures at_rest { IfOk result (λ parts. Self.Files.at_rest parts.1 ≡ Self.stored self.old) }
         ensures no_faults { IfOk result (λ parts. Self.Journal.faults parts.0 ≡ 0 × Self.Files.faults parts.1 ≡ 0) }
+        ensures directory { IfOk result (λ parts. (Self.Files.store parts.1).directory ≡ dir.now) }
+        ensures asked { OnOk result (Self.asked self.new ≡ Some dir.now) }
         ensures err { OnErr result (Keeps (Self.state self.old) (Self.state self.new)
             × Self.stored self.new ≡ Self.stored self.old) }
+        ensures still_asked { OnErr result (Self.asked self.new ≡ Self.asked self.old) }
         ensures cause { HasStoreCause (Self.faults self.old) (Self.faults self.new) result };
 
     /// Takes both parts back. The place then means what they meant, and its count rises by at least theirs together.
     fn put_down(&mut self, journal: Self::Journal, files: Self::Files)
         ensures keeps { Keeps (Self.Journal.state journal) (Self.state self.new) }
         ensures stored { Self.stored self.new ≡ Self.Files.at_rest files }
+        ensures asked { Self.asked self.new ≡ Self.asked self.old }
         ensures later { Self.faults self.old ≤ Self.faults self.new }
         ensures faults { min (Self.faults self.old + Self.Journal.faults journal + Self.Files.faults files) (2 ^ 64 - 1)
             ≤ Self.faults self.new };

@@ -9,6 +9,9 @@
 //!   for a file whose `Sealed` is out already; `keep` takes a `Sealed` back.
 //! - A `Sealed` names one file and counts the rights that are out. A `Right` lets its holder read the file. Both are
 //!   spent: a `Sealed` by `remove` or `keep`, a `Right` by `give_back`.
+//! - Files, ports and tokens know their store, by the directory that it was taken up from. What is handed out is of the
+//!   store that handed it out, and goes back to this store. Files that tell what is at rest have tokens that tell their
+//!   bytes, and go on to tell.
 //! - A port belongs to one session or worker, and counts its own faults from 0. Whoever made it hands it back to the
 //!   files that it came from, before they are put down. They take its count over then.
 //! - Calls that return `Memory` alone take memory, and no others.
@@ -16,13 +19,14 @@
 //!
 //! Depends on `faults`, and on `tsdb_base` for `FileNumber`.
 ghost use Rattle.std.specs.Prelude.{◌≡◌, ◌↔◌, ℕ, List, ◌+◌, ◌-◌, ◌^◌, ◌<◌, ◌≤◌, min, length, take, drop, filter, All};
-ghost use Rattle.std.specs.Prelude.{Contains, None, IfOk, IfSome, IsTrue, MatchOption, OnErr, OnOk};
+ghost use Rattle.std.specs.Prelude.{Contains, None, IfOk, IfSome, IsTrue, MatchOption, OnErr, OnOk, is_some};
 ghost use Rattle.std.specs.declared.option.Option.{Option};
 ghost use Rattle.std.specs.Option.{ForSome};
 ghost use Rattle.std.specs.List.Sorted.{IsStrictlyIncreasing};
 ghost use Rattle.tsdb_outside.specs.Causes.{HasCause, HasStoreCause, Rose};
-ghost use Rattle.tsdb_outside.specs.Files.{NamedFile, StoredFile, IsFileNumber, is_number, Names, numbers_of};
-ghost use Rattle.tsdb_outside.specs.Files.{plain_numbers, TakesOut, PutsBack};
+ghost use Rattle.tsdb_outside.specs.Disk.{WhereTold};
+ghost use Rattle.tsdb_outside.specs.Files.{Store, NamedFile, StoredFile, IsFileNumber, is_number, Names, numbers_of};
+ghost use Rattle.tsdb_outside.specs.Files.{plain_numbers, TakesOut, PutsBack, Tells};
 ghost use Rattle.tsdb_outside.specs.Limits.{FitsSlot};
 
 use crate::{Counted, Failed, StoreFault};
@@ -31,17 +35,23 @@ use tsdb_base::{FileNumber, Memory};
 
 /// A token that names one stored file.
 pub trait SealedFile: Send {
-    /// The file's number and bytes.
+    /// The file's store, number and bytes.
     ghost file: { Self → NamedFile };
 
     /// How many rights to read it are out.
     ghost rights: { Self → ℕ };
+
+    /// It tells its bytes where its store tells what its files hold.
+    ghost tells: { (sealed : Self) → Tells (file sealed) };
 }
 
 /// A token that lets its holder read one stored file.
 pub trait ReadRight: Send {
-    /// The file's number and bytes.
+    /// The file's store, number and bytes.
     ghost file: { Self → NamedFile };
+
+    /// It tells its bytes where its store tells what its files hold.
+    ghost tells: { (right : Self) → Tells (file right) };
 }
 
 /// Where one session or worker writes and reads files.
@@ -50,29 +60,40 @@ pub trait Port: Counted + Send {
 
     type Right: ReadRight;
 
+    /// The store that it belongs to.
+    ghost store: { Self → Store };
+
     /// Stores a file under a number that is not in the store. After `Ok` it is durable, and no right is out; after an
     /// error it may be there.
     fn put(&mut self, number: FileNumber, bytes: &[u8]) -> Result<Self::Sealed, StoreFault>
         ensures file { IfOk result (λ sealed. Names number.0 bytes.now (Self.Sealed.file sealed)) }
+        ensures store { IfOk result (λ sealed. (Self.Sealed.file sealed).store ≡ store self.old) }
         ensures no_rights { IfOk result (λ sealed. Self.Sealed.rights sealed ≡ 0) }
+        ensures same_store { store self.new ≡ store self.old }
         ensures cause { HasStoreCause (Self.faults self.old) (Self.faults self.new) result };
 
-    /// Fills `into` with the bytes of the file from `at` on. After `Failed` it may hold any bytes.
+    /// Fills `into` with the bytes of the file, which is one of its store, from `at` on. After `Failed` it may hold any
+    /// bytes.
     fn read(&mut self, right: &Self::Right, at: u64, into: &mut [u8]) -> Result<(), Failed>
-        requires { ForSome (Self.Right.file right.now).bytes (λ bytes. at + length into.old ≤ length bytes) }
+        requires range { ForSome (Self.Right.file right.now).bytes (λ bytes. at + length into.old ≤ length bytes) }
+        requires store { (Self.Right.file right.now).store ≡ store self.old }
         ensures bytes { OnOk result (IfSome (Self.Right.file right.now).bytes
             (λ bytes. into.new ≡ take (length into.new) (drop at bytes))) }
+        ensures same_store { store self.new ≡ store self.old }
         ensures cause { HasCause (Self.faults self.old) (Self.faults self.new) result };
 
     /// How many bytes the file has.
     fn size(&mut self, right: &Self::Right) -> Result<u64, Failed>
         ensures length { IfOk result (λ n. ForSome (Self.Right.file right.now).bytes (λ bytes. n ≡ length bytes)) }
         ensures limit { IfOk result FitsSlot }
+        ensures same_store { store self.new ≡ store self.old }
         ensures cause { HasCause (Self.faults self.old) (Self.faults self.new) result };
 
-    /// Removes a file of which no right is out.
+    /// Removes a file of its store of which no right is out.
     fn remove(&mut self, sealed: Self::Sealed) -> Result<(), Failed>
-        requires { Self.Sealed.rights sealed ≡ 0 }
+        requires rights { Self.Sealed.rights sealed ≡ 0 }
+        requires store { (Self.Sealed.file sealed).store ≡ store self.old }
+        ensures same_store { store self.new ≡ store self.old }
         ensures cause { HasCause (Self.faults self.old) (Self.faults self.new) result };
 
     /// Gives a right to read the file out. Without memory all is as before.
@@ -92,6 +113,7 @@ pub trait Port: Counted + Send {
     /// bytes; of another one nothing is promised but that the count does not fall.
     fn spoiled(&mut self, right: &Self::Right, at: u64)
         ensures rose { (Self.Right.file right.now).bytes ≡ None → Rose (Self.faults self.old) (Self.faults self.new) }
+        ensures same_store { store self.new ≡ store self.old }
         ensures later { Self.faults self.old ≤ Self.faults self.new };
 }
 
@@ -103,8 +125,14 @@ pub trait Files: Counted + Send {
 
     type Port: Port<Sealed = Self::Sealed, Right = Self::Right>;
 
+    /// Which store it is.
+    ghost store: { Self → Store };
+
     /// The files at rest, or none where it does not tell.
     ghost at_rest: { Self → Option (List StoredFile) };
+
+    /// It tells the files at rest where its store tells what its files hold.
+    ghost tells: { (files : Self) → (store files).tells ≡ is_some (at_rest files) };
 
     /// The numbers of the files, each once and in rising order. Where the files at rest are told it has these.
     fn list(&mut self) -> Result<Vec<FileNumber>, StoreFault>
@@ -113,6 +141,7 @@ pub trait Files: Counted + Send {
         ensures exact { IfOk result (λ list. IfSome (Self.at_rest self.old) (λ files. (n : ℕ) → IsFileNumber n
             → (Contains (plain_numbers list.items) n ↔ Contains (numbers_of files) n))) }
         ensures same { Self.at_rest self.new ≡ Self.at_rest self.old }
+        ensures same_store { store self.new ≡ store self.old }
         ensures cause { HasStoreCause (Self.faults self.old) (Self.faults self.new) result };
 
     /// Hands out the `Sealed` of the file with this number, of which none is out, or `None` exactly where the file is
@@ -120,30 +149,38 @@ pub trait Files: Counted + Send {
     fn fetch(&mut self, number: FileNumber) -> Result<Option<Self::Sealed>, StoreFault>
         ensures none { IfOk result (λ found. MatchOption found
             (IfSome (Self.at_rest self.old) (λ files. ¬ Contains (numbers_of files) number.0))
-            (λ sealed. ForSome (Self.at_rest self.old) (λ old. ForSome (Self.at_rest self.new)
-            (TakesOut (Self.Sealed.file sealed) old)))) }
+            (λ sealed. WhereTold (TakesOut (Self.Sealed.file sealed)) (Self.at_rest self.old) (Self.at_rest self.new))) }
         ensures number { IfOk result (λ found. IfSome found (λ sealed.
             (Self.Sealed.file sealed).number ≡ number.0 × Self.Sealed.rights sealed ≡ 0)) }
+        ensures store { IfOk result (λ found. IfSome found (λ sealed.
+            (Self.Sealed.file sealed).store ≡ store self.old)) }
         ensures same { IfOk result (λ found. found ≡ None → Self.at_rest self.new ≡ Self.at_rest self.old) }
         ensures err { OnErr result (Self.at_rest self.new ≡ Self.at_rest self.old) }
+        ensures same_store { store self.new ≡ store self.old }
         ensures cause { HasStoreCause (Self.faults self.old) (Self.faults self.new) result };
 
     /// Makes a port, with no fault so far.
     fn port(&mut self) -> Result<Self::Port, Memory>
         ensures no_faults { IfOk result (λ port. Self.Port.faults port ≡ 0) }
+        ensures store { IfOk result (λ port. Self.Port.store port ≡ store self.old) }
         ensures same { Self.at_rest self.new ≡ Self.at_rest self.old }
+        ensures same_store { store self.new ≡ store self.old }
         ensures faults { Self.faults self.new ≡ Self.faults self.old };
 
     /// Takes a port of these files back. Their count rises by at least the port's.
     fn end_port(&mut self, port: Self::Port)
+        requires { Self.Port.store port ≡ store self.old }
         ensures same { Self.at_rest self.new ≡ Self.at_rest self.old }
+        ensures same_store { store self.new ≡ store self.old }
         ensures later { Self.faults self.old ≤ Self.faults self.new }
         ensures faults { min (Self.faults self.old + Self.Port.faults port) (2 ^ 64 - 1) ≤ Self.faults self.new };
 
-    /// Takes a `Sealed` back of which no right is out. Its file stays, and is at rest.
+    /// Takes a `Sealed` of its store back of which no right is out. Its file stays, and is at rest.
     fn keep(&mut self, sealed: Self::Sealed)
-        requires { Self.Sealed.rights sealed ≡ 0 }
-        ensures stays { PutsBack (Self.Sealed.file sealed) (Self.at_rest self.old) (Self.at_rest self.new) }
+        requires rights { Self.Sealed.rights sealed ≡ 0 }
+        requires store { (Self.Sealed.file sealed).store ≡ store self.old }
+        ensures stays { WhereTold (PutsBack (Self.Sealed.file sealed)) (Self.at_rest self.old) (Self.at_rest self.new) }
+        ensures same_store { store self.new ≡ store self.old }
         ensures faults { Self.faults self.new ≡ Self.faults self.old };
 }
 

@@ -29,12 +29,14 @@ fn read_one_leaf<P: Port>(
     requires from { pointer.now.place ≤ leaf_end root behind.now }
     requires to { leaf_end root behind.now ≤ root }
     requires inside { IfSome (P.Right.file right.now).bytes (λ bytes. root ≤ length bytes) }
+    requires store { (P.Right.file right.now).store ≡ P.store port.old }
     ensures answers { Answers
         (λ bytes entries. IsLeaf pointer.now behind.now (leaf_bytes root pointer.now behind.now bytes) entries.items)
         (λ bytes at. (at ≡ pointer.now.place) × ((entries : List Entry)
         → IsLeaf pointer.now behind.now (leaf_bytes root pointer.now behind.now bytes) entries → ⊥))
         (P.Right.file right.now).bytes result }
     ensures order { IfOk result (λ entries. AreInOrder IsBefore (map names_of entries.items)) }
+    ensures same_store { P.store port.new ≡ P.store port.old }
     ensures cause { HasReadCause (P.faults port.old) (P.faults port.new) result }
 {
     let end = end_of(behind, root);
@@ -53,10 +55,12 @@ fn look_up<P: Port>(
     device: &Path,
     measurement: &Name,
 ) -> Result<Option<IndexEntry>, ReadFault>
+    requires store { (P.Right.file right.now).store ≡ P.store port.old }
     ensures answers { Answers (λ bytes. IsLookedUp bytes (device.now, measurement.now))
         (λ bytes. IsBadLookUp bytes (device.now, measurement.now)) (P.Right.file right.now).bytes result }
     ensures limit { Answers (λ bytes found. length bytes < 2 ^ 63) (λ bytes at. length bytes < 2 ^ 63)
         (P.Right.file right.now).bytes result }
+    ensures same_store { P.store port.new ≡ P.store port.old }
     ensures cause { HasReadCause (P.faults port.old) (P.faults port.new) result }
 {
     let front = read_front(alloc, port, right)?;
@@ -77,11 +81,13 @@ pub fn find_entry<P: Port>(
     device: &Path,
     measurement: &Name,
 ) -> Result<Option<IndexEntry>, ReadFault>
+    requires store { (P.Right.file right.now).store ≡ P.store port.old }
     ensures answers { Answers (λ bytes. IsLookedUp bytes (device.now, measurement.now))
         (λ bytes. IsBadLookUp bytes (device.now, measurement.now)) (P.Right.file right.now).bytes result }
     ensures tree { IfSome (P.Right.file right.now).bytes (λ bytes. (tree : TreeIn) → IsTree tree → IsMade tree
         → IsFile tree bytes
         → IsNotDamaged result × IfOk result (IsEntryInTree tree (device.now, measurement.now))) }
+    ensures same_store { P.store port.new ≡ P.store port.old }
     ensures cause { HasReadCause (P.faults port.old) (P.faults port.new) result }
 {
     look_up(alloc, port, right, device, measurement)

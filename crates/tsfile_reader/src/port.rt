@@ -22,11 +22,13 @@ pub fn read_part<P: Port>(
     at: u64,
     count: u64,
 ) -> Result<Vec<u8>, ReadFault>
-    requires { ForSome (P.Right.file right.now).bytes (λ bytes. at + count ≤ length bytes) }
+    requires inside { ForSome (P.Right.file right.now).bytes (λ bytes. at + count ≤ length bytes) }
+    requires store { (P.Right.file right.now).store ≡ P.store port.old }
     ensures bytes { IfOk result (λ part. IfSome (P.Right.file right.now).bytes
         (λ bytes. part.items ≡ take count (drop at bytes))) }
     ensures size { IfOk result (λ part. length part.items ≡ count) }
     ensures no_damage { IsNotDamaged result }
+    ensures same_store { P.store port.new ≡ P.store port.old }
     ensures cause { HasReadCause (P.faults port.old) (P.faults port.new) result }
 {
     let mut part = vec![in alloc; 0u8; count as usize]?;
@@ -36,8 +38,10 @@ pub fn read_part<P: Port>(
 
 /// Reads the tail and the head.
 fn read_ends<P: Port>(alloc: Global, port: &mut P, right: &P::Right) -> Result<Ends, ReadFault>
+    requires store { (P.Right.file right.now).store ≡ P.store port.old }
     ensures answers { Answers HasEnds IsBadFront (P.Right.file right.now).bytes result }
     ensures limit { IfDamaged result (λ at. IfSome (P.Right.file right.now).bytes (λ bytes. length bytes < 2 ^ 63)) }
+    ensures same_store { P.store port.new ≡ P.store port.old }
     ensures cause { HasReadCause (P.faults port.old) (P.faults port.new) result }
 {
     let size = port.size(right)?;
@@ -63,11 +67,13 @@ fn read_root<P: Port>(
     right: &P::Right,
     ends: Ends,
 ) -> Result<Front, ReadFault>
-    requires { IfSome (P.Right.file right.now).bytes (λ bytes. HasEnds bytes ends) }
+    requires ends { IfSome (P.Right.file right.now).bytes (λ bytes. HasEnds bytes ends) }
+    requires store { (P.Right.file right.now).store ≡ P.store port.old }
     ensures answers { Answers IsFrontIn IsBadFront (P.Right.file right.now).bytes result }
     ensures root { IfOk result HasSomeRoot }
     ensures place { IfOk result (λ front. front.root.place < front.ends.root) }
     ensures limit { IfDamaged result (λ at. IfSome (P.Right.file right.now).bytes (λ bytes. length bytes < 2 ^ 63)) }
+    ensures same_store { P.store port.new ≡ P.store port.old }
     ensures cause { HasReadCause (P.faults port.old) (P.faults port.new) result }
 {
     let size = (ends.size - TAIL_BYTES).saturating_sub(ends.root);
@@ -84,10 +90,12 @@ pub fn read_front<P: Port>(
     port: &mut P,
     right: &P::Right,
 ) -> Result<Front, ReadFault>
+    requires store { (P.Right.file right.now).store ≡ P.store port.old }
     ensures answers { Answers IsFrontIn IsBadFront (P.Right.file right.now).bytes result }
     ensures root { IfOk result HasSomeRoot }
     ensures place { IfOk result (λ front. front.root.place < front.ends.root) }
     ensures limit { IfDamaged result (λ at. IfSome (P.Right.file right.now).bytes (λ bytes. length bytes < 2 ^ 63)) }
+    ensures same_store { P.store port.new ≡ P.store port.old }
     ensures cause { HasReadCause (P.faults port.old) (P.faults port.new) result }
 {
     let ends = read_ends(alloc, port, right)?;
@@ -104,10 +112,12 @@ fn read_leaves<P: Port>(
     requires front { IfSome (P.Right.file right.now).bytes (λ bytes. IsFrontIn bytes front.now) }
     requires root { HasSomeRoot front.now }
     requires place { front.now.root.place < front.now.ends.root }
+    requires store { (P.Right.file right.now).store ≡ P.store port.old }
     ensures answers { Answers
         (λ bytes. IsOutlineIn bytes front.now.ends front.now.root.place front.now.root.pointers.items)
         IsBadOutline (P.Right.file right.now).bytes result }
     ensures limit { IfDamaged result (λ at. IfSome (P.Right.file right.now).bytes (λ bytes. length bytes < 2 ^ 63)) }
+    ensures same_store { P.store port.new ≡ P.store port.old }
     ensures cause { HasReadCause (P.faults port.old) (P.faults port.new) result }
 {
     let (place, root) = (front.root.place, front.ends.root);
@@ -126,10 +136,12 @@ pub fn read_outline<P: Port>(
     port: &mut P,
     right: &P::Right,
 ) -> Result<Outline, ReadFault>
+    requires store { (P.Right.file right.now).store ≡ P.store port.old }
     ensures answers { Answers
         (λ bytes outline. IsOutlineIn bytes outline.ends outline.place outline.pointers.items outline.index)
         IsBadOutline (P.Right.file right.now).bytes result }
     ensures limit { IfDamaged result (λ at. IfSome (P.Right.file right.now).bytes (λ bytes. length bytes < 2 ^ 63)) }
+    ensures same_store { P.store port.new ≡ P.store port.old }
     ensures cause { HasReadCause (P.faults port.old) (P.faults port.new) result }
 {
     let front = read_front(alloc, port, right)?;

@@ -41,9 +41,11 @@ pub fn read_meta<P: Port>(
     port: &mut P,
     right: &P::Right,
 ) -> Result<FileMeta, ReadFault>
+    requires { (P.Right.file right.now).store ≡ P.store port.old }
     ensures answers { Answers IsMetaIn IsBadOutline (P.Right.file right.now).bytes result }
     ensures tree { IfSome (P.Right.file right.now).bytes (λ bytes. (tree : TreeIn) → IsTree tree → IsMade tree
         → IsFile tree bytes → IsNotDamaged result × IfOk result (IsMetaOf tree bytes)) }
+    ensures same_store { P.store port.new ≡ P.store port.old }
     ensures cause { HasReadCause (P.faults port.old) (P.faults port.new) result }
 {
     let outline = read_outline(alloc, port, right)?;
@@ -93,9 +95,11 @@ fn read_page_bytes<P: Port>(
     requires left { IfSome (P.Right.file right.now).bytes (λ bytes. place + left ≡ length bytes) }
     requires first { first ≤ left }
     requires head { first < 5 → first ≡ left }
+    requires store { (P.Right.file right.now).store ≡ P.store port.old }
     ensures bytes { IfOk result (λ part. IfSome (P.Right.file right.now).bytes (λ bytes.
         HasPageBytes bytes place part.items)) }
     ensures no_damage { IsNotDamaged result }
+    ensures same_store { P.store port.new ≡ P.store port.old }
     ensures cause { HasReadCause (P.faults port.old) (P.faults port.new) result }
 {
     let bytes = read_part(alloc, port, right, place, first)?;
@@ -119,9 +123,11 @@ fn read_points_at<P: Port>(
     requires first { sizes.0 ≤ sizes.1 }
     requires head { sizes.0 < 5 → sizes.0 ≡ sizes.1 }
     requires suits { is_suitable entry.now.data_type entry.now.encoding ≡ true }
+    requires store { (P.Right.file right.now).store ≡ P.store port.old }
     ensures answers { Answers (λ bytes points. HasPage bytes entry.now page.now points.items)
         (λ bytes at. (at ≡ page.now.place) × HasNoPage bytes entry.now page.now) (P.Right.file right.now).bytes result }
     ensures place { IfDamaged result (λ at. at ≡ page.now.place) }
+    ensures same_store { P.store port.new ≡ P.store port.old }
     ensures cause { HasReadCause (P.faults port.old) (P.faults port.new) result }
 {
     let (first, left) = sizes;
@@ -146,6 +152,7 @@ pub fn read_points<P: Port>(
     page: usize,
 ) -> Result<Vec<Point>, ReadFault>
     requires page { page < length entry.now.pages }
+    requires store { (P.Right.file right.now).store ≡ P.store port.old }
     ensures found { IfOk result (λ points. IfSome (P.Right.file right.now).bytes (λ bytes.
         (said : Said) → SaysOfPage entry.now page said → HasPage bytes entry.now said points.items)) }
     ensures damaged { IfDamaged result (λ at. (said : Said) → SaysOfPage entry.now page said → at ≡ said.place) }
@@ -154,6 +161,7 @@ pub fn read_points<P: Port>(
     ensures tree { IfSome (P.Right.file right.now).bytes (λ bytes. (tree : TreeIn) → IsTree tree → IsMade tree
         → IsFile tree bytes → IsEntryOf tree entry.now
         → IsNotDamaged result × IfOk result (λ points. ArePointsOf tree entry.now page points.items)) }
+    ensures same_store { P.store port.new ≡ P.store port.old }
     ensures cause { HasReadCause (P.faults port.old) (P.faults port.new) result }
 {
     let said = &entry.pages.items()[page];
@@ -208,10 +216,12 @@ pub fn check_file<P: Port>(
     port: &mut P,
     right: &P::Right,
 ) -> Result<FileMeta, ReadFault>
+    requires { (P.Right.file right.now).store ≡ P.store port.old }
     ensures answers { Answers IsMetaOfTree IsBlamed (P.Right.file right.now).bytes result }
     ensures bad { IfDamaged result (λ at. IfSome (P.Right.file right.now).bytes IsNoFile) }
     ensures tree { IfSome (P.Right.file right.now).bytes (λ bytes. (tree : TreeIn) → IsTree tree → IsMade tree
         → IsFile tree bytes → IsNotDamaged result × IfOk result (IsMetaOf tree bytes)) }
+    ensures same_store { P.store port.new ≡ P.store port.old }
     ensures cause { HasReadCause (P.faults port.old) (P.faults port.new) result }
 {
     let outline = read_outline(alloc, port, right)?;

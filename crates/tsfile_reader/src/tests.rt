@@ -1,5 +1,7 @@
 mod disk;
 
+ghost use Rattle.std.specs.Prelude.{◌≡◌};
+
 use super::*;
 use mem_outside::{Fails, MemPlace, MemPort, SteadyPlace, SteadyPort};
 use std::alloc::Global;
@@ -62,7 +64,9 @@ fn read_bytes<P: Port>(
     port: &mut P,
     bytes: &[u8],
     call: Call,
-) -> Result<FileMeta, ReadFault> {
+) -> Result<FileMeta, ReadFault>
+    ensures { P.store port.new ≡ P.store port.old }
+{
     let Ok(mut sealed) = port.put(FileNumber(1), bytes) else {
         return Err(ReadFault::Failed);
     };
@@ -88,7 +92,9 @@ fn read_page_in<P: Port>(
     bytes: &[u8],
     entry: &IndexEntry,
     page: usize,
-) -> Result<Vec<Point>, ReadFault> {
+) -> Result<Vec<Point>, ReadFault>
+    ensures { P.store port.new ≡ P.store port.old }
+{
     if page >= entry.pages.items().len() {
         return Err(ReadFault::Memory);
     }

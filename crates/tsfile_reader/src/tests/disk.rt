@@ -1,9 +1,13 @@
 //! A file in a store on a real disk.
+ghost use Rattle.std.specs.Prelude.{◌≡◌};
+
 use super::*;
 use fs_outside::FsPlace;
 
 /// The first page of a file that is stored through the port, once all of its parts are tested.
-fn first_page<P: Port>(alloc: Global, port: &mut P, bytes: &[u8]) -> Result<Vec<Point>, ReadFault> {
+fn first_page<P: Port>(alloc: Global, port: &mut P, bytes: &[u8]) -> Result<Vec<Point>, ReadFault>
+    ensures { P.store port.new ≡ P.store port.old }
+{
     let _checked = read_bytes(alloc, port, bytes, Call::Check)?;
     let meta = read_bytes(alloc, port, bytes, Call::Meta)?;
     match meta.index.entries.items().first() {

@@ -1,5 +1,5 @@
 -- The files that were taken have their entries.
-use Rattle.std.proofs.Common.{◌≡◌, ◌++◌, map}
+use Rattle.std.proofs.Common.{◌≡◌, map}
 use Rattle.mem_outside.specs.Entry.{entry_files, handed_in}
 use Rattle.mem_outside.proofs.entry.new_entries.Given as goal
 

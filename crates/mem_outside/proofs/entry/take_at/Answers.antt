@@ -1,4 +1,3 @@
-use Rattle.std.proofs.Common.{rules}
 use Rattle.mem_outside.proofs.EntryLemmas.{taken_out}
 use Rattle.mem_outside.proofs.entry.take_at.Goals as goal
 

@@ -1,5 +1,5 @@
-use Rattle.std.proofs.Common.{rules, ◌≡◌, ◌<◌, ℕ, length}
-use Rattle.std.specs.Prelude.{◌≢◌, slice_index_or}
+use Rattle.std.proofs.Common.{rules, ◌≡◌, ◌<◌, length}
+use Rattle.std.specs.Prelude.{slice_index_or}
 use Rattle.mem_outside.specs.declared.entry.Entry.{Entry}
 use Rattle.mem_outside.proofs.EntryLemmas.{none_there, takes_node}
 use Rattle.mem_outside.proofs.entry.take_node.Goals as goal
