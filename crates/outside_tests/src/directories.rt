@@ -1,10 +1,11 @@
 //! The stores and files of real directories.
 ghost use Rattle.std.specs.Prelude.{◌≡◌};
 
+use crate::copying::{FileBytes, fetch_and_read};
+use crate::many::serves_many;
 use fs_outside::FsPlace;
-use std::fs;
 use std::os::unix;
-use std::test::Fail;
+use std::{fs, io};
 use tsdb_base::FileNumber;
 use tsdb_outside::{Failed, Files, Journal, Place, Port, Slot, StoreFault};
 
@@ -53,15 +54,40 @@ fn keeps_what_was_synced<P: Place>(place: &mut P, dir: &[u8]) -> Result<bool, St
     Ok(slots_of(place, dir)? == [(0, 1), (3, 3)])
 }
 
-fn is_made_and_opened_again(rt: &HostRuntime) -> Result<bool, Fail> {
+// What is looked at in a place of the system.
+#[derive(Clone, Copy)]
+pub enum Look {
+    OpensAsNew,
+    IsOpenedAgain,
+    ServesFiles,
+    FileOutOfReach,
+    ManyFiles,
+}
+
+fn look_at<P: Place>(
+    rt: &HostRuntime,
+    place: &mut P,
+    look: Look,
+    dir: &[u8],
+) -> Result<bool, StoreFault> {
+    match look {
+        Look::OpensAsNew => opens_as_new(place, dir),
+        Look::IsOpenedAgain => Ok(opens_as_new(place, dir)? && keeps_what_was_synced(place, dir)?),
+        Look::ServesFiles => serves_files(place, dir),
+        Look::FileOutOfReach => is_out_of_reach(rt, place, dir),
+        Look::ManyFiles => serves_many(rt, place, dir),
+    }
+}
+
+// What is found in a place of its own. This is the one function that makes one, since its proof is dear.
+pub fn holds(rt: &HostRuntime, look: Look, dir: &[u8]) -> Result<bool, StoreFault> {
     let mut place = FsPlace::new(rt.clone()?);
-    Ok(opens_as_new(&mut place, b"made")? && keeps_what_was_synced(&mut place, b"made")?)
+    look_at(rt, &mut place, look, dir)
 }
 
 #[test]
-fn store_is_made_new_and_opened_again(rt: HostRuntime) -> Result<(), Fail> {
-    assert!(rt; is_made_and_opened_again(&rt)?);
-    Ok(())
+fn store_is_made_new_and_opened_again(rt: HostRuntime) {
+    assert!(rt; holds(&rt, Look::IsOpenedAgain, b"made") == Ok(true));
 }
 
 // A directory with the files in it, and their bytes.
@@ -97,7 +123,7 @@ const REFUSED: [&[u8]; 9] = [
     b"",
 ];
 
-fn make_directory(rt: &HostRuntime, directory: &Directory) -> Result<(), Fail> {
+fn make_directory(rt: &HostRuntime, directory: &Directory) -> io::Result<()> {
     fs::create_dir(rt, directory.0)?;
     for (name, bytes) in directory.1 {
         fs::write(rt, *name, *bytes)?;
@@ -105,67 +131,74 @@ fn make_directory(rt: &HostRuntime, directory: &Directory) -> Result<(), Fail> {
     Ok(())
 }
 
-fn make_directories(rt: &HostRuntime, directories: &[Directory]) -> Result<(), Fail> {
+fn make_directories(rt: &HostRuntime, directories: &[Directory]) -> io::Result<()> {
     for directory in directories {
         make_directory(rt, directory)?;
     }
     Ok(())
 }
 
-// What a place of its own opens in a directory.
-fn opened(rt: &HostRuntime, dir: &[u8]) -> Result<Result<bool, StoreFault>, Fail> {
-    let mut place = FsPlace::new(rt.clone()?);
-    Ok(opens_as_new(&mut place, dir))
+// Whether a directory is opened as a new store.
+pub fn opened(rt: &HostRuntime, dir: &[u8]) -> Result<bool, StoreFault> {
+    holds(rt, Look::OpensAsNew, dir)
 }
 
 // The first of these directories that is not opened as a new store.
-fn first_not_new(rt: &HostRuntime, directories: &[Directory]) -> Result<Option<usize>, Fail> {
+fn first_not_new(rt: &HostRuntime, directories: &[Directory]) -> Option<usize> {
     for (index, directory) in directories.iter().enumerate() {
-        if opened(rt, directory.0.as_bytes())? != Ok(true) {
-            return Ok(Some(index));
+        if opened(rt, directory.0.as_bytes()) != Ok(true) {
+            return Some(index);
         }
     }
-    Ok(None)
+    None
 }
 
 // The first of these directories whose opening is no fault.
-fn first_not_refused(rt: &HostRuntime, dirs: &[&[u8]]) -> Result<Option<usize>, Fail> {
+fn first_not_refused(rt: &HostRuntime, dirs: &[&[u8]]) -> Option<usize> {
     for (index, dir) in dirs.iter().enumerate() {
-        if opened(rt, dir)? != Err(StoreFault::Failed) {
-            return Ok(Some(index));
+        if opened(rt, dir) != Err(StoreFault::Failed) {
+            return Some(index);
         }
     }
-    Ok(None)
+    None
 }
 
 #[test]
-fn unfinished_store_is_opened_as_new(rt: HostRuntime) -> Result<(), Fail> {
-    make_directories(&rt, &UNFINISHED)?;
-    assert_eq!(rt; first_not_new(&rt, &UNFINISHED)?, None);
-    Ok(())
+fn unfinished_store_is_opened_as_new(rt: HostRuntime) {
+    assert!(rt; make_directories(&rt, &UNFINISHED).is_ok());
+    assert!(rt; first_not_new(&rt, &UNFINISHED).is_none());
+}
+
+fn make_without_log(rt: &HostRuntime) -> io::Result<()> {
+    make_directories(rt, &WITHOUT_LOG)?;
+    fs::create_dir(rt, "folder/slot0")
 }
 
 #[test]
-fn directory_without_its_log_counts_a_fault(rt: HostRuntime) -> Result<(), Fail> {
-    make_directories(&rt, &WITHOUT_LOG)?;
-    fs::create_dir(&rt, "folder/slot0")?;
-    assert_eq!(rt; first_not_refused(&rt, &REFUSED)?, None);
-    Ok(())
+fn directory_without_its_log_counts_a_fault(rt: HostRuntime) {
+    assert!(rt; make_without_log(&rt).is_ok());
+    assert!(rt; first_not_refused(&rt, &REFUSED).is_none());
+}
+
+fn make_link(rt: &HostRuntime) -> io::Result<()> {
+    fs::create_dir(rt, "linked")?;
+    fs::write(rt, "kept", "kept")?;
+    unix::fs::symlink(rt, "../kept", "linked/slot0.new")
 }
 
 #[test]
-fn unfinished_slot_is_not_followed_through_a_link(rt: HostRuntime) -> Result<(), Fail> {
-    fs::create_dir(&rt, "linked")?;
-    fs::write(&rt, "kept", "kept")?;
-    unix::fs::symlink(&rt, "../kept", "linked/slot0.new")?;
-    assert!(rt; opened(&rt, b"linked")? == Ok(true));
-    assert!(rt; has_text(&rt, "kept", "kept")?);
-    Ok(())
+fn unfinished_slot_is_not_followed_through_a_link(rt: HostRuntime) {
+    assert!(rt; make_link(&rt).is_ok());
+    assert!(rt; opened(&rt, b"linked") == Ok(true));
+    assert!(rt; has_text(&rt, "kept", "kept"));
 }
 
 // Whether a file has these bytes.
-fn has_text(rt: &HostRuntime, name: &str, text: &str) -> Result<bool, Fail> {
-    Ok(fs::read_to_string(rt, name)?.as_str() == text)
+fn has_text(rt: &HostRuntime, name: &str, text: &str) -> bool {
+    match fs::read_to_string(rt, name) {
+        Ok(found) => found.as_str() == text,
+        Err(_) => false,
+    }
 }
 
 // Whether a place is refused a store, with a fault.
@@ -189,16 +222,15 @@ fn is_alone<P: Place>(one: &mut P, two: &mut P, dir: &[u8]) -> Result<bool, Stor
     Ok(refused)
 }
 
-fn is_opened_once(rt: &HostRuntime) -> Result<bool, Fail> {
+fn is_opened_once(rt: &HostRuntime) -> Result<bool, StoreFault> {
     let mut one = FsPlace::new(rt.clone()?);
     let mut two = FsPlace::new(rt.clone()?);
-    Ok(is_alone(&mut one, &mut two, b"twice")?)
+    is_alone(&mut one, &mut two, b"twice")
 }
 
 #[test]
-fn one_program_has_a_store_at_a_time(rt: HostRuntime) -> Result<(), Fail> {
-    assert!(rt; is_opened_once(&rt)?);
-    Ok(())
+fn one_program_has_a_store_at_a_time(rt: HostRuntime) {
+    assert!(rt; is_opened_once(&rt) == Ok(true));
 }
 
 // Puts a file through a port of its own, and keeps it.
@@ -215,7 +247,11 @@ fn remove_through<F: Files>(
     files: &mut F,
     port: &mut F::Port,
     number: u64,
-) -> Result<bool, StoreFault> {
+) -> Result<bool, StoreFault>
+    requires { F.Port.store port.old ≡ F.store files.old }
+    ensures port { F.Port.store port.new ≡ F.Port.store port.old }
+    ensures files { F.store files.new ≡ F.store files.old }
+{
     match files.fetch(FileNumber(number))? {
         Some(sealed) => {
             port.remove(sealed)?;
@@ -233,54 +269,6 @@ fn fetch_and_remove<F: Files>(files: &mut F, number: u64) -> Result<bool, StoreF
     answer
 }
 
-// The bytes of a file of at most four from a place on, and how many it has.
-type FileBytes = ([u8; 4], u64);
-
-fn read_from<P: Port>(port: &mut P, right: &P::Right, at: u64) -> Result<FileBytes, Failed> {
-    let mut bytes = [0; 4];
-    let size = port.size(right)?;
-    if size > 4 || at > size {
-        return Err(Failed);
-    }
-    port.read(right, at, &mut bytes[..(size - at) as usize])?;
-    Ok((bytes, size))
-}
-
-// The same through a right of the file, which it takes back.
-fn read_shared<P: Port>(
-    port: &mut P,
-    sealed: &mut P::Sealed,
-    at: u64,
-) -> Result<FileBytes, StoreFault>
-    requires { P.Sealed.rights sealed.old ≡ 0 }
-    ensures { P.Sealed.rights sealed.new ≡ 0 }
-{
-    let right = P::share(sealed)?;
-    let read = read_from(port, &right, at);
-    P::give_back(sealed, right);
-    Ok(read?)
-}
-
-// The bytes of a file from a place on, or none where it is not there.
-fn fetch_and_read<F: Files>(
-    files: &mut F,
-    number: u64,
-    at: u64,
-) -> Result<Option<FileBytes>, StoreFault> {
-    let mut port = files.port()?;
-    let read = match files.fetch(FileNumber(number)) {
-        Ok(Some(mut sealed)) => {
-            let read = read_shared(&mut port, &mut sealed, at);
-            files.keep(sealed);
-            read.map(|read| Some(read))
-        }
-        Ok(None) => Ok(None),
-        Err(fault) => Err(fault),
-    };
-    files.end_port(port);
-    read
-}
-
 fn has_numbers<F: Files>(files: &mut F, numbers: &[u64]) -> Result<bool, StoreFault> {
     let list = files.list()?;
     Ok(
@@ -290,59 +278,41 @@ fn has_numbers<F: Files>(files: &mut F, numbers: &[u64]) -> Result<bool, StoreFa
     )
 }
 
-// What the files are asked, and what they are to answer.
-#[derive(Clone, Copy)]
-enum Ask {
-    HasNumbers(&'static [u64]),
-    Put(u64, &'static [u8], Result<(), StoreFault>),
-    Read(u64, u64, Option<FileBytes>),
-    Remove(u64, Result<bool, StoreFault>),
+// Whether a file has these bytes from a place on.
+fn has_bytes<F: Files>(files: &mut F, number: u64, at: u64, wanted: FileBytes) -> bool {
+    fetch_and_read(files, number, at) == Ok(Some(wanted))
 }
 
-const ASKED: [Ask; 10] = [
-    Ask::HasNumbers(&[7, 12]),
-    Ask::Put(3, b"abcd", Ok(())),
-    Ask::Put(12, b"", Err(StoreFault::Failed)),
-    Ask::Read(12, 0, Some((*b"xyz\0", 3))),
-    Ask::Read(3, 1, Some((*b"bcd\0", 4))),
-    Ask::Read(3, 4, Some(([0; 4], 4))),
-    Ask::Read(2, 0, None),
-    Ask::Remove(12, Ok(true)),
-    Ask::HasNumbers(&[3, 7]),
-    // This number is a folder's.
-    Ask::Remove(7, Err(StoreFault::Failed)),
-];
-
-fn is_answered<F: Files>(files: &mut F, ask: Ask) -> bool {
-    match ask {
-        Ask::HasNumbers(numbers) => has_numbers(files, numbers) == Ok(true),
-        Ask::Put(number, bytes, wanted) => put_and_keep(files, number, bytes) == wanted,
-        Ask::Read(number, at, wanted) => fetch_and_read(files, number, at) == Ok(wanted),
-        Ask::Remove(number, wanted) => fetch_and_remove(files, number) == wanted,
-    }
+// Whether files are stored, found again and removed. What has the number 0, 7 or 8 is none.
+fn serve<F: Files>(files: &mut F) -> bool {
+    has_numbers(files, &[12]) == Ok(true)
+        && put_and_keep(files, 3, b"abcd") == Ok(())
+        && put_and_keep(files, 12, b"") == Err(StoreFault::Failed)
+        && has_bytes(files, 12, 0, (*b"xyz\0", 3))
+        && has_bytes(files, 3, 1, (*b"bcd\0", 4))
+        && has_bytes(files, 3, 4, ([0; 4], 4))
+        && fetch_and_read(files, 2, 0) == Ok(None)
+        && fetch_and_remove(files, 12) == Ok(true)
+        && has_numbers(files, &[3]) == Ok(true)
+        && finds_none(files, &[0, 7, 8, 12])
 }
 
-// The first of these that is answered otherwise.
-fn wrong_answer<F: Files>(files: &mut F, asked: &[Ask]) -> Option<usize> {
-    for (index, ask) in asked.iter().enumerate() {
-        if !is_answered(files, *ask) {
-            return Some(index);
+// Whether there is no file with any of these numbers.
+fn finds_none<F: Files>(files: &mut F, numbers: &[u64]) -> bool {
+    for number in numbers {
+        if fetch_and_remove(files, *number) != Ok(false) {
+            return false;
         }
     }
-    None
+    true
 }
 
-// The same of the files of a place.
-fn wrong_answer_in<P: Place>(place: &mut P, asked: &[Ask]) -> Result<Option<usize>, StoreFault> {
-    let (journal, mut files) = place.take_up(b"store")?;
-    let wrong = wrong_answer(&mut files, asked);
+// The same of the files of a store.
+fn serves_files<P: Place>(place: &mut P, dir: &[u8]) -> Result<bool, StoreFault> {
+    let (journal, mut files) = place.take_up(dir)?;
+    let holds = serve(&mut files);
     place.put_down(journal, files);
-    Ok(wrong)
-}
-
-fn wrong_answer_of_folder(rt: &HostRuntime) -> Result<Option<usize>, Fail> {
-    let mut place = FsPlace::new(rt.clone()?);
-    Ok(wrong_answer_in(&mut place, &ASKED)?)
+    Ok(holds)
 }
 
 // Names of no file of a store.
@@ -356,9 +326,10 @@ const OTHERS: [&str; 7] = [
     "store/one",
 ];
 
-// Puts a file, a folder with a file's name and others into the folder of a store.
-fn fill_folder(rt: &HostRuntime) -> Result<(), Fail> {
+// Puts a file, and a folder, a link and others that are no stored files into the folder of a store.
+fn fill_folder(rt: &HostRuntime) -> io::Result<()> {
     fs::create_dir(rt, "store/7.tsfile")?;
+    unix::fs::symlink(rt, "nowhere", "store/8.tsfile")?;
     fs::write(rt, "store/12.tsfile", "xyz")?;
     for name in OTHERS {
         fs::write(rt, name, "other")?;
@@ -367,11 +338,34 @@ fn fill_folder(rt: &HostRuntime) -> Result<(), Fail> {
 }
 
 #[test]
-fn folder_serves_files_and_leaves_others_alone(rt: HostRuntime) -> Result<(), Fail> {
-    assert!(rt; opened(&rt, b"store")? == Ok(true));
-    fill_folder(&rt)?;
-    assert_eq!(rt; wrong_answer_of_folder(&rt)?, None);
-    assert!(rt; has_text(&rt, "store/3.tsfile", "abcd")?);
-    assert!(rt; has_text(&rt, "store/01.tsfile", "other")?);
-    Ok(())
+fn folder_serves_files_and_leaves_others_alone(rt: HostRuntime) {
+    assert!(rt; opened(&rt, b"store") == Ok(true) && fill_folder(&rt).is_ok());
+    assert!(rt; holds(&rt, Look::ServesFiles, b"store") == Ok(true));
+    assert!(rt; has_text(&rt, "store/3.tsfile", "abcd"));
+    assert!(rt;
+        has_text(&rt, "store/0.tsfile", "other") && has_text(&rt, "store/01.tsfile", "other")
+    );
+}
+
+// Whether a look for a file fails while something else lies where the directory of the store was.
+fn is_out_of_reach<P: Place>(
+    rt: &HostRuntime,
+    place: &mut P,
+    dir: &[u8],
+) -> Result<bool, StoreFault> {
+    let (journal, mut files) = place.take_up(dir)?;
+    let moved = move_away(rt);
+    let found = fetch_and_read(&mut files, 1, 0);
+    place.put_down(journal, files);
+    Ok(moved.is_ok() && found == Err(StoreFault::Failed))
+}
+
+fn move_away(rt: &HostRuntime) -> io::Result<()> {
+    fs::rename(rt, "gone", "moved")?;
+    fs::write(rt, "gone", "other")
+}
+
+#[test]
+fn file_out_of_reach_is_not_taken_for_missing(rt: HostRuntime) {
+    assert!(rt; holds(&rt, Look::FileOutOfReach, b"gone") == Ok(true));
 }

@@ -1,9 +1,9 @@
 //! Places in memory as their callers meet them, and stops beside a plain model.
 ghost use Rattle.std.specs.Prelude.{◌≡◌, ◌≤◌, IfSome};
 
+use crate::copying::{copy_file, fetch_and_read};
 use mem_outside::{Fails, MemFiles, MemJournal, MemPlace, SteadyPlace, StopKind};
 use std::alloc::{AllocError, Global};
-use std::test::Fail;
 use std::thread::{Threads, join_mut};
 use tsdb_base::FileNumber;
 use tsdb_outside::{Failed, Files, Journal, Place, Port, Slot, StoreFault};
@@ -191,11 +191,10 @@ fn holds_where_one_fails(alloc: Global, failing: usize) -> Result<bool, StoreFau
 }
 
 #[test]
-fn stops_leave_what_the_disk_model_says(rt: HostRuntime) -> Result<(), Fail> {
+fn stops_leave_what_the_disk_model_says(rt: HostRuntime) {
     for failing in 0..7 {
-        assert!(rt; holds_where_one_fails(rt.alloc(), failing)?);
+        assert!(rt; holds_where_one_fails(rt.alloc(), failing) == Ok(true));
     }
-    Ok(())
 }
 
 // Whether the slots of a place that has just been written have these bytes.
@@ -206,7 +205,8 @@ fn has_written<J: Journal>(journal: &mut J) -> bool {
 }
 
 // Whether a place is not taken up twice, and has what was written before it was put down.
-fn is_taken_up_again(place: &mut SteadyPlace) -> Result<bool, StoreFault> {
+fn new_place_is_taken_up_again(alloc: Global) -> Result<bool, StoreFault> {
+    let mut place = new_steady_place(alloc)?;
     let (mut journal, files) = place.take_up(b"d")?;
     let refused = place.take_up(b"d").is_err();
     let written = act(&mut journal, Step::Write(Slot::B, 1, 2, 3));
@@ -216,10 +216,8 @@ fn is_taken_up_again(place: &mut SteadyPlace) -> Result<bool, StoreFault> {
 }
 
 #[test]
-fn steady_place_is_taken_up_again_as_it_was_put_down(rt: HostRuntime) -> Result<(), Fail> {
-    let mut place = new_steady_place(rt.alloc())?;
-    assert!(rt; is_taken_up_again(&mut place)?);
-    Ok(())
+fn steady_place_is_taken_up_again_as_it_was_put_down(rt: HostRuntime) {
+    assert!(rt; new_place_is_taken_up_again(rt.alloc()) == Ok(true));
 }
 
 // Whether a file is in the store and at rest.
@@ -242,49 +240,56 @@ fn put_and_keep<F: Files>(files: &mut F, number: u64) -> Result<(), StoreFault> 
     Ok(())
 }
 
-// What a place answers to a list, a put, and a fetch of a file that is there and one that is not.
-type FirstFile = [Result<bool, StoreFault>; 4];
-
-const PUT: FirstFile = [Ok(true), Ok(true), Ok(true), Ok(false)];
-
-const NOT_PUT: FirstFile = [Ok(true), Err(StoreFault::Failed), Ok(false), Ok(false)];
-
-fn answers<F: Files>(files: &mut F) -> FirstFile {
-    [
-        files.list().map(|list| list.is_empty()),
-        put_and_keep(files, 1).map(|_| true),
-        has_file(files, 1),
-        has_file(files, 2),
-    ]
+fn is_empty<F: Files>(files: &mut F) -> Result<bool, StoreFault> {
+    Ok(files.list()?.is_empty())
 }
 
-fn first_file<P: Place>(place: &mut P) -> Result<FirstFile, StoreFault> {
+// Whether files that are empty so far answer in this way to a put. The file is there where they take it.
+fn answer_to_put<F: Files>(files: &mut F, answer: Result<(), StoreFault>) -> bool {
+    is_empty(files) == Ok(true)
+        && put_and_keep(files, 1) == answer
+        && has_file(files, 1) == Ok(answer.is_ok())
+        && has_file(files, 2) == Ok(false)
+}
+
+// The same of the files of a place.
+fn answers_to_put<P: Place>(
+    place: &mut P,
+    answer: Result<(), StoreFault>,
+) -> Result<bool, StoreFault> {
     let (journal, mut files) = place.take_up(b"d")?;
-    let answers = answers(&mut files);
+    let holds = answer_to_put(&mut files, answer);
     place.put_down(journal, files);
-    Ok(answers)
+    Ok(holds)
 }
 
-// The same in a place of whose calls on files one fails.
-fn first_file_where_one_fails(alloc: Global, failing: u64) -> Result<FirstFile, StoreFault> {
-    let fails = fails_of(alloc, &[], &[failing])?;
-    let mut place = new_place(alloc, fails)?;
-    first_file(&mut place)
+// The same of a place where one of the calls on files fails.
+fn failing_place_answers(
+    alloc: Global,
+    failing: u64,
+    answer: Result<(), StoreFault>,
+) -> Result<bool, StoreFault> {
+    let mut place = new_place(alloc, fails_of(alloc, &[], &[failing])?)?;
+    answers_to_put(&mut place, answer)
+}
+
+fn steady_place_answers(alloc: Global) -> Result<bool, StoreFault> {
+    let mut place = new_steady_place(alloc)?;
+    answers_to_put(&mut place, Ok(()))
 }
 
 #[test]
-fn first_file_is_put_and_fetched(rt: HostRuntime) -> Result<(), Fail> {
-    let alloc = rt.alloc();
-    assert!(rt; first_file_where_one_fails(alloc, 0)? == PUT);
-    assert!(rt; first_file_where_one_fails(alloc, 2)? == NOT_PUT);
-    let mut steady = new_steady_place(alloc)?;
-    assert!(rt; first_file(&mut steady)? == PUT);
-    Ok(())
+fn first_file_is_put_and_fetched(rt: HostRuntime) {
+    let put = failing_place_answers(rt.alloc(), 0, Ok(()));
+    let not_put = failing_place_answers(rt.alloc(), 2, Err(StoreFault::Failed));
+    assert!(rt; put == Ok(true) && not_put == Ok(true));
+    assert!(rt; steady_place_answers(rt.alloc()) == Ok(true));
 }
 
 // What a reader of a file sees of it: its length, and the bytes from a place on.
 fn read_two<P: Port>(port: &mut P, at: u64) -> Result<(u64, [u8; 2]), StoreFault>
     requires { at ≤ 1 }
+    ensures { P.store port.new ≡ P.store port.old }
 {
     let mut sealed = port.put(FileNumber(1), b"abc")?;
     let right = match P::share(&mut sealed) {
@@ -313,7 +318,9 @@ fn rights_read<F: Files>(files: &mut F) -> Result<bool, StoreFault> {
     Ok(first == Ok((3, *b"ab")) && second == Ok((3, *b"bc")))
 }
 
-fn rights_read_in<P: Place>(place: &mut P) -> Result<bool, StoreFault> {
+// The same of a steady place.
+fn rights_read_in_place(alloc: Global) -> Result<bool, StoreFault> {
+    let mut place = new_steady_place(alloc)?;
     let (journal, mut files) = place.take_up(b"d")?;
     let holds = rights_read(&mut files);
     place.put_down(journal, files);
@@ -321,13 +328,58 @@ fn rights_read_in<P: Place>(place: &mut P) -> Result<bool, StoreFault> {
 }
 
 #[test]
-fn right_reads_the_file(rt: HostRuntime) -> Result<(), Fail> {
-    let mut place = new_steady_place(rt.alloc())?;
-    assert!(rt; rights_read_in(&mut place)?);
-    Ok(())
+fn right_reads_the_file(rt: HostRuntime) {
+    assert!(rt; rights_read_in_place(rt.alloc()) == Ok(true));
 }
 
-fn put_and_remove<P: Port>(port: &mut P, number: u64) -> Result<(), StoreFault> {
+// Whether a port counts the bytes that its reads give.
+fn counts_bytes(files: &mut MemFiles) -> Result<bool, StoreFault> {
+    let mut port = files.port()?;
+    let before = port.bytes_read();
+    let read = read_two(&mut port, 1);
+    let after = port.bytes_read();
+    files.end_port(port);
+    Ok(read.is_ok() && before == 0 && after == 2)
+}
+
+// The same in a place.
+fn counts_bytes_in_place(alloc: Global) -> Result<bool, StoreFault> {
+    let mut place = new_place(alloc, fails_of(alloc, &[], &[])?)?;
+    let (_, mut files) = place.take_up(b"d")?;
+    counts_bytes(&mut files)
+}
+
+#[test]
+fn port_counts_the_bytes_that_it_reads(rt: HostRuntime) {
+    assert!(rt; counts_bytes_in_place(rt.alloc()) == Ok(true));
+}
+
+// Whether a file is copied from one store into another. One that is missing is not.
+fn copies_file<F: Files>(from: &mut F, to: &mut F) -> bool {
+    put_and_keep(from, 1) == Ok(())
+        && copy_file(from, to, 1) == Ok(true)
+        && copy_file(from, to, 2) == Ok(false)
+        && fetch_and_read(from, 1, 0) == Ok(Some((*b"abc\0", 3)))
+        && fetch_and_read(to, 1, 0) == Ok(Some((*b"abc\0", 3)))
+}
+
+// The same of the stores of two places.
+fn copies_to_other_place(alloc: Global) -> Result<bool, StoreFault> {
+    let mut one = new_steady_place(alloc)?;
+    let mut two = new_steady_place(alloc)?;
+    let (_, mut from) = one.take_up(b"one")?;
+    let (_, mut to) = two.take_up(b"two")?;
+    Ok(copies_file(&mut from, &mut to))
+}
+
+#[test]
+fn file_is_copied_into_another_store(rt: HostRuntime) {
+    assert!(rt; copies_to_other_place(rt.alloc()) == Ok(true));
+}
+
+fn put_and_remove<P: Port>(port: &mut P, number: u64) -> Result<(), StoreFault>
+    ensures { P.store port.new ≡ P.store port.old }
+{
     let sealed = port.put(FileNumber(number), b"abc")?;
     port.remove(sealed)?;
     Ok(())
@@ -348,7 +400,8 @@ fn serves_two_threads(rt: &impl Threads, files: &mut MemFiles) -> Result<bool, S
 }
 
 // The same in a place, which then has a moment behind each of the four calls.
-fn counts_both_threads(rt: &impl Threads, place: &mut MemPlace) -> Result<bool, StoreFault> {
+fn counts_both_threads(alloc: Global, rt: &impl Threads) -> Result<bool, StoreFault> {
+    let mut place = new_place(alloc, fails_of(alloc, &[], &[])?)?;
     let (journal, mut files) = place.take_up(b"d")?;
     let served = serves_two_threads(rt, &mut files);
     place.put_down(journal, files);
@@ -356,34 +409,36 @@ fn counts_both_threads(rt: &impl Threads, place: &mut MemPlace) -> Result<bool, 
 }
 
 #[test]
-fn two_ports_serve_two_threads(rt: HostRuntime) -> Result<(), Fail> {
-    let fails = fails_of(rt.alloc(), &[], &[])?;
-    let mut place = new_place(rt.alloc(), fails)?;
-    assert!(rt; counts_both_threads(&rt, &mut place)?);
-    Ok(())
+fn two_ports_serve_two_threads(rt: HostRuntime) {
+    assert!(rt; counts_both_threads(rt.alloc(), &rt) == Ok(true));
 }
 
 // What a counted call did to the files.
 #[derive(Clone, Copy)]
 enum Event {
     Put(u64),
+    PutFailed(u64),
     Removed(u64),
     Nothing,
 }
 
 // Puts a file and says what happened.
 fn put_file<P: Port>(port: &mut P, number: u64) -> (Option<P::Sealed>, Event)
-    ensures { IfSome result.0 (λ sealed. P.Sealed.rights sealed ≡ 0) }
+    ensures rights { IfSome result.0 (λ sealed. P.Sealed.rights sealed ≡ 0) }
+    ensures store { IfSome result.0 (λ sealed. (P.Sealed.file sealed).store ≡ P.store port.old) }
+    ensures same { P.store port.new ≡ P.store port.old }
 {
     match port.put(FileNumber(number), b"abc") {
         Ok(sealed) => (Some(sealed), Event::Put(number)),
-        Err(_) => (None, Event::Nothing),
+        Err(_) => (None, Event::PutFailed(number)),
     }
 }
 
 // Removes a file and says what happened, or makes no call where it was not put.
 fn remove_file<P: Port>(port: &mut P, sealed: Option<P::Sealed>, number: u64) -> Option<Event>
-    requires { IfSome sealed (λ sealed. P.Sealed.rights sealed ≡ 0) }
+    requires rights { IfSome sealed (λ sealed. P.Sealed.rights sealed ≡ 0) }
+    requires store { IfSome sealed (λ sealed. (P.Sealed.file sealed).store ≡ P.store port.old) }
+    ensures { P.store port.new ≡ P.store port.old }
 {
     match sealed {
         Some(sealed) => {
@@ -395,7 +450,11 @@ fn remove_file<P: Port>(port: &mut P, sealed: Option<P::Sealed>, number: u64) ->
 }
 
 // Six counted calls over a journal and two ports. A file that was not put is not removed.
-fn six_calls<J: Journal, P: Port>(journal: &mut J, one: &mut P, two: &mut P) -> [Option<Event>; 6] {
+fn six_calls<J: Journal, P: Port>(journal: &mut J, one: &mut P, two: &mut P) -> [Option<Event>; 6]
+    requires { P.store one.old ≡ P.store two.old }
+    ensures one { P.store one.new ≡ P.store one.old }
+    ensures two { P.store two.new ≡ P.store two.old }
+{
     let _ = act(journal, Step::Write(Slot::A, 0, 5, 6));
     let (first, put_first) = put_file(one, 1);
     let _ = act(journal, Step::Sync(Slot::A));
@@ -439,17 +498,77 @@ fn calls_of<P: Place>(place: &mut P) -> Result<[Option<Event>; 6], StoreFault> {
     events
 }
 
-// Whether a stop behind so many events leaves the file, which was handed in where it has the number 7.
-fn is_left(number: u64, events: &[Option<Event>], moment: usize) -> bool {
-    let mut there = number == 7;
-    for event in events.iter().flatten().take(moment) {
-        match *event {
-            Event::Put(put) if put == number => there = true,
-            Event::Removed(removed) if removed == number => there = false,
-            _ => {}
+// What of a file a stop behind so many events leaves. The file 7 was handed in.
+#[derive(Clone, Copy, PartialEq, Eq)]
+enum Left {
+    None,
+    Half,
+    Whole,
+}
+
+// What is left behind one more event, of which what was left before is known.
+fn left_behind(left: Left, event: Event, number: u64, kind: StopKind) -> Left {
+    match event {
+        Event::Put(put) if put == number => Left::Whole,
+        Event::PutFailed(put) if put == number => match kind {
+            StopKind::Written => left,
+            StopKind::Unwritten => Left::Whole,
+            StopKind::Scrambled => Left::Half,
+        },
+        Event::Removed(removed) if removed == number && kind != StopKind::Unwritten => Left::None,
+        _ => left,
+    }
+}
+
+// What is left where this event is under way.
+fn left_within(left: Left, event: Event, number: u64, kind: StopKind) -> Left {
+    match event {
+        Event::Put(put) | Event::PutFailed(put) if put == number && kind == StopKind::Scrambled => {
+            Left::Half
+        }
+        _ => left,
+    }
+}
+
+fn left_of(number: u64, events: &[Option<Event>], moment: usize, kind: StopKind) -> Left {
+    let mut left = if number == 7 { Left::Whole } else { Left::None };
+    for (at, event) in events.iter().flatten().enumerate() {
+        if at < moment {
+            left = left_behind(left, *event, number, kind);
+        } else if at == moment {
+            left = left_within(left, *event, number, kind);
         }
     }
-    there
+    left
+}
+
+// What there is of a file of three bytes.
+fn left_in<F: Files>(files: &mut F, number: u64) -> Result<Left, StoreFault> {
+    let mut port = files.port()?;
+    let left = match files.fetch(FileNumber(number)) {
+        Ok(Some(mut sealed)) => {
+            let size = size_of(&mut port, &mut sealed);
+            files.keep(sealed);
+            size.map(|size| if size == 3 { Left::Whole } else { Left::Half })
+        }
+        Ok(None) => Ok(Left::None),
+        Err(fault) => Err(fault),
+    };
+    files.end_port(port);
+    left
+}
+
+// How many bytes a file has.
+fn size_of<P: Port>(port: &mut P, sealed: &mut P::Sealed) -> Result<u64, StoreFault>
+    requires { P.Sealed.rights sealed.old ≡ 0 }
+    ensures rights { P.Sealed.rights sealed.new ≡ 0 }
+    ensures file { P.Sealed.file sealed.new ≡ P.Sealed.file sealed.old }
+    ensures port { P.store port.new ≡ P.store port.old }
+{
+    let right = P::share(sealed)?;
+    let size = port.size(&right);
+    P::give_back(sealed, right);
+    Ok(size?)
 }
 
 // Whether a stopped place has the files that it should.
@@ -457,10 +576,11 @@ fn has_files_left(
     stopped: &mut MemPlace,
     events: &[Option<Event>],
     moment: usize,
+    kind: StopKind,
 ) -> Result<bool, StoreFault> {
     let (_, mut files) = stopped.take_up(b"d")?;
     for number in [1, 2, 7] {
-        if has_file(&mut files, number)? != is_left(number, events, moment) {
+        if left_in(&mut files, number)? != left_of(number, events, moment, kind) {
             return Ok(false);
         }
     }
@@ -472,7 +592,7 @@ fn files_agree(place: &MemPlace, events: &[Option<Event>]) -> Result<bool, Store
     for moment in 0..=events.len() {
         for kind in KINDS {
             let mut stopped = stopped_at(place, moment, kind)?;
-            if !has_files_left(&mut stopped, events, moment)? {
+            if !has_files_left(&mut stopped, events, moment, kind)? {
                 return Ok(false);
             }
         }
@@ -482,7 +602,7 @@ fn files_agree(place: &MemPlace, events: &[Option<Event>]) -> Result<bool, Store
 
 // A place with the file 7, of whose calls on files one fails.
 fn place_with_file(alloc: Global, failing: u64) -> Result<MemPlace, StoreFault> {
-    let handed_in = vec![in alloc; (FileNumber(7), vec![in alloc; 3]?)]?;
+    let handed_in = vec![in alloc; (FileNumber(7), b"abc".to_vec(alloc)?)]?;
     let fails = fails_of(alloc, &[], &[failing])?;
     let slots = slots_of(alloc, &[1, 2], &[9])?;
     Ok(MemPlace::new(alloc, slots, handed_in, fails)?)
@@ -495,9 +615,8 @@ fn holds_with_files(alloc: Global, failing: u64) -> Result<bool, StoreFault> {
 }
 
 #[test]
-fn stops_leave_the_files_that_were_put_and_not_removed(rt: HostRuntime) -> Result<(), Fail> {
+fn stops_leave_the_files_that_they_may(rt: HostRuntime) {
     for failing in 0..5 {
-        assert!(rt; holds_with_files(rt.alloc(), failing)?);
+        assert!(rt; holds_with_files(rt.alloc(), failing) == Ok(true));
     }
-    Ok(())
 }

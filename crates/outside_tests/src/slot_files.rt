@@ -4,14 +4,13 @@ ghost use Rattle.std.proofs.Common.{rules};
 ghost use Rattle.tsdb_outside.specs.Causes.{Rose};
 ghost use Rattle.tsdb_outside.specs.Disk.{overwrite};
 
-use crate::directories::{first_and_length, write_three};
-use fs_outside::{FsJournal, FsPlace, SlotFile};
-use std::alloc::AllocError;
+use crate::directories::{first_and_length, opened, write_three};
+use fs_outside::{FsJournal, SlotFile};
+use std::alloc::{AllocError, Global};
 use std::fs;
 use std::io::{self, ErrorKind};
 use std::os::unix;
-use std::test::Fail;
-use tsdb_outside::{Failed, Journal, Place, Slot};
+use tsdb_outside::{Failed, Journal, Slot, StoreFault};
 
 // A file in memory that tells what it holds. What is written is durable at once; its syncs fail where it is told so.
 #[derive(Drop)]
@@ -92,16 +91,19 @@ fn tells_after_failed_sync<F: SlotFile>(file: &mut F) -> bool {
     written && !synced && long && file.read_at(0, &mut bytes).is_ok() && bytes == [0, 5]
 }
 
-#[test]
-fn told_file_gives_what_it_holds_where_its_sync_fails(rt: HostRuntime) -> Result<(), Fail> {
+// Whether a file that tells does so, and counts one fault.
+fn told_file_counts_its_fault(alloc: Global) -> Result<bool, AllocError> {
     let mut file = ToldFile {
-        bytes: vec![in rt.alloc(); 0]?,
+        bytes: vec![in alloc; 0]?,
         fails_sync: true,
         faults: 0,
     };
-    assert!(rt; tells_after_failed_sync(&mut file));
-    assert!(rt; file.faults == 1);
-    Ok(())
+    Ok(tells_after_failed_sync(&mut file) && file.faults == 1)
+}
+
+#[test]
+fn told_file_gives_what_it_holds_where_its_sync_fails(rt: HostRuntime) {
+    assert!(rt; told_file_counts_its_fault(rt.alloc()) == Ok(true));
 }
 
 // Whether the first slot is given up once its sync has failed. Its reads and the other slot go on.
@@ -118,22 +120,36 @@ fn is_given_up<F: SlotFile + Send, G: Send>(journal: &mut FsJournal<F, G>) -> bo
         && first_and_length(journal, Slot::B) == Ok((3, 3))
 }
 
-// The same of the store in this directory.
-fn is_given_up_in(rt: &HostRuntime, dir: &[u8]) -> Result<bool, Fail> {
-    let mut place = FsPlace::new(rt.clone()?);
-    let (mut journal, files) = place.take_up(dir)?;
-    let given_up = is_given_up(&mut journal);
-    place.put_down(journal, files);
-    Ok(given_up)
+// The same of a journal over files that tell.
+fn told_slot_is_given_up(alloc: Global) -> Result<bool, AllocError> {
+    let a = ToldFile {
+        bytes: vec![in alloc; 0]?,
+        fails_sync: true,
+        faults: 0,
+    };
+    let b = ToldFile {
+        bytes: vec![in alloc; 0]?,
+        fails_sync: false,
+        faults: 0,
+    };
+    Ok(is_given_up(&mut FsJournal::new(a, b, ())))
 }
 
-// The first slot is a device that takes and gives bytes, and that the system cannot sync. How often the journal has
-// failed shows in clauses alone.
+// How often the journal has failed shows in clauses alone.
 #[test]
-fn slot_whose_sync_failed_is_given_up(rt: HostRuntime) -> Result<(), Fail> {
-    fs::create_dir(&rt, "device")?;
-    fs::write(&rt, "device/slot1", "\0")?;
-    unix::fs::symlink(&rt, "/dev/zero", "device/slot0")?;
-    assert!(rt; is_given_up_in(&rt, b"device")?);
-    Ok(())
+fn slot_whose_sync_failed_is_given_up(rt: HostRuntime) {
+    assert!(rt; told_slot_is_given_up(rt.alloc()) == Ok(true));
+}
+
+// A store whose first slot is a device that takes and gives bytes, and that the system cannot sync.
+fn make_device_store(rt: &HostRuntime) -> io::Result<()> {
+    fs::create_dir(rt, "device")?;
+    fs::write(rt, "device/slot1", "\0")?;
+    unix::fs::symlink(rt, "/dev/zero", "device/slot0")
+}
+
+#[test]
+fn opening_syncs_the_slots(rt: HostRuntime) {
+    assert!(rt; make_device_store(&rt).is_ok());
+    assert!(rt; opened(&rt, b"device") == Err(StoreFault::Failed));
 }
