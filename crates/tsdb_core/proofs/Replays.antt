@@ -19,7 +19,7 @@ use Rattle.tsdb_core.specs.Replay.{replay_state}
 use Rattle.tsdb_core.specs.State.{EngineState, File, MemoryState, Watermarks}
 use Rattle.tsdb_core.specs.Steps.{AreRaised, Creates, Deletes, Freezes, HasTime, Inserts, empty_pair, with_memory}
 use Rattle.tsdb_log.specs.declared.record.LogRecord.{LogRecord}
-use Rattle.tsdb_log.specs.declared.record.LogRecord.TheVariants.{Create, Delete, Flushed, Freeze, Insert, Replaced}
+use Rattle.tsdb_log.specs.declared.record.LogRecord.TheVariants.{Create, Delete, Flushed, Freeze, Insert, Replaced, Snapshot}
 
 -- the borns of the listed files are those that a replay knows
 same_borns : (xs ys : List File) → map (λ (file : ListedFile). file.born) (map listed_file xs ++ map listed_file ys)
@@ -53,6 +53,7 @@ leads_in_order state Freeze next order leads bytes =
     (freeze_in_order state next.memory order freezes)
 leads_in_order state (Flushed sequence unsequence) next order leads bytes = absurd leads
 leads_in_order state (Replaced born space place output sequence unsequence) next order leads bytes = absurd leads
+leads_in_order state (Snapshot snapshot) next order leads bytes = absurd leads
 
 pub leads_in_memory : (item : LogRecord) (old next : ReplayState) → LeadsTo item old next
     → next ≡ record old { memory = next.memory }
@@ -62,6 +63,7 @@ leads_in_memory (Delete path range) old next leads = leads.others
 leads_in_memory Freeze old next leads = leads.others
 leads_in_memory (Flushed sequence unsequence) old next leads = absurd leads
 leads_in_memory (Replaced born space place output sequence unsequence) old next leads = absurd leads
+leads_in_memory (Snapshot snapshot) old next leads = absurd leads
 
 -- watermarks that are raised by a part are raised in one way
 
@@ -119,6 +121,7 @@ leads_once (Delete path range) old a b la lb =
 leads_once Freeze old a b la lb = changed_once Freezes old a b (λ m n fm fn. frozen_once old.memory m n fm fn) la lb
 leads_once (Flushed sequence unsequence) old a b la lb = absurd la
 leads_once (Replaced born space place output sequence unsequence) old a b la lb = absurd la
+leads_once (Snapshot snapshot) old a b la lb = absurd la
 
 pub replays_once : (old a b : ReplayState) (records : List LogRecord) → Replays old records a → Replays old records b
     → a ≡ b

@@ -84,6 +84,7 @@ row_item memory device row (logged.Delete path range) is = absurd is
 row_item memory device row logged.Freeze is = absurd is
 row_item memory device row (logged.Flushed sequence unsequence) is = absurd is
 row_item memory device row (logged.Replaced born space place output sequence unsequence) is = absurd is
+row_item memory device row (logged.Snapshot snapshot) is = absurd is
 
 -- what is in memory after a call that put no row: what was, or that with the working pair frozen where the row did not
 -- fit

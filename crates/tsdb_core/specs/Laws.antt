@@ -9,7 +9,7 @@ use Rattle.tsdb_core.specs.State.{EngineState, MemoryState, SeriesEntry}
 use Rattle.tsdb_core.specs.Worlds.{type_at}
 use Rattle.tsdb_log.specs.declared.record.CellRecord.{CellRecord}
 use Rattle.tsdb_log.specs.declared.record.LogRecord.{LogRecord}
-use Rattle.tsdb_log.specs.declared.record.LogRecord.TheVariants.{Create, Delete, Flushed, Freeze, Insert, Replaced}
+use Rattle.tsdb_log.specs.declared.record.LogRecord.TheVariants.{Create, Delete, Flushed, Freeze, Insert, Replaced, Snapshot}
 use Rattle.tsdb_map.specs.Apply.{value_of}
 use Rattle.tsdb_map.specs.declared.command.Cell.{Cell}
 use Rattle.tsdb_path.specs.Nodes.{child_of}
@@ -76,3 +76,4 @@ KeepsBytes (Delete path range) old new = ⊤
 KeepsBytes Freeze old new = ⊤
 KeepsBytes (Flushed sequence unsequence) old new = ⊤
 KeepsBytes (Replaced born space place output sequence unsequence) old new = ⊤
+KeepsBytes (Snapshot snapshot) old new = ⊤

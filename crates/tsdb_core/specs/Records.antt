@@ -15,7 +15,7 @@ use Rattle.tsdb_frames.specs.Log.{IsFrame, payload_of}
 use Rattle.tsdb_log.specs.Spelling.{IsRecord, spelling}
 use Rattle.tsdb_log.specs.declared.record.CellRecord.{CellRecord}
 use Rattle.tsdb_log.specs.declared.record.LogRecord.{LogRecord}
-use Rattle.tsdb_log.specs.declared.record.LogRecord.TheVariants.{Create, Insert, Delete, Freeze, Flushed, Replaced}
+use Rattle.tsdb_log.specs.declared.record.LogRecord.TheVariants.{Create, Insert, Delete, Freeze, Flushed, Replaced, Snapshot}
 use Rattle.tsdb_map.specs.World.{World}
 use Rattle.tsdb_map.specs.declared.command.Row.{Row}
 use Rattle.tsdb_map.specs.declared.command.Schema.{Schema}
@@ -72,3 +72,4 @@ IsRecordOfRow memory device row (Delete path range) = ⊥
 IsRecordOfRow memory device row Freeze = ⊥
 IsRecordOfRow memory device row (Flushed sequence unsequence) = ⊥
 IsRecordOfRow memory device row (Replaced born space place output sequence unsequence) = ⊥
+IsRecordOfRow memory device row (Snapshot snapshot) = ⊥

@@ -5,7 +5,7 @@ use Rattle.tsdb_core.specs.Order.{IsInOrder}
 use Rattle.tsdb_core.specs.State.{EngineState, File, FilePoints, MemoryState}
 use Rattle.tsdb_core.specs.Steps.{Creates, Deletes, Freezes, Inserts, empty_pair}
 use Rattle.tsdb_log.specs.declared.record.LogRecord.{LogRecord}
-use Rattle.tsdb_log.specs.declared.record.LogRecord.TheVariants.{Create, Delete, Flushed, Freeze, Insert, Replaced}
+use Rattle.tsdb_log.specs.declared.record.LogRecord.TheVariants.{Create, Delete, Flushed, Freeze, Insert, Replaced, Snapshot}
 
 -- a file of one of the two lists, as the log knows it
 pub record ListedFile : Type 0 where
@@ -34,7 +34,8 @@ pub record ChangesMemory (step : MemoryState → MemoryState → Type 0) (old ne
 abbrev pub listed_borns : ReplayState → List ℕ
 listed_borns state = map (λ file. file.born) (state.sequence ++ state.unsequence)
 
--- the record leads from the one state to the other. Records of flushes and compactions have no replay yet.
+-- the record leads from the one state to the other. Records of flushes and compactions, and
+-- snapshots, have no replay yet.
 abbrev pub LeadsTo : LogRecord → ReplayState → ReplayState → Type 0
 LeadsTo (Create path data_type encoding) old new =
     ChangesMemory (Creates (record { path = path; data_type = data_type; encoding = encoding })) old new
@@ -43,6 +44,7 @@ LeadsTo (Delete path range) old new = ChangesMemory (Deletes (listed_borns old) 
 LeadsTo Freeze old new = ChangesMemory Freezes old new
 LeadsTo (Flushed sequence unsequence) old new = ⊥
 LeadsTo (Replaced born space place output sequence unsequence) old new = ⊥
+LeadsTo (Snapshot snapshot) old new = ⊥
 
 -- the records, one after another, lead from the one state to the other
 abbrev pub Replays : ReplayState → List LogRecord → ReplayState → Type 0

@@ -8,7 +8,7 @@ use Rattle.tsdb_base.specs.declared.ids.Space.TheVariants.{Sequence, Unsequence}
 use Rattle.tsdb_layers.proofs.Lists.{each_append, each_left, each_right}
 use Rattle.tsdb_layers.specs.Lists.{Among, if_some}
 use Rattle.tsdb_log.specs.declared.record.LogRecord.{LogRecord}
-use Rattle.tsdb_log.specs.declared.record.LogRecord.TheVariants.{Create, Delete, Flushed, Freeze, Insert, Replaced}
+use Rattle.tsdb_log.specs.declared.record.LogRecord.TheVariants.{Create, Delete, Flushed, Freeze, Insert, Replaced, Snapshot}
 use Rattle.tsdb_state.specs.Records.{Replacement, after, flush_oldest, names, new_file, new_numbers, number_list}
 use Rattle.tsdb_state.specs.Records.{numbers_of, replace, replace_in}
 use Rattle.tsdb_state.specs.State.{File, FrozenPair, StoreState}
@@ -98,6 +98,7 @@ module _ (P : File → Type 0) where
         sequence = number_list sequence;
         unsequence = number_list unsequence;
       }) store new all
+  listed_after (Snapshot snapshot) store new all = all
 
 -- the numbers that the record of a flush names were drawn
 pub named_drawn : (s u : Option ℕ) (number : ℕ)

@@ -8,7 +8,7 @@ use Rattle.tsdb_base.specs.declared.ids.Space.TheVariants.{Sequence, Unsequence}
 use Rattle.tsdb_layers.proofs.Lists.{count_append}
 use Rattle.tsdb_layers.specs.Lists.{EachPair, count}
 use Rattle.tsdb_log.specs.declared.record.LogRecord.{LogRecord}
-use Rattle.tsdb_log.specs.declared.record.LogRecord.TheVariants.{Create, Delete, Flushed, Freeze, Insert, Replaced}
+use Rattle.tsdb_log.specs.declared.record.LogRecord.TheVariants.{Create, Delete, Flushed, Freeze, Insert, Replaced, Snapshot}
 use Rattle.tsdb_replay.specs.Replays.{Replays}
 use Rattle.tsdb_replay.specs.Stores.{Recorded, store_steps}
 use Rattle.tsdb_state.proofs.CommitNumbers.{count_new_file, count_new_two}
@@ -115,6 +115,7 @@ listed_count n (Replaced born space place output sequence unsequence) store = re
   sequence = number_list sequence;
   unsequence = number_list unsequence;
 }) store
+listed_count n (Snapshot snapshot) store = nothing_named (count n (numbers_of (listed store))) 0
 
 -- the numbers that a record names are new
 fresh : (named : List ℕ) (item : LogRecord) (store : StoreState) → CanFollow named item store
@@ -125,6 +126,7 @@ fresh named (Delete path range) store can = record { within = tt; unnamed = tt; 
 fresh named Freeze store can = record { within = tt; unnamed = tt; differ = tt }
 fresh named (Flushed sequence unsequence) store can = can.fresh
 fresh named (Replaced born space place output sequence unsequence) store can = can.fresh
+fresh named (Snapshot snapshot) store can = absurd can
 
 nothing : (b : Bool) (m : ℕ) → b ≡ false → m ≡ 0 → cond b 1 0 + m ≡ 0
 nothing true m e none = absurd cc
@@ -147,6 +149,7 @@ names_never_zero (Delete path range) = refl
 names_never_zero Freeze = refl
 names_never_zero (Flushed sequence unsequence) = never_zero (sequence.0 ∷ unsequence.0 ∷ [])
 names_never_zero (Replaced born space place output sequence unsequence) = never_zero (output.0 ∷ [])
+names_never_zero (Snapshot snapshot) = refl
 
 -- what holds of each element holds of a number that is counted
 counted_has : (P : ℕ → Type 0) (n : ℕ) (xs : List ℕ) → Each P xs → 1 ≤ count n xs → P n

@@ -1,101 +1,26 @@
 -- The rows of fields that cells and records are written as.
-use Rattle.std.proofs.Common.{◌≡◌, ℕ, ◌<◌, ◌≤◌, ◌^◌, false, List, [], ◌∷◌, ◌++◌, length, refl, sym, ap, ◌∙◌, arith, rules, codes}
-use Rattle.std.specs.Prelude.{ℤ, pos, FitsSigned}
+use Rattle.std.proofs.Common.{◌≡◌, ℕ, ◌<◌, ◌≤◌, ◌^◌, List, [], ◌∷◌, ◌++◌, length, refl, sym, ap, ◌∙◌, arith}
+use Rattle.std.specs.Prelude.{ℤ, FitsSigned}
 use Rattle.std.specs.Int.{w64}
 use Rattle.std.specs.List.{flat_map}
 use Rattle.tsdb_base.specs.declared.ids.FileNumber.{FileNumber}
 use Rattle.tsdb_base.specs.declared.ids.Space.{Space}
-use Rattle.tsdb_base.specs.declared.ids.Space.TheVariants.{Sequence, Unsequence}
 use Rattle.tsdb_base.specs.declared.value.DataType.{DataType}
-use Rattle.tsdb_base.specs.declared.value.DataType.TheVariants.{Boolean, Int32, Int64, Text}
 use Rattle.tsdb_base.specs.declared.value.Encoding.{Encoding}
-use Rattle.tsdb_base.specs.declared.value.Value.{Value}
-use Rattle.tsdb_base.specs.declared.value.Value.TheVariants as value
-use Rattle.tsdb_base.specs.Fields.{number16, number32, number64, type_field, encoding_field, value_field}
+use Rattle.tsdb_base.specs.Fields.{number16, number32, number64, type_field, encoding_field}
 use Rattle.tsdb_base.specs.FieldLaws.{number16-prefix_free, number32-prefix_free, number64-prefix_free, type_field-prefix_free, encoding_field-prefix_free}
 use Rattle.tsdb_base.specs.Plain.{plain_i64, plain_text, AreValues}
-use Rattle.tsdb_base.specs.PlainLaws.{plain_i64-prefix_free, plain_text-prefix_free}
-use Rattle.tsdb_base.specs.Values.{type_of}
-use Rattle.tsdb_base.proofs.PlainLists.{IsPrefixFree}
+use Rattle.tsdb_base.specs.PlainLaws.{plain_i64-prefix_free}
 use Rattle.tsdb_path.specs.Nodes.{IsPath}
-use Rattle.tsdb_fields.specs.Reading.{IsValueOf}
-use Rattle.tsdb_fields.proofs.Laws.{value_field-prefix_free}
 use Rattle.tsdb_log.specs.declared.record.CellRecord.{CellRecord}
 use Rattle.tsdb_log.specs.declared.record.LogRecord.{LogRecord}
-use Rattle.tsdb_log.specs.declared.record.LogRecord.TheVariants.{Create, Insert, Delete, Freeze, Flushed, Replaced}
+use Rattle.tsdb_log.specs.declared.record.LogRecord.TheVariants.{Create, Insert, Delete, Freeze, Flushed, Replaced, Snapshot}
 use Rattle.tsdb_log.specs.Spelling.{bytes_of, cell_fields, fields, file_fields, files_fields, space_field, spelling, AreFiles, IsCell, IsFile, IsRecord}
-use Rattle.tsdb_log.specs.Rows.{both, field, place_row, space_row, output_row, AreBoth, ArePlace, AreSpace, AreOutput, IsAny, IsNumber64}
-use Rattle.tsdb_log.proofs.Rows.{IsRow, row_of_field, row_of_both}
-use Rattle.tsdb_log.proofs.Lists.{AreList, row_of_list}
-use Rattle.tsdb_log.proofs.Views.{IsWrittenAs, row_as, behind_kind, IsOfKind, kind_of, kind_first, kind_same, row_of_kind, values_as}
-
--- ---- fields of each kind
-
-pub path_free : IsPrefixFree plain_text IsPath
-path_free a b x y is_a is_b e =
-    let short_a = is_a.1.short in
-    let short_b = is_b.1.short in
-    plain_text-prefix_free a b x y (omega arith) (omega arith) e
-
--- the shortest path
-pub root : (path : List ℕ) × IsPath path
-root = (
-  codes "root",
-  (
-    codes "root" ∷ [],
-    record {
-      rooted = refl;
-      good = search (rules);
-      few = omega arith;
-      bytes_are = refl;
-      short = omega arith;
-    },
-  ),
-)
-
--- a value of each type
-pub some_value : (t : DataType) → (v : Value) × IsValueOf t v
-some_value Boolean = (value.Bool false, record { typed = refl; fits = tt })
-some_value Int32 = (value.I32 (pos 0), record { typed = refl; fits = omega arith })
-some_value Int64 = (value.I64 (pos 0), record { typed = refl; fits = omega arith })
-some_value Text = (value.Text [], record { typed = refl; fits = omega arith })
-
--- ---- cells
-
-abbrev pub value_row : DataType × Value → List (List ℕ)
-value_row = both (field type_field) (field value_field)
-
-abbrev pub IsValueRow : DataType × Value → Type 0
-IsValueRow = AreBoth IsAny IsValueOf
-
-abbrev pub cell_row : ℕ × (DataType × Value) → List (List ℕ)
-cell_row = both (field number64) value_row
-
-abbrev pub IsCellRow : ℕ × (DataType × Value) → Type 0
-IsCellRow = AreBoth IsNumber64 (λ _. IsValueRow)
-
-pub value_rows : IsRow value_row IsValueRow
-value_rows = row_of_both (field type_field) (field value_field) IsAny IsValueOf (row_of_field type_field IsAny type_field-prefix_free)
-    (λ t any. row_of_field value_field (IsValueOf t) (value_field-prefix_free t))
-
-pub cell_as : IsWrittenAs cell_row IsCellRow cell_fields IsCell
-cell_as = record {
-  make = λ p. record { series = record { 0 = p.0 }; value = p.1.1 };
-  view = λ c is. ((c.series.0, (type_of c.value, c.value)), (is.series, (tt, record { typed = refl; fits = is.value })), refl);
-  back = λ p is. (
-    record { series = is.0; value = is.1.1.fits },
-    ap (λ (t : DataType). number64 p.0 ∷ type_field t ∷ value_field p.1.1 ∷ []) is.1.1.typed,
-  );
-}
-
-pub cell_rows : IsRow cell_fields IsCell
-cell_rows = row_as cell_row IsCellRow cell_fields IsCell cell_as
-    (row_of_both (field number64) value_row IsNumber64 (λ _. IsValueRow) (row_of_field number64 IsNumber64 number64-prefix_free) (λ n is. value_rows))
-
--- ---- lists of rows
-
-pub rows_of_values : {A : Type 0} (row : A → List (List ℕ)) (Is : A → Type 0) → IsRow row Is → (n : ℕ) → IsRow (flat_map row) (AreValues Is n)
-rows_of_values row Is rows n = row_as (flat_map row) (AreList Is n) (flat_map row) (AreValues Is n) (values_as row Is n) (row_of_list row Is rows n)
+use Rattle.tsdb_log.specs.Rows.{both, field, place_row, space_row, output_row, AreBoth, ArePlace, AreSpace, AreOutput, IsAny, IsNumber64, IsRow}
+use Rattle.tsdb_log.specs.RowLaws.{row_of_field, row_of_both}
+use Rattle.tsdb_log.specs.PartLaws.{path_free, space_free, rows_of_values, cell_rows, file_rows}
+use Rattle.tsdb_log.specs.SnapshotLaws.{SnapshotRow, snapshot_row, IsSnapshotRow, snapshot_rows, made_snapshot, row_of_snapshot, is_row_of_snapshot, is_made_snapshot}
+use Rattle.tsdb_log.specs.ViewLaws.{IsWrittenAs, row_as, behind_kind, IsOfKind, kind_of, kind_first, kind_same, row_of_kind}
 
 -- ---- create
 
@@ -123,6 +48,7 @@ create_view (Delete path range) is = absurd (omega arith)
 create_view Freeze is = absurd (omega arith)
 create_view (Flushed sequence unsequence) is = absurd (omega arith)
 create_view (Replaced born space place output sequence unsequence) is = absurd (omega arith)
+create_view (Snapshot snapshot) is = absurd (omega arith)
 
 pub create_as : IsWrittenAs (behind_kind 1 create_row) IsCreate fields (IsOfKind 1)
 create_as = record { make = λ p. Create p.0 p.1.0 p.1.1; view = create_view; back = λ p is. ((is.0, refl), refl) }
@@ -153,6 +79,7 @@ insert_view (Delete path range) is = absurd (omega arith)
 insert_view Freeze is = absurd (omega arith)
 insert_view (Flushed sequence unsequence) is = absurd (omega arith)
 insert_view (Replaced born space place output sequence unsequence) is = absurd (omega arith)
+insert_view (Snapshot snapshot) is = absurd (omega arith)
 
 pub insert_as : IsWrittenAs (behind_kind 2 insert_row) IsInsert fields (IsOfKind 2)
 insert_as = record {
@@ -192,6 +119,7 @@ delete_view (Delete path range) is = ((path, (range.from, range.to)), (is.0.0, (
 delete_view Freeze is = absurd (omega arith)
 delete_view (Flushed sequence unsequence) is = absurd (omega arith)
 delete_view (Replaced born space place output sequence unsequence) is = absurd (omega arith)
+delete_view (Snapshot snapshot) is = absurd (omega arith)
 
 pub delete_as : IsWrittenAs (behind_kind 3 delete_row) IsDelete fields (IsOfKind 3)
 delete_as = record {
@@ -219,6 +147,7 @@ flushed_view (Delete path range) is = absurd (omega arith)
 flushed_view Freeze is = absurd (omega arith)
 flushed_view (Flushed sequence unsequence) is = ((sequence.0, unsequence.0), (is.0.0, is.0.1), refl)
 flushed_view (Replaced born space place output sequence unsequence) is = absurd (omega arith)
+flushed_view (Snapshot snapshot) is = absurd (omega arith)
 
 pub flushed_as : IsWrittenAs (behind_kind 5 flushed_row) IsFlushed fields (IsOfKind 5)
 flushed_as = record {
@@ -228,18 +157,6 @@ flushed_as = record {
 }
 
 -- ---- replaced
-
-pub space_free : IsPrefixFree space_field IsAny
-space_free Sequence Sequence x y is_a is_b e = (refl, cc)
-space_free Sequence Unsequence x y is_a is_b e = absurd cc
-space_free Unsequence Sequence x y is_a is_b e = absurd cc
-space_free Unsequence Unsequence x y is_a is_b e = (refl, cc)
-
-pub file_as : IsWrittenAs (field number64) IsNumber64 file_fields IsFile
-file_as = record { make = λ n. record { 0 = n }; view = λ file is. (file.0, is, refl); back = λ n is. (is, refl) }
-
-pub file_rows : IsRow file_fields IsFile
-file_rows = row_as (field number64) IsNumber64 file_fields IsFile file_as (row_of_field number64 IsNumber64 number64-prefix_free)
 
 abbrev pub files_row : ℕ × List FileNumber → List (List ℕ)
 files_row = both (field number32) (flat_map file_fields)
@@ -297,12 +214,31 @@ replaced_view Freeze is = absurd (omega arith)
 replaced_view (Flushed sequence unsequence) is = absurd (omega arith)
 replaced_view (Replaced born space place output sequence unsequence) is =
     (((born.0, (space, (place, output.0))), (sequence, unsequence)), ((is.0.0, (tt, (is.0.1, is.0.2))), (is.0.3, is.0.4)), refl)
+replaced_view (Snapshot snapshot) is = absurd (omega arith)
 
 pub replaced_as : IsWrittenAs (behind_kind 6 replaced_row) IsReplaced fields (IsOfKind 6)
 replaced_as = record {
   make = made_replaced;
   view = replaced_view;
   back = λ p is. (((is.0.0, is.0.1.1.0, is.0.1.1.1, is.1.0, is.1.1), refl), refl);
+}
+
+-- ---- snapshot
+
+snapshot_view : (item : LogRecord) → IsOfKind 7 item → (p : SnapshotRow) × IsSnapshotRow p × (item ≡ Snapshot (made_snapshot p))
+snapshot_view (Create path data_type encoding) is = absurd (omega arith)
+snapshot_view (Insert time cells) is = absurd (omega arith)
+snapshot_view (Delete path range) is = absurd (omega arith)
+snapshot_view Freeze is = absurd (omega arith)
+snapshot_view (Flushed sequence unsequence) is = absurd (omega arith)
+snapshot_view (Replaced born space place output sequence unsequence) is = absurd (omega arith)
+snapshot_view (Snapshot snapshot) is = (row_of_snapshot snapshot, is_row_of_snapshot snapshot is.0, refl)
+
+pub snapshot_as : IsWrittenAs (behind_kind 7 snapshot_row) IsSnapshotRow fields (IsOfKind 7)
+snapshot_as = record {
+  make = λ p. Snapshot (made_snapshot p);
+  view = snapshot_view;
+  back = λ p is. ((is_made_snapshot p is, refl), refl);
 }
 
 -- ---- all records
@@ -314,6 +250,7 @@ freeze_alone (Delete path range) e = absurd (omega arith)
 freeze_alone Freeze e = refl
 freeze_alone (Flushed sequence unsequence) e = absurd (omega arith)
 freeze_alone (Replaced born space place output sequence unsequence) e = absurd (omega arith)
+freeze_alone (Snapshot snapshot) e = absurd (omega arith)
 
 abbrev pub nothing : Unit {0} → List (List ℕ)
 nothing u = []
@@ -341,6 +278,7 @@ rows_of_kind (Delete path range) = row_of_kind 3 delete_row IsDelete delete_as d
 rows_of_kind Freeze = row_of_kind 4 nothing IsAny freeze_as nothing_rows
 rows_of_kind (Flushed sequence unsequence) = row_of_kind 5 flushed_row IsFlushed flushed_as flushed_rows
 rows_of_kind (Replaced born space place output sequence unsequence) = row_of_kind 6 replaced_row IsReplaced replaced_as replaced_rows
+rows_of_kind (Snapshot snapshot) = row_of_kind 7 snapshot_row IsSnapshotRow snapshot_as snapshot_rows
 
 -- no record's bytes begin another's, and none goes further than one that stands there
 pub record_rows : IsRow fields IsRecord

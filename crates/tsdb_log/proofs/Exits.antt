@@ -1,13 +1,12 @@
 -- The field at which reading a record stops: those before it stand there, and it does not.
 use Rattle.std.proofs.Common.{◌≡◌, ℕ, ◌<◌, ◌≤◌, ◌^◌, List, [], ◌∷◌, ◌++◌, length, Err, refl, sym, ap, subst, ◌∙◌, arith}
-use Rattle.std.specs.Prelude.{ℤ, pos, FitsSigned}
+use Rattle.std.specs.Prelude.{ℤ, FitsSigned}
 use Rattle.std.specs.Int.{w64}
 use Rattle.std.specs.List.{flat_map}
 use Rattle.std.proofs.lemmas.List.Elements.{All-nil}
 use Rattle.tsdb_base.specs.declared.ids.FileNumber.{FileNumber}
 use Rattle.tsdb_base.specs.declared.ids.Space.{Space}
 use Rattle.tsdb_base.specs.declared.ids.Stamp.{Stamp}
-use Rattle.tsdb_base.specs.declared.ids.Space.TheVariants.{Sequence}
 use Rattle.tsdb_base.specs.declared.value.DataType.{DataType}
 use Rattle.tsdb_base.specs.declared.value.DataType.TheVariants.{Boolean}
 use Rattle.tsdb_base.specs.declared.value.Encoding.{Encoding}
@@ -27,26 +26,22 @@ use Rattle.tsdb_fields.specs.declared.rest.Rest.{Rest}
 use Rattle.tsdb_fields.specs.Reading.{Takes, Reads, IsValueOf}
 use Rattle.tsdb_log.specs.declared.record.CellRecord.{CellRecord}
 use Rattle.tsdb_log.specs.declared.record.LogRecord.{LogRecord}
-use Rattle.tsdb_log.specs.declared.record.LogRecord.TheVariants.{Delete, Freeze, Replaced}
-use Rattle.tsdb_log.specs.Rows.{field, place_row, space_row, output_row, ArePlace, AreSpace, AreOutput, IsAny, IsNumber64}
-use Rattle.tsdb_log.specs.Spelling.{bytes_of, cell_fields, fields, file_fields, files_fields, space_field, spelling, AreFiles, IsCell, IsFile, IsRecord}
+use Rattle.tsdb_log.specs.declared.record.LogRecord.TheVariants.{Delete, Freeze, Insert, Replaced}
+use Rattle.tsdb_log.specs.Rows.{field, output_row, AreOutput, IsAny, IsNumber64}
+use Rattle.tsdb_log.specs.Spelling.{bytes_of, cell_fields, fields, file_fields, files_fields, spelling, AreFiles, IsCell, IsFile, IsRecord}
 use Rattle.tsdb_log.specs.Steps.{BeginsWith, IsMissing, Fails, log_fault}
-use Rattle.tsdb_log.proofs.Rows.{bytes_append}
-use Rattle.tsdb_log.proofs.Views.{kind_of, kind_first, kind_range}
-use Rattle.tsdb_log.proofs.Lists.{copies, values_of_list}
-use Rattle.tsdb_log.proofs.Faults.{field_fails, first_fails, second_fails, behind_field, fails_as, kind_fails, record_fails, takes_record, takes_both}
-use Rattle.tsdb_log.proofs.Bodies.{root, some_value, path_free, space_free, value_row, IsValueRow, cell_row, IsCellRow, cell_as, type_row, IsTypeRow, create_row, IsCreate, create_as, cells_row, IsCellsRow, insert_row, IsInsert, insert_as, times, AreTimes, delete_row, IsDelete, delete_as, flushed_row, IsFlushed, flushed_as, files_row, IsFilesRow, file_as, files_as, files_rows, output_rows, inputs, AreInputs, replaced_row, IsReplaced, replaced_as, record_rows}
+use Rattle.tsdb_log.specs.RowLaws.{bytes_append}
+use Rattle.tsdb_log.specs.ViewLaws.{kind_of, kind_first, kind_range}
+use Rattle.tsdb_log.specs.ListLaws.{copies, values_of_list}
+use Rattle.tsdb_log.proofs.Faults.{field_fails, first_fails, second_fails, behind_field, fails_as, kind_fails, record_fails, one, takes_record, takes_both}
+use Rattle.tsdb_base.specs.Values.{type_of}
+use Rattle.tsdb_fields.specs.Reading.{IsValue}
+use Rattle.tsdb_log.specs.PartLaws.{root, some_value, path_free, some_number, some_time, value_row, IsValueRow, typed_as}
+use Rattle.tsdb_log.specs.Snapshots.{typed_fields}
+use Rattle.tsdb_log.proofs.Parts.{takes_pair}
+use Rattle.tsdb_log.proofs.Bodies.{type_row, IsTypeRow, create_row, IsCreate, create_as, cells_row, IsCellsRow, insert_row, IsInsert, insert_as, times, AreTimes, delete_row, IsDelete, delete_as, flushed_row, IsFlushed, flushed_as, files_row, IsFilesRow, files_as, files_rows, output_rows, inputs, AreInputs, replaced_row, IsReplaced, replaced_as, record_rows}
 
 -- ---- some of each
-
-some_number : (n : ℕ) × IsNumber64 n
-some_number = (0, omega arith)
-
-some_time : (z : ℤ) × FitsSigned w64 z
-some_time = (pos 0, omega arith)
-
-some_value_row : (p : DataType × Value) × IsValueRow p
-some_value_row = ((Boolean, (some_value Boolean).0), (tt, (some_value Boolean).1))
 
 some_cells : (n : ℕ) → (cells : List CellRecord) × AreValues IsCell n cells
 some_cells n =
@@ -66,32 +61,30 @@ some_files n =
 no_files : (files : List FileNumber) × AreFiles files
 no_files = ([], (omega arith, All-nil IsFile))
 
-some_place : (p : ℕ × ℕ) × ArePlace p
-some_place = ((some_number.0, some_number.0), (some_number.1, some_number.1))
+-- ---- a value behind its type
 
--- ---- cells
+pub typed_type : (rest : Rest) (fault : FieldFault) → Reads type_field IsAny rest (λ (v : DataType). v) (Err fault)
+    → Fails typed_fields IsValue rest.at rest.bytes.now fault
+typed_type rest fault reads =
+    fails_as value_row IsValueRow typed_fields IsValue rest.at rest.bytes.now fault typed_as
+    (first_fails (field type_field) (field value_field) IsAny IsValueOf rest.at rest.bytes.now fault (λ t any. some_value t)
+    (field_fails type_field IsAny rest (λ (v : DataType). v) fault Boolean tt reads))
 
-pub cell_series : (rest : Rest) (fault : FieldFault) → Reads number64 IsNumber64 rest (λ (v : ℕ). v) (Err fault) → Fails cell_fields IsCell rest.at rest.bytes.now fault
-cell_series rest fault reads =
-    fails_as cell_row IsCellRow cell_fields IsCell rest.at rest.bytes.now fault cell_as
-    (first_fails (field number64) value_row IsNumber64 (λ _. IsValueRow) rest.at rest.bytes.now fault (λ n is. some_value_row)
-    (field_fails number64 IsNumber64 rest (λ (v : ℕ). v) fault some_number.0 some_number.1 reads))
+pub typed_value : (t : DataType) (rest behind : Rest) (fault : FieldFault) → Takes rest (type_field t) behind
+    → Reads value_field (IsValueOf t) behind (λ (v : Value). v) (Err fault) → Fails typed_fields IsValue rest.at rest.bytes.now fault
+typed_value t rest behind fault takes reads =
+    fails_as value_row IsValueRow typed_fields IsValue rest.at rest.bytes.now fault typed_as
+    (behind_field type_field (field value_field) IsAny IsValueOf type_field-prefix_free t rest behind fault tt takes
+    (field_fails value_field (IsValueOf t) behind (λ (v : Value). v) fault (some_value t).0 (some_value t).1 reads))
 
-pub cell_type : (series : ℕ) (rest behind : Rest) (fault : FieldFault) → IsNumber64 series → Takes rest (number64 series) behind
-    → Reads type_field IsAny behind (λ (v : DataType). v) (Err fault) → Fails cell_fields IsCell rest.at rest.bytes.now fault
-cell_type series rest behind fault is takes reads =
-    fails_as cell_row IsCellRow cell_fields IsCell rest.at rest.bytes.now fault cell_as
-    (behind_field number64 value_row IsNumber64 (λ _. IsValueRow) number64-prefix_free series rest behind fault is takes
-    (first_fails (field type_field) (field value_field) IsAny IsValueOf behind.at behind.bytes.now fault (λ t any. some_value t)
-    (field_fails type_field IsAny behind (λ (v : DataType). v) fault Boolean tt reads)))
-
-pub cell_value : (series : ℕ) (t : DataType) (rest middle behind : Rest) (fault : FieldFault) → IsNumber64 series → Takes rest (number64 series) middle → Takes middle (type_field t) behind
-    → Reads value_field (IsValueOf t) behind (λ (v : Value). v) (Err fault) → Fails cell_fields IsCell rest.at rest.bytes.now fault
-cell_value series t rest middle behind fault is takes_series takes reads =
-    fails_as cell_row IsCellRow cell_fields IsCell rest.at rest.bytes.now fault cell_as
-    (behind_field number64 value_row IsNumber64 (λ _. IsValueRow) number64-prefix_free series rest middle fault is takes_series
-    (behind_field type_field (field value_field) IsAny IsValueOf type_field-prefix_free t middle behind fault tt takes
-    (field_fails value_field (IsValueOf t) behind (λ (v : Value). v) fault (some_value t).0 (some_value t).1 reads)))
+pub takes_typed : (t : DataType) (v : Value) (rest middle behind : Rest) → Takes rest (type_field t) middle → Takes middle (value_field v) behind
+    → IsValueOf t v → Takes rest (bytes_of (typed_fields v)) behind × IsValue v
+takes_typed t v rest middle behind takes takes_value is = (
+  takes_pair (type_field (type_of v) ∷ []) (value_field v ∷ []) rest middle behind
+      (one rest middle (type_field (type_of v)) (subst (λ (d : DataType). Takes rest (type_field d) middle) (sym is.typed) takes))
+      (one middle behind (value_field v) takes_value),
+  is.fits,
+)
 
 -- ---- create
 
@@ -181,34 +174,6 @@ flushed_unsequence sequence rest behind fault first is takes reads =
 
 -- ---- reads_replaced
 
-pub output_born : (rest : Rest) (fault : FieldFault) → Reads number64 IsNumber64 rest (λ (v : ℕ). v) (Err fault) → Fails output_row AreOutput rest.at rest.bytes.now fault
-output_born rest fault reads =
-    first_fails (field number64) space_row IsNumber64 (λ _. AreSpace) rest.at rest.bytes.now fault (λ n is. ((Sequence, some_place.0), (tt, some_place.1)))
-    (field_fails number64 IsNumber64 rest (λ (v : ℕ). v) fault some_number.0 some_number.1 reads)
-
-pub output_space : (born : ℕ) (rest behind : Rest) (fault : FieldFault) → IsNumber64 born → Takes rest (number64 born) behind → Reads space_field IsAny behind (λ (v : Space). v) (Err fault)
-    → Fails output_row AreOutput rest.at rest.bytes.now fault
-output_space born rest behind fault is takes reads =
-    behind_field number64 space_row IsNumber64 (λ _. AreSpace) number64-prefix_free born rest behind fault is takes
-    (first_fails (field space_field) place_row IsAny (λ _. ArePlace) behind.at behind.bytes.now fault (λ s any. some_place)
-    (field_fails space_field IsAny behind (λ (v : Space). v) fault Sequence tt reads))
-
-pub output_place : (born : ℕ) (space : Space) (rest middle behind : Rest) (fault : FieldFault) → IsNumber64 born → Takes rest (number64 born) middle → Takes middle (space_field space) behind
-    → Reads number64 IsNumber64 behind (λ (v : ℕ). v) (Err fault) → Fails output_row AreOutput rest.at rest.bytes.now fault
-output_place born space rest middle behind fault is takes_born takes reads =
-    behind_field number64 space_row IsNumber64 (λ _. AreSpace) number64-prefix_free born rest middle fault is takes_born
-    (behind_field space_field place_row IsAny (λ _. ArePlace) space_free space middle behind fault tt takes
-    (first_fails (field number64) (field number64) IsNumber64 (λ _. IsNumber64) behind.at behind.bytes.now fault (λ n is. some_number)
-    (field_fails number64 IsNumber64 behind (λ (v : ℕ). v) fault some_number.0 some_number.1 reads)))
-
-pub output_number : (born : ℕ) (space : Space) (place : ℕ) (rest first middle behind : Rest) (fault : FieldFault) → IsNumber64 born → Takes rest (number64 born) first → Takes first (space_field space) middle
-    → IsNumber64 place → Takes middle (number64 place) behind → Reads number64 IsNumber64 behind (λ (v : ℕ). v) (Err fault) → Fails output_row AreOutput rest.at rest.bytes.now fault
-output_number born space place rest first middle behind fault is takes_born takes_space is_place takes reads =
-    behind_field number64 space_row IsNumber64 (λ _. AreSpace) number64-prefix_free born rest first fault is takes_born
-    (behind_field space_field place_row IsAny (λ _. ArePlace) space_free space first middle fault tt takes_space
-    (behind_field number64 (field number64) IsNumber64 (λ _. IsNumber64) number64-prefix_free place middle behind fault is_place takes
-    (field_fails number64 IsNumber64 behind (λ (v : ℕ). v) fault some_number.0 some_number.1 reads)))
-
 pub files_count : (rest : Rest) (fault : FieldFault) → Reads number32 (λ (n : ℕ). n < 2 ^ 32) rest (λ (v : ℕ). v) (Err fault) → Fails files_fields AreFiles rest.at rest.bytes.now fault
 files_count rest fault reads =
     fails_as files_row IsFilesRow files_fields AreFiles rest.at rest.bytes.now fault files_as
@@ -220,11 +185,6 @@ pub files_numbers : (n : ℕ) (rest behind : Rest) (fault : FieldFault) → n < 
 files_numbers n rest behind fault few takes fails =
     fails_as files_row IsFilesRow files_fields AreFiles rest.at rest.bytes.now fault files_as
     (behind_field number32 (flat_map file_fields) (λ n. n < 2 ^ 32) (AreValues IsFile) number32-prefix_free n rest behind fault few takes fails)
-
-pub file_number : (rest : Rest) (fault : FieldFault) → Reads number64 IsNumber64 rest (λ (v : ℕ). v) (Err fault) → Fails file_fields IsFile rest.at rest.bytes.now fault
-file_number rest fault reads =
-    fails_as (field number64) IsNumber64 file_fields IsFile rest.at rest.bytes.now fault file_as
-    (field_fails number64 IsNumber64 rest (λ (v : ℕ). v) fault some_number.0 some_number.1 reads)
 
 pub replaced_output : (bytes : List ℕ) (fault : FieldFault) → Fails output_row AreOutput 1 bytes fault → Fails fields IsRecord 0 (6 ∷ bytes) fault
 replaced_output bytes fault fails =
@@ -248,6 +208,16 @@ replaced_unsequence output sequence rest middle behind fault first is takes_outp
 
 -- ---- what was read
 
+pub reads_insert : (time : ℤ) (n : ℕ) (cells : List CellRecord) (rest first middle behind : Rest) → rest.at ≡ 1 → FitsSigned w64 time → Takes rest (plain_i64 time) first
+    → n < 2 ^ 16 → Takes first (number16 n) middle → AreValues IsCell n cells → Takes middle (bytes_of (flat_map cell_fields cells)) behind
+    → BeginsWith (2 ∷ rest.bytes.now) (Insert time cells) behind
+reads_insert time n cells rest first middle behind start fits takes_time few takes_count are takes_cells =
+    let count = are.0 in
+    takes_record 2 (Insert time cells) (plain_i64 time ++ (number16 (length cells) ++ bytes_of (flat_map cell_fields cells))) rest behind (fits, omega arith, are.1) refl start
+    (takes_both rest first behind (plain_i64 time) (number16 (length cells) ++ bytes_of (flat_map cell_fields cells)) takes_time
+    (takes_both first middle behind (number16 (length cells)) (bytes_of (flat_map cell_fields cells))
+    (subst (λ (k : ℕ). Takes first (number16 k) middle) (sym count) takes_count) takes_cells))
+
 pub reads_delete : (path : List ℕ) (from to : ℤ) (rest first middle behind : Rest) → rest.at ≡ 1 → IsPath path → Takes rest (plain_text path) first → FitsSigned w64 from → Takes first (plain_i64 from) middle
     → FitsSigned w64 to → Takes middle (plain_i64 to) behind → BeginsWith (3 ∷ rest.bytes.now) (Delete path (record { from = from; to = to })) behind
 reads_delete path from to rest first middle behind start is takes_path from_fits takes_from to_fits takes_to =
@@ -269,7 +239,7 @@ reads_replaced born space place output sequence unsequence rest first middle beh
 
 -- ---- no record's first byte stands there
 
-pub no_kind : (bytes : List ℕ) → ((n : ℕ) (more : List ℕ) → bytes ≡ n ∷ more → 1 ≤ n → n ≤ 6 → ⊥) → IsMissing fields IsRecord 0 bytes 0
+pub no_kind : (bytes : List ℕ) → ((n : ℕ) (more : List ℕ) → bytes ≡ n ∷ more → 1 ≤ n → n ≤ 7 → ⊥) → IsMissing fields IsRecord 0 bytes 0
 no_kind bytes none = record {
   none = λ item behind is e. let kind = kind_first item in
       none (kind_of item) _ (e ∙ ap (λ (l : List (List ℕ)). bytes_of l ++ behind) kind.1) (kind_range item).0 (kind_range item).1;

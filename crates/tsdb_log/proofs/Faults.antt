@@ -14,10 +14,10 @@ use Rattle.tsdb_fields.specs.Reading.{Takes, Lacks, Reads}
 use Rattle.tsdb_log.specs.declared.record.LogRecord.{LogRecord}
 use Rattle.tsdb_log.specs.Spelling.{bytes_of, fields, spelling, IsRecord}
 use Rattle.tsdb_log.specs.Steps.{BeginsWith, IsMissing, Fails}
-use Rattle.tsdb_log.specs.Rows.{both, field, AreBoth}
-use Rattle.tsdb_log.proofs.Rows.{IsRow, bytes_append, alone, one_field, row_of_field, no_first, no_second}
-use Rattle.tsdb_log.proofs.Lists.{AreList, no_more_rows}
-use Rattle.tsdb_log.proofs.Views.{IsWrittenAs, IsOfKind, behind_kind, missing_as, no_record, values_as}
+use Rattle.tsdb_log.specs.Rows.{both, field, AreBoth, IsRow}
+use Rattle.tsdb_log.specs.RowLaws.{bytes_append, alone, one_field, row_of_field, no_first, no_second}
+use Rattle.tsdb_log.specs.ListLaws.{AreList, no_more_rows}
+use Rattle.tsdb_log.specs.ViewLaws.{IsWrittenAs, IsOfKind, behind_kind, missing_as, no_record, values_as}
 
 no_field : {A : Type 0} (spelling : A → List ℕ) (IsA : A → Type 0) (old : Rest) (at : ℕ) (some : A) → IsA some → Lacks spelling IsA old at → IsMissing (field spelling) IsA old.at old.bytes.now at
 no_field {A} spelling IsA old at some is lacks = record {

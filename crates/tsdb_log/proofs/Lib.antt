@@ -1,8 +1,7 @@
-pub mod Rows
-pub mod Lists
-pub mod Views
 pub mod Faults
+pub mod Parts
 pub mod Bodies
 pub mod Exits
 pub mod Wholes
 pub mod Sizes
+pub mod SnapshotExits

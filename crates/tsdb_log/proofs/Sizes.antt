@@ -22,9 +22,9 @@ use Rattle.tsdb_path.specs.Nodes.{IsPath}
 use Rattle.tsdb_fields.specs.Reading.{IsValue}
 use Rattle.tsdb_log.specs.declared.record.CellRecord.{CellRecord}
 use Rattle.tsdb_log.specs.declared.record.LogRecord.{LogRecord}
-use Rattle.tsdb_log.specs.declared.record.LogRecord.TheVariants.{Create, Insert, Delete, Freeze, Flushed, Replaced}
+use Rattle.tsdb_log.specs.declared.record.LogRecord.TheVariants.{Create, Insert, Delete, Freeze, Flushed, Replaced, Snapshot}
 use Rattle.tsdb_log.specs.Spelling.{bytes_of, cell_fields, file_fields, files_fields, output_fields, space_field, spelling, AreFiles, FitsFrame, IsCell, IsFile, IsRecord}
-use Rattle.tsdb_log.proofs.Rows.{bytes_length}
+use Rattle.tsdb_log.specs.RowLaws.{bytes_length}
 use Rattle.tsdb_log.proofs.Wholes.{replaced_spelling}
 
 rows_length : {A : Type 0} (row : A → List (List ℕ)) (Is : A → Type 0) (most : ℕ) (short : (a : A) → Is a → length (bytes_of (row a)) ≤ most) (xs : List A) → AllByRecursion Is xs
@@ -118,3 +118,4 @@ short_records (Replaced born space place output sequence unsequence) is fits =
       files_length sequence fits.0 is.3,
       files_length unsequence fits.1 is.4,
     )
+short_records (Snapshot snapshot) is fits = omega (arith, fits)

@@ -1,16 +1,14 @@
 -- Fields written one behind another are the bytes of the record.
-use Rattle.std.proofs.Common.{◌≡◌, ℕ, ◌+◌, ◌<◌, List, [], ◌∷◌, ◌++◌, length, get_or, take, ap, subst, sym, ◌∙◌, append_assoc}
-use Rattle.std.specs.Prelude.{Result, OnOk}
+use Rattle.std.proofs.Common.{◌≡◌, ℕ, ◌+◌, ◌<◌, List, [], ◌∷◌, ◌++◌, length, get_or, take, ap, sym, ◌∙◌, append_assoc}
 use Rattle.std.specs.List.{flat_map}
 use Rattle.std.proofs.lemmas.Grind.{flat_map-append}
 use Rattle.std.proofs.lemmas.List.{append-nil, take_more}
 use Rattle.tsdb_base.specs.declared.ids.FileNumber.{FileNumber}
 use Rattle.tsdb_base.specs.declared.ids.Space.{Space}
 use Rattle.tsdb_base.specs.declared.ids.Stamp.{Stamp}
-use Rattle.tsdb_fields.proofs.Appending.{both_written}
 use Rattle.tsdb_log.specs.declared.record.LogRecord.TheVariants.{Replaced}
 use Rattle.tsdb_log.specs.Spelling.{bytes_of, files_fields, output_fields, spelling}
-use Rattle.tsdb_log.proofs.Rows.{bytes_append}
+use Rattle.tsdb_log.specs.RowLaws.{bytes_append}
 
 pub replaced_spelling : (born : Stamp) (space : Space) (place : ℕ) (output : FileNumber) (sequence unsequence : List FileNumber)
     → spelling (Replaced born space place output sequence unsequence) ≡ (6 ∷ []) ++ (bytes_of (output_fields born space place output) ++ (bytes_of (files_fields sequence) ++ bytes_of (files_fields unsequence)))
@@ -18,17 +16,6 @@ replaced_spelling born space place output sequence unsequence =
     let row = output_fields born space place output in
     ap (λ (l : List ℕ). 6 ∷ l) (bytes_append row (files_fields sequence ++ files_fields unsequence)
     ∙ ap (λ (l : List ℕ). bytes_of row ++ l) (bytes_append (files_fields sequence) (files_fields unsequence)))
-
-pub writes_replaced : {T E : Type 0} (result : Result T E) (born : Stamp) (space : Space) (place : ℕ) (output : FileNumber) (sequence unsequence : List FileNumber) (old first second third new : List ℕ)
-    → first ≡ old ++ (6 ∷ []) → second ≡ first ++ bytes_of (output_fields born space place output) → third ≡ second ++ bytes_of (files_fields sequence)
-    → OnOk result (new ≡ third ++ bytes_of (files_fields unsequence)) → OnOk result (new ≡ old ++ spelling (Replaced born space place output sequence unsequence))
-writes_replaced result born space place output sequence unsequence old first second third new kind out files last =
-    let row = bytes_of (output_fields born space place output) in
-    let s = bytes_of (files_fields sequence) in
-    let u = bytes_of (files_fields unsequence) in
-    subst (λ (l : List ℕ). OnOk result (new ≡ old ++ l)) (sym (replaced_spelling born space place output sequence unsequence))
-    (both_written result old (6 ∷ []) (row ++ (s ++ u)) first new kind
-    (both_written result first row (s ++ u) second new out (both_written result second s u third new files last)))
 
 -- one row more was written
 pub row_more : {A : Type 0} (row : A → List (List ℕ)) (xs : List A) (i : ℕ) (a : A) (old middle new : List ℕ) → i < length xs → a ≡ get_or xs i a → middle ≡ old ++ bytes_of (flat_map row (take i xs))

@@ -1,4 +1,11 @@
+pub mod Beginnings
+pub mod Snapshots
 pub mod Spelling
 pub mod Places
 pub mod Steps
 pub mod Rows
+pub mod RowLaws
+pub mod ListLaws
+pub mod ViewLaws
+pub mod PartLaws
+pub mod SnapshotLaws

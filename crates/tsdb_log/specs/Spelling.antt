@@ -13,7 +13,8 @@ use Rattle.tsdb_path.specs.Nodes.{IsPath}
 use Rattle.tsdb_fields.specs.Reading.{IsValue}
 use Rattle.tsdb_log.specs.declared.record.CellRecord.{CellRecord}
 use Rattle.tsdb_log.specs.declared.record.LogRecord.{LogRecord}
-use Rattle.tsdb_log.specs.declared.record.LogRecord.TheVariants.{Create, Insert, Delete, Freeze, Flushed, Replaced}
+use Rattle.tsdb_log.specs.declared.record.LogRecord.TheVariants.{Create, Insert, Delete, Freeze, Flushed, Replaced, Snapshot}
+use Rattle.tsdb_log.specs.Snapshots.{snapshot_fields, IsSnapshot, most_pairs}
 
 -- a cell: the number of the series, the byte of the value's type, and the value
 abbrev pub cell_fields : CellRecord → List (List ℕ)
@@ -50,6 +51,7 @@ fields Freeze = (4 ∷ []) ∷ []
 fields (Flushed sequence unsequence) = (5 ∷ []) ∷ number64 sequence.0 ∷ number64 unsequence.0 ∷ []
 fields (Replaced born space place output sequence unsequence) =
     (6 ∷ []) ∷ output_fields born space place output ++ (files_fields sequence ++ files_fields unsequence)
+fields (Snapshot snapshot) = (7 ∷ []) ∷ snapshot_fields snapshot
 
 -- fields one behind another
 abbrev pub bytes_of : List (List ℕ) → List ℕ
@@ -90,8 +92,9 @@ IsRecord (Flushed sequence unsequence) = IsFile sequence × IsFile unsequence
 IsRecord (Replaced born space place output sequence unsequence) =
     (born.0 < 2 ^ 64) × (place < 2 ^ 64) × IsFile output
     × AreFiles sequence × AreFiles unsequence
+IsRecord (Snapshot snapshot) = IsSnapshot snapshot
 
--- the numbers of cells and of replaced files that their bytes can hold
+-- the numbers of cells, of replaced files and of frozen pairs that their bytes can hold
 abbrev pub HasFewParts : LogRecord → Type 0
 HasFewParts (Create path data_type encoding) = Unit {0}
 HasFewParts (Insert time cells) = length cells ≤ most_cells
@@ -100,8 +103,10 @@ HasFewParts Freeze = Unit {0}
 HasFewParts (Flushed sequence unsequence) = Unit {0}
 HasFewParts (Replaced born space place output sequence unsequence) =
     (length sequence ≤ most_files) × (length unsequence ≤ most_files)
+HasFewParts (Snapshot snapshot) = length snapshot.frozen ≤ most_pairs
 
--- a row of at most 1,000 cells, a replacement of at most 100,000,000 files of each space, or another record
+-- a row of at most 1,000 cells, a replacement of at most 100,000,000 files of each space, a snapshot of at most
+-- 1,073,741,824 bytes, or another record
 abbrev pub FitsFrame : LogRecord → Type 0
 FitsFrame (Create path data_type encoding) = Unit {0}
 FitsFrame (Insert time cells) = length cells ≤ 1000
@@ -110,3 +115,4 @@ FitsFrame Freeze = Unit {0}
 FitsFrame (Flushed sequence unsequence) = Unit {0}
 FitsFrame (Replaced born space place output sequence unsequence) =
     (length sequence ≤ 100000000) × (length unsequence ≤ 100000000)
+FitsFrame (Snapshot snapshot) = length (bytes_of (snapshot_fields snapshot)) < 1073741824

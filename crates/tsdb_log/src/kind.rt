@@ -11,3 +11,5 @@ pub const FREEZE: u8 = 4;
 pub const FLUSHED: u8 = 5;
 
 pub const REPLACED: u8 = 6;
+
+pub const SNAPSHOT: u8 = 7;

@@ -1,5 +1,7 @@
-//! What a record of the log says. Depends on tsdb_base and tsdb_path.
+//! What a record of the log says. Depends on `snapshot`, tsdb_base and
+//! tsdb_path.
 
+use crate::snapshot::Snapshot;
 use tsdb_base::{DataType, Encoding, FileNumber, List, Range, SeriesId, Space, Stamp, Time, Value};
 use tsdb_path::Path;
 
@@ -52,4 +54,6 @@ pub enum LogRecord {
         /// The inputs of the unsequence space, at most 4,294,967,295.
         unsequence: List<FileNumber>,
     },
+    /// What the store was. It is the first record of its slot.
+    Snapshot(Snapshot),
 }

@@ -2,7 +2,7 @@
 use Rattle.std.specs.Prelude.{ℕ, List, ◌++◌, IfSome, ⊤}
 use Rattle.std.specs.List.{AllByRecursion as Each}
 use Rattle.tsdb_log.specs.declared.record.LogRecord.{LogRecord}
-use Rattle.tsdb_log.specs.declared.record.LogRecord.TheVariants.{Create, Delete, Flushed, Freeze, Insert, Replaced}
+use Rattle.tsdb_log.specs.declared.record.LogRecord.TheVariants.{Create, Delete, Flushed, Freeze, Insert, Replaced, Snapshot}
 use Rattle.tsdb_state.specs.Jobs.{CompactionsInOrder, EntriesMatch, IsFlushOut, KeepsRoom, NumbersInOrder, RightsMatch}
 use Rattle.tsdb_state.specs.Jobs.{drawn_numbers, held_numbers}
 use Rattle.tsdb_layers.specs.Lists.{Among}
@@ -25,6 +25,7 @@ FollowsWorld told (Flushed sequence unsequence) state =
     KeepsWorld told state (after (Flushed sequence unsequence) state)
 FollowsWorld told (Replaced born space place output sequence unsequence) state =
     KeepsWorld told state (after (Replaced born space place output sequence unsequence) state)
+FollowsWorld told (Snapshot snapshot) state = KeepsWorld told state (after (Snapshot snapshot) state)
 
 -- a record in doubt can follow, and leads to a store in order, whose new files are on their way out until it is settled
 pub record DoubtInOrder (told : Told) (named : List ℕ) (state : StoreState) (outgoing : List File) (item : LogRecord)

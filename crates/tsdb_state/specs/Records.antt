@@ -15,7 +15,7 @@ use Rattle.tsdb_layers.specs.Order.{Watermarks}
 use Rattle.tsdb_layers.specs.Places.{Content, Place, cut, put}
 use Rattle.tsdb_log.specs.declared.record.CellRecord.{CellRecord}
 use Rattle.tsdb_log.specs.declared.record.LogRecord.{LogRecord}
-use Rattle.tsdb_log.specs.declared.record.LogRecord.TheVariants.{Create, Delete, Flushed, Freeze, Insert, Replaced}
+use Rattle.tsdb_log.specs.declared.record.LogRecord.TheVariants.{Create, Delete, Flushed, Freeze, Insert, Replaced, Snapshot}
 use Rattle.tsdb_map.specs.Commands.{IsSchema}
 use Rattle.tsdb_map.specs.declared.command.Schema.{Schema}
 use Rattle.tsdb_marks.specs.declared.marks.Mark.{Mark}
@@ -254,6 +254,7 @@ CanFollow named (Replaced born space place output sequence unsequence) state = C
   sequence = number_list sequence;
   unsequence = number_list unsequence;
 }) state
+CanFollow named (Snapshot snapshot) state = ⊥
 
 -- the state after it
 abbrev pub after : LogRecord → StoreState → StoreState
@@ -271,6 +272,7 @@ after (Replaced born space place output sequence unsequence) state = replaced (r
   sequence = number_list sequence;
   unsequence = number_list unsequence;
 }) state
+after (Snapshot snapshot) state = state
 
 -- the numbers that it names
 abbrev pub names : LogRecord → List ℕ
@@ -280,3 +282,4 @@ names (Delete path range) = []
 names Freeze = []
 names (Flushed sequence unsequence) = new_numbers (sequence.0 ∷ unsequence.0 ∷ [])
 names (Replaced born space place output sequence unsequence) = new_numbers (output.0 ∷ [])
+names (Snapshot snapshot) = []

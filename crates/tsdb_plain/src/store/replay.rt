@@ -36,7 +36,10 @@ impl PlainStore {
             } => self.redo_create(path, data_type, encoding),
             LogRecord::Insert { time, cells } => self.redo_insert(alloc, time, cells.into_vec()),
             LogRecord::Delete { path, range } => self.redo_delete(path, range),
-            LogRecord::Freeze | LogRecord::Flushed { .. } | LogRecord::Replaced { .. } => Ok(false),
+            LogRecord::Freeze
+            | LogRecord::Flushed { .. }
+            | LogRecord::Replaced { .. }
+            | LogRecord::Snapshot(_) => Ok(false),
         }
     }
 

@@ -1,0 +1,18 @@
+use Rattle.std.proofs.lemmas.Result.{err_from_is_err_and}
+use Rattle.tsdb_log.specs.PartLaws.{cell_row, IsCellRow, cell_as}
+use Rattle.tsdb_log.specs.Spelling.{cell_fields, IsCell}
+use Rattle.tsdb_log.proofs.Faults.{fails_as}
+use Rattle.tsdb_log.proofs.part.CellRecordPart.read.Goals as goal
+
+pub returns-in_err-series : goal.returns-in_err-series
+returns-in_err-series c = record {
+  exact =
+      let p = err_from_is_err_and c.from_residual.result c.from_residual.ensures.1 in
+      rw (p.1, p.2) (fails_as cell_row IsCellRow cell_fields IsCell c.args.rest.at c.args.rest.bytes.now c.in_err-series.field-0.0 cell_as
+      c.in_err-series.ensures.exact);
+}
+
+pub returns : goal.returns
+returns c = record {
+  exact = (c.in_ok-series.ensures.exact.0, record { series = c.in_ok-series.ensures.exact.1.0; value = c.in_ok-series.ensures.exact.1.1 });
+}
