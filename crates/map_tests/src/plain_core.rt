@@ -191,6 +191,35 @@ fn damage_is_answered_with_its_place(rt: HostRuntime) -> Result<(), Fail> {
     Ok(())
 }
 
+/// A log of these records and a snapshot: generation 1, the next file 1, and lists without a part.
+fn with_snapshot(alloc: Global, records: &[u8]) -> Result<Vec<u8>, Fail> {
+    let numbers = [
+        7, 0, 0, 0, 0, 0, 0, 0, 1, 0, 0, 0, 0, 0, 0, 0, 0, 0, 0, 0, 0, 0, 0, 0, 1,
+    ];
+    let mut log = Vec::from_slice(alloc, records)?;
+    log.extend_from_slice(&[1, 0, 0, 0, 82])?;
+    log.extend_from_slice(&numbers)?;
+    // five counts, the number of frozen pairs, two counts more, and the closed gate
+    log.extend_from_slice(&[0; 58])?;
+    Ok(log)
+}
+
+#[test]
+fn snapshot_has_no_replay(rt: HostRuntime) -> Result<(), Fail> {
+    let alloc = rt.alloc();
+    let first = with_snapshot(alloc, &[])?;
+    assert_eq!(rt;
+        opened(alloc, &first)?.as_str(),
+        "Damaged { part: Log, at: 0 };"
+    );
+    let behind = with_snapshot(alloc, &changed(alloc, 53, 0, &[])?)?;
+    assert_eq!(rt;
+        opened(alloc, &behind)?.as_str(),
+        "Damaged { part: Log, at: 53 };"
+    );
+    Ok(())
+}
+
 /// A log of `root.g.d.s`, `root.g.d.t` and `root.g.e.s` and a row of the series with these numbers.
 fn row_log(alloc: Global, first: u8, second: u8) -> Result<Vec<u8>, Fail> {
     let row = [
