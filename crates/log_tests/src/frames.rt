@@ -235,7 +235,7 @@ fn worked_log_is_written_and_read(rt: HostRuntime) {
 }
 
 // Whether the records begin with these bytes.
-fn begin_with(frames: &[Frame], firsts: &[u8]) -> bool {
+pub(crate) fn begin_with(frames: &[Frame], firsts: &[u8]) -> bool {
     if frames.len() != firsts.len() {
         return false;
     }
@@ -248,7 +248,11 @@ fn begin_with(frames: &[Frame], firsts: &[u8]) -> bool {
 }
 
 // The place behind a stop.
-fn stopped_at(place: &MemPlace, moment: u64, kind: StopKind) -> Result<MemPlace, StoreFault> {
+pub(crate) fn stopped_at(
+    place: &MemPlace,
+    moment: u64,
+    kind: StopKind,
+) -> Result<MemPlace, StoreFault> {
     if moment >= place.moments() {
         return Err(StoreFault::Failed);
     }

@@ -6,3 +6,5 @@
 mod frames;
 #[cfg(test)]
 mod records;
+#[cfg(test)]
+mod turning;

@@ -1,5 +1,5 @@
 -- What is written of a record is its frame.
-use Rattle.std.proofs.Common.{◌≡◌, ℕ, ◌-◌, List, [], ◌∷◌, length, take, drop, sym, ap, ◌∙◌, subst, arith, length-append}
+use Rattle.std.proofs.Common.{◌≡◌, ℕ, ◌-◌, List, [], ◌∷◌, length, drop, sym, ap, ◌∙◌, subst, arith, length-append}
 use Rattle.std.proofs.lemmas.List.{take_at}
 use Rattle.tsdb_frames.specs.Log.{IsFrame, payload_of}
 use Rattle.tsdb_frames.specs.Slots.{IsPayload, with_length, frame_bytes}

@@ -1,3 +1,5 @@
+pub mod AsideLemmas
+pub mod CallLemmas
 pub mod LogLemmas
 pub mod MomentLemmas
 mod StepLemmas

@@ -1,5 +1,5 @@
 -- What the steps of an append and of a settling leave of a log.
-use Rattle.std.proofs.Common.{◌≡◌, inl, ℕ, ◌+◌, ◌<◌, ◌≤◌, Bool, true, List, [], ◌∷◌, ◌++◌, length, refl, sym, ◌∙◌, ap, subst, arith, length-append, None, Some}
+use Rattle.std.proofs.Common.{◌≡◌, ◌≢◌, inl, ℕ, ◌+◌, ◌<◌, ◌≤◌, Bool, true, List, [], ◌∷◌, ◌++◌, length, refl, sym, ◌∙◌, ap, subst, arith, length-append, None, Some}
 use Rattle.std.specs.Prelude.{IsSome, is_some, Result, Ok, Err, OnErr}
 use Rattle.std.specs.declared.option.Option.{Option}
 use Rattle.std.specs.Option.{ForSome}
@@ -7,12 +7,12 @@ use Rattle.tsdb_outside.specs.Disk.{Image, State, in_slot, overwrite, IsLawful, 
 use Rattle.tsdb_outside.specs.declared.disk.Slot.{Slot}
 use Rattle.tsdb_frames.specs.Slots.{with_length, frame_bytes, open_records, HasRecords}
 use Rattle.tsdb_frames.specs.Laws.{records_once}
-use Rattle.tsdb_frames.specs.Log.{payload_of, IsFrame, IsSlotOf, IsLogOn, IsSettled, HasRecordsOrOneMore}
-use Rattle.tsdb_outside.specs.Moments.{LeavesOnly, LeavesFirstThen}
+use Rattle.tsdb_frames.specs.Log.{first_bytes, payload_of, IsFrame, IsSlotOf, IsLogOn, IsSettled, HasRecordsOrOneMore}
+use Rattle.tsdb_outside.specs.Moments.{LeavesOnly}
 use Rattle.tsdb_frames.specs.Steps.{IsTornFrom, IsWrittenFrom}
 use Rattle.tsdb_frames.proofs.RecordLemmas.{open_records_more}
 use Rattle.tsdb_frames.proofs.SlotLemmas.{records_or_one_more, behind_torn, gate_torn, behind_written, gate_closed, gate_opened}
-use Rattle.tsdb_frames.proofs.MomentLemmas.{weaker, leaves_on, first_then}
+use Rattle.tsdb_frames.proofs.MomentLemmas.{weaker, leaves_on}
 
 -- what always holds also holds where there is an error
 pub always_on_err : {T E P : Type 0} (result : Result T E) → P → OnErr result P
@@ -147,33 +147,15 @@ long_on slot gate n (Some before) (Some after) torn long image is =
     let same : after ≡ image = cc in
     subst (λ (i : Image). gate + n < length (in_slot slot i)) same (omega (arith, long before refl, torn.here.no_shorter))
 
--- An append: the states at its beginning, behind the settling, behind the write of the frame, and behind that of the gate.
-module _ (first settled staged last : State) (slot : Slot) (gate : ℕ) (framed : List ℕ) (is_frame : IsFrame framed)
-    (acknowledged : List (List ℕ)) (in_doubt : Option (List ℕ)) where
-  abbrev Before : Slot → Image → Type 0
-  Before place image = HasRecordsOrOneMore acknowledged in_doubt (in_slot place image)
-
-  abbrev After : Slot → Image → Type 0
-  After place image = HasRecordsOrOneMore acknowledged (Some (payload_of framed)) (in_slot place image)
-
-  pub staged_moments : IsLawful staged → IsLogOn settled slot gate acknowledged None
-      → (place : Slot) → slot ≡ place → LeavesOnly first settled (Before place)
-      → LeavesOnly settled staged (IsTornFrom slot (gate + 1) (length framed) settled) → LeavesFirstThen first staged (Before place) (After place)
-  staged_moments laws log place same settling staging =
-      first_then first settled staged laws (Before place) (After place) settling
-      (subst (λ (p : Slot). LeavesOnly settled staged (After p)) same
-      (behind_moments settled staged slot gate acknowledged (length framed) (payload_of framed) log staging))
-
-  pub last_moments : IsLawful last → IsLogOn settled slot gate acknowledged None → IsLogOn staged slot gate acknowledged (Some (payload_of framed))
-      → (place : Slot) → slot ≡ place → LeavesOnly first settled (Before place)
-      → LeavesOnly settled staged (IsTornFrom slot (gate + 1) (length framed) settled)
-      → LeavesOnly staged last (IsTornFrom slot gate 1 staged) → LeavesFirstThen first last (Before place) (After place)
-  last_moments laws log staged_log place same settling staging opening =
-      first_then first settled last laws (Before place) (After place) settling
-      (subst (λ (p : Slot). LeavesOnly settled last (After p)) same
-      (leaves_on settled staged last laws (After slot)
-      (behind_moments settled staged slot gate acknowledged (length framed) (payload_of framed) log staging)
-      (gate_moments staged last slot gate acknowledged (payload_of framed) staged_log opening)))
+-- An addition: the states at its beginning, behind the write of the frame, and behind that of the gate.
+module _ (old staged last : State) (slot : Slot) (gate : ℕ) (framed : List ℕ) (is_frame : IsFrame framed) (acknowledged : List (List ℕ)) where
+  pub last_moments : IsLawful last → IsLogOn old slot gate acknowledged None → IsLogOn staged slot gate acknowledged (Some (payload_of framed))
+      → LeavesOnly old staged (IsTornFrom slot (gate + 1) (length framed) old) → LeavesOnly staged last (IsTornFrom slot gate 1 staged)
+      → LeavesOnly old last (λ image. HasRecordsOrOneMore acknowledged (Some (payload_of framed)) (in_slot slot image))
+  last_moments laws log staged_log staging opening =
+      leaves_on old staged last laws (λ image. HasRecordsOrOneMore acknowledged (Some (payload_of framed)) (in_slot slot image))
+      (behind_moments old staged slot gate acknowledged (length framed) (payload_of framed) log staging)
+      (gate_moments staged last slot gate acknowledged (payload_of framed) staged_log opening)
 
   pub gate_opens_framed : WhereTold (TornIn slot gate 1) staged.seen last.seen → IsLogOn staged slot gate acknowledged (Some (payload_of framed))
       → (IsSome staged.seen → (image : Image) → last.may_leave image → IsWrittenFrom slot gate (1 ∷ []) staged image)
@@ -181,3 +163,11 @@ module _ (first settled staged last : State) (slot : Slot) (gate : ℕ) (framed 
   gate_opens_framed told log written =
       subst (λ (n : ℕ). IsLogOn last slot (gate + n) (acknowledged ++ (payload_of framed ∷ [])) None) (sym (ap length is_frame.bytes))
       (gate_opens staged last slot gate acknowledged told (payload_of framed) log written)
+
+-- the first frame of a log with one more
+pub first_grows : (acknowledged : List (List ℕ)) (payload : List ℕ) (gate first new bytes : ℕ) → gate ≡ length (open_records acknowledged)
+    → first ≡ first_bytes acknowledged → (gate ≡ 0 → new ≡ bytes) → (gate ≢ 0 → new ≡ first) → bytes ≡ length (frame_bytes payload)
+    → new ≡ first_bytes (acknowledged ++ payload ∷ [])
+first_grows [] payload gate first new bytes place is none some size = none place ∙ size
+first_grows (p ∷ ps) payload gate first new bytes place is none some size =
+    some (λ zero. absurd (omega (arith, place, zero))) ∙ is

@@ -1,10 +1,9 @@
 -- How the moments of calls go together.
-use Rattle.std.proofs.Common.{inl, inr, ⊎_elim, ℕ, refl, ◌∙◌, ap, arith}
+use Rattle.std.proofs.Common.{inl, inr, ⊎_elim, ◌∙◌, arith}
 use Rattle.tsdb_outside.specs.Disk.{Image, State, IsLawful, Elapses}
 use Rattle.tsdb_outside.specs.declared.disk.Slot.{Slot}
-use Rattle.tsdb_outside.specs.declared.disk.Slot.TheVariants.{A, B}
 use Rattle.tsdb_outside.specs.Moments.{LeavesOnly, LeavesFirstThen, IsUntouched}
-use Rattle.tsdb_frames.specs.Steps.{IsTornFrom}
+use Rattle.tsdb_frames.specs.Turns.{LeavesInTurn}
 
 pub weaker : (old new : State) (P Q : Image → Type 0) → ((image : Image) → P image → Q image) → LeavesOnly old new P → LeavesOnly old new Q
 weaker old new P Q wider leaves = record { passes = leaves.passes; each = λ image left. wider image (leaves.each image left) }
@@ -40,22 +39,21 @@ module _ (old mid new : State) (laws : IsLawful new) where
     from_then = second.each;
   })
 
--- a write to one slot leaves the other alone
-torn_elsewhere : (slot : Slot) (at n : ℕ) (disk : State) (image : Image) → IsTornFrom slot at n disk image → IsUntouched slot disk image
-torn_elsewhere A at n disk image from = record { before = from.before; left = from.left; same = ap (λ (i : Image). i.b) from.torn.elsewhere }
-torn_elsewhere B at n disk image from = record { before = from.before; left = from.left; same = ap (λ (i : Image). i.a) from.torn.elsewhere }
-
-pub write_elsewhere : (slot : Slot) (at n : ℕ) (old new : State) → LeavesOnly old new (IsTornFrom slot at n old)
-    → LeavesOnly old new (IsUntouched slot old)
-write_elsewhere slot at n old new leaves =
-    weaker old new (IsTornFrom slot at n old) (IsUntouched slot old) (torn_elsewhere slot at n old) leaves
-
--- no call
-pub idle_elsewhere : (slot : Slot) (old : State) → IsLawful old → LeavesOnly old old (IsUntouched slot old)
-idle_elsewhere slot old laws = record {
-  passes = record { later = omega arith; nothing_else = λ t image le left. inl left; keeps = λ t image le left. left };
-  each = λ image left. record { before = image; left = laws.only_now image left; same = refl };
-}
+  -- a call that leaves what has P, and then one that leaves what has Q, and from some moment on what has R
+  pub then_turns : (P Q R : Image → Type 0) → LeavesOnly old mid P → LeavesFirstThen mid new Q R → LeavesInTurn old new P Q R
+  then_turns P Q R first (inl second) = inl (first_then P Q first second)
+  then_turns P Q R first (inr turns) = inr (record {
+    passes = passes_on first.passes turns.passes;
+    turn = mid.moment;
+    second = turns.turn;
+    begins = first.passes.later;
+    goes_on = turns.begins;
+    ends = turns.ends;
+    until = λ image left. ⊎_elim (λ earlier. inl (first.each image earlier)) (λ since. inr since)
+        (turns.passes.nothing_else old.moment image first.passes.later left);
+    from_then = turns.until;
+    at_last = turns.from_then;
+  })
 
 -- one call and then another
 pub elsewhere_on : (slot : Slot) (old mid new : State) → IsLawful mid → IsLawful new → LeavesOnly old mid (IsUntouched slot old)

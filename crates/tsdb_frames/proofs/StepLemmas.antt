@@ -4,7 +4,7 @@ use Rattle.std.proofs.lemmas.Bool.{false≢true}
 use Rattle.std.specs.Prelude.{Result, Ok, Err, None, Some, IfSome, IsSome, OnOk}
 use Rattle.std.specs.declared.option.Option.{Option}
 use Rattle.std.specs.Option.{ForSome}
-use Rattle.tsdb_outside.specs.Causes.{HasCause}
+use Rattle.tsdb_outside.specs.Causes.{HasCause, Rose}
 use Rattle.tsdb_outside.specs.Disk.{Image, State, IsLawful, Durable, Elapses, Keeps, MayWrite, Overwrites, TornIn, WhereTold, in_slot, overwrite, with_slot}
 use Rattle.tsdb_outside.specs.declared.disk.Slot.{Slot}
 use Rattle.tsdb_outside.specs.declared.disk.Slot.TheVariants.{A, B}
@@ -111,6 +111,13 @@ reaches_behind_sync slot at bytes old mid new keeps is within =
 pub cause_of_second : (first mid last : ℕ) (result : Result (Unit {0}) Failed) → first ≤ mid → HasCause mid last result → HasCause first last result
 cause_of_second first mid last (Ok value) later cause = record { later = omega (arith, later, cause.later); failed = tt }
 cause_of_second first mid last (Err error) later cause = record { later = omega (arith, later, cause.later); failed = omega (arith, later, cause.failed) }
+
+pub cause_of_fault : (first mid last : ℕ) (result : Result (Unit {0}) Failed) → first ≤ mid → mid ≤ last → Rose mid last → HasCause first last result
+cause_of_fault first mid last (Ok value) later last_later rose = record { later = omega (arith, later, last_later); failed = tt }
+cause_of_fault first mid last (Err error) later last_later rose = record {
+  later = omega (arith, later, last_later);
+  failed = omega (arith, later, rose);
+}
 
 -- a gate is still in a slot that was written
 pub gate_stays : (slot : Slot) (gate at n : ℕ) (old new : Option Image) → WhereTold (TornIn slot at n) old new

@@ -1,7 +1,10 @@
 pub mod Appends
+pub mod Asides
+pub mod Calls
 pub mod Causes
 pub mod Frames
 pub mod Laws
 pub mod Log
 pub mod Slots
 pub mod Steps
+pub mod Turns

@@ -49,6 +49,11 @@ pub record HasGateAt (disk : State) (slot : Slot) (gate : ℕ) : Type 0 where
   pub inside : ForSome disk.seen (λ image. gate < length (in_slot slot image))
   pub limit : FitsSlot gate
 
+-- the bytes of the first frame: its record behind its length, and the next gate
+abbrev pub first_bytes : List (List ℕ) → ℕ
+first_bytes [] = 0
+first_bytes (payload ∷ payloads) = length (frame_bytes payload)
+
 -- A journal is settled in a slot: whatever a stop leaves begins with what a read gives, up to its first closed gate.
 abbrev pub IsSettled : Slot → State → Type 0
 IsSettled slot disk = (payloads : List (List ℕ)) (seen image : Image) → disk.seen ≡ Some seen

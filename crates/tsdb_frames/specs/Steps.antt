@@ -1,7 +1,8 @@
 -- What private calls cite: how far a slot has been read, and what one write leaves.
-use Rattle.std.specs.Prelude.{◌≡◌, ◌⊎◌, ℕ, ◌≤◌, List, ◌++◌, length}
+use Rattle.std.specs.Prelude.{◌≡◌, ℕ, ◌≤◌, List, ◌++◌, length}
 use Rattle.std.specs.List.{All}
-use Rattle.tsdb_outside.specs.Disk.{Image, State, in_slot, overwrite, TornIn}
+use Rattle.tsdb_outside.specs.Disk.{Image, State, in_slot, overwrite, TornIn, WhereTold}
+use Rattle.tsdb_outside.specs.Moments.{LeavesOnly}
 use Rattle.tsdb_outside.specs.declared.disk.Slot.{Slot}
 use Rattle.tsdb_frames.specs.declared.record.Frame.{Frame}
 use Rattle.tsdb_frames.specs.Log.{HasGateAt}
@@ -26,6 +27,18 @@ AreFramesUpTo frames (Torn at) bytes = ArePlaced frames × IsTornBehind (payload
 abbrev pub HasEndAt : State → Slot → End → Type 0
 HasEndAt disk slot (Closed at) = HasGateAt disk slot at
 HasEndAt disk slot (Torn at) = Unit {0}
+
+-- what the disk might leave of this slot
+pub record IsAsIn (slot : Slot) (disk : State) (image : Image) : Type 0 where
+  pub before : Image
+  pub left : disk.may_leave before
+  pub same : in_slot slot image ≡ in_slot slot before
+
+-- A call leaves this slot alone: reads of it give what they gave, and at each moment a stop leaves there what it might
+-- have left before.
+pub record LeavesSlot (slot : Slot) (old new : State) : Type 0 where
+  pub seen : WhereTold (λ before after. in_slot slot after ≡ in_slot slot before) old.seen new.seen
+  pub moments : LeavesOnly old new (IsAsIn slot old)
 
 -- what the disk might leave, after a write of n bytes to one slot that is cut short
 pub record IsTornFrom (slot : Slot) (at n : ℕ) (disk : State) (image : Image) : Type 0 where

@@ -1,13 +1,17 @@
-//! The log in a slot of a journal: it is read once, and then grows record by record. Depends on `record`, `reading` and
-//! `writing`.
-ghost use Rattle.std.specs.Prelude.{◌≡◌, ◌⊎◌, ℕ, ◌≤◌, List, [], ◌∷◌, ◌++◌, false, None, Some, IsOk, IfOk, IfErr};
-ghost use Rattle.std.specs.Prelude.{IfSome, IsErrAnd, OnErr, OnOk};
+//! The log in a slot of a journal: it is read once, grows record by record, and turns over to the other slot. Depends on
+//! `record`, `reading`, `writing` and `aside`.
+ghost use Rattle.std.specs.Prelude.{◌≡◌, ◌≢◌, ◌⊎◌, ℕ, ◌+◌, ◌≤◌, List, [], ◌∷◌, ◌++◌, true, false, length, None, Some, IsOk, IfOk};
+ghost use Rattle.std.specs.Prelude.{IfErr, IfSome, IsErrAnd, IsSome, OnErr, OnOk};
 ghost use Rattle.std.specs.declared.option.Option.{Option};
+ghost use Rattle.std.specs.Option.{ForSome};
 ghost use Rattle.tsdb_outside.specs.Causes.{HasCause, Rose};
 ghost use Rattle.tsdb_outside.specs.Disk.{in_slot, Keeps};
 ghost use Rattle.tsdb_frames.specs.Causes.{AnswersTorn};
-ghost use Rattle.tsdb_frames.specs.Log.{HasGateAt};
+ghost use Rattle.tsdb_frames.specs.Log.{HasGateAt, first_bytes};
+ghost use Rattle.tsdb_frames.specs.Slots.{payloads_of};
+ghost use Rattle.tsdb_frames.specs.declared.aside.Aside.TheVariants as aside;
 
+use crate::aside::{Aside, is_closed, other_slot};
 use crate::reading::{End, read_slot};
 use crate::writing::write_and_sync;
 use crate::{Frame, ScanFault};
@@ -22,7 +26,28 @@ pub struct Frames<J: Journal> {
     // The place of the closed gate behind the records, or of the gate in doubt.
     gate: u64,
     doubt: bool,
+    // The bytes of the first frame, or 0.
+    first: u64,
+    aside: Aside,
     ghost within: { HasGateAt (J.state journal) slot gate },
+}
+
+// The bytes of the first of these frames: its record with its length and a gate. None has 0.
+fn first_of(frames: &[Frame]) -> u64
+    ensures { result ≡ first_bytes (payloads_of frames.now) }
+{
+    match frames.first() {
+        Some(frame) => frame.payload.items().len() as u64 + 5,
+        None => 0,
+    }
+}
+
+// The bytes of the first frame of a log with its gate at this place, once a frame of so many bytes is added.
+fn first_after(first: u64, gate: u64, bytes: u64) -> u64
+    ensures first { gate ≡ 0 → result ≡ bytes }
+    ensures later { gate ≢ 0 → result ≡ first }
+{
+    if gate == 0 { bytes } else { first }
 }
 
 /// A journal whose slot could not be read, and why.
@@ -35,10 +60,15 @@ pub struct ScanRefused<J> {
 }
 
 impl<J: Journal> Frames<J> {
+    ghost use Rattle.tsdb_frames.specs.Asides.{HasRecordsOrNone, IsAsideOn};
+    ghost use Rattle.tsdb_frames.specs.Calls.{KeepsLog, KeepsAside, IsAsideClosed};
     ghost use Rattle.tsdb_frames.specs.Frames.{journal_of, disk_of, faults_of, slot_of, is_in_doubt, IsLog};
+    ghost use Rattle.tsdb_frames.specs.Frames.{is_aside_in_doubt, IsAside, settled_aside};
     ghost use Rattle.tsdb_frames.specs.Log.{IsFrame, payload_of, HasRecordsOrOneMore, IsSettled};
-    ghost use Rattle.tsdb_outside.specs.Moments.{LeavesOnly, LeavesFirstThen, IsUntouched};
-    ghost use Rattle.tsdb_frames.specs.Slots.{payloads_of, HasRecords, ArePlaced, IsTorn, IsTornBehind};
+    ghost use Rattle.tsdb_outside.specs.Moments.{LeavesOnly, LeavesFirstThen, IsUntouched, other};
+    ghost use Rattle.tsdb_frames.specs.Slots.{open_records, HasRecords, ArePlaced, IsTorn, IsTornBehind};
+    ghost use Rattle.tsdb_frames.specs.Steps.{LeavesSlot};
+    ghost use Rattle.tsdb_frames.specs.Turns.{LeavesInTurn};
 
     /// Reads the records of a slot, and takes its journal for a log. The slot is read once.
     pub fn scan(
@@ -64,6 +94,13 @@ impl<J: Journal> Frames<J> {
         ensures no_doubt { IfOk result (λ r. is_in_doubt r.0 ≡ false) }
         ensures slot { IfOk result (λ r. slot_of r.0 ≡ slot) }
 
+        // The slot aside, where it is settled, has the records that a read gives, or is torn.
+        ensures aside { IfOk result (λ r. IsSettled (other slot) (J.state journal)
+            → IfSome (J.state journal).seen (λ image. IsAside r.0 None)) }
+        ensures aside_records { IfOk result (λ r. IsSettled (other slot) (J.state journal)
+            → IfSome (J.state journal).seen (λ image. (payloads : List (List ℕ))
+            → HasRecords payloads (in_slot (other slot) image) → IsAside r.0 (Some payloads))) }
+
         // It writes nothing.
         ensures keeps { IfOk result (λ r. Keeps (J.state journal) (disk_of r.0)) }
         ensures returns { IfErr result (λ refused. Keeps (J.state journal) (J.state refused.journal)) }
@@ -80,6 +117,8 @@ impl<J: Journal> Frames<J> {
                         slot,
                         gate: at,
                         doubt: false,
+                        first: first_of(&frames),
+                        aside: Aside::Settled,
                     };
                     Ok((log, frames))
                 }
@@ -98,7 +137,7 @@ impl<J: Journal> Frames<J> {
     }
 
     /// Adds the record of a frame that `frame` made, after a gate in doubt is closed. After `Failed` a gate may be in
-    /// doubt: that of the record in doubt before, or of this one.
+    /// doubt: one that was in doubt before, or that of this record.
     pub fn append(&mut self, framed: &[u8]) -> Result<(), Failed>
         requires { IsFrame framed.now }
         ensures added { OnOk result ((acknowledged : List (List ℕ)) (in_doubt : Option (List ℕ))
@@ -119,26 +158,199 @@ impl<J: Journal> Frames<J> {
             (λ image. HasRecordsOrOneMore acknowledged (Some (payload_of framed.now))
             (in_slot (slot_of self.old) image)) }
 
-        // It leaves the other slot alone.
-        ensures elsewhere { LeavesOnly (disk_of self.old) (disk_of self.new)
-            (IsUntouched (slot_of self.old) (disk_of self.old)) }
+        // It leaves the slot aside alone, but for a gate in doubt there, which it closes.
+        ensures elsewhere { is_aside_in_doubt self.old ≡ false
+            → LeavesOnly (disk_of self.old) (disk_of self.new) (IsUntouched (slot_of self.old) (disk_of self.old)) }
+        ensures aside { OnOk result ((records : Option (List (List ℕ))) → IsAside self.old records
+            → IsAside self.new (settled_aside self.old records)) }
+        ensures aside_failed { OnErr result ((records : Option (List (List ℕ))) → IsAside self.old records
+            → IsAside self.new records ⊎ IsAside self.new (settled_aside self.old records)) }
+        ensures aside_moments { (records : Option (List (List ℕ))) → IsAside self.old records
+            → LeavesOnly (disk_of self.old) (disk_of self.new)
+            (λ image. HasRecordsOrNone records (in_slot (other (slot_of self.old)) image)) }
         ensures slot { slot_of self.new ≡ slot_of self.old }
         ensures cause { HasCause (faults_of self.old) (faults_of self.new) result }
     {
         self.settle()?;
+        self.add(framed)
+    }
+
+    // Adds a record where no gate is in doubt.
+    fn add(&mut self, framed: &[u8]) -> Result<(), Failed>
+        requires { IsFrame framed.now }
+        ensures added { OnOk result ((acknowledged : List (List ℕ)) → IsLog self.old acknowledged None
+            → IsLog self.new (acknowledged ++ (payload_of framed.now ∷ [])) None) }
+        ensures no_doubt { OnOk result (is_in_doubt self.old ≡ false → is_in_doubt self.new ≡ false) }
+        ensures failed { OnErr result ((acknowledged : List (List ℕ)) → IsLog self.old acknowledged None
+            → IsLog self.new acknowledged None ⊎ IsLog self.new acknowledged (Some (payload_of framed.now))) }
+        ensures moments { (acknowledged : List (List ℕ)) → IsLog self.old acknowledged None
+            → LeavesOnly (disk_of self.old) (disk_of self.new)
+            (λ image. HasRecordsOrOneMore acknowledged (Some (payload_of framed.now))
+            (in_slot (slot_of self.old) image)) }
+        ensures aside { KeepsAside self.old self.new }
+        ensures cause { HasCause (faults_of self.old) (faults_of self.new) result }
+    {
         write_and_sync(&mut self.journal, self.slot, self.gate + 1, framed)?;
         self.doubt = true;
         write_and_sync(&mut self.journal, self.slot, self.gate, &[1])?;
         self.doubt = false;
+        self.first = first_after(self.first, self.gate, framed.len() as u64);
         self.gate += framed.len() as u64;
         Ok(())
     }
 
-    /// Whether a gate is in doubt: a stop may leave it open or closed.
+    /// Makes the other slot the log, with the record of a frame that `frame` made alone, after a gate in doubt is closed:
+    /// byte 0 of the other slot is made closed; the frame is written behind it, and synced; 01 is written at byte 0, and
+    /// synced. After `Failed` the log is in its slot as before. A fault while byte 0 is being opened leaves it in doubt.
+    /// It takes no memory.
+    pub fn turn_over(&mut self, framed: &[u8]) -> Result<(), Failed>
+        requires { IsFrame framed.now }
+        ensures turned { OnOk result ((acknowledged : List (List ℕ)) (in_doubt : Option (List ℕ))
+            (records : Option (List (List ℕ))) → IsLog self.old acknowledged in_doubt → IsAside self.old records
+            → IsLog self.new (payload_of framed.now ∷ []) None) }
+        ensures slot { OnOk result (slot_of self.new ≡ other (slot_of self.old)) }
+        ensures no_doubt { OnOk result (is_in_doubt self.new ≡ false) }
+
+        // The slot that it was in goes on to have its records.
+        ensures aside { OnOk result ((acknowledged : List (List ℕ)) (in_doubt : Option (List ℕ))
+            → IsLog self.old acknowledged in_doubt → IsAside self.new (Some acknowledged)) }
+
+        // After a fault the log is as before, or is so and settled. The other slot has the records from before, or none;
+        // or none or the new one.
+        ensures failed { OnErr result ((acknowledged : List (List ℕ)) (in_doubt : Option (List ℕ))
+            → IsLog self.old acknowledged in_doubt
+            → IsLog self.new acknowledged None ⊎ IsLog self.new acknowledged in_doubt) }
+        ensures same_slot { OnErr result (slot_of self.new ≡ slot_of self.old) }
+        ensures aside_failed { OnErr result ((records : Option (List (List ℕ))) → IsAside self.old records
+            → IsAside self.new records ⊎ (IsAside self.new (Some [])
+            ⊎ IsAside self.new (Some (payload_of framed.now ∷ [])))) }
+
+        // A stop at any moment leaves in the slot that the log was in the acknowledged records, or these and the one in
+        // doubt until its gate is closed.
+        ensures moments { (acknowledged : List (List ℕ)) (in_doubt : Option (List ℕ))
+            → IsLog self.old acknowledged in_doubt
+            → LeavesFirstThen (disk_of self.old) (disk_of self.new)
+            (λ image. HasRecordsOrOneMore acknowledged in_doubt (in_slot (slot_of self.old) image))
+            (λ image. HasRecords acknowledged (in_slot (slot_of self.old) image)) }
+
+        // It leaves in the other slot the records from before or none, until byte 0 is closed; then none; and from when
+        // byte 0 is opened on none or the new one.
+        ensures aside_moments { (records : Option (List (List ℕ))) → IsAside self.old records
+            → LeavesInTurn (disk_of self.old) (disk_of self.new)
+            (λ image. HasRecordsOrNone records (in_slot (other (slot_of self.old)) image))
+            (λ image. HasRecords [] (in_slot (other (slot_of self.old)) image))
+            (λ image. HasRecordsOrOneMore [] (Some (payload_of framed.now))
+            (in_slot (other (slot_of self.old)) image)) }
+        ensures cause { HasCause (faults_of self.old) (faults_of self.new) result }
+    {
+        self.settle()?;
+        self.close_aside()?;
+        self.begin_aside(framed)
+    }
+
+    // Makes byte 0 of the slot aside closed. After `Failed` it may be as before or closed.
+    fn close_aside(&mut self) -> Result<(), Failed>
+        ensures log { KeepsLog self.old self.new }
+        ensures closed { OnOk result ((records : Option (List (List ℕ))) → IsAside self.old records
+            → IsAsideClosed self.new) }
+        ensures there { OnOk result (ForSome (disk_of self.new).seen
+            (λ image. 1 ≤ length (in_slot (other (slot_of self.new)) image))) }
+        ensures failed { OnErr result ((records : Option (List (List ℕ))) → IsAside self.old records
+            → IsAside self.new records) }
+        ensures moments { (records : Option (List (List ℕ))) → IsAside self.old records
+            → LeavesOnly (disk_of self.old) (disk_of self.new)
+            (λ image. HasRecordsOrNone records (in_slot (other (slot_of self.old)) image)) }
+        ensures cause { HasCause (faults_of self.old) (faults_of self.new) result }
+    {
+        if is_closed(&mut self.journal, other_slot(self.slot), self.aside)? {
+            self.aside = Aside::Closed;
+            return Ok(());
+        }
+        self.aside = Aside::Unsettled;
+        self.write_closed()
+    }
+
+    // Writes 00 at byte 0 of the slot aside, and syncs it.
+    fn write_closed(&mut self) -> Result<(), Failed>
+        ensures log { KeepsLog self.old self.new }
+        ensures closed { OnOk result (IsSome (disk_of self.old).seen → IsAsideClosed self.new) }
+        ensures state { OnOk result (self.new.aside ≡ aside.Closed) }
+        ensures there { OnOk result (ForSome (disk_of self.new).seen
+            (λ image. 1 ≤ length (in_slot (other (slot_of self.new)) image))) }
+        ensures same { OnErr result (self.new.aside ≡ self.old.aside) }
+        ensures failed { OnErr result ((records : Option (List (List ℕ)))
+            → IsAsideOn (disk_of self.old) (other (slot_of self.old)) aside.Unsettled records
+            → IsAsideOn (disk_of self.new) (other (slot_of self.new)) aside.Unsettled records) }
+        ensures moments { (records : Option (List (List ℕ)))
+            → IsAsideOn (disk_of self.old) (other (slot_of self.old)) aside.Unsettled records
+            → LeavesOnly (disk_of self.old) (disk_of self.new)
+            (λ image. HasRecordsOrNone records (in_slot (other (slot_of self.old)) image)) }
+        ensures cause { HasCause (faults_of self.old) (faults_of self.new) result }
+    {
+        write_and_sync(&mut self.journal, other_slot(self.slot), 0, &[0])?;
+        self.aside = Aside::Closed;
+        Ok(())
+    }
+
+    // Begins the log anew in the slot aside, whose byte 0 is closed.
+    fn begin_aside(&mut self, framed: &[u8]) -> Result<(), Failed>
+        requires frame { IsFrame framed.now }
+        requires there { ForSome (disk_of self.old).seen
+            (λ image. 1 ≤ length (in_slot (other (slot_of self.old)) image)) }
+        ensures turned { OnOk result (IsAsideClosed self.old → self.old.doubt ≡ false
+            → IsLog self.new (payload_of framed.now ∷ []) None) }
+        ensures slot { OnOk result (slot_of self.new ≡ other (slot_of self.old)) }
+        ensures no_doubt { OnOk result (self.old.doubt ≡ false → is_in_doubt self.new ≡ false) }
+        ensures settled { OnOk result (self.new.aside ≡ aside.Settled) }
+        ensures leaves { LeavesSlot (slot_of self.old) (disk_of self.old) (disk_of self.new) }
+        ensures log { OnErr result (KeepsLog self.old self.new) }
+        ensures failed { OnErr result (IsAsideClosed self.old
+            → IsAside self.new (Some []) ⊎ IsAside self.new (Some (payload_of framed.now ∷ []))) }
+        ensures moments { IsAsideClosed self.old → LeavesFirstThen (disk_of self.old) (disk_of self.new)
+            (λ image. HasRecords [] (in_slot (other (slot_of self.old)) image))
+            (λ image. HasRecordsOrOneMore [] (Some (payload_of framed.now))
+            (in_slot (other (slot_of self.old)) image)) }
+        ensures cause { HasCause (faults_of self.old) (faults_of self.new) result }
+    {
+        let slot = other_slot(self.slot);
+        write_and_sync(&mut self.journal, slot, 1, framed)?;
+        self.aside = Aside::Doubted;
+        write_and_sync(&mut self.journal, slot, 0, &[1])?;
+        self.slot = slot;
+        self.gate = framed.len() as u64;
+        self.first = self.gate;
+        self.aside = Aside::Settled;
+        Ok(())
+    }
+
+    /// The slot that the log is in.
+    pub fn slot(&self) -> Slot
+        ensures { result ≡ slot_of self.now }
+    {
+        self.slot
+    }
+
+    /// The bytes of its records, with the closed gate behind them.
+    pub fn length(&self) -> u64
+        ensures { (acknowledged : List (List ℕ)) (in_doubt : Option (List ℕ)) → IsLog self.now acknowledged in_doubt
+            → result ≡ length (open_records acknowledged) + 1 }
+    {
+        self.gate + 1
+    }
+
+    /// The bytes of its first frame, or 0 where it has no record.
+    pub fn first_length(&self) -> u64
+        ensures { (acknowledged : List (List ℕ)) (in_doubt : Option (List ℕ)) → IsLog self.now acknowledged in_doubt
+            → result ≡ first_bytes acknowledged }
+    {
+        self.first
+    }
+
+    /// Whether a gate is in doubt, in either slot: a stop may leave it open or closed.
     pub fn doubt(&self) -> bool
         ensures { result ≡ is_in_doubt self.now }
     {
-        self.doubt
+        self.doubt || matches!(self.aside, Aside::Doubted)
     }
 
     /// Closes a gate in doubt. After `Failed` it is still in doubt.
@@ -159,10 +371,58 @@ impl<J: Journal> Frames<J> {
             → LeavesOnly (disk_of self.old) (disk_of self.new)
             (λ image. HasRecordsOrOneMore acknowledged in_doubt (in_slot (slot_of self.old) image)) }
 
-        // It leaves the other slot alone.
-        ensures elsewhere { LeavesOnly (disk_of self.old) (disk_of self.new)
-            (IsUntouched (slot_of self.old) (disk_of self.old)) }
+        // It leaves the slot aside alone, but for a gate in doubt there, which it closes.
+        ensures elsewhere { is_aside_in_doubt self.old ≡ false
+            → LeavesOnly (disk_of self.old) (disk_of self.new) (IsUntouched (slot_of self.old) (disk_of self.old)) }
+        ensures aside { OnOk result ((records : Option (List (List ℕ))) → IsAside self.old records
+            → IsAside self.new (settled_aside self.old records)) }
+        ensures aside_failed { OnErr result ((records : Option (List (List ℕ))) → IsAside self.old records
+            → IsAside self.new records ⊎ IsAside self.new (settled_aside self.old records)) }
+        ensures aside_moments { (records : Option (List (List ℕ))) → IsAside self.old records
+            → LeavesOnly (disk_of self.old) (disk_of self.new)
+            (λ image. HasRecordsOrNone records (in_slot (other (slot_of self.old)) image)) }
         ensures slot { slot_of self.new ≡ slot_of self.old }
+        ensures cause { HasCause (faults_of self.old) (faults_of self.new) result }
+    {
+        self.settle_aside()?;
+        self.settle_gate()
+    }
+
+    // Closes byte 0 of the slot aside, where it is in doubt. After `Failed` it still is.
+    fn settle_aside(&mut self) -> Result<(), Failed>
+        ensures log { KeepsLog self.old self.new }
+        ensures no_doubt { OnOk result (is_aside_in_doubt self.new ≡ false) }
+        ensures same_doubt { OnErr result (is_aside_in_doubt self.new ≡ is_aside_in_doubt self.old) }
+        ensures idle { is_aside_in_doubt self.old ≡ false → IsOk result × (self.new ≡ self.old) }
+        ensures aside { OnOk result ((records : Option (List (List ℕ))) → IsAside self.old records
+            → IsAside self.new (settled_aside self.old records)) }
+        ensures failed { OnErr result ((records : Option (List (List ℕ))) → IsAside self.old records
+            → IsAside self.new records) }
+        ensures moments { (records : Option (List (List ℕ))) → IsAside self.old records
+            → LeavesOnly (disk_of self.old) (disk_of self.new)
+            (λ image. HasRecordsOrNone records (in_slot (other (slot_of self.old)) image)) }
+        ensures cause { HasCause (faults_of self.old) (faults_of self.new) result }
+    {
+        match self.aside {
+            Aside::Doubted => self.write_closed(),
+            _ => Ok(()),
+        }
+    }
+
+    // Closes the gate behind the records, where it is in doubt. After `Failed` it still is.
+    fn settle_gate(&mut self) -> Result<(), Failed>
+        ensures settled { OnOk result ((acknowledged : List (List ℕ)) (in_doubt : Option (List ℕ))
+            → IsLog self.old acknowledged in_doubt → IsLog self.new acknowledged None) }
+        ensures no_doubt { OnOk result (is_aside_in_doubt self.old ≡ false → is_in_doubt self.new ≡ false) }
+        ensures failed { OnErr result ((acknowledged : List (List ℕ)) (in_doubt : Option (List ℕ))
+            → IsLog self.old acknowledged in_doubt → IsLog self.new acknowledged in_doubt) }
+        ensures still { OnErr result ((self.old.doubt ≡ true) × (self.new.doubt ≡ true)) }
+        ensures idle { self.old.doubt ≡ false → IsOk result × (self.new ≡ self.old) }
+        ensures moments { (acknowledged : List (List ℕ)) (in_doubt : Option (List ℕ))
+            → IsLog self.old acknowledged in_doubt
+            → LeavesOnly (disk_of self.old) (disk_of self.new)
+            (λ image. HasRecordsOrOneMore acknowledged in_doubt (in_slot (slot_of self.old) image)) }
+        ensures aside { KeepsAside self.old self.new }
         ensures cause { HasCause (faults_of self.old) (faults_of self.new) result }
     {
         if self.doubt {

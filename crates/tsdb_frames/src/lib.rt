@@ -13,8 +13,13 @@
 //! gate at g is closed in whatever a stop leaves. A fault in the last two leaves this gate in doubt: a stop may leave
 //! it open or closed. Before anything else is written, 00 is written at g and synced, since nothing may be torn behind
 //! a gate that a stop may leave open.
+//!
+//! A log turns over to the other slot with one record: byte 0 there is made closed and synced, where it may be open; the
+//! frame is written at 1; the slot is synced; 01 is written at 0; the slot is synced. Until the last step the log is in
+//! its slot as before, and a fault in the last two steps leaves byte 0 of the other slot in doubt.
 #![tactic(auto)]
 
+mod aside;
 mod fault;
 mod frames;
 mod framing;

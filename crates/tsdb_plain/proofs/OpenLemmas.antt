@@ -125,6 +125,11 @@ torn_stops frames at place bytes (inr empty) placed stops =
     no_frames [] y ys e = cc
     no_frames (x ∷ xs) y ys e = cc
 
+-- what follows where the disk tells
+pub if_told : (seen : Option Image) (P Q : Type 0) → (P → Q) → IfSome seen (λ image. P) → IfSome seen (λ image. Q)
+if_told None P Q step holds = tt
+if_told (Some image) P Q step holds = step holds
+
 -- a whole log whose records are replayed
 pub replayed_log : (frames : List Frame) (store : Store) (seen : Option Image) → IfSome seen (λ image. HasRecords (payloads_of frames) image.a) → AreReplayedTo frames store
     → IfSome seen (λ image. IsReplayOf image.a store)

@@ -1,61 +1,103 @@
-use Rattle.std.proofs.Common.{refl}
-use Rattle.tsdb_frames.proofs.LogLemmas.{always_on_err, settle_fails, settle_closes, settle_moments}
-use Rattle.tsdb_frames.proofs.MomentLemmas.{write_elsewhere, idle_elsewhere}
-use Rattle.tsdb_frames.proofs.StepLemmas.{gate_stays}
+use Rattle.std.proofs.Common.{inl, inr, sym, ◌∙◌}
+use Rattle.tsdb_outside.specs.Disk.{in_slot}
+use Rattle.tsdb_frames.specs.Frames.{disk_of, slot_of, settled_aside}
+use Rattle.tsdb_frames.specs.Log.{HasRecordsOrOneMore}
+use Rattle.tsdb_frames.proofs.AsideLemmas.{leaves_untouched}
+use Rattle.tsdb_frames.proofs.CallLemmas.{either_same, err_is_not_ok, first_false, first_true, keeps_aside, keeps_aside_moments, keeps_log, keeps_moments, moved_moments, on_err, on_ok, second_false, settled_then, unchanged_leaves}
+use Rattle.tsdb_frames.proofs.LogLemmas.{always_on_err}
+use Rattle.tsdb_frames.proofs.MomentLemmas.{leaves_on}
+use Rattle.tsdb_frames.proofs.StepLemmas.{always_on_ok, cause_of_second}
 use Rattle.tsdb_frames.proofs.frames.Frames.settle.Goals as goal
 
-pub returns-in_err-write_and_sync-clause-failed : goal.returns-in_err-write_and_sync-clause-failed
-returns-in_err-write_and_sync-clause-failed g c = always_on_err c.from_residual.result (λ acknowledged in_doubt log. record {
-  stands = settle_fails (g.J.Disk.state c.args.self.now.journal) (g.J.Disk.state c.write_and_sync.new.journal) c.args.self.now.slot c.args.self.now.gate
-      acknowledged in_doubt c.args.self.now.doubt c.if-self.true log.doubt c.write_and_sync.ensures.torn log.stands c.write_and_sync.ensures.left;
-  doubt = log.doubt;
-})
+pub returns-in_err-settle_aside-clause-failed : goal.returns-in_err-settle_aside-clause-failed
+returns-in_err-settle_aside-clause-failed g c = always_on_err c.from_residual.result
+    (keeps_log c.args.self.now c.settle_aside.new.self (g.J.Disk.lawful c.settle_aside.new.self.journal) c.settle_aside.ensures.log)
 
-pub returns-in_err-write_and_sync-clause-moments : goal.returns-in_err-write_and_sync-clause-moments
-returns-in_err-write_and_sync-clause-moments g c acknowledged in_doubt log =
-    settle_moments (g.J.Disk.state c.args.self.now.journal) (g.J.Disk.state c.write_and_sync.new.journal) c.args.self.now.slot c.args.self.now.gate
-    acknowledged in_doubt c.args.self.now.doubt c.if-self.true log.doubt log.stands c.write_and_sync.ensures.moments
+pub returns-in_err-settle_aside-clause-same_doubt : goal.returns-in_err-settle_aside-clause-same_doubt
+returns-in_err-settle_aside-clause-same_doubt g c = always_on_err c.from_residual.result
+    (either_same _ _ _ _ c.settle_aside.ensures.log.doubt c.in_err-settle_aside.ensures.same_doubt)
 
-pub returns-in_ok-write_and_sync-clause-settled : goal.returns-in_ok-write_and_sync-clause-settled
-returns-in_ok-write_and_sync-clause-settled g c acknowledged in_doubt log = record {
-  stands = settle_closes (g.J.Disk.state c.args.self.now.journal) (g.J.Disk.state c.write_and_sync.new.journal) c.args.self.now.slot c.args.self.now.gate
-      acknowledged in_doubt c.args.self.now.doubt c.if-self.true log.doubt c.write_and_sync.ensures.torn log.stands c.in_ok-write_and_sync.ensures.written;
-  doubt = refl;
-}
+pub returns-in_err-settle_aside-clause-moments : goal.returns-in_err-settle_aside-clause-moments
+returns-in_err-settle_aside-clause-moments g c =
+    keeps_moments c.args.self.now c.settle_aside.new.self (g.J.Disk.lawful c.settle_aside.new.self.journal) c.settle_aside.ensures.log
 
-pub returns-in_ok-write_and_sync-clause-moments : goal.returns-in_ok-write_and_sync-clause-moments
-returns-in_ok-write_and_sync-clause-moments g c acknowledged in_doubt log =
-    settle_moments (g.J.Disk.state c.args.self.now.journal) (g.J.Disk.state c.write_and_sync.new.journal) c.args.self.now.slot c.args.self.now.gate
-    acknowledged in_doubt c.args.self.now.doubt c.if-self.true log.doubt log.stands c.write_and_sync.ensures.moments
+pub returns-in_err-settle_aside-clause-idle : goal.returns-in_err-settle_aside-clause-idle
+returns-in_err-settle_aside-clause-idle g c none =
+    absurd (err_is_not_ok c.settle_aside.result c.in_err-settle_aside.field-0.0 c.in_err-settle_aside.was
+    (c.settle_aside.ensures.idle (second_false _ _ none)).0)
 
-pub returns-in_err-write_and_sync-clause-elsewhere : goal.returns-in_err-write_and_sync-clause-elsewhere
-returns-in_err-write_and_sync-clause-elsewhere g c =
-    write_elsewhere c.args.self.now.slot c.args.self.now.gate 1 (g.J.Disk.state c.args.self.now.journal)
-    (g.J.Disk.state c.write_and_sync.new.journal) c.write_and_sync.ensures.moments
+pub returns-in_err-settle_aside-clause-elsewhere : goal.returns-in_err-settle_aside-clause-elsewhere
+returns-in_err-settle_aside-clause-elsewhere g c none =
+    absurd (err_is_not_ok c.settle_aside.result c.in_err-settle_aside.field-0.0 c.in_err-settle_aside.was
+    (c.settle_aside.ensures.idle none).0)
 
-pub returns-in_ok-write_and_sync-clause-elsewhere : goal.returns-in_ok-write_and_sync-clause-elsewhere
-returns-in_ok-write_and_sync-clause-elsewhere g c =
-    write_elsewhere c.args.self.now.slot c.args.self.now.gate 1 (g.J.Disk.state c.args.self.now.journal)
-    (g.J.Disk.state c.write_and_sync.new.journal) c.write_and_sync.ensures.moments
+pub returns-in_err-settle_aside-clause-aside_failed : goal.returns-in_err-settle_aside-clause-aside_failed
+returns-in_err-settle_aside-clause-aside_failed g c = always_on_err c.from_residual.result (λ records aside.
+    inl (c.in_err-settle_aside.ensures.failed records aside))
 
-pub returns-else-self-clause-elsewhere : goal.returns-else-self-clause-elsewhere
-returns-else-self-clause-elsewhere g c =
-    idle_elsewhere c.args.self.now.slot (g.J.Disk.state c.args.self.now.journal) (g.J.Disk.lawful c.args.self.now.journal)
+pub returns-clause-settled : goal.returns-clause-settled
+returns-clause-settled g c = on_ok c.settle_gate.result (λ settled acknowledged in_doubt log.
+    settled acknowledged in_doubt (keeps_log c.args.self.now c.settle_aside.new.self (g.J.Disk.lawful c.settle_aside.new.self.journal)
+    c.settle_aside.ensures.log acknowledged in_doubt log)) c.settle_gate.ensures.settled
 
-pub invariant_of-self : goal.invariant_of-self
-invariant_of-self g c = record {
-  within = record {
-    inside = gate_stays c.args.self.now.slot c.args.self.now.gate c.args.self.now.gate 1 (g.J.Disk.state c.args.self.now.journal).seen
-        (g.J.Disk.state c.write_and_sync.new.journal).seen c.write_and_sync.ensures.torn c.args.self.now.within.inside;
-    limit = c.args.self.now.within.limit;
-  };
-}
+pub returns-clause-no_doubt : goal.returns-clause-no_doubt
+returns-clause-no_doubt g c = on_ok c.settle_gate.result (λ none. none c.in_ok-settle_aside.ensures.no_doubt) c.settle_gate.ensures.no_doubt
 
-pub invariant_of-self-then-self : goal.invariant_of-self-then-self
-invariant_of-self-then-self g c = record {
-  within = record {
-    inside = gate_stays c.args.self.now.slot c.args.self.now.gate c.args.self.now.gate 1 (g.J.Disk.state c.args.self.now.journal).seen
-        (g.J.Disk.state c.write_and_sync.new.journal).seen c.write_and_sync.ensures.torn c.args.self.now.within.inside;
-    limit = c.args.self.now.within.limit;
-  };
-}
+pub returns-clause-failed : goal.returns-clause-failed
+returns-clause-failed g c = on_err c.settle_gate.result (λ failed acknowledged in_doubt log.
+    failed acknowledged in_doubt (keeps_log c.args.self.now c.settle_aside.new.self (g.J.Disk.lawful c.settle_aside.new.self.journal)
+    c.settle_aside.ensures.log acknowledged in_doubt log)) c.settle_gate.ensures.failed
+
+pub returns-clause-same_doubt : goal.returns-clause-same_doubt
+returns-clause-same_doubt g c = on_err c.settle_gate.result (λ still.
+    first_true _ _ still.1 ∙ sym (first_true _ _ (sym c.settle_aside.ensures.log.doubt ∙ still.0))) c.settle_gate.ensures.still
+
+pub returns-clause-idle : goal.returns-clause-idle
+returns-clause-idle g c none =
+    let there = c.settle_aside.ensures.idle (second_false _ _ none) in
+    let done = c.settle_gate.ensures.idle (c.settle_aside.ensures.log.doubt ∙ first_false _ _ none) in
+    (done.0, done.1 ∙ there.1)
+
+pub returns-clause-moments : goal.returns-clause-moments
+returns-clause-moments g c acknowledged in_doubt log =
+    let old = c.args.self.now in
+    let mid = c.settle_aside.new.self in
+    let new = c.settle_gate.new.self in
+    let mid_laws = g.J.Disk.lawful mid.journal in
+    leaves_on (disk_of old) (disk_of mid) (disk_of new) (g.J.Disk.lawful new.journal)
+    (λ image. HasRecordsOrOneMore acknowledged in_doubt (in_slot (slot_of old) image))
+    (keeps_moments old mid mid_laws c.settle_aside.ensures.log acknowledged in_doubt log)
+    (moved_moments (disk_of mid) (disk_of new) (slot_of mid) (slot_of old) c.settle_aside.ensures.log.slot
+    (HasRecordsOrOneMore acknowledged in_doubt)
+    (c.settle_gate.ensures.moments acknowledged in_doubt (keeps_log old mid mid_laws c.settle_aside.ensures.log acknowledged in_doubt log)))
+
+pub returns-clause-elsewhere : goal.returns-clause-elsewhere
+returns-clause-elsewhere g c none =
+    let there = c.settle_aside.ensures.idle none in
+    leaves_untouched (slot_of c.args.self.now) (disk_of c.args.self.now) (disk_of c.settle_gate.new.self)
+    (unchanged_leaves c.args.self.now c.settle_aside.new.self (disk_of c.settle_gate.new.self) there.1 c.settle_gate.ensures.aside.leaves)
+
+pub returns-clause-aside : goal.returns-clause-aside
+returns-clause-aside g c = always_on_ok c.settle_gate.result (λ records aside.
+    keeps_aside c.settle_aside.new.self c.settle_gate.new.self (g.J.Disk.lawful c.settle_gate.new.self.journal) c.settle_gate.ensures.aside
+    (settled_aside c.args.self.now records) (c.in_ok-settle_aside.ensures.aside records aside))
+
+pub returns-clause-aside_failed : goal.returns-clause-aside_failed
+returns-clause-aside_failed g c = always_on_err c.settle_gate.result (λ records aside.
+    inr (keeps_aside c.settle_aside.new.self c.settle_gate.new.self (g.J.Disk.lawful c.settle_gate.new.self.journal) c.settle_gate.ensures.aside
+    (settled_aside c.args.self.now records) (c.in_ok-settle_aside.ensures.aside records aside)))
+
+pub returns-clause-aside_moments : goal.returns-clause-aside_moments
+returns-clause-aside_moments g c records aside =
+    let mid = c.settle_aside.new.self in
+    let new = c.settle_gate.new.self in
+    settled_then c.args.self.now mid new (g.J.Disk.lawful new.journal) c.settle_aside.ensures.log.slot records
+    (c.settle_aside.ensures.moments records aside)
+    (keeps_aside_moments mid new (g.J.Disk.lawful new.journal) c.settle_gate.ensures.aside (settled_aside c.args.self.now records)
+    (c.in_ok-settle_aside.ensures.aside records aside))
+
+pub returns-clause-slot : goal.returns-clause-slot
+returns-clause-slot g c = c.settle_gate.ensures.aside.slot ∙ c.settle_aside.ensures.log.slot
+
+pub returns-clause-cause : goal.returns-clause-cause
+returns-clause-cause g c = cause_of_second _ _ _ c.settle_gate.result c.settle_aside.ensures.cause.later c.settle_gate.ensures.cause

@@ -1,12 +1,27 @@
-use Rattle.std.proofs.Common.{ap, subst, Err}
+use Rattle.std.proofs.Common.{ap, subst, Err, None}
+use Rattle.tsdb_frames.specs.Frames.{IsLog}
 use Rattle.tsdb_plain.specs.Replaying.{AreReplayedTo, IsFirstDamage, StopsAt}
-use Rattle.tsdb_plain.proofs.OpenLemmas.{damaged_each, replayed_log, torn_each, whole_damaged, whole_each}
+use Rattle.tsdb_plain.proofs.OpenLemmas.{damaged_each, if_told, replayed_log, torn_each, whole_damaged, whole_each}
 use Rattle.tsdb_plain.proofs.plain_core.PlainCore.open.Goals as goal
 
 pub returns-in-Ok-replay-clause-store : goal.returns-in-Ok-replay-clause-store
 returns-in-Ok-replay-clause-store g c =
     replayed_log c.in-Ok.records.items c.in-Ok-replay.store (g.J.Disk.state c.args.journal).seen c.in-Ok.ensures.records
     (subst (λ l. AreReplayedTo l c.in-Ok-replay.store) c.deref.ensures.value c.in-Ok-replay.ensures.store)
+
+pub returns-in-Ok-replay-clause-stored : goal.returns-in-Ok-replay-clause-stored
+returns-in-Ok-replay-clause-stored g c = λ settled.
+    let replayed = subst (λ l. AreReplayedTo l c.in-Ok-replay.store) c.deref.ensures.value c.in-Ok-replay.ensures.store in
+    if_told (g.J.Disk.state c.args.journal).seen _ _
+    (λ log. record {
+      items = replayed.items;
+      good = replayed.good;
+      replayed = replayed.replayed;
+      in_doubt = None;
+      slot = c.in-Ok.ensures.slot;
+      log = subst (λ l. IsLog c.in-Ok.frames l None) replayed.payloads log;
+      command = tt;
+    }) (c.in-Ok.ensures.log settled)
 
 pub returns-in-Ok-replay-clause-each : goal.returns-in-Ok-replay-clause-each
 returns-in-Ok-replay-clause-each g c =

@@ -1,0 +1,32 @@
+-- What private calls keep of a log, of its own slot and of the slot aside.
+use Rattle.std.specs.Prelude.{◌≡◌, [], IsSome}
+use Rattle.tsdb_outside.specs.declared.disk.Disk as disk
+use Rattle.tsdb_outside.specs.Moments.{other}
+use Rattle.tsdb_outside.specs.declared.faults.Counted as counted
+use Rattle.tsdb_frames.specs.declared.aside.Aside.TheVariants.{Closed}
+use Rattle.tsdb_frames.specs.declared.frames.Frames.{Frames}
+use Rattle.tsdb_frames.specs.Asides.{LeftInSlot}
+use Rattle.tsdb_frames.specs.Frames.{disk_of, slot_of}
+use Rattle.tsdb_frames.specs.Slots.{HasRecords}
+use Rattle.tsdb_frames.specs.Steps.{LeavesSlot}
+
+module _ {J : Type 0} {means : disk.Ghosts J} {counts : counted.Ghosts J} where
+  -- a call leaves the slot of a log alone, and what is known of it
+  pub record KeepsLog (old new : Frames J means counts) : Type 0 where
+    pub slot : slot_of new ≡ slot_of old
+    pub gate : new.gate ≡ old.gate
+    pub doubt : new.doubt ≡ old.doubt
+    pub first : new.first ≡ old.first
+    pub leaves : LeavesSlot (slot_of old) (disk_of old) (disk_of new)
+
+  -- a call leaves the slot aside alone, and what is known of it
+  pub record KeepsAside (old new : Frames J means counts) : Type 0 where
+    pub slot : slot_of new ≡ slot_of old
+    pub aside : new.aside ≡ old.aside
+    pub leaves : LeavesSlot (other (slot_of old)) (disk_of old) (disk_of new)
+
+  -- byte 0 of the slot aside is known to be closed
+  pub record IsAsideClosed (log : Frames J means counts) : Type 0 where
+    pub told : IsSome (disk_of log).seen
+    pub state : log.aside ≡ Closed
+    pub closed : LeftInSlot (disk_of log) (other (slot_of log)) (HasRecords [])
