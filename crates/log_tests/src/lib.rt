@@ -3,6 +3,8 @@
 #![tactic(auto)]
 
 #[cfg(test)]
+mod firsts;
+#[cfg(test)]
 mod frames;
 #[cfg(test)]
 mod records;

@@ -1,5 +1,5 @@
 -- What private calls keep of a log, and of the slot aside.
-use Rattle.std.proofs.Common.{◌≡◌, ◌≢◌, ◌⊎◌, inl, inr, ℕ, List, [], ◌∷◌, refl, sym, ◌∙◌, ap, subst, None, Some}
+use Rattle.std.proofs.Common.{◌≡◌, ◌≢◌, ◌⊎◌, inl, inr, ℕ, List, [], refl, sym, ◌∙◌, ap, subst, None, Some}
 use Rattle.std.proofs.lemmas.Bool.{false≢true}
 use Rattle.std.specs.Prelude.{IsOk, Result, Ok, Err, OnErr, OnOk, Bool, true, false, ◌||◌}
 use Rattle.std.specs.declared.option.Option.{Option}
@@ -169,9 +169,9 @@ module _ {J : Type 0} {means : disk.Ghosts J} {counts : counted.Ghosts J} where
         same two))
 
   -- what the slot aside has behind a fault: the records from before, or none
-  pub three_ways : (first now : Frames J means counts) (records : Option (List (List ℕ))) (payload : List ℕ) → IsAside now (settled_aside first records)
-      → IsAside now records ⊎ (IsAside now (Some []) ⊎ IsAside now (Some (payload ∷ [])))
-  three_ways first now records payload aside = elim (settled_is first.aside records) [
+  pub three_ways : (first now : Frames J means counts) (records : Option (List (List ℕ))) (Third : Type 0) → IsAside now (settled_aside first records)
+      → IsAside now records ⊎ (IsAside now (Some []) ⊎ Third)
+  three_ways first now records Third aside = elim (settled_is first.aside records) [
     | inl same ↦ inl (subst (λ (r : Option (List (List ℕ))). IsAside now r) same aside)
     | inr none ↦ inr (inl (subst (λ (r : Option (List (List ℕ))). IsAside now r) none aside))
   ]

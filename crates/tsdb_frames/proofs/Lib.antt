@@ -3,6 +3,7 @@ pub mod CallLemmas
 pub mod LogLemmas
 pub mod MomentLemmas
 mod StepLemmas
+pub mod FirstLemmas
 mod FrameLemmas
 pub mod RecordLemmas
 pub mod ScanLemmas

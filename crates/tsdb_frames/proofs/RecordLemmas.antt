@@ -86,6 +86,17 @@ torn_here frames at rest behind bytes read gate none = (
   ),
 )
 
+-- where no record stands behind an open first gate, the slot is torn at 0
+pub torn_at_first : (bytes behind : List ℕ) → bytes ≡ 1 ∷ behind → ((payload after : List ℕ) → ¬ BeginsWith behind payload after) → IsTorn 0 bytes
+torn_at_first bytes behind is none = inl (record {
+  payloads = [];
+  fit = All-nil IsPayload;
+  behind = behind;
+  split = is;
+  place = refl;
+  broken = none;
+})
+
 -- a slot that is torn behind records is torn
 pub torn_behind : (payloads : List (List ℕ)) (at : ℕ) (bytes : List ℕ) → IsTornBehind payloads at bytes → IsTorn at bytes
 torn_behind payloads at bytes (inl torn) = inl torn.0

@@ -2,6 +2,7 @@ pub mod Appends
 pub mod Asides
 pub mod Calls
 pub mod Causes
+pub mod Firsts
 pub mod Frames
 pub mod Laws
 pub mod Log

@@ -1,5 +1,5 @@
 -- What private calls cite: how far a slot has been read, and what one write leaves.
-use Rattle.std.specs.Prelude.{◌≡◌, ℕ, ◌≤◌, List, ◌++◌, length}
+use Rattle.std.specs.Prelude.{◌≡◌, ℕ, ◌≤◌, List, [], ◌++◌, length}
 use Rattle.std.specs.List.{All}
 use Rattle.tsdb_outside.specs.Disk.{Image, State, in_slot, overwrite, TornIn, WhereTold}
 use Rattle.tsdb_outside.specs.Moments.{LeavesOnly}
@@ -8,7 +8,10 @@ use Rattle.tsdb_frames.specs.declared.record.Frame.{Frame}
 use Rattle.tsdb_frames.specs.Log.{HasGateAt}
 use Rattle.tsdb_frames.specs.declared.reading.End.{End}
 use Rattle.tsdb_frames.specs.declared.reading.End.TheVariants.{Closed, Torn}
-use Rattle.tsdb_frames.specs.Slots.{IsPayload, open_records, payloads_of, AreFrames, ArePlaced, IsTornBehind}
+use Rattle.tsdb_frames.specs.declared.reading.Start.{Start}
+use Rattle.tsdb_frames.specs.declared.reading.Start.TheVariants.{Shut, Whole, Broken}
+use Rattle.tsdb_frames.specs.Firsts.{HasFirst}
+use Rattle.tsdb_frames.specs.Slots.{HasRecords, IsPayload, IsTorn, open_records, payloads_of, AreFrames, ArePlaced, IsTornBehind}
 
 -- these are the first records of the bytes, and the rest stands at this place and begins with a gate
 pub record HasRead (frames : List Frame) (at : ℕ) (rest bytes : List ℕ) : Type 0 where
@@ -22,6 +25,12 @@ pub record HasRead (frames : List Frame) (at : ℕ) (rest bytes : List ℕ) : Ty
 abbrev pub AreFramesUpTo : List Frame → End → List ℕ → Type 0
 AreFramesUpTo frames (Closed at) bytes = AreFrames frames at bytes
 AreFramesUpTo frames (Torn at) bytes = ArePlaced frames × IsTornBehind (payloads_of frames) at bytes
+
+-- how bytes begin: with a closed gate, with a whole record, or with an open gate that has none
+abbrev pub BeginsAs : Start → List ℕ → Type 0
+BeginsAs Shut bytes = HasRecords [] bytes
+BeginsAs (Whole frame) bytes = HasFirst frame bytes
+BeginsAs Broken bytes = IsTorn 0 bytes
 
 -- the records end before a gate that the slot has, or the slot is torn
 abbrev pub HasEndAt : State → Slot → End → Type 0

@@ -1,18 +1,18 @@
 //! The log in a slot of a journal: it is read once, grows record by record, and turns over to the other slot. Depends on
 //! `record`, `reading`, `writing` and `aside`.
 ghost use Rattle.std.specs.Prelude.{◌≡◌, ◌≢◌, ◌⊎◌, ℕ, ◌+◌, ◌≤◌, List, [], ◌∷◌, ◌++◌, true, false, length, None, Some, IsOk, IfOk};
-ghost use Rattle.std.specs.Prelude.{IfErr, IfSome, IsErrAnd, IsSome, OnErr, OnOk};
+ghost use Rattle.std.specs.Prelude.{IfErr, IfSome, IsErrAnd, IsErrOf, IsSome, OnErr, OnOk};
 ghost use Rattle.std.specs.declared.option.Option.{Option};
 ghost use Rattle.std.specs.Option.{ForSome};
 ghost use Rattle.tsdb_outside.specs.Causes.{HasCause, Rose};
 ghost use Rattle.tsdb_outside.specs.Disk.{in_slot, Keeps};
-ghost use Rattle.tsdb_frames.specs.Causes.{AnswersTorn};
+ghost use Rattle.tsdb_frames.specs.Causes.{AnswersTorn, HasScanCause};
 ghost use Rattle.tsdb_frames.specs.Log.{HasGateAt, first_bytes};
 ghost use Rattle.tsdb_frames.specs.Slots.{payloads_of};
 ghost use Rattle.tsdb_frames.specs.declared.aside.Aside.TheVariants as aside;
 
 use crate::aside::{Aside, is_closed, other_slot};
-use crate::reading::{End, read_slot};
+use crate::reading::{End, read_first_record, read_slot};
 use crate::writing::write_and_sync;
 use crate::{Frame, ScanFault};
 use std::alloc::Global;
@@ -62,6 +62,7 @@ pub struct ScanRefused<J> {
 impl<J: Journal> Frames<J> {
     ghost use Rattle.tsdb_frames.specs.Asides.{HasRecordsOrNone, IsAsideOn};
     ghost use Rattle.tsdb_frames.specs.Calls.{KeepsLog, KeepsAside, IsAsideClosed};
+    ghost use Rattle.tsdb_frames.specs.Firsts.{IsFirst};
     ghost use Rattle.tsdb_frames.specs.Frames.{journal_of, disk_of, faults_of, slot_of, is_in_doubt, IsLog};
     ghost use Rattle.tsdb_frames.specs.Frames.{is_aside_in_doubt, IsAside, settled_aside};
     ghost use Rattle.tsdb_frames.specs.Log.{IsFrame, payload_of, HasRecordsOrOneMore, IsSettled};
@@ -69,6 +70,19 @@ impl<J: Journal> Frames<J> {
     ghost use Rattle.tsdb_frames.specs.Slots.{open_records, HasRecords, ArePlaced, IsTorn, IsTornBehind};
     ghost use Rattle.tsdb_frames.specs.Steps.{LeavesSlot};
     ghost use Rattle.tsdb_frames.specs.Turns.{LeavesInTurn};
+
+    /// The first record of a slot, None where its first gate is closed. It costs what the record has, and not what the
+    /// slot has.
+    pub fn first(alloc: Global, journal: &mut J, slot: Slot) -> Result<Option<Frame>, ScanFault>
+        ensures first { IfOk result (λ first. IfSome (J.state journal.old).seen
+            (λ image. IsFirst first (in_slot slot image))) }
+        ensures torn { (at : ℕ) → IsErrOf result (ScanFault.Torn at)
+            → (at ≡ 0) × IfSome (J.state journal.old).seen (λ image. IsTorn 0 (in_slot slot image)) }
+        ensures keeps { Keeps (J.state journal.old) (J.state journal.new) }
+        ensures cause { HasScanCause (J.faults journal.old) (J.faults journal.new) result }
+    {
+        read_first_record(alloc, journal, slot)
+    }
 
     /// Reads the records of a slot, and takes its journal for a log. The slot is read once.
     pub fn scan(
@@ -223,7 +237,7 @@ impl<J: Journal> Frames<J> {
         ensures same_slot { OnErr result (slot_of self.new ≡ slot_of self.old) }
         ensures aside_failed { OnErr result ((records : Option (List (List ℕ))) → IsAside self.old records
             → IsAside self.new records ⊎ (IsAside self.new (Some [])
-            ⊎ IsAside self.new (Some (payload_of framed.now ∷ [])))) }
+            ⊎ ((is_aside_in_doubt self.new ≡ true) × IsAside self.new (Some (payload_of framed.now ∷ []))))) }
 
         // A stop at any moment leaves in the slot that the log was in the acknowledged records, or these and the one in
         // doubt until its gate is closed.
@@ -305,7 +319,8 @@ impl<J: Journal> Frames<J> {
         ensures leaves { LeavesSlot (slot_of self.old) (disk_of self.old) (disk_of self.new) }
         ensures log { OnErr result (KeepsLog self.old self.new) }
         ensures failed { OnErr result (IsAsideClosed self.old
-            → IsAside self.new (Some []) ⊎ IsAside self.new (Some (payload_of framed.now ∷ []))) }
+            → IsAside self.new (Some [])
+            ⊎ ((is_aside_in_doubt self.new ≡ true) × IsAside self.new (Some (payload_of framed.now ∷ [])))) }
         ensures moments { IsAsideClosed self.old → LeavesFirstThen (disk_of self.old) (disk_of self.new)
             (λ image. HasRecords [] (in_slot (other (slot_of self.old)) image))
             (λ image. HasRecordsOrOneMore [] (Some (payload_of framed.now))

@@ -81,7 +81,7 @@ returns-in_err-write_and_sync-2-clause-failed g c = always_on_err c.from_residua
     c.write_and_sync.ensures.torn c.in_ok-write_and_sync.ensures.written in
     let doubted = opening_fails old staged last slot c.other_slot-slot.result c.other_slot-slot.ensures framed c.requires.frame closed.told closed.closed log
     c.write_and_sync-2.ensures.torn c.write_and_sync-2.ensures.left in
-    inr (record { told = doubted.told; stands = doubted_on last (other slot) (payload_of framed) doubted }))
+    inr (refl, record { told = doubted.told; stands = doubted_on last (other slot) (payload_of framed) doubted }))
 
 pub returns-in_err-write_and_sync-2-clause-moments : goal.returns-in_err-write_and_sync-2-clause-moments
 returns-in_err-write_and_sync-2-clause-moments g c closed =

@@ -19,7 +19,7 @@ returns-in_err-settle-clause-failed g c = always_on_err c.from_residual.result (
 
 pub returns-in_err-settle-clause-aside_failed : goal.returns-in_err-settle-clause-aside_failed
 returns-in_err-settle-clause-aside_failed g c = always_on_err c.from_residual.result (λ records aside.
-    ⊎_elim (λ same. inl same) (λ settled. three_ways c.args.self.now c.settle.new.self records (payload_of c.args.framed.now) settled)
+    ⊎_elim (λ same. inl same) (λ settled. three_ways c.args.self.now c.settle.new.self records _ settled)
     (c.in_err-settle.ensures.aside_failed records aside))
 
 pub returns-in_err-settle-clause-moments : goal.returns-in_err-settle-clause-moments
@@ -39,7 +39,7 @@ returns-in_err-close_aside-clause-same_slot g c = always_on_err c.from_residual-
 
 pub returns-in_err-close_aside-clause-aside_failed : goal.returns-in_err-close_aside-clause-aside_failed
 returns-in_err-close_aside-clause-aside_failed g c = always_on_err c.from_residual-in_err-close_aside.result (λ records aside.
-    three_ways c.args.self.now c.close_aside.new.self records (payload_of c.args.framed.now)
+    three_ways c.args.self.now c.close_aside.new.self records _
     (c.in_err-close_aside.ensures.failed (settled_aside c.args.self.now records) (c.in_ok-settle.ensures.aside records aside)))
 
 pub returns-in_err-close_aside-clause-moments : goal.returns-in_err-close_aside-clause-moments

@@ -1,0 +1,95 @@
+//! The first record of a slot, over places in memory.
+use mem_outside::{Fails, MemPlace};
+use std::alloc::Global;
+use tsdb_frames::{Frames, ScanFault, frame};
+use tsdb_outside::{Place, Slot, StoreFault};
+
+// The bytes of the first record of slot B of a place, or why there is none.
+type First = Result<Option<usize>, ScanFault>;
+
+fn first_in<P: Place>(alloc: Global, place: &mut P) -> Result<First, StoreFault> {
+    let (mut journal, files) = place.take_up(b"d")?;
+    let first = Frames::first(alloc, &mut journal, Slot::B);
+    place.put_down(journal, files);
+    Ok(match first {
+        Ok(Some(record)) => Ok(Some(record.payload.items().len())),
+        Ok(None) => Ok(None),
+        Err(fault) => Err(fault),
+    })
+}
+
+fn first_of(alloc: Global, bytes: &[u8]) -> Result<First, StoreFault> {
+    let fails = Fails {
+        journal: Vec::new(alloc),
+        files: Vec::new(alloc),
+    };
+    let slots = [vec![in alloc; 0]?, bytes.to_vec(alloc)?];
+    let mut place = MemPlace::new(alloc, slots, Vec::new(alloc), fails)?;
+    first_in(alloc, &mut place)
+}
+
+// The bytes of a slot, and its first record.
+type FirstCase = (&'static [u8], First);
+
+const FIRSTS: [FirstCase; 9] = [
+    (&[], Err(ScanFault::Torn { at: 0 })),
+    (&[0], Ok(None)),
+    (&[2, 0, 0, 0, 1, 7, 0], Ok(None)),
+    (&[1, 0, 0, 0, 1, 7, 255], Ok(Some(1))),
+    // A length of 0, one that leaves the slot, and one that leaves no gate in it.
+    (&[1, 0, 0, 0, 0, 0, 0], Err(ScanFault::Torn { at: 0 })),
+    (
+        &[1, 255, 255, 255, 255, 7, 0],
+        Err(ScanFault::Torn { at: 0 }),
+    ),
+    (&[1, 0, 0, 0, 1, 7], Err(ScanFault::Torn { at: 0 })),
+    (&[1, 0, 0], Err(ScanFault::Torn { at: 0 })),
+    // A slot that is torn behind its first record.
+    (&[1, 0, 0, 0, 2, 7, 7, 1, 0], Ok(Some(2))),
+];
+
+// The first slot that begins otherwise.
+fn wrong_first(alloc: Global, cases: &[FirstCase]) -> Result<Option<usize>, StoreFault> {
+    for (index, (bytes, wanted)) in cases.iter().enumerate() {
+        if first_of(alloc, bytes)? != *wanted {
+            return Ok(Some(index));
+        }
+    }
+    Ok(None)
+}
+
+#[test]
+fn first_records_are_read(rt: HostRuntime) {
+    assert!(rt; wrong_first(rt.alloc(), &FIRSTS) == Ok(None));
+}
+
+// A slot with one record of so many bytes, less its last bytes.
+fn one_record(alloc: Global, size: usize, less: usize) -> Result<Vec<u8>, StoreFault> {
+    if size == 0 || size > 1_000_000 {
+        return Err(StoreFault::Failed);
+    }
+    let payload = vec![in alloc; 3; size]?;
+    let Ok(framed) = frame(alloc, &payload) else {
+        return Err(StoreFault::Memory);
+    };
+    let mut bytes = vec![in alloc; 1; 1]?;
+    bytes.extend_from_slice(&framed)?;
+    bytes.truncate(bytes.len().saturating_sub(less));
+    Ok(bytes)
+}
+
+// Whether a record of so many bytes is read, and none where its gate is missing.
+fn is_read_whole(alloc: Global, size: usize) -> Result<bool, StoreFault> {
+    let whole = first_of(alloc, &one_record(alloc, size, 0)?)?;
+    let cut = first_of(alloc, &one_record(alloc, size, 1)?)?;
+    Ok(whole == Ok(Some(size)) && cut == Err(ScanFault::Torn { at: 0 }))
+}
+
+// A piece has 65,536 bytes, of which a gate, a length and the next gate take 6, and the next piece twice as many.
+#[test]
+fn records_around_the_end_of_a_piece(rt: HostRuntime) {
+    let alloc = rt.alloc();
+    for size in [65_529, 65_530, 65_531, 65_536, 131_066, 131_067] {
+        assert!(rt; is_read_whole(alloc, size) == Ok(true));
+    }
+}

@@ -1,0 +1,49 @@
+use Rattle.std.proofs.Common.{◌≡◌, sym, arith}
+use Rattle.tsdb_frames.proofs.FirstLemmas.{broken_seen, empty_seen, keeps_on, shut_seen, whole_seen}
+use Rattle.tsdb_frames.proofs.reading.read_first_record.Goals as goal
+
+pub loop-frame-init : goal.loop-frame-init
+loop-frame-init g c = record {
+  some = omega (arith, c.if-length-eq0.false, c.min-size.ensures);
+  most = omega (arith, c.min-size.ensures);
+  keeps = c.length.ensures.keeps;
+  later = c.length.ensures.cause.later;
+}
+
+pub loop-frame-preserved : goal.loop-frame-preserved
+loop-frame-preserved g c = record {
+  some = omega (arith, c.loop-frame.invariant.some, c.if-length-eq0.false, c.min-size-in-loop-frame.ensures);
+  most = omega (arith, c.min-size-in-loop-frame.ensures);
+  keeps = keeps_on (g.J.Disk.state c.args.journal.now) (g.J.Disk.state c.loop-frame.journal) (g.J.Disk.state c.read_start.new.journal)
+      (g.J.Disk.lawful c.args.journal.now) c.loop-frame.invariant.keeps c.read_start.ensures.keeps;
+  later = omega (arith, c.loop-frame.invariant.later, c.read_start.ensures.cause.later);
+}
+
+pub loop-frame-smaller : goal.loop-frame-smaller
+loop-frame-smaller g c = omega (arith, c.loop-frame.invariant.some, c.if-size-length.false, c.min-size-in-loop-frame.ensures)
+
+pub returns-in-Shut-clause-first : goal.returns-in-Shut-clause-first
+returns-in-Shut-clause-first g c =
+    shut_seen c.args.slot (g.J.Disk.state c.args.journal.now).seen (g.J.Disk.state c.loop-frame.journal).seen c.loop-frame.invariant.keeps.seen
+    c.loop-frame.size c.in_ok-read_start.field-0 c.in-Shut.is c.in_ok-read_start.ensures.begins
+
+pub returns-in-Whole-clause-first : goal.returns-in-Whole-clause-first
+returns-in-Whole-clause-first g c =
+    whole_seen c.args.slot (g.J.Disk.state c.args.journal.now).seen (g.J.Disk.state c.loop-frame.journal).seen c.loop-frame.invariant.keeps.seen
+    c.loop-frame.size c.in_ok-read_start.field-0 c.in-Whole.frame c.in-Whole.is c.in_ok-read_start.ensures.begins
+
+pub returns-then-size-length-clause-torn : goal.returns-then-size-length-clause-torn
+returns-then-size-length-clause-torn g c at is =
+    let places : 0 ≡ at = cc in (
+      sym places,
+      broken_seen c.args.slot (g.J.Disk.state c.args.journal.now).seen (g.J.Disk.state c.loop-frame.journal).seen c.loop-frame.invariant.keeps.seen
+          c.loop-frame.size c.in_ok-read_start.field-0 c.in_ok-length.length c.if-size-length.true c.in_ok-length.ensures.length c.in-Broken.is
+          c.in_ok-read_start.ensures.begins,
+    )
+
+pub returns-then-length-eq0-clause-torn : goal.returns-then-length-eq0-clause-torn
+returns-then-length-eq0-clause-torn g c at is =
+    let places : 0 ≡ at = cc in (
+      sym places,
+      empty_seen c.args.slot (g.J.Disk.state c.args.journal.now).seen c.in_ok-length.length c.if-length-eq0.true c.in_ok-length.ensures.length,
+    )
