@@ -136,6 +136,13 @@ impl Marks {
         self.marks.as_slice()
     }
 
+    /// For how many more marks there is a place.
+    pub fn spare(&self) -> usize
+        ensures { result ≡ self.now.spare }
+    {
+        self.spare
+    }
+
     /// Makes one more spare place.
     pub fn reserve(&mut self) -> Result<(), Memory>
         ensures marks { self.new.marks ≡ self.old.marks }

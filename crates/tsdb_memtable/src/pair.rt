@@ -2,7 +2,7 @@
 ghost use Rattle.std.specs.Prelude.{◌≡◌, ◌≢◌, ℕ, ◌+◌, ◌<◌, true, [], map, IfOk, OnOk, OnErr};
 ghost use Rattle.std.specs.List.{filter};
 ghost use Rattle.tsdb_base.specs.declared.ids.Space.{Space as SpaceOf};
-ghost use Rattle.tsdb_memtable.specs.Points.{is_within};
+ghost use Rattle.tsdb_memtable.specs.Points.{IsRising, is_within};
 ghost use Rattle.tsdb_memtable.specs.Watermarks.{watermark, space_by};
 ghost use Rattle.tsdb_memtable.specs.Pairs.{byte_count, change_points, count, HasRisingSeries, without_range};
 ghost use Rattle.tsdb_memtable.specs.Pairs.{points_of, put_in, spare_of, table};
@@ -103,6 +103,16 @@ impl Pair {
         self.totals.bytes
     }
 
+    /// For how many more points of the series there is room, in either space.
+    pub fn spare(&self, series: SeriesId) -> u64
+        ensures { result ≡ spare_of series.0 self.now }
+    {
+        match self.series.get(&series.0) {
+            Some(points) => points.totals().spare,
+            None => 0,
+        }
+    }
+
     /// Makes room for so many more points of the series, in either space.
     pub fn reserve(&mut self, series: SeriesId, cells: u64) -> Result<(), Memory>
         ensures tables { (space : SpaceOf) → table space self.new ≡ table space self.old }
@@ -147,13 +157,22 @@ impl Pair {
         ensures pair { self.new ≡ change_points series.0 (put_in result point) self.old }
     {
         let space = space_of(marks.get(device), point.time);
+        self.put_at(space, series, point);
+        space
+    }
+
+    /// Puts the point into this space, in place of one at its time there. The caller has looked up the watermark, once
+    /// for all points of a row. It takes no memory.
+    pub fn put_at(&mut self, space: Space, series: SeriesId, point: Point)
+        requires { 0 < spare_of series.0 self.old }
+        ensures { self.new ≡ change_points series.0 (put_in space point) self.old }
+    {
         let Some(points) = self.series.get_mut(&series.0) else {
             unreachable!()
         };
         let before = points.totals();
         points.put(space, point);
         self.totals = swap(&self.totals, &before, &points.totals());
-        space
     }
 
     /// Removes the points of the series in the range, from both spaces. It takes no memory.
@@ -166,6 +185,17 @@ impl Pair {
         let before = points.totals();
         points.erase(range);
         self.totals = swap(&self.totals, &before, &points.totals());
+    }
+
+    /// All points of the series in the space, in order of time. It takes no memory.
+    pub fn points_of(&self, space: Space, series: SeriesId) -> &[Point]
+        ensures points { result.now ≡ points_of space series.0 self.now }
+        ensures rising { IsRising result.now }
+    {
+        match self.series.get(&series.0) {
+            Some(points) => points.all(space),
+            None => &[],
+        }
     }
 
     /// The points of the series in the space and the range, in order of time. It takes no memory.

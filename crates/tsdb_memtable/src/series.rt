@@ -2,7 +2,7 @@
 ghost use Rattle.std.specs.Prelude.{◌≡◌, ◌==◌, ◌+◌, ◌*◌, ◌<◌, ◌≤◌, length, OnOk, OnErr};
 ghost use Rattle.std.specs.List.{filter};
 ghost use Rattle.tsdb_memtable.specs.Limits.{max_point_bytes, max_bytes};
-ghost use Rattle.tsdb_memtable.specs.Points.{is_within};
+ghost use Rattle.tsdb_memtable.specs.Points.{IsRising, is_within};
 ghost use Rattle.tsdb_memtable.specs.Pairs.{blank, without_range, points_in, put_in, series_bytes};
 ghost use Rattle.tsdb_memtable.specs.Model.{most_bytes, totals_of, with_room};
 
@@ -111,6 +111,17 @@ impl SeriesPoints {
         match space {
             Space::Sequence => self.sequence.is_empty(),
             Space::Unsequence => self.unsequence.is_empty(),
+        }
+    }
+
+    /// The points of the space.
+    pub(crate) fn all(&self, space: Space) -> &[Point]
+        ensures points { result.now ≡ points_in space self.now }
+        ensures rising { IsRising result.now }
+    {
+        match space {
+            Space::Sequence => self.sequence.as_slice(),
+            Space::Unsequence => self.unsequence.as_slice(),
         }
     }
 

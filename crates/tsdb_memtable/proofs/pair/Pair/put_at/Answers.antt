@@ -5,7 +5,7 @@ use Rattle.tsdb_memtable.specs.Limits.{max_bytes}
 use Rattle.tsdb_memtable.specs.Pairs.{Pair, SeriesPoints, blank, spare_of}
 use Rattle.tsdb_memtable.specs.PairModel.{most_of}
 use Rattle.tsdb_memtable.proofs.PairLemmas.{can-swap, swapped, swapped-most}
-use Rattle.tsdb_memtable.proofs.pair.Pair.put.Goals as goal
+use Rattle.tsdb_memtable.proofs.pair.Pair.put_at.Goals as goal
 
 pub put-requires : goal.put-requires
 put-requires c =

@@ -1,0 +1,39 @@
+use Rattle.std.proofs.Common.{◌≡◌, ◌+◌, ◌<◌, None, map, subst, sym}
+use Rattle.tsdb_memory.proofs.Effects.{created_shown, created_sound}
+use Rattle.tsdb_memory.proofs.Numbers.{joined}
+use Rattle.tsdb_memory.specs.Model.{schema_of, store_in}
+use Rattle.tsdb_memory.specs.Shown.{IsMemoryOf, number_of}
+use Rattle.tsdb_memory.specs.Store.{Store}
+use Rattle.tsdb_state.specs.Limits.{end_of_numbers}
+use Rattle.tsdb_memory.proofs.store.MemoryStore.finish_create.Goals as goal
+
+pub returns : goal.returns
+returns c = record {
+  effect = λ state is.
+      let old = c.self.inside in
+      let new = record old { series = c.insert.new.self; stamp = old.stamp + 1 } in
+      let schema = c.args.schema in
+      let free : number_of (map schema_of old.series.entries) schema.path ≡ None =
+      subst (λ (s : Store). number_of s.series schema.path ≡ None) (sym c.self.view_is) c.requires.free in
+      let place : 0 < (store_in old).places.series =
+      subst (λ (s : Store). 0 < s.places.series) (sym c.self.view_is) c.requires.place in
+      created_shown (store_in old) (map schema_of c.insert.new.self.entries) (store_in new).places schema state
+      (joined old.series c.insert.new.self schema c.insert.result free (c.insert.ensures.succeeds place)
+      c.insert.ensures.entries) c.self.invariant
+      (subst (λ (s : Store). IsMemoryOf s state) (sym c.self.view_is) is);
+}
+
+pub invariant_of-self : goal.invariant_of-self
+invariant_of-self c =
+    let old = c.self.inside in
+    let new = record old { series = c.insert.new.self; stamp = old.stamp + 1 } in
+    let schema = c.args.schema in
+    let free : number_of (map schema_of old.series.entries) schema.path ≡ None =
+    subst (λ (s : Store). number_of s.series schema.path ≡ None) (sym c.self.view_is) c.requires.free in
+    let place : 0 < (store_in old).places.series =
+    subst (λ (s : Store). 0 < s.places.series) (sym c.self.view_is) c.requires.place in
+    let stamp : old.stamp < end_of_numbers =
+    subst (λ (s : Store). s.stamp < end_of_numbers) (sym c.self.view_is) c.requires.stamp in
+    created_sound (store_in old) (map schema_of c.insert.new.self.entries) (store_in new).places schema
+    (joined old.series c.insert.new.self schema c.insert.result free (c.insert.ensures.succeeds place)
+    c.insert.ensures.entries) c.requires.formed free stamp c.self.invariant

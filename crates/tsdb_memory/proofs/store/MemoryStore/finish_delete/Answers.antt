@@ -1,0 +1,56 @@
+use Rattle.std.proofs.Common.{◌+◌, ◌<◌, ◌≤◌, ◌≤ℤ◌, ◌∙◌, ℕ, List, is_some, map, subst, sym, ap, arith}
+use Rattle.std.specs.Prelude.{IsSome}
+use Rattle.std.proofs.lemmas.Bool.{false≢true}
+use Rattle.std.proofs.lemmas.List.Elements.{All-weaker}
+use Rattle.tsdb_marks.specs.declared.marks.Mark.{Mark}
+use Rattle.tsdb_memory.proofs.Later.{borns_kept, deleted_shown, deleted_sound}
+use Rattle.tsdb_memory.proofs.Numbers.{number_found}
+use Rattle.tsdb_memory.specs.Least.{least_with}
+use Rattle.tsdb_memory.specs.Model.{schema_of, store_in}
+use Rattle.tsdb_memory.specs.Shown.{IsMemoryOf, number_of}
+use Rattle.tsdb_memory.specs.Store as value
+use Rattle.tsdb_memory.specs.declared.store.FrozenPair.{FrozenPair}
+use Rattle.tsdb_state.specs.Limits.{end_of_numbers}
+use Rattle.tsdb_memory.proofs.store.MemoryStore.finish_delete.Goals as goal
+
+pub unreachable-requires : goal.unreachable-requires
+unreachable-requires c =
+    let old = c.self.inside in
+    let there : IsSome (number_of (map schema_of old.series.entries) c.args.path) =
+    subst (λ (s : value.Store). IsSome (number_of s.series c.args.path)) (sym c.self.view_is) c.requires.there in
+    false≢true (sym (ap is_some c.in_default.is)
+    ∙ ap is_some (c.get_index_of.ensures.index ∙ sym (number_found old.series.entries c.args.path)) ∙ there)
+
+next : (a b : ℕ) → a ≤ b → a < b + 1
+next a b h = omega (arith, h)
+
+pub add_mark-requires-clause-newer : goal.add_mark-requires-clause-newer
+add_mark-requires-clause-newer c =
+    let old = c.self.inside in
+    All-weaker (λ (m : Mark). m.version.0 ≤ old.stamp) (λ (m : Mark). m.version.0 < old.stamp + 1)
+    (λ m h. next m.version.0 old.stamp h) old.marks.marks c.self.invariant.versions
+
+pub add_mark-requires-clause-place : goal.add_mark-requires-clause-place
+add_mark-requires-clause-place c =
+    subst (λ (s : value.Store). c.args.range.now.from ≤ℤ c.args.range.now.to → 0 < s.marks.spare) (sym c.self.view_is)
+    c.requires.place
+
+pub returns : goal.returns
+returns c = record {
+  effect = λ state is low.
+      let old = c.self.inside in
+      deleted_shown (store_in old) c.in-Some.number c.args.path c.args.range.now c.add_mark.new.marks c.purge.new.self
+      c.erase.new.self c.least_born.result c.erase.ensures c.add_mark.ensures c.purge.ensures.marks c.args.listed state
+      (c.least_born.ensures ∙ ap (λ (pairs : List FrozenPair). least_with c.args.listed (map (λ (p : FrozenPair). p.born.0)
+      pairs)) c.as_slice.ensures.value ∙ borns_kept c.args.listed old.frozen.items)
+      (number_found old.series.entries c.args.path ∙ sym c.get_index_of.ensures.index ∙ c.in-Some.is)
+      (subst (λ (s : value.Store). IsMemoryOf s state) (sym c.self.view_is) is) low;
+}
+
+pub invariant_of-self : goal.invariant_of-self
+invariant_of-self c =
+    let old = c.self.inside in
+    let stamp : old.stamp < end_of_numbers =
+    subst (λ (s : value.Store). s.stamp < end_of_numbers) (sym c.self.view_is) c.requires.stamp in
+    deleted_sound (store_in old) c.in-Some.number c.args.path c.args.range.now c.add_mark.new.marks c.purge.new.self
+    c.erase.new.self c.least_born.result c.erase.ensures c.add_mark.ensures c.purge.ensures.marks c.self.invariant stamp

@@ -1,0 +1,35 @@
+use Rattle.std.proofs.Common.{◌<◌, ◌∙◌, List, length, map, subst, sym, ap}
+use Rattle.tsdb_marks.specs.Lists.{purge_list}
+use Rattle.tsdb_memory.proofs.Effects.{flushed_shown, flushed_sound}
+use Rattle.tsdb_memory.proofs.Later.{borns_kept, first_of}
+use Rattle.tsdb_memory.specs.Least.{least_with}
+use Rattle.tsdb_memory.specs.Model.{frozen_in, store_in}
+use Rattle.tsdb_memory.specs.Shown.{IsMemoryOf}
+use Rattle.tsdb_memory.specs.Store as value
+use Rattle.tsdb_memory.specs.declared.store.FrozenPair.{FrozenPair}
+use Rattle.tsdb_memory.proofs.store.MemoryStore.finish_flushed.Goals as goal
+
+pub returns : goal.returns
+returns c = record {
+  effect = λ state sequence unsequence is low.
+      let old = c.self.inside in
+      let new = record old { frozen = c.remove.new.self; marks = c.purge.new.self } in
+      let first = first_of old.frozen.items c.remove.new.self.items
+      (subst (λ (s : value.Store). 0 < length s.frozen) (sym c.self.view_is) c.requires.some) c.remove.ensures.items in
+      flushed_shown (store_in old) (map frozen_in c.remove.new.self.items) first.oldest (store_in new).places
+      c.purge.new.self c.args.listed state sequence unsequence first.are
+      (subst (λ (s : value.Store). IsMemoryOf s state) (sym c.self.view_is) is) low
+      (c.purge.ensures.marks ∙ ap (λ o. purge_list o old.marks.marks)
+      (c.least_born.ensures ∙ ap (λ (pairs : List FrozenPair). least_with c.args.listed
+      (map (λ (p : FrozenPair). p.born.0) pairs)) c.as_slice.ensures.value
+      ∙ borns_kept c.args.listed c.remove.new.self.items));
+}
+
+pub invariant_of-self : goal.invariant_of-self
+invariant_of-self c =
+    let old = c.self.inside in
+    let new = record old { frozen = c.remove.new.self; marks = c.purge.new.self } in
+    let first = first_of old.frozen.items c.remove.new.self.items
+    (subst (λ (s : value.Store). 0 < length s.frozen) (sym c.self.view_is) c.requires.some) c.remove.ensures.items in
+    flushed_sound (store_in old) (map frozen_in c.remove.new.self.items) first.oldest (store_in new).places
+    c.purge.new.self c.least_born.result first.are c.self.invariant c.purge.ensures.marks

@@ -1,0 +1,26 @@
+use Rattle.std.proofs.Common.{◌∙◌, List, map, subst, sym, ap}
+use Rattle.tsdb_marks.specs.Lists.{purge_list}
+use Rattle.tsdb_memory.proofs.Effects.{purged_sound, replaced_shown}
+use Rattle.tsdb_memory.proofs.Later.{borns_kept}
+use Rattle.tsdb_memory.specs.Least.{least_with}
+use Rattle.tsdb_memory.specs.Model.{store_in}
+use Rattle.tsdb_memory.specs.Shown.{IsMemoryOf}
+use Rattle.tsdb_memory.specs.Store as value
+use Rattle.tsdb_memory.specs.declared.store.FrozenPair.{FrozenPair}
+use Rattle.tsdb_memory.proofs.store.MemoryStore.finish_replaced.Goals as goal
+
+pub returns : goal.returns
+returns c = record {
+  effect = λ state item is low.
+      let old = c.self.inside in
+      replaced_shown (store_in old) c.purge.new.self c.args.listed state item
+      (subst (λ (s : value.Store). IsMemoryOf s state) (sym c.self.view_is) is) low
+      (c.purge.ensures.marks ∙ ap (λ o. purge_list o old.marks.marks)
+      (c.least_born.ensures ∙ ap (λ (pairs : List FrozenPair). least_with c.args.listed
+      (map (λ (p : FrozenPair). p.born.0) pairs)) c.as_slice.ensures.value
+      ∙ borns_kept c.args.listed old.frozen.items));
+}
+
+pub invariant_of-self : goal.invariant_of-self
+invariant_of-self c = purged_sound (store_in c.self.inside) c.purge.new.self c.least_born.result c.self.invariant
+    c.purge.ensures.marks

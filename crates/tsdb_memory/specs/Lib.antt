@@ -1,0 +1,5 @@
+pub mod Store
+pub mod Shown
+pub mod Least
+pub mod Rows
+pub mod Model

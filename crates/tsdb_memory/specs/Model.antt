@@ -1,0 +1,51 @@
+-- What is in memory as the code keeps it, and what holds of it. It speaks of memory alone, and holds after each log
+-- that has a replay.
+use Rattle.std.specs.Prelude.{◌≡◌, ℕ, ◌-◌, ◌≤◌, List, [], Some, map, All, length, slice_get, vec_len, vec_capacity}
+use Rattle.std.specs.HashMap.{spare}
+use Rattle.tsdb_base.specs.declared.ids.Space.{Space}
+use Rattle.tsdb_base.specs.declared.value.DataType.{DataType}
+use Rattle.tsdb_base.specs.declared.value.Encoding.{Encoding}
+use Rattle.tsdb_map.specs.Commands.{IsSchema}
+use Rattle.tsdb_map.specs.declared.command.Schema.{Schema}
+use Rattle.tsdb_memory.specs.Shown.{number_of}
+use Rattle.tsdb_memory.specs.Store as value
+use Rattle.tsdb_memory.specs.declared.store.FrozenPair.{FrozenPair}
+use Rattle.tsdb_memory.specs.declared.store.MemoryStore.TheInside.{Inside}
+use Rattle.tsdb_memtable.specs.Pairs.{Pair, points_of}
+use Rattle.tsdb_state.specs.Limits.{end_of_numbers, max_frozen}
+
+abbrev pub schema_of : List ℕ × (DataType × Encoding) → Schema
+schema_of entry = record { path = entry.0; data_type = entry.1.0; encoding = entry.1.1 }
+
+abbrev pub frozen_in : FrozenPair → value.FrozenPair
+frozen_in frozen = record { born = frozen.born.0; pair = frozen.pair }
+
+abbrev pub store_in : Inside → value.Store
+store_in inside = record {
+  series = map schema_of inside.series.entries;
+  stamp = inside.stamp;
+  watermarks = inside.watermarks;
+  marks = inside.marks;
+  frozen = map frozen_in inside.frozen.items;
+  working = inside.working;
+  places = record { series = spare inside.series; frozen = vec_capacity inside.frozen - vec_len inside.frozen };
+}
+
+-- only series with these numbers have points
+abbrev pub HasKnownSeries : List Schema → Pair → Type 0
+HasKnownSeries series pair = (space : Space) (number : ℕ) → length series ≤ number → points_of space number pair ≡ []
+
+-- series are well-formed, and each has its path alone; points are of series that are there; versions and the stamp are
+-- within their bounds
+pub record IsSound (store : value.Store) : Type 0 where
+  pub formed : All IsSchema store.series
+  pub once : (number : ℕ) (schema : Schema) → slice_get store.series number ≡ Some schema
+      → number_of store.series schema.path ≡ Some number
+  pub known : HasKnownSeries store.series store.working
+  pub frozen_known : All (λ frozen. HasKnownSeries store.series frozen.pair) store.frozen
+  pub two : length store.frozen ≤ max_frozen
+  pub versions : All (λ mark. mark.version.0 ≤ store.stamp) store.marks.marks
+  pub ends : store.stamp ≤ end_of_numbers
+
+abbrev pub IsKept : Inside → Type 0
+IsKept inside = IsSound (store_in inside)

@@ -1,0 +1,28 @@
+-- What is in memory, as contracts see it.
+use Rattle.std.specs.Prelude.{ℕ, List}
+use Rattle.tsdb_map.specs.declared.command.Schema.{Schema}
+use Rattle.tsdb_marks.specs.Lists.{Marks}
+use Rattle.tsdb_memtable.specs.Pairs.{Pair}
+use Rattle.tsdb_memtable.specs.Watermarks.{Watermarks}
+
+-- a pair, and the stamp at its freeze
+pub record FrozenPair : Type 0 where
+  pub born : ℕ
+  pub pair : Pair
+
+-- how many more series and frozen pairs have a place
+pub record Places : Type 0 where
+  pub series : ℕ
+  pub frozen : ℕ
+
+-- the series in the order of their numbers, the number of commands that were accepted, the watermarks, the marks, the
+-- frozen pairs from the oldest on, the pair that rows are put into, and the places for more. Marks, watermarks and pairs
+-- have their own room.
+pub record Store : Type 0 where
+  pub series : List Schema
+  pub stamp : ℕ
+  pub watermarks : Watermarks
+  pub marks : Marks
+  pub frozen : List FrozenPair
+  pub working : Pair
+  pub places : Places

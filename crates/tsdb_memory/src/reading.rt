@@ -1,0 +1,86 @@
+//! What is read of memory. Depends on the store's fields.
+ghost use Rattle.std.specs.Prelude.{◌≡◌, ◌≤◌, IfSome, Some, length, map, slice_get};
+ghost use Rattle.std.specs.Option.{option_map};
+ghost use Rattle.tsdb_memory.specs.Model.{frozen_in};
+ghost use Rattle.tsdb_memory.specs.Shown.{number_of};
+ghost use Rattle.tsdb_state.specs.Limits.{max_frozen};
+
+use crate::store::{FrozenPair, MemoryStore};
+use tsdb_base::{DataType, Encoding, SeriesId, Stamp};
+use tsdb_marks::Marks;
+use tsdb_memtable::{Pair, Watermarks};
+use tsdb_path::Path;
+
+/// A series that is there: its number, its type and its encoding.
+#[derive(Clone, Copy)]
+pub struct Numbered {
+    pub id: SeriesId,
+    pub data_type: DataType,
+    pub encoding: Encoding,
+}
+
+impl MemoryStore {
+    /// The frozen pairs, from the oldest on: at most 2.
+    pub fn frozen(&self) -> &[FrozenPair]
+        ensures value { map frozen_in result.now ≡ self.now.frozen }
+        ensures two { length self.now.frozen ≤ max_frozen }
+    {
+        self.frozen.as_slice()
+    }
+
+    /// The pair that rows are put into.
+    pub fn working(&self) -> &Pair
+        ensures { result.now ≡ self.now.working }
+    {
+        &self.working
+    }
+
+    /// The marks of deletions.
+    pub fn marks(&self) -> &Marks
+        ensures { result.now ≡ self.now.marks }
+    {
+        &self.marks
+    }
+
+    /// The watermarks of devices.
+    pub fn watermarks(&self) -> &Watermarks
+        ensures { result.now ≡ self.now.watermarks }
+    {
+        &self.watermarks
+    }
+
+    /// The series with this path, where it is there.
+    pub fn series(&self, path: &Path) -> Option<Numbered>
+        ensures number { option_map (λ series. series.id.0) result ≡ number_of self.now.series path.now }
+        ensures schema { IfSome result (λ series. slice_get self.now.series series.id.0 ≡ Some (record {
+          path = path.now;
+          data_type = series.data_type;
+          encoding = series.encoding;
+        })) }
+    {
+        let Some((number, _, kind)) = self.series.get_full(path) else {
+            return None;
+        };
+        Some(Numbered {
+            id: SeriesId(number as u64),
+            data_type: kind.0,
+            encoding: kind.1,
+        })
+    }
+}
+
+impl FrozenPair {
+    /// The stamp at its freeze.
+    pub fn born(&self) -> Stamp
+        ensures { result.0 ≡ (frozen_in self.now).born }
+    {
+        self.born
+    }
+
+    /// Its points.
+    pub fn pair(&self) -> &Pair
+        ensures { result.now ≡ (frozen_in self.now).pair }
+    {
+        &self.pair
+    }
+}
