@@ -1,10 +1,12 @@
 -- What deletions, flushes and replaced files leave in memory, by what the calls of an effect gave.
-use Rattle.std.proofs.Common.{◌≡◌, ℕ, ◌+◌, ◌<◌, ◌≤◌, drop, get_or, List, [], ◌∷◌, length, map, Option, Some, sym, ap, subst, ◌∙◌, arith}
-use Rattle.std.specs.Prelude.{remove}
+use Rattle.std.proofs.Common.{◌≡◌, ℕ, ℤ, ◌+◌, ◌<◌, ◌≤◌, true, false, cond, ◌++◌, drop, get_or, List, [], ◌∷◌, length, map, Option, Some, sym, ap, subst, ◌∙◌, arith}
+use Rattle.std.specs.Prelude.{int_le, int_lt, remove}
+use Rattle.std.proofs.lemmas.Int.{ints}
 use Rattle.std.proofs.lemmas.List.{drop_all, drop_more}
 use Rattle.tsdb_base.specs.declared.ids.Stamp.{Stamp}
 use Rattle.tsdb_base.specs.declared.point.Range.{Range}
 use Rattle.tsdb_marks.specs.Lists.{Marks, purge_list}
+use Rattle.tsdb_marks.specs.declared.marks.Mark.{Mark}
 use Rattle.tsdb_memory.proofs.Effects.{cut_shown, cut_sound, cut_store, map_same, purged_shown, purged_sound}
 use Rattle.tsdb_memory.specs.Least.{IsLeastOf, least_with, lesser}
 use Rattle.tsdb_memory.specs.Model.{IsSound, frozen_in}
@@ -79,3 +81,27 @@ at_next frozen i pair least within is =
 pub at_end : (frozen : List FrozenPair) (i : ℕ) (least : Option Stamp) → length frozen ≤ i
     → least_with least (map (λ (p : FrozenPair). p.born.0) (drop i frozen)) ≡ least
 at_end frozen i least past = ap (λ l. least_with least (map (λ (p : FrozenPair). p.born.0) l)) (drop_all i frozen past)
+
+-- the marks with one more, where the range has a time, and where it has none
+
+not_less : (a b : ℤ) → int_le a b ≡ true → int_lt b a ≡ false
+not_less a b h = grind (arith, ints)
+
+is_less : (a b : ℤ) → int_le a b ≡ false → int_lt b a ≡ true
+is_less a b h = grind (arith, ints)
+
+module _ (path : List ℕ) (range : Range) (version : ℕ) (marks : List Mark) (from to : ℤ) (starts : from ≡ range.from)
+    (ends : to ≡ range.to) where
+  abbrev one_more : ℤ → ℤ → List Mark
+  one_more from to =
+      marks ++ record { path = path; from = from; to = to; version = record { 0 = version } } ∷ []
+
+  pub marked : int_le from to ≡ true → one_more from to ≡ add_mark path range version marks
+  marked h =
+      (λ i. one_more (starts i) (ends i))
+      ∙ ap (λ b. cond b marks (one_more range.from range.to))
+      (sym (not_less range.from range.to (sym (λ i. int_le (starts i) (ends i)) ∙ h)))
+
+  pub unmarked : int_le from to ≡ false → marks ≡ add_mark path range version marks
+  unmarked h = ap (λ b. cond b marks (one_more range.from range.to))
+      (sym (is_less range.from range.to (sym (λ i. int_le (starts i) (ends i)) ∙ h)))

@@ -6,3 +6,6 @@ pub mod Putting
 pub mod Effects
 pub mod RowCells
 pub mod Later
+pub mod Raising
+pub mod Frozen
+pub mod Raises

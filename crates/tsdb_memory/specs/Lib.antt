@@ -2,4 +2,6 @@ pub mod Store
 pub mod Shown
 pub mod Least
 pub mod Rows
+pub mod Shared
+pub mod Freezing
 pub mod Model

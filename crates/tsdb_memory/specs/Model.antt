@@ -7,6 +7,7 @@ use Rattle.tsdb_base.specs.declared.value.DataType.{DataType}
 use Rattle.tsdb_base.specs.declared.value.Encoding.{Encoding}
 use Rattle.tsdb_map.specs.Commands.{IsSchema}
 use Rattle.tsdb_map.specs.declared.command.Schema.{Schema}
+use Rattle.tsdb_memory.specs.Shared.{pair_in}
 use Rattle.tsdb_memory.specs.Shown.{number_of}
 use Rattle.tsdb_memory.specs.Store as value
 use Rattle.tsdb_memory.specs.declared.store.FrozenPair.{FrozenPair}
@@ -18,7 +19,7 @@ abbrev pub schema_of : List ℕ × (DataType × Encoding) → Schema
 schema_of entry = record { path = entry.0; data_type = entry.1.0; encoding = entry.1.1 }
 
 abbrev pub frozen_in : FrozenPair → value.FrozenPair
-frozen_in frozen = record { born = frozen.born.0; pair = frozen.pair }
+frozen_in frozen = record { born = frozen.born.0; pair = pair_in frozen.pair }
 
 abbrev pub store_in : Inside → value.Store
 store_in inside = record {

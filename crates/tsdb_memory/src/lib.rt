@@ -13,10 +13,13 @@
 mod creating;
 mod deleting;
 mod flushing;
+mod freezing;
 mod inserting;
 mod purging;
 mod reading;
+mod shared;
 mod store;
 
+pub use freezing::Freezing;
 pub use reading::Numbered;
 pub use store::{FrozenPair, MemoryStore};

@@ -1,11 +1,13 @@
 //! What is read of memory. Depends on the store's fields.
 ghost use Rattle.std.specs.Prelude.{◌≡◌, ◌≤◌, IfSome, Some, length, map, slice_get};
+ghost use Rattle.std.specs.Arc.{arc_value};
 ghost use Rattle.std.specs.Option.{option_map};
 ghost use Rattle.tsdb_memory.specs.Model.{frozen_in};
 ghost use Rattle.tsdb_memory.specs.Shown.{number_of};
 ghost use Rattle.tsdb_state.specs.Limits.{max_frozen};
 
 use crate::store::{FrozenPair, MemoryStore};
+use std::sync::Arc;
 use tsdb_base::{DataType, Encoding, SeriesId, Stamp};
 use tsdb_marks::Marks;
 use tsdb_memtable::{Pair, Watermarks};
@@ -81,6 +83,13 @@ impl FrozenPair {
     pub fn pair(&self) -> &Pair
         ensures { result.now ≡ (frozen_in self.now).pair }
     {
-        &self.pair
+        self.pair.pair()
+    }
+
+    /// One more owner of its points, where there can be one: always, but for the cases at the head of `shared`.
+    pub fn share(&self) -> Option<Arc<Pair>>
+        ensures { IfSome result (λ shared. arc_value shared ≡ (frozen_in self.now).pair) }
+    {
+        self.pair.share()
     }
 }

@@ -1,10 +1,11 @@
 //! What is in memory: the series by their numbers, the stamp, the watermarks, the marks, the frozen pairs and the
-//! working pair. Depends on `tsdb_memtable` and `tsdb_marks`.
+//! working pair. Depends on `shared`, `tsdb_memtable` and `tsdb_marks`.
 ghost use Rattle.std.specs.Prelude.{◌≡◌, ◌≤◌};
 ghost use Rattle.tsdb_memory.specs.Shown.{IsMemoryOf};
 ghost use Rattle.tsdb_state.specs.Limits.{end_of_numbers};
 ghost use Rattle.tsdb_state.specs.NewStore.{new_store};
 
+use crate::shared::SharedPair;
 use indexmap::IndexMap;
 use std::alloc::Global;
 use std::marker::Model;
@@ -17,7 +18,7 @@ use tsdb_path::Path;
 #[derive(Drop)]
 pub struct FrozenPair {
     pub(crate) born: Stamp,
-    pub(crate) pair: Pair,
+    pub(crate) pair: SharedPair,
 }
 
 /// What is in memory. The series are numbered from 0 in the order of their creation, each with its type and its
