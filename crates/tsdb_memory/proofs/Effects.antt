@@ -20,14 +20,15 @@ use Rattle.tsdb_map.specs.declared.command.Schema.{Schema}
 use Rattle.tsdb_marks.specs.Lists.{Marks, is_newer_than, purge_list}
 use Rattle.tsdb_marks.specs.declared.marks.Mark.{Mark}
 use Rattle.tsdb_memory.proofs.Borns.{frozen_borns, least_all, purge_least}
-use Rattle.tsdb_memory.proofs.Found.{frozen_push, known_cut, pair_cut, pair_push}
+use Rattle.tsdb_memory.proofs.Found.{frozen_push, known_cut, pair_cut, pair_push, rising_cut}
 use Rattle.tsdb_memory.proofs.Numbers.{length_push, once_push}
 use Rattle.tsdb_memory.specs.Least.{IsLeastOf, least_with}
-use Rattle.tsdb_memory.specs.Model.{HasKnownSeries, IsSound}
+use Rattle.tsdb_memory.specs.Model.{HasKnownSeries, HasRisingPoints, IsSound}
 use Rattle.tsdb_memory.specs.Rows.{ChangesRoom}
 use Rattle.tsdb_memory.specs.Shown.{IsFrozenOf, IsMemoryOf, IsPairOf, entry_of, file_borns, number_of, value_at}
 use Rattle.tsdb_memory.specs.Store.{FrozenPair, Places, Store}
 use Rattle.tsdb_memtable.specs.Pairs.{change_points, points_of, without_range}
+use Rattle.tsdb_memtable.specs.Points.{IsRising}
 use Rattle.tsdb_state.specs.Limits.{end_of_numbers, max_frozen}
 use Rattle.tsdb_state.specs.NewStore.{new_store}
 use Rattle.tsdb_state.specs.Records.{Replacement, add_mark, created, cut_pair, flush_oldest, flushed, new_file}
@@ -75,6 +76,7 @@ created_sound store series places schema joins formed free stamp sound =
       formed = All-push IsSchema store.series schema sound.formed formed;
       once = once_push store.series schema free sound.once;
       known = λ space n h. sound.known space n (shorter n h);
+      rising = sound.rising;
       frozen_known = All-weaker (λ (f : FrozenPair). HasKnownSeries store.series f.pair)
           (λ (f : FrozenPair). HasKnownSeries (store.series ++ schema ∷ []) f.pair)
           (λ f known space n h. known space n (shorter n h)) store.frozen sound.frozen_known;
@@ -118,6 +120,7 @@ purged_sound store marks least sound after = record {
   formed = sound.formed;
   once = sound.once;
   known = sound.known;
+  rising = sound.rising;
   frozen_known = sound.frozen_known;
   two = sound.two;
   versions = subst (All (UpTo store.stamp)) (sym after)
@@ -185,6 +188,7 @@ module _ (store : Store) (n : ℕ) (path : List ℕ) (range : Range) (added : Ma
     formed = sound.formed;
     once = sound.once;
     known = known_cut store.series store.working n range sound.known;
+    rising = rising_cut store.working n range sound.rising;
     frozen_known = sound.frozen_known;
     two = sound.two;
     versions = subst (All (UpTo (store.stamp + 1))) (sym after) (added_versions sound.versions);
@@ -292,11 +296,15 @@ new_shown places = record {
   };
 }
 
+pub nothing_rises : IsRising []
+nothing_rises = λ i j d before within. absurd (omega (arith, within))
+
 pub new_sound : (places : Places) → IsSound (new_memory places)
 new_sound places = record {
   formed = All-nil IsSchema;
   once = λ number schema e. absurd (none schema e);
   known = known;
+  rising = rising;
   frozen_known = All-nil (λ (f : FrozenPair). HasKnownSeries [] f.pair);
   two = omega arith;
   versions = All-nil (UpTo 0);
@@ -305,6 +313,10 @@ new_sound places = record {
   where
     none : (schema : Schema) → None ≡ Some schema → ⊥
     none schema h = cc
+
+    rising : HasRisingPoints []
+    rising Sequence n = nothing_rises
+    rising Unsequence n = nothing_rises
 
     known : HasKnownSeries [] []
     known Sequence n h = refl
@@ -340,6 +352,7 @@ roomy_sound old new room sound = record {
       → number_of s schema.path ≡ Some number) (sym room.series) sound.once;
   known = subst (λ s. HasKnownSeries s new.working) (sym room.series)
       (λ space n h. room.working space n ∙ sound.known space n h);
+  rising = λ space number. subst IsRising (sym (room.working space number)) (sound.rising space number);
   frozen_known = subst (λ l. All (λ (f : FrozenPair). HasKnownSeries new.series f.pair) l) (sym room.frozen)
       (subst (λ s. All (λ (f : FrozenPair). HasKnownSeries s f.pair) old.frozen) (sym room.series) sound.frozen_known);
   two = subst (λ (l : List FrozenPair). length l ≤ max_frozen) (sym room.frozen) sound.two;
@@ -356,6 +369,7 @@ flushed_sound store frozen oldest places marks least had sound after = record {
   formed = sound.formed;
   once = sound.once;
   known = sound.known;
+  rising = sound.rising;
   frozen_known = All-tail (λ (f : FrozenPair). HasKnownSeries store.series f.pair) oldest frozen
       (subst (λ l. All (λ (f : FrozenPair). HasKnownSeries store.series f.pair) l) had sound.frozen_known);
   two = fewer (length frozen) (subst (λ (l : List FrozenPair). length l ≤ max_frozen) had sound.two);

@@ -1,5 +1,5 @@
 -- The value of a pair at a place, after a series has joined, and after a deletion.
-use Rattle.std.proofs.Common.{◌≡◌, ℕ, ℤ, ◌≤◌, Bool, true, false, cond, not, List, [], ◌∷◌, ◌++◌, length, Option}
+use Rattle.std.proofs.Common.{◌≡◌, ◌<ℤ◌, ℕ, ℤ, ◌≤◌, Bool, true, false, cond, not, List, [], ◌∷◌, ◌++◌, length, Option}
 use Rattle.std.proofs.Common.{Some, None, refl, sym, ap, subst, ◌∙◌, arith}
 use Rattle.std.proofs.lemmas.Int.{ints}
 use Rattle.std.specs.Prelude.{◌&&◌, All, find}
@@ -7,6 +7,7 @@ use Rattle.std.specs.List.{AllZip, filter}
 use Rattle.std.specs.Option.{option_and_then, option_map, option_or}
 use Rattle.std.proofs.lemmas.Bool.{false≢true}
 use Rattle.std.proofs.lemmas.List.Elements.{All-head, All-tail}
+use Rattle.std.proofs.lemmas.List.Kept.{AllPairs-filter}
 use Rattle.tsdb_base.specs.declared.ids.Space.{Space}
 use Rattle.tsdb_base.specs.declared.ids.Space.TheVariants.{Sequence, Unsequence}
 use Rattle.tsdb_base.specs.declared.point.Point.{Point}
@@ -19,7 +20,7 @@ use Rattle.tsdb_map.specs.declared.command.Schema.{Schema}
 use Rattle.tsdb_memory.proofs.Numbers.{number_push, one_path, some_same}
 use Rattle.std.specs.Ordering.{eq_by_cmp, int_eq, nat_cmp}
 use Rattle.tsdb_memory.proofs.Series.{erased_here, erased_there, itself, one_number}
-use Rattle.tsdb_memory.specs.Model.{HasKnownSeries}
+use Rattle.tsdb_memory.specs.Model.{HasKnownSeries, HasRisingPoints}
 use Rattle.tsdb_memory.specs.Shown.{IsFrozenOf, IsPairOf, number_of, value_at, value_found}
 use Rattle.tsdb_memory.specs.Store as store
 use Rattle.tsdb_memtable.specs.Pairs.{Pair, change_points, points_of, without_range}
@@ -162,3 +163,22 @@ known_cut series pair n range known space number beyond = by (eq_by_cmp nat_cmp 
         erased_there space n range pair number
         (λ same. false≢true (sym e ∙ ap (eq_by_cmp nat_cmp n) (sym same) ∙ itself n))
         ∙ known space number beyond
+
+-- times still rise after a deletion
+pub rising_cut : (pair : Pair) (n : ℕ) (range : Range) → HasRisingPoints pair
+    → HasRisingPoints (change_points n (without_range range) pair)
+rising_cut pair n range rising space number = by (eq_by_cmp nat_cmp n number) refl
+  where
+    by : (b : Bool) → eq_by_cmp nat_cmp n number ≡ b
+        → points.IsRising (points_of space number (change_points n (without_range range) pair))
+    by true e =
+        subst (λ k. points.IsRising (points_of space k (change_points n (without_range range) pair)))
+        (one_number n number e)
+        (subst points.IsRising (sym (erased_here space n range pair))
+        (AllPairs-filter (λ (a b : Point). a.time <ℤ b.time) (points.is_outside range) (points_of space n pair)
+        (rising space n)))
+    by false e =
+        subst points.IsRising
+        (sym (erased_there space n range pair number
+        (λ same. false≢true (sym e ∙ ap (eq_by_cmp nat_cmp n) (sym same) ∙ itself n))))
+        (rising space number)

@@ -19,11 +19,12 @@ use Rattle.tsdb_layers.proofs.Places.{is_place, place_itself}
 use Rattle.tsdb_layers.specs.Lists.{Among}
 use Rattle.tsdb_layers.specs.Places.{Content, Place, place_cmp}
 use Rattle.tsdb_map.specs.declared.command.Schema.{Schema}
+use Rattle.tsdb_memory.proofs.Effects.{nothing_rises}
 use Rattle.tsdb_memory.proofs.Numbers.{length_push, schema_at}
 use Rattle.tsdb_memory.proofs.Raising.{IsRaisedTo, Rise, code_risen, one_raised, rise_in, rise_of, risen}
 use Rattle.tsdb_memory.proofs.Raising.{rises_raise, state_risen, through}
 use Rattle.tsdb_memory.specs.Freezing.{AreRaises, HasTime, raised_by}
-use Rattle.tsdb_memory.specs.Model.{HasKnownSeries, IsSound}
+use Rattle.tsdb_memory.specs.Model.{HasKnownSeries, HasRisingPoints, IsSound}
 use Rattle.tsdb_memory.specs.Shown.{IsContentOf, IsFrozenOf, IsMemoryOf, number_of, value_at, value_found}
 use Rattle.tsdb_memory.specs.Store.{FrozenPair, Places, Store}
 use Rattle.tsdb_memory.specs.declared.freezing.Raise.{Raise}
@@ -43,12 +44,12 @@ same_time a b h = grind (arith, ints)
 time_itself : (a : ℤ) → int_eq a a ≡ true
 time_itself a = grind (arith, ints)
 
-record PointAt (points : List Point) (time : ℤ) : Type 0 where
+pub record PointAt (points : List Point) (time : ℤ) : Type 0 where
   pub point : Point
   pub among : Among point points
   pub is : point.time ≡ time
 
-point_at : (points : List Point) (time : ℤ) → IsSome (value_at time points) → PointAt points time
+pub point_at : (points : List Point) (time : ℤ) → IsSome (value_at time points) → PointAt points time
 point_at [] time some = absurd (false≢true some)
 point_at (p ∷ points) time some = by (int_eq time p.time) refl some (λ h. point_at points time h)
   where
@@ -61,7 +62,7 @@ point_at (p ∷ points) time some = by (int_eq time p.time) refl some (λ h. poi
         let there = rest some in
         record { point = there.point; among = inr there.among; is = there.is }
 
-value_there : (points : List Point) (point : Point) → Among point points → IsSome (value_at point.time points)
+pub value_there : (points : List Point) (point : Point) → Among point points → IsSome (value_at point.time points)
 value_there [] point among = absurd among
 value_there (p ∷ points) point among = by (int_eq point.time p.time) refl among (λ h. value_there points point h)
   where
@@ -237,6 +238,10 @@ pub nothing_known : (series : List Schema) → HasKnownSeries series []
 nothing_known series Sequence n h = refl
 nothing_known series Unsequence n h = refl
 
+nothing_rising : HasRisingPoints []
+nothing_rising Sequence n = nothing_rises
+nothing_rising Unsequence n = nothing_rises
+
 module _ (store : Store) (raises : List Raise) (watermarks : Watermarks) (frozen : List FrozenPair) (places : Places)
     (pushed : frozen ≡ store.frozen ++ record { born = store.stamp; pair = store.working } ∷ []) where
   abbrev pub frozen_store : Store
@@ -274,6 +279,7 @@ module _ (store : Store) (raises : List Raise) (watermarks : Watermarks) (frozen
     formed = sound.formed;
     once = sound.once;
     known = nothing_known store.series;
+    rising = nothing_rising;
     frozen_known = subst (All (λ (f : FrozenPair). HasKnownSeries store.series f.pair)) (sym pushed)
         (All-push (λ (f : FrozenPair). HasKnownSeries store.series f.pair) store.frozen
         (record { born = store.stamp; pair = store.working }) sound.frozen_known sound.known);

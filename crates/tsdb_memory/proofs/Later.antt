@@ -1,5 +1,5 @@
 -- What deletions, flushes and replaced files leave in memory, by what the calls of an effect gave.
-use Rattle.std.proofs.Common.{◌≡◌, ℕ, ℤ, ◌+◌, ◌<◌, ◌≤◌, true, false, cond, ◌++◌, drop, get_or, List, [], ◌∷◌, length, map, Option, Some, sym, ap, subst, ◌∙◌, arith}
+use Rattle.std.proofs.Common.{◌≡◌, ℕ, ℤ, ◌+◌, ◌<◌, ◌≤◌, true, false, cond, ◌++◌, drop, get_or, List, [], ◌∷◌, length, map, Option, Some, slice_get, sym, ap, subst, ◌∙◌, arith}
 use Rattle.std.specs.Prelude.{int_le, int_lt, remove}
 use Rattle.std.proofs.lemmas.Int.{ints}
 use Rattle.std.proofs.lemmas.List.{drop_all, drop_more}
@@ -8,6 +8,7 @@ use Rattle.tsdb_base.specs.declared.point.Range.{Range}
 use Rattle.tsdb_marks.specs.Lists.{Marks, purge_list}
 use Rattle.tsdb_marks.specs.declared.marks.Mark.{Mark}
 use Rattle.tsdb_memory.proofs.Effects.{cut_shown, cut_sound, cut_store, map_same, purged_shown, purged_sound}
+use Rattle.tsdb_memory.proofs.Numbers.{some_same}
 use Rattle.tsdb_memory.specs.Least.{IsLeastOf, least_with, lesser}
 use Rattle.tsdb_memory.specs.Model.{IsSound, frozen_in}
 use Rattle.tsdb_memory.specs.Shown.{IsMemoryOf, file_borns, number_of}
@@ -105,3 +106,15 @@ module _ (path : List ℕ) (range : Range) (version : ℕ) (marks : List Mark) (
   pub unmarked : int_le from to ≡ false → marks ≡ add_mark path range version marks
   unmarked h = ap (λ b. cond b marks (one_more range.from range.to))
       (sym (is_less range.from range.to (sym (λ i. int_le (starts i) (ends i)) ∙ h)))
+
+-- the first of the frozen pairs, as a look at it gives it
+pub record Oldest (items : List FrozenPair) (oldest : FrozenPair) : Type 0 where
+  pub rest : List value.FrozenPair
+  pub are : map frozen_in items ≡ frozen_in oldest ∷ rest
+
+pub oldest_of : (items : List FrozenPair) (oldest : FrozenPair) → slice_get items 0 ≡ Some oldest → Oldest items oldest
+oldest_of [] oldest e = absurd (cc)
+oldest_of (x ∷ items) oldest e = record {
+  rest = map frozen_in items;
+  are = ap (λ y. frozen_in y ∷ map frozen_in items) (some_same x oldest e);
+}

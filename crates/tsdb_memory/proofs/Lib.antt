@@ -9,3 +9,5 @@ pub mod Later
 pub mod Raising
 pub mod Frozen
 pub mod Raises
+pub mod Emptiness
+pub mod Counts

@@ -17,10 +17,12 @@ use Rattle.tsdb_layers.specs.Places.{Place, place_cmp}
 use Rattle.tsdb_map.specs.declared.command.Schema.{Schema}
 use Rattle.tsdb_memory.proofs.Numbers.{one_path, some_same}
 use Rattle.tsdb_memory.proofs.Series.{changed_here, changed_there, itself, one_number}
+use Rattle.tsdb_memory.specs.Model.{HasRisingPoints}
 use Rattle.tsdb_memory.specs.Shown.{IsPairOf, number_of, value_at, value_found}
 use Rattle.tsdb_memtable.specs.Pairs.{Pair, SeriesPoints, blank, change_points, is_series, points_in, points_of, put_in}
 use Rattle.tsdb_memtable.specs.Pairs.{spare_of}
-use Rattle.tsdb_memtable.specs.Points.{is_after, is_before, with_point}
+use Rattle.tsdb_memtable.proofs.PointLemmas.{with_point-rising}
+use Rattle.tsdb_memtable.specs.Points.{IsRising, is_after, is_before, with_point}
 use Rattle.tsdb_state.specs.Records.{put_in_space}
 use Rattle.tsdb_state.specs.State as state
 
@@ -131,14 +133,14 @@ in_pair pair n room = cases (lookup (is_series n) pair) refl
     cases None e = absurd (none (subst (λ o. 0 < (unwrap_or o blank).spare) e room))
     cases (Some v) e = refl
 
-abbrev is_space : Space → Space → Bool
+abbrev pub is_space : Space → Space → Bool
 is_space Sequence Sequence = true
 is_space Sequence Unsequence = false
 is_space Unsequence Sequence = false
 is_space Unsequence Unsequence = true
 
 -- the points of a series in a space after a put
-put_here : (space other : Space) (n : ℕ) (point : Point) (pair : Pair) → 0 < spare_of n pair
+pub put_here : (space other : Space) (n : ℕ) (point : Point) (pair : Pair) → 0 < spare_of n pair
     → points_of other n (change_points n (put_in space point) pair)
     ≡ cond (is_space space other) (with_point point (points_of other n pair)) (points_of other n pair)
 put_here Sequence Sequence n point pair room =
@@ -150,10 +152,30 @@ put_here Unsequence Sequence n point pair room =
 put_here Unsequence Unsequence n point pair room =
     changed_here Unsequence n (put_in Unsequence point) pair (in_pair pair n room)
 
-put_there : (space other : Space) (n : ℕ) (point : Point) (pair : Pair) (m : ℕ) → 0 < spare_of n pair → n ≢ m
+pub put_there : (space other : Space) (n : ℕ) (point : Point) (pair : Pair) (m : ℕ) → 0 < spare_of n pair → n ≢ m
     → points_of other m (change_points n (put_in space point) pair) ≡ points_of other m pair
 put_there space other n point pair m room apart =
     ap (points_in other) (changed_there n (put_in space point) pair m (in_pair pair n room) apart)
+
+-- times still rise after a put
+pub rising_put : (space : Space) (n : ℕ) (point : Point) (pair : Pair) → 0 < spare_of n pair → HasRisingPoints pair
+    → HasRisingPoints (change_points n (put_in space point) pair)
+rising_put space n point pair room rising other number = by (eq_by_cmp nat_cmp n number) refl
+  where
+    chosen : (b : Bool) → IsRising (cond b (with_point point (points_of other n pair)) (points_of other n pair))
+    chosen true = with_point-rising point (points_of other n pair) (rising other n)
+    chosen false = rising other n
+
+    by : (b : Bool) → eq_by_cmp nat_cmp n number ≡ b
+        → IsRising (points_of other number (change_points n (put_in space point) pair))
+    by true e =
+        subst (λ k. IsRising (points_of other k (change_points n (put_in space point) pair))) (one_number n number e)
+        (subst IsRising (sym (put_here space other n point pair room)) (chosen (is_space space other)))
+    by false e =
+        subst IsRising
+        (sym (put_there space other n point pair number room
+        (λ same. false≢true (sym e ∙ ap (eq_by_cmp nat_cmp n) (sym same) ∙ itself n))))
+        (rising other number)
 
 module _ (series : List Schema) (space other : Space) (pair : Pair) (n : ℕ) (path : List ℕ) (point : Point) where
   abbrev at : Place

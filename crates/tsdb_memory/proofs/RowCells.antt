@@ -10,9 +10,9 @@ use Rattle.tsdb_base.specs.declared.point.Point.{Point}
 use Rattle.tsdb_layers.specs.Order.{Watermarks}
 use Rattle.tsdb_log.specs.declared.record.CellRecord.{CellRecord}
 use Rattle.tsdb_map.specs.declared.command.Schema.{Schema}
-use Rattle.tsdb_memory.proofs.Putting.{in_pair, pair_put}
+use Rattle.tsdb_memory.proofs.Putting.{in_pair, pair_put, rising_put}
 use Rattle.tsdb_memory.proofs.Series.{changed_there}
-use Rattle.tsdb_memory.specs.Model.{HasKnownSeries, IsSound}
+use Rattle.tsdb_memory.specs.Model.{HasKnownSeries, IsSound, HasRisingPoints}
 use Rattle.tsdb_memory.specs.Rows.{UsesSpareRoom, put_all}
 use Rattle.tsdb_memory.specs.Shown.{IsMemoryOf, IsPairOf, entry_of, number_of}
 use Rattle.tsdb_memory.specs.Store.{Store}
@@ -138,6 +138,18 @@ known_row series device space time (cell ∷ cells) pair there differ room known
     (in_pair pair cell.series.0 here) (within cell.series.0 n series at.schema at.at beyond))
     ∙ known s n beyond)
 
+rising_row : (space : Space) (time : ℤ) (cells : List CellRecord) (pair : Pair) → AllPairs Differs cells
+    → All (HasRoom pair) cells → HasRisingPoints pair → HasRisingPoints (put_all space time cells pair)
+rising_row space time [] pair differ room rising = rising
+rising_row space time (cell ∷ cells) pair differ room rising =
+    let here = All-head (HasRoom pair) cell cells room in
+    let point : Point = record { time = time; value = cell.value } in
+    rising_row space time cells (change_points cell.series.0 (put_in space point) pair)
+    (pairs_rest Differs cell cells differ)
+    (room_left space point cell.series.0 pair here cells (pairs_first Differs cell cells differ)
+    (All-tail (HasRoom pair) cell cells room))
+    (rising_put space cell.series.0 point pair here rising)
+
 next_within : (n : ℕ) → n < end_of_numbers → n + 1 ≤ end_of_numbers
 next_within n h = omega (arith, h)
 
@@ -170,6 +182,7 @@ module _ (store : Store) (device : List ℕ) (space : Space) (time : ℤ) (cells
     formed = sound.formed;
     once = sound.once;
     known = known_row store.series device space time cells store.working there differ room sound.known;
+    rising = rising_row space time cells store.working differ room sound.rising;
     frozen_known = sound.frozen_known;
     two = sound.two;
     versions = All-weaker (λ mark. mark.version.0 ≤ store.stamp) (λ mark. mark.version.0 ≤ store.stamp + 1)

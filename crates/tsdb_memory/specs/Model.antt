@@ -13,6 +13,7 @@ use Rattle.tsdb_memory.specs.Store as value
 use Rattle.tsdb_memory.specs.declared.store.FrozenPair.{FrozenPair}
 use Rattle.tsdb_memory.specs.declared.store.MemoryStore.TheInside.{Inside}
 use Rattle.tsdb_memtable.specs.Pairs.{Pair, points_of}
+use Rattle.tsdb_memtable.specs.Points.{IsRising}
 use Rattle.tsdb_state.specs.Limits.{end_of_numbers, max_frozen}
 
 abbrev pub schema_of : List ℕ × (DataType × Encoding) → Schema
@@ -36,13 +37,18 @@ store_in inside = record {
 abbrev pub HasKnownSeries : List Schema → Pair → Type 0
 HasKnownSeries series pair = (space : Space) (number : ℕ) → length series ≤ number → points_of space number pair ≡ []
 
--- series are well-formed, and each has its path alone; points are of series that are there; versions and the stamp are
--- within their bounds
+-- the times of each series rise in each space
+abbrev pub HasRisingPoints : Pair → Type 0
+HasRisingPoints pair = (space : Space) (number : ℕ) → IsRising (points_of space number pair)
+
+-- series are well-formed, and each has its path alone; points are of series that are there, and those of the working
+-- pair rise in time; versions and the stamp are within their bounds
 pub record IsSound (store : value.Store) : Type 0 where
   pub formed : All IsSchema store.series
   pub once : (number : ℕ) (schema : Schema) → slice_get store.series number ≡ Some schema
       → number_of store.series schema.path ≡ Some number
   pub known : HasKnownSeries store.series store.working
+  pub rising : HasRisingPoints store.working
   pub frozen_known : All (λ frozen. HasKnownSeries store.series frozen.pair) store.frozen
   pub two : length store.frozen ≤ max_frozen
   pub versions : All (λ mark. mark.version.0 ≤ store.stamp) store.marks.marks

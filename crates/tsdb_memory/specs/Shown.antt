@@ -1,5 +1,5 @@
 -- Which state of a store is the one that memory has: the memory part of the state of layers. Files are left free.
-use Rattle.std.specs.Prelude.{◌≡◌, ℕ, suc, ℤ, cond, true, List, [], ◌∷◌, ◌++◌, Option, Some, None, find, map}
+use Rattle.std.specs.Prelude.{◌≡◌, ℕ, suc, ℤ, Bool, cond, true, false, List, [], ◌∷◌, ◌++◌, Option, Some, None, find, map}
 use Rattle.std.specs.FinMap.{get}
 use Rattle.std.specs.Ordering.{int_eq}
 use Rattle.std.specs.List.{AllZip}
@@ -8,6 +8,7 @@ use Rattle.tsdb_base.specs.declared.ids.Space.{Space}
 use Rattle.tsdb_base.specs.declared.ids.Space.TheVariants.{Sequence, Unsequence}
 use Rattle.tsdb_base.specs.declared.point.Point.{Point}
 use Rattle.tsdb_base.specs.declared.value.Value.{Value}
+use Rattle.tsdb_layers.specs.Lists.{Among}
 use Rattle.tsdb_layers.specs.Places.{Content, Place, is_path}
 use Rattle.tsdb_map.specs.declared.command.Schema.{Schema}
 use Rattle.tsdb_memtable.specs.Pairs.{Pair, points_of}
@@ -59,3 +60,19 @@ pub record IsMemoryOf (store : Store) (shown : state.StoreState) : Type 0 where
 -- the borns of the listed files
 abbrev pub file_borns : state.StoreState → List ℕ
 file_borns shown = map (λ file. file.born) (shown.sequence ++ shown.unsequence)
+
+-- the part of a pair in this space
+abbrev pub part_of : Space → state.Pair → Content
+part_of Sequence pair = pair.sequence
+part_of Unsequence pair = pair.unsequence
+
+-- some series has a point in the space
+pub record SomePoint (space : Space) (pair : Pair) : Type 0 where
+  pub number : ℕ
+  pub point : Point
+  pub among : Among point (points_of space number pair)
+
+-- whether a series has a point in the space
+abbrev pub IsFilled : Bool → Space → Pair → Type 0
+IsFilled true space pair = SomePoint space pair
+IsFilled false space pair = (number : ℕ) → points_of space number pair ≡ []

@@ -1,14 +1,17 @@
 //! What is read of memory. Depends on the store's fields.
-ghost use Rattle.std.specs.Prelude.{◌≡◌, ◌≤◌, IfSome, Some, length, map, slice_get};
+ghost use Rattle.std.specs.Prelude.{◌≡◌, ◌≢◌, ◌≤◌, ◌↔◌, List, ◌∷◌, IfSome, IsTrue, None, Some, length, map, slice_get};
+ghost use Rattle.std.specs.FinMap.{empty, len};
 ghost use Rattle.std.specs.Arc.{arc_value};
 ghost use Rattle.std.specs.Option.{option_map};
 ghost use Rattle.tsdb_memory.specs.Model.{frozen_in};
-ghost use Rattle.tsdb_memory.specs.Shown.{number_of};
+ghost use Rattle.tsdb_memory.specs.Shown.{IsFilled, IsMemoryOf, number_of, part_of};
+ghost use Rattle.tsdb_state.specs.Limit.{IsEmptyPair};
 ghost use Rattle.tsdb_state.specs.Limits.{max_frozen};
+ghost use Rattle.tsdb_state.specs.State.{FrozenPair as FrozenState, StoreState};
 
 use crate::store::{FrozenPair, MemoryStore};
 use std::sync::Arc;
-use tsdb_base::{DataType, Encoding, SeriesId, Stamp};
+use tsdb_base::{DataType, Encoding, SeriesId, Space, Stamp};
 use tsdb_marks::Marks;
 use tsdb_memtable::{Pair, Watermarks};
 use tsdb_path::Path;
@@ -35,6 +38,49 @@ impl MemoryStore {
         ensures { result.now ≡ self.now.working }
     {
         &self.working
+    }
+
+    /// The series with this number, where it is there: its path, its type and its encoding.
+    pub fn schema(&self, id: SeriesId) -> Option<(&Path, DataType, Encoding)>
+        ensures some { IfSome result (λ found. slice_get self.now.series id.0 ≡ Some (record {
+          path = found.0.now;
+          data_type = found.1;
+          encoding = found.2;
+        })) }
+        ensures none { result ≡ None → slice_get self.now.series id.0 ≡ None }
+    {
+        let Some((path, kind)) = self.series.get_index(id.0 as usize) else {
+            return None;
+        };
+        Some((path, kind.0, kind.1))
+    }
+
+    /// How many points the working pair has in the space.
+    pub fn points(&self, space: Space) -> u64
+        ensures { (state : StoreState) → IsMemoryOf self.now state → result ≡ len (part_of space state.working) }
+    {
+        self.working.points(space)
+    }
+
+    /// Whether the working pair has no point.
+    pub fn is_idle(&self) -> bool
+        ensures { (state : StoreState) → IsMemoryOf self.now state → (IsTrue result ↔ IsEmptyPair state.working) }
+    {
+        if has_points(&self.working, Space::Sequence) {
+            return false;
+        }
+        !has_points(&self.working, Space::Unsequence)
+    }
+
+    /// Whether the oldest frozen pair, where there is one, has a point in the space.
+    pub fn oldest_has(&self, space: Space) -> bool
+        ensures { (state : StoreState) (oldest : FrozenState) (newer : List FrozenState) → IsMemoryOf self.now state
+            → state.frozen ≡ oldest ∷ newer → (IsTrue result ↔ (part_of space oldest.pair ≢ empty)) }
+    {
+        match self.frozen.first() {
+            Some(oldest) => has_points(oldest.pair.pair(), space),
+            None => false,
+        }
     }
 
     /// The marks of deletions.
@@ -69,6 +115,13 @@ impl MemoryStore {
             encoding: kind.1,
         })
     }
+}
+
+/// Whether a pair has a point in the space.
+fn has_points(pair: &Pair, space: Space) -> bool
+    ensures { IsFilled result space pair.now }
+{
+    pair.points(space) > 0
 }
 
 impl FrozenPair {
