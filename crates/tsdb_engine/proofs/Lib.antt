@@ -1,0 +1,4 @@
+pub mod Filling
+pub mod Widening
+pub mod Parts
+pub mod Trees

@@ -1,0 +1,23 @@
+-- A part in the making, as the code keeps it.
+use Rattle.std.specs.Prelude.{◌≡◌, List, length, map, sum_by}
+use Rattle.std.specs.List.{AllByRecursion as Each}
+use Rattle.tsdb_engine.specs.Steps.{ComeBefore, IsSound}
+use Rattle.tsdb_engine.specs.declared.part.Part.{Part}
+use Rattle.tsdb_jobs.specs.Built.{AreHullsOf, paths_of}
+use Rattle.tsdb_jobs.specs.Parts.{Filled, series_of}
+use Rattle.tsdb_map.specs.declared.command.Schema.{Schema}
+use Rattle.tsfile_writer.specs.Building.{WasGiven}
+
+-- these series were added, each with its points
+pub record IsPart (part : List Filled) (making : Part) : Type 0 where
+  pub given : WasGiven making.builder (map series_of part)
+  pub sound : Each IsSound part
+  pub points : making.points ≡ sum_by (λ filled. length filled.points) part
+  pub hulls : AreHullsOf part making.hulls.items
+  pub paths : making.series.items ≡ paths_of part
+
+-- the series comes behind those that were added
+pub record MayAdd (making : Part) (schema : Schema) : Type 0 where
+  pub part : List Filled
+  pub is : IsPart part making
+  pub before : ComeBefore part schema

@@ -1,0 +1,13 @@
+//! The engine over a core. Depends on tsdb_base, tsdb_path, tsdb_map, tsdb_memtable, tsdb_plan, tsdb_pages, tsfile_writer,
+//! tsdb_outside and tsdb_jobs.
+//!
+//! It has the running of a flush so far: the files of the two parts of a pair.
+#![tactic(auto)]
+
+mod building;
+mod flush;
+mod hulls;
+mod names;
+mod part;
+
+pub use flush::{FlushRefused, run_flush};
