@@ -1,7 +1,7 @@
 # make demo   runs two example scripts on one store, by a program that is built without proofs
 # make build  proves the program and leaves it at bin/tsdb
 # make bench  proves the programs and prints what they take; GROUP=name measures one group
-# make check-disk   kills the program in the middle of its writes, and looks at what the next run finds
+# make check-disk   kills the program in the middle of its writes, and looks at what the next run finds; stores many files
 # make test   proves every crate and runs every test and program
 .PHONY: demo build bench check-disk test
 
@@ -27,6 +27,8 @@ bench: build
 
 check-disk: build
 	@checks/kill bin/tsdb
+	@cd crates/tsdb_bench && rt run -- quick >&2
+	@checks/files crates/tsdb_bench/out/tsdb_bench
 
 test:
 	@rt ci

@@ -1,6 +1,7 @@
 //! The program `tsdb_bench` measures the speed of the engine's parts and prints one table. The word
 //! `quick` runs every group for one round and prints nothing; the name of a group measures that one;
-//! no word measures all. It depends on the crates that it measures.
+//! no word measures all. The word `full` measures nothing: it fills a small disk for `checks/files`. It
+//! depends on the crates that it measures.
 #![tactic(auto)]
 
 mod aggregates;
@@ -17,6 +18,7 @@ mod numbers;
 mod pages;
 mod pieces;
 mod plans;
+mod stored;
 mod table;
 mod turns;
 
@@ -70,6 +72,12 @@ fn measure<R: Threads + Wait + Clock + Sync>(
     }
     if is_all || group == "inserts" {
         check = check.wrapping_add(inserts::inserts(rt, rounds)?);
+    }
+    if is_all || group == "stored" {
+        check = check.wrapping_add(stored::stored(rt, rounds)?);
+    }
+    if group == "full" {
+        check = check.wrapping_add(stored::full(rt)?);
     }
     if check == 0 {
         return Err(Fault::NoGroup);

@@ -48,3 +48,20 @@ pub fn row(
     let tenths = u128::from(done) * 10_000 / nanos;
     println!(rt; "{what:<50} {step:<10} {:>8}.{}", tenths / 10, tenths % 10)
 }
+
+/// Prints how many things were done in a second since `start`.
+pub fn rate(
+    rt: &HostRuntime,
+    rounds: Rounds,
+    what: &str,
+    step: &str,
+    done: u64,
+    start: Instant,
+) -> io::Result<()> {
+    let nanos = start.elapsed(rt)?.as_nanos().max(1);
+    if rounds == Rounds::One {
+        return Ok(());
+    }
+    let a_second = u128::from(done) * 1_000_000_000 / nanos;
+    println!(rt; "{what:<50} {step:<10} {a_second:>10} a second")
+}
