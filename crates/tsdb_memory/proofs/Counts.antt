@@ -33,14 +33,14 @@ use Rattle.tsdb_memtable.specs.Points.{IsRising}
 
 -- how many values a content has
 
-abbrev AreKeys : List Place → Content → Type 0
+abbrev pub AreKeys : List Place → Content → Type 0
 AreKeys places content = (q : Place) → (Among q places → IsSome (get content q)) × (IsSome (get content q) → Among q places)
 
 none_of : (o : Option Value) → (IsSome o → ⊥) → o ≡ None
 none_of None h = refl
 none_of (Some v) h = absurd (h refl)
 
-len_of : (places : List Place) (content : Content) → EachPair (λ (p q : Place). p ≢ q) places → AreKeys places content
+pub len_of : (places : List Place) (content : Content) → EachPair (λ (p q : Place). p ≢ q) places → AreKeys places content
     → len content ≡ length places
 len_of [] content differ are =
     ap len (same_content content empty
@@ -114,7 +114,7 @@ len_of (p ∷ places) content differ are =
 abbrev path_in : List Schema → ℕ → List ℕ
 path_in series number = unwrap_or (option_map (λ (s : Schema). s.path) (slice_get series number)) []
 
-abbrev placed : List ℕ → Point → Place
+abbrev pub placed : List ℕ → Point → Place
 placed path point = record { path = path; time = point.time }
 
 abbrev places_in : List Schema → Space → Pair → List Place
@@ -136,7 +136,7 @@ record PlaceIn (series : List Schema) (space : Space) (pair : Pair) (place : Pla
   pub among : Among point (points_in space entry.1)
   pub is : placed (path_in series entry.0) point ≡ place
 
-among_either : {X : Type 0} (xs ys : List X) (x : X) → Among x (xs ++ ys) → Among x xs ⊎ Among x ys
+pub among_either : {X : Type 0} (xs ys : List X) (x : X) → Among x (xs ++ ys) → Among x xs ⊎ Among x ys
 among_either [] ys x among = inr among
 among_either (z ∷ xs) ys x (inl is) = inl (inl is)
 among_either (z ∷ xs) ys x (inr among) = ⊎_elim (λ h. inl (inr h)) (λ h. inr h) (among_either xs ys x among)
@@ -234,7 +234,7 @@ below p (r ∷ points) rising q (inr among) =
 apart : (a b : ℤ) → a <ℤ b → a ≡ b → ⊥
 apart a b h e = absurd (omega (arith, ints))
 
-row_differs : (path : List ℕ) (points : List Point) → IsRising points
+pub row_differs : (path : List ℕ) (points : List Point) → IsRising points
     → EachPair (λ (p q : Place). p ≢ q) (map (placed path) points)
 row_differs path [] rising = tt
 row_differs path (p ∷ points) rising = (
@@ -245,7 +245,7 @@ row_differs path (p ∷ points) rising = (
   row_differs path points (tail_rising p points rising),
 )
 
-pairs_append : {X : Type 0} (R : X → X → Type 0) (xs ys : List X) → EachPair R xs → EachPair R ys
+pub pairs_append : {X : Type 0} (R : X → X → Type 0) (xs ys : List X) → EachPair R xs → EachPair R ys
     → ((x y : X) → Among x xs → Among y ys → R x y) → EachPair R (xs ++ ys)
 pairs_append R [] ys left right cross = right
 pairs_append R (x ∷ xs) ys left right cross = (
