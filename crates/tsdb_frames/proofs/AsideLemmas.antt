@@ -1,5 +1,5 @@
 -- What calls that leave a slot alone keep of it, and what a closing of byte 0 does to the slot aside.
-use Rattle.std.proofs.Common.{◌≡◌, ◌≢◌, inl, inr, ⊎_elim, ℕ, ◌+◌, ◌<◌, ◌≤◌, List, [], ◌∷◌, ◌++◌, length, take, drop, take-append-drop, get_or, refl, sym, ◌∙◌, ap, subst, arith, None, Some}
+use Rattle.std.proofs.Common.{◌≡◌, ◌≢◌, inl, inr, ⊎_elim, ℕ, ◌+◌, ◌≤◌, List, [], ◌∷◌, ◌++◌, length, take, drop, take-append-drop, get_or, refl, sym, ◌∙◌, ap, subst, arith, None, Some}
 use Rattle.std.proofs.lemmas.Bool.{cases_eq, false≢true, eqb-false, not-true}
 use Rattle.std.proofs.lemmas.Bool.Decides.{eqb_tells}
 use Rattle.std.specs.Prelude.{IfSome, IsSome, true, false, not, nat_eq}
@@ -320,17 +320,21 @@ write_at_other slot place at n old new is =
     (sym is) (aside_write_leaves slot at n old new)
 
 -- its gate stays in it
-pub inside_on : (slot : Slot) (gate : ℕ) (old new : State) → LeavesSlot slot old new → HasGateAt old slot gate → HasGateAt new slot gate
-inside_on slot gate old new leaves within = record { inside = longer old.seen new.seen leaves.seen within.inside; limit = within.limit }
+pub inside_on : (slot : Slot) (gate end : ℕ) (old new : State) → LeavesSlot slot old new → HasGateAt old slot gate end → HasGateAt new slot gate end
+inside_on slot gate end old new leaves within = record {
+  inside = within.inside;
+  long = longer old.seen new.seen leaves.seen within.long;
+  limit = within.limit;
+}
   where
     longer : (before after : Option Image) → WhereTold (λ b a. in_slot slot a ≡ in_slot slot b) before after
-        → ForSome before (λ image. gate < length (in_slot slot image)) → ForSome after (λ image. gate < length (in_slot slot image))
-    longer None after same inside image is = absurd cc
-    longer (Some before) None same inside image is = absurd same
-    longer (Some before) (Some after) same inside image is =
+        → ForSome before (λ image. end ≤ length (in_slot slot image)) → ForSome after (λ image. end ≤ length (in_slot slot image))
+    longer None after same long image is = absurd cc
+    longer (Some before) None same long image is = absurd same
+    longer (Some before) (Some after) same long image is =
         let now : after ≡ image = cc in
-        subst (λ (i : Image). gate < length (in_slot slot i)) now
-        (omega (arith, inside before refl, ap (λ (l : List ℕ). length l) same))
+        subst (λ (i : Image). end ≤ length (in_slot slot i)) now
+        (omega (arith, long before refl, ap (λ (l : List ℕ). length l) same))
 
 -- A closing and a beginning of the slot aside, which the code calls by this name.
 module _ (old new : State) (slot place : Slot) (is : place ≡ other slot) where
@@ -398,15 +402,6 @@ module _ (old staged last : State) (slot place : Slot) (is : place ≡ other slo
         (λ image. HasRecordsOrOneMore [] (Some (payload_of framed)) (in_slot (other slot) image)) (staging_moments staging)
         (subst (λ (p : Slot). LeavesOnly staged last (λ image. HasRecordsOrOneMore [] (Some (payload_of framed)) (in_slot p image))) is
         (gate_moments staged last place 0 [] (payload_of framed) staged_log opening))
-
--- the gate behind the first record is in the slot
-pub begun_within : (place : Slot) (n : ℕ) (old new : Option Image) → WhereTold (TornIn place 0 1) old new
-    → ForSome old (λ image. 1 + n ≤ length (in_slot place image)) → ForSome new (λ image. n < length (in_slot place image))
-begun_within place n None new torn long image is = absurd cc
-begun_within place n (Some before) None torn long image is = absurd torn
-begun_within place n (Some before) (Some after) torn long image is =
-    let same : after ≡ image = cc in
-    subst (λ (i : Image). n < length (in_slot place i)) same (omega (arith, long before refl, torn.here.no_shorter))
 
 -- a record behind a byte 0 in doubt
 pub doubted_on : (disk : State) (slot : Slot) (payload : List ℕ) → IsLogOn disk slot 0 [] (Some payload)

@@ -1,10 +1,10 @@
 -- What private calls keep of a log, and of the slot aside.
-use Rattle.std.proofs.Common.{◌≡◌, ◌≢◌, ◌⊎◌, inl, inr, ℕ, List, [], refl, sym, ◌∙◌, ap, subst, None, Some}
+use Rattle.std.proofs.Common.{◌≡◌, ◌≢◌, ◌⊎◌, inl, inr, ℕ, ◌+◌, ◌≤◌, List, [], arith, refl, sym, ◌∙◌, ap, subst, None, Some}
 use Rattle.std.proofs.lemmas.Bool.{false≢true}
 use Rattle.std.specs.Prelude.{IsOk, Result, Ok, Err, OnErr, OnOk, Bool, true, false, ◌||◌}
 use Rattle.std.specs.declared.option.Option.{Option}
 use Rattle.tsdb_outside.specs.declared.disk.Disk as disk
-use Rattle.tsdb_outside.specs.Disk.{State, IsLawful, in_slot}
+use Rattle.tsdb_outside.specs.Disk.{State, IsLawful, MayWrite, in_slot}
 use Rattle.tsdb_outside.specs.Moments.{LeavesOnly, other}
 use Rattle.tsdb_outside.specs.declared.disk.Slot.{Slot}
 use Rattle.tsdb_outside.specs.declared.faults.Counted as counted
@@ -12,14 +12,16 @@ use Rattle.tsdb_frames.specs.declared.frames.Frames.{Frames}
 use Rattle.tsdb_frames.specs.declared.aside.Aside.{Aside}
 use Rattle.tsdb_frames.specs.declared.aside.Aside.TheVariants.{Settled, Closed, Unsettled, Doubted}
 use Rattle.tsdb_frames.specs.Asides.{HasRecordsOrNone, IsAsideOn, LeftInSlot, is_doubted, records_settled}
-use Rattle.tsdb_frames.specs.Calls.{IsAsideClosed, KeepsAside, KeepsLog}
+use Rattle.tsdb_frames.specs.Calls.{IsAsideClosed, KeepsAside, KeepsLog, Lengthens}
 use Rattle.tsdb_frames.specs.Frames.{IsAside, IsLog, disk_of, settled_aside, slot_of}
 use Rattle.tsdb_frames.specs.Log.{HasRecordsOrOneMore, IsLogOn}
 use Rattle.tsdb_frames.specs.Slots.{HasRecords}
 use Rattle.tsdb_frames.specs.Steps.{LeavesSlot}
-use Rattle.tsdb_frames.proofs.AsideLemmas.{aside_on, doubted_is_unsettled, idle_leaves, left_moments, left_on, left_or_none, log_on, other_other, settled_or_none, tells_on, unsettled_is_doubted}
+use Rattle.tsdb_frames.proofs.AsideLemmas.{aside_on, doubted_is_unsettled, idle_leaves, leaves_slot_on, left_moments, left_on, left_or_none, log_on, other_other, settled_or_none, tells_on, unsettled_is_doubted, write_leaves}
+use Rattle.tsdb_frames.proofs.LogLemmas.{grown_log, grown_moments}
 use Rattle.tsdb_frames.proofs.MomentLemmas.{leaves_on, weaker}
 use Rattle.tsdb_frames.proofs.SlotLemmas.{records_or_one_more}
+use Rattle.tsdb_frames.proofs.StepLemmas.{torn_left, torn_since}
 
 -- from one fact of a result to another
 pub on_ok : {T E P Q : Type 0} (result : Result T E) → (P → Q) → OnOk result P → OnOk result Q
@@ -41,6 +43,12 @@ on_err_both (Err error) P Q one two = (one, two)
 pub err_is_not_ok : {T E : Type 0} (result : Result T E) (error : E) → result ≡ Err error → IsOk result → ⊥
 err_is_not_ok (Ok value) error same ok = absurd cc
 err_is_not_ok (Err other_error) error same ok = false≢true ok
+
+-- the acknowledged records are these, or these and one more
+pub or_one_more : (acknowledged : List (List ℕ)) (in_doubt : Option (List ℕ)) (bytes : List ℕ) → HasRecords acknowledged bytes
+    → HasRecordsOrOneMore acknowledged in_doubt bytes
+or_one_more acknowledged None bytes has = has
+or_one_more acknowledged (Some payload) bytes has = inl has
 
 -- what holds of a slot holds of it by another name
 pub moved_moments : (old new : State) (slot place : Slot) → slot ≡ place → (P : List ℕ → Type 0)
@@ -148,6 +156,63 @@ module _ {J : Type 0} {means : disk.Ghosts J} {counts : counted.Ghosts J} where
   idle_aside_moments log laws records aside =
       left_moments (other (slot_of log)) (disk_of log) (disk_of log) laws (idle_leaves (other (slot_of log)) (disk_of log) laws) (HasRecordsOrNone records)
       (left_or_none (disk_of log) (other (slot_of log)) log.aside records aside.stands)
+
+  -- one call that leaves the slot aside alone, and then another
+  pub keeps_aside_on : (old mid new : Frames J means counts) → IsLawful (disk_of mid) → IsLawful (disk_of new) → KeepsAside old mid → KeepsAside mid new
+      → KeepsAside old new
+  keeps_aside_on old mid new mid_laws laws first second = record {
+    slot = second.slot ∙ first.slot;
+    aside = second.aside ∙ first.aside;
+    leaves = leaves_slot_on (other (slot_of old)) (disk_of old) (disk_of mid) (disk_of new) mid_laws laws first.leaves
+        (subst (λ (s : Slot). LeavesSlot (other s) (disk_of mid) (disk_of new)) first.slot second.leaves);
+  }
+
+  -- A lengthening: none, one behind another, and a write behind the end.
+  pub lengthens_idle : (log : Frames J means counts) → IsLawful (disk_of log) → Lengthens log log
+  lengthens_idle log laws = record {
+    log = λ acknowledged is_log. is_log;
+    doubt = refl;
+    moments = λ acknowledged is_log. left_moments (slot_of log) (disk_of log) (disk_of log) laws (idle_leaves (slot_of log) (disk_of log) laws)
+        (HasRecords acknowledged) is_log.stands.left;
+    aside = record { slot = refl; aside = refl; leaves = idle_leaves (other (slot_of log)) (disk_of log) laws };
+  }
+
+  pub lengthens_on : (old mid new : Frames J means counts) → IsLawful (disk_of mid) → IsLawful (disk_of new) → Lengthens old mid → Lengthens mid new
+      → Lengthens old new
+  lengthens_on old mid new mid_laws laws first second = record {
+    log = λ acknowledged is_log. second.log acknowledged (first.log acknowledged is_log);
+    doubt = second.doubt ∙ first.doubt;
+    moments = λ acknowledged is_log. leaves_on (disk_of old) (disk_of mid) (disk_of new) laws
+        (λ image. HasRecords acknowledged (in_slot (slot_of old) image)) (first.moments acknowledged is_log)
+        (moved_moments (disk_of mid) (disk_of new) (slot_of mid) (slot_of old) first.aside.slot (HasRecords acknowledged)
+        (second.moments acknowledged (first.log acknowledged is_log)));
+    aside = keeps_aside_on old mid new mid_laws laws first.aside second.aside;
+  }
+
+  pub write_lengthens : (old new : Frames J means counts) → IsLawful (disk_of old) → IsLawful (disk_of new) → new.slot ≡ old.slot → new.gate ≡ old.gate
+      → new.doubt ≡ old.doubt → new.first ≡ old.first → new.aside ≡ old.aside → (n : ℕ) → MayWrite old.slot old.end n (disk_of old) (disk_of new)
+      → Lengthens old new
+  write_lengthens old new old_laws laws slot gate doubt first aside n writes =
+      let leaves = torn_since old.slot old.end n (disk_of old) (disk_of new) old_laws laws writes in
+      let behind : old.gate + 1 ≤ old.end = omega (arith, old.within.inside) in
+      record {
+        log = λ acknowledged is_log. record {
+          stands = subst (λ (s : Slot). IsLogOn (disk_of new) s new.gate acknowledged None) (sym slot)
+              (subst (λ (p : ℕ). IsLogOn (disk_of new) old.slot p acknowledged None) (sym gate)
+              (grown_log (disk_of old) (disk_of new) old.slot old.gate acknowledged old.end n behind writes.torn is_log.stands
+              (torn_left old.slot old.end n (disk_of old) (disk_of new) old_laws laws writes)));
+          doubt = doubt ∙ is_log.doubt;
+          first = first ∙ is_log.first;
+        };
+        doubt = doubt;
+        moments = λ acknowledged is_log.
+            grown_moments (disk_of old) (disk_of new) old.slot old.gate acknowledged old.end n behind is_log.stands leaves;
+        aside = record {
+          slot = slot;
+          aside = aside;
+          leaves = write_leaves old.slot old.end n (disk_of old) (disk_of new) writes.torn leaves;
+        };
+      }
 
   pub unchanged_leaves : (old mid : Frames J means counts) (new : State) → mid ≡ old → LeavesSlot (other (slot_of mid)) (disk_of mid) new
       → LeavesSlot (other (slot_of old)) (disk_of old) new

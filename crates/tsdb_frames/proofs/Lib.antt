@@ -5,6 +5,7 @@ pub mod MomentLemmas
 mod StepLemmas
 pub mod FirstLemmas
 mod FrameLemmas
+pub mod PieceLemmas
 pub mod RecordLemmas
 pub mod ScanLemmas
 pub mod SlotLemmas

@@ -1,8 +1,7 @@
 -- What the steps of an append and of a settling leave of a log.
-use Rattle.std.proofs.Common.{◌≡◌, ◌≢◌, inl, ℕ, ◌+◌, ◌<◌, ◌≤◌, Bool, true, List, [], ◌∷◌, ◌++◌, length, refl, sym, ◌∙◌, ap, subst, arith, length-append, None, Some}
+use Rattle.std.proofs.Common.{◌≡◌, ◌≢◌, inl, ℕ, ◌+◌, ◌≤◌, Bool, true, List, [], ◌∷◌, ◌++◌, length, refl, sym, ◌∙◌, ap, subst, arith, length-append, None, Some}
 use Rattle.std.specs.Prelude.{IsSome, is_some, Result, Ok, Err, OnErr}
 use Rattle.std.specs.declared.option.Option.{Option}
-use Rattle.std.specs.Option.{ForSome}
 use Rattle.tsdb_outside.specs.Disk.{Image, State, in_slot, overwrite, IsLawful, TornIn, WhereTold}
 use Rattle.tsdb_outside.specs.declared.disk.Slot.{Slot}
 use Rattle.tsdb_frames.specs.Slots.{with_length, frame_bytes, open_records, HasRecords}
@@ -11,7 +10,7 @@ use Rattle.tsdb_frames.specs.Log.{first_bytes, payload_of, IsFrame, IsSlotOf, Is
 use Rattle.tsdb_outside.specs.Moments.{LeavesOnly}
 use Rattle.tsdb_frames.specs.Steps.{IsTornFrom, IsWrittenFrom}
 use Rattle.tsdb_frames.proofs.RecordLemmas.{open_records_more}
-use Rattle.tsdb_frames.proofs.SlotLemmas.{records_or_one_more, behind_torn, gate_torn, behind_written, gate_closed, gate_opened}
+use Rattle.tsdb_frames.proofs.SlotLemmas.{records_or_one_more, behind_torn, beyond_torn, gate_torn, behind_written, gate_closed, gate_opened}
 use Rattle.tsdb_frames.proofs.MomentLemmas.{weaker, leaves_on}
 
 -- what always holds also holds where there is an error
@@ -44,6 +43,25 @@ module _ (old new : State) (slot : Slot) (gate : ℕ) (acknowledged : List (List
       → (image : Image) → IsTornFrom slot (gate + 1) n old image → IsSlotOf acknowledged None (in_slot slot image)
   behind_leaves n log image from =
       behind_torn acknowledged gate log.place (in_slot slot from.before) (in_slot slot image) n (log.left from.before from.left) from.torn.here
+
+  -- nor does one farther behind it
+  beyond_leaves : (at n : ℕ) → gate + 1 ≤ at → IsLogOn old slot gate acknowledged None
+      → (image : Image) → IsTornFrom slot at n old image → HasRecords acknowledged (in_slot slot image)
+  beyond_leaves at n behind log image from =
+      beyond_torn acknowledged gate log.place (in_slot slot from.before) (in_slot slot image) at n behind (log.left from.before from.left) from.torn.here
+
+  pub grown_log : (at n : ℕ) → gate + 1 ≤ at → WhereTold (TornIn slot at n) old.seen new.seen → IsLogOn old slot gate acknowledged None
+      → ((image : Image) → new.may_leave image → IsTornFrom slot at n old image) → IsLogOn new slot gate acknowledged None
+  grown_log at n behind told log torn = record {
+    told = told_on (TornIn slot at n) old.seen new.seen told log.told;
+    place = log.place;
+    left = λ image left. beyond_leaves at n behind log image (torn image left);
+  }
+
+  pub grown_moments : (at n : ℕ) → gate + 1 ≤ at → IsLogOn old slot gate acknowledged None → LeavesOnly old new (IsTornFrom slot at n old)
+      → LeavesOnly old new (λ image. HasRecords acknowledged (in_slot slot image))
+  grown_moments at n behind log leaves =
+      weaker old new (IsTornFrom slot at n old) (λ image. HasRecords acknowledged (in_slot slot image)) (beyond_leaves at n behind log) leaves
 
   module _ (told : WhereTold (TornIn slot gate 1) old.seen new.seen) where
     pub gate_fails : (payload : List ℕ) → IsLogOn old slot gate acknowledged (Some payload)
@@ -137,15 +155,6 @@ module _ (old new : State) (slot : Slot) (gate : ℕ) (acknowledged : List (List
       → LeavesOnly old new (λ image. HasRecordsOrOneMore acknowledged in_doubt (in_slot slot image))
   settle_moments None doubt is_set same log leaves = absurd cc
   settle_moments (Some payload) doubt is_set same log leaves = gate_moments old new slot gate acknowledged payload log leaves
-
--- a slot that is long enough stays so where its gate is written
-pub long_on : (slot : Slot) (gate n : ℕ) (old new : Option Image) → WhereTold (TornIn slot gate 1) old new
-    → ForSome old (λ image. gate + 1 + n ≤ length (in_slot slot image)) → ForSome new (λ image. gate + n < length (in_slot slot image))
-long_on slot gate n None new torn long image is = absurd cc
-long_on slot gate n (Some before) None torn long image is = absurd torn
-long_on slot gate n (Some before) (Some after) torn long image is =
-    let same : after ≡ image = cc in
-    subst (λ (i : Image). gate + n < length (in_slot slot i)) same (omega (arith, long before refl, torn.here.no_shorter))
 
 -- An addition: the states at its beginning, behind the write of the frame, and behind that of the gate.
 module _ (old staged last : State) (slot : Slot) (gate : ℕ) (framed : List ℕ) (is_frame : IsFrame framed) (acknowledged : List (List ℕ)) where

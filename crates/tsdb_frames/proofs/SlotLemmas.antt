@@ -3,7 +3,7 @@ use Rattle.std.proofs.Common.{◌≡◌, inl, inr, ℕ, ◌+◌, ◌≤◌, List
 use Rattle.std.specs.declared.option.Option.{Option}
 use Rattle.std.specs.List.{All}
 use Rattle.std.proofs.lemmas.Bool.{cases_eq}
-use Rattle.std.proofs.lemmas.List.{take_at, drop_at, drop_more}
+use Rattle.std.proofs.lemmas.List.{take_at, take-take, drop_at, drop_more}
 use Rattle.std.proofs.lemmas.List.Elements.{All-append, All-cons, All-nil}
 use Rattle.tsdb_outside.specs.Disk.{Torn, overwrite}
 use Rattle.tsdb_frames.specs.Slots.{IsPayload, with_length, frame_bytes, open_records, HasRecords}
@@ -33,6 +33,14 @@ module _ (front : List ℕ) (gate : ℕ) (rest : List ℕ) (at : ℕ) (place : a
   torn_behind n old new is torn =
       sym (take-append-drop (at + 1) new)
       ∙ ap (λ (l : List ℕ). l ++ drop (at + 1) new) (torn.before ∙ ap (λ (l : List ℕ). take (at + 1) l) is ∙ through_gate)
+      ∙ append_assoc front (gate ∷ []) (drop (at + 1) new)
+
+  -- what begins as before up to the gate
+  pub same_before : (old new : List ℕ) → old ≡ front ++ (gate ∷ rest) → take (at + 1) new ≡ take (at + 1) old
+      → new ≡ front ++ (gate ∷ drop (at + 1) new)
+  same_before old new is same =
+      sym (take-append-drop (at + 1) new)
+      ∙ ap (λ (l : List ℕ). l ++ drop (at + 1) new) (same ∙ ap (λ (l : List ℕ). take (at + 1) l) is ∙ through_gate)
       ∙ append_assoc front (gate ∷ []) (drop (at + 1) new)
 
   -- where the gate is torn the rest is as before
@@ -98,14 +106,25 @@ module _ (acknowledged : List (List ℕ)) where
     })
   ]
 
-  module _ (at : ℕ) (place : at ≡ length (open_records acknowledged)) (old new : List ℕ) where
+  module _ (at : ℕ) (at_is : at ≡ length (open_records acknowledged)) (old new : List ℕ) where
     -- a write behind the closed gate that is cut short
     pub behind_torn : (n : ℕ) → HasRecords acknowledged old → Torn (at + 1) n old new → HasRecords acknowledged new
     behind_torn n slot torn = record {
       fit = slot.fit;
       gate = slot.gate;
       rest = drop (at + 1) new;
-      split = torn_behind (open_records acknowledged) slot.gate slot.rest at place n old new slot.split torn;
+      split = torn_behind (open_records acknowledged) slot.gate slot.rest at at_is n old new slot.split torn;
+      closed = slot.closed;
+    }
+
+    -- and one farther behind it
+    pub beyond_torn : (place n : ℕ) → at + 1 ≤ place → HasRecords acknowledged old → Torn place n old new → HasRecords acknowledged new
+    beyond_torn place n behind slot torn = record {
+      fit = slot.fit;
+      gate = slot.gate;
+      rest = drop (at + 1) new;
+      split = same_before (open_records acknowledged) slot.gate slot.rest at at_is old new slot.split
+          (sym (take-take (at + 1) place new behind) ∙ ap (λ (l : List ℕ). take (at + 1) l) torn.before ∙ take-take (at + 1) place old behind);
       closed = slot.closed;
     }
 
@@ -117,7 +136,7 @@ module _ (acknowledged : List (List ℕ)) where
       fits = slot.fits;
       gate = get_or new at 0;
       rest = slot.rest;
-      split = torn_gate (open_records acknowledged) slot.gate (frame_bytes payload ++ slot.rest) at place old new slot.split torn;
+      split = torn_gate (open_records acknowledged) slot.gate (frame_bytes payload ++ slot.rest) at at_is old new slot.split torn;
     }
 
     -- a record is written behind the closed gate
@@ -128,7 +147,7 @@ module _ (acknowledged : List (List ℕ)) where
       fits = fits;
       gate = slot.gate;
       rest = drop (at + 1 + length (frame_bytes payload)) old;
-      split = is ∙ written_behind (open_records acknowledged) slot.gate slot.rest at place (frame_bytes payload) old slot.split;
+      split = is ∙ written_behind (open_records acknowledged) slot.gate slot.rest at at_is (frame_bytes payload) old slot.split;
     }
 
     -- the gate is closed
@@ -138,7 +157,7 @@ module _ (acknowledged : List (List ℕ)) where
       fit = slot.fit;
       gate = 0;
       rest = frame_bytes payload ++ slot.rest;
-      split = is ∙ written_gate (open_records acknowledged) slot.gate (frame_bytes payload ++ slot.rest) at place 0 old slot.split;
+      split = is ∙ written_gate (open_records acknowledged) slot.gate (frame_bytes payload ++ slot.rest) at at_is 0 old slot.split;
       closed = omega arith;
     }
 
@@ -146,4 +165,4 @@ module _ (acknowledged : List (List ℕ)) where
     pub gate_opened : (payload : List ℕ) → HasRecordBehindGate acknowledged payload old → new ≡ overwrite at (1 ∷ []) old
         → HasRecords (acknowledged ++ (payload ∷ [])) new
     gate_opened payload slot is = record_counts payload new slot.rest slot.fit slot.fits
-        (is ∙ written_gate (open_records acknowledged) slot.gate (frame_bytes payload ++ slot.rest) at place 1 old slot.split)
+        (is ∙ written_gate (open_records acknowledged) slot.gate (frame_bytes payload ++ slot.rest) at at_is 1 old slot.split)

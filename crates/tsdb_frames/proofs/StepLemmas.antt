@@ -1,5 +1,5 @@
 -- What a write and a sync of one slot leave of a disk: `old` is before them, `mid` between them, `new` behind them.
-use Rattle.std.proofs.Common.{◌≡◌, ℕ, ◌+◌, ◌<◌, ◌≤◌, List, length, refl, sym, ap, ◌∙◌, inl, inr, ⊎_elim, arith, subst}
+use Rattle.std.proofs.Common.{◌≡◌, ℕ, ◌+◌, ◌≤◌, List, length, max, refl, sym, ap, ◌∙◌, inl, inr, ⊎_elim, arith, subst}
 use Rattle.std.proofs.lemmas.Bool.{false≢true}
 use Rattle.std.specs.Prelude.{Result, Ok, Err, None, Some, IfSome, IsSome, OnOk}
 use Rattle.std.specs.declared.option.Option.{Option}
@@ -87,7 +87,7 @@ written_if_synced slot at bytes old mid new (Ok value) laws is durable = written
 written_if_synced slot at bytes old mid new (Err error) laws is durable = tt
 
 -- the slot is as long as what was written needs
-reaches : (slot : Slot) (at : ℕ) (bytes : List ℕ) (before after : Option Image) → WhereTold (Overwrites slot at bytes) before after
+pub reaches : (slot : Slot) (at : ℕ) (bytes : List ℕ) (before after : Option Image) → WhereTold (Overwrites slot at bytes) before after
     → ForSome before (λ image. at ≤ length (in_slot slot image)) → ForSome after (λ image. at + length bytes ≤ length (in_slot slot image))
 reaches slot at bytes None after is within = λ image told. absurd (none_is_none after image is told) where
   none_is_none : (after : Option Image) (image : Image) → after ≡ None → after ≡ Some image → ⊥
@@ -119,11 +119,21 @@ cause_of_fault first mid last (Err error) later last_later rose = record {
   failed = omega (arith, later, rose);
 }
 
--- a gate is still in a slot that was written
-pub gate_stays : (slot : Slot) (gate at n : ℕ) (old new : Option Image) → WhereTold (TornIn slot at n) old new
-    → ForSome old (λ image. gate < length (in_slot slot image)) → ForSome new (λ image. gate < length (in_slot slot image))
-gate_stays slot gate at n None new torn inside image is = absurd cc
-gate_stays slot gate at n (Some before) None torn inside image is = absurd torn
-gate_stays slot gate at n (Some before) (Some after) torn inside image is =
+-- a slot that was written is no shorter
+pub end_stays : (slot : Slot) (end at n : ℕ) (old new : Option Image) → WhereTold (TornIn slot at n) old new
+    → ForSome old (λ image. end ≤ length (in_slot slot image)) → ForSome new (λ image. end ≤ length (in_slot slot image))
+end_stays slot end at n None new torn long image is = absurd cc
+end_stays slot end at n (Some before) None torn long image is = absurd torn
+end_stays slot end at n (Some before) (Some after) torn long image is =
     let same : after ≡ image = cc in
-    subst (λ (i : Image). gate < length (in_slot slot i)) same (omega (arith, inside before refl, torn.here.no_shorter))
+    subst (λ (i : Image). end ≤ length (in_slot slot i)) same (omega (arith, long before refl, torn.here.no_shorter))
+
+-- a slot has each place up to its end
+pub reaches_up_to : (slot : Slot) (place end : ℕ) (seen : Option Image) → place ≤ end → ForSome seen (λ image. end ≤ length (in_slot slot image))
+    → ForSome seen (λ image. place ≤ length (in_slot slot image))
+reaches_up_to slot place end seen within long image is = omega (arith, within, long image is)
+
+-- and the farther of two places that it has
+pub reaches_both : (slot : Slot) (place end : ℕ) (seen : Option Image) → ForSome seen (λ image. place ≤ length (in_slot slot image))
+    → ForSome seen (λ image. end ≤ length (in_slot slot image)) → ForSome seen (λ image. max end place ≤ length (in_slot slot image))
+reaches_both slot place end seen there long image is = omega (arith, there image is, long image is)

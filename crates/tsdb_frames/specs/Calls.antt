@@ -1,12 +1,13 @@
 -- What private calls keep of a log, of its own slot and of the slot aside.
-use Rattle.std.specs.Prelude.{◌≡◌, [], IsSome}
+use Rattle.std.specs.Prelude.{◌≡◌, ℕ, List, [], None, IsSome}
 use Rattle.tsdb_outside.specs.declared.disk.Disk as disk
-use Rattle.tsdb_outside.specs.Moments.{other}
+use Rattle.tsdb_outside.specs.Disk.{in_slot}
+use Rattle.tsdb_outside.specs.Moments.{LeavesOnly, other}
 use Rattle.tsdb_outside.specs.declared.faults.Counted as counted
 use Rattle.tsdb_frames.specs.declared.aside.Aside.TheVariants.{Closed}
 use Rattle.tsdb_frames.specs.declared.frames.Frames.{Frames}
 use Rattle.tsdb_frames.specs.Asides.{LeftInSlot}
-use Rattle.tsdb_frames.specs.Frames.{disk_of, slot_of}
+use Rattle.tsdb_frames.specs.Frames.{disk_of, slot_of, IsLog}
 use Rattle.tsdb_frames.specs.Slots.{HasRecords}
 use Rattle.tsdb_frames.specs.Steps.{LeavesSlot}
 
@@ -30,3 +31,11 @@ module _ {J : Type 0} {means : disk.Ghosts J} {counts : counted.Ghosts J} where
     pub told : IsSome (disk_of log).seen
     pub state : log.aside ≡ Closed
     pub closed : LeftInSlot (disk_of log) (other (slot_of log)) (HasRecords [])
+
+  -- a call lengthens the slot of a log in which no gate is in doubt, and leaves its records
+  pub record Lengthens (old new : Frames J means counts) : Type 0 where
+    pub log : (acknowledged : List (List ℕ)) → IsLog old acknowledged None → IsLog new acknowledged None
+    pub doubt : new.doubt ≡ old.doubt
+    pub moments : (acknowledged : List (List ℕ)) → IsLog old acknowledged None
+        → LeavesOnly (disk_of old) (disk_of new) (λ image. HasRecords acknowledged (in_slot (slot_of old) image))
+    pub aside : KeepsAside old new

@@ -6,6 +6,7 @@ pub mod Firsts
 pub mod Frames
 pub mod Laws
 pub mod Log
+pub mod Scans
 pub mod Slots
 pub mod Steps
 pub mod Turns

@@ -1,5 +1,5 @@
 -- The log: records that are acknowledged, and at most one behind them that is in doubt.
-use Rattle.std.specs.Prelude.{◌≡◌, ◌⊎◌, ℕ, ◌-◌, ◌<◌, List, [], ◌∷◌, ◌++◌, length, take, drop, None, Some, IsSome}
+use Rattle.std.specs.Prelude.{◌≡◌, ◌⊎◌, ℕ, ◌-◌, ◌<◌, ◌≤◌, List, [], ◌∷◌, ◌++◌, length, take, drop, None, Some, IsSome}
 use Rattle.std.specs.declared.option.Option.{Option}
 use Rattle.std.specs.List.{All}
 use Rattle.std.specs.Option.{ForSome}
@@ -44,10 +44,11 @@ pub record IsLogOn (disk : State) (slot : Slot) (gate : ℕ) (acknowledged : Lis
   pub place : gate ≡ length (open_records acknowledged)
   pub left : (image : Image) → disk.may_leave image → IsSlotOf acknowledged in_doubt (in_slot slot image)
 
--- there is a gate at this place of the slot, which a slot can have
-pub record HasGateAt (disk : State) (slot : Slot) (gate : ℕ) : Type 0 where
-  pub inside : ForSome disk.seen (λ image. gate < length (in_slot slot image))
-  pub limit : FitsSlot gate
+-- there is a gate at this place of the slot, which has so many bytes at least
+pub record HasGateAt (disk : State) (slot : Slot) (gate end : ℕ) : Type 0 where
+  pub inside : gate < end
+  pub long : ForSome disk.seen (λ image. end ≤ length (in_slot slot image))
+  pub limit : FitsSlot end
 
 -- the bytes of the first frame: its record behind its length, and the next gate
 abbrev pub first_bytes : List (List ℕ) → ℕ

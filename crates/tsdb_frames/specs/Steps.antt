@@ -13,6 +13,17 @@ use Rattle.tsdb_frames.specs.declared.reading.Start.TheVariants.{Shut, Whole, Br
 use Rattle.tsdb_frames.specs.Firsts.{HasFirst}
 use Rattle.tsdb_frames.specs.Slots.{HasRecords, IsPayload, IsTorn, open_records, payloads_of, AreFrames, ArePlaced, IsTornBehind}
 
+-- these are records with their places, and this is the place behind them
+pub record HasFrames (frames : List Frame) (at : ℕ) : Type 0 where
+  pub fit : All IsPayload (payloads_of frames)
+  pub place : at ≡ length (open_records (payloads_of frames))
+  pub places : ArePlaced frames
+
+-- the records end at this place
+abbrev pub place_of : End → ℕ
+place_of (Closed at) = at
+place_of (Torn at) = at
+
 -- these are the first records of the bytes, and the rest stands at this place and begins with a gate
 pub record HasRead (frames : List Frame) (at : ℕ) (rest bytes : List ℕ) : Type 0 where
   pub fit : All IsPayload (payloads_of frames)
@@ -32,10 +43,10 @@ BeginsAs Shut bytes = HasRecords [] bytes
 BeginsAs (Whole frame) bytes = HasFirst frame bytes
 BeginsAs Broken bytes = IsTorn 0 bytes
 
--- the records end before a gate that the slot has, or the slot is torn
-abbrev pub HasEndAt : State → Slot → End → Type 0
-HasEndAt disk slot (Closed at) = HasGateAt disk slot at
-HasEndAt disk slot (Torn at) = Unit {0}
+-- the records end before a gate that the slot has, which has so many bytes, or the slot is torn
+abbrev pub HasEndAt : State → Slot → ℕ → End → Type 0
+HasEndAt disk slot bytes (Closed at) = HasGateAt disk slot at bytes
+HasEndAt disk slot bytes (Torn at) = Unit {0}
 
 -- what the disk might leave of this slot
 pub record IsAsIn (slot : Slot) (disk : State) (image : Image) : Type 0 where

@@ -4,6 +4,7 @@ ghost use Rattle.std.specs.declared.option.Option.{Option};
 ghost use Rattle.std.specs.Option.{ForSome};
 ghost use Rattle.tsdb_outside.specs.Causes.{HasCause};
 ghost use Rattle.tsdb_outside.specs.Disk.{in_slot, Keeps};
+ghost use Rattle.tsdb_outside.specs.Limits.{FitsSlot};
 ghost use Rattle.tsdb_outside.specs.Moments.{other};
 ghost use Rattle.tsdb_frames.specs.Asides.{IsAsideOn, LeftInSlot};
 ghost use Rattle.tsdb_frames.specs.Slots.{HasRecords};
@@ -35,18 +36,20 @@ pub(crate) fn other_slot(slot: Slot) -> Slot
     }
 }
 
-// Whether byte 0 of a slot is there, and closed in whatever a stop leaves.
+// Whether byte 0 of a slot is there, and closed in whatever a stop leaves; and how many bytes the slot has.
 pub(crate) fn is_closed<J: Journal>(
     journal: &mut J,
     slot: Slot,
     aside: Aside,
-) -> Result<bool, Failed>
-    ensures closed { IfOk result (λ closed. closed ≡ true → IsSome (J.state journal.old).seen
+) -> Result<(bool, u64), Failed>
+    ensures closed { IfOk result (λ r. r.0 ≡ true → IsSome (J.state journal.old).seen
         → (records : Option (List (List ℕ))) → IsAsideOn (J.state journal.old) slot aside records
         → LeftInSlot (J.state journal.new) slot (HasRecords [])) }
-    ensures there { IfOk result (λ closed. closed ≡ true
-        → ForSome (J.state journal.new).seen (λ image. 1 ≤ length (in_slot slot image))) }
-    ensures not_closed { IfOk result (λ closed. closed ≡ false → IsSome (J.state journal.old).seen
+    ensures there { IfOk result (λ r. r.0 ≡ true → 1 ≤ r.1) }
+    ensures length { IfOk result (λ r. ForSome (J.state journal.new).seen
+        (λ image. r.1 ≤ length (in_slot slot image))) }
+    ensures limit { IfOk result (λ r. FitsSlot r.1) }
+    ensures not_closed { IfOk result (λ r. r.0 ≡ false → IsSome (J.state journal.old).seen
         → (records : Option (List (List ℕ))) → IsAsideOn (J.state journal.old) slot aside records
         → IsAsideOn (J.state journal.new) slot variant.Unsettled records) }
     ensures keeps { Keeps (J.state journal.old) (J.state journal.new) }
@@ -54,12 +57,12 @@ pub(crate) fn is_closed<J: Journal>(
 {
     let length = journal.length(slot)?;
     if length == 0 {
-        return Ok(false);
+        return Ok((false, length));
     }
     match aside {
-        Aside::Settled => Ok(read_first(journal, slot)? != 1),
-        Aside::Closed => Ok(true),
-        Aside::Unsettled | Aside::Doubted => Ok(false),
+        Aside::Settled => Ok((read_first(journal, slot)? != 1, length)),
+        Aside::Closed => Ok((true, length)),
+        Aside::Unsettled | Aside::Doubted => Ok((false, length)),
     }
 }
 

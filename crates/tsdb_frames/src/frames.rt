@@ -6,12 +6,14 @@ ghost use Rattle.std.specs.declared.option.Option.{Option};
 ghost use Rattle.std.specs.Option.{ForSome};
 ghost use Rattle.tsdb_outside.specs.Causes.{HasCause, Rose};
 ghost use Rattle.tsdb_outside.specs.Disk.{in_slot, Keeps};
+ghost use Rattle.tsdb_outside.specs.Limits.{FitsSlot};
 ghost use Rattle.tsdb_frames.specs.Causes.{AnswersTorn, HasScanCause};
 ghost use Rattle.tsdb_frames.specs.Log.{HasGateAt, first_bytes};
 ghost use Rattle.tsdb_frames.specs.Slots.{payloads_of};
 ghost use Rattle.tsdb_frames.specs.declared.aside.Aside.TheVariants as aside;
 
 use crate::aside::{Aside, is_closed, other_slot};
+use crate::growing::{BLOCK_PIECES, passes_end, zeros_behind};
 use crate::reading::{End, read_first_record, read_slot};
 use crate::writing::write_and_sync;
 use crate::{Frame, ScanFault};
@@ -29,7 +31,9 @@ pub struct Frames<J: Journal> {
     // The bytes of the first frame, or 0.
     first: u64,
     aside: Aside,
-    ghost within: { HasGateAt (J.state journal) slot gate },
+    // The slot has this many bytes at least.
+    end: u64,
+    ghost within: { HasGateAt (J.state journal) slot gate end },
 }
 
 // The bytes of the first of these frames: its record with its length and a gate. None has 0.
@@ -61,12 +65,13 @@ pub struct ScanRefused<J> {
 
 impl<J: Journal> Frames<J> {
     ghost use Rattle.tsdb_frames.specs.Asides.{HasRecordsOrNone, IsAsideOn};
-    ghost use Rattle.tsdb_frames.specs.Calls.{KeepsLog, KeepsAside, IsAsideClosed};
+    ghost use Rattle.tsdb_frames.specs.Calls.{KeepsLog, KeepsAside, IsAsideClosed, Lengthens};
     ghost use Rattle.tsdb_frames.specs.Firsts.{IsFirst};
     ghost use Rattle.tsdb_frames.specs.Frames.{journal_of, disk_of, faults_of, slot_of, is_in_doubt, IsLog};
     ghost use Rattle.tsdb_frames.specs.Frames.{is_aside_in_doubt, IsAside, settled_aside};
     ghost use Rattle.tsdb_frames.specs.Log.{IsFrame, payload_of, HasRecordsOrOneMore, IsSettled};
     ghost use Rattle.tsdb_outside.specs.Moments.{LeavesOnly, LeavesFirstThen, IsUntouched, other};
+    ghost use Rattle.tsdb_frames.specs.Scans.{IsScanned, IsScanRefused};
     ghost use Rattle.tsdb_frames.specs.Slots.{open_records, HasRecords, ArePlaced, IsTorn, IsTornBehind};
     ghost use Rattle.tsdb_frames.specs.Steps.{LeavesSlot};
     ghost use Rattle.tsdb_frames.specs.Turns.{LeavesInTurn};
@@ -84,47 +89,21 @@ impl<J: Journal> Frames<J> {
         read_first_record(alloc, journal, slot)
     }
 
-    /// Reads the records of a slot, and takes its journal for a log. The slot is read once.
+    /// Reads the records of a slot, and takes its journal for a log. It writes nothing. The slot is read in pieces up to
+    /// its first closed gate, so that it costs what the log has, and not what the slot has.
     pub fn scan(
         alloc: Global,
         mut journal: J,
         slot: Slot,
     ) -> Result<(Frames<J>, Vec<Frame>), ScanRefused<J>>
-        ensures records { IfOk result (λ r. IfSome (J.state journal).seen
-            (λ image. HasRecords (payloads_of r.1.items) (in_slot slot image))) }
-        ensures places { IfOk result (λ r. ArePlaced r.1.items) }
-        ensures torn { IfErr result (λ refused. IfSome (J.state journal).seen (λ image.
-            (at : ℕ) → refused.fault ≡ ScanFault.Torn at → IsTorn at (in_slot slot image))) }
-        ensures torn_behind { IfErr result (λ refused. IfSome (J.state journal).seen (λ image.
-            (at : ℕ) → refused.fault ≡ ScanFault.Torn at
-            → IsTornBehind (payloads_of refused.frames.items) at (in_slot slot image))) }
-        ensures torn_places { IfErr result (λ refused. ArePlaced refused.frames.items) }
+        ensures scanned { IfOk result (λ r. IsScanned journal slot r.0 r.1.items) }
+        ensures refused { IfErr result (λ refused. IsScanRefused slot (J.state journal) (J.state refused.journal)
+            (J.faults journal) (J.faults refused.journal) refused.fault refused.frames.items) }
         ensures each { IfSome (J.state journal).seen (λ image. (at : ℕ) → IsTorn at (in_slot slot image)
             → IsErrAnd result (λ refused. AnswersTorn at refused.fault)) }
-
-        // A log of a settled slot has acknowledged these records.
-        ensures log { IfOk result (λ r. IsSettled slot (J.state journal)
-            → IfSome (J.state journal).seen (λ image. IsLog r.0 (payloads_of r.1.items) None)) }
-        ensures no_doubt { IfOk result (λ r. is_in_doubt r.0 ≡ false) }
-        ensures slot { IfOk result (λ r. slot_of r.0 ≡ slot) }
-
-        // The slot aside, where it is settled, has the records that a read gives, or is torn.
-        ensures aside { IfOk result (λ r. IsSettled (other slot) (J.state journal)
-            → IfSome (J.state journal).seen (λ image. IsAside r.0 None)) }
-        ensures aside_records { IfOk result (λ r. IsSettled (other slot) (J.state journal)
-            → IfSome (J.state journal).seen (λ image. (payloads : List (List ℕ))
-            → HasRecords payloads (in_slot (other slot) image) → IsAside r.0 (Some payloads))) }
-
-        // It writes nothing.
-        ensures keeps { IfOk result (λ r. Keeps (J.state journal) (disk_of r.0)) }
-        ensures returns { IfErr result (λ refused. Keeps (J.state journal) (J.state refused.journal)) }
-        ensures later { IfOk result (λ r. J.faults journal ≤ faults_of r.0) }
-        ensures returns_later { IfErr result (λ refused. J.faults journal ≤ J.faults refused.journal) }
-        ensures cause { IfErr result (λ refused. refused.fault ≡ ScanFault.Failed
-            → Rose (J.faults journal) (J.faults refused.journal)) }
     {
         match read_slot(alloc, &mut journal, slot) {
-            Ok((frames, end)) => match end {
+            Ok((frames, end, length)) => match end {
                 End::Closed { at } => {
                     let log = Frames {
                         journal,
@@ -133,6 +112,7 @@ impl<J: Journal> Frames<J> {
                         doubt: false,
                         first: first_of(&frames),
                         aside: Aside::Settled,
+                        end: length,
                     };
                     Ok((log, frames))
                 }
@@ -151,7 +131,10 @@ impl<J: Journal> Frames<J> {
     }
 
     /// Adds the record of a frame that `frame` made, after a gate in doubt is closed. After `Failed` a gate may be in
-    /// doubt: one that was in doubt before, or that of this record.
+    /// doubt: one that was in doubt before, or that of this record. It takes no memory.
+    ///
+    /// Where the frame would pass the end of a slot of 65,536 bytes or more, 1,048,576 zeros are written behind the end
+    /// first, or as many as the limit of a slot leaves. They say nothing, as all that stands behind a closed gate.
     pub fn append(&mut self, framed: &[u8]) -> Result<(), Failed>
         requires { IsFrame framed.now }
         ensures added { OnOk result ((acknowledged : List (List ℕ)) (in_doubt : Option (List ℕ))
@@ -204,11 +187,55 @@ impl<J: Journal> Frames<J> {
         ensures aside { KeepsAside self.old self.new }
         ensures cause { HasCause (faults_of self.old) (faults_of self.new) result }
     {
+        self.grow(framed.len() as u64)?;
+        self.write_record(framed)
+    }
+
+    // Lengthens a long slot, where a frame of this many bytes would pass its end.
+    fn grow(&mut self, bytes: u64) -> Result<(), Failed>
+        ensures lengthens { Lengthens self.old self.new }
+        ensures cause { HasCause (faults_of self.old) (faults_of self.new) result }
+    {
+        if passes_end(self.end, self.gate, bytes) {
+            for _ in 0..BLOCK_PIECES {
+                self.write_zeros()?;
+            }
+        }
+        Ok(())
+    }
+
+    // Writes a piece of zeros behind the end of the slot.
+    fn write_zeros(&mut self) -> Result<(), Failed>
+        ensures lengthens { Lengthens self.old self.new }
+        ensures cause { HasCause (faults_of self.old) (faults_of self.new) result }
+    {
+        let zeros = zeros_behind(self.end);
+        self.journal.write_at(self.slot, self.end, zeros)?;
+        self.end += zeros.len() as u64;
+        Ok(())
+    }
+
+    // Writes a frame behind the gate and syncs it, and then opens the gate and syncs it.
+    fn write_record(&mut self, framed: &[u8]) -> Result<(), Failed>
+        requires { IsFrame framed.now }
+        ensures added { OnOk result ((acknowledged : List (List ℕ)) → IsLog self.old acknowledged None
+            → IsLog self.new (acknowledged ++ (payload_of framed.now ∷ [])) None) }
+        ensures no_doubt { OnOk result (is_in_doubt self.old ≡ false → is_in_doubt self.new ≡ false) }
+        ensures failed { OnErr result ((acknowledged : List (List ℕ)) → IsLog self.old acknowledged None
+            → IsLog self.new acknowledged None ⊎ IsLog self.new acknowledged (Some (payload_of framed.now))) }
+        ensures moments { (acknowledged : List (List ℕ)) → IsLog self.old acknowledged None
+            → LeavesOnly (disk_of self.old) (disk_of self.new)
+            (λ image. HasRecordsOrOneMore acknowledged (Some (payload_of framed.now))
+            (in_slot (slot_of self.old) image)) }
+        ensures aside { KeepsAside self.old self.new }
+        ensures cause { HasCause (faults_of self.old) (faults_of self.new) result }
+    {
         write_and_sync(&mut self.journal, self.slot, self.gate + 1, framed)?;
         self.doubt = true;
         write_and_sync(&mut self.journal, self.slot, self.gate, &[1])?;
         self.doubt = false;
         self.first = first_after(self.first, self.gate, framed.len() as u64);
+        self.end = self.end.max(self.gate + 1 + framed.len() as u64);
         self.gate += framed.len() as u64;
         Ok(())
     }
@@ -258,17 +285,20 @@ impl<J: Journal> Frames<J> {
         ensures cause { HasCause (faults_of self.old) (faults_of self.new) result }
     {
         self.settle()?;
-        self.close_aside()?;
-        self.begin_aside(framed)
+        let length = self.close_aside()?;
+        self.begin_aside(framed, length)
     }
 
-    // Makes byte 0 of the slot aside closed. After `Failed` it may be as before or closed.
-    fn close_aside(&mut self) -> Result<(), Failed>
+    // Makes byte 0 of the slot aside closed, and tells how many bytes the slot has at least. After `Failed` it may be as
+    // before or closed.
+    fn close_aside(&mut self) -> Result<u64, Failed>
         ensures log { KeepsLog self.old self.new }
         ensures closed { OnOk result ((records : Option (List (List ℕ))) → IsAside self.old records
             → IsAsideClosed self.new) }
-        ensures there { OnOk result (ForSome (disk_of self.new).seen
-            (λ image. 1 ≤ length (in_slot (other (slot_of self.new)) image))) }
+        ensures there { IfOk result (λ n. 1 ≤ n) }
+        ensures length { IfOk result (λ n. ForSome (disk_of self.new).seen
+            (λ image. n ≤ length (in_slot (other (slot_of self.new)) image))) }
+        ensures limit { IfOk result FitsSlot }
         ensures failed { OnErr result ((records : Option (List (List ℕ))) → IsAside self.old records
             → IsAside self.new records) }
         ensures moments { (records : Option (List (List ℕ))) → IsAside self.old records
@@ -276,12 +306,14 @@ impl<J: Journal> Frames<J> {
             (λ image. HasRecordsOrNone records (in_slot (other (slot_of self.old)) image)) }
         ensures cause { HasCause (faults_of self.old) (faults_of self.new) result }
     {
-        if is_closed(&mut self.journal, other_slot(self.slot), self.aside)? {
+        let (closed, length) = is_closed(&mut self.journal, other_slot(self.slot), self.aside)?;
+        if closed {
             self.aside = Aside::Closed;
-            return Ok(());
+            return Ok(length);
         }
         self.aside = Aside::Unsettled;
-        self.write_closed()
+        self.write_closed()?;
+        Ok(length.max(1))
     }
 
     // Writes 00 at byte 0 of the slot aside, and syncs it.
@@ -291,6 +323,9 @@ impl<J: Journal> Frames<J> {
         ensures state { OnOk result (self.new.aside ≡ aside.Closed) }
         ensures there { OnOk result (ForSome (disk_of self.new).seen
             (λ image. 1 ≤ length (in_slot (other (slot_of self.new)) image))) }
+        ensures length { (n : ℕ) → ForSome (disk_of self.old).seen
+            (λ image. n ≤ length (in_slot (other (slot_of self.old)) image))
+            → ForSome (disk_of self.new).seen (λ image. n ≤ length (in_slot (other (slot_of self.new)) image)) }
         ensures same { OnErr result (self.new.aside ≡ self.old.aside) }
         ensures failed { OnErr result ((records : Option (List (List ℕ)))
             → IsAsideOn (disk_of self.old) (other (slot_of self.old)) aside.Unsettled records
@@ -306,11 +341,13 @@ impl<J: Journal> Frames<J> {
         Ok(())
     }
 
-    // Begins the log anew in the slot aside, whose byte 0 is closed.
-    fn begin_aside(&mut self, framed: &[u8]) -> Result<(), Failed>
+    // Begins the log anew in the slot aside, whose byte 0 is closed and which has so many bytes at least.
+    fn begin_aside(&mut self, framed: &[u8], bytes: u64) -> Result<(), Failed>
         requires frame { IsFrame framed.now }
-        requires there { ForSome (disk_of self.old).seen
-            (λ image. 1 ≤ length (in_slot (other (slot_of self.old)) image)) }
+        requires there { 1 ≤ bytes }
+        requires long { ForSome (disk_of self.old).seen
+            (λ image. bytes ≤ length (in_slot (other (slot_of self.old)) image)) }
+        requires limit { FitsSlot bytes }
         ensures turned { OnOk result (IsAsideClosed self.old → self.old.doubt ≡ false
             → IsLog self.new (payload_of framed.now ∷ []) None) }
         ensures slot { OnOk result (slot_of self.new ≡ other (slot_of self.old)) }
@@ -334,6 +371,7 @@ impl<J: Journal> Frames<J> {
         self.slot = slot;
         self.gate = framed.len() as u64;
         self.first = self.gate;
+        self.end = bytes.max(self.gate + 1);
         self.aside = Aside::Settled;
         Ok(())
     }

@@ -23,6 +23,7 @@ mod aside;
 mod fault;
 mod frames;
 mod framing;
+mod growing;
 mod reading;
 mod record;
 mod writing;

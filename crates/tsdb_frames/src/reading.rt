@@ -1,13 +1,13 @@
 //! Reading the records of a slot. Depends on `record`, `fault`, `tsdb_base` and `tsdb_outside`.
-ghost use Rattle.std.specs.Prelude.{◌≡◌, ℕ, ◌+◌, ◌≤◌, List, None, length, take, drop, IfOk, IfErr, IfSome, IsErrOf};
+ghost use Rattle.std.specs.Prelude.{◌≡◌, ◌≢◌, ◌⊎◌, ℕ, ◌+◌, ◌*◌, ◌≤◌, List, ◌++◌, None, length, take, drop, IfOk, IfErr, IfSome, IsErrOf};
 ghost use Rattle.std.specs.Option.{ForSome};
 ghost use Rattle.tsdb_outside.specs.Causes.{HasCause};
 ghost use Rattle.tsdb_outside.specs.Disk.{in_slot, Keeps};
 ghost use Rattle.tsdb_outside.specs.Limits.{FitsSlot};
 ghost use Rattle.tsdb_frames.specs.Causes.{HasScanCause};
 ghost use Rattle.tsdb_frames.specs.Firsts.{IsFirst};
-ghost use Rattle.tsdb_frames.specs.Slots.{BeginsWith, ArePlaced, IsTorn};
-ghost use Rattle.tsdb_frames.specs.Steps.{AreFramesUpTo, BeginsAs, HasEndAt};
+ghost use Rattle.tsdb_frames.specs.Slots.{BeginsWith, ArePlaced, IsTorn, open_records, payloads_of};
+ghost use Rattle.tsdb_frames.specs.Steps.{AreFramesUpTo, BeginsAs, HasEndAt, HasFrames, place_of};
 
 use crate::{Frame, ScanFault};
 use std::alloc::Global;
@@ -15,6 +15,7 @@ use tsdb_base::List;
 use tsdb_outside::{Journal, Slot};
 
 // Where the records of a slot end.
+#[derive(Clone, Copy)]
 pub(crate) enum End {
     // Before a closed gate at this place.
     Closed { at: u64 },
@@ -36,7 +37,7 @@ enum Start {
 // The bytes of a length.
 const LENGTH_BYTES: usize = 4;
 
-// The bytes of the first piece of a slot.
+// The bytes of a piece of a slot.
 const PIECE_BYTES: u64 = 65_536;
 
 // The record that stands behind an open gate, and the next gate with all behind it. None where there is no such record
@@ -56,21 +57,27 @@ fn split_record(bytes: &[u8]) -> Option<(&[u8], &[u8])>
     Some(rest.split_at(size))
 }
 
-// The records of a slot's bytes, and where they end.
-pub(crate) fn read_records(alloc: Global, bytes: &[u8]) -> Result<(Vec<Frame>, End), ScanFault>
-    requires { FitsSlot (length bytes.now) }
-    ensures records { IfOk result (λ r. AreFramesUpTo r.0.items r.1 bytes.now) }
+// The records that stand whole in a piece of a slot, behind those that were read, and where they end in it. The piece
+// begins with a gate at this place.
+fn read_records(
+    alloc: Global,
+    start: u64,
+    piece: &[u8],
+    frames: &mut Vec<Frame>,
+) -> Result<End, ScanFault>
+    requires read { HasFrames frames.old.items start }
+    requires gate { 1 ≤ length piece.now }
+    requires fits { FitsSlot (start + length piece.now) }
+    ensures records { IfOk result (λ end. AreFramesUpTo frames.new.items end
+        (open_records (payloads_of frames.old.items) ++ piece.now)) }
+    ensures later { IfOk result (λ end. start ≤ place_of end) }
     ensures memory { IfErr result (λ fault. fault ≡ ScanFault.Memory) }
 {
-    let mut frames = Vec::new(alloc);
-    if bytes.is_empty() {
-        return Ok((frames, End::Torn { at: 0 }));
-    }
-    let mut at = 0;
-    let mut rest = bytes;
+    let mut at = start;
+    let mut rest = piece;
     while let [1, behind @ ..] = rest {
         let Some((payload, after)) = split_record(behind) else {
-            return Ok((frames, End::Torn { at }));
+            return Ok(End::Torn { at });
         };
         let next = at + 1 + LENGTH_BYTES as u64 + payload.len() as u64;
         frames.push(Frame {
@@ -80,7 +87,7 @@ pub(crate) fn read_records(alloc: Global, bytes: &[u8]) -> Result<(Vec<Frame>, E
         at = next;
         rest = after;
     }
-    Ok((frames, End::Closed { at }))
+    Ok(End::Closed { at })
 }
 
 // How these bytes begin.
@@ -141,24 +148,50 @@ fn read_start<J: Journal>(
     start_of(alloc, &piece)
 }
 
-// The records of a slot, and where they end. The slot is read once.
+// The bytes of the next piece: twice as many where this one had no whole record.
+fn next_size(size: u64, at: u64, place: u64) -> u64
+    requires { FitsSlot size }
+    ensures { ((place ≡ at) × (result ≡ size * 2)) ⊎ ((place ≢ at) × (result ≡ size)) }
+{
+    if place == at { size * 2 } else { size }
+}
+
+// The records of a slot, where they end, and how many bytes the slot has. It is read in pieces, up to the first closed
+// gate, so that it costs no more than the records do. A piece that has no whole record is read once more, with twice as
+// many bytes.
 pub(crate) fn read_slot<J: Journal>(
     alloc: Global,
     journal: &mut J,
     slot: Slot,
-) -> Result<(Vec<Frame>, End), ScanFault>
+) -> Result<(Vec<Frame>, End, u64), ScanFault>
     ensures records { IfOk result (λ r. IfSome (J.state journal.old).seen
         (λ image. AreFramesUpTo r.0.items r.1 (in_slot slot image))) }
     ensures places { IfOk result (λ r. ArePlaced r.0.items) }
     ensures not_torn { (at : ℕ) → ¬ IsErrOf result (ScanFault.Torn at) }
-    ensures gate { IfOk result (λ r. HasEndAt (J.state journal.new) slot r.1) }
+    ensures gate { IfOk result (λ r. HasEndAt (J.state journal.new) slot r.2 r.1) }
     ensures keeps { Keeps (J.state journal.old) (J.state journal.new) }
     ensures cause { HasScanCause (J.faults journal.old) (J.faults journal.new) result }
 {
     let length = journal.length(slot)?;
-    let mut bytes = vec![in alloc; 0; length as usize]?;
-    journal.read_at(slot, 0, &mut bytes)?;
-    read_records(alloc, &bytes)
+    let mut frames = Vec::new(alloc);
+    if length == 0 {
+        return Ok((frames, End::Torn { at: 0 }, length));
+    }
+    let mut at = 0;
+    let mut size = PIECE_BYTES;
+    loop {
+        let left = length - at;
+        let piece = read_piece(alloc, journal, slot, at, size.min(left))?;
+        let end = read_records(alloc, at, &piece, &mut frames)?;
+        let End::Torn { at: place } = end else {
+            return Ok((frames, end, length));
+        };
+        if size >= left {
+            return Ok((frames, end, length));
+        }
+        size = next_size(size, at, place);
+        at = place;
+    }
 }
 
 // The first record of a slot. It is read in pieces from its first byte on, each twice as long, up to the one that has the

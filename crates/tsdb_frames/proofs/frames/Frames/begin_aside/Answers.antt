@@ -1,11 +1,15 @@
-use Rattle.std.proofs.Common.{ap, inl, inr, refl, subst, sym, length, [], arith, Some}
+use Rattle.std.proofs.Common.{◌+◌, ◌≤◌, ap, inl, inr, refl, subst, sym, length, [], arith, Some}
+use Rattle.std.specs.Option.{ForSome}
+use Rattle.tsdb_outside.specs.Disk.{in_slot}
 use Rattle.tsdb_outside.specs.Moments.{other}
+use Rattle.tsdb_outside.specs.declared.disk.Slot.{Slot}
 use Rattle.tsdb_frames.specs.Asides.{IsAsideOn}
 use Rattle.tsdb_frames.specs.Log.{payload_of}
 use Rattle.tsdb_frames.specs.declared.aside.Aside.{Aside}
-use Rattle.tsdb_frames.proofs.AsideLemmas.{begun_within, doubted_on, inside_on, leaves_slot_on, opening_done, opening_fails, opening_moments, staging_done, staging_fails, staging_moments, write_at_other}
+use Rattle.tsdb_frames.proofs.AsideLemmas.{doubted_on, inside_on, leaves_slot_on, opening_done, opening_fails, opening_moments, staging_done, staging_fails, staging_moments, write_at_other}
 use Rattle.tsdb_frames.proofs.CallLemmas.{both_false}
 use Rattle.tsdb_frames.proofs.LogLemmas.{always_on_err}
+use Rattle.tsdb_frames.proofs.StepLemmas.{end_stays}
 use Rattle.tsdb_frames.proofs.frames.Frames.begin_aside.Goals as goal
 
 pub returns-in_err-write_and_sync-clause-leaves : goal.returns-in_err-write_and_sync-clause-leaves
@@ -139,7 +143,7 @@ returns-clause-moments g c closed =
 
 pub invariant_of-self : goal.invariant_of-self
 invariant_of-self g c = record {
-  within = inside_on c.args.self.now.slot c.args.self.now.gate (g.J.Disk.state c.args.self.now.journal) (g.J.Disk.state c.write_and_sync.new.journal)
+  within = inside_on c.args.self.now.slot c.args.self.now.gate c.args.self.now.end (g.J.Disk.state c.args.self.now.journal) (g.J.Disk.state c.write_and_sync.new.journal)
       (write_at_other c.args.self.now.slot c.other_slot-slot.result 1 (length c.args.framed.now) (g.J.Disk.state c.args.self.now.journal)
       (g.J.Disk.state c.write_and_sync.new.journal) c.other_slot-slot.ensures c.write_and_sync.ensures.torn c.write_and_sync.ensures.moments)
       c.args.self.now.within;
@@ -152,7 +156,7 @@ invariant_of-self-in-Break-branch-2 g c =
     let staged = g.J.Disk.state c.write_and_sync.new.journal in
     let last = g.J.Disk.state c.write_and_sync-2.new.journal in
     record {
-      within = inside_on self.slot self.gate old last
+      within = inside_on self.slot self.gate self.end old last
           (leaves_slot_on self.slot old staged last (g.J.Disk.lawful c.write_and_sync.new.journal) (g.J.Disk.lawful c.write_and_sync-2.new.journal)
           (write_at_other self.slot c.other_slot-slot.result 1 (length c.args.framed.now) old staged c.other_slot-slot.ensures c.write_and_sync.ensures.torn
           c.write_and_sync.ensures.moments)
@@ -162,10 +166,23 @@ invariant_of-self-in-Break-branch-2 g c =
     }
 
 pub invariant_of-self-2 : goal.invariant_of-self-2
-invariant_of-self-2 g c = record {
-  within = record {
-    inside = begun_within c.other_slot-slot.result (length c.args.framed.now) (g.J.Disk.state c.write_and_sync.new.journal).seen
-        (g.J.Disk.state c.write_and_sync-2.new.journal).seen c.write_and_sync-2.ensures.torn c.in_ok-write_and_sync.ensures.long;
-    limit = omega (arith, c.in_ok-write_and_sync.ensures.limit);
-  };
-}
+invariant_of-self-2 g c =
+    let place = c.other_slot-slot.result in
+    let n = length c.args.framed.now in
+    let old = (g.J.Disk.state c.args.self.now.journal).seen in
+    let staged = (g.J.Disk.state c.write_and_sync.new.journal).seen in
+    let last = (g.J.Disk.state c.write_and_sync-2.new.journal).seen in
+    let there = subst (λ (p : Slot). ForSome old (λ image. c.args.bytes ≤ length (in_slot p image))) (sym c.other_slot-slot.ensures) c.requires.long in
+    let ended = end_stays place c.args.bytes 1 n old staged c.write_and_sync.ensures.torn there in
+    record {
+      within = record {
+        inside = omega (arith, c.max-self.ensures);
+        long = λ image is. omega (
+          arith,
+          c.max-self.ensures,
+          end_stays place (1 + n) 0 1 staged last c.write_and_sync-2.ensures.torn c.in_ok-write_and_sync.ensures.long image is,
+          end_stays place c.args.bytes 0 1 staged last c.write_and_sync-2.ensures.torn ended image is,
+        );
+        limit = omega (arith, c.max-self.ensures, c.requires.limit, c.in_ok-write_and_sync.ensures.limit);
+      };
+    }

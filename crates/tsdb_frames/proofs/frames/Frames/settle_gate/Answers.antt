@@ -2,7 +2,7 @@ use Rattle.std.proofs.Common.{refl}
 use Rattle.tsdb_frames.proofs.LogLemmas.{always_on_err, settle_fails, settle_closes, settle_moments}
 use Rattle.tsdb_outside.specs.Moments.{other}
 use Rattle.tsdb_frames.proofs.AsideLemmas.{idle_leaves, write_leaves}
-use Rattle.tsdb_frames.proofs.StepLemmas.{gate_stays}
+use Rattle.tsdb_frames.proofs.StepLemmas.{end_stays}
 use Rattle.tsdb_frames.proofs.frames.Frames.settle_gate.Goals as goal
 
 pub returns-in_err-write_and_sync-clause-failed : goal.returns-in_err-write_and_sync-clause-failed
@@ -57,8 +57,9 @@ returns-else-self-clause-aside g c = record {
 pub invariant_of-self : goal.invariant_of-self
 invariant_of-self g c = record {
   within = record {
-    inside = gate_stays c.args.self.now.slot c.args.self.now.gate c.args.self.now.gate 1 (g.J.Disk.state c.args.self.now.journal).seen
-        (g.J.Disk.state c.write_and_sync.new.journal).seen c.write_and_sync.ensures.torn c.args.self.now.within.inside;
+    inside = c.args.self.now.within.inside;
+    long = end_stays c.args.self.now.slot c.args.self.now.end c.args.self.now.gate 1 (g.J.Disk.state c.args.self.now.journal).seen
+        (g.J.Disk.state c.write_and_sync.new.journal).seen c.write_and_sync.ensures.torn c.args.self.now.within.long;
     limit = c.args.self.now.within.limit;
   };
 }
@@ -66,8 +67,9 @@ invariant_of-self g c = record {
 pub invariant_of-self-then-self : goal.invariant_of-self-then-self
 invariant_of-self-then-self g c = record {
   within = record {
-    inside = gate_stays c.args.self.now.slot c.args.self.now.gate c.args.self.now.gate 1 (g.J.Disk.state c.args.self.now.journal).seen
-        (g.J.Disk.state c.write_and_sync.new.journal).seen c.write_and_sync.ensures.torn c.args.self.now.within.inside;
+    inside = c.args.self.now.within.inside;
+    long = end_stays c.args.self.now.slot c.args.self.now.end c.args.self.now.gate 1 (g.J.Disk.state c.args.self.now.journal).seen
+        (g.J.Disk.state c.write_and_sync.new.journal).seen c.write_and_sync.ensures.torn c.args.self.now.within.long;
     limit = c.args.self.now.within.limit;
   };
 }

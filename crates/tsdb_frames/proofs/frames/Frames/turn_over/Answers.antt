@@ -28,22 +28,22 @@ returns-in_err-settle-clause-moments g c acknowledged in_doubt log = inl (c.sett
 pub returns-in_err-settle-clause-aside_moments : goal.returns-in_err-settle-clause-aside_moments
 returns-in_err-settle-clause-aside_moments g c records aside = inl (inl (c.settle.ensures.aside_moments records aside))
 
-pub returns-in_err-close_aside-clause-failed : goal.returns-in_err-close_aside-clause-failed
-returns-in_err-close_aside-clause-failed g c = always_on_err c.from_residual-in_err-close_aside.result (λ acknowledged in_doubt log.
+pub returns-in_err-length-clause-failed : goal.returns-in_err-length-clause-failed
+returns-in_err-length-clause-failed g c = always_on_err c.from_residual-in_err-length.result (λ acknowledged in_doubt log.
     inl (keeps_log c.settle.new.self c.close_aside.new.self (g.J.Disk.lawful c.close_aside.new.self.journal) c.close_aside.ensures.log
     acknowledged None (c.in_ok-settle.ensures.settled acknowledged in_doubt log)))
 
-pub returns-in_err-close_aside-clause-same_slot : goal.returns-in_err-close_aside-clause-same_slot
-returns-in_err-close_aside-clause-same_slot g c = always_on_err c.from_residual-in_err-close_aside.result
+pub returns-in_err-length-clause-same_slot : goal.returns-in_err-length-clause-same_slot
+returns-in_err-length-clause-same_slot g c = always_on_err c.from_residual-in_err-length.result
     (c.close_aside.ensures.log.slot ∙ c.settle.ensures.slot)
 
-pub returns-in_err-close_aside-clause-aside_failed : goal.returns-in_err-close_aside-clause-aside_failed
-returns-in_err-close_aside-clause-aside_failed g c = always_on_err c.from_residual-in_err-close_aside.result (λ records aside.
+pub returns-in_err-length-clause-aside_failed : goal.returns-in_err-length-clause-aside_failed
+returns-in_err-length-clause-aside_failed g c = always_on_err c.from_residual-in_err-length.result (λ records aside.
     three_ways c.args.self.now c.close_aside.new.self records _
-    (c.in_err-close_aside.ensures.failed (settled_aside c.args.self.now records) (c.in_ok-settle.ensures.aside records aside)))
+    (c.in_err-length.ensures.failed (settled_aside c.args.self.now records) (c.in_ok-settle.ensures.aside records aside)))
 
-pub returns-in_err-close_aside-clause-moments : goal.returns-in_err-close_aside-clause-moments
-returns-in_err-close_aside-clause-moments g c acknowledged in_doubt log =
+pub returns-in_err-length-clause-moments : goal.returns-in_err-length-clause-moments
+returns-in_err-length-clause-moments g c acknowledged in_doubt log =
     let old = c.args.self.now in
     let mid = c.settle.new.self in
     let new = c.close_aside.new.self in
@@ -55,8 +55,8 @@ returns-in_err-close_aside-clause-moments g c acknowledged in_doubt log =
     (keeps_moments mid new (g.J.Disk.lawful new.journal) c.close_aside.ensures.log acknowledged None
     (c.in_ok-settle.ensures.settled acknowledged in_doubt log)))
 
-pub returns-in_err-close_aside-clause-aside_moments : goal.returns-in_err-close_aside-clause-aside_moments
-returns-in_err-close_aside-clause-aside_moments g c records aside =
+pub returns-in_err-length-clause-aside_moments : goal.returns-in_err-length-clause-aside_moments
+returns-in_err-length-clause-aside_moments g c records aside =
     let new = c.close_aside.new.self in
     inl (inl (settled_then c.args.self.now c.settle.new.self new (g.J.Disk.lawful new.journal) c.settle.ensures.slot records
     (c.settle.ensures.aside_moments records aside)
@@ -64,7 +64,7 @@ returns-in_err-close_aside-clause-aside_moments g c records aside =
 
 pub returns-clause-turned : goal.returns-clause-turned
 returns-clause-turned g c = on_ok c.begin_aside.result (λ turned acknowledged in_doubt records log aside.
-    turned (c.in_ok-close_aside.ensures.closed (settled_aside c.args.self.now records) (c.in_ok-settle.ensures.aside records aside))
+    turned (c.in_ok-length.ensures.closed (settled_aside c.args.self.now records) (c.in_ok-settle.ensures.aside records aside))
     (keeps_log c.settle.new.self c.close_aside.new.self (g.J.Disk.lawful c.close_aside.new.self.journal) c.close_aside.ensures.log
     acknowledged None (c.in_ok-settle.ensures.settled acknowledged in_doubt log)).doubt) c.begin_aside.ensures.turned
 
@@ -96,7 +96,7 @@ returns-clause-same_slot g c = on_err c.begin_aside.result
 
 pub returns-clause-aside_failed : goal.returns-clause-aside_failed
 returns-clause-aside_failed g c = on_err c.begin_aside.result (λ failed records aside.
-    inr (failed (c.in_ok-close_aside.ensures.closed (settled_aside c.args.self.now records) (c.in_ok-settle.ensures.aside records aside))))
+    inr (failed (c.in_ok-length.ensures.closed (settled_aside c.args.self.now records) (c.in_ok-settle.ensures.aside records aside))))
     c.begin_aside.ensures.failed
 
 pub returns-clause-moments : goal.returns-clause-moments
@@ -134,12 +134,12 @@ returns-clause-aside_moments g c records aside =
     (subst (λ (s : Slot). LeavesFirstThen (disk_of closed) (disk_of new) (λ image. HasRecords [] (in_slot (other s) image))
     (λ image. HasRecordsOrOneMore [] (Some (payload_of c.args.framed.now)) (in_slot (other s) image)))
     (c.close_aside.ensures.log.slot ∙ c.settle.ensures.slot)
-    (c.begin_aside.ensures.moments (c.in_ok-close_aside.ensures.closed (settled_aside old records) settled)))
+    (c.begin_aside.ensures.moments (c.in_ok-length.ensures.closed (settled_aside old records) settled)))
 
-pub returns-in_err-close_aside-clause-cause : goal.returns-in_err-close_aside-clause-cause
-returns-in_err-close_aside-clause-cause g c =
-    cause_of_fault _ _ _ c.from_residual-in_err-close_aside.result c.settle.ensures.cause.later c.close_aside.ensures.cause.later
-    c.in_err-close_aside.ensures.cause.failed
+pub returns-in_err-length-clause-cause : goal.returns-in_err-length-clause-cause
+returns-in_err-length-clause-cause g c =
+    cause_of_fault _ _ _ c.from_residual-in_err-length.result c.settle.ensures.cause.later c.close_aside.ensures.cause.later
+    c.in_err-length.ensures.cause.failed
 
 pub returns-clause-cause : goal.returns-clause-cause
 returns-clause-cause g c = cause_of_second _ _ _ c.begin_aside.result c.settle.ensures.cause.later

@@ -60,7 +60,7 @@ returns-clause-moments g c records stands =
 
 pub invariant_of-self : goal.invariant_of-self
 invariant_of-self g c = record {
-  within = inside_on c.args.self.now.slot c.args.self.now.gate (g.J.Disk.state c.args.self.now.journal) (g.J.Disk.state c.write_and_sync.new.journal)
+  within = inside_on c.args.self.now.slot c.args.self.now.gate c.args.self.now.end (g.J.Disk.state c.args.self.now.journal) (g.J.Disk.state c.write_and_sync.new.journal)
       (write_at_other c.args.self.now.slot c.other_slot.result 0 1 (g.J.Disk.state c.args.self.now.journal)
       (g.J.Disk.state c.write_and_sync.new.journal) c.other_slot.ensures c.write_and_sync.ensures.torn c.write_and_sync.ensures.moments)
       c.args.self.now.within;
@@ -68,7 +68,7 @@ invariant_of-self g c = record {
 
 pub invariant_of-self-2 : goal.invariant_of-self-2
 invariant_of-self-2 g c = record {
-  within = inside_on c.args.self.now.slot c.args.self.now.gate (g.J.Disk.state c.args.self.now.journal) (g.J.Disk.state c.write_and_sync.new.journal)
+  within = inside_on c.args.self.now.slot c.args.self.now.gate c.args.self.now.end (g.J.Disk.state c.args.self.now.journal) (g.J.Disk.state c.write_and_sync.new.journal)
       (write_at_other c.args.self.now.slot c.other_slot.result 0 1 (g.J.Disk.state c.args.self.now.journal)
       (g.J.Disk.state c.write_and_sync.new.journal) c.other_slot.ensures c.write_and_sync.ensures.torn c.write_and_sync.ensures.moments)
       c.args.self.now.within;

@@ -3,9 +3,9 @@ use Rattle.tsdb_outside.specs.Moments.{other}
 use Rattle.tsdb_frames.specs.Log.{payload_of}
 use Rattle.tsdb_frames.proofs.AsideLemmas.{leaves_slot_on, write_leaves}
 use Rattle.tsdb_frames.proofs.CallLemmas.{second_false}
-use Rattle.tsdb_frames.proofs.LogLemmas.{always_on_err, behind_fails, behind_done, behind_moments, first_grows, gate_fails, long_on, last_moments, gate_opens_framed}
-use Rattle.tsdb_frames.proofs.StepLemmas.{gate_stays}
-use Rattle.tsdb_frames.proofs.frames.Frames.add.Goals as goal
+use Rattle.tsdb_frames.proofs.LogLemmas.{always_on_err, behind_fails, behind_done, behind_moments, first_grows, gate_fails, last_moments, gate_opens_framed}
+use Rattle.tsdb_frames.proofs.StepLemmas.{end_stays}
+use Rattle.tsdb_frames.proofs.frames.Frames.write_record.Goals as goal
 
 pub returns-in_err-write_and_sync-clause-failed : goal.returns-in_err-write_and_sync-clause-failed
 returns-in_err-write_and_sync-clause-failed g c = always_on_err c.from_residual.result (λ acknowledged log.
@@ -66,23 +66,37 @@ returns-in_err-write_and_sync-2-clause-aside g c =
     }
 
 pub invariant_of-self : goal.invariant_of-self
-invariant_of-self g c = record {
-  within = record {
-    inside = gate_stays c.args.self.now.slot c.args.self.now.gate (c.args.self.now.gate + 1) (length c.args.framed.now)
-        (g.J.Disk.state c.args.self.now.journal).seen (g.J.Disk.state c.write_and_sync.new.journal).seen
-        c.write_and_sync.ensures.torn c.args.self.now.within.inside;
-    limit = c.args.self.now.within.limit;
-  };
-}
+invariant_of-self g c =
+    let self = c.args.self.now in
+    record {
+      within = record {
+        inside = self.within.inside;
+        long = end_stays self.slot self.end (self.gate + 1) (length c.args.framed.now) (g.J.Disk.state self.journal).seen
+            (g.J.Disk.state c.write_and_sync.new.journal).seen c.write_and_sync.ensures.torn self.within.long;
+        limit = self.within.limit;
+      };
+    }
 
 pub invariant_of-self-2 : goal.invariant_of-self-2
-invariant_of-self-2 g c = record {
-  within = record {
-    inside = long_on c.args.self.now.slot c.args.self.now.gate (length c.args.framed.now) (g.J.Disk.state c.write_and_sync.new.journal).seen
-        (g.J.Disk.state c.write_and_sync-2.new.journal).seen c.write_and_sync-2.ensures.torn c.in_ok-write_and_sync.ensures.long;
-    limit = omega (arith, c.in_ok-write_and_sync.ensures.limit);
-  };
-}
+invariant_of-self-2 g c =
+    let self = c.args.self.now in
+    let staged = (g.J.Disk.state c.write_and_sync.new.journal).seen in
+    let last = (g.J.Disk.state c.write_and_sync-2.new.journal).seen in
+    let ended = end_stays self.slot self.end (self.gate + 1) (length c.args.framed.now) (g.J.Disk.state self.journal).seen staged
+    c.write_and_sync.ensures.torn self.within.long in
+    record {
+      within = record {
+        inside = omega (arith, self.within.inside, c.max-self.ensures);
+        long = λ image is. omega (
+          arith,
+          c.max-self.ensures,
+          end_stays self.slot (self.gate + 1 + length c.args.framed.now) self.gate 1 staged last c.write_and_sync-2.ensures.torn
+              c.in_ok-write_and_sync.ensures.long image is,
+          end_stays self.slot self.end self.gate 1 staged last c.write_and_sync-2.ensures.torn ended image is,
+        );
+        limit = omega (arith, c.max-self.ensures, self.within.limit, c.in_ok-write_and_sync.ensures.limit);
+      };
+    }
 
 pub returns-clause-added : goal.returns-clause-added
 returns-clause-added g c acknowledged log =
