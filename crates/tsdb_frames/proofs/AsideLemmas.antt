@@ -1,5 +1,5 @@
 -- What calls that leave a slot alone keep of it, and what a closing of byte 0 does to the slot aside.
-use Rattle.std.proofs.Common.{◌≡◌, ◌≢◌, inl, inr, ⊎_elim, ℕ, ◌+◌, ◌≤◌, List, [], ◌∷◌, ◌++◌, length, take, drop, take-append-drop, get_or, refl, sym, ◌∙◌, ap, subst, arith, None, Some}
+use Rattle.std.proofs.Common.{◌≡◌, ◌≢◌, inl, inr, ⊎_elim, ℕ, ◌≤◌, List, [], ◌∷◌, ◌++◌, length, take, drop, take-append-drop, get_or, refl, sym, ◌∙◌, ap, subst, arith, None, Some}
 use Rattle.std.proofs.lemmas.Bool.{cases_eq, false≢true, eqb-false, not-true}
 use Rattle.std.proofs.lemmas.Bool.Decides.{eqb_tells}
 use Rattle.std.specs.Prelude.{IfSome, IsSome, true, false, not, nat_eq}
@@ -13,11 +13,10 @@ use Rattle.tsdb_outside.specs.declared.disk.Slot.TheVariants.{A, B}
 use Rattle.tsdb_frames.specs.declared.aside.Aside.{Aside}
 use Rattle.tsdb_frames.specs.declared.aside.Aside.TheVariants.{Settled, Closed, Unsettled, Doubted}
 use Rattle.tsdb_frames.specs.Asides.{HasRecordsIfOpen, HasRecordsOrNone, IsAsideOn, LeftInSlot, records_settled}
-use Rattle.tsdb_frames.specs.Log.{HasGateAt, HasRecordsOrOneMore, IsFrame, IsLogOn, IsSettled, IsSlotOf, payload_of}
+use Rattle.tsdb_frames.specs.Log.{HasGateAt, IsLogOn, IsSettled, IsSlotOf}
 use Rattle.tsdb_frames.specs.Slots.{IsPayload, HasRecords, frame_bytes}
 use Rattle.tsdb_frames.specs.Steps.{IsAsIn, IsTornFrom, IsWrittenFrom, LeavesSlot}
-use Rattle.tsdb_frames.proofs.LogLemmas.{behind_done, behind_fails, behind_leaves, gate_fails, gate_moments, gate_opens_framed}
-use Rattle.tsdb_frames.proofs.MomentLemmas.{first_then, weaker, leaves_on}
+use Rattle.tsdb_frames.proofs.MomentLemmas.{weaker, leaves_on}
 use Rattle.tsdb_frames.proofs.SlotLemmas.{record_counts, torn_gate}
 
 pub other_other : (slot : Slot) → other (other slot) ≡ slot
@@ -356,52 +355,23 @@ module _ (old new : State) (slot place : Slot) (is : place ≡ other slot) where
       → LeftInSlot new (other slot) (HasRecords [])
   closing_closes_at told written = subst (λ (p : Slot). LeftInSlot new p (HasRecords [])) is (closing_closes place old new told written)
 
-module _ (old staged last : State) (slot place : Slot) (is : place ≡ other slot) (framed : List ℕ) (is_frame : IsFrame framed)
-    (told : IsSome old.seen) (closed : LeftInSlot old (other slot) (HasRecords [])) where
-  empty : IsLogOn old place 0 [] None
-  empty = record { told = told; place = refl; left = subst (λ (p : Slot). LeftInSlot old p (HasRecords [])) (sym is) closed }
+-- A beginning of the log in the slot aside, which the code calls by this name.
+module _ (slot place : Slot) (is : place ≡ other slot) where
+  pub empty_at : (disk : State) → IsSome disk.seen → LeftInSlot disk (other slot) (HasRecords []) → IsLogOn disk place 0 [] None
+  empty_at disk told closed = record { told = told; place = refl; left = subst (λ (p : Slot). LeftInSlot disk p (HasRecords [])) (sym is) closed }
 
-  pub staging_fails : WhereTold (TornIn place 1 (length framed)) old.seen staged.seen
-      → ((image : Image) → staged.may_leave image → IsTornFrom place 1 (length framed) old image) → IsLogOn staged (other slot) 0 [] None
-  staging_fails torn left =
-      subst (λ (p : Slot). IsLogOn staged p 0 [] None) is (behind_fails old staged place 0 [] (length framed) torn empty left)
+  pub log_at : (disk : State) (gate : ℕ) (acknowledged : List (List ℕ)) (in_doubt : Option (List ℕ)) → IsLogOn disk place gate acknowledged in_doubt
+      → IsLogOn disk (other slot) gate acknowledged in_doubt
+  log_at disk gate acknowledged in_doubt = subst (λ (p : Slot). IsLogOn disk place gate acknowledged in_doubt → IsLogOn disk p gate acknowledged in_doubt)
+      is (λ log. log)
 
-  pub staging_done : WhereTold (TornIn place 1 (length framed)) old.seen staged.seen
-      → (IsSome old.seen → (image : Image) → staged.may_leave image → IsWrittenFrom place 1 framed old image)
-      → IsLogOn staged place 0 [] (Some (payload_of framed))
-  staging_done torn written = behind_done old staged place 0 [] (length framed) torn framed is_frame empty written
+  pub first_then_at : (old new : State) (P Q : List ℕ → Type 0) → LeavesFirstThen old new (λ image. P (in_slot place image)) (λ image. Q (in_slot place image))
+      → LeavesFirstThen old new (λ image. P (in_slot (other slot) image)) (λ image. Q (in_slot (other slot) image))
+  first_then_at old new P Q = subst (λ (p : Slot). LeavesFirstThen old new (λ image. P (in_slot place image)) (λ image. Q (in_slot place image))
+      → LeavesFirstThen old new (λ image. P (in_slot p image)) (λ image. Q (in_slot p image))) is (λ leaves. leaves)
 
-  pub staging_moments : LeavesOnly old staged (IsTornFrom place 1 (length framed) old)
-      → LeavesOnly old staged (λ image. HasRecords [] (in_slot (other slot) image))
-  staging_moments leaves =
-      subst (λ (p : Slot). LeavesOnly old staged (λ image. HasRecords [] (in_slot p image))) is
-      (weaker old staged (IsTornFrom place 1 (length framed) old) (λ image. HasRecords [] (in_slot place image))
-      (behind_leaves old staged place 0 [] (length framed) empty) leaves)
-
-  module _ (staged_log : IsLogOn staged place 0 [] (Some (payload_of framed))) where
-    pub opening_fails : WhereTold (TornIn place 0 1) staged.seen last.seen
-        → ((image : Image) → last.may_leave image → IsTornFrom place 0 1 staged image) → IsLogOn last (other slot) 0 [] (Some (payload_of framed))
-    opening_fails torn left =
-        subst (λ (p : Slot). IsLogOn last p 0 [] (Some (payload_of framed))) is
-        (gate_fails staged last place 0 [] torn (payload_of framed) staged_log left)
-
-    pub opening_done : WhereTold (TornIn place 0 1) staged.seen last.seen
-        → (IsSome staged.seen → (image : Image) → last.may_leave image → IsWrittenFrom place 0 (1 ∷ []) staged image)
-        → IsLogOn last place (length framed) (payload_of framed ∷ []) None
-    opening_done torn written =
-        let same : 0 + length framed ≡ length framed = omega arith in
-        subst (λ (n : ℕ). IsLogOn last place n (payload_of framed ∷ []) None) same
-        (gate_opens_framed old staged last place 0 framed is_frame [] torn staged_log written)
-
-    pub opening_moments : IsLawful last → LeavesOnly old staged (IsTornFrom place 1 (length framed) old)
-        → LeavesOnly staged last (IsTornFrom place 0 1 staged)
-        → LeavesFirstThen old last (λ image. HasRecords [] (in_slot (other slot) image))
-        (λ image. HasRecordsOrOneMore [] (Some (payload_of framed)) (in_slot (other slot) image))
-    opening_moments laws staging opening =
-        first_then old staged last laws (λ image. HasRecords [] (in_slot (other slot) image))
-        (λ image. HasRecordsOrOneMore [] (Some (payload_of framed)) (in_slot (other slot) image)) (staging_moments staging)
-        (subst (λ (p : Slot). LeavesOnly staged last (λ image. HasRecordsOrOneMore [] (Some (payload_of framed)) (in_slot p image))) is
-        (gate_moments staged last place 0 [] (payload_of framed) staged_log opening))
+  pub leaves_at : (old new : State) → LeavesSlot (other place) old new → LeavesSlot slot old new
+  leaves_at old new = subst (λ (p : Slot). LeavesSlot (other place) old new → LeavesSlot p old new) (ap other is ∙ other_other slot) (λ leaves. leaves)
 
 -- a record behind a byte 0 in doubt
 pub doubted_on : (disk : State) (slot : Slot) (payload : List ℕ) → IsLogOn disk slot 0 [] (Some payload)

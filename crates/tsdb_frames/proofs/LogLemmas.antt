@@ -1,5 +1,5 @@
 -- What the steps of an append and of a settling leave of a log.
-use Rattle.std.proofs.Common.{◌≡◌, ◌≢◌, inl, ℕ, ◌+◌, ◌≤◌, Bool, true, List, [], ◌∷◌, ◌++◌, length, refl, sym, ◌∙◌, ap, subst, arith, length-append, None, Some}
+use Rattle.std.proofs.Common.{◌≡◌, ◌≢◌, ℕ, ◌+◌, ◌≤◌, Bool, true, List, [], ◌∷◌, ◌++◌, length, refl, sym, ◌∙◌, ap, subst, arith, length-append, None, Some}
 use Rattle.std.specs.Prelude.{IsSome, is_some, Result, Ok, Err, OnErr}
 use Rattle.std.specs.declared.option.Option.{Option}
 use Rattle.tsdb_outside.specs.Disk.{Image, State, in_slot, overwrite, IsLawful, TornIn, WhereTold}
@@ -7,11 +7,11 @@ use Rattle.tsdb_outside.specs.declared.disk.Slot.{Slot}
 use Rattle.tsdb_frames.specs.Slots.{with_length, frame_bytes, open_records, HasRecords}
 use Rattle.tsdb_frames.specs.Laws.{records_once}
 use Rattle.tsdb_frames.specs.Log.{first_bytes, payload_of, IsFrame, IsSlotOf, IsLogOn, IsSettled, HasRecordsOrOneMore}
-use Rattle.tsdb_outside.specs.Moments.{LeavesOnly}
+use Rattle.tsdb_outside.specs.Moments.{LeavesFirstThen, LeavesOnly}
 use Rattle.tsdb_frames.specs.Steps.{IsTornFrom, IsWrittenFrom}
 use Rattle.tsdb_frames.proofs.RecordLemmas.{open_records_more}
 use Rattle.tsdb_frames.proofs.SlotLemmas.{records_or_one_more, behind_torn, beyond_torn, gate_torn, behind_written, gate_closed, gate_opened}
-use Rattle.tsdb_frames.proofs.MomentLemmas.{weaker, leaves_on}
+use Rattle.tsdb_frames.proofs.MomentLemmas.{first_then, weaker}
 
 -- what always holds also holds where there is an error
 pub always_on_err : {T E P : Type 0} (result : Result T E) → P → OnErr result P
@@ -128,12 +128,10 @@ module _ (old new : State) (slot : Slot) (gate : ℕ) (acknowledged : List (List
       (λ image from. records_or_one_more acknowledged (Some payload) (in_slot slot image) (gate_leaves payload log image from)) leaves
 
   -- the moments of a write behind the closed gate
-  pub behind_moments : (n : ℕ) (payload : List ℕ) → IsLogOn old slot gate acknowledged None
-      → LeavesOnly old new (IsTornFrom slot (gate + 1) n old)
-      → LeavesOnly old new (λ image. HasRecordsOrOneMore acknowledged (Some payload) (in_slot slot image))
-  behind_moments n payload log leaves =
-      weaker old new (IsTornFrom slot (gate + 1) n old) (λ image. HasRecordsOrOneMore acknowledged (Some payload) (in_slot slot image))
-      (λ image from. inl (behind_leaves n log image from)) leaves
+  pub staging_moments : (n : ℕ) → IsLogOn old slot gate acknowledged None → LeavesOnly old new (IsTornFrom slot (gate + 1) n old)
+      → LeavesOnly old new (λ image. HasRecords acknowledged (in_slot slot image))
+  staging_moments n log leaves =
+      weaker old new (IsTornFrom slot (gate + 1) n old) (λ image. HasRecords acknowledged (in_slot slot image)) (behind_leaves n log) leaves
 
 -- A settling, where a gate is in doubt.
 module _ (old new : State) (slot : Slot) (gate : ℕ) (acknowledged : List (List ℕ)) where
@@ -157,21 +155,25 @@ module _ (old new : State) (slot : Slot) (gate : ℕ) (acknowledged : List (List
   settle_moments (Some payload) doubt is_set same log leaves = gate_moments old new slot gate acknowledged payload log leaves
 
 -- An addition: the states at its beginning, behind the write of the frame, and behind that of the gate.
-module _ (old staged last : State) (slot : Slot) (gate : ℕ) (framed : List ℕ) (is_frame : IsFrame framed) (acknowledged : List (List ℕ)) where
-  pub last_moments : IsLawful last → IsLogOn old slot gate acknowledged None → IsLogOn staged slot gate acknowledged (Some (payload_of framed))
+module _ (old staged last : State) (slot : Slot) (gate : ℕ) (framed : List ℕ) (acknowledged : List (List ℕ)) where
+  pub added_moments : IsLawful last → IsLogOn old slot gate acknowledged None → IsLogOn staged slot gate acknowledged (Some (payload_of framed))
       → LeavesOnly old staged (IsTornFrom slot (gate + 1) (length framed) old) → LeavesOnly staged last (IsTornFrom slot gate 1 staged)
-      → LeavesOnly old last (λ image. HasRecordsOrOneMore acknowledged (Some (payload_of framed)) (in_slot slot image))
-  last_moments laws log staged_log staging opening =
-      leaves_on old staged last laws (λ image. HasRecordsOrOneMore acknowledged (Some (payload_of framed)) (in_slot slot image))
-      (behind_moments old staged slot gate acknowledged (length framed) (payload_of framed) log staging)
+      → LeavesFirstThen old last (λ image. HasRecords acknowledged (in_slot slot image))
+      (λ image. HasRecordsOrOneMore acknowledged (Some (payload_of framed)) (in_slot slot image))
+  added_moments laws log staged_log staging opening =
+      first_then old staged last laws (λ image. HasRecords acknowledged (in_slot slot image))
+      (λ image. HasRecordsOrOneMore acknowledged (Some (payload_of framed)) (in_slot slot image))
+      (staging_moments old staged slot gate acknowledged (length framed) log staging)
       (gate_moments staged last slot gate acknowledged (payload_of framed) staged_log opening)
 
-  pub gate_opens_framed : WhereTold (TornIn slot gate 1) staged.seen last.seen → IsLogOn staged slot gate acknowledged (Some (payload_of framed))
-      → (IsSome staged.seen → (image : Image) → last.may_leave image → IsWrittenFrom slot gate (1 ∷ []) staged image)
-      → IsLogOn last slot (gate + length framed) (acknowledged ++ (payload_of framed ∷ [])) None
-  gate_opens_framed told log written =
-      subst (λ (n : ℕ). IsLogOn last slot (gate + n) (acknowledged ++ (payload_of framed ∷ [])) None) (sym (ap length is_frame.bytes))
-      (gate_opens staged last slot gate acknowledged told (payload_of framed) log written)
+-- the gate behind a record is opened
+pub gate_opens_framed : (staged last : State) (slot : Slot) (gate : ℕ) (framed : List ℕ) → IsFrame framed → (acknowledged : List (List ℕ))
+    → WhereTold (TornIn slot gate 1) staged.seen last.seen → IsLogOn staged slot gate acknowledged (Some (payload_of framed))
+    → (IsSome staged.seen → (image : Image) → last.may_leave image → IsWrittenFrom slot gate (1 ∷ []) staged image)
+    → IsLogOn last slot (gate + length framed) (acknowledged ++ (payload_of framed ∷ [])) None
+gate_opens_framed staged last slot gate framed is_frame acknowledged told log written =
+    subst (λ (n : ℕ). IsLogOn last slot (gate + n) (acknowledged ++ (payload_of framed ∷ [])) None) (sym (ap length is_frame.bytes))
+    (gate_opens staged last slot gate acknowledged told (payload_of framed) log written)
 
 -- the first frame of a log with one more
 pub first_grows : (acknowledged : List (List ℕ)) (payload : List ℕ) (gate first new bytes : ℕ) → gate ≡ length (open_records acknowledged)

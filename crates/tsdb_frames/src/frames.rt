@@ -15,7 +15,7 @@ ghost use Rattle.tsdb_frames.specs.declared.aside.Aside.TheVariants as aside;
 use crate::aside::{Aside, is_closed, other_slot};
 use crate::growing::{BLOCK_PIECES, passes_end, zeros_behind};
 use crate::reading::{End, read_first_record, read_slot};
-use crate::writing::write_and_sync;
+use crate::writing::{Unopened, write_and_sync, write_record};
 use crate::{Frame, ScanFault};
 use std::alloc::Global;
 use tsdb_outside::{Failed, Journal, Slot};
@@ -188,7 +188,7 @@ impl<J: Journal> Frames<J> {
         ensures cause { HasCause (faults_of self.old) (faults_of self.new) result }
     {
         self.grow(framed.len() as u64)?;
-        self.write_record(framed)
+        self.add_here(framed)
     }
 
     // Lengthens a long slot, where a frame of this many bytes would pass its end.
@@ -215,8 +215,8 @@ impl<J: Journal> Frames<J> {
         Ok(())
     }
 
-    // Writes a frame behind the gate and syncs it, and then opens the gate and syncs it.
-    fn write_record(&mut self, framed: &[u8]) -> Result<(), Failed>
+    // Adds a record where no gate is in doubt, however long the slot is.
+    fn add_here(&mut self, framed: &[u8]) -> Result<(), Failed>
         requires { IsFrame framed.now }
         ensures added { OnOk result ((acknowledged : List (List ℕ)) → IsLog self.old acknowledged None
             → IsLog self.new (acknowledged ++ (payload_of framed.now ∷ [])) None) }
@@ -230,14 +230,20 @@ impl<J: Journal> Frames<J> {
         ensures aside { KeepsAside self.old self.new }
         ensures cause { HasCause (faults_of self.old) (faults_of self.new) result }
     {
-        write_and_sync(&mut self.journal, self.slot, self.gate + 1, framed)?;
-        self.doubt = true;
-        write_and_sync(&mut self.journal, self.slot, self.gate, &[1])?;
-        self.doubt = false;
-        self.first = first_after(self.first, self.gate, framed.len() as u64);
-        self.end = self.end.max(self.gate + 1 + framed.len() as u64);
-        self.gate += framed.len() as u64;
-        Ok(())
+        match write_record(&mut self.journal, self.slot, self.gate, framed) {
+            Ok(()) => {
+                let end = self.gate + 1 + framed.len() as u64;
+                self.first = first_after(self.first, self.gate, framed.len() as u64);
+                self.end = self.end.max(end);
+                self.gate += framed.len() as u64;
+                Ok(())
+            }
+            Err(Unopened::Closed) => Err(Failed),
+            Err(Unopened::Doubted) => {
+                self.doubt = true;
+                Err(Failed)
+            }
+        }
     }
 
     /// Makes the other slot the log, with the record of a frame that `frame` made alone, after a gate in doubt is closed:
@@ -365,15 +371,21 @@ impl<J: Journal> Frames<J> {
         ensures cause { HasCause (faults_of self.old) (faults_of self.new) result }
     {
         let slot = other_slot(self.slot);
-        write_and_sync(&mut self.journal, slot, 1, framed)?;
-        self.aside = Aside::Doubted;
-        write_and_sync(&mut self.journal, slot, 0, &[1])?;
-        self.slot = slot;
-        self.gate = framed.len() as u64;
-        self.first = self.gate;
-        self.end = bytes.max(self.gate + 1);
-        self.aside = Aside::Settled;
-        Ok(())
+        match write_record(&mut self.journal, slot, 0, framed) {
+            Ok(()) => {
+                self.slot = slot;
+                self.gate = framed.len() as u64;
+                self.first = self.gate;
+                self.end = bytes.max(self.gate + 1);
+                self.aside = Aside::Settled;
+                Ok(())
+            }
+            Err(Unopened::Closed) => Err(Failed),
+            Err(Unopened::Doubted) => {
+                self.aside = Aside::Doubted;
+                Err(Failed)
+            }
+        }
     }
 
     /// The slot that the log is in.
