@@ -5,23 +5,24 @@ use Rattle.std.specs.Prelude.{IsOk, Result, Ok, Err, OnErr, OnOk, Bool, true, fa
 use Rattle.std.specs.declared.option.Option.{Option}
 use Rattle.tsdb_outside.specs.declared.disk.Disk as disk
 use Rattle.tsdb_outside.specs.Disk.{State, IsLawful, MayWrite, in_slot}
-use Rattle.tsdb_outside.specs.Moments.{LeavesOnly, other}
+use Rattle.tsdb_outside.specs.Moments.{IsUntouched, LeavesOnly, other}
 use Rattle.tsdb_outside.specs.declared.disk.Slot.{Slot}
 use Rattle.tsdb_outside.specs.declared.faults.Counted as counted
+use Rattle.tsdb_outside.specs.declared.faults.Failed.{Failed}
 use Rattle.tsdb_frames.specs.declared.frames.Frames.{Frames}
 use Rattle.tsdb_frames.specs.declared.aside.Aside.{Aside}
 use Rattle.tsdb_frames.specs.declared.aside.Aside.TheVariants.{Settled, Closed, Unsettled, Doubted}
 use Rattle.tsdb_frames.specs.Asides.{HasRecordsOrNone, IsAsideOn, LeftInSlot, is_doubted, records_settled}
-use Rattle.tsdb_frames.specs.Calls.{IsAsideClosed, KeepsAside, KeepsLog, Lengthens}
-use Rattle.tsdb_frames.specs.Frames.{IsAside, IsLog, disk_of, settled_aside, slot_of}
+use Rattle.tsdb_frames.specs.Calls.{IsAsideClosed, KeepsAside, KeepsLog, Lengthens, SettlesAside}
+use Rattle.tsdb_frames.specs.Frames.{IsAside, IsLog, disk_of, is_aside_in_doubt, settled_aside, slot_of}
 use Rattle.tsdb_frames.specs.Log.{HasRecordsOrOneMore, IsLogOn}
 use Rattle.tsdb_frames.specs.Slots.{HasRecords}
 use Rattle.tsdb_frames.specs.Steps.{LeavesSlot}
-use Rattle.tsdb_frames.proofs.AsideLemmas.{aside_on, doubted_is_unsettled, idle_leaves, leaves_slot_on, left_moments, left_on, left_or_none, log_on, other_other, settled_or_none, tells_on, unsettled_is_doubted, write_leaves}
-use Rattle.tsdb_frames.proofs.LogLemmas.{grown_log, grown_moments}
-use Rattle.tsdb_frames.proofs.MomentLemmas.{leaves_on, weaker}
+use Rattle.tsdb_frames.proofs.AsideLemmas.{aside_on, doubted_is_unsettled, idle_leaves, leaves_slot_on, left_moments, left_on, left_or_none, leaves_untouched, log_on, other_other, settled_or_none, tells_on, unsettled_is_doubted, write_leaves}
+use Rattle.tsdb_frames.proofs.LogLemmas.{always_on_err, grown_log, grown_moments}
+use Rattle.tsdb_frames.proofs.MomentLemmas.{elsewhere_on, leaves_on, weaker}
 use Rattle.tsdb_frames.proofs.SlotLemmas.{records_or_one_more}
-use Rattle.tsdb_frames.proofs.StepLemmas.{torn_left, torn_since}
+use Rattle.tsdb_frames.proofs.StepLemmas.{always_on_ok, torn_left, torn_since}
 
 -- from one fact of a result to another
 pub on_ok : {T E P Q : Type 0} (result : Result T E) → (P → Q) → OnOk result P → OnOk result Q
@@ -214,10 +215,11 @@ module _ {J : Type 0} {means : disk.Ghosts J} {counts : counted.Ghosts J} where
         };
       }
 
-  pub unchanged_leaves : (old mid : Frames J means counts) (new : State) → mid ≡ old → LeavesSlot (other (slot_of mid)) (disk_of mid) new
-      → LeavesSlot (other (slot_of old)) (disk_of old) new
-  unchanged_leaves old mid new same =
-      subst (λ (m : Frames J means counts). LeavesSlot (other (slot_of mid)) (disk_of mid) new → LeavesSlot (other (slot_of m)) (disk_of m) new) same (λ leaves. leaves)
+  pub unchanged_untouched : (old mid : Frames J means counts) → IsLawful (disk_of old) → mid ≡ old
+      → LeavesOnly (disk_of old) (disk_of mid) (IsUntouched (slot_of old) (disk_of old))
+  unchanged_untouched old mid laws same =
+      subst (λ (m : Frames J means counts). LeavesOnly (disk_of old) (disk_of m) (IsUntouched (slot_of old) (disk_of old))) (sym same)
+      (leaves_untouched (slot_of old) (disk_of old) (disk_of old) (idle_leaves (other (slot_of old)) (disk_of old) laws))
 
   -- what the slot aside has behind a settling, and then behind a call that leaves it alone
   module _ (first mid last : Frames J means counts) (laws : IsLawful (disk_of last)) (same : slot_of mid ≡ slot_of first) where
@@ -232,6 +234,26 @@ module _ {J : Type 0} {means : disk.Ghosts J} {counts : counted.Ghosts J} where
         (λ image has. settled_or_none first.aside records (in_slot (other (slot_of first)) image) has)
         (subst (λ (s : Slot). LeavesOnly (disk_of mid) (disk_of last) (λ image. HasRecordsOrNone (settled_aside first records) (in_slot (other s) image)))
         same two))
+
+    -- a settling of the slot aside, and then a call that leaves it alone
+    pub settles_then : IsLawful (disk_of mid) → KeepsAside mid last
+        → (is_aside_in_doubt first ≡ false → LeavesOnly (disk_of first) (disk_of mid) (IsUntouched (slot_of first) (disk_of first)))
+        → ((records : Option (List (List ℕ))) → IsAside first records → IsAside mid (settled_aside first records))
+        → ((records : Option (List (List ℕ))) → IsAside first records → LeavesOnly (disk_of first) (disk_of mid)
+        (λ image. HasRecordsOrNone records (in_slot (other (slot_of first)) image)))
+        → (outcome : Result (Unit {0}) Failed) → SettlesAside first last outcome
+    settles_then mid_laws keeps alone settled moments outcome = record {
+      alone = λ none. elsewhere_on (slot_of first) (disk_of first) (disk_of mid) (disk_of last) mid_laws laws (alone none)
+          (subst (λ (p : Slot). LeavesOnly (disk_of mid) (disk_of last) (IsUntouched p (disk_of mid))) same
+          (leaves_untouched (slot_of mid) (disk_of mid) (disk_of last) keeps.leaves));
+      settled = always_on_ok outcome (λ records aside. now records aside);
+      failed = always_on_err outcome (λ records aside. inr (now records aside));
+      moments = λ records aside. settled_then records (moments records aside)
+          (keeps_aside_moments mid last laws keeps (settled_aside first records) (settled records aside));
+    }
+      where
+        now : (records : Option (List (List ℕ))) → IsAside first records → IsAside last (settled_aside first records)
+        now records aside = keeps_aside mid last laws keeps (settled_aside first records) (settled records aside)
 
   -- what the slot aside has behind a fault: the records from before, or none
   pub three_ways : (first now : Frames J means counts) (records : Option (List (List ℕ))) (Third : Type 0) → IsAside now (settled_aside first records)

@@ -1,13 +1,15 @@
 -- What private calls keep of a log, of its own slot and of the slot aside.
-use Rattle.std.specs.Prelude.{◌≡◌, ℕ, List, [], None, IsSome}
+use Rattle.std.specs.Prelude.{◌≡◌, ◌⊎◌, ℕ, false, List, [], None, IsSome, Result, OnErr, OnOk}
+use Rattle.std.specs.declared.option.Option.{Option}
 use Rattle.tsdb_outside.specs.declared.disk.Disk as disk
 use Rattle.tsdb_outside.specs.Disk.{in_slot}
-use Rattle.tsdb_outside.specs.Moments.{LeavesOnly, other}
+use Rattle.tsdb_outside.specs.Moments.{IsUntouched, LeavesOnly, other}
 use Rattle.tsdb_outside.specs.declared.faults.Counted as counted
 use Rattle.tsdb_frames.specs.declared.aside.Aside.TheVariants.{Closed}
 use Rattle.tsdb_frames.specs.declared.frames.Frames.{Frames}
-use Rattle.tsdb_frames.specs.Asides.{LeftInSlot}
-use Rattle.tsdb_frames.specs.Frames.{disk_of, slot_of, IsLog}
+use Rattle.tsdb_outside.specs.declared.faults.Failed.{Failed}
+use Rattle.tsdb_frames.specs.Asides.{HasRecordsOrNone, LeftInSlot}
+use Rattle.tsdb_frames.specs.Frames.{disk_of, slot_of, is_aside_in_doubt, settled_aside, IsAside, IsLog}
 use Rattle.tsdb_frames.specs.Slots.{HasRecords}
 use Rattle.tsdb_frames.specs.Steps.{LeavesSlot}
 
@@ -25,6 +27,18 @@ module _ {J : Type 0} {means : disk.Ghosts J} {counts : counted.Ghosts J} where
     pub slot : slot_of new ≡ slot_of old
     pub aside : new.aside ≡ old.aside
     pub leaves : LeavesSlot (other (slot_of old)) (disk_of old) (disk_of new)
+
+  -- A call leaves the slot aside alone, but for a gate in doubt there, which it closes: at each moment the slot has the
+  -- records that it had, or none; behind the call it has what it has once the doubt is closed, or is as before.
+  pub record SettlesAside (old new : Frames J means counts) (outcome : Result (Unit {0}) Failed) : Type 0 where
+    pub alone : is_aside_in_doubt old ≡ false
+        → LeavesOnly (disk_of old) (disk_of new) (IsUntouched (slot_of old) (disk_of old))
+    pub settled : OnOk outcome ((records : Option (List (List ℕ))) → IsAside old records
+        → IsAside new (settled_aside old records))
+    pub failed : OnErr outcome ((records : Option (List (List ℕ))) → IsAside old records
+        → IsAside new records ⊎ IsAside new (settled_aside old records))
+    pub moments : (records : Option (List (List ℕ))) → IsAside old records → LeavesOnly (disk_of old) (disk_of new)
+        (λ image. HasRecordsOrNone records (in_slot (other (slot_of old)) image))
 
   -- byte 0 of the slot aside is known to be closed
   pub record IsAsideClosed (log : Frames J means counts) : Type 0 where

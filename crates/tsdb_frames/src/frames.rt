@@ -65,7 +65,7 @@ pub struct ScanRefused<J> {
 
 impl<J: Journal> Frames<J> {
     ghost use Rattle.tsdb_frames.specs.Asides.{HasRecordsOrNone, IsAsideOn};
-    ghost use Rattle.tsdb_frames.specs.Calls.{KeepsLog, KeepsAside, IsAsideClosed, Lengthens};
+    ghost use Rattle.tsdb_frames.specs.Calls.{KeepsLog, KeepsAside, IsAsideClosed, Lengthens, SettlesAside};
     ghost use Rattle.tsdb_frames.specs.Firsts.{IsFirst};
     ghost use Rattle.tsdb_frames.specs.Frames.{journal_of, disk_of, faults_of, slot_of, is_in_doubt, IsLog};
     ghost use Rattle.tsdb_frames.specs.Frames.{is_aside_in_doubt, IsAside, settled_aside};
@@ -156,15 +156,7 @@ impl<J: Journal> Frames<J> {
             (in_slot (slot_of self.old) image)) }
 
         // It leaves the slot aside alone, but for a gate in doubt there, which it closes.
-        ensures elsewhere { is_aside_in_doubt self.old ≡ false
-            → LeavesOnly (disk_of self.old) (disk_of self.new) (IsUntouched (slot_of self.old) (disk_of self.old)) }
-        ensures aside { OnOk result ((records : Option (List (List ℕ))) → IsAside self.old records
-            → IsAside self.new (settled_aside self.old records)) }
-        ensures aside_failed { OnErr result ((records : Option (List (List ℕ))) → IsAside self.old records
-            → IsAside self.new records ⊎ IsAside self.new (settled_aside self.old records)) }
-        ensures aside_moments { (records : Option (List (List ℕ))) → IsAside self.old records
-            → LeavesOnly (disk_of self.old) (disk_of self.new)
-            (λ image. HasRecordsOrNone records (in_slot (other (slot_of self.old)) image)) }
+        ensures aside { SettlesAside self.old self.new result }
         ensures slot { slot_of self.new ≡ slot_of self.old }
         ensures cause { HasCause (faults_of self.old) (faults_of self.new) result }
     {
@@ -437,15 +429,7 @@ impl<J: Journal> Frames<J> {
             (λ image. HasRecordsOrOneMore acknowledged in_doubt (in_slot (slot_of self.old) image)) }
 
         // It leaves the slot aside alone, but for a gate in doubt there, which it closes.
-        ensures elsewhere { is_aside_in_doubt self.old ≡ false
-            → LeavesOnly (disk_of self.old) (disk_of self.new) (IsUntouched (slot_of self.old) (disk_of self.old)) }
-        ensures aside { OnOk result ((records : Option (List (List ℕ))) → IsAside self.old records
-            → IsAside self.new (settled_aside self.old records)) }
-        ensures aside_failed { OnErr result ((records : Option (List (List ℕ))) → IsAside self.old records
-            → IsAside self.new records ⊎ IsAside self.new (settled_aside self.old records)) }
-        ensures aside_moments { (records : Option (List (List ℕ))) → IsAside self.old records
-            → LeavesOnly (disk_of self.old) (disk_of self.new)
-            (λ image. HasRecordsOrNone records (in_slot (other (slot_of self.old)) image)) }
+        ensures aside { SettlesAside self.old self.new result }
         ensures slot { slot_of self.new ≡ slot_of self.old }
         ensures cause { HasCause (faults_of self.old) (faults_of self.new) result }
     {

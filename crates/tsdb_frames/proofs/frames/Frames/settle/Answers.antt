@@ -1,12 +1,11 @@
-use Rattle.std.proofs.Common.{inl, inr, sym, ◌∙◌}
+use Rattle.std.proofs.Common.{inl, rules, sym, ◌∙◌}
 use Rattle.tsdb_outside.specs.Disk.{in_slot}
-use Rattle.tsdb_frames.specs.Frames.{disk_of, slot_of, settled_aside}
+use Rattle.tsdb_frames.specs.Frames.{disk_of, slot_of}
 use Rattle.tsdb_frames.specs.Log.{HasRecordsOrOneMore}
-use Rattle.tsdb_frames.proofs.AsideLemmas.{leaves_untouched}
-use Rattle.tsdb_frames.proofs.CallLemmas.{either_same, err_is_not_ok, first_false, first_true, keeps_aside, keeps_aside_moments, keeps_log, keeps_moments, moved_moments, on_err, on_ok, second_false, settled_then, unchanged_leaves}
+use Rattle.tsdb_frames.proofs.CallLemmas.{settles_then, unchanged_untouched, either_same, err_is_not_ok, first_false, first_true, keeps_log, keeps_moments, moved_moments, on_err, on_ok, second_false}
 use Rattle.tsdb_frames.proofs.LogLemmas.{always_on_err}
 use Rattle.tsdb_frames.proofs.MomentLemmas.{leaves_on}
-use Rattle.tsdb_frames.proofs.StepLemmas.{always_on_ok, cause_of_second}
+use Rattle.tsdb_frames.proofs.StepLemmas.{cause_of_second}
 use Rattle.tsdb_frames.proofs.frames.Frames.settle.Goals as goal
 
 pub returns-in_err-settle_aside-clause-failed : goal.returns-in_err-settle_aside-clause-failed
@@ -25,15 +24,6 @@ pub returns-in_err-settle_aside-clause-idle : goal.returns-in_err-settle_aside-c
 returns-in_err-settle_aside-clause-idle g c none =
     absurd (err_is_not_ok c.settle_aside.result c.in_err-settle_aside.field-0.0 c.in_err-settle_aside.was
     (c.settle_aside.ensures.idle (second_false _ _ none)).0)
-
-pub returns-in_err-settle_aside-clause-elsewhere : goal.returns-in_err-settle_aside-clause-elsewhere
-returns-in_err-settle_aside-clause-elsewhere g c none =
-    absurd (err_is_not_ok c.settle_aside.result c.in_err-settle_aside.field-0.0 c.in_err-settle_aside.was
-    (c.settle_aside.ensures.idle none).0)
-
-pub returns-in_err-settle_aside-clause-aside_failed : goal.returns-in_err-settle_aside-clause-aside_failed
-returns-in_err-settle_aside-clause-aside_failed g c = always_on_err c.from_residual.result (λ records aside.
-    inl (c.in_err-settle_aside.ensures.failed records aside))
 
 pub returns-clause-settled : goal.returns-clause-settled
 returns-clause-settled g c = on_ok c.settle_gate.result (λ settled acknowledged in_doubt log.
@@ -71,33 +61,25 @@ returns-clause-moments g c acknowledged in_doubt log =
     (HasRecordsOrOneMore acknowledged in_doubt)
     (c.settle_gate.ensures.moments acknowledged in_doubt (keeps_log old mid mid_laws c.settle_aside.ensures.log acknowledged in_doubt log)))
 
-pub returns-clause-elsewhere : goal.returns-clause-elsewhere
-returns-clause-elsewhere g c none =
-    let there = c.settle_aside.ensures.idle none in
-    leaves_untouched (slot_of c.args.self.now) (disk_of c.args.self.now) (disk_of c.settle_gate.new.self)
-    (unchanged_leaves c.args.self.now c.settle_aside.new.self (disk_of c.settle_gate.new.self) there.1 c.settle_gate.ensures.aside.leaves)
-
-pub returns-clause-aside : goal.returns-clause-aside
-returns-clause-aside g c = always_on_ok c.settle_gate.result (λ records aside.
-    keeps_aside c.settle_aside.new.self c.settle_gate.new.self (g.J.Disk.lawful c.settle_gate.new.self.journal) c.settle_gate.ensures.aside
-    (settled_aside c.args.self.now records) (c.in_ok-settle_aside.ensures.aside records aside))
-
-pub returns-clause-aside_failed : goal.returns-clause-aside_failed
-returns-clause-aside_failed g c = always_on_err c.settle_gate.result (λ records aside.
-    inr (keeps_aside c.settle_aside.new.self c.settle_gate.new.self (g.J.Disk.lawful c.settle_gate.new.self.journal) c.settle_gate.ensures.aside
-    (settled_aside c.args.self.now records) (c.in_ok-settle_aside.ensures.aside records aside)))
-
-pub returns-clause-aside_moments : goal.returns-clause-aside_moments
-returns-clause-aside_moments g c records aside =
-    let mid = c.settle_aside.new.self in
-    let new = c.settle_gate.new.self in
-    settled_then c.args.self.now mid new (g.J.Disk.lawful new.journal) c.settle_aside.ensures.log.slot records
-    (c.settle_aside.ensures.moments records aside)
-    (keeps_aside_moments mid new (g.J.Disk.lawful new.journal) c.settle_gate.ensures.aside (settled_aside c.args.self.now records)
-    (c.in_ok-settle_aside.ensures.aside records aside))
-
 pub returns-clause-slot : goal.returns-clause-slot
 returns-clause-slot g c = c.settle_gate.ensures.aside.slot ∙ c.settle_aside.ensures.log.slot
 
 pub returns-clause-cause : goal.returns-clause-cause
 returns-clause-cause g c = cause_of_second _ _ _ c.settle_gate.result c.settle_aside.ensures.cause.later c.settle_gate.ensures.cause
+
+pub returns-in_err-settle_aside-clause-aside : goal.returns-in_err-settle_aside-clause-aside
+returns-in_err-settle_aside-clause-aside g c = record {
+  alone = λ none. absurd (err_is_not_ok c.settle_aside.result c.in_err-settle_aside.field-0.0 c.in_err-settle_aside.was (c.settle_aside.ensures.idle none).0);
+  settled = search rules;
+  failed = always_on_err c.from_residual.result (λ records aside. inl (c.in_err-settle_aside.ensures.failed records aside));
+  moments = c.settle_aside.ensures.moments;
+}
+
+pub returns-clause-aside : goal.returns-clause-aside
+returns-clause-aside g c =
+    let old = c.args.self.now in
+    let mid = c.settle_aside.new.self in
+    settles_then old mid c.settle_gate.new.self (g.J.Disk.lawful c.settle_gate.new.self.journal) c.settle_aside.ensures.log.slot
+    (g.J.Disk.lawful mid.journal) c.settle_gate.ensures.aside
+    (λ none. unchanged_untouched old mid (g.J.Disk.lawful old.journal) (c.settle_aside.ensures.idle none).1)
+    c.in_ok-settle_aside.ensures.aside c.settle_aside.ensures.moments c.settle_gate.result

@@ -20,13 +20,13 @@ returns-in_err-settle-clause-failed g c = always_on_err c.from_residual.result (
 pub returns-in_err-settle-clause-aside_failed : goal.returns-in_err-settle-clause-aside_failed
 returns-in_err-settle-clause-aside_failed g c = always_on_err c.from_residual.result (λ records aside.
     ⊎_elim (λ same. inl same) (λ settled. three_ways c.args.self.now c.settle.new.self records _ settled)
-    (c.in_err-settle.ensures.aside_failed records aside))
+    (c.in_err-settle.ensures.aside.failed records aside))
 
 pub returns-in_err-settle-clause-moments : goal.returns-in_err-settle-clause-moments
 returns-in_err-settle-clause-moments g c acknowledged in_doubt log = inl (c.settle.ensures.moments acknowledged in_doubt log)
 
 pub returns-in_err-settle-clause-aside_moments : goal.returns-in_err-settle-clause-aside_moments
-returns-in_err-settle-clause-aside_moments g c records aside = inl (inl (c.settle.ensures.aside_moments records aside))
+returns-in_err-settle-clause-aside_moments g c records aside = inl (inl (c.settle.ensures.aside.moments records aside))
 
 pub returns-in_err-length-clause-failed : goal.returns-in_err-length-clause-failed
 returns-in_err-length-clause-failed g c = always_on_err c.from_residual-in_err-length.result (λ acknowledged in_doubt log.
@@ -40,7 +40,7 @@ returns-in_err-length-clause-same_slot g c = always_on_err c.from_residual-in_er
 pub returns-in_err-length-clause-aside_failed : goal.returns-in_err-length-clause-aside_failed
 returns-in_err-length-clause-aside_failed g c = always_on_err c.from_residual-in_err-length.result (λ records aside.
     three_ways c.args.self.now c.close_aside.new.self records _
-    (c.in_err-length.ensures.failed (settled_aside c.args.self.now records) (c.in_ok-settle.ensures.aside records aside)))
+    (c.in_err-length.ensures.failed (settled_aside c.args.self.now records) (c.in_ok-settle.ensures.aside.settled records aside)))
 
 pub returns-in_err-length-clause-moments : goal.returns-in_err-length-clause-moments
 returns-in_err-length-clause-moments g c acknowledged in_doubt log =
@@ -59,12 +59,12 @@ pub returns-in_err-length-clause-aside_moments : goal.returns-in_err-length-clau
 returns-in_err-length-clause-aside_moments g c records aside =
     let new = c.close_aside.new.self in
     inl (inl (settled_then c.args.self.now c.settle.new.self new (g.J.Disk.lawful new.journal) c.settle.ensures.slot records
-    (c.settle.ensures.aside_moments records aside)
-    (c.close_aside.ensures.moments (settled_aside c.args.self.now records) (c.in_ok-settle.ensures.aside records aside))))
+    (c.settle.ensures.aside.moments records aside)
+    (c.close_aside.ensures.moments (settled_aside c.args.self.now records) (c.in_ok-settle.ensures.aside.settled records aside))))
 
 pub returns-clause-turned : goal.returns-clause-turned
 returns-clause-turned g c = on_ok c.begin_aside.result (λ turned acknowledged in_doubt records log aside.
-    turned (c.in_ok-length.ensures.closed (settled_aside c.args.self.now records) (c.in_ok-settle.ensures.aside records aside))
+    turned (c.in_ok-length.ensures.closed (settled_aside c.args.self.now records) (c.in_ok-settle.ensures.aside.settled records aside))
     (keeps_log c.settle.new.self c.close_aside.new.self (g.J.Disk.lawful c.close_aside.new.self.journal) c.close_aside.ensures.log
     acknowledged None (c.in_ok-settle.ensures.settled acknowledged in_doubt log)).doubt) c.begin_aside.ensures.turned
 
@@ -96,7 +96,7 @@ returns-clause-same_slot g c = on_err c.begin_aside.result
 
 pub returns-clause-aside_failed : goal.returns-clause-aside_failed
 returns-clause-aside_failed g c = on_err c.begin_aside.result (λ failed records aside.
-    inr (failed (c.in_ok-length.ensures.closed (settled_aside c.args.self.now records) (c.in_ok-settle.ensures.aside records aside))))
+    inr (failed (c.in_ok-length.ensures.closed (settled_aside c.args.self.now records) (c.in_ok-settle.ensures.aside.settled records aside))))
     c.begin_aside.ensures.failed
 
 pub returns-clause-moments : goal.returns-clause-moments
@@ -124,13 +124,13 @@ returns-clause-aside_moments g c records aside =
     let old = c.args.self.now in
     let closed = c.close_aside.new.self in
     let new = c.begin_aside.new.self in
-    let settled = c.in_ok-settle.ensures.aside records aside in
+    let settled = c.in_ok-settle.ensures.aside.settled records aside in
     then_turns (disk_of old) (disk_of closed) (disk_of new) (g.J.Disk.lawful new.journal)
     (λ image. HasRecordsOrNone records (in_slot (other (slot_of old)) image))
     (λ image. HasRecords [] (in_slot (other (slot_of old)) image))
     (λ image. HasRecordsOrOneMore [] (Some (payload_of c.args.framed.now)) (in_slot (other (slot_of old)) image))
     (settled_then old c.settle.new.self closed (g.J.Disk.lawful closed.journal) c.settle.ensures.slot records
-    (c.settle.ensures.aside_moments records aside) (c.close_aside.ensures.moments (settled_aside old records) settled))
+    (c.settle.ensures.aside.moments records aside) (c.close_aside.ensures.moments (settled_aside old records) settled))
     (subst (λ (s : Slot). LeavesFirstThen (disk_of closed) (disk_of new) (λ image. HasRecords [] (in_slot (other s) image))
     (λ image. HasRecordsOrOneMore [] (Some (payload_of c.args.framed.now)) (in_slot (other s) image)))
     (c.close_aside.ensures.log.slot ∙ c.settle.ensures.slot)
