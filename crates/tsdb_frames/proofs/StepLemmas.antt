@@ -1,5 +1,5 @@
 -- What a write and a sync of one slot leave of a disk: `old` is before them, `mid` between them, `new` behind them.
-use Rattle.std.proofs.Common.{◌≡◌, ℕ, ◌+◌, ◌≤◌, List, length, max, refl, sym, ap, ◌∙◌, inl, inr, ⊎_elim, arith, subst}
+use Rattle.std.proofs.Common.{◌≡◌, ℕ, ◌+◌, ◌≤◌, List, length, refl, sym, ap, ◌∙◌, inl, inr, ⊎_elim, arith, subst}
 use Rattle.std.proofs.lemmas.Bool.{false≢true}
 use Rattle.std.specs.Prelude.{Result, Ok, Err, None, Some, IfSome, IsSome, OnOk}
 use Rattle.std.specs.declared.option.Option.{Option}
@@ -127,13 +127,3 @@ end_stays slot end at n (Some before) None torn long image is = absurd torn
 end_stays slot end at n (Some before) (Some after) torn long image is =
     let same : after ≡ image = cc in
     subst (λ (i : Image). end ≤ length (in_slot slot i)) same (omega (arith, long before refl, torn.here.no_shorter))
-
--- a slot has each place up to its end
-pub reaches_up_to : (slot : Slot) (place end : ℕ) (seen : Option Image) → place ≤ end → ForSome seen (λ image. end ≤ length (in_slot slot image))
-    → ForSome seen (λ image. place ≤ length (in_slot slot image))
-reaches_up_to slot place end seen within long image is = omega (arith, within, long image is)
-
--- and the farther of two places that it has
-pub reaches_both : (slot : Slot) (place end : ℕ) (seen : Option Image) → ForSome seen (λ image. place ≤ length (in_slot slot image))
-    → ForSome seen (λ image. end ≤ length (in_slot slot image)) → ForSome seen (λ image. max end place ≤ length (in_slot slot image))
-reaches_both slot place end seen there long image is = omega (arith, there image is, long image is)

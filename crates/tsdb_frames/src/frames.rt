@@ -180,7 +180,20 @@ impl<J: Journal> Frames<J> {
         ensures cause { HasCause (faults_of self.old) (faults_of self.new) result }
     {
         self.grow(framed.len() as u64)?;
-        self.add_here(framed)
+        match write_record(&mut self.journal, self.slot, self.gate, framed) {
+            Ok(()) => {
+                let end = self.gate + 1 + framed.len() as u64;
+                self.first = first_after(self.first, self.gate, framed.len() as u64);
+                self.end = self.end.max(end);
+                self.gate += framed.len() as u64;
+                Ok(())
+            }
+            Err(Unopened::Closed) => Err(Failed),
+            Err(Unopened::Doubted) => {
+                self.doubt = true;
+                Err(Failed)
+            }
+        }
     }
 
     // Lengthens a long slot, where a frame of this many bytes would pass its end.
@@ -205,37 +218,6 @@ impl<J: Journal> Frames<J> {
         self.journal.write_at(self.slot, self.end, zeros)?;
         self.end += zeros.len() as u64;
         Ok(())
-    }
-
-    // Adds a record where no gate is in doubt, however long the slot is.
-    fn add_here(&mut self, framed: &[u8]) -> Result<(), Failed>
-        requires { IsFrame framed.now }
-        ensures added { OnOk result ((acknowledged : List (List ℕ)) → IsLog self.old acknowledged None
-            → IsLog self.new (acknowledged ++ (payload_of framed.now ∷ [])) None) }
-        ensures no_doubt { OnOk result (is_in_doubt self.old ≡ false → is_in_doubt self.new ≡ false) }
-        ensures failed { OnErr result ((acknowledged : List (List ℕ)) → IsLog self.old acknowledged None
-            → IsLog self.new acknowledged None ⊎ IsLog self.new acknowledged (Some (payload_of framed.now))) }
-        ensures moments { (acknowledged : List (List ℕ)) → IsLog self.old acknowledged None
-            → LeavesOnly (disk_of self.old) (disk_of self.new)
-            (λ image. HasRecordsOrOneMore acknowledged (Some (payload_of framed.now))
-            (in_slot (slot_of self.old) image)) }
-        ensures aside { KeepsAside self.old self.new }
-        ensures cause { HasCause (faults_of self.old) (faults_of self.new) result }
-    {
-        match write_record(&mut self.journal, self.slot, self.gate, framed) {
-            Ok(()) => {
-                let end = self.gate + 1 + framed.len() as u64;
-                self.first = first_after(self.first, self.gate, framed.len() as u64);
-                self.end = self.end.max(end);
-                self.gate += framed.len() as u64;
-                Ok(())
-            }
-            Err(Unopened::Closed) => Err(Failed),
-            Err(Unopened::Doubted) => {
-                self.doubt = true;
-                Err(Failed)
-            }
-        }
     }
 
     /// Makes the other slot the log, with the record of a frame that `frame` made alone, after a gate in doubt is closed:
