@@ -1,5 +1,5 @@
 //! The log in a slot of a journal: it is read once, grows record by record, and turns over to the other slot. Depends on
-//! `record`, `reading`, `writing` and `aside`.
+//! `record`, `reading`, `growing`, `writing` and `aside`.
 ghost use Rattle.std.specs.Prelude.{◌≡◌, ◌≢◌, ◌⊎◌, ℕ, ◌+◌, ◌≤◌, List, [], ◌∷◌, ◌++◌, true, false, length, None, Some, IsOk, IfOk};
 ghost use Rattle.std.specs.Prelude.{IfErr, IfSome, IsErrAnd, IsErrOf, IsSome, OnErr, OnOk};
 ghost use Rattle.std.specs.declared.option.Option.{Option};

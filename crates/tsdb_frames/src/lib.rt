@@ -14,6 +14,10 @@
 //! it open or closed. Before anything else is written, 00 is written at g and synced, since nothing may be torn behind
 //! a gate that a stop may leave open.
 //!
+//! A slot of 65,536 bytes or more grows ahead: where a frame would pass its end, 1,048,576 zeros are first written behind
+//! the end, or as many as the limit of a slot leaves. They say nothing, as all that stands behind a closed gate, and a
+//! fault of their write is one of the first step.
+//!
 //! A log turns over to the other slot with one record: byte 0 there is made closed and synced, where it may be open; the
 //! frame is written at 1; the slot is synced; 01 is written at 0; the slot is synced. Until the last step the log is in
 //! its slot as before, and a fault in the last two steps leaves byte 0 of the other slot in doubt.
