@@ -4,8 +4,9 @@
     bench/durable.py PROGRAM
 
 Needs Python 3's standard library alone. Stores lie in a temporary folder of the working directory, and then on a tmpfs.
-The limit is the pattern of calls that an insert makes: write 60 bytes, fdatasync, write 1 byte, fdatasync. On the tmpfs
-it is what the four bare system calls cost this program. SQLite has one transaction an insert, with a write-ahead log
+The limit is the pattern of calls that an insert makes: write 60 bytes, fdatasync, write 1 byte, fdatasync, in a file
+that has room for them, as a log that grew ahead has. Beside it stand the same calls where each lengthens the file. On
+the tmpfs both are what the bare system calls cost this program. SQLite has one transaction an insert, with a write-ahead log
 and synchronous=FULL. A rate is the best of three runs.
 """
 
@@ -49,9 +50,12 @@ def seconds_of_program(program, folder, times):
         return run(program, os.path.join(store, "store"), script)[0]
 
 
-def seconds_of_calls(folder, count):
+def seconds_of_calls(folder, count, room):
+    """Four calls for each insert, in a file of so many bytes."""
     with tempfile.TemporaryDirectory(dir=folder) as place:
         file = os.open(os.path.join(place, "slot"), os.O_RDWR | os.O_CREAT)
+        os.pwrite(file, bytes(room), 0)
+        os.fsync(file)
         frame, gate, at = bytes(60), bytes(1), 0
         started = time.monotonic()
         for _ in range(count):
@@ -87,7 +91,8 @@ def rate(what, count, seconds, of):
 
 
 def table(program, folder, where, count):
-    limit = rate(f"{where}: the four calls alone", count, lambda: seconds_of_calls(folder, count), None)
+    limit = rate(f"{where}: the four calls with room", count, lambda: seconds_of_calls(folder, count, 61 * count), None)
+    rate(f"{where}: the four calls that lengthen the file", count, lambda: seconds_of_calls(folder, count, 0), limit)
     ordered = rate(f"{where}: inserts in order of time", count,
                    lambda: seconds_of_program(program, folder, in_order(count)), limit)
     rate(f"{where}: inserts, a fifth of them late (share of in order)", count,

@@ -1,7 +1,7 @@
 //! The first record of a slot, over places in memory.
-use mem_outside::{Fails, MemPlace};
+use crate::steps::{one_record, place_of};
 use std::alloc::Global;
-use tsdb_frames::{Frames, ScanFault, frame};
+use tsdb_frames::{Frames, ScanFault};
 use tsdb_outside::{Place, Slot, StoreFault};
 
 // The bytes of the first record of slot B of a place, or why there is none.
@@ -19,12 +19,7 @@ fn first_in<P: Place>(alloc: Global, place: &mut P) -> Result<First, StoreFault>
 }
 
 fn first_of(alloc: Global, bytes: &[u8]) -> Result<First, StoreFault> {
-    let fails = Fails {
-        journal: Vec::new(alloc),
-        files: Vec::new(alloc),
-    };
-    let slots = [vec![in alloc; 0]?, bytes.to_vec(alloc)?];
-    let mut place = MemPlace::new(alloc, slots, Vec::new(alloc), fails)?;
+    let mut place = place_of(alloc, &[], bytes, &[])?;
     first_in(alloc, &mut place)
 }
 
@@ -63,25 +58,10 @@ fn first_records_are_read(rt: HostRuntime) {
     assert!(rt; wrong_first(rt.alloc(), &FIRSTS) == Ok(None));
 }
 
-// A slot with one record of so many bytes, less its last bytes.
-fn one_record(alloc: Global, size: usize, less: usize) -> Result<Vec<u8>, StoreFault> {
-    if size == 0 || size > 1_000_000 {
-        return Err(StoreFault::Failed);
-    }
-    let payload = vec![in alloc; 3; size]?;
-    let Ok(framed) = frame(alloc, &payload) else {
-        return Err(StoreFault::Memory);
-    };
-    let mut bytes = vec![in alloc; 1; 1]?;
-    bytes.extend_from_slice(&framed)?;
-    bytes.truncate(bytes.len().saturating_sub(less));
-    Ok(bytes)
-}
-
 // Whether a record of so many bytes is read, and none where its gate is missing.
 fn is_read_whole(alloc: Global, size: usize) -> Result<bool, StoreFault> {
-    let whole = first_of(alloc, &one_record(alloc, size, 0)?)?;
-    let cut = first_of(alloc, &one_record(alloc, size, 1)?)?;
+    let whole = first_of(alloc, &one_record(alloc, size, 1)?)?;
+    let cut = first_of(alloc, &one_record(alloc, size, 0)?)?;
     Ok(whole == Ok(Some(size)) && cut == Err(ScanFault::Torn { at: 0 }))
 }
 

@@ -1,7 +1,8 @@
 //! Slots as bytes, cuts of a log, and stops at each moment of appends, over places in memory.
-use mem_outside::{Fails, MemJournal, MemPlace, StopKind};
+use crate::steps::{Left, Step, leaves, place_of, scan_place, wrong_step_in, wrong_stop};
+use mem_outside::{MemJournal, MemPlace, StopKind};
 use std::alloc::Global;
-use tsdb_frames::{Frame, Frames, ScanFault, ScanRefused, frame};
+use tsdb_frames::{Frame, ScanFault};
 use tsdb_outside::{Failed, Journal, Place, Slot, StoreFault};
 
 // The log of a created series and an insert, as its format describes them.
@@ -26,43 +27,10 @@ const THREE: [u8; 22] = [
     0,
 ];
 
-fn place_of(alloc: Global, bytes: &[u8], fails: &[u64]) -> Result<MemPlace, StoreFault> {
-    let fails = Fails {
-        journal: fails.to_vec(alloc)?,
-        files: Vec::new(alloc),
-    };
-    let slots = [bytes.to_vec(alloc)?, vec![in alloc; 0]?];
-    Ok(MemPlace::new(alloc, slots, Vec::new(alloc), fails)?)
-}
-
-// What a scan of slot A of a place gives. The place has its journal back after it.
-fn scan_place<P: Place>(
-    alloc: Global,
-    place: &mut P,
-) -> Result<Result<Vec<Frame>, ScanFault>, StoreFault> {
-    let (journal, files) = place.take_up(b"d")?;
-    match Frames::scan(alloc, journal, Slot::A) {
-        Ok((log, frames)) => {
-            place.put_down(log.end(), files);
-            Ok(Ok(frames))
-        }
-        Err(
-            ScanRefused {
-                journal,
-                fault,
-                frames: _,
-            },
-        ) => {
-            place.put_down(journal, files);
-            Ok(Err(fault))
-        }
-    }
-}
-
 // The number of records of a slot with these bytes, or why there are none.
 fn scan_bytes(alloc: Global, bytes: &[u8]) -> Result<Result<usize, ScanFault>, StoreFault> {
-    let mut place = place_of(alloc, bytes, &[])?;
-    Ok(match scan_place(alloc, &mut place)? {
+    let mut place = place_of(alloc, bytes, &[], &[])?;
+    Ok(match scan_place(alloc, &mut place, Slot::A)? {
         Ok(frames) => Ok(frames.len()),
         Err(fault) => Err(fault),
     })
@@ -132,64 +100,6 @@ fn slots_are_read_up_to_the_first_closed_gate(rt: HostRuntime) {
     assert!(rt; cut == Ok(Err(ScanFault::Torn { at: 20 })));
 }
 
-// A record, whether it is added, and whether a gate is in doubt behind it.
-type Append = (&'static [u8], bool, bool);
-
-// Appends a record. Whether it was added.
-fn append<J: Journal>(
-    alloc: Global,
-    log: &mut Frames<J>,
-    payload: &[u8],
-) -> Result<bool, StoreFault> {
-    if payload.is_empty() || payload.len() > 1000 {
-        return Err(StoreFault::Failed);
-    }
-    let Ok(framed) = frame(alloc, payload) else {
-        return Err(StoreFault::Memory);
-    };
-    Ok(log.append(&framed).is_ok())
-}
-
-// Appends these records. The first that is otherwise added or in doubt.
-fn wrong_append<J: Journal>(
-    alloc: Global,
-    log: &mut Frames<J>,
-    appends: &[Append],
-) -> Result<Option<usize>, StoreFault> {
-    for (index, (payload, added, doubt)) in appends.iter().enumerate() {
-        if append(alloc, log, payload)? != *added || log.doubt() != *doubt {
-            return Ok(Some(index));
-        }
-    }
-    Ok(None)
-}
-
-// The same in slot A of a place.
-fn wrong_append_in<P: Place>(
-    alloc: Global,
-    place: &mut P,
-    appends: &[Append],
-) -> Result<Option<usize>, StoreFault> {
-    let (journal, files) = place.take_up(b"d")?;
-    match Frames::scan(alloc, journal, Slot::A) {
-        Ok((mut log, _frames)) => {
-            let wrong = wrong_append(alloc, &mut log, appends);
-            place.put_down(log.end(), files);
-            wrong
-        }
-        Err(
-            ScanRefused {
-                journal,
-                fault: _,
-                frames: _,
-            },
-        ) => {
-            place.put_down(journal, files);
-            Err(StoreFault::Failed)
-        }
-    }
-}
-
 // Whether slot A has the bytes of the worked log.
 fn has_worked_bytes(journal: &mut MemJournal) -> Result<bool, Failed> {
     let mut bytes = [7; 54];
@@ -215,99 +125,30 @@ fn are_worked(frames: &[Frame]) -> bool {
 
 // Whether a place has the bytes and the records of the worked log, where it was written there.
 fn has_worked_log(alloc: Global) -> Result<bool, StoreFault> {
-    let mut place = place_of(alloc, &[0], &[])?;
-    let wrong = wrong_append_in(alloc, &mut place, &WORKED_RECORDS)?;
+    let mut place = place_of(alloc, &[0], &[], &[])?;
+    let wrong = wrong_step_in(alloc, &mut place, &WORKED_RECORDS)?;
     let (mut journal, files) = place.take_up(b"d")?;
     let has_bytes = has_worked_bytes(&mut journal);
     place.put_down(journal, files);
-    let has_records = match scan_place(alloc, &mut place)? {
+    let has_records = match scan_place(alloc, &mut place, Slot::A)? {
         Ok(frames) => are_worked(&frames),
         Err(_) => false,
     };
     Ok(wrong.is_none() && has_bytes == Ok(true) && has_records)
 }
 
-const WORKED_RECORDS: [Append; 2] = [(&CREATED, true, false), (&INSERTED, true, false)];
+const WORKED_RECORDS: [Step; 2] = [Step::Added(&CREATED), Step::Added(&INSERTED)];
 
 #[test]
 fn worked_log_is_written_and_read(rt: HostRuntime) {
     assert!(rt; has_worked_log(rt.alloc()) == Ok(true));
 }
 
-// Whether the records begin with these bytes.
-pub(crate) fn begin_with(frames: &[Frame], firsts: &[u8]) -> bool {
-    if frames.len() != firsts.len() {
-        return false;
-    }
-    for (frame, first) in frames.iter().zip(firsts) {
-        if frame.payload.items().first() != Some(first) {
-            return false;
-        }
-    }
-    true
-}
-
-// The place behind a stop.
-pub(crate) fn stopped_at(
-    place: &MemPlace,
-    moment: u64,
-    kind: StopKind,
-) -> Result<MemPlace, StoreFault> {
-    if moment >= place.moments() {
-        return Err(StoreFault::Failed);
-    }
-    Ok(place.after_stop(moment, kind)?)
-}
-
-// Whether a stop leaves records that begin with these bytes.
-fn leaves(
-    alloc: Global,
-    place: &MemPlace,
-    moment: u64,
-    kind: StopKind,
-    firsts: &[u8],
-) -> Result<bool, StoreFault> {
-    let mut stopped = stopped_at(place, moment, kind)?;
-    Ok(match scan_place(alloc, &mut stopped)? {
-        Ok(frames) => begin_with(&frames, firsts),
-        Err(_) => false,
-    })
-}
-
-// From this moment on a stop leaves records that begin with these bytes.
-type Left = (u64, &'static [u8]);
-
-// What a stop at this moment leaves.
-fn left_at(table: &[Left], moment: u64) -> &'static [u8] {
-    let mut left: &'static [u8] = &[];
-    for (from, firsts) in table {
-        if *from <= moment {
-            left = *firsts;
-        }
-    }
-    left
-}
-
-// Compares what stops leave at each moment with a table. The first moment that differs.
-fn wrong_stop(
-    alloc: Global,
-    place: &MemPlace,
-    kind: StopKind,
-    table: &[Left],
-) -> Result<Option<u64>, StoreFault> {
-    for moment in 0..place.moments() {
-        if !leaves(alloc, place, moment, kind, left_at(table, moment))? {
-            return Ok(Some(moment));
-        }
-    }
-    Ok(None)
-}
-
 // Appends that are made in a place whose calls with these numbers fail, how many moments it has then, and what stops
 // leave that keep what was written and not synced, or do not.
 struct Stops {
     fails: &'static [u64],
-    appends: &'static [Append],
+    appends: &'static [Step],
     moments: u64,
     written: &'static [Left],
     synced: &'static [Left],
@@ -315,28 +156,24 @@ struct Stops {
 
 // Whether it comes as it should.
 fn comes_so(alloc: Global, stops: &Stops) -> Result<bool, StoreFault> {
-    let mut place = place_of(alloc, &[0], stops.fails)?;
-    let wrong = wrong_append_in(alloc, &mut place, stops.appends)?;
+    let mut place = place_of(alloc, &[0], &[], stops.fails)?;
+    let wrong = wrong_step_in(alloc, &mut place, stops.appends)?;
     Ok(
         wrong.is_none()
             && place.moments() == stops.moments
-            && wrong_stop(alloc, &place, StopKind::Written, stops.written)?.is_none()
-            && wrong_stop(alloc, &place, StopKind::Unwritten, stops.synced)?.is_none()
-            && wrong_stop(alloc, &place, StopKind::Scrambled, stops.synced)?.is_none(),
+            && wrong_stop(alloc, &place, StopKind::Written, Slot::A, stops.written)?.is_none()
+            && wrong_stop(alloc, &place, StopKind::Unwritten, Slot::A, stops.synced)?.is_none()
+            && wrong_stop(alloc, &place, StopKind::Scrambled, Slot::A, stops.synced)?.is_none(),
     )
 }
 
 // A gate counts from its write on where the stop leaves what was written, and else from its sync on.
 const THREE_ADDED: Stops = Stops {
     fails: &[],
-    appends: &[
-        (&[1], true, false),
-        (&[2, 2], true, false),
-        (&[3], true, false),
-    ],
+    appends: &[Step::Added(&[1]), Step::Added(&[2, 2]), Step::Added(&[3])],
     moments: 13,
-    written: &[(3, &[1]), (7, &[1, 2]), (11, &[1, 2, 3])],
-    synced: &[(4, &[1]), (8, &[1, 2]), (12, &[1, 2, 3])],
+    written: &[(3, &[&[1]]), (7, &[&[1, 2]]), (11, &[&[1, 2, 3]])],
+    synced: &[(4, &[&[1]]), (8, &[&[1, 2]]), (12, &[&[1, 2, 3]])],
 };
 
 #[test]
@@ -347,14 +184,15 @@ fn stops_leave_the_acknowledged_records_or_one_more(rt: HostRuntime) {
 // The sync of the second record's gate fails. The gate is closed by the ninth and tenth call.
 const SECOND_IN_DOUBT: Stops = Stops {
     fails: &[8],
-    appends: &[
-        (&[1], true, false),
-        (&[2, 2], false, true),
-        (&[3], true, false),
-    ],
+    appends: &[Step::Added(&[1]), Step::Doubted(&[2, 2]), Step::Added(&[3])],
     moments: 15,
-    written: &[(3, &[1]), (7, &[1, 2]), (9, &[1]), (13, &[1, 3])],
-    synced: &[(4, &[1]), (14, &[1, 3])],
+    written: &[
+        (3, &[&[1]]),
+        (7, &[&[1, 2]]),
+        (9, &[&[1]]),
+        (13, &[&[1, 3]]),
+    ],
+    synced: &[(4, &[&[1]]), (14, &[&[1, 3]])],
 };
 
 #[test]
@@ -363,30 +201,40 @@ fn next_append_closes_a_gate_in_doubt(rt: HostRuntime) {
 }
 
 // What two appends do where a call of the first one fails.
-const BEFORE_THE_GATE: [Append; 2] = [(&[1], false, false), (&[3], true, false)];
+const BEFORE_THE_GATE: [Step; 2] = [Step::Refused(&[1]), Step::Added(&[3])];
 
-const AT_THE_GATE: [Append; 2] = [(&[1], false, true), (&[3], true, false)];
+const AT_THE_GATE: [Step; 2] = [Step::Doubted(&[1]), Step::Added(&[3])];
 
 // Whether two appends do so where the call with this number fails, and a stop behind them leaves the second.
-fn leaves_the_second(alloc: Global, failing: u64, appends: &[Append]) -> Result<bool, StoreFault> {
-    let mut place = place_of(alloc, &[0], &[failing])?;
-    let wrong = wrong_append_in(alloc, &mut place, appends)?;
+fn leaves_the_second(alloc: Global, failing: u64, appends: &[Step]) -> Result<bool, StoreFault> {
+    let mut place = place_of(alloc, &[0], &[], &[failing])?;
+    let wrong = wrong_step_in(alloc, &mut place, appends)?;
     let last = place.moments().saturating_sub(1);
-    Ok(wrong.is_none() && leaves(alloc, &place, last, StopKind::Scrambled, &[3])?)
+    Ok(
+        wrong.is_none()
+            && leaves(
+                alloc,
+                &place,
+                last,
+                StopKind::Scrambled,
+                Slot::A,
+                &[(0, &[&[3]])],
+            )?,
+    )
 }
 
 // While the gate cannot be closed nothing else is written.
-const NEVER_CLOSED: [Append; 4] = [
-    (&[1], false, true),
-    (&[3], false, true),
-    (&[3], false, true),
-    (&[3], true, false),
+const NEVER_CLOSED: [Step; 4] = [
+    Step::Doubted(&[1]),
+    Step::Doubted(&[3]),
+    Step::Doubted(&[3]),
+    Step::Added(&[3]),
 ];
 
 // Whether four appends do so where three calls fail, and leave fourteen moments.
 fn writes_nothing_else(alloc: Global) -> Result<bool, StoreFault> {
-    let mut place = place_of(alloc, &[0], &[4, 5, 7])?;
-    let wrong = wrong_append_in(alloc, &mut place, &NEVER_CLOSED)?;
+    let mut place = place_of(alloc, &[0], &[], &[4, 5, 7])?;
+    let wrong = wrong_step_in(alloc, &mut place, &NEVER_CLOSED)?;
     Ok(wrong.is_none() && place.moments() == 14)
 }
 
@@ -402,41 +250,10 @@ fn faults_at_a_gate_leave_it_in_doubt(rt: HostRuntime) {
     assert!(rt; writes_nothing_else(alloc) == Ok(true));
 }
 
-// Whether a log whose first gate fails, and once more when it is settled, is settled then.
-fn settles<J: Journal>(alloc: Global, log: &mut Frames<J>) -> Result<bool, StoreFault> {
-    let idle = log.settle().is_ok();
-    let added = append(alloc, log, &[1])?;
-    let in_doubt = log.settle().is_err() && log.doubt();
-    let settled = log.settle().is_ok() && !log.doubt();
-    Ok(idle && !added && in_doubt && settled)
-}
-
-// The same in slot A of a place.
-fn settles_in<P: Place>(alloc: Global, place: &mut P) -> Result<bool, StoreFault> {
-    let (journal, files) = place.take_up(b"d")?;
-    match Frames::scan(alloc, journal, Slot::A) {
-        Ok((mut log, _frames)) => {
-            let settled = settles(alloc, &mut log);
-            place.put_down(log.end(), files);
-            settled
-        }
-        Err(
-            ScanRefused {
-                journal,
-                fault: _,
-                frames: _,
-            },
-        ) => {
-            place.put_down(journal, files);
-            Err(StoreFault::Failed)
-        }
-    }
-}
-
 // Whether each kind of stop at the last moment leaves no record.
 fn leaves_none(alloc: Global, place: &MemPlace) -> Result<bool, StoreFault> {
     for kind in [StopKind::Written, StopKind::Unwritten, StopKind::Scrambled] {
-        if !leaves(alloc, place, 8, kind, &[])? {
+        if !leaves(alloc, place, 8, kind, Slot::A, &[(0, &[&[]])])? {
             return Ok(false);
         }
     }
@@ -444,10 +261,17 @@ fn leaves_none(alloc: Global, place: &MemPlace) -> Result<bool, StoreFault> {
 }
 
 // Four calls of the append, two of each settling that found a doubt.
+const SETTLED: [Step; 4] = [
+    Step::Settled,
+    Step::Doubted(&[1]),
+    Step::Unsettled,
+    Step::Settled,
+];
+
 fn settles_in_nine_moments(alloc: Global) -> Result<bool, StoreFault> {
-    let mut place = place_of(alloc, &[0], &[4, 6])?;
-    let settled = settles_in(alloc, &mut place)?;
-    Ok(settled && place.moments() == 9 && leaves_none(alloc, &place)?)
+    let mut place = place_of(alloc, &[0], &[], &[4, 6])?;
+    let wrong = wrong_step_in(alloc, &mut place, &SETTLED)?;
+    Ok(wrong.is_none() && place.moments() == 9 && leaves_none(alloc, &place)?)
 }
 
 #[test]

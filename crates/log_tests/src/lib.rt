@@ -7,6 +7,10 @@ mod firsts;
 #[cfg(test)]
 mod frames;
 #[cfg(test)]
+mod growing;
+#[cfg(test)]
 mod records;
+#[cfg(test)]
+mod steps;
 #[cfg(test)]
 mod turning;
