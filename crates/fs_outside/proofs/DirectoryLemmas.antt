@@ -11,7 +11,7 @@ use Rattle.std.specs.Option.{IsSomeAnd}
 use Rattle.std.specs.declared.option.Option.{Option}
 use Rattle.fs_outside.specs.Directory.{DirectoryFile, with_bytes, with_synced_bytes, with_synced_name, numbers_in}
 use Rattle.fs_outside.specs.Directory.{IsFree, IsFreeIn, change_one, add_new, without, put_durable, Becomes, Fills}
-use Rattle.fs_outside.specs.Directory.{SameBut, StaysTaken, IsTakenAway, RoseTwice, HasLengthOf}
+use Rattle.fs_outside.specs.Directory.{SameBut, IsTakenAway, RoseTwice, HasLengthOf}
 
 Contains-head : {X : Type 0} (x : X) (xs : List X) → Contains (x ∷ xs) x
 Contains-head x xs = (0, omega arith, refl)
@@ -41,16 +41,6 @@ steps_at_end n bytes (file ∷ files) free =
     (λ e. free (subst (λ (m : ℕ). Contains (numbers_in (file ∷ files)) m) e (Contains-head file.number (numbers_in files)))) in
     let rest = steps_at_end n bytes files (λ h. free (Contains-tail file.number n (numbers_in files) h)) in
     rw apart (rw apart (ap (λ (l : List DirectoryFile). with_synced_name file ∷ l) rest))
-
--- a file is written and synced, and then the names are synced
-pub fills : (n : ℕ) (bytes : List ℕ) (a b c d : Option (List DirectoryFile))
-    → Becomes (change_one n (with_bytes bytes)) a b → Becomes (change_one n with_synced_bytes) b c
-    → Becomes (map with_synced_name) c d → Fills n bytes a d
-fills n bytes None b c d written synced named = tt
-fills n bytes (Some files) b c d written synced named =
-    let c_is : c ≡ Some (change_one n with_synced_bytes (change_one n (with_bytes bytes) files)) =
-    subst (λ (o : Option (List DirectoryFile)). Becomes (change_one n with_synced_bytes) o c) written synced in
-    subst (λ (o : Option (List DirectoryFile)). Becomes (map with_synced_name) o d) c_is named
 
 -- a new file that is filled stands durable behind the others
 pub put_is_durable : (n made : ℕ) (bytes : List ℕ) (a b c : Option (List DirectoryFile)) → made ≡ n
@@ -146,15 +136,6 @@ pub same_but_filled : (n made : ℕ) (a b c : Option (List DirectoryFile)) → m
     → Becomes (add_new n) a b → SameBut made b c → SameBut n a c
 same_but_filled n made a b c same created filled =
     same_but_then n a b c (same_but_made n a b created) (subst (λ (m : ℕ). SameBut m b c) same filled)
-
--- a call that creates a file finds its number free
-pub stays_taken : (n : ℕ) (a b : Option (List DirectoryFile)) → IsFreeIn n a → StaysTaken n a b
-stays_taken n None b free = tt
-stays_taken n (Some files) b free = λ taken. absurd (taken free)
-
-pub stays_taken_same : (n : ℕ) (a b : Option (List DirectoryFile)) → b ≡ a → StaysTaken n a b
-stays_taken_same n None b same = tt
-stays_taken_same n (Some files) b same = λ taken. same
 
 pub taken_away_same : (n before now : ℕ) (a b : Option (List DirectoryFile)) → b ≡ a → IsTakenAway n a b before now
 taken_away_same n before now None b same = tt

@@ -1,3 +1,4 @@
 mod FileLemmas
 mod DirectoryLemmas
 mod NameLemmas
+mod OpeningLemmas

@@ -85,9 +85,8 @@ abbrev pub SameBut : ℕ → Option (List DirectoryFile) → Option (List Direct
 SameBut n old new = IfSome old (λ before. IsSomeAnd new (λ after. without n after ≡ without n before))
 
 -- what it tells changes in this way, where it tells
-abbrev pub Becomes : (List DirectoryFile → List DirectoryFile) → Option (List DirectoryFile)
-    → Option (List DirectoryFile) → Type 0
-Becomes change old new = IfSome old (λ files. new ≡ Some (change files))
+abbrev pub Becomes : {X : Type 0} → (X → X) → Option X → Option X → Type 0
+Becomes change old new = IfSome old (λ told. new ≡ Some (change told))
 
 -- these are bytes of the file with this number, from that place on
 abbrev pub HasBytesOf : ℕ → ℕ → List ℕ → Option (List DirectoryFile) → Type 0

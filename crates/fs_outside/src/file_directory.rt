@@ -3,9 +3,9 @@
 //! sync of the directory. A call that fails makes nothing durable, and leaves the files with other numbers. After a
 //! sync of the names has failed no file is created any more: the system may have forgotten what it could not write.
 //! The files and ports are proved over directories that tell. A directory of the system tells nothing. Depends on
-//! `directory` and `file_name`.
-ghost use Rattle.std.specs.Prelude.{◌≡◌, ◌↔◌, ℕ, ◌^◌, ◌-◌, Bool, List, map, Contains, None, IfOk, IfSome, IsErr, IsTrue};
-ghost use Rattle.std.specs.Prelude.{MatchOption, OnErr, OnOk, is_err};
+//! `locked_directory` and `file_name`.
+ghost use Rattle.std.specs.Prelude.{◌≡◌, ◌↔◌, ℕ, ◌^◌, ◌-◌, Bool, List, map, Contains, None, IfOk, IfSome, IsErr};
+ghost use Rattle.std.specs.Prelude.{IsTrue, MatchOption, OnErr, OnOk, is_err};
 ghost use Rattle.std.specs.declared.option.Option.{Option};
 ghost use Rattle.tsdb_outside.specs.Causes.{HasCause};
 ghost use Rattle.tsdb_outside.specs.Files.{IsFileNumber};
@@ -13,8 +13,8 @@ ghost use Rattle.fs_outside.specs.Directory.{DirectoryFile, IsFreeIn, IsTakenIn,
 ghost use Rattle.fs_outside.specs.Directory.{with_bytes, with_synced_bytes, with_synced_name, without, numbers_in};
 ghost use Rattle.fs_outside.specs.Directory.{HasBytesOf, HasLengthOf};
 
-use crate::directory::LockedDirectory;
 use crate::file_name::{name_of_number, number_of_name};
+use crate::locked_directory::LockedDirectory;
 use std::alloc::{AllocError, Global};
 use std::fs::{self, File, OpenOptions};
 use std::io::{self, ErrorKind};
@@ -139,12 +139,15 @@ impl NumberedFile for FileOnDisk {
     }
 }
 
-/// A directory of the system, which holds the lock of the store. What is no regular file is no file of the store.
+/// A directory of the system, which holds the lock of the store. What is no regular file is no file of the store. A
+/// handle opens the directory for itself before it creates its first file, so that the system reports to it each name
+/// from then on that it could not write.
 #[derive(Drop)]
 pub struct StoreDirectory<R> {
     rt: R,
     path: Arc<String>,
     directory: Arc<LockedDirectory>,
+    own: Option<File>,
     sync_failed: bool,
 }
 
@@ -154,6 +157,7 @@ impl<R: Files<File = File> + AllocGlobal + Clone + Drop> StoreDirectory<R> {
             rt,
             path,
             directory,
+            own: None,
             sync_failed: false,
         }
     }
@@ -189,6 +193,7 @@ impl<R: Files<File = File> + AllocGlobal + Clone + Drop> FileDirectory for Store
             rt: self.rt.clone()?,
             path: Arc::try_clone(&self.path)?,
             directory: Arc::try_clone(&self.directory)?,
+            own: None,
             sync_failed: self.sync_failed,
         })
     }
@@ -196,6 +201,9 @@ impl<R: Files<File = File> + AllocGlobal + Clone + Drop> FileDirectory for Store
     fn create_new(&mut self, number: u64) -> io::Result<FileOnDisk> {
         if self.sync_failed || self.directory.has_failed() {
             return Err(io::Error::from(ErrorKind::Other));
+        }
+        if self.own.is_none() {
+            self.own = Some(File::open(&self.rt, self.path.as_str())?);
         }
         let path = self.path(number)?;
         let file = OpenOptions::new()
@@ -218,7 +226,10 @@ impl<R: Files<File = File> + AllocGlobal + Clone + Drop> FileDirectory for Store
         if self.sync_failed {
             return Err(io::Error::from(ErrorKind::Other));
         }
-        let answer = self.directory.sync();
+        let answer = match &self.own {
+            Some(own) => self.directory.sync(own),
+            None => Err(io::Error::from(ErrorKind::NotFound)),
+        };
         self.sync_failed = answer.is_err();
         answer
     }

@@ -8,7 +8,7 @@ ghost use Rattle.tsdb_outside.specs.Limits.{FitsSlot};
 ghost use Rattle.fs_outside.specs.FileState.{FileFails, HasLength, HasBytes, KeepsFile, OverwritesFile, MayWriteFile};
 ghost use Rattle.fs_outside.specs.FileState.{IsFileDurable};
 
-use crate::directory::LockedDirectory;
+use crate::locked_directory::LockedDirectory;
 use crate::slot_file::SlotFile;
 use std::fs::File;
 use std::sync::Arc;

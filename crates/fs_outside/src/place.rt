@@ -1,4 +1,4 @@
-//! A place in the file system. Depends on `directory`, `journal` and `files`.
+//! A place in the file system. Depends on `opening`, `journal` and `files`.
 ghost use Rattle.std.specs.Prelude.{◌≡◌, IfOk, None};
 ghost use Rattle.std.specs.Arc.{arc_value};
 ghost use Rattle.std.specs.String.{string_bytes};
@@ -6,10 +6,11 @@ ghost use Rattle.fs_outside.specs.Directory.{store_in};
 ghost use Rattle.fs_outside.specs.Files.{files_faults, files_store};
 ghost use Rattle.fs_outside.specs.Journal.{journal_faults};
 
-use crate::directory::{LockedDirectory, open_store};
 use crate::file_directory::StoreDirectory;
 use crate::files::FsFiles;
 use crate::journal::FsJournal;
+use crate::locked_directory::LockedDirectory;
+use crate::opening::open_store;
 use std::fs::File;
 use std::io::{self, ErrorKind};
 use std::rt::Files;

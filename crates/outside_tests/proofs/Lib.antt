@@ -1,1 +1,2 @@
 mod DurableFiles
+mod ToldSlots

@@ -1,1 +1,2 @@
 pub mod ToldDirectory
+pub mod ToldSlots

@@ -1,6 +1,6 @@
 //! Tests of what is outside the engine, through its public items: sources, sinks and places in memory, and those of the
-//! system. `told_directory` is a directory in memory that tells what it has, and `copying` copies a small file from one
-//! store into another. Depends on `mem_outside`, `fs_outside`, `tsdb_outside` and `tsdb_base`.
+//! system. `told_directory` and `told_slots` are directories in memory that tell what they have, and `copying` copies a
+//! small file from one store into another. Depends on `mem_outside`, `fs_outside`, `tsdb_outside` and `tsdb_base`.
 #![tactic(auto)]
 
 pub mod copying;
@@ -13,9 +13,12 @@ mod many;
 #[cfg(test)]
 mod memory;
 #[cfg(test)]
+mod openings;
+#[cfg(test)]
 mod slot_files;
 #[cfg(test)]
 mod streams;
 #[cfg(test)]
 mod told;
 pub mod told_directory;
+pub mod told_slots;

@@ -1,0 +1,204 @@
+//! The directory of a store in memory that tells its slots, of at most one byte each, so that the clauses of
+//! `SlotDirectory` are met by one that tells. A stop leaves what is seen in it. One of its calls fails, by number.
+//! Depends on `fs_outside`.
+ghost use Rattle.std.specs.Prelude.{◌≡◌, ◌≢◌, ◌≤◌, ◌↔◌, [], ◌∷◌, IsTrue, None, Some, OnErr};
+ghost use Rattle.std.specs.Option.{option_map};
+ghost use Rattle.tsdb_outside.specs.Causes.{Rose};
+ghost use Rattle.fs_outside.specs.SlotDirectory.{with_renamed};
+ghost use Rattle.outside_tests.specs.ToldSlots.{bytes_of, state_of, view_of};
+
+use fs_outside::{OpenSlot, SlotDirectory};
+use std::io::{self, ErrorKind};
+use tsdb_outside::Slot;
+
+/// An open slot.
+#[derive(Drop)]
+pub struct ToldSlot(pub Slot);
+
+impl OpenSlot for ToldSlot {
+    ghost slot = { λ file. file.0 };
+}
+
+/// What a slot has, if it is there: one byte or none.
+pub type Content = Option<Option<u8>>;
+
+// Whether a slot is there.
+fn is_there(content: Content) -> bool
+    ensures there { IsTrue result → option_map bytes_of content ≢ None }
+    ensures missing { ¬ IsTrue result → option_map bytes_of content ≡ None }
+{
+    content.is_some()
+}
+
+// Whether a slot is one byte 0.
+fn is_zero(content: Content) -> bool
+    ensures { IsTrue result ↔ option_map bytes_of content ≡ Some (0 ∷ []) }
+{
+    match content {
+        Some(Some(byte)) => byte == 0,
+        _ => false,
+    }
+}
+
+/// A directory with slots.
+#[derive(Drop)]
+pub struct ToldSlots {
+    pub a: Content,
+    pub b: Content,
+    pub has_files: bool,
+    a_is_synced: bool,
+    b_is_synced: bool,
+    unfinished: Option<u8>,
+    is_synced: bool,
+    is_named: bool,
+    made: u64,
+    failing: u64,
+    faults: u64,
+}
+
+impl ToldSlots {
+    /// A directory with these slots, and with files or not. Its call with this number, from 1, fails.
+    pub fn new(slots: [Content; 2], has_files: bool, failing: u64) -> ToldSlots {
+        ToldSlots {
+            a: slots[0],
+            b: slots[1],
+            has_files,
+            a_is_synced: false,
+            b_is_synced: false,
+            unfinished: None,
+            is_synced: false,
+            is_named: false,
+            made: 0,
+            failing,
+            faults: 0,
+        }
+    }
+
+    // Counts a fault.
+    fn fail(&mut self) -> io::Error
+        ensures view { view_of self.new ≡ view_of self.old }
+        ensures later { self.old.faults ≤ self.new.faults }
+        ensures rose { Rose self.old.faults self.new.faults }
+    {
+        self.faults = self.faults.saturating_add(1);
+        io::Error::from(ErrorKind::Other)
+    }
+
+    // Makes the next call, which may be the one that fails.
+    fn call(&mut self) -> io::Result<()>
+        ensures view { view_of self.new ≡ view_of self.old }
+        ensures later { self.old.faults ≤ self.new.faults }
+        ensures rose { OnErr result (Rose self.old.faults self.new.faults) }
+    {
+        self.made = self.made.saturating_add(1);
+        if self.made == self.failing {
+            return Err(self.fail());
+        }
+        Ok(())
+    }
+
+    // Gives the file that was made the name of a slot.
+    fn give_name(&mut self, slot: Slot)
+        ensures view { view_of self.new ≡ with_renamed slot (view_of self.old) }
+        ensures faults { self.new.faults ≡ self.old.faults }
+    {
+        match slot {
+            Slot::A => {
+                self.a = Some(self.unfinished);
+                self.a_is_synced = self.is_synced;
+            }
+            Slot::B => {
+                self.b = Some(self.unfinished);
+                self.b_is_synced = self.is_synced;
+            }
+        }
+    }
+}
+
+impl SlotDirectory for ToldSlots {
+    ghost use Rattle.std.proofs.Common.{refl};
+
+    type File = ToldSlot;
+
+    ghost state = { state_of };
+
+    ghost lawful = { λ _. record { seen_may_stay = refl; counts_now = λ _ _. tt } };
+
+    fn has_slot(&mut self, slot: Slot) -> io::Result<bool> {
+        self.call()?;
+        match slot {
+            Slot::A => Ok(is_there(self.a)),
+            Slot::B => Ok(is_there(self.b)),
+        }
+    }
+
+    fn is_one_zero(&mut self, slot: Slot) -> io::Result<bool> {
+        self.call()?;
+        match slot {
+            Slot::A => Ok(is_zero(self.a)),
+            Slot::B => Ok(is_zero(self.b)),
+        }
+    }
+
+    fn has_files(&mut self) -> io::Result<bool> {
+        self.call()?;
+        Ok(self.has_files)
+    }
+
+    fn sync_parent(&mut self) -> io::Result<()> {
+        self.call()?;
+        self.is_named = true;
+        Ok(())
+    }
+
+    fn create_unfinished(&mut self, _slot: Slot) -> io::Result<()> {
+        self.call()?;
+        self.unfinished = None;
+        self.is_synced = false;
+        Ok(())
+    }
+
+    fn write_unfinished(&mut self, bytes: &[u8]) -> io::Result<()> {
+        self.call()?;
+        if bytes.len() != 1 {
+            return Err(self.fail());
+        }
+        self.unfinished = Some(bytes[0]);
+        self.is_synced = false;
+        Ok(())
+    }
+
+    fn sync_unfinished(&mut self) -> io::Result<()> {
+        self.call()?;
+        self.is_synced = true;
+        Ok(())
+    }
+
+    fn rename(&mut self, slot: Slot) -> io::Result<()> {
+        self.call()?;
+        self.give_name(slot);
+        Ok(())
+    }
+
+    fn sync_names(&mut self) -> io::Result<()> {
+        self.call()
+    }
+
+    fn open(&mut self, slot: Slot) -> io::Result<ToldSlot> {
+        self.call()?;
+        match slot {
+            Slot::A if is_there(self.a) => Ok(ToldSlot(slot)),
+            Slot::B if is_there(self.b) => Ok(ToldSlot(slot)),
+            _ => Err(self.fail()),
+        }
+    }
+
+    fn sync_slot(&mut self, file: &ToldSlot) -> io::Result<()> {
+        self.call()?;
+        match file.0 {
+            Slot::A => self.a_is_synced = true,
+            Slot::B => self.b_is_synced = true,
+        }
+        Ok(())
+    }
+}
