@@ -1,5 +1,5 @@
 -- What the file of one slot means, and what each call does to it. A call that leaves the range of the file is free.
-use Rattle.std.specs.Prelude.{◌≡◌, ℕ, ◌+◌, ◌-◌, ◌^◌, ◌≤◌, List, length, take, drop, None, Some, IfSome}
+use Rattle.std.specs.Prelude.{◌≡◌, ℕ, ◌+◌, ◌-◌, ◌^◌, ◌≤◌, List, length, take, drop, None, IfSome}
 use Rattle.std.specs.declared.option.Option.{Option}
 use Rattle.std.specs.Option.{ForSome}
 use Rattle.tsdb_outside.specs.Causes.{Rose}
@@ -16,10 +16,6 @@ pub record FileState : Type 1 where
 -- A file that tells nothing: a stop may leave anything, and its count of faults is at the end of its type.
 abbrev pub silent_file : FileState
 silent_file = record { seen = None; may_leave = λ _. Unit {0}; faults = 2 ^ 64 - 1 }
-
--- a file that tells these bytes, all of them durable
-abbrev pub durable_file : List ℕ → ℕ → FileState
-durable_file bytes faults = record { seen = Some bytes; may_leave = λ left. left ≡ bytes; faults = faults }
 
 -- something failed in this call
 abbrev pub FileFails : FileState → FileState → Type 0

@@ -163,9 +163,12 @@ impl<R: Files<File = File> + AllocGlobal + Clone + Drop> StoreDirectory<R> {
     }
 
     fn path(&self, number: u64) -> Result<String, AllocError> {
-        let mut path = String::from_str(self.rt.alloc(), self.path.as_str())?;
+        let name = name_of_number(self.rt.alloc(), number)?;
+        let length = self.path.len().saturating_add(name.len());
+        let mut path = String::with_capacity(self.rt.alloc(), length.saturating_add(1))?;
+        path.push_str(self.path.as_str())?;
         path.push('/')?;
-        path.push_str(name_of_number(self.rt.alloc(), number)?.as_str())?;
+        path.push_str(name.as_str())?;
         Ok(path)
     }
 }

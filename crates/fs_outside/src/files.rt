@@ -17,6 +17,7 @@ ghost use Rattle.fs_outside.specs.Files.{port_directory, port_faults, port_store
 ghost use Rattle.fs_outside.specs.Files.{files_store, sealed_file, sealed_rights, right_file};
 
 use crate::file_directory::{FileDirectory, NumberedFile};
+use crate::journal::MAX_LENGTH;
 use crate::open_files::OpenFiles;
 use std::alloc::Global;
 use std::io::{self, ErrorKind};
@@ -26,9 +27,6 @@ use tsdb_outside::{
     Counted, Failed, Files, Port, ReadRight, SealedFile, StoreFault, is_file_number,
     list_of_numbers,
 };
-
-// A file has at most this many bytes.
-const MAX_LENGTH: u64 = 0x7fff_ffff_ffff_ffff;
 
 /// Names a file of a real store: the path of the store's directory, and the file's number.
 pub struct FsSealed {

@@ -14,8 +14,8 @@ use std::fs::File;
 use std::sync::Arc;
 use tsdb_outside::{Counted, Disk, Failed, Journal, Slot};
 
-// A slot has at most this many bytes.
-const MAX_LENGTH: u64 = 0x7fff_ffff_ffff_ffff;
+/// A slot, or a stored file, has at most this many bytes.
+pub(crate) const MAX_LENGTH: u64 = 0x7fff_ffff_ffff_ffff;
 
 fn is_within_limit(at: u64, length: usize) -> bool
     ensures { IsTrue result ↔ FitsSlot (at + length) }

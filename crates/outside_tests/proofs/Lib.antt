@@ -1,2 +1,2 @@
-mod DurableFiles
+mod ToldFiles
 mod ToldSlots

@@ -1,2 +1,3 @@
 pub mod ToldDirectory
+pub mod ToldFile
 pub mod ToldSlots

@@ -102,22 +102,26 @@ const UNFINISHED: [Directory; 4] = [
 ];
 
 // Directories whose log was lost, or whose slots are none.
-const WITHOUT_LOG: [Directory; 6] = [
+const WITHOUT_LOG: [Directory; 8] = [
     ("whole", &[("whole/slot0", "0")]),
     ("folder", &[]),
     ("files", &[("files/7.tsfile", "")]),
     ("longer", &[("longer/slot1", "\0\0")]),
     ("other", &[("other/slot1", "1")]),
     ("empty", &[("empty/slot1", "")]),
+    ("dangling", &[]),
+    ("away", &[("away/slot1", "\0")]),
 ];
 
-const REFUSED: [&[u8]; 9] = [
+const REFUSED: [&[u8]; 11] = [
     b"whole",
     b"folder",
     b"files",
     b"longer",
     b"other",
     b"empty",
+    b"dangling",
+    b"away",
     b"\xff",
     b"no/parent",
     b"",
@@ -171,6 +175,8 @@ fn unfinished_store_is_opened_as_new(rt: HostRuntime) {
 
 fn make_without_log(rt: &HostRuntime) -> io::Result<()> {
     make_directories(rt, &WITHOUT_LOG)?;
+    unix::fs::symlink(rt, "nowhere", "dangling/slot0")?;
+    unix::fs::symlink(rt, "nowhere", "away/slot0")?;
     fs::create_dir(rt, "folder/slot0")
 }
 

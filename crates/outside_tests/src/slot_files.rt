@@ -44,9 +44,9 @@ fn write_over(into: &mut Vec<u8>, at: usize, bytes: &[u8]) -> Result<(), AllocEr
 }
 
 impl SlotFile for ToldFile {
-    ghost use Rattle.fs_outside.specs.FileState.{durable_file};
+    ghost use Rattle.outside_tests.specs.ToldFile.{told_file};
 
-    ghost state = { λ f. durable_file f.bytes.items f.faults };
+    ghost state = { λ f. told_file f.bytes.items f.faults };
 
     fn length(&mut self) -> io::Result<u64> {
         Ok(self.bytes.as_slice().len() as u64)

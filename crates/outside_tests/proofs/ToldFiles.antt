@@ -2,11 +2,12 @@
 use Rattle.std.proofs.Common.{◌≡◌, ℕ, ◌≤◌, List, length, refl, sym, subst}
 use Rattle.tsdb_outside.specs.Disk.{Torn, overwrite}
 use Rattle.tsdb_outside.proofs.DiskLemmas.{Torn-overwrite}
-use Rattle.fs_outside.specs.FileState.{MayWriteFile, durable_file}
+use Rattle.fs_outside.specs.FileState.{MayWriteFile}
+use Rattle.outside_tests.specs.ToldFile.{told_file}
 
-pub MayWriteFile-durable : (at : ℕ) (bytes old new : List ℕ) (faults : ℕ) → new ≡ overwrite at bytes old
-    → MayWriteFile at (length bytes) (durable_file old faults) (durable_file new faults)
-MayWriteFile-durable at bytes old new faults is = record {
+pub MayWriteFile-told : (at : ℕ) (bytes old new : List ℕ) (faults : ℕ) → new ≡ overwrite at bytes old
+    → MayWriteFile at (length bytes) (told_file old faults) (told_file new faults)
+MayWriteFile-told at bytes old new faults is = record {
   torn = torn;
   crash = λ within left may. (old, refl, subst (λ (l : List ℕ). Torn at (length bytes) old l) (sym may) (torn (within old refl)));
 } where
