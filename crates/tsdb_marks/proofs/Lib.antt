@@ -1,5 +1,5 @@
-pub mod Order
-pub mod TopLemmas
+pub mod StepLemmas
+pub mod MergeLemmas
+pub mod RunLemmas
 pub mod IndexLemmas
-pub mod PointLemmas
 pub mod ModelLemmas

@@ -1,6 +1,7 @@
-pub mod Stretches
-pub mod Tree
-pub mod TreeFalls
+pub mod Steps
+pub mod Cursors
+pub mod Merging
+pub mod Series
 pub mod Index
 pub mod Moments
 pub mod Survival

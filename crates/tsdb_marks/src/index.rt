@@ -1,143 +1,96 @@
-//! The stretches of every series that has a mark, found by the hash of its path, with memory for further marks. It
-//! depends on `stretches` and `tsdb_path`.
-ghost use Rattle.std.specs.Prelude.{◌≡◌, ◌≢◌, ℕ, ◌+◌, ◌-◌, ◌*◌, ◌<◌, ◌≤◌, ◌↔◌, List, [], ◌∷◌, ◌++◌, length, IsTrue};
-ghost use Rattle.std.specs.Prelude.{OnOk, IfOk, vec_len, vec_capacity};
-ghost use Rattle.std.specs.List.{All, filter};
-ghost use Rattle.tsdb_marks.specs.Stretches.{IsOrdered, SomeMet, is_newer, overlay};
-ghost use Rattle.tsdb_marks.specs.Index.{at, HasRoom, IsBlank, KeepsRoom, SameStretches};
+//! The marks of every series that has one, found by its path. It depends on `series` and `tsdb_path`.
+ghost use Rattle.std.specs.Prelude.{◌≡◌, ◌≢◌, ℕ, ◌≤◌, List, [], false, IsTrue, OnOk, OnErr};
+ghost use Rattle.tsdb_marks.specs.Index.{at};
+ghost use Rattle.tsdb_marks.specs.Series.{AddsMark, DropsOld, no_marks};
+ghost use Rattle.tsdb_marks.specs.Steps.{IsMet, IsUnmet, newest_at};
 
-use crate::stretches::{Fork, Stretch, Stretches};
+use crate::series::Series;
 use std::alloc::Global;
-use std::collections::HashMap;
-use std::mem;
+use std::collections::BTreeMap;
 use tsdb_base::Memory;
 use tsdb_path::Path;
 
-/// The most bytes that a path has.
-const PATH_BYTES: usize = 255;
-
-/// The stretches of each series, with memory for some more marks: for each a place in the map and a key with room for
-/// a path, and three forks, since a mark over a longer stretch leaves a part on each side.
+/// The marks of each series, in the order of the paths.
 #[derive(Drop)]
 pub(crate) struct Index {
-    series: HashMap<Vec<u8>, Stretches>,
-    keys: Vec<Vec<u8>>,
-    forks: Vec<Box<Fork>>,
-    drawn: u64,
-}
-
-/// The number that follows in a sequence without pattern (splitmix64).
-fn drawn(number: u64) -> u64 {
-    let number = (number ^ (number >> 30)).wrapping_mul(0xbf58_476d_1ce4_e5b9);
-    let number = (number ^ (number >> 27)).wrapping_mul(0x94d0_49bb_1331_11eb);
-    number ^ (number >> 31)
-}
-
-/// A blank key of the list, with the bytes of the path.
-fn take_key(keys: &mut Vec<Vec<u8>>, path: &Path) -> Vec<u8>
-    requires some { 0 < vec_len keys.old }
-    requires blank { All IsBlank keys.old.items }
-    ensures value { result.items ≡ path.now }
-    ensures len { vec_len keys.new + 1 ≡ vec_len keys.old }
-    ensures blank { All IsBlank keys.new.items }
-{
-    let Some(mut key) = keys.pop() else {
-        unreachable!()
-    };
-    let Ok(()) = key.extend_from_slice(path.bytes()) else {
-        unreachable!()
-    };
-    key
+    series: BTreeMap<Path, Series>,
 }
 
 impl Index {
-    /// No stretch, and no room.
+    /// No mark.
     pub(crate) fn new(alloc: Global) -> Index
-        ensures empty { (path : List ℕ) → at result.series path ≡ [] }
-        ensures room { HasRoom result 0 }
+        ensures { (path : List ℕ) → at result.series.entries path ≡ no_marks }
     {
         Index {
-            series: HashMap::new(alloc),
-            keys: Vec::new(alloc),
-            forks: Vec::new(alloc),
-            drawn: 0,
+            series: BTreeMap::new(alloc),
         }
     }
 
-    /// Makes room for this many marks.
-    pub(crate) fn reserve(&mut self, count: usize) -> Result<(), Memory>
-        requires { HasRoom self.old 0 }
-        ensures stretches { SameStretches self.old self.new }
-        ensures room { OnOk result (HasRoom self.new count) }
-        ensures kept { KeepsRoom self.old self.new }
+    /// Adds a mark of the series over the moments from `from` to `to`, which may be none.
+    pub(crate) fn add(
+        &mut self,
+        alloc: Global,
+        path: &Path,
+        from: u64,
+        to: u64,
+        version: u64,
+    ) -> Result<(), Memory>
+        ensures added { OnOk result (AddsMark (at self.old.series.entries path.now) (at self.new.series.entries path.now)
+            from to version) }
+        ensures others { (other : List ℕ) → path.now ≢ other
+            → at self.new.series.entries other ≡ at self.old.series.entries other }
+        ensures err { OnErr result ((other : List ℕ)
+            → at self.new.series.entries other ≡ at self.old.series.entries other) }
     {
-        self.series.reserve(count)?;
-        let alloc = *self.keys.allocator();
-        while self.keys.len() < count {
-            self.keys.push(Vec::with_capacity(alloc, PATH_BYTES)?)?;
+        if let Some(series) = self.series.get_mut(path) {
+            return series.add(from, to, version);
         }
-        while self.forks.len() / 3 < count {
-            self.drawn = self.drawn.wrapping_add(0x9e37_79b9_7f4a_7c15);
-            self.forks.push(Fork::new(alloc, drawn(self.drawn))?)?;
-        }
+        let mut series = Series::new(alloc);
+        series.add(from, to, version)?;
+        let Ok(path) = path.copy() else {
+            return Err(Memory);
+        };
+        self.series.insert(path, series)?;
         Ok(())
     }
 
-    /// Lays a stretch over those of the series.
-    pub(crate) fn add(&mut self, path: &Path, stretch: Stretch)
-        requires room { HasRoom self.old 1 }
-        requires range { stretch.from ≤ stretch.to }
-        ensures there { at self.new.series path.now ≡ overlay stretch (at self.old.series path.now) }
-        ensures others { (other : List ℕ) → path.now ≢ other → at self.new.series other ≡ at self.old.series other }
-        ensures room { (n : ℕ) → HasRoom self.old (n + 1) → HasRoom self.new n }
+    /// The versions of the series' marks.
+    pub(crate) fn versions(&self, path: &Path) -> &[u64]
+        ensures { result.now ≡ (at self.now.series.entries path.now).versions }
     {
-        match self.series.get_mut(path.bytes()) {
-            Some(stretches) => {
-                let old = mem::replace(stretches, Stretches::new());
-                *stretches = old.overlay(stretch, &mut self.forks);
-            }
-            None => {
-                let stretches = Stretches::new().overlay(stretch, &mut self.forks);
-                let key = take_key(&mut self.keys, path);
-                let Ok(_) = self.series.insert(key, stretches) else {
-                    unreachable!()
-                };
-            }
+        match self.series.get(path) {
+            Some(series) => series.versions(),
+            None => &[],
         }
     }
 
-    /// Whether a version greater than `born` rules at a moment of the series from `from` to `to`.
+    /// Whether a version greater than `born` holds at a moment of the series from `from` to `to`.
     pub(crate) fn meets(&self, path: &Path, from: u64, to: u64, born: u64) -> bool
-        ensures met { IsTrue result ↔ SomeMet (at self.now.series path.now) from to born }
-        ensures ordered { IsOrdered (at self.now.series path.now) }
+        requires { from ≤ to }
+        ensures met { IsTrue result → IsMet (newest_at (at self.now.series.entries path.now).runs) from to born }
+        ensures unmet { result ≡ false
+            → IsUnmet (newest_at (at self.now.series.entries path.now).runs) from to born }
     {
-        match self.series.get(path.bytes()) {
-            Some(stretches) => {
-                stretches.learn_order();
-                stretches.meets(from, to, born)
-            }
+        match self.series.get(path) {
+            Some(series) => series.meets(from, to, born),
             None => false,
         }
     }
 
-    /// Drops the stretches whose version is at most this one.
-    pub(crate) fn keep_newer(&mut self, version: u64)
-        ensures stretches { (path : List ℕ)
-            → at self.new.series path ≡ filter (is_newer version) (at self.old.series path) }
-        ensures kept { KeepsRoom self.old self.new }
+    /// Drops the versions up to this one.
+    pub(crate) fn drop_old(&mut self, version: u64)
+        ensures { (path : List ℕ) → DropsOld (at self.old.series.entries path) (at self.new.series.entries path) version }
     {
-        self.series.retain(|_, stretches| {
-            let old = mem::replace(stretches, Stretches::new());
-            *stretches = old.keep_newer(version);
+        self.series.retain(|_, series| {
+            series.drop_old(version);
             true
         });
-        self.series.retain(|_, stretches| !stretches.is_empty());
+        self.series.retain(|_, series| !series.is_empty());
     }
 
-    /// Drops all stretches.
+    /// Drops all marks.
     pub(crate) fn clear(&mut self)
-        ensures empty { (path : List ℕ) → at self.new.series path ≡ [] }
-        ensures kept { KeepsRoom self.old self.new }
+        ensures { (path : List ℕ) → at self.new.series.entries path ≡ no_marks }
     {
         self.series.clear();
     }

@@ -3,6 +3,7 @@
 
 mod index;
 mod marks;
-mod stretches;
+mod run;
+mod series;
 
 pub use marks::{Mark, Marks};

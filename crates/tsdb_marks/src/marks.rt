@@ -1,6 +1,9 @@
 //! The deletion marks of a store, in the order of their versions. It depends on `index`.
-ghost use Rattle.std.specs.Prelude.{◌≡◌, ℕ, ℤ, ◌+◌, ◌<◌, ◌≤◌, ◌≤ℤ◌, ◌↔◌, List, [], ◌∷◌, ◌++◌, IsTrue, IfOk, IfErr};
-ghost use Rattle.std.specs.Prelude.{OnOk, nat_eq, false};
+//!
+//! A mark is added behind the others and takes no memory. The index has the first of them; those behind are few, since
+//! making a place for a mark brings all before it into the index.
+ghost use Rattle.std.specs.Prelude.{◌≡◌, ℕ, ◌+◌, ◌<◌, ◌≤◌, ◌↔◌, List, [], ◌∷◌, ◌++◌, IsTrue, IfOk, IfErr};
+ghost use Rattle.std.specs.Prelude.{OnOk, OnErr, nat_eq, false, take, length};
 ghost use Rattle.std.specs.List.{All, AllPairs, filter, list_any};
 ghost use denote.Ref.{Bor};
 ghost use Rattle.std.specs.HashSet.{contains_by};
@@ -8,11 +11,9 @@ ghost use Rattle.std.specs.Cmp.Lexicographic.{pointwise};
 ghost use Rattle.tsdb_marks.specs.Moments.{moment as moment_of};
 ghost use Rattle.tsdb_marks.specs.Survival.{Survives, Meets};
 ghost use Rattle.tsdb_marks.specs.Lists.{is_newer_than, is_of, purge_list};
-ghost use Rattle.tsdb_marks.specs.Index.{HasRoom};
-ghost use Rattle.tsdb_marks.specs.Model.{HasTimes, IsIndexOf};
+ghost use Rattle.tsdb_marks.specs.Model.{HasTimes, IsCovered, IsIndexOf, IsUncovered};
 
 use crate::index::Index;
-use crate::stretches::Stretch;
 use std::alloc::Global;
 use std::collections::HashSet;
 use std::marker::Model;
@@ -52,6 +53,8 @@ impl Mark {
 pub struct Marks {
     marks: Vec<Mark>,
     index: Index,
+    indexed: usize,
+    floor: u64,
     spare: usize,
 }
 
@@ -75,23 +78,48 @@ fn moment(time: Time) -> u64
 }
 
 /// Adds a mark to the index.
-fn index_mark(index: &mut Index, mark: &Mark)
-    requires { HasRoom index.old 1 }
-    ensures times { HasTimes mark.now }
-    ensures exact { (marks : List Mark) → IsIndexOf marks index.old
-        → All (λ kept. kept.version.0 < mark.now.version.0) marks → IsIndexOf (marks ++ mark.now ∷ []) index.new }
-    ensures room { (n : ℕ) → HasRoom index.old (n + 1) → HasRoom index.new n }
+fn index_mark(index: &mut Index, alloc: Global, mark: &Mark) -> Result<(), Memory>
+    ensures added { OnOk result ((marks : List Mark) (floor : ℕ) → IsIndexOf marks floor index.old.series.entries
+        → IsIndexOf (marks ++ mark.now ∷ []) floor index.new.series.entries) }
+    ensures err { OnErr result ((marks : List Mark) (floor : ℕ) → IsIndexOf marks floor index.old.series.entries
+        → IsIndexOf marks floor index.new.series.entries) }
 {
-    let (from, to) = (mark.from, mark.to);
-    if to < from {
-        return;
+    let (from, to) = (moment(mark.from), moment(mark.to));
+    index.add(alloc, &mark.path, from, to, mark.version.0)
+}
+
+/// Adds the marks that are not in the index to it.
+fn index_all(
+    index: &mut Index,
+    alloc: Global,
+    marks: &[Mark],
+    indexed: &mut usize,
+) -> Result<(), Memory>
+    requires { indexed.old ≤ length marks.now }
+    ensures bound { indexed.new ≤ length marks.now }
+    ensures exact { (floor : ℕ) → IsIndexOf (take indexed.old marks.now) floor index.old.series.entries
+        → IsIndexOf (take indexed.new marks.now) floor index.new.series.entries }
+{
+    while *indexed < marks.len() {
+        index_mark(index, alloc, &marks[*indexed])?;
+        *indexed += 1;
     }
-    let stretch = Stretch {
-        from: moment(from),
-        to: moment(to),
-        version: mark.version.0,
-    };
-    index.add(&mark.path, stretch);
+    Ok(())
+}
+
+/// Whether one of these marks is over a moment of the range, by a look at each.
+fn some_covers(marks: &[Mark], series: &Path, low: u64, high: u64, born: u64) -> bool
+    ensures covered { IsTrue result → IsCovered marks.now series.now low high born }
+    ensures uncovered { result ≡ false → IsUncovered marks.now series.now low high born }
+{
+    for mark in marks {
+        let from = moment(mark.from).max(low);
+        let to = moment(mark.to).min(high);
+        if from <= to && mark.version.0 > born && mark.path.bytes() == series.bytes() {
+            return true;
+        }
+    }
+    false
 }
 
 /// Whether a mark has at most this version: the first has, where one has, since versions rise.
@@ -125,6 +153,8 @@ impl Marks {
         Marks {
             marks: Vec::new(alloc),
             index: Index::new(alloc),
+            indexed: 0,
+            floor: 0,
             spare: 0,
         }
     }
@@ -149,8 +179,10 @@ impl Marks {
         ensures ok { OnOk result (self.new.spare ≡ self.old.spare + 1) }
         ensures err { IfErr result (λ _. self.new.spare ≡ self.old.spare) }
     {
+        let alloc = *self.marks.allocator();
+        let marks = self.marks.as_slice();
+        index_all(&mut self.index, alloc, marks, &mut self.indexed)?;
         self.marks.reserve(self.spare + 1)?;
-        self.index.reserve(self.spare + 1)?;
         self.spare += 1;
         Ok(())
     }
@@ -163,10 +195,20 @@ impl Marks {
         ensures spare { self.new.spare + 1 ≡ self.old.spare }
     {
         self.spare -= 1;
-        index_mark(&mut self.index, &mark);
         let Ok(()) = self.marks.push(mark) else {
             unreachable!()
         };
+    }
+
+    /// Whether a mark that is newer than `born` is over a moment of the range.
+    fn covers(&self, series: &Path, low: u64, high: u64, born: u64) -> bool
+        requires { low ≤ high }
+        ensures covered { IsTrue result → IsCovered self.now.marks series.now low high born }
+        ensures uncovered { result ≡ false → IsUncovered self.now.marks series.now low high born }
+        ensures times { All HasTimes self.now.marks }
+    {
+        self.index.meets(series, low, high, born.max(self.floor))
+            || some_covers(&self.marks[self.indexed..], series, low, high, born)
     }
 
     /// Whether no mark covers the point: none that is newer than `born` marks this time of the series. It takes no
@@ -175,17 +217,44 @@ impl Marks {
         ensures { IsTrue result ↔ Survives self.now.marks series.now time born.0 }
     {
         let at = moment(time);
-        !self.index.meets(series, at, at, born.0)
+        !self.covers(series, at, at, born.0)
     }
 
     /// Whether a mark covers a point of the series at some time of the range. It takes no memory.
     pub fn meets(&self, series: &Path, range: &Range, born: Stamp) -> bool
         ensures { IsTrue result ↔ Meets self.now.marks series.now range.now born.0 }
     {
-        range.from <= range.to
-            && self
-                .index
-                .meets(series, moment(range.from), moment(range.to), born.0)
+        range.from <= range.to && self.covers(series, moment(range.from), moment(range.to), born.0)
+    }
+
+    /// Drops all marks.
+    fn drop_all(&mut self)
+        ensures marks { self.new.marks ≡ [] }
+        ensures spare { self.new.spare ≡ self.old.spare }
+    {
+        self.marks.clear();
+        self.index.clear();
+        self.indexed = 0;
+        self.floor = 0;
+    }
+
+    /// Drops the marks up to this version, of which there is one.
+    fn drop_old(&mut self, version: u64)
+        ensures marks { self.new.marks ≡ filter (is_newer_than version) self.old.marks }
+        ensures spare { self.new.spare ≡ self.old.spare }
+    {
+        let count = self.marks.len();
+        self.marks.retain(|mark| mark.version.0 > version);
+        if self.marks.is_empty() {
+            self.index.clear();
+            self.indexed = 0;
+            self.floor = 0;
+            return;
+        }
+        let dropped = count - self.marks.len();
+        self.indexed = self.indexed.saturating_sub(dropped);
+        self.floor = self.floor.max(version);
+        self.index.drop_old(version);
     }
 
     /// Drops every mark whose version is at most `min_born`, and all marks where there is none. It takes no memory.
@@ -193,16 +262,14 @@ impl Marks {
         ensures marks { self.new.marks ≡ purge_list min_born self.old.marks }
         ensures spare { self.new.spare ≡ self.old.spare }
     {
-        let Some(Stamp(version)) = min_born else {
-            self.marks.clear();
-            self.index.clear();
-            return;
-        };
-        if !has_old(self.marks.as_slice(), version) {
-            return;
+        match min_born {
+            None => self.drop_all(),
+            Some(Stamp(version)) => {
+                if has_old(self.marks.as_slice(), version) {
+                    self.drop_old(version);
+                }
+            }
         }
-        self.marks.retain(|mark| mark.version.0 > version);
-        self.index.keep_newer(version);
     }
 
     /// The marks of these series alone, in their order.

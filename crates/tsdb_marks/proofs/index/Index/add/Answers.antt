@@ -1,25 +1,29 @@
-use Rattle.std.proofs.Common.{[], ◌≡◌, sym, ap, ◌∙◌}
-use Rattle.tsdb_marks.proofs.IndexLemmas.{set-others, inserted-there, inserted-others}
+use Rattle.std.proofs.Common.{◌≡◌, List, ℕ, Option, Some, refl, ap, sym, subst, ◌∙◌}
+use Rattle.std.specs.Prelude.{IsSome}
 use Rattle.std.specs.Map.{lookup}
-use Rattle.std.specs.Option.{unwrap_or}
-use Rattle.tsdb_marks.specs.Stretches.{overlay}
-use Rattle.tsdb_marks.specs.Index.{is_key_of, at}
+use Rattle.std.proofs.lemmas.Result.{on_err_weaker}
+use Rattle.tsdb_marks.specs.Series.{Series}
+use Rattle.tsdb_marks.specs.Index.{at, is_path}
+use Rattle.tsdb_marks.proofs.IndexLemmas.{at_other, at_same}
 use Rattle.tsdb_marks.proofs.index.Index.add.Goals as goal
 
 pub returns-in-Some-clause-others : goal.returns-in-Some-clause-others
 returns-in-Some-clause-others c = λ other ne.
-    let written = (c.get_mut.follows.holds c.overlay.result).0 in
-    ap (λ es. unwrap_or (lookup (is_key_of other) es) []) written ∙ set-others c.bytes.result.now c.args.self.now.series.entries c.overlay.result other (λ e. ne (sym c.bytes.ensures.value ∙ e))
+    let P : Option Series → Type 0 = λ o. IsSome o in
+    let had : IsSome (lookup (is_path c.args.path.now) c.args.self.now.series.entries) = subst P c.in-Some.ensures.value refl in
+    let updates = (c.get_mut.follows.holds c.add.new.self).3 had in
+    at_other c.args.path.now other (is_path c.args.path.now other) _ _ c.add.new.self refl ne (updates.0 other)
 
-pub returns-in-Ok-clause-there : goal.returns-in-Ok-clause-there
-returns-in-Ok-clause-there c =
-    let none : at c.args.self.now.series c.args.path.now ≡ [] =
-    ap (λ bytes. at c.args.self.now.series bytes) (sym c.bytes.ensures.value) ∙ ap (λ o. unwrap_or o []) (sym c.in-None.ensures.value)
-    in
-    inserted-there c.args.path.now c.take_key-key.result [] _ _ c.take_key-key.ensures.value c.in-Ok.ensures.updates.1 ∙ c.overlay-stretches.ensures.value
-    ∙ ap (overlay c.args.stretch) (c.new-in-None.ensures ∙ sym none)
+pub returns-in-Some-clause-err : goal.returns-in-Some-clause-err
+returns-in-Some-clause-err c = on_err_weaker c.add.result (λ kept. λ other.
+    let P : Option Series → Type 0 = λ o. IsSome o in
+    let had : IsSome (lookup (is_path c.args.path.now) c.args.self.now.series.entries) = subst P c.in-Some.ensures.value refl in
+    let updates = (c.get_mut.follows.holds c.add.new.self).3 had in
+    let Q : List ℕ → Type 0 = λ path. lookup (is_path path) c.args.self.now.series.entries ≡ Some c.add.new.self in
+    let here : Q c.args.path.now = sym c.in-Some.ensures.value ∙ ap Some (sym kept) in
+    at_same c.args.path.now other (is_path c.args.path.now other) _ _ c.add.new.self refl (λ same. subst Q same here) (updates.0 other)) c.add.ensures.err
 
-pub returns-in-Ok-clause-others : goal.returns-in-Ok-clause-others
-returns-in-Ok-clause-others c = λ other ne.
-    let same = c.get_mut.follows.holds-at-none in
-    inserted-others c.args.path.now c.take_key-key.result c.get_mut.follows.lender-at-none.entries _ c.take_key-key.ensures.value c.in-Ok.ensures.updates.3 other ne ∙ ap (λ m. at m other) same
+pub returns-clause-others : goal.returns-clause-others
+returns-clause-others c = λ other ne.
+    at_other c.in-Ok.path other (is_path c.in-Ok.path other) _ _ _ refl (λ e. ne (sym c.in-Ok.ensures ∙ e)) (c.in_ok-insert.ensures.updates.0 other)
+    ∙ ap (λ m. at m.entries other) c.get_mut.follows.holds-at-none
