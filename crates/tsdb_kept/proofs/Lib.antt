@@ -1,0 +1,7 @@
+pub mod PlaceFacts
+pub mod Numbers
+pub mod Leasts
+pub mod Changes
+pub mod Counts
+pub mod Taken
+pub mod Swept

@@ -1,0 +1,248 @@
+//! The files that a core keeps. Depends on `file`, `places` and `room`.
+ghost use Rattle.std.specs.Prelude.{◌≡◌, ◌∷◌, [], ◌++◌, None, Some, length, IfOk, OnOk, OnErr};
+ghost use Rattle.tsdb_layers.specs.Lists.{if_some};
+ghost use Rattle.tsdb_memory.specs.Least.{IsLeastOf, lesser as lesser_of};
+ghost use Rattle.tsdb_outside.specs.Causes.{HasCause};
+
+use crate::file::KeptFile;
+use crate::places::{Places, fill_place, free_place, make_places};
+use crate::room::{Spare, flush_room, less_room, make_room, push, push_entry, sum_of};
+use crate::sweeping::{keep_placed, remove_free};
+use std::alloc::Global;
+use std::collections::BTreeMap;
+use std::marker::Model;
+use tsdb_base::{FileNumber, Memory, Space, Stamp};
+use tsdb_jobs::Built;
+use tsdb_outside::{Failed, Files};
+use tsdb_plan::FileEntry;
+
+/// A file on its way out of the store.
+#[derive(Clone, Copy, Debug, PartialEq, Eq)]
+pub struct Outgoing {
+    pub number: FileNumber,
+    pub born: Stamp,
+}
+
+/// The kept files. A contract sees the places that were made for numbers, each with what is kept of its file where that
+/// is there, the entries of the two lists, the outgoing files, and the room promised to jobs that are out.
+pub struct KeptFiles<F: Files> {
+    tokens: Places<F>,
+    sequence: Vec<FileEntry>,
+    unsequence: Vec<FileEntry>,
+    outgoing: Vec<Outgoing>,
+    spare: Spare,
+    // The least born of the listed files.
+    least: Option<Stamp>,
+}
+
+/// The lesser of the least so far and one more.
+fn lesser(least: Option<Stamp>, born: Stamp) -> Stamp
+    ensures { result ≡ lesser_of least born.0 }
+{
+    match least {
+        Some(least) if least.0 <= born.0 => least,
+        _ => born,
+    }
+}
+
+impl<F: Files> Model for KeptFiles<F> {
+    ghost use Rattle.tsdb_kept.specs.Files.{KeptFiles};
+    ghost use Rattle.tsdb_kept.specs.Kept.{AreSound, view_of};
+
+    ghost Value = { KeptFiles };
+
+    ghost view = { view_of };
+
+    ghost invariant = { AreSound };
+}
+
+impl<F: Files> KeptFiles<F> {
+    ghost use Rattle.tsdb_kept.specs.Files.{Appends, AreKept, IsOpen, KeepsLists, entries_in, kept_file};
+    ghost use Rattle.tsdb_kept.specs.Files.{listed_borns, none_kept};
+    ghost use Rattle.tsdb_kept.specs.Places.{AreOfStore, ArePlacesMade, OnlyMakesPlaces, OthersStay, place_at};
+    ghost use Rattle.tsdb_kept.specs.Room.{HasRoom, flush_room as flush_room_of, less_room as less_room_of, more_room};
+    ghost use Rattle.tsdb_kept.specs.Sweeps.{LeavesWithout, StopsAt, free_numbers, tried_numbers};
+
+    /// No file.
+    pub fn new(alloc: Global) -> KeptFiles<F>
+        ensures { result ≡ none_kept }
+    {
+        KeptFiles {
+            tokens: BTreeMap::new(alloc),
+            sequence: Vec::new(alloc),
+            unsequence: Vec::new(alloc),
+            outgoing: Vec::new(alloc),
+            spare: Spare {
+                sequence: 0,
+                unsequence: 0,
+                outgoing: 0,
+            },
+            least: None,
+        }
+    }
+
+    /// Takes all memory that the end of a flush with files of these numbers needs, whichever it is. Without memory the
+    /// room is as before; a place that was made stays, and serves the next file of its number.
+    pub fn prepare_flush(
+        &mut self,
+        sequence: Option<FileNumber>,
+        unsequence: Option<FileNumber>,
+    ) -> Result<(), Memory>
+        ensures lists { KeepsLists self.old self.new }
+        ensures files { OnlyMakesPlaces self.old.places self.new.places }
+        ensures places { OnOk result (ArePlacesMade (if_some sequence ++ if_some unsequence) self.old.places
+            self.new.places) }
+        ensures room { OnOk result (self.new.spare ≡ more_room self.old.spare (flush_room_of sequence unsequence)) }
+        ensures err { OnErr result (self.new.spare ≡ self.old.spare) }
+    {
+        self.prepare(sequence, unsequence, &flush_room(sequence, unsequence))
+    }
+
+    // Makes a place for each number, and this room.
+    fn prepare(
+        &mut self,
+        first: Option<FileNumber>,
+        second: Option<FileNumber>,
+        room: &Spare,
+    ) -> Result<(), Memory>
+        ensures lists { KeepsLists self.old self.new }
+        ensures files { OnlyMakesPlaces self.old.places self.new.places }
+        ensures places { OnOk result (ArePlacesMade (if_some first ++ if_some second) self.old.places self.new.places) }
+        ensures room { OnOk result (self.new.spare ≡ more_room self.old.spare room.now) }
+        ensures err { OnErr result (self.new.spare ≡ self.old.spare) }
+    {
+        let spare = sum_of(&self.spare, room)?;
+        make_places::<F>(&mut self.tokens, first, second)?;
+        make_room(
+            &mut self.sequence,
+            &mut self.unsequence,
+            &mut self.outgoing,
+            &spare,
+        )?;
+        self.spare = spare;
+        Ok(())
+    }
+
+    /// Puts a new file at the end of its list. It takes no memory.
+    pub fn enlist(&mut self, space: Space, built: Built<F>)
+        requires place { IsOpen built.entry.number.0 self.old }
+        requires room { HasRoom space self.old.spare }
+        requires no_rights { F.Sealed.rights built.sealed ≡ 0 }
+        ensures entry { Appends space built.entry self.old self.new }
+        ensures outgoing { self.new.outgoing ≡ self.old.outgoing }
+        ensures file { kept_file built.entry.number.0 self.new
+            ≡ Some (record { name = F.Sealed.file built.sealed; series = built.series; rights = 0 }) }
+        ensures others { OthersStay built.entry.number.0 self.old.places self.new.places }
+        ensures room { self.new.spare ≡ less_room_of space self.old.spare }
+    {
+        let Built {
+            sealed,
+            entry,
+            series,
+        } = built;
+        fill_place::<F>(
+            &mut self.tokens,
+            entry.number,
+            KeptFile::new(sealed, series),
+        );
+        self.least = Some(lesser(self.least, entry.born));
+        push_entry(&mut self.sequence, &mut self.unsequence, space, entry);
+        self.spare = less_room(&self.spare, space);
+    }
+
+    /// Puts a new file behind the outgoing files: its job ended without its record. It takes no memory.
+    pub fn send_out(&mut self, space: Space, built: Built<F>)
+        requires place { IsOpen built.entry.number.0 self.old }
+        requires room { HasRoom space self.old.spare }
+        requires no_rights { F.Sealed.rights built.sealed ≡ 0 }
+        ensures sequence { self.new.sequence ≡ self.old.sequence }
+        ensures unsequence { self.new.unsequence ≡ self.old.unsequence }
+        ensures outgoing { self.new.outgoing
+            ≡ self.old.outgoing ++ record { number = built.entry.number; born = built.entry.born } ∷ [] }
+        ensures file { kept_file built.entry.number.0 self.new
+            ≡ Some (record { name = F.Sealed.file built.sealed; series = built.series; rights = 0 }) }
+        ensures others { OthersStay built.entry.number.0 self.old.places self.new.places }
+        ensures room { self.new.spare ≡ less_room_of space self.old.spare }
+    {
+        let Built {
+            sealed,
+            entry,
+            series,
+        } = built;
+        fill_place::<F>(
+            &mut self.tokens,
+            entry.number,
+            KeptFile::new(sealed, series),
+        );
+        push(
+            &mut self.outgoing,
+            Outgoing {
+                number: entry.number,
+                born: entry.born,
+            },
+        );
+        self.spare = less_room(&self.spare, space);
+    }
+
+    /// A job ended without a file of this number. It takes no memory.
+    pub fn give_up(&mut self, space: Space, number: FileNumber)
+        requires place { IsOpen number.0 self.old }
+        requires room { HasRoom space self.old.spare }
+        ensures lists { KeepsLists self.old self.new }
+        ensures place { place_at number.0 self.new.places ≡ None }
+        ensures others { OthersStay number.0 self.old.places self.new.places }
+        ensures room { self.new.spare ≡ less_room_of space self.old.spare }
+    {
+        free_place::<F>(&mut self.tokens, number);
+        self.spare = less_room(&self.spare, space);
+    }
+
+    /// The least born of the listed files.
+    pub fn least_born(&self) -> Option<Stamp>
+        ensures { IsLeastOf result (listed_borns self.now) }
+    {
+        self.least
+    }
+
+    /// The entries of a list, in its order.
+    pub fn entries(&self, space: Space) -> &[FileEntry]
+        ensures entries { result.now ≡ entries_in space self.now }
+        ensures kept { AreKept self.now }
+    {
+        match space {
+            Space::Sequence => &self.sequence,
+            Space::Unsequence => &self.unsequence,
+        }
+    }
+
+    /// The files on their way out, in the order in which they came.
+    pub fn outgoing(&self) -> &[Outgoing]
+        ensures files { result.now ≡ self.now.outgoing }
+        ensures kept { AreKept self.now }
+    {
+        &self.outgoing
+    }
+
+    /// Removes from the store each outgoing file of which no right is out, and that is none of those in doubt, in their
+    /// order, and returns how many. After `Failed` the file that could not be removed is spent too, and those behind it
+    /// were not tried.
+    pub fn sweep(
+        &mut self,
+        port: &mut F::Port,
+        doubted: [Option<FileNumber>; 2],
+    ) -> Result<u64, Failed>
+        requires store { AreOfStore (F.Port.store port.old) self.old.places }
+        ensures count { IfOk result (λ count. count
+            ≡ length (free_numbers doubted self.old.places self.old.outgoing)) }
+        ensures swept { OnOk result
+            (LeavesWithout (free_numbers doubted self.old.places self.old.outgoing) self.old self.new) }
+        ensures failed { OnErr result ((stop : StopsAt doubted self.old.places self.old.outgoing)
+            × LeavesWithout (tried_numbers doubted self.old.places stop) self.old self.new) }
+        ensures same_store { F.Port.store port.new ≡ F.Port.store port.old }
+        ensures cause { HasCause (F.Port.faults port.old) (F.Port.faults port.new) result }
+    {
+        let swept = remove_free::<F>(&mut self.tokens, &self.outgoing, port, &doubted);
+        keep_placed::<F>(&mut self.outgoing, &self.tokens);
+        swept
+    }
+}

@@ -1,0 +1,17 @@
+//! The files that a core keeps: their tokens by number, the two lists of files, and the files on their way out. Depends
+//! on tsdb_base, tsdb_path, tsdb_plan, tsdb_outside, tsdb_layers, tsdb_jobs and tsdb_memory.
+//!
+//! - A number that is drawn for a file gets a place, and room in its list and among the outgoing files. So no end of a
+//!   job takes memory, and none can fail for want of it.
+//! - Each file of the two lists and each outgoing file has its token here, and each token is of one of them.
+//! - An outgoing file is removed from the store once no right to read it is out, and no record in doubt names it.
+#![tactic(auto)]
+
+mod file;
+mod files;
+mod places;
+mod room;
+mod sweeping;
+
+pub use files::{KeptFiles, Outgoing};
+pub use room::Spare;
