@@ -1,4 +1,5 @@
 pub mod PlaceFacts
+pub mod PutBack
 pub mod Numbers
 pub mod Leasts
 pub mod Changes

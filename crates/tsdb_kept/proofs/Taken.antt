@@ -10,12 +10,11 @@ use Rattle.std.proofs.lemmas.List.Folds.{list_any-append}
 use Rattle.tsdb_base.specs.declared.ids.FileNumber.{FileNumber}
 use Rattle.tsdb_kept.specs.declared.files.Outgoing.{Outgoing}
 use Rattle.tsdb_kept.specs.Files.{outgoing_numbers}
-use Rattle.tsdb_kept.specs.Places.{AreOfStore, KeptFile, Places, TakesAway, file_at, is_one_of, place_at}
+use Rattle.tsdb_kept.specs.Places.{AllFiles, KeptFile, Places, TakesAway, file_at, is_one_of, place_at}
 use Rattle.tsdb_kept.specs.Sweeps.{AreOnce, StopsAt, free_numbers, has_no_right, is_free, is_that, tried_numbers}
 use Rattle.tsdb_kept.proofs.Counts.{count_fewer, length_fewer, not_there}
 use Rattle.tsdb_layers.specs.Lists.{count}
 use Rattle.tsdb_layers.proofs.Lists.{count_append, filter_append}
-use Rattle.tsdb_outside.specs.Files.{Store}
 
 -- one place goes after others
 pub takes_more : (gone : List ℕ) (n : ℕ) (old now new : Places) → TakesAway gone old now → TakesAway (n ∷ []) now new
@@ -31,16 +30,15 @@ takes_more gone n old now new first next number =
     by false true = refl
     by false false = refl
 
--- files that stay are of the same store
-pub still_of_store : (store : Store) (gone : List ℕ) (old new : Places) → TakesAway gone old new → AreOfStore store old
-    → AreOfStore store new
-still_of_store store gone old new takes of number =
-    let Of : Option (Option KeptFile) → Type 0 = λ place. IfSome (file_at place) (λ file. file.name.store ≡ store) in
-    subst Of (sym (takes number)) (by (is_one_of gone number))
+-- what holds of each file holds of those that stay
+pub still_all : (P : KeptFile → Type 0) (gone : List ℕ) (old new : Places) → TakesAway gone old new → AllFiles P old
+    → AllFiles P new
+still_all P gone old new takes all number =
+    subst (λ place. IfSome (file_at place) P) (sym (takes number)) (by (is_one_of gone number))
   where
-    by : (b : Bool) → IfSome (file_at (cond b None (place_at number old))) (λ file. file.name.store ≡ store)
+    by : (b : Bool) → IfSome (file_at (cond b None (place_at number old))) P
     by true = tt
-    by false = of number
+    by false = all number
 
 -- what the walk over the first files has done
 pub record IsSweeping (doubted : List (Option FileNumber)) (old : Places) (files : List Outgoing) (index removed : ℕ)

@@ -42,9 +42,17 @@ abbrev pub ArePlacesMade : List FileNumber → Places → Places → Type 0
 ArePlacesMade numbers old new =
     Each (λ number. file_at (place_at number.0 old) ≡ None → place_at number.0 new ≡ Some None) numbers
 
+-- it holds of each kept file
+abbrev pub AllFiles : (KeptFile → Type 0) → Places → Type 0
+AllFiles P places = (number : ℕ) → IfSome (file_at (place_at number places)) P
+
 -- the tokens are of the store
 abbrev pub AreOfStore : Store → Places → Type 0
-AreOfStore store places = (number : ℕ) → IfSome (file_at (place_at number places)) (λ file. file.name.store ≡ store)
+AreOfStore store places = AllFiles (λ file. file.name.store ≡ store) places
+
+-- no right to read any of the files is out
+abbrev pub AreUnread : Places → Type 0
+AreUnread places = AllFiles (λ file. file.rights ≡ 0) places
 
 abbrev pub is_one_of : List ℕ → ℕ → Bool
 is_one_of numbers number = list_any (nat_eq number) numbers

@@ -1,9 +1,10 @@
 //! A stored file whose token is kept. Depends on tsdb_base, tsdb_path and tsdb_outside.
-ghost use Rattle.std.specs.Prelude.{◌≡◌};
+ghost use Rattle.std.specs.Prelude.{◌≡◌, IfOk, OnErr, OnOk};
+ghost use Rattle.tsdb_kept.specs.Rights.{one_less, one_more};
 
 use std::marker::Model;
-use tsdb_base::List;
-use tsdb_outside::Files;
+use tsdb_base::{List, Memory};
+use tsdb_outside::{Files, Port};
 use tsdb_path::Path;
 
 /// The token of a stored file, the paths of its series, and how many rights to read it are out.
@@ -42,6 +43,36 @@ impl<F: Files> KeptFile<F> {
         ensures { result ≡ self.now.rights }
     {
         self.rights
+    }
+
+    /// The paths of its series.
+    pub(crate) fn series(&self) -> &[Path]
+        ensures { result.now ≡ self.now.series }
+    {
+        self.series.items()
+    }
+
+    /// Gives out a right to read the file. Rights take memory, so they end before their count does.
+    pub(crate) fn share(&mut self) -> Result<F::Right, Memory>
+        ensures right { IfOk result (λ right. F.Right.file right ≡ self.old.name) }
+        ensures ok { OnOk result (self.new ≡ one_more self.old) }
+        ensures err { OnErr result (self.new ≡ self.old) }
+    {
+        let Some(rights) = self.rights.checked_add(1) else {
+            return Err(Memory);
+        };
+        let right = <F::Port as Port>::share(&mut self.sealed)?;
+        self.rights = rights;
+        Ok(right)
+    }
+
+    /// Takes a right to read the file back.
+    pub(crate) fn give_back(&mut self, right: F::Right)
+        requires { F.Right.file right ≡ self.old.name }
+        ensures { self.new ≡ one_less self.old }
+    {
+        <F::Port as Port>::give_back(&mut self.sealed, right);
+        self.rights = self.rights.saturating_sub(1);
     }
 
     /// The token.

@@ -1,11 +1,15 @@
-//! The files that a core keeps. Depends on `file`, `places` and `room`.
+//! The files that a core keeps. Depends on `file`, `places`, `room`, `sweeping`, `rights` and `closing`.
 ghost use Rattle.std.specs.Prelude.{◌≡◌, ◌∷◌, [], ◌++◌, None, Some, length, IfOk, OnOk, OnErr};
+ghost use Rattle.std.specs.Option.{option_map};
 ghost use Rattle.tsdb_layers.specs.Lists.{if_some};
 ghost use Rattle.tsdb_memory.specs.Least.{IsLeastOf, lesser as lesser_of};
 ghost use Rattle.tsdb_outside.specs.Causes.{HasCause};
+ghost use Rattle.tsdb_outside.specs.Disk.{WhereTold};
 
+use crate::closing::keep_files;
 use crate::file::KeptFile;
 use crate::places::{Places, fill_place, free_place, make_places};
+use crate::rights::{give_back_at, share_at};
 use crate::room::{Spare, flush_room, less_room, make_room, push, push_entry, sum_of};
 use crate::sweeping::{keep_placed, remove_free};
 use std::alloc::Global;
@@ -14,6 +18,7 @@ use std::marker::Model;
 use tsdb_base::{FileNumber, Memory, Space, Stamp};
 use tsdb_jobs::Built;
 use tsdb_outside::{Failed, Files};
+use tsdb_path::Path;
 use tsdb_plan::FileEntry;
 
 /// A file on its way out of the store.
@@ -57,9 +62,12 @@ impl<F: Files> Model for KeptFiles<F> {
 }
 
 impl<F: Files> KeptFiles<F> {
+    ghost use Rattle.tsdb_kept.specs.Closing.{ArePutBack, names_at};
     ghost use Rattle.tsdb_kept.specs.Files.{Appends, AreKept, IsOpen, KeepsLists, entries_in, kept_file};
     ghost use Rattle.tsdb_kept.specs.Files.{listed_borns, none_kept};
-    ghost use Rattle.tsdb_kept.specs.Places.{AreOfStore, ArePlacesMade, OnlyMakesPlaces, OthersStay, place_at};
+    ghost use Rattle.tsdb_kept.specs.Places.{AreOfStore, ArePlacesMade, AreUnread, OnlyMakesPlaces, OthersStay};
+    ghost use Rattle.tsdb_kept.specs.Places.{place_at};
+    ghost use Rattle.tsdb_kept.specs.Rights.{HasChanged, IsRightTo, one_less, one_more};
     ghost use Rattle.tsdb_kept.specs.Room.{HasRoom, flush_room as flush_room_of, less_room as less_room_of, more_room};
     ghost use Rattle.tsdb_kept.specs.Sweeps.{LeavesWithout, StopsAt, free_numbers, tried_numbers};
 
@@ -244,5 +252,58 @@ impl<F: Files> KeptFiles<F> {
         let swept = remove_free::<F>(&mut self.tokens, &self.outgoing, port, &doubted);
         keep_placed::<F>(&mut self.outgoing, &self.tokens);
         swept
+    }
+
+    /// The paths of the series of a kept file, in the order of a tree.
+    pub fn series(&self, number: FileNumber) -> Option<&[Path]>
+        ensures { option_map (λ paths. paths.now) result
+            ≡ option_map (λ file. file.series) (kept_file number.0 self.now) }
+    {
+        match self.tokens.get(&number.0) {
+            Some(Some(file)) => Some(file.series()),
+            _ => None,
+        }
+    }
+
+    /// Gives out a right to read the file of the number, where it is kept. Without memory nothing changes.
+    pub fn share(&mut self, number: FileNumber) -> Result<Option<F::Right>, Memory>
+        ensures right { IfOk result (IsRightTo F.Right.file (kept_file number.0 self.old)) }
+        ensures ok { OnOk result (HasChanged one_more number.0 self.old.places self.new.places) }
+        ensures err { OnErr result (place_at number.0 self.new.places ≡ place_at number.0 self.old.places) }
+        ensures others { OthersStay number.0 self.old.places self.new.places }
+        ensures lists { KeepsLists self.old self.new }
+        ensures room { self.new.spare ≡ self.old.spare }
+    {
+        share_at::<F>(&mut self.tokens, number)
+    }
+
+    /// Takes a right to read the file of the number back.
+    pub fn give_back(&mut self, number: FileNumber, right: F::Right)
+        requires { IsRightTo F.Right.file (kept_file number.0 self.old) (Some right) }
+        ensures file { HasChanged one_less number.0 self.old.places self.new.places }
+        ensures others { OthersStay number.0 self.old.places self.new.places }
+        ensures lists { KeepsLists self.old self.new }
+        ensures room { self.new.spare ≡ self.old.spare }
+    {
+        give_back_at::<F>(&mut self.tokens, number, right);
+    }
+
+    /// Gives each token back to its store, in order of the numbers; no other file comes to be at rest.
+    pub fn close(self, files: &mut F)
+        requires no_rights { AreUnread self.places }
+        requires store { AreOfStore (F.store files.old) self.places }
+        ensures at_rest { WhereTold (ArePutBack (names_at self.places)) (F.at_rest files.old) (F.at_rest files.new) }
+        ensures same_store { F.store files.new ≡ F.store files.old }
+        ensures faults { F.faults files.new ≡ F.faults files.old }
+    {
+        let KeptFiles {
+            tokens,
+            sequence: _,
+            unsequence: _,
+            outgoing: _,
+            spare: _,
+            least: _,
+        } = self;
+        keep_files(tokens, files);
     }
 }

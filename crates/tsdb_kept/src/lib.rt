@@ -7,9 +7,11 @@
 //! - An outgoing file is removed from the store once no right to read it is out, and no record in doubt names it.
 #![tactic(auto)]
 
+mod closing;
 mod file;
 mod files;
 mod places;
+mod rights;
 mod room;
 mod sweeping;
 

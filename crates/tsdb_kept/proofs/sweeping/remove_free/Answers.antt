@@ -1,14 +1,14 @@
 use Rattle.std.proofs.Common.{rules, sym, subst, ◌∙◌, arith, take}
 use Rattle.tsdb_kept.specs.Places.{AreOfStore}
 use Rattle.tsdb_kept.specs.Sweeps.{free_numbers}
-use Rattle.tsdb_kept.proofs.Taken.{few_removed, still_of_store, sweep_more, sweep_passes, sweep_stops}
+use Rattle.tsdb_kept.proofs.Taken.{few_removed, still_all, sweep_more, sweep_passes, sweep_stops}
 use Rattle.tsdb_kept.proofs.sweeping.remove_free.Goals as goal
 use Rattle.tsdb_kept.proofs.sweeping.remove_free.Goals.{then-is_free+in_ok-remove_file, else-is_free}
 
 pub remove_file-requires-clause-store : goal.remove_file-requires-clause-store
 remove_file-requires-clause-store g c = λ lifetimes lives.
-    still_of_store _ (free_numbers c.args.doubted.now c.args.places.now.entries (take c.loop-file.file-index c.args.outgoing.now))
-    c.args.places.now.entries c.loop-file.places.entries c.loop-file.invariant.0.away
+    let gone = free_numbers c.args.doubted.now c.args.places.now.entries (take c.loop-file.file-index c.args.outgoing.now) in
+    still_all _ gone c.args.places.now.entries c.loop-file.places.entries c.loop-file.invariant.0.away
     (subst (λ store. AreOfStore store c.args.places.now.entries) (sym c.loop-file.invariant.1) c.requires.store)
 
 pub returns-in_err-remove_file-clause-failed : goal.returns-in_err-remove_file-clause-failed
