@@ -28,8 +28,9 @@ use std::alloc::Global;
 use std::marker::PhantomData;
 use std::mem;
 use tsdb_base::{Answer, List, Memory, Range, Space, Stamp, Time};
-use tsdb_frames::{FrameFault, Frames, frame};
-use tsdb_log::{CellRecord, LogRecord, write_record};
+use tsdb_framed::frame_record;
+use tsdb_frames::Frames;
+use tsdb_log::{CellRecord, LogRecord};
 use tsdb_map::{Row, Schema};
 use tsdb_outside::{Failed, Files, Journal};
 use tsdb_path::Path;
@@ -347,17 +348,18 @@ fn freeze_answer(outcome: Result<Result<(), Failed>, Memory>) -> Answer
     }
 }
 
+/// For how many bytes of a record there is room at first: most records of one point have fewer.
+const FRAME_ROOM: usize = 64;
+
 /// What is appended of a record.
 fn frame_of(alloc: Global, item: &LogRecord) -> Result<Vec<u8>, Memory>
     requires few { HasFewParts item.now }
     requires fits { FitsFrame item.now }
     ensures { IfOk result (IsFrameOf item.now) }
 {
-    let payload = write_record(alloc, item)?;
-    match frame(alloc, &payload) {
-        Ok(framed) => Ok(framed),
-        Err(FrameFault::Memory) => Err(Memory),
-    }
+    let mut framed = Vec::with_capacity(alloc, FRAME_ROOM)?;
+    frame_record(item, &mut framed)?;
+    Ok(framed)
 }
 
 /// What is appended of a series that is created.

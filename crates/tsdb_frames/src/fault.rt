@@ -1,33 +1,9 @@
-//! Why a record could not be framed, and why a slot could not be read. Depends on `tsdb_outside` for `Failed`.
+//! Why a slot could not be read. Depends on `tsdb_outside` for `Failed`.
 ghost use Rattle.std.specs.Prelude.{◌≡◌};
-ghost use Rattle.tsdb_frames.specs.declared.fault.FrameFault.TheVariants as frame_fault;
 ghost use Rattle.tsdb_frames.specs.declared.fault.ScanFault.TheVariants as scan_fault;
 
 use std::alloc::{AllocError, AllocFailed};
 use tsdb_outside::Failed;
-
-/// Why a record could not be framed.
-#[derive(Clone, Copy, Debug, PartialEq, Eq)]
-pub enum FrameFault {
-    /// Out of memory.
-    Memory,
-}
-
-impl From<AllocError> for FrameFault {
-    ghost from_gives = { λ _ e. e ≡ frame_fault.Memory };
-
-    fn from(_: AllocError) -> Self {
-        FrameFault::Memory
-    }
-}
-
-impl<T: Drop> From<AllocFailed<T>> for FrameFault {
-    ghost from_gives = { λ _ e. e ≡ frame_fault.Memory };
-
-    fn from(_: AllocFailed<T>) -> Self {
-        FrameFault::Memory
-    }
-}
 
 /// Why a slot could not be read.
 #[derive(Clone, Copy, Debug, PartialEq, Eq)]

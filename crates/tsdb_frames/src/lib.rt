@@ -32,7 +32,7 @@ mod reading;
 mod record;
 mod writing;
 
-pub use fault::{FrameFault, ScanFault};
+pub use fault::ScanFault;
 pub use frames::{Frames, ScanRefused};
-pub use framing::frame;
+pub use framing::{close_frame, frame};
 pub use record::Frame;

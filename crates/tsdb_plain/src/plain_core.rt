@@ -26,8 +26,9 @@ use crate::opening::{refusal, replay};
 use crate::store::{LAST_STAMP, PlainStore};
 use std::alloc::Global;
 use tsdb_base::{Answer, Memory};
-use tsdb_frames::{FrameFault, Frames, ScanRefused, frame};
-use tsdb_log::{LogRecord, write_record};
+use tsdb_framed::frame_record;
+use tsdb_frames::{Frames, ScanRefused};
+use tsdb_log::LogRecord;
 use tsdb_map::{Command, Reply};
 use tsdb_outside::{Failed, Journal, Slot};
 
@@ -166,6 +167,9 @@ impl<J: Journal> PlainCore<J> {
     }
 }
 
+/// For how many bytes of a record there is room at first: most records of one point have fewer.
+const FRAME_ROOM: usize = 64;
+
 /// What is appended of a record.
 fn frame_of(alloc: Global, item: &LogRecord) -> Result<Vec<u8>, Memory>
     requires few { HasFewParts item.now }
@@ -174,9 +178,7 @@ fn frame_of(alloc: Global, item: &LogRecord) -> Result<Vec<u8>, Memory>
     ensures frame { IfOk result (λ framed. IsFrame framed.items) }
     ensures payload { IfOk result (λ framed. payload_of framed.items ≡ spelling item.now) }
 {
-    let payload = write_record(alloc, item)?;
-    match frame(alloc, &payload) {
-        Ok(framed) => Ok(framed),
-        Err(FrameFault::Memory) => Err(Memory),
-    }
+    let mut framed = Vec::with_capacity(alloc, FRAME_ROOM)?;
+    frame_record(item, &mut framed)?;
+    Ok(framed)
 }

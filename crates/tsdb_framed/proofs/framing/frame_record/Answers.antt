@@ -1,10 +1,10 @@
-use Rattle.std.proofs.Common.{◌≤◌, ◌∙◌, sym, subst, length, arith}
+use Rattle.std.proofs.Common.{◌≡◌, ℕ, ◌≤◌, List, [], ◌∷◌, ◌++◌, ap, drop, length, sym, subst, arith, rules}
 use Rattle.tsdb_frames.specs.Slots.{IsPayload}
 use Rattle.tsdb_log.proofs.Sizes.{short_records}
 use Rattle.tsdb_log.specs.Spelling.{spelling}
 use Rattle.tsdb_log.specs.declared.record.LogRecord.{LogRecord}
 use Rattle.tsdb_log.specs.declared.record.LogRecord.TheVariants.{Create, Insert, Delete, Freeze, Flushed, Replaced, Snapshot}
-use Rattle.tsdb_core.proofs.engine.frame_of.Goals as goal
+use Rattle.tsdb_framed.proofs.framing.frame_record.Goals as goal
 
 some : (item : LogRecord) → 1 ≤ length (spelling item)
 some (Create path data_type encoding) = omega arith
@@ -15,7 +15,8 @@ some (Flushed sequence unsequence) = omega arith
 some (Replaced born space place output sequence unsequence) = omega arith
 some (Snapshot snapshot) = omega arith
 
-pub frame-requires : goal.frame-requires
-frame-requires c =
-    subst IsPayload (sym (c.deref.ensures.value ∙ c.in_ok-payload.ensures.ok))
-    (some c.args.item.now, short_records c.args.item.now c.in_ok-payload.ensures.record c.requires.fits)
+pub close_frame-requires : goal.close_frame-requires
+close_frame-requires c =
+    let is : c.append_record.new.into.items ≡ (0 ∷ 0 ∷ 0 ∷ 0 ∷ []) ++ spelling c.args.item.now = search rules in
+    subst IsPayload (sym (ap (λ (l : List ℕ). drop 4 l) is))
+    (some c.args.item.now, short_records c.args.item.now c.in_ok-append_record.ensures.record c.requires.fits)
