@@ -45,7 +45,7 @@ use Rattle.tsdb_state.specs.Steps.{ended, ended_flush, failed, flush_record, pin
 use Rattle.tsdb_state.specs.Steps.{settled, swept, took_flush, unpinned, wrote}
 
 -- the files that a flush has built have the numbers that it has drawn
-built_numbers : (born : ℕ) (numbers : List ℕ)
+pub built_numbers : (born : ℕ) (numbers : List ℕ)
     → numbers_of (map (λ number. record { number = number; born = born }) numbers) ≡ numbers
 built_numbers born [] = refl
 built_numbers born (number ∷ numbers) = ap (λ rest. number ∷ rest) (built_numbers born numbers)
@@ -55,7 +55,7 @@ counted n [] among = absurd among
 counted n (x ∷ xs) (inl is) = subst (λ x. 1 ≤ count n (x ∷ xs)) (sym is) (omega (arith, count_here n xs))
 counted n (x ∷ xs) (inr among) = let rest = counted n xs among in omega (arith, rest)
 
-no_longer : (a b : ℕ) → a ≡ b → a ≤ b
+pub no_longer : (a b : ℕ) → a ≡ b → a ≤ b
 no_longer a b e = omega arith
 
 module _ (items : List LogRecord) (kept : List StoredFile) (told : Told) (known : Entries) (state : EngineState)

@@ -1,12 +1,12 @@
 //! All lists of four effects over two series, beside the slow state. Depends on `effects`.
 
-use super::effects::{Memory, Step};
+use super::effects::{Engine, Step};
 use std::alloc::Global;
 use std::test::Fail;
 use tsdb_base::Time;
 
 /// Points at three times, of which a freeze makes some late; deletions of one series, of a range without times, and of
-/// all times; a freeze, a flush, and effects that are not finished.
+/// all times; a freeze, a flush, and commands that are refused.
 const STEPS: &[Step] = &[
     Step::Put(0, 1),
     Step::Put(0, 3),
@@ -22,19 +22,19 @@ const STEPS: &[Step] = &[
 /// The steps of the list with this number, in base 9.
 const LENGTH: u64 = 4;
 
-/// Whether the store agrees with the slow state after each step of the list with this number.
+/// Whether memory agrees with the slow state after each step of the list with this number, and the log has a record for
+/// each change.
 fn agrees(alloc: Global, list: u64) -> Result<bool, Fail> {
-    let mut memory = Memory::new(alloc)?;
+    let mut engine = Engine::new(alloc)?;
     let mut rest = list;
     for value in 0..LENGTH {
         let step = STEPS[(rest % 9) as usize];
         rest /= 9;
-        memory.take(step, value as i64)?;
-        if !memory.agrees() {
+        if !engine.take(step, value as i64)? || !engine.agrees() {
             return Ok(false);
         }
     }
-    Ok(true)
+    Ok(engine.ends())
 }
 
 /// The first list from this one on at which they do not agree.

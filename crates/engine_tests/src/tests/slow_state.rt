@@ -109,6 +109,19 @@ impl SlowState {
         self.listed.iter().copied().min()
     }
 
+    /// How many points a pair has in the space.
+    pub(super) fn count(&self, pair: u64, space: Space) -> u64 {
+        let is_of = |kept: &Kept| kept.pair == pair && kept.space == space;
+        self.points.iter().filter(|kept| is_of(kept)).count() as u64
+    }
+
+    /// Whether the oldest frozen pair, where there is one, has a point in the space.
+    pub(super) fn oldest_has(&self, space: Space) -> bool {
+        self.frozen
+            .first()
+            .is_some_and(|(pair, _)| self.count(*pair, space) > 0)
+    }
+
     /// Only marks that are newer than a listed file or a frozen pair stay.
     fn purge(&mut self) {
         let oldest_pair = self.frozen.iter().map(|frozen| frozen.1).min();

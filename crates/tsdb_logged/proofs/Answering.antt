@@ -1,0 +1,28 @@
+-- What a change answers whose record was appended, or whose append failed.
+use Rattle.std.proofs.Common.{◌≡◌, ℕ, List, None, Result, Ok, Err}
+use Rattle.std.specs.Prelude.{◌<◌, IsSome}
+use Rattle.tsdb_base.specs.declared.fault.Memory as fault
+use Rattle.tsdb_logged.specs.Answers.{IsAccepted, IsCreateAnswer, IsDeleteAnswer, answer_by}
+use Rattle.tsdb_memory.specs.Shown.{number_of}
+use Rattle.tsdb_memory.specs.Store.{Store}
+use Rattle.tsdb_outside.specs.declared.faults.Failed.{Failed}
+use Rattle.tsdb_state.specs.Limits.{end_of_numbers}
+
+pub create_answered : (store : Store) (path : List ℕ) (result : Result (Result (Unit {0}) Failed) fault.Memory)
+    → number_of store.series path ≡ None → store.stamp < end_of_numbers → IsCreateAnswer store path (answer_by result)
+create_answered store path (Ok (Ok done)) free stamp = (free, stamp)
+create_answered store path (Ok (Err failed)) free stamp = (free, stamp)
+create_answered store path (Err memory) free stamp = tt
+
+pub delete_answered : (store : Store) (path : List ℕ) (result : Result (Result (Unit {0}) Failed) fault.Memory)
+    → IsSome (number_of store.series path) → store.stamp < end_of_numbers
+    → IsDeleteAnswer store path (answer_by result)
+delete_answered store path (Ok (Ok done)) there stamp = (there, stamp)
+delete_answered store path (Ok (Err failed)) there stamp = (there, stamp)
+delete_answered store path (Err memory) there stamp = tt
+
+pub insert_answered : (stamp : ℕ) (result : Result (Result (Unit {0}) Failed) fault.Memory) → stamp < end_of_numbers
+    → IsAccepted stamp (answer_by result)
+insert_answered stamp (Ok (Ok done)) below = below
+insert_answered stamp (Ok (Err failed)) below = below
+insert_answered stamp (Err memory) below = tt

@@ -1,0 +1,92 @@
+-- What a closing leaves.
+use Rattle.std.proofs.Common.{◌≡◌, ℕ, List, map, Option, None, Result, Ok, Err, refl, subst, sym}
+use Rattle.std.specs.Prelude.{◌≤◌, OnOk}
+use Rattle.std.specs.Option.{option_map}
+use Rattle.tsdb_frames.specs.Frames.{IsLog, disk_of, faults_of, journal_of, slot_of}
+use Rattle.tsdb_frames.specs.Log.{HasRecordsOrOneMore, IsLogOn, IsSettled}
+use Rattle.tsdb_frames.specs.declared.frames.Frames.{Frames}
+use Rattle.tsdb_images.proofs.Leaving.{bytes_stand, settled_is_sound}
+use Rattle.tsdb_images.proofs.Storing.{settled_stored}
+use Rattle.tsdb_images.specs.Stored.{LeadsTo, LeavesOneOf}
+use Rattle.tsdb_log.specs.Spelling.{spelling}
+use Rattle.tsdb_logged.specs.Closing.{IsClosed}
+use Rattle.tsdb_logged.specs.Logged.{IsSound, Outside, log_of}
+use Rattle.tsdb_logged.specs.declared.logged.Logged.{Logged}
+use Rattle.tsdb_map.specs.World.{World}
+use Rattle.tsdb_outside.specs.Causes.{HasCause, Rose}
+use Rattle.tsdb_outside.specs.Disk.{State, in_slot}
+use Rattle.tsdb_outside.specs.Moments.{LeavesOnly}
+use Rattle.tsdb_outside.specs.declared.disk.Disk as disk
+use Rattle.tsdb_outside.specs.declared.faults.Counted as counted
+use Rattle.tsdb_outside.specs.declared.faults.Failed.{Failed}
+use Rattle.tsdb_replay.specs.Stores as store
+use Rattle.tsdb_state.specs.State.{EngineState}
+use Rattle.tsdb_state.specs.Steps.{settled}
+use Rattle.tsdb_state.specs.Worlds.{StandsFor}
+
+module _ {J : Type 0} {means : disk.Ghosts J} {counts : counted.Ghosts J} (logged : Logged J means counts)
+    (outside : Outside) (state : EngineState) (world : World) (sound : IsSound logged outside state)
+    (stands : StandsFor outside.told state.store world) where
+  pub closing_moments : (next : Option World) (new : State) → LeadsTo outside.told state.store state.doubt next
+      → LeavesOnly (disk_of (log_of logged)) new (λ image. HasRecordsOrOneMore (map spelling outside.items)
+      (option_map spelling state.doubt) (in_slot (slot_of (log_of logged)) image))
+      → LeavesOnly (disk_of (log_of logged)) new (LeavesOneOf outside.kept (slot_of (log_of logged)) world next)
+  closing_moments next new leads moments = record {
+    passes = moments.passes;
+    each = λ image left files holds. bytes_stand outside.items outside.kept outside.told outside.known state
+        sound.stored files holds world next (in_slot (slot_of (log_of logged)) image) stands leads
+        (moments.each image left);
+  }
+
+  -- the slot is settled, and its log has the acknowledged records
+  pub closed_sound : (journal : J) (log : Frames J means counts) (files : store.Files)
+      → IsLog log (map spelling outside.items) None → slot_of log ≡ slot_of (log_of logged) → journal ≡ log.journal
+      → IsSettled (slot_of log) (means.state journal) → store.HoldsKept outside.kept files
+      → store.IsSound (slot_of (log_of logged)) (means.state journal) files world
+  closed_sound journal log files stands_log same is settled_slot holds =
+      subst (λ slot. store.IsSound slot (means.state journal) files world) same
+      (settled_is_sound outside.items outside.kept outside.told outside.known (settled state)
+      (settled_stored outside.items outside.kept outside.told outside.known state sound.stored)
+      (means.state journal) (means.lawful journal) world (slot_of log) log.gate files refl stands
+      (subst (λ (j : J). IsLogOn (means.state j) log.slot log.gate
+      (map spelling outside.items) None) (sym is) stands_log.stands) settled_slot holds)
+
+-- a settling, and then the end
+pub closed : {J : Type 0} {means : disk.Ghosts J} {counts : counted.Ghosts J} (logged : Logged J means counts)
+    (log : Frames J means counts) (journal : J) (outcome : Result (Unit {0}) Failed)
+    → OnOk outcome ((acknowledged : List (List ℕ)) (in_doubt : Option (List ℕ))
+    → IsLog (log_of logged) acknowledged in_doubt → IsLog log acknowledged None)
+    → ((acknowledged : List (List ℕ)) (in_doubt : Option (List ℕ)) → IsLog (log_of logged) acknowledged in_doubt
+    → LeavesOnly (disk_of (log_of logged)) (disk_of log)
+    (λ image. HasRecordsOrOneMore acknowledged in_doubt (in_slot (slot_of (log_of logged)) image)))
+    → slot_of log ≡ slot_of (log_of logged) → HasCause (faults_of (log_of logged)) (faults_of log) outcome
+    → journal ≡ journal_of log
+    → ((acknowledged : List (List ℕ)) → IsLog log acknowledged None → IsSettled (slot_of log) (means.state journal))
+    → IsClosed logged (means.state journal) (counts.faults journal)
+closed {J} {means} {counts} logged log journal outcome settled_log moments slot cause is settled_slot = record {
+  moments = λ outside state world next sound stands leads. closing_moments logged outside state world sound stands next
+      (means.state journal) leads
+      (subst (λ (j : J). LeavesOnly (disk_of (log_of logged)) (means.state j)
+      (λ image. HasRecordsOrOneMore (map spelling outside.items) (option_map spelling state.doubt)
+      (in_slot (slot_of (log_of logged)) image))) (sym is)
+      (moments (map spelling outside.items) (option_map spelling state.doubt) sound.log.log));
+  sound = λ not_risen outside state world files sound stands holds. by outcome settled_log cause not_risen outside state
+      world files sound stands holds;
+  later = subst (λ (j : J). counts.faults (log_of logged).journal ≤ counts.faults j) (sym is) cause.later;
+}
+  where
+    by : (outcome : Result (Unit {0}) Failed)
+        → OnOk outcome ((acknowledged : List (List ℕ)) (in_doubt : Option (List ℕ))
+        → IsLog (log_of logged) acknowledged in_doubt → IsLog log acknowledged None)
+        → HasCause (faults_of (log_of logged)) (faults_of log) outcome
+        → ¬ Rose (faults_of (log_of logged)) (counts.faults journal) → (outside : Outside) (state : EngineState)
+        (world : World) (files : store.Files) → IsSound logged outside state → StandsFor outside.told state.store world
+        → store.HoldsKept outside.kept files
+        → store.IsSound (slot_of (log_of logged)) (means.state journal) files world
+    by (Ok done) settled_log cause not_risen outside state world files sound stands holds =
+        let log_is = settled_log (map spelling outside.items) (option_map spelling state.doubt) sound.log.log in
+        closed_sound logged outside state world sound stands journal log files log_is slot is
+        (settled_slot (map spelling outside.items) log_is) holds
+    by (Err fault) settled_log cause not_risen outside state world files sound stands holds =
+        absurd (not_risen (subst (λ (j : J). Rose (counts.faults (log_of logged).journal) (counts.faults j)) (sym is)
+        cause.failed))

@@ -1,0 +1,45 @@
+use Rattle.std.proofs.Common.{Err, Ok, subst, sym}
+use Rattle.tsdb_log.specs.declared.record.LogRecord.TheVariants.{Flushed}
+use Rattle.tsdb_logged.proofs.Commanding.{other_memory}
+use Rattle.tsdb_logged.proofs.Flushing.{flush_done, flush_faulted, flush_moments}
+use Rattle.tsdb_logged.specs.Appends.{IsAppended}
+use Rattle.tsdb_memory.specs.Shown.{IsMemoryOf}
+use Rattle.tsdb_logged.proofs.logged.Logged.flushed.Goals as goal
+
+pub returns-in-Ok-Err : goal.returns-in-Ok-Err
+returns-in-Ok-Err g c =
+    let append = subst (IsAppended c.args.self.now c.append.new.self (Flushed c.args.sequence c.args.unsequence))
+    c.in-Ok-Err.field-0-is c.in-Ok-Err.ensures.append in
+    record {
+      done = tt;
+      failed = λ outside state flush others sound can. flush_faulted c.args.self.now c.append.new.self c.args.sequence
+          c.args.unsequence c.args.listed c.in-Ok-Err.ensures.record outside state flush others sound can
+          c.in-Ok-Err.failed append c.in-Ok-Err.ensures.memory;
+      moments = λ outside state flush others sound can. flush_moments c.args.self.now c.append.new.self c.args.sequence
+          c.args.unsequence c.args.listed c.in-Ok-Err.ensures.record outside state flush others sound can
+          (Err c.in-Ok-Err.failed) append;
+      room = c.in-Ok-Err.ensures.capacity;
+      slot = append.slot;
+      cause = append.cause;
+    }
+
+pub returns : goal.returns
+returns g c =
+    let append = other_memory c.args.self.now c.append.new.self c.finish_flushed.new.self
+    (Flushed c.args.sequence c.args.unsequence)
+    (subst (IsAppended c.args.self.now c.append.new.self (Flushed c.args.sequence c.args.unsequence))
+    c.in-Ok-Ok.field-0-is c.in-Ok-Ok.ensures.append) in
+    record {
+      done = λ outside state flush others sound can. flush_done c.args.self.now
+          (record c.append.new.self { memory = c.finish_flushed.new.self }) c.args.sequence c.args.unsequence
+          c.args.listed c.in-Ok-Ok.ensures.record outside state flush others sound can append
+          (λ shown is least. c.finish_flushed.ensures.effect shown c.args.sequence.0 c.args.unsequence.0
+          (subst (λ store. IsMemoryOf store shown) (sym c.in-Ok-Ok.ensures.memory) is) least);
+      failed = tt;
+      moments = λ outside state flush others sound can. flush_moments c.args.self.now
+          (record c.append.new.self { memory = c.finish_flushed.new.self }) c.args.sequence c.args.unsequence
+          c.args.listed c.in-Ok-Ok.ensures.record outside state flush others sound can (Ok tt) append;
+      room = c.in-Ok-Ok.ensures.capacity;
+      slot = append.slot;
+      cause = append.cause;
+    }

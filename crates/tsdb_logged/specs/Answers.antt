@@ -1,0 +1,62 @@
+-- What a change answers, by what is in memory.
+use Rattle.std.specs.Prelude.{◌≡◌, ◌<◌, ℕ, List, None, IsSome, Result}
+use Rattle.std.specs.declared.result.Result.TheVariants.{Ok, Err}
+use Rattle.tsdb_base.specs.declared.answers.Answer.{Answer}
+use Rattle.tsdb_base.specs.declared.answers.Answer.TheVariants.{Done, NoPath, WrongType, Exists, Device, Memory, Full}
+use Rattle.tsdb_base.specs.declared.fault.Memory as fault
+use Rattle.tsdb_log.specs.declared.record.LogRecord.{LogRecord}
+use Rattle.tsdb_memory.specs.Shown.{number_of}
+use Rattle.tsdb_memory.specs.Store.{Store}
+use Rattle.tsdb_outside.specs.declared.faults.Failed.{Failed}
+use Rattle.tsdb_state.specs.Limits.{end_of_numbers}
+
+-- the answers to a change that the map accepts: full exactly where the stamp is at its end, and then with it
+abbrev pub IsAccepted : ℕ → Answer → Type 0
+IsAccepted stamp Done = stamp < end_of_numbers
+IsAccepted stamp Device = stamp < end_of_numbers
+IsAccepted stamp Memory = Unit {0}
+IsAccepted stamp (Full counter) = (stamp ≡ end_of_numbers) × (counter ≡ stamp)
+IsAccepted stamp NoPath = ⊥
+IsAccepted stamp WrongType = ⊥
+IsAccepted stamp Exists = ⊥
+
+-- what a creation answers: a series of the path is there, or it is accepted
+abbrev pub IsCreateAnswer : Store → List ℕ → Answer → Type 0
+IsCreateAnswer store path Exists = IsSome (number_of store.series path)
+IsCreateAnswer store path Done = (number_of store.series path ≡ None) × IsAccepted store.stamp Done
+IsCreateAnswer store path Device = (number_of store.series path ≡ None) × IsAccepted store.stamp Device
+IsCreateAnswer store path Memory = Unit {0}
+IsCreateAnswer store path (Full counter) = (number_of store.series path ≡ None) × IsAccepted store.stamp (Full counter)
+IsCreateAnswer store path NoPath = ⊥
+IsCreateAnswer store path WrongType = ⊥
+
+-- what a deletion answers: no series of the path is there, or it is accepted
+abbrev pub IsDeleteAnswer : Store → List ℕ → Answer → Type 0
+IsDeleteAnswer store path NoPath = number_of store.series path ≡ None
+IsDeleteAnswer store path Done = IsSome (number_of store.series path) × IsAccepted store.stamp Done
+IsDeleteAnswer store path Device = IsSome (number_of store.series path) × IsAccepted store.stamp Device
+IsDeleteAnswer store path Memory = Unit {0}
+IsDeleteAnswer store path (Full counter) = IsSome (number_of store.series path) × IsAccepted store.stamp (Full counter)
+IsDeleteAnswer store path WrongType = ⊥
+IsDeleteAnswer store path Exists = ⊥
+
+-- nothing was changed, in memory and in the log
+abbrev pub IsRefusal : Answer → Type 0
+IsRefusal Done = ⊥
+IsRefusal NoPath = Unit {0}
+IsRefusal WrongType = Unit {0}
+IsRefusal Exists = Unit {0}
+IsRefusal Device = ⊥
+IsRefusal Memory = ⊥
+IsRefusal (Full counter) = Unit {0}
+
+-- whether an append was done, without what it hands back
+abbrev pub is_done : Result LogRecord Failed → Result (Unit {0}) Failed
+is_done (Ok item) = Ok tt
+is_done (Err failed) = Err failed
+
+-- what a change answers, by how its record was appended
+abbrev pub answer_by : Result (Result (Unit {0}) Failed) fault.Memory → Answer
+answer_by (Ok (Ok done)) = Done
+answer_by (Ok (Err failed)) = Device
+answer_by (Err memory) = Memory

@@ -1,0 +1,40 @@
+-- What the append of a record leaves of a log.
+use Rattle.std.specs.Prelude.{◌≡◌, ◌⊎◌, [], ◌∷◌, ◌++◌, List, map, None, Option, Some, OnErr, OnOk, Result}
+use Rattle.std.specs.Option.{option_map}
+use Rattle.tsdb_frames.specs.Frames.{disk_of, faults_of, slot_of}
+use Rattle.tsdb_frames.specs.Log.{HasRecordsOrOneMore}
+use Rattle.tsdb_log.specs.Spelling.{spelling}
+use Rattle.tsdb_log.specs.declared.record.LogRecord.{LogRecord}
+use Rattle.tsdb_logged.specs.Logged.{HasLog, log_of}
+use Rattle.tsdb_logged.specs.declared.logged.Logged.{Logged}
+use Rattle.tsdb_outside.specs.Causes.{HasCause}
+use Rattle.tsdb_outside.specs.Disk.{Image, in_slot}
+use Rattle.tsdb_outside.specs.Moments.{LeavesFirstThen}
+use Rattle.tsdb_outside.specs.declared.disk.Disk as disk
+use Rattle.tsdb_outside.specs.declared.faults.Counted as counted
+use Rattle.tsdb_outside.specs.declared.faults.Failed.{Failed}
+
+module _ {J : Type 0} {means : disk.Ghosts J} {counts : counted.Ghosts J} where
+  -- what the slot of the log has of these records and one more, if there is one
+  abbrev pub HasItems : Logged J means counts → List LogRecord → Option LogRecord → Image → Type 0
+  HasItems logged items doubt image = HasRecordsOrOneMore (map spelling items) (option_map spelling doubt)
+      (in_slot (slot_of (log_of logged)) image)
+
+  -- the log is as it was, and so is what is known of a record in doubt
+  pub record IsLogKept (old new : Logged J means counts) : Type 0 where
+    pub log : log_of new ≡ log_of old
+    pub doubted : new.doubted ≡ old.doubted
+
+  -- The record is behind the others, and none is in doubt; or it is not, and none is in doubt, or the one that was, or
+  -- this one. At each moment a stop leaves the acknowledged ones, or these and one more.
+  pub record IsAppended (old new : Logged J means counts) (item : LogRecord) (outcome : Result (Unit {0}) Failed)
+      : Type 0 where
+    pub added : OnOk outcome ((items : List LogRecord) (doubt : Option LogRecord) → HasLog old items doubt
+        → HasLog new (items ++ item ∷ []) None)
+    pub failed : OnErr outcome ((items : List LogRecord) (doubt : Option LogRecord) → HasLog old items doubt
+        → HasLog new items None ⊎ (HasLog new items doubt ⊎ HasLog new items (Some item)))
+    pub moments : (items : List LogRecord) (doubt : Option LogRecord) → HasLog old items doubt
+        → LeavesFirstThen (disk_of (log_of old)) (disk_of (log_of new)) (HasItems old items doubt)
+        (HasItems old items (Some item))
+    pub slot : slot_of (log_of new) ≡ slot_of (log_of old)
+    pub cause : HasCause (faults_of (log_of old)) (faults_of (log_of new)) outcome

@@ -1,0 +1,6 @@
+pub mod Logged
+pub mod Appends
+pub mod Answers
+pub mod Commands
+pub mod Flushes
+pub mod Closing

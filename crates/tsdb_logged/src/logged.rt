@@ -1,0 +1,153 @@
+//! The log with what is in memory. Depends on tsdb_frames, tsdb_framed and tsdb_memory.
+ghost use Rattle.std.specs.Prelude.{◌≡◌, ◌<◌, ◌≤◌, [], ◌∷◌, List, false, length, map, IfOk, None, OnErr, OnOk, Some};
+ghost use Rattle.tsdb_base.specs.declared.ids.FileNumber.{FileNumber};
+ghost use Rattle.tsdb_layers.specs.Lists.{if_some};
+ghost use Rattle.tsdb_log.specs.declared.record.LogRecord.{LogRecord};
+ghost use Rattle.tsdb_logged.specs.Logged.{two_numbers};
+ghost use Rattle.tsdb_logged.specs.Answers.{is_done};
+ghost use Rattle.tsdb_state.specs.Records.{names, new_numbers};
+ghost use Rattle.tsdb_frames.specs.Slots.{frame_bytes};
+ghost use Rattle.tsdb_logged.specs.Answers.{answer_by};
+ghost use Rattle.tsdb_log.specs.Spelling.{FitsFrame, HasFewParts, IsRecord, spelling};
+
+use std::alloc::Global;
+use tsdb_base::{Answer, FileNumber, Memory};
+use tsdb_framed::frame_record;
+use tsdb_frames::Frames;
+use tsdb_log::LogRecord;
+use tsdb_memory::MemoryStore;
+use tsdb_outside::{Failed, Journal};
+
+/// A log, and what is in memory of its records.
+#[derive(Drop)]
+pub struct Logged<J: Journal> {
+    pub(crate) frames: Frames<J>,
+    pub(crate) memory: MemoryStore,
+    // The bytes of one record, with room that the next one uses.
+    pub(crate) framed: Vec<u8>,
+    // The files that the record named which was appended last: it may be in doubt.
+    pub(crate) doubted: (Option<FileNumber>, Option<FileNumber>),
+}
+
+impl<J: Journal> Logged<J> {
+    ghost use Rattle.tsdb_logged.specs.Closing.{IsClosed};
+    ghost use Rattle.tsdb_frames.specs.Frames.{is_aside_in_doubt};
+    ghost use Rattle.tsdb_logged.specs.Appends.{IsAppended, IsLogKept};
+    ghost use Rattle.tsdb_logged.specs.Logged.{HasLog, log_of, memory_of, room_of};
+
+    /// The log with what is in memory of it.
+    pub fn new(alloc: Global, frames: Frames<J>, memory: MemoryStore) -> Logged<J>
+        ensures log { log_of result ≡ frames }
+        ensures memory { memory_of result ≡ memory }
+    {
+        Logged {
+            frames,
+            memory,
+            framed: Vec::new(alloc),
+            doubted: (None, None),
+        }
+    }
+
+    /// What is in memory.
+    pub fn memory(&self) -> &MemoryStore
+        ensures { result.now ≡ memory_of self.now }
+    {
+        &self.memory
+    }
+
+    /// The files that a record in doubt names: they are on their way out, and may be listed after a stop.
+    pub fn doubted(&self) -> (Option<FileNumber>, Option<FileNumber>)
+        ensures named { (items : List LogRecord) (item : LogRecord) → HasLog self.now items (Some item)
+            → two_numbers result ≡ names item }
+        ensures none { (items : List LogRecord) → HasLog self.now items None
+            → is_aside_in_doubt (log_of self.now) ≡ false → two_numbers result ≡ [] }
+    {
+        if self.frames.doubt() {
+            self.doubted
+        } else {
+            (None, None)
+        }
+    }
+
+    /// Closes a gate in doubt, and gives the journal back.
+    pub fn close(self) -> J
+        ensures { IsClosed self (J.state result) (J.faults result) }
+    {
+        let mut frames = self.frames;
+        // Where it fails, the gate stays in doubt.
+        let _ = frames.settle();
+        frames.end()
+    }
+
+    /// Appends a record, after a gate in doubt is closed, and hands it back. Where there is room for its bytes, it takes
+    /// no memory.
+    pub(crate) fn log_record(
+        &mut self,
+        item: LogRecord,
+    ) -> Result<Result<LogRecord, Failed>, Memory>
+        requires few { HasFewParts item }
+        requires fits { FitsFrame item }
+        ensures memory { memory_of self.new ≡ memory_of self.old }
+        ensures record { OnOk result (IsRecord item) }
+        ensures append { IfOk result (λ outcome. IsAppended self.old self.new item (is_done outcome)) }
+        ensures item { IfOk result (λ outcome. IfOk outcome (λ back. back ≡ item)) }
+        ensures none { OnErr result (IsLogKept self.old self.new) }
+        ensures capacity { room_of self.old ≤ room_of self.new }
+    {
+        match self.append(&item)? {
+            Ok(()) => Ok(Ok(item)),
+            Err(failed) => Ok(Err(failed)),
+        }
+    }
+
+    /// The same for a record that is lent.
+    pub(crate) fn append(&mut self, item: &LogRecord) -> Result<Result<(), Failed>, Memory>
+        requires few { HasFewParts item.now }
+        requires fits { FitsFrame item.now }
+        ensures memory { memory_of self.new ≡ memory_of self.old }
+        ensures record { OnOk result (IsRecord item.now) }
+        ensures append { IfOk result (IsAppended self.old self.new item.now) }
+        ensures none { OnErr result (IsLogKept self.old self.new) }
+        ensures room { OnErr result (room_of self.old < length (frame_bytes (spelling item.now))) }
+        ensures capacity { room_of self.old ≤ room_of self.new }
+    {
+        frame_record(item, &mut self.framed)?;
+        if let Err(failed) = self.frames.settle() {
+            return Ok(Err(failed));
+        }
+        self.doubted = named_files(item);
+        Ok(self.frames.append(&self.framed))
+    }
+}
+
+/// The file of a number, none where it is 0.
+fn some_file(number: FileNumber) -> Option<FileNumber>
+    ensures { map (λ (file : FileNumber). file.0) (if_some result) ≡ new_numbers (number.0 ∷ []) }
+{
+    if number.0 == 0 { None } else { Some(number) }
+}
+
+/// The files that a record names and that were not listed before it.
+fn named_files(item: &LogRecord) -> (Option<FileNumber>, Option<FileNumber>)
+    ensures { two_numbers result ≡ names item.now }
+{
+    match item {
+        LogRecord::Flushed {
+            sequence,
+            unsequence,
+        } => (some_file(*sequence), some_file(*unsequence)),
+        LogRecord::Replaced { output, .. } => (some_file(*output), None),
+        _ => (None, None),
+    }
+}
+
+/// What a change answers, by how its record was appended.
+pub(crate) fn answer_of(outcome: Result<Result<(), Failed>, Memory>) -> Answer
+    ensures { result ≡ answer_by outcome }
+{
+    match outcome {
+        Ok(Ok(())) => Answer::Done,
+        Ok(Err(Failed)) => Answer::Device,
+        Err(Memory) => Answer::Memory,
+    }
+}

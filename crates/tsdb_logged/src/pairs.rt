@@ -1,0 +1,72 @@
+//! What becomes of a pair of points: it is frozen, and then in files. Depends on `logged`.
+ghost use Rattle.std.specs.Prelude.{◌<◌, ◌≤◌, OnOk, length};
+ghost use Rattle.tsdb_logged.specs.Answers.{answer_by};
+ghost use Rattle.tsdb_log.specs.declared.record.LogRecord.{LogRecord};
+ghost use Rattle.tsdb_state.specs.Jobs.{flushed_bytes};
+ghost use Rattle.tsdb_state.specs.Limits.{max_frozen};
+
+use crate::logged::{Logged, answer_of};
+use tsdb_base::{Answer, FileNumber, Memory, Stamp};
+use tsdb_log::LogRecord;
+use tsdb_outside::{Failed, Journal};
+
+/// How many bytes the record of a flush has with its length and a gate.
+const FLUSHED_BYTES: usize = 22;
+
+impl<J: Journal> Logged<J> {
+    ghost use Rattle.tsdb_logged.specs.Commands.{CanStop, IsCommand, IsPrepared};
+    ghost use Rattle.tsdb_logged.specs.Flushes.{IsFlushed};
+    ghost use Rattle.tsdb_logged.specs.Logged.{memory_of, room_of};
+
+    /// Freezes the working pair. At most one pair may be frozen before.
+    pub fn freeze(&mut self) -> Answer
+        requires room { length (memory_of self.old).frozen < max_frozen }
+        ensures command { IsCommand self.old self.new LogRecord.Freeze CanStop result }
+    {
+        answer_of(self.write_freeze())
+    }
+
+    fn write_freeze(&mut self) -> Result<Result<(), Failed>, Memory>
+        requires room { length (memory_of self.old).frozen < max_frozen }
+        ensures { IsCommand self.old self.new LogRecord.Freeze CanStop (answer_by result) }
+    {
+        let freezing = self.memory.prepare_freeze()?;
+        match self.append(&LogRecord::Freeze)? {
+            Ok(()) => self.memory.finish_freeze(freezing),
+            Err(failed) => return Ok(Err(failed)),
+        }
+        Ok(Ok(()))
+    }
+
+    /// Makes room for the record of a flush.
+    pub fn reserve_flushed(&mut self) -> Result<(), Memory>
+        ensures kept { IsPrepared self.old self.new }
+        ensures room { OnOk result (flushed_bytes ≤ room_of self.new) }
+    {
+        Ok(self.framed.reserve(FLUSHED_BYTES)?)
+    }
+
+    /// The oldest frozen pair is in these files; a part without points has none, and the number 0. `listed` is the least
+    /// stamp at which a file was frozen that is listed then. It takes no memory.
+    pub fn flushed(
+        &mut self,
+        sequence: FileNumber,
+        unsequence: FileNumber,
+        listed: Option<Stamp>,
+    ) -> Result<(), Failed>
+        requires some { 0 < length (memory_of self.old).frozen }
+        requires room { flushed_bytes ≤ room_of self.old }
+        ensures { IsFlushed self.old self.new sequence unsequence listed result }
+    {
+        let item = LogRecord::Flushed {
+            sequence,
+            unsequence,
+        };
+        match self.append(&item) {
+            Ok(Ok(())) => self.memory.finish_flushed(listed),
+            Ok(Err(failed)) => return Err(failed),
+            Err(_memory) => unreachable!(),
+        }
+        Ok(())
+    }
+}
