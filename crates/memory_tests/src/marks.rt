@@ -147,9 +147,25 @@ fn keeps_only(marks: &Marks, paths: &Paths) -> Result<bool, Fail> {
     Ok(only.marks().len() == 2 && has_ninth && only.survives(&paths.here, MIN, Stamp(0)))
 }
 
+/// Whether all marks are kept, in their order, where both series are asked for, one of them twice.
+fn keeps_both(marks: &Marks, paths: &Paths) -> Result<bool, Fail> {
+    let st = &paths.others[0];
+    let only = marks.only(&[st.copy()?, paths.here.copy()?, st.copy()?])?;
+    Ok(
+        only.marks().len() == marks.marks().len()
+            && only
+                .marks()
+                .iter()
+                .zip(marks.marks())
+                .all(|(kept, mark)| kept.version == mark.version),
+    )
+}
+
 /// Whether all is as wanted once all marks are there, and once they are purged.
 fn ends_as_wanted(marks: &mut Marks, paths: &Paths) -> Result<bool, Fail> {
-    let is_kept = meets_as_wanted(marks, &paths.here) && keeps_only(marks, paths)?;
+    let is_kept = meets_as_wanted(marks, &paths.here)
+        && keeps_only(marks, paths)?
+        && keeps_both(marks, paths)?;
     marks.purge(None);
     Ok(is_kept && marks.survives(&paths.here, MIN, Stamp(0)))
 }

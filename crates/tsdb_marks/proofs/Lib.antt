@@ -3,3 +3,4 @@ pub mod MergeLemmas
 pub mod RunLemmas
 pub mod IndexLemmas
 pub mod ModelLemmas
+pub mod OnlyLemmas

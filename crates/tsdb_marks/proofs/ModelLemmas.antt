@@ -1,13 +1,13 @@
 -- What the index tells of the marks, and how they change together.
-use Rattle.std.proofs.Common.{◌≡◌, ◌≢◌, ℕ, zero, suc, ◌+◌, ◌-◌, ◌^◌, ◌<◌, ◌≤◌, ◌⊎◌, ◌↔◌, inl, inr, ⊎_elim, max, min, Bool, true, false, cond, not, List, [], ◌∷◌, ◌++◌, length, take, drop, get_or, append-nil, get_or-take, length-take, length-drop, length-append, take-suc, refl, sym, ap, ◌∙◌, subst, arith}
-use Rattle.std.specs.Prelude.{ℤ, pos, negsuc, ◌≤ℤ◌, ◌<ℤ◌, FitsSigned, nat_eq, nat_lt, ◌||◌}
+use Rattle.std.proofs.Common.{◌≡◌, ◌≢◌, ℕ, zero, suc, ◌+◌, ◌-◌, ◌^◌, ◌<◌, ◌≤◌, ◌⊎◌, ◌↔◌, inl, inr, ⊎_elim, max, min, Bool, true, false, cond, not, List, [], ◌∷◌, ◌++◌, length, take, drop, get_or, append-nil, length-drop, length-append, take-suc, refl, sym, ap, ◌∙◌, subst, arith}
+use Rattle.std.specs.Prelude.{ℤ, pos, negsuc, ◌≤ℤ◌, ◌<ℤ◌, FitsSigned, nat_eq, nat_lt}
 use Rattle.std.specs.Int.{w64}
 use Rattle.std.specs.Cmp.Lexicographic.{pointwise, bytes_decides}
 use Rattle.std.specs.List.{All, AllPairs, filter}
-use Rattle.std.proofs.lemmas.List.{get_or_default, take-append-drop, take_all}
+use Rattle.std.proofs.lemmas.List.{take-append-drop, take_all}
 use Rattle.std.proofs.lemmas.Int.{ints, by_lt_z}
 use Rattle.std.proofs.lemmas.Bool.{cases_lt, lt-ltb, le-ltb, le-leb, lt-leb, cases_Bool, false≢true, true_from_ne_false}
-use Rattle.std.proofs.lemmas.List.Elements.{All-head, All-tail, All-cons, All-nil, All-filter, All-take, All-weaker, All-push, All-get_or, All-from_get_or, filter_more, filter-append}
+use Rattle.std.proofs.lemmas.List.Elements.{All-head, All-tail, All-cons, All-nil, All-filter, All-take, All-weaker, All-push, All-get_or, All-from_get_or, filter-append}
 use Rattle.tsdb_base.specs.declared.point.Range.{Range}
 use Rattle.tsdb_marks.specs.declared.marks.Mark.{Mark}
 use Rattle.tsdb_marks.specs.Index.{Entries, at}
@@ -85,7 +85,7 @@ over_then from to v m b h =
 then_over : (from to v m b : ℕ) → from ≤ m → m ≤ to → b < v → b < version_over from to v m
 then_over from to v m b ge le lt = rw (le-leb from m ge, le-leb m to le) lt
 
-versions-append : (xs ys : List Mark) → versions_of (xs ++ ys) ≡ versions_of xs ++ versions_of ys
+pub versions-append : (xs ys : List Mark) → versions_of (xs ++ ys) ≡ versions_of xs ++ versions_of ys
 versions-append [] ys = refl
 versions-append (x ∷ xs) ys = ap (λ (vs : List ℕ). x.version.0 ∷ vs) (versions-append xs ys)
 
@@ -371,33 +371,3 @@ uncovered_push marks i mark p low high b lt is one before = λ m from to over.
     let more : take (i + 1) marks ≡ take i marks ++ mark ∷ [] = ap (λ n. take n marks) (let e : i + 1 ≡ suc i = omega arith in e) ∙ take-suc marks i mark lt ∙ ap (λ x. take i marks ++ x ∷ []) (sym is) in
     let P : List Mark → Type 0 = λ ms. SomeOver ms p m b in
     ⊎_elim (λ front. before m from to front) (λ r. ⊎_elim (λ here. one m from to here) (λ e. e) r) (over-cases (take i marks) (mark ∷ []) p m b (subst P more over))
-
-pub cond-or : (a b : Bool) → cond a true b ≡ (b || a)
-cond-or true true = refl
-cond-or true false = refl
-cond-or false true = refl
-cond-or false false = refl
-
--- what stands before a mark has lesser versions
-pub below-front : (test : Mark → Bool) (marks : List Mark) (i : ℕ) (x : Mark) → AllPairs (λ (a b : Mark). a.version.0 < b.version.0) marks → i < length marks → x ≡ get_or marks i x
-    → All (λ kept. kept.version.0 < x.version.0) (filter test (take i marks))
-below-front test marks i x rising lt is =
-    All-filter test (λ kept. kept.version.0 < x.version.0) (take i marks) (λ k d h.
-    let below : k < i = omega (arith, length-take i marks) in
-    let within : k < length marks = omega arith in
-    let same : get_or (take i marks) k d ≡ get_or marks k x = get_or-take i marks k d below ∙ get_or_default marks k d x within in
-    let P : Mark → Type 0 = λ m. (get_or marks k x).version.0 < m.version.0 in
-    let Q : Mark → Type 0 = λ m. m.version.0 < x.version.0 in
-    subst Q (sym same) (subst P (sym is) (rising k i x below lt)))
-
--- one more mark, kept or not
-pub filter-step : (test : Mark → Bool) (marks kept : List Mark) (i : ℕ) (x : Mark) (b : Bool) → i < length marks → x ≡ get_or marks i x → b ≡ test x → kept ≡ filter test (take i marks)
-    → cond b (kept ++ x ∷ []) kept ≡ filter test (take (i + 1) marks)
-filter-step test marks kept i x b lt is passes same =
-    let more = filter_more test marks i x lt in
-    let at : get_or marks i x ≡ x = sym is in
-    step b passes (more ∙ ap (λ (m : Mark). filter test (take i marks) ++ cond (test m) (m ∷ []) []) at)
-  where
-    step : (b : Bool) → b ≡ test x → filter test (take (i + 1) marks) ≡ filter test (take i marks) ++ cond (test x) (x ∷ []) [] → cond b (kept ++ x ∷ []) kept ≡ filter test (take (i + 1) marks)
-    step true q e = ap (λ ms. ms ++ x ∷ []) same ∙ sym (rw (← q) at e)
-    step false q e = same ∙ sym (append-nil (filter test (take i marks))) ∙ sym (rw (← q) at e)

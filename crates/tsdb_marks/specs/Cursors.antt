@@ -1,5 +1,6 @@
 -- How far the steps of a run were read while two runs are merged.
-use Rattle.std.specs.Prelude.{◌≡◌, ℕ, suc, ◌+◌, ◌<◌, ◌≤◌, cond, Option, None, Some, take, length, nat_le, slice_get, option_map}
+use Rattle.std.specs.Prelude.{◌≡◌, ℕ, suc, ◌+◌, ◌<◌, ◌≤◌, cond, Option}
+use Rattle.std.specs.Prelude.{None, Some, take, length, nat_le, slice_get, option_map}
 use Rattle.tsdb_marks.specs.declared.run.Cursor.{Cursor}
 use Rattle.tsdb_marks.specs.Steps.{IsRising, version_at}
 

@@ -1,7 +1,8 @@
 -- What holds between the marks and their index.
-use Rattle.std.specs.Prelude.{◌≡◌, ℕ, ◌+◌, ◌^◌, ◌<◌, ◌≤◌, ◌↔◌, ◌⊎◌, Bool, List, [], ◌∷◌, map, take, length, FitsSigned, vec_len, vec_capacity, nat_eq}
+use Rattle.std.specs.Prelude.{◌≡◌, ℕ, ◌+◌, ◌^◌, ◌<◌, ◌≤◌, ◌↔◌, ◌⊎◌, Bool, List}
+use Rattle.std.specs.Prelude.{[], ◌∷◌, map, take, length, FitsSigned, vec_len, vec_capacity, nat_eq}
 use Rattle.std.specs.Int.{w64}
-use Rattle.std.specs.List.{All, AllPairs, filter}
+use Rattle.std.specs.List.{All, AllPairs, filter, list_any}
 use Rattle.std.specs.Cmp.Lexicographic.{pointwise}
 use Rattle.tsdb_marks.specs.declared.marks.Mark.{Mark}
 use Rattle.tsdb_marks.specs.declared.marks.Marks.TheInside.{Inside}
@@ -37,6 +38,10 @@ pub record HasTimes (mark : Mark) : Type 0 where
 -- whether the mark is of the series
 abbrev pub is_mark_of : List ℕ → Mark → Bool
 is_mark_of series mark = pointwise nat_eq series mark.path
+
+-- whether the mark has one of these versions
+abbrev pub has_version : List ℕ → Mark → Bool
+has_version versions mark = list_any (λ v. nat_eq v mark.version.0) versions
 
 abbrev pub versions_of : List Mark → List ℕ
 versions_of marks = map (λ mark. mark.version.0) marks

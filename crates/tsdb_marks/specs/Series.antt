@@ -1,5 +1,6 @@
 -- The marks of one series: their versions in order, and which version each moment has.
-use Rattle.std.specs.Prelude.{◌≡◌, ℕ, ◌^◌, ◌<◌, ◌≤◌, ◌↔◌, cond, max, List, [], ◌∷◌, ◌++◌, map, nat_le, nat_lt, length, Bool, ◌&&◌, ◌==◌}
+use Rattle.std.specs.Prelude.{◌≡◌, ℕ, ◌^◌, ◌<◌, ◌≤◌, ◌↔◌, cond, max, List, []}
+use Rattle.std.specs.Prelude.{◌∷◌, ◌++◌, map, nat_le, nat_lt, length, Bool, ◌&&◌, ◌==◌}
 use Rattle.std.specs.List.{All, filter}
 use Rattle.tsdb_marks.specs.declared.run.Step.{Step}
 use Rattle.tsdb_marks.specs.declared.series.Series.TheInside.{Inside}
@@ -43,4 +44,5 @@ without_old version series = record {
 -- without the versions up to this one, as far as greater ones are asked for
 pub record DropsOld (old new : Series) (version : ℕ) : Type 0 where
   pub versions : new.versions ≡ filter (nat_lt version) old.versions
-  pub moments : (moment born : ℕ) → version ≤ born → (born < newest_at new.runs moment) ↔ (born < newest_at old.runs moment)
+  pub moments : (moment born : ℕ) → version ≤ born
+      → (born < newest_at new.runs moment) ↔ (born < newest_at old.runs moment)

@@ -35,8 +35,8 @@ impl Index {
         to: u64,
         version: u64,
     ) -> Result<(), Memory>
-        ensures added { OnOk result (AddsMark (at self.old.series.entries path.now) (at self.new.series.entries path.now)
-            from to version) }
+        ensures added { OnOk result (AddsMark (at self.old.series.entries path.now)
+            (at self.new.series.entries path.now) from to version) }
         ensures others { (other : List ℕ) → path.now ≢ other
             → at self.new.series.entries other ≡ at self.old.series.entries other }
         ensures err { OnErr result ((other : List ℕ)
@@ -79,7 +79,8 @@ impl Index {
 
     /// Drops the versions up to this one.
     pub(crate) fn drop_old(&mut self, version: u64)
-        ensures { (path : List ℕ) → DropsOld (at self.old.series.entries path) (at self.new.series.entries path) version }
+        ensures { (path : List ℕ)
+            → DropsOld (at self.old.series.entries path) (at self.new.series.entries path) version }
     {
         self.series.retain(|_, series| {
             series.drop_old(version);

@@ -3,19 +3,18 @@
 //! A mark is added behind the others and takes no memory. The index has the first of them; those behind are few, since
 //! making a place for a mark brings all before it into the index.
 ghost use Rattle.std.specs.Prelude.{◌≡◌, ℕ, ◌+◌, ◌<◌, ◌≤◌, ◌↔◌, List, [], ◌∷◌, ◌++◌, IsTrue, IfOk, IfErr};
-ghost use Rattle.std.specs.Prelude.{OnOk, OnErr, nat_eq, false, take, length};
-ghost use Rattle.std.specs.List.{All, AllPairs, filter, list_any};
-ghost use denote.Ref.{Bor};
-ghost use Rattle.std.specs.HashSet.{contains_by};
-ghost use Rattle.std.specs.Cmp.Lexicographic.{pointwise};
+ghost use Rattle.std.specs.Prelude.{OnOk, OnErr, false, take, length};
+ghost use Rattle.std.specs.List.{All, AllPairs, Contains, filter};
+ghost use Rattle.std.specs.List.Sorted.{IsNonDecreasing};
+ghost use Rattle.std.specs.Option.{IfSome, option_copied, option_to_list};
 ghost use Rattle.tsdb_marks.specs.Moments.{moment as moment_of};
 ghost use Rattle.tsdb_marks.specs.Survival.{Survives, Meets};
 ghost use Rattle.tsdb_marks.specs.Lists.{is_newer_than, is_of, purge_list};
-ghost use Rattle.tsdb_marks.specs.Model.{HasTimes, IsCovered, IsIndexOf, IsUncovered};
+ghost use Rattle.tsdb_marks.specs.Model.{HasTimes, IsCovered, IsIndexOf, IsUncovered, has_version, is_mark_of};
+ghost use Rattle.tsdb_marks.specs.Model.{versions_of};
 
 use crate::index::Index;
 use std::alloc::Global;
-use std::collections::HashSet;
 use std::marker::Model;
 use tsdb_base::{Memory, Range, Stamp, Time};
 use tsdb_path::Path;
@@ -133,16 +132,48 @@ fn has_old(marks: &[Mark], version: u64) -> bool
     }
 }
 
-/// The bytes of all the paths, to be looked up by their hash.
-fn bytes_of_all(alloc: Global, paths: &[Path]) -> Result<HashSet<&[u8]>, Memory>
-    ensures { IfOk result (λ set. (path : Bor (List ℕ)) → contains_by (λ bytes. pointwise nat_eq path.now bytes.now) set
-        ≡ list_any (λ other. pointwise nat_eq other path.now) paths.now) }
+/// The mark with this version, where there is one. It is behind all marks with lesser versions.
+fn mark_with(marks: &[Mark], version: u64) -> Option<&Mark>
+    requires { AllPairs (λ a b. a.version.0 < b.version.0) marks.now }
+    ensures version { IfSome result (λ mark. mark.now.version.0 ≡ version) }
+    ensures next { (versions : List ℕ) → All (λ v. v < version) versions
+        → filter (has_version (versions ++ version ∷ [])) marks.now
+        ≡ filter (has_version versions) marks.now ++ option_to_list (option_copied result) }
 {
-    let mut set = HashSet::new(alloc);
-    for path in paths {
-        set.insert(path.bytes())?;
+    let place = marks.partition_point(|mark| mark.version.0 < version);
+    let mark = marks.get(place)?;
+    if mark.version.0 == version {
+        Some(mark)
+    } else {
+        None
     }
-    Ok(set)
+}
+
+/// Adds a copy of the mark, where there is one.
+fn add_copy(only: &mut Marks, mark: Option<&Mark>) -> Result<(), Memory>
+    requires { IfSome mark (λ mark. All (λ kept. kept.version.0 < mark.now.version.0) only.old.marks) }
+    ensures { OnOk result (only.new.marks ≡ only.old.marks ++ option_to_list (option_copied mark.entry)) }
+{
+    let Some(mark) = mark else {
+        return Ok(());
+    };
+    let mark = mark.copy()?;
+    only.reserve()?;
+    only.add(mark);
+    Ok(())
+}
+
+/// The versions of the marks of the series, among those behind the index.
+fn push_versions(versions: &mut Vec<u64>, marks: &[Mark], series: &Path) -> Result<(), Memory>
+    ensures { OnOk result (versions.new.items
+        ≡ versions.old.items ++ versions_of (filter (is_mark_of series.now) marks.now)) }
+{
+    for mark in marks {
+        if series.bytes() == mark.path.bytes() {
+            versions.push(mark.version.0)?;
+        }
+    }
+    Ok(())
 }
 
 impl Marks {
@@ -272,18 +303,36 @@ impl Marks {
         }
     }
 
-    /// The marks of these series alone, in their order.
+    /// The versions of the marks of these series, in order; those of a series that is named twice stand there twice.
+    fn versions(&self, series: &[Path]) -> Result<Vec<u64>, Memory>
+        ensures sorted { IfOk result (λ versions. IsNonDecreasing versions.items) }
+        ensures has { IfOk result (λ versions. (mark : Mark) → Contains self.now.marks mark
+            → has_version versions.items mark ≡ is_of series.now mark) }
+        ensures rising { AllPairs (λ a b. a.version.0 < b.version.0) self.now.marks }
+    {
+        let mut versions = Vec::new(*self.marks.allocator());
+        for path in series {
+            versions.extend_from_slice(self.index.versions(path))?;
+            push_versions(&mut versions, &self.marks[self.indexed..], path)?;
+        }
+        versions.sort_unstable();
+        Ok(versions)
+    }
+
+    /// The marks of these series alone, in their order. It looks at the marks of these series, and at no other but for
+    /// the few behind the index.
     pub fn only(&self, series: &[Path]) -> Result<Marks, Memory>
         ensures { IfOk result (λ only. only.marks ≡ filter (is_of series.now) self.now.marks) }
     {
-        let alloc = *self.marks.allocator();
-        let paths = bytes_of_all(alloc, series)?;
-        let mut only = Marks::new(alloc);
-        for mark in &self.marks {
-            if paths.contains(mark.path.bytes()) {
-                only.reserve()?;
-                only.add(mark.copy()?);
+        let versions = self.versions(series)?;
+        let mut only = Marks::new(*self.marks.allocator());
+        let mut place = 0;
+        while place < versions.len() {
+            let version = versions[place];
+            if place == 0 || versions[place - 1] < version {
+                add_copy(&mut only, mark_with(self.marks.as_slice(), version))?;
             }
+            place += 1;
         }
         Ok(only)
     }

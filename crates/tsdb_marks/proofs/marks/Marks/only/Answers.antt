@@ -1,38 +1,61 @@
-use Rattle.std.proofs.Common.{◌≡◌, ◌<◌, List, take, ap, sym, subst, ◌∙◌, arith}
-use Rattle.std.specs.Cmp.Lexicographic.{pointwise}
-use Rattle.std.specs.List.{All, AllPairs, filter, list_any}
-use Rattle.std.specs.Prelude.{nat_eq}
-use Rattle.std.proofs.lemmas.List.{take_all}
+use Rattle.std.proofs.Common.{◌≡◌, ◌∙◌, ◌++◌, ◌∷◌, [], ◌<◌, List, ap, sym, subst, take, length, get_or, arith}
+use Rattle.std.specs.List.{All, filter}
+use Rattle.std.specs.Option.{option_copied, option_to_list}
+use Rattle.std.proofs.lemmas.List.{get_or_default, take_all}
 use Rattle.tsdb_marks.specs.declared.marks.Mark.{Mark}
 use Rattle.tsdb_marks.specs.Lists.{Marks, is_of}
-use Rattle.tsdb_marks.proofs.ModelLemmas.{below-front, filter-step}
+use Rattle.tsdb_marks.specs.Model.{has_version}
+use Rattle.tsdb_marks.proofs.OnlyLemmas.{again_here, below_here, filter_nothing, filter_all_agree, kept_below, newer_some, none_before, take_next}
 use Rattle.tsdb_marks.proofs.marks.Marks.only.Goals as goal
-use Rattle.tsdb_marks.proofs.marks.Marks.only.Goals.{then-contains+in_ok-reserve+in_ok-copy, else-contains}
+use Rattle.tsdb_marks.proofs.marks.Marks.only.Goals.{then-place-eq0-via-then-place-eq0, then-place-eq0-via-else-place-eq0+then-index-version, then-place-eq0+in_ok-add_copy, else-place-eq0+else-index-version}
 
-pub loop-mark-init : goal.loop-mark-init
-loop-mark-init c = ap (λ (v : Marks). v.marks) c.new-only.ensures
+pub loop-place-init : goal.loop-place-init
+loop-place-init c = ap (λ (v : Marks). v.marks) c.new-only.ensures ∙ filter_nothing c.args.self.now.marks
 
-pub add-requires-clause-newer : goal.add-requires-clause-newer
-add-requires-clause-newer c =
-    let Rising : List Mark → Type 0 = λ marks. AllPairs (λ (a b : Mark). a.version.0 < b.version.0) marks in
-    let rising = subst Rising (sym c.deref-mark-items.ensures.value) c.self.invariant.rising in
-    let front = below-front (is_of c.args.series.now) c.deref-mark-items.result.now c.loop-mark.mark-index c.mark-item.result rising c.loop-mark-test.true c.mark-item.is in
-    let P : List Mark → Type 0 = λ marks. All (λ kept. kept.version.0 < c.mark-item.result.version.0) marks in
-    let all = subst P (sym (c.reserve.ensures.marks ∙ c.loop-mark.invariant)) front in
-    rw c.in_ok-copy.ensures all
+pub add_copy-requires : goal.add_copy-requires
+add_copy-requires c =
+    let versions = c.in_ok-versions.versions.items in
+    let place = c.loop-place.place in
+    let within : place < length versions = omega (arith, c.loop-place-test.true, c.in_ok-versions.versions.ok) in
+    let v = c.index-version.result.now in
+    let below : All (λ x. x < v) (take place versions) = elim c.then-place-eq0.branch [
+      | then-place-eq0-via-then-place-eq0 w ↦ none_before versions place v w.if-place-eq0.true
+      | then-place-eq0-via-else-place-eq0+then-index-version w ↦
+          below_here versions place v w.index.result.now c.in_ok-versions.ensures.sorted within w.index.ensures w.if-index-version.true
+    ]
+    in
+    let Below : List Mark → Type 0 = λ ms. All (λ (kept : Mark). kept.version.0 < v) ms in
+    newer_some c.mark_with.result v c.loop-place.only.marks c.mark_with.ensures.version
+    (subst Below (sym c.loop-place.invariant) (kept_below (take place versions) v c.args.self.now.marks below))
 
-pub loop-mark-preserved : goal.loop-mark-preserved
-loop-mark-preserved c =
-    let passes : c.contains.result ≡ is_of c.args.series.now c.mark-item.result = c.contains.ensures ∙ c.in_ok-paths.ensures c.bytes.result
-    ∙ ap (λ path. list_any (λ other. pointwise nat_eq other path) c.args.series.now) c.bytes.ensures.value in
-    let step = filter-step (is_of c.args.series.now) c.deref-mark-items.result.now c.loop-mark.only.marks c.loop-mark.mark-index c.mark-item.result c.contains.result c.loop-mark-test.true c.mark-item.is passes c.loop-mark.invariant in
-    elim c.if-contains.branch [
-      | then-contains+in_ok-reserve+in_ok-copy w ↦
-          ap (λ (v : Marks). v.marks) w.only-is ∙ w.add.ensures.marks ∙ rw (w.reserve.ensures.marks, w.in_ok-copy.ensures) (rw w.if-contains.true at step)
-      | else-contains w ↦ ap (λ (v : Marks). v.marks) w.only-is ∙ rw w.if-contains.false at step
+pub loop-place-preserved : goal.loop-place-preserved
+loop-place-preserved c =
+    let versions = c.in_ok-versions.versions.items in
+    let place = c.loop-place.place in
+    let within : place < length versions = omega (arith, c.loop-place-test.true, c.in_ok-versions.versions.ok) in
+    let v = c.index-version.result.now in
+    let marks = c.args.self.now.marks in
+    elim c.if-place-eq0.branch [
+      | then-place-eq0+in_ok-add_copy w ↦
+          let below : All (λ x. x < v) (take place versions) = elim w.then-place-eq0.branch [
+            | then-place-eq0-via-then-place-eq0 u ↦ none_before versions place v u.if-place-eq0.true
+            | then-place-eq0-via-else-place-eq0+then-index-version u ↦
+                below_here versions place v u.index.result.now c.in_ok-versions.ensures.sorted within u.index.ensures u.if-index-version.true
+          ]
+          in
+          let same : w.as_slice.result.now ≡ marks = w.as_slice.ensures.value ∙ ap (λ (m : Marks). m.marks) c.self.view_is in
+          let Next : List Mark → Type 0 = λ ms. filter (has_version (take place versions ++ v ∷ [])) ms ≡ filter (has_version (take place versions)) ms ++ option_to_list (option_copied w.mark_with.result) in
+          ap (λ (m : Marks). m.marks) w.only-is ∙ w.in_ok-add_copy.ensures ∙ ap (λ (ms : List Mark). ms ++ option_to_list (option_copied w.mark_with.result)) c.loop-place.invariant
+          ∙ sym (subst Next same (w.mark_with.ensures.next (take place versions) below))
+          ∙ ap (λ vs. filter (has_version vs) marks) (sym (take_next versions place v within c.index-version.ensures))
+      | else-place-eq0+else-index-version w ↦
+          ap (λ (m : Marks). m.marks) w.only-is ∙ c.loop-place.invariant
+          ∙ sym (again_here versions place v w.index.result.now marks c.in_ok-versions.ensures.sorted within w.if-place-eq0.false c.index-version.ensures w.index.ensures w.if-index-version.false)
     ]
 
 pub returns : goal.returns
 returns c =
-    let whole : take c.loop-mark.mark-index c.deref-mark-items.result.now ≡ c.deref-mark-items.result.now = take_all _ _ (omega arith) in
-    c.loop-mark.invariant ∙ ap (filter (is_of c.args.series.now)) (whole ∙ c.deref-mark-items.ensures.value ∙ ap (λ (v : Marks). v.marks) c.self.view_is)
+    let versions = c.in_ok-versions.versions.items in
+    let marks = c.args.self.now.marks in
+    c.loop-place.invariant ∙ ap (λ vs. filter (has_version vs) marks) (take_all c.loop-place.place versions (omega (arith, c.loop-place-test.false)))
+    ∙ filter_all_agree (has_version versions) (is_of c.args.series.now) marks (λ k d lt. c.in_ok-versions.ensures.has (get_or marks k d) (k, lt, get_or_default marks k (get_or marks k d) d lt))

@@ -1,7 +1,10 @@
-use Rattle.std.proofs.Common.{◌≡◌, take}
+use Rattle.std.proofs.Common.{◌≡◌, ◌-◌, take, length}
 use Rattle.std.specs.List.{filter}
-use Rattle.tsdb_marks.specs.Lists.{is_of}
+use Rattle.tsdb_marks.specs.Model.{has_version}
 use Rattle.tsdb_marks.proofs.marks.Marks.only.Given as goal
 
-abbrev pub invariant-loop-mark : goal.invariant-loop-mark
-invariant-loop-mark l = l.only.marks ≡ filter (is_of l.series) (take l.mark-index l.mark-items)
+abbrev pub invariant-loop-place : goal.invariant-loop-place
+invariant-loop-place l = l.only.marks ≡ filter (has_version (take l.place l.versions.items)) l.self.marks
+
+abbrev pub decreases-loop-place : goal.decreases-loop-place
+decreases-loop-place l = length l.versions.items - l.place
