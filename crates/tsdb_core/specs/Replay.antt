@@ -1,7 +1,6 @@
 -- What the records of a log give, and when a store is sound.
 use Rattle.std.specs.Prelude.{◌≡◌, ℕ, ◌+◌, ◌≤◌, false, List, [], ◌∷◌, ◌++◌, map, All, Option, Some, None}
 use Rattle.std.specs.FinMap.{empty}
-use Rattle.tsdb_core.specs.Order.{IsInOrder}
 use Rattle.tsdb_core.specs.State.{EngineState, File, FilePoints, MemoryState}
 use Rattle.tsdb_core.specs.Steps.{Creates, Deletes, Freezes, Inserts, empty_pair}
 use Rattle.tsdb_log.specs.declared.record.LogRecord.{LogRecord}
@@ -91,7 +90,3 @@ pub record IsReplayOf (records : List LogRecord) (files : ℕ → Option StoredF
   pub unclaimed : All (λ file. file.claimed ≡ false) (state.sequence ++ state.unsequence)
   pub next : IsNextNumber state.named stored state.next_file
   pub nothing_out : HasNothingOut state
-
--- a store is sound where its records have a replay with the listed files' points, and that state is in order
-abbrev pub IsSoundStore : List LogRecord → (ℕ → Option StoredFile) → List ℕ → Type 0
-IsSoundStore records files stored = (state : EngineState) × IsReplayOf records files stored state × IsInOrder state

@@ -45,12 +45,6 @@ pub err_is_not_ok : {T E : Type 0} (result : Result T E) (error : E) → result 
 err_is_not_ok (Ok value) error same ok = absurd cc
 err_is_not_ok (Err other_error) error same ok = false≢true ok
 
--- the acknowledged records are these, or these and one more
-pub or_one_more : (acknowledged : List (List ℕ)) (in_doubt : Option (List ℕ)) (bytes : List ℕ) → HasRecords acknowledged bytes
-    → HasRecordsOrOneMore acknowledged in_doubt bytes
-or_one_more acknowledged None bytes has = has
-or_one_more acknowledged (Some payload) bytes has = inl has
-
 -- what holds of a slot holds of it by another name
 pub moved_moments : (old new : State) (slot place : Slot) → slot ≡ place → (P : List ℕ → Type 0)
     → LeavesOnly old new (λ image. P (in_slot slot image)) → LeavesOnly old new (λ image. P (in_slot place image))
@@ -65,10 +59,6 @@ first_false true second none = absurd (false≢true (sym none))
 pub second_false : (first second : Bool) → (first || second) ≡ false → second ≡ false
 second_false false second none = none
 second_false true second none = absurd (false≢true (sym none))
-
-pub both_false : (first second : Bool) → first ≡ false → second ≡ false → (first || second) ≡ false
-both_false false second one two = two
-both_false true second one two = absurd (false≢true (sym one))
 
 pub either_same : (one two first second : Bool) → one ≡ first → two ≡ second → (one || two) ≡ (first || second)
 either_same one two first second same also = ap (λ (b : Bool). b || two) same ∙ ap (λ (b : Bool). first || b) also

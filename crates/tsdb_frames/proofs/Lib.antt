@@ -4,7 +4,6 @@ pub mod LogLemmas
 pub mod MomentLemmas
 mod StepLemmas
 pub mod FirstLemmas
-mod FrameLemmas
 pub mod PieceLemmas
 pub mod RecordLemmas
 pub mod ScanLemmas

@@ -1,12 +1,12 @@
 -- What the steps of an append and of a settling leave of a log.
-use Rattle.std.proofs.Common.{◌≡◌, ◌≢◌, ℕ, ◌+◌, ◌≤◌, Bool, true, List, [], ◌∷◌, ◌++◌, length, refl, sym, ◌∙◌, ap, subst, arith, length-append, None, Some}
+use Rattle.std.proofs.Common.{◌≡◌, ℕ, ◌+◌, ◌≤◌, Bool, true, List, [], ◌∷◌, ◌++◌, length, refl, sym, ◌∙◌, ap, subst, arith, length-append, None, Some}
 use Rattle.std.specs.Prelude.{IsSome, is_some, Result, Ok, Err, OnErr}
 use Rattle.std.specs.declared.option.Option.{Option}
 use Rattle.tsdb_outside.specs.Disk.{Image, State, in_slot, overwrite, IsLawful, TornIn, WhereTold}
 use Rattle.tsdb_outside.specs.declared.disk.Slot.{Slot}
 use Rattle.tsdb_frames.specs.Slots.{with_length, frame_bytes, open_records, HasRecords}
 use Rattle.tsdb_frames.specs.Laws.{records_once}
-use Rattle.tsdb_frames.specs.Log.{first_bytes, payload_of, IsFrame, IsSlotOf, IsLogOn, IsSettled, HasRecordsOrOneMore}
+use Rattle.tsdb_frames.specs.Log.{payload_of, IsFrame, IsSlotOf, IsLogOn, IsSettled, HasRecordsOrOneMore}
 use Rattle.tsdb_outside.specs.Moments.{LeavesFirstThen, LeavesOnly}
 use Rattle.tsdb_frames.specs.Steps.{IsTornFrom, IsWrittenFrom}
 use Rattle.tsdb_frames.proofs.RecordLemmas.{open_records_more}
@@ -174,11 +174,3 @@ pub gate_opens_framed : (staged last : State) (slot : Slot) (gate : ℕ) (framed
 gate_opens_framed staged last slot gate framed is_frame acknowledged told log written =
     subst (λ (n : ℕ). IsLogOn last slot (gate + n) (acknowledged ++ (payload_of framed ∷ [])) None) (sym (ap length is_frame.bytes))
     (gate_opens staged last slot gate acknowledged told (payload_of framed) log written)
-
--- the first frame of a log with one more
-pub first_grows : (acknowledged : List (List ℕ)) (payload : List ℕ) (gate first new bytes : ℕ) → gate ≡ length (open_records acknowledged)
-    → first ≡ first_bytes acknowledged → (gate ≡ 0 → new ≡ bytes) → (gate ≢ 0 → new ≡ first) → bytes ≡ length (frame_bytes payload)
-    → new ≡ first_bytes (acknowledged ++ payload ∷ [])
-first_grows [] payload gate first new bytes place is none some size = none place ∙ size
-first_grows (p ∷ ps) payload gate first new bytes place is none some size =
-    some (λ zero. absurd (omega (arith, place, zero))) ∙ is

@@ -8,14 +8,6 @@ use Rattle.tsdb_frames.specs.Turns.{LeavesInTurn}
 pub weaker : (old new : State) (P Q : Image → Type 0) → ((image : Image) → P image → Q image) → LeavesOnly old new P → LeavesOnly old new Q
 weaker old new P Q wider leaves = record { passes = leaves.passes; each = λ image left. wider image (leaves.each image left) }
 
--- what is left first and then is left at all
-pub first_or_then : (old new : State) (P Q : Image → Type 0) → ((image : Image) → P image → Q image) → LeavesFirstThen old new P Q → LeavesOnly old new Q
-first_or_then old new P Q wider (inl leaves) = weaker old new P Q wider leaves
-first_or_then old new P Q wider (inr turns) = record {
-  passes = turns.passes;
-  each = λ image left. ⊎_elim (wider image) (turns.from_then image) (turns.until image left);
-}
-
 module _ (old mid new : State) (laws : IsLawful new) where
   passes_on : Elapses old mid (mid.left_since old.moment) → Elapses mid new (new.left_since mid.moment)
       → Elapses old new (new.left_since old.moment)
