@@ -14,7 +14,7 @@ use Rattle.tsdb_marks.specs.Index.{Entries, at}
 use Rattle.tsdb_marks.specs.Moments.{moment}
 use Rattle.tsdb_marks.specs.Survival.{Covers, Survives, Meets}
 use Rattle.tsdb_marks.specs.Lists.{is_newer_than}
-use Rattle.tsdb_marks.specs.Series.{Series, AddsMark, DropsOld, no_marks, version_over}
+use Rattle.tsdb_marks.specs.Series.{Series, AddsMark, DropsOld, version_over}
 use Rattle.tsdb_marks.specs.Steps.{IsMet, IsUnmet, newest_at}
 use Rattle.tsdb_marks.specs.Model.{SomeOver, IsCovered, IsUncovered, HasTimes, IsIndexOf, is_mark_of, versions_of}
 
@@ -127,18 +127,6 @@ exact_added marks mark floor old new exact adds others =
           ap (λ (s : Series). s.versions) (others p ne) ∙ exact.versions p
           ∙ sym (ap versions_of (filter-append (is_mark_of p) marks (mark ∷ []) ∙ ap (λ b. filter (is_mark_of p) marks ++ cond b (mark ∷ []) []) no ∙ append-nil (filter (is_mark_of p) marks)))) (decides p);
     }
-
-pub exact_same : (marks : List Mark) (floor : ℕ) (old new : Entries) → IsIndexOf marks floor old → ((other : List ℕ) → at new other ≡ at old other) → IsIndexOf marks floor new
-exact_same marks floor old new exact same = record {
-  over = λ p m b fits low. let P : Series → Type 0 = λ s. (b < newest_at s.runs m) ↔ SomeOver marks p m b in subst P (sym (same p)) (exact.over p m b fits low);
-  versions = λ p. ap (λ (s : Series). s.versions) (same p) ∙ exact.versions p;
-}
-
-pub exact_none : (entries : Entries) → ((other : List ℕ) → at entries other ≡ no_marks) → IsIndexOf [] 0 entries
-exact_none entries none = record {
-  over = λ p m b fits low. let P : Series → Type 0 = λ s. (b < newest_at s.runs m) ↔ SomeOver [] p m b in subst P (sym (none p)) (λ h. omega (arith, h), λ h. absurd h);
-  versions = λ p. ap (λ (s : Series). s.versions) (none p);
-}
 
 filter-versions : (p : List ℕ) (v : ℕ) (xs : List Mark) → filter (nat_lt v) (versions_of (filter (is_mark_of p) xs)) ≡ versions_of (filter (is_mark_of p) (filter (is_newer_than v) xs))
 filter-versions p v [] = refl
