@@ -1,5 +1,7 @@
 //! Slots as bytes, cuts of a log, and stops at each moment of appends, over places in memory.
-use crate::steps::{Left, Step, leaves, place_of, scan_place, wrong_step_in, wrong_stop};
+use crate::steps::{
+    Left, Step, leaves, place_of, scan_bytes, scan_place, wrong_step_in, wrong_stop,
+};
 use mem_outside::{MemJournal, MemPlace, StopKind};
 use std::alloc::Global;
 use tsdb_frames::{Frame, ScanFault};
@@ -26,15 +28,6 @@ const THREE: [u8; 22] = [
     1, 0, 0, 0, 3, 9, 9, 9, // at 13
     0,
 ];
-
-// The number of records of a slot with these bytes, or why there are none.
-fn scan_bytes(alloc: Global, bytes: &[u8]) -> Result<Result<usize, ScanFault>, StoreFault> {
-    let mut place = place_of(alloc, bytes, &[], &[])?;
-    Ok(match scan_place(alloc, &mut place, Slot::A)? {
-        Ok(frames) => Ok(frames.len()),
-        Err(fault) => Err(fault),
-    })
-}
 
 // Where the three records are torn when they are cut to this length.
 fn torn_at(length: usize) -> ScanFault {

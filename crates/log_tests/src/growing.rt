@@ -1,7 +1,7 @@
 //! Logs around 65,536 bytes, where a slot begins to grow ahead and where a piece ends that is read, and around the end of
 //! what a slot grew by, over places in memory.
 use crate::steps::{
-    Left, Step, has_one_of, leaves, one_record, place_of, scan_place, wrong_step_in,
+    Left, Step, has_one_of, leaves, one_record, place_of, scan_bytes, wrong_step_in,
 };
 use mem_outside::{MemPlace, StopKind};
 use std::alloc::Global;
@@ -127,15 +127,6 @@ fn two_records(alloc: Global, size: usize) -> Result<Vec<u8>, StoreFault> {
     let mut bytes = one_record(alloc, size, 0)?;
     bytes.extend_from_slice(&[1, 0, 0, 0, 10, 8, 8, 8, 8, 8, 8, 8, 8, 8, 8, 0])?;
     Ok(bytes)
-}
-
-// What a scan of a slot with these bytes gives.
-fn scan_bytes(alloc: Global, bytes: &[u8]) -> Result<Result<usize, ScanFault>, StoreFault> {
-    let mut place = place_of(alloc, bytes, &[], &[])?;
-    Ok(match scan_place(alloc, &mut place, Slot::A)? {
-        Ok(frames) => Ok(frames.len()),
-        Err(fault) => Err(fault),
-    })
 }
 
 // The number of bytes from the second record on to which a slot is cut and not read as it should be.

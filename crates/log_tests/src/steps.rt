@@ -167,6 +167,18 @@ pub(crate) fn scan_place<P: Place>(
     }
 }
 
+// The number of records of a slot with these bytes, or why there are none.
+pub(crate) fn scan_bytes(
+    alloc: Global,
+    bytes: &[u8],
+) -> Result<Result<usize, ScanFault>, StoreFault> {
+    let mut place = place_of(alloc, bytes, &[], &[])?;
+    Ok(match scan_place(alloc, &mut place, Slot::A)? {
+        Ok(frames) => Ok(frames.len()),
+        Err(fault) => Err(fault),
+    })
+}
+
 // Whether the records begin with these bytes.
 fn begin_with(frames: &[Frame], firsts: &[u8]) -> bool {
     if frames.len() != firsts.len() {
