@@ -64,9 +64,11 @@ module _ {F S R P : Type 0} where
   enlisted space entry file old new sound empty room here others is out spare least =
       let is_view = appends space entry old new is in
       let same = ap (λ v. v.items) out in
-      let left = room_appended space entry old.spare old.sequence new.sequence old.unsequence new.unsequence old.outgoing
+      let left = room_appended space entry old.spare old.sequence new.sequence old.unsequence new.unsequence
+      old.outgoing
       sound.room room is in
-      let out_left = subst (λ v. HasRoomLeft (less_room space old.spare) new.sequence new.unsequence v) (sym out) left in
+      let out_left =
+      subst (λ v. HasRoomLeft (less_room space old.spare) new.sequence new.unsequence v) (sym out) left in
       record {
         kept = kept_more entry.number.0 file (view_of old) (view_of new) sound.kept empty here others
             (appended space entry (view_of old) (view_of new) is_view same);

@@ -64,7 +64,8 @@ count_left n gone [] = by (is_one_of gone n)
     by : (b : Bool) → ◌≡◌ {A = ℕ} 0 (cond b 0 0)
     by true = refl
     by false = refl
-count_left n gone (file ∷ files) = by (file.number.0 == n) refl (is_one_of gone n) (is_one_of gone file.number.0) refl refl
+count_left n gone (file ∷ files) =
+    by (file.number.0 == n) refl (is_one_of gone n) (is_one_of gone file.number.0) refl refl
     (count_left n gone files)
   where
     left : List Outgoing
@@ -104,4 +105,5 @@ among_counted file (other ∷ files) (inr among) = let rest = among_counted file
 -- two tests that agree on the elements
 pub filter_agrees : {X : Type 0} (p q : X → Bool) (xs : List X) → Each (λ x. p x ≡ q x) xs → filter p xs ≡ filter q xs
 filter_agrees p q [] same = refl
-filter_agrees p q (x ∷ xs) same = λ i. cond (same.0 i) (x ∷ filter_agrees p q xs same.1 i) (filter_agrees p q xs same.1 i)
+filter_agrees p q (x ∷ xs) same = λ i.
+    cond (same.0 i) (x ∷ filter_agrees p q xs same.1 i) (filter_agrees p q xs same.1 i)

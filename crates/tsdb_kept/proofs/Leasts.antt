@@ -12,7 +12,8 @@ use Rattle.tsdb_memory.specs.Least.{IsLeastOf, lesser}
 use Rattle.tsdb_memory.proofs.Borns.{least_push}
 use Rattle.tsdb_plan.specs.declared.entry.FileEntry.{FileEntry}
 
-among_moved : (n x : ℕ) (front back : List ℕ) → Among n ((front ++ back) ++ x ∷ []) → Among n ((front ++ x ∷ []) ++ back)
+among_moved : (n x : ℕ) (front back : List ℕ) → Among n ((front ++ back) ++ x ∷ [])
+    → Among n ((front ++ x ∷ []) ++ back)
 among_moved n x [] back among = last back among
   where
     last : (back : List ℕ) → Among n (back ++ x ∷ []) → Among n (x ∷ back)
@@ -57,4 +58,5 @@ least_appended Unsequence entry least old new is was =
     let now : listed_borns new ≡ listed_borns old ++ entry.born.0 ∷ [] =
     ap (map (λ e. e.born.0)) ((λ i. is.0 i ++ is.1 i) ∙ sym (append_assoc old.sequence old.unsequence (entry ∷ [])))
     ∙ map-append (λ e. e.born.0) (old.sequence ++ old.unsequence) (entry ∷ []) in
-    subst (IsLeastOf (Some (lesser least entry.born.0))) (sym now) (least_push least (listed_borns old) entry.born.0 was)
+    subst (IsLeastOf (Some (lesser least entry.born.0))) (sym now)
+    (least_push least (listed_borns old) entry.born.0 was)

@@ -1,5 +1,6 @@
 -- Tokens that are given back one after another.
-use Rattle.std.proofs.Common.{◌≡◌, ℕ, ◌+◌, ◌^◌, ◌<◌, List, [], ◌∷◌, ◌++◌, length, Option, Some, None, refl, sym, ap, subst}
+use Rattle.std.proofs.Common.{◌≡◌, ℕ, ◌+◌, ◌^◌, ◌<◌, List, [], ◌∷◌, ◌++◌, length, Option}
+use Rattle.std.proofs.Common.{Some, None, refl, sym, ap, subst}
 use Rattle.std.proofs.Common.{IfSome, ◌∙◌, arith}
 use Rattle.std.proofs.lemmas.List.{append-nil, append_assoc}
 use Rattle.tsdb_kept.specs.Closing.{ArePutBack, IsGivenBack, names_at}
@@ -40,7 +41,8 @@ one_more_at_rest : (name : NamedFile) (names : List NamedFile) (old now new : Op
 one_more_at_rest name names None now new first rest = subst (λ at. IsAtRestAfter names at new) first rest
 one_more_at_rest name names (Some old) None new first rest = absurd first
 one_more_at_rest name names (Some old) (Some now) None first rest = rest
-one_more_at_rest name names (Some old) (Some now) (Some new) first rest = one_more_back name names old now new first rest
+one_more_at_rest name names (Some old) (Some now) (Some new) first rest =
+    one_more_back name names old now new first rest
 
 -- the token at the next place, where there is one
 pub next_at_rest : (number : ℕ) (place : Option KeptFile) (places : Places) (old now new : Option (List StoredFile))

@@ -1,5 +1,6 @@
 -- What a sweep leaves.
-use Rattle.std.proofs.Common.{◌≡◌, ℕ, ◌+◌, ◌≤◌, Bool, true, false, cond, not, List, [], ◌∷◌, ◌++◌, length, map, Option, Some}
+use Rattle.std.proofs.Common.{◌≡◌, ℕ, ◌+◌, ◌≤◌, Bool, true, false, cond, not, List, []}
+use Rattle.std.proofs.Common.{◌∷◌, ◌++◌, length, map, Option, Some}
 use Rattle.std.proofs.Common.{None, Result, Ok, Err, refl, sym, ap, subst, ◌∙◌, arith}
 use Rattle.std.specs.Prelude.{OnErr, OnOk, is_some, vec_capacity, vec_len}
 use Rattle.std.specs.List.{AllByRecursion as Each, filter}
@@ -7,7 +8,8 @@ use Rattle.std.proofs.lemmas.List.{append_assoc, map-append}
 use Rattle.tsdb_base.specs.declared.ids.FileNumber.{FileNumber}
 use Rattle.tsdb_kept.specs.declared.files.KeptFiles.TheInside.{Inside}
 use Rattle.tsdb_kept.specs.declared.files.Outgoing.{Outgoing}
-use Rattle.tsdb_kept.specs.Files.{AreKept, KeptFiles, entry_numbers, kept_file, listed_borns, numbers_of, outgoing_numbers}
+use Rattle.tsdb_kept.specs.Files.{AreKept, KeptFiles, entry_numbers, kept_file}
+use Rattle.tsdb_kept.specs.Files.{listed_borns, numbers_of, outgoing_numbers}
 use Rattle.tsdb_kept.specs.Kept.{AreSound, view_of}
 use Rattle.tsdb_kept.specs.Places.{KeptFile, Places, TakesAway, file_at, is_one_of, place_at}
 use Rattle.tsdb_kept.specs.Sweeps.{AreOnce, LeavesWithout, StopsAt, free_numbers, has_place, is_free, tried_numbers}
@@ -103,7 +105,8 @@ tried_fewer doubted places tried behind outgoing are n =
 
 module _ {F S R P : Type 0} (doubted : List (Option FileNumber)) (old new : Inside F S R P) (sound : AreSound old)
     (files : new.outgoing.items ≡ filter (has_place new.tokens.entries) old.outgoing.items)
-    (len : vec_len new.outgoing ≤ vec_len old.outgoing) (capacity : vec_capacity new.outgoing ≡ vec_capacity old.outgoing)
+    (len : vec_len new.outgoing ≤ vec_len old.outgoing)
+    (capacity : vec_capacity new.outgoing ≡ vec_capacity old.outgoing)
     (sequence : new.sequence ≡ old.sequence) (unsequence : new.unsequence ≡ old.unsequence)
     (spare : new.spare ≡ old.spare) (least : new.least ≡ old.least) where
   leaves : (gone : List ℕ) → TakesAway gone old.tokens.entries new.tokens.entries
@@ -123,7 +126,8 @@ module _ {F S R P : Type 0} (doubted : List (Option FileNumber)) (old new : Insi
     kept = kept_left gone (view_of old) (view_of new) sound.kept (leaves gone away) fewer;
     room = record {
       sequence_room = subst (λ v. vec_len v + new.spare.sequence ≤ vec_capacity v) (sym sequence)
-          (subst (λ s. vec_len old.sequence + s.sequence ≤ vec_capacity old.sequence) (sym spare) sound.room.sequence_room);
+          (subst (λ s. vec_len old.sequence + s.sequence ≤ vec_capacity old.sequence) (sym spare)
+          sound.room.sequence_room);
       unsequence_room = subst (λ v. vec_len v + new.spare.unsequence ≤ vec_capacity v) (sym unsequence)
           (subst (λ s. vec_len old.unsequence + s.unsequence ≤ vec_capacity old.unsequence) (sym spare)
           sound.room.unsequence_room);
@@ -137,7 +141,8 @@ module _ {F S R P : Type 0} (doubted : List (Option FileNumber)) (old new : Insi
   }
 
   abbrev AllLeave : Type 0
-  AllLeave = TakesAway (free_numbers doubted old.tokens.entries old.outgoing.items) old.tokens.entries new.tokens.entries
+  AllLeave =
+      TakesAway (free_numbers doubted old.tokens.entries old.outgoing.items) old.tokens.entries new.tokens.entries
 
   abbrev SomeLeave : Type 0
   SomeLeave = (stop : StopsAt doubted old.tokens.entries old.outgoing.items)

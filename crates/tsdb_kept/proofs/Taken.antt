@@ -75,8 +75,9 @@ itself : (n : ℕ) → count n (n ∷ []) ≡ 1
 itself n = ap (λ b. cond b 1 0 + 0) ((unsigned_Decides n n).1 refl)
 
 -- a step of the walk
-module _ (doubted : List (Option FileNumber)) (old now : Places) (files : List Outgoing) (index removed : ℕ) (d : Outgoing)
-    (lt : index < length files) (once : AreOnce files) (sweeping : IsSweeping doubted old files index removed now) where
+module _ (doubted : List (Option FileNumber)) (old now : Places) (files : List Outgoing) (index removed : ℕ)
+    (d : Outgoing) (lt : index < length files) (once : AreOnce files)
+    (sweeping : IsSweeping doubted old files index removed now) where
   abbrev file : Outgoing
   file = get_or files index d
 
@@ -122,7 +123,8 @@ module _ (doubted : List (Option FileNumber)) (old now : Places) (files : List O
         away = subst (λ gone. TakesAway gone old now) (sym same) sweeping.away;
       }
 
-  module _ (new : Places) (free : is_free doubted now file ≡ true) (takes : TakesAway (file.number.0 ∷ []) now new) where
+  module _ (new : Places) (free : is_free doubted now file ≡ true)
+      (takes : TakesAway (file.number.0 ∷ []) now new) where
     more : free_numbers doubted old (front ++ file ∷ []) ≡ free_numbers doubted old front ++ file.number.0 ∷ []
     more = free_more doubted old front file true (free_still ∙ free)
 

@@ -34,15 +34,18 @@ loop-preserved g c =
       c.keep_file.ensures.same_store ∙ c.loop.invariant.3,
       c.keep_file.ensures.faults ∙ c.loop.invariant.4,
       λ last rest.
-          let After : Places → Type 0 = λ entries. IsAtRestAfter (names_at entries) (g.F.Files.at_rest c.loop.files) last in
-          c.loop.invariant.5 last (subst After (sym removal) (next_at_rest c.in-Some._number c.in-Some.place new _ _ last
+          let After : Places → Type 0 = λ entries.
+          IsAtRestAfter (names_at entries) (g.F.Files.at_rest c.loop.files) last in
+          c.loop.invariant.5 last
+          (subst After (sym removal) (next_at_rest c.in-Some._number c.in-Some.place new _ _ last
           c.keep_file.ensures.at_rest rest)),
     )
 
 pub returns-clause-at_rest : goal.returns-clause-at_rest
 returns-clause-at_rest g c =
     let none : c.loop.places.entries ≡ [] =
-    nil_from_length c.loop.places.entries (omega (arith, c.loop.invariant.0, c.loop-test.false, c.loop.auto.counter-end)) in
+    nil_from_length c.loop.places.entries
+    (omega (arith, c.loop.invariant.0, c.loop-test.false, c.loop.auto.counter-end)) in
     let After : Places → Type 0 = λ entries.
     IsAtRestAfter (names_at entries) (g.F.Files.at_rest c.loop.files) (g.F.Files.at_rest c.loop.files) in
     c.loop.invariant.5 (g.F.Files.at_rest c.loop.files)

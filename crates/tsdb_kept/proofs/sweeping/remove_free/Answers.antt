@@ -7,7 +7,8 @@ use Rattle.tsdb_kept.proofs.sweeping.remove_free.Goals.{then-is_free+in_ok-remov
 
 pub remove_file-requires-clause-store : goal.remove_file-requires-clause-store
 remove_file-requires-clause-store g c = λ lifetimes lives.
-    let gone = free_numbers c.args.doubted.now c.args.places.now.entries (take c.loop-file.file-index c.args.outgoing.now) in
+    let gone = free_numbers c.args.doubted.now c.args.places.now.entries
+    (take c.loop-file.file-index c.args.outgoing.now) in
     still_all _ gone c.args.places.now.entries c.loop-file.places.entries c.loop-file.invariant.0.away
     (subst (λ store. AreOfStore store c.args.places.now.entries) (sym c.loop-file.invariant.1) c.requires.store)
 

@@ -44,7 +44,8 @@ returns-clause-swept g c =
     let new = c.remove_free-swept.new.places.entries in
     let Ok : List Outgoing → Type 0 = λ files.
     OnOk c.remove_free-swept.result (TakesAway (free_numbers c.args.doubted old files) old new) in
-    let inside = record c.self.inside { tokens = c.remove_free-swept.new.places; outgoing = c.keep_placed.new.outgoing } in
+    let inside =
+    record c.self.inside { tokens = c.remove_free-swept.new.places; outgoing = c.keep_placed.new.outgoing } in
     let Left : KeptFiles → Type 0 = λ files. OnOk c.remove_free-swept.result
     (LeavesWithout (free_numbers c.args.doubted files.places files.outgoing) files (view_of inside)) in
     subst Left c.self.view_is
@@ -58,11 +59,12 @@ returns-clause-failed g c =
     let new = c.remove_free-swept.new.places.entries in
     let Err : List Outgoing → Type 0 = λ files. OnErr c.remove_free-swept.result
     ((stop : StopsAt c.args.doubted old files) × TakesAway (tried_numbers c.args.doubted old stop) old new) in
-    let inside = record c.self.inside { tokens = c.remove_free-swept.new.places; outgoing = c.keep_placed.new.outgoing } in
+    let inside =
+    record c.self.inside { tokens = c.remove_free-swept.new.places; outgoing = c.keep_placed.new.outgoing } in
     let Left : KeptFiles → Type 0 = λ files. OnErr c.remove_free-swept.result
     ((stop : StopsAt c.args.doubted files.places files.outgoing)
     × LeavesWithout (tried_numbers c.args.doubted files.places stop) files (view_of inside)) in
     subst Left c.self.view_is
-    (swept_failed c.args.doubted c.self.inside inside c.self.invariant c.keep_placed.ensures.files c.keep_placed.ensures.len
-    c.keep_placed.ensures.capacity refl refl refl refl c.remove_free-swept.result
+    (swept_failed c.args.doubted c.self.inside inside c.self.invariant c.keep_placed.ensures.files
+    c.keep_placed.ensures.len c.keep_placed.ensures.capacity refl refl refl refl c.remove_free-swept.result
     (subst Err c.deref.ensures.value c.remove_free-swept.ensures.failed))
