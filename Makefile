@@ -1,7 +1,8 @@
 # make demo   runs two example scripts on one store, by a program that is built without proofs
 # make build  proves the program and leaves it at bin/tsdb
 # make bench  proves the programs and prints what they take; GROUP=name measures one group
-# make check-disk   kills the program in the middle of its writes, and looks at what the next run finds; stores many files
+# make check-disk   kills the program in the middle of its writes, and looks at what the next run finds; stores many files,
+#                   and fills a small disk
 # make test   proves every crate and runs every test and program
 .PHONY: demo build bench check-disk test
 

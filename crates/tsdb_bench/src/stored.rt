@@ -17,7 +17,7 @@ const STORE: &str = "bench.stored";
 /// The folder of the bare files, which is made and removed here.
 const BARE: &str = "bench.bare";
 
-/// How many files there are. All of their tokens are out at once.
+/// How many files there are. All of their tokens are out at once when they are read or removed.
 const FILES: u64 = 10_000;
 
 /// How many bytes each has.
@@ -41,26 +41,20 @@ fn block(alloc: Global, count: usize) -> Result<Vec<u8>, AllocError> {
     vec![in alloc; 7; count]
 }
 
-/// Puts files of these bytes with the numbers from 1 on, and gives their tokens out.
-fn put_all<P: Port>(
-    port: &mut P,
+/// Puts files of these bytes with the numbers from 1 on.
+fn put_all<F: Files>(
+    files: &mut F,
+    port: &mut F::Port,
     count: u64,
     bytes: &[u8],
-    tokens: &mut Vec<P::Sealed>,
 ) -> Result<(), Fault>
-    requires { All (λ sealed. P.Sealed.rights sealed ≡ 0
-        × (P.Sealed.file sealed).store ≡ P.store port.old) tokens.old.items }
-    ensures tokens { All (λ sealed. P.Sealed.rights sealed ≡ 0
-        × (P.Sealed.file sealed).store ≡ P.store port.old) tokens.new.items }
-    ensures port { P.store port.new ≡ P.store port.old }
+    requires { F.Port.store port.old ≡ F.store files.old }
+    ensures files { F.store files.new ≡ F.store files.old }
+    ensures port { F.Port.store port.new ≡ F.Port.store port.old }
 {
     for number in 1..=count {
         let sealed = port.put(FileNumber(number), bytes)?;
-        if let Err(full) = tokens.push(sealed) {
-            let AllocFailed { value } = full;
-            port.remove(value)?;
-            return Err(Fault::Memory);
-        }
+        files.keep(sealed);
     }
     Ok(())
 }
@@ -84,19 +78,6 @@ fn fetch_all<F: Files>(files: &mut F, count: u64, tokens: &mut Vec<F::Sealed>) -
         }
     }
     Ok(())
-}
-
-/// Keeps the file of each token.
-fn keep_all<F: Files>(files: &mut F, tokens: Vec<F::Sealed>)
-    requires { All (λ sealed. F.Sealed.rights sealed ≡ 0
-        × (F.Sealed.file sealed).store ≡ F.store files.old) tokens.items }
-    ensures { F.store files.new ≡ F.store files.old }
-{
-    let mut tokens = tokens;
-    while let Some(sealed) = tokens.pop() {
-        files.keep(sealed);
-    }
-    tokens.destroy_empty();
 }
 
 /// Reads the whole file of a token.
@@ -158,12 +139,8 @@ fn put_and_list<F: Files>(
 {
     let bytes = block(rt.alloc(), BYTES)?;
     let start = Instant::now(rt)?;
-    let mut tokens = Vec::new(rt.alloc());
-    let put = put_all(port, count, &bytes, &mut tokens);
-    let printed = rate(rt, rounds, IN_STORE, "put", count, start);
-    keep_all(files, tokens);
-    put?;
-    printed?;
+    put_all(files, port, count, &bytes)?;
+    rate(rt, rounds, IN_STORE, "put", count, start)?;
     let start = Instant::now(rt)?;
     if files.list()?.len() as u64 != count {
         return Err(Fault::Unread);
@@ -354,9 +331,7 @@ fn fill_disk<F: Files>(alloc: Global, files: &mut F) -> Result<(), Fault>
 {
     let bytes = block(alloc, LARGE)?;
     let mut port = files.port()?;
-    let mut tokens = Vec::new(alloc);
-    let put = put_all(&mut port, TOO_MANY, &bytes, &mut tokens);
-    keep_all(files, tokens);
+    let put = put_all(files, &mut port, TOO_MANY, &bytes);
     files.end_port(port);
     match put {
         Err(Fault::Store) => Ok(()),
