@@ -1,36 +1,86 @@
-//! The speed of deletion marks on one series. It depends on `tsdb_marks`.
+//! The speed of deletion marks. It depends on `tsdb_marks`.
+ghost use Rattle.std.specs.Prelude.{◌<◌, length};
 
 use crate::fault::Fault;
 use crate::numbers::next;
 use crate::table::{Rounds, row};
 use std::time::Instant;
-use tsdb_base::{Stamp, Time};
+use tsdb_base::{Range, Stamp, Time};
 use tsdb_marks::{Mark, Marks};
 use tsdb_path::Path;
 
 /// How many marks are added.
-const MARKS: u64 = 100_000;
+const MARKS: u64 = 1_000_000;
+
+/// How many series have marks, where there are many.
+const SERIES: u32 = 10_000;
+
+/// How the ranges of marks lie.
+#[derive(Clone, Copy, PartialEq, Eq)]
+enum Ranges {
+    /// Anywhere.
+    Random,
+    /// Each behind the one before.
+    Rising,
+}
 
 /// A time of 24 bits.
 fn time_of(seed: u64) -> Time {
     (seed >> 40).cast_signed()
 }
 
-/// So many marks, each over up to 256 times.
-fn add(rt: &HostRuntime, series: &Path, count: u64) -> Result<Marks, Fault> {
+/// The range of a mark, of up to 256 times.
+fn range_of(ranges: Ranges, done: u64, seed: u64) -> Range {
+    let from = match ranges {
+        Ranges::Random => time_of(seed),
+        Ranges::Rising => done.wrapping_mul(16).cast_signed(),
+    };
+    let to = from.saturating_add(((seed >> 8) % 256).cast_signed());
+    Range { from, to }
+}
+
+/// The paths of so many series.
+fn paths(rt: &HostRuntime, count: u32) -> Result<Vec<Path>, Fault> {
+    let mut paths = Vec::new(rt.alloc());
+    for number in 0..count {
+        let mut text = Vec::from_slice(rt.alloc(), b"root.g.d.s")?;
+        for digit in [
+            number / 1000 % 10,
+            number / 100 % 10,
+            number / 10 % 10,
+            number % 10,
+        ] {
+            text.push(b'0' + digit as u8)?;
+        }
+        paths.push(Path::read(rt.alloc(), text.as_slice())?)?;
+    }
+    Ok(paths)
+}
+
+/// One of the paths.
+fn path_of(paths: &[Path], seed: u64) -> &Path
+    requires { 0 < length paths.now }
+{
+    &paths[(seed >> 20) as usize % paths.len()]
+}
+
+/// So many marks.
+fn add(rt: &HostRuntime, paths: &[Path], ranges: Ranges, count: u64) -> Result<Marks, Fault>
+    requires { 0 < length paths.now }
+{
     let mut marks = Marks::new(rt.alloc());
     let mut seed = 7u64;
     for done in 0..count {
         seed = next(seed);
-        let Ok(path) = series.copy() else {
+        let Ok(path) = path_of(paths, seed).copy() else {
             return Err(Fault::Memory);
         };
-        let from = time_of(seed);
+        let range = range_of(ranges, done, seed);
         marks.reserve()?;
         marks.add(Mark {
             path,
-            from,
-            to: from.saturating_add(((seed >> 8) % 256).cast_signed()),
+            from: range.from,
+            to: range.to,
             version: Stamp(done + 1),
         });
     }
@@ -38,43 +88,55 @@ fn add(rt: &HostRuntime, series: &Path, count: u64) -> Result<Marks, Fault> {
 }
 
 /// How many of so many points survive.
-fn count_survivors(marks: &Marks, series: &Path, count: u64) -> u64 {
+fn count_survivors(marks: &Marks, paths: &[Path], count: u64) -> u64
+    requires { 0 < length paths.now }
+{
     let mut survivors = 0u64;
     let mut seed = 11u64;
     for _ in 0..count {
         seed = next(seed);
-        let survives = marks.survives(series, time_of(seed), Stamp((seed >> 16) % MARKS));
+        let survives = marks.survives(
+            path_of(paths, seed),
+            time_of(seed),
+            Stamp((seed >> 16) % MARKS),
+        );
         survivors = survivors.wrapping_add(u64::from(survives));
     }
     survivors
 }
 
-/// The rows of the marks.
-pub fn marks(rt: &HostRuntime, rounds: Rounds) -> Result<u64, Fault> {
-    let Ok(series) = Path::read(rt.alloc(), b"root.g.d.s") else {
-        return Err(Fault::Memory);
-    };
+/// Adds marks of these series, and asks for points.
+fn measure(
+    rt: &HostRuntime,
+    rounds: Rounds,
+    what: &str,
+    paths: &[Path],
+    ranges: Ranges,
+) -> Result<u64, Fault> {
+    if paths.is_empty() {
+        return Err(Fault::NoGroup);
+    }
     let count = rounds.of(MARKS);
     let start = Instant::now(rt)?;
-    let marks = add(rt, &series, count)?;
-    row(
-        rt,
-        rounds,
-        "100,000 marks on one series",
-        "add",
-        count,
-        start,
-    )?;
-    let count = rounds.of(10 * MARKS);
+    let marks = add(rt, paths, ranges, count)?;
+    row(rt, rounds, what, "add", count, start)?;
     let start = Instant::now(rt)?;
-    let survivors = count_survivors(&marks, &series, count);
-    row(
-        rt,
-        rounds,
-        "100,000 marks on one series",
-        "survives",
-        count,
-        start,
-    )?;
+    let survivors = count_survivors(&marks, paths, count);
+    row(rt, rounds, what, "survives", count, start)?;
+    let start = Instant::now(rt)?;
+    let only = marks.only(&paths[..1])?;
+    row(rt, rounds, what, "only", only.marks().len() as u64, start)?;
     Ok(survivors.max(1))
+}
+
+/// The rows of the marks.
+pub fn marks(rt: &HostRuntime, rounds: Rounds) -> Result<u64, Fault> {
+    let one = paths(rt, 1)?;
+    let many = paths(rt, SERIES)?;
+    let what = "1,000,000 marks on one series";
+    let check = measure(rt, rounds, what, one.as_slice(), Ranges::Random)?;
+    let what = "1,000,000 rising marks on one series";
+    let check = check.wrapping_add(measure(rt, rounds, what, one.as_slice(), Ranges::Rising)?);
+    let what = "1,000,000 marks on 10,000 series";
+    Ok(check.wrapping_add(measure(rt, rounds, what, many.as_slice(), Ranges::Random)?))
 }
