@@ -18,7 +18,7 @@ const STORE: &str = "bench.stored";
 const BARE: &str = "bench.bare";
 
 /// How many files there are. All of their tokens are out at once when they are read or removed.
-const FILES: u64 = 10_000;
+const FILES: u64 = 20_000;
 
 /// How many bytes each has.
 const BYTES: usize = 1_000;
