@@ -1,0 +1,9 @@
+use Rattle.tsdb_held.proofs.Sweeping.{sweep_is, tell_on}
+use Rattle.tsdb_held.proofs.laws.a_sweep_is_a_step_of_the_state.Goals as goal
+
+pub returns-clause-step : goal.returns-clause-step
+returns-clause-step c files new known state doubted part are doubt some leaves =
+    sweep_is files new doubted part known state are doubt some leaves
+
+pub returns-clause-told : goal.returns-clause-told
+returns-clause-told c files new kept doubted part told leaves = tell_on files new doubted part kept told leaves
