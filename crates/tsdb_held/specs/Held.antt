@@ -45,10 +45,13 @@ abbrev pub TellTheirBytes : KeptFiles → List StoredFile → Type 0
 TellTheirBytes files kept = (number : ℕ) → IfSome (kept_file number files)
     (λ file. (file.name.number ≡ number) × (file.name.bytes ≡ kept_bytes kept number))
 
+-- the numbers of the files that are told
+abbrev pub told_numbers : List (Option FileNumber) → List ℕ
+told_numbers doubted = map (λ (file : FileNumber). file.0) (flat_map if_some doubted)
+
 -- these are the files that a record in doubt names, if one is in doubt
 abbrev pub IsDoubtOf : List (Option FileNumber) → EngineState → Type 0
-IsDoubtOf doubted state = IfSome state.doubt
-    (λ item. names item ≡ map (λ (file : FileNumber). file.0) (flat_map if_some doubted))
+IsDoubtOf doubted state = IfSome state.doubt (λ item. names item ≡ told_numbers doubted)
 
 -- the numbers of those of these outgoing files that may go
 abbrev pub may_go : List (Option FileNumber) → KeptFiles → List Outgoing → List ℕ

@@ -1,0 +1,184 @@
+-- The state that a core shows after a command, and after a sweep.
+use Rattle.std.proofs.Common.{◌≡◌, ℕ, false, inl, inr, List, [], ◌∷◌, ◌++◌, length, map, Option, Some, None, Result, Ok, Err}
+use Rattle.std.proofs.Common.{ap, append_assoc, refl, sym, subst, ◌∙◌}
+use Rattle.std.proofs.lemmas.List.{append-nil}
+use Rattle.std.specs.Prelude.{IfOk, IfSome, OnErr, OnOk}
+use Rattle.tsdb_base.specs.declared.answers.Answer.{Answer}
+use Rattle.tsdb_base.specs.declared.answers.Answer.TheVariants as answer
+use Rattle.tsdb_base.specs.declared.ids.FileNumber.{FileNumber}
+use Rattle.tsdb_files_core.specs.Core.{IsCoreCommand, IsSeen, IsSeenAfter, IsSwept, IsSweptOf, without_files}
+use Rattle.tsdb_files_core.specs.declared.engine.Core.{Core}
+use Rattle.tsdb_frames.specs.Frames.{is_aside_in_doubt}
+use Rattle.tsdb_held.proofs.Sweeping.{sweep_is, tell_on}
+use Rattle.tsdb_held.specs.Held.{AreFilesOf, AreSomeOf, IsDoubtOf, TellTheirBytes, may_go, told_numbers}
+use Rattle.tsdb_images.proofs.Storing.{sweep_stored}
+use Rattle.tsdb_kept.specs.Files.{KeptFiles, kept_file}
+use Rattle.tsdb_kept.specs.Sweeps.{LeavesWithout, StopsAt, tried_numbers}
+use Rattle.tsdb_kept.specs.declared.files.Outgoing.{Outgoing}
+use Rattle.tsdb_layers.proofs.Lists.{among_left}
+use Rattle.tsdb_layers.specs.Lists.{Among, if_some}
+use Rattle.tsdb_log.specs.declared.record.LogRecord.{LogRecord}
+use Rattle.tsdb_logged.specs.Commands.{IsAfter, IsCommand}
+use Rattle.tsdb_logged.specs.Logged.{HasLog, IsSound, Outside, log_of, two_numbers, with_record}
+use Rattle.tsdb_logged.specs.declared.logged.Logged.{Logged}
+use Rattle.tsdb_outside.specs.declared.disk.Disk as disk
+use Rattle.tsdb_outside.specs.declared.faults.Counted as counted
+use Rattle.tsdb_outside.specs.declared.faults.Failed.{Failed}
+use Rattle.tsdb_state.specs.Records.{after, names}
+use Rattle.tsdb_state.specs.State.{EngineState, Entries, StoreState}
+use Rattle.tsdb_state.specs.Steps.{failed, settled, swept, wrote}
+
+-- the record leaves the lists of files alone
+pub record KeepsLists (item : LogRecord) : Type 0 where
+  pub sequence : (store : StoreState) → (after item store).sequence ≡ store.sequence
+  pub unsequence : (store : StoreState) → (after item store).unsequence ≡ store.unsequence
+
+-- files of a state are those of each with the same lists, outgoing files and rights
+files_as : (files : KeptFiles) (known : Entries) (state other : EngineState)
+    → other.store.sequence ≡ state.store.sequence → other.store.unsequence ≡ state.store.unsequence
+    → other.outgoing ≡ state.outgoing → other.rights ≡ state.rights → AreFilesOf files known state
+    → AreFilesOf files known other
+files_as files known state other sequence unsequence outgoing rights are = record {
+  sequence = are.sequence ∙ sym sequence;
+  unsequence = are.unsequence ∙ sym unsequence;
+  outgoing = are.outgoing ∙ sym outgoing;
+  rights = subst (λ (count : ℕ → ℕ). (number : ℕ)
+      → IfSome (kept_file number files) (λ file. file.rights ≡ count number)) (sym rights)
+      are.rights;
+  entries_in_sequence = are.entries_in_sequence;
+  entries_in_unsequence = are.entries_in_unsequence;
+}
+
+-- the numbers of two files, as a list and as a pair
+two_told : (first second : Option FileNumber) → two_numbers (first, second) ≡ told_numbers (first ∷ second ∷ [])
+two_told first second = ap (λ (list : List FileNumber). map (λ (file : FileNumber). file.0) (if_some first ++ list))
+    (sym (append-nil (if_some second)))
+
+-- the first ones, with the one that could not be removed, are outgoing files
+tried_some : (outgoing before behind : List Outgoing) (file : Outgoing) → outgoing ≡ before ++ file ∷ behind
+    → (other : Outgoing) → Among other (before ++ file ∷ []) → Among other outgoing
+tried_some outgoing before behind file are other among = subst (Among other)
+    (append_assoc before (file ∷ []) behind ∙ sym are) (among_left (before ++ file ∷ []) behind other among)
+
+module _ {J F S R P : Type 0} {means : disk.Ghosts J} {counts : counted.Ghosts J} where
+  module _ (old : Core J F S R P means counts) (logged : Logged J means counts) (item : LogRecord)
+      (keeps : KeepsLists item) (outside : Outside) (state : EngineState) (seen : IsSeen old outside state) where
+    abbrev new : Core J F S R P means counts
+    new = record old { logged = logged }
+
+    -- the files are those of a state with the same lists
+    shown : (later : Outside) (other : EngineState) → later.known ≡ outside.known → later.kept ≡ outside.kept
+        → other.store.sequence ≡ state.store.sequence → other.store.unsequence ≡ state.store.unsequence
+        → other.outgoing ≡ state.outgoing → other.rights ≡ state.rights → IsSound logged later other
+        → IsSeen new later other
+    shown later other known kept sequence unsequence outgoing rights sound = record {
+      sound = sound;
+      files = files_as old.files later.known state other sequence unsequence outgoing rights
+          (subst (λ (entries : Entries). AreFilesOf old.files entries state) (sym known) seen.files);
+      told = subst (λ stored. TellTheirBytes old.files stored) (sym kept) seen.told;
+    }
+
+    seen_after : (result : Answer) → IsAfter logged outside state item result → IsSeenAfter new outside state item result
+    seen_after answer.Done sound = shown (with_record item outside) (wrote item state) refl refl
+        (keeps.sequence state.store) (keeps.unsequence state.store) refl refl sound
+    seen_after answer.NoPath sound = shown outside state refl refl refl refl refl refl sound
+    seen_after answer.WrongType sound = shown outside state refl refl refl refl refl refl sound
+    seen_after answer.Exists sound = shown outside state refl refl refl refl refl refl sound
+    seen_after answer.Device (inl sound) = inl (shown outside (settled state) refl refl refl refl refl refl sound)
+    seen_after answer.Device (inr (inl sound)) = inr (inl (shown outside state refl refl refl refl refl refl sound))
+    seen_after answer.Device (inr (inr sound)) =
+        inr (inr (shown outside (failed item state) refl refl refl refl refl refl sound))
+    seen_after answer.Memory sound = shown outside state refl refl refl refl refl refl sound
+    seen_after (answer.Full counter) sound = shown outside state refl refl refl refl refl refl sound
+
+  pub core_command : (old : Core J F S R P means counts) (logged : Logged J means counts) (item : LogRecord)
+      (Needs Asks : EngineState → Type 0) (result : Answer) → KeepsLists item
+      → ((outside : Outside) (state : EngineState) → IsSeen old outside state → Needs state → Asks state)
+      → IsCommand old.logged logged item Asks result
+      → IsCoreCommand old (record old { logged = logged }) item Needs result
+  core_command old logged item Needs Asks result keeps asks command = record {
+    step = λ outside state seen needs. seen_after old logged item keeps outside state seen result
+        (command.step outside state seen.sound (asks outside state seen needs));
+    moments = λ outside state seen needs. command.moments outside state seen.sound (asks outside state seen needs);
+    refused = command.refused;
+    files = refl;
+    cause = command.cause;
+    later = command.later;
+  }
+
+  -- the files that a core is told of are those that a record in doubt names
+  pub doubt_told : (core : Core J F S R P means counts) (first second : Option FileNumber)
+      → ((items : List LogRecord) (item : LogRecord) → HasLog core.logged items (Some item)
+      → two_numbers (first, second) ≡ names item)
+      → (outside : Outside) (state : EngineState) → IsSeen core outside state → IsDoubtOf (first ∷ second ∷ []) state
+  doubt_told core first second named outside state seen = by state.doubt seen.sound.log
+    where
+      by : (doubt : Option LogRecord) → HasLog core.logged outside.items doubt
+          → IfSome doubt (λ item. names item ≡ told_numbers (first ∷ second ∷ []))
+      by None log = tt
+      by (Some item) log = sym (named outside.items item log) ∙ two_told first second
+
+  pub none_told : (core : Core J F S R P means counts) (first second : Option FileNumber)
+      → ((items : List LogRecord) → HasLog core.logged items None → two_numbers (first, second) ≡ [])
+      → (outside : Outside) (state : EngineState) → IsSeen core outside state → state.doubt ≡ None
+      → told_numbers (first ∷ second ∷ []) ≡ []
+  none_told core first second none outside state seen is = sym (two_told first second)
+      ∙ none outside.items (subst (HasLog core.logged outside.items) is seen.sound.log)
+
+  -- what is left of the files after a sweep are those of the state that is swept
+  pub swept_of : (old : Core J F S R P means counts) (files : KeptFiles) (doubted : List (Option FileNumber))
+      (part : List Outgoing) → AreSomeOf old.files part
+      → ((outside : Outside) (state : EngineState) → IsSeen old outside state → IsDoubtOf doubted state)
+      → LeavesWithout (may_go doubted old.files part) old.files files
+      → IsSweptOf old (record old { files = files }) (may_go doubted old.files part)
+  swept_of old files doubted part some named leaves = record { left = leaves; step = step }
+    where
+      step : (outside : Outside) (state : EngineState) → IsSeen old outside state
+          → IsSeen (record old { files = files }) (without_files (may_go doubted old.files part) outside)
+          (swept (may_go doubted old.files part) state)
+      step outside state seen =
+          let sweep = sweep_is old.files files doubted part outside.known state seen.files (named outside state seen)
+          some leaves in
+          record {
+            sound = record {
+              memory = seen.sound.memory;
+              log = record { log = seen.sound.log.log; named = seen.sound.log.named };
+              stored = sweep_stored outside.items outside.kept outside.told outside.known state seen.sound.stored
+                  (may_go doubted old.files part) sweep.outgoing sweep.sweeps;
+            };
+            files = sweep.files;
+            told = tell_on old.files files doubted part outside.kept seen.told leaves;
+          }
+
+  pub is_swept : (old : Core J F S R P means counts) (files : KeptFiles) (doubted : List (Option FileNumber))
+      (outcome : Result ℕ Failed)
+      → ((outside : Outside) (state : EngineState) → IsSeen old outside state → IsDoubtOf doubted state)
+      → (is_aside_in_doubt (log_of old.logged) ≡ false → (outside : Outside) (state : EngineState)
+      → IsSeen old outside state → state.doubt ≡ None → told_numbers doubted ≡ [])
+      → IfOk outcome (λ count. count ≡ length (may_go doubted old.files old.files.outgoing))
+      → OnOk outcome (LeavesWithout (may_go doubted old.files old.files.outgoing) old.files files)
+      → OnErr outcome ((stop : StopsAt doubted old.files.places old.files.outgoing)
+      × LeavesWithout (tried_numbers doubted old.files.places stop) old.files files)
+      → IsSwept old (record old { files = files }) outcome
+  is_swept old files doubted (Ok count) named none counted leaves stops = record {
+    doubted = doubted;
+    named = named;
+    none = none;
+    logged = refl;
+    counted = counted;
+    all = swept_of old files doubted old.files.outgoing (λ file among. among) named leaves;
+    stopped = tt;
+  }
+  is_swept old files doubted (Err fault) named none counted leaves stops = record {
+    doubted = doubted;
+    named = named;
+    none = none;
+    logged = refl;
+    counted = tt;
+    all = tt;
+    stopped = (
+      stops.0,
+      swept_of old files doubted (stops.0.before ++ stops.0.failed ∷ [])
+          (tried_some old.files.outgoing stops.0.before stops.0.behind stops.0.failed stops.0.are) named stops.1,
+    );
+  }
