@@ -114,7 +114,7 @@ def main():
     program = os.path.abspath(sys.argv[1])
     print(f"{'what':<58} {'steps':>8} {'steps/s':>12} {'of limit':>8}")
     with tempfile.TemporaryDirectory(dir=os.getcwd()) as folder:
-        table(program, folder, "disk", 2000)
+        table(program, folder, "disk", 20000)
     if os.path.isdir(TMPFS):
         with tempfile.TemporaryDirectory(dir=TMPFS) as folder:
             table(program, folder, "tmpfs", 200000)
