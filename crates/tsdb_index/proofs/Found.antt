@@ -203,10 +203,3 @@ leaf_at names ps from behind pointer at last from_is is =
         let size : length ps ≡ at + (2 + length qs) = let n = length-drop at ps in let m = ap length e in omega (arith, n, m) in
         let is_q : get_or ps (at + 1) q ≡ q = sym (get_or-drop at ps 1 q) ∙ ap (λ (l : List Pointer). get_or l 1 q) e in
         All-from_recursion (IsBefore names) (pointer_names q ∷ []) (subst (λ (p : Pointer). IsBefore names (pointer_names p)) is_q (last.later (at + 1) q (omega arith) (omega (arith, size))), tt)
-
--- behind the last place stands a pointer
-pub some_behind : (d m : List ℕ) (ps from : List Pointer) (at : ℕ) → IsLastFor (d, m) ps at → from ≡ drop at ps → length from < 1 → ⊥
-some_behind d m ps from at last from_is none =
-    let n = ap length from_is ∙ length-drop at ps in
-    let inside = last.inside in
-    omega (arith, n, inside, none)
