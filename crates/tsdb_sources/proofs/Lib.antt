@@ -1,0 +1,2 @@
+pub mod PieceMerges
+pub mod Sources
