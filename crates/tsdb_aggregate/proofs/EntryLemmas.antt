@@ -1,5 +1,5 @@
 -- Entries in order of their starts: where a group ends, and what a sort leaves.
-use Rattle.std.proofs.Common.{◌≡◌, ℕ, suc, ◌+◌, ◌<◌, ◌≤◌, Bool, true, false, not, cond, List, [], ◌∷◌, ◌++◌, length, get_or, take, drop, ◌⊎◌, ⊎_elim, refl, sym, ap, ◌∙◌, subst, filter, arith}
+use Rattle.std.proofs.Common.{◌≡◌, ℕ, suc, ◌+◌, ◌<◌, ◌≤◌, Bool, true, false, not, cond, List, [], ◌∷◌, ◌++◌, length, get_or, take, drop, ◌⊎◌, ⊎_elim, refl, sym, ap, ◌∙◌, subst, filter, None, arith}
 use Rattle.std.specs.Prelude.{ℤ, ◌<ℤ◌, ◌≤ℤ◌, ◌||◌, int_le, All, AllPairs, IsTrue}
 use Rattle.std.specs.Ordering.{int_cmp, is_lt}
 use Rattle.std.specs.List.{zip}
@@ -108,7 +108,7 @@ cut_first entries x l is order known a b ha hb =
 module _ (range : Range) (pieces : List Piece) (held : List Held) (place : ℕ) (entries : List Entry) (piece : Piece) (below : place < length pieces) (same : length held ≡ length pieces) (is : piece ≡ get_or pieces place piece)
     (so_far : parts_of held entries ≡ filter (λ part. overlap range (hull part.0)) (take place (zip pieces held))) where
   abbrev none : Held
-  none = record { points = []; cost = 0 }
+  none = record { points = None; cost = 0 }
 
   at : get_or (zip pieces held) place (piece, none) ≡ (piece, held_at held place)
   at = get_or-zip pieces held place (piece, none) below (omega (arith, below, same)) ∙ ap (λ p. (p, get_or held place none)) (sym is)

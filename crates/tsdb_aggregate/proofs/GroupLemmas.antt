@@ -1,10 +1,10 @@
--- The statistics of the winners of one group, of a group behind others, and of all entries.
-use Rattle.std.proofs.Common.{◌≡◌, ℕ, zero, suc, ◌+◌, ◌<◌, ◌≤◌, Bool, true, false, not, cond, List, [], ◌∷◌, ◌++◌, length, get_or, take, drop, Option, Some, inl, inr, ⊎_elim, refl, sym, ap, ◌∙◌, subst, map, filter, sum_by, arith}
+-- The tally of the winners of one group, of a group behind others, and of all entries.
+use Rattle.std.proofs.Common.{◌≡◌, ℕ, zero, suc, ◌+◌, ◌<◌, ◌≤◌, Bool, true, false, not, cond, List, [], ◌∷◌, ◌++◌, length, get_or, take, drop, Option, inl, inr, ⊎_elim, refl, sym, ap, ◌∙◌, subst, map, filter, sum_by, arith}
 use Rattle.std.specs.Prelude.{ℤ, ◌≢◌, ◌<ℤ◌, ◌&&◌, ◌||◌, All, AllPairs, Contains, IsTrue}
 use Rattle.std.specs.List.Sorted.{IsPermutation}
 use Rattle.std.proofs.lemmas.Bool.{false≢true}
 use Rattle.std.proofs.lemmas.Int.{ints}
-use Rattle.std.proofs.lemmas.List.{map-append, take-append-drop, take_more}
+use Rattle.std.proofs.lemmas.List.{map-append, take-append-drop}
 use Rattle.std.proofs.lemmas.List.Elements.{All-contains, All-filter, All-head, All-tail, filter_passes, Contains-append_cases}
 use Rattle.std.proofs.lemmas.List.Kept.{AllPairs-filter}
 use Rattle.std.proofs.lemmas.List.Sorted.{All-permutation, IsPermutation-map, IsPermutation-sym, sum_by-IsPermutation}
@@ -12,27 +12,27 @@ use Rattle.std.proofs.lemmas.List.Sums.{sum_by-append, sum_by-cons}
 use Rattle.tsdb_base.specs.declared.answers.Aggregate.{Aggregate}
 use Rattle.tsdb_base.specs.declared.point.Point.{Point}
 use Rattle.tsdb_base.specs.declared.point.Range.{Range}
-use Rattle.tsdb_base.specs.declared.point.Stats.{Stats}
 use Rattle.tsdb_base.specs.declared.value.Value.{Value}
-use Rattle.tsdb_map.specs.Folds.{aggregate_of}
 use Rattle.tsdb_map.specs.World.{is_in}
-use Rattle.tsdb_merge.specs.Winners.{HasNoneAt, IsMergeOf, IsRising}
+use Rattle.tsdb_merge.specs.Winners.{HasNoneAt, IsMergeOf}
 use Rattle.tsdb_merge.proofs.MergeLemmas.{All-from_contains, All-left, All-right, Contains-head}
-use Rattle.tsdb_aggregate.specs.Loads.{Held, held_at}
-use Rattle.tsdb_aggregate.specs.Pieces.{AreApart, AreSound, HasOrder, IsCleanIn, Part, cost_in, hull, overlap, most_loads}
-use Rattle.tsdb_aggregate.specs.Steps.{AreTotal, End, HasTotal, IsCut, IsGroup, IsMergeWithin, cost_of, part_of, parts_of}
+use Rattle.tsdb_aggregate.specs.Loads.{Held}
+use Rattle.tsdb_aggregate.specs.Pieces.{AreApart, AreSound, HasOrder, IsCleanIn, Part, cost_in, hull, overlap, most_loads, points_of}
+use Rattle.tsdb_aggregate.specs.Steps.{AddsWinners, End, HasTally, IsCut, IsGroup, IsTally, answer_of, cost_of, part_of, parts_of}
 use Rattle.tsdb_aggregate.specs.Winners.{AreWinners, IsAggregate}
 use Rattle.tsdb_aggregate.specs.declared.entry.Entry.{Entry}
-use Rattle.tsdb_aggregate.proofs.ListFacts.{AllPairs-left, AllPairs-right, All-of_map, AllPairs-map, AllPairs-of_map, AllPairs-permutation, Contains-from_drop, Contains-from_take, Contains-of_map, drop_two, take_two}
+use Rattle.tsdb_aggregate.specs.declared.tally.Tally.{Tally}
+use Rattle.tsdb_stats.specs.Statistics.{AreStatsOf}
+use Rattle.tsdb_aggregate.proofs.ListFacts.{AllPairs-left, AllPairs-right, AllPairs-map, AllPairs-of_map, AllPairs-permutation, Contains-from_drop, Contains-from_take, Contains-of_map, drop_two, take_two}
 use Rattle.tsdb_aggregate.proofs.WinnerLemmas.{Before, IsBelow, same_filtered, same_permuted, winners_append, winners_clean, winners_of_merge, winners_of_same}
 
 -- ---- one group
 
 apart_both : (a b : Part) → AreApart a b → AreApart b a
 apart_both a b h = record {
-  times = λ same. All-from_contains (λ p. HasNoneAt p.time a.1.points) b.1.points (λ p hp.
-      All-from_contains (λ q. q.time ≢ p.time) a.1.points (λ q hq e.
-      All-contains (λ r. r.time ≢ q.time) b.1.points p (All-contains (λ r. HasNoneAt r.time b.1.points) a.1.points q (h.times (sym same)) hq) hp (sym e)));
+  times = λ same. All-from_contains (λ p. HasNoneAt p.time (points_of a)) (points_of b) (λ p hp.
+      All-from_contains (λ q. q.time ≢ p.time) (points_of a) (λ q hq e.
+      All-contains (λ r. r.time ≢ q.time) (points_of b) p (All-contains (λ r. HasNoneAt r.time (points_of b)) (points_of a) q (h.times (sym same)) hq) hp (sym e)));
   hulls = λ c. other (is_in (hull a.0) b.0.stats.start && is_in (hull b.0) b.0.stats.start) (is_in (hull b.0) a.0.stats.start && is_in (hull a.0) a.0.stats.start) (h.hulls (other_true (b.0.clean) (a.0.clean) c));
 }
   where
@@ -50,20 +50,16 @@ apart_both a b h = record {
 pub apart_permuted : (xs ys : List Part) → IsPermutation xs ys → AllPairs AreApart xs → AllPairs AreApart ys
 apart_permuted xs ys perm h = AllPairs-permutation AreApart apart_both xs ys perm h
 
-pub total_of_merge : (held : List Held) (range : Range) (group entries : List Entry) (lists : List (List Point)) (points : List Point) (total : Option Stats)
+pub winners_of_group : (held : List Held) (range : Range) (group entries : List Entry) (all : List Point)
     → IsPermutation group entries → AllPairs (λ a b. a.piece.now.source ≤ b.piece.now.source) entries → AllPairs AreApart (parts_of held group)
-    → lists ≡ map (λ part. part.1.points) (parts_of held entries) → IsMergeWithin lists range points → AreTotal points total → HasTotal held range group total
-total_of_merge held range group entries lists points total perm sources apart same merge statistics =
+    → IsMergeOf (map points_of (parts_of held entries)) all → AreWinners (parts_of held group) range (filter (λ point. is_in range point.time) all)
+winners_of_group held range group entries all perm sources apart merge =
     let moved : IsPermutation (parts_of held group) (parts_of held entries) = IsPermutation-map (part_of held) group entries perm in
     let pairs = AllPairs-of_map AreApart (part_of held) entries (apart_permuted (parts_of held group) (parts_of held entries) moved apart) in
     let below : AllPairs IsBelow (parts_of held entries) = AllPairs-map IsBelow (part_of held) entries (λ i j d l m. record { source = sources i j d l m; times = (pairs i j d l m).times }) in
-    let whole : IsMergeOf (map (λ part. part.1.points) (parts_of held entries)) merge.all = subst (λ ls. IsMergeOf ls merge.all) same merge.merge in
-    let winners : AreWinners (parts_of held entries) range points = subst (λ ps. AreWinners (parts_of held entries) range ps) (sym merge.is) (winners_of_merge range (parts_of held entries) merge.all below whole) in
-    record {
-      points = points;
-      winners = winners_of_same range (parts_of held entries) (parts_of held group) points (same_permuted range (parts_of held entries) (parts_of held group) (IsPermutation-sym (parts_of held group) (parts_of held entries) moved)) winners;
-      statistics = statistics;
-    }
+    let points = filter (λ point. is_in range point.time) all in
+    winners_of_same range (parts_of held entries) (parts_of held group) points (same_permuted range (parts_of held entries) (parts_of held group) (IsPermutation-sym (parts_of held group) (parts_of held entries) moved))
+    (winners_of_merge range (parts_of held entries) all below merge)
 
 pub cost_permuted : (held : List Held) (group entries : List Entry) → IsPermutation group entries → sum_by (λ part. part.1.cost) (parts_of held entries) ≡ sum_by (λ part. part.1.cost) (parts_of held group)
 cost_permuted held group entries perm = sum_by-IsPermutation (λ part. part.1.cost) (parts_of held group) (parts_of held entries) (IsPermutation-map (part_of held) group entries perm)
@@ -73,19 +69,20 @@ all_permuted P held group entries perm all = All-permutation P (parts_of held gr
 
 -- ---- a clean piece alone
 
-pub total_of_clean : (held : List Held) (range : Range) (group : List Entry) (x : Entry) (stats : Stats) → IsGroup group → AreSound range (parts_of held group) → IsTrue (get_or group 0 x).piece.now.clean
-    → stats ≡ (get_or group 0 x).piece.now.stats → HasTotal held range group (Some stats)
-total_of_clean held range [] x stats some sound clean is = absurd (omega (arith, some.0))
-total_of_clean held range (y ∷ []) x stats some sound clean is =
+pub adds_clean : (held : List Held) (range : Range) (name : Aggregate) (group : List Entry) (x : Entry) (before now next : Tally) → IsGroup group → AreSound range (parts_of held group)
+    → IsTrue (get_or group 0 x).piece.now.clean → ((points : List Point) → AreStatsOf points (get_or group 0 x).piece.now.stats → IsTally name points next)
+    → ((xs ys : List Point) → IsTally name xs before → IsTally name ys next → IsTally name (xs ++ ys) now) → AddsWinners held range name group before now
+adds_clean held range name [] x before now next some sound clean of_stats join = absurd (omega (arith, some.0))
+adds_clean held range name (y ∷ []) x before now next some sound clean of_stats join =
     let order : HasOrder (part_of held y) = All-contains HasOrder (part_of held y ∷ []) (part_of held y) sound.order (Contains-head (part_of held y) []) in
     let own : IsCleanIn range (part_of held y) = All-contains (λ part. IsTrue part.0.clean → IsCleanIn range part) (part_of held y ∷ []) (part_of held y) sound.clean (Contains-head (part_of held y) []) clean in
     record {
-      points = (part_of held y).1.points;
+      points = points_of (part_of held y);
       winners = winners_clean range (part_of held y) order own;
-      statistics = rw is own.statistics;
+      adds = λ earlier first. join earlier (points_of (part_of held y)) first (of_stats (points_of (part_of held y)) own.statistics);
     }
-total_of_clean held range (y ∷ z ∷ zs) x stats (some, inl one) sound clean is = absurd (omega (arith, one))
-total_of_clean held range (y ∷ z ∷ zs) x stats (some, inr unclean) sound clean is = absurd (false≢true (sym (All-head (λ (e : Entry). e.piece.now.clean ≡ false) y (z ∷ zs) unclean) ∙ clean))
+adds_clean held range name (y ∷ z ∷ zs) x before now next (some, inl one) sound clean of_stats join = absurd (omega (arith, one))
+adds_clean held range name (y ∷ z ∷ zs) x before now next (some, inr unclean) sound clean of_stats join = absurd (false≢true (sym (All-head (λ (e : Entry). e.piece.now.clean ≡ false) y (z ∷ zs) unclean) ∙ clean))
 
 cost_unclean : (held : List Held) (group : List Entry) → All (λ entry. entry.piece.now.clean ≡ false) group → sum_by (λ part. part.1.cost) (parts_of held group) ≡ sum_by cost_of (parts_of held group)
 cost_unclean held [] all = refl
@@ -110,8 +107,8 @@ before_from_end : (held : List Held) (xs ys : List Entry) → All HasOrder (part
 before_from_end held xs ys ox oy end s t p q hp hq =
     let a = Contains-of_map (part_of held) xs hp.part hp.among in
     let b = Contains-of_map (part_of held) ys hq.part hq.among in
-    let inside : IsTrue (is_in (hull hp.part.0) p.time) = All-contains (λ r. IsTrue (is_in (hull hp.part.0) r.time)) hp.part.1.points p (All-contains HasOrder (parts_of held xs) hp.part ox hp.among).within hp.has in
-    let within : IsTrue (is_in (hull hq.part.0) q.time) = All-contains (λ r. IsTrue (is_in (hull hq.part.0) r.time)) hq.part.1.points q (All-contains HasOrder (parts_of held ys) hq.part oy hq.among).within hq.has in
+    let inside : IsTrue (is_in (hull hp.part.0) p.time) = All-contains (λ r. IsTrue (is_in (hull hp.part.0) r.time)) (points_of hp.part) p (All-contains HasOrder (parts_of held xs) hp.part ox hp.among).within hp.has in
+    let within : IsTrue (is_in (hull hq.part.0) q.time) = All-contains (λ r. IsTrue (is_in (hull hq.part.0) r.time)) (points_of hq.part) q (All-contains HasOrder (parts_of held ys) hq.part oy hq.among).within hq.has in
     let first : IsTrue (is_in (hull a.0.piece.now) p.time) = subst (λ (x : Part). IsTrue (is_in (hull x.0) p.time)) (sym a.2) inside in
     let second : IsTrue (is_in (hull b.0.piece.now) q.time) = subst (λ (x : Part). IsTrue (is_in (hull x.0) q.time)) (sym b.2) within in
     between (hull a.0.piece.now) (hull b.0.piece.now) p.time q.time first second (end a.0 b.0 a.1 b.1)
@@ -147,18 +144,17 @@ sound_rest range held m entries sound =
       apart = AllPairs-right AreApart (parts_of held (take m entries)) (parts_of held (drop m entries)) (subst (λ ps. AllPairs AreApart ps) e sound.apart);
     }
 
-pub total_more : (held : List Held) (range : Range) (m n : ℕ) (entries : List Entry) (total next joined : Option Stats) → AreSound range (parts_of held entries) → IsCut m entries
-    → HasTotal held range (take m entries) total → HasTotal held range (take n (drop m entries)) next
-    → ((xs ys : List Point) → AreTotal xs total → AreTotal ys next → AreTotal (xs ++ ys) joined) → HasTotal held range (take (m + n) entries) joined
-total_more held range m n entries total next joined sound cut first second join =
-    let before : Before (parts_of held (take m entries)) (parts_of held (take n (drop m entries))) =
+pub tally_more : (held : List Held) (range : Range) (name : Aggregate) (m n : ℕ) (entries : List Entry) (before now : Tally) → AreSound range (parts_of held entries) → IsCut m entries
+    → HasTally held range name (take m entries) before → AddsWinners held range name (take n (drop m entries)) before now → HasTally held range name (take (m + n) entries) now
+tally_more held range name m n entries before now sound cut first second =
+    let apart : Before (parts_of held (take m entries)) (parts_of held (take n (drop m entries))) =
     before_from_end held (take m entries) (take n (drop m entries)) (sound_first range held m entries sound).order (sound_first range held n (drop m entries) (sound_rest range held m entries sound)).order
     (λ a b ha hb. cut a b ha (Contains-from_take n (drop m entries) b hb)) in
     record {
       points = first.points ++ second.points;
       winners = subst (λ ps. AreWinners ps range (first.points ++ second.points)) (sym (parts_two held m n entries))
-          (winners_append (parts_of held (take m entries)) (parts_of held (take n (drop m entries))) range first.points second.points before first.winners second.winners);
-      statistics = join first.points second.points first.statistics second.statistics;
+          (winners_append (parts_of held (take m entries)) (parts_of held (take n (drop m entries))) range first.points second.points apart first.winners second.winners);
+      tally_is = second.adds first.points first.tally_is;
     }
 
 pub cut_more : (m n : ℕ) (entries : List Entry) → IsCut m entries → IsCut n (drop m entries) → IsCut (m + n) entries
@@ -214,37 +210,14 @@ meet_entries range parts held entries perm =
     let test : Part → Bool = λ part. overlap range (hull part.0) in
     All-permutation (λ part. test part ≡ true) (filter test parts) (parts_of held entries) perm (filter_passes test parts)
 
-pub aggregate_of_all : (range : Range) (parts : List Part) (held : List Held) (entries : List Entry) (total : Option Stats) (name : Aggregate) (answer : Option Value)
-    → IsPermutation (filter (λ part. overlap range (hull part.0)) parts) (parts_of held entries) → AreSound range parts → HasTotal held range entries total
-    → ((points : List Point) → AreTotal points total → answer ≡ aggregate_of name points) → IsAggregate parts range name answer
-aggregate_of_all range parts held entries total name answer perm sound found read =
+pub aggregate_of_all : (range : Range) (parts : List Part) (held : List Held) (entries : List Entry) (tally : Tally) (name : Aggregate) (answer : Option Value)
+    → IsPermutation (filter (λ part. overlap range (hull part.0)) parts) (parts_of held entries) → AreSound range parts → HasTally held range name entries tally → answer ≡ answer_of name tally → IsAggregate parts range name answer
+aggregate_of_all range parts held entries tally name answer perm sound found is =
     let test : Part → Bool = λ part. overlap range (hull part.0) in
     let kept = winners_of_same range (parts_of held entries) (filter test parts) found.points
     (same_permuted range (parts_of held entries) (filter test parts) (IsPermutation-sym (filter test parts) (parts_of held entries) perm)) found.winners in
     record {
       points = found.points;
       winners = winners_of_same range (filter test parts) parts found.points (same_filtered range parts sound.order) kept;
-      is = read found.points found.statistics;
+      is = is ∙ found.tally_is;
     }
-
--- ---- loads one by one
-
-pub load_cost : (held : List Held) (group : List Entry) (n : ℕ) (x : Entry) → n < length group → x ≡ get_or group n x
-    → sum_by (λ part. part.1.cost) (parts_of held (take n group)) + (held_at held (get_or group n x).place).cost ≡ sum_by (λ part. part.1.cost) (parts_of held (take (n + 1) group))
-load_cost held group n x l is =
-    let cost : Part → ℕ = λ part. part.1.cost in
-    let split : parts_of held (take (n + 1) group) ≡ parts_of held (take n group) ++ part_of held (get_or group n x) ∷ [] =
-    ap (parts_of held) (take_more group n x l) ∙ map-append (part_of held) (take n group) (get_or group n x ∷ []) in
-    let one : sum_by cost (part_of held (get_or group n x) ∷ []) ≡ (held_at held (get_or group n x).place).cost = omega arith in
-    sym (ap (sum_by cost) split ∙ sum_by-append cost (parts_of held (take n group)) (part_of held (get_or group n x) ∷ []) ∙ ap (λ k. sum_by cost (parts_of held (take n group)) + k) one)
-
-pub load_cost-le : (held : List Held) (group : List Entry) (n : ℕ) → sum_by (λ part. part.1.cost) (parts_of held (take n group)) ≤ sum_by (λ part. part.1.cost) (parts_of held group)
-load_cost-le held group n =
-    let cost : Part → ℕ = λ part. part.1.cost in
-    let split = ap (sum_by cost) (parts_split held n group) in
-    let both = sum_by-append cost (parts_of held (take n group)) (parts_of held (drop n group)) in
-    omega (arith, split, both)
-
-pub load_rising : (held : List Held) (group : List Entry) (n : ℕ) (x : Entry) (points : List Point) → n < length group → All (λ part. IsRising part.1.points) (parts_of held group)
-    → points ≡ (held_at held (get_or group n x).place).points → IsRising points
-load_rising held group n x points l rising is = subst (λ ps. IsRising ps) (sym is) (All-of_map (λ (part : Part). IsRising part.1.points) (part_of held) group rising n x l)

@@ -1,8 +1,11 @@
 pub mod ListFacts
-pub mod MergeWithin
+pub mod TallyLemmas
 pub mod WinnerLemmas
 pub mod GroupLemmas
 pub mod EntryLemmas
 pub mod SpendLemmas
+pub mod LaneLemmas
 pub mod WalkLemmas
-pub mod CheckLemmas
+pub mod AddLemmas
+pub mod RowLemmas
+pub mod GroupOfLanes

@@ -1,35 +1,56 @@
 -- A walk along the groups of all entries.
-use Rattle.std.proofs.Common.{◌≡◌, ℕ, ◌+◌, ◌≤◌, List, ◌++◌, length, take, drop, Option, Ok, sum_by, ap, ◌∙◌, subst, arith}
-use Rattle.std.proofs.lemmas.List.{length-drop}
-use Rattle.tsdb_base.specs.declared.point.Point.{Point}
+use Rattle.std.proofs.Common.{◌≡◌, ℕ, ◌+◌, ◌≤◌, List, [], length, take, drop, Ok, sum_by, sym, ap, ◌∙◌, subst, arith}
+use Rattle.std.specs.Prelude.{⊤, ◌<ℤ◌, AllPairs}
+use Rattle.std.proofs.lemmas.List.Elements.{All-nil}
+use Rattle.std.proofs.lemmas.List.{length-drop, take-append-drop}
+use Rattle.tsdb_base.specs.declared.answers.Aggregate.{Aggregate}
 use Rattle.tsdb_base.specs.declared.point.Range.{Range}
-use Rattle.tsdb_base.specs.declared.point.Stats.{Stats}
-use Rattle.tsdb_aggregate.specs.Loads.{Held, LoaderState, Spends}
+use Rattle.tsdb_aggregate.specs.Loads.{LoaderState, Spends}
 use Rattle.tsdb_aggregate.specs.Pieces.{AreSound}
-use Rattle.tsdb_aggregate.specs.Steps.{AreTotal, HasTotal, HasWalked, IsCut, cost_of, parts_of}
+use Rattle.tsdb_aggregate.specs.SpendLaws.{spends_nothing, spends_then}
+use Rattle.tsdb_aggregate.specs.Steps.{AddsWinners, HasWalked, IsBefore, IsCut, IsTally, cost_of, parts_of}
 use Rattle.tsdb_aggregate.specs.declared.entry.Entry.{Entry}
-use Rattle.tsdb_aggregate.proofs.GroupLemmas.{cost_more, cut_more, sound_first, sound_rest, total_more}
-use Rattle.tsdb_aggregate.proofs.SpendLemmas.{spends_at_most, spends_then}
+use Rattle.tsdb_aggregate.specs.declared.tally.Tally.{Tally}
+use Rattle.tsdb_merge.proofs.MergeLemmas.{AllPairs-nil, Contains-nil}
+use Rattle.tsdb_aggregate.proofs.ListFacts.{AllPairs-right}
+use Rattle.tsdb_aggregate.proofs.GroupLemmas.{cost_more, cut_more, sound_first, sound_rest, tally_more}
 
-pub group_sound : (range : Range) (held now : List Held) (m n : ℕ) (entries rest group : List Entry) → now ≡ held → rest ≡ drop m entries → group ≡ take n rest
-    → AreSound range (parts_of held entries) → AreSound range (parts_of now group)
-group_sound range held now m n entries rest group e r g sound = rw (e, g, r) (sound_first range held n (drop m entries) (sound_rest range held m entries sound))
+order_rest : (m : ℕ) (entries : List Entry) → AllPairs IsBefore entries → AllPairs IsBefore (drop m entries)
+order_rest m entries order = AllPairs-right IsBefore (take m entries) (drop m entries) (subst (λ es. AllPairs IsBefore es) (sym (take-append-drop m entries)) order)
+
+-- before the first group
+pub walk_none : (range : Range) (name : Aggregate) (a : LoaderState) (p : ℕ) (entries : List Entry) (tally : Tally) → IsTally name [] tally → HasWalked range name a a p p entries 0 tally
+walk_none range name a p entries tally none = record {
+  within = omega arith;
+  found = λ sound order. (
+    record {
+      points = [];
+      winners = record { rising = AllPairs-nil (λ a b. a.time <ℤ b.time); only = All-nil _; complete = λ point w inside. absurd (Contains-nil w.has.part w.has.among) };
+      tally_is = none;
+    },
+    λ x y hx hy. absurd (Contains-nil x hx),
+  );
+  spends = spends_nothing 0 a p (Ok tt) tt;
+}
 
 -- one group more
-pub walk_more : (range : Range) (a b c : LoaderState) (p q r : ℕ) (m n : ℕ) (entries rest group : List Entry) (total next joined : Option Stats) → rest ≡ drop m entries → group ≡ take n rest → length group ≡ n → n ≤ length rest
-    → AreSound range (parts_of a.held entries) → IsCut n rest → HasTotal b.held range group next → Spends (sum_by cost_of (parts_of b.held group)) b c q r (Ok next)
-    → ((xs ys : List Point) → AreTotal xs total → AreTotal ys next → AreTotal (xs ++ ys) joined) → HasWalked range a b p q entries m total → HasWalked range a c p r entries (m + length group) joined
-walk_more range a b c p q r m n entries rest group total next joined er eg long within sound cut found spends join walked =
+pub walk_more : (range : Range) (name : Aggregate) (a b c : LoaderState) (p q r : ℕ) (m n : ℕ) (entries rest group : List Entry) (before now : Tally) → rest ≡ drop m entries → group ≡ take n rest → length group ≡ n → n ≤ length rest
+    → (AllPairs IsBefore rest → IsCut n rest) → (AreSound range (parts_of b.held group) → AddsWinners b.held range name group before now) → Spends {T = ⊤} (sum_by cost_of (parts_of b.held group)) b c q r (Ok tt)
+    → HasWalked range name a b p q entries m before → HasWalked range name a c p r entries (m + length group) now
+walk_more range name a b c p q r m n entries rest group before now er eg long within cut adds spends walked =
     let own : group ≡ take n (drop m entries) = eg ∙ ap (λ xs. take n xs) er in
-    let second : HasTotal a.held range (take n (drop m entries)) next = subst (λ g. HasTotal a.held range g next) own (subst (λ h. HasTotal h range group next) walked.spends.held found) in
+    let added : AreSound range (parts_of a.held (take n (drop m entries))) → AddsWinners a.held range name (take n (drop m entries)) before now =
+    subst (λ g. AreSound range (parts_of a.held g) → AddsWinners a.held range name g before now) own (subst (λ h. AreSound range (parts_of h group) → AddsWinners h range name group before now) walked.spends.held adds) in
     let amount : sum_by cost_of (parts_of b.held group) ≡ sum_by cost_of (parts_of a.held (take n (drop m entries))) = ap (λ h. sum_by cost_of (parts_of h group)) walked.spends.held ∙ ap (λ g. sum_by cost_of (parts_of a.held g)) own in
     let cost = cost_more a.held m n entries in
     let drops = length-drop m entries in
     let left : length rest ≡ length (drop m entries) = ap length er in
     rw long (record {
       within = omega (arith, walked.within, within, drops, left);
-      found = total_more a.held range m n entries total next joined sound walked.cut walked.found second join;
-      cut = cut_more m n entries walked.cut (subst (λ xs. IsCut n xs) er cut);
-      spends = spends_then (sum_by cost_of (parts_of a.held (take m entries))) (sum_by cost_of (parts_of b.held group)) (sum_by cost_of (parts_of a.held (take (m + n) entries))) a b c p q r tt (Ok tt) (omega (arith, cost, amount))
-          walked.spends (spends_at_most (sum_by cost_of (parts_of b.held group)) (sum_by cost_of (parts_of b.held group)) b c q r next (Ok tt) (omega arith) tt spends);
+      found = λ sound order.
+          let done = walked.found sound order in
+          let next : IsCut n (drop m entries) = subst (λ xs. AllPairs IsBefore xs → IsCut n xs) er cut (order_rest m entries order) in
+          let second = added (sound_first range a.held n (drop m entries) (sound_rest range a.held m entries sound)) in
+          (tally_more a.held range name m n entries before now sound done.1 done.0 second, cut_more m n entries done.1 next);
+      spends = spends_then (sum_by cost_of (parts_of a.held (take m entries))) (sum_by cost_of (parts_of b.held group)) (sum_by cost_of (parts_of a.held (take (m + n) entries))) a b c p q r tt (Ok tt) (omega (arith, cost, amount)) walked.spends spends;
     })

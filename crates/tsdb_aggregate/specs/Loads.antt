@@ -1,17 +1,18 @@
 -- What a loader holds of each piece, and what calls that load pieces leave.
-use Rattle.std.specs.Prelude.{◌≡◌, ℕ, ◌+◌, ◌≤◌, List, [], Result, slice_index_or}
+use Rattle.std.specs.Prelude.{◌≡◌, ℕ, ◌+◌, ◌≤◌, List, Option, None, Result, slice_index_or}
 use Rattle.tsdb_base.specs.declared.point.Point.{Point}
 use Rattle.tsdb_merge.specs.Causes.{HasPullCause}
 use Rattle.tsdb_merge.specs.declared.points.PullFault.{PullFault}
 
--- a piece's surviving points, and what a load of it costs: one for a page, nothing for a part in memory
+-- a piece's surviving points, where they are told, and what a load of it costs, told or not: one for a page, nothing for
+-- a part in memory
 pub record Held : Type 0 where
-  pub points : List Point
+  pub points : Option (List Point)
   pub cost : ℕ
 
 -- what is held of the piece at a place
 abbrev pub held_at : List Held → ℕ → Held
-held_at held place = slice_index_or held place (record { points = []; cost = 0 })
+held_at held place = slice_index_or held place (record { points = None; cost = 0 })
 
 -- what is held of each piece, two counts of faults, and what all loads so far have cost
 pub record LoaderState : Type 0 where

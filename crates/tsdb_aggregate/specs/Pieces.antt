@@ -1,5 +1,7 @@
 -- Pieces with what a loader holds of them: their hulls, what has to be so of them, and what may be loaded.
-use Rattle.std.specs.Prelude.{◌≡◌, ℕ, Bool, false, not, ◌&&◌, ◌||◌, List, All, AllPairs, IsTrue, if◌then◌else◌, sum_by}
+use Rattle.std.specs.Prelude.{◌≡◌, ℕ, Bool, false, not, ◌&&◌, ◌||◌, List, [], All, AllPairs, IsTrue, if◌then◌else◌}
+use Rattle.std.specs.Prelude.{Option, None, Some, sum_by}
+use Rattle.tsdb_base.specs.declared.point.Point.{Point}
 use Rattle.tsdb_base.specs.declared.point.Range.{Range}
 use Rattle.tsdb_map.specs.World.{is_in}
 use Rattle.tsdb_merge.specs.Winners.{HasNoneAt, IsRising}
@@ -15,27 +17,36 @@ Part = Piece × Held
 abbrev pub hull : Piece → Range
 hull piece = record { from = piece.stats.start; to = piece.stats.end }
 
+-- the points that are told of a piece
+abbrev pub told_points : Option (List Point) → List Point
+told_points None = []
+told_points (Some points) = points
+
+abbrev pub points_of : Part → List Point
+points_of part = told_points part.1.points
+
 -- two ranges have a time in common: the start of one of them is in both
 abbrev pub overlap : Range → Range → Bool
 overlap a b = (is_in a b.from && is_in b b.from) || (is_in b a.from && is_in a a.from)
 
--- the points of a piece stand in order of time, within its hull
+-- the points of a piece are told, and stand in order of time, within its hull
 pub record HasOrder (part : Part) : Type 0 where
-  pub rising : IsRising part.1.points
-  pub within : All (λ point. IsTrue (is_in (hull part.0) point.time)) part.1.points
+  pub told : part.1.points ≡ Some (points_of part)
+  pub rising : IsRising (points_of part)
+  pub within : All (λ point. IsTrue (is_in (hull part.0) point.time)) (points_of part)
 
 -- a piece that is clean has the statistics of its points, and its hull is in the range
 pub record IsCleanIn (range : Range) (part : Part) : Type 0 where
-  pub statistics : AreStatsOf part.1.points part.0.stats
+  pub statistics : AreStatsOf (points_of part) part.0.stats
   pub from : IsTrue (is_in range part.0.stats.start)
   pub to : IsTrue (is_in range part.0.stats.end)
 
 -- two pieces of one source have no time in common, and nothing lies over a clean piece
 pub record AreApart (a b : Part) : Type 0 where
-  pub times : a.0.source ≡ b.0.source → All (λ point. HasNoneAt point.time b.1.points) a.1.points
+  pub times : a.0.source ≡ b.0.source → All (λ point. HasNoneAt point.time (points_of b)) (points_of a)
   pub hulls : IsTrue (a.0.clean || b.0.clean) → overlap (hull a.0) (hull b.0) ≡ false
 
--- what has to be so of the pieces
+-- what has to be so of the pieces, all of which are told, for the answer to be the aggregate of the winners
 pub record AreSound (range : Range) (parts : List Part) : Type 0 where
   pub order : All HasOrder parts
   pub clean : All (λ part. IsTrue part.0.clean → IsCleanIn range part) parts

@@ -1,18 +1,27 @@
 -- Private steps: entries in order of time, and the statistics of a list that may be empty.
-use Rattle.std.specs.Prelude.{◌≡◌, ◌⊎◌, ℕ, ◌<◌, ◌≤◌, ◌≤ℤ◌, ◌<ℤ◌, false, List, [], All, Contains, IsTrue, take, drop}
-use Rattle.std.specs.Prelude.{filter, Option, Some, None, Ok, ⊤, length, map, sum_by, ◌||◌, if◌then◌else◌}
+use Rattle.std.specs.Prelude.{◌≡◌, ◌⊎◌, ℕ, ◌<◌, ◌≤◌, ◌≤ℤ◌, ◌<ℤ◌, pos, Bool, true, false, List, [], All, AllPairs, Contains}
+use Rattle.std.specs.Prelude.{filter, Option, Some, None, Ok, ⊤, length, map, sum_by, ◌||◌, ◌∷◌, ◌++◌, if◌then◌else◌, IsTrue}
+use Rattle.std.specs.Prelude.{take, drop}
 use Rattle.std.specs.declared.alloc.Global.{Global}
 use Rattle.std.specs.declared.vec.Vec.{Vec}
+use Rattle.tsdb_base.specs.declared.answers.Aggregate.{Aggregate}
+use Rattle.tsdb_base.specs.declared.answers.Aggregate.TheVariants.{Count, FirstValue, LastValue, MinValue, MaxValue}
+use Rattle.tsdb_base.specs.declared.answers.Aggregate.TheVariants.{MinTime, MaxTime}
 use Rattle.tsdb_base.specs.declared.point.Point.{Point}
 use Rattle.tsdb_base.specs.declared.point.Range.{Range}
-use Rattle.tsdb_base.specs.declared.point.Stats.{Stats}
+use Rattle.tsdb_base.specs.declared.value.Value.{Value}
+use Rattle.tsdb_base.specs.declared.value.Value.TheVariants as value
+use Rattle.tsdb_map.specs.Folds.{aggregate_of, greater, lesser}
 use Rattle.tsdb_map.specs.World.{is_in}
 use Rattle.tsdb_merge.specs.Winners.{IsMergeOf}
-use Rattle.tsdb_stats.specs.Statistics.{AreStatsOf}
+use Rattle.tsdb_stats.specs.Steps.{join_options}
 use Rattle.tsdb_aggregate.specs.Loads.{Held, LoaderState, Spends, held_at}
-use Rattle.tsdb_aggregate.specs.Pieces.{HasOrder, IsCleanIn, Part}
+use Rattle.tsdb_aggregate.specs.Pieces.{AreSound, Part}
 use Rattle.tsdb_aggregate.specs.Winners.{AreWinners}
 use Rattle.tsdb_aggregate.specs.declared.entry.Entry.{Entry}
+use Rattle.tsdb_aggregate.specs.declared.tally.Kept.{Kept}
+use Rattle.tsdb_aggregate.specs.declared.tally.Kept.TheVariants.{Nothing, Lent, Own}
+use Rattle.tsdb_aggregate.specs.declared.tally.Tally.{Tally}
 
 -- the piece of an entry, and what is held of it
 abbrev pub part_of : List Held → Entry → Part
@@ -42,37 +51,87 @@ End these those = (a b : Entry) → Contains these a → Contains those b → a.
 abbrev pub IsCut : ℕ → List Entry → Type 0
 IsCut n entries = End (take n entries) (drop n entries)
 
--- the statistics of points, or none where there are none
-abbrev pub AreTotal : List Point → Option Stats → Type 0
-AreTotal points None = points ≡ []
-AreTotal points (Some stats) = AreStatsOf points stats
+-- the value that is kept, if there is one
+abbrev pub value_of : Kept → Option Value
+value_of Nothing = None
+value_of (Lent value) = Some value.now
+value_of (Own value) = Some value
 
--- the winners of entries in the range have these statistics
-pub record HasTotal (held : List Held) (range : Range) (entries : List Entry) (total : Option Stats) : Type 0 where
+-- what a count, or the value that is kept, answers
+abbrev pub answer_with : Aggregate → ℕ → Option Value → Option Value
+answer_with Count count kept = Some (value.I64 (pos count))
+answer_with FirstValue count kept = kept
+answer_with LastValue count kept = kept
+answer_with MinValue count kept = kept
+answer_with MaxValue count kept = kept
+answer_with MinTime count kept = kept
+answer_with MaxTime count kept = kept
+
+abbrev pub answer_of : Aggregate → Tally → Option Value
+answer_of name tally = answer_with name tally.count (value_of tally.kept)
+
+-- the tally is that of the points
+abbrev pub IsTally : Aggregate → List Point → Tally → Type 0
+IsTally name points tally = answer_of name tally ≡ aggregate_of name points
+
+-- which of the values of two lists, one behind the other, is kept
+abbrev pub choice : Aggregate → Value → Value → Value
+choice Count a b = a
+choice FirstValue a b = a
+choice LastValue a b = b
+choice MinValue a b = lesser a b
+choice MaxValue a b = greater a b
+choice MinTime a b = a
+choice MaxTime a b = b
+
+-- the later value is kept, or the one before it
+abbrev pub IsChosen : Aggregate → Option Value → Option Value → Bool → Type 0
+IsChosen name before later true = join_options (choice name) before later ≡ later
+IsChosen name before later false = join_options (choice name) before later ≡ before
+
+-- the winners of entries in the range have this tally
+pub record HasTally (held : List Held) (range : Range) (name : Aggregate) (entries : List Entry) (tally : Tally) : Type 0 where
   pub points : List Point
   pub winners : AreWinners (parts_of held entries) range points
-  pub statistics : AreTotal points total
+  pub tally_is : IsTally name points tally
 
--- the points of a merge of the lists that are in the range
-pub record IsMergeWithin (lists : List (List Point)) (range : Range) (points : List Point) : Type 0 where
-  pub all : List Point
-  pub merge : IsMergeOf lists all
-  pub is : points ≡ filter (λ point. is_in range point.time) all
+-- the winners of entries in the range were added to a tally
+pub record AddsWinners (held : List Held) (range : Range) (name : Aggregate) (entries : List Entry) (before now : Tally)
+    : Type 0 where
+  pub points : List Point
+  pub winners : AreWinners (parts_of held entries) range points
+  pub adds : (earlier : List Point) → IsTally name earlier before → IsTally name (earlier ++ points) now
 
--- the first m entries are walked: the statistics of their winners, and what their loads have cost
-pub record HasWalked (range : Range) (before now : LoaderState) (pages pages_now : ℕ) (entries : List Entry) (m : ℕ)
-    (total : Option Stats) : Type 0 where
+-- a point was added to a tally, if it is in the range
+abbrev pub AddsPoint : Range → Aggregate → Point → Tally → Tally → Type 0
+AddsPoint range name point before now = (earlier : List Point) → IsTally name earlier before
+    → IsTally name (earlier ++ filter (λ other. is_in range other.time) (point ∷ [])) now
+
+-- later points do not change the tally
+abbrev pub IsSettled : Aggregate → Tally → Type 0
+IsSettled name tally = (points later : List Point) → IsTally name points tally → IsTally name (points ++ later) tally
+
+-- the points in the range of a list that is told were added to a tally
+abbrev pub AddsWithin : Range → Aggregate → Option (List Point) → Tally → Tally → Type 0
+AddsWithin range name left before now = (points earlier : List Point) → left ≡ Some points → IsTally name earlier before
+    → IsTally name (earlier ++ filter (λ point. is_in range point.time) points) now
+
+-- the points in the range of the merge of some lists were added to a tally
+pub record AddsMerge (range : Range) (name : Aggregate) (lists : List (List Point)) (before now : Tally) : Type 0 where
+  pub points : List Point
+  pub merge : IsMergeOf lists points
+  pub adds : (earlier : List Point) → IsTally name earlier before
+      → IsTally name (earlier ++ filter (λ point. is_in range point.time) points) now
+
+-- the first m entries are walked: the tally of their winners, and what their loads have cost
+pub record HasWalked (range : Range) (name : Aggregate) (before now : LoaderState) (pages pages_now : ℕ)
+    (entries : List Entry) (m : ℕ) (tally : Tally) : Type 0 where
   pub within : m ≤ length entries
-  pub found : HasTotal before.held range (take m entries) total
-  pub cut : IsCut m entries
+  pub found : AreSound range (parts_of before.held entries) → AllPairs IsBefore entries
+      → HasTally before.held range name (take m entries) tally × IsCut m entries
   pub spends : Spends {T = ⊤} (sum_by cost_of (parts_of before.held (take m entries))) before now pages pages_now
       (Ok tt)
 
 -- lists in memory, whose loads cost nothing
 abbrev pub held_of : List (Vec Point Global) → List Held
-held_of lists = map (λ list. record { points = list.items; cost = 0 }) lists
-
--- a piece is in order, and clean where it says so
-pub record IsSoundIn (range : Range) (part : Part) : Type 0 where
-  pub order : HasOrder part
-  pub clean : IsTrue part.0.clean → IsCleanIn range part
+held_of lists = map (λ list. record { points = Some list.items; cost = 0 }) lists

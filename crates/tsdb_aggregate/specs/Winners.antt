@@ -7,14 +7,14 @@ use Rattle.tsdb_base.specs.declared.value.Value.{Value}
 use Rattle.tsdb_map.specs.Folds.{aggregate_of}
 use Rattle.tsdb_map.specs.World.{is_in}
 use Rattle.tsdb_merge.specs.Winners.{IsRising}
-use Rattle.tsdb_aggregate.specs.Pieces.{Part}
+use Rattle.tsdb_aggregate.specs.Pieces.{Part, points_of}
 
 -- a piece of the source has the point
 pub record Has (parts : List Part) (source : ℕ) (point : Point) : Type 0 where
   pub part : Part
   pub among : Contains parts part
   pub of : part.0.source ≡ source
-  pub has : Contains part.1.points point
+  pub has : Contains (points_of part) point
 
 -- a source has the point, and no later source has a point at its time
 pub record IsWinner (parts : List Part) (point : Point) : Type 0 where

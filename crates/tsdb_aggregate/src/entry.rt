@@ -43,14 +43,14 @@ pub fn entries_in<'a>(
 }
 
 /// The later of a time and the end of a piece.
-fn later_end(end: Time, piece: &Piece) -> Time
+pub fn later_end(end: Time, piece: &Piece) -> Time
     ensures { (end ≤ℤ result) × (piece.now.stats.end ≤ℤ result) }
 {
     end.max(piece.stats.end)
 }
 
 /// Whether a piece begins after a time.
-fn begins_after(piece: &Piece, end: Time) -> bool
+pub fn begins_after(piece: &Piece, end: Time) -> bool
     ensures { IsTrue result ↔ (end <ℤ piece.now.stats.start) }
 {
     end < piece.stats.start
@@ -59,10 +59,9 @@ fn begins_after(piece: &Piece, end: Time) -> bool
 /// How many of the entries make up the first group: a clean piece alone, or pieces that meet one another.
 pub fn group_length(entries: &[Entry<'_>]) -> usize
     requires some { 0 < length entries.now }
-    requires order { AllPairs IsBefore entries.now }
     ensures some { 0 < result }
     ensures within { result ≤ length entries.now }
-    ensures cut { IsCut result entries.now }
+    ensures cut { AllPairs IsBefore entries.now → IsCut result entries.now }
     ensures group { IsGroup (take result entries.now) }
 {
     let first = entries[0].piece;

@@ -1,24 +1,28 @@
-//! The winners of pieces whose hulls meet. It depends on `entry`, `loader` and `total`, and on `tsdb_merge`.
-ghost use Rattle.std.specs.Option.{option_to_list};
-ghost use Rattle.std.specs.Prelude.{◌≡◌, ◌+◌, ◌<◌, ◌≤◌, All, AllPairs, IfOk, length, map, sum_by};
+//! The winners of pieces whose hulls meet. It depends on `entry`, `lanes` and `tally`, and on `tsdb_merge`.
+ghost use Rattle.std.specs.Prelude.{◌≡◌, ◌<◌, ◌≤◌, ◌<ℤ◌, List, All, AllPairs, IfOk, IsTrue, OnOk, None, Some};
+ghost use Rattle.std.specs.Prelude.{length, map, sum_by, take};
 ghost use Rattle.std.specs.List.Sorted.{IsPermutation};
-ghost use Rattle.std.specs.Vec.Iter.{into_iter_items};
-ghost use Rattle.tsdb_merge.specs.Winners.{IsRising, TakesTold};
+ghost use Rattle.tsdb_merge.specs.Causes.{HasSomeCause};
+ghost use Rattle.tsdb_merge.specs.Merging.{lazy_left};
+ghost use Rattle.tsdb_merge.specs.Winners.{IsRising};
+ghost use Rattle.tsdb_base.specs.declared.point.Point.{Point};
+ghost use Rattle.tsdb_aggregate.specs.Lanes.{AreLanesOf, IsLaneOf, IsRow, lane_cost, lefts};
 ghost use Rattle.tsdb_aggregate.specs.Loads.{Spends};
 ghost use Rattle.tsdb_aggregate.specs.Pieces.{AreApart, HasOrder};
-ghost use Rattle.tsdb_aggregate.specs.Steps.{HasTotal, IsMergeWithin, parts_of};
+ghost use Rattle.tsdb_aggregate.specs.Steps.{AddsMerge, AddsPoint, AddsWinners, AddsWithin, IsSettled, parts_of};
 
-use crate::entry::Entry;
+use crate::entry::{Entry, begins_after, later_end};
+use crate::lanes::{Lane, Lanes};
 use crate::loader::Loader;
-use crate::piece::contains;
+use crate::piece::{Piece, contains};
 use crate::steps::Steps;
-use crate::total::total_of;
+use crate::tally::Tally;
 use std::alloc::Global;
 use std::sync::ledger::Ledger;
-use tsdb_base::{Memory, Point, Range, Stats};
-use tsdb_merge::{ListPoints, Merge, PullFault};
+use tsdb_base::{Aggregate, Memory, Point, Range, Time};
+use tsdb_merge::{LazyMerge, PullFault, Supply};
 
-/// The entries in the order of their sources.
+/// The entries in the order of their sources, and of one source in order of time.
 fn by_source<'a>(alloc: Global, group: &[Entry<'a>]) -> Result<Vec<Entry<'a>>, Memory>
     ensures all { IfOk result (λ entries. IsPermutation group.now entries.items) }
     ensures order { IfOk result (λ entries.
@@ -29,72 +33,169 @@ fn by_source<'a>(alloc: Global, group: &[Entry<'a>]) -> Result<Vec<Entry<'a>>, M
     Ok(entries)
 }
 
-/// Loads the points of each entry.
-fn load_all<D: Loader, L: Ledger>(
-    alloc: Global,
-    group: &[Entry<'_>],
-    loader: &mut D,
-    pages: &mut Steps<L>,
-) -> Result<Vec<ListPoints>, PullFault>
-    requires places { All (λ entry. entry.place < length (D.state loader.old).held) group.now }
-    requires rising { All (λ part. IsRising part.1.points) (parts_of (D.state loader.old).held group.now) }
-    ensures lists { IfOk result (λ lists. map (λ list. into_iter_items list.left) lists.items
-        ≡ map (λ part. part.1.points) (parts_of (D.state loader.old).held group.now)) }
-    ensures spends { Spends (sum_by (λ part. part.1.cost) (parts_of (D.state loader.old).held group.now))
-        (D.state loader.old) (D.state loader.new) pages.old pages.new result }
+/// Whether a piece is of the same source as another, and begins after a time.
+fn goes_on(first: &Piece, end: Time, piece: &Piece) -> bool
+    ensures { IsTrue result → (piece.now.source ≡ first.now.source) × (end <ℤ piece.now.stats.start) }
 {
-    let mut lists = Vec::new(alloc);
-    for place in 0..group.len() {
-        let points = loader.load(alloc, group[place].place, pages)?;
-        lists.push(ListPoints::new(points))?;
-    }
-    Ok(lists)
+    piece.source == first.source && begins_after(piece, end)
 }
 
-/// The next point of a merge of lists, which do not fail.
-fn next(merge: &mut Merge<ListPoints>) -> Result<Option<Point>, Memory>
-    ensures next { IfOk result (λ point. TakesTold merge.old.left point merge.new.left) }
-    ensures fewer { IfOk result (λ point. length (option_to_list point) + merge.new.most ≤ merge.old.most) }
+/// How many of the entries, which are in the order of their sources, make up the first lane: pieces of one source, of
+/// which each ends before the next one begins.
+fn lane_length(entries: &[Entry<'_>]) -> usize
+    requires some { 0 < length entries.now }
+    ensures some { 0 < result }
+    ensures within { result ≤ length entries.now }
+    ensures row { IsRow (take result entries.now) }
 {
-    match merge.pull() {
-        Ok(point) => Ok(point),
-        Err(_) => Err(Memory),
+    let first = entries[0].piece;
+    let mut end = first.stats.end;
+    for place in 1..entries.len() {
+        let piece = entries[place].piece;
+        if !goes_on(first, end, piece) {
+            return place;
+        }
+        end = later_end(end, piece);
     }
+    entries.len()
 }
 
-/// The points of the merge of the lists that are in the range.
-#[tactic(auto, using(crate::proofs::MergeWithin::all_taken, crate::proofs::MergeWithin::none_taken, crate::proofs::MergeWithin::told_lists, crate::proofs::MergeWithin::took,))]
-fn merge_within(alloc: Global, lists: Vec<ListPoints>, range: &Range) -> Result<Vec<Point>, Memory>
-    ensures { IfOk result (λ points.
-        IsMergeWithin (map (λ list. into_iter_items list.left) lists.items) range.now points.items) }
+/// A lane of which nothing is loaded yet.
+fn lane_of(alloc: Global, entries: &[Entry<'_>]) -> Result<Lane, Memory>
+    ensures { IfOk result (λ lane. IsLaneOf entries.now lane) }
 {
-    let mut merge = Merge::new(alloc, lists)?;
-    let mut points = Vec::new(alloc);
-    while let Some(point) = next(&mut merge)? {
-        if contains(range, point.time) {
-            points.push(point)?;
+    let mut places = Vec::new(alloc);
+    for i in 0..entries.len() {
+        places.push(entries[i].place)?;
+    }
+    Ok(Lane {
+        waiting: places.into_iter(),
+        rest: Vec::new(alloc).into_iter(),
+    })
+}
+
+/// The lanes of a group, in the order of their sources.
+fn lanes_of(alloc: Global, group: &[Entry<'_>]) -> Result<Vec<Lane>, Memory>
+    ensures { IfOk result (λ lanes. AreLanesOf group.now lanes.items) }
+{
+    let entries = by_source(alloc, group)?;
+    let mut lanes = Vec::new(alloc);
+    let mut start = 0;
+    while start < entries.len() {
+        let (_, rest) = entries.split_at(start);
+        let (row, _) = rest.split_at(lane_length(rest));
+        lanes.push(lane_of(alloc, row)?)?;
+        start += row.len();
+    }
+    Ok(lanes)
+}
+
+/// Adds a point to a tally, where it is in the range. It answers whether no later point changes the tally.
+fn add_point(
+    name: Aggregate,
+    range: &Range,
+    point: Point,
+    tally: &mut Tally<'_>,
+) -> Result<bool, Memory>
+    ensures added { IfOk result (λ _. AddsPoint range.now name point tally.old tally.new) }
+    ensures settled { IfOk result (λ last. IsTrue last → IsSettled name tally.new) }
+{
+    if contains(range, point.time) {
+        tally.join(name, Tally::of_point(name, point))?;
+    }
+    Ok(tally.is_settled(name))
+}
+
+/// Adds what a merge has left in the range to a tally. It stops where no later point changes the tally.
+fn add_merged<Q: Supply>(
+    merge: &mut LazyMerge,
+    supply: &mut Q,
+    name: Aggregate,
+    range: &Range,
+    tally: &mut Tally<'_>,
+) -> Result<(), PullFault>
+    requires fault { merge.old.fault ≡ None }
+    requires sources { merge.old.sources ≤ length (Q.left supply.old) }
+    ensures added { OnOk result
+        (AddsWithin range.now name (lazy_left merge.old (Q.left supply.old)) tally.old tally.new) }
+    ensures kept { Q.keeps supply.old supply.new }
+    ensures cause { HasSomeCause (Q.failures supply.old) (Q.failures supply.new)
+        (Q.damages supply.old) (Q.damages supply.new) result }
+{
+    if tally.is_settled(name) {
+        return Ok(());
+    }
+    while let Some(point) = merge.pull(supply)? {
+        if add_point(name, range, point, tally)? {
+            return Ok(());
         }
     }
-    Ok(points)
+    Ok(())
 }
 
-/// The statistics of the winners of a group in the range. All of its pieces are loaded.
-pub fn group_total<D: Loader, L: Ledger>(
+/// Adds the merge of so many sources of a supply, as far as it is in the range, to a tally.
+fn add_supply<Q: Supply>(
+    alloc: Global,
+    sources: usize,
+    supply: &mut Q,
+    name: Aggregate,
+    range: &Range,
+    tally: &mut Tally<'_>,
+) -> Result<(), PullFault>
+    requires sources { sources ≡ length (Q.left supply.old) }
+    ensures added { OnOk result ((lists : List (List Point)) → Q.left supply.old ≡ map Some lists →
+        All IsRising lists → AddsMerge range.now name lists tally.old tally.new) }
+    ensures kept { Q.keeps supply.old supply.new }
+    ensures cause { HasSomeCause (Q.failures supply.old) (Q.failures supply.new)
+        (Q.damages supply.old) (Q.damages supply.new) result }
+{
+    let mut merge = LazyMerge::new(alloc, sources)?;
+    add_merged(&mut merge, supply, name, range, tally)
+}
+
+/// Adds the merge of lanes, as far as it is in the range, to a tally.
+fn add_lanes<D: Loader, L: Ledger>(
+    lanes: &mut Lanes<'_, '_, '_, D, L>,
+    name: Aggregate,
+    range: &Range,
+    tally: &mut Tally<'_>,
+) -> Result<(), PullFault>
+    ensures same_list { lanes.new.list.ghost_name ≡ lanes.old.list.ghost_name }
+    ensures same_loader { lanes.new.loader.ghost_name ≡ lanes.old.loader.ghost_name }
+    ensures same_pages { lanes.new.pages.ghost_name ≡ lanes.old.pages.ghost_name }
+    ensures added { OnOk result ((lists : List (List Point)) →
+        lefts (D.state lanes.old.loader.now).held lanes.old.list.now.items ≡ map Some lists →
+        All IsRising lists → AddsMerge range.now name lists tally.old tally.new) }
+    ensures spends { Spends (sum_by (lane_cost (D.state lanes.old.loader.now).held) lanes.old.list.now.items)
+        (D.state lanes.old.loader.now) (D.state lanes.new.loader.now) lanes.old.pages.now lanes.new.pages.now result }
+{
+    add_supply(lanes.alloc, lanes.list.len(), lanes, name, range, tally)
+}
+
+/// Adds the winners of a group in the range to a tally. Each of its pieces is loaded when the merge comes to it, and
+/// let go at its end.
+pub fn add_group<D: Loader, L: Ledger>(
     alloc: Global,
     group: &[Entry<'_>],
+    name: Aggregate,
     range: &Range,
     loader: &mut D,
     pages: &mut Steps<L>,
-) -> Result<Option<Stats>, PullFault>
+    tally: &mut Tally<'_>,
+) -> Result<(), PullFault>
     requires places { All (λ entry. entry.place < length (D.state loader.old).held) group.now }
-    requires order { All HasOrder (parts_of (D.state loader.old).held group.now) }
-    requires apart { AllPairs AreApart (parts_of (D.state loader.old).held group.now) }
-    ensures found { IfOk result (HasTotal (D.state loader.old).held range.now group.now) }
+    ensures added { OnOk result (All HasOrder (parts_of (D.state loader.old).held group.now) →
+        AllPairs AreApart (parts_of (D.state loader.old).held group.now) →
+        AddsWinners (D.state loader.old).held range.now name group.now tally.old tally.new) }
     ensures spends { Spends (sum_by (λ part. part.1.cost) (parts_of (D.state loader.old).held group.now))
         (D.state loader.old) (D.state loader.new) pages.old pages.new result }
 {
-    let entries = by_source(alloc, group)?;
-    let lists = load_all(alloc, &entries, loader, pages)?;
-    let points = merge_within(alloc, lists, range)?;
-    Ok(total_of(&points)?)
+    let mut list = lanes_of(alloc, group)?;
+    let mut lanes = Lanes {
+        alloc,
+        list: &mut list,
+        loader,
+        pages,
+    };
+    add_lanes(&mut lanes, name, range, tally)
 }

@@ -2,19 +2,18 @@
 //! it, and else from its points. It depends on `tsdb_base`, on `tsdb_map` for the definition of the aggregates, on
 //! `tsdb_stats` for statistics and on `tsdb_merge` for the points that win.
 //!
-//! The pieces are put in order of their starts once. A group of pieces whose hulls meet one another is loaded, merged
-//! and let go before the next one.
+//! The pieces are put in order of their starts once. The walk goes along groups of pieces whose hulls meet one another.
+//! In a group a piece is loaded when the merge comes to it, and let go at its end.
 #![tactic(auto)]
 
 mod entry;
 mod fold;
 mod group;
+mod lanes;
 mod loader;
 mod piece;
 mod steps;
-#[cfg(test)]
-mod tests;
-mod total;
+mod tally;
 
 pub use fold::{aggregate, winners_are_one};
 pub use loader::Loader;

@@ -1,12 +1,9 @@
 //! The speed of aggregates of many pieces. It depends on `pieces` and on `tsdb_aggregate`.
 
 ghost use Rattle.std.specs.Prelude.{◌≡◌, length};
-ghost use Rattle.std.specs.List.{zip};
-ghost use Rattle.tsdb_aggregate.specs.Pieces.{AreSound};
-ghost use Rattle.tsdb_aggregate.specs.Steps.{held_of};
 
 use crate::fault::Fault;
-use crate::pieces::{Lists, are_sound};
+use crate::pieces::Lists;
 use crate::table::{Rounds, row};
 use std::marker::Brand;
 use std::sync::ledger::{Blank, Ledger};
@@ -44,7 +41,7 @@ fn piece(points: &[Point], source: u32, clean: bool) -> Result<Piece, Fault> {
     })
 }
 
-/// The aggregate, `many` times, of pieces that meet its condition.
+/// The aggregate, `many` times.
 fn repeat<L: Ledger>(
     rt: &HostRuntime,
     name: Aggregate,
@@ -58,7 +55,6 @@ fn repeat<L: Ledger>(
     requires parts { blank.parts ≡ L.parts }
     requires one { blank.parts ≡ 1 }
     requires one_each { length loader.old.lists.items ≡ length pieces.now }
-    requires sound { AreSound range.now (zip pieces.now (held_of loader.old.lists.items)) }
 {
     let mut pages = Steps::<L>::new(blank);
     let mut check = 0u64;
@@ -128,7 +124,7 @@ fn fold(
         pieces.push(piece(&list, source, case.layout == Layout::Clean)?)?;
         lists.push(list)?;
     }
-    if pieces.len() != lists.len() || !are_sound(&ALL, &pieces, &lists)? {
+    if pieces.len() != lists.len() {
         return Err(Fault::Unread);
     }
     let mut loader = Lists { lists };

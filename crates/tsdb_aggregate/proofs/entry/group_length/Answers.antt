@@ -5,11 +5,11 @@ use Rattle.tsdb_aggregate.proofs.entry.group_length.Goals.{then-piece-via-then-p
 use Rattle.tsdb_aggregate.proofs.entry.group_length.Goals as goal
 
 pub returns-then-first-clause-cut : goal.returns-then-first-clause-cut
-returns-then-first-clause-cut c = cut_first c.args.entries.now c.index-entries-0.result c.requires.some c.index-entries-0.is c.requires.order c.if-first.true
+returns-then-first-clause-cut c = λ order. cut_first c.args.entries.now c.index-entries-0.result c.requires.some c.index-entries-0.is order c.if-first.true
 
 pub returns-then-piece-clause-cut : goal.returns-then-piece-clause-cut
-returns-then-piece-clause-cut c =
-    cut_at c.args.entries.now c.loop-place.place c.index-entries-place.result _ (omega arith) c.index-entries-place.is c.requires.order c.loop-place.invariant.0
+returns-then-piece-clause-cut c = λ order.
+    cut_at c.args.entries.now c.loop-place.place c.index-entries-place.result _ (omega arith) c.index-entries-place.is order c.loop-place.invariant.0
     (elim c.then-piece.branch [ then-piece-via-then-piece w ↦ inl w.if-piece.true | then-piece-via-else-piece+then-begins_after w ↦ inr (w.begins_after.ensures.0 w.if-begins_after.true) ])
 
 pub loop-place-preserved : goal.loop-place-preserved

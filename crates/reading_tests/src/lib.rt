@@ -1,0 +1,10 @@
+//! What no clause says of reading a series: aggregates beside a plain slow fold, which pages are loaded, and loads that
+//! fail. It depends on the crates that it tests.
+#![tactic(auto)]
+
+#[cfg(test)]
+mod aggregates;
+#[cfg(test)]
+mod loads;
+#[cfg(test)]
+mod pages;

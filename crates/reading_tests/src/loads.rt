@@ -1,0 +1,128 @@
+//! Which pages are loaded, and loads that fail.
+use crate::pages::{Fault, NEVER, answer, mark_clean, pieces_of, points};
+use std::alloc::{AllocError, Global};
+use std::test::Fail;
+use tsdb_aggregate::Piece;
+use tsdb_base::{Aggregate, Point, Range, Value};
+use tsdb_merge::PullFault;
+
+/// What is asked, over which times, the answer, and how often a page is loaded.
+type Asked = (Aggregate, i64, i64, Option<i64>, u64);
+
+/// What is asked of two pages of 1,000 points each.
+const OF_PAGES: [Asked; 4] = [
+    (Aggregate::Count, 1, 2000, Some(2000), 0),
+    (Aggregate::Count, 1, 1999, Some(1999), 1),
+    (Aggregate::MaxTime, 1, 1999, Some(1999), 1),
+    (Aggregate::MinTime, 2, 2000, Some(2), 1),
+];
+
+/// What is asked of the pages and of a late point at time 1, which the first page meets.
+const OF_PAGES_AND_LATE_POINT: [Asked; 5] = [
+    (Aggregate::Count, 1, 2000, Some(2000), 2),
+    (Aggregate::MinValue, 1, 2000, Some(-7), 2),
+    (Aggregate::FirstValue, 1, 2000, Some(-7), 2),
+    (Aggregate::Count, 5, 4, Some(0), 0),
+    (Aggregate::MaxTime, 5, 4, None, 0),
+];
+
+/// Whether the answer and the number of loads are as wanted.
+fn is_answered(alloc: Global, pieces: &mut [Piece], lists: &[Vec<Point>], asked: &Asked) -> bool {
+    let (name, from, to, wanted, calls) = asked;
+    let range = Range {
+        from: *from,
+        to: *to,
+    };
+    mark_clean(pieces, &range);
+    let found = answer(alloc, *name, pieces, lists, &range, NEVER);
+    found.answer == Ok(wanted.map(|number| Value::I64(number))) && found.calls == *calls
+}
+
+fn two_pages(alloc: Global) -> Result<Vec<Vec<Point>>, Fail> {
+    Ok(vec![in alloc;
+        points(alloc, 1, 1000, 1, 0)?,
+        points(alloc, 1001, 2000, 1, 0)?,
+    ]?)
+}
+
+#[test]
+fn pages_are_loaded_only_where_they_must_be(rt: HostRuntime) -> Result<(), Fail> {
+    let alloc = rt.alloc();
+    let mut lists = two_pages(alloc)?;
+    let mut pieces = pieces_of(alloc, &lists, &[0, 0])?;
+    for asked in &OF_PAGES {
+        assert!(rt; is_answered(alloc, &mut pieces, &lists, asked));
+    }
+    let late = vec![in alloc;
+        Point {
+            time: 1,
+            value: Value::I64(-7)
+        },
+    ]?;
+    lists.push(late).map_err(AllocError::from)?;
+    let mut pieces = pieces_of(alloc, &lists, &[0, 0, 1])?;
+    for asked in &OF_PAGES_AND_LATE_POINT {
+        assert!(rt; is_answered(alloc, &mut pieces, &lists, asked));
+    }
+    Ok(())
+}
+
+/// Late pages that span the series: three pages of one source under two of another.
+fn late_pages(alloc: Global) -> Result<Vec<Vec<Point>>, Fail> {
+    Ok(vec![in alloc;
+        points(alloc, 0, 9, 1, 0)?,
+        points(alloc, 10, 19, 1, 0)?,
+        points(alloc, 20, 29, 1, 0)?,
+        points(alloc, 0, 14, 2, 1)?,
+        points(alloc, 16, 28, 2, 1)?,
+    ]?)
+}
+
+/// Their sources.
+const LATE_SOURCES: [u32; 5] = [0, 0, 0, 1, 1];
+
+const LATE_RANGE: Range = Range { from: 0, to: 29 };
+
+/// What is asked of late pages. The first value needs one page of each source.
+const OF_LATE_PAGES: [Asked; 5] = [
+    (Aggregate::Count, 0, 29, Some(30), 5),
+    (Aggregate::MinTime, 0, 29, Some(0), 2),
+    (Aggregate::FirstValue, 0, 29, Some(5), 2),
+    (Aggregate::MinTime, 15, 29, Some(15), 2),
+    (Aggregate::MaxTime, 0, 12, Some(12), 3),
+];
+
+#[test]
+fn a_page_is_loaded_when_the_merge_comes_to_it(rt: HostRuntime) -> Result<(), Fail> {
+    let alloc = rt.alloc();
+    let lists = late_pages(alloc)?;
+    let mut pieces = pieces_of(alloc, &lists, &LATE_SOURCES)?;
+    for asked in &OF_LATE_PAGES {
+        assert!(rt; is_answered(alloc, &mut pieces, &lists, asked));
+    }
+    Ok(())
+}
+
+/// Whether a fault of one load is the answer, and no load comes behind it.
+fn ends_at_fault(alloc: Global, pieces: &[Piece], lists: &[Vec<Point>], fault: Fault) -> bool {
+    let found = answer(alloc, Aggregate::Count, pieces, lists, &LATE_RANGE, fault);
+    found.answer == Err(fault.fault) && found.calls == fault.before.saturating_add(1)
+}
+
+#[test]
+fn each_load_may_fail(rt: HostRuntime) -> Result<(), Fail> {
+    let alloc = rt.alloc();
+    let lists = late_pages(alloc)?;
+    let pieces = pieces_of(alloc, &lists, &LATE_SOURCES)?;
+    let kinds = [
+        PullFault::Failed,
+        PullFault::Damaged { at: 7 },
+        PullFault::Memory,
+    ];
+    for fault in kinds {
+        for before in 0..5 {
+            assert!(rt; ends_at_fault(alloc, &pieces, &lists, Fault { before, fault }));
+        }
+    }
+    Ok(())
+}
