@@ -1,4 +1,4 @@
-use Rattle.std.proofs.Common.{rules, ◌≡◌}
+use Rattle.std.proofs.Common.{rules}
 use Rattle.tsdb_aggregate.proofs.GroupOfLanes.{adds_lanes, on_ok_then}
 use Rattle.tsdb_aggregate.proofs.RowLemmas.{cost_of_lanes, places_of_lanes}
 use Rattle.tsdb_aggregate.proofs.SpendLemmas.{spends_same}
@@ -10,9 +10,7 @@ invariant_of-lanes g c = record { places = places_of_lanes _ c.args.group.now _ 
 pub returns-clause-spends : goal.returns-clause-spends
 returns-clause-spends g c =
     let spends = spends_same _ _ _ _ _ _ _ (cost_of_lanes _ c.args.group.now c.in_ok-list.list.items c.in_ok-list.ensures) c.add_lanes.ensures.spends in
-    let loader : c.loader-1.given.0 ≡ c.add_lanes.new.lanes.loader.now = search rules in
-    let pages : c.pages-1.given.0 ≡ c.add_lanes.new.lanes.pages.now = search rules in
-    rw (loader, pages) spends
+    search (rules, spends)
 
 pub returns-clause-added : goal.returns-clause-added
 returns-clause-added g c = on_ok_then c.add_lanes.result (λ adds order apart. adds_lanes _ _ _ c.args.group.now c.in_ok-list.list.items _ _ c.in_ok-list.ensures adds order apart) c.add_lanes.ensures.added
