@@ -10,7 +10,7 @@ use Rattle.tsdb_base.specs.declared.ids.FileNumber.{FileNumber}
 use Rattle.tsdb_held.specs.Held.{AreFilesOf, AreSomeOf, IsDoubtOf, IsSweep, TellTheirBytes, entry_of, leaving, listed, may_go}
 use Rattle.tsdb_images.proofs.Kept.{found_without}
 use Rattle.tsdb_images.specs.Stored.{kept_bytes, without_numbers}
-use Rattle.tsdb_kept.specs.Files.{KeptFiles, kept_file}
+use Rattle.tsdb_kept.specs.Files.{IsOpen, KeptFiles, kept_file}
 use Rattle.tsdb_kept.specs.Places.{KeptFile, Places, file_at, is_one_of, place_at}
 use Rattle.tsdb_kept.specs.Sweeps.{LeavesWithout, free_numbers, has_no_right, is_free, is_that}
 use Rattle.tsdb_kept.specs.declared.files.Outgoing.{Outgoing}
@@ -102,9 +102,36 @@ is_told (Some file ∷ doubted) number (inr among) = by (nat_eq number file.0) (
     by true rest = refl
     by false rest = rest
 
+-- a number that is found in a list is one of it
+found_among : (number : ℕ) (numbers : List ℕ) → list_any (nat_eq number) numbers ≡ true → Among number numbers
+found_among number [] found = absurd cc
+found_among number (other ∷ numbers) found = by (λ rest. found_among number numbers rest) (nat_eq number other) refl found
+  where
+    by : (list_any (nat_eq number) numbers ≡ true → Among number numbers) → (b : Bool) → nat_eq number other ≡ b
+        → (b || list_any (nat_eq number) numbers) ≡ true → Among number (other ∷ numbers)
+    by next true same found = inl (sym (eqb-true number other same))
+    by next false differs found = inr (next found)
+
 module _ (files new : KeptFiles) (doubted : List (Option FileNumber)) (part : List Outgoing) where
   abbrev numbers : List ℕ
   numbers = may_go doubted files part
+
+  -- a place without a file is not taken away
+  pub places_stay : LeavesWithout numbers files new → (number : ℕ) → IsOpen number files → IsOpen number new
+  places_stay leaves number made = leaves.places number ∙ by (is_one_of numbers number) refl
+    where
+      no_file : IsFreeFile doubted files.places part number → ⊥
+      no_file one =
+          let unread : has_no_right (file_at (place_at number files.places)) ≡ true =
+          subst (λ n. has_no_right (file_at (place_at n files.places)) ≡ true) one.is
+          (first_of (has_no_right (file_at (place_at one.file.number.0 files.places)))
+          (not (list_any (is_that one.file.number.0) doubted)) one.free) in
+          let none : false ≡ true = subst (λ place. has_no_right (file_at place) ≡ true) made unread in
+          cc
+
+      by : (b : Bool) → is_one_of numbers number ≡ b → cond b None (place_at number files.places) ≡ Some None
+      by true gone = absurd (no_file (free_file doubted files.places part number (found_among number numbers gone)))
+      by false stays = made
 
   pub tell_on : (kept : List StoredFile) → TellTheirBytes files kept → LeavesWithout numbers files new
       → TellTheirBytes new (without_numbers numbers kept)

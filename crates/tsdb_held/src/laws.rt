@@ -1,11 +1,11 @@
 //! The laws. The functions do nothing; their contracts say them.
-ghost use Rattle.std.specs.Prelude.{◌≡◌, List, None, Option};
+ghost use Rattle.std.specs.Prelude.{◌≡◌, ℕ, List, None, Option};
 ghost use Rattle.tsdb_base.specs.declared.ids.FileNumber.{FileNumber};
 ghost use Rattle.tsdb_base.specs.declared.ids.Space.{Space};
 ghost use Rattle.tsdb_held.specs.Held.{AreFilesOf, AreSomeOf, IsDoubtOf, IsEnlisted, IsSentOut, IsSweep, IsUnread};
 ghost use Rattle.tsdb_held.specs.Held.{TellTheirBytes, entry_of, may_go, with_listed, with_outgoing};
 ghost use Rattle.tsdb_images.specs.Stored.{without_numbers};
-ghost use Rattle.tsdb_kept.specs.Files.{AreKept, KeepsLists, KeptFiles, kept_file, listed_borns};
+ghost use Rattle.tsdb_kept.specs.Files.{AreKept, IsOpen, KeepsLists, KeptFiles, kept_file, listed_borns};
 ghost use Rattle.tsdb_kept.specs.Places.{KeptFile, OnlyMakesPlaces};
 ghost use Rattle.tsdb_kept.specs.Sweeps.{LeavesWithout};
 ghost use Rattle.tsdb_kept.specs.declared.files.Outgoing.{Outgoing};
@@ -22,7 +22,7 @@ pub fn the_listed_borns_are_those_of_the_state()
 
 /// A sweep that removes what may go of some outgoing files, where it is told which files a record in doubt names, is a
 /// sweep of the state. What is left are the files of the state after it, and they go on to tell their bytes where the
-/// removed ones are kept no longer.
+/// removed ones are kept no longer. A place whose file is not there yet stays.
 pub fn a_sweep_is_a_step_of_the_state()
     ensures step { (files new : KeptFiles) (known : Entries) (state : EngineState) (doubted : List (Option FileNumber))
         (part : List Outgoing) → AreFilesOf files known state → IsDoubtOf doubted state → AreSomeOf files part
@@ -30,6 +30,9 @@ pub fn a_sweep_is_a_step_of_the_state()
     ensures told { (files new : KeptFiles) (kept : List StoredFile) (doubted : List (Option FileNumber))
         (part : List Outgoing) → TellTheirBytes files kept → LeavesWithout (may_go doubted files part) files new
         → TellTheirBytes new (without_numbers (may_go doubted files part) kept) }
+    ensures places { (files new : KeptFiles) (doubted : List (Option FileNumber)) (part : List Outgoing)
+        → LeavesWithout (may_go doubted files part) files new
+        → (number : ℕ) → IsOpen number files → IsOpen number new }
 {}
 
 /// A file whose place was free joins the outgoing ones or the end of a list, and the files are those of the state with it.

@@ -1,8 +1,10 @@
 -- What a change answers whose record was appended, or whose append failed.
 use Rattle.std.proofs.Common.{◌≡◌, ℕ, List, None, Result, Ok, Err}
 use Rattle.std.specs.Prelude.{◌<◌, IsSome}
+use Rattle.std.specs.Result.{IsErr}
 use Rattle.tsdb_base.specs.declared.fault.Memory as fault
-use Rattle.tsdb_logged.specs.Answers.{IsAccepted, IsCreateAnswer, IsDeleteAnswer, answer_by}
+use Rattle.tsdb_base.specs.declared.answers.Answer.TheVariants.{Done}
+use Rattle.tsdb_logged.specs.Answers.{IsAccepted, IsCreateAnswer, IsDeleteAnswer, IsFreezeAnswer, answer_by}
 use Rattle.tsdb_memory.specs.Shown.{number_of}
 use Rattle.tsdb_memory.specs.Store.{Store}
 use Rattle.tsdb_outside.specs.declared.faults.Failed.{Failed}
@@ -26,3 +28,13 @@ pub insert_answered : (stamp : ℕ) (result : Result (Result (Unit {0}) Failed) 
 insert_answered stamp (Ok (Ok done)) below = below
 insert_answered stamp (Ok (Err failed)) below = below
 insert_answered stamp (Err memory) below = tt
+
+pub freeze_answered : (result : Result (Result (Unit {0}) Failed) fault.Memory) → IsFreezeAnswer (answer_by result)
+freeze_answered (Ok (Ok done)) = tt
+freeze_answered (Ok (Err failed)) = tt
+freeze_answered (Err memory) = tt
+
+-- where memory ended, nothing is done
+pub err_not_done : (result : Result (Result (Unit {0}) Failed) fault.Memory) → IsErr result → answer_by result ≡ Done → ⊥
+err_not_done (Ok outcome) is done = cc
+err_not_done (Err memory) is done = cc

@@ -40,6 +40,16 @@ IsDeleteAnswer store path (Full counter) = IsSome (number_of store.series path) 
 IsDeleteAnswer store path WrongType = ⊥
 IsDeleteAnswer store path Exists = ⊥
 
+-- what a freeze answers
+abbrev pub IsFreezeAnswer : Answer → Type 0
+IsFreezeAnswer Done = Unit {0}
+IsFreezeAnswer NoPath = ⊥
+IsFreezeAnswer WrongType = ⊥
+IsFreezeAnswer Exists = ⊥
+IsFreezeAnswer Device = Unit {0}
+IsFreezeAnswer Memory = Unit {0}
+IsFreezeAnswer (Full counter) = ⊥
+
 -- nothing was changed, in memory and in the log
 abbrev pub IsRefusal : Answer → Type 0
 IsRefusal Done = ⊥

@@ -2,12 +2,12 @@
 ghost use Rattle.std.specs.Prelude.{List as ListOf, ℕ, ℤ, ◌≡◌, ◌≢◌, ◌<◌, ◌≤◌, ◌≤ℤ◌, All, AllPairs, IfOk, IsSome, None, OnOk, length, slice_get};
 ghost use Rattle.std.specs.Option.{IsSomeAnd};
 ghost use Rattle.tsdb_log.specs.declared.record.LogRecord.{LogRecord};
-ghost use Rattle.tsdb_path.specs.Nodes.{device_of};
 ghost use Rattle.tsdb_logged.specs.Answers.{IsAccepted, IsCreateAnswer, IsDeleteAnswer, answer_by};
 ghost use Rattle.tsdb_base.specs.declared.point.Range.{Range as RangeOf};
 ghost use Rattle.tsdb_log.specs.declared.record.CellRecord.{CellRecord as CellOf};
 ghost use Rattle.tsdb_logged.specs.Commands.{IsCreation, IsDeletion, IsInsertion, create_record as record_of};
 ghost use Rattle.tsdb_map.specs.Commands.{IsSchema};
+ghost use Rattle.tsdb_memory.specs.Model.{IsFitting};
 ghost use Rattle.tsdb_memory.specs.Shown.{number_of};
 ghost use Rattle.tsdb_memtable.specs.Pairs.{spare_of};
 ghost use Rattle.tsdb_state.specs.Limits.{end_of_numbers};
@@ -132,7 +132,7 @@ impl<J: Journal> Logged<J> {
         requires few { length cells ≤ 1000 }
         requires differ { AllPairs (λ cell other. cell.series.0 ≢ other.series.0) cells }
         requires there { All (λ cell. IsSomeAnd (slice_get (memory_of self.old).series cell.series.0)
-            (λ series. device_of series.path ≡ device.now)) cells }
+            (IsFitting device.now cell)) cells }
         ensures answer { IsAccepted (memory_of self.old).stamp result }
         ensures command { IsCommand self.old self.new (LogRecord.Insert time cells) (CanPut time cells) result }
     {
@@ -152,7 +152,7 @@ impl<J: Journal> Logged<J> {
         requires few { length cells ≤ 1000 }
         requires differ { AllPairs (λ cell other. cell.series.0 ≢ other.series.0) cells }
         requires there { All (λ cell. IsSomeAnd (slice_get (memory_of self.old).series cell.series.0)
-            (λ series. device_of series.path ≡ device.now)) cells }
+            (IsFitting device.now cell)) cells }
         requires stamp { (memory_of self.old).stamp < end_of_numbers }
         ensures { IsCommand self.old self.new (LogRecord.Insert time cells) (CanPut time cells) (answer_by result) }
     {

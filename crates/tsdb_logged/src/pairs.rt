@@ -1,6 +1,6 @@
 //! What becomes of a pair of points: it is frozen, and then in files. Depends on `logged`.
-ghost use Rattle.std.specs.Prelude.{◌<◌, ◌≤◌, OnOk, length};
-ghost use Rattle.tsdb_logged.specs.Answers.{answer_by};
+ghost use Rattle.std.specs.Prelude.{◌≡◌, ◌<◌, ◌≤◌, [], OnOk, length};
+ghost use Rattle.tsdb_logged.specs.Answers.{IsFreezeAnswer, answer_by};
 ghost use Rattle.tsdb_log.specs.declared.record.LogRecord.{LogRecord};
 ghost use Rattle.tsdb_state.specs.Jobs.{flushed_bytes};
 ghost use Rattle.tsdb_state.specs.Limits.{max_frozen};
@@ -18,17 +18,25 @@ impl<J: Journal> Logged<J> {
     ghost use Rattle.tsdb_logged.specs.Flushes.{IsFlushed};
     ghost use Rattle.tsdb_logged.specs.Logged.{memory_of, room_of};
 
-    /// Freezes the working pair. At most one pair may be frozen before.
+    /// Freezes the working pair. At most one pair may be frozen before. The series and the stamp stay, and a new working
+    /// pair has no point.
     pub fn freeze(&mut self) -> Answer
         requires room { length (memory_of self.old).frozen < max_frozen }
+        ensures answer { IsFreezeAnswer result }
         ensures command { IsCommand self.old self.new LogRecord.Freeze CanStop result }
+        ensures series { (memory_of self.new).series ≡ (memory_of self.old).series }
+        ensures stamp { (memory_of self.new).stamp ≡ (memory_of self.old).stamp }
+        ensures working { result ≡ Answer.Done → (memory_of self.new).working ≡ [] }
     {
         answer_of(self.write_freeze())
     }
 
     fn write_freeze(&mut self) -> Result<Result<(), Failed>, Memory>
         requires room { length (memory_of self.old).frozen < max_frozen }
-        ensures { IsCommand self.old self.new LogRecord.Freeze CanStop (answer_by result) }
+        ensures command { IsCommand self.old self.new LogRecord.Freeze CanStop (answer_by result) }
+        ensures series { (memory_of self.new).series ≡ (memory_of self.old).series }
+        ensures stamp { (memory_of self.new).stamp ≡ (memory_of self.old).stamp }
+        ensures working { answer_by result ≡ Answer.Done → (memory_of self.new).working ≡ [] }
     {
         let freezing = self.memory.prepare_freeze()?;
         match self.append(&LogRecord::Freeze)? {

@@ -4,12 +4,12 @@ use Rattle.std.proofs.Common.{List, [], ◌∷◌, ◌++◌, length, map, Option
 use Rattle.std.proofs.Common.{length-append, slice_get}
 use Rattle.std.proofs.lemmas.List.{length-map}
 use Rattle.std.proofs.lemmas.Int.{ints}
-use Rattle.std.specs.Prelude.{IsSome}
+use Rattle.std.specs.Prelude.{IsSome, find}
 use Rattle.std.specs.FinMap.{empty, get, get-empty, get-insert, get-remove, insert, len, len-empty, len-insert, remove}
 use Rattle.std.specs.List.Sorted.{IsStrictlySortedBy}
 use Rattle.std.specs.Map.{keys_of, lookup}
 use Rattle.std.specs.Option.{option_and_then, option_map, unwrap_or}
-use Rattle.std.specs.Ordering.{eq_by_cmp, nat_cmp}
+use Rattle.std.specs.Ordering.{eq_by_cmp, int_eq, nat_cmp}
 use Rattle.std.specs.declared.cmp.Ordering.TheVariants.{Less}
 use Rattle.std.proofs.lemmas.Bool.{false≢true}
 use Rattle.tsdb_base.specs.declared.ids.Space.{Space}
@@ -36,9 +36,54 @@ use Rattle.tsdb_memtable.specs.Points.{IsRising}
 abbrev pub AreKeys : List Place → Content → Type 0
 AreKeys places content = (q : Place) → (Among q places → IsSome (get content q)) × (IsSome (get content q) → Among q places)
 
-none_of : (o : Option Value) → (IsSome o → ⊥) → o ≡ None
+pub none_of : (o : Option Value) → (IsSome o → ⊥) → o ≡ None
 none_of None h = refl
 none_of (Some v) h = absurd (h refl)
+
+pub removed_none : (content : Content) (p : Place) → get (remove content p) p ≡ None
+removed_none content p = get-remove place_cmp_total content p p
+    ∙ ap (λ b. cond b None (get content p)) (place_itself p)
+
+-- a content with a value is what it is without it, and the value
+pub put_back : (content : Content) (p : Place) (v : Value) → get content p ≡ Some v
+    → content ≡ insert (remove content p) p v
+put_back content p v at = same_content content (insert (remove content p) p v) (λ q.
+    sym (get-insert place_cmp_total (remove content p) p v q
+    ∙ ap (cond (eq_by_cmp place_cmp q p) (Some v)) (get-remove place_cmp_total content p q)
+    ∙ choose q (eq_by_cmp place_cmp q p) refl))
+  where
+    choose : (q : Place) (b : Bool) → eq_by_cmp place_cmp q p ≡ b
+        → cond b (Some v) (cond b None (get content q)) ≡ get content q
+    choose q true e = sym (ap (get content) (is_place q p e) ∙ at)
+    choose q false e = refl
+
+-- what is left without a value
+pub left_at : (content : Content) (p q : Place) (v : Value) → get (remove content p) q ≡ Some v → get content q ≡ Some v
+left_at content p q v at = by (eq_by_cmp place_cmp q p) (sym (get-remove place_cmp_total content p q) ∙ at)
+  where
+    by : (b : Bool) → cond b None (get content q) ≡ Some v → get content q ≡ Some v
+    by true e = absurd (cc)
+    by false e = e
+
+pub keys_left : (p : Place) (places : List Place) (content : Content) → EachPair (λ (p q : Place). p ≢ q) (p ∷ places)
+    → AreKeys (p ∷ places) content → AreKeys places (remove content p)
+keys_left p places content differ are q = (
+  λ among. by_first (eq_by_cmp place_cmp q p) refl among,
+  λ some. ⊎_elim (λ same. absurd (false≢true (subst IsSome (is_gone same) some))) (λ among. among)
+      ((are q).1 (was (eq_by_cmp place_cmp q p) (subst IsSome (get-remove place_cmp_total content p q) some))),
+)
+  where
+    is_gone : p ≡ q → get (remove content p) q ≡ None
+    is_gone same = subst (λ (r : Place). get (remove content p) r ≡ None) same (removed_none content p)
+
+    was : (b : Bool) → IsSome (cond b None (get content q)) → IsSome (get content q)
+    was true some = absurd (false≢true some)
+    was false some = some
+
+    by_first : (b : Bool) → eq_by_cmp place_cmp q p ≡ b → Among q places → IsSome (get (remove content p) q)
+    by_first true e among = absurd (each_among (λ (r : Place). p ≢ r) places q differ.0 among (sym (is_place q p e)))
+    by_first false e among = subst IsSome (sym (get-remove place_cmp_total content p q
+        ∙ ap (λ b. cond b None (get content q)) e)) ((are q).0 (inr among))
 
 pub len_of : (places : List Place) (content : Content) → EachPair (λ (p q : Place). p ≢ q) places → AreKeys places content
     → len content ≡ length places
@@ -50,74 +95,29 @@ len_of [] content differ are =
     nothing : (q : Place) → Among q [] → ⊥
     nothing q among = absurd among
 len_of (p ∷ places) content differ are =
-    by (get content p) refl (λ others are. len_of places others differ.1 are)
+    by (get content p) refl (len_of places (remove content p) differ.1 (keys_left p places content differ are))
   where
-    others : Content
-    others = remove content p
-
-    gone : (b : Bool) (o : Option Value) → b ≡ true → cond b None o ≡ None
-    gone true o e = refl
-    gone false o e = absurd (false≢true e)
-
-    back : (v : Value) → get content p ≡ Some v → (q : Place) → get content q ≡ get (insert others p v) q
-    back v at q =
-        sym (get-insert place_cmp_total others p v q
-        ∙ ap (cond (eq_by_cmp place_cmp q p) (Some v)) (get-remove place_cmp_total content p q)
-        ∙ choose (eq_by_cmp place_cmp q p) refl)
-      where
-        choose : (b : Bool) → eq_by_cmp place_cmp q p ≡ b → cond b (Some v) (cond b None (get content q)) ≡ get content q
-        choose true e = sym (ap (get content) (is_place q p e) ∙ at)
-        choose false e = refl
-
-    rest : AreKeys places others
-    rest q = (
-      λ among. by_first (eq_by_cmp place_cmp q p) refl among,
-      λ some. ⊎_elim (λ same. absurd (false≢true (subst IsSome (is_gone q same) some))) (λ among. among)
-          ((are q).1 (was q some)),
-    )
-      where
-        is_gone : (q : Place) → p ≡ q → get others q ≡ None
-        is_gone q same = get-remove place_cmp_total content p q
-            ∙ gone (eq_by_cmp place_cmp q p) (get content q)
-            (subst (λ r. eq_by_cmp place_cmp q r ≡ true) (sym same) (place_itself q))
-
-        was : (q : Place) → IsSome (get others q) → IsSome (get content q)
-        was q some = was_by (eq_by_cmp place_cmp q p) (subst IsSome (get-remove place_cmp_total content p q) some)
-          where
-            was_by : (b : Bool) → IsSome (cond b None (get content q)) → IsSome (get content q)
-            was_by true some = absurd (false≢true some)
-            was_by false some = some
-
-        by_first : (b : Bool) → eq_by_cmp place_cmp q p ≡ b → Among q places → IsSome (get others q)
-        by_first true e among = absurd (each_among (λ (r : Place). p ≢ r) places q differ.0 among (sym (is_place q p e)))
-        by_first false e among = subst IsSome (sym (get-remove place_cmp_total content p q
-            ∙ ap (λ b. cond b None (get content q)) e)) ((are q).0 (inr among))
-
-    absent : get others p ≡ None
-    absent = get-remove place_cmp_total content p p ∙ gone (eq_by_cmp place_cmp p p) (get content p) (place_itself p)
-
     one_more : (n : ℕ) → n + 1 ≡ suc n
     one_more n = omega arith
 
-    by : (o : Option Value) → get content p ≡ o
-        → ((others : Content) → AreKeys places others → len others ≡ length places)
+    by : (o : Option Value) → get content p ≡ o → len (remove content p) ≡ length places
         → len content ≡ length (p ∷ places)
-    by None e again = absurd (false≢true (subst IsSome e ((are p).0 (inl refl))))
-    by (Some v) e again =
-        ap len (same_content content (insert others p v) (back v e))
-        ∙ len-insert place_cmp_total others p v
-        ∙ ap (λ o. cond (is_some o) (len others) (len others + 1)) absent
-        ∙ ap (λ n. n + 1) (again others rest) ∙ one_more (length places)
+    by None e rest = absurd (false≢true (subst IsSome e ((are p).0 (inl refl))))
+    by (Some v) e rest =
+        ap len (put_back content p v e)
+        ∙ len-insert place_cmp_total (remove content p) p v
+        ∙ ap (λ o. cond (is_some o) (len (remove content p)) (len (remove content p) + 1)) (removed_none content p)
+        ∙ ap (λ n. n + 1) rest ∙ one_more (length places)
 
 -- the places of a pair's points
 
-abbrev path_in : List Schema → ℕ → List ℕ
+abbrev pub path_in : List Schema → ℕ → List ℕ
 path_in series number = unwrap_or (option_map (λ (s : Schema). s.path) (slice_get series number)) []
 
 abbrev pub placed : List ℕ → Point → Place
 placed path point = record { path = path; time = point.time }
 
-abbrev places_in : List Schema → Space → Pair → List Place
+abbrev pub places_in : List Schema → Space → Pair → List Place
 places_in series space [] = []
 places_in series space (entry ∷ pair) =
     map (placed (path_in series entry.0)) (points_in space entry.1) ++ places_in series space pair
@@ -208,7 +208,7 @@ at_entry space (first ∷ pair) rising entry (inr among) =
 
 -- no place stands twice
 
-tail_rising : (p : Point) (points : List Point) → IsRising (p ∷ points) → IsRising points
+pub tail_rising : (p : Point) (points : List Point) → IsRising (p ∷ points) → IsRising points
 tail_rising p points rising = λ i j d before within.
     rising (suc i) (suc j) d (omega (arith, before)) (omega (arith, within))
 
@@ -221,7 +221,7 @@ first_two p r points rising = rising 0 1 p first (second (length points))
     second : (n : ℕ) → 1 < suc (suc n)
     second n = omega arith
 
-below : (p : Point) (points : List Point) → IsRising (p ∷ points) → (q : Point) → Among q points → p.time <ℤ q.time
+pub below : (p : Point) (points : List Point) → IsRising (p ∷ points) → (q : Point) → Among q points → p.time <ℤ q.time
 below p [] rising q among = absurd among
 below p (r ∷ points) rising q (inl is) = subst (λ (s : Point). p.time <ℤ s.time) is (first_two p r points rising)
 below p (r ∷ points) rising q (inr among) =
@@ -233,6 +233,26 @@ below p (r ∷ points) rising q (inr among) =
 
 apart : (a b : ℤ) → a <ℤ b → a ≡ b → ⊥
 apart a b h e = absurd (omega (arith, ints))
+
+same_value_at : (a b : ℤ) → a <ℤ b → int_eq b a ≡ false
+same_value_at a b h = grind (arith, ints)
+
+time_is : (a : ℤ) → int_eq a a ≡ true
+time_is a = grind (arith, ints)
+
+-- the value at the time of a point is its own
+pub value_of_point : (points : List Point) (point : Point) → IsRising points → Among point points
+    → value_at point.time points ≡ Some point.value
+value_of_point [] point rising among = absurd among
+value_of_point (p ∷ points) point rising (inl is) =
+    subst (λ (q : Point). value_at q.time (p ∷ points) ≡ Some q.value) is
+    (ap (λ b. option_map (λ (q : Point). q.value) (cond b (Some p) (find (λ (q : Point). int_eq p.time q.time) points)))
+    (time_is p.time))
+value_of_point (p ∷ points) point rising (inr among) =
+    ap (λ b. option_map (λ (q : Point). q.value)
+    (cond b (Some p) (find (λ (q : Point). int_eq point.time q.time) points)))
+    (same_value_at p.time point.time (below p points rising point among))
+    ∙ value_of_point points point (tail_rising p points rising) among
 
 pub row_differs : (path : List ℕ) (points : List Point) → IsRising points
     → EachPair (λ (p q : Place). p ≢ q) (map (placed path) points)
@@ -357,11 +377,25 @@ module _ (series : List Schema) (space : Space) (pair : Pair) (content : Content
       subst (λ (p : Place). Among p (places_in series space pair)) same
       (has_place series space pair found.number point.point point.among)
 
-  pub counted_points : len content ≡ count space pair
-  counted_points =
-      len_of (places_in series space pair) content
-      (places_differ series space pair once sorted
+  pub are_keys : AreKeys (places_in series space pair) content
+  are_keys q = (has q, had q)
+
+  pub places_apart : EachPair (λ (p q : Place). p ≢ q) (places_in series space pair)
+  places_apart = places_differ series space pair once sorted
       (λ entry among. subst IsRising (here entry among) (rising entry.0))
-      (λ entry point among at. live entry.0 point (subst (λ l. Among point l) (sym (here entry among)) at)))
-      (λ q. (has q, had q))
-      ∙ as_many series space pair
+      (λ entry point among at. live entry.0 point (subst (λ l. Among point l) (sym (here entry among)) at))
+
+  pub counted_points : len content ≡ count space pair
+  counted_points = len_of (places_in series space pair) content places_apart are_keys ∙ as_many series space pair
+
+  -- each point has its value at its place
+  pub value_placed : (entry : ℕ × SeriesPoints) (point : Point) → Among entry pair
+      → Among point (points_in space entry.1) → get content (placed (path_in series entry.0) point) ≡ Some point.value
+  value_placed entry point listed among =
+      let at : Among point (points_of space entry.0 pair) =
+      subst (λ l. Among point l) (sym (here entry listed)) among in
+      let alive = live entry.0 point at in
+      is (placed (path_in series entry.0) point)
+      ∙ ap (option_and_then (λ number. value_at point.time (points_of space number pair)))
+      (ap (number_of series) (path_is series entry.0 alive) ∙ once entry.0 alive.schema alive.at)
+      ∙ value_of_point (points_of space entry.0 pair) point (rising entry.0) at

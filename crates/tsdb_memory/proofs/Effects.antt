@@ -4,18 +4,18 @@ use Rattle.std.proofs.Common.{length, map, Option, Some, None, refl, sym, ap, su
 use Rattle.std.specs.Prelude.{All, int_lt}
 use Rattle.std.specs.Cmp.Lexicographic.{slice_cmp}
 use Rattle.std.specs.FinMap.{get-empty}
-use Rattle.std.specs.List.{AllZip}
+use Rattle.std.specs.List.{AllByRecursion as Each, AllZip}
 use Rattle.std.specs.Option.{option_and_then}
 use Rattle.std.specs.Ordering.{nat_cmp}
 use Rattle.std.proofs.lemmas.List.{map-append}
 use Rattle.std.proofs.lemmas.List.Elements.{All-filter, All-nil, All-push, All-tail, All-weaker}
+use Rattle.tsdb_base.specs.Values.{type_of}
 use Rattle.tsdb_base.specs.declared.ids.Space.{Space}
 use Rattle.tsdb_base.specs.declared.ids.Space.TheVariants.{Sequence, Unsequence}
 use Rattle.tsdb_base.specs.declared.ids.Stamp.{Stamp}
 use Rattle.tsdb_base.specs.declared.point.Range.{Range}
 use Rattle.tsdb_layers.specs.Marks.{purge}
 use Rattle.tsdb_layers.specs.Places.{Place, place_cmp}
-use Rattle.tsdb_map.specs.Commands.{IsSchema}
 use Rattle.tsdb_map.specs.declared.command.Schema.{Schema}
 use Rattle.tsdb_marks.specs.Lists.{Marks, is_newer_than, purge_list}
 use Rattle.tsdb_marks.specs.declared.marks.Mark.{Mark}
@@ -23,7 +23,8 @@ use Rattle.tsdb_memory.proofs.Borns.{frozen_borns, least_all, purge_least}
 use Rattle.tsdb_memory.proofs.Found.{frozen_push, known_cut, pair_cut, pair_push, rising_cut}
 use Rattle.tsdb_memory.proofs.Numbers.{length_push, once_push}
 use Rattle.tsdb_memory.specs.Least.{IsLeastOf, least_with}
-use Rattle.tsdb_memory.specs.Model.{HasKnownSeries, HasRisingPoints, IsSound}
+use Rattle.tsdb_memory.proofs.Typing.{all_both, typed_cut, typed_push}
+use Rattle.tsdb_memory.specs.Model.{HasKnownSeries, HasRisingPoints, HasTypedPoints, IsFormed, IsSound}
 use Rattle.tsdb_memory.specs.Rows.{ChangesRoom}
 use Rattle.tsdb_memory.specs.Shown.{IsFrozenOf, IsMemoryOf, IsPairOf, entry_of, file_borns, number_of, value_at}
 use Rattle.tsdb_memory.specs.Store.{FrozenPair, Places, Store}
@@ -67,19 +68,25 @@ created_shown store series places schema shown joins sound is =
     })
 
 pub created_sound : (store : Store) (series : List Schema) (places : Places) (schema : Schema)
-    → series ≡ store.series ++ schema ∷ [] → IsSchema schema → number_of store.series schema.path ≡ None
+    → series ≡ store.series ++ schema ∷ [] → IsFormed schema → number_of store.series schema.path ≡ None
     → store.stamp < end_of_numbers → IsSound store
     → IsSound (record store { series = series; stamp = store.stamp + 1; places = places })
 created_sound store series places schema joins formed free stamp sound =
     subst (λ s. IsSound (record store { series = s; stamp = store.stamp + 1; places = places })) (sym joins)
     (record {
-      formed = All-push IsSchema store.series schema sound.formed formed;
+      formed = All-push IsFormed store.series schema sound.formed formed;
       once = once_push store.series schema free sound.once;
       known = λ space n h. sound.known space n (shorter n h);
       rising = sound.rising;
       frozen_known = All-weaker (λ (f : FrozenPair). HasKnownSeries store.series f.pair)
           (λ (f : FrozenPair). HasKnownSeries (store.series ++ schema ∷ []) f.pair)
           (λ f known space n h. known space n (shorter n h)) store.frozen sound.frozen_known;
+      typed = typed_push store.series schema store.working sound.known sound.typed;
+      frozen_typed = all_both (λ (f : FrozenPair). HasKnownSeries store.series f.pair)
+          (λ (f : FrozenPair). HasTypedPoints store.series f.pair)
+          (λ (f : FrozenPair). HasTypedPoints (store.series ++ schema ∷ []) f.pair)
+          (λ f known typed. typed_push store.series schema f.pair known typed) store.frozen sound.frozen_known
+          sound.frozen_typed;
       two = sound.two;
       versions = All-weaker (UpTo store.stamp) (UpTo (store.stamp + 1))
           (λ m h. at_most_next m.version.0 store.stamp h) store.marks.marks sound.versions;
@@ -122,6 +129,8 @@ purged_sound store marks least sound after = record {
   known = sound.known;
   rising = sound.rising;
   frozen_known = sound.frozen_known;
+  typed = sound.typed;
+  frozen_typed = sound.frozen_typed;
   two = sound.two;
   versions = subst (All (UpTo store.stamp)) (sym after)
       (purged_versions store.stamp least store.marks.marks sound.versions);
@@ -190,6 +199,8 @@ module _ (store : Store) (n : ℕ) (path : List ℕ) (range : Range) (added : Ma
     known = known_cut store.series store.working n range sound.known;
     rising = rising_cut store.working n range sound.rising;
     frozen_known = sound.frozen_known;
+    typed = typed_cut store.series store.working n range sound.typed;
+    frozen_typed = sound.frozen_typed;
     two = sound.two;
     versions = subst (All (UpTo (store.stamp + 1))) (sym after) (added_versions sound.versions);
     ends = next_within store.stamp stamp;
@@ -301,11 +312,13 @@ nothing_rises = λ i j d before within. absurd (omega (arith, within))
 
 pub new_sound : (places : Places) → IsSound (new_memory places)
 new_sound places = record {
-  formed = All-nil IsSchema;
+  formed = All-nil IsFormed;
   once = λ number schema e. absurd (none schema e);
   known = known;
   rising = rising;
   frozen_known = All-nil (λ (f : FrozenPair). HasKnownSeries [] f.pair);
+  typed = λ space number schema e. absurd (none schema e);
+  frozen_typed = All-nil (λ (f : FrozenPair). HasTypedPoints [] f.pair);
   two = omega arith;
   versions = All-nil (UpTo 0);
   ends = omega arith;
@@ -347,7 +360,7 @@ roomy_shown old new shown room is = record {
 
 pub roomy_sound : (old new : Store) → ChangesRoom old new → IsSound old → IsSound new
 roomy_sound old new room sound = record {
-  formed = subst (All IsSchema) (sym room.series) sound.formed;
+  formed = subst (All IsFormed) (sym room.series) sound.formed;
   once = subst (λ s. (number : ℕ) (schema : Schema) → slice_get s number ≡ Some schema
       → number_of s schema.path ≡ Some number) (sym room.series) sound.once;
   known = subst (λ s. HasKnownSeries s new.working) (sym room.series)
@@ -355,6 +368,11 @@ roomy_sound old new room sound = record {
   rising = λ space number. subst IsRising (sym (room.working space number)) (sound.rising space number);
   frozen_known = subst (λ l. All (λ (f : FrozenPair). HasKnownSeries new.series f.pair) l) (sym room.frozen)
       (subst (λ s. All (λ (f : FrozenPair). HasKnownSeries s f.pair) old.frozen) (sym room.series) sound.frozen_known);
+  typed = subst (λ s. HasTypedPoints s new.working) (sym room.series)
+      (λ space n schema at. subst (Each (λ point. type_of point.value ≡ schema.data_type)) (sym (room.working space n))
+      (sound.typed space n schema at));
+  frozen_typed = subst (λ l. All (λ (f : FrozenPair). HasTypedPoints new.series f.pair) l) (sym room.frozen)
+      (subst (λ s. All (λ (f : FrozenPair). HasTypedPoints s f.pair) old.frozen) (sym room.series) sound.frozen_typed);
   two = subst (λ (l : List FrozenPair). length l ≤ max_frozen) (sym room.frozen) sound.two;
   versions = subst (λ n. All (UpTo n) new.marks.marks) (sym room.stamp)
       (subst (All (UpTo old.stamp)) (sym room.marks) sound.versions);
@@ -372,6 +390,9 @@ flushed_sound store frozen oldest places marks least had sound after = record {
   rising = sound.rising;
   frozen_known = All-tail (λ (f : FrozenPair). HasKnownSeries store.series f.pair) oldest frozen
       (subst (λ l. All (λ (f : FrozenPair). HasKnownSeries store.series f.pair) l) had sound.frozen_known);
+  typed = sound.typed;
+  frozen_typed = All-tail (λ (f : FrozenPair). HasTypedPoints store.series f.pair) oldest frozen
+      (subst (λ l. All (λ (f : FrozenPair). HasTypedPoints store.series f.pair) l) had sound.frozen_typed);
   two = fewer (length frozen) (subst (λ (l : List FrozenPair). length l ≤ max_frozen) had sound.two);
   versions = subst (All (UpTo store.stamp)) (sym after)
       (purged_versions store.stamp least store.marks.marks sound.versions);

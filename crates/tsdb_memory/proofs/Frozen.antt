@@ -24,7 +24,7 @@ use Rattle.tsdb_memory.proofs.Numbers.{length_push, schema_at}
 use Rattle.tsdb_memory.proofs.Raising.{IsRaisedTo, Rise, code_risen, one_raised, rise_in, rise_of, risen}
 use Rattle.tsdb_memory.proofs.Raising.{rises_raise, state_risen, through}
 use Rattle.tsdb_memory.specs.Freezing.{AreRaises, HasTime, raised_by}
-use Rattle.tsdb_memory.specs.Model.{HasKnownSeries, HasRisingPoints, IsSound}
+use Rattle.tsdb_memory.specs.Model.{HasKnownSeries, HasRisingPoints, HasTypedPoints, IsSound}
 use Rattle.tsdb_memory.specs.Shown.{IsContentOf, IsFrozenOf, IsMemoryOf, number_of, value_at, value_found}
 use Rattle.tsdb_memory.specs.Store.{FrozenPair, Places, Store}
 use Rattle.tsdb_memory.specs.declared.freezing.Raise.{Raise}
@@ -238,6 +238,10 @@ pub nothing_known : (series : List Schema) → HasKnownSeries series []
 nothing_known series Sequence n h = refl
 nothing_known series Unsequence n h = refl
 
+nothing_typed : (series : List Schema) → HasTypedPoints series []
+nothing_typed series Sequence n schema at = tt
+nothing_typed series Unsequence n schema at = tt
+
 nothing_rising : HasRisingPoints []
 nothing_rising Sequence n = nothing_rises
 nothing_rising Unsequence n = nothing_rises
@@ -283,6 +287,10 @@ module _ (store : Store) (raises : List Raise) (watermarks : Watermarks) (frozen
     frozen_known = subst (All (λ (f : FrozenPair). HasKnownSeries store.series f.pair)) (sym pushed)
         (All-push (λ (f : FrozenPair). HasKnownSeries store.series f.pair) store.frozen
         (record { born = store.stamp; pair = store.working }) sound.frozen_known sound.known);
+    typed = nothing_typed store.series;
+    frozen_typed = subst (All (λ (f : FrozenPair). HasTypedPoints store.series f.pair)) (sym pushed)
+        (All-push (λ (f : FrozenPair). HasTypedPoints store.series f.pair) store.frozen
+        (record { born = store.stamp; pair = store.working }) sound.frozen_typed sound.typed);
     two = subst (λ (l : List FrozenPair). length l ≤ max_frozen) (sym pushed)
         (fits (length (store.frozen ++ record { born = store.stamp; pair = store.working } ∷ [])) (length store.frozen)
         (length_push store.frozen (record { born = store.stamp; pair = store.working })) room);

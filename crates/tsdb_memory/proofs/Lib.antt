@@ -11,3 +11,5 @@ pub mod Frozen
 pub mod Raises
 pub mod Emptiness
 pub mod Counts
+pub mod Types
+pub mod Typing

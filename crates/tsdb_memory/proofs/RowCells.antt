@@ -12,7 +12,7 @@ use Rattle.tsdb_log.specs.declared.record.CellRecord.{CellRecord}
 use Rattle.tsdb_map.specs.declared.command.Schema.{Schema}
 use Rattle.tsdb_memory.proofs.Putting.{in_pair, pair_put, rising_put}
 use Rattle.tsdb_memory.proofs.Series.{changed_there}
-use Rattle.tsdb_memory.specs.Model.{HasKnownSeries, IsSound, HasRisingPoints}
+use Rattle.tsdb_memory.specs.Model.{HasKnownSeries, HasRisingPoints, HasTypedPoints, IsFitting, IsSound}
 use Rattle.tsdb_memory.specs.Rows.{UsesSpareRoom, put_all}
 use Rattle.tsdb_memory.specs.Shown.{IsMemoryOf, IsPairOf, entry_of, number_of}
 use Rattle.tsdb_memory.specs.Store.{Store}
@@ -30,7 +30,7 @@ abbrev pub Differs : CellRecord → CellRecord → Type 0
 Differs cell other = cell.series.0 ≢ other.series.0
 
 abbrev pub IsThere : List Schema → List ℕ → CellRecord → Type 0
-IsThere series device cell = IsSomeAnd (slice_get series cell.series.0) (λ s. device_of s.path ≡ device)
+IsThere series device cell = IsSomeAnd (slice_get series cell.series.0) (IsFitting device cell)
 
 pub pairs_first : {X : Type 0} (R : X → X → Type 0) (x : X) (xs : List X) → AllPairs R (x ∷ xs) → All (R x) xs
 pairs_first R x xs pairs = All-from_get_or (R x) xs x
@@ -86,10 +86,10 @@ module _ (series : List Schema) (watermarks : Watermarks) (space : Space) (devic
       → IsPairOf series (change_points cell.series.0 (put_in space (record { time = time; value = cell.value })) pair)
       (put_cells (map entry_of series) watermarks time (cell ∷ []) shown)
   put_first cell pair shown there room is =
-      let at = at_number series cell.series.0 (λ s. device_of s.path ≡ device) there in
+      let at = at_number series cell.series.0 (IsFitting device cell) there in
       let path = path_at series cell.series.0 at.schema at.at in
       let same : space ≡ space_by (get watermarks (device_of (path_of (map entry_of series) cell.series.0))) time =
-      is_space ∙ ap (λ d. space_by (get watermarks d) time) (sym (ap device_of path ∙ at.holds)) in
+      is_space ∙ ap (λ d. space_by (get watermarks d) time) (sym (ap device_of path ∙ at.holds.of_device)) in
       subst (λ s. IsPairOf series
       (change_points cell.series.0 (put_in space (record { time = time; value = cell.value })) pair)
       (put_in_space s (record { path = path_of (map entry_of series) cell.series.0; time = time }) cell.value shown)) same
@@ -128,7 +128,7 @@ known_row series device space time [] pair there differ room known = known
 known_row series device space time (cell ∷ cells) pair there differ room known =
     let here = All-head (HasRoom pair) cell cells room in
     let point : Point = record { time = time; value = cell.value } in
-    let at = at_number series cell.series.0 (λ s. device_of s.path ≡ device)
+    let at = at_number series cell.series.0 (IsFitting device cell)
     (All-head (IsThere series device) cell cells there) in
     known_row series device space time cells (change_points cell.series.0 (put_in space point) pair)
     (All-tail (IsThere series device) cell cells there) (pairs_rest Differs cell cells differ)
@@ -177,13 +177,16 @@ module _ (store : Store) (device : List ℕ) (space : Space) (time : ℤ) (cells
   }
 
   pub inserted_sound : store.stamp < end_of_numbers
+      → HasTypedPoints store.series (put_all space time cells store.working)
       → IsSound (record store { stamp = store.stamp + 1; working = put_all space time cells store.working })
-  inserted_sound stamp = record {
+  inserted_sound stamp typed = record {
     formed = sound.formed;
     once = sound.once;
     known = known_row store.series device space time cells store.working there differ room sound.known;
     rising = rising_row space time cells store.working differ room sound.rising;
     frozen_known = sound.frozen_known;
+    typed = typed;
+    frozen_typed = sound.frozen_typed;
     two = sound.two;
     versions = All-weaker (λ mark. mark.version.0 ≤ store.stamp) (λ mark. mark.version.0 ≤ store.stamp + 1)
         (λ m h. at_most_next m.version.0 store.stamp h) store.marks.marks sound.versions;

@@ -2,9 +2,12 @@
 -- that has a replay.
 use Rattle.std.specs.Prelude.{◌≡◌, ℕ, ◌-◌, ◌≤◌, List, [], Some, map, All, length, slice_get, vec_len, vec_capacity}
 use Rattle.std.specs.HashMap.{spare}
+use Rattle.std.specs.List.{AllByRecursion as Each}
+use Rattle.tsdb_base.specs.Values.{type_of}
 use Rattle.tsdb_base.specs.declared.ids.Space.{Space}
 use Rattle.tsdb_base.specs.declared.value.DataType.{DataType}
 use Rattle.tsdb_base.specs.declared.value.Encoding.{Encoding}
+use Rattle.tsdb_log.specs.declared.record.CellRecord.{CellRecord}
 use Rattle.tsdb_map.specs.Commands.{IsSchema}
 use Rattle.tsdb_map.specs.declared.command.Schema.{Schema}
 use Rattle.tsdb_memory.specs.Shared.{pair_in}
@@ -14,6 +17,7 @@ use Rattle.tsdb_memory.specs.declared.store.FrozenPair.{FrozenPair}
 use Rattle.tsdb_memory.specs.declared.store.MemoryStore.TheInside.{Inside}
 use Rattle.tsdb_memtable.specs.Pairs.{Pair, points_of}
 use Rattle.tsdb_memtable.specs.Points.{IsRising}
+use Rattle.tsdb_path.specs.Nodes.{IsPath, device_of}
 use Rattle.tsdb_state.specs.Limits.{end_of_numbers, max_frozen}
 
 abbrev pub schema_of : List ℕ × (DataType × Encoding) → Schema
@@ -41,15 +45,32 @@ HasKnownSeries series pair = (space : Space) (number : ℕ) → length series �
 abbrev pub HasRisingPoints : Pair → Type 0
 HasRisingPoints pair = (space : Space) (number : ℕ) → IsRising (points_of space number pair)
 
--- series are well-formed, and each has its path alone; points are of series that are there, and those of the working
--- pair rise in time; versions and the stamp are within their bounds
+-- the points of each series that is there are of its type
+abbrev pub HasTypedPoints : List Schema → Pair → Type 0
+HasTypedPoints series pair = (space : Space) (number : ℕ) (schema : Schema) → slice_get series number ≡ Some schema
+    → Each (λ point. type_of point.value ≡ schema.data_type) (points_of space number pair)
+
+-- the cell of a row of the device fits the series: it is of the device, and the value is of its type
+pub record IsFitting (device : List ℕ) (cell : CellRecord) (schema : Schema) : Type 0 where
+  pub of_device : device_of schema.path ≡ device
+  pub type : type_of cell.value ≡ schema.data_type
+
+-- the series is well-formed, and its path is one
+pub record IsFormed (schema : Schema) : Type 0 where
+  pub suits : IsSchema schema
+  pub path : IsPath schema.path
+
+-- series are well-formed, and each has its path alone; points are of series that are there, and of their types, and
+-- those of the working pair rise in time; versions and the stamp are within their bounds
 pub record IsSound (store : value.Store) : Type 0 where
-  pub formed : All IsSchema store.series
+  pub formed : All IsFormed store.series
   pub once : (number : ℕ) (schema : Schema) → slice_get store.series number ≡ Some schema
       → number_of store.series schema.path ≡ Some number
   pub known : HasKnownSeries store.series store.working
   pub rising : HasRisingPoints store.working
   pub frozen_known : All (λ frozen. HasKnownSeries store.series frozen.pair) store.frozen
+  pub typed : HasTypedPoints store.series store.working
+  pub frozen_typed : All (λ frozen. HasTypedPoints store.series frozen.pair) store.frozen
   pub two : length store.frozen ≤ max_frozen
   pub versions : All (λ mark. mark.version.0 ≤ store.stamp) store.marks.marks
   pub ends : store.stamp ≤ end_of_numbers

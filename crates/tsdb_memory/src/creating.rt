@@ -30,6 +30,8 @@ impl MemoryStore {
         requires stamp { self.old.stamp < end_of_numbers }
         ensures effect { (state : StoreState) → IsMemoryOf self.old state → IsMemoryOf self.new (created schema state) }
     {
+        // (a call of the path tells that it is one)
+        let _ = schema.path.bytes();
         let _ = self
             .series
             .insert(schema.path, (schema.data_type, schema.encoding));

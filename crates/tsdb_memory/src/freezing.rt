@@ -57,6 +57,9 @@ impl MemoryStore {
         requires room { length self.old.frozen < max_frozen }
         requires freezing { IsFreezeOf self.old freezing }
         ensures effect { (state : StoreState) → IsMemoryOf self.old state → IsMemoryOf self.new (froze state) }
+        ensures series { self.new.series ≡ self.old.series }
+        ensures stamp { self.new.stamp ≡ self.old.stamp }
+        ensures working { self.new.working ≡ [] }
     {
         let Freezing { raises, place } = freezing;
         raise_all(&mut self.watermarks, &raises);

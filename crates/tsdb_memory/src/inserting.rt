@@ -2,10 +2,10 @@
 ghost use Rattle.std.specs.Prelude.{◌≡◌, ◌≢◌, ◌<◌, ℕ, All, AllPairs, OnOk, slice_get};
 ghost use Rattle.std.specs.Option.{IsSomeAnd};
 ghost use Rattle.tsdb_base.specs.declared.ids.Space.{Space as SpaceOf};
+ghost use Rattle.tsdb_memory.specs.Model.{IsFitting};
 ghost use Rattle.tsdb_memory.specs.Shown.{IsMemoryOf};
 ghost use Rattle.tsdb_memory.specs.Rows.{ChangesRoom, UsesSpareRoom, put_all};
 ghost use Rattle.tsdb_memtable.specs.Pairs.{points_of, spare_of};
-ghost use Rattle.tsdb_path.specs.Nodes.{device_of};
 ghost use Rattle.tsdb_state.specs.Limits.{end_of_numbers};
 ghost use Rattle.tsdb_state.specs.Records.{inserted};
 ghost use Rattle.tsdb_state.specs.State.{StoreState};
@@ -32,7 +32,7 @@ impl MemoryStore {
         requires room { All (λ cell. 0 < spare_of cell.series.0 self.old.working) cells }
         requires differ { AllPairs (λ cell other. cell.series.0 ≢ other.series.0) cells }
         requires there { All (λ cell. IsSomeAnd (slice_get self.old.series cell.series.0)
-            (λ series. device_of series.path ≡ device.now)) cells }
+            (IsFitting device.now cell)) cells }
         requires stamp { self.old.stamp < end_of_numbers }
         ensures effect { (state : StoreState) → IsMemoryOf self.old state
             → IsMemoryOf self.new (inserted time cells state) }

@@ -3,7 +3,7 @@ ghost use Rattle.std.specs.Prelude.{◌≡◌, ◌≢◌, ◌≤◌, ◌↔◌, 
 ghost use Rattle.std.specs.FinMap.{empty, len};
 ghost use Rattle.std.specs.Arc.{arc_value};
 ghost use Rattle.std.specs.Option.{option_map};
-ghost use Rattle.tsdb_memory.specs.Model.{frozen_in};
+ghost use Rattle.tsdb_memory.specs.Model.{IsSound, frozen_in};
 ghost use Rattle.tsdb_memory.specs.Shown.{IsFilled, IsMemoryOf, number_of, part_of};
 ghost use Rattle.tsdb_state.specs.Limit.{IsEmptyPair};
 ghost use Rattle.tsdb_state.specs.Limits.{max_frozen};
@@ -25,6 +25,13 @@ pub struct Numbered {
 }
 
 impl MemoryStore {
+    /// It does nothing, and tells what always holds of what is in memory.
+    pub fn sound(&self)
+        ensures { IsSound self.now }
+    {
+        let _ = &self.series;
+    }
+
     /// The frozen pairs, from the oldest on: at most 2.
     pub fn frozen(&self) -> &[FrozenPair]
         ensures value { map frozen_in result.now ≡ self.now.frozen }

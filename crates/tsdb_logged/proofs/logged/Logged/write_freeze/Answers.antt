@@ -1,13 +1,15 @@
-use Rattle.std.proofs.Common.{arith, refl, subst}
+use Rattle.std.proofs.Common.{◌∙◌, ap, arith, refl, subst}
 use Rattle.tsdb_log.specs.declared.record.LogRecord.TheVariants.{Freeze}
+use Rattle.tsdb_logged.proofs.Answering.{err_not_done}
 use Rattle.tsdb_logged.proofs.Commanding.{fails, logs_freeze, takes_effect}
 use Rattle.tsdb_logged.proofs.Steps.{out_of_memory, out_of_memory_later}
 use Rattle.tsdb_logged.specs.Appends.{IsAppended}
 use Rattle.tsdb_logged.specs.Commands.{CanStop}
+use Rattle.tsdb_memory.specs.Store.{Store}
 use Rattle.tsdb_logged.proofs.logged.Logged.write_freeze.Goals as goal
 
-pub returns-in_err-freezing : goal.returns-in_err-freezing
-returns-in_err-freezing g c =
+pub returns-in_err-freezing-clause-command : goal.returns-in_err-freezing-clause-command
+returns-in_err-freezing-clause-command g c =
     out_of_memory c.args.self.now (record c.args.self.now { memory = c.prepare_freeze.new.self }) Freeze CanStop
     c.from_residual.result c.from_residual.ensures.0
     (record {
@@ -17,8 +19,8 @@ returns-in_err-freezing g c =
       same = c.in_err-freezing.ensures.same;
     })
 
-pub returns-in_err-append : goal.returns-in_err-append
-returns-in_err-append g c =
+pub returns-in_err-append-clause-command : goal.returns-in_err-append-clause-command
+returns-in_err-append-clause-command g c =
     out_of_memory_later c.args.self.now c.append.new.self Freeze CanStop c.from_residual-in_err-append.result
     c.from_residual-in_err-append.ensures.0 (record c.args.self.now { memory = c.prepare_freeze.new.self })
     (record {
@@ -28,8 +30,8 @@ returns-in_err-append g c =
       same = c.in_ok-freezing.ensures.same;
     }) c.in_err-append.ensures.none c.in_err-append.ensures.memory c.in_err-append.ensures.capacity
 
-pub returns-in-Err : goal.returns-in-Err
-returns-in-Err g c =
+pub returns-in-Err-clause-command : goal.returns-in-Err-clause-command
+returns-in-Err-clause-command g c =
     fails c.args.self.now (record c.args.self.now { memory = c.prepare_freeze.new.self }) c.append.new.self Freeze CanStop
     (logs_freeze c.args.self.now c.in_ok-append.ensures.record)
     (record {
@@ -41,8 +43,8 @@ returns-in-Err g c =
     (subst (IsAppended (record c.args.self.now { memory = c.prepare_freeze.new.self }) c.append.new.self Freeze)
     c.in-Err.is c.in_ok-append.ensures.append)
 
-pub returns : goal.returns
-returns g c =
+pub returns-clause-command : goal.returns-clause-command
+returns-clause-command g c =
     takes_effect c.args.self.now (record c.args.self.now { memory = c.prepare_freeze.new.self }) c.append.new.self Freeze
     CanStop (logs_freeze c.args.self.now c.in_ok-append.ensures.record)
     (record {
@@ -54,3 +56,50 @@ returns g c =
     (subst (IsAppended (record c.args.self.now { memory = c.prepare_freeze.new.self }) c.append.new.self Freeze)
     c.in-Ok.is c.in_ok-append.ensures.append)
     (λ state is needs. c.finish_freeze.ensures.effect state.store is)
+
+-- the series and the stamp stay at each step
+
+pub returns-in_err-freezing-clause-series : goal.returns-in_err-freezing-clause-series
+returns-in_err-freezing-clause-series g c = c.in_err-freezing.ensures.kept.series
+
+pub returns-in_err-freezing-clause-stamp : goal.returns-in_err-freezing-clause-stamp
+returns-in_err-freezing-clause-stamp g c = c.in_err-freezing.ensures.kept.stamp
+
+pub returns-in_err-append-clause-series : goal.returns-in_err-append-clause-series
+returns-in_err-append-clause-series g c =
+    ap (λ (s : Store). s.series) c.in_err-append.ensures.memory ∙ c.in_ok-freezing.ensures.kept.series
+
+pub returns-in_err-append-clause-stamp : goal.returns-in_err-append-clause-stamp
+returns-in_err-append-clause-stamp g c =
+    ap (λ (s : Store). s.stamp) c.in_err-append.ensures.memory ∙ c.in_ok-freezing.ensures.kept.stamp
+
+pub returns-in-Err-clause-series : goal.returns-in-Err-clause-series
+returns-in-Err-clause-series g c =
+    ap (λ (s : Store). s.series) c.in_ok-append.ensures.memory ∙ c.in_ok-freezing.ensures.kept.series
+
+pub returns-in-Err-clause-stamp : goal.returns-in-Err-clause-stamp
+returns-in-Err-clause-stamp g c =
+    ap (λ (s : Store). s.stamp) c.in_ok-append.ensures.memory ∙ c.in_ok-freezing.ensures.kept.stamp
+
+pub returns-clause-series : goal.returns-clause-series
+returns-clause-series g c = c.finish_freeze.ensures.series
+    ∙ ap (λ (s : Store). s.series) c.in_ok-append.ensures.memory ∙ c.in_ok-freezing.ensures.kept.series
+
+pub returns-clause-stamp : goal.returns-clause-stamp
+returns-clause-stamp g c = c.finish_freeze.ensures.stamp
+    ∙ ap (λ (s : Store). s.stamp) c.in_ok-append.ensures.memory ∙ c.in_ok-freezing.ensures.kept.stamp
+
+-- only where it is done there is a new working pair
+
+pub returns-in_err-freezing-clause-working : goal.returns-in_err-freezing-clause-working
+returns-in_err-freezing-clause-working g c = λ done. absurd (err_not_done c.from_residual.result c.from_residual.ensures.0 done)
+
+pub returns-in_err-append-clause-working : goal.returns-in_err-append-clause-working
+returns-in_err-append-clause-working g c = λ done. absurd
+    (err_not_done c.from_residual-in_err-append.result c.from_residual-in_err-append.ensures.0 done)
+
+pub returns-in-Err-clause-working : goal.returns-in-Err-clause-working
+returns-in-Err-clause-working g c = λ done. absurd cc
+
+pub returns-clause-working : goal.returns-clause-working
+returns-clause-working g c = λ done. c.finish_freeze.ensures.working

@@ -36,4 +36,5 @@ invariant_of-self c =
     subst (λ (s : Store). s.stamp < end_of_numbers) (sym c.self.view_is) c.requires.stamp in
     created_sound (store_in old) (map schema_of c.insert.new.self.entries) (store_in new).places schema
     (joined old.series c.insert.new.self schema c.insert.result free (c.insert.ensures.succeeds place)
-    c.insert.ensures.entries) c.requires.formed free stamp c.self.invariant
+    c.insert.ensures.entries) (record { suits = c.requires.formed; path = c.bytes.ensures.path }) free stamp
+    c.self.invariant

@@ -2,6 +2,7 @@ use Rattle.std.proofs.Common.{rules, w64, ◌≡◌, ◌+◌, ◌<◌, ◌∙◌
 use Rattle.std.proofs.Math.Facts.{to_z-of_z}
 use Rattle.std.specs.Prelude.{All}
 use Rattle.tsdb_memory.proofs.RowCells.{HasRoom, IsThere, inserted_shown, inserted_sound}
+use Rattle.tsdb_memory.proofs.Typing.{typed_row}
 use Rattle.tsdb_memory.specs.Model.{IsSound, store_in}
 use Rattle.tsdb_memory.specs.Rows.{put_all}
 use Rattle.tsdb_memory.specs.Shown.{IsMemoryOf}
@@ -50,4 +51,6 @@ invariant_of-self c =
     (to_z-of_z {w = w64} (search rules)) in
     subst (λ (p : Pair). IsSound (record (store_in old) { stamp = old.stamp + 1; working = p })) (sym put)
     (inserted_sound (store_in old) c.args.device.now c.space_of-space.result c.args.time c.args.cells there
-    c.requires.differ room c.self.invariant stamp)
+    c.requires.differ room c.self.invariant stamp
+    (typed_row (store_in old).series c.args.device.now c.space_of-space.result c.args.time c.args.cells old.working there
+    c.requires.differ room c.self.invariant.typed))

@@ -5,11 +5,10 @@ use Rattle.std.specs.Option.{option_copied, option_map}
 use Rattle.std.specs.Map.Iter.{deref_pair}
 use Rattle.tsdb_base.specs.declared.ids.Space.TheVariants.{Sequence}
 use Rattle.tsdb_base.specs.declared.point.Point.{Point}
-use Rattle.tsdb_map.specs.Commands.{IsSchema}
 use Rattle.tsdb_memory.proofs.Numbers.{at_map}
 use Rattle.tsdb_memory.proofs.Raises.{all_at, beyond, no_last, raise_is}
 use Rattle.tsdb_memory.specs.Freezing.{IsRaiseOf}
-use Rattle.tsdb_memory.specs.Model.{schema_of}
+use Rattle.tsdb_memory.specs.Model.{IsFormed, schema_of}
 use Rattle.tsdb_memory.specs.Store.{Store}
 use Rattle.tsdb_memory.specs.declared.freezing.Raise.{Raise}
 use Rattle.tsdb_memtable.specs.Pairs.{points_of}
@@ -36,10 +35,10 @@ device_in-requires c =
     let entries = c.self.inside.series.entries in
     let at = at_map schema_of entries c.args.series.0
     ∙ ap (option_map schema_of) (sym c.get_index.ensures.entry ∙ ap (option_map deref_pair) c.in-Some-get_index.is) in
-    let formed : IsSchema (schema_of (c.in-Some-get_index.path.now, c.in-Some-get_index.field-0-1.now)) =
-    all_at IsSchema (map schema_of entries) c.args.series.0
+    let formed : IsFormed (schema_of (c.in-Some-get_index.path.now, c.in-Some-get_index.field-0-1.now)) =
+    all_at IsFormed (map schema_of entries) c.args.series.0
     (schema_of (c.in-Some-get_index.path.now, c.in-Some-get_index.field-0-1.now)) c.self.invariant.formed at in
-    omega (arith, formed.series)
+    omega (arith, formed.suits.series)
 
 pub returns-clause-some : goal.returns-clause-some
 returns-clause-some c =
