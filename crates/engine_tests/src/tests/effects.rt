@@ -1,5 +1,7 @@
 //! The effects over two series of one device behind a log, with the slow state beside it. Depends on `slow_state`.
-ghost use Rattle.std.specs.Prelude.{◌≡◌, [], ◌∷◌, IfOk, map};
+ghost use Rattle.std.specs.Prelude.{◌≡◌, [], ◌∷◌, All, IfOk, map};
+ghost use Rattle.tsdb_base.specs.Values.{type_of};
+ghost use Rattle.tsdb_base.specs.declared.value.DataType.TheVariants.{Int64};
 
 use super::slow_state::SlowState;
 use mem_outside::{Fails, MemJournal, MemPlace};
@@ -41,7 +43,7 @@ pub(super) enum Step {
 }
 
 /// A log without records in a place in memory that never fails.
-fn new_log(alloc: Global) -> Result<Logged<MemJournal>, Fail> {
+pub(super) fn new_log(alloc: Global) -> Result<Logged<MemJournal>, Fail> {
     let fails = Fails {
         journal: Vec::new(alloc),
         files: Vec::new(alloc),
@@ -69,7 +71,9 @@ fn create<J: Journal>(logged: &mut Logged<J>, path: Path) -> Result<Answer, Fail
 
 /// The cells of a row of one cell.
 fn cells_of(alloc: Global, series: SeriesId, value: i64) -> Result<Vec<CellRecord>, Fail>
-    ensures { IfOk result (λ cells. map (λ cell. cell.series.0) cells.items ≡ series.0 ∷ []) }
+    ensures numbers { IfOk result (λ cells. map (λ cell. cell.series.0) cells.items ≡ series.0 ∷ []) }
+    ensures all { IfOk result (λ cells. All (λ cell. (cell.series.0 ≡ series.0)
+        × (type_of cell.value ≡ Int64)) cells.items) }
 {
     let mut cells = Vec::new(alloc);
     let value = Value::I64(value);
@@ -88,6 +92,9 @@ fn put<J: Journal>(
     let Some(found) = logged.memory().series(path) else {
         return Ok(Answer::NoPath);
     };
+    if found.data_type != DataType::Int64 {
+        return Ok(Answer::WrongType);
+    }
     if path.nodes() < 3 {
         return Ok(Answer::NoPath);
     }
