@@ -1,0 +1,17 @@
+pub mod Runs
+pub mod LastRun
+pub mod Joining
+pub mod Naming
+pub mod Greatest
+pub mod Leasts
+pub mod Inputs
+pub mod Standing
+pub mod Outputs
+pub mod Deciding
+pub mod Following
+pub mod Flushing
+pub mod Replaced
+pub mod Counting
+pub mod RowFacts
+pub mod Distinct
+pub mod NewPoints
