@@ -1,0 +1,8 @@
+//! Tests of the replay of a log: each kind of record with no replay, and the nearest that has one. Depends on
+//! `tsdb_opening`, and for what it is given on `tsdb_base`, `tsdb_path`, `tsdb_log` and `tsdb_memory`.
+#![tactic(auto)]
+
+#[cfg(test)]
+mod records;
+#[cfg(test)]
+mod tests;
