@@ -9,8 +9,8 @@ use Rattle.tsdb_map.specs.declared.command.Schema.{Schema}
 use Rattle.tsdb_memory.specs.Shown.{IsPairOf}
 use Rattle.tsdb_state.specs.State as state
 
--- The job has the born, the points and the numbers of the flush. `series` are those that were there when it was taken, by
--- whose numbers its pair has its points.
+-- The job has the born, the points and the numbers of the flush. `series` are those that were there when it was taken,
+-- by whose numbers its pair has its points.
 pub record IsFlushOf (job : FlushJob) (flush : state.FlushJob) : Type 0 where
   pub series : List Schema
   pub of : IsJobOf series (arc_value job.pair) job.schemas job.series
