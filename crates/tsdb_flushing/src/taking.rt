@@ -44,11 +44,12 @@ pub fn take(memory: &MemoryStore, next: u64) -> Result<FlushJob, Memory>
     let oldest = oldest(memory);
     let in_order = series_in_order(memory, oldest.pair())?;
     let alloc = *in_order.allocator();
-    let series = numbers_of(alloc, &in_order)?;
-    let schemas = schemas_of(alloc, &in_order)?;
+    let all = in_order.as_slice();
+    let series = numbers_of(alloc, all)?;
+    let schemas = schemas_of(alloc, all)?;
     let mut next = next;
-    let sequence = draw(&in_order, Space::Sequence, &mut next);
-    let unsequence = draw(&in_order, Space::Unsequence, &mut next);
+    let sequence = draw(all, Space::Sequence, &mut next);
+    let unsequence = draw(all, Space::Unsequence, &mut next);
     match oldest.share() {
         Some(pair) => Ok(FlushJob {
             born: oldest.born(),

@@ -36,14 +36,14 @@ returns-in-Some c =
       order = c.in_ok-in_order.ensures.order;
       mid = c.draw-sequence.new.next;
       end = c.draw-unsequence.new.next;
-      first = rw c.deref-3.ensures.value at c.draw-sequence.ensures;
-      second = rw c.deref-4.ensures.value at c.draw-unsequence.ensures;
+      first = rw c.as_slice-all.ensures.value at c.draw-sequence.ensures;
+      second = rw c.as_slice-all.ensures.value at c.draw-unsequence.ensures;
     } in
     let has : Has job oldest series = record {
       born = c.born.ensures;
       pair = c.in-Some.ensures;
-      numbers = c.in_ok-series.ensures ∙ ap (map (λ (one : PairSeries). one.id)) c.deref.ensures.value;
-      schemas = c.in_ok-schemas.ensures ∙ ap (map schema_in) c.deref-2.ensures.value;
+      numbers = c.in_ok-series.ensures ∙ ap (map (λ (one : PairSeries). one.id)) c.as_slice-all.ensures.value;
+      schemas = c.in_ok-schemas.ensures ∙ ap (map schema_in) c.as_slice-all.ensures.value;
     } in
     record {
       job = is_job store c.args.next oldest series job c.sound.ensures found has;
