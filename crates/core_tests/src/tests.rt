@@ -4,12 +4,13 @@ mod short_lists;
 mod slow_state;
 mod words;
 
-use cores::{ask, ask_freeze, ask_word, close_core, counts, needs_flush, open_core, place_of};
+use cores::{
+    Served, ask, ask_freeze, ask_word, close_core, counts, needs_flush, open_core, place_of,
+};
 use std::alloc::Global;
 use std::test::Fail;
 use tests_support as lines;
 use tsdb_base::{Answer, Time};
-use tsdb_core::Core;
 use tsdb_outside::{Files, Journal};
 use words::command_of;
 
@@ -135,7 +136,7 @@ const APPENDS: Case = Case {
 /// as the case says.
 fn devices<J: Journal, F: Files>(
     alloc: Global,
-    core: &mut Core<J, F>,
+    core: &mut Served<J, F>,
     case: &Case,
 ) -> Result<Option<usize>, Fail> {
     let mut devices = 0usize;
@@ -207,7 +208,7 @@ const NEEDS: &[(&str, bool, bool)] = &[
 /// Whether the row of a word needs a flush.
 fn word_needs<J: Journal, F: Files>(
     alloc: Global,
-    core: &Core<J, F>,
+    core: &Served<J, F>,
     word: &str,
 ) -> Result<Option<bool>, Fail> {
     match command_of(alloc, word, 1)? {
@@ -220,7 +221,7 @@ fn word_needs<J: Journal, F: Files>(
 /// be frozen after all.
 fn first_other_need<J: Journal, F: Files>(
     alloc: Global,
-    core: &mut Core<J, F>,
+    core: &mut Served<J, F>,
     needs: &[(&str, bool, bool)],
 ) -> Result<Option<usize>, Fail> {
     for (index, (word, first, second)) in needs.iter().enumerate() {
@@ -255,7 +256,7 @@ fn text_line(alloc: Global, time: Time, length: usize) -> Result<String, Fail> {
 }
 
 /// Freezes two pairs of a point of `t`.
-fn freeze_two<J: Journal, F: Files>(alloc: Global, core: &mut Core<J, F>) -> Result<(), Fail> {
+fn freeze_two<J: Journal, F: Files>(alloc: Global, core: &mut Served<J, F>) -> Result<(), Fail> {
     for word in ["Ct", "I1t", "F", "I2t", "F"] {
         let _ = ask_word(alloc, core, word)?;
     }
@@ -265,7 +266,7 @@ fn freeze_two<J: Journal, F: Files>(alloc: Global, core: &mut Core<J, F>) -> Res
 /// Whether the core has done the command of the line.
 fn has_done<J: Journal, F: Files>(
     alloc: Global,
-    core: &mut Core<J, F>,
+    core: &mut Served<J, F>,
     line: &str,
 ) -> Result<bool, Fail> {
     let command = lines::command_of(alloc, line)?;
@@ -275,7 +276,7 @@ fn has_done<J: Journal, F: Files>(
 /// Creates `s`, and writes the longest text at so many times. Whether all is done.
 fn write_texts<J: Journal, F: Files>(
     alloc: Global,
-    core: &mut Core<J, F>,
+    core: &mut Served<J, F>,
     texts: Time,
 ) -> Result<bool, Fail> {
     let create = "create timeseries root.g.d.s with datatype=TEXT,encoding=PLAIN";
@@ -290,7 +291,7 @@ fn write_texts<J: Journal, F: Files>(
 /// Whether a row with a text of so many bytes needs a flush.
 fn text_needs<J: Journal, F: Files>(
     alloc: Global,
-    core: &Core<J, F>,
+    core: &Served<J, F>,
     length: usize,
 ) -> Result<Option<bool>, Fail> {
     let line = text_line(alloc, 2_000, length)?;
@@ -302,13 +303,13 @@ fn text_needs<J: Journal, F: Files>(
 /// and for none of one more.
 fn is_full_at_the_limit<J: Journal, F: Files>(
     alloc: Global,
-    core: &mut Core<J, F>,
+    core: &mut Served<J, F>,
 ) -> Result<bool, Fail> {
     freeze_two(alloc, core)?;
     let written = write_texts(alloc, core, 1_023)?;
     let last = text_needs(alloc, core, 58_367)?;
     let above = text_needs(alloc, core, 58_368)?;
-    Ok(written && last == Some(false) && above == Some(true) && core.frozen() == 2)
+    Ok(written && last == Some(false) && above == Some(true) && counts(core)[0] == 2)
 }
 
 // Each text counts 8 bytes for its time: 1,023 of 65,543 bytes and one of 58,375 are 67,108,864, the most of a pair.

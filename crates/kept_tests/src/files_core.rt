@@ -1,15 +1,15 @@
 //! A core over a place in memory: its commands, a sweep of nothing, and its end.
 ghost use Rattle.std.specs.Prelude.{◌≡◌, IfOk};
 ghost use Rattle.kept_tests.specs.Ready.{AreReady};
-ghost use Rattle.tsdb_files_core.specs.Core.{files_of};
+ghost use Rattle.tsdb_core.specs.Core.{files_of};
 ghost use Rattle.tsdb_kept.specs.Files.{none_kept};
 ghost use Rattle.tsdb_map.specs.Commands.{IsSchema};
 
 use mem_outside::{Fails, MemFiles, MemJournal, MemPlace};
 use std::alloc::Global;
 use std::test::Fail;
-use tsdb_base::{Answer, DataType, Encoding, Range, Space};
-use tsdb_files_core::Core;
+use tsdb_base::{Answer, DataType, Encoding, FileNumber, Range, Space};
+use tsdb_core::{Core, Options};
 use tsdb_frames::Frames;
 use tsdb_kept::KeptFiles;
 use tsdb_logged::Logged;
@@ -40,7 +40,9 @@ fn new_core(alloc: Global, journal: MemJournal) -> Result<Core<MemJournal, MemFi
     match Frames::scan(alloc, journal, Slot::A) {
         Ok((frames, _)) => {
             let logged = Logged::new(alloc, frames, MemoryStore::new(alloc));
-            Ok(Core::new(logged, KeptFiles::new(alloc)))
+            let options = Options { pair_points: 9 };
+            let files = KeptFiles::new(alloc);
+            Ok(Core::new(alloc, logged, files, options, FileNumber(1)))
         }
         Err(_) => Err(Fail::from("a log")),
     }

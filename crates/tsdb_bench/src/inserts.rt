@@ -1,18 +1,24 @@
 //! The speed of inserts through the core, over a journal in memory without a record of its calls. It depends on
 //! `tsdb_core`, and on `tsdb_script` for well-formed commands.
 ghost use Rattle.std.specs.Prelude.{◌≡◌, All, IfOk};
-ghost use Rattle.tsdb_map.specs.Commands.{IsRow, IsWellFormed};
+ghost use Rattle.tsdb_core.specs.Core.{files_of};
+ghost use Rattle.tsdb_kept.specs.Files.{none_kept};
+ghost use Rattle.tsdb_map.specs.Commands.{IsRow, IsSchema, IsWellFormed};
 
 use crate::fault::Fault;
 use crate::journal::BareJournal;
 use crate::table::{Rounds, row};
-use mem_outside::SteadyFiles;
+use mem_outside::{SteadyFiles, SteadyPlace};
+use std::alloc::Global;
 use std::time::Instant;
-use tsdb_base::{Answer, Space};
-use tsdb_core::{Core, Opening, Options};
+use tsdb_base::{Answer, FileNumber, Space};
+use tsdb_core::{Core, Options};
 use tsdb_frames::Frames;
-use tsdb_map::{Command, Row};
-use tsdb_outside::{Files, Journal, Slot};
+use tsdb_kept::KeptFiles;
+use tsdb_logged::Logged;
+use tsdb_map::{Command, Row, Schema};
+use tsdb_memory::MemoryStore;
+use tsdb_outside::{Place, Slot};
 use tsdb_path::Path;
 use tsdb_script::{Numbered, read_script};
 
@@ -48,51 +54,95 @@ fn script_of(rt: &HostRuntime, cells: u64) -> Result<Vec<Numbered>, Fault>
     Ok(read_script(alloc, text.as_bytes())?)
 }
 
-/// Inserts a row at a time.
-fn insert_at<J: Journal, F: Files>(
-    core: &mut Core<J, F>,
-    device: &Path,
-    row: &mut Row,
-    time: u64,
-) -> Result<(), Fault>
-    requires { IsRow row.old }
-    ensures { IsRow row.new }
-{
-    row.time = time.cast_signed();
-    if core.needs_flush(row) {
-        return Err(Fault::Unread);
+/// A core that keeps no file, so that it can be closed.
+struct BareCore {
+    core: Core<BareJournal, SteadyFiles>,
+    ghost bare: { files_of core ≡ none_kept },
+}
+
+impl BareCore {
+    /// A core over a new log.
+    fn new(alloc: Global) -> Result<BareCore, Fault> {
+        let journal = BareJournal::new(alloc)?;
+        let Ok((frames, _)) = Frames::scan(alloc, journal, Slot::A) else {
+            return Err(Fault::Store);
+        };
+        let logged = Logged::new(alloc, frames, MemoryStore::new(alloc));
+        let options = Options {
+            pair_points: 1_000_000,
+        };
+        let core = Core::new(alloc, logged, KeptFiles::new(alloc), options, FileNumber(1));
+        Ok(BareCore { core })
     }
-    done(core.insert(device, row))
+
+    /// Inserts a row at a time.
+    fn insert_at(&mut self, device: &Path, row: &mut Row, time: u64) -> Result<(), Fault>
+        requires { IsRow row.old }
+        ensures { IsRow row.new }
+    {
+        row.time = time.cast_signed();
+        if self.core.needs_flush(row) {
+            return Err(Fault::Unread);
+        }
+        done(self.core.insert(device, row))
+    }
+
+    fn create(&mut self, schema: &Schema) -> Result<(), Fault>
+        requires { IsSchema schema.now }
+    {
+        done(self.core.create(schema))
+    }
+
+    /// Closes it, and returns how many sequence points its working pair has.
+    fn close(self, files: SteadyFiles) -> u64 {
+        let BareCore { core } = self;
+        let mut files = files;
+        let points = core.working(Space::Sequence);
+        let _journal = core.close(&mut files);
+        points
+    }
+}
+
+/// Files in memory, none of which is there.
+fn no_files(alloc: Global) -> Result<SteadyFiles, Fault> {
+    let slots = [vec![in alloc; 0]?, vec![in alloc; 0]?];
+    let mut place = SteadyPlace::new(alloc, slots, Vec::new(alloc))?;
+    match place.take_up(b"bench") {
+        Ok((_journal, files)) => Ok(files),
+        Err(_) => Err(Fault::Store),
+    }
 }
 
 /// Inserts a row at so many times, from 0 on.
-fn insert_often<J: Journal, F: Files>(
-    core: &mut Core<J, F>,
-    device: &Path,
-    row: &mut Row,
-    rows: u64,
-) -> Result<(), Fault>
+fn insert_often(core: &mut BareCore, device: &Path, row: &mut Row, rows: u64) -> Result<(), Fault>
     requires { IsRow row.old }
 {
     for time in 0..rows {
-        insert_at(core, device, row, time)?;
+        core.insert_at(device, row, time)?;
     }
     Ok(())
 }
 
 /// Gives the core a command, an insert at so many times.
-fn apply<J: Journal, F: Files>(
-    core: &mut Core<J, F>,
-    command: &mut Command,
-    rows: u64,
-) -> Result<(), Fault>
+fn apply(core: &mut BareCore, command: &mut Command, rows: u64) -> Result<(), Fault>
     requires { IsWellFormed command.old }
 {
     match command {
-        Command::Create(schema) => done(core.create(schema)),
+        Command::Create(schema) => core.create(schema),
         Command::Insert { device, row } => insert_often(core, device, row, rows),
         _ => Ok(()),
     }
+}
+
+/// Gives the core the commands of a script, each insert at so many times.
+fn apply_all(core: &mut BareCore, script: Vec<Numbered>, rows: u64) -> Result<(), Fault>
+    requires { All (λ numbered. IsWellFormed numbered.command) script.items }
+{
+    for numbered in script {
+        let mut command = numbered.command;
+        apply(core, &mut command, rows)?;
+    }
+    Ok(())
 }
 
 fn done(answer: Answer) -> Result<(), Fault> {
@@ -110,22 +160,13 @@ fn insert_all(
     rows: u64,
     what: &str,
 ) -> Result<u64, Fault> {
-    let alloc = rt.alloc();
     let script = script_of(rt, cells)?;
-    let journal = BareJournal::new(alloc)?;
-    let Ok((log, _frames)) = Frames::scan(alloc, journal, Slot::A) else {
-        return Err(Fault::Store);
-    };
-    let options = Options {
-        pair_points: 1_000_000,
-    };
-    let opening: Opening<BareJournal, SteadyFiles> = Opening::new(alloc, log, options);
-    let mut core = opening.finish(None);
+    let files = no_files(rt.alloc())?;
     let start = Instant::now(rt)?;
-    for numbered in script {
-        let mut command = numbered.command;
-        apply(&mut core, &mut command, rows)?;
-    }
+    let mut core = BareCore::new(rt.alloc())?;
+    let applied = apply_all(&mut core, script, rows);
+    let points = core.close(files);
+    applied?;
     row(
         rt,
         rounds,
@@ -134,7 +175,7 @@ fn insert_all(
         rows.saturating_mul(cells),
         start,
     )?;
-    Ok(core.working(Space::Sequence))
+    Ok(points)
 }
 
 /// The rows of inserts of one cell, and of many.

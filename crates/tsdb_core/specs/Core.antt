@@ -1,23 +1,76 @@
--- What a core means: the log of its journal, what it has in memory, and its state.
-use Rattle.std.specs.Prelude.{ℕ}
-use Rattle.tsdb_core.specs.State.{EngineState, MemoryState}
-use Rattle.tsdb_core.specs.View.{state_with}
+-- Which state of the engine a core shows, and what it keeps for the jobs that are out.
+use Rattle.std.specs.Prelude.{◌≡◌, ◌≤◌, ◌<◌, ◌-◌, ℕ, List, Option, IfSome, length, slice_get}
+use Rattle.std.specs.Option.{option_map}
+use Rattle.std.specs.List.{AllByRecursion as Each}
 use Rattle.tsdb_core.specs.declared.engine.Core.{Core}
-use Rattle.tsdb_frames.specs.declared.frames.Frames.{Frames}
+use Rattle.tsdb_held.specs.Held.{AreFilesOf, TellTheirBytes}
+use Rattle.tsdb_kept.specs.Files.{IsOpen, KeptFiles, kept_file}
+use Rattle.tsdb_layers.specs.Lists.{count}
+use Rattle.tsdb_logged.specs.Logged.{IsSound, Outside, memory_of, room_of}
+use Rattle.tsdb_logged.specs.declared.logged.Logged.{Logged}
+use Rattle.tsdb_memory.specs.Store.{FrozenPair}
+use Rattle.tsdb_memtable.specs.Pairs.{Pair}
 use Rattle.tsdb_outside.specs.declared.disk.Disk as disk
 use Rattle.tsdb_outside.specs.declared.faults.Counted as counted
+use Rattle.tsdb_state.specs.Jobs.{KeepsRoom, drawn_numbers}
+use Rattle.tsdb_state.specs.State.{Compaction, EngineState, FlushJob, Room}
 
-module _ {J F : Type 0} {means : disk.Ghosts J} {counts : counted.Ghosts J} where
-  -- the log of a core, what it has in memory, and its pair limit
-  abbrev pub log_of : Core J F means counts → Frames J means counts
-  log_of core = core.frames
+-- the number is one, and above those of all kept files
+pub record IsAbove (next : ℕ) (files : KeptFiles) : Type 0 where
+  pub from_one : 1 ≤ next
+  pub below : (number : ℕ) → IfSome (kept_file number files) (λ file. number < next)
 
-  abbrev pub memory_of : Core J F means counts → MemoryState
-  memory_of core = core.memory
+-- the born of the last of the frozen pairs
+abbrev pub newest_born : List FrozenPair → Option ℕ
+newest_born frozen = option_map (λ pair. pair.born) (slice_get frozen (length frozen - 1))
 
-  abbrev pub limit_of : Core J F means counts → ℕ
+module _ {J F S R P : Type 0} {means : disk.Ghosts J} {counts : counted.Ghosts J} where
+  -- what is in memory behind its log
+  abbrev pub logged_of : Core J F S R P means counts → Logged J means counts
+  logged_of core = core.logged
+
+  -- the pair that rows are put into
+  abbrev pub working_of : Core J F S R P means counts → Pair
+  working_of core = (memory_of (logged_of core)).working
+
+  -- the files that are kept
+  abbrev pub files_of : Core J F S R P means counts → KeptFiles
+  files_of core = core.files
+
+  -- the most points of a working pair of several rows
+  abbrev pub limit_of : Core J F S R P means counts → ℕ
   limit_of core = core.limit.points
 
-  -- its state. The record in doubt is told by `IsStored` alone.
-  abbrev pub state_of : Core J F means counts → EngineState
-  state_of core = state_with core.next_file core.memory
+  -- the number that the next file gets
+  abbrev pub next_of : Core J F S R P means counts → ℕ
+  next_of core = core.next_file
+
+  -- the room kept for the ends of jobs: places for files, and bytes of a record
+  abbrev pub kept_room : Core J F S R P means counts → Room
+  kept_room core = record {
+    sequence = (files_of core).spare.sequence;
+    unsequence = (files_of core).spare.unsequence;
+    outgoing = (files_of core).spare.outgoing;
+    record_bytes = room_of (logged_of core);
+  }
+
+  -- What a core keeps for the jobs that are out, whatever is told: their numbers differ, lie from 1 to below the next one,
+  -- and each has a place where its file is not there yet; and there is the room that their ends need. The numbers of kept
+  -- files lie below the next one too.
+  pub record KeepsJobs (core : Core J F S R P means counts) (flushes : List FlushJob) (compactions : List Compaction)
+      : Type 0 where
+    pub from_one : 1 ≤ next_of core
+    pub below : (number : ℕ) → IfSome (kept_file number (files_of core)) (λ file. number < next_of core)
+    pub differ : (number : ℕ) → count number (drawn_numbers flushes compactions) ≤ 1
+    pub range : Each (λ number. (1 ≤ number) × (number < next_of core)) (drawn_numbers flushes compactions)
+    pub places : Each (λ number. IsOpen number (files_of core)) (drawn_numbers flushes compactions)
+    pub room : KeepsRoom (kept_room core) flushes compactions
+
+  -- The log and memory are sound for the state, the files are those of the state, and they tell what is kept; the next
+  -- number is that of the state, and its jobs are kept.
+  pub record IsSeen (core : Core J F S R P means counts) (outside : Outside) (state : EngineState) : Type 0 where
+    pub sound : IsSound (logged_of core) outside state
+    pub files : AreFilesOf (files_of core) outside.known state
+    pub told : TellTheirBytes (files_of core) outside.kept
+    pub next : next_of core ≡ state.next_file
+    pub jobs : KeepsJobs core state.flushes state.compactions

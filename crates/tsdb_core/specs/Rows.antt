@@ -1,70 +1,77 @@
--- The cells of a row as a record has them, and when such cells can be put into the working pair.
-use Rattle.std.specs.Prelude.{◌≡◌, ◌≢◌, ◌⊎◌, ℕ, ◌+◌, ◌<◌, ◌≤◌, true, false, is_some, List, [], ◌∷◌, length, sum_by}
-use Rattle.std.specs.Prelude.{Some, None, Result, All, AllPairs, slice_get}
-use Rattle.std.specs.Option.{IsSomeAnd}
-use Rattle.std.specs.declared.result.Result.TheVariants.{Ok, Err}
-use Rattle.std.specs.Global.{Vec}
+-- What a row leaves: the working pair is frozen before it, exactly where it does not fit.
+use Rattle.std.specs.Prelude.{◌≡◌, ◌⊎◌, ℕ, List, Option, Some, length, map}
 use Rattle.tsdb_base.specs.declared.answers.Answer.{Answer}
-use Rattle.tsdb_base.specs.declared.answers.Answer.TheVariants.{Done}
-use Rattle.tsdb_core.specs.Calls.{answer_in, cell_type, fits_type}
-use Rattle.tsdb_core.specs.Limits.{end_of_numbers, max_pair_bytes, max_pair_points}
-use Rattle.tsdb_core.specs.Order.{IsEmptyPair, byte_count, point_count}
-use Rattle.tsdb_core.specs.State.{MemoryState, SeriesEntry}
-use Rattle.tsdb_core.specs.Steps.{IsOfDevice}
-use Rattle.tsdb_core.specs.declared.memory_store.rows.CellFound.{CellFound}
-use Rattle.tsdb_core.specs.declared.memory_store.rows.CellFound.TheVariants.{Missing, Unfit, Item}
+use Rattle.tsdb_base.specs.declared.answers.Answer.TheVariants.{Done, NoPath, WrongType, Exists, Device, Memory, Full}
+use Rattle.tsdb_core.specs.Commands.{IsCoreCommand}
+use Rattle.tsdb_core.specs.Core.{IsSeen, limit_of, logged_of, working_of}
+use Rattle.tsdb_core.specs.declared.engine.Core.{Core}
+use Rattle.tsdb_frames.specs.Frames.{disk_of, slot_of}
+use Rattle.tsdb_images.specs.Stored.{LeadsTo, LeavesOneOf}
 use Rattle.tsdb_log.specs.declared.record.CellRecord.{CellRecord}
-use Rattle.tsdb_map.specs.Apply.{value_of}
-use Rattle.tsdb_map.specs.declared.command.Cell.{Cell}
-use Rattle.tsdb_map.specs.declared.command.Command.TheVariants.{Insert}
+use Rattle.tsdb_log.specs.declared.record.LogRecord.TheVariants.{Freeze, Insert}
+use Rattle.tsdb_logged.specs.Commands.{CanPut, IsAny}
+use Rattle.tsdb_logged.specs.Logged.{Outside, log_of, memory_of}
+use Rattle.tsdb_map.specs.Apply.{accepted}
+use Rattle.tsdb_map.specs.World.{World}
+use Rattle.tsdb_map.specs.declared.command.Command.TheVariants as command
 use Rattle.tsdb_map.specs.declared.command.Row.{Row}
-use Rattle.tsdb_memtable.specs.Points.{value_bytes}
-use Rattle.tsdb_path.specs.Nodes.{IsName, child_of}
+use Rattle.tsdb_memory.specs.Shown.{entry_of}
+use Rattle.tsdb_outside.specs.Moments.{LeavesOnly}
+use Rattle.tsdb_outside.specs.declared.disk.Disk as disk
+use Rattle.tsdb_outside.specs.declared.faults.Counted as counted
+use Rattle.tsdb_rows.specs.Fits.{FitsPair}
+use Rattle.tsdb_state.specs.Commands.{AreCells}
+use Rattle.tsdb_state.specs.Limits.{max_frozen}
+use Rattle.tsdb_state.specs.State.{EngineState}
+use Rattle.tsdb_state.specs.Worlds.{StandsFor}
 
--- the item is the cell as a record has it: of the cell's series, which is there, with the value that its literal is
--- there
-pub record IsItem (schemas : List SeriesEntry) (device : List ℕ) (cell : Cell) (item : CellRecord) : Type 0 where
-  pub series : SeriesEntry
-  pub at : slice_get schemas item.series.0 ≡ Some series
-  pub live : series.live ≡ true
-  pub of_path : series.schema.path ≡ child_of device cell.measurement
-  pub type : cell_type schemas device cell ≡ Some series.schema.data_type
-  pub value : value_of cell.value series.schema.data_type ≡ Some item.value
-  pub name : IsName cell.measurement
+module _ {J F S R P : Type 0} {means : disk.Ghosts J} {counts : counted.Ghosts J} where
+  -- the row fits the working pair of the core
+  abbrev pub Fits : Row → Core J F S R P means counts → Type 0
+  Fits row core = FitsPair (limit_of core) row (working_of core)
 
--- what a cell is in a store
-abbrev pub IsCellFound : List SeriesEntry → List ℕ → Cell → CellFound → Type 0
-IsCellFound schemas device cell Missing = cell_type schemas device cell ≡ None
-IsCellFound schemas device cell Unfit =
-    (is_some (cell_type schemas device cell) ≡ true) × (fits_type cell.value (cell_type schemas device cell) ≡ false)
-IsCellFound schemas device cell (Item item) = IsItem schemas device cell item
+  -- it does not fit, and so many pairs are frozen that a flush has to come first
+  abbrev pub NeedsFlush : Row → Core J F S R P means counts → Type 0
+  NeedsFlush row core = (¬ Fits row core) × (length (memory_of (logged_of core)).frozen ≡ max_frozen)
 
--- the items of a record are the cells of a row, in their order
-abbrev pub AreItems : List SeriesEntry → List ℕ → List Cell → List CellRecord → Type 0
-AreItems schemas device [] [] = Unit {0}
-AreItems schemas device [] (item ∷ items) = ⊥
-AreItems schemas device (cell ∷ cells) [] = ⊥
-AreItems schemas device (cell ∷ cells) (item ∷ items) =
-    IsItem schemas device cell item × AreItems schemas device cells items
+  -- the working pair was frozen, since the row does not fit it
+  pub record IsFrozenFor (row : Row) (old new : Core J F S R P means counts) (answer : Answer) : Type 0 where
+    pub full : ¬ Fits row old
+    pub freeze : IsCoreCommand old new Freeze IsAny answer
 
--- the cells of a row as its record has them, or the map's refusal
-abbrev pub IsRowRead : List SeriesEntry → List ℕ → Row → Result (Vec CellRecord) Answer → Type 0
-IsRowRead schemas device row (Ok items) = AreItems schemas device row.cells items.items
-IsRowRead schemas device row (Err answer) = (answer ≡ answer_in schemas (Insert device row)) × (answer ≢ Done)
+  -- a row finds the core as it is, where it fits, or with its working pair frozen
+  abbrev pub HasPlace : Row → Core J F S R P means counts → Core J F S R P means counts → Type 0
+  HasPlace row old between = (Fits row old × (between ≡ old)) ⊎ IsFrozenFor row old between Done
 
--- how many bytes an item counts once it is a point
-abbrev pub item_bytes : CellRecord → ℕ
-item_bytes item = 8 + value_bytes item.value
+  -- its record was written, or tried, with the cells of the row, which can be put into each state that is shown then
+  pub record IsPut (device : List ℕ) (row : Row) (old new : Core J F S R P means counts) (answer : Answer)
+      : Type 0 where
+    pub between : Core J F S R P means counts
+    pub place : HasPlace row old between
+    pub cells : List CellRecord
+    pub are : AreCells (map entry_of (memory_of (logged_of between)).series) device row.cells cells
+    pub can : (outside : Outside) (state : EngineState) → IsSeen between outside state
+        → CanPut row.time cells state
+    pub put : IsCoreCommand between new (Insert row.time cells) IsAny answer
 
-abbrev pub items_bytes : List CellRecord → ℕ
-items_bytes items = sum_by item_bytes items
+  -- What a row leaves, by its answer.
+  abbrev pub IsRowCommand : List ℕ → Row → Core J F S R P means counts → Core J F S R P means counts → Answer → Type 0
+  IsRowCommand device row old new Done = IsPut device row old new Done
+  IsRowCommand device row old new NoPath = new ≡ old
+  IsRowCommand device row old new WrongType = new ≡ old
+  IsRowCommand device row old new Exists = new ≡ old
+  IsRowCommand device row old new Device = IsPut device row old new Device ⊎ IsFrozenFor row old new Device
+  IsRowCommand device row old new Memory =
+      (new ≡ old) ⊎ (IsPut device row old new Memory ⊎ IsFrozenFor row old new Memory)
+  IsRowCommand device row old new (Full counter) = new ≡ old
 
--- The items can be put into the working pair: they are of different series of the device that are there, and leave the
--- pair within its limits or find it empty.
-pub record CanInsert (device : List ℕ) (items : List CellRecord) (memory : MemoryState) : Type 0 where
-  pub there : All (λ item. IsSomeAnd (slice_get memory.schemas item.series.0) (IsOfDevice device item)) items
-  pub differ : AllPairs (λ item other. item.series.0 ≢ other.series.0) items
-  pub fits : IsEmptyPair memory.working
-      ⊎ ((point_count memory.working + length items ≤ max_pair_points)
-      × (byte_count memory.working + items_bytes items ≤ max_pair_bytes))
-  pub stamp : memory.stamp < end_of_numbers
+  -- At each moment of the call a stop leaves the world of the state, or that of the record that was in doubt, or the
+  -- world after the row.
+  abbrev pub LeavesRow : List ℕ → Row → Core J F S R P means counts → Core J F S R P means counts → Type 0
+  LeavesRow device row old new = (outside : Outside) (state : EngineState) (world : World) (next : Option World)
+      → IsSeen old outside state → StandsFor outside.told state.store world
+      → LeadsTo outside.told state.store state.doubt next
+      → LeavesOnly (disk_of (log_of (logged_of old))) (disk_of (log_of (logged_of new)))
+      (λ image. LeavesOneOf outside.kept (slot_of (log_of (logged_of old))) world next image
+      ⊎ LeavesOneOf outside.kept (slot_of (log_of (logged_of old))) world
+      (Some (accepted world (command.Insert device row))) image)

@@ -1,51 +1,31 @@
--- The value that a state has at a time of a series, and the world that it stands for.
-use Rattle.std.specs.Prelude.{◌≡◌, ◌⊎◌, ◌↔◌, ℕ, ℤ, Bool, ◌&&◌, List, [], ◌∷◌, Option, Some, All, find}
-use Rattle.std.specs.Cmp.Lexicographic.{slice_cmp}
-use Rattle.std.specs.FinMap.{get}
-use Rattle.std.specs.Option.{option_map}
-use Rattle.std.specs.Ordering.{nat_cmp, is_eq}
-use Rattle.tsdb_base.specs.declared.point.Point.{Point}
-use Rattle.tsdb_base.specs.declared.value.DataType.{DataType}
-use Rattle.tsdb_base.specs.declared.value.Value.{Value}
-use Rattle.tsdb_core.specs.Parts.{Has, Part, parts_of}
-use Rattle.tsdb_core.specs.State.{EngineState, SeriesEntry}
-use Rattle.tsdb_map.specs.World.{World, value_at}
-use Rattle.tsdb_marks.specs.Survival.{Survives}
-use Rattle.tsdb_marks.specs.declared.marks.Mark.{Mark}
+-- Which world a core stands for, and what its calls make of it.
+use Rattle.tsdb_answers.specs.Answers.{IsMapAnswer}
+use Rattle.tsdb_base.specs.declared.answers.Answer.{Answer}
+use Rattle.tsdb_core.specs.Core.{IsSeen}
+use Rattle.tsdb_core.specs.declared.engine.Core.{Core}
+use Rattle.tsdb_logged.specs.Logged.{Outside}
+use Rattle.tsdb_map.specs.Apply.{after_reply}
+use Rattle.tsdb_map.specs.World.{World}
+use Rattle.tsdb_map.specs.declared.command.Command.{Command}
+use Rattle.tsdb_map.specs.declared.reply.Reply.TheVariants.{Plain}
+use Rattle.tsdb_outside.specs.declared.disk.Disk as disk
+use Rattle.tsdb_outside.specs.declared.faults.Counted as counted
+use Rattle.tsdb_state.specs.State.{EngineState}
+use Rattle.tsdb_state.specs.Worlds.{StandsFor}
 
--- the part has the point, and no mark covers it
-pub record HasSurviving (marks : List Mark) (part : Part) (path : List ℕ) (point : Point) : Type 0 where
-  pub has : Has part path point
-  pub survives : Survives marks path point.time part.born
+module _ {J F S R P : Type 0} {means : disk.Ghosts J} {counts : counted.Ghosts J} where
+  -- The core stands for the world: a state that it shows does.
+  pub record IsWorldOf (core : Core J F S R P means counts) (world : World) : Type 0 where
+    pub outside : Outside
+    pub state : EngineState
+    pub seen : IsSeen core outside state
+    pub stands : StandsFor outside.told state.store world
 
--- the part has no surviving point of the series at the time
-abbrev pub HasNoneAt : List Mark → List ℕ → ℤ → Part → Type 0
-HasNoneAt marks path time part = (point : Point) → point.time ≡ time → ¬ HasSurviving marks part path point
+  -- The answer to a command is the plain map's, and the core stands for the map's world after it.
+  pub record FollowsMap (old new : Core J F S R P means counts) (command : Command) (answer : Answer) : Type 0 where
+    pub answers : (world : World) → IsWorldOf old world → IsMapAnswer world command answer
+    pub world : (world : World) → IsWorldOf old world → IsWorldOf new (after_reply world command (Plain answer))
 
--- the point is that of the last part which has a surviving point of the series at its time: it wins among the higher
--- parts, or it survives in the lowest part and no higher part has a surviving point at its time
-abbrev pub IsWinner : List Mark → List ℕ → Point → List Part → Type 0
-IsWinner marks path point [] = ⊥
-IsWinner marks path point (lowest ∷ higher) =
-    IsWinner marks path point higher ⊎ (HasSurviving marks lowest path point
-    × All (HasNoneAt marks path point.time) higher)
-
--- the state has this value at this time of the series
-abbrev pub IsValueAt : EngineState → List ℕ → ℤ → Value → Type 0
-IsValueAt state path time value = IsWinner state.memory.marks path (record { time = time; value = value })
-    (parts_of state)
-
--- whether this is the series with the path, and it is there
-abbrev pub is_live_at : List ℕ → SeriesEntry → Bool
-is_live_at path series = series.live && is_eq (slice_cmp nat_cmp path series.schema.path)
-
--- the type of the series with the path, where it is there
-abbrev pub type_at : List SeriesEntry → List ℕ → Option DataType
-type_at schemas path = option_map (λ series. series.schema.data_type) (find (is_live_at path) schemas)
-
--- both have the same series with the same types, and at every time of every series the same value or none
-pub record StandsFor (state : EngineState) (world : World) : Type 0 where
-  pub types : (path : List ℕ) → option_map (λ series. series.data_type) (get world path)
-      ≡ type_at state.memory.schemas path
-  pub values : (path : List ℕ) (time : ℤ) (value : Value)
-      → (value_at world path time ≡ Some value) ↔ IsValueAt state path time value
+  -- The core stands for the same worlds.
+  abbrev pub KeepsWorld : Core J F S R P means counts → Core J F S R P means counts → Type 0
+  KeepsWorld old new = (world : World) → IsWorldOf old world → IsWorldOf new world

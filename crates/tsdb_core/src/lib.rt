@@ -1,25 +1,19 @@
-//! The core of the engine: the state that everything above it rests on. Depends on `tsdb_base`, `tsdb_path`,
-//! `tsdb_map`, `tsdb_outside`, `tsdb_frames`, `tsdb_log`, `tsdb_marks`, `tsdb_memtable` and `indexmap`.
+//! The core with files: what is in memory behind its log, and the files that are kept beside it. Depends on tsdb_base,
+//! tsdb_path, tsdb_map, tsdb_outside, tsdb_plan, tsdb_state, tsdb_memory, tsdb_rows, tsdb_logged, tsdb_jobs,
+//! tsdb_flushing, tsdb_kept, tsdb_held, tsdb_listing and tsdb_committing.
 //!
-//! The definitions stand in `specs/`: `State` is the engine state, `Parts` its parts in the order of their priority,
-//! `Worlds` the value at a time and the world that a state stands for, `Order` when a state is in order, `Steps` what
-//! each record of the log does to what is in memory, and `Replay` what the records of a log give. `Core` is what a core
-//! is seen as, `Logs` what its log stands for, and `Outcomes` what a call leaves of both.
+//! Which state of the engine a core shows says one relation, `IsSeen`. Each call is a step of that state.
 #![tactic(auto)]
 
+mod calls;
+mod commit;
+mod ending;
 mod engine;
-mod laws;
-mod memory_store;
-mod opening;
+mod flushing;
+mod listing;
 mod options;
+mod rows;
 
+pub use commit::{Commit, CoreFault};
 pub use engine::Core;
-pub use laws::{
-    a_new_store_is_in_order, answers_follow_the_series, cells_of_a_record_fit,
-    create_follows_the_map, create_keeps_order, delete_follows_the_map, delete_keeps_order,
-    freeze_keeps_order, freeze_keeps_the_world, insert_follows_the_map, insert_keeps_order,
-    last_write_wins, one_value_at_a_time, other_values_stay, refused_command_changes_nothing,
-    replay_is_one_state, replay_keeps_order, sequence_files_do_not_overlap,
-};
-pub use opening::Opening;
 pub use options::Options;

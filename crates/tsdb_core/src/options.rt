@@ -1,6 +1,6 @@
 //! How a core is set up. Depends on nothing here.
 ghost use Rattle.std.specs.Prelude.{◌≡◌};
-ghost use Rattle.tsdb_core.specs.Calls.{IsPairLimit};
+ghost use Rattle.tsdb_core.specs.Limits.{IsPairLimit};
 
 /// How a core is set up.
 #[derive(Clone, Copy, Debug, PartialEq, Eq)]

@@ -2,15 +2,14 @@
 //! plain slow state and the plain map execute each. Depends on `cores`, `slow_state` and `words`.
 ghost use Rattle.tsdb_map.specs.Commands.{IsWellFormed};
 
-use super::cores::{ask, ask_freeze, close_core, counts, open_core, place_of};
+use super::cores::{Served, ask, ask_freeze, close_core, counts, open_core, place_of};
 use super::slow_state::SlowState;
 use super::words::{command_of, time_of};
 use mem_outside::{MemFiles, MemJournal};
 use std::alloc::Global;
 use std::test::Fail;
 use tests_support as lines;
-use tsdb_base::{Answer, Space, Stamp, Value};
-use tsdb_core::Core;
+use tsdb_base::{Answer, Space, Value};
 use tsdb_map::{Command, Plain, Reply};
 use tsdb_outside::{Files, Journal};
 
@@ -24,9 +23,8 @@ const SELECT_S: &str = "select s from root.g.d where time>=1 and time<=3";
 const SELECT_T: &str = "select t from root.g.d where time>=1 and time<=3";
 
 /// The three that execute a list.
-#[derive(Drop)]
-struct Three<J: Journal, F> {
-    core: Core<J, F>,
+struct Three<J: Journal, F: Files> {
+    core: Served<J, F>,
     slow: SlowState,
     plain: Plain,
 }
@@ -122,11 +120,14 @@ impl<J: Journal, F: Files> Three<J, F> {
 
     /// Whether the core has the pairs of the slow state.
     fn has_same_pairs(&self) -> bool {
-        let newest = self.core.newest_frozen().map(|Stamp(born)| born);
-        self.core.frozen() == self.slow.frozen() as u64
-            && newest == self.slow.newest_frozen()
-            && self.core.working(Space::Sequence) == self.slow.working(Space::Sequence) as u64
-            && self.core.working(Space::Unsequence) == self.slow.working(Space::Unsequence) as u64
+        let slow = &self.slow;
+        counts(&self.core)
+            == [
+                slow.frozen() as u64,
+                slow.working(Space::Sequence) as u64,
+                slow.working(Space::Unsequence) as u64,
+                slow.newest_frozen().unwrap_or(0),
+            ]
     }
 
     /// Whether the slow state stands for the plain map's world, at each time of the series that the line selects.
@@ -199,7 +200,7 @@ impl<J: Journal, F: Files> Three<J, F> {
 /// Three over a new store with this pair limit.
 fn three_of(
     alloc: Global,
-    core: Core<MemJournal, MemFiles>,
+    core: Served<MemJournal, MemFiles>,
     limit: usize,
 ) -> Three<MemJournal, MemFiles> {
     Three {
@@ -216,7 +217,11 @@ fn serve(alloc: Global, start: &[&str], number: usize, lists: usize) -> Result<u
     let (core, files) = open_core(alloc, &mut place, 2)?;
     let mut three = three_of(alloc, core, 2);
     let alike = three.list_behind(alloc, start, number, lists);
-    let Three { core, .. } = three;
+    let Three {
+        core,
+        slow: _,
+        plain: _,
+    } = three;
     close_core(&mut place, core, files);
     alike
 }
@@ -268,7 +273,11 @@ fn fifth_row_of_all_three(rt: HostRuntime) -> Result<(), Fail> {
     let (core, files) = open_core(alloc, &mut place, 4)?;
     let mut three = three_of(alloc, core, 4);
     let are_alike = agree_on_five_rows(&mut three, alloc);
-    let Three { core, .. } = three;
+    let Three {
+        core,
+        slow: _,
+        plain: _,
+    } = three;
     close_core(&mut place, core, files);
     assert!(rt; are_alike?);
     Ok(())

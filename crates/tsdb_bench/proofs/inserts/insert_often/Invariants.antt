@@ -2,4 +2,4 @@ use Rattle.tsdb_map.specs.Commands.{IsRow}
 use Rattle.tsdb_bench.proofs.inserts.insert_often.Given as goal
 
 abbrev pub invariant-loop-time : goal.invariant-loop-time
-invariant-loop-time g l = IsRow l.row
+invariant-loop-time l = IsRow l.row

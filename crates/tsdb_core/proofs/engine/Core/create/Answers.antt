@@ -1,77 +1,25 @@
-use Rattle.std.proofs.Common.{ap, sym, subst}
-use Rattle.tsdb_core.proofs.Applying.{create_step}
-use Rattle.tsdb_core.proofs.OneRecord.{done_leads, fault_rose, faults_later, keeps_rest, memory_same}
-use Rattle.tsdb_core.proofs.OneRecord.{nothing_refused, stamp_after}
-use Rattle.tsdb_core.specs.Outcomes.{IsApplied}
-use Rattle.tsdb_core.specs.Records.{create_record}
-use Rattle.tsdb_core.specs.State.{MemoryState}
+use Rattle.std.proofs.Common.{refl}
+use Rattle.tsdb_answers.proofs.Following.{creation_follows}
+use Rattle.tsdb_core.proofs.Seen.{core_command}
+use Rattle.tsdb_core.proofs.Worlds.{map_step, memory_seen, order_seen}
+use Rattle.tsdb_logged.specs.Commands.{IsAny, create_record}
+use Rattle.tsdb_logged.specs.Logged.{memory_of}
 use Rattle.tsdb_map.specs.declared.command.Command.TheVariants.{Create}
 use Rattle.tsdb_core.proofs.engine.Core.create.Goals as goal
 
-pub returns-clause-answer : goal.returns-clause-answer
-returns-clause-answer g c =
-    let applied = subst (IsApplied c.args.self.now c.try_create.new.self (Create c.args.schema.now)
-    (create_record c.args.schema.now)) (sym c.unwrap_or.ensures) c.try_create.ensures in
-    applied.is
+pub returns-clause-command : goal.returns-clause-command
+returns-clause-command g c = core_command c.args.self.now c.create.new.self (create_record c.args.schema.now) IsAny IsAny
+    c.create.result (record { sequence = λ store. refl; unsequence = λ store. refl }) (λ outside state seen needs. tt)
+    c.create.ensures.command
 
-pub returns-clause-done : goal.returns-clause-done
-returns-clause-done g c =
-    let applied = subst (IsApplied c.args.self.now c.try_create.new.self (Create c.args.schema.now)
-    (create_record c.args.schema.now)) (sym c.unwrap_or.ensures) c.try_create.ensures in
-    (λ is. (done_leads c.args.self.now c.try_create.new.self (create_record c.args.schema.now) c.unwrap_or.result
-    applied.log is).memory)
-
-pub returns-clause-same : goal.returns-clause-same
-returns-clause-same g c =
-    let applied = subst (IsApplied c.args.self.now c.try_create.new.self (Create c.args.schema.now)
-    (create_record c.args.schema.now)) (sym c.unwrap_or.ensures) c.try_create.ensures in
-    (λ apart. memory_same c.args.self.now c.try_create.new.self (create_record c.args.schema.now) c.unwrap_or.result
-    applied.log apart)
-
-pub returns-clause-refused : goal.returns-clause-refused
-returns-clause-refused g c =
-    let applied = subst (IsApplied c.args.self.now c.try_create.new.self (Create c.args.schema.now)
-    (create_record c.args.schema.now)) (sym c.unwrap_or.ensures) c.try_create.ensures in
-    (λ refused. nothing_refused c.args.self.now c.try_create.new.self (create_record c.args.schema.now)
-    c.unwrap_or.result
-    applied.log refused)
-
-pub returns-clause-rest : goal.returns-clause-rest
-returns-clause-rest g c =
-    let applied = subst (IsApplied c.args.self.now c.try_create.new.self (Create c.args.schema.now)
-    (create_record c.args.schema.now)) (sym c.unwrap_or.ensures) c.try_create.ensures in
-    keeps_rest c.args.self.now c.try_create.new.self (create_record c.args.schema.now) c.unwrap_or.result
-    applied.log
-
-pub returns-clause-stamp : goal.returns-clause-stamp
-returns-clause-stamp g c =
-    let applied = subst (IsApplied c.args.self.now c.try_create.new.self (Create c.args.schema.now)
-    (create_record c.args.schema.now)) (sym c.unwrap_or.ensures) c.try_create.ensures in
-    stamp_after c.args.self.now c.try_create.new.self (create_record c.args.schema.now) c.unwrap_or.result
-    applied.log (λ leads. ap (λ (m : MemoryState). m.stamp) leads.memory.after)
-
-pub returns-clause-step : goal.returns-clause-step
-returns-clause-step g c =
-    let applied = subst (IsApplied c.args.self.now c.try_create.new.self (Create c.args.schema.now)
-    (create_record c.args.schema.now)) (sym c.unwrap_or.ensures) c.try_create.ensures in
-    create_step c.args.self.now c.try_create.new.self c.args.schema.now c.unwrap_or.result applied
-
-pub returns-clause-log : goal.returns-clause-log
-returns-clause-log g c =
-    let applied = subst (IsApplied c.args.self.now c.try_create.new.self (Create c.args.schema.now)
-    (create_record c.args.schema.now)) (sym c.unwrap_or.ensures) c.try_create.ensures in
-    applied.log
-
-pub returns-clause-cause : goal.returns-clause-cause
-returns-clause-cause g c =
-    let applied = subst (IsApplied c.args.self.now c.try_create.new.self (Create c.args.schema.now)
-    (create_record c.args.schema.now)) (sym c.unwrap_or.ensures) c.try_create.ensures in
-    (λ is. fault_rose c.args.self.now c.try_create.new.self (create_record c.args.schema.now) c.unwrap_or.result
-    applied.log is)
-
-pub returns-clause-later : goal.returns-clause-later
-returns-clause-later g c =
-    let applied = subst (IsApplied c.args.self.now c.try_create.new.self (Create c.args.schema.now)
-    (create_record c.args.schema.now)) (sym c.unwrap_or.ensures) c.try_create.ensures in
-    faults_later c.args.self.now c.try_create.new.self (create_record c.args.schema.now) c.unwrap_or.result
-    applied.log
+pub returns-clause-map : goal.returns-clause-map
+returns-clause-map g c =
+    let old = c.args.self.now in
+    let new = record old { logged = c.create.new.self } in
+    let step = core_command old c.create.new.self (create_record c.args.schema.now) IsAny IsAny c.create.result
+    (record { sequence = λ store. refl; unsequence = λ store. refl }) (λ outside state seen needs. tt)
+    c.create.ensures.command in
+    map_step old new (create_record c.args.schema.now) (Create c.args.schema.now) c.create.result step
+    (λ outside state seen. creation_follows outside.told (memory_of old.logged) state.store
+    (memory_seen old outside state seen) (order_seen old outside state seen) c.args.schema.now c.create.result c.requires
+    c.create.ensures.answer)

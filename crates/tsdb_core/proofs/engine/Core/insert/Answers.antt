@@ -1,68 +1,17 @@
-use Rattle.tsdb_core.proofs.RowOutcomes.{by_answer, row_later, row_puts, row_refused, row_rest, row_rose, row_same}
-use Rattle.tsdb_core.proofs.RowOutcomes.{row_stamp, row_step, row_written}
+use Rattle.tsdb_core.proofs.RowLemmas.{row_follows, tried_answer, untouched_follows}
+use Rattle.tsdb_core.proofs.RowMoments.{still_leaves}
+use Rattle.tsdb_logged.specs.Logged.{memory_of}
 use Rattle.tsdb_core.proofs.engine.Core.insert.Goals as goal
 
-pub returns-clause-answer : goal.returns-clause-answer
-returns-clause-answer g c =
-    let applied = by_answer c.args.self.now c.try_insert.new.self c.args.device.now c.args.row.now c.try_insert.result
-    c.unwrap_or.result c.unwrap_or.ensures c.try_insert.ensures.answer c.try_insert.ensures.memory in
-    applied.is
+pub returns-in-Ok-clause-map : goal.returns-in-Ok-clause-map
+returns-in-Ok-clause-map g c = row_follows c.args.device.now c.args.row.now c.args.self.now c.put_row.new.self
+    c.put_row.result
+    (tried_answer (memory_of c.args.self.now.logged) c.args.device.now c.args.row.now c.in-Ok.cells c.put_row.result
+    c.in-Ok.ensures.cells c.in-Ok.ensures.stamp c.put_row.ensures.tried) c.put_row.ensures.world
 
-pub returns-clause-done : goal.returns-clause-done
-returns-clause-done g c =
-    let applied = by_answer c.args.self.now c.try_insert.new.self c.args.device.now c.args.row.now c.try_insert.result
-    c.unwrap_or.result c.unwrap_or.ensures c.try_insert.ensures.answer c.try_insert.ensures.memory in
-    (λ is. row_puts c.args.self.now c.try_insert.new.self c.args.device.now c.args.row.now c.unwrap_or.result
-    applied.log is)
+pub returns-in-Err-clause-map : goal.returns-in-Err-clause-map
+returns-in-Err-clause-map g c = untouched_follows c.args.device.now c.args.row.now c.args.self.now c.in-Err.answer
+    c.in-Err.ensures.answer c.in-Err.ensures.untouched
 
-pub returns-clause-same : goal.returns-clause-same
-returns-clause-same g c =
-    let applied = by_answer c.args.self.now c.try_insert.new.self c.args.device.now c.args.row.now c.try_insert.result
-    c.unwrap_or.result c.unwrap_or.ensures c.try_insert.ensures.answer c.try_insert.ensures.memory in
-    (λ apart. row_same c.args.self.now c.try_insert.new.self c.args.device.now c.args.row.now c.unwrap_or.result
-    applied.log apart)
-
-pub returns-clause-refused : goal.returns-clause-refused
-returns-clause-refused g c =
-    let applied = by_answer c.args.self.now c.try_insert.new.self c.args.device.now c.args.row.now c.try_insert.result
-    c.unwrap_or.result c.unwrap_or.ensures c.try_insert.ensures.answer c.try_insert.ensures.memory in
-    (λ refused. row_refused c.args.self.now c.try_insert.new.self c.args.device.now c.args.row.now c.unwrap_or.result
-    applied.log refused)
-
-pub returns-clause-rest : goal.returns-clause-rest
-returns-clause-rest g c =
-    let applied = by_answer c.args.self.now c.try_insert.new.self c.args.device.now c.args.row.now c.try_insert.result
-    c.unwrap_or.result c.unwrap_or.ensures c.try_insert.ensures.answer c.try_insert.ensures.memory in
-    row_rest c.args.self.now c.try_insert.new.self c.args.device.now c.args.row.now c.unwrap_or.result applied.log
-
-pub returns-clause-stamp : goal.returns-clause-stamp
-returns-clause-stamp g c =
-    let applied = by_answer c.args.self.now c.try_insert.new.self c.args.device.now c.args.row.now c.try_insert.result
-    c.unwrap_or.result c.unwrap_or.ensures c.try_insert.ensures.answer c.try_insert.ensures.memory in
-    row_stamp c.args.self.now c.try_insert.new.self c.args.device.now c.args.row.now c.unwrap_or.result applied.log
-
-pub returns-clause-step : goal.returns-clause-step
-returns-clause-step g c =
-    let applied = by_answer c.args.self.now c.try_insert.new.self c.args.device.now c.args.row.now c.try_insert.result
-    c.unwrap_or.result c.unwrap_or.ensures c.try_insert.ensures.answer c.try_insert.ensures.memory in
-    row_step c.args.self.now c.try_insert.new.self c.args.device.now c.args.row.now c.unwrap_or.result c.requires.row
-    applied
-
-pub returns-clause-log : goal.returns-clause-log
-returns-clause-log g c =
-    let applied = by_answer c.args.self.now c.try_insert.new.self c.args.device.now c.args.row.now c.try_insert.result
-    c.unwrap_or.result c.unwrap_or.ensures c.try_insert.ensures.answer c.try_insert.ensures.memory in
-    row_written c.args.self.now c.try_insert.new.self c.args.device.now c.args.row.now c.unwrap_or.result applied.log
-
-pub returns-clause-cause : goal.returns-clause-cause
-returns-clause-cause g c =
-    let applied = by_answer c.args.self.now c.try_insert.new.self c.args.device.now c.args.row.now c.try_insert.result
-    c.unwrap_or.result c.unwrap_or.ensures c.try_insert.ensures.answer c.try_insert.ensures.memory in
-    (λ is. row_rose c.args.self.now c.try_insert.new.self c.args.device.now c.args.row.now c.unwrap_or.result
-    applied.log is)
-
-pub returns-clause-later : goal.returns-clause-later
-returns-clause-later g c =
-    let applied = by_answer c.args.self.now c.try_insert.new.self c.args.device.now c.args.row.now c.try_insert.result
-    c.unwrap_or.result c.unwrap_or.ensures c.try_insert.ensures.answer c.try_insert.ensures.memory in
-    row_later c.args.self.now c.try_insert.new.self c.args.device.now c.args.row.now c.unwrap_or.result applied.log
+pub returns-in-Err-clause-moments : goal.returns-in-Err-clause-moments
+returns-in-Err-clause-moments g c = still_leaves c.args.device.now c.args.row.now c.args.self.now

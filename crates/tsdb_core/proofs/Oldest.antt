@@ -1,0 +1,120 @@
+-- The oldest frozen pair in memory, by the first of them.
+use Rattle.std.proofs.Common.{◌≡◌, ℕ, ◌+◌, ◌≤◌, false, List, [], ◌∷◌, ◌++◌, length, map, Option, None, Some, ⊎_elim}
+use Rattle.std.proofs.Common.{Bool, zero, suc, ap, arith, length-append, refl, sym, subst, ◌∙◌, nat_eq}
+use Rattle.std.proofs.lemmas.Bool.{eq-eqb, eqb-true, false≢true}
+use Rattle.std.specs.Option.{IsSomeAnd}
+use Rattle.std.specs.Prelude.{◌↔◌, IsTrue, slice_get}
+use Rattle.tsdb_jobs.specs.declared.flush.FlushJob.{FlushJob}
+use Rattle.tsdb_memory.specs.Model.{frozen_in}
+use Rattle.tsdb_memory.specs.Store.{FrozenPair, Store}
+use Rattle.tsdb_memory.specs.declared.store.FrozenPair as declared
+use Rattle.tsdb_core.specs.Ending.{IsLeastWith, drawn_for, numbers_if}
+use Rattle.tsdb_core.specs.Flushes.{IsDue, IsOldest}
+use Rattle.tsdb_base.specs.declared.ids.FileNumber.{FileNumber}
+use Rattle.tsdb_base.specs.declared.ids.Stamp.{Stamp}
+use Rattle.tsdb_layers.proofs.Lists.{among_left, among_right, each_all, each_append, each_left, each_map, each_right}
+use Rattle.tsdb_layers.specs.Lists.{if_some}
+use Rattle.tsdb_memory.proofs.Borns.{least_push}
+use Rattle.tsdb_memory.proofs.Counts.{among_either}
+use Rattle.tsdb_memory.specs.Least.{IsLeastOf, lesser}
+use Rattle.std.proofs.lemmas.List.{append-nil, length-map}
+
+pub first_pair : (pairs : List declared.FrozenPair) (pair : declared.FrozenPair) (store : Store) (job : FlushJob) (born
+    : ℕ)
+    → map frozen_in pairs ≡ store.frozen → Some pair ≡ slice_get pairs 0 → born ≡ (frozen_in pair).born
+    → IsTrue (nat_eq born job.born.0) ↔ IsOldest job store
+first_pair [] pair store job born are first is = absurd cc
+first_pair (other ∷ pairs) pair store job born are first is = (
+  λ same. subst (λ (list : List FrozenPair). IsSomeAnd (slice_get list 0) (λ p. p.born ≡ job.born.0)) are
+      (born_is ∙ eqb-true born job.born.0 same),
+  λ oldest. eq-eqb born job.born.0 (sym born_is
+      ∙ subst (λ (list : List FrozenPair). IsSomeAnd (slice_get list 0) (λ p. p.born ≡ job.born.0)) (sym are) oldest),
+)
+  where
+    same_pair : pair ≡ other
+    same_pair = cc
+
+    born_is : (frozen_in other).born ≡ born
+    born_is = ap (λ (p : declared.FrozenPair). (frozen_in p).born) (sym same_pair) ∙ sym is
+
+pub no_pair : (pairs : List declared.FrozenPair) (store : Store) (job : FlushJob) → map frozen_in pairs ≡ store.frozen
+    → None ≡ slice_get pairs 0 → IsTrue false ↔ IsOldest job store
+no_pair [] store job are none = (
+  (λ is. absurd (false≢true is)),
+  (λ oldest. absurd (subst (λ (list : List FrozenPair). IsSomeAnd (slice_get list 0) (λ p. p.born ≡ job.born.0)) (sym
+      are)
+      oldest)),
+)
+no_pair (other ∷ pairs) store job are none = absurd cc
+
+pub due_pair : (pairs : List declared.FrozenPair) (pair : declared.FrozenPair) (born upto : ℕ) (test : Bool)
+    → Some pair ≡ slice_get pairs 0 → born ≡ (frozen_in pair).born → IsTrue test ↔ (born ≤ upto)
+    → IsTrue test ↔ IsDue upto (map frozen_in pairs)
+due_pair [] pair born upto test first is tested = absurd cc
+due_pair (other ∷ pairs) pair born upto test first is tested = (
+  λ holds. subst (λ b. b ≤ upto) born_is (tested.0 holds),
+  λ due. tested.1 (subst (λ b. b ≤ upto) (sym born_is) due),
+)
+  where
+    same_pair : pair ≡ other
+    same_pair = cc
+
+    born_is : born ≡ (frozen_in other).born
+    born_is = is ∙ ap (λ (p : declared.FrozenPair). (frozen_in p).born) same_pair
+
+pub none_due : (pairs : List declared.FrozenPair) (upto : ℕ) → None ≡ slice_get pairs 0
+    → IsTrue false ↔ IsDue upto (map frozen_in pairs)
+none_due [] upto none = ((λ is. absurd (false≢true is)), λ due. absurd due)
+none_due (other ∷ pairs) upto none = absurd cc
+
+-- ---- the least born with those of a job
+
+pub count_is : (job : FlushJob) → length (drawn_for job) ≡ length (if_some job.sequence) + length (if_some
+    job.unsequence)
+count_is job = omega (
+  arith,
+  length-append (numbers_if job.sequence) (numbers_if job.unsequence),
+  length-map (if_some job.sequence) (λ (n : FileNumber). n.0),
+  length-map (if_some job.unsequence) (λ (n : FileNumber). n.0),
+)
+
+module _ (least : Option Stamp) (born : ℕ) (borns : List ℕ) (is : IsLeastOf least borns) where
+  with_none : (numbers : List ℕ) → length numbers ≡ 0 → IsLeastOf least (borns ++ map (λ n. born) numbers)
+  with_none [] none = subst (IsLeastOf least) (sym (append-nil borns)) is
+  with_none (n ∷ numbers) none = absurd (omega (arith, none))
+
+  with_some : (numbers : List ℕ) → 1 ≤ length numbers
+      → IsLeastOf (Some (lesser least born)) (borns ++ map (λ n. born) numbers)
+  with_some [] some = absurd (omega (arith, some))
+  with_some (n ∷ numbers) some = (
+    ⊎_elim (λ there. among_left borns (born ∷ map (λ n. born) numbers) (lesser least born).0 there)
+        (λ there. among_right borns (born ∷ map (λ n. born) numbers) (lesser least born).0
+        (among_left (born ∷ []) (map (λ n. born) numbers) (lesser least born).0 there))
+        (among_either borns (born ∷ []) (lesser least born).0 pushed.0),
+    each_append Above borns (born ∷ map (λ n. born) numbers) (each_left Above borns (born ∷ []) pushed.1)
+        (last, each_map Above (λ (m : ℕ). born) numbers (each_all (λ m. Above born) (λ m. last) numbers)),
+  )
+    where
+      Above : ℕ → Type 0
+      Above b = (lesser least born).0 ≤ b
+
+      pushed : IsLeastOf (Some (lesser least born)) (borns ++ born ∷ [])
+      pushed = least_push least borns born is
+
+      last : (lesser least born).0 ≤ born
+      last = (each_right (λ b. (lesser least born).0 ≤ b) borns (born ∷ []) pushed.1).0
+
+pub not_none : (n m : ℕ) → n ≡ m → (n ≡ 0 → ⊥) → 1 ≤ m
+not_none zero m is never = absurd (never refl)
+not_none (suc n) m is never = omega (arith, is)
+
+pub least_without : (least : Option Stamp) (job : FlushJob) (borns : List ℕ)
+    → length (if_some job.sequence) + length (if_some job.unsequence) ≡ 0 → IsLeastOf least borns
+    → IsLeastWith least job borns
+least_without least job borns none is = with_none least job.born.0 borns is (drawn_for job) (count_is job ∙ none)
+
+pub least_with_job : (least : Option Stamp) (job : FlushJob) (borns : List ℕ)
+    → 1 ≤ length (if_some job.sequence) + length (if_some job.unsequence) → IsLeastOf least borns
+    → IsLeastWith (Some (lesser least job.born.0)) job borns
+least_with_job least job borns some is =
+    with_some least job.born.0 borns is (drawn_for job) (omega (arith, some, count_is job))

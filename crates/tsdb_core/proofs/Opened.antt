@@ -1,0 +1,39 @@
+-- A core with no job out keeps what its jobs need.
+use Rattle.std.proofs.Common.{◌≡◌, ℕ, [], arith}
+use Rattle.tsdb_core.specs.Core.{IsAbove, IsSeen, KeepsJobs, files_of, logged_of, next_of}
+use Rattle.tsdb_core.specs.declared.engine.Core.{Core}
+use Rattle.tsdb_held.specs.Held.{AreFilesOf, TellTheirBytes}
+use Rattle.tsdb_logged.specs.Logged.{IsSound, Outside}
+use Rattle.tsdb_outside.specs.declared.disk.Disk as disk
+use Rattle.tsdb_outside.specs.declared.faults.Counted as counted
+use Rattle.tsdb_state.specs.NewStore.{opened}
+use Rattle.tsdb_state.specs.State.{StoreState}
+
+module _ {J F S R P : Type 0} {means : disk.Ghosts J} {counts : counted.Ghosts J} where
+  pub quiet_jobs : (core : Core J F S R P means counts) → IsAbove (next_of core) (files_of core) → KeepsJobs core [] []
+  quiet_jobs core above = record {
+    from_one = above.from_one;
+    below = above.below;
+    differ = λ number. omega arith;
+    range = tt;
+    places = tt;
+    room = record {
+      sequence = omega arith;
+      unsequence = omega arith;
+      outgoing = omega arith;
+      flushed = tt;
+      replaced = tt;
+    };
+  }
+
+  pub opened_seen : (core : Core J F S R P means counts) (outside : Outside) (store : StoreState) (next : ℕ)
+      → next_of core ≡ next → IsAbove (next_of core) (files_of core) → IsSound (logged_of core) outside (opened next store)
+      → AreFilesOf (files_of core) outside.known (opened next store) → TellTheirBytes (files_of core) outside.kept
+      → IsSeen core outside (opened next store)
+  opened_seen core outside store next is above sound files told = record {
+    sound = sound;
+    files = files;
+    told = told;
+    next = is;
+    jobs = quiet_jobs core above;
+  }

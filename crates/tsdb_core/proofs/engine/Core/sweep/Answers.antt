@@ -1,0 +1,21 @@
+use Rattle.std.proofs.Common.{[], ◌∷◌}
+use Rattle.tsdb_core.proofs.Seen.{doubt_told, is_swept, none_told}
+use Rattle.tsdb_core.proofs.Worlds.{swept_keeps}
+use Rattle.tsdb_core.proofs.engine.Core.sweep.Goals as goal
+
+pub returns-clause-swept : goal.returns-clause-swept
+returns-clause-swept g c = is_swept c.args.self.now c.sweep.new.self
+    (c.doubted-first.result.0 ∷ c.doubted-first.result.1 ∷ []) c.sweep.result
+    (doubt_told c.args.self.now c.doubted-first.result.0 c.doubted-first.result.1 c.doubted-first.ensures.named)
+    (λ aside outside state seen is. none_told c.args.self.now c.doubted-first.result.0 c.doubted-first.result.1
+    (λ items has. c.doubted-first.ensures.none items has aside) outside state seen is)
+    c.sweep.ensures.count c.sweep.ensures.swept c.sweep.ensures.failed
+
+pub returns-clause-world : goal.returns-clause-world
+returns-clause-world g c = swept_keeps c.args.self.now (record c.args.self.now { files = c.sweep.new.self }) c.sweep.result
+    (is_swept c.args.self.now c.sweep.new.self
+    (c.doubted-first.result.0 ∷ c.doubted-first.result.1 ∷ []) c.sweep.result
+    (doubt_told c.args.self.now c.doubted-first.result.0 c.doubted-first.result.1 c.doubted-first.ensures.named)
+    (λ aside outside state seen is. none_told c.args.self.now c.doubted-first.result.0 c.doubted-first.result.1
+    (λ items has. c.doubted-first.ensures.none items has aside) outside state seen is)
+    c.sweep.ensures.count c.sweep.ensures.swept c.sweep.ensures.failed)

@@ -1,0 +1,191 @@
+-- What the calls of a core that take a flush and end it leave.
+use Rattle.std.specs.Prelude.{◌≡◌, ◌⊎◌, ℕ, ◌+◌, ◌<◌, ◌≤◌, List, ◌∷◌, length, Option, None, Some, Result}
+use Rattle.std.specs.Prelude.{slice_get}
+use Rattle.std.specs.Arc.{arc_value}
+use Rattle.std.specs.List.{AllByRecursion as Each, range_with_len}
+use Rattle.std.specs.Option.{IsSomeAnd, option_map}
+use Rattle.std.specs.declared.result.Result.TheVariants.{Ok, Err}
+use Rattle.tsdb_base.specs.declared.ids.FileNumber.{FileNumber}
+use Rattle.tsdb_base.specs.declared.ids.Stamp.{Stamp}
+use Rattle.tsdb_committing.specs.Coming.{HaveCome}
+use Rattle.tsdb_committing.specs.Files.{IsOutAs, NewFiles, TellBytes, all_of, state_files, with_files}
+use Rattle.tsdb_core.specs.Core.{IsSeen, KeepsJobs, files_of, limit_of, logged_of, next_of}
+use Rattle.tsdb_core.specs.Ending.{AreAfterCommit, IsLeastWith, drawn_for, number_for}
+use Rattle.tsdb_core.specs.Worlds.{IsWorldOf}
+use Rattle.tsdb_core.specs.declared.engine.Core.{Core}
+use Rattle.tsdb_core.specs.declared.commit.Commit.{Commit}
+use Rattle.tsdb_core.specs.declared.commit.Commit.TheVariants.{Done, Gone, Device}
+use Rattle.tsdb_core.specs.declared.commit.CoreFault.{CoreFault}
+use Rattle.tsdb_core.specs.declared.commit.CoreFault.TheVariants.{Memory, Full}
+use Rattle.tsdb_flushing.specs.Flushes.{IsFlushOf}
+use Rattle.tsdb_frames.specs.Frames.{faults_of, slot_of}
+use Rattle.tsdb_images.specs.Stored.{built_files}
+use Rattle.tsdb_jobs.specs.Jobs.{IsJob}
+use Rattle.tsdb_jobs.specs.declared.flush.FlushJob.{FlushJob}
+use Rattle.tsdb_kept.specs.Files.{KeepsLists, listed_borns}
+use Rattle.tsdb_kept.specs.Places.{AreOfStore, OnlyMakesPlaces}
+use Rattle.tsdb_layers.specs.Lists.{IsWithOne}
+use Rattle.tsdb_logged.specs.Commands.{IsPrepared}
+use Rattle.tsdb_logged.specs.Flushes.{IsFlushed}
+use Rattle.tsdb_logged.specs.Logged.{LeavesWorlds, Outside, log_of, memory_of, with_record}
+use Rattle.tsdb_map.specs.World.{World}
+use Rattle.tsdb_memory.specs.Store.{FrozenPair, Store}
+use Rattle.tsdb_outside.specs.Causes.{Rose}
+use Rattle.tsdb_outside.specs.Files as outside
+use Rattle.tsdb_outside.specs.declared.disk.Disk as disk
+use Rattle.tsdb_outside.specs.declared.faults.Counted as counted
+use Rattle.tsdb_outside.specs.declared.faults.Failed.{Failed}
+use Rattle.tsdb_state.specs.Limits.{end_of_numbers}
+use Rattle.tsdb_state.specs.State as state
+use Rattle.tsdb_state.specs.State.{Compaction, EngineState}
+use Rattle.tsdb_state.specs.Steps.{TakesFlush, committed_flush, ended_flush, failed, flush_record, settled, took_flush}
+use Rattle.tsdb_state.specs.Worlds.{StandsFor}
+
+-- the flush has the numbers of the job
+pub record HasNumbersOf (job : FlushJob) (flush : state.FlushJob) : Type 0 where
+  pub sequence : flush.sequence ≡ option_map (λ (number : FileNumber). number.0) job.sequence
+  pub unsequence : flush.unsequence ≡ option_map (λ (number : FileNumber). number.0) job.unsequence
+
+-- the oldest pair was frozen at this stamp or before it; all others were frozen later
+abbrev pub IsDue : ℕ → List FrozenPair → Type 0
+IsDue upto frozen = IsSomeAnd (slice_get frozen 0) (λ pair. pair.born ≤ upto)
+
+-- What taking a flush up to a stamp answers: none exactly where no pair is due; full exactly where one is, and two
+-- numbers
+-- more are too many, with the next number.
+abbrev pub IsTakeAnswer : ℕ → ℕ → Store → Result (Option FlushJob) CoreFault → Type 0
+IsTakeAnswer upto next store (Ok None) = ¬ IsDue upto store.frozen
+IsTakeAnswer upto next store (Ok (Some job)) = IsDue upto store.frozen × (next + 2 ≤ end_of_numbers)
+IsTakeAnswer upto next store (Err Memory) = IsDue upto store.frozen × (next + 2 ≤ end_of_numbers)
+IsTakeAnswer upto next store (Err (Full counter)) =
+    IsDue upto store.frozen × (end_of_numbers < next + 2) × (counter ≡ next)
+
+-- the oldest frozen pair is that of the job
+abbrev pub IsOldest : FlushJob → Store → Type 0
+IsOldest job store = IsSomeAnd (slice_get store.frozen 0) (λ pair. pair.born ≡ job.born.0)
+
+-- a commit answers gone exactly where the oldest frozen pair is not that of the job
+abbrev pub IsCommitAnswer : FlushJob → Store → Commit → Type 0
+IsCommitAnswer job store Done = IsOldest job store
+IsCommitAnswer job store Gone = ¬ IsOldest job store
+IsCommitAnswer job store Device = IsOldest job store
+
+module _ {J F S R P : Type 0} {means : disk.Ghosts J} {counts : counted.Ghosts J} where
+  -- The job is out: it has drawn the numbers of a flush for which the core keeps places and room.
+  pub record IsOut (core : Core J F S R P means counts) (job : FlushJob) : Type 0 where
+    pub flush : state.FlushJob
+    pub others : List state.FlushJob
+    pub flushes : List state.FlushJob
+    pub compactions : List Compaction
+    pub numbers : HasNumbersOf job flush
+    pub out : IsWithOne flush others flushes
+    pub keeps : KeepsJobs core flushes compactions
+
+  -- memory was taken, and nothing else has changed
+  pub record TakesMemory (old new : Core J F S R P means counts) : Type 0 where
+    pub logged : IsPrepared (logged_of old) (logged_of new)
+    pub lists : KeepsLists (files_of old) (files_of new)
+    pub places : OnlyMakesPlaces (files_of old).places (files_of new).places
+    pub limit : limit_of new ≡ limit_of old
+
+  -- no flush was taken: the core shows the same states, and keeps what it kept for jobs
+  pub record IsNotTaken (old new : Core J F S R P means counts) : Type 0 where
+    pub next : next_of new ≡ next_of old
+    pub jobs : (flushes : List state.FlushJob) (compactions : List Compaction) → KeepsJobs old flushes compactions
+        → KeepsJobs new flushes compactions
+    pub step : (outside : Outside) (engine : EngineState) → IsSeen old outside engine → IsSeen new outside engine
+
+  -- The job of the oldest frozen pair was taken, with the next numbers for its parts that have a point. What its end
+  -- needs
+  -- is kept from now on.
+  pub record IsTaken (old new : Core J F S R P means counts) (job : FlushJob) : Type 0 where
+    pub is_job : IsJob job
+    pub oldest : IsSomeAnd (slice_get (memory_of (logged_of old)).frozen 0)
+        (λ pair. (pair.born ≡ job.born.0) × (pair.pair ≡ arc_value job.pair))
+    pub numbers : drawn_for job ≡ range_with_len (next_of old) (length (drawn_for job))
+    pub next : next_of new ≡ next_of old + length (drawn_for job)
+    pub jobs : (flush : state.FlushJob) (flushes : List state.FlushJob) (compactions : List Compaction)
+        → HasNumbersOf job flush → KeepsJobs old flushes compactions → KeepsJobs new (flush ∷ flushes) compactions
+    pub step : (outside : Outside) (engine : EngineState) → IsSeen old outside engine
+        → (flush : state.FlushJob) × IsFlushOf job flush × TakesFlush flush engine
+        × IsSeen new outside (took_flush flush engine)
+
+  abbrev pub IsTakenOrNot : Core J F S R P means counts → Core J F S R P means counts
+      → Result (Option FlushJob) CoreFault → Type 0
+  IsTakenOrNot old new (Ok None) = IsNotTaken old new
+  IsTakenOrNot old new (Ok (Some job)) = IsTaken old new job
+  IsTakenOrNot old new (Err fault) = IsNotTaken old new
+
+  -- the record of the flush was appended, or could not be
+  pub record AppendsFlush (old new : Core J F S R P means counts) (job : FlushJob) (outcome : Result (Unit {0}) Failed)
+      : Type 0 where
+    pub listed : Option Stamp
+    pub least : IsLeastWith listed job (listed_borns (files_of old))
+    pub flushed : IsFlushed (logged_of old) (logged_of new) (number_for job.sequence) (number_for job.unsequence) listed
+        outcome
+
+  -- How the log ends a flush: its record is behind the others; or the pair was frozen no longer, and nothing is
+  -- changed.
+  abbrev pub IsLoggedAs : Core J F S R P means counts → Core J F S R P means counts → FlushJob → Commit → Type 0
+  IsLoggedAs old new job Done = AppendsFlush old new job (Ok tt)
+  IsLoggedAs old new job Gone = logged_of new ≡ logged_of old
+  IsLoggedAs old new job Device = (failed : Failed) × AppendsFlush old new job (Err failed)
+
+  -- What each end of a flush leaves: its files are where the commit says, their tokens are kept, and so is what the
+  -- other
+  -- jobs need.
+  pub record EndsFlush (old new : Core J F S R P means counts) (job : FlushJob) (files : NewFiles) (commit : Commit)
+      : Type 0 where
+    pub lists : AreAfterCommit commit files (files_of old) (files_of new)
+    pub come : HaveCome (drawn_for job) files (files_of old) (files_of new)
+    pub of_store : (store : outside.Store) → AreOfStore store (files_of old).places
+        → Each (λ file. file.token.name.store ≡ store) (all_of files) → AreOfStore store (files_of new).places
+    pub jobs : (flush : state.FlushJob) (others flushes : List state.FlushJob) (compactions : List Compaction)
+        → HasNumbersOf job flush → IsWithOne flush others flushes → KeepsJobs old flushes compactions
+        → KeepsJobs new others compactions
+    pub next : next_of new ≡ next_of old
+    pub limit : limit_of new ≡ limit_of old
+
+  -- The state after a commit: done, the files are listed, and the pair is frozen no longer; gone, they are on their way
+  -- out; the device failed, they are too, and none is in doubt, or what was, or this record.
+  abbrev pub IsSeenAfterCommit : Core J F S R P means counts → Outside → EngineState → state.FlushJob
+      → List state.FlushJob → Commit → Type 0
+  IsSeenAfterCommit new outside engine flush others Done =
+      IsSeen new (with_record (flush_record flush) outside) (committed_flush flush others engine)
+  IsSeenAfterCommit new outside engine flush others Gone =
+      IsSeen new outside (ended_flush flush others (built_files flush) engine)
+  IsSeenAfterCommit new outside engine flush others Device =
+      IsSeen new outside (settled (ended_flush flush others (built_files flush) engine))
+      ⊎ (IsSeen new outside (ended_flush flush others (built_files flush) engine)
+      ⊎ IsSeen new outside (failed (flush_record flush) (ended_flush flush others (built_files flush) engine)))
+
+  -- What a commit leaves of every state that the core shows, where the files tell their bytes. At each moment a stop
+  -- leaves the world of the state, with the new files kept.
+  pub record IsCommit (old new : Core J F S R P means counts) (job : FlushJob) (files : NewFiles) (commit : Commit)
+      : Type 0 where
+    pub answer : IsCommitAnswer job (memory_of (logged_of old)) commit
+    pub ends : EndsFlush old new job files commit
+    pub step : (outside : Outside) (engine : EngineState) (flush : state.FlushJob) (others : List state.FlushJob)
+        → IsSeen old outside engine → IsOutAs job flush others engine → TellBytes files
+        → IsSeenAfterCommit new (with_files flush files outside) engine flush others commit
+    pub moments : (outside : Outside) (engine : EngineState) (flush : state.FlushJob) (others : List state.FlushJob)
+        → IsSeen old outside engine → IsOutAs job flush others engine → TellBytes files
+        → LeavesWorlds (logged_of old) (logged_of new) (with_files flush files outside) engine (flush_record flush)
+    pub world : (outside : Outside) (engine : EngineState) (flush : state.FlushJob) (others : List state.FlushJob)
+        (world : World) → IsSeen old outside engine → IsOutAs job flush others engine → TellBytes files
+        → StandsFor outside.told engine.store world → IsWorldOf new world
+    pub gone : commit ≡ Gone → logged_of new ≡ logged_of old
+    pub slot : slot_of (log_of (logged_of new)) ≡ slot_of (log_of (logged_of old))
+    pub cause : commit ≡ Device → Rose (faults_of (log_of (logged_of old))) (faults_of (log_of (logged_of new)))
+    pub later : faults_of (log_of (logged_of old)) ≤ faults_of (log_of (logged_of new))
+
+  -- What giving a flush up leaves: the files that are there go out, and log and memory stay.
+  pub record IsAbandoned (old new : Core J F S R P means counts) (job : FlushJob) (files : NewFiles) : Type 0 where
+    pub logged : logged_of new ≡ logged_of old
+    pub ends : EndsFlush old new job files Gone
+    pub step : (outside : Outside) (engine : EngineState) (flush : state.FlushJob) (others : List state.FlushJob)
+        → IsSeen old outside engine → IsOutAs job flush others engine → TellBytes files
+        → IsSeen new (with_files flush files outside) (ended_flush flush others (state_files files) engine)
+    pub world : (outside : Outside) (engine : EngineState) (flush : state.FlushJob) (others : List state.FlushJob)
+        (world : World) → IsSeen old outside engine → IsOutAs job flush others engine → TellBytes files
+        → StandsFor outside.told engine.store world → IsWorldOf new world

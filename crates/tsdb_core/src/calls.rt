@@ -1,0 +1,120 @@
+//! The calls of a core that change it. Depends on `engine`.
+ghost use Rattle.std.specs.Prelude.{◌≡◌, ◌⊎◌, ◌↔◌, ◌<◌, IsTrue, length};
+ghost use Rattle.tsdb_kept.specs.Closing.{ArePutBack, names_at};
+ghost use Rattle.tsdb_kept.specs.Places.{AreOfStore, AreUnread};
+ghost use Rattle.tsdb_log.specs.declared.record.LogRecord.{LogRecord};
+ghost use Rattle.tsdb_logged.specs.Answers.{IsCreateAnswer, IsDeleteAnswer, IsFreezeAnswer};
+ghost use Rattle.tsdb_map.specs.Commands.{IsSchema};
+ghost use Rattle.tsdb_map.specs.declared.command.Command.{Command};
+ghost use Rattle.tsdb_outside.specs.Causes.{HasCause};
+ghost use Rattle.tsdb_outside.specs.Disk.{WhereTold};
+ghost use Rattle.tsdb_rows.specs.Fits.{HasNoPoint};
+ghost use Rattle.tsdb_state.specs.Limits.{max_frozen};
+
+use crate::engine::Core;
+use tsdb_base::{Answer, Range, Space};
+use tsdb_map::Schema;
+use tsdb_outside::{Failed, Files, Journal};
+use tsdb_path::Path;
+
+impl<J: Journal, F: Files> Core<J, F> {
+    ghost use Rattle.tsdb_core.specs.Commands.{IsCoreCommand, KeepsFiles};
+    ghost use Rattle.tsdb_core.specs.Core.{files_of, logged_of, working_of};
+    ghost use Rattle.tsdb_core.specs.RowSteps.{HasStateCounts};
+    ghost use Rattle.tsdb_core.specs.Sweeps.{IsSwept};
+    ghost use Rattle.tsdb_core.specs.Worlds.{FollowsMap, KeepsWorld};
+    ghost use Rattle.tsdb_logged.specs.Closing.{IsClosed};
+    ghost use Rattle.tsdb_logged.specs.Commands.{IsAny, create_record};
+    ghost use Rattle.tsdb_logged.specs.Logged.{memory_of};
+
+    /// Creates a series, which is numbered behind the others.
+    pub fn create(&mut self, schema: &Schema) -> Answer
+        requires { IsSchema schema.now }
+        ensures answer { IsCreateAnswer (memory_of (logged_of self.old)) schema.now.path result }
+        ensures command { IsCoreCommand self.old self.new (create_record schema.now) IsAny result }
+        ensures map { FollowsMap self.old self.new (Command.Create schema.now) result }
+    {
+        self.logged.create(schema)
+    }
+
+    /// Deletes the points of a series in a range.
+    pub fn delete(&mut self, series: &Path, range: &Range) -> Answer
+        ensures answer { IsDeleteAnswer (memory_of (logged_of self.old)) series.now result }
+        ensures command { IsCoreCommand self.old self.new (LogRecord.Delete series.now range.now) IsAny result }
+        ensures map { FollowsMap self.old self.new (Command.Delete series.now range.now) result }
+    {
+        let listed = self.files.least_born();
+        self.logged.delete(series, range, listed)
+    }
+
+    /// Freezes the working pair, where it has a point. At most one pair may be frozen before then.
+    pub fn freeze(&mut self) -> Answer
+        requires { HasNoPoint (working_of self.old) ⊎ (length (memory_of (logged_of self.old)).frozen < max_frozen) }
+        ensures answer { IsFreezeAnswer result }
+        ensures idle { HasNoPoint (working_of self.old) → (result ≡ Answer.Done) × (self.new ≡ self.old) }
+        ensures command { ¬ HasNoPoint (working_of self.old)
+            → IsCoreCommand self.old self.new LogRecord.Freeze IsAny result }
+        ensures world { KeepsWorld self.old self.new }
+        ensures kept { KeepsFiles self.old self.new }
+    {
+        if self.is_idle() {
+            return Answer::Done;
+        }
+        self.logged.freeze()
+    }
+
+    /// Whether the working pair has no point.
+    fn is_idle(&self) -> bool
+        ensures idle { IsTrue result ↔ HasNoPoint (working_of self.now) }
+        ensures counts { HasStateCounts self.now }
+    {
+        self.tell_counts();
+        let working = self.logged.memory().working();
+        working.points(Space::Sequence) == 0 && working.points(Space::Unsequence) == 0
+    }
+
+    /// Tells that the working pair of each state counts what the one in memory does.
+    pub(crate) fn tell_counts(&self)
+        ensures { HasStateCounts self.now }
+    {
+        let memory = self.logged.memory();
+        memory.sound();
+        // (a call of the pair tells that its series rise)
+        let _ = memory.working().points(Space::Sequence);
+    }
+
+    /// Removes from the store each file on its way out of which no right is out, and that no record in doubt names, in
+    /// their order, and returns how many. After `Failed` the file that could not be removed is spent too, and those behind
+    /// it were not tried.
+    pub fn sweep(&mut self, port: &mut F::Port) -> Result<u64, Failed>
+        requires store { AreOfStore (F.Port.store port.old) (files_of self.old).places }
+        ensures swept { IsSwept self.old self.new result }
+        ensures world { KeepsWorld self.old self.new }
+        ensures same_store { F.Port.store port.new ≡ F.Port.store port.old }
+        ensures cause { HasCause (F.Port.faults port.old) (F.Port.faults port.new) result }
+    {
+        let (first, second) = self.logged.doubted();
+        self.files.sweep(port, [first, second])
+    }
+
+    /// Closes a gate in doubt, gives each token back to its store, and the journal to the caller.
+    pub fn close(self, files: &mut F) -> J
+        requires no_rights { AreUnread (files_of self).places }
+        requires store { AreOfStore (F.store files.old) (files_of self).places }
+        ensures log { IsClosed (logged_of self) (J.state result) (J.faults result) }
+        ensures at_rest { WhereTold (ArePutBack (names_at (files_of self).places)) (F.at_rest files.old)
+            (F.at_rest files.new) }
+        ensures same_store { F.store files.new ≡ F.store files.old }
+        ensures faults { F.faults files.new ≡ F.faults files.old }
+    {
+        let Core {
+            alloc: _,
+            logged,
+            files: kept,
+            limit: _,
+            next_file: _,
+        } = self;
+        kept.close(files);
+        logged.close()
+    }
+}
