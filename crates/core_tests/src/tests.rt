@@ -1,5 +1,7 @@
 //! Answers and counts of a core, the limits of a pair at their edges, and a journal that fails at each call in turn.
 mod cores;
+mod flushes;
+mod flushing;
 mod short_lists;
 mod slow_state;
 mod words;
