@@ -1,8 +1,10 @@
 -- The totals and tables of a pair, where one series has become another or joins.
-use Rattle.std.proofs.Common.{◌≡◌, ◌≢◌, ℕ, ◌+◌, ◌≤◌, Bool, true, false, cond, not, List, [], ◌∷◌, ◌++◌, length, map, Option, None, Some, refl, sym, ap, subst, ◌∙◌, arith}
-use Rattle.std.specs.Prelude.{◌==◌, is_some}
+use Rattle.std.proofs.Common.{◌≡◌, ◌≢◌, ℕ, ◌+◌, ◌≤◌, Bool, true, false, cond, not, inl, inr, List, [], ◌∷◌, ◌++◌, length, map, Option, None, Some, refl, sym, ap, subst, ◌∙◌, arith}
+use Rattle.std.specs.Prelude.{◌==◌, Result, OnErr, OnOk, is_some}
+use Rattle.std.specs.declared.result.Result.TheVariants.{Err, Ok}
+use Rattle.tsdb_base.specs.declared.fault.Memory.{Memory}
 use Rattle.std.specs.BTreeMap.{insert_entry}
-use Rattle.std.specs.Cmp.{nat_cmp_total, ranked}
+use Rattle.std.specs.Cmp.{nat_cmp_is, nat_cmp_total, ranked}
 use Rattle.std.specs.List.{filter, sum_by}
 use Rattle.std.specs.List.Sorted.{IsStrictlySortedBy}
 use Rattle.std.specs.Map.{lookup, set_value, keys_of, values_of}
@@ -20,7 +22,7 @@ use Rattle.tsdb_memtable.specs.declared.series.Totals.{Totals}
 use Rattle.tsdb_memtable.specs.Model.{most_bytes, totals_of, with_room}
 use Rattle.tsdb_memtable.specs.Limits.{max_bytes}
 use Rattle.tsdb_memtable.specs.Points.{point_bytes, bytes_of}
-use Rattle.tsdb_memtable.specs.Pairs.{Pair, SeriesPoints, blank, byte_count, is_series, points_in, series_bytes, table}
+use Rattle.tsdb_memtable.specs.Pairs.{IsProvided, Pair, SeriesPoints, blank, byte_count, is_series, points_in, series_bytes, spare_of, table}
 use Rattle.tsdb_memtable.proofs.PlaceLemmas.{is_eq-equal}
 use Rattle.tsdb_memtable.specs.PairModel.{AreTotals, CanSwap, IsPart, IsSwap, most_of}
 
@@ -143,6 +145,29 @@ table-joined space series (e ∷ es) w absent empty =
 pub other-spare : (series other : ℕ) (b : Bool) (old new : Option SeriesPoints) (w : SeriesPoints) → b ≡ is_series series other → new ≡ cond b (Some w) old → series ≢ other → (unwrap_or new blank).spare ≡ (unwrap_or old blank).spare
 other-spare series other true old new w q e ne = absurd (ne (one-series series other (sym q)))
 other-spare series other false old new w q e ne = ap (λ o. (unwrap_or o blank).spare) e
+
+-- where one series has become another with the room that is provided, each has the room that is provided
+pub provided : (series other : ℕ) (b : Bool) (old new : Option SeriesPoints) (w : SeriesPoints) → b ≡ is_series series other → new ≡ cond b (Some w) old
+    → (series ≡ other → IsProvided (unwrap_or old blank).spare w.spare) → IsProvided (unwrap_or old blank).spare (unwrap_or new blank).spare
+provided series other true old new w q e here = subst (λ o. IsProvided (unwrap_or old blank).spare (unwrap_or o blank).spare) (sym e) (here (one-series series other (sym q)))
+provided series other false old new w q e here = inl (ap (λ o. (unwrap_or o blank).spare) e)
+
+same-series : (series : ℕ) → is_series series series ≡ true
+same-series series = ap is_eq (sym (nat_cmp_is series series Equal refl))
+
+-- a series without room that has room for one then, or none as before, where the others stay
+pub provided-one : (series other : ℕ) (old new : Pair) → spare_of series old ≡ 0 → IsProvided (spare_of series old) (spare_of series new)
+    → (series ≢ other → spare_of other new ≡ spare_of other old) → IsProvided (spare_of other old) (spare_of other new)
+provided-one series other old new none here others = by (is_series series other) refl
+  where
+    by : (b : Bool) → is_series series other ≡ b → IsProvided (spare_of other old) (spare_of other new)
+    by true q = subst (λ n. IsProvided (spare_of n old) (spare_of n new)) (one-series series other q) here
+    by false q = inl (others (λ e. absurd (false≢true (sym q ∙ ap (is_series series) (sym e) ∙ same-series series))))
+
+-- what `reserve` leaves of a series that had no room
+pub reserved : (result : Result (Unit {0}) Memory) (old new : ℕ) → OnOk result (new ≡ old + 1) → OnErr result (new ≡ old) → old ≡ 0 → IsProvided old new
+reserved (Ok x) old new ok err none = inr (none, ok ∙ ap (λ n. n + 1) none)
+reserved (Err x) old new ok err none = inl err
 
 -- the points stay where one series has become another with the same points
 pub kept-points : (space : Space) (series other : ℕ) (b : Bool) (old new : Option SeriesPoints) (w : SeriesPoints) → b ≡ is_series series other → new ≡ cond b (Some w) old

@@ -1,5 +1,5 @@
 -- A pair: for each series that has room its points in both spaces.
-use Rattle.std.specs.Prelude.{ℕ, ◌+◌, ◌-◌, Bool, not, ◌==◌, List, [], map, length}
+use Rattle.std.specs.Prelude.{◌≡◌, ◌⊎◌, ℕ, ◌+◌, ◌-◌, Bool, not, ◌==◌, List, [], map, length}
 use Rattle.std.specs.List.Sorted.{IsStrictlySortedBy}
 use Rattle.std.specs.Map.{keys_of, lookup, set_value, values_of}
 use Rattle.std.specs.Option.{unwrap_or}
@@ -46,6 +46,14 @@ points_of space series pair = points_in space (series_at series pair)
 -- for how many points of a series there is room in either space
 abbrev pub spare_of : ℕ → Pair → ℕ
 spare_of series pair = (series_at series pair).spare
+
+-- there is the room that there was, or there was none, and is some for one point
+abbrev pub IsProvided : ℕ → ℕ → Type 0
+IsProvided old new = (new ≡ old) ⊎ ((old ≡ 0) × (new ≡ 1))
+
+-- each series has the room that it had, or had none and has room for one point
+abbrev pub UsesSpareRoom : Pair → Pair → Type 0
+UsesSpareRoom old new = (series : ℕ) → IsProvided (spare_of series old) (spare_of series new)
 
 -- the point in this space, in place of one at its time; it uses up room for one
 abbrev pub put_in : Space → Point → SeriesPoints → SeriesPoints

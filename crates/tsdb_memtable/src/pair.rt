@@ -5,7 +5,7 @@ ghost use Rattle.tsdb_base.specs.declared.ids.Space.{Space as SpaceOf};
 ghost use Rattle.tsdb_memtable.specs.Points.{IsRising, is_within};
 ghost use Rattle.tsdb_memtable.specs.Watermarks.{watermark, space_by};
 ghost use Rattle.tsdb_memtable.specs.Pairs.{byte_count, change_points, count, HasRisingSeries, without_range};
-ghost use Rattle.tsdb_memtable.specs.Pairs.{points_of, put_in, spare_of, table};
+ghost use Rattle.tsdb_memtable.specs.Pairs.{UsesSpareRoom, points_of, put_in, spare_of, table};
 ghost use Rattle.tsdb_memtable.specs.PairModel.{CanSwap, IsSwap, HasRoomFor};
 
 use crate::series::{SeriesPoints, Totals};
@@ -141,6 +141,27 @@ impl Pair {
             }
         }
         Ok(())
+    }
+
+    /// Makes room for one more point of the series, in either space, where there is none.
+    pub fn provide(&mut self, series: SeriesId) -> Result<(), Memory>
+        ensures points { (space : SpaceOf) (other : ℕ)
+            → points_of space other self.new ≡ points_of space other self.old }
+        ensures spare { UsesSpareRoom self.old self.new }
+        ensures room { OnOk result (0 < spare_of series.0 self.new) }
+    {
+        if !has_room(&self.totals, 1) {
+            return Err(Memory);
+        }
+        match self.series.get_mut(&series.0) {
+            Some(points) => {
+                let before = points.totals();
+                let outcome = points.provide();
+                self.totals = swap(&self.totals, &before, &points.totals());
+                outcome
+            }
+            None => self.reserve(series, 1),
+        }
     }
 
     /// Puts the point into the space that the watermark of the device names, in place of one at its time there, and

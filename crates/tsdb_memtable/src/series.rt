@@ -3,7 +3,8 @@ ghost use Rattle.std.specs.Prelude.{◌≡◌, ◌==◌, ◌+◌, ◌*◌, ◌<�
 ghost use Rattle.std.specs.List.{filter};
 ghost use Rattle.tsdb_memtable.specs.Limits.{max_point_bytes, max_bytes};
 ghost use Rattle.tsdb_memtable.specs.Points.{IsRising, is_within};
-ghost use Rattle.tsdb_memtable.specs.Pairs.{blank, without_range, points_in, put_in, series_bytes};
+ghost use Rattle.tsdb_base.specs.declared.ids.Space.{Space as SpaceOf};
+ghost use Rattle.tsdb_memtable.specs.Pairs.{IsProvided, blank, without_range, points_in, put_in, series_bytes};
 ghost use Rattle.tsdb_memtable.specs.Model.{most_bytes, totals_of, with_room};
 
 use crate::points;
@@ -78,6 +79,20 @@ impl SeriesPoints {
         self.unsequence.reserve(spare)?;
         self.spare = spare;
         Ok(())
+    }
+
+    /// Makes room for one more point in each space, where there is none.
+    pub(crate) fn provide(&mut self) -> Result<(), Memory>
+        requires { most_bytes self.old + max_point_bytes ≤ max_bytes }
+        ensures points { (space : SpaceOf) → points_in space self.new ≡ points_in space self.old }
+        ensures spare { IsProvided self.old.spare self.new.spare }
+        ensures room { OnOk result (0 < self.new.spare) }
+        ensures most { most_bytes self.new ≤ most_bytes self.old + max_point_bytes }
+    {
+        if self.spare > 0 {
+            return Ok(());
+        }
+        self.reserve(1)
     }
 
     /// Puts the point into the space, in place of one at its time. It takes no memory.
