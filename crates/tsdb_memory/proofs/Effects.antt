@@ -87,6 +87,7 @@ created_sound store series places schema joins formed free stamp sound =
           (λ (f : FrozenPair). HasTypedPoints (store.series ++ schema ∷ []) f.pair)
           (λ f known typed. typed_push store.series schema f.pair known typed) store.frozen sound.frozen_known
           sound.frozen_typed;
+      frozen_rising = sound.frozen_rising;
       two = sound.two;
       versions = All-weaker (UpTo store.stamp) (UpTo (store.stamp + 1))
           (λ m h. at_most_next m.version.0 store.stamp h) store.marks.marks sound.versions;
@@ -131,6 +132,7 @@ purged_sound store marks least sound after = record {
   frozen_known = sound.frozen_known;
   typed = sound.typed;
   frozen_typed = sound.frozen_typed;
+  frozen_rising = sound.frozen_rising;
   two = sound.two;
   versions = subst (All (UpTo store.stamp)) (sym after)
       (purged_versions store.stamp least store.marks.marks sound.versions);
@@ -201,6 +203,7 @@ module _ (store : Store) (n : ℕ) (path : List ℕ) (range : Range) (added : Ma
     frozen_known = sound.frozen_known;
     typed = typed_cut store.series store.working n range sound.typed;
     frozen_typed = sound.frozen_typed;
+    frozen_rising = sound.frozen_rising;
     two = sound.two;
     versions = subst (All (UpTo (store.stamp + 1))) (sym after) (added_versions sound.versions);
     ends = next_within store.stamp stamp;
@@ -319,6 +322,7 @@ new_sound places = record {
   frozen_known = All-nil (λ (f : FrozenPair). HasKnownSeries [] f.pair);
   typed = λ space number schema e. absurd (none schema e);
   frozen_typed = All-nil (λ (f : FrozenPair). HasTypedPoints [] f.pair);
+  frozen_rising = All-nil (λ (f : FrozenPair). HasRisingPoints f.pair);
   two = omega arith;
   versions = All-nil (UpTo 0);
   ends = omega arith;
@@ -373,6 +377,7 @@ roomy_sound old new room sound = record {
       (sound.typed space n schema at));
   frozen_typed = subst (λ l. All (λ (f : FrozenPair). HasTypedPoints new.series f.pair) l) (sym room.frozen)
       (subst (λ s. All (λ (f : FrozenPair). HasTypedPoints s f.pair) old.frozen) (sym room.series) sound.frozen_typed);
+  frozen_rising = subst (All (λ (f : FrozenPair). HasRisingPoints f.pair)) (sym room.frozen) sound.frozen_rising;
   two = subst (λ (l : List FrozenPair). length l ≤ max_frozen) (sym room.frozen) sound.two;
   versions = subst (λ n. All (UpTo n) new.marks.marks) (sym room.stamp)
       (subst (All (UpTo old.stamp)) (sym room.marks) sound.versions);
@@ -393,6 +398,8 @@ flushed_sound store frozen oldest places marks least had sound after = record {
   typed = sound.typed;
   frozen_typed = All-tail (λ (f : FrozenPair). HasTypedPoints store.series f.pair) oldest frozen
       (subst (λ l. All (λ (f : FrozenPair). HasTypedPoints store.series f.pair) l) had sound.frozen_typed);
+  frozen_rising = All-tail (λ (f : FrozenPair). HasRisingPoints f.pair) oldest frozen
+      (subst (All (λ (f : FrozenPair). HasRisingPoints f.pair)) had sound.frozen_rising);
   two = fewer (length frozen) (subst (λ (l : List FrozenPair). length l ≤ max_frozen) had sound.two);
   versions = subst (All (UpTo store.stamp)) (sym after)
       (purged_versions store.stamp least store.marks.marks sound.versions);

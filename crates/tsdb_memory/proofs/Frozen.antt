@@ -8,6 +8,7 @@ use Rattle.std.specs.List.{AllZip}
 use Rattle.std.specs.Option.{IsSomeAnd, option_and_then, option_map}
 use Rattle.std.specs.Ordering.{int_eq, is_eq}
 use Rattle.std.proofs.lemmas.Bool.{false≢true}
+use Rattle.std.proofs.lemmas.List.{map-append}
 use Rattle.std.proofs.lemmas.List.Elements.{All-push}
 use Rattle.std.specs.Prelude.{find as find_first}
 use Rattle.tsdb_base.specs.declared.ids.Space.{Space}
@@ -24,10 +25,13 @@ use Rattle.tsdb_memory.proofs.Numbers.{length_push, schema_at}
 use Rattle.tsdb_memory.proofs.Raising.{IsRaisedTo, Rise, code_risen, one_raised, rise_in, rise_of, risen}
 use Rattle.tsdb_memory.proofs.Raising.{rises_raise, state_risen, through}
 use Rattle.tsdb_memory.specs.Freezing.{AreRaises, HasTime, raised_by}
-use Rattle.tsdb_memory.specs.Model.{HasKnownSeries, HasRisingPoints, HasTypedPoints, IsSound}
+use Rattle.tsdb_memory.specs.Model.{HasKnownSeries, HasRisingPoints, HasTypedPoints, IsSound, frozen_in}
+use Rattle.tsdb_memory.specs.Shared.{pair_in}
 use Rattle.tsdb_memory.specs.Shown.{IsContentOf, IsFrozenOf, IsMemoryOf, number_of, value_at, value_found}
 use Rattle.tsdb_memory.specs.Store.{FrozenPair, Places, Store}
 use Rattle.tsdb_memory.specs.declared.freezing.Raise.{Raise}
+use Rattle.tsdb_memory.specs.declared.shared.SharedPair.{SharedPair}
+use Rattle.tsdb_memory.specs.declared.store.FrozenPair.{FrozenPair as Kept}
 use Rattle.tsdb_memtable.specs.Pairs.{Pair, points_of}
 use Rattle.tsdb_memtable.specs.Watermarks.{Watermarks, watermark}
 use Rattle.tsdb_path.specs.Nodes.{device_of}
@@ -35,6 +39,16 @@ use Rattle.tsdb_state.specs.Limits.{max_frozen}
 use Rattle.tsdb_state.specs.Records.{froze}
 use Rattle.tsdb_state.specs.Views.{working_pair}
 use Rattle.tsdb_state.specs.State.{StoreState}
+
+-- the frozen pairs with one behind them
+
+pub pushed_frozen : (old new : List Kept) (born : ℕ) (place : SharedPair) (pair : Pair)
+    → new ≡ old ++ record { born = record { 0 = born }; pair = place } ∷ [] → pair_in place ≡ pair
+    → map frozen_in new ≡ map frozen_in old ++ record { born = born; pair = pair } ∷ []
+pushed_frozen old new born place pair pushed is =
+    ap (map frozen_in) pushed
+    ∙ map-append frozen_in old (record { born = record { 0 = born }; pair = place } ∷ [])
+    ∙ ap (λ (p : Pair). map frozen_in old ++ record { born = born; pair = p } ∷ []) is
 
 -- a value at a time, and a point of that time
 
@@ -291,6 +305,9 @@ module _ (store : Store) (raises : List Raise) (watermarks : Watermarks) (frozen
     frozen_typed = subst (All (λ (f : FrozenPair). HasTypedPoints store.series f.pair)) (sym pushed)
         (All-push (λ (f : FrozenPair). HasTypedPoints store.series f.pair) store.frozen
         (record { born = store.stamp; pair = store.working }) sound.frozen_typed sound.typed);
+    frozen_rising = subst (All (λ (f : FrozenPair). HasRisingPoints f.pair)) (sym pushed)
+        (All-push (λ (f : FrozenPair). HasRisingPoints f.pair) store.frozen
+        (record { born = store.stamp; pair = store.working }) sound.frozen_rising sound.rising);
     two = subst (λ (l : List FrozenPair). length l ≤ max_frozen) (sym pushed)
         (fits (length (store.frozen ++ record { born = store.stamp; pair = store.working } ∷ [])) (length store.frozen)
         (length_push store.frozen (record { born = store.stamp; pair = store.working })) room);

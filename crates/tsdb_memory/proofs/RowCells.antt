@@ -13,10 +13,10 @@ use Rattle.tsdb_map.specs.declared.command.Schema.{Schema}
 use Rattle.tsdb_memory.proofs.Putting.{in_pair, pair_put, rising_put}
 use Rattle.tsdb_memory.proofs.Series.{changed_there}
 use Rattle.tsdb_memory.specs.Model.{HasKnownSeries, HasRisingPoints, HasTypedPoints, IsFitting, IsSound}
-use Rattle.tsdb_memory.specs.Rows.{UsesSpareRoom, put_all}
+use Rattle.tsdb_memory.specs.Rows.{put_all}
 use Rattle.tsdb_memory.specs.Shown.{IsMemoryOf, IsPairOf, entry_of, number_of}
 use Rattle.tsdb_memory.specs.Store.{Store}
-use Rattle.tsdb_memtable.specs.Pairs.{Pair, SeriesPoints, change_points, points_in, put_in, spare_of}
+use Rattle.tsdb_memtable.specs.Pairs.{Pair, SeriesPoints, UsesSpareRoom, change_points, points_in, put_in, spare_of}
 use Rattle.tsdb_memtable.specs.Watermarks.{space_by, watermark}
 use Rattle.tsdb_path.specs.Nodes.{device_of}
 use Rattle.tsdb_state.specs.Limits.{end_of_numbers}
@@ -187,6 +187,7 @@ module _ (store : Store) (device : List ℕ) (space : Space) (time : ℤ) (cells
     frozen_known = sound.frozen_known;
     typed = typed;
     frozen_typed = sound.frozen_typed;
+    frozen_rising = sound.frozen_rising;
     two = sound.two;
     versions = All-weaker (λ mark. mark.version.0 ≤ store.stamp) (λ mark. mark.version.0 ≤ store.stamp + 1)
         (λ m h. at_most_next m.version.0 store.stamp h) store.marks.marks sound.versions;

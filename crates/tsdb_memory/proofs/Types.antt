@@ -1,7 +1,10 @@
 -- The type of a series in the state, by its number in memory.
-use Rattle.std.proofs.Common.{◌≡◌, ℕ, suc, Bool, true, false, cond, List, [], ◌∷◌, map, Option, Some, None, find, refl, sym, subst}
-use Rattle.std.specs.Prelude.{IsSome}
-use Rattle.std.specs.Option.{option_map}
+use Rattle.std.proofs.Common.{◌≡◌, ℕ, suc, Bool, true, false, cond, List, [], ◌∷◌, map, slice_get}
+use Rattle.std.proofs.Common.{Option, Some, None, find, refl, sym, subst}
+use Rattle.std.proofs.lemmas.Bool.{false≢true}
+use Rattle.std.specs.Prelude.{◌↔◌, IsSome}
+use Rattle.std.specs.Option.{option_and_then, option_map}
+use Rattle.tsdb_base.specs.declared.value.DataType.{DataType}
 use Rattle.tsdb_layers.specs.Places.{is_path}
 use Rattle.tsdb_map.specs.declared.command.Schema.{Schema}
 use Rattle.tsdb_memory.specs.Shown.{IsMemoryOf, entry_of, number_of}
@@ -28,29 +31,50 @@ alike (schema ∷ series) path = by (is_path path schema.path) (number_of series
     by false (Some number) None rest = absurd rest
     by false (Some number) (Some entry) rest = tt
 
-no_type : (o : Option ℕ) (e : Option SeriesEntry) → AreAlike o e → o ≡ None
-    → option_map (λ (series : SeriesEntry). series.schema.data_type) e ≡ None
-no_type o None rest none = refl
-no_type None (Some entry) rest none = absurd rest
-no_type (Some number) (Some entry) rest none = absurd (cc)
-
-some_type : (o : Option ℕ) (e : Option SeriesEntry) → AreAlike o e → IsSome o
-    → IsSome (option_map (λ (series : SeriesEntry). series.schema.data_type) e)
-some_type None e rest some = absurd (cc)
-some_type (Some number) None rest some = absurd rest
-some_type (Some number) (Some entry) rest some = refl
+-- a series is there in memory exactly where it is in the state
+pub there_alike : (series : List Schema) (path : List ℕ)
+    → (number_of series path ≡ None ↔ type_at (map entry_of series) path ≡ None)
+    × (IsSome (number_of series path) ↔ IsSome (type_at (map entry_of series) path))
+there_alike series path = by (number_of series path) (find (is_live_at path) (map entry_of series)) (alike series path)
+  where
+    by : (o : Option ℕ) (e : Option SeriesEntry) → AreAlike o e
+        → (o ≡ None ↔ option_map (λ (series : SeriesEntry). series.schema.data_type) e ≡ None)
+        × (IsSome o ↔ IsSome (option_map (λ (series : SeriesEntry). series.schema.data_type) e))
+    by None None rest = ((λ e. refl, λ e. refl), (λ some. absurd (false≢true some), λ some. absurd (false≢true some)))
+    by None (Some entry) rest = absurd rest
+    by (Some number) None rest = absurd rest
+    by (Some number) (Some entry) rest = ((λ e. absurd cc, λ e. absurd cc), (λ some. refl, λ some. refl))
 
 -- a path without a number has no type, and one with a number has one
 pub no_type_at : (store : Store) (state : StoreState) (path : List ℕ) → IsMemoryOf store state
     → number_of store.series path ≡ None → type_at state.schemas path ≡ None
 no_type_at store state path memory none =
     subst (λ (l : List SeriesEntry). type_at l path ≡ None) (sym memory.schemas)
-    (no_type (number_of store.series path) (find (is_live_at path) (map entry_of store.series))
-    (alike store.series path) none)
+    ((there_alike store.series path).0.0 none)
 
 pub some_type_at : (store : Store) (state : StoreState) (path : List ℕ) → IsMemoryOf store state
     → IsSome (number_of store.series path) → IsSome (type_at state.schemas path)
 some_type_at store state path memory some =
     subst (λ (l : List SeriesEntry). IsSome (type_at l path)) (sym memory.schemas)
-    (some_type (number_of store.series path) (find (is_live_at path) (map entry_of store.series))
-    (alike store.series path) some)
+    ((there_alike store.series path).1.0 some)
+
+-- the type of the series with this number
+abbrev pub type_of_number : List Schema → Option ℕ → Option DataType
+type_of_number series number =
+    option_and_then (λ n. option_map (λ (s : Schema). s.data_type) (slice_get series n)) number
+
+pub type_found : (series : List Schema) (path : List ℕ)
+    → type_at (map entry_of series) path ≡ type_of_number series (number_of series path)
+type_found [] path = refl
+type_found (schema ∷ series) path =
+    by (is_path path schema.path) (number_of series path) (type_found series path)
+  where
+    by : (b : Bool) (o : Option ℕ)
+        → option_map (λ (s : SeriesEntry). s.schema.data_type) (find (is_live_at path) (map entry_of series))
+        ≡ type_of_number series o
+        → option_map (λ (s : SeriesEntry). s.schema.data_type)
+        (cond b (Some (entry_of schema)) (find (is_live_at path) (map entry_of series)))
+        ≡ type_of_number (schema ∷ series) (cond b (Some 0) (option_map suc o))
+    by true o rest = refl
+    by false None rest = rest
+    by false (Some n) rest = rest

@@ -61,7 +61,7 @@ pub record IsFormed (schema : Schema) : Type 0 where
   pub path : IsPath schema.path
 
 -- series are well-formed, and each has its path alone; points are of series that are there, and of their types, and
--- those of the working pair rise in time; versions and the stamp are within their bounds
+-- rise in time; versions and the stamp are within their bounds
 pub record IsSound (store : value.Store) : Type 0 where
   pub formed : All IsFormed store.series
   pub once : (number : ℕ) (schema : Schema) → slice_get store.series number ≡ Some schema
@@ -71,6 +71,7 @@ pub record IsSound (store : value.Store) : Type 0 where
   pub frozen_known : All (λ frozen. HasKnownSeries store.series frozen.pair) store.frozen
   pub typed : HasTypedPoints store.series store.working
   pub frozen_typed : All (λ frozen. HasTypedPoints store.series frozen.pair) store.frozen
+  pub frozen_rising : All (λ frozen. HasRisingPoints frozen.pair) store.frozen
   pub two : length store.frozen ≤ max_frozen
   pub versions : All (λ mark. mark.version.0 ≤ store.stamp) store.marks.marks
   pub ends : store.stamp ≤ end_of_numbers

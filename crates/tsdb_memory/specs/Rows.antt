@@ -1,9 +1,9 @@
 -- A row in a pair, and room.
-use Rattle.std.specs.Prelude.{◌≡◌, ◌⊎◌, ℕ, ℤ, List, [], ◌∷◌}
+use Rattle.std.specs.Prelude.{◌≡◌, ℕ, ℤ, List, [], ◌∷◌}
 use Rattle.tsdb_base.specs.declared.ids.Space.{Space}
 use Rattle.tsdb_log.specs.declared.record.CellRecord.{CellRecord}
 use Rattle.tsdb_memory.specs.Store.{Store}
-use Rattle.tsdb_memtable.specs.Pairs.{Pair, change_points, points_of, put_in, spare_of}
+use Rattle.tsdb_memtable.specs.Pairs.{Pair, change_points, points_of, put_in}
 use Rattle.tsdb_memtable.specs.Watermarks.{watermark}
 
 -- the cells of a row, each in the same space
@@ -11,11 +11,6 @@ abbrev pub put_all : Space → ℤ → List CellRecord → Pair → Pair
 put_all space time [] pair = pair
 put_all space time (cell ∷ cells) pair = put_all space time cells
     (change_points cell.series.0 (put_in space (record { time = time; value = cell.value })) pair)
-
--- each series has the room that it had, or had none and has room for one point
-abbrev pub UsesSpareRoom : Pair → Pair → Type 0
-UsesSpareRoom old new = (number : ℕ) → (spare_of number new ≡ spare_of number old)
-    ⊎ ((spare_of number old ≡ 0) × (spare_of number new ≡ 1))
 
 -- nothing but room has changed
 pub record ChangesRoom (old new : Store) : Type 0 where

@@ -1,5 +1,5 @@
 -- What is in memory, as contracts see it.
-use Rattle.std.specs.Prelude.{ℕ, List}
+use Rattle.std.specs.Prelude.{ℕ, List, [], ◌∷◌, ◌++◌}
 use Rattle.tsdb_map.specs.declared.command.Schema.{Schema}
 use Rattle.tsdb_marks.specs.Lists.{Marks}
 use Rattle.tsdb_memtable.specs.Pairs.{Pair}
@@ -26,3 +26,7 @@ pub record Store : Type 0 where
   pub frozen : List FrozenPair
   pub working : Pair
   pub places : Places
+
+-- the frozen pairs after a freeze: the working pair stands behind the others, and its born is the stamp
+abbrev pub frozen_with_working : Store → List FrozenPair
+frozen_with_working store = store.frozen ++ record { born = store.stamp; pair = store.working } ∷ []

@@ -1,6 +1,6 @@
 //! What the records on files do to memory: a flush ends a frozen pair, and marks that cover nothing any more go. Depends
 //! on the store's fields, and on `purging`.
-ghost use Rattle.std.specs.Prelude.{◌<◌, ℕ, length};
+ghost use Rattle.std.specs.Prelude.{◌≡◌, ◌<◌, ℕ, drop, length};
 ghost use Rattle.tsdb_memory.specs.Least.{IsLeastOf};
 ghost use Rattle.tsdb_memory.specs.Shown.{IsMemoryOf, file_borns};
 ghost use Rattle.tsdb_state.specs.Records.{Replacement, flushed, replaced};
@@ -15,6 +15,7 @@ impl MemoryStore {
     /// stamp at which a file was frozen that is listed now. It takes no memory.
     pub fn finish_flushed(&mut self, listed: Option<Stamp>)
         requires some { 0 < length self.old.frozen }
+        ensures frozen { self.new.frozen ≡ drop 1 self.old.frozen }
         ensures effect { (state : StoreState) (sequence unsequence : ℕ) → IsMemoryOf self.old state
             → IsLeastOf listed (file_borns (flushed sequence unsequence state))
             → IsMemoryOf self.new (flushed sequence unsequence state) }

@@ -6,6 +6,7 @@ ghost use Rattle.tsdb_layers.specs.Lists.{Among};
 ghost use Rattle.tsdb_memory.specs.Freezing.{AreRaises, HasPlaces, IsFreezeOf, IsRaiseOf, raised_by};
 ghost use Rattle.tsdb_memory.specs.Rows.{ChangesRoom};
 ghost use Rattle.tsdb_memory.specs.Shown.{IsMemoryOf};
+ghost use Rattle.tsdb_memory.specs.Store.{frozen_with_working};
 ghost use Rattle.tsdb_memtable.specs.Pairs.{points_of};
 ghost use Rattle.tsdb_memtable.specs.Watermarks.{watermark};
 ghost use Rattle.tsdb_path.specs.Nodes.{device_of, node_count};
@@ -40,6 +41,7 @@ impl MemoryStore {
     pub fn prepare_freeze(&mut self) -> Result<Freezing, Memory>
         ensures kept { ChangesRoom self.old self.new }
         ensures same { (state : StoreState) → IsMemoryOf self.old state → IsMemoryOf self.new state }
+        ensures working { self.new.working ≡ self.old.working }
         ensures place { OnOk result (0 < self.new.places.frozen) }
         ensures freezing { IfOk result (IsFreezeOf self.new) }
     {
@@ -59,6 +61,7 @@ impl MemoryStore {
         ensures effect { (state : StoreState) → IsMemoryOf self.old state → IsMemoryOf self.new (froze state) }
         ensures series { self.new.series ≡ self.old.series }
         ensures stamp { self.new.stamp ≡ self.old.stamp }
+        ensures frozen { self.new.frozen ≡ frozen_with_working self.old }
         ensures working { self.new.working ≡ [] }
     {
         let Freezing { raises, place } = freezing;

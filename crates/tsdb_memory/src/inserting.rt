@@ -4,14 +4,14 @@ ghost use Rattle.std.specs.Option.{IsSomeAnd};
 ghost use Rattle.tsdb_base.specs.declared.ids.Space.{Space as SpaceOf};
 ghost use Rattle.tsdb_memory.specs.Model.{IsFitting};
 ghost use Rattle.tsdb_memory.specs.Shown.{IsMemoryOf};
-ghost use Rattle.tsdb_memory.specs.Rows.{ChangesRoom, UsesSpareRoom, put_all};
-ghost use Rattle.tsdb_memtable.specs.Pairs.{points_of, spare_of};
+ghost use Rattle.tsdb_memory.specs.Rows.{ChangesRoom, put_all};
+ghost use Rattle.tsdb_memtable.specs.Pairs.{UsesSpareRoom, points_of, spare_of};
 ghost use Rattle.tsdb_state.specs.Limits.{end_of_numbers};
 ghost use Rattle.tsdb_state.specs.Records.{inserted};
 ghost use Rattle.tsdb_state.specs.State.{StoreState};
 
 use crate::store::MemoryStore;
-use tsdb_base::{List, Memory, Point, SeriesId, Space, Time};
+use tsdb_base::{List, Memory, Point, Space, Time};
 use tsdb_log::CellRecord;
 use tsdb_memtable::{Pair, space_of};
 use tsdb_path::Path;
@@ -43,19 +43,6 @@ impl MemoryStore {
     }
 }
 
-/// Makes room for one more point of the series, where there is none.
-fn provide(pair: &mut Pair, series: SeriesId) -> Result<(), Memory>
-    ensures points { (space : SpaceOf) (number : ℕ)
-        → points_of space number pair.new ≡ points_of space number pair.old }
-    ensures spare { UsesSpareRoom pair.old pair.new }
-    ensures room { OnOk result (0 < spare_of series.0 pair.new) }
-{
-    if pair.spare(series) > 0 {
-        return Ok(());
-    }
-    pair.reserve(series, 1)
-}
-
 /// Makes room for one more point of each cell's series, where there is none.
 fn reserve_cells(pair: &mut Pair, cells: &[CellRecord]) -> Result<(), Memory>
     ensures points { (space : SpaceOf) (number : ℕ)
@@ -64,7 +51,7 @@ fn reserve_cells(pair: &mut Pair, cells: &[CellRecord]) -> Result<(), Memory>
     ensures room { OnOk result (All (λ cell. 0 < spare_of cell.series.0 pair.new) cells.now) }
 {
     for cell in cells {
-        provide(pair, cell.series)?;
+        pair.provide(cell.series)?;
     }
     Ok(())
 }

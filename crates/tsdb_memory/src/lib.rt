@@ -21,5 +21,6 @@ mod shared;
 mod store;
 
 pub use freezing::Freezing;
+pub use purging::lesser;
 pub use reading::Numbered;
 pub use store::{FrozenPair, MemoryStore};

@@ -6,7 +6,7 @@ use crate::store::FrozenPair;
 use tsdb_base::Stamp;
 
 /// The lesser of the least so far and one more.
-fn lesser(least: Option<Stamp>, born: Stamp) -> Stamp
+pub fn lesser(least: Option<Stamp>, born: Stamp) -> Stamp
     ensures { result ≡ lesser_of least born.0 }
 {
     match least {

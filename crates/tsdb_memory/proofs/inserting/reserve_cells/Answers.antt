@@ -13,9 +13,9 @@ loop-cell-init c = record {
 pub loop-cell-preserved : goal.loop-cell-preserved
 loop-cell-preserved c = record {
   points = λ space number. c.provide.ensures.points space number ∙ c.loop-cell.invariant.points space number;
-  spare = uses_both c.args.pair.now c.loop-cell.pair c.provide.new.pair c.loop-cell.invariant.spare
+  spare = uses_both c.args.pair.now c.loop-cell.pair c.provide.new.self c.loop-cell.invariant.spare
       c.provide.ensures.spare;
-  room = room_more c.args.cells.now c.loop-cell.cell-index c.cell-item.result c.loop-cell.pair c.provide.new.pair
+  room = room_more c.args.cells.now c.loop-cell.cell-index c.cell-item.result c.loop-cell.pair c.provide.new.self
       c.loop-cell-test.true c.cell-item.is c.loop-cell.invariant.room c.provide.ensures.spare
       c.in_ok-provide.ensures.room;
 }
@@ -25,5 +25,5 @@ returns-in_err-provide-clause-points c = λ space number.
     c.provide.ensures.points space number ∙ c.loop-cell.invariant.points space number
 
 pub returns-in_err-provide-clause-spare : goal.returns-in_err-provide-clause-spare
-returns-in_err-provide-clause-spare c = uses_both c.args.pair.now c.loop-cell.pair c.provide.new.pair
+returns-in_err-provide-clause-spare c = uses_both c.args.pair.now c.loop-cell.pair c.provide.new.self
     c.loop-cell.invariant.spare c.provide.ensures.spare

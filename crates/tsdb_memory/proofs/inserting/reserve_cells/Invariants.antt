@@ -2,8 +2,7 @@ use Rattle.std.proofs.Common.{◌≡◌, ℕ, take}
 use Rattle.std.specs.Prelude.{All}
 use Rattle.tsdb_base.specs.declared.ids.Space.{Space}
 use Rattle.tsdb_memory.proofs.RowCells.{HasRoom}
-use Rattle.tsdb_memory.specs.Rows.{UsesSpareRoom}
-use Rattle.tsdb_memtable.specs.Pairs.{points_of}
+use Rattle.tsdb_memtable.specs.Pairs.{UsesSpareRoom, points_of}
 use Rattle.tsdb_memory.proofs.inserting.reserve_cells.Given as goal
 
 abbrev pub invariant-loop-cell : goal.invariant-loop-cell

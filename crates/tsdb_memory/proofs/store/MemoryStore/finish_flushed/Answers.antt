@@ -1,4 +1,4 @@
-use Rattle.std.proofs.Common.{◌<◌, ◌∙◌, List, length, map, subst, sym, ap}
+use Rattle.std.proofs.Common.{◌<◌, ◌∙◌, List, drop, length, map, subst, sym, ap}
 use Rattle.tsdb_marks.specs.Lists.{purge_list}
 use Rattle.tsdb_memory.proofs.Effects.{flushed_shown, flushed_sound}
 use Rattle.tsdb_memory.proofs.Later.{borns_kept, first_of}
@@ -9,21 +9,26 @@ use Rattle.tsdb_memory.specs.Store as value
 use Rattle.tsdb_memory.specs.declared.store.FrozenPair.{FrozenPair}
 use Rattle.tsdb_memory.proofs.store.MemoryStore.finish_flushed.Goals as goal
 
-pub returns : goal.returns
-returns c = record {
-  effect = λ state sequence unsequence is low.
-      let old = c.self.inside in
-      let new = record old { frozen = c.remove.new.self; marks = c.purge.new.self } in
-      let first = first_of old.frozen.items c.remove.new.self.items
-      (subst (λ (s : value.Store). 0 < length s.frozen) (sym c.self.view_is) c.requires.some) c.remove.ensures.items in
-      flushed_shown (store_in old) (map frozen_in c.remove.new.self.items) first.oldest (store_in new).places
-      c.purge.new.self c.args.listed state sequence unsequence first.are
-      (subst (λ (s : value.Store). IsMemoryOf s state) (sym c.self.view_is) is) low
-      (c.purge.ensures.marks ∙ ap (λ o. purge_list o old.marks.marks)
-      (c.least_born.ensures ∙ ap (λ (pairs : List FrozenPair). least_with c.args.listed
-      (map (λ (p : FrozenPair). p.born.0) pairs)) c.as_slice.ensures.value
-      ∙ borns_kept c.args.listed c.remove.new.self.items));
-}
+pub returns-clause-frozen : goal.returns-clause-frozen
+returns-clause-frozen c =
+    let old = c.self.inside in
+    let first = first_of old.frozen.items c.remove.new.self.items
+    (subst (λ (s : value.Store). 0 < length s.frozen) (sym c.self.view_is) c.requires.some) c.remove.ensures.items in
+    sym (ap (drop 1) first.are) ∙ ap (λ (s : value.Store). drop 1 s.frozen) c.self.view_is
+
+pub returns-clause-effect : goal.returns-clause-effect
+returns-clause-effect c = λ state sequence unsequence is low.
+    let old = c.self.inside in
+    let new = record old { frozen = c.remove.new.self; marks = c.purge.new.self } in
+    let first = first_of old.frozen.items c.remove.new.self.items
+    (subst (λ (s : value.Store). 0 < length s.frozen) (sym c.self.view_is) c.requires.some) c.remove.ensures.items in
+    flushed_shown (store_in old) (map frozen_in c.remove.new.self.items) first.oldest (store_in new).places
+    c.purge.new.self c.args.listed state sequence unsequence first.are
+    (subst (λ (s : value.Store). IsMemoryOf s state) (sym c.self.view_is) is) low
+    (c.purge.ensures.marks ∙ ap (λ o. purge_list o old.marks.marks)
+    (c.least_born.ensures ∙ ap (λ (pairs : List FrozenPair). least_with c.args.listed
+    (map (λ (p : FrozenPair). p.born.0) pairs)) c.as_slice.ensures.value
+    ∙ borns_kept c.args.listed c.remove.new.self.items))
 
 pub invariant_of-self : goal.invariant_of-self
 invariant_of-self c =

@@ -1,13 +1,13 @@
-use Rattle.std.proofs.Common.{◌≡◌, ◌∙◌, ◌++◌, ◌∷◌, [], List, ap, map, subst, sym}
-use Rattle.std.proofs.lemmas.List.{map-append}
-use Rattle.tsdb_memory.proofs.Frozen.{froze_shown, frozen_store}
+use Rattle.std.proofs.Common.{◌≡◌, ◌∙◌, ◌++◌, ◌∷◌, ◌<◌, [], List, ap, length, map, subst, sym}
+use Rattle.tsdb_memory.proofs.Frozen.{froze_shown, froze_sound, frozen_store, pushed_frozen}
 use Rattle.tsdb_memory.specs.Freezing.{AreRaises, raised_by}
-use Rattle.tsdb_memory.specs.Model.{frozen_in, store_in}
+use Rattle.tsdb_memory.specs.Model.{IsSound, frozen_in, store_in}
 use Rattle.tsdb_memory.specs.Shown.{IsMemoryOf}
 use Rattle.tsdb_memory.specs.Store as value
 use Rattle.tsdb_memory.specs.declared.freezing.Raise.{Raise}
 use Rattle.tsdb_memtable.specs.Pairs.{Pair}
 use Rattle.tsdb_memtable.specs.Watermarks.{watermark}
+use Rattle.tsdb_state.specs.Limits.{max_frozen}
 use Rattle.tsdb_state.specs.Records.{froze}
 use Rattle.tsdb_memory.proofs.store.MemoryStore.finish_freeze.Goals as goal
 
@@ -22,10 +22,8 @@ returns-clause-effect c = λ state is.
     let raises = c.args.freezing.raises.items in
     let frozen : List value.FrozenPair = map frozen_in c.push.new.self.items in
     let pushed : frozen ≡ map frozen_in old.frozen.items ++ record { born = old.stamp; pair = old.working } ∷ [] =
-    ap (map frozen_in) c.in-Ok.ensures.items
-    ∙ map-append frozen_in old.frozen.items (record { born = record { 0 = old.stamp }; pair = c.in_place-pair.result } ∷ [])
-    ∙ ap (λ (p : Pair). map frozen_in old.frozen.items ++ record { born = old.stamp; pair = p } ∷ [])
-    (c.in_place-pair.ensures ∙ c.replace-working.ensures.value) in
+    pushed_frozen old.frozen.items c.push.new.self.items old.stamp c.in_place-pair.result old.working
+    c.in-Ok.ensures.items (c.in_place-pair.ensures ∙ c.replace-working.ensures.value) in
     let are : AreRaises (store_in old).series old.working raises =
     subst (λ (s : value.Store). AreRaises s.series s.working raises) (sym c.self.view_is) c.requires.freezing.raises in
     subst (λ (p : Pair). IsMemoryOf (record (frozen_store (store_in old) raises c.raise_all.new.watermarks frozen
@@ -42,5 +40,31 @@ returns-clause-series c = ap (λ (s : value.Store). s.series) c.self.view_is
 pub returns-clause-stamp : goal.returns-clause-stamp
 returns-clause-stamp c = ap (λ (s : value.Store). s.stamp) c.self.view_is
 
+pub returns-clause-frozen : goal.returns-clause-frozen
+returns-clause-frozen c =
+    let old = c.self.inside in
+    pushed_frozen old.frozen.items c.push.new.self.items old.stamp c.in_place-pair.result old.working
+    c.in-Ok.ensures.items (c.in_place-pair.ensures ∙ c.replace-working.ensures.value)
+    ∙ ap value.frozen_with_working c.self.view_is
+
 pub returns-clause-working : goal.returns-clause-working
 returns-clause-working c = c.replace-working.ensures.after ∙ c.new.ensures
+
+pub invariant_of-self : goal.invariant_of-self
+invariant_of-self c =
+    let old = c.self.inside in
+    let new = record old {
+      watermarks = c.raise_all.new.watermarks;
+      frozen = c.push.new.self;
+      working = c.replace-working.new.dest;
+    } in
+    let raises = c.args.freezing.raises.items in
+    let frozen : List value.FrozenPair = map frozen_in c.push.new.self.items in
+    let pushed : frozen ≡ map frozen_in old.frozen.items ++ record { born = old.stamp; pair = old.working } ∷ [] =
+    pushed_frozen old.frozen.items c.push.new.self.items old.stamp c.in_place-pair.result old.working
+    c.in-Ok.ensures.items (c.in_place-pair.ensures ∙ c.replace-working.ensures.value) in
+    subst (λ (p : Pair). IsSound (record (frozen_store (store_in old) raises c.raise_all.new.watermarks frozen
+    (store_in new).places pushed) { working = p }))
+    (sym (c.replace-working.ensures.after ∙ c.new.ensures))
+    (froze_sound (store_in old) raises c.raise_all.new.watermarks frozen (store_in new).places pushed
+    (subst (λ (s : value.Store). length s.frozen < max_frozen) (sym c.self.view_is) c.requires.room) c.self.invariant)
