@@ -159,7 +159,7 @@ fn puts_alike(
     device: &Path,
     (series, time, value): (u64, Time, i64),
 ) -> Result<bool, Fail> {
-    pair.reserve(SeriesId(series), 1)?;
+    pair.provide(SeriesId(series))?;
     let point = Point {
         time,
         value: Value::I64(value),
