@@ -1,0 +1,44 @@
+-- Which compaction of the engine state a job is, and what holds of one that a core hands out.
+use Rattle.std.specs.Prelude.{◌≡◌, ◌≢◌, ℕ, List, [], ◌++◌, map}
+use Rattle.std.specs.List.{AllByRecursion as Each}
+use Rattle.tsdb_base.specs.declared.ids.FileNumber.{FileNumber}
+use Rattle.tsdb_compactions.specs.declared.job.Input.{Input}
+use Rattle.tsdb_compactions.specs.declared.job.Job.{Job}
+use Rattle.tsdb_index.specs.Entries.{IsBefore}
+use Rattle.tsdb_jobs.specs.Parts.{names_of}
+use Rattle.tsdb_layers.specs.Lists.{EachPair}
+use Rattle.tsdb_map.specs.Commands.{IsSchema}
+use Rattle.tsdb_state.specs.Jobs.{job_inputs}
+use Rattle.tsdb_state.specs.Records.{numbers_of}
+use Rattle.tsdb_state.specs.State.{Compaction, File}
+
+-- the numbers of files, as plain numbers
+abbrev pub plain_numbers : List FileNumber → List ℕ
+plain_numbers numbers = map (λ (number : FileNumber). number.0) numbers
+
+module _ {F S R P : Type 0} where
+  -- an input as the engine state has it
+  abbrev pub input_file : Input F S R P → File
+  input_file input = record { number = input.number.0; born = input.born.0 }
+
+  abbrev pub input_files : Job F S R P → List File
+  input_files job = map input_file job.inputs
+
+  -- The job is as a core hands it out: it has an input, its two lists have the numbers of all inputs, and its schemas are
+  -- well-formed and in the order of a tree.
+  pub record IsFormed (job : Job F S R P) : Type 0 where
+    pub some : job.inputs ≢ []
+    pub numbers : numbers_of (input_files job) ≡ plain_numbers job.sequence ++ plain_numbers job.unsequence
+    pub schemas : Each IsSchema job.schemas
+    pub rising : EachPair (λ a b. IsBefore (names_of a) (names_of b)) job.schemas
+
+  -- the job has the space, the place, the born, the inputs, the marks and the number of the compaction
+  pub record IsCompactionOf (job : Job F S R P) (compaction : Compaction) : Type 0 where
+    pub space : compaction.space ≡ job.space
+    pub place : compaction.place ≡ job.place
+    pub born : compaction.born ≡ job.born.0
+    pub inputs : job_inputs compaction ≡ input_files job
+    pub sequence : numbers_of compaction.sequence ≡ plain_numbers job.sequence
+    pub unsequence : numbers_of compaction.unsequence ≡ plain_numbers job.unsequence
+    pub marks : compaction.marks ≡ job.marks.marks
+    pub output : compaction.output ≡ job.output.0

@@ -1,0 +1,75 @@
+-- The output of a job: at each place the value of the last input with a point that survives the marks at its beginning.
+use Rattle.std.specs.Prelude.{◌≡◌, ◌↔◌, ℕ, List, Option, None, Some}
+use Rattle.std.specs.FinMap.{get}
+use Rattle.std.specs.List.{AllByRecursion as Each}
+use Rattle.tsdb_base.specs.declared.value.Value.{Value}
+use Rattle.tsdb_built.specs.Parts.{HasPartPoint, IsPart, entry_of}
+use Rattle.tsdb_compactions.specs.Jobs.{input_file, input_files}
+use Rattle.tsdb_compactions.specs.declared.job.Input.{Input}
+use Rattle.tsdb_compactions.specs.declared.job.Job.{Job}
+use Rattle.tsdb_jobs.specs.Built.{IsBuiltOf}
+use Rattle.tsdb_jobs.specs.Parts.{Filled}
+use Rattle.tsdb_jobs.specs.declared.flush.Built.{Built}
+use Rattle.tsdb_layers.specs.Layers.{value_in}
+use Rattle.tsdb_layers.specs.Places.{Content, Place}
+use Rattle.tsdb_outside.specs.Files.{NamedFile, Store}
+use Rattle.tsdb_pages.specs.File.{IsFile}
+use Rattle.tsdb_pages.specs.Trees.{IsMade, IsTree}
+use Rattle.tsdb_pages.specs.declared.tree.Tree.{Tree}
+use Rattle.tsdb_replay.specs.Stores.{IsContentOf, IsWhole}
+use Rattle.tsdb_state.specs.Jobs.{Describes}
+use Rattle.tsdb_state.specs.State.{Told}
+use Rattle.tsdb_state.specs.Views.{file_layers}
+
+-- the value at the place of the last input with a point there that survives the marks of the job
+abbrev pub winner : {F S R P : Type 0} → Told → Job F S R P → Place → Option Value
+winner told job place = value_in job.marks.marks place (file_layers told (input_files job))
+
+-- rights name files by `name`, and tokens by `file`, with so many rights out
+module _ {F S R P : Type 0} (name : R → NamedFile) where
+  -- the right to read the input tells bytes, which are those of a tree with the points that are told
+  abbrev pub IsRead : Told → Input F S R P → Type 0
+  IsRead told input = IsWhole (λ number. (name input.right).bytes) told (input_file input)
+
+  -- what is told is what the inputs have
+  abbrev pub TellsInputs : Told → Job F S R P → Type 0
+  TellsInputs told job = Each (IsRead told) job.inputs
+
+  -- no place has a winner
+  abbrev pub HasNoWinner : Job F S R P → Type 0
+  HasNoWinner job = (told : Told) → TellsInputs told job → (place : Place) → winner told job place ≡ None
+
+  -- the part has the winner of each place, and no other point
+  abbrev pub HasWinners : Job F S R P → List Filled → Type 0
+  HasWinners job part = (told : Told) → TellsInputs told job → (place : Place) (value : Value)
+      → (winner told job place ≡ Some value) ↔ HasPartPoint part place value
+
+  module _ (file : S → NamedFile) (rights : S → ℕ) where
+    -- the file has the number and the born of the job, and the winners of its inputs
+    pub record IsBuiltFor (job : Job F S R P) (built : Built F S R P) : Type 0 where
+      pub store : Store
+      pub part : List Filled
+      pub file_is : IsBuiltOf store job.output.0 job.born.0 part (file built.sealed) (rights built.sealed) built.entry
+          built.series
+      pub is_part : IsPart part
+      pub winners : HasWinners job part
+
+    -- an output of a job: its file, or none where no place has a winner
+    abbrev pub IsOutputOf : Job F S R P → Option (Built F S R P) → Type 0
+    IsOutputOf job None = HasNoWinner job
+    IsOutputOf job (Some built) = IsBuiltFor job built
+
+-- A file has the winners of the job as its content; its token tells bytes, which are those of a tree with these points,
+-- and what is kept of it says so.
+pub record HasOutput {F S R P : Type 0} (told : Told) (job : Job F S R P) (name : NamedFile) (built : Built F S R P)
+    : Type 0 where
+  pub content : Content
+  pub winners : (place : Place) → get content place ≡ winner told job place
+  pub bytes : List ℕ
+  pub tells : name.bytes ≡ Some bytes
+  pub tree : Tree
+  pub is_tree : IsTree tree
+  pub is_made : IsMade tree
+  pub is_file : IsFile tree bytes
+  pub content_is : IsContentOf tree content
+  pub describes : Describes (entry_of built.entry built.series) content

@@ -1,0 +1,38 @@
+//! The laws. The functions do nothing; their contracts say them.
+ghost use Rattle.std.specs.Prelude.{◌≡◌, ℕ, [], IsSome, List};
+ghost use Rattle.std.specs.List.{filter};
+ghost use Rattle.tsdb_compactions.specs.Jobs.{IsCompactionOf};
+ghost use Rattle.tsdb_compactions.specs.Outputs.{HasNoWinner, HasOutput, IsBuiltFor, TellsInputs};
+ghost use Rattle.tsdb_layers.specs.Layers.{survivor};
+ghost use Rattle.tsdb_layers.specs.Lists.{Among};
+ghost use Rattle.tsdb_layers.specs.Places.{Content, Place};
+ghost use Rattle.tsdb_marks.specs.Lists.{is_of};
+ghost use Rattle.tsdb_marks.specs.declared.marks.Mark.{Mark};
+ghost use Rattle.tsdb_state.specs.Jobs.{Describes};
+ghost use Rattle.tsdb_state.specs.State.{Compaction, Entry, Told};
+ghost use Rattle.tsdb_state.specs.Steps.{IsOutput};
+
+use crate::job::Job;
+use tsdb_jobs::Built;
+use tsdb_outside::Files;
+
+/// A file that was built for a job has the winners of its inputs, where its token and the rights to read them tell bytes.
+pub fn an_output_has_the_winners_of_its_job<F: Files>(_job: &Job<F>, _built: &Built<F>)
+    ensures { (told : Told) → IsBuiltFor F.Right.file F.Sealed.file F.Sealed.rights _job.now _built.now
+        → TellsInputs F.Right.file told _job.now → IsSome (F.Sealed.file _built.now.sealed).bytes
+        → HasOutput told _job.now (F.Sealed.file _built.now.sealed) _built.now }
+{}
+
+/// A job none of whose places has a winner has no output.
+pub fn a_job_without_a_point_has_no_output<F: Files>(_job: &Job<F>)
+    ensures { (told : Told) (compaction : Compaction) → IsCompactionOf _job.now compaction
+        → HasNoWinner F.Right.file _job.now → TellsInputs F.Right.file told _job.now → IsOutput told compaction [] }
+{}
+
+/// Of the points of a file, the marks of its series leave the same as all marks: so a job needs no others.
+pub fn the_marks_of_its_series_are_enough()
+    ensures { (paths : List (List ℕ)) (marks : List Mark) (entry : Entry) (content : Content) (born : ℕ)
+        → Describes entry content → ((path : List ℕ) → Among path entry.series → Among path paths) → (place : Place)
+        → survivor (filter (is_of paths) marks) place (record { born = born; content = content })
+        ≡ survivor marks place (record { born = born; content = content }) }
+{}
