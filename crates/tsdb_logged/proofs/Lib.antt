@@ -5,3 +5,4 @@ pub mod Flushing
 pub mod Closing
 pub mod Commanding
 pub mod Answering
+pub mod Replacements

@@ -4,3 +4,4 @@ pub mod Answers
 pub mod Commands
 pub mod Flushes
 pub mod Closing
+pub mod Replacing

@@ -10,5 +10,6 @@
 mod commands;
 mod logged;
 mod pairs;
+mod replacing;
 
 pub use logged::Logged;

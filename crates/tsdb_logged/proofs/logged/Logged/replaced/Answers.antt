@@ -1,0 +1,55 @@
+use Rattle.std.proofs.Common.{Err, Ok, subst, sym}
+use Rattle.tsdb_logged.proofs.Commanding.{other_memory}
+use Rattle.tsdb_logged.proofs.Replacements.{few_parts, fits_frame, has_room, replaced_done, replaced_faulted}
+use Rattle.tsdb_logged.proofs.Replacements.{replaced_moments}
+use Rattle.tsdb_logged.specs.Appends.{IsAppended}
+use Rattle.tsdb_memory.specs.Shown.{IsMemoryOf}
+use Rattle.tsdb_logged.proofs.logged.Logged.replaced.Goals as goal
+
+pub append-requires-clause-few : goal.append-requires-clause-few
+append-requires-clause-few g c = λ lifetimes lives. few_parts _ c.args.item.now c.requires
+
+pub append-requires-clause-fits : goal.append-requires-clause-fits
+append-requires-clause-fits g c = λ lifetimes lives. fits_frame _ c.args.item.now c.requires
+
+pub unreachable-requires : goal.unreachable-requires
+unreachable-requires g c = has_room _ c.args.item.now c.requires c.in-Err.ensures.room
+
+pub returns-in-Ok-Err : goal.returns-in-Ok-Err
+returns-in-Ok-Err g c =
+    let append = subst (IsAppended c.args.self.now c.append.new.self c.args.item.now)
+    c.in-Ok-Err.field-0-is c.in-Ok-Err.ensures.append in
+    record {
+      done = tt;
+      failed = λ outside state job others output place sound can. replaced_faulted c.args.self.now c.append.new.self
+          c.args.item.now c.args.listed c.in-Ok-Err.ensures.record outside state job others output place sound can
+          c.in-Ok-Err.failed append c.in-Ok-Err.ensures.memory;
+      memory = c.in-Ok-Err.ensures.memory;
+      moments = λ outside state job others output place sound can. replaced_moments c.args.self.now c.append.new.self
+          c.args.item.now c.args.listed c.in-Ok-Err.ensures.record outside state job others output place sound can
+          (Err c.in-Ok-Err.failed) append;
+      room = c.in-Ok-Err.ensures.capacity;
+      slot = append.slot;
+      cause = append.cause;
+    }
+
+pub returns : goal.returns
+returns g c =
+    let append = other_memory c.args.self.now c.append.new.self c.finish_replaced.new.self c.args.item.now
+    (subst (IsAppended c.args.self.now c.append.new.self c.args.item.now)
+    c.in-Ok-Ok.field-0-is c.in-Ok-Ok.ensures.append) in
+    record {
+      done = λ outside state job others output place sound can. replaced_done c.args.self.now
+          (record c.append.new.self { memory = c.finish_replaced.new.self }) c.args.item.now c.args.listed
+          c.in-Ok-Ok.ensures.record outside state job others output place sound can append
+          (λ shown item is least. c.finish_replaced.ensures.effect shown item
+          (subst (λ store. IsMemoryOf store shown) (sym c.in-Ok-Ok.ensures.memory) is) least);
+      failed = tt;
+      memory = tt;
+      moments = λ outside state job others output place sound can. replaced_moments c.args.self.now
+          (record c.append.new.self { memory = c.finish_replaced.new.self }) c.args.item.now c.args.listed
+          c.in-Ok-Ok.ensures.record outside state job others output place sound can (Ok tt) append;
+      room = c.in-Ok-Ok.ensures.capacity;
+      slot = append.slot;
+      cause = append.cause;
+    }
