@@ -1,3 +1,4 @@
 pub mod Contents
 pub mod Outputs
 pub mod Marks
+pub mod Planned

@@ -40,8 +40,8 @@ module _ {F S R P : Type 0} (name : R → NamedFile) (file : S → NamedFile) (r
   pub has_output : IsSome (file built.sealed).bytes → HasOutput told job (file built.sealed) built
   has_output some = by (file built.sealed).bytes refl some is.file_is.names.bytes_are
     where
-      by : (o : Option (List ℕ)) → (file built.sealed).bytes ≡ o → IsSome o → IfSome o (λ bytes. bytes ≡ is.file_is.bytes)
-          → HasOutput told job (file built.sealed) built
+      by : (o : Option (List ℕ)) → (file built.sealed).bytes ≡ o → IsSome o
+          → IfSome o (λ bytes. bytes ≡ is.file_is.bytes) → HasOutput told job (file built.sealed) built
       by None are some same = absurd (false≢true some)
       by (Some bytes) are some same =
           let made = tree_of_part is.part is.file_is.bytes content is.is_part is.file_is.file of_part in

@@ -24,8 +24,8 @@ module _ {F S R P : Type 0} where
   abbrev pub input_files : Job F S R P → List File
   input_files job = map input_file job.inputs
 
-  -- The job is as a core hands it out: it has an input, its two lists have the numbers of all inputs, and its schemas are
-  -- well-formed and in the order of a tree.
+  -- The job is as a core hands it out: it has an input, its two lists have the numbers of all inputs, and its schemas
+  -- are well-formed and in the order of a tree.
   pub record IsFormed (job : Job F S R P) : Type 0 where
     pub some : job.inputs ≢ []
     pub numbers : numbers_of (input_files job) ≡ plain_numbers job.sequence ++ plain_numbers job.unsequence

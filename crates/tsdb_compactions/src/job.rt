@@ -21,7 +21,8 @@ pub struct Job<F: Files> {
     pub born: Stamp,
     /// The place of a sequence output in its list.
     pub place: u64,
-    /// Its inputs from the lowest to the highest priority: sequence files in the order of their list, and then late ones.
+    /// Its inputs from the lowest to the highest priority: sequence files in the order of their list, and then late
+    /// ones.
     pub inputs: List<Input<F>>,
     /// The numbers of the inputs that are sequence files, and of the late ones: the end of the job records them.
     pub sequence: List<FileNumber>,

@@ -1,22 +1,26 @@
 //! The laws. The functions do nothing; their contracts say them.
-ghost use Rattle.std.specs.Prelude.{◌≡◌, ℕ, [], IsSome, List};
+ghost use Rattle.std.specs.Prelude.{◌≡◌, ℕ, [], Bool, IsSome, List};
 ghost use Rattle.std.specs.List.{filter};
 ghost use Rattle.tsdb_compactions.specs.Jobs.{IsCompactionOf};
 ghost use Rattle.tsdb_compactions.specs.Outputs.{HasNoWinner, HasOutput, IsBuiltFor, TellsInputs};
+ghost use Rattle.tsdb_compactions.specs.Plans.{IsOfMoment, IsPlanned};
 ghost use Rattle.tsdb_layers.specs.Layers.{survivor};
 ghost use Rattle.tsdb_layers.specs.Lists.{Among};
 ghost use Rattle.tsdb_layers.specs.Places.{Content, Place};
 ghost use Rattle.tsdb_marks.specs.Lists.{is_of};
 ghost use Rattle.tsdb_marks.specs.declared.marks.Mark.{Mark};
 ghost use Rattle.tsdb_state.specs.Jobs.{Describes};
-ghost use Rattle.tsdb_state.specs.State.{Compaction, Entry, Told};
-ghost use Rattle.tsdb_state.specs.Steps.{IsOutput};
+ghost use Rattle.tsdb_state.specs.Order.{IsInOrder};
+ghost use Rattle.tsdb_state.specs.Plans.{ClaimLate};
+ghost use Rattle.tsdb_state.specs.State.{Compaction, EngineState, Entries, Entry, File, Told};
+ghost use Rattle.tsdb_state.specs.Steps.{Begins, IsOutput};
 
 use crate::job::Job;
 use tsdb_jobs::Built;
 use tsdb_outside::Files;
 
-/// A file that was built for a job has the winners of its inputs, where its token and the rights to read them tell bytes.
+/// A file that was built for a job has the winners of its inputs, where its token and the rights to read them tell
+/// bytes.
 pub fn an_output_has_the_winners_of_its_job<F: Files>(_job: &Job<F>, _built: &Built<F>)
     ensures { (told : Told) → IsBuiltFor F.Right.file F.Sealed.file F.Sealed.rights _job.now _built.now
         → TellsInputs F.Right.file told _job.now → IsSome (F.Sealed.file _built.now.sealed).bytes
@@ -35,4 +39,12 @@ pub fn the_marks_of_its_series_are_enough()
         → Describes entry content → ((path : List ℕ) → Among path entry.series → Among path paths) → (place : Place)
         → survivor (filter (is_of paths) marks) place (record { born = born; content = content })
         ≡ survivor marks place (record { born = born; content = content }) }
+{}
+
+/// A compaction of the files of a plan begins in a state in order, with the stamp, the marks of the series of its
+/// inputs and the next number: the late inputs of the jobs that are out have to be claimed.
+pub fn a_planned_compaction_begins()
+    ensures { (told : Told) (known : Entries) (named : List ℕ) (engine : EngineState) (claimed : File → Bool)
+        (job : Compaction) → IsInOrder told known named engine → ClaimLate claimed engine.compactions
+        → IsPlanned known claimed engine job → IsOfMoment known engine job → Begins told job engine }
 {}

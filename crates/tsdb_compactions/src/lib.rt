@@ -1,8 +1,8 @@
 //! Compactions that are out, and when a file is the output of one. Depends on tsdb_base, tsdb_map, tsdb_marks,
 //! tsdb_outside, tsdb_layers, tsdb_plan, tsdb_state, tsdb_replay, tsdb_jobs and tsdb_built.
 //!
-//! `specs/Outputs.antt` says when a file is the output of a job, and `specs/Jobs.antt` which compaction of the engine
-//! state a job is.
+//! `specs/Outputs.antt` says when a file is the output of a job, `specs/Jobs.antt` which compaction of the engine
+//! state a job is, and `specs/Plans.antt` which one a plan begins.
 #![tactic(auto)]
 
 mod job;
@@ -10,6 +10,6 @@ mod laws;
 
 pub use job::{Input, Job};
 pub use laws::{
-    a_job_without_a_point_has_no_output, an_output_has_the_winners_of_its_job,
-    the_marks_of_its_series_are_enough,
+    a_job_without_a_point_has_no_output, a_planned_compaction_begins,
+    an_output_has_the_winners_of_its_job, the_marks_of_its_series_are_enough,
 };
