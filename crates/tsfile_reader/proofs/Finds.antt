@@ -8,10 +8,10 @@ use Rattle.tsdb_fields.specs.declared.fault.FieldFault.{FieldFault}
 use Rattle.tsdb_fields.specs.declared.fault.FieldFault.TheVariants as field
 use Rattle.tsdb_index.specs.declared.index.IndexEntry.{IndexEntry}
 use Rattle.tsdb_index.specs.declared.pointer.Pointer.{Pointer}
-use Rattle.tsdb_index.specs.Entries.{AreInOrder, IsBefore, names_of}
+use Rattle.tsdb_index.specs.Entries.{AreInOrder, IsBefore, IsEntry, names_of}
 use Rattle.tsdb_index.specs.Faults.{ReadsWhole}
 use Rattle.tsdb_index.specs.Finding.{AreBehind, IsEntryFor, IsLeafFor}
-use Rattle.tsdb_index.specs.Parts.{AreLeavesAt, BeginAt, IsLeaf, IsPointerBefore, IsRoot, end_of, next_names}
+use Rattle.tsdb_index.specs.Parts.{AreLeavesAt, BeginAt, IsLeaf, IsPointerBefore, end_of, next_names}
 use Rattle.tsdb_index.specs.Steps.{AreSpread}
 use Rattle.tsdb_index.proofs.LeafOfNames.{IsAmong, among, leaf_decides, none_decides}
 use Rattle.tsdb_index.proofs.Orders.{order_back, order_left}
@@ -76,6 +76,15 @@ one_leaf_bad Is o pointer behind root end part slice view field.Memory answer en
 
 pub leaf_in_order : (pointer : Pointer) (behind : List Pointer) (bytes : List ℕ) (entries : List IndexEntry) → IsLeaf pointer behind bytes entries → AreInOrder IsBefore (map names_of entries)
 leaf_in_order pointer behind bytes entries leaf = order_left IsBefore (map names_of entries) (next_names behind) leaf.rising
+
+-- an entry that is found among good ones is good, and has the names
+pub entry_formed : (names : Names) (entries : List IndexEntry) (found : Option IndexEntry) → IsEntryFor names entries found → All IsEntry entries → IfSome found IsEntry
+entry_formed names entries None is good = tt
+entry_formed names entries (Some entry) is good = All-contains IsEntry entries entry good is.0
+
+pub entry_named : (names : Names) (entries : List IndexEntry) (found : Option IndexEntry) → IsEntryFor names entries found → IfSome found (λ entry. names_of entry ≡ names)
+entry_named names entries None is = tt
+entry_named names entries (Some entry) is = is.1
 
 -- ---- the exits of a look-up
 

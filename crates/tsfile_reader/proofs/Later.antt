@@ -83,7 +83,7 @@ end_time points stats d some are =
     let same : I64 (get_or points (length points - 1) d).time ≡ I64 stats.end = last_gives (λ (p : Point). I64 p.time) points d (I64 stats.end) some are.end in
     cc
 
-any_default : (xs : List Point) (k : ℕ) (x y : Point) → k < length xs → get_or xs k x ≡ get_or xs k y
+pub any_default : (xs : List Point) (k : ℕ) (x y : Point) → k < length xs → get_or xs k x ≡ get_or xs k y
 any_default [] k x y low = absurd (omega (arith, low))
 any_default (z ∷ zs) zero x y low = refl
 any_default (z ∷ zs) (suc k) x y low = any_default zs k x y (omega (arith, low))

@@ -2,6 +2,7 @@ pub mod Heads
 pub mod Outlines
 pub mod OneOutline
 pub mod PageBytes
+pub mod PageTimes
 pub mod OfTree
 pub mod Rows
 pub mod Later

@@ -18,12 +18,14 @@ use Rattle.tsdb_pages.specs.declared.tree.Tree.{Tree}
 use Rattle.tsdb_pages.specs.File.{IsEntry, IsFile, page_bytes, page_field}
 use Rattle.tsdb_pages.specs.Places.{HasPlaces}
 use Rattle.tsdb_pages.specs.Trees.{IsMade, IsTree}
+use Rattle.tsdb_stats.specs.Statistics.{AreStatsOf}
 use Rattle.tsdb_pages.proofs.Files.{IsPageOf, IsWholeChunk, IsWholeGroup, groups_of_tree, page_free, pages_of_chunk}
 use Rattle.tsdb_pages.proofs.Places.{entries_stand}
 use Rattle.tsfile_reader.specs.declared.fault.ReadFault.{ReadFault}
 use Rattle.tsfile_reader.specs.declared.fault.ReadFault.TheVariants.{Failed, Damaged, Memory}
 use Rattle.tsfile_reader.specs.Answers.{Answers, IfDamaged, IsNotDamaged}
-use Rattle.tsfile_reader.specs.Page.{ArePointsOf, HasNoPage, HasPage, IsEntryOf, SaysOfPage}
+use Rattle.tsfile_reader.specs.Page.{ArePointsOf, BeginsWithPage, HasNoPage, HasPage, IsEntryOf, LieIn, SaysOfPage}
+use Rattle.tsfile_reader.proofs.PageTimes.{stats_lie}
 
 -- the page of the tree that the entry speaks of stands there
 pub record PageStands (tree : Tree) (bytes : List ℕ) (entry : IndexEntry) (number : ℕ) (said : PageEntry) : Type 0 where
@@ -36,10 +38,6 @@ pub record PageStands (tree : Tree) (bytes : List ℕ) (entry : IndexEntry) (num
   pub page-is : slice_get chunk.pages number ≡ Some page
   pub inside : said.place ≤ length bytes
   pub stands : HasPage bytes entry said page.points
-
--- the entry with another type and encoding
-abbrev with_kind : IndexEntry → DataType → Encoding → IndexEntry
-with_kind entry t c = record { device = entry.device; measurement = entry.measurement; data_type = t; encoding = c; place = entry.place; stats = entry.stats; pages = entry.pages }
 
 -- an element that is there
 there : {A : Type 0} (xs : List A) (k : ℕ) → k < length xs → (x : A) × (slice_get xs k ≡ Some x)
@@ -67,7 +65,8 @@ page_stands tree b entry number said is made file of says =
     let field : take (length (page_field p.chunk.encoding found.0)) (drop said.place b) ≡ page_field p.chunk.encoding found.0 =
     subst (λ (q : Page). take (length (page_field p.chunk.encoding q)) (drop said.place b) ≡ page_field p.chunk.encoding q) at_page (subst (λ (n : ℕ). take (length (page_field p.chunk.encoding (get_or p.chunk.pages number page))) (drop n b) ≡ page_field p.chunk.encoding (get_or p.chunk.pages number page)) place stands.stands.bytes-are) in
     let low_place = stands.stands.inside in
-    let there_is : HasPage b (with_kind entry p.chunk.data_type p.chunk.encoding) said found.0.points = record {
+    let stats : AreStatsOf found.0.points said.stats = subst (λ (q : PageEntry). AreStatsOf found.0.points q.stats) at_said (subst (λ (q : Page). AreStatsOf q.points (get_or entry.pages number said).stats) at_page stands.stats) in
+    let there_is : BeginsWithPage p.chunk.data_type p.chunk.encoding (drop said.place b) found.0.points = record {
       suits = whole.0.suits;
       good = good;
       behind = drop (length (page_field p.chunk.encoding found.0)) (drop said.place b);
@@ -82,17 +81,20 @@ page_stands tree b entry number said is made file of says =
       page = found.0;
       page-is = found.1;
       inside = omega (arith, low_place, place);
-      stands = kinds b said found.0.points entry p.chunk.data_type p.chunk.encoding p.says.type-is p.says.encoding-is there_is;
+      stands = record {
+        stands = kinds (drop said.place b) found.0.points entry p.chunk.data_type p.chunk.encoding p.says.type-is p.says.encoding-is there_is;
+        within = stats_lie found.0.points said.stats good.0.some good.0.rising stats;
+      };
     }
   where
-    kinds : (b : List ℕ) (said : PageEntry) (points : List Point) (entry : IndexEntry) (t : DataType) (c : Encoding) → entry.data_type ≡ t → entry.encoding ≡ c → HasPage b (with_kind entry t c) said points → HasPage b entry said points
-    kinds b said points entry t c same_type same_form has =
-        subst (λ (q : DataType). HasPage b (with_kind entry q entry.encoding) said points) (sym same_type) (subst (λ (q : Encoding). HasPage b (with_kind entry t q) said points) (sym same_form) has)
+    kinds : (bytes : List ℕ) (points : List Point) (entry : IndexEntry) (t : DataType) (c : Encoding) → entry.data_type ≡ t → entry.encoding ≡ c → BeginsWithPage t c bytes points → BeginsWithPage entry.data_type entry.encoding bytes points
+    kinds bytes points entry t c same_type same_form has =
+        subst (λ (q : DataType). BeginsWithPage q entry.encoding bytes points) (sym same_type) (subst (λ (q : Encoding). BeginsWithPage t q bytes points) (sym same_form) has)
 
 -- two pages that stand at one place are the same
-pub one_page_there : (b : List ℕ) (entry : IndexEntry) (said : PageEntry) (x y : Page) → HasPage b entry said x.points → HasPage b entry said y.points → x.points ≡ y.points
-one_page_there b entry said x y in_x in_y =
-    ap (λ (page : Page). page.points) (page_free entry.data_type entry.encoding in_x.suits x y in_x.behind in_y.behind in_x.good in_y.good (sym in_x.split ∙ in_y.split)).0
+pub one_page_there : (t : DataType) (c : Encoding) (bytes : List ℕ) (x y : Page) → BeginsWithPage t c bytes x.points → BeginsWithPage t c bytes y.points → x.points ≡ y.points
+one_page_there t c bytes x y in_x in_y =
+    ap (λ (page : Page). page.points) (page_free t c in_x.suits x y in_x.behind in_y.behind in_x.good in_y.good (sym in_x.split ∙ in_y.split)).0
 
 -- ---- the exits of reading a page
 
@@ -106,13 +108,14 @@ same_said entry number page said x y = some_same (slice_get entry.pages number) 
 
 -- no page stands behind the end of the file, or of a type that the encoding does not suit
 no_page : (b : List ℕ) (entry : IndexEntry) (page : PageEntry) (size : ℕ) → size ≡ length b → (size < page.place) ⊎ (is_suitable entry.data_type entry.encoding ≡ false) → HasNoPage b entry page
-no_page b entry page size len (inl high) = λ points has.
+no_page b entry page size len (inl high) = λ points has_points.
+    let has = has_points.stands in
     let n = length-drop page.place b in
     let m = ap length has.split in
     let k = length-append (page_bytes entry.encoding points) has.behind in
     absurd (omega (arith, len, high, n, m, k))
 no_page b entry page size len (inr unfit) = λ points has.
-    let fit = has.suits in
+    let fit = has.stands.suits in
     let clash : true ≡ false = sym fit ∙ unfit in
     absurd cc
 
@@ -134,6 +137,29 @@ pub found_points : (o : Option (List ℕ)) (entry : IndexEntry) (number : ℕ) (
 found_points None entry number page (Ok points) says answers = tt
 found_points (Some b) entry number page (Ok points) says answers = λ said other. subst (λ (q : PageEntry). HasPage b entry q points.items) (same_said entry number page said says other) answers
 found_points o entry number page (Err fault) says answers = tt
+
+-- the points lie in the range that the entry says
+pub within_said : (entry : IndexEntry) (number : ℕ) (page : PageEntry) (r : Result (Vec Point Global) ReadFault) → SaysOfPage entry number page → IfOk r (λ points. LieIn page.stats points.items)
+    → IfOk r (λ points. (said : PageEntry) → SaysOfPage entry number said → LieIn said.stats points.items)
+within_said entry number page (Ok points) says lie = λ said other. subst (λ (q : PageEntry). LieIn q.stats points.items) (same_said entry number page said says other) lie
+within_said entry number page (Err fault) says lie = tt
+
+-- the page that stands there lies in that range, or it does not
+pub page_within : (o : Option (List ℕ)) (entry : IndexEntry) (page : PageEntry) (points : List Point) → IfSome o (λ b. BeginsWithPage entry.data_type entry.encoding (drop page.place b) points) → LieIn page.stats points → IfSome o (λ b. HasPage b entry page points)
+page_within None entry page points stands lie = tt
+page_within (Some b) entry page points stands lie = record { stands = stands; within = lie }
+
+pub page_outside : (o : Option (List ℕ)) (entry : IndexEntry) (page : PageEntry) (points : List Point) → IfSome o (λ b. BeginsWithPage entry.data_type entry.encoding (drop page.place b) points) → (LieIn page.stats points → ⊥)
+    → IfSome o (λ b. (page.place ≡ page.place) × HasNoPage b entry page)
+page_outside None entry page points stands apart = tt
+page_outside (Some b) entry page points stands apart = (
+  refl,
+  λ others has.
+      let read : Page = record { points = points } in
+      let there : Page = record { points = others } in
+      let same : others ≡ points = one_page_there entry.data_type entry.encoding (drop page.place b) there read has.stands stands in
+      apart (subst (λ (l : List Point). LieIn page.stats l) same has.within),
+)
 
 pub damaged_place : (entry : IndexEntry) (number : ℕ) (page : PageEntry) (r : Result (Vec Point Global) ReadFault) → SaysOfPage entry number page → IfDamaged r (λ at. at ≡ page.place) → IfDamaged r (λ at. (said : PageEntry) → SaysOfPage entry number said → at ≡ said.place)
 damaged_place entry number page (Ok points) says is = tt
@@ -165,7 +191,7 @@ tree_points (Some b) entry number page (Ok points) says answers = λ tree is mad
         says = s.says;
         page = s.page;
         page-is = s.page-is;
-        points-are = one_page_there b entry page read s.page answers s.stands;
+        points-are = one_page_there entry.data_type entry.encoding (drop page.place b) read s.page answers.stands s.stands.stands;
       },
     )
 tree_points (Some b) entry number page (Err Failed) says answers = λ tree is made file of. (tt, tt)

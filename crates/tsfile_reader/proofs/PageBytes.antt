@@ -18,7 +18,7 @@ use Rattle.tsdb_pages.proofs.Bodies.{body_is_short}
 use Rattle.tsfile_reader.specs.declared.fault.ReadFault.{ReadFault}
 use Rattle.tsfile_reader.specs.Answers.{Answers, as_read_fault}
 use Rattle.tsdb_pages.specs.File.{page_bytes}
-use Rattle.tsfile_reader.specs.Page.{AreGood, HasNoPage, HasPage}
+use Rattle.tsfile_reader.specs.Page.{AreGood, BeginsWithPage, HasNoPage}
 use Rattle.tsfile_reader.specs.Steps.{HasPageBytes, SaysSize, body_bytes}
 
 -- what holds of what was returned
@@ -95,7 +95,7 @@ second_read (Some b) part again place size first left head is says more inside a
 
 -- the points that were read are those of the page
 pub page_found : (o : Option (List ℕ)) (entry : IndexEntry) (page : PageEntry) (part behind : List ℕ) (points : List Point) → is_suitable entry.data_type entry.encoding ≡ true → IfSome o (λ b. HasPageBytes b page.place part)
-    → part ≡ page_bytes entry.encoding points ++ behind → AreGood entry.data_type points → IfSome o (λ b. HasPage b entry page points)
+    → part ≡ page_bytes entry.encoding points ++ behind → AreGood entry.data_type points → IfSome o (λ b. BeginsWithPage entry.data_type entry.encoding (drop page.place b) points)
 page_found None entry page part behind points suits has is good = tt
 page_found (Some b) entry page part behind points suits has is good = record {
   suits = suits;
@@ -108,7 +108,8 @@ page_found (Some b) entry page part behind points suits has is good = record {
 
 -- where they begin with no page, none stands there
 no_page_there : (b : List ℕ) (entry : IndexEntry) (page : PageEntry) (part : List ℕ) → HasPageBytes b page.place part → BeginsWithNone (page_bytes entry.encoding) (AreGood entry.data_type) part → HasNoPage b entry page
-no_page_there b entry page part has none = λ points there.
+no_page_there b entry page part has none = λ points has_points.
+    let there = has_points.stands in
     let t = entry.data_type in
     let e = entry.encoding in
     let inner = body e points in

@@ -1,6 +1,7 @@
 -- One page of a file.
-use Rattle.std.specs.Prelude.{◌≡◌, ℕ, List, ◌++◌, drop, slice_get, Some, true, All, Contains}
+use Rattle.std.specs.Prelude.{◌≡◌, ◌≤ℤ◌, ℕ, List, ◌++◌, drop, slice_get, Some, true, All, Contains}
 use Rattle.tsdb_base.specs.declared.point.Point.{Point}
+use Rattle.tsdb_base.specs.declared.point.Stats.{Stats}
 use Rattle.tsdb_base.specs.declared.value.DataType.{DataType}
 use Rattle.tsdb_base.specs.declared.value.Encoding.{Encoding}
 use Rattle.tsdb_base.specs.Values.{is_suitable}
@@ -25,11 +26,16 @@ pub record BeginsWithPage (data_type : DataType) (encoding : Encoding) (bytes : 
   pub behind : List ℕ
   pub split : bytes ≡ page_bytes encoding points ++ behind
 
--- the page with this number in the entry stands at its place in the file, and has these points
-abbrev pub HasPage : List ℕ → IndexEntry → PageEntry → List Point → Type 0
-HasPage bytes entry page points = BeginsWithPage entry.data_type entry.encoding (drop page.place bytes) points
+-- each point lies between the first and the last time of the statistics
+abbrev pub LieIn : Stats → List Point → Type 0
+LieIn stats points = All (λ point. (stats.start ≤ℤ point.time) × (point.time ≤ℤ stats.end)) points
 
--- at the place of the page with this number in the entry stands no page of its type and encoding
+-- the page of which the entry says this stands at its place in the file, and has these points
+pub record HasPage (bytes : List ℕ) (entry : IndexEntry) (page : PageEntry) (points : List Point) : Type 0 where
+  pub stands : BeginsWithPage entry.data_type entry.encoding (drop page.place bytes) points
+  pub within : LieIn page.stats points
+
+-- at the place of which the entry says this stands no page of its type, its encoding and these times
 abbrev pub HasNoPage : List ℕ → IndexEntry → PageEntry → Type 0
 HasNoPage bytes entry page = (points : List Point) → HasPage bytes entry page points → ⊥
 

@@ -1,8 +1,8 @@
 //! Reading the entry of one series, without the leaves that cannot have it. Depends on `ends`, `fault`, `port`,
 //! tsdb_index and tsdb_path.
-ghost use Rattle.std.specs.Prelude.{◌≡◌, ◌<◌, ◌≤◌, ◌^◌, List, length, map, IfOk, IfSome};
+ghost use Rattle.std.specs.Prelude.{◌≡◌, ◌<◌, ◌≤◌, ◌^◌, List, All, length, map, IfOk, IfSome};
 ghost use Rattle.tsdb_index.specs.declared.index.IndexEntry.{IndexEntry as Entry};
-ghost use Rattle.tsdb_index.specs.Entries.{AreInOrder, IsBefore, names_of};
+ghost use Rattle.tsdb_index.specs.Entries.{AreInOrder, IsBefore, IsEntry, names_of};
 ghost use Rattle.tsdb_index.specs.Parts.{IsLeaf, end_of as leaf_end};
 ghost use Rattle.tsdb_pages.specs.declared.tree.Tree.{Tree as TreeIn};
 ghost use Rattle.tsdb_pages.specs.File.{IsFile};
@@ -36,6 +36,7 @@ fn read_one_leaf<P: Port>(
         → IsLeaf pointer.now behind.now (leaf_bytes root pointer.now behind.now bytes) entries → ⊥))
         (P.Right.file right.now).bytes result }
     ensures order { IfOk result (λ entries. AreInOrder IsBefore (map names_of entries.items)) }
+    ensures formed { IfOk result (λ entries. All IsEntry entries.items) }
     ensures same_store { P.store port.new ≡ P.store port.old }
     ensures cause { HasReadCause (P.faults port.old) (P.faults port.new) result }
 {
@@ -60,6 +61,8 @@ fn look_up<P: Port>(
         (λ bytes. IsBadLookUp bytes (device.now, measurement.now)) (P.Right.file right.now).bytes result }
     ensures limit { Answers (λ bytes found. length bytes < 2 ^ 63) (λ bytes at. length bytes < 2 ^ 63)
         (P.Right.file right.now).bytes result }
+    ensures formed { IfOk result (λ found. IfSome found IsEntry) }
+    ensures named { IfOk result (λ found. IfSome found (λ entry. names_of entry ≡ (device.now, measurement.now))) }
     ensures same_store { P.store port.new ≡ P.store port.old }
     ensures cause { HasReadCause (P.faults port.old) (P.faults port.new) result }
 {
@@ -87,6 +90,8 @@ pub fn find_entry<P: Port>(
     ensures tree { IfSome (P.Right.file right.now).bytes (λ bytes. (tree : TreeIn) → IsTree tree → IsMade tree
         → IsFile tree bytes
         → IsNotDamaged result × IfOk result (IsEntryInTree tree (device.now, measurement.now))) }
+    ensures formed { IfOk result (λ found. IfSome found IsEntry) }
+    ensures named { IfOk result (λ found. IfSome found (λ entry. names_of entry ≡ (device.now, measurement.now))) }
     ensures same_store { P.store port.new ≡ P.store port.old }
     ensures cause { HasReadCause (P.faults port.old) (P.faults port.new) result }
 {

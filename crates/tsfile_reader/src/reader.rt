@@ -1,16 +1,17 @@
 //! The calls that read a file. Depends on `port`, `parts`, `page`, `same` and `fault`.
-ghost use Rattle.std.specs.Prelude.{◌≡◌, ◌+◌, ◌<◌, ◌≤◌, ◌∷◌, ◌++◌, List, true, length, IfOk, IfSome};
+ghost use Rattle.std.specs.Prelude.{◌≡◌, ◌+◌, ◌<◌, ◌≤◌, ◌↔◌, ◌∷◌, ◌++◌, IsTrue, List, true, length, IfOk, IfSome};
 ghost use Rattle.tsdb_base.specs.Values.{is_suitable};
 ghost use Rattle.tsdb_index.specs.declared.index.PageEntry.{PageEntry as Said};
 ghost use Rattle.tsdb_index.specs.declared.pointer.Pointer.{Pointer as Pointed};
 ghost use Rattle.tsdb_pages.specs.declared.tree.Tree.{Tree as TreeIn};
 ghost use Rattle.tsdb_pages.specs.File.{IsFile};
+ghost use Rattle.tsdb_pages.specs.Pages.{IsRising};
 ghost use Rattle.tsdb_pages.specs.Trees.{IsMade, IsTree};
 ghost use Rattle.tsfile_reader.specs.Answers.{Answers, HasReadCause, IfDamaged, IsNotDamaged};
 ghost use Rattle.tsfile_reader.specs.Blame.{AreAlike, IsBlamed, IsMetaOfTree, IsNoFile};
 ghost use Rattle.tsfile_reader.specs.Meta.{IsMetaIn, IsMetaOf};
 ghost use Rattle.tsfile_reader.specs.Outline.{IsBadOutline};
-ghost use Rattle.tsfile_reader.specs.Page.{ArePointsOf, HasNoPage, HasPage, IsEntryOf, SaysOfPage};
+ghost use Rattle.tsfile_reader.specs.Page.{AreGood, ArePointsOf, HasNoPage, HasPage, IsEntryOf, LieIn, SaysOfPage};
 ghost use Rattle.tsfile_reader.specs.Steps.{HasPageBytes, IsFirstWrong, SaysSize};
 
 use crate::ends::Outline;
@@ -21,7 +22,7 @@ use crate::parts::read_groups;
 use crate::port::{read_outline, read_part};
 use crate::same::is_same_entry;
 use std::alloc::Global;
-use tsdb_base::{Point, suits};
+use tsdb_base::{Point, Stats, suits};
 use tsdb_fields::Rest;
 use tsdb_index::{FileMeta, IndexEntry, PageEntry};
 use tsdb_outside::Port;
@@ -32,8 +33,14 @@ const LEAF_ENTRIES: usize = 256;
 /// How many bytes a page has before its body.
 const PAGE_HEAD_BYTES: u64 = 5;
 
-/// How many bytes are read of the last page of a chunk, whose end the index does not say. A page of numbers has fewer.
+/// The most bytes that are read at first of the last page of a chunk, whose end the index does not say.
 const LAST_PAGE_BYTES: u64 = 32_768;
+
+/// How many of them are read for each point that the index says of the page, and how many beside. A page of numbers
+/// has fewer.
+const POINT_BYTES: u64 = 24;
+
+const OTHER_BYTES: u64 = 64;
 
 /// Reads the length and the index of a file, by its tail, head, root and leaves alone.
 pub fn read_meta<P: Port>(
@@ -65,7 +72,8 @@ fn first_size(entry: &IndexEntry, page: usize, left: u64) -> u64
     let size = if page + 1 < pages.len() {
         pages[page + 1].place.saturating_sub(pages[page].place)
     } else {
-        LAST_PAGE_BYTES
+        let points = pages[page].stats.count.saturating_mul(POINT_BYTES);
+        points.saturating_add(OTHER_BYTES).min(LAST_PAGE_BYTES)
     };
     size.max(PAGE_HEAD_BYTES).min(left)
 }
@@ -110,6 +118,15 @@ fn read_page_bytes<P: Port>(
     read_part(alloc, port, right, place, size)
 }
 
+/// Whether points in order of time lie between the first and the last time of the statistics.
+fn lie_in(points: &[Point], stats: &Stats) -> bool
+    requires some { 0 < length points.now }
+    requires rising { IsRising points.now }
+    ensures { IsTrue result ↔ LieIn stats.now points.now }
+{
+    stats.start <= points[0].time && points[points.len() - 1].time <= stats.end
+}
+
 /// Reads the points of the page of which the entry says this, where its file has so many bytes from the page on.
 fn read_points_at<P: Port>(
     alloc: Global,
@@ -127,6 +144,8 @@ fn read_points_at<P: Port>(
     ensures answers { Answers (λ bytes points. HasPage bytes entry.now page.now points.items)
         (λ bytes at. (at ≡ page.now.place) × HasNoPage bytes entry.now page.now) (P.Right.file right.now).bytes result }
     ensures place { IfDamaged result (λ at. at ≡ page.now.place) }
+    ensures points { IfOk result (λ points. AreGood entry.now.data_type points.items) }
+    ensures within { IfOk result (λ points. LieIn page.now.stats points.items) }
     ensures same_store { P.store port.new ≡ P.store port.old }
     ensures cause { HasReadCause (P.faults port.old) (P.faults port.new) result }
 {
@@ -137,13 +156,18 @@ fn read_points_at<P: Port>(
         bytes: &bytes,
     };
     match read_page(alloc, entry.data_type, entry.encoding, rest) {
-        Ok((points, _behind)) => Ok(points),
+        Ok((points, _behind)) => {
+            if !lie_in(&points, &page.stats) {
+                return Err(ReadFault::Damaged { at: page.place });
+            }
+            Ok(points)
+        }
         Err(fault) => Err(ReadFault::of_part(fault, page.place)),
     }
 }
 
 /// Reads the points of a page. It is `Damaged` at the page's place where no page of the entry's type and encoding
-/// stands there.
+/// stands there, of which each point lies in the range of times that the entry says of it.
 pub fn read_points<P: Port>(
     alloc: Global,
     port: &mut P,
@@ -155,6 +179,9 @@ pub fn read_points<P: Port>(
     requires store { (P.Right.file right.now).store ≡ P.store port.old }
     ensures found { IfOk result (λ points. IfSome (P.Right.file right.now).bytes (λ bytes.
         (said : Said) → SaysOfPage entry.now page said → HasPage bytes entry.now said points.items)) }
+    ensures points { IfOk result (λ points. AreGood entry.now.data_type points.items) }
+    ensures within { IfOk result (λ points. (said : Said) → SaysOfPage entry.now page said
+        → LieIn said.stats points.items) }
     ensures damaged { IfDamaged result (λ at. (said : Said) → SaysOfPage entry.now page said → at ≡ said.place) }
     ensures bad { IfDamaged result (λ at. IfSome (P.Right.file right.now).bytes (λ bytes.
         (said : Said) → SaysOfPage entry.now page said → HasNoPage bytes entry.now said)) }

@@ -6,7 +6,7 @@ use Rattle.tsdb_index.specs.Parts.{IsLeaf}
 use Rattle.tsfile_reader.specs.declared.ends.Front.{Front}
 use Rattle.tsfile_reader.specs.LookUp.{IsLookedUp, leaf_bytes}
 use Rattle.tsfile_reader.specs.Steps.{IsFrontIn}
-use Rattle.tsfile_reader.proofs.Finds.{entry_found, file_long, front_refused, leaf_bounds, leaf_refused, limit_known, limit_refused, none_found}
+use Rattle.tsfile_reader.proofs.Finds.{entry_formed, entry_found, entry_named, front_refused, leaf_bounds, leaf_refused, limit_known, limit_refused, none_found}
 use Rattle.tsfile_reader.proofs.finding.look_up.Goals as goal
 
 pub leaf_for-requires : goal.leaf_for-requires
@@ -60,3 +60,9 @@ read_one_leaf-requires-clause-from g c =
 pub read_one_leaf-requires-clause-to : goal.read_one_leaf-requires-clause-to
 read_one_leaf-requires-clause-to g c =
     λ lifetimes lives. (leaf_bounds c.in_ok-front.front (c.args.device.now, c.args.measurement.now) c.deref.result.now c.in-Some.pointer.now c.in-Some.behind.now c.deref.ensures.value c.in_ok-front.ensures.root c.in-Some.ensures).to
+
+pub returns-clause-formed : goal.returns-clause-formed
+returns-clause-formed g c = entry_formed (c.args.device.now, c.args.measurement.now) c.in_ok-entries.entries.items c.entry_for.result c.entry_for.ensures c.in_ok-entries.ensures.formed
+
+pub returns-clause-named : goal.returns-clause-named
+returns-clause-named g c = entry_named (c.args.device.now, c.args.measurement.now) c.in_ok-entries.entries.items c.entry_for.result c.entry_for.ensures

@@ -2,7 +2,7 @@ use Rattle.std.proofs.Common.{Vec, Global, Err}
 use Rattle.tsdb_index.specs.declared.index.Index.{Index}
 use Rattle.tsdb_index.specs.declared.index.IndexEntry.{IndexEntry}
 use Rattle.tsfile_reader.specs.Steps.{IsOutlineIn}
-use Rattle.tsfile_reader.proofs.Outlines.{leaves_bad, leaves_found, part_inside, short_file, spread_read}
+use Rattle.tsfile_reader.proofs.Outlines.{leaves_bad, leaves_found, short_file, spread_read}
 use Rattle.tsfile_reader.proofs.port.read_leaves.Goals as goal
 
 pub read_leaves-requires : goal.read_leaves-requires

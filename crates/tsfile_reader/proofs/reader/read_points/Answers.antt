@@ -3,7 +3,7 @@ use Rattle.std.proofs.lemmas.Option.{slice_get_read}
 use Rattle.tsdb_base.specs.Values.{is_suitable}
 use Rattle.tsdb_index.specs.declared.index.PageEntry.{PageEntry}
 use Rattle.tsfile_reader.specs.Page.{SaysOfPage}
-use Rattle.tsfile_reader.proofs.OfTree.{bad_page, damaged_place, found_points, refused, refused_tree, tree_points}
+use Rattle.tsfile_reader.proofs.OfTree.{bad_page, damaged_place, found_points, refused, refused_tree, tree_points, within_said}
 use Rattle.tsfile_reader.proofs.reader.read_points.Goals as goal
 use Rattle.tsfile_reader.proofs.reader.read_points.Goals.{then-size-said-via-then-size-said, then-size-said-via-else-size-said+then-not-suits}
 
@@ -54,3 +54,10 @@ returns-clause-tree g c =
     let page = c.index-items-page.result in
     let says : SaysOfPage e c.args.page page = slice_get_read e.pages _ c.args.page page refl c.requires.page (subst (λ (l : List PageEntry). c.index-items-page.result ≡ get_or l c.args.page c.index-items-page.result) c.items.ensures c.index-items-page.is) in
     tree_points (g.P.Right.ReadRight.file c.args.right.now).bytes e c.args.page page c.read_points_at.result says c.read_points_at.ensures.answers
+
+pub returns-clause-within : goal.returns-clause-within
+returns-clause-within g c =
+    let e = c.args.entry.now in
+    let page = c.index-items-page.result in
+    let says : SaysOfPage e c.args.page page = slice_get_read e.pages _ c.args.page page refl c.requires.page (subst (λ (l : List PageEntry). c.index-items-page.result ≡ get_or l c.args.page c.index-items-page.result) c.items.ensures c.index-items-page.is) in
+    within_said e c.args.page page c.read_points_at.result says c.read_points_at.ensures.within
