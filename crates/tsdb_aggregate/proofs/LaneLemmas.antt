@@ -1,12 +1,12 @@
 -- A lane whose pieces are loaded one behind the other.
-use Rattle.std.proofs.Common.{◌≡◌, ℕ, suc, ◌+◌, ◌^◌, ◌<◌, ◌≤◌, List, [], ◌∷◌, length, get_or, set, Option, None, Some, Result, Ok, sym, ap, ◌∙◌, subst, arith, rules}
+use Rattle.std.proofs.Common.{◌≡◌, ℕ, suc, ◌+◌, ◌^◌, ◌<◌, ◌≤◌, Bool, true, List, [], ◌∷◌, ◌++◌, length, get_or, set, Option, None, Some, Result, Ok, refl, sym, ap, ◌∙◌, subst, arith, rules}
 use Rattle.std.specs.Prelude.{⊤, All, IfSome}
 use Rattle.std.specs.Vec.Iter.{into_iter_items}
 use Rattle.std.proofs.lemmas.List.{get_or-map, get_or-set_same, length-set}
 use Rattle.std.proofs.lemmas.List.Elements.{All-tail}
 use Rattle.std.proofs.lemmas.List.Sums.{sum_by-cons}
 use Rattle.tsdb_base.specs.declared.point.Point.{Point}
-use Rattle.tsdb_merge.specs.Supplies.{left_at}
+use Rattle.tsdb_merge.specs.Supplies.{Moves, left_at}
 use Rattle.tsdb_merge.specs.declared.points.PullFault.{PullFault}
 use Rattle.tsdb_aggregate.specs.Lanes.{HasPlaces, SpendsDown, append_told, cost_behind, lane_cost, lane_left, lane_most, lefts, told_behind}
 use Rattle.tsdb_aggregate.specs.Loads.{Held, LoaderState, Spends, held_at}
@@ -62,6 +62,41 @@ loaded a b c p q r lane now next into more points place h end first rest below n
       left = λ all e. ap (λ ps. append_told (Some ps) (told_behind a.held waiting)) rest ∙ loaded_told (held_at a.held place).points (told_behind a.held waiting) points one all (sym left ∙ h.left all e);
       most = omega (arith, most, long, size, below);
       spends = spends_loaded a b c p q r (lane_cost a.held lane) (into_iter_items now.waiting) place waiting (Ok tt) first h.spends load;
+    }
+
+-- where a piece is handed on whole, the lane goes on behind it
+moves_piece : (before piece behind : Option (List Point)) (points : List Point) → IfSome piece (λ told. points ≡ told) → StaysTold before (append_told (Some []) (append_told piece behind)) → Moves before true points (append_told (Some []) behind)
+moves_piece None piece behind points is stays = tt
+moves_piece (Some all) None behind points is stays = absurd (let e : None ≡ Some all = stays all refl in cc)
+moves_piece (Some all) (Some told) None points is stays = absurd (let e : None ≡ Some all = stays all refl in cc)
+moves_piece (Some all) (Some told) (Some later) points is stays =
+    let e : Some (told ++ later) ≡ Some all = stays all refl in
+    let same : told ++ later ≡ all = cc in
+    rw is (sym same)
+
+-- a piece was loaded behind the end of the one before it, and handed on whole
+pub record IsHandedOn (before now : LoaderState) (pages pages_now : ℕ) (lane lane_now : Lane) (points : List Point) : Type 0 where
+  pub moved : Moves (lane_left before.held lane) true points (lane_left before.held lane_now)
+  pub most : length points + lane_most lane_now ≤ lane_most lane
+  pub places : HasPlaces (length before.held) lane_now
+  pub spends : SpendsDown {T = Bool} (lane_cost before.held lane) (lane_cost before.held lane_now) before now pages pages_now (Ok true)
+
+pub handed_on : (a b c : LoaderState) (p q r : ℕ) (lane now next : Lane) (into points : List Point) (place : ℕ) → IsStillFilling a b p q lane now into
+    → into_iter_items now.rest ≡ [] → into_iter_items now.waiting ≡ place ∷ into_iter_items next.waiting → into_iter_items next.rest ≡ [] → length points ≤ 1000
+    → IfSome (held_at b.held place).points (λ told. points ≡ told) → Spends {T = Bool} (held_at b.held place).cost b c q r (Ok true) → IsHandedOn a c p r lane next points
+handed_on a b c p q r lane now next into points place h end first rest below found load =
+    let waiting = into_iter_items next.waiting in
+    let left : lane_left a.held now ≡ append_told (Some []) (append_told (held_at a.held place).points (told_behind a.held waiting)) = ap (λ ps. append_told (Some ps) (told_behind a.held (into_iter_items now.waiting))) end ∙ ap (λ ks. append_told (Some []) (told_behind a.held ks)) first in
+    let one : IfSome (held_at a.held place).points (λ told. points ≡ told) = subst (λ hs. IfSome (held_at hs place).points (λ told. points ≡ told)) h.spends.spends.held found in
+    let most = h.most in
+    let long : length (into_iter_items now.waiting) ≡ suc (length waiting) = ap length first in
+    let size : length (into_iter_items next.rest) ≡ 0 = ap length rest in
+    let none : append_told (Some []) (told_behind a.held waiting) ≡ lane_left a.held next = ap (λ ps. append_told (Some ps) (told_behind a.held waiting)) (sym rest) in
+    record {
+      moved = subst (λ after. Moves (lane_left a.held lane) true points after) none (moves_piece (lane_left a.held lane) (held_at a.held place).points (told_behind a.held waiting) points one (λ all e. sym left ∙ h.left all e));
+      most = omega (arith, most, long, size, below);
+      places = All-tail (λ k. k < length a.held) place waiting (subst (λ ks. All (λ k. k < length a.held) ks) first h.places);
+      spends = spends_loaded a b c p q r (lane_cost a.held lane) (into_iter_items now.waiting) place waiting (Ok true) first h.spends load;
     }
 
 -- ---- one lane of several

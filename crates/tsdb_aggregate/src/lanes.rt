@@ -1,6 +1,6 @@
 //! The pieces of a group as sources of a merge, each loaded when the merge comes to it. It depends on `entry` and
 //! `loader`, and on `tsdb_merge`.
-ghost use Rattle.std.specs.Prelude.{◌≡◌, ◌+◌, ◌<◌, ◌≤◌, ◌∷◌, [], ⊤, All, IfOk, Ok, length, refl, sum_by};
+ghost use Rattle.std.specs.Prelude.{◌≡◌, ◌+◌, ◌<◌, ◌≤◌, ◌∷◌, [], ⊤, All, IfOk, IsTrue, Ok, length, refl, sum_by, true};
 ghost use Rattle.std.specs.Vec.Iter.{into_iter_items};
 ghost use Rattle.tsdb_merge.specs.Supplies.{IsFilled, KeepsOthers, Moves, left_at};
 ghost use Rattle.tsdb_aggregate.specs.Lanes.{HasPlaces, IsTaken, SpendsDown, lane_cost, lane_left, lane_most, lefts};
@@ -41,7 +41,15 @@ fn move_some(rest: &mut IntoIter<Point>, into: &mut Vec<Point>) -> Result<bool, 
     Ok(true)
 }
 
-/// Moves the next points of a lane. Its pieces are loaded one behind the other until one has a point.
+/// Whether these points can be moved at once.
+fn is_filled(points: &[Point]) -> bool
+    ensures { IsTrue result → IsFilled true points.now }
+{
+    !points.is_empty() && points.len() <= MOST_MOVED
+}
+
+/// Moves the next points of a lane. Its pieces are loaded one behind the other until one has a point. A piece of at
+/// most 1,000 points is handed on as it is.
 fn fill_lane<D: Loader, L: Ledger>(
     alloc: Global,
     lane: &mut Lane,
@@ -67,6 +75,10 @@ fn fill_lane<D: Loader, L: Ledger>(
             return Ok(false);
         };
         let points = loader.load(alloc, place, pages)?;
+        if is_filled(&points) {
+            *into = points;
+            return Ok(true);
+        }
         lane.rest = points.into_iter();
     }
 }
