@@ -1,0 +1,177 @@
+//! Logs that are read and replayed, and damaged ones, over places in memory.
+use mem_outside::{Fails, MemPlace};
+use std::alloc::Global;
+use std::test::Fail;
+use tsdb_base::Space;
+use tsdb_opening::Opening;
+use tsdb_outside::Place;
+use tsdb_recover::{OpenFault, OpenRefused, Part, read_log};
+
+/// The log of a created series and an insert, as its format describes them.
+const WORKED: [u8; 54] = [
+    1, 0, 0, 0, 15, 1, 0, 10, 114, 111, 111, 116, 46, 103, 46, 100, 46, 115, 2, 0, // at 0
+    1, 0, 0, 0, 28, 2, 0, 0, 0, 0, 0, 0, 0, 1, 0, 1, 0, 0, 0, 0, 0, 0, 0, 0, 2, 0, 0, 0, 0, 0, 0,
+    0, 5, // at 20
+    0, // at 53
+];
+
+/// A place with these bytes in slot A, the journal of which fails at these writes and syncs.
+fn place_of(alloc: Global, bytes: &[u8], fails: &[u64]) -> Result<MemPlace, Fail> {
+    let slots = [bytes.to_vec(alloc)?, vec![in alloc; 0]?];
+    let fails = Fails {
+        journal: fails.to_vec(alloc)?,
+        files: Vec::new(alloc),
+    };
+    Ok(MemPlace::new(alloc, slots, Vec::new(alloc), fails)?)
+}
+
+/// What came of a log: its stamp, and how many frozen pairs and sequence files it has; or the place where it is damaged.
+#[derive(Clone, Copy, Debug, PartialEq, Eq)]
+enum Outcome {
+    Read(u64, usize, usize),
+    Damaged(u64),
+    Other,
+}
+
+fn shown(opening: &Opening) -> Outcome {
+    Outcome::Read(
+        opening.memory().stamp(),
+        opening.memory().frozen().len(),
+        opening.files(Space::Sequence).len(),
+    )
+}
+
+fn refused(fault: OpenFault) -> Outcome {
+    match fault {
+        OpenFault::Damaged {
+            part: Part::Log,
+            at,
+        } => Outcome::Damaged(at),
+        _ => Outcome::Other,
+    }
+}
+
+/// Reads the log of a place.
+fn read<P: Place>(alloc: Global, place: &mut P) -> Result<Outcome, Fail> {
+    let (journal, files) = place.take_up(b"d")?;
+    match read_log(alloc, journal) {
+        Ok((log, opening)) => {
+            place.put_down(log.end(), files);
+            Ok(shown(&opening))
+        }
+        Err(outcome) => {
+            let OpenRefused { journal, fault } = outcome;
+            place.put_down(journal, files);
+            Ok(refused(fault))
+        }
+    }
+}
+
+/// What comes of a log of these bytes, whose journal fails at these writes and syncs.
+fn outcome_of(alloc: Global, bytes: &[u8], fails: &[u64]) -> Result<Outcome, Fail> {
+    let mut place = place_of(alloc, bytes, fails)?;
+    read(alloc, &mut place)
+}
+
+/// So many bytes of the worked log with other bytes at a place, which may pass its end.
+fn changed(alloc: Global, length: usize, at: usize, bytes: &[u8]) -> Result<Vec<u8>, Fail> {
+    let mut log = WORKED.to_vec(alloc)?;
+    log.truncate(length);
+    for (index, byte) in bytes.iter().enumerate() {
+        match log.get_mut(at.saturating_add(index)) {
+            Some(old) => *old = *byte,
+            None => log.push(*byte)?,
+        }
+    }
+    Ok(log)
+}
+
+/// So many bytes of the worked log with other bytes at a place, and what comes of it: a damaged log has the place of the
+/// gate of the first record that is torn or has no replay.
+const CHANGED: [(usize, usize, &[u8], Outcome); 15] = [
+    (54, 0, &[], Outcome::Read(2, 0, 0)),
+    // torn at the gate of the insert
+    (40, 0, &[], Outcome::Damaged(20)),
+    // with that gate closed the series is there, without a point
+    (40, 20, &[0], Outcome::Read(1, 0, 0)),
+    // a series that is not there
+    (54, 43, &[1], Outcome::Damaged(20)),
+    // the type of a shorter value
+    (54, 44, &[1], Outcome::Damaged(20)),
+    // an encoding that does not suit the type; the record behind it is torn
+    (54, 19, &[1, 1, 255], Outcome::Damaged(0)),
+    // a freeze where there is no point
+    (54, 4, &[1, 4, 0], Outcome::Damaged(0)),
+    // a length of 0
+    (54, 4, &[0], Outcome::Damaged(0)),
+    // bytes of no kind
+    (54, 25, &[9], Outcome::Damaged(20)),
+    // no byte
+    (0, 0, &[], Outcome::Damaged(0)),
+    // a freeze
+    (54, 53, &[1, 0, 0, 0, 1, 4, 0], Outcome::Read(2, 1, 0)),
+    // a flush to file 1
+    (
+        54,
+        53,
+        &[
+            1, 0, 0, 0, 1, 4, 1, 0, 0, 0, 17, 5, 0, 0, 0, 0, 0, 0, 0, 1, 0, 0, 0, 0, 0, 0, 0, 0, 0,
+        ],
+        Outcome::Read(2, 0, 1),
+    ),
+    // a flush to a file of no number
+    (
+        54,
+        53,
+        &[
+            1, 0, 0, 0, 1, 4, 1, 0, 0, 0, 17, 5, 128, 0, 0, 0, 0, 0, 0, 0, 0, 0, 0, 0, 0, 0, 0, 0,
+            0,
+        ],
+        Outcome::Damaged(59),
+    ),
+    // a flush of a part that is empty
+    (
+        54,
+        53,
+        &[
+            1, 0, 0, 0, 1, 4, 1, 0, 0, 0, 17, 5, 0, 0, 0, 0, 0, 0, 0, 1, 0, 0, 0, 0, 0, 0, 0, 2, 0,
+        ],
+        Outcome::Damaged(59),
+    ),
+    // a flush where no pair is frozen
+    (
+        54,
+        53,
+        &[
+            1, 0, 0, 0, 17, 5, 0, 0, 0, 0, 0, 0, 0, 1, 0, 0, 0, 0, 0, 0, 0, 0, 0,
+        ],
+        Outcome::Damaged(53),
+    ),
+];
+
+/// The first of the changed logs of which something else comes.
+fn first_wrong(
+    alloc: Global,
+    cases: &[(usize, usize, &[u8], Outcome)],
+) -> Result<Option<usize>, Fail> {
+    for (case, (length, at, bytes, wanted)) in cases.iter().enumerate() {
+        let log = changed(alloc, *length, *at, bytes)?;
+        if outcome_of(alloc, &log, &[])? != *wanted {
+            return Ok(Some(case));
+        }
+    }
+    Ok(None)
+}
+
+#[test]
+fn damage_is_answered_with_its_place(rt: HostRuntime) -> Result<(), Fail> {
+    assert_eq!(rt; first_wrong(rt.alloc(), &CHANGED)?, None);
+    Ok(())
+}
+
+#[test]
+fn nothing_is_written(rt: HostRuntime) -> Result<(), Fail> {
+    let outcome = outcome_of(rt.alloc(), &WORKED, &[1])?;
+    assert_eq!(rt; outcome, Outcome::Read(2, 0, 0));
+    Ok(())
+}
