@@ -1,0 +1,4 @@
+pub mod Order
+pub mod Says
+pub mod Summaries
+pub mod Parts
