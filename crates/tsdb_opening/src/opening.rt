@@ -92,6 +92,19 @@ impl Opening {
         &self.memory
     }
 
+    /// What is in memory, for the engine that goes on with it.
+    pub fn into_memory(self) -> MemoryStore
+        ensures { (recorded : Recorded) → IsOpeningOf self recorded → IsMemoryOf result recorded.store }
+    {
+        let Opening {
+            alloc: _,
+            memory,
+            files: _,
+            named: _,
+        } = self;
+        memory
+    }
+
     /// The files of a list, in its order.
     pub fn files(&self, space: Space) -> &[ListedFile]
         ensures { (recorded : Recorded) → IsOpeningOf self.now recorded
