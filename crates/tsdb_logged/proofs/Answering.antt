@@ -1,12 +1,13 @@
 -- What a change answers whose record was appended, or whose append failed.
-use Rattle.std.proofs.Common.{◌≡◌, ℕ, List, None, Result, Ok, Err}
+use Rattle.std.proofs.Common.{◌≡◌, ◌∙◌, ℕ, List, [], ◌∷◌, ◌++◌, None, Result, Ok, Err, ap}
 use Rattle.std.specs.Prelude.{◌<◌, IsSome}
 use Rattle.std.specs.Result.{IsErr}
 use Rattle.tsdb_base.specs.declared.fault.Memory as fault
 use Rattle.tsdb_base.specs.declared.answers.Answer.TheVariants.{Done}
 use Rattle.tsdb_logged.specs.Answers.{IsAccepted, IsCreateAnswer, IsDeleteAnswer, IsFreezeAnswer, answer_by}
 use Rattle.tsdb_memory.specs.Shown.{number_of}
-use Rattle.tsdb_memory.specs.Store.{Store}
+use Rattle.tsdb_memory.specs.Store.{FrozenPair, Store, frozen_with_working}
+use Rattle.tsdb_memtable.specs.Pairs.{Pair}
 use Rattle.tsdb_outside.specs.declared.faults.Failed.{Failed}
 use Rattle.tsdb_state.specs.Limits.{end_of_numbers}
 
@@ -38,3 +39,14 @@ freeze_answered (Err memory) = tt
 pub err_not_done : (result : Result (Result (Unit {0}) Failed) fault.Memory) → IsErr result → answer_by result ≡ Done → ⊥
 err_not_done (Ok outcome) is done = cc
 err_not_done (Err memory) is done = cc
+
+-- the frozen pairs after a freeze depend on the pairs and the stamp alone
+pub same_frozen : (old new : Store) → new.frozen ≡ old.frozen → new.stamp ≡ old.stamp → new.working ≡ old.working
+    → frozen_with_working new ≡ frozen_with_working old
+same_frozen old new frozen stamp working =
+    ap (λ (f : List FrozenPair). made f new.stamp new.working) frozen
+    ∙ ap (λ (n : ℕ). made old.frozen n new.working) stamp
+    ∙ ap (λ (p : Pair). made old.frozen old.stamp p) working
+  where
+    made : List FrozenPair → ℕ → Pair → List FrozenPair
+    made frozen stamp working = frozen ++ record { born = stamp; pair = working } ∷ []

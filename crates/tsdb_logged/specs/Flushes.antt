@@ -1,12 +1,12 @@
 -- What the commit of a flush leaves.
-use Rattle.std.specs.Prelude.{◌≡◌, ◌≤◌, List, Option, Result, OnErr, OnOk}
+use Rattle.std.specs.Prelude.{◌≡◌, ◌≤◌, List, Option, Result, OnErr, OnOk, drop}
 use Rattle.std.specs.List.{AllByRecursion as Each}
 use Rattle.tsdb_base.specs.declared.ids.FileNumber.{FileNumber}
 use Rattle.tsdb_base.specs.declared.ids.Stamp.{Stamp}
 use Rattle.tsdb_frames.specs.Frames.{faults_of, slot_of}
 use Rattle.tsdb_images.specs.Stored.{IsKept, built_files}
 use Rattle.tsdb_log.specs.declared.record.LogRecord.TheVariants.{Flushed}
-use Rattle.tsdb_logged.specs.Logged.{IsFaulted, IsSound, LeavesWorlds, Outside, log_of, room_of, with_record}
+use Rattle.tsdb_logged.specs.Logged.{IsFaulted, IsSound, LeavesWorlds, Outside, log_of, memory_of, room_of, with_record}
 use Rattle.tsdb_logged.specs.declared.logged.Logged.{Logged}
 use Rattle.tsdb_memory.specs.Least.{IsLeastOf}
 use Rattle.tsdb_memory.specs.Shown.{file_borns}
@@ -42,6 +42,8 @@ module _ {J : Type 0} {means : disk.Ghosts J} {counts : counted.Ghosts J} where
     pub moments : (outside : Outside) (state : EngineState) (flush : FlushJob) (others : List FlushJob)
         → IsSound old outside state → CanCommit sequence unsequence listed outside state flush others
         → LeavesWorlds old new outside state (flush_record flush)
+    pub pair : OnOk outcome ((memory_of new).frozen ≡ drop 1 (memory_of old).frozen)
+    pub no_pair : OnErr outcome ((memory_of new).frozen ≡ (memory_of old).frozen)
     pub room : room_of old ≤ room_of new
     pub slot : slot_of (log_of new) ≡ slot_of (log_of old)
     pub cause : HasCause (faults_of (log_of old)) (faults_of (log_of new)) outcome

@@ -1,7 +1,8 @@
 //! What becomes of a pair of points: it is frozen, and then in files. Depends on `logged`.
-ghost use Rattle.std.specs.Prelude.{◌≡◌, ◌<◌, ◌≤◌, [], OnOk, length};
+ghost use Rattle.std.specs.Prelude.{◌≡◌, ◌≢◌, ◌<◌, ◌≤◌, [], OnOk, length};
 ghost use Rattle.tsdb_logged.specs.Answers.{IsFreezeAnswer, answer_by};
 ghost use Rattle.tsdb_log.specs.declared.record.LogRecord.{LogRecord};
+ghost use Rattle.tsdb_memory.specs.Store.{frozen_with_working};
 ghost use Rattle.tsdb_state.specs.Jobs.{flushed_bytes};
 ghost use Rattle.tsdb_state.specs.Limits.{max_frozen};
 
@@ -18,14 +19,16 @@ impl<J: Journal> Logged<J> {
     ghost use Rattle.tsdb_logged.specs.Flushes.{IsFlushed};
     ghost use Rattle.tsdb_logged.specs.Logged.{memory_of, room_of};
 
-    /// Freezes the working pair. At most one pair may be frozen before. The series and the stamp stay, and a new working
-    /// pair has no point.
+    /// Freezes the working pair: it stands behind the frozen ones, of which at most one may be there before. The series
+    /// and the stamp stay, and a new working pair has no point.
     pub fn freeze(&mut self) -> Answer
         requires room { length (memory_of self.old).frozen < max_frozen }
         ensures answer { IsFreezeAnswer result }
         ensures command { IsCommand self.old self.new LogRecord.Freeze CanStop result }
         ensures series { (memory_of self.new).series ≡ (memory_of self.old).series }
         ensures stamp { (memory_of self.new).stamp ≡ (memory_of self.old).stamp }
+        ensures frozen { result ≡ Answer.Done → (memory_of self.new).frozen ≡ frozen_with_working (memory_of self.old) }
+        ensures unfrozen { result ≢ Answer.Done → (memory_of self.new).frozen ≡ (memory_of self.old).frozen }
         ensures working { result ≡ Answer.Done → (memory_of self.new).working ≡ [] }
     {
         answer_of(self.write_freeze())
@@ -36,6 +39,10 @@ impl<J: Journal> Logged<J> {
         ensures command { IsCommand self.old self.new LogRecord.Freeze CanStop (answer_by result) }
         ensures series { (memory_of self.new).series ≡ (memory_of self.old).series }
         ensures stamp { (memory_of self.new).stamp ≡ (memory_of self.old).stamp }
+        ensures frozen { answer_by result ≡ Answer.Done
+            → (memory_of self.new).frozen ≡ frozen_with_working (memory_of self.old) }
+        ensures unfrozen { answer_by result ≢ Answer.Done
+            → (memory_of self.new).frozen ≡ (memory_of self.old).frozen }
         ensures working { answer_by result ≡ Answer.Done → (memory_of self.new).working ≡ [] }
     {
         let freezing = self.memory.prepare_freeze()?;

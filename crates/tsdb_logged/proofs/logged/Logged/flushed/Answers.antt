@@ -1,9 +1,10 @@
-use Rattle.std.proofs.Common.{Err, Ok, subst, sym}
+use Rattle.std.proofs.Common.{◌∙◌, Err, Ok, ap, drop, subst, sym}
 use Rattle.tsdb_log.specs.declared.record.LogRecord.TheVariants.{Flushed}
 use Rattle.tsdb_logged.proofs.Commanding.{other_memory}
 use Rattle.tsdb_logged.proofs.Flushing.{flush_done, flush_faulted, flush_moments}
 use Rattle.tsdb_logged.specs.Appends.{IsAppended}
 use Rattle.tsdb_memory.specs.Shown.{IsMemoryOf}
+use Rattle.tsdb_memory.specs.Store.{Store}
 use Rattle.tsdb_logged.proofs.logged.Logged.flushed.Goals as goal
 
 pub returns-in-Ok-Err : goal.returns-in-Ok-Err
@@ -18,6 +19,8 @@ returns-in-Ok-Err g c =
       moments = λ outside state flush others sound can. flush_moments c.args.self.now c.append.new.self c.args.sequence
           c.args.unsequence c.args.listed c.in-Ok-Err.ensures.record outside state flush others sound can
           (Err c.in-Ok-Err.failed) append;
+      pair = tt;
+      no_pair = ap (λ (s : Store). s.frozen) c.in-Ok-Err.ensures.memory;
       room = c.in-Ok-Err.ensures.capacity;
       slot = append.slot;
       cause = append.cause;
@@ -39,6 +42,8 @@ returns g c =
       moments = λ outside state flush others sound can. flush_moments c.args.self.now
           (record c.append.new.self { memory = c.finish_flushed.new.self }) c.args.sequence c.args.unsequence
           c.args.listed c.in-Ok-Ok.ensures.record outside state flush others sound can (Ok tt) append;
+      pair = c.finish_flushed.ensures.frozen ∙ ap (λ (s : Store). drop 1 s.frozen) c.in-Ok-Ok.ensures.memory;
+      no_pair = tt;
       room = c.in-Ok-Ok.ensures.capacity;
       slot = append.slot;
       cause = append.cause;

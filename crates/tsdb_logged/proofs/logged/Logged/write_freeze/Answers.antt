@@ -1,11 +1,12 @@
 use Rattle.std.proofs.Common.{◌∙◌, ap, arith, refl, subst}
 use Rattle.tsdb_log.specs.declared.record.LogRecord.TheVariants.{Freeze}
-use Rattle.tsdb_logged.proofs.Answering.{err_not_done}
+use Rattle.tsdb_logged.proofs.Answering.{err_not_done, same_frozen}
 use Rattle.tsdb_logged.proofs.Commanding.{fails, logs_freeze, takes_effect}
 use Rattle.tsdb_logged.proofs.Steps.{out_of_memory, out_of_memory_later}
 use Rattle.tsdb_logged.specs.Appends.{IsAppended}
 use Rattle.tsdb_logged.specs.Commands.{CanStop}
-use Rattle.tsdb_memory.specs.Store.{Store}
+use Rattle.tsdb_logged.specs.Logged.{memory_of}
+use Rattle.tsdb_memory.specs.Store.{Store, frozen_with_working}
 use Rattle.tsdb_logged.proofs.logged.Logged.write_freeze.Goals as goal
 
 pub returns-in_err-freezing-clause-command : goal.returns-in_err-freezing-clause-command
@@ -103,3 +104,35 @@ returns-in-Err-clause-working g c = λ done. absurd cc
 
 pub returns-clause-working : goal.returns-clause-working
 returns-clause-working g c = λ done. c.finish_freeze.ensures.working
+
+-- only where it is done there is one frozen pair more
+
+pub returns-in_err-freezing-clause-frozen : goal.returns-in_err-freezing-clause-frozen
+returns-in_err-freezing-clause-frozen g c = λ done. absurd (err_not_done c.from_residual.result c.from_residual.ensures.0 done)
+
+pub returns-in_err-append-clause-frozen : goal.returns-in_err-append-clause-frozen
+returns-in_err-append-clause-frozen g c = λ done. absurd
+    (err_not_done c.from_residual-in_err-append.result c.from_residual-in_err-append.ensures.0 done)
+
+pub returns-in-Err-clause-frozen : goal.returns-in-Err-clause-frozen
+returns-in-Err-clause-frozen g c = λ done. absurd cc
+
+pub returns-clause-frozen : goal.returns-clause-frozen
+returns-clause-frozen g c = λ done. c.finish_freeze.ensures.frozen
+    ∙ ap frozen_with_working c.in_ok-append.ensures.memory
+    ∙ same_frozen (memory_of c.args.self.now) c.prepare_freeze.new.self c.in_ok-freezing.ensures.kept.frozen
+    c.in_ok-freezing.ensures.kept.stamp c.in_ok-freezing.ensures.working
+
+pub returns-in_err-freezing-clause-unfrozen : goal.returns-in_err-freezing-clause-unfrozen
+returns-in_err-freezing-clause-unfrozen g c = λ not_done. c.in_err-freezing.ensures.kept.frozen
+
+pub returns-in_err-append-clause-unfrozen : goal.returns-in_err-append-clause-unfrozen
+returns-in_err-append-clause-unfrozen g c = λ not_done.
+    ap (λ (s : Store). s.frozen) c.in_err-append.ensures.memory ∙ c.in_ok-freezing.ensures.kept.frozen
+
+pub returns-in-Err-clause-unfrozen : goal.returns-in-Err-clause-unfrozen
+returns-in-Err-clause-unfrozen g c = λ not_done.
+    ap (λ (s : Store). s.frozen) c.in_ok-append.ensures.memory ∙ c.in_ok-freezing.ensures.kept.frozen
+
+pub returns-clause-unfrozen : goal.returns-clause-unfrozen
+returns-clause-unfrozen g c = λ not_done. absurd (not_done refl)
