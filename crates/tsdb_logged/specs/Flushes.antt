@@ -44,6 +44,7 @@ module _ {J : Type 0} {means : disk.Ghosts J} {counts : counted.Ghosts J} where
         → LeavesWorlds old new outside state (flush_record flush)
     pub pair : OnOk outcome ((memory_of new).frozen ≡ drop 1 (memory_of old).frozen)
     pub no_pair : OnErr outcome ((memory_of new).frozen ≡ (memory_of old).frozen)
+    pub working : (memory_of new).working ≡ (memory_of old).working
     pub room : room_of old ≤ room_of new
     pub slot : slot_of (log_of new) ≡ slot_of (log_of old)
     pub cause : HasCause (faults_of (log_of old)) (faults_of (log_of new)) outcome

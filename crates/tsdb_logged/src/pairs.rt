@@ -56,6 +56,7 @@ impl<J: Journal> Logged<J> {
     /// Makes room for the record of a flush.
     pub fn reserve_flushed(&mut self) -> Result<(), Memory>
         ensures kept { IsPrepared self.old self.new }
+        ensures same { memory_of self.new ≡ memory_of self.old }
         ensures room { OnOk result (flushed_bytes ≤ room_of self.new) }
     {
         Ok(self.framed.reserve(FLUSHED_BYTES)?)

@@ -16,6 +16,7 @@ impl MemoryStore {
     pub fn finish_flushed(&mut self, listed: Option<Stamp>)
         requires some { 0 < length self.old.frozen }
         ensures frozen { self.new.frozen ≡ drop 1 self.old.frozen }
+        ensures working { self.new.working ≡ self.old.working }
         ensures effect { (state : StoreState) (sequence unsequence : ℕ) → IsMemoryOf self.old state
             → IsLeastOf listed (file_borns (flushed sequence unsequence state))
             → IsMemoryOf self.new (flushed sequence unsequence state) }

@@ -21,6 +21,7 @@ returns-in-Ok-Err g c =
           (Err c.in-Ok-Err.failed) append;
       pair = tt;
       no_pair = ap (λ (s : Store). s.frozen) c.in-Ok-Err.ensures.memory;
+      working = ap (λ (s : Store). s.working) c.in-Ok-Err.ensures.memory;
       room = c.in-Ok-Err.ensures.capacity;
       slot = append.slot;
       cause = append.cause;
@@ -44,6 +45,7 @@ returns g c =
           c.args.listed c.in-Ok-Ok.ensures.record outside state flush others sound can (Ok tt) append;
       pair = c.finish_flushed.ensures.frozen ∙ ap (λ (s : Store). drop 1 s.frozen) c.in-Ok-Ok.ensures.memory;
       no_pair = tt;
+      working = c.finish_flushed.ensures.working ∙ ap (λ (s : Store). s.working) c.in-Ok-Ok.ensures.memory;
       room = c.in-Ok-Ok.ensures.capacity;
       slot = append.slot;
       cause = append.cause;

@@ -16,6 +16,9 @@ returns-clause-frozen c =
     (subst (λ (s : value.Store). 0 < length s.frozen) (sym c.self.view_is) c.requires.some) c.remove.ensures.items in
     sym (ap (drop 1) first.are) ∙ ap (λ (s : value.Store). drop 1 s.frozen) c.self.view_is
 
+pub returns-clause-working : goal.returns-clause-working
+returns-clause-working c = ap (λ (s : value.Store). s.working) c.self.view_is
+
 pub returns-clause-effect : goal.returns-clause-effect
 returns-clause-effect c = λ state sequence unsequence is low.
     let old = c.self.inside in
