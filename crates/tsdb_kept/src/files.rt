@@ -2,7 +2,7 @@
 ghost use Rattle.std.specs.Prelude.{◌≡◌, ◌∷◌, [], ◌++◌, None, Some, length, IfOk, OnOk, OnErr};
 ghost use Rattle.std.specs.Option.{option_map};
 ghost use Rattle.tsdb_layers.specs.Lists.{if_some};
-ghost use Rattle.tsdb_memory.specs.Least.{IsLeastOf, lesser as lesser_of};
+ghost use Rattle.tsdb_memory.specs.Least.{IsLeastOf};
 ghost use Rattle.tsdb_outside.specs.Causes.{HasCause};
 ghost use Rattle.tsdb_outside.specs.Disk.{WhereTold};
 
@@ -17,6 +17,7 @@ use std::collections::BTreeMap;
 use std::marker::Model;
 use tsdb_base::{FileNumber, Memory, Space, Stamp};
 use tsdb_jobs::Built;
+use tsdb_memory::lesser;
 use tsdb_outside::{Failed, Files};
 use tsdb_path::Path;
 use tsdb_plan::FileEntry;
@@ -38,16 +39,6 @@ pub struct KeptFiles<F: Files> {
     spare: Spare,
     // The least born of the listed files.
     least: Option<Stamp>,
-}
-
-/// The lesser of the least so far and one more.
-fn lesser(least: Option<Stamp>, born: Stamp) -> Stamp
-    ensures { result ≡ lesser_of least born.0 }
-{
-    match least {
-        Some(least) if least.0 <= born.0 => least,
-        _ => born,
-    }
 }
 
 impl<F: Files> Model for KeptFiles<F> {

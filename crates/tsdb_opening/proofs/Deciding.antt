@@ -7,6 +7,7 @@ use Rattle.std.specs.Option.{option_map}
 use Rattle.std.specs.Prelude.{◌↔◌, IsSome, IsTrue}
 use Rattle.tsdb_layers.specs.Places.{is_path}
 use Rattle.tsdb_map.specs.declared.command.Schema.{Schema}
+use Rattle.tsdb_memory.proofs.Types.{there_alike}
 use Rattle.tsdb_memory.specs.Shown.{IsFrozenOf, IsMemoryOf, entry_of, number_of}
 use Rattle.tsdb_memory.specs.Store as value
 use Rattle.tsdb_opening.specs.Changes.{IsCreation, IsDeletion, IsFreezing}
@@ -15,45 +16,6 @@ use Rattle.tsdb_state.specs.Limits.{end_of_numbers}
 use Rattle.tsdb_state.specs.Records.{CanCreate, CanDelete, CanFreeze}
 use Rattle.tsdb_state.specs.State.{SeriesEntry, StoreState}
 use Rattle.tsdb_state.specs.Worlds.{is_live_at, type_at}
-
--- what is found by the number is what is found by the path
-abbrev AreAlike : Option ℕ → Option SeriesEntry → Type 0
-AreAlike None None = Unit {0}
-AreAlike None (Some entry) = ⊥
-AreAlike (Some number) None = ⊥
-AreAlike (Some number) (Some entry) = Unit {0}
-
-alike : (series : List Schema) (path : List ℕ)
-    → AreAlike (number_of series path) (find (is_live_at path) (map entry_of series))
-alike [] path = tt
-alike (schema ∷ series) path = by (is_path path schema.path) (number_of series path)
-    (find (is_live_at path) (map entry_of series)) (alike series path)
-  where
-    by : (b : Bool) (o : Option ℕ) (e : Option SeriesEntry) → AreAlike o e
-        → AreAlike (cond b (Some 0) (option_map suc o)) (cond b (Some (entry_of schema)) e)
-    by true o e rest = tt
-    by false None None rest = tt
-    by false None (Some entry) rest = absurd rest
-    by false (Some number) None rest = absurd rest
-    by false (Some number) (Some entry) rest = tt
-
-type_found : Option SeriesEntry → Bool
-type_found None = false
-type_found (Some entry) = true
-
--- a series is there in memory exactly where it is in the state
-pub there_alike : (series : List Schema) (path : List ℕ)
-    → (number_of series path ≡ None ↔ type_at (map entry_of series) path ≡ None)
-    × (IsSome (number_of series path) ↔ IsSome (type_at (map entry_of series) path))
-there_alike series path = by (number_of series path) (find (is_live_at path) (map entry_of series)) (alike series path)
-  where
-    by : (o : Option ℕ) (e : Option SeriesEntry) → AreAlike o e
-        → (o ≡ None ↔ option_map (λ (series : SeriesEntry). series.schema.data_type) e ≡ None)
-        × (IsSome o ↔ IsSome (option_map (λ (series : SeriesEntry). series.schema.data_type) e))
-    by None None rest = ((λ e. refl, λ e. refl), (λ some. absurd (false≢true some), λ some. absurd (false≢true some)))
-    by None (Some entry) rest = absurd rest
-    by (Some number) None rest = absurd rest
-    by (Some number) (Some entry) rest = ((λ e. absurd cc, λ e. absurd cc), (λ some. refl, λ some. refl))
 
 module _ (store : value.Store) (state : StoreState) (is : IsMemoryOf store state) where
   pub creation : (schema : Schema) → IsCreation store schema ↔ CanCreate schema state

@@ -1,6 +1,6 @@
 //! The two lists of files, by number and born. Depends on tsdb_base.
 ghost use Rattle.std.specs.Prelude.{◌≡◌, ◌<◌, ◌++◌, OnOk, vec_capacity, vec_len};
-ghost use Rattle.tsdb_memory.specs.Least.{least_with as least_of_all, lesser as lesser_of};
+ghost use Rattle.tsdb_memory.specs.Least.{least_with as least_of_all};
 ghost use Rattle.tsdb_opening.specs.Lists.{AreListsOf, HaveRoom, KeepsLists, borns_of, files_of};
 ghost use Rattle.tsdb_state.specs.NewStore.{new_store};
 ghost use Rattle.tsdb_state.specs.Records.{new_file};
@@ -8,6 +8,7 @@ ghost use Rattle.tsdb_state.specs.State.{StoreState};
 
 use std::alloc::Global;
 use tsdb_base::{FileNumber, Memory, Stamp};
+use tsdb_memory::lesser;
 
 /// A listed file: its number, and the stamp at the freeze of its points.
 #[derive(Clone, Copy, Debug, PartialEq, Eq)]
@@ -73,16 +74,6 @@ fn push_new(files: &mut Vec<ListedFile>, least: &mut Option<Stamp>, number: File
         Err(_full) => unreachable!(),
     }
     *least = Some(lesser(*least, born));
-}
-
-/// The lesser of the least so far and one born more.
-fn lesser(least: Option<Stamp>, born: Stamp) -> Stamp
-    ensures { result ≡ lesser_of least born.0 }
-{
-    match least {
-        Some(least) if least.0 <= born.0 => least,
-        _ => born,
-    }
 }
 
 /// The least of the borns so far and those of some files more.

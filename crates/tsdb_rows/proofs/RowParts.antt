@@ -17,12 +17,12 @@ use Rattle.tsdb_map.specs.Limits.{max_names}
 use Rattle.tsdb_map.specs.declared.command.Cell.{Cell}
 use Rattle.tsdb_map.specs.declared.command.Row.{Row}
 use Rattle.tsdb_map.specs.declared.command.Schema.{Schema}
+use Rattle.tsdb_memory.proofs.Types.{type_found, type_of_number}
 use Rattle.tsdb_memory.specs.Shown.{entry_of, number_of}
 use Rattle.tsdb_path.specs.Nodes.{IsName, child_of}
 use Rattle.tsdb_rows.proofs.Cells.{as_many, cells_of_items, items_differ, items_of_device, items_push}
 use Rattle.tsdb_rows.proofs.Lists as lists
 use Rattle.tsdb_rows.proofs.Lists.{among_get, any_of, either_push, some_of}
-use Rattle.tsdb_rows.proofs.Types.{type_found, type_of_number}
 use Rattle.tsdb_rows.specs.Reading.{AreApart, AreOfDevice, IsMissing, IsRefused, IsUnfit}
 use Rattle.tsdb_rows.specs.Steps.{AreItems, IsCellFound, IsItem}
 use Rattle.tsdb_rows.specs.declared.reading.CellFound.{CellFound}
