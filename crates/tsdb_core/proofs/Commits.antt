@@ -304,6 +304,10 @@ module _ {J F S R P : Type 0} {means : disk.Ghosts J} {counts : counted.Ghosts J
         jobs = jobs;
       }
 
+      pub commit_keeps : KeepsStoreWorld later.told engine.store (committed_flush flush others engine).store
+      commit_keeps = flush_keeps later.told later.known sound.stored.named engine sound.stored.order flush others
+          can.commits
+
       pub done_world : (world : World) → StandsFor outside.told engine.store world
           → IsSeen new (with_record (flush_record flush) later) (committed_flush flush others engine) → IsWorldOf new
           world
@@ -312,14 +316,10 @@ module _ {J F S R P : Type 0} {means : disk.Ghosts J} {counts : counted.Ghosts J
         state = committed_flush flush others engine;
         seen = is;
         stands = record {
-          types = λ path. (still_stands world stands).types path ∙ sym (keeps.types path);
-          values = λ place. (still_stands world stands).values place ∙ sym (keeps.values place);
+          types = λ path. (still_stands world stands).types path ∙ sym (commit_keeps.types path);
+          values = λ place. (still_stands world stands).values place ∙ sym (commit_keeps.values place);
         };
       }
-        where
-          keeps : KeepsStoreWorld later.told engine.store (committed_flush flush others engine).store
-          keeps = flush_keeps later.told later.known sound.stored.named engine sound.stored.order flush others
-              can.commits
 
       pub commit_moments : (outcome : Result (Unit {0}) Failed)
           → IsFlushed old.logged logged (number_for job.sequence) (number_for job.unsequence) listed outcome
@@ -414,6 +414,10 @@ module _ {J F S R P : Type 0} {means : disk.Ghosts J} {counts : counted.Ghosts J
           world
           stands (done_seen old logged kept job files store of_job Done ends outside engine flush others seen out tells
           logs.flushed.room all logs.listed answered logs.least ends.lists logs.flushed);
+      keeps = λ outside engine flush others seen out tells oldest. commit_keeps old logged kept job files store of_job Done
+          ends outside engine flush others seen out tells logs.flushed.room all logs.listed oldest logs.least;
+      left = λ is. logs.flushed.pair;
+      working = logs.flushed.working;
       gone = λ is. absurd cc;
       slot = logs.flushed.slot;
       cause = λ is. absurd cc;
@@ -442,6 +446,9 @@ module _ {J F S R P : Type 0} {means : disk.Ghosts J} {counts : counted.Ghosts J
           (ended_seen old logged kept job files store of_job Gone ends outside engine flush others seen out tells
           same_room
           ends.lists logs);
+      keeps = λ outside engine flush others seen out tells oldest. absurd (answered oldest);
+      left = λ is. absurd cc;
+      working = ap (λ log. (memory_of log).working) logs;
       gone = λ is. logs;
       slot = ap (λ log. slot_of (log_of log)) logs;
       cause = λ is. absurd cc;
@@ -469,6 +476,11 @@ module _ {J F S R P : Type 0} {means : disk.Ghosts J} {counts : counted.Ghosts J
           stands (failed_seen old logged kept job files store of_job Device ends outside engine flush others seen out
           tells
           logs.flushed.room all logs.listed answered logs.least fault ends.lists logs.flushed);
+      keeps = λ outside engine flush others seen out tells oldest. commit_keeps old logged kept job files store of_job
+          Device
+          ends outside engine flush others seen out tells logs.flushed.room all logs.listed oldest logs.least;
+      left = λ is. absurd cc;
+      working = logs.flushed.working;
       gone = λ is. absurd cc;
       slot = logs.flushed.slot;
       cause = λ is. logs.flushed.cause.failed;

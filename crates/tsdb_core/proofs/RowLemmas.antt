@@ -368,6 +368,7 @@ module _ {J F S R P : Type 0} {means : disk.Ghosts J} {counts : counted.Ghosts J
       → IsFrozenFor row old (record old { logged = logged }) result
   frozen_for old logged row result full can command = record {
     full = full;
+    can = λ outside state seen. can outside state seen full;
     freeze = freeze_command old logged result command (λ outside state seen. can outside state seen full);
   }
 

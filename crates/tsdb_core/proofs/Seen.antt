@@ -136,6 +136,7 @@ module _ {J F S R P : Type 0} {means : disk.Ghosts J} {counts : counted.Ghosts J
         (command.step outside state seen.sound (asks outside state seen needs));
     moments = λ outside state seen needs. command.moments outside state seen.sound (asks outside state seen needs);
     refused = λ is. ap (λ later. record old { logged = later }) (command.refused is);
+    memory = λ is. (command.memory is).log;
     kept = record { files = refl; next = refl; limit = refl; jobs = jobs_stay old logged command.room };
     slot = command.slot;
     cause = command.cause;

@@ -36,7 +36,8 @@ module _ {J F S R P : Type 0} {means : disk.Ghosts J} {counts : counted.Ghosts J
         → KeepsJobs new flushes compactions
 
   -- What a command leaves of every state that has what it needs. At each moment a stop leaves the world of the state, or
-  -- that of the record that was in doubt, or that of this record. A refusal changes nothing. The log stays in its slot.
+  -- that of the record that was in doubt, or that of this record. A refusal changes nothing, and where memory ends the log
+  -- is as it was. The log stays in its slot.
   pub record IsCoreCommand (old new : Core J F S R P means counts) (item : LogRecord) (Needs : EngineState → Type 0)
       (answer : Answer)
       : Type 0 where
@@ -45,6 +46,7 @@ module _ {J F S R P : Type 0} {means : disk.Ghosts J} {counts : counted.Ghosts J
     pub moments : (outside : Outside) (state : EngineState) → IsSeen old outside state → Needs state
         → LeavesWorlds (logged_of old) (logged_of new) outside state item
     pub refused : IsRefusal answer → new ≡ old
+    pub memory : answer ≡ Memory → log_of (logged_of new) ≡ log_of (logged_of old)
     pub kept : KeepsFiles old new
     pub slot : slot_of (log_of (logged_of new)) ≡ slot_of (log_of (logged_of old))
     pub cause : answer ≡ Device → Rose (faults_of (log_of (logged_of old))) (faults_of (log_of (logged_of new)))

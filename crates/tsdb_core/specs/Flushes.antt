@@ -1,6 +1,6 @@
 -- What the calls of a core that take a flush and end it leave.
 use Rattle.std.specs.Prelude.{◌≡◌, ◌⊎◌, ℕ, ◌+◌, ◌<◌, ◌≤◌, List, ◌∷◌, length, Option, None, Some, Result}
-use Rattle.std.specs.Prelude.{slice_get}
+use Rattle.std.specs.Prelude.{drop, slice_get}
 use Rattle.std.specs.Arc.{arc_value}
 use Rattle.std.specs.List.{AllByRecursion as Each, range_with_len}
 use Rattle.std.specs.Option.{IsSomeAnd, option_map}
@@ -8,8 +8,8 @@ use Rattle.std.specs.declared.result.Result.TheVariants.{Ok, Err}
 use Rattle.tsdb_base.specs.declared.ids.FileNumber.{FileNumber}
 use Rattle.tsdb_base.specs.declared.ids.Stamp.{Stamp}
 use Rattle.tsdb_committing.specs.Coming.{HaveCome}
-use Rattle.tsdb_committing.specs.Files.{IsOutAs, NewFiles, TellBytes, all_of, state_files, with_files}
-use Rattle.tsdb_core.specs.Core.{IsSeen, KeepsJobs, files_of, limit_of, logged_of, next_of}
+use Rattle.tsdb_committing.specs.Files.{IsOutAs, NewFiles, TellBytes, all_of, state_files, told_with, with_files}
+use Rattle.tsdb_core.specs.Core.{IsSeen, KeepsJobs, files_of, limit_of, logged_of, next_of, working_of}
 use Rattle.tsdb_core.specs.Ending.{AreAfterCommit, IsLeastWith, drawn_for, number_for}
 use Rattle.tsdb_core.specs.Worlds.{IsWorldOf}
 use Rattle.tsdb_core.specs.declared.engine.Core.{Core}
@@ -39,7 +39,7 @@ use Rattle.tsdb_state.specs.Limits.{end_of_numbers}
 use Rattle.tsdb_state.specs.State as state
 use Rattle.tsdb_state.specs.State.{Compaction, EngineState}
 use Rattle.tsdb_state.specs.Steps.{TakesFlush, committed_flush, ended_flush, failed, flush_record, settled, took_flush}
-use Rattle.tsdb_state.specs.Worlds.{StandsFor}
+use Rattle.tsdb_state.specs.Worlds.{KeepsWorld, StandsFor}
 
 -- the flush has the numbers of the job
 pub record HasNumbersOf (job : FlushJob) (flush : state.FlushJob) : Type 0 where
@@ -84,6 +84,7 @@ module _ {J F S R P : Type 0} {means : disk.Ghosts J} {counts : counted.Ghosts J
   -- memory was taken, and nothing else has changed
   pub record TakesMemory (old new : Core J F S R P means counts) : Type 0 where
     pub logged : IsPrepared (logged_of old) (logged_of new)
+    pub memory : memory_of (logged_of new) ≡ memory_of (logged_of old)
     pub lists : KeepsLists (files_of old) (files_of new)
     pub places : OnlyMakesPlaces (files_of old).places (files_of new).places
     pub limit : limit_of new ≡ limit_of old
@@ -160,7 +161,7 @@ module _ {J F S R P : Type 0} {means : disk.Ghosts J} {counts : counted.Ghosts J
       ⊎ IsSeen new outside (failed (flush_record flush) (ended_flush flush others (built_files flush) engine)))
 
   -- What a commit leaves of every state that the core shows, where the files tell their bytes. At each moment a stop
-  -- leaves the world of the state, with the new files kept.
+  -- leaves the world of the state, with the new files kept. The record keeps the world, wherever it can be written.
   pub record IsCommit (old new : Core J F S R P means counts) (job : FlushJob) (files : NewFiles) (commit : Commit)
       : Type 0 where
     pub answer : IsCommitAnswer job (memory_of (logged_of old)) commit
@@ -174,6 +175,12 @@ module _ {J F S R P : Type 0} {means : disk.Ghosts J} {counts : counted.Ghosts J
     pub world : (outside : Outside) (engine : EngineState) (flush : state.FlushJob) (others : List state.FlushJob)
         (world : World) → IsSeen old outside engine → IsOutAs job flush others engine → TellBytes files
         → StandsFor outside.told engine.store world → IsWorldOf new world
+    pub keeps : (outside : Outside) (engine : EngineState) (flush : state.FlushJob) (others : List state.FlushJob)
+        → IsSeen old outside engine → IsOutAs job flush others engine → TellBytes files
+        → IsOldest job (memory_of (logged_of old))
+        → KeepsWorld (told_with flush files outside.told) engine.store (committed_flush flush others engine).store
+    pub left : commit ≡ Done → (memory_of (logged_of new)).frozen ≡ drop 1 (memory_of (logged_of old)).frozen
+    pub working : working_of new ≡ working_of old
     pub gone : commit ≡ Gone → logged_of new ≡ logged_of old
     pub slot : slot_of (log_of (logged_of new)) ≡ slot_of (log_of (logged_of old))
     pub cause : commit ≡ Device → Rose (faults_of (log_of (logged_of old))) (faults_of (log_of (logged_of new)))

@@ -22,6 +22,7 @@ use Rattle.tsdb_outside.specs.declared.faults.Counted as counted
 use Rattle.tsdb_rows.specs.Fits.{FitsPair}
 use Rattle.tsdb_state.specs.Commands.{AreCells}
 use Rattle.tsdb_state.specs.Limits.{max_frozen}
+use Rattle.tsdb_state.specs.Records.{CanFreeze}
 use Rattle.tsdb_state.specs.State.{EngineState}
 use Rattle.tsdb_state.specs.Worlds.{StandsFor}
 
@@ -34,9 +35,14 @@ module _ {J F S R P : Type 0} {means : disk.Ghosts J} {counts : counted.Ghosts J
   abbrev pub NeedsFlush : Row → Core J F S R P means counts → Type 0
   NeedsFlush row core = (¬ Fits row core) × (length (memory_of (logged_of core)).frozen ≡ max_frozen)
 
+  -- the working pair of each state can be frozen
+  abbrev pub CanFreezeNow : Core J F S R P means counts → Type 0
+  CanFreezeNow core = (outside : Outside) (state : EngineState) → IsSeen core outside state → CanFreeze state.store
+
   -- the working pair was frozen, since the row does not fit it
   pub record IsFrozenFor (row : Row) (old new : Core J F S R P means counts) (answer : Answer) : Type 0 where
     pub full : ¬ Fits row old
+    pub can : CanFreezeNow old
     pub freeze : IsCoreCommand old new Freeze IsAny answer
 
   -- a row finds the core as it is, where it fits, or with its working pair frozen

@@ -21,6 +21,7 @@ impl<J: Journal, F: Files> Core<J, F> {
     ghost use Rattle.tsdb_core.specs.Commands.{IsCoreCommand, KeepsFiles};
     ghost use Rattle.tsdb_core.specs.Core.{files_of, logged_of, working_of};
     ghost use Rattle.tsdb_core.specs.RowSteps.{HasStateCounts};
+    ghost use Rattle.tsdb_core.specs.Rows.{CanFreezeNow};
     ghost use Rattle.tsdb_core.specs.Sweeps.{IsSwept};
     ghost use Rattle.tsdb_core.specs.Worlds.{FollowsMap, KeepsWorld};
     ghost use Rattle.tsdb_logged.specs.Closing.{IsClosed};
@@ -54,6 +55,8 @@ impl<J: Journal, F: Files> Core<J, F> {
         ensures idle { HasNoPoint (working_of self.old) → (result ≡ Answer.Done) × (self.new ≡ self.old) }
         ensures command { ¬ HasNoPoint (working_of self.old)
             → IsCoreCommand self.old self.new LogRecord.Freeze IsAny result }
+        ensures emptied { result ≡ Answer.Done → HasNoPoint (working_of self.new) }
+        ensures can { ¬ HasNoPoint (working_of self.old) → CanFreezeNow self.old }
         ensures world { KeepsWorld self.old self.new }
         ensures kept { KeepsFiles self.old self.new }
     {

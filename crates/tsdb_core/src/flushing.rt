@@ -3,7 +3,7 @@ ghost use Rattle.std.specs.Prelude.{◌≡◌, ◌<◌, ◌≤◌, ◌+◌, ◌�
 ghost use Rattle.tsdb_core.specs.Ending.{IsLeastWith, number_for};
 ghost use Rattle.tsdb_core.specs.Flushes.{IsDue};
 ghost use Rattle.tsdb_layers.specs.Lists.{if_some};
-ghost use Rattle.tsdb_memory.specs.Least.{IsLeastOf, lesser as lesser_of};
+ghost use Rattle.tsdb_memory.specs.Least.{IsLeastOf};
 ghost use Rattle.tsdb_memory.specs.Model.{frozen_in};
 ghost use Rattle.tsdb_state.specs.Limits.{end_of_numbers};
 
@@ -13,7 +13,7 @@ use crate::engine::Core;
 use tsdb_base::{FileNumber, Memory, Space, Stamp};
 use tsdb_flushing::take;
 use tsdb_jobs::{FlushJob, Flushed};
-use tsdb_memory::FrozenPair;
+use tsdb_memory::{FrozenPair, lesser};
 use tsdb_outside::{Failed, Files, Journal};
 
 /// The numbers of files lie below this one.
@@ -187,14 +187,4 @@ fn least_with(least: Option<Stamp>, job: &FlushJob) -> Option<Stamp>
         return least;
     }
     Some(lesser(least, job.born))
-}
-
-/// The lesser of the least so far and one more.
-fn lesser(least: Option<Stamp>, born: Stamp) -> Stamp
-    ensures { result ≡ lesser_of least born.0 }
-{
-    match least {
-        Some(least) if least.0 <= born.0 => least,
-        _ => born,
-    }
 }
