@@ -1,0 +1,99 @@
+-- Causes of faults, over the parts of a flush.
+use Rattle.std.proofs.Common.{◌≡◌, ◌≢◌, ◌⊎◌, ℕ, ◌+◌, ◌<◌, ◌≤◌, Result, Ok, Err, inl, inr, arith, refl, subst}
+use Rattle.std.specs.Prelude.{IfErr}
+use Rattle.tsdb_core.specs.Flushes.{IsTakeAnswer}
+use Rattle.tsdb_core.specs.declared.commit.CoreFault.{CoreFault}
+use Rattle.tsdb_core.specs.declared.commit.CoreFault.TheVariants as job
+use Rattle.tsdb_memory.specs.Store.{Store}
+use Rattle.tsdb_outside.specs.Causes.{Rose}
+use Rattle.tsdb_outside.specs.declared.faults.StoreFault.{StoreFault}
+use Rattle.tsdb_outside.specs.declared.faults.StoreFault.TheVariants as file
+use Rattle.tsdb_base.specs.declared.answers.Answer.TheVariants as answer
+use Rattle.tsdb_serving.specs.Faults.{HasFlushCause, answer_of, of_core_fault, of_file_fault}
+use Rattle.tsdb_serving.specs.declared.fault.FlushFault.{FlushFault}
+use Rattle.tsdb_serving.specs.declared.fault.FlushFault.TheVariants.{Device, Memory, Full}
+use Rattle.tsdb_state.specs.Limits.{end_of_numbers}
+
+pub rose_later : (a b c : ℕ) → a ≤ b → Rose b c → Rose a c
+rose_later a b c less rose = omega (arith, less, rose)
+
+pub rose_on : (a b c : ℕ) → Rose a b → b ≤ c → Rose a c
+rose_on a b c rose less = omega (arith, rose, less)
+
+-- the counts have risen before it too
+earlier : (journal mid journal_after port port_mid port_after next : ℕ) → journal ≤ mid → port ≤ port_mid
+    → (fault : FlushFault) → HasFlushCause mid journal_after port_mid port_after next fault
+    → HasFlushCause journal journal_after port port_after next fault
+earlier journal mid journal_after port port_mid port_after next less less_port Device (inl rose) =
+    inl (rose_later journal mid journal_after less rose)
+earlier journal mid journal_after port port_mid port_after next less less_port Device (inr rose) =
+    inr (rose_later port port_mid port_after less_port rose)
+earlier journal mid journal_after port port_mid port_after next less less_port Memory cause = tt
+earlier journal mid journal_after port port_mid port_after next less less_port (Full counter) cause = cause
+
+module _ {T : Type 0} where
+  -- the cause of a part's fault is one of the whole
+  pub cause_before : (result : Result T FlushFault) (journal mid journal_after port port_mid port_after next : ℕ)
+      → journal ≤ mid → port ≤ port_mid → IfErr result (HasFlushCause mid journal_after port_mid port_after next)
+      → IfErr result (HasFlushCause journal journal_after port port_after next)
+  cause_before (Ok value) journal mid journal_after port port_mid port_after next less less_port cause = tt
+  cause_before (Err fault) journal mid journal_after port port_mid port_after next less less_port cause =
+      earlier journal mid journal_after port port_mid port_after next less less_port fault cause
+
+pub fault_before : (journal mid journal_after port port_mid port_after next : ℕ) → journal ≤ mid → port ≤ port_mid
+    → (fault : FlushFault) → HasFlushCause mid journal_after port_mid port_after next fault
+    → HasFlushCause journal journal_after port port_after next fault
+fault_before = earlier
+
+-- a file could not be written
+pub file_cause : (journal journal_after port port_after next : ℕ) (fault : StoreFault)
+    → (fault ≡ file.Failed → Rose port port_after)
+    → HasFlushCause journal journal_after port port_after next (of_file_fault fault)
+file_cause journal journal_after port port_after next file.Failed rose = inr (rose refl)
+file_cause journal journal_after port port_after next file.Memory rose = tt
+
+-- a job could not be taken
+pub core_cause : (journal journal_after port port_after next now : ℕ) (fault : CoreFault)
+    → ((counter : ℕ) → fault ≡ job.Full counter → (end_of_numbers < next + 2) × (counter ≡ next)) → now ≡ next
+    → HasFlushCause journal journal_after port port_after now (of_core_fault fault)
+core_cause journal journal_after port port_after next now job.Memory full same = tt
+core_cause journal journal_after port port_after next now (job.Full counter) full same =
+    let is = full counter refl in
+    let end = is.0 in
+    let number = is.1 in
+    (omega (arith, end, number), omega (arith, number, same))
+
+-- a pair could not be frozen
+pub freeze_cause : (journal journal_after port port_after next : ℕ) (fault : FlushFault)
+    → (fault ≡ Device → Rose journal journal_after) → ((counter : ℕ) → fault ≢ Full counter)
+    → HasFlushCause journal journal_after port port_after next fault
+freeze_cause journal journal_after port port_after next Device rose full = inl (rose refl)
+freeze_cause journal journal_after port port_after next Memory rose full = tt
+freeze_cause journal journal_after port port_after next (Full counter) rose full = absurd (full counter refl)
+
+-- the answer where too few numbers are left
+pub full_is : (upto next : ℕ) (store : Store) (fault : CoreFault) → IsTakeAnswer upto next store (Err fault)
+    → (counter : ℕ) → fault ≡ job.Full counter → (end_of_numbers < next + 2) × (counter ≡ next)
+full_is upto next store job.Memory answer counter is = absurd cc
+full_is upto next store (job.Full number) answer counter is =
+    subst (λ n. (end_of_numbers < next + 2) × (n ≡ next)) (number_is number counter is) (answer.1, answer.2)
+  where
+    number_is : (a b : ℕ) → job.Full a ≡ job.Full b → a ≡ b
+    number_is a b same = cc
+
+pub device_cause : (journal journal_after port port_after next : ℕ) (fault : FlushFault)
+    → answer_of fault ≡ answer.Device → HasFlushCause journal journal_after port port_after next fault
+    → Rose journal journal_after ⊎ Rose port port_after
+device_cause journal journal_after port port_after next Device is cause = cause
+device_cause journal journal_after port port_after next Memory is cause = absurd cc
+device_cause journal journal_after port port_after next (Full counter) is cause = absurd cc
+
+pub full_cause : (journal journal_after port port_after next : ℕ) (fault : FlushFault)
+    → HasFlushCause journal journal_after port port_after next fault → (counter : ℕ) → fault ≡ Full counter
+    → end_of_numbers < counter + 2
+full_cause journal journal_after port port_after next Device cause counter is = absurd cc
+full_cause journal journal_after port port_after next Memory cause counter is = absurd cc
+full_cause journal journal_after port port_after next (Full number) cause counter is =
+    let end = cause.0 in
+    let same : number ≡ counter = cc in
+    omega (arith, end, same)

@@ -1,0 +1,278 @@
+-- The parts of a flush, one behind another.
+use Rattle.std.proofs.Common.{◌≡◌, ◌⊎◌, ℕ, ◌<◌, ◌≤◌, true, List, [], ◌∷◌, ◌++◌, length, drop, Option, Result, Ok, Err, inr}
+use Rattle.std.proofs.Common.{ap, arith, refl, sym, subst, ◌∙◌}
+use Rattle.std.specs.Arc.{arc_value}
+use Rattle.std.specs.List.{AllByRecursion as Each}
+use Rattle.std.specs.Option.{IsSomeAnd, option_map}
+use Rattle.std.specs.Prelude.{None, OnOk, Some, slice_get}
+use Rattle.tsdb_base.specs.declared.ids.Stamp.{Stamp}
+use Rattle.tsdb_base.specs.declared.answers.Answer.{Answer}
+use Rattle.tsdb_committing.specs.Files.{AreOfJob, NewFile, NewFiles, TellBytes, all_of}
+use Rattle.tsdb_core.specs.Commands.{IsCoreCommand}
+use Rattle.tsdb_core.specs.Core.{logged_of, next_of, working_of}
+use Rattle.tsdb_core.specs.Ending.{drawn_for}
+use Rattle.tsdb_core.specs.Flushes.{IsAbandoned, IsCommit, IsDue, IsNotTaken, IsOldest, IsTaken, TakesMemory}
+use Rattle.tsdb_core.specs.Rows.{CanFreezeNow, NeedsFlush}
+use Rattle.tsdb_core.specs.Sweeps.{IsSwept}
+use Rattle.tsdb_core.specs.declared.commit.Commit.{Commit}
+use Rattle.tsdb_core.specs.declared.commit.Commit.TheVariants.{Gone}
+use Rattle.tsdb_core.specs.declared.engine.Core.{Core}
+use Rattle.tsdb_frames.specs.Frames.{disk_of, faults_of, slot_of}
+use Rattle.tsdb_frames.specs.declared.frames.Frames.{Frames}
+use Rattle.tsdb_jobs.specs.declared.flush.FlushJob.{FlushJob}
+use Rattle.tsdb_kept.specs.Files.{KeptFiles}
+use Rattle.tsdb_kept.specs.Places.{AreOfStore}
+use Rattle.tsdb_layers.proofs.Lists.{each_weaker}
+use Rattle.tsdb_layers.specs.Lists.{Among}
+use Rattle.tsdb_log.specs.declared.record.LogRecord.TheVariants.{Freeze}
+use Rattle.tsdb_logged.specs.Commands.{IsAny}
+use Rattle.tsdb_logged.specs.Logged.{log_of, memory_of}
+use Rattle.tsdb_logged.specs.declared.logged.Logged.{Logged}
+use Rattle.tsdb_map.specs.State as plain
+use Rattle.tsdb_map.specs.World.{World}
+use Rattle.tsdb_outside.specs.Causes.{Rose}
+use Rattle.tsdb_outside.specs.Disk.{IsLawful}
+use Rattle.tsdb_outside.specs.Files.{Store, StoredFile}
+use Rattle.tsdb_outside.specs.Moments.{LeavesOnly}
+use Rattle.tsdb_outside.specs.declared.disk.Disk as disk
+use Rattle.tsdb_outside.specs.declared.faults.Counted as counted
+use Rattle.tsdb_outside.specs.declared.faults.Failed.{Failed}
+use Rattle.tsdb_serving.proofs.Jobs.{put_numbers, ready_again, ready_swept, still_ready, within}
+use Rattle.tsdb_serving.proofs.Parts as parts
+use Rattle.tsdb_serving.proofs.Steps.{then}
+use Rattle.tsdb_map.specs.declared.command.Row.{Row}
+use Rattle.tsdb_memory.specs.Store.{FrozenPair, Store as MemoryStore}
+use Rattle.tsdb_rows.specs.Fits.{HasNoPoint}
+use Rattle.tsdb_serving.specs.Flushing.{EndsJob, GoesOn, IsBusy, IsOfJob, IsReady, faults_under, frozen_in}
+use Rattle.tsdb_serving.specs.declared.fault.FlushFault.{FlushFault}
+use Rattle.tsdb_serving.specs.Serving.{IsDrawn, IsServed, IsServedBy, LeavesEither, disk_under}
+
+-- the file is of the store
+abbrev IsIn : Store → NewFile → Type 0
+IsIn store new = new.token.name.store ≡ store
+
+-- a list of at most two is empty after two steps
+pub none_left : {X : Type 0} (xs : List X) → length xs ≤ 2 → drop 1 (drop 1 xs) ≡ []
+none_left [] few = refl
+none_left (a ∷ []) few = refl
+none_left (a ∷ b ∷ []) few = refl
+none_left (a ∷ b ∷ c ∷ xs) few = absurd (omega (arith, few))
+
+-- there is a place where one of at most two has left
+pub one_left : {X : Type 0} (xs ys : List X) → length xs ≤ 2 → ys ≡ drop 1 xs → length ys < 2
+one_left [] ys few is = subst (λ (l : List _). length l < 2) (sym is) (omega arith)
+one_left (a ∷ xs) ys few is = subst (λ (l : List _). length l < 2) (sym is) (omega (arith, few))
+
+module _ {J F S R P : Type 0} {means : disk.Ghosts J} {counts : counted.Ghosts J}
+    (laws : (journal : J) → IsLawful (means.state journal)) (store : Store) where
+  -- nothing was done
+  pub nothing : (core : Core J F S R P means counts) → IsReady store core → GoesOn store core core
+  nothing core ready = record {
+    ready = ready;
+    limit = refl;
+    slot = refl;
+    next = omega arith;
+    later = omega arith;
+    keeps = λ tells files at next serving.
+        parts.unchanged laws (IsDrawn core core) core core files at next at.world refl (λ outside engine seen. seen) serving;
+  }
+
+  -- a part behind another
+  pub and_then : (old mid new : Core J F S R P means counts) → GoesOn store old mid → GoesOn store mid new
+      → GoesOn store old new
+  and_then old mid new first second = record {
+    ready = second.ready;
+    limit = second.limit ∙ first.limit;
+    slot = second.slot ∙ first.slot;
+    next = omega (arith, first.next, second.next);
+    later = omega (arith, first.later, second.later);
+    keeps = λ tells files at next serving. let one = first.keeps tells files at next serving in
+        then laws (IsDrawn old mid) (IsDrawn mid new) (IsDrawn old new)
+        (λ n drawn. let low = drawn.from in let high = drawn.to in
+        record { from = low; to = omega (arith, high, second.next) })
+        (λ n drawn. let low = drawn.from in let high = drawn.to in
+        record { from = omega (arith, low, first.next); to = high })
+        old mid new files at next at.world at first.slot one
+        (second.keeps tells (files ++ one.put) at one.doubt one.serving);
+  }
+
+  -- no job could be taken
+  pub not_taken : (old new : Core J F S R P means counts) → TakesMemory old new → IsNotTaken old new
+      → IsReady store old → GoesOn store old new
+  not_taken old new takes not ready = record {
+    ready = still_ready store old new takes not ready;
+    limit = takes.limit;
+    slot = ap (λ log. slot_of log) takes.logged.log.log;
+    next = omega (arith, not.next);
+    later = subst (λ (log : Frames J means counts). faults_under old ≤ faults_of log) (sym takes.logged.log.log)
+        (omega arith);
+    keeps = λ tells files at next serving.
+        parts.unchanged laws (IsDrawn old new) old new files at next at.world takes.logged.log.log not.step serving;
+  }
+
+  -- a freeze
+  pub froze : (old new : Core J F S R P means counts) (result : Answer) → IsCoreCommand old new Freeze IsAny result
+      → CanFreezeNow old → IsReady store old → GoesOn store old new
+  froze old new result command can ready = record {
+    ready = record {
+      jobs = command.kept.jobs [] [] ready.jobs;
+      of_store = subst (λ (files : KeptFiles). AreOfStore store files.places) (sym command.kept.files) ready.of_store;
+    };
+    limit = command.kept.limit;
+    slot = command.slot;
+    next = omega (arith, command.kept.next);
+    later = command.later;
+    keeps = λ tells files at next serving.
+        parts.froze laws (IsDrawn old new) old new result command can files at next serving;
+  }
+
+  -- a job is taken, and ended
+  module _ (old mid new : Core J F S R P means counts) (job : FlushJob) (takes : TakesMemory old mid)
+      (taken : IsTaken old mid job) (ends : EndsJob store mid new job) where
+    as_drawn : (n : ℕ) → IsOfJob job n → IsDrawn old new n
+    as_drawn n among =
+        let is = within (next_of old) (length (drawn_for job)) n
+        (subst (λ (numbers : List ℕ). Among n numbers) taken.numbers among) in
+        let low = is.low in
+        let high = is.high in
+        record { from = low; to = omega (arith, high, taken.next, ends.next) }
+
+    from_old : (files : List StoredFile) (at : plain.State) (next : Option World)
+        → IsServedBy (IsOfJob job) mid new files at next at.world at → IsServed old new files at next at.world at
+    from_old files at next served = record {
+      put = served.put;
+      numbers = each_weaker (λ (file : StoredFile). IsOfJob job file.number)
+          (λ (file : StoredFile). IsDrawn old new file.number) (λ file of_job. as_drawn file.number of_job) served.put
+          served.numbers;
+      doubt = served.doubt;
+      may = served.may;
+      serving = served.serving;
+      moments = subst (λ (log : Frames J means counts). LeavesOnly (disk_of log) (disk_under new)
+          (LeavesEither (files ++ served.put) (slot_of log) at.world next at.world)) takes.logged.log.log served.moments;
+    }
+
+    pub flushed : GoesOn store old new
+    flushed = record {
+      ready = ends.ready;
+      limit = ends.limit ∙ takes.limit;
+      slot = ends.slot ∙ ap (λ log. slot_of log) takes.logged.log.log;
+      next = omega (arith, taken.next, ends.next);
+      later = subst (λ (log : Frames J means counts). faults_of log ≤ faults_under new) takes.logged.log.log ends.later;
+      keeps = λ tells files at next serving. from_old files at next
+          (ends.keeps tells files at next (parts.taken laws old mid job files at next taken serving));
+    }
+
+  -- ---- the end of a job, and then a sweep
+
+  swept_later : (old mid new : Core J F S R P means counts) (outcome : Result ℕ Failed) → IsSwept mid new outcome
+      → faults_under old ≤ faults_under mid → faults_under old ≤ faults_under new
+  swept_later old mid new outcome swept = subst (λ (logged : Logged J means counts).
+      faults_under old ≤ faults_of (log_of logged)) (sym swept.logged)
+
+  module _ (old mid new : Core J F S R P means counts) (job : FlushJob) (built : NewFiles) (given : Store)
+      (of_job : AreOfJob given job built) (all : Each (IsIn store) (all_of built))
+      (tells : store.tells ≡ true → TellBytes built) (outcome : Result ℕ Failed) (sweeps : IsSwept mid new outcome)
+      (busy : IsBusy store old job) where
+    pub commit_ends : (commit : Commit) → IsCommit old mid job built commit → EndsJob store old new job
+    commit_ends commit commits = record {
+      ready = ready_swept store mid new outcome sweeps (ready_again store old mid job built commit commits.ends all busy);
+      limit = sweeps.limit ∙ commits.ends.limit;
+      slot = ap (λ logged. slot_of (log_of logged)) sweeps.logged ∙ commits.slot;
+      next = sweeps.next ∙ commits.ends.next;
+      later = swept_later old mid new outcome sweeps commits.later;
+      keeps = λ told files at next serving.
+          let one = parts.committed laws (IsOfJob job) old mid job built given of_job (tells told)
+          (put_numbers given job built of_job) files at next serving commit commits in
+          then laws (IsOfJob job) (IsOfJob job) (IsOfJob job) (λ n is. is) (λ n is. is) old mid new files at next
+          at.world at commits.slot one
+          (parts.swept laws (IsOfJob job) mid new (files ++ one.put) at one.doubt one.serving outcome sweeps);
+    }
+
+    pub abandon_ends : IsAbandoned old mid job built → EndsJob store old new job
+    abandon_ends gives_up = record {
+      ready = ready_swept store mid new outcome sweeps (ready_again store old mid job built Gone gives_up.ends all busy);
+      limit = sweeps.limit ∙ gives_up.ends.limit;
+      slot = ap (λ logged. slot_of (log_of logged)) sweeps.logged ∙ ap (λ logged. slot_of (log_of logged)) gives_up.logged;
+      next = sweeps.next ∙ gives_up.ends.next;
+      later = swept_later old mid new outcome sweeps (subst (λ (logged : Logged J means counts).
+          faults_under old ≤ faults_of (log_of logged)) (sym gives_up.logged) (omega arith));
+      keeps = λ told files at next serving.
+          let one = parts.abandoned laws (IsOfJob job) old mid job built given of_job (tells told)
+          (put_numbers given job built of_job) files at next serving gives_up in
+          then laws (IsOfJob job) (IsOfJob job) (IsOfJob job) (λ n is. is) (λ n is. is) old mid new files at next
+          at.world at (ap (λ logged. slot_of (log_of logged)) gives_up.logged) one
+          (parts.swept laws (IsOfJob job) mid new (files ++ one.put) at one.doubt one.serving outcome sweeps);
+    }
+
+module _ {J F S R P : Type 0} {means : disk.Ghosts J} {counts : counted.Ghosts J} where
+  -- a sweep leaves the journal's count as it was
+  pub later_rose : (old mid new : Core J F S R P means counts) (outcome : Result ℕ Failed) → IsSwept mid new outcome
+      → Rose (faults_under old) (faults_under mid) → Rose (faults_under old) (faults_under new)
+  later_rose old mid new outcome swept = subst (λ (logged : Logged J means counts).
+      Rose (faults_under old) (faults_of (log_of logged))) (sym swept.logged)
+
+  -- taking memory leaves the pairs, and the journal's count
+  pub oldest_still : (old new : Core J F S R P means counts) (job : FlushJob) → TakesMemory old new
+      → IsTaken old new job → IsOldest job (memory_of (logged_of new))
+  oldest_still old new job takes taken = subst (IsOldest job) (sym takes.memory)
+      (born_of (slice_get (memory_of (logged_of old)).frozen 0) taken.oldest)
+    where
+      born_of : (o : Option FrozenPair) → IsSomeAnd o (λ pair. (pair.born ≡ job.born.0) × (pair.pair ≡ arc_value job.pair))
+          → IsSomeAnd o (λ pair. pair.born ≡ job.born.0)
+      born_of None is = is
+      born_of (Some pair) is = is.0
+
+  pub dropped : (old mid new : Core J F S R P means counts) (result : Result (Unit {0}) FlushFault) → TakesMemory old mid
+      → OnOk result (frozen_in new ≡ drop 1 (frozen_in mid)) → OnOk result (frozen_in new ≡ drop 1 (frozen_in old))
+  dropped old mid new (Ok value) takes is = is ∙ ap (λ (store : MemoryStore). drop 1 store.frozen) takes.memory
+  dropped old mid new (Err fault) takes is = tt
+
+  pub no_less : (old mid : Core J F S R P means counts) → TakesMemory old mid → faults_under old ≤ faults_under mid
+  no_less old mid takes = subst (λ (log : Frames J means counts). faults_under old ≤ faults_of log)
+      (sym takes.logged.log.log) (omega arith)
+
+-- the oldest frozen pair is due at its own born
+pub is_due : (frozen : List FrozenPair) (result : Option Stamp) (upto : Stamp) → result ≡ Some upto
+    → option_map (λ (stamp : Stamp). stamp.0) result ≡ option_map (λ pair. pair.born) (slice_get frozen 0)
+    → IsDue upto.0 frozen
+is_due frozen result upto is born = by (slice_get frozen 0)
+    (subst (λ r. option_map (λ (stamp : Stamp). stamp.0) r ≡ option_map (λ pair. pair.born) (slice_get frozen 0)) is born)
+  where
+    by : (o : Option FrozenPair) → Some upto.0 ≡ option_map (λ pair. pair.born) o
+        → IsSomeAnd o (λ pair. pair.born ≤ upto.0)
+    by None same = absurd cc
+    by (Some pair) same = let equal : upto.0 ≡ pair.born = cc in omega (arith, equal)
+
+pub none_frozen : (frozen : List FrozenPair) (result : Option Stamp) → result ≡ None
+    → option_map (λ (stamp : Stamp). stamp.0) result ≡ option_map (λ pair. pair.born) (slice_get frozen 0)
+    → frozen ≡ drop 1 frozen
+none_frozen [] result is born = refl
+none_frozen (pair ∷ frozen) result is born =
+    let same = subst (λ r. option_map (λ (stamp : Stamp). stamp.0) r ≡ Some pair.born) is born in absurd cc
+
+-- two frozen pairs at most have left after two steps
+pub both_dropped : (old mid new : List FrozenPair) (result : Result (Unit {0}) FlushFault) → length old ≤ 2
+    → mid ≡ drop 1 old → OnOk result (new ≡ drop 1 mid) → OnOk result (new ≡ [])
+both_dropped old mid new (Ok value) few first second = second ∙ ap (drop 1) first ∙ none_left old few
+both_dropped old mid new (Err fault) few first second = tt
+
+module _ {J F S R P : Type 0} {means : disk.Ghosts J} {counts : counted.Ghosts J} where
+  pub flushed_all : (mid new : Core J F S R P means counts) (result : Result (Unit {0}) FlushFault)
+      → OnOk result (frozen_in new ≡ []) → working_of new ≡ working_of mid → HasNoPoint (working_of mid)
+      → OnOk result ((frozen_in new ≡ []) × HasNoPoint (working_of new))
+  flushed_all mid new (Ok value) none same empty = (none, subst HasNoPoint (sym same) empty)
+  flushed_all mid new (Err fault) none same empty = tt
+
+  pub place_left : (old new : Core J F S R P means counts) (result : Result (Unit {0}) FlushFault)
+      → length (frozen_in old) ≤ 2 → OnOk result (frozen_in new ≡ drop 1 (frozen_in old))
+      → OnOk result (HasNoPoint (working_of new) ⊎ (length (frozen_in new) < 2))
+  place_left old new (Ok value) few is = inr (one_left (frozen_in old) (frozen_in new) few is)
+  place_left old new (Err fault) few is = tt
+
+  pub no_flush_needed : (old new : Core J F S R P means counts) (row : Row) (result : Result (Unit {0}) FlushFault)
+      → length (frozen_in old) ≤ 2 → OnOk result (frozen_in new ≡ drop 1 (frozen_in old))
+      → OnOk result (¬ NeedsFlush row new)
+  no_flush_needed old new row (Ok value) few is =
+      let left = one_left (frozen_in old) (frozen_in new) few is in
+      λ needs. let two = needs.1 in absurd (omega (arith, left, two))
+  no_flush_needed old new row (Err fault) few is = tt

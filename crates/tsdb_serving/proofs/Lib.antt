@@ -1,0 +1,10 @@
+pub mod Answered
+pub mod Causes
+pub mod First
+pub mod Flushes
+pub mod Held
+pub mod Jobs
+pub mod Parts
+pub mod Possible
+pub mod Shown
+pub mod Steps

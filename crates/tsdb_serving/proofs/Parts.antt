@@ -1,0 +1,370 @@
+-- The steps of a flush, as a core takes them: what each leaves of the worlds that a core stands for.
+use Rattle.std.proofs.Common.{◌≡◌, ℕ, List, [], ◌∷◌, ◌++◌, Option, None, Some, Result, Ok, Err, inl, inr, refl, sym}
+use Rattle.std.proofs.Common.{ap, subst, ◌∙◌}
+use Rattle.std.specs.List.{AllByRecursion as Each, flat_map}
+use Rattle.std.specs.Prelude.{IfSome}
+use Rattle.tsdb_answers.proofs.Following.{froze_stands}
+use Rattle.tsdb_base.specs.declared.answers.Answer.{Answer}
+use Rattle.tsdb_base.specs.declared.answers.Answer.TheVariants as answer
+use Rattle.tsdb_committing.proofs.Stored.{told_same, worlds_with}
+use Rattle.tsdb_committing.specs.Files.{AreOfJob, IsOutAs, NewFiles, TellBytes, all_of, state_files}
+use Rattle.tsdb_committing.specs.Files.{stored_of, told_with, with_files}
+use Rattle.tsdb_core.specs.Commands.{IsCoreCommand, IsSeenAfter}
+use Rattle.tsdb_core.specs.Core.{IsSeen, files_of, logged_of}
+use Rattle.tsdb_core.specs.Flushes.{IsAbandoned, IsCommit, IsCommitAnswer, IsOldest, IsSeenAfterCommit}
+use Rattle.tsdb_core.specs.Flushes.{IsTaken}
+use Rattle.tsdb_core.specs.Rows.{CanFreezeNow}
+use Rattle.tsdb_core.specs.Sweeps.{IsSwept, without_files}
+use Rattle.tsdb_core.specs.declared.commit.Commit.{Commit}
+use Rattle.tsdb_core.specs.declared.commit.Commit.TheVariants.{Device, Done, Gone}
+use Rattle.tsdb_core.specs.declared.engine.Core.{Core}
+use Rattle.tsdb_frames.proofs.MomentLemmas.{weaker}
+use Rattle.tsdb_held.specs.Held.{may_go}
+use Rattle.tsdb_images.proofs.After.{listed_after}
+use Rattle.tsdb_images.specs.Stored.{LeadsTo, built_files}
+use Rattle.tsdb_jobs.specs.declared.flush.FlushJob.{FlushJob}
+use Rattle.tsdb_kept.specs.Sweeps.{tried_numbers}
+use Rattle.tsdb_layers.proofs.Lists.{each_among, each_from_among, each_left, each_right}
+use Rattle.tsdb_layers.specs.Lists.{Among}
+use Rattle.tsdb_log.specs.declared.record.LogRecord.{LogRecord}
+use Rattle.tsdb_log.specs.declared.record.LogRecord.TheVariants.{Freeze}
+use Rattle.tsdb_logged.specs.Commands.{IsAny}
+use Rattle.tsdb_logged.specs.Logged.{IsStoredIn, Outside, log_of, memory_of, with_record}
+use Rattle.tsdb_map.specs.State as plain
+use Rattle.tsdb_map.specs.World.{World}
+use Rattle.tsdb_outside.specs.Disk.{IsLawful}
+use Rattle.tsdb_outside.specs.Files.{Store, StoredFile}
+use Rattle.tsdb_outside.specs.declared.disk.Disk as disk
+use Rattle.tsdb_outside.specs.declared.faults.Counted as counted
+use Rattle.tsdb_outside.specs.declared.faults.Failed.{Failed}
+use Rattle.tsdb_serving.proofs.Held.{either_wider, held_more, held_with, held_without}
+use Rattle.tsdb_serving.proofs.Steps.{quiet}
+use Rattle.tsdb_serving.specs.Flushing.{IsServingJob}
+use Rattle.tsdb_serving.specs.Serving.{IsServedBy, IsServing, LeavesEither, MayDoubt, disk_under, slot_under}
+use Rattle.tsdb_state.proofs.Told.{value_same}
+use Rattle.tsdb_state.specs.Order.{DoubtInOrder, files_of as state_files_of}
+use Rattle.tsdb_state.specs.Records.{after, flush_oldest, names, numbers_of}
+use Rattle.tsdb_state.specs.State as state
+use Rattle.tsdb_state.specs.State.{EngineState, File, FrozenPair, StoreState, Told}
+use Rattle.tsdb_state.specs.Steps.{committed_flush, ended_flush, failed, flush_record, number_or_none, settled}
+use Rattle.tsdb_state.specs.Steps.{swept as swept_state}
+use Rattle.tsdb_state.specs.Steps.{took_flush, wrote}
+use Rattle.tsdb_state.specs.Worlds.{StandsFor}
+
+-- ---- what is told of other files
+
+module _ (told other : Told) where
+  abbrev Same : File → Type 0
+  Same file = told file.number ≡ other file.number
+
+  same_number : (files : List File) → Each Same files → (n : ℕ) → Among n (numbers_of files) → told n ≡ other n
+  same_number [] same n among = absurd among
+  same_number (file ∷ files) same n (inl is) = subst (λ m. told m ≡ other m) is same.0
+  same_number (file ∷ files) same n (inr among) = same_number files same.1 n among
+
+  stands_as : (store : StoreState) (world : World) → Each Same (store.sequence ++ store.unsequence)
+      → StandsFor told store world → StandsFor other store world
+  stands_as store world same stands = record {
+    types = stands.types;
+    values = λ place. stands.values place ∙ value_same told other store
+        (each_left Same store.sequence store.unsequence same)
+        (each_right Same store.sequence store.unsequence same) place;
+  }
+
+  -- a record in doubt leads to the same world, where all files that are there are told as before
+  leads_as : (named : List ℕ) (store : StoreState) (outgoing : List File) (doubt : Option LogRecord)
+      (next : Option World) → Each Same ((store.sequence ++ store.unsequence) ++ outgoing)
+      → IfSome doubt (DoubtInOrder told named store outgoing) → LeadsTo told store doubt next
+      → LeadsTo other store doubt next
+  leads_as named store outgoing None None same order leads = tt
+  leads_as named store outgoing None (Some next) same order leads = absurd leads
+  leads_as named store outgoing (Some item) None same order leads = absurd leads
+  leads_as named store outgoing (Some item) (Some next) same order leads =
+      stands_as (after item store) next
+      (listed_after Same item store (λ n among born. same_number outgoing
+      (each_right Same (store.sequence ++ store.unsequence) outgoing same) n
+      (each_among (λ number. Among number (numbers_of outgoing)) (names item) n order.kept among))
+      (each_left Same (store.sequence ++ store.unsequence) outgoing same)) leads
+
+-- a flush leaves the stamp
+flushed_stamp : (s u : ℕ) (frozen : List FrozenPair) (store : StoreState)
+    → (flush_oldest s u frozen store).stamp ≡ store.stamp
+flushed_stamp s u [] store = refl
+flushed_stamp s u (oldest ∷ newer) store = refl
+
+module _ (job : FlushJob) (outside : Outside) (engine : EngineState) (flush : state.FlushJob)
+    (others : List state.FlushJob) (stored : IsStoredIn outside engine) (out : IsOutAs job flush others engine)
+    (store : Store) (files : NewFiles) (of_job : AreOfJob store job files) where
+  pub leads_with : (next : Option World) → LeadsTo outside.told engine.store engine.doubt next
+      → LeadsTo (told_with flush files outside.told) engine.store engine.doubt next
+  leads_with next leads = leads_as outside.told (told_with flush files outside.told) stored.named engine.store
+      engine.outgoing engine.doubt next
+      (each_from_among _ (state_files_of engine)
+      (told_same job outside engine flush others stored out store files of_job))
+      stored.order.doubt leads
+
+module _ {J F S R P : Type 0} {means : disk.Ghosts J} {counts : counted.Ghosts J}
+    (laws : (journal : J) → IsLawful (means.state journal)) where
+  -- ---- a freeze
+
+  module _ (Q : ℕ → Type 0) (old new : Core J F S R P means counts) (result : Answer)
+      (step : IsCoreCommand old new Freeze IsAny result) (can : CanFreezeNow old) (files : List StoredFile)
+      (at : plain.State) (next : Option World) (serving : IsServing old files at next) where
+    frozen_stands : StandsFor serving.outside.told (after Freeze serving.state.store) at.world
+    frozen_stands = froze_stands serving.outside.told serving.state.store at.world serving.seen.sound.stored.order.store
+        (can serving.outside serving.state serving.seen) serving.stands
+
+    froze_by : (doubt : Option World) → MayDoubt next at.world at.world doubt → IsServing new (files ++ []) at doubt
+        → IsServedBy Q old new files at next at.world at
+    froze_by doubt may is = record {
+      put = [];
+      numbers = tt;
+      doubt = doubt;
+      may = may;
+      serving = is;
+      moments = weaker (disk_under old) (disk_under new) _
+          (LeavesEither (files ++ []) (slot_under old) at.world next at.world)
+          (λ image leaves. either_wider serving.outside.kept (files ++ []) (slot_under old) at.world next at.world image
+          (held_more serving.outside.kept files [] serving.held) leaves)
+          (step.moments serving.outside serving.state serving.seen tt at.world at.world next serving.stands serving.doubt
+          frozen_stands);
+    }
+
+    as_it_was : IsSeen new serving.outside serving.state → IsServing new (files ++ []) at next
+    as_it_was seen = record {
+      outside = serving.outside;
+      state = serving.state;
+      seen = seen;
+      stands = serving.stands;
+      stamp = serving.stamp;
+      doubt = serving.doubt;
+      held = held_more serving.outside.kept files [] serving.held;
+    }
+
+    froze_in : (r : Answer) → IsSeenAfter new serving.outside serving.state Freeze r
+        → IsServedBy Q old new files at next at.world at
+    froze_in answer.Done seen = froze_by None (inl refl) (record {
+      outside = with_record Freeze serving.outside;
+      state = wrote Freeze serving.state;
+      seen = seen;
+      stands = frozen_stands;
+      stamp = serving.stamp;
+      doubt = tt;
+      held = held_more serving.outside.kept files [] serving.held;
+    })
+    froze_in answer.NoPath seen = froze_by next (inr (inl refl)) (as_it_was seen)
+    froze_in answer.WrongType seen = froze_by next (inr (inl refl)) (as_it_was seen)
+    froze_in answer.Exists seen = froze_by next (inr (inl refl)) (as_it_was seen)
+    froze_in answer.Device (inl seen) = froze_by None (inl refl) (record {
+      outside = serving.outside;
+      state = settled serving.state;
+      seen = seen;
+      stands = serving.stands;
+      stamp = serving.stamp;
+      doubt = tt;
+      held = held_more serving.outside.kept files [] serving.held;
+    })
+    froze_in answer.Device (inr (inl seen)) = froze_by next (inr (inl refl)) (as_it_was seen)
+    froze_in answer.Device (inr (inr seen)) = froze_by (Some at.world) (inr (inr (inl refl))) (record {
+      outside = serving.outside;
+      state = failed Freeze serving.state;
+      seen = seen;
+      stands = serving.stands;
+      stamp = serving.stamp;
+      doubt = frozen_stands;
+      held = held_more serving.outside.kept files [] serving.held;
+    })
+    froze_in answer.Memory seen = froze_by next (inr (inl refl)) (as_it_was seen)
+    froze_in (answer.Full counter) seen = froze_by next (inr (inl refl)) (as_it_was seen)
+
+    pub froze : IsServedBy Q old new files at next at.world at
+    froze = froze_in result (step.step serving.outside serving.state serving.seen tt)
+
+  -- ---- nothing
+
+  pub same_seen : (old new : Core J F S R P means counts) (files : List StoredFile) (at : plain.State)
+      (next : Option World) → ((outside : Outside) (engine : EngineState) → IsSeen old outside engine
+      → IsSeen new outside engine) → IsServing old files at next → IsServing new files at next
+  same_seen old new files at next step serving = record {
+    outside = serving.outside;
+    state = serving.state;
+    seen = step serving.outside serving.state serving.seen;
+    stands = serving.stands;
+    stamp = serving.stamp;
+    doubt = serving.doubt;
+    held = serving.held;
+  }
+
+  pub more_files : (core : Core J F S R P means counts) (files put : List StoredFile) (at : plain.State)
+      (next : Option World) → IsServing core files at next → IsServing core (files ++ put) at next
+  more_files core files put at next serving = record {
+    outside = serving.outside;
+    state = serving.state;
+    seen = serving.seen;
+    stands = serving.stands;
+    stamp = serving.stamp;
+    doubt = serving.doubt;
+    held = held_more serving.outside.kept files put serving.held;
+  }
+
+  -- a step that changes neither log nor state
+  pub unchanged : (Q : ℕ → Type 0) (old new : Core J F S R P means counts) (files : List StoredFile) (at : plain.State)
+      (next : Option World) (after : World) → log_of (logged_of new) ≡ log_of (logged_of old)
+      → ((outside : Outside) (engine : EngineState) → IsSeen old outside engine → IsSeen new outside engine)
+      → IsServing old files at next → IsServedBy Q old new files at next after at
+  unchanged Q old new files at next after same step serving = quiet laws Q old new files [] at next after same tt
+      serving
+      (more_files new files [] at next (same_seen old new files at next step serving))
+
+  -- ---- taking a job
+
+  pub taken : (old new : Core J F S R P means counts) (job : FlushJob) (files : List StoredFile) (at : plain.State)
+      (next : Option World) → IsTaken old new job → IsServing old files at next
+      → IsServingJob new job files at next
+  taken old new job files at next takes serving =
+      let step = takes.step serving.outside serving.state serving.seen in
+      record {
+        outside = serving.outside;
+        state = took_flush step.0 serving.state;
+        flush = step.0;
+        others = serving.state.flushes;
+        seen = step.3;
+        out = record {
+          is_job = takes.is_job;
+          of = step.1;
+          out = record { before = []; behind = serving.state.flushes; with_it = refl; without = refl };
+        };
+        stands = serving.stands;
+        stamp = serving.stamp;
+        doubt = serving.doubt;
+        held = serving.held;
+      }
+
+  -- ---- ending it
+
+  module _ (Q : ℕ → Type 0) (old new : Core J F S R P means counts) (job : FlushJob) (built : NewFiles)
+      (store : Store) (of_job : AreOfJob store job built) (tells : TellBytes built)
+      (numbers : Each (λ (file : StoredFile). Q file.number) (flat_map stored_of (all_of built)))
+      (files : List StoredFile) (at : plain.State) (next : Option World) (is : IsServingJob old job files at next) where
+    abbrev put : List StoredFile
+    put = flat_map stored_of (all_of built)
+
+    abbrev later : Outside
+    later = with_files is.flush built is.outside
+
+    stands_later : StandsFor later.told is.state.store at.world
+    stands_later = (worlds_with job is.outside is.state is.flush is.others is.seen.sound.stored is.out store built of_job
+        at.world).0 is.stands
+
+    leads_later : LeadsTo later.told is.state.store is.state.doubt next
+    leads_later = leads_with job is.outside is.state is.flush is.others is.seen.sound.stored is.out store built of_job
+        next is.doubt
+
+    before : IsServing old files at next
+    before = record {
+      outside = is.outside;
+      state = is.state;
+      seen = is.seen;
+      stands = is.stands;
+      stamp = is.stamp;
+      doubt = is.doubt;
+      held = is.held;
+    }
+
+    -- a state of the same store
+    shows : (other : EngineState) (doubt : Option World) → other.store ≡ is.state.store
+        → LeadsTo later.told is.state.store other.doubt doubt → IsSeen new later other
+        → IsServing new (files ++ put) at doubt
+    shows other doubt same leads seen = record {
+      outside = later;
+      state = other;
+      seen = seen;
+      stands = subst (λ s. StandsFor later.told s at.world) (sym same) stands_later;
+      stamp = ap (λ s. s.stamp) same ∙ is.stamp;
+      doubt = subst (λ s. LeadsTo later.told s other.doubt doubt) (sym same) leads;
+      held = held_with built is.outside.kept files is.held;
+    }
+
+    pub abandoned : IsAbandoned old new job built → IsServedBy Q old new files at next at.world at
+    abandoned gives_up = quiet laws Q old new files put at next at.world (ap (λ log. log_of log) gives_up.logged) numbers
+        before
+        (shows (ended_flush is.flush is.others (state_files built) is.state) next refl leads_later
+        (gives_up.step is.outside is.state is.flush is.others is.seen is.out tells))
+
+    module _ (commit : Commit) (commits : IsCommit old new job built commit) where
+      record_stands : IsOldest job (memory_of (logged_of old))
+          → StandsFor later.told (after (flush_record is.flush) is.state.store) at.world
+      record_stands oldest =
+          let keeps = commits.keeps is.outside is.state is.flush is.others is.seen is.out tells oldest in record {
+            types = λ path. stands_later.types path ∙ sym (keeps.types path);
+            values = λ place. stands_later.values place ∙ sym (keeps.values place);
+          }
+
+      by_record : IsOldest job (memory_of (logged_of old)) → (doubt : Option World) → MayDoubt next at.world at.world doubt
+          → IsServing new (files ++ put) at doubt → IsServedBy Q old new files at next at.world at
+      by_record oldest doubt may shown = record {
+        put = put;
+        numbers = numbers;
+        doubt = doubt;
+        may = may;
+        serving = shown;
+        moments = weaker (disk_under old) (disk_under new) _
+            (LeavesEither (files ++ put) (slot_under old) at.world next at.world)
+            (λ image leaves. either_wider later.kept (files ++ put) (slot_under old) at.world next at.world image
+            (held_with built is.outside.kept files is.held) leaves)
+            (commits.moments is.outside is.state is.flush is.others is.seen is.out tells at.world at.world next stands_later
+            leads_later (record_stands oldest));
+      }
+
+      committed_as : (c : Commit) → c ≡ commit → IsCommitAnswer job (memory_of (logged_of old)) c
+          → IsSeenAfterCommit new later is.state is.flush is.others c
+          → IsServedBy Q old new files at next at.world at
+      committed_as Done same oldest seen = by_record oldest None (inl refl) (record {
+        outside = with_record (flush_record is.flush) later;
+        state = committed_flush is.flush is.others is.state;
+        seen = seen;
+        stands = record_stands oldest;
+        stamp = flushed_stamp (number_or_none is.flush.sequence).0 (number_or_none is.flush.unsequence).0
+            is.state.store.frozen is.state.store ∙ is.stamp;
+        doubt = tt;
+        held = held_with built is.outside.kept files is.held;
+      })
+      committed_as Gone same answered seen = quiet laws Q old new files put at next at.world
+          (ap (λ log. log_of log) (commits.gone (sym same))) numbers before
+          (shows (ended_flush is.flush is.others (built_files is.flush) is.state) next refl leads_later seen)
+      committed_as Device same oldest (inl seen) = by_record oldest None (inl refl)
+          (shows (settled (ended_flush is.flush is.others (built_files is.flush) is.state)) None refl tt seen)
+      committed_as Device same oldest (inr (inl seen)) = by_record oldest next (inr (inl refl))
+          (shows (ended_flush is.flush is.others (built_files is.flush) is.state) next refl leads_later seen)
+      committed_as Device same oldest (inr (inr seen)) = by_record oldest (Some at.world) (inr (inr (inl refl)))
+          (shows (failed (flush_record is.flush) (ended_flush is.flush is.others (built_files is.flush) is.state))
+          (Some at.world) refl (record_stands oldest) seen)
+
+      pub committed : IsServedBy Q old new files at next at.world at
+      committed = committed_as commit refl commits.answer
+          (commits.step is.outside is.state is.flush is.others is.seen is.out tells)
+
+  -- ---- a sweep
+
+  module _ (Q : ℕ → Type 0) (old new : Core J F S R P means counts) (files : List StoredFile) (at : plain.State)
+      (next : Option World) (serving : IsServing old files at next) where
+    swept_of : (numbers : List ℕ) → logged_of new ≡ logged_of old
+        → IsSeen new (without_files numbers serving.outside) (swept_state numbers serving.state)
+        → IsServedBy Q old new files at next at.world at
+    swept_of numbers same seen = quiet laws Q old new files [] at next at.world (ap (λ log. log_of log) same) tt
+        serving (more_files new files [] at next (record {
+          outside = without_files numbers serving.outside;
+          state = swept_state numbers serving.state;
+          seen = seen;
+          stands = serving.stands;
+          stamp = serving.stamp;
+          doubt = serving.doubt;
+          held = held_without numbers serving.outside.kept files serving.held;
+        }))
+
+    pub swept : (outcome : Result ℕ Failed) → IsSwept old new outcome
+        → IsServedBy Q old new files at next at.world at
+    swept (Ok count) sweeps = swept_of (may_go sweeps.doubted (files_of old) (files_of old).outgoing) sweeps.logged
+        (sweeps.all.step serving.outside serving.state serving.seen)
+    swept (Err failure) sweeps = swept_of (tried_numbers sweeps.doubted (files_of old).places sweeps.stopped.0)
+        sweeps.logged (sweeps.stopped.1.step serving.outside serving.state serving.seen)

@@ -1,0 +1,33 @@
+-- A listing answers the command that asks for it.
+use Rattle.std.proofs.Common.{Result, Ok, Err, refl}
+use Rattle.std.specs.Prelude.{IfOk}
+use Rattle.tsdb_base.specs.declared.fault.Memory.{Memory}
+use Rattle.tsdb_core.specs.Listings.{TellsStore}
+use Rattle.tsdb_core.specs.declared.engine.Core.{Core}
+use Rattle.tsdb_map.specs.Apply.{accepted}
+use Rattle.tsdb_map.specs.declared.command.Command.TheVariants.{ShowFiles}
+use Rattle.tsdb_map.specs.declared.reply.Listing.{Listing}
+use Rattle.tsdb_map.specs.declared.reply.Reply.TheVariants.{Files}
+use Rattle.tsdb_outside.specs.Disk.{IsLawful}
+use Rattle.tsdb_outside.specs.declared.disk.Disk as disk
+use Rattle.tsdb_outside.specs.declared.faults.Counted as counted
+use Rattle.tsdb_serving.proofs.Parts.{unchanged}
+use Rattle.tsdb_serving.proofs.Possible.{possible}
+use Rattle.tsdb_serving.specs.Serving.{Answers, IsDrawn}
+
+module _ {J F S R P : Type 0} {means : disk.Ghosts J} {counts : counted.Ghosts J}
+    (laws : (journal : J) → IsLawful (means.state journal)) where
+  pub shown : (core : Core J F S R P means counts) (result : Result Listing Memory) → IfOk result (TellsStore core)
+      → IfOk result (λ listing. Answers core core ShowFiles (Files listing))
+  shown core (Ok listing) tells = λ files at next serving. record {
+    allowed = (
+      refl,
+      possible serving.outside.told serving.outside.known serving.seen.sound.stored.named serving.state
+          serving.seen.sound.stored.order at serving.stands serving.stamp listing
+          (tells serving.outside serving.state serving.seen),
+    );
+    served = unchanged laws (IsDrawn core core) core core files at next (accepted at.world ShowFiles) refl
+        (λ outside engine seen. seen) serving;
+    settled = λ change is. absurd cc;
+  }
+  shown core (Err fault) tells = tt

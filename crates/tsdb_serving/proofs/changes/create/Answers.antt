@@ -1,0 +1,27 @@
+use Rattle.std.proofs.Common.{refl, subst}
+use Rattle.tsdb_answers.proofs.Following.{creation_follows}
+use Rattle.tsdb_core.specs.Core.{logged_of}
+use Rattle.tsdb_logged.specs.Commands.{create_record}
+use Rattle.tsdb_logged.specs.Logged.{memory_of}
+use Rattle.tsdb_map.specs.declared.command.Command.TheVariants.{Create}
+use Rattle.tsdb_serving.proofs.Answered.{HasStamp, allowed, answered, create_stamp, stamp_is, world_is}
+use Rattle.tsdb_serving.proofs.Jobs.{kept_ready}
+use Rattle.tsdb_serving.specs.Serving.{IsDrawn}
+use Rattle.tsdb_serving.proofs.changes.create.Goals as goal
+
+pub returns-clause-answers : goal.returns-clause-answers
+returns-clause-answers g c = λ files at next serving. answered g.J.Disk.lawful (IsDrawn c.args.core.now c.create.new.self)
+    c.args.core.now c.create.new.self (create_record c.args.schema.now) (Create c.args.schema.now) (λ store. refl) files at
+    next serving c.create.result c.create.ensures.command
+    (λ outside state seen. (creation_follows outside.told (memory_of (logged_of c.args.core.now)) state.store
+    seen.sound.memory seen.sound.stored.order.store c.args.schema.now c.create.result c.requires
+    c.create.ensures.answer).leads)
+    (allowed at (Create c.args.schema.now) (λ is. absurd cc) refl c.create.result
+    (c.create.ensures.map.answers at.world (world_is c.args.core.now files at next serving))
+    (subst (λ stamp. HasStamp stamp c.create.result) (stamp_is c.args.core.now files at next serving)
+    (create_stamp (memory_of (logged_of c.args.core.now)) c.args.schema.now.path c.create.result
+    c.create.ensures.answer)))
+
+pub returns-clause-ready : goal.returns-clause-ready
+returns-clause-ready g c = λ store ready. kept_ready c.args.core.now c.create.new.self c.create.ensures.command.kept store
+    ready

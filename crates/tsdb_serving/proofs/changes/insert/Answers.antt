@@ -1,0 +1,59 @@
+use Rattle.std.proofs.Common.{◌++◌, inl, arith, refl, subst, sym, ◌∙◌}
+use Rattle.tsdb_core.specs.Core.{logged_of}
+use Rattle.tsdb_logged.specs.Logged.{memory_of}
+use Rattle.tsdb_map.specs.declared.command.Command.TheVariants.{Insert}
+use Rattle.tsdb_map.specs.declared.reply.Reply.TheVariants.{Plain}
+use Rattle.tsdb_serving.proofs.Answered.{HasStamp, allowed, behind, flush_failed, insert_stamp, row_answered, stamp_is}
+use Rattle.tsdb_serving.proofs.Answered.{world_is}
+use Rattle.tsdb_serving.proofs.Causes.{device_cause, full_cause, rose_later}
+use Rattle.tsdb_serving.proofs.Jobs.{drawn_first, drawn_second, kept_ready}
+use Rattle.tsdb_serving.specs.Flushing.{faults_under}
+use Rattle.tsdb_serving.specs.Serving.{IsAnsweredBy, IsDrawn}
+use Rattle.tsdb_serving.proofs.changes.insert.Goals as goal
+
+pub returns-in-Ok-clause-answers : goal.returns-in-Ok-clause-answers
+returns-in-Ok-clause-answers g c = λ tells files at next serving.
+    let first = c.make_room.ensures.goes_on.keeps tells files at next serving in
+    behind g.J.Disk.lawful c.args.core.now c.make_room.new.core c.insert.new.self c.args.device.now c.args.row.now files at next
+    c.make_room.ensures.goes_on.slot first
+    (drawn_first c.args.core.now c.make_room.new.core c.insert.new.self c.insert.ensures.kept.next)
+    (drawn_second c.args.core.now c.make_room.new.core c.insert.new.self c.make_room.ensures.goes_on.next)
+    c.insert.result
+    (row_answered g.J.Disk.lawful (IsDrawn c.make_room.new.core c.insert.new.self) c.make_room.new.core c.insert.new.self c.args.device.now c.args.row.now
+    (files ++ first.put) at first.doubt first.serving c.insert.result c.insert.ensures.row
+    (allowed at (Insert c.args.device.now c.args.row.now) (λ is. absurd cc) refl c.insert.result
+    (c.insert.ensures.map.answers at.world (world_is c.make_room.new.core (files ++ first.put) at first.doubt first.serving))
+    (subst (λ stamp. HasStamp stamp c.insert.result)
+    (stamp_is c.make_room.new.core (files ++ first.put) at first.doubt first.serving)
+    (insert_stamp (memory_of (logged_of c.make_room.new.core)) c.args.device.now c.args.row.now c.insert.result
+    c.insert.ensures.answer))))
+
+pub returns-in-Ok-clause-ready : goal.returns-in-Ok-clause-ready
+returns-in-Ok-clause-ready g c = kept_ready c.make_room.new.core c.insert.new.self c.insert.ensures.kept (g.F.Port.Port.store c.args.port.now)
+    c.make_room.ensures.goes_on.ready
+
+pub returns-in-Ok-clause-cause : goal.returns-in-Ok-clause-cause
+returns-in-Ok-clause-cause g c = λ device. inl (rose_later (faults_under c.args.core.now) (faults_under c.make_room.new.core)
+    (faults_under c.insert.new.self) c.make_room.ensures.goes_on.later (c.insert.ensures.cause device))
+
+pub returns-in-Ok-clause-later : goal.returns-in-Ok-clause-later
+returns-in-Ok-clause-later g c =
+    (omega (arith, c.make_room.ensures.goes_on.later, c.insert.ensures.later), c.make_room.ensures.later)
+
+pub returns-in-Err-clause-answers : goal.returns-in-Err-clause-answers
+returns-in-Err-clause-answers g c = λ tells files at next serving.
+    subst (λ answer. IsAnsweredBy (IsDrawn c.args.core.now c.make_room.new.core) c.args.core.now c.make_room.new.core files at next
+    (Insert c.args.device.now c.args.row.now) (Plain answer)) (sym c.answer.ensures)
+    (flush_failed g.J.Disk.lawful c.args.core.now c.make_room.new.core c.args.device.now c.args.row.now files at next c.in-Err.fault
+    (full_cause _ _ _ _ _ c.in-Err.fault c.in-Err.ensures.cause) serving
+    (c.make_room.ensures.goes_on.keeps tells files at next serving))
+
+pub returns-in-Err-clause-ready : goal.returns-in-Err-clause-ready
+returns-in-Err-clause-ready g c = c.make_room.ensures.goes_on.ready
+
+pub returns-in-Err-clause-cause : goal.returns-in-Err-clause-cause
+returns-in-Err-clause-cause g c = λ device. device_cause _ _ _ _ _ c.in-Err.fault (sym c.answer.ensures ∙ device)
+    c.in-Err.ensures.cause
+
+pub returns-in-Err-clause-later : goal.returns-in-Err-clause-later
+returns-in-Err-clause-later g c = (c.make_room.ensures.goes_on.later, c.make_room.ensures.later)

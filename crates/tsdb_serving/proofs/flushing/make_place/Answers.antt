@@ -1,0 +1,12 @@
+use Rattle.tsdb_serving.proofs.Flushes.{nothing, place_left}
+use Rattle.tsdb_serving.proofs.flushing.make_place.Goals as goal
+
+pub returns-clause-place : goal.returns-clause-place
+returns-clause-place g c = place_left c.args.core.now c.flush_oldest.new.core c.flush_oldest.result c.flush_oldest.ensures.few
+    c.flush_oldest.ensures.flushed
+
+pub returns-then-is_idle-clause-goes_on : goal.returns-then-is_idle-clause-goes_on
+returns-then-is_idle-clause-goes_on g c = nothing g.J.Disk.lawful (g.F.Port.Port.store c.args.port.now) c.args.core.now c.requires.ready
+
+pub returns-then-frozen-lt-MAX_FROZEN-clause-goes_on : goal.returns-then-frozen-lt-MAX_FROZEN-clause-goes_on
+returns-then-frozen-lt-MAX_FROZEN-clause-goes_on g c = nothing g.J.Disk.lawful (g.F.Port.Port.store c.args.port.now) c.args.core.now c.requires.ready

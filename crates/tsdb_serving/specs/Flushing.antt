@@ -1,0 +1,82 @@
+-- What the parts of a flush ask for and leave.
+use Rattle.std.specs.Prelude.{◌≡◌, ◌≤◌, ℕ, List, [], ◌∷◌, Option, true}
+use Rattle.tsdb_committing.specs.Files.{IsOutAs}
+use Rattle.tsdb_core.specs.Core.{IsSeen, KeepsJobs, files_of, limit_of, logged_of, next_of}
+use Rattle.tsdb_core.specs.Ending.{drawn_for}
+use Rattle.tsdb_core.specs.Flushes.{HasNumbersOf}
+use Rattle.tsdb_core.specs.declared.engine.Core.{Core}
+use Rattle.tsdb_frames.specs.Frames.{faults_of}
+use Rattle.tsdb_images.specs.Stored.{LeadsTo}
+use Rattle.tsdb_jobs.specs.declared.flush.FlushJob.{FlushJob}
+use Rattle.tsdb_kept.specs.Places.{AreOfStore}
+use Rattle.tsdb_layers.specs.Lists.{Among}
+use Rattle.tsdb_logged.specs.Logged.{Outside, log_of, memory_of}
+use Rattle.tsdb_map.specs.State as plain
+use Rattle.tsdb_map.specs.World.{World}
+use Rattle.tsdb_memory.specs.Store.{FrozenPair}
+use Rattle.tsdb_outside.specs.Files.{Store, StoredFile}
+use Rattle.tsdb_outside.specs.declared.disk.Disk as disk
+use Rattle.tsdb_outside.specs.declared.faults.Counted as counted
+use Rattle.tsdb_serving.specs.Serving.{AreHeldWith, IsServedBy, KeepsServing, slot_under}
+use Rattle.tsdb_state.specs.State.{EngineState, FlushJob as StateFlush}
+use Rattle.tsdb_state.specs.Worlds.{StandsFor}
+
+-- a number that was drawn for the job
+abbrev pub IsOfJob : FlushJob → ℕ → Type 0
+IsOfJob job number = Among number (drawn_for job)
+
+module _ {J F S R P : Type 0} {means : disk.Ghosts J} {counts : counted.Ghosts J} where
+  -- how often the journal under the core has failed
+  abbrev pub faults_under : Core J F S R P means counts → ℕ
+  faults_under core = faults_of (log_of (logged_of core))
+
+  -- the frozen pairs, from the oldest on
+  abbrev pub frozen_in : Core J F S R P means counts → List FrozenPair
+  frozen_in core = (memory_of (logged_of core)).frozen
+
+  -- no job is out, and all kept files are of the store
+  pub record IsReady (store : Store) (core : Core J F S R P means counts) : Type 0 where
+    pub jobs : KeepsJobs core [] []
+    pub of_store : AreOfStore store (files_of core).places
+
+  -- the job is the only one that is out, and all kept files are of the store
+  pub record IsBusy (store : Store) (core : Core J F S R P means counts) (job : FlushJob) : Type 0 where
+    pub flush : StateFlush
+    pub numbers : HasNumbersOf job flush
+    pub jobs : KeepsJobs core (flush ∷ []) []
+    pub of_store : AreOfStore store (files_of core).places
+
+  -- What each part of a flush leaves: the core is ready, its log stays in its slot, and numbers are drawn in their order.
+  -- Where the store tells what its files hold, the core stands for the same worlds.
+  pub record GoesOn (store : Store) (old new : Core J F S R P means counts) : Type 0 where
+    pub ready : IsReady store new
+    pub limit : limit_of new ≡ limit_of old
+    pub slot : slot_under new ≡ slot_under old
+    pub next : next_of old ≤ next_of new
+    pub later : faults_under old ≤ faults_under new
+    pub keeps : store.tells ≡ true → KeepsServing old new
+
+  -- The core stands for the world, and the job is out as a flush of its state.
+  pub record IsServingJob (core : Core J F S R P means counts) (job : FlushJob) (files : List StoredFile)
+      (at : plain.State) (next : Option World)
+      : Type 0 where
+    pub outside : Outside
+    pub state : EngineState
+    pub flush : StateFlush
+    pub others : List StateFlush
+    pub seen : IsSeen core outside state
+    pub out : IsOutAs job flush others state
+    pub stands : StandsFor outside.told state.store at.world
+    pub stamp : state.store.stamp ≡ at.stamp
+    pub doubt : LeadsTo outside.told state.store state.doubt next
+    pub held : AreHeldWith outside.kept files
+
+  -- What the end of a job leaves, as each part of a flush does; its files may have been put.
+  pub record EndsJob (store : Store) (old new : Core J F S R P means counts) (job : FlushJob) : Type 0 where
+    pub ready : IsReady store new
+    pub limit : limit_of new ≡ limit_of old
+    pub slot : slot_under new ≡ slot_under old
+    pub next : next_of new ≡ next_of old
+    pub later : faults_under old ≤ faults_under new
+    pub keeps : store.tells ≡ true → (files : List StoredFile) (at : plain.State) (next : Option World)
+        → IsServingJob old job files at next → IsServedBy (IsOfJob job) old new files at next at.world at

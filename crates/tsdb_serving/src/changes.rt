@@ -1,0 +1,91 @@
+//! Changes of a user: a series is created, a row written, points deleted. Depends on `flushing` and tsdb_core.
+ghost use Rattle.std.specs.Prelude.{◌≡◌, ◌⊎◌, ◌≤◌, IfErr, OnOk, true};
+ghost use Rattle.tsdb_core.specs.Core.{next_of};
+ghost use Rattle.tsdb_core.specs.Rows.{NeedsFlush};
+ghost use Rattle.tsdb_base.specs.declared.answers.Answer.{Answer as AnswerOf};
+ghost use Rattle.tsdb_map.specs.Commands.{IsRow, IsSchema};
+ghost use Rattle.tsdb_map.specs.declared.command.Command.{Command};
+ghost use Rattle.tsdb_map.specs.declared.reply.Reply.{Reply};
+ghost use Rattle.tsdb_outside.specs.Causes.{Rose};
+ghost use Rattle.tsdb_outside.specs.Files.{Store};
+ghost use Rattle.tsdb_serving.specs.Faults.{HasFlushCause};
+ghost use Rattle.tsdb_serving.specs.Flushing.{GoesOn, IsReady, faults_under};
+ghost use Rattle.tsdb_serving.specs.Serving.{Answers};
+
+use crate::fault::FlushFault;
+use crate::flushing::flush_oldest;
+use std::alloc::Global;
+use tsdb_base::{Answer, Range};
+use tsdb_core::Core;
+use tsdb_map::{Row, Schema};
+use tsdb_outside::{Files, Journal};
+use tsdb_path::Path;
+
+/// Creates a series.
+pub fn create<J: Journal, F: Files>(core: &mut Core<J, F>, schema: &Schema) -> Answer
+    requires { IsSchema schema.now }
+    ensures answers { Answers core.old core.new (Command.Create schema.now) (Reply.Plain result) }
+    ensures ready { (store : Store) → IsReady store core.old → IsReady store core.new }
+    ensures cause { result ≡ AnswerOf.Device → Rose (faults_under core.old) (faults_under core.new) }
+    ensures later { faults_under core.old ≤ faults_under core.new }
+{
+    core.create(schema)
+}
+
+/// Deletes the points of a series in a range.
+pub fn delete<J: Journal, F: Files>(core: &mut Core<J, F>, series: &Path, range: &Range) -> Answer
+    ensures answers { Answers core.old core.new (Command.Delete series.now range.now) (Reply.Plain result) }
+    ensures ready { (store : Store) → IsReady store core.old → IsReady store core.new }
+    ensures cause { result ≡ AnswerOf.Device → Rose (faults_under core.old) (faults_under core.new) }
+    ensures later { faults_under core.old ≤ faults_under core.new }
+{
+    core.delete(series, range)
+}
+
+/// Writes a row. Where it does not fit the working pair and no other pair can be frozen, the oldest is flushed first; the
+/// fault of this flush is the answer.
+pub fn insert<J: Journal, F: Files>(
+    alloc: Global,
+    core: &mut Core<J, F>,
+    port: &mut F::Port,
+    device: &Path,
+    row: &Row,
+) -> Answer
+    requires row { IsRow row.now }
+    requires ready { IsReady (F.Port.store port.old) core.old }
+    ensures answers { (F.Port.store port.old).tells ≡ true
+        → Answers core.old core.new (Command.Insert device.now row.now) (Reply.Plain result) }
+    ensures ready { IsReady (F.Port.store port.old) core.new }
+    ensures same_store { F.Port.store port.new ≡ F.Port.store port.old }
+    ensures cause { result ≡ AnswerOf.Device → Rose (faults_under core.old) (faults_under core.new)
+        ⊎ Rose (F.Port.faults port.old) (F.Port.faults port.new) }
+    ensures later { (faults_under core.old ≤ faults_under core.new)
+        × (F.Port.faults port.old ≤ F.Port.faults port.new) }
+{
+    match make_room(alloc, core, port, row) {
+        Ok(()) => core.insert(device, row),
+        Err(fault) => fault.answer(),
+    }
+}
+
+/// Flushes the oldest frozen pair, where the row could not be put else.
+fn make_room<J: Journal, F: Files>(
+    alloc: Global,
+    core: &mut Core<J, F>,
+    port: &mut F::Port,
+    row: &Row,
+) -> Result<(), FlushFault>
+    requires row { IsRow row.now }
+    requires ready { IsReady (F.Port.store port.old) core.old }
+    ensures place { OnOk result (¬ NeedsFlush row.now core.new) }
+    ensures goes_on { GoesOn (F.Port.store port.old) core.old core.new }
+    ensures same_store { F.Port.store port.new ≡ F.Port.store port.old }
+    ensures cause { IfErr result (HasFlushCause (faults_under core.old) (faults_under core.new)
+        (F.Port.faults port.old) (F.Port.faults port.new) (next_of core.new)) }
+    ensures later { F.Port.faults port.old ≤ F.Port.faults port.new }
+{
+    if !core.needs_flush(row) {
+        return Ok(());
+    }
+    flush_oldest(alloc, core, port)
+}

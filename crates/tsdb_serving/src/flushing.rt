@@ -1,0 +1,271 @@
+//! A flush: the working pair and all frozen pairs become files. Depends on `fault`, tsdb_core and tsdb_engine.
+ghost use Rattle.std.specs.Prelude.{◌≡◌, ◌≢◌, ◌⊎◌, ◌<◌, ◌≤◌, ◌↔◌, ℕ, [], None, IfErr, IfOk, IsTrue, OnErr, OnOk, drop, length};
+ghost use Rattle.std.specs.Prelude.{slice_get};
+ghost use Rattle.std.specs.Option.{option_map};
+ghost use Rattle.tsdb_core.specs.Core.{logged_of, next_of, working_of};
+ghost use Rattle.tsdb_core.specs.Flushes.{IsDue, IsOldest};
+ghost use Rattle.tsdb_jobs.specs.Jobs.{IsJob};
+ghost use Rattle.tsdb_logged.specs.Logged.{memory_of};
+ghost use Rattle.tsdb_outside.specs.Files.{Store};
+ghost use Rattle.tsdb_outside.specs.Causes.{Rose};
+ghost use Rattle.tsdb_rows.specs.Fits.{HasNoPoint};
+ghost use Rattle.tsdb_serving.specs.declared.fault.FlushFault.{FlushFault as FaultOf};
+ghost use Rattle.tsdb_serving.specs.Faults.{HasFlushCause};
+ghost use Rattle.tsdb_serving.specs.Files.{AreDone, AreDoneSoFar};
+ghost use Rattle.tsdb_serving.specs.Flushing.{EndsJob, GoesOn, IsBusy, IsReady, faults_under, frozen_in};
+ghost use Rattle.tsdb_state.specs.Limits.{max_frozen};
+
+use crate::fault::FlushFault;
+use std::alloc::Global;
+use tsdb_base::{Answer, Space, Stamp};
+use tsdb_core::{Commit, Core};
+use tsdb_engine::{FlushRefused, run_flush};
+use tsdb_jobs::{FlushJob, Flushed};
+use tsdb_outside::{Files, Journal, Port};
+
+/// How many pairs can be frozen.
+const MAX_FROZEN: u64 = 2;
+
+/// Freezes the working pair, where it has a point, and writes the files of all frozen pairs, from the oldest on.
+///
+/// Where two pairs are frozen and the working pair has a point, the oldest is flushed first. It ends at the first pair
+/// that cannot be frozen or flushed, which stays in memory. Files on their way out are removed after each pair; one that
+/// cannot be removed is passed over.
+pub fn flush<J: Journal, F: Files>(
+    alloc: Global,
+    core: &mut Core<J, F>,
+    port: &mut F::Port,
+) -> Result<(), FlushFault>
+    requires ready { IsReady (F.Port.store port.old) core.old }
+    ensures flushed { OnOk result ((frozen_in core.new ≡ []) × HasNoPoint (working_of core.new)) }
+    ensures goes_on { GoesOn (F.Port.store port.old) core.old core.new }
+    ensures same_store { F.Port.store port.new ≡ F.Port.store port.old }
+    ensures cause { IfErr result (HasFlushCause (faults_under core.old) (faults_under core.new)
+        (F.Port.faults port.old) (F.Port.faults port.new) (next_of core.new)) }
+    ensures later { F.Port.faults port.old ≤ F.Port.faults port.new }
+{
+    match make_place(alloc, core, port) {
+        Ok(()) => freeze_and_flush(alloc, core, port),
+        Err(fault) => Err(fault),
+    }
+}
+
+/// Freezes the working pair, where it has a point, and flushes all frozen pairs.
+fn freeze_and_flush<J: Journal, F: Files>(
+    alloc: Global,
+    core: &mut Core<J, F>,
+    port: &mut F::Port,
+) -> Result<(), FlushFault>
+    requires place { HasNoPoint (working_of core.old) ⊎ (length (frozen_in core.old) < max_frozen) }
+    requires ready { IsReady (F.Port.store port.old) core.old }
+    ensures flushed { OnOk result ((frozen_in core.new ≡ []) × HasNoPoint (working_of core.new)) }
+    ensures goes_on { GoesOn (F.Port.store port.old) core.old core.new }
+    ensures same_store { F.Port.store port.new ≡ F.Port.store port.old }
+    ensures cause { IfErr result (HasFlushCause (faults_under core.old) (faults_under core.new)
+        (F.Port.faults port.old) (F.Port.faults port.new) (next_of core.new)) }
+    ensures later { F.Port.faults port.old ≤ F.Port.faults port.new }
+{
+    match freeze(core) {
+        Ok(()) => flush_both(alloc, core, port),
+        Err(fault) => Err(fault),
+    }
+}
+
+/// Flushes both frozen pairs, or the one that there is.
+fn flush_both<J: Journal, F: Files>(
+    alloc: Global,
+    core: &mut Core<J, F>,
+    port: &mut F::Port,
+) -> Result<(), FlushFault>
+    requires ready { IsReady (F.Port.store port.old) core.old }
+    ensures flushed { OnOk result (frozen_in core.new ≡ []) }
+    ensures working { working_of core.new ≡ working_of core.old }
+    ensures goes_on { GoesOn (F.Port.store port.old) core.old core.new }
+    ensures same_store { F.Port.store port.new ≡ F.Port.store port.old }
+    ensures cause { IfErr result (HasFlushCause (faults_under core.old) (faults_under core.new)
+        (F.Port.faults port.old) (F.Port.faults port.new) (next_of core.new)) }
+    ensures later { F.Port.faults port.old ≤ F.Port.faults port.new }
+{
+    match flush_oldest(alloc, core, port) {
+        Ok(()) => flush_oldest(alloc, core, port),
+        Err(fault) => Err(fault),
+    }
+}
+
+/// Flushes the oldest pair, where the working pair could not be frozen else.
+fn make_place<J: Journal, F: Files>(
+    alloc: Global,
+    core: &mut Core<J, F>,
+    port: &mut F::Port,
+) -> Result<(), FlushFault>
+    requires ready { IsReady (F.Port.store port.old) core.old }
+    ensures place { OnOk result (HasNoPoint (working_of core.new) ⊎ (length (frozen_in core.new) < max_frozen)) }
+    ensures goes_on { GoesOn (F.Port.store port.old) core.old core.new }
+    ensures same_store { F.Port.store port.new ≡ F.Port.store port.old }
+    ensures cause { IfErr result (HasFlushCause (faults_under core.old) (faults_under core.new)
+        (F.Port.faults port.old) (F.Port.faults port.new) (next_of core.new)) }
+    ensures later { F.Port.faults port.old ≤ F.Port.faults port.new }
+{
+    if is_idle(core) {
+        return Ok(());
+    }
+    if core.frozen() < MAX_FROZEN {
+        return Ok(());
+    }
+    flush_oldest(alloc, core, port)
+}
+
+/// Whether the working pair has no point.
+fn is_idle<J: Journal, F: Files>(core: &Core<J, F>) -> bool
+    ensures { IsTrue result ↔ HasNoPoint (working_of core.now) }
+{
+    core.working(Space::Sequence) == 0 && core.working(Space::Unsequence) == 0
+}
+
+/// Freezes the working pair, where it has a point.
+fn freeze<J: Journal, F: Files>(core: &mut Core<J, F>) -> Result<(), FlushFault>
+    requires place { HasNoPoint (working_of core.old) ⊎ (length (frozen_in core.old) < max_frozen) }
+    ensures emptied { OnOk result (HasNoPoint (working_of core.new)) }
+    ensures goes_on { (store : Store) → IsReady store core.old → GoesOn store core.old core.new }
+    ensures cause { IfErr result (λ fault. fault ≡ FaultOf.Device
+        → Rose (faults_under core.old) (faults_under core.new)) }
+    ensures full { IfErr result (λ fault. (counter : ℕ) → fault ≢ FaultOf.Full counter) }
+{
+    if is_idle(core) {
+        return Ok(());
+    }
+    match core.freeze() {
+        Answer::Done => Ok(()),
+        Answer::Device => Err(FlushFault::Device),
+        _ => Err(FlushFault::Memory),
+    }
+}
+
+/// The stamp at which the oldest frozen pair was frozen.
+fn oldest<J: Journal, F: Files>(core: &Core<J, F>) -> Option<Stamp>
+    ensures two { length (frozen_in core.now) ≤ max_frozen }
+    ensures born { option_map (λ stamp. stamp.0) result ≡ option_map (λ pair. pair.born) (slice_get (frozen_in core.now) 0) }
+{
+    match core.memory().frozen().first() {
+        Some(pair) => Some(pair.born()),
+        None => None,
+    }
+}
+
+/// Flushes the oldest frozen pair, if there is one.
+pub(crate) fn flush_oldest<J: Journal, F: Files>(
+    alloc: Global,
+    core: &mut Core<J, F>,
+    port: &mut F::Port,
+) -> Result<(), FlushFault>
+    requires ready { IsReady (F.Port.store port.old) core.old }
+    ensures flushed { OnOk result (frozen_in core.new ≡ drop 1 (frozen_in core.old)) }
+    ensures few { length (frozen_in core.old) ≤ max_frozen }
+    ensures working { working_of core.new ≡ working_of core.old }
+    ensures goes_on { GoesOn (F.Port.store port.old) core.old core.new }
+    ensures same_store { F.Port.store port.new ≡ F.Port.store port.old }
+    ensures cause { IfErr result (HasFlushCause (faults_under core.old) (faults_under core.new)
+        (F.Port.faults port.old) (F.Port.faults port.new) (next_of core.new)) }
+    ensures later { F.Port.faults port.old ≤ F.Port.faults port.new }
+{
+    match oldest(core) {
+        Some(upto) => flush_due(alloc, core, port, upto),
+        None => Ok(()),
+    }
+}
+
+/// Flushes the oldest frozen pair, which was frozen at this stamp or before it.
+fn flush_due<J: Journal, F: Files>(
+    alloc: Global,
+    core: &mut Core<J, F>,
+    port: &mut F::Port,
+    upto: Stamp,
+) -> Result<(), FlushFault>
+    requires due { IsDue upto.0 (frozen_in core.old) }
+    requires ready { IsReady (F.Port.store port.old) core.old }
+    ensures flushed { OnOk result (frozen_in core.new ≡ drop 1 (frozen_in core.old)) }
+    ensures working { working_of core.new ≡ working_of core.old }
+    ensures goes_on { GoesOn (F.Port.store port.old) core.old core.new }
+    ensures same_store { F.Port.store port.new ≡ F.Port.store port.old }
+    ensures cause { IfErr result (HasFlushCause (faults_under core.old) (faults_under core.new)
+        (F.Port.faults port.old) (F.Port.faults port.new) (next_of core.new)) }
+    ensures later { F.Port.faults port.old ≤ F.Port.faults port.new }
+{
+    match core.take_flush(upto) {
+        Ok(Some(job)) => run_job(alloc, core, port, job),
+        Ok(None) => Ok(()),
+        Err(fault) => Err(FlushFault::of_core(fault)),
+    }
+}
+
+/// Writes the files of the only job that is out, and lists them; or gives the job up, where they cannot be written.
+fn run_job<J: Journal, F: Files>(
+    alloc: Global,
+    core: &mut Core<J, F>,
+    port: &mut F::Port,
+    job: FlushJob,
+) -> Result<(), FlushFault>
+    requires is_job { IsJob job }
+    requires busy { IsBusy (F.Port.store port.old) core.old job }
+    requires oldest { IsOldest job (memory_of (logged_of core.old)) }
+    ensures flushed { OnOk result (frozen_in core.new ≡ drop 1 (frozen_in core.old)) }
+    ensures working { working_of core.new ≡ working_of core.old }
+    ensures ends { EndsJob (F.Port.store port.old) core.old core.new job }
+    ensures same_store { F.Port.store port.new ≡ F.Port.store port.old }
+    ensures cause { IfErr result (HasFlushCause (faults_under core.old) (faults_under core.new)
+        (F.Port.faults port.old) (F.Port.faults port.new) (next_of core.new)) }
+    ensures later { F.Port.faults port.old ≤ F.Port.faults port.new }
+{
+    match run_flush::<F>(alloc, &job, port) {
+        Ok(files) => commit(core, port, job, files),
+        Err(FlushRefused { files, fault }) => {
+            give_up(core, port, job, files);
+            Err(FlushFault::of_file(fault))
+        }
+    }
+}
+
+/// Lists the files of the only job that is out. Then files on their way out are removed.
+fn commit<J: Journal, F: Files>(
+    core: &mut Core<J, F>,
+    port: &mut F::Port,
+    job: FlushJob,
+    files: Flushed<F>,
+) -> Result<(), FlushFault>
+    requires busy { IsBusy (F.Port.store port.old) core.old job }
+    requires oldest { IsOldest job (memory_of (logged_of core.old)) }
+    requires done { AreDone F.Sealed.file F.Sealed.rights (F.Port.store port.old) job files }
+    ensures flushed { OnOk result (frozen_in core.new ≡ drop 1 (frozen_in core.old)) }
+    ensures working { working_of core.new ≡ working_of core.old }
+    ensures ends { EndsJob (F.Port.store port.old) core.old core.new job }
+    ensures same_store { F.Port.store port.new ≡ F.Port.store port.old }
+    ensures cause { IfErr result (HasFlushCause (faults_under core.old) (faults_under core.new)
+        (F.Port.faults port.old) (F.Port.faults port.new) (next_of core.new)) }
+    ensures later { F.Port.faults port.old ≤ F.Port.faults port.new }
+{
+    let commit = core.commit_flush(job, files);
+    let _ = core.sweep(port);
+    match commit {
+        Commit::Done => Ok(()),
+        Commit::Gone => Ok(()),
+        Commit::Device => Err(FlushFault::Device),
+    }
+}
+
+/// Gives the only job that is out up. Then files on their way out are removed.
+fn give_up<J: Journal, F: Files>(
+    core: &mut Core<J, F>,
+    port: &mut F::Port,
+    job: FlushJob,
+    files: Flushed<F>,
+)
+    requires busy { IsBusy (F.Port.store port.old) core.old job }
+    requires done { AreDoneSoFar F.Sealed.file F.Sealed.rights (F.Port.store port.old) job files }
+    ensures memory { memory_of (logged_of core.new) ≡ memory_of (logged_of core.old) }
+    ensures ends { EndsJob (F.Port.store port.old) core.old core.new job }
+    ensures same_store { F.Port.store port.new ≡ F.Port.store port.old }
+    ensures later { F.Port.faults port.old ≤ F.Port.faults port.new }
+{
+    core.abandon_flush(job, files);
+    let _ = core.sweep(port);
+}
