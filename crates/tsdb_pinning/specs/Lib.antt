@@ -1,0 +1,5 @@
+pub mod Items
+pub mod Sources
+pub mod Changes
+pub mod Pins
+pub mod Shown
