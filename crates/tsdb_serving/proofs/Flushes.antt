@@ -21,7 +21,7 @@ use Rattle.tsdb_frames.specs.Frames.{disk_of, faults_of, slot_of}
 use Rattle.tsdb_frames.specs.declared.frames.Frames.{Frames}
 use Rattle.tsdb_jobs.specs.declared.flush.FlushJob.{FlushJob}
 use Rattle.tsdb_kept.specs.Files.{KeptFiles}
-use Rattle.tsdb_kept.specs.Places.{AreOfStore}
+use Rattle.tsdb_kept.specs.Places.{AreOfStore, AreUnread}
 use Rattle.tsdb_layers.proofs.Lists.{each_weaker}
 use Rattle.tsdb_layers.specs.Lists.{Among}
 use Rattle.tsdb_log.specs.declared.record.LogRecord.TheVariants.{Freeze}
@@ -116,6 +116,7 @@ module _ {J F S R P : Type 0} {means : disk.Ghosts J} {counts : counted.Ghosts J
   froze old new result command can ready = record {
     ready = record {
       jobs = command.kept.jobs [] [] ready.jobs;
+      unread = subst (λ (files : KeptFiles). AreUnread files.places) (sym command.kept.files) ready.unread;
       of_store = subst (λ (files : KeptFiles). AreOfStore store files.places) (sym command.kept.files) ready.of_store;
     };
     limit = command.kept.limit;
@@ -175,7 +176,7 @@ module _ {J F S R P : Type 0} {means : disk.Ghosts J} {counts : counted.Ghosts J
       (busy : IsBusy store old job) where
     pub commit_ends : (commit : Commit) → IsCommit old mid job built commit → EndsJob store old new job
     commit_ends commit commits = record {
-      ready = ready_swept store mid new outcome sweeps (ready_again store old mid job built commit commits.ends all busy);
+      ready = ready_swept store mid new outcome sweeps (ready_again store given old mid job built commit of_job commits.ends all busy);
       limit = sweeps.limit ∙ commits.ends.limit;
       slot = ap (λ logged. slot_of (log_of logged)) sweeps.logged ∙ commits.slot;
       next = sweeps.next ∙ commits.ends.next;
@@ -190,7 +191,7 @@ module _ {J F S R P : Type 0} {means : disk.Ghosts J} {counts : counted.Ghosts J
 
     pub abandon_ends : IsAbandoned old mid job built → EndsJob store old new job
     abandon_ends gives_up = record {
-      ready = ready_swept store mid new outcome sweeps (ready_again store old mid job built Gone gives_up.ends all busy);
+      ready = ready_swept store mid new outcome sweeps (ready_again store given old mid job built Gone of_job gives_up.ends all busy);
       limit = sweeps.limit ∙ gives_up.ends.limit;
       slot = ap (λ logged. slot_of (log_of logged)) sweeps.logged ∙ ap (λ logged. slot_of (log_of logged)) gives_up.logged;
       next = sweeps.next ∙ gives_up.ends.next;

@@ -6,11 +6,12 @@ use Rattle.std.specs.Option.{option_map}
 use Rattle.std.specs.Prelude.{IfSome, IsSome, is_some}
 use Rattle.tsdb_base.specs.declared.ids.FileNumber.{FileNumber}
 use Rattle.tsdb_base.specs.declared.ids.Space.TheVariants.{Sequence, Unsequence}
+use Rattle.tsdb_committing.proofs.Coming.{of_each}
 use Rattle.tsdb_committing.specs.Files.{AreOfJob, IsOfPart, NewFile, NewFiles, TellBytes, all_of, new_file, new_files}
 use Rattle.tsdb_committing.specs.Files.{number_of, stored_of}
 use Rattle.tsdb_core.specs.Commands.{KeepsFiles}
 use Rattle.tsdb_core.specs.Core.{files_of, next_of}
-use Rattle.tsdb_core.specs.Ending.{numbers_if}
+use Rattle.tsdb_core.specs.Ending.{drawn_for, numbers_if}
 use Rattle.tsdb_core.specs.Flushes.{EndsFlush, IsNotTaken, IsOut, IsTaken, TakesMemory}
 use Rattle.tsdb_core.specs.Sweeps.{IsSwept}
 use Rattle.tsdb_core.specs.declared.commit.Commit.{Commit}
@@ -23,7 +24,7 @@ use Rattle.tsdb_jobs.specs.declared.flush.FlushJob.{FlushJob}
 use Rattle.tsdb_jobs.specs.declared.flush.Flushed.{Flushed}
 use Rattle.tsdb_kept.proofs.Taken.{still_all}
 use Rattle.tsdb_kept.specs.Files.{KeptFiles}
-use Rattle.tsdb_kept.specs.Places.{AllFiles, AreOfStore, KeptFile, OnlyMakesPlaces, Places}
+use Rattle.tsdb_kept.specs.Places.{AllFiles, AreOfStore, AreUnread, KeptFile, OnlyMakesPlaces, Places}
 use Rattle.tsdb_layers.proofs.Lists.{among_left, among_right, each_append}
 use Rattle.tsdb_layers.specs.Lists.{Among, IsWithOne, if_some}
 use Rattle.tsdb_outside.specs.Files.{NamedFile, Store, StoredFile, Tells}
@@ -106,6 +107,19 @@ number_there store born part number None of_part = tt
 number_there store born part None (Some new) of_part = absurd of_part
 number_there store born part (Some number) (Some new) of_part = inl (sym of_part.kept.number_is)
 
+-- no right to read a new file is out
+unread_there : (store : Store) (born : ℕ) (part : List Filled) (number : Option FileNumber) (new : Option NewFile)
+    → IsOfPart store born part number new → IfSome new (λ file. file.token.rights ≡ 0)
+unread_there store born part number None of_part = tt
+unread_there store born part None (Some new) of_part = absurd of_part
+unread_there store born part (Some number) (Some new) of_part = of_part.unread
+
+all_unread : (store : Store) (job : FlushJob) (files : NewFiles) → AreOfJob store job files
+    → Each (λ file. file.token.rights ≡ 0) (all_of files)
+all_unread store job files of_job = each_of (λ file. file.token.rights ≡ 0) files.sequence files.unsequence
+    (unread_there store job.born.0 (job_part Sequence job) job.sequence files.sequence of_job.sequence)
+    (unread_there store job.born.0 (job_part Unsequence job) job.unsequence files.unsequence of_job.unsequence)
+
 if_weaker : (P Q : NewFile → Type 0) (new : Option NewFile) → ((file : NewFile) → P file → Q file) → IfSome new P
     → IfSome new Q
 if_weaker P Q None weaker holds = tt
@@ -183,6 +197,7 @@ module _ {J F S R P : Type 0} {means : disk.Ghosts J} {counts : counted.Ghosts J
     flush = flush_of job;
     numbers = record { sequence = refl; unsequence = refl };
     jobs = taken.jobs (flush_of job) [] [] (record { sequence = refl; unsequence = refl }) ready.jobs;
+    unread = still_made (λ file. file.rights ≡ 0) (files_of old).places (files_of new).places takes.places ready.unread;
     of_store = still_made (λ file. file.name.store ≡ store) (files_of old).places (files_of new).places takes.places
         ready.of_store;
   }
@@ -191,15 +206,18 @@ module _ {J F S R P : Type 0} {means : disk.Ghosts J} {counts : counted.Ghosts J
       → IsReady store old → IsReady store new
   still_ready store old new takes not ready = record {
     jobs = not.jobs [] [] ready.jobs;
+    unread = still_made (λ file. file.rights ≡ 0) (files_of old).places (files_of new).places takes.places ready.unread;
     of_store = still_made (λ file. file.name.store ≡ store) (files_of old).places (files_of new).places takes.places
         ready.of_store;
   }
 
-  pub ready_again : (store : Store) (old new : Core J F S R P means counts) (job : FlushJob) (files : NewFiles)
-      (commit : Commit) → EndsFlush old new job files commit → Each (IsIn store) (all_of files)
-      → IsBusy store old job → IsReady store new
-  ready_again store old new job files commit ends all busy = record {
+  pub ready_again : (store given : Store) (old new : Core J F S R P means counts) (job : FlushJob) (files : NewFiles)
+      (commit : Commit) → AreOfJob given job files → EndsFlush old new job files commit
+      → Each (IsIn store) (all_of files) → IsBusy store old job → IsReady store new
+  ready_again store given old new job files commit of_job ends all busy = record {
     jobs = ends.jobs busy.flush [] (busy.flush ∷ []) [] busy.numbers (only_one busy.flush) busy.jobs;
+    unread = of_each (drawn_for job) files (files_of old) (files_of new) ends.come (λ n kept. kept.rights ≡ 0)
+        (λ n never. busy.unread n) (all_unread given job files of_job);
     of_store = ends.of_store store busy.of_store all;
   }
 
@@ -207,11 +225,15 @@ module _ {J F S R P : Type 0} {means : disk.Ghosts J} {counts : counted.Ghosts J
       → IsSwept old new outcome → IsReady store old → IsReady store new
   ready_swept store old new (Ok count) swept ready = record {
     jobs = swept.all.jobs [] [] ready.jobs;
+    unread = still_all (λ file. file.rights ≡ 0) _ (files_of old).places (files_of new).places swept.all.left.places
+        ready.unread;
     of_store = still_all (λ file. file.name.store ≡ store) _ (files_of old).places (files_of new).places
         swept.all.left.places ready.of_store;
   }
   ready_swept store old new (Err failed) swept ready = record {
     jobs = swept.stopped.1.jobs [] [] ready.jobs;
+    unread = still_all (λ file. file.rights ≡ 0) _ (files_of old).places (files_of new).places
+        swept.stopped.1.left.places ready.unread;
     of_store = still_all (λ file. file.name.store ≡ store) _ (files_of old).places (files_of new).places
         swept.stopped.1.left.places ready.of_store;
   }
@@ -220,6 +242,7 @@ module _ {J F S R P : Type 0} {means : disk.Ghosts J} {counts : counted.Ghosts J
       → IsReady store new
   kept_ready old new keeps store ready = record {
     jobs = keeps.jobs [] [] ready.jobs;
+    unread = subst (λ (files : KeptFiles). AreUnread files.places) (sym keeps.files) ready.unread;
     of_store = subst (λ (files : KeptFiles). AreOfStore store files.places) (sym keeps.files) ready.of_store;
   }
 

@@ -8,7 +8,7 @@ use Rattle.tsdb_core.specs.declared.engine.Core.{Core}
 use Rattle.tsdb_frames.specs.Frames.{faults_of}
 use Rattle.tsdb_images.specs.Stored.{LeadsTo}
 use Rattle.tsdb_jobs.specs.declared.flush.FlushJob.{FlushJob}
-use Rattle.tsdb_kept.specs.Places.{AreOfStore}
+use Rattle.tsdb_kept.specs.Places.{AreOfStore, AreUnread}
 use Rattle.tsdb_layers.specs.Lists.{Among}
 use Rattle.tsdb_logged.specs.Logged.{Outside, log_of, memory_of}
 use Rattle.tsdb_map.specs.State as plain
@@ -34,16 +34,18 @@ module _ {J F S R P : Type 0} {means : disk.Ghosts J} {counts : counted.Ghosts J
   abbrev pub frozen_in : Core J F S R P means counts → List FrozenPair
   frozen_in core = (memory_of (logged_of core)).frozen
 
-  -- no job is out, and all kept files are of the store
+  -- no job and no right to read a file is out, and all kept files are of the store
   pub record IsReady (store : Store) (core : Core J F S R P means counts) : Type 0 where
     pub jobs : KeepsJobs core [] []
+    pub unread : AreUnread (files_of core).places
     pub of_store : AreOfStore store (files_of core).places
 
-  -- the job is the only one that is out, and all kept files are of the store
+  -- the job is the only one that is out, no right to read a file is, and all kept files are of the store
   pub record IsBusy (store : Store) (core : Core J F S R P means counts) (job : FlushJob) : Type 0 where
     pub flush : StateFlush
     pub numbers : HasNumbersOf job flush
     pub jobs : KeepsJobs core (flush ∷ []) []
+    pub unread : AreUnread (files_of core).places
     pub of_store : AreOfStore store (files_of core).places
 
   -- What each part of a flush leaves: the core is ready, its log stays in its slot, and numbers are drawn in their order.
