@@ -19,7 +19,7 @@ use Rattle.tsdb_pinning.specs.Items.{AreFit, are_fit_with, IsAsked, IsFit, IsIte
 use Rattle.tsdb_pinning.specs.declared.items.Asked.{Asked}
 use Rattle.tsdb_pinning.specs.declared.items.ItemFound.{ItemFound}
 use Rattle.tsdb_pinning.specs.declared.items.ItemFound.TheVariants.{Missing, Series}
-use Rattle.tsdb_rows.proofs.Types.{type_found, type_of_number}
+use Rattle.tsdb_memory.proofs.Types.{type_found, type_of_number}
 use Rattle.tsdb_state.specs.Worlds.{type_at}
 
 none_some : {X : Type 0} (o : Option X) → o ≡ None → ¬ IsSome o
