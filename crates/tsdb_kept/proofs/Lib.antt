@@ -6,3 +6,4 @@ pub mod Changes
 pub mod Counts
 pub mod Taken
 pub mod Swept
+pub mod Replaced

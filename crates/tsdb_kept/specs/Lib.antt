@@ -3,6 +3,7 @@ pub mod Files
 pub mod Growth
 pub mod Kept
 pub mod Places
+pub mod Replacing
 pub mod Rights
 pub mod Room
 pub mod Sweeps

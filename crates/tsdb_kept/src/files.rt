@@ -1,14 +1,20 @@
-//! The files that a core keeps. Depends on `file`, `places`, `room`, `sweeping`, `rights` and `closing`.
-ghost use Rattle.std.specs.Prelude.{◌≡◌, ◌∷◌, [], ◌++◌, None, Some, length, IfOk, OnOk, OnErr};
+//! The files that a core keeps. Depends on `file`, `places`, `room`, `replacing`, `sweeping`, `rights` and `closing`.
+ghost use Rattle.std.specs.Prelude.{◌≡◌, ◌+◌, ◌-◌, ◌≤◌, ◌∷◌, [], ◌++◌, None, Some, length, IfOk, IfSome, OnOk, OnErr};
 ghost use Rattle.std.specs.Option.{option_map};
 ghost use Rattle.tsdb_layers.specs.Lists.{if_some};
 ghost use Rattle.tsdb_memory.specs.Least.{IsLeastOf};
 ghost use Rattle.tsdb_outside.specs.Causes.{HasCause};
 ghost use Rattle.tsdb_outside.specs.Disk.{WhereTold};
+ghost use Rattle.std.specs.Prelude.{Option};
+ghost use Rattle.tsdb_plan.specs.declared.entry.FileEntry.{FileEntry as FileEntryOf};
 
 use crate::closing::keep_files;
 use crate::file::KeptFile;
 use crate::places::{Places, fill_place, free_place, make_places};
+use crate::replacing::{
+    by_space, claim_in, compaction_room, least_in, least_of, less_compaction, place_output,
+    replace_in,
+};
 use crate::rights::{give_back_at, share_at};
 use crate::room::{Spare, flush_room, less_room, make_room, push, push_entry, sum_of};
 use crate::sweeping::{keep_placed, remove_free};
@@ -20,7 +26,7 @@ use tsdb_jobs::Built;
 use tsdb_memory::lesser;
 use tsdb_outside::{Failed, Files};
 use tsdb_path::Path;
-use tsdb_plan::FileEntry;
+use tsdb_plan::{FileEntry, Run};
 
 /// A file on its way out of the store.
 #[derive(Clone, Copy, Debug, PartialEq, Eq)]
@@ -54,10 +60,13 @@ impl<F: Files> Model for KeptFiles<F> {
 
 impl<F: Files> KeptFiles<F> {
     ghost use Rattle.tsdb_kept.specs.Closing.{ArePutBack, names_at};
-    ghost use Rattle.tsdb_kept.specs.Files.{Appends, AreKept, IsOpen, KeepsLists, entries_in, kept_file};
+    ghost use Rattle.tsdb_kept.specs.Files.{Appends, AreKept, IsOpen, KeepsLists, KeptFiles as KeptFilesOf, entries_in};
+    ghost use Rattle.tsdb_kept.specs.Files.{kept_file};
     ghost use Rattle.tsdb_kept.specs.Files.{listed_borns, none_kept};
     ghost use Rattle.tsdb_kept.specs.Places.{AreOfStore, ArePlacesMade, AreUnread, OnlyMakesPlaces, OthersStay};
     ghost use Rattle.tsdb_kept.specs.Places.{place_at};
+    ghost use Rattle.tsdb_kept.specs.Replacing.{HasListRoom, HasReplaced, IsWithin, claim_run, run_length};
+    ghost use Rattle.tsdb_kept.specs.Replacing.{compaction_room as compaction_room_of, less_compaction as less_of};
     ghost use Rattle.tsdb_kept.specs.Rights.{HasChanged, IsRightTo, one_less, one_more};
     ghost use Rattle.tsdb_kept.specs.Room.{HasRoom, flush_room as flush_room_of, less_room as less_room_of, more_room};
     ghost use Rattle.tsdb_kept.specs.Sweeps.{LeavesWithout, StopsAt, free_numbers, tried_numbers};
@@ -95,6 +104,104 @@ impl<F: Files> KeptFiles<F> {
         ensures err { OnErr result (self.new.spare ≡ self.old.spare) }
     {
         self.prepare(sequence, unsequence, &flush_room(sequence, unsequence))
+    }
+
+    /// Takes all memory that the end of a compaction with so many inputs needs, whichever it is. Without memory the
+    /// room is as before; a place that was made stays.
+    pub fn prepare_compaction(
+        &mut self,
+        space: Space,
+        output: FileNumber,
+        inputs: usize,
+    ) -> Result<(), Memory>
+        ensures lists { KeepsLists self.old self.new }
+        ensures files { OnlyMakesPlaces self.old.places self.new.places }
+        ensures places { OnOk result (ArePlacesMade (output ∷ []) self.old.places self.new.places) }
+        ensures room { OnOk result (self.new.spare ≡ more_room self.old.spare (compaction_room_of space inputs)) }
+        ensures err { OnErr result (self.new.spare ≡ self.old.spare) }
+    {
+        self.prepare(Some(output), None, &compaction_room(space, inputs))
+    }
+
+    /// Claims the late files of the run, or frees them again.
+    pub fn claim(&mut self, run: Run, claimed: bool)
+        requires { IsWithin run self.old.unsequence }
+        ensures { self.new ≡ record self.old { unsequence = claim_run run claimed self.old.unsequence } }
+    {
+        claim_in(&mut self.unsequence, run, claimed);
+    }
+
+    /// A compaction has ended without its record, and needs so many places among the outgoing files no more.
+    pub fn free_outgoing(&mut self, count: usize)
+        requires { count ≤ self.old.spare.outgoing }
+        ensures { self.new ≡ record self.old {
+          spare = record self.old.spare { outgoing = self.old.spare.outgoing - count };
+        } }
+    {
+        self.spare.outgoing -= count;
+    }
+
+    /// The least born of the files that are listed once those of the runs are on their way out, and a file of this
+    /// born, if there is one, stands in the place of those of its space.
+    pub fn least_replaced(
+        &self,
+        space: Space,
+        sequence: Run,
+        unsequence: Run,
+        born: Option<Stamp>,
+    ) -> Option<Stamp>
+        requires sequence { IsWithin sequence self.now.sequence }
+        requires unsequence { IsWithin unsequence self.now.unsequence }
+        ensures { (output : Option FileEntryOf) (new : KeptFilesOf) → option_map (λ entry. entry.born) output ≡ born
+            → HasReplaced space sequence unsequence output self.now new → IsLeastOf result (listed_borns new) }
+    {
+        let (in_sequence, in_unsequence) = by_space(space, born);
+        let least = least_in(None, &self.sequence, sequence, in_sequence);
+        least_in(least, &self.unsequence, unsequence, in_unsequence)
+    }
+
+    /// The files of the runs are on their way out, and the output of this number, if there is one, stands in the place
+    /// of those of its space. It takes no memory.
+    pub fn replace(
+        &mut self,
+        space: Space,
+        sequence: Run,
+        unsequence: Run,
+        number: FileNumber,
+        output: Option<Built<F>>,
+    )
+        requires sequence { IsWithin sequence self.old.sequence }
+        requires unsequence { IsWithin unsequence self.old.unsequence }
+        requires place { IsOpen number.0 self.old }
+        requires list { HasListRoom space self.old.spare }
+        requires outgoing { run_length sequence + run_length unsequence ≤ self.old.spare.outgoing }
+        requires numbered { IfSome output (λ built. built.entry.number.0 ≡ number.0) }
+        requires no_rights { IfSome output (λ built. F.Sealed.rights built.sealed ≡ 0) }
+        ensures lists { HasReplaced space sequence unsequence (option_map (λ built. built.entry) output) self.old
+            self.new }
+        ensures file { kept_file number.0 self.new ≡ option_map
+            (λ built. record { name = F.Sealed.file built.sealed; series = built.series; rights = 0 }) output }
+        ensures others { OthersStay number.0 self.old.places self.new.places }
+        ensures room { self.new.spare ≡ less_of space (run_length sequence + run_length unsequence) self.old.spare }
+    {
+        let entry = place_output::<F>(&mut self.tokens, number, output);
+        let (in_sequence, in_unsequence) = by_space(space, entry);
+        replace_in(
+            &mut self.sequence,
+            sequence,
+            in_sequence,
+            &mut self.outgoing,
+        );
+        replace_in(
+            &mut self.unsequence,
+            unsequence,
+            in_unsequence,
+            &mut self.outgoing,
+        );
+        let least = least_of(None, &self.sequence);
+        self.least = least_of(least, &self.unsequence);
+        let inputs = (sequence.end - sequence.first) + (unsequence.end - unsequence.first);
+        self.spare = less_compaction(&self.spare, space, inputs);
     }
 
     // Makes a place for each number, and this room.

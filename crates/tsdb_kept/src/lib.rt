@@ -11,6 +11,7 @@ mod closing;
 mod file;
 mod files;
 mod places;
+mod replacing;
 mod rights;
 mod room;
 mod sweeping;
