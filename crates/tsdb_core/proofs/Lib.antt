@@ -10,3 +10,4 @@ pub mod RowLemmas
 pub mod ListingLemmas
 pub mod Opened
 pub mod RowMoments
+pub mod PinSteps

@@ -7,4 +7,5 @@ pub mod Sweeps
 pub mod Worlds
 pub mod Rows
 pub mod RowSteps
+pub mod Pins
 pub mod Listings

@@ -1,6 +1,6 @@
 //! The core with files: what is in memory behind its log, and the files that are kept beside it. Depends on tsdb_base,
 //! tsdb_path, tsdb_map, tsdb_outside, tsdb_plan, tsdb_state, tsdb_memory, tsdb_rows, tsdb_logged, tsdb_jobs,
-//! tsdb_flushing, tsdb_kept, tsdb_held, tsdb_listing and tsdb_committing.
+//! tsdb_flushing, tsdb_kept, tsdb_held, tsdb_listing, tsdb_committing and tsdb_pinning.
 //!
 //! Which state of the engine a core shows says one relation, `IsSeen`. Each call is a step of that state.
 #![tactic(auto)]
@@ -12,6 +12,7 @@ mod engine;
 mod flushing;
 mod listing;
 mod options;
+mod pins;
 mod rows;
 
 pub use commit::{Commit, CoreFault};

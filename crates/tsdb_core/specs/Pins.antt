@@ -1,0 +1,68 @@
+-- What pinning and unpinning leave of a core.
+use Rattle.std.specs.Prelude.{◌≡◌, List, Result}
+use Rattle.std.specs.declared.result.Result.TheVariants.{Ok, Err}
+use Rattle.tsdb_base.specs.declared.point.Range.{Range}
+use Rattle.tsdb_core.specs.Core.{IsSeen, KeepsJobs, files_of, limit_of, logged_of, next_of}
+use Rattle.tsdb_core.specs.Worlds.{IsWorldOf}
+use Rattle.tsdb_core.specs.declared.engine.Core.{Core}
+use Rattle.tsdb_kept.specs.Places.{AreOfStore}
+use Rattle.tsdb_layers.specs.Lists.{IsWithOne}
+use Rattle.tsdb_logged.specs.Logged.{Outside, memory_of}
+use Rattle.tsdb_map.specs.World.{World}
+use Rattle.tsdb_map.specs.declared.command.Item.{Item}
+use Rattle.tsdb_outside.specs.Files as outside
+use Rattle.tsdb_outside.specs.Files.{NamedFile}
+use Rattle.tsdb_outside.specs.declared.disk.Disk as disk
+use Rattle.tsdb_outside.specs.declared.faults.Counted as counted
+use Rattle.tsdb_pinning.specs.Changes.{GivesRights, KeepsFiles, TakesRights, column_numbers}
+use Rattle.tsdb_pinning.specs.Pins.{AreColumnsHeld, IsPinFor}
+use Rattle.tsdb_pinning.specs.Shown.{IsPinOf}
+use Rattle.tsdb_pinning.specs.declared.pin.Pin.{Pin}
+use Rattle.tsdb_pinning.specs.declared.pin.PinFault.{PinFault}
+use Rattle.tsdb_state.specs.State as state
+use Rattle.tsdb_state.specs.State.{Compaction, EngineState, FlushJob}
+use Rattle.tsdb_state.specs.Steps.{PinStandsFor, TakesPin, pinned, unpinned}
+use Rattle.tsdb_state.specs.Worlds.{StandsFor}
+
+module _ {J F S R P : Type 0} {means : disk.Ghosts J} {counts : counted.Ghosts J} where
+  -- Nothing has changed but how many rights are out: log and memory, the number of the next file, the limit of a pair,
+  -- what is kept for jobs, and the store of the files.
+  pub record ChangesRights (old new : Core J F S R P means counts) : Type 0 where
+    pub logged : logged_of new ≡ logged_of old
+    pub next : next_of new ≡ next_of old
+    pub limit : limit_of new ≡ limit_of old
+    pub jobs : (flushes : List FlushJob) (compactions : List Compaction) → KeepsJobs old flushes compactions
+        → KeepsJobs new flushes compactions
+    pub store : (store : outside.Store) → AreOfStore store (files_of old).places
+        → AreOfStore store (files_of new).places
+
+  -- The pin is one that the state gives; the core shows the state with it; and it stands for the state's world.
+  pub record IsPinStep (new : Core J F S R P means counts) (outside : Outside) (engine : EngineState) (pin : Pin F S R P)
+      : Type 0 where
+    pub shown : state.Pin
+    pub is : IsPinOf pin shown
+    pub takes : TakesPin outside.known shown engine
+    pub seen : IsSeen new outside (pinned shown engine)
+    pub world : (world : World) → StandsFor outside.told engine.store world → PinStandsFor outside.told shown world
+
+  -- A pin was taken, and it has its rights.
+  pub record IsPinned (name : R → NamedFile) (old new : Core J F S R P means counts) (pin : Pin F S R P) : Type 0 where
+    pub rest : ChangesRights old new
+    pub rights : TakesRights (column_numbers pin.columns) (files_of old) (files_of new)
+    pub held : AreColumnsHeld name (files_of new) pin.columns
+    pub step : (outside : Outside) (engine : EngineState) → IsSeen old outside engine
+        → IsPinStep new outside engine pin
+
+  -- No pin was taken, and nothing has changed: the core shows the same states.
+  pub record IsNotPinned (old new : Core J F S R P means counts) : Type 0 where
+    pub rest : ChangesRights old new
+    pub files : KeepsFiles (files_of old) (files_of new)
+    pub step : (outside : Outside) (engine : EngineState) → IsSeen old outside engine → IsSeen new outside engine
+
+  -- The rights of the pin are given back: the core shows each state without the pin.
+  pub record IsUnpinned (old new : Core J F S R P means counts) (pin : Pin F S R P) : Type 0 where
+    pub rest : ChangesRights old new
+    pub rights : GivesRights (column_numbers pin.columns) (files_of old) (files_of new)
+    pub step : (outside : Outside) (engine : EngineState) (shown : state.Pin) (others : List state.Pin)
+        → IsSeen old outside engine → IsPinOf pin shown → IsWithOne shown others engine.pins
+        → IsSeen new outside (unpinned shown others engine)
