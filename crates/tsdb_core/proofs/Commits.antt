@@ -48,7 +48,7 @@ use Rattle.tsdb_log.specs.declared.record.LogRecord.TheVariants.{Freeze}
 use Rattle.tsdb_logged.proofs.Steps.{no_memory, refuses}
 use Rattle.tsdb_logged.specs.Commands.{IsAny, IsPrepared}
 use Rattle.tsdb_logged.specs.Flushes.{CanCommit, IsFlushed}
-use Rattle.tsdb_logged.specs.Logged.{IsSound, LeavesWorlds, Outside, log_of, memory_of, room_of, with_record}
+use Rattle.tsdb_logged.specs.Logged.{IsSound, LeavesStates, Outside, log_of, memory_of, room_of, with_record}
 use Rattle.tsdb_logged.specs.declared.logged.Logged.{Logged}
 use Rattle.tsdb_memory.specs.Least.{IsLeastOf}
 use Rattle.tsdb_memory.specs.Shown.{IsFrozenOf}
@@ -323,7 +323,7 @@ module _ {J F S R P : Type 0} {means : disk.Ghosts J} {counts : counted.Ghosts J
 
       pub commit_moments : (outcome : Result (Unit {0}) Failed)
           → IsFlushed old.logged logged (number_for job.sequence) (number_for job.unsequence) listed outcome
-          → LeavesWorlds old.logged logged later engine (flush_record flush)
+          → LeavesStates old.logged logged later engine (flush_record flush)
       commit_moments outcome flushed = flushed.moments later engine flush others sound can
 
       abbrev ended : EngineState
@@ -433,7 +433,7 @@ module _ {J F S R P : Type 0} {means : disk.Ghosts J} {counts : counted.Ghosts J
           same_room
           ends.lists logs);
       moments = λ outside engine flush others seen out tells.
-          subst (λ log. LeavesWorlds old.logged log (with_files flush files outside) engine (flush_record flush)) (sym
+          subst (λ log. LeavesStates old.logged log (with_files flush files outside) engine (flush_record flush)) (sym
           logs)
           ((refuses old.logged (flush_record flush) IsAny answer.NoPath tt).moments (with_files flush files outside)
           engine

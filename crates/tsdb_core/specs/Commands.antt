@@ -7,7 +7,7 @@ use Rattle.tsdb_core.specs.declared.engine.Core.{Core}
 use Rattle.tsdb_frames.specs.Frames.{faults_of, slot_of}
 use Rattle.tsdb_log.specs.declared.record.LogRecord.{LogRecord}
 use Rattle.tsdb_logged.specs.Answers.{IsRefusal}
-use Rattle.tsdb_logged.specs.Logged.{LeavesWorlds, Outside, log_of, with_record}
+use Rattle.tsdb_logged.specs.Logged.{LeavesStates, Outside, log_of, with_record}
 use Rattle.tsdb_outside.specs.Causes.{Rose}
 use Rattle.tsdb_outside.specs.declared.disk.Disk as disk
 use Rattle.tsdb_outside.specs.declared.faults.Counted as counted
@@ -44,7 +44,7 @@ module _ {J F S R P : Type 0} {means : disk.Ghosts J} {counts : counted.Ghosts J
     pub step : (outside : Outside) (state : EngineState) → IsSeen old outside state → Needs state
         → IsSeenAfter new outside state item answer
     pub moments : (outside : Outside) (state : EngineState) → IsSeen old outside state → Needs state
-        → LeavesWorlds (logged_of old) (logged_of new) outside state item
+        → LeavesStates (logged_of old) (logged_of new) outside state item
     pub refused : IsRefusal answer → new ≡ old
     pub memory : answer ≡ Memory → log_of (logged_of new) ≡ log_of (logged_of old)
     pub kept : KeepsFiles old new

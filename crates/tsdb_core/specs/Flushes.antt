@@ -27,7 +27,7 @@ use Rattle.tsdb_kept.specs.Places.{AreOfStore, OnlyMakesPlaces}
 use Rattle.tsdb_layers.specs.Lists.{IsWithOne}
 use Rattle.tsdb_logged.specs.Commands.{IsPrepared}
 use Rattle.tsdb_logged.specs.Flushes.{IsFlushed}
-use Rattle.tsdb_logged.specs.Logged.{LeavesWorlds, Outside, log_of, memory_of, with_record}
+use Rattle.tsdb_logged.specs.Logged.{LeavesStates, Outside, log_of, memory_of, with_record}
 use Rattle.tsdb_map.specs.World.{World}
 use Rattle.tsdb_memory.specs.Store.{FrozenPair, Store}
 use Rattle.tsdb_outside.specs.Causes.{Rose}
@@ -171,7 +171,7 @@ module _ {J F S R P : Type 0} {means : disk.Ghosts J} {counts : counted.Ghosts J
         → IsSeenAfterCommit new (with_files flush files outside) engine flush others commit
     pub moments : (outside : Outside) (engine : EngineState) (flush : state.FlushJob) (others : List state.FlushJob)
         → IsSeen old outside engine → IsOutAs job flush others engine → TellBytes files
-        → LeavesWorlds (logged_of old) (logged_of new) (with_files flush files outside) engine (flush_record flush)
+        → LeavesStates (logged_of old) (logged_of new) (with_files flush files outside) engine (flush_record flush)
     pub world : (outside : Outside) (engine : EngineState) (flush : state.FlushJob) (others : List state.FlushJob)
         (world : World) → IsSeen old outside engine → IsOutAs job flush others engine → TellBytes files
         → StandsFor outside.told engine.store world → IsWorldOf new world

@@ -11,20 +11,21 @@ use Rattle.tsdb_log.specs.declared.record.CellRecord.{CellRecord}
 use Rattle.tsdb_log.specs.declared.record.LogRecord.TheVariants.{Freeze, Insert}
 use Rattle.tsdb_logged.specs.Commands.{CanPut, IsAny}
 use Rattle.tsdb_logged.specs.Logged.{Outside, log_of, memory_of}
-use Rattle.tsdb_map.specs.Apply.{accepted}
-use Rattle.tsdb_map.specs.World.{World}
+use Rattle.tsdb_map.specs.History.{state_after}
+use Rattle.tsdb_map.specs.State as plain
 use Rattle.tsdb_map.specs.declared.command.Command.TheVariants as command
 use Rattle.tsdb_map.specs.declared.command.Row.{Row}
+use Rattle.tsdb_map.specs.declared.reply.Reply.TheVariants.{Plain}
 use Rattle.tsdb_memory.specs.Shown.{entry_of}
 use Rattle.tsdb_outside.specs.Moments.{LeavesOnly}
 use Rattle.tsdb_outside.specs.declared.disk.Disk as disk
 use Rattle.tsdb_outside.specs.declared.faults.Counted as counted
+use Rattle.tsdb_replay.specs.Stores.{IsStateOf}
 use Rattle.tsdb_rows.specs.Fits.{FitsPair}
 use Rattle.tsdb_state.specs.Commands.{AreCells}
 use Rattle.tsdb_state.specs.Limits.{max_frozen}
 use Rattle.tsdb_state.specs.Records.{CanFreeze}
 use Rattle.tsdb_state.specs.State.{EngineState}
-use Rattle.tsdb_state.specs.Worlds.{StandsFor}
 
 module _ {J F S R P : Type 0} {means : disk.Ghosts J} {counts : counted.Ghosts J} where
   -- the row fits the working pair of the core
@@ -71,13 +72,13 @@ module _ {J F S R P : Type 0} {means : disk.Ghosts J} {counts : counted.Ghosts J
       (new ≡ old) ⊎ (IsPut device row old new Memory ⊎ IsFrozenFor row old new Memory)
   IsRowCommand device row old new (Full counter) = new ≡ old
 
-  -- At each moment of the call a stop leaves the world of the state, or that of the record that was in doubt, or the
-  -- world after the row.
+  -- At each moment of the call a stop leaves the state, or that of the record that was in doubt, or the one after the
+  -- row.
   abbrev pub LeavesRow : List ℕ → Row → Core J F S R P means counts → Core J F S R P means counts → Type 0
-  LeavesRow device row old new = (outside : Outside) (state : EngineState) (world : World) (next : Option World)
-      → IsSeen old outside state → StandsFor outside.told state.store world
+  LeavesRow device row old new = (outside : Outside) (state : EngineState) (at : plain.State)
+      (next : Option plain.State) → IsSeen old outside state → IsStateOf outside.told state.store at
       → LeadsTo outside.told state.store state.doubt next
       → LeavesOnly (disk_of (log_of (logged_of old))) (disk_of (log_of (logged_of new)))
-      (λ image. LeavesOneOf outside.kept (slot_of (log_of (logged_of old))) world next image
-      ⊎ LeavesOneOf outside.kept (slot_of (log_of (logged_of old))) world
-      (Some (accepted world (command.Insert device row))) image)
+      (λ image. LeavesOneOf outside.kept (slot_of (log_of (logged_of old))) at next image
+      ⊎ LeavesOneOf outside.kept (slot_of (log_of (logged_of old))) at
+      (Some (state_after at (command.Insert device row) (Plain Done))) image)

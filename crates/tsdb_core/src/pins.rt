@@ -21,12 +21,7 @@ impl<J: Journal, F: Files> Core<J, F> {
     ///
     /// Refuses, as the plain map does, items of which one has a series that is not there as `NoPath`, and else those of
     /// which one asks for the least or the greatest value of booleans or texts as `WrongType`.
-    pub fn pin(
-        &mut self,
-        device: &Path,
-        items: &[Item],
-        range: &Range,
-    ) -> Result<Pin<F>, PinFault>
+    pub fn pin(&mut self, device: &Path, items: &[Item], range: &Range) -> Result<Pin<F>, PinFault>
         ensures answer { IsPinAnswer (memory_of (logged_of self.old)) device.now items.now result }
         ensures pin { IfOk result (IsPinFor F.Right.file (files_of self.old) (memory_of (logged_of self.old)) device.now
             items.now range.now) }

@@ -1,4 +1,4 @@
--- Whatever a stop leaves of a stored engine stands for its world, or for that of the record in doubt.
+-- Whatever a stop leaves of a stored engine stands for its state, or for that of the record in doubt.
 use Rattle.std.proofs.Common.{◌≡◌, ◌⊎◌, ℕ, List, ◌++◌, map, Option, None, Some, inl, inr, refl, sym, subst, ⊎_elim}
 use Rattle.std.specs.Prelude.{IfSome}
 use Rattle.std.specs.List.{AllByRecursion as Each}
@@ -13,18 +13,17 @@ use Rattle.tsdb_layers.proofs.Lists.{each_among, each_left, each_right, each_wea
 use Rattle.tsdb_layers.specs.Lists.{Among}
 use Rattle.tsdb_log.specs.Spelling.{IsRecord, spelling}
 use Rattle.tsdb_log.specs.declared.record.LogRecord.{LogRecord}
-use Rattle.tsdb_map.specs.World.{World}
+use Rattle.tsdb_map.specs.State as plain
 use Rattle.tsdb_outside.specs.Disk.{Image, IsLawful, State, in_slot}
 use Rattle.tsdb_outside.specs.Files.{StoredFile}
 use Rattle.tsdb_outside.specs.declared.disk.Slot.{Slot}
 use Rattle.tsdb_replay.proofs.Stores.{stands_for_one_of}
-use Rattle.tsdb_replay.specs.Stores.{Files, HoldsKept, IsSound, IsStoreOf, IsWhole, LeadsToWorld, Recorded}
-use Rattle.tsdb_replay.specs.Stores.{StandsForOneOf}
+use Rattle.tsdb_replay.specs.Stores.{Files, HoldsKept, IsSound, IsStateOf, IsStoreOf, IsWhole, LeadsToState}
+use Rattle.tsdb_replay.specs.Stores.{Recorded, StandsForOneOf}
 use Rattle.tsdb_state.specs.Order.{DoubtInOrder}
 use Rattle.tsdb_state.specs.Records.{after, names, numbers_of}
 use Rattle.tsdb_state.specs.State.{EngineState, Entries, File, Told}
 use Rattle.tsdb_state.specs.Steps.{failed}
-use Rattle.tsdb_state.specs.Worlds.{StandsFor}
 
 module _ (items : List LogRecord) (kept : List StoredFile) (told : Told) (known : Entries) (state : EngineState)
     (stored : IsStored items kept told known state) where
@@ -54,13 +53,13 @@ module _ (items : List LogRecord) (kept : List StoredFile) (told : Told) (known 
         (λ file. whole_as (kept_bytes kept) files told told file file refl refl
         (λ bytes. holds_found kept files holds file.number bytes))
 
-    store_of : (world : World) → StandsFor told state.store world → IsStoreOf files state.store world
-    store_of world stands =
+    store_of : (at : plain.State) → IsStateOf told state.store at → IsStoreOf files state.store at
+    store_of at stands =
         record { told = told; whole = whole listed kept_listed; order = stored.order.store; stands = stands }
 
-    leads_on : (doubt : Option LogRecord) (next : Option World)
+    leads_on : (doubt : Option LogRecord) (next : Option plain.State)
         → IfSome doubt (DoubtInOrder told stored.named state.store state.outgoing) → IfSome doubt IsRecord
-        → LeadsTo told state.store doubt next → LeadsToWorld files replay doubt next
+        → LeadsTo told state.store doubt next → LeadsToState files replay doubt next
     leads_on None None order good leads = tt
     leads_on None (Some next) order good leads = absurd leads
     leads_on (Some item) None order good leads = absurd leads
@@ -77,33 +76,34 @@ module _ (items : List LogRecord) (kept : List StoredFile) (told : Told) (known 
     )
 
     -- a slot with the acknowledged records, or with these and the one in doubt
-    pub bytes_stand : (world : World) (next : Option World) (bytes : List ℕ) → StandsFor told state.store world
+    pub bytes_stand : (at : plain.State) (next : Option plain.State) (bytes : List ℕ) → IsStateOf told state.store at
         → LeadsTo told state.store state.doubt next
         → HasRecordsOrOneMore (map spelling items) (option_map spelling state.doubt) bytes
-        → StandsForOneOf files bytes world next
-    bytes_stand world next bytes stands leads has =
-        stands_for_one_of files items state.doubt replay world next bytes stored.good stored.replayed
-        (store_of world stands) (leads_on state.doubt next stored.order.doubt stored.doubt leads) has
+        → StandsForOneOf files bytes at next
+    bytes_stand at next bytes stands leads has =
+        stands_for_one_of files items state.doubt replay at next bytes stored.good stored.replayed
+        (store_of at stands) (leads_on state.doubt next stored.order.doubt stored.doubt leads) has
 
-  module _ (world : World) (next : Option World) (stands : StandsFor told state.store world)
+  module _ (at : plain.State) (next : Option plain.State) (stands : IsStateOf told state.store at)
       (leads : LeadsTo told state.store state.doubt next) (slot : Slot) where
     -- what a stop leaves between two calls
     pub image_stands : (disk : State) (gate : ℕ) (image : Image)
         → IsLogOn disk slot gate (map spelling items) (option_map spelling state.doubt) → disk.may_leave image
-        → LeavesOneOf kept slot world next image
+        → LeavesOneOf kept slot at next image
     image_stands disk gate image log left files holds =
-        bytes_stand files holds world next (in_slot slot image) stands leads
+        bytes_stand files holds at next (in_slot slot image) stands leads
         (records_or_one_more (map spelling items) (option_map spelling state.doubt) (in_slot slot image)
         (log.left image left))
 
   -- what a settled engine leaves
-  pub settled_is_sound : (disk : State) (lawful : IsLawful disk) (world : World) (slot : Slot) (gate : ℕ) (files : Files)
-      → state.doubt ≡ None → StandsFor told state.store world → IsLogOn disk slot gate (map spelling items) None
-      → IsSettled slot disk → HoldsKept kept files → IsSound slot disk files world
-  settled_is_sound disk lawful world slot gate files none stands log settled holds = record {
+  pub settled_is_sound : (disk : State) (lawful : IsLawful disk) (at : plain.State) (slot : Slot) (gate : ℕ)
+      (files : Files)
+      → state.doubt ≡ None → IsStateOf told state.store at → IsLogOn disk slot gate (map spelling items) None
+      → IsSettled slot disk → HoldsKept kept files → IsSound slot disk files at
+  settled_is_sound disk lawful at slot gate files none stands log settled holds = record {
     told = log.told;
     settled = settled;
-    stands = λ image seen. bytes_stand files holds world None (in_slot slot image) stands
+    stands = λ image seen. bytes_stand files holds at None (in_slot slot image) stands
         (subst (λ doubt. LeadsTo told state.store doubt None) (sym none) tt)
         (subst (λ doubt. HasRecordsOrOneMore (map spelling items) (option_map spelling doubt) (in_slot slot image))
         (sym none) (log.left image (lawful.seen_may_stay image seen)));
@@ -120,25 +120,25 @@ either old new P Q R S first then (inr turns) = record {
       (turns.until image left);
 }
 
--- the world of a store is that of an equal one
+-- the state of a store is that of an equal one
 pub append_moments : (items : List LogRecord) (kept : List StoredFile) (told : Told) (known : Entries)
-    (state doubtful : EngineState) (item : LogRecord) (world after : World) (next : Option World) (slot : Slot)
+    (state doubtful : EngineState) (item : LogRecord) (at after : plain.State) (next : Option plain.State) (slot : Slot)
     (old new : State) → IsStored items kept told known state → IsStored items kept told known (failed item doubtful)
-    → doubtful.store ≡ state.store → StandsFor told state.store world → LeadsTo told state.store state.doubt next
+    → doubtful.store ≡ state.store → IsStateOf told state.store at → LeadsTo told state.store state.doubt next
     → LeadsTo told state.store (Some item) (Some after)
     → LeavesFirstThen old new
     (λ image. HasRecordsOrOneMore (map spelling items) (option_map spelling state.doubt) (in_slot slot image))
     (λ image. HasRecordsOrOneMore (map spelling items) (Some (spelling item)) (in_slot slot image))
     → LeavesOnly old new
-    (λ image. LeavesOneOf kept slot world next image ⊎ LeavesOneOf kept slot world (Some after) image)
-append_moments items kept told known state doubtful item world after next slot old new stored doubted same stands leads
+    (λ image. LeavesOneOf kept slot at next image ⊎ LeavesOneOf kept slot at (Some after) image)
+append_moments items kept told known state doubtful item at after next slot old new stored doubted same stands leads
     leads_after moments =
     either old new
     (λ image. HasRecordsOrOneMore (map spelling items) (option_map spelling state.doubt) (in_slot slot image))
     (λ image. HasRecordsOrOneMore (map spelling items) (Some (spelling item)) (in_slot slot image))
-    (LeavesOneOf kept slot world next) (LeavesOneOf kept slot world (Some after))
-    (λ image has files holds. bytes_stand items kept told known state stored files holds world next
+    (LeavesOneOf kept slot at next) (LeavesOneOf kept slot at (Some after))
+    (λ image has files holds. bytes_stand items kept told known state stored files holds at next
     (in_slot slot image) stands leads has)
-    (λ image has files holds. bytes_stand items kept told known (failed item doubtful) doubted files holds world
-    (Some after) (in_slot slot image) (subst (λ store. StandsFor told store world) (sym same) stands)
+    (λ image has files holds. bytes_stand items kept told known (failed item doubtful) doubted files holds at
+    (Some after) (in_slot slot image) (subst (λ store. IsStateOf told store at) (sym same) stands)
     (subst (λ store. LeadsTo told store (Some item) (Some after)) (sym same) leads_after) has) moments

@@ -5,17 +5,16 @@ use Rattle.std.specs.Option.{option_map}
 use Rattle.tsdb_layers.specs.Lists.{Among}
 use Rattle.tsdb_log.specs.Spelling.{IsRecord}
 use Rattle.tsdb_log.specs.declared.record.LogRecord.{LogRecord}
-use Rattle.tsdb_map.specs.World.{World}
+use Rattle.tsdb_map.specs.State as plain
 use Rattle.tsdb_outside.specs.Disk.{Image, in_slot}
 use Rattle.tsdb_outside.specs.Files.{StoredFile}
 use Rattle.tsdb_outside.specs.declared.disk.Slot.{Slot}
 use Rattle.tsdb_replay.specs.Replays.{Replays}
-use Rattle.tsdb_replay.specs.Stores.{Files, HoldsKept, IsWhole, StandsForOneOf, store_steps}
+use Rattle.tsdb_replay.specs.Stores.{Files, HoldsKept, IsStateOf, IsWhole, StandsForOneOf, store_steps}
 use Rattle.tsdb_state.specs.Jobs.{drawn_by}
 use Rattle.tsdb_state.specs.Order.{IsInOrder, files_of}
 use Rattle.tsdb_state.specs.Records.{after, numbers_of}
 use Rattle.tsdb_state.specs.State.{EngineState, Entries, File, FlushJob, StoreState, Told}
-use Rattle.tsdb_state.specs.Worlds.{StandsFor}
 
 -- the bytes of the kept file of each number
 abbrev pub kept_bytes : List StoredFile → Files
@@ -38,18 +37,18 @@ pub record IsStored (items : List LogRecord) (kept : List StoredFile) (told : To
   pub whole : Each (IsKept kept told) (files_of state)
   pub doubt : IfSome state.doubt IsRecord
 
--- the store after the record in doubt, if there is one, stands for the next world
-abbrev pub LeadsTo : Told → StoreState → Option LogRecord → Option World → Type 0
+-- the store after the record in doubt, if there is one, is in the next state
+abbrev pub LeadsTo : Told → StoreState → Option LogRecord → Option plain.State → Type 0
 LeadsTo told store None None = ⊤
 LeadsTo told store None (Some next) = ⊥
 LeadsTo told store (Some item) None = ⊥
-LeadsTo told store (Some item) (Some next) = StandsFor told (after item store) next
+LeadsTo told store (Some item) (Some next) = IsStateOf told (after item store) next
 
--- With whatever files hold the kept ones, the log in this slot of what a stop left stands for the world, or for the
+-- With whatever files hold the kept ones, the log in this slot of what a stop left stands for the state, or for the
 -- next one, if there is one.
-abbrev pub LeavesOneOf : List StoredFile → Slot → World → Option World → Image → Type 0
-LeavesOneOf kept slot world next image =
-    (files : Files) → HoldsKept kept files → StandsForOneOf files (in_slot slot image) world next
+abbrev pub LeavesOneOf : List StoredFile → Slot → plain.State → Option plain.State → Image → Type 0
+LeavesOneOf kept slot at next image =
+    (files : Files) → HoldsKept kept files → StandsForOneOf files (in_slot slot image) at next
 
 -- the files that a flush has built, one for each number that it has drawn
 abbrev pub built_files : FlushJob → List File

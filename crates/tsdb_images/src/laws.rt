@@ -9,12 +9,12 @@ ghost use Rattle.tsdb_images.specs.Stored.{IsKept, IsStored, LeadsTo, LeavesOneO
 ghost use Rattle.tsdb_layers.specs.Lists.{count};
 ghost use Rattle.tsdb_log.specs.Spelling.{IsRecord, spelling};
 ghost use Rattle.tsdb_log.specs.declared.record.LogRecord.{LogRecord};
-ghost use Rattle.tsdb_map.specs.World.{World};
+ghost use Rattle.tsdb_map.specs.State as plain;
 ghost use Rattle.tsdb_outside.specs.Disk.{Image, in_slot};
 ghost use Rattle.tsdb_outside.specs.Files.{StoredFile};
 ghost use Rattle.tsdb_outside.specs.declared.disk.Slot.{Slot};
 ghost use Rattle.tsdb_replay.specs.Replays.{Replays};
-ghost use Rattle.tsdb_replay.specs.Stores.{Files, HoldsKept, IsSound, Recorded, store_steps};
+ghost use Rattle.tsdb_replay.specs.Stores.{Files, HoldsKept, IsSound, IsStateOf, Recorded, store_steps};
 ghost use Rattle.tsdb_state.specs.Jobs.{EntriesMatch, NumbersInOrder};
 ghost use Rattle.tsdb_state.specs.Limits.{end_of_numbers};
 ghost use Rattle.tsdb_state.specs.NewStore.{opened};
@@ -22,34 +22,34 @@ ghost use Rattle.tsdb_state.specs.Order.{files_of};
 ghost use Rattle.tsdb_state.specs.State.{EngineState, Entries, Told};
 ghost use Rattle.tsdb_state.specs.StoreOrder.{StoreInOrder};
 ghost use Rattle.tsdb_state.specs.Steps.{failed};
-ghost use Rattle.tsdb_state.specs.Worlds.{StandsFor};
 
 use tsdb_outside::Disk;
 
-/// Whatever a stop leaves of a stored engine stands for its world, or for that of the record in doubt, with whatever
+/// Whatever a stop leaves of a stored engine stands for its state, or for that of the record in doubt, with whatever
 /// files hold the kept ones.
-pub fn a_stop_leaves_one_of_two_worlds<D: Disk>(_disk: &D)
+pub fn a_stop_leaves_one_of_two_states<D: Disk>(_disk: &D)
     ensures { (items : List LogRecord) (kept : List StoredFile) (told : Told) (known : Entries) (state : EngineState)
-        (world : World) (next : Option World) (slot : Slot) (gate : ℕ) (image : Image)
-        → IsStored items kept told known state → StandsFor told state.store world
+        (at : plain.State) (next : Option plain.State) (slot : Slot) (gate : ℕ) (image : Image)
+        → IsStored items kept told known state → IsStateOf told state.store at
         → LeadsTo told state.store state.doubt next
         → IsLogOn (D.state _disk.now) slot gate (map spelling items) (option_map spelling state.doubt)
-        → (D.state _disk.now).may_leave image → LeavesOneOf kept slot world next image }
+        → (D.state _disk.now).may_leave image → LeavesOneOf kept slot at next image }
 {}
 
-/// At each moment of an append a stop leaves the world, or that of the record that was in doubt, or that of the record
+/// At each moment of an append a stop leaves the state, or that of the record that was in doubt, or that of the record
 /// that is appended. `state` is the engine before it, `doubtful` the one that a failed append leaves.
-pub fn an_append_leaves_the_old_world_or_the_next<D: Disk>(_old: &D, _new: &D)
+pub fn an_append_leaves_the_old_state_or_the_next<D: Disk>(_old: &D, _new: &D)
     ensures { (items : List LogRecord) (kept : List StoredFile) (told : Told) (known : Entries)
-        (state doubtful : EngineState) (item : LogRecord) (world after : World) (next : Option World) (slot : Slot)
+        (state doubtful : EngineState) (item : LogRecord) (at after : plain.State) (next : Option plain.State)
+        (slot : Slot)
         → IsStored items kept told known state → IsStored items kept told known (failed item doubtful)
-        → doubtful.store ≡ state.store → StandsFor told state.store world
+        → doubtful.store ≡ state.store → IsStateOf told state.store at
         → LeadsTo told state.store state.doubt next → LeadsTo told state.store (Some item) (Some after)
         → LeavesFirstThen (D.state _old.now) (D.state _new.now)
         (λ image. HasRecordsOrOneMore (map spelling items) (option_map spelling state.doubt) (in_slot slot image))
         (λ image. HasRecordsOrOneMore (map spelling items) (Some (spelling item)) (in_slot slot image))
         → LeavesOnly (D.state _old.now) (D.state _new.now)
-        (λ image. LeavesOneOf kept slot world next image ⊎ LeavesOneOf kept slot world (Some after) image) }
+        (λ image. LeavesOneOf kept slot at next image ⊎ LeavesOneOf kept slot at (Some after) image) }
 {}
 
 /// What is kept besides the files of an engine is free: files that a caller has built, or that were swept.
@@ -96,8 +96,8 @@ pub fn an_opened_engine_is_stored()
 /// A stored engine with nothing in doubt leaves a sound store, where its slot is settled.
 pub fn a_settled_engine_leaves_a_sound_store<D: Disk>(_disk: &D)
     ensures { (items : List LogRecord) (kept : List StoredFile) (told : Told) (known : Entries) (state : EngineState)
-        (world : World) (slot : Slot) (gate : ℕ) (files : Files)
-        → IsStored items kept told known state → state.doubt ≡ None → StandsFor told state.store world
+        (at : plain.State) (slot : Slot) (gate : ℕ) (files : Files)
+        → IsStored items kept told known state → state.doubt ≡ None → IsStateOf told state.store at
         → IsLogOn (D.state _disk.now) slot gate (map spelling items) None → IsSettled slot (D.state _disk.now)
-        → HoldsKept kept files → IsSound slot (D.state _disk.now) files world }
+        → HoldsKept kept files → IsSound slot (D.state _disk.now) files at }
 {}

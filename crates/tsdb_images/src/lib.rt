@@ -12,7 +12,7 @@ mod step_laws;
 
 pub use laws::{
     a_replay_has_its_numbers_in_order, a_settled_engine_leaves_a_sound_store,
-    a_stop_leaves_one_of_two_worlds, an_append_leaves_the_old_world_or_the_next,
+    a_stop_leaves_one_of_two_states, an_append_leaves_the_old_state_or_the_next,
     an_opened_engine_is_stored, files_kept_besides_are_free, what_is_told_of_other_files_is_free,
 };
 pub use step_laws::{

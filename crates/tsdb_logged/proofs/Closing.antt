@@ -12,7 +12,7 @@ use Rattle.tsdb_log.specs.Spelling.{spelling}
 use Rattle.tsdb_logged.specs.Closing.{IsClosed}
 use Rattle.tsdb_logged.specs.Logged.{IsSound, Outside, log_of}
 use Rattle.tsdb_logged.specs.declared.logged.Logged.{Logged}
-use Rattle.tsdb_map.specs.World.{World}
+use Rattle.tsdb_map.specs.State as plain
 use Rattle.tsdb_outside.specs.Causes.{HasCause, Rose}
 use Rattle.tsdb_outside.specs.Disk.{State, in_slot}
 use Rattle.tsdb_outside.specs.Moments.{LeavesOnly}
@@ -22,19 +22,18 @@ use Rattle.tsdb_outside.specs.declared.faults.Failed.{Failed}
 use Rattle.tsdb_replay.specs.Stores as store
 use Rattle.tsdb_state.specs.State.{EngineState}
 use Rattle.tsdb_state.specs.Steps.{settled}
-use Rattle.tsdb_state.specs.Worlds.{StandsFor}
 
 module _ {J : Type 0} {means : disk.Ghosts J} {counts : counted.Ghosts J} (logged : Logged J means counts)
-    (outside : Outside) (state : EngineState) (world : World) (sound : IsSound logged outside state)
-    (stands : StandsFor outside.told state.store world) where
-  pub closing_moments : (next : Option World) (new : State) → LeadsTo outside.told state.store state.doubt next
+    (outside : Outside) (state : EngineState) (at : plain.State) (sound : IsSound logged outside state)
+    (stands : store.IsStateOf outside.told state.store at) where
+  pub closing_moments : (next : Option plain.State) (new : State) → LeadsTo outside.told state.store state.doubt next
       → LeavesOnly (disk_of (log_of logged)) new (λ image. HasRecordsOrOneMore (map spelling outside.items)
       (option_map spelling state.doubt) (in_slot (slot_of (log_of logged)) image))
-      → LeavesOnly (disk_of (log_of logged)) new (LeavesOneOf outside.kept (slot_of (log_of logged)) world next)
+      → LeavesOnly (disk_of (log_of logged)) new (LeavesOneOf outside.kept (slot_of (log_of logged)) at next)
   closing_moments next new leads moments = record {
     passes = moments.passes;
     each = λ image left files holds. bytes_stand outside.items outside.kept outside.told outside.known state
-        sound.stored files holds world next (in_slot (slot_of (log_of logged)) image) stands leads
+        sound.stored files holds at next (in_slot (slot_of (log_of logged)) image) stands leads
         (moments.each image left);
   }
 
@@ -42,12 +41,12 @@ module _ {J : Type 0} {means : disk.Ghosts J} {counts : counted.Ghosts J} (logge
   pub closed_sound : (journal : J) (log : Frames J means counts) (files : store.Files)
       → IsLog log (map spelling outside.items) None → slot_of log ≡ slot_of (log_of logged) → journal ≡ log.journal
       → IsSettled (slot_of log) (means.state journal) → store.HoldsKept outside.kept files
-      → store.IsSound (slot_of (log_of logged)) (means.state journal) files world
+      → store.IsSound (slot_of (log_of logged)) (means.state journal) files at
   closed_sound journal log files stands_log same is settled_slot holds =
-      subst (λ slot. store.IsSound slot (means.state journal) files world) same
+      subst (λ slot. store.IsSound slot (means.state journal) files at) same
       (settled_is_sound outside.items outside.kept outside.told outside.known (settled state)
       (settled_stored outside.items outside.kept outside.told outside.known state sound.stored)
-      (means.state journal) (means.lawful journal) world (slot_of log) log.gate files refl stands
+      (means.state journal) (means.lawful journal) at (slot_of log) log.gate files refl stands
       (subst (λ (j : J). IsLogOn (means.state j) log.slot log.gate
       (map spelling outside.items) None) (sym is) stands_log.stands) settled_slot holds)
 
@@ -64,14 +63,14 @@ pub closed : {J : Type 0} {means : disk.Ghosts J} {counts : counted.Ghosts J} (l
     → ((acknowledged : List (List ℕ)) → IsLog log acknowledged None → IsSettled (slot_of log) (means.state journal))
     → IsClosed logged (means.state journal) (counts.faults journal)
 closed {J} {means} {counts} logged log journal outcome settled_log moments slot cause is settled_slot = record {
-  moments = λ outside state world next sound stands leads. closing_moments logged outside state world sound stands next
+  moments = λ outside state at next sound stands leads. closing_moments logged outside state at sound stands next
       (means.state journal) leads
       (subst (λ (j : J). LeavesOnly (disk_of (log_of logged)) (means.state j)
       (λ image. HasRecordsOrOneMore (map spelling outside.items) (option_map spelling state.doubt)
       (in_slot (slot_of (log_of logged)) image))) (sym is)
       (moments (map spelling outside.items) (option_map spelling state.doubt) sound.log.log));
-  sound = λ not_risen outside state world files sound stands holds. by outcome settled_log cause not_risen outside state
-      world files sound stands holds;
+  sound = λ not_risen outside state at files sound stands holds. by outcome settled_log cause not_risen outside state
+      at files sound stands holds;
   later = subst (λ (j : J). counts.faults (log_of logged).journal ≤ counts.faults j) (sym is) cause.later;
 }
   where
@@ -80,13 +79,14 @@ closed {J} {means} {counts} logged log journal outcome settled_log moments slot 
         → IsLog (log_of logged) acknowledged in_doubt → IsLog log acknowledged None)
         → HasCause (faults_of (log_of logged)) (faults_of log) outcome
         → ¬ Rose (faults_of (log_of logged)) (counts.faults journal) → (outside : Outside) (state : EngineState)
-        (world : World) (files : store.Files) → IsSound logged outside state → StandsFor outside.told state.store world
+        (at : plain.State) (files : store.Files) → IsSound logged outside state
+        → store.IsStateOf outside.told state.store at
         → store.HoldsKept outside.kept files
-        → store.IsSound (slot_of (log_of logged)) (means.state journal) files world
-    by (Ok done) settled_log cause not_risen outside state world files sound stands holds =
+        → store.IsSound (slot_of (log_of logged)) (means.state journal) files at
+    by (Ok done) settled_log cause not_risen outside state at files sound stands holds =
         let log_is = settled_log (map spelling outside.items) (option_map spelling state.doubt) sound.log.log in
-        closed_sound logged outside state world sound stands journal log files log_is slot is
+        closed_sound logged outside state at sound stands journal log files log_is slot is
         (settled_slot (map spelling outside.items) log_is) holds
-    by (Err fault) settled_log cause not_risen outside state world files sound stands holds =
+    by (Err fault) settled_log cause not_risen outside state at files sound stands holds =
         absurd (not_risen (subst (λ (j : J). Rose (counts.faults (log_of logged).journal) (counts.faults j)) (sym is)
         cause.failed))

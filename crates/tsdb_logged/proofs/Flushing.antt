@@ -11,7 +11,7 @@ use Rattle.tsdb_log.specs.declared.record.LogRecord.{LogRecord}
 use Rattle.tsdb_log.specs.declared.record.LogRecord.TheVariants.{Flushed}
 use Rattle.tsdb_logged.specs.Appends.{HasItems, IsAppended}
 use Rattle.tsdb_logged.specs.Flushes.{CanCommit}
-use Rattle.tsdb_logged.specs.Logged.{HasLog, IsFaulted, IsSound, IsStoredIn, LeavesWorlds, Outside, log_of, memory_of, with_record}
+use Rattle.tsdb_logged.specs.Logged.{HasLog, IsFaulted, IsSound, IsStoredIn, LeavesStates, Outside, log_of, memory_of, with_record}
 use Rattle.tsdb_logged.specs.declared.logged.Logged.{Logged}
 use Rattle.tsdb_memory.specs.Least.{IsLeastOf}
 use Rattle.tsdb_memory.specs.Shown.{IsMemoryOf, file_borns}
@@ -44,9 +44,9 @@ module _ {J : Type 0} {means : disk.Ghosts J} {counts : counted.Ghosts J} (old n
       can.commits is_good can.kept
 
   pub flush_moments : (outcome : Result (Unit {0}) Failed) → IsAppended old new item outcome
-      → LeavesWorlds old new outside state (flush_record flush)
-  flush_moments outcome append world after_it next stands leads leads_after =
-      append_moments outside.items outside.kept outside.told outside.known state gone (flush_record flush) world after_it
+      → LeavesStates old new outside state (flush_record flush)
+  flush_moments outcome append at after_it next stands leads leads_after =
+      append_moments outside.items outside.kept outside.told outside.known state gone (flush_record flush) at after_it
       next (slot_of (log_of old)) (disk_of (log_of old)) (disk_of (log_of new)) sound.stored doubted refl stands leads
       leads_after
       (subst Moments (sym can.numbers) (append.moments outside.items state.doubt sound.log))

@@ -23,7 +23,7 @@ use Rattle.tsdb_log.specs.declared.record.LogRecord.{LogRecord}
 use Rattle.tsdb_log.specs.declared.record.LogRecord.TheVariants.{Create, Delete, Flushed, Freeze, Insert, Replaced}
 use Rattle.tsdb_log.specs.declared.record.LogRecord.TheVariants.{Snapshot}
 use Rattle.tsdb_logged.specs.Appends.{IsAppended}
-use Rattle.tsdb_logged.specs.Logged.{HasLog, IsFaulted, IsSound, IsStoredIn, LeavesWorlds, Outside, log_of, memory_of}
+use Rattle.tsdb_logged.specs.Logged.{HasLog, IsFaulted, IsSound, IsStoredIn, LeavesStates, Outside, log_of, memory_of}
 use Rattle.tsdb_logged.specs.Logged.{with_record}
 use Rattle.tsdb_logged.specs.Replacing.{CanReplace, IsReplacement, replacement_bytes}
 use Rattle.tsdb_logged.specs.declared.logged.Logged.{Logged}
@@ -149,9 +149,9 @@ module _ {J : Type 0} {means : disk.Ghosts J} {counts : counted.Ghosts J} (old n
       can.commits is_good can.kept)
 
   pub replaced_moments : (outcome : Result (Unit {0}) Failed) → IsAppended old new item outcome
-      → LeavesWorlds old new outside state item
-  replaced_moments outcome append world after_it next stands leads leads_after =
-      append_moments outside.items outside.kept outside.told outside.known state gone item world after_it
+      → LeavesStates old new outside state item
+  replaced_moments outcome append at after_it next stands leads leads_after =
+      append_moments outside.items outside.kept outside.told outside.known state gone item at after_it
       next (slot_of (log_of old)) (disk_of (log_of old)) (disk_of (log_of new)) sound.stored doubted refl stands leads
       leads_after (append.moments outside.items state.doubt sound.log)
 

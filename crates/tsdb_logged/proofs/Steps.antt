@@ -18,7 +18,7 @@ use Rattle.tsdb_log.specs.declared.record.LogRecord.{LogRecord}
 use Rattle.tsdb_logged.specs.Answers.{IsRefusal, answer_by}
 use Rattle.tsdb_logged.specs.Appends.{IsAppended, IsLogKept}
 use Rattle.tsdb_logged.specs.Commands.{IsAfter, IsCommand, IsPrepared}
-use Rattle.tsdb_logged.specs.Logged.{HasLog, IsFaulted, IsSound, IsStoredIn, LeavesWorlds, Outside, log_of, memory_of, room_of, two_numbers, with_record}
+use Rattle.tsdb_logged.specs.Logged.{HasLog, IsFaulted, IsSound, IsStoredIn, LeavesStates, Outside, log_of, memory_of, room_of, two_numbers, with_record}
 use Rattle.tsdb_logged.specs.declared.logged.Logged.{Logged}
 use Rattle.tsdb_memory.specs.Shown.{IsMemoryOf}
 use Rattle.tsdb_outside.proofs.DiskLemmas.{Elapses-same}
@@ -40,19 +40,19 @@ memory_answer (Err memory) is = refl
 module _ {J : Type 0} {means : disk.Ghosts J} {counts : counted.Ghosts J} where
   -- where the log is as it was
   untouched : (old new : Logged J means counts) (outside : Outside) (state : EngineState) (item : LogRecord)
-      → IsSound old outside state → log_of new ≡ log_of old → LeavesWorlds old new outside state item
-  untouched old new outside state item sound same world after next stands leads leads_after =
+      → IsSound old outside state → log_of new ≡ log_of old → LeavesStates old new outside state item
+  untouched old new outside state item sound same at after next stands leads leads_after =
       subst (λ (log : Frames J means counts). LeavesOnly (disk_of (log_of old)) (disk_of log) Leaves) (sym same)
       (record {
         passes = Elapses-same (disk_of (log_of old)) ((disk_of (log_of old)).left_since (disk_of (log_of old)).moment);
         each = λ image left. inl (image_stands outside.items outside.kept outside.told outside.known state sound.stored
-            world next stands leads (slot_of (log_of old)) (disk_of (log_of old)) (log_of old).gate image
+            at next stands leads (slot_of (log_of old)) (disk_of (log_of old)) (log_of old).gate image
             sound.log.log.stands ((means.lawful (log_of old).journal).only_now image left));
       })
     where
       Leaves : Image → Type 0
-      Leaves image = LeavesOneOf outside.kept (slot_of (log_of old)) world next image
-          ⊎ LeavesOneOf outside.kept (slot_of (log_of old)) world (Some after) image
+      Leaves image = LeavesOneOf outside.kept (slot_of (log_of old)) at next image
+          ⊎ LeavesOneOf outside.kept (slot_of (log_of old)) at (Some after) image
 
   log_kept : (old new : Logged J means counts) (items : List LogRecord) (doubt : Option LogRecord) → IsLogKept old new
       → HasLog old items doubt → HasLog new items doubt
@@ -127,9 +127,9 @@ module _ {J : Type 0} {means : disk.Ghosts J} {counts : counted.Ghosts J} where
     -- what is at hand after an append, by how it ended
     moments_of : (outcome : Result (Unit {0}) Failed) → IsAppended old new item outcome
         → (outside : Outside) (state : EngineState) → IsSound old outside state → Needs state
-        → LeavesWorlds old new outside state item
-    moments_of outcome append outside state sound needs world after next stands leads leads_after =
-        append_moments outside.items outside.kept outside.told outside.known state state item world after next
+        → LeavesStates old new outside state item
+    moments_of outcome append outside state sound needs at after next stands leads leads_after =
+        append_moments outside.items outside.kept outside.told outside.known state state item at after next
         (slot_of (log_of old)) (disk_of (log_of old)) (disk_of (log_of new)) sound.stored
         (doubtful outside state sound needs) refl stands leads leads_after
         (append.moments outside.items state.doubt sound.log)

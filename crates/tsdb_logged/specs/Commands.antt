@@ -13,7 +13,7 @@ use Rattle.tsdb_log.specs.declared.record.LogRecord.{LogRecord}
 use Rattle.tsdb_log.specs.declared.record.LogRecord.TheVariants.{Create, Delete, Insert}
 use Rattle.tsdb_logged.specs.Answers.{IsRefusal}
 use Rattle.tsdb_logged.specs.Appends.{IsLogKept}
-use Rattle.tsdb_logged.specs.Logged.{IsFaulted, IsSound, LeavesWorlds, Outside, log_of, memory_of, room_of, with_record}
+use Rattle.tsdb_logged.specs.Logged.{IsFaulted, IsSound, LeavesStates, Outside, log_of, memory_of, room_of, with_record}
 use Rattle.tsdb_logged.specs.declared.logged.Logged.{Logged}
 use Rattle.tsdb_map.specs.declared.command.Schema.{Schema}
 use Rattle.tsdb_memory.specs.Rows.{ChangesRoom}
@@ -74,7 +74,7 @@ module _ {J : Type 0} {means : disk.Ghosts J} {counts : counted.Ghosts J} where
     pub step : (outside : Outside) (state : EngineState) → IsSound old outside state → Needs state
         → IsAfter new outside state item answer
     pub moments : (outside : Outside) (state : EngineState) → IsSound old outside state → Needs state
-        → LeavesWorlds old new outside state item
+        → LeavesStates old new outside state item
     pub refused : IsRefusal answer → new ≡ old
     pub memory : answer ≡ Memory → IsLogKept old new
     pub room : room_of old ≤ room_of new

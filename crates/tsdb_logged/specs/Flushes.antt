@@ -6,7 +6,7 @@ use Rattle.tsdb_base.specs.declared.ids.Stamp.{Stamp}
 use Rattle.tsdb_frames.specs.Frames.{faults_of, slot_of}
 use Rattle.tsdb_images.specs.Stored.{IsKept, built_files}
 use Rattle.tsdb_log.specs.declared.record.LogRecord.TheVariants.{Flushed}
-use Rattle.tsdb_logged.specs.Logged.{IsFaulted, IsSound, LeavesWorlds, Outside, log_of, memory_of, room_of, with_record}
+use Rattle.tsdb_logged.specs.Logged.{IsFaulted, IsSound, LeavesStates, Outside, log_of, memory_of, room_of, with_record}
 use Rattle.tsdb_logged.specs.declared.logged.Logged.{Logged}
 use Rattle.tsdb_memory.specs.Least.{IsLeastOf}
 use Rattle.tsdb_memory.specs.Shown.{file_borns}
@@ -41,7 +41,7 @@ module _ {J : Type 0} {means : disk.Ghosts J} {counts : counted.Ghosts J} where
         → IsFaulted new outside (ended_flush flush others (built_files flush) state) (flush_record flush))
     pub moments : (outside : Outside) (state : EngineState) (flush : FlushJob) (others : List FlushJob)
         → IsSound old outside state → CanCommit sequence unsequence listed outside state flush others
-        → LeavesWorlds old new outside state (flush_record flush)
+        → LeavesStates old new outside state (flush_record flush)
     pub pair : OnOk outcome ((memory_of new).frozen ≡ drop 1 (memory_of old).frozen)
     pub no_pair : OnErr outcome ((memory_of new).frozen ≡ (memory_of old).frozen)
     pub working : (memory_of new).working ≡ (memory_of old).working

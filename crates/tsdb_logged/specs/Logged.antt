@@ -10,17 +10,17 @@ use Rattle.tsdb_layers.specs.Lists.{if_some}
 use Rattle.tsdb_log.specs.Spelling.{spelling}
 use Rattle.tsdb_log.specs.declared.record.LogRecord.{LogRecord}
 use Rattle.tsdb_logged.specs.declared.logged.Logged.{Logged}
-use Rattle.tsdb_map.specs.World.{World}
+use Rattle.tsdb_map.specs.State as plain
 use Rattle.tsdb_memory.specs.Shown.{IsMemoryOf}
 use Rattle.tsdb_memory.specs.Store.{Store}
 use Rattle.tsdb_outside.specs.Files.{StoredFile}
 use Rattle.tsdb_outside.specs.Moments.{LeavesOnly}
 use Rattle.tsdb_outside.specs.declared.disk.Disk as disk
 use Rattle.tsdb_outside.specs.declared.faults.Counted as counted
+use Rattle.tsdb_replay.specs.Stores.{IsStateOf}
 use Rattle.tsdb_state.specs.Records.{names}
 use Rattle.tsdb_state.specs.State.{EngineState, Entries, Told}
 use Rattle.tsdb_state.specs.Steps.{failed, settled}
-use Rattle.tsdb_state.specs.Worlds.{StandsFor}
 
 -- what an engine has outside of its memory: the acknowledged records of its log, and the files that are kept, with what
 -- they tell and what is known of them
@@ -72,12 +72,12 @@ module _ {J : Type 0} {means : disk.Ghosts J} {counts : counted.Ghosts J} where
   IsFaulted logged outside state item = IsSound logged outside (settled state)
       ⊎ (IsSound logged outside state ⊎ IsSound logged outside (failed item state))
 
-  -- A stop at any moment of the call leaves the world of the state, or that of the record that was in doubt, or that of
-  -- the record of the call.
-  abbrev pub LeavesWorlds : Logged J means counts → Logged J means counts → Outside → EngineState → LogRecord → Type 0
-  LeavesWorlds old new outside state item = (world after : World) (next : Option World)
-      → StandsFor outside.told state.store world → LeadsTo outside.told state.store state.doubt next
+  -- A stop at any moment of the call leaves the state, or that of the record that was in doubt, or that of the record
+  -- of the call.
+  abbrev pub LeavesStates : Logged J means counts → Logged J means counts → Outside → EngineState → LogRecord → Type 0
+  LeavesStates old new outside state item = (at after : plain.State) (next : Option plain.State)
+      → IsStateOf outside.told state.store at → LeadsTo outside.told state.store state.doubt next
       → LeadsTo outside.told state.store (Some item) (Some after)
       → LeavesOnly (disk_of (log_of old)) (disk_of (log_of new))
-      (λ image. LeavesOneOf outside.kept (slot_of (log_of old)) world next image
-      ⊎ LeavesOneOf outside.kept (slot_of (log_of old)) world (Some after) image)
+      (λ image. LeavesOneOf outside.kept (slot_of (log_of old)) at next image
+      ⊎ LeavesOneOf outside.kept (slot_of (log_of old)) at (Some after) image)

@@ -7,7 +7,7 @@ use Rattle.tsdb_images.specs.Stored.{IsKept}
 use Rattle.tsdb_log.specs.declared.record.LogRecord.{LogRecord}
 use Rattle.tsdb_log.specs.declared.record.LogRecord.TheVariants.{Create, Delete, Flushed, Freeze, Insert, Replaced}
 use Rattle.tsdb_log.specs.declared.record.LogRecord.TheVariants.{Snapshot}
-use Rattle.tsdb_logged.specs.Logged.{IsFaulted, IsSound, LeavesWorlds, Outside, log_of, memory_of, room_of, with_record}
+use Rattle.tsdb_logged.specs.Logged.{IsFaulted, IsSound, LeavesStates, Outside, log_of, memory_of, room_of, with_record}
 use Rattle.tsdb_logged.specs.declared.logged.Logged.{Logged}
 use Rattle.tsdb_memory.specs.Least.{IsLeastOf}
 use Rattle.tsdb_memory.specs.Shown.{file_borns}
@@ -61,7 +61,7 @@ module _ {J : Type 0} {means : disk.Ghosts J} {counts : counted.Ghosts J} where
     pub moments : (outside : Outside) (state : EngineState) (job : Compaction) (others : List Compaction)
         (output : List File) (place : ℕ)
         → IsSound old outside state → CanReplace item listed outside state job others output place
-        → LeavesWorlds old new outside state item
+        → LeavesStates old new outside state item
     pub room : room_of old ≤ room_of new
     pub slot : slot_of (log_of new) ≡ slot_of (log_of old)
     pub cause : HasCause (faults_of (log_of old)) (faults_of (log_of new)) outcome

@@ -1,4 +1,4 @@
--- A store stands for one world; strays say nothing; whatever a stop leaves of a sound store stands for its world.
+-- A store stands for one state; strays say nothing; whatever a stop leaves of a sound store stands for its state.
 use Rattle.std.proofs.Common.{◌≡◌, ◌⊎◌, inl, inr, ℕ, List, [], ◌∷◌, ◌++◌, map, Option, None, Some, refl, sym, ◌∙◌, ap, subst}
 use Rattle.std.specs.Prelude.{IsSome}
 use Rattle.std.specs.FinMap.{empty, get}
@@ -14,6 +14,7 @@ use Rattle.tsdb_layers.proofs.Lists.{each_both, each_left, each_right, each_weak
 use Rattle.tsdb_layers.proofs.Places.{same_content}
 use Rattle.tsdb_log.specs.Spelling.{IsRecord, spelling}
 use Rattle.tsdb_log.specs.declared.record.LogRecord.{LogRecord}
+use Rattle.tsdb_map.specs.State as plain
 use Rattle.tsdb_map.specs.World.{World}
 use Rattle.tsdb_outside.specs.Disk.{Image, Keeps, State, in_slot}
 use Rattle.tsdb_outside.specs.declared.disk.Slot.{Slot}
@@ -21,8 +22,8 @@ use Rattle.tsdb_pages.specs.File.{IsFile}
 use Rattle.tsdb_pages.specs.declared.tree.Tree.{Tree}
 use Rattle.tsdb_pages.proofs.Files.{one_tree}
 use Rattle.tsdb_replay.specs.Replays.{IsReplayOfOneOf, Replays}
-use Rattle.tsdb_replay.specs.Stores.{Files, IsContentOf, IsSound, IsStoreOf, IsWhole, LeadsToWorld, Recorded}
-use Rattle.tsdb_replay.specs.Stores.{StandsFor, StandsForOneOf, store_steps, store_steps_determinate}
+use Rattle.tsdb_replay.specs.Stores.{Files, IsContentOf, IsSound, IsStateOf, IsStoreOf, IsWhole, LeadsToState}
+use Rattle.tsdb_replay.specs.Stores.{Recorded, StandsFor, StandsForOneOf, no_changes, store_steps, store_steps_determinate}
 use Rattle.tsdb_replay.proofs.Doubts.{one_or_more}
 use Rattle.tsdb_replay.proofs.Parted.{replay_once}
 use Rattle.tsdb_state.proofs.NewStore.{new_store_in_order, new_store_stands}
@@ -90,18 +91,28 @@ stands_by a b store world same stands = record {
       ∙ ap (λ (layers : List Layer). value_in store.marks place layers) (same_layers a b store same);
 }
 
--- a store with its files stands for one world
-store_stands_once : (files : Files) (store : StoreState) (a b : World) → IsStoreOf files store a → IsStoreOf files store b
-    → a ≡ b
+-- a state of the plain model is a world and a stamp
+one_state : (a b : plain.State) → a.world ≡ b.world → a.stamp ≡ b.stamp → a ≡ b
+one_state a b world stamp =
+    let made : World → ℕ → plain.State = λ w n. record { world = w; stamp = n } in
+    let same : made a.world a.stamp ≡ made b.world b.stamp = cc in
+    same
+
+-- a store with its files is in one state
+store_stands_once : (files : Files) (store : StoreState) (a b : plain.State) → IsStoreOf files store a
+    → IsStoreOf files store b → a ≡ b
 store_stands_once files store a b one other =
     let told = each_both (IsWhole files one.told) (IsWhole files other.told)
     (λ (file : File). one.told file.number ≡ other.told file.number) (one_told files one.told other.told)
     (store.sequence ++ store.unsequence) one.whole other.whole in
-    one_world other.told store a b (stands_by one.told other.told store a told one.stands) other.stands
+    one_state a b
+    (one_world other.told store a.world b.world (stands_by one.told other.told store a.world told one.stands.world)
+    other.stands.world)
+    (sym one.stands.stamp ∙ other.stands.stamp)
 
--- a log with the files that are there stands for one world
-pub stands_once : (files : Files) (bytes : List ℕ) (a b : World) → StandsFor files bytes a → StandsFor files bytes b
-    → a ≡ b
+-- a log with the files that are there stands for one state
+pub stands_once : (files : Files) (bytes : List ℕ) (a b : plain.State) → StandsFor files bytes a
+    → StandsFor files bytes b → a ≡ b
 stands_once files bytes a b one other =
     let recorded : one.recorded ≡ other.recorded =
     replay_once store_steps store_steps_determinate bytes one.recorded other.recorded one.replayed other.replayed in
@@ -109,10 +120,10 @@ stands_once files bytes a b one other =
     (subst (λ (r : Recorded). IsStoreOf files r.store a) recorded one.store) other.store
 
 -- files that are there besides say nothing
-pub stands_with_more : (files more : Files) (bytes : List ℕ) (world : World)
+pub stands_with_more : (files more : Files) (bytes : List ℕ) (at : plain.State)
     → ((number : ℕ) (bytes : List ℕ) → files number ≡ Some bytes → more number ≡ Some bytes)
-    → StandsFor files bytes world → StandsFor more bytes world
-stands_with_more files more bytes world there stands = record {
+    → StandsFor files bytes at → StandsFor more bytes at
+stands_with_more files more bytes at there stands = record {
   recorded = stands.recorded;
   replayed = stands.replayed;
   store = record {
@@ -133,25 +144,25 @@ stands_with_more files more bytes world there stands = record {
   };
 }
 
--- a slot with the records of a store, or with these and the one in doubt, stands for the world or for the next one
+-- a slot with the records of a store, or with these and the one in doubt, stands for the state or for the next one
 pub stands_for_one_of : (files : Files) (items : List LogRecord) (doubt : Option LogRecord) (recorded : Recorded)
-    (world : World) (next : Option World) (bytes : List ℕ) → All IsRecord items
-    → Replays store_steps store_steps.new_store items recorded → IsStoreOf files recorded.store world
-    → LeadsToWorld files recorded doubt next
+    (at : plain.State) (next : Option plain.State) (bytes : List ℕ) → All IsRecord items
+    → Replays store_steps store_steps.new_store items recorded → IsStoreOf files recorded.store at
+    → LeadsToState files recorded doubt next
     → HasRecordsOrOneMore (map spelling items) (option_map spelling doubt) bytes
-    → StandsForOneOf files bytes world next
-stands_for_one_of files items None recorded world None bytes good replayed store leads has = record {
+    → StandsForOneOf files bytes at next
+stands_for_one_of files items None recorded at None bytes good replayed store leads has = record {
   recorded = recorded;
   replayed = one_or_more store_steps items None recorded bytes good replayed tt has;
   store = store;
 }
-stands_for_one_of files items None recorded world (Some next) bytes good replayed store leads has = absurd leads
-stands_for_one_of files items (Some item) recorded world None bytes good replayed store leads has = absurd leads
-stands_for_one_of files items (Some item) recorded world (Some next) bytes good replayed store leads has =
+stands_for_one_of files items None recorded at (Some next) bytes good replayed store leads has = absurd leads
+stands_for_one_of files items (Some item) recorded at None bytes good replayed store leads has = absurd leads
+stands_for_one_of files items (Some item) recorded at (Some next) bytes good replayed store leads has =
     by (one_or_more store_steps items (Some item) recorded bytes good replayed
     (leads.0, (store_steps_after item recorded, (leads.1, refl))) has)
   where
-    by : IsReplayOfOneOf store_steps (Some item) bytes recorded → StandsForOneOf files bytes world (Some next)
+    by : IsReplayOfOneOf store_steps (Some item) bytes recorded → StandsForOneOf files bytes at (Some next)
     by (inl is) = inl (record { recorded = recorded; replayed = is; store = store })
     by (inr is) = inr (record {
       recorded = is.0;
@@ -163,10 +174,10 @@ seen_some : (seen : Option Image) → IsSome seen → (image : Image) × (seen �
 seen_some None some = absurd (false≢true some)
 seen_some (Some image) some = (image, refl)
 
--- whatever a stop leaves of a sound store stands for its world
-pub sound_images : (slot : Slot) (disk : State) (files : Files) (world : World) (image : Image)
-    → IsSound slot disk files world → disk.may_leave image → StandsFor files (in_slot slot image) world
-sound_images slot disk files world image sound left =
+-- whatever a stop leaves of a sound store stands for its state
+pub sound_images : (slot : Slot) (disk : State) (files : Files) (at : plain.State) (image : Image)
+    → IsSound slot disk files at → disk.may_leave image → StandsFor files (in_slot slot image) at
+sound_images slot disk files at image sound left =
     let seen = seen_some disk.seen sound.told in
     let there = sound.stands seen.0 seen.1 in
     record {
@@ -181,9 +192,9 @@ sound_images slot disk files world image sound left =
     }
 
 -- a call that writes nothing leaves a store sound
-pub sound_kept : (slot : Slot) (old new : State) (files : Files) (world : World) → Keeps old new
-    → IsSound slot old files world → IsSound slot new files world
-sound_kept slot old new files world keeps sound = record {
+pub sound_kept : (slot : Slot) (old new : State) (files : Files) (at : plain.State) → Keeps old new
+    → IsSound slot old files at → IsSound slot new files at
+sound_kept slot old new files at keeps sound = record {
   told = subst (λ (s : Option Image). IsSome s) (sym keeps.seen) sound.told;
   settled = λ payloads seen image told has left.
       sound.settled payloads seen image (sym keeps.seen ∙ told) has (keeps.crash image left);
@@ -191,7 +202,7 @@ sound_kept slot old new files world keeps sound = record {
 }
 
 -- the log of a new store has no records, and stands for the world without series
-pub new_log_stands : (files : Files) → StandsFor files (0 ∷ []) empty
+pub new_log_stands : (files : Files) → StandsFor files (0 ∷ []) no_changes
 new_log_stands files = record {
   recorded = store_steps.new_store;
   replayed = record {
@@ -204,6 +215,6 @@ new_log_stands files = record {
     told = λ number. empty;
     whole = tt;
     order = new_store_in_order (λ number. empty);
-    stands = new_store_stands (λ number. empty);
+    stands = record { world = new_store_stands (λ number. empty); stamp = refl };
   };
 }

@@ -1,7 +1,7 @@
 -- What a store stands for: the log in a slot, and the files that are there.
 use Rattle.std.specs.Prelude.{◌≡◌, ◌⊎◌, ◌↔◌, ℕ, List, [], ◌++◌, Option, None, Some, IsSome, ⊤}
 use Rattle.std.proofs.Common.{◌∙◌, sym}
-use Rattle.std.specs.FinMap.{get}
+use Rattle.std.specs.FinMap.{empty, get}
 use Rattle.std.specs.List.{AllByRecursion as Each}
 use Rattle.tsdb_base.specs.declared.point.Point.{Point}
 use Rattle.tsdb_base.specs.declared.value.Value.{Value}
@@ -10,7 +10,7 @@ use Rattle.tsdb_layers.specs.Lists.{Among}
 use Rattle.tsdb_layers.specs.Places.{Content, Place}
 use Rattle.tsdb_log.specs.Spelling.{IsRecord}
 use Rattle.tsdb_log.specs.declared.record.LogRecord.{LogRecord}
-use Rattle.tsdb_map.specs.World.{World}
+use Rattle.tsdb_map.specs.State as plain
 use Rattle.tsdb_outside.specs.Disk.{Image, State, in_slot}
 use Rattle.tsdb_outside.specs.Files.{StoredFile}
 use Rattle.tsdb_outside.specs.declared.disk.Slot.{Slot}
@@ -41,6 +41,10 @@ store_steps = steps_by (record { named = []; store = new_store })
 -- a record leads to one store
 pub store_steps_determinate : IsDeterminate store_steps
 store_steps_determinate item old one other leads also = leads.1 ∙ sym also.1
+
+-- the state of a new store: there is no series, and nothing was changed
+abbrev pub no_changes : plain.State
+no_changes = record { world = empty; stamp = 0 }
 
 -- the tree has a point of this value at the place
 pub record HasTreePoint (tree : Tree) (place : Place) (value : Value) : Type 0 where
@@ -73,37 +77,42 @@ pub record IsWhole (files : Files) (told : Told) (file : File) : Type 0 where
   pub is_file : IsFile tree bytes
   pub content : IsContentOf tree (told file.number)
 
--- A store with these files stands for the world: its listed files are whole, and with their points it is in order.
-pub record IsStoreOf (files : Files) (store : StoreState) (world : World) : Type 0 where
+-- The store is in this state of the plain model: it stands for the world, and has the stamp.
+pub record IsStateOf (told : Told) (store : StoreState) (at : plain.State) : Type 0 where
+  pub world : state.StandsFor told store at.world
+  pub stamp : store.stamp ≡ at.stamp
+
+-- A store with these files is in the state: its listed files are whole, and with their points it is in order.
+pub record IsStoreOf (files : Files) (store : StoreState) (at : plain.State) : Type 0 where
   pub told : Told
   pub whole : Each (IsWhole files told) (store.sequence ++ store.unsequence)
   pub order : StoreInOrder told store
-  pub stands : state.StandsFor told store world
+  pub stands : IsStateOf told store at
 
--- the log in these bytes of a slot has a replay, which with these files stands for the world
-pub record StandsFor (files : Files) (bytes : List ℕ) (world : World) : Type 0 where
+-- the log in these bytes of a slot has a replay, which with these files is in the state
+pub record StandsFor (files : Files) (bytes : List ℕ) (at : plain.State) : Type 0 where
   pub recorded : Recorded
   pub replayed : IsReplayOf store_steps bytes recorded
-  pub store : IsStoreOf files recorded.store world
+  pub store : IsStoreOf files recorded.store at
 
--- the log stands for the world, or for the next one, if a record is in doubt that leads there
-abbrev pub StandsForOneOf : Files → List ℕ → World → Option World → Type 0
-StandsForOneOf files bytes world None = StandsFor files bytes world
-StandsForOneOf files bytes world (Some next) = StandsFor files bytes world ⊎ StandsFor files bytes next
+-- the log stands for the state, or for the next one, if a record is in doubt that leads there
+abbrev pub StandsForOneOf : Files → List ℕ → plain.State → Option plain.State → Type 0
+StandsForOneOf files bytes at None = StandsFor files bytes at
+StandsForOneOf files bytes at (Some next) = StandsFor files bytes at ⊎ StandsFor files bytes next
 
--- the record in doubt, if there is one, leads to a store that with these files stands for the next world
-abbrev pub LeadsToWorld : Files → Recorded → Option LogRecord → Option World → Type 0
-LeadsToWorld files recorded None None = ⊤
-LeadsToWorld files recorded None (Some next) = ⊥
-LeadsToWorld files recorded (Some item) None = ⊥
-LeadsToWorld files recorded (Some item) (Some next) =
+-- the record in doubt, if there is one, leads to a store that with these files is in the next state
+abbrev pub LeadsToState : Files → Recorded → Option LogRecord → Option plain.State → Type 0
+LeadsToState files recorded None None = ⊤
+LeadsToState files recorded None (Some next) = ⊥
+LeadsToState files recorded (Some item) None = ⊥
+LeadsToState files recorded (Some item) (Some next) =
     IsRecord item × CanFollow recorded.named item recorded.store × IsStoreOf files (after item recorded.store) next
 
--- A sound store: it tells its content, the slot of its log is settled, and what a read gives stands for this world.
-pub record IsSound (slot : Slot) (disk : State) (files : Files) (world : World) : Type 0 where
+-- A sound store: it tells its content, the slot of its log is settled, and what a read gives stands for this state.
+pub record IsSound (slot : Slot) (disk : State) (files : Files) (at : plain.State) : Type 0 where
   pub told : IsSome disk.seen
   pub settled : IsSettled slot disk
-  pub stands : (image : Image) → disk.seen ≡ Some image → StandsFor files (in_slot slot image) world
+  pub stands : (image : Image) → disk.seen ≡ Some image → StandsFor files (in_slot slot image) at
 
 -- each kept file is there
 abbrev pub HoldsKept : List StoredFile → Files → Type 0

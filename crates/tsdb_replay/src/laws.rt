@@ -2,19 +2,18 @@
 //! most.
 ghost use Rattle.std.specs.Prelude.{◌≡◌, ℕ, List, []};
 ghost use Rattle.std.specs.Prelude.{◌∷◌, ◌++◌, map, Option, Some, IfSome};
-ghost use Rattle.std.specs.FinMap.{empty};
 ghost use Rattle.std.specs.List.{All};
 ghost use Rattle.std.specs.Option.{option_map};
 ghost use Rattle.tsdb_frames.specs.Log.{HasRecordsOrOneMore};
 ghost use Rattle.tsdb_log.specs.Spelling.{IsRecord, spelling};
 ghost use Rattle.tsdb_log.specs.declared.record.LogRecord.{LogRecord};
-ghost use Rattle.tsdb_map.specs.World.{World};
+ghost use Rattle.tsdb_map.specs.State as plain;
 ghost use Rattle.tsdb_outside.specs.Disk.{Image, in_slot};
 ghost use Rattle.tsdb_outside.specs.declared.disk.Slot.{Slot};
 ghost use Rattle.tsdb_replay.specs.Damage.{IsDamaged};
 ghost use Rattle.tsdb_replay.specs.Replays.{CanFollow, IsDeterminate, IsReplayOf, IsReplayOfOneOf, Replays, Steps};
-ghost use Rattle.tsdb_replay.specs.Stores.{Files, IsSound, IsStoreOf, LeadsToWorld, Recorded, StandsFor};
-ghost use Rattle.tsdb_replay.specs.Stores.{StandsForOneOf, store_steps, store_steps_determinate};
+ghost use Rattle.tsdb_replay.specs.Stores.{Files, IsSound, IsStoreOf, LeadsToState, Recorded, StandsFor};
+ghost use Rattle.tsdb_replay.specs.Stores.{StandsForOneOf, no_changes, store_steps, store_steps_determinate};
 
 use tsdb_outside::Disk;
 
@@ -71,38 +70,38 @@ impl Replayed for StoreRecords {
     ghost determinate = { store_steps_determinate };
 }
 
-/// A log stands for one world at most with the files that are there.
-pub fn store_stands_for_one_world()
-    ensures { (files : Files) (bytes : List ℕ) (one other : World)
+/// A log stands for one state at most with the files that are there.
+pub fn store_stands_for_one_state()
+    ensures { (files : Files) (bytes : List ℕ) (one other : plain.State)
         → StandsFor files bytes one → StandsFor files bytes other → one ≡ other }
 {}
 
 /// Files that the log does not list say nothing.
 pub fn strays_say_nothing()
-    ensures { (files more : Files) (bytes : List ℕ) (world : World)
+    ensures { (files more : Files) (bytes : List ℕ) (at : plain.State)
         → ((number : ℕ) (file : List ℕ) → files number ≡ Some file → more number ≡ Some file)
-        → StandsFor files bytes world → StandsFor more bytes world }
+        → StandsFor files bytes at → StandsFor more bytes at }
 {}
 
-/// A slot with the records of a store, or with these and the one in doubt, stands for the world of the store, or for
+/// A slot with the records of a store, or with these and the one in doubt, stands for the state of the store, or for
 /// the one that the record in doubt leads to.
-pub fn store_in_doubt_stands_for_one_of_two_worlds()
-    ensures { (files : Files) (items : List LogRecord) (doubt : Option LogRecord) (recorded : Recorded) (world : World)
-        (next : Option World) (bytes : List ℕ) → All IsRecord items
-        → Replays store_steps store_steps.new_store items recorded → IsStoreOf files recorded.store world
-        → LeadsToWorld files recorded doubt next
+pub fn store_in_doubt_stands_for_one_of_two_states()
+    ensures { (files : Files) (items : List LogRecord) (doubt : Option LogRecord) (recorded : Recorded)
+        (at : plain.State) (next : Option plain.State) (bytes : List ℕ) → All IsRecord items
+        → Replays store_steps store_steps.new_store items recorded → IsStoreOf files recorded.store at
+        → LeadsToState files recorded doubt next
         → HasRecordsOrOneMore (map spelling items) (option_map spelling doubt) bytes
-        → StandsForOneOf files bytes world next }
+        → StandsForOneOf files bytes at next }
 {}
 
-/// Whatever a stop leaves of a sound store stands for its world.
-pub fn a_stop_leaves_the_world_of_a_sound_store<D: Disk>(_disk: &D)
-    ensures { (slot : Slot) (files : Files) (world : World) (image : Image)
-        → IsSound slot (D.state _disk.now) files world → (D.state _disk.now).may_leave image
-        → StandsFor files (in_slot slot image) world }
+/// Whatever a stop leaves of a sound store stands for its state.
+pub fn a_stop_leaves_the_state_of_a_sound_store<D: Disk>(_disk: &D)
+    ensures { (slot : Slot) (files : Files) (at : plain.State) (image : Image)
+        → IsSound slot (D.state _disk.now) files at → (D.state _disk.now).may_leave image
+        → StandsFor files (in_slot slot image) at }
 {}
 
 /// The log of a new store, which is one closed gate, stands for the world without series.
 pub fn a_new_log_stands_for_no_series()
-    ensures { (files : Files) → StandsFor files (0 ∷ []) empty }
+    ensures { (files : Files) → StandsFor files (0 ∷ []) no_changes }
 {}

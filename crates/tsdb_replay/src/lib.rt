@@ -11,7 +11,7 @@ mod laws;
 
 pub use laws::{
     Replayed, StoreRecords, a_new_log_stands_for_no_series,
-    a_stop_leaves_the_world_of_a_sound_store, log_is_damaged_at_one_place,
+    a_stop_leaves_the_state_of_a_sound_store, log_is_damaged_at_one_place,
     log_is_replayed_to_one_state, record_in_doubt_leads_on, replay_goes_on,
-    store_in_doubt_stands_for_one_of_two_worlds, store_stands_for_one_world, strays_say_nothing,
+    store_in_doubt_stands_for_one_of_two_states, store_stands_for_one_state, strays_say_nothing,
 };

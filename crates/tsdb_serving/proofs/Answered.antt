@@ -1,4 +1,4 @@
--- Changes of a user: what each answers, and which worlds it leads to.
+-- Changes of a user: what each answers, and which states it leads to.
 use Rattle.std.proofs.Common.{◌≡◌, ◌≢◌, ℕ, ◌+◌, ◌<◌, List, [], ◌++◌, Option, None, Some, inl, inr, refl, sym, ap, arith}
 use Rattle.std.proofs.Common.{subst, ◌∙◌}
 use Rattle.tsdb_answers.specs.Answers.{IsInsertAnswer, IsMapAnswer, IsTried}
@@ -28,7 +28,8 @@ use Rattle.tsdb_outside.specs.Disk.{Image, IsLawful}
 use Rattle.tsdb_outside.specs.Files.{StoredFile}
 use Rattle.tsdb_outside.specs.declared.disk.Disk as disk
 use Rattle.tsdb_outside.specs.declared.faults.Counted as counted
-use Rattle.tsdb_serving.proofs.Held.{either_wider, held_more, same_world}
+use Rattle.tsdb_replay.specs.Stores.{IsStateOf}
+use Rattle.tsdb_serving.proofs.Held.{either_wider, held_more, same_state}
 use Rattle.tsdb_serving.proofs.Parts.{froze, unchanged}
 use Rattle.tsdb_serving.proofs.Steps.{quiet, then, then_settled}
 use Rattle.tsdb_serving.specs.Faults.{answer_of}
@@ -85,6 +86,10 @@ insert_stamp store device row answer.Exists is = tt
 insert_stamp store device row answer.Device is = tt
 insert_stamp store device row answer.Memory is = tt
 insert_stamp store device row (answer.Full counter) is = is.1
+
+-- the state after a command that is done
+abbrev done_after : plain.State → Command → plain.State
+done_after at asked = state_after at asked (Plain answer.Done)
 
 module _ (at : plain.State) (asked : Command) (not_listing : asked ≢ command.ShowFiles) (change : IsChange asked) where
   pub allowed : (result : Answer) → IsMapAnswer at.world asked result → HasStamp at.stamp result
@@ -149,9 +154,10 @@ module _ {J F S R P : Type 0} {means : disk.Ghosts J} {counts : counted.Ghosts J
 
   module _ (Q : ℕ → Type 0) (old new : Core J F S R P means counts) (record_is : LogRecord) (asked : Command)
       (rises : (store : StoreState) → (after record_is store).stamp ≡ store.stamp + raise asked)
-      (files : List StoredFile) (at : plain.State) (next : Option World) (serving : IsServing old files at next) where
-    abbrev then_world : World
-    then_world = accepted at.world asked
+      (files : List StoredFile) (at : plain.State) (next : Option plain.State)
+      (serving : IsServing old files at next) where
+    abbrev then_state : plain.State
+    then_state = done_after at asked
 
     -- the core shows the same state
     shown : IsSeen new serving.outside serving.state → IsServing new (files ++ []) at next
@@ -160,26 +166,31 @@ module _ {J F S R P : Type 0} {means : disk.Ghosts J} {counts : counted.Ghosts J
       state = serving.state;
       seen = seen;
       stands = serving.stands;
-      stamp = serving.stamp;
       doubt = serving.doubt;
       held = held_more serving.outside.kept files [] serving.held;
     }
 
     -- nothing was written
     kept : log_of (logged_of new) ≡ log_of (logged_of old) → IsSeen new serving.outside serving.state
-        → IsServedBy Q old new files at next then_world at
-    kept same seen = quiet laws Q old new files [] at next then_world same tt serving (shown seen)
+        → IsServedBy Q old new files at next then_state at
+    kept same seen = quiet laws Q old new files [] at next then_state same tt serving (shown seen)
 
-    still : new ≡ old → IsServedBy Q old new files at next then_world at
+    still : new ≡ old → IsServedBy Q old new files at next then_state at
     still same = kept (ap (λ (core : Core J F S R P means counts). log_of (logged_of core)) same)
         (subst (λ (core : Core J F S R P means counts). IsSeen core serving.outside serving.state) (sym same)
         serving.seen)
 
     -- the record was tried
     module _ (result : Answer) (step : IsCoreCommand old new record_is IsAny result)
-        (leads : StandsFor serving.outside.told (after record_is serving.state.store) then_world) where
-      written : (doubt : Option World) (now : plain.State) → MayDoubt next at.world then_world doubt
-          → IsServing new (files ++ []) now doubt → IsServedBy Q old new files at next then_world now
+        (leads_to : StandsFor serving.outside.told (after record_is serving.state.store) then_state.world) where
+      leads : IsStateOf serving.outside.told (after record_is serving.state.store) then_state
+      leads = record {
+        world = leads_to;
+        stamp = rises serving.state.store ∙ ap (λ stamp. stamp + raise asked) serving.stands.stamp;
+      }
+
+      written : (doubt : Option plain.State) (now : plain.State) → MayDoubt next at then_state doubt
+          → IsServing new (files ++ []) now doubt → IsServedBy Q old new files at next then_state now
       written doubt now may is = record {
         put = [];
         numbers = tt;
@@ -187,57 +198,54 @@ module _ {J F S R P : Type 0} {means : disk.Ghosts J} {counts : counted.Ghosts J
         may = may;
         serving = is;
         moments = weaker (disk_under old) (disk_under new) _
-            (LeavesEither (files ++ []) (slot_under old) at.world next then_world)
-            (λ image leaves. either_wider serving.outside.kept (files ++ []) (slot_under old) at.world next then_world
+            (LeavesEither (files ++ []) (slot_under old) at next then_state)
+            (λ image leaves. either_wider serving.outside.kept (files ++ []) (slot_under old) at next then_state
             image (held_more serving.outside.kept files [] serving.held) leaves)
-            (step.moments serving.outside serving.state serving.seen tt at.world then_world next serving.stands
+            (step.moments serving.outside serving.state serving.seen tt at then_state next serving.stands
             serving.doubt leads);
       }
 
       done : IsSeen new (with_record record_is serving.outside) (wrote record_is serving.state)
-          → IsServedBy Q old new files at next then_world (state_after at asked (Plain answer.Done))
+          → IsServedBy Q old new files at next then_state (state_after at asked (Plain answer.Done))
       done seen = written None (state_after at asked (Plain answer.Done)) (inl refl) (record {
         outside = with_record record_is serving.outside;
         state = wrote record_is serving.state;
         seen = seen;
         stands = leads;
-        stamp = rises serving.state.store ∙ ap (λ stamp. stamp + raise asked) serving.stamp;
         doubt = tt;
         held = held_more serving.outside.kept files [] serving.held;
       })
 
       faulted : IsSeenAfter new serving.outside serving.state record_is answer.Device
-          → IsServedBy Q old new files at next then_world at
+          → IsServedBy Q old new files at next then_state at
       faulted (inl seen) = written None at (inl refl) (record {
         outside = serving.outside;
         state = settled serving.state;
         seen = seen;
         stands = serving.stands;
-        stamp = serving.stamp;
         doubt = tt;
         held = held_more serving.outside.kept files [] serving.held;
       })
       faulted (inr (inl seen)) = written next at (inr (inl refl)) (shown seen)
-      faulted (inr (inr seen)) = written (Some then_world) at (inr (inr (inr refl))) (record {
+      faulted (inr (inr seen)) = written (Some then_state) at (inr (inr (inr refl))) (record {
         outside = serving.outside;
         state = failed record_is serving.state;
         seen = seen;
         stands = serving.stands;
-        stamp = serving.stamp;
         doubt = leads;
         held = held_more serving.outside.kept files [] serving.held;
       })
 
     pub served : (result : Answer) → IsCoreCommand old new record_is IsAny result → Leads old record_is asked result
-        → IsServedBy Q old new files at next then_world (state_after at asked (Plain result))
+        → IsServedBy Q old new files at next then_state (state_after at asked (Plain result))
     served answer.Done step leads = done answer.Done step
-        (leads serving.outside serving.state serving.seen tt at.world serving.stands)
+        (leads serving.outside serving.state serving.seen tt at.world serving.stands.world)
         (step.step serving.outside serving.state serving.seen tt)
     served answer.NoPath step leads = still (step.refused tt)
     served answer.WrongType step leads = still (step.refused tt)
     served answer.Exists step leads = still (step.refused tt)
     served answer.Device step leads = faulted answer.Device step
-        (leads serving.outside serving.state serving.seen tt at.world serving.stands)
+        (leads serving.outside serving.state serving.seen tt at.world serving.stands.world)
         (step.step serving.outside serving.state serving.seen tt)
     served answer.Memory step leads =
         kept (step.memory refl) (step.step serving.outside serving.state serving.seen tt)
@@ -268,19 +276,20 @@ module _ {J F S R P : Type 0} {means : disk.Ghosts J} {counts : counted.Ghosts J
   -- ---- a row
 
   module _ (Q : ℕ → Type 0) (old new : Core J F S R P means counts) (device : List ℕ) (row : Row)
-      (files : List StoredFile) (at : plain.State) (next : Option World) (serving : IsServing old files at next) where
+      (files : List StoredFile) (at : plain.State) (next : Option plain.State)
+      (serving : IsServing old files at next) where
     abbrev asked : Command
     asked = command.Insert device row
 
     abbrev Ends : Answer → Type 0
-    Ends result = (served : IsServedBy Q old new files at next (accepted at.world asked)
+    Ends result = (served : IsServedBy Q old new files at next (done_after at asked)
         (state_after at asked (Plain result))) × (Plain result ≡ Plain answer.Done → served.doubt ≡ None)
 
     -- the core before the record
     placed : (between : Core J F S R P means counts) → HasPlace row old between
-        → (first : IsServedBy Q old between files at next at.world at) × (slot_under between ≡ slot_under old)
+        → (first : IsServedBy Q old between files at next at at) × (slot_under between ≡ slot_under old)
     placed between (inl (fits, same)) = (
-      unchanged laws Q old between files at next at.world
+      unchanged laws Q old between files at next at
           (ap (λ (core : Core J F S R P means counts). log_of (logged_of core)) same)
           (λ outside engine seen. subst (λ (core : Core J F S R P means counts). IsSeen core outside engine) (sym same)
           seen) serving,
@@ -302,12 +311,12 @@ module _ {J F S R P : Type 0} {means : disk.Ghosts J} {counts : counted.Ghosts J
     put_ends result put =
         let first = placed put.between put.place in
         let step = put.put in (
-          then laws Q Q Q (λ n is. is) (λ n is. is) old put.between new files at next (accepted at.world asked)
+          then laws Q Q Q (λ n is. is) (λ n is. is) old put.between new files at next (done_after at asked)
               (state_after at asked (Plain result)) first.1 first.0
               (served Q put.between new (item.Insert row.time put.cells) asked (λ store. refl)
               (files ++ first.0.put) at first.0.doubt first.0.serving result step (put_leads result put)),
           λ is. then_settled laws Q Q Q (λ n is. is) (λ n is. is) old put.between new files at next
-              (accepted at.world asked) (state_after at asked (Plain result)) first.1 first.0
+              (done_after at asked) (state_after at asked (Plain result)) first.1 first.0
               (served Q put.between new (item.Insert row.time put.cells) asked (λ store. refl)
               (files ++ first.0.put) at first.0.doubt first.0.serving result step (put_leads result put))
               (settles Q put.between new (item.Insert row.time put.cells) asked (λ store. refl) (files ++ first.0.put)
@@ -315,8 +324,8 @@ module _ {J F S R P : Type 0} {means : disk.Ghosts J} {counts : counted.Ghosts J
         )
 
     -- a step that keeps the world, as one of the command
-    pub for_command : IsServedBy Q old new files at next at.world at
-        → IsServedBy Q old new files at next (accepted at.world asked) at
+    pub for_command : IsServedBy Q old new files at next at at
+        → IsServedBy Q old new files at next (done_after at asked) at
     for_command kept = record {
       put = kept.put;
       numbers = kept.numbers;
@@ -324,31 +333,31 @@ module _ {J F S R P : Type 0} {means : disk.Ghosts J} {counts : counted.Ghosts J
       may = may kept.may;
       serving = kept.serving;
       moments = weaker (disk_under old) (disk_under new)
-          (LeavesEither (files ++ kept.put) (slot_under old) at.world next at.world)
-          (LeavesEither (files ++ kept.put) (slot_under old) at.world next (accepted at.world asked))
+          (LeavesEither (files ++ kept.put) (slot_under old) at next at)
+          (LeavesEither (files ++ kept.put) (slot_under old) at next (done_after at asked))
           (λ image leaves. left image leaves) kept.moments;
     }
       where
-        may : MayDoubt next at.world at.world kept.doubt → MayDoubt next at.world (accepted at.world asked) kept.doubt
+        may : MayDoubt next at at kept.doubt → MayDoubt next at (done_after at asked) kept.doubt
         may (inl is) = inl is
         may (inr (inl is)) = inr (inl is)
         may (inr (inr (inl is))) = inr (inr (inl is))
         may (inr (inr (inr is))) = inr (inr (inl is))
 
-        left : (image : Image) → LeavesEither (files ++ kept.put) (slot_under old) at.world next at.world image
-            → LeavesEither (files ++ kept.put) (slot_under old) at.world next (accepted at.world asked) image
+        left : (image : Image) → LeavesEither (files ++ kept.put) (slot_under old) at next at image
+            → LeavesEither (files ++ kept.put) (slot_under old) at next (done_after at asked) image
         left image (inl leaves) = inl leaves
         left image (inr leaves) =
-            inl (same_world (files ++ kept.put) (slot_under old) at.world next image leaves)
+            inl (same_state (files ++ kept.put) (slot_under old) at next image leaves)
 
-    untouched : new ≡ old → IsServedBy Q old new files at next (accepted at.world asked) at
-    untouched same = for_command (unchanged laws Q old new files at next at.world
+    untouched : new ≡ old → IsServedBy Q old new files at next (done_after at asked) at
+    untouched same = for_command (unchanged laws Q old new files at next at
         (ap (λ (core : Core J F S R P means counts). log_of (logged_of core)) same)
         (λ outside engine seen. subst (λ (core : Core J F S R P means counts). IsSeen core outside engine) (sym same)
         seen) serving)
 
     only_froze : (result : Answer) → IsFrozenFor row old new result
-        → IsServedBy Q old new files at next (accepted at.world asked) at
+        → IsServedBy Q old new files at next (done_after at asked) at
     only_froze result frozen = for_command (froze laws Q old new result frozen.freeze frozen.can files at next serving)
 
     row_ends : (result : Answer) → IsRowCommand device row old new result → Ends result
@@ -372,8 +381,8 @@ module _ {J F S R P : Type 0} {means : disk.Ghosts J} {counts : counted.Ghosts J
   -- ---- a row behind a flush
 
   module _ (old mid new : Core J F S R P means counts) (device : List ℕ) (row : Row) (files : List StoredFile)
-      (at : plain.State) (next : Option World) (slot : slot_under mid ≡ slot_under old)
-      (first : IsServed old mid files at next at.world at)
+      (at : plain.State) (next : Option plain.State) (slot : slot_under mid ≡ slot_under old)
+      (first : IsServed old mid files at next at at)
       (low : (n : ℕ) → IsDrawn old mid n → IsDrawn old new n) (high : (n : ℕ) → IsDrawn mid new n → IsDrawn old new n)
     where
       pub behind : (result : Answer) → IsAnsweredBy (IsDrawn mid new) mid new (files ++ first.put) at first.doubt
@@ -382,22 +391,22 @@ module _ {J F S R P : Type 0} {means : disk.Ghosts J} {counts : counted.Ghosts J
       behind result second = record {
         allowed = second.allowed;
         served = then laws (IsDrawn old mid) (IsDrawn mid new) (IsDrawn old new) low high old mid new files at next
-            (accepted at.world (command.Insert device row)) (state_after at (command.Insert device row) (Plain result)) slot
+            (done_after at (command.Insert device row)) (state_after at (command.Insert device row) (Plain result)) slot
             first second.served;
         settled = λ change is. then_settled laws (IsDrawn old mid) (IsDrawn mid new) (IsDrawn old new) low high old mid new
-            files at next (accepted at.world (command.Insert device row))
+            files at next (done_after at (command.Insert device row))
             (state_after at (command.Insert device row) (Plain result)) slot first second.served (second.settled change is);
       }
 
   -- the flush before a row failed
   pub flush_failed : (old new : Core J F S R P means counts) (device : List ℕ) (row : Row) (files : List StoredFile)
-      (at : plain.State) (next : Option World) (why : FlushFault)
+      (at : plain.State) (next : Option plain.State) (why : FlushFault)
       → ((counter : ℕ) → why ≡ fault.Full counter → end_of_numbers < counter + 2)
-      → IsServing old files at next → IsServed old new files at next at.world at
+      → IsServing old files at next → IsServed old new files at next at at
       → IsAnsweredBy (IsDrawn old new) old new files at next (command.Insert device row) (Plain (answer_of why))
   flush_failed old new device row files at next why full serving kept = record {
     allowed = fault_allowed at device row why full;
-    served = subst (IsServedBy (IsDrawn old new) old new files at next (accepted at.world (command.Insert device row)))
+    served = subst (IsServedBy (IsDrawn old new) old new files at next (done_after at (command.Insert device row)))
         (sym (fault_state at device row why))
         (for_command (IsDrawn old new) old new device row files at next serving kept);
     settled = λ change is. absurd (fault_not_done why is);
@@ -405,15 +414,15 @@ module _ {J F S R P : Type 0} {means : disk.Ghosts J} {counts : counted.Ghosts J
 
 module _ {J F S R P : Type 0} {means : disk.Ghosts J} {counts : counted.Ghosts J} where
   -- a core that stands for a state does so for its world, and memory has its stamp
-  pub world_is : (core : Core J F S R P means counts) (files : List StoredFile) (at : plain.State) (next : Option World)
-      → IsServing core files at next → IsWorldOf core at.world
+  pub world_is : (core : Core J F S R P means counts) (files : List StoredFile) (at : plain.State)
+      (next : Option plain.State) → IsServing core files at next → IsWorldOf core at.world
   world_is core files at next serving = record {
     outside = serving.outside;
     state = serving.state;
     seen = serving.seen;
-    stands = serving.stands;
+    stands = serving.stands.world;
   }
 
-  pub stamp_is : (core : Core J F S R P means counts) (files : List StoredFile) (at : plain.State) (next : Option World)
-      → IsServing core files at next → (memory_of (logged_of core)).stamp ≡ at.stamp
-  stamp_is core files at next serving = sym serving.seen.sound.memory.stamp ∙ serving.stamp
+  pub stamp_is : (core : Core J F S R P means counts) (files : List StoredFile) (at : plain.State)
+      (next : Option plain.State) → IsServing core files at next → (memory_of (logged_of core)).stamp ≡ at.stamp
+  stamp_is core files at next serving = sym serving.seen.sound.memory.stamp ∙ serving.stands.stamp

@@ -29,7 +29,6 @@ use Rattle.tsdb_logged.specs.Commands.{IsAny}
 use Rattle.tsdb_logged.specs.Logged.{log_of, memory_of}
 use Rattle.tsdb_logged.specs.declared.logged.Logged.{Logged}
 use Rattle.tsdb_map.specs.State as plain
-use Rattle.tsdb_map.specs.World.{World}
 use Rattle.tsdb_outside.specs.Causes.{Rose}
 use Rattle.tsdb_outside.specs.Disk.{IsLawful}
 use Rattle.tsdb_outside.specs.Files.{Store, StoredFile}
@@ -74,7 +73,7 @@ module _ {J F S R P : Type 0} {means : disk.Ghosts J} {counts : counted.Ghosts J
     next = omega arith;
     later = omega arith;
     keeps = λ tells files at next serving.
-        parts.unchanged laws (IsDrawn core core) core core files at next at.world refl (λ outside engine seen. seen) serving;
+        parts.unchanged laws (IsDrawn core core) core core files at next at refl (λ outside engine seen. seen) serving;
   }
 
   -- a part behind another
@@ -92,7 +91,7 @@ module _ {J F S R P : Type 0} {means : disk.Ghosts J} {counts : counted.Ghosts J
         record { from = low; to = omega (arith, high, second.next) })
         (λ n drawn. let low = drawn.from in let high = drawn.to in
         record { from = omega (arith, low, first.next); to = high })
-        old mid new files at next at.world at first.slot one
+        old mid new files at next at at first.slot one
         (second.keeps tells (files ++ one.put) at one.doubt one.serving);
   }
 
@@ -107,7 +106,7 @@ module _ {J F S R P : Type 0} {means : disk.Ghosts J} {counts : counted.Ghosts J
     later = subst (λ (log : Frames J means counts). faults_under old ≤ faults_of log) (sym takes.logged.log.log)
         (omega arith);
     keeps = λ tells files at next serving.
-        parts.unchanged laws (IsDrawn old new) old new files at next at.world takes.logged.log.log not.step serving;
+        parts.unchanged laws (IsDrawn old new) old new files at next at takes.logged.log.log not.step serving;
   }
 
   -- a freeze
@@ -138,8 +137,8 @@ module _ {J F S R P : Type 0} {means : disk.Ghosts J} {counts : counted.Ghosts J
         let high = is.high in
         record { from = low; to = omega (arith, high, taken.next, ends.next) }
 
-    from_old : (files : List StoredFile) (at : plain.State) (next : Option World)
-        → IsServedBy (IsOfJob job) mid new files at next at.world at → IsServed old new files at next at.world at
+    from_old : (files : List StoredFile) (at : plain.State) (next : Option plain.State)
+        → IsServedBy (IsOfJob job) mid new files at next at at → IsServed old new files at next at at
     from_old files at next served = record {
       put = served.put;
       numbers = each_weaker (λ (file : StoredFile). IsOfJob job file.number)
@@ -149,7 +148,7 @@ module _ {J F S R P : Type 0} {means : disk.Ghosts J} {counts : counted.Ghosts J
       may = served.may;
       serving = served.serving;
       moments = subst (λ (log : Frames J means counts). LeavesOnly (disk_of log) (disk_under new)
-          (LeavesEither (files ++ served.put) (slot_of log) at.world next at.world)) takes.logged.log.log served.moments;
+          (LeavesEither (files ++ served.put) (slot_of log) at next at)) takes.logged.log.log served.moments;
     }
 
     pub flushed : GoesOn store old new
@@ -185,7 +184,7 @@ module _ {J F S R P : Type 0} {means : disk.Ghosts J} {counts : counted.Ghosts J
           let one = parts.committed laws (IsOfJob job) old mid job built given of_job (tells told)
           (put_numbers given job built of_job) files at next serving commit commits in
           then laws (IsOfJob job) (IsOfJob job) (IsOfJob job) (λ n is. is) (λ n is. is) old mid new files at next
-          at.world at commits.slot one
+          at at commits.slot one
           (parts.swept laws (IsOfJob job) mid new (files ++ one.put) at one.doubt one.serving outcome sweeps);
     }
 
@@ -201,7 +200,7 @@ module _ {J F S R P : Type 0} {means : disk.Ghosts J} {counts : counted.Ghosts J
           let one = parts.abandoned laws (IsOfJob job) old mid job built given of_job (tells told)
           (put_numbers given job built of_job) files at next serving gives_up in
           then laws (IsOfJob job) (IsOfJob job) (IsOfJob job) (λ n is. is) (λ n is. is) old mid new files at next
-          at.world at (ap (λ logged. slot_of (log_of logged)) gives_up.logged) one
+          at at (ap (λ logged. slot_of (log_of logged)) gives_up.logged) one
           (parts.swept laws (IsOfJob job) mid new (files ++ one.put) at one.doubt one.serving outcome sweeps);
     }
 

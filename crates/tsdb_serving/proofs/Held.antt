@@ -5,7 +5,7 @@ use Rattle.tsdb_committing.specs.Files.{NewFiles, all_of, kept_with, numbers_of,
 use Rattle.tsdb_images.proofs.Kept.{each_passed}
 use Rattle.tsdb_images.specs.Stored.{LeavesOneOf, without_numbers}
 use Rattle.tsdb_layers.proofs.Lists.{each_append, each_left, each_right}
-use Rattle.tsdb_map.specs.World.{World}
+use Rattle.tsdb_map.specs.State as plain
 use Rattle.tsdb_outside.specs.Disk.{Image, in_slot}
 use Rattle.tsdb_outside.specs.Files.{StoredFile}
 use Rattle.tsdb_outside.specs.declared.disk.Slot.{Slot}
@@ -33,61 +33,62 @@ held_without numbers kept files held there holds =
     each_passed (Held there) (Held there) _ kept (λ file has passes. has) (held there holds)
 
 -- what a stop leaves with some files stands with more of them
-pub wider : (kept files : List StoredFile) (slot : Slot) (world : World) (next : Option World) (image : Image)
-    → AreHeldWith kept files → LeavesOneOf kept slot world next image → LeavesOneOf files slot world next image
-wider kept files slot world next image held leaves there holds = leaves there (held there holds)
+pub wider : (kept files : List StoredFile) (slot : Slot) (at : plain.State) (next : Option plain.State) (image : Image)
+    → AreHeldWith kept files → LeavesOneOf kept slot at next image → LeavesOneOf files slot at next image
+wider kept files slot at next image held leaves there holds = leaves there (held there holds)
 
-pub either_wider : (kept files : List StoredFile) (slot : Slot) (world : World) (next : Option World) (after : World)
-    (image : Image) → AreHeldWith kept files
-    → LeavesOneOf kept slot world next image ⊎ LeavesOneOf kept slot world (Some after) image
-    → LeavesEither files slot world next after image
-either_wider kept files slot world next after image held (inl leaves) =
-    inl (wider kept files slot world next image held leaves)
-either_wider kept files slot world next after image held (inr leaves) =
-    inr (wider kept files slot world (Some after) image held leaves)
+pub either_wider : (kept files : List StoredFile) (slot : Slot) (at : plain.State) (next : Option plain.State)
+    (after : plain.State) (image : Image) → AreHeldWith kept files
+    → LeavesOneOf kept slot at next image ⊎ LeavesOneOf kept slot at (Some after) image
+    → LeavesEither files slot at next after image
+either_wider kept files slot at next after image held (inl leaves) =
+    inl (wider kept files slot at next image held leaves)
+either_wider kept files slot at next after image held (inr leaves) =
+    inr (wider kept files slot at (Some after) image held leaves)
 
--- what stands for the world, or for one in doubt
-world_of : (there : Files) (bytes : List ℕ) (world : World) (next : Option World)
-    → StandsForOneOf there bytes world None → StandsForOneOf there bytes world next
-world_of there bytes world None stands = stands
-world_of there bytes world (Some next) stands = inl stands
+-- what stands for the state, or for one in doubt
+state_of : (there : Files) (bytes : List ℕ) (at : plain.State) (next : Option plain.State)
+    → StandsForOneOf there bytes at None → StandsForOneOf there bytes at next
+state_of there bytes at None stands = stands
+state_of there bytes at (Some next) stands = inl stands
 
-same_of : (there : Files) (bytes : List ℕ) (world : World) (next : Option World)
-    → StandsForOneOf there bytes world (Some world) → StandsForOneOf there bytes world next
-same_of there bytes world next (inl stands) = world_of there bytes world next stands
-same_of there bytes world next (inr stands) = world_of there bytes world next stands
+same_of : (there : Files) (bytes : List ℕ) (at : plain.State) (next : Option plain.State)
+    → StandsForOneOf there bytes at (Some at) → StandsForOneOf there bytes at next
+same_of there bytes at next (inl stands) = state_of there bytes at next stands
+same_of there bytes at next (inr stands) = state_of there bytes at next stands
 
--- a stop leaves the world, where the world itself is in doubt
-pub same_world : (files : List StoredFile) (slot : Slot) (world : World) (next : Option World) (image : Image)
-    → LeavesOneOf files slot world (Some world) image → LeavesOneOf files slot world next image
-same_world files slot world next image leaves there holds =
-    same_of there (in_slot slot image) world next (leaves there holds)
+-- a stop leaves the state, where the state itself is in doubt
+pub same_state : (files : List StoredFile) (slot : Slot) (at : plain.State) (next : Option plain.State) (image : Image)
+    → LeavesOneOf files slot at (Some at) image → LeavesOneOf files slot at next image
+same_state files slot at next image leaves there holds =
+    same_of there (in_slot slot image) at next (leaves there holds)
 
--- a stop leaves the world, or the one that was in doubt, also after a step that keeps the world
-pub as_before : (files : List StoredFile) (slot : Slot) (world : World) (next doubt : Option World) (image : Image)
-    → MayDoubt next world world doubt → LeavesOneOf files slot world doubt image
-    → LeavesOneOf files slot world next image
-as_before files slot world next doubt image (inl none) leaves there holds =
-    world_of there (in_slot slot image) world next
-    (subst (λ d. StandsForOneOf there (in_slot slot image) world d) none (leaves there holds))
-as_before files slot world next doubt image (inr (inl same)) leaves there holds =
-    subst (λ d. StandsForOneOf there (in_slot slot image) world d) same (leaves there holds)
-as_before files slot world next doubt image (inr (inr (inl same))) leaves there holds =
-    same_of there (in_slot slot image) world next
-    (subst (λ d. StandsForOneOf there (in_slot slot image) world d) same (leaves there holds))
-as_before files slot world next doubt image (inr (inr (inr same))) leaves there holds =
-    same_of there (in_slot slot image) world next
-    (subst (λ d. StandsForOneOf there (in_slot slot image) world d) same (leaves there holds))
+-- a stop leaves the state, or the one that was in doubt, also after a step that keeps the state
+pub as_before : (files : List StoredFile) (slot : Slot) (at : plain.State) (next doubt : Option plain.State)
+    (image : Image)
+    → MayDoubt next at at doubt → LeavesOneOf files slot at doubt image
+    → LeavesOneOf files slot at next image
+as_before files slot at next doubt image (inl none) leaves there holds =
+    state_of there (in_slot slot image) at next
+    (subst (λ d. StandsForOneOf there (in_slot slot image) at d) none (leaves there holds))
+as_before files slot at next doubt image (inr (inl same)) leaves there holds =
+    subst (λ d. StandsForOneOf there (in_slot slot image) at d) same (leaves there holds)
+as_before files slot at next doubt image (inr (inr (inl same))) leaves there holds =
+    same_of there (in_slot slot image) at next
+    (subst (λ d. StandsForOneOf there (in_slot slot image) at d) same (leaves there holds))
+as_before files slot at next doubt image (inr (inr (inr same))) leaves there holds =
+    same_of there (in_slot slot image) at next
+    (subst (λ d. StandsForOneOf there (in_slot slot image) at d) same (leaves there holds))
 
--- the doubt after a step that keeps the world, and then a command
-pub doubt_on : (next doubt last : Option World) (world after : World) → MayDoubt next world world doubt
-    → MayDoubt doubt world after last → MayDoubt next world after last
-doubt_on next doubt last world after may (inl none) = inl none
-doubt_on next doubt last world after may (inr (inl same)) = by may
+-- the doubt after a step that keeps the state, and then a command
+pub doubt_on : (next doubt last : Option plain.State) (at after : plain.State) → MayDoubt next at at doubt
+    → MayDoubt doubt at after last → MayDoubt next at after last
+doubt_on next doubt last at after may (inl none) = inl none
+doubt_on next doubt last at after may (inr (inl same)) = by may
   where
-    by : MayDoubt next world world doubt → MayDoubt next world after last
+    by : MayDoubt next at at doubt → MayDoubt next at after last
     by (inl none) = inl (subst (λ d. last ≡ d) none same)
     by (inr (inl is)) = inr (inl (subst (λ d. last ≡ d) is same))
     by (inr (inr (inl is))) = inr (inr (inl (subst (λ d. last ≡ d) is same)))
     by (inr (inr (inr is))) = inr (inr (inl (subst (λ d. last ≡ d) is same)))
-doubt_on next doubt last world after may (inr (inr rest)) = inr (inr rest)
+doubt_on next doubt last at after may (inr (inr rest)) = inr (inr rest)

@@ -1,4 +1,4 @@
--- The steps of a flush, as a core takes them: what each leaves of the worlds that a core stands for.
+-- The steps of a flush, as a core takes them: what each leaves of the state that a core is in.
 use Rattle.std.proofs.Common.{◌≡◌, ℕ, List, [], ◌∷◌, ◌++◌, Option, None, Some, Result, Ok, Err, inl, inr, refl, sym}
 use Rattle.std.proofs.Common.{ap, subst, ◌∙◌}
 use Rattle.std.specs.List.{AllByRecursion as Each, flat_map}
@@ -37,6 +37,7 @@ use Rattle.tsdb_outside.specs.Files.{Store, StoredFile}
 use Rattle.tsdb_outside.specs.declared.disk.Disk as disk
 use Rattle.tsdb_outside.specs.declared.faults.Counted as counted
 use Rattle.tsdb_outside.specs.declared.faults.Failed.{Failed}
+use Rattle.tsdb_replay.specs.Stores.{IsStateOf}
 use Rattle.tsdb_serving.proofs.Held.{either_wider, held_more, held_with, held_without}
 use Rattle.tsdb_serving.proofs.Steps.{quiet}
 use Rattle.tsdb_serving.specs.Flushing.{IsServingJob}
@@ -71,16 +72,20 @@ module _ (told other : Told) where
         (each_right Same store.sequence store.unsequence same) place;
   }
 
-  -- a record in doubt leads to the same world, where all files that are there are told as before
+  state_as : (store : StoreState) (at : plain.State) → Each Same (store.sequence ++ store.unsequence)
+      → IsStateOf told store at → IsStateOf other store at
+  state_as store at same stands = record { world = stands_as store at.world same stands.world; stamp = stands.stamp }
+
+  -- a record in doubt leads to the same state, where all files that are there are told as before
   leads_as : (named : List ℕ) (store : StoreState) (outgoing : List File) (doubt : Option LogRecord)
-      (next : Option World) → Each Same ((store.sequence ++ store.unsequence) ++ outgoing)
+      (next : Option plain.State) → Each Same ((store.sequence ++ store.unsequence) ++ outgoing)
       → IfSome doubt (DoubtInOrder told named store outgoing) → LeadsTo told store doubt next
       → LeadsTo other store doubt next
   leads_as named store outgoing None None same order leads = tt
   leads_as named store outgoing None (Some next) same order leads = absurd leads
   leads_as named store outgoing (Some item) None same order leads = absurd leads
   leads_as named store outgoing (Some item) (Some next) same order leads =
-      stands_as (after item store) next
+      state_as (after item store) next
       (listed_after Same item store (λ n among born. same_number outgoing
       (each_right Same (store.sequence ++ store.unsequence) outgoing same) n
       (each_among (λ number. Among number (numbers_of outgoing)) (names item) n order.kept among))
@@ -95,7 +100,7 @@ flushed_stamp s u (oldest ∷ newer) store = refl
 module _ (job : FlushJob) (outside : Outside) (engine : EngineState) (flush : state.FlushJob)
     (others : List state.FlushJob) (stored : IsStoredIn outside engine) (out : IsOutAs job flush others engine)
     (store : Store) (files : NewFiles) (of_job : AreOfJob store job files) where
-  pub leads_with : (next : Option World) → LeadsTo outside.told engine.store engine.doubt next
+  pub leads_with : (next : Option plain.State) → LeadsTo outside.told engine.store engine.doubt next
       → LeadsTo (told_with flush files outside.told) engine.store engine.doubt next
   leads_with next leads = leads_as outside.told (told_with flush files outside.told) stored.named engine.store
       engine.outgoing engine.doubt next
@@ -109,13 +114,16 @@ module _ {J F S R P : Type 0} {means : disk.Ghosts J} {counts : counted.Ghosts J
 
   module _ (Q : ℕ → Type 0) (old new : Core J F S R P means counts) (result : Answer)
       (step : IsCoreCommand old new Freeze IsAny result) (can : CanFreezeNow old) (files : List StoredFile)
-      (at : plain.State) (next : Option World) (serving : IsServing old files at next) where
-    frozen_stands : StandsFor serving.outside.told (after Freeze serving.state.store) at.world
-    frozen_stands = froze_stands serving.outside.told serving.state.store at.world serving.seen.sound.stored.order.store
-        (can serving.outside serving.state serving.seen) serving.stands
+      (at : plain.State) (next : Option plain.State) (serving : IsServing old files at next) where
+    frozen_stands : IsStateOf serving.outside.told (after Freeze serving.state.store) at
+    frozen_stands = record {
+      world = froze_stands serving.outside.told serving.state.store at.world serving.seen.sound.stored.order.store
+          (can serving.outside serving.state serving.seen) serving.stands.world;
+      stamp = serving.stands.stamp;
+    }
 
-    froze_by : (doubt : Option World) → MayDoubt next at.world at.world doubt → IsServing new (files ++ []) at doubt
-        → IsServedBy Q old new files at next at.world at
+    froze_by : (doubt : Option plain.State) → MayDoubt next at at doubt → IsServing new (files ++ []) at doubt
+        → IsServedBy Q old new files at next at at
     froze_by doubt may is = record {
       put = [];
       numbers = tt;
@@ -123,10 +131,10 @@ module _ {J F S R P : Type 0} {means : disk.Ghosts J} {counts : counted.Ghosts J
       may = may;
       serving = is;
       moments = weaker (disk_under old) (disk_under new) _
-          (LeavesEither (files ++ []) (slot_under old) at.world next at.world)
-          (λ image leaves. either_wider serving.outside.kept (files ++ []) (slot_under old) at.world next at.world image
+          (LeavesEither (files ++ []) (slot_under old) at next at)
+          (λ image leaves. either_wider serving.outside.kept (files ++ []) (slot_under old) at next at image
           (held_more serving.outside.kept files [] serving.held) leaves)
-          (step.moments serving.outside serving.state serving.seen tt at.world at.world next serving.stands serving.doubt
+          (step.moments serving.outside serving.state serving.seen tt at at next serving.stands serving.doubt
           frozen_stands);
     }
 
@@ -136,19 +144,17 @@ module _ {J F S R P : Type 0} {means : disk.Ghosts J} {counts : counted.Ghosts J
       state = serving.state;
       seen = seen;
       stands = serving.stands;
-      stamp = serving.stamp;
       doubt = serving.doubt;
       held = held_more serving.outside.kept files [] serving.held;
     }
 
     froze_in : (r : Answer) → IsSeenAfter new serving.outside serving.state Freeze r
-        → IsServedBy Q old new files at next at.world at
+        → IsServedBy Q old new files at next at at
     froze_in answer.Done seen = froze_by None (inl refl) (record {
       outside = with_record Freeze serving.outside;
       state = wrote Freeze serving.state;
       seen = seen;
       stands = frozen_stands;
-      stamp = serving.stamp;
       doubt = tt;
       held = held_more serving.outside.kept files [] serving.held;
     })
@@ -160,56 +166,52 @@ module _ {J F S R P : Type 0} {means : disk.Ghosts J} {counts : counted.Ghosts J
       state = settled serving.state;
       seen = seen;
       stands = serving.stands;
-      stamp = serving.stamp;
       doubt = tt;
       held = held_more serving.outside.kept files [] serving.held;
     })
     froze_in answer.Device (inr (inl seen)) = froze_by next (inr (inl refl)) (as_it_was seen)
-    froze_in answer.Device (inr (inr seen)) = froze_by (Some at.world) (inr (inr (inl refl))) (record {
+    froze_in answer.Device (inr (inr seen)) = froze_by (Some at) (inr (inr (inl refl))) (record {
       outside = serving.outside;
       state = failed Freeze serving.state;
       seen = seen;
       stands = serving.stands;
-      stamp = serving.stamp;
       doubt = frozen_stands;
       held = held_more serving.outside.kept files [] serving.held;
     })
     froze_in answer.Memory seen = froze_by next (inr (inl refl)) (as_it_was seen)
     froze_in (answer.Full counter) seen = froze_by next (inr (inl refl)) (as_it_was seen)
 
-    pub froze : IsServedBy Q old new files at next at.world at
+    pub froze : IsServedBy Q old new files at next at at
     froze = froze_in result (step.step serving.outside serving.state serving.seen tt)
 
   -- ---- nothing
 
   pub same_seen : (old new : Core J F S R P means counts) (files : List StoredFile) (at : plain.State)
-      (next : Option World) → ((outside : Outside) (engine : EngineState) → IsSeen old outside engine
+      (next : Option plain.State) → ((outside : Outside) (engine : EngineState) → IsSeen old outside engine
       → IsSeen new outside engine) → IsServing old files at next → IsServing new files at next
   same_seen old new files at next step serving = record {
     outside = serving.outside;
     state = serving.state;
     seen = step serving.outside serving.state serving.seen;
     stands = serving.stands;
-    stamp = serving.stamp;
     doubt = serving.doubt;
     held = serving.held;
   }
 
   pub more_files : (core : Core J F S R P means counts) (files put : List StoredFile) (at : plain.State)
-      (next : Option World) → IsServing core files at next → IsServing core (files ++ put) at next
+      (next : Option plain.State) → IsServing core files at next → IsServing core (files ++ put) at next
   more_files core files put at next serving = record {
     outside = serving.outside;
     state = serving.state;
     seen = serving.seen;
     stands = serving.stands;
-    stamp = serving.stamp;
     doubt = serving.doubt;
     held = held_more serving.outside.kept files put serving.held;
   }
 
   -- a step that changes neither log nor state
   pub unchanged : (Q : ℕ → Type 0) (old new : Core J F S R P means counts) (files : List StoredFile) (at : plain.State)
-      (next : Option World) (after : World) → log_of (logged_of new) ≡ log_of (logged_of old)
+      (next : Option plain.State) (after : plain.State) → log_of (logged_of new) ≡ log_of (logged_of old)
       → ((outside : Outside) (engine : EngineState) → IsSeen old outside engine → IsSeen new outside engine)
       → IsServing old files at next → IsServedBy Q old new files at next after at
   unchanged Q old new files at next after same step serving = quiet laws Q old new files [] at next after same tt
@@ -219,7 +221,7 @@ module _ {J F S R P : Type 0} {means : disk.Ghosts J} {counts : counted.Ghosts J
   -- ---- taking a job
 
   pub taken : (old new : Core J F S R P means counts) (job : FlushJob) (files : List StoredFile) (at : plain.State)
-      (next : Option World) → IsTaken old new job → IsServing old files at next
+      (next : Option plain.State) → IsTaken old new job → IsServing old files at next
       → IsServingJob new job files at next
   taken old new job files at next takes serving =
       let step = takes.step serving.outside serving.state serving.seen in
@@ -235,7 +237,6 @@ module _ {J F S R P : Type 0} {means : disk.Ghosts J} {counts : counted.Ghosts J
           out = record { before = []; behind = serving.state.flushes; with_it = refl; without = refl };
         };
         stands = serving.stands;
-        stamp = serving.stamp;
         doubt = serving.doubt;
         held = serving.held;
       }
@@ -245,16 +246,20 @@ module _ {J F S R P : Type 0} {means : disk.Ghosts J} {counts : counted.Ghosts J
   module _ (Q : ℕ → Type 0) (old new : Core J F S R P means counts) (job : FlushJob) (built : NewFiles)
       (store : Store) (of_job : AreOfJob store job built) (tells : TellBytes built)
       (numbers : Each (λ (file : StoredFile). Q file.number) (flat_map stored_of (all_of built)))
-      (files : List StoredFile) (at : plain.State) (next : Option World) (is : IsServingJob old job files at next) where
+      (files : List StoredFile) (at : plain.State) (next : Option plain.State)
+      (is : IsServingJob old job files at next) where
     abbrev put : List StoredFile
     put = flat_map stored_of (all_of built)
 
     abbrev later : Outside
     later = with_files is.flush built is.outside
 
-    stands_later : StandsFor later.told is.state.store at.world
-    stands_later = (worlds_with job is.outside is.state is.flush is.others is.seen.sound.stored is.out store built of_job
-        at.world).0 is.stands
+    stands_later : IsStateOf later.told is.state.store at
+    stands_later = record {
+      world = (worlds_with job is.outside is.state is.flush is.others is.seen.sound.stored is.out store built of_job
+          at.world).0 is.stands.world;
+      stamp = is.stands.stamp;
+    }
 
     leads_later : LeadsTo later.told is.state.store is.state.doubt next
     leads_later = leads_with job is.outside is.state is.flush is.others is.seen.sound.stored is.out store built of_job
@@ -266,42 +271,44 @@ module _ {J F S R P : Type 0} {means : disk.Ghosts J} {counts : counted.Ghosts J
       state = is.state;
       seen = is.seen;
       stands = is.stands;
-      stamp = is.stamp;
       doubt = is.doubt;
       held = is.held;
     }
 
     -- a state of the same store
-    shows : (other : EngineState) (doubt : Option World) → other.store ≡ is.state.store
+    shows : (other : EngineState) (doubt : Option plain.State) → other.store ≡ is.state.store
         → LeadsTo later.told is.state.store other.doubt doubt → IsSeen new later other
         → IsServing new (files ++ put) at doubt
     shows other doubt same leads seen = record {
       outside = later;
       state = other;
       seen = seen;
-      stands = subst (λ s. StandsFor later.told s at.world) (sym same) stands_later;
-      stamp = ap (λ s. s.stamp) same ∙ is.stamp;
+      stands = subst (λ s. IsStateOf later.told s at) (sym same) stands_later;
       doubt = subst (λ s. LeadsTo later.told s other.doubt doubt) (sym same) leads;
       held = held_with built is.outside.kept files is.held;
     }
 
-    pub abandoned : IsAbandoned old new job built → IsServedBy Q old new files at next at.world at
-    abandoned gives_up = quiet laws Q old new files put at next at.world (ap (λ log. log_of log) gives_up.logged) numbers
+    pub abandoned : IsAbandoned old new job built → IsServedBy Q old new files at next at at
+    abandoned gives_up = quiet laws Q old new files put at next at (ap (λ log. log_of log) gives_up.logged) numbers
         before
         (shows (ended_flush is.flush is.others (state_files built) is.state) next refl leads_later
         (gives_up.step is.outside is.state is.flush is.others is.seen is.out tells))
 
     module _ (commit : Commit) (commits : IsCommit old new job built commit) where
       record_stands : IsOldest job (memory_of (logged_of old))
-          → StandsFor later.told (after (flush_record is.flush) is.state.store) at.world
+          → IsStateOf later.told (after (flush_record is.flush) is.state.store) at
       record_stands oldest =
           let keeps = commits.keeps is.outside is.state is.flush is.others is.seen is.out tells oldest in record {
-            types = λ path. stands_later.types path ∙ sym (keeps.types path);
-            values = λ place. stands_later.values place ∙ sym (keeps.values place);
+            world = record {
+              types = λ path. stands_later.world.types path ∙ sym (keeps.types path);
+              values = λ place. stands_later.world.values place ∙ sym (keeps.values place);
+            };
+            stamp = flushed_stamp (number_or_none is.flush.sequence).0 (number_or_none is.flush.unsequence).0
+                is.state.store.frozen is.state.store ∙ is.stands.stamp;
           }
 
-      by_record : IsOldest job (memory_of (logged_of old)) → (doubt : Option World) → MayDoubt next at.world at.world doubt
-          → IsServing new (files ++ put) at doubt → IsServedBy Q old new files at next at.world at
+      by_record : IsOldest job (memory_of (logged_of old)) → (doubt : Option plain.State) → MayDoubt next at at doubt
+          → IsServing new (files ++ put) at doubt → IsServedBy Q old new files at next at at
       by_record oldest doubt may shown = record {
         put = put;
         numbers = numbers;
@@ -309,61 +316,58 @@ module _ {J F S R P : Type 0} {means : disk.Ghosts J} {counts : counted.Ghosts J
         may = may;
         serving = shown;
         moments = weaker (disk_under old) (disk_under new) _
-            (LeavesEither (files ++ put) (slot_under old) at.world next at.world)
-            (λ image leaves. either_wider later.kept (files ++ put) (slot_under old) at.world next at.world image
+            (LeavesEither (files ++ put) (slot_under old) at next at)
+            (λ image leaves. either_wider later.kept (files ++ put) (slot_under old) at next at image
             (held_with built is.outside.kept files is.held) leaves)
-            (commits.moments is.outside is.state is.flush is.others is.seen is.out tells at.world at.world next stands_later
+            (commits.moments is.outside is.state is.flush is.others is.seen is.out tells at at next stands_later
             leads_later (record_stands oldest));
       }
 
       committed_as : (c : Commit) → c ≡ commit → IsCommitAnswer job (memory_of (logged_of old)) c
           → IsSeenAfterCommit new later is.state is.flush is.others c
-          → IsServedBy Q old new files at next at.world at
+          → IsServedBy Q old new files at next at at
       committed_as Done same oldest seen = by_record oldest None (inl refl) (record {
         outside = with_record (flush_record is.flush) later;
         state = committed_flush is.flush is.others is.state;
         seen = seen;
         stands = record_stands oldest;
-        stamp = flushed_stamp (number_or_none is.flush.sequence).0 (number_or_none is.flush.unsequence).0
-            is.state.store.frozen is.state.store ∙ is.stamp;
         doubt = tt;
         held = held_with built is.outside.kept files is.held;
       })
-      committed_as Gone same answered seen = quiet laws Q old new files put at next at.world
+      committed_as Gone same answered seen = quiet laws Q old new files put at next at
           (ap (λ log. log_of log) (commits.gone (sym same))) numbers before
           (shows (ended_flush is.flush is.others (built_files is.flush) is.state) next refl leads_later seen)
       committed_as Device same oldest (inl seen) = by_record oldest None (inl refl)
           (shows (settled (ended_flush is.flush is.others (built_files is.flush) is.state)) None refl tt seen)
       committed_as Device same oldest (inr (inl seen)) = by_record oldest next (inr (inl refl))
           (shows (ended_flush is.flush is.others (built_files is.flush) is.state) next refl leads_later seen)
-      committed_as Device same oldest (inr (inr seen)) = by_record oldest (Some at.world) (inr (inr (inl refl)))
+      committed_as Device same oldest (inr (inr seen)) = by_record oldest (Some at) (inr (inr (inl refl)))
           (shows (failed (flush_record is.flush) (ended_flush is.flush is.others (built_files is.flush) is.state))
-          (Some at.world) refl (record_stands oldest) seen)
+          (Some at) refl (record_stands oldest) seen)
 
-      pub committed : IsServedBy Q old new files at next at.world at
+      pub committed : IsServedBy Q old new files at next at at
       committed = committed_as commit refl commits.answer
           (commits.step is.outside is.state is.flush is.others is.seen is.out tells)
 
   -- ---- a sweep
 
   module _ (Q : ℕ → Type 0) (old new : Core J F S R P means counts) (files : List StoredFile) (at : plain.State)
-      (next : Option World) (serving : IsServing old files at next) where
+      (next : Option plain.State) (serving : IsServing old files at next) where
     swept_of : (numbers : List ℕ) → logged_of new ≡ logged_of old
         → IsSeen new (without_files numbers serving.outside) (swept_state numbers serving.state)
-        → IsServedBy Q old new files at next at.world at
-    swept_of numbers same seen = quiet laws Q old new files [] at next at.world (ap (λ log. log_of log) same) tt
+        → IsServedBy Q old new files at next at at
+    swept_of numbers same seen = quiet laws Q old new files [] at next at (ap (λ log. log_of log) same) tt
         serving (more_files new files [] at next (record {
           outside = without_files numbers serving.outside;
           state = swept_state numbers serving.state;
           seen = seen;
           stands = serving.stands;
-          stamp = serving.stamp;
           doubt = serving.doubt;
           held = held_without numbers serving.outside.kept files serving.held;
         }))
 
     pub swept : (outcome : Result ℕ Failed) → IsSwept old new outcome
-        → IsServedBy Q old new files at next at.world at
+        → IsServedBy Q old new files at next at at
     swept (Ok count) sweeps = swept_of (may_go sweeps.doubted (files_of old) (files_of old).outgoing) sweeps.logged
         (sweeps.all.step serving.outside serving.state serving.seen)
     swept (Err failure) sweeps = swept_of (tried_numbers sweeps.doubted (files_of old).places sweeps.stopped.0)

@@ -1,13 +1,14 @@
 -- A listing answers the command that asks for it.
 use Rattle.std.proofs.Common.{Result, Ok, Err, refl}
 use Rattle.std.specs.Prelude.{IfOk}
+use Rattle.tsdb_base.specs.declared.answers.Answer.TheVariants.{Done}
 use Rattle.tsdb_base.specs.declared.fault.Memory.{Memory}
 use Rattle.tsdb_core.specs.Listings.{TellsStore}
 use Rattle.tsdb_core.specs.declared.engine.Core.{Core}
-use Rattle.tsdb_map.specs.Apply.{accepted}
+use Rattle.tsdb_map.specs.History.{state_after}
 use Rattle.tsdb_map.specs.declared.command.Command.TheVariants.{ShowFiles}
 use Rattle.tsdb_map.specs.declared.reply.Listing.{Listing}
-use Rattle.tsdb_map.specs.declared.reply.Reply.TheVariants.{Files}
+use Rattle.tsdb_map.specs.declared.reply.Reply.TheVariants.{Files, Plain}
 use Rattle.tsdb_outside.specs.Disk.{IsLawful}
 use Rattle.tsdb_outside.specs.declared.disk.Disk as disk
 use Rattle.tsdb_outside.specs.declared.faults.Counted as counted
@@ -23,10 +24,10 @@ module _ {J F S R P : Type 0} {means : disk.Ghosts J} {counts : counted.Ghosts J
     allowed = (
       refl,
       possible serving.outside.told serving.outside.known serving.seen.sound.stored.named serving.state
-          serving.seen.sound.stored.order at serving.stands serving.stamp listing
+          serving.seen.sound.stored.order at serving.stands.world serving.stands.stamp listing
           (tells serving.outside serving.state serving.seen),
     );
-    served = unchanged laws (IsDrawn core core) core core files at next (accepted at.world ShowFiles) refl
+    served = unchanged laws (IsDrawn core core) core core files at next (state_after at ShowFiles (Plain Done)) refl
         (λ outside engine seen. seen) serving;
     settled = λ change is. absurd cc;
   }

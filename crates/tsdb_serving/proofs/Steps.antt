@@ -12,14 +12,13 @@ use Rattle.tsdb_images.specs.Stored.{LeavesOneOf}
 use Rattle.tsdb_layers.proofs.Lists.{each_append, each_weaker}
 use Rattle.tsdb_logged.specs.Logged.{log_of}
 use Rattle.tsdb_map.specs.State as plain
-use Rattle.tsdb_map.specs.World.{World}
 use Rattle.tsdb_outside.specs.Disk.{Image, IsLawful, State}
 use Rattle.tsdb_outside.specs.Files.{StoredFile}
 use Rattle.tsdb_outside.specs.Moments.{LeavesOnly}
 use Rattle.tsdb_outside.specs.declared.disk.Disk as disk
 use Rattle.tsdb_outside.specs.declared.disk.Slot.{Slot}
 use Rattle.tsdb_outside.specs.declared.faults.Counted as counted
-use Rattle.tsdb_serving.proofs.Held.{as_before, doubt_on, held_more, same_world, wider}
+use Rattle.tsdb_serving.proofs.Held.{as_before, doubt_on, held_more, same_state, wider}
 use Rattle.tsdb_serving.specs.Serving.{AreHeldWith, IsServedBy, IsServing, LeavesEither, disk_under}
 use Rattle.tsdb_serving.specs.Serving.{slot_under}
 
@@ -33,19 +32,19 @@ idle disk P laws each = record {
 
 module _ {J F S R P : Type 0} {means : disk.Ghosts J} {counts : counted.Ghosts J}
     (laws : (journal : J) → IsLawful (means.state journal)) where
-  -- what a stop leaves of a core that stands for the world
-  pub image_left : (core : Core J F S R P means counts) (files : List StoredFile) (at : plain.State) (next : Option World)
-      (image : Image) → IsServing core files at next → (disk_under core).may_leave image
-      → LeavesOneOf files (slot_under core) at.world next image
+  -- what a stop leaves of a core that is in the state
+  pub image_left : (core : Core J F S R P means counts) (files : List StoredFile) (at : plain.State)
+      (next : Option plain.State) (image : Image) → IsServing core files at next → (disk_under core).may_leave image
+      → LeavesOneOf files (slot_under core) at next image
   image_left core files at next image serving left =
-      wider serving.outside.kept files (slot_under core) at.world next image serving.held
+      wider serving.outside.kept files (slot_under core) at next image serving.held
       (image_stands serving.outside.items serving.outside.kept serving.outside.told serving.outside.known serving.state
-      serving.seen.sound.stored at.world next serving.stands serving.doubt (slot_under core) (disk_under core)
+      serving.seen.sound.stored at next serving.stands serving.doubt (slot_under core) (disk_under core)
       core.logged.frames.gate image serving.seen.sound.log.log.stands left)
 
-  -- a step that leaves the log as it was, and the world
+  -- a step that leaves the log as it was, and the state
   pub quiet : (Q : ℕ → Type 0) (old new : Core J F S R P means counts) (files put : List StoredFile) (at : plain.State)
-      (next : Option World) (after : World) → log_of (logged_of new) ≡ log_of (logged_of old)
+      (next : Option plain.State) (after : plain.State) → log_of (logged_of new) ≡ log_of (logged_of old)
       → Each (λ (file : StoredFile). Q file.number) put
       → IsServing old files at next → IsServing new (files ++ put) at next
       → IsServedBy Q old new files at next after at
@@ -56,19 +55,19 @@ module _ {J F S R P : Type 0} {means : disk.Ghosts J} {counts : counted.Ghosts J
     may = inr (inl refl);
     serving = serving;
     moments = subst (λ (log : Frames J means counts). LeavesOnly (disk_under old) (disk_of log)
-        (LeavesEither (files ++ put) (slot_under old) at.world next after)) (sym same)
-        (idle (disk_under old) (LeavesEither (files ++ put) (slot_under old) at.world next after)
+        (LeavesEither (files ++ put) (slot_under old) at next after)) (sym same)
+        (idle (disk_under old) (LeavesEither (files ++ put) (slot_under old) at next after)
         (laws old.logged.frames.journal)
-        (λ image left. inl (wider files (files ++ put) (slot_under old) at.world next image
+        (λ image left. inl (wider files (files ++ put) (slot_under old) at next image
         (held_more files files put (λ there holds. holds))
         (image_left old files at next image before left))));
   }
 
-  -- a step that keeps the world, and then a command
+  -- a step that keeps the state, and then a command
   module _ (A B Q : ℕ → Type 0) (from_first : (n : ℕ) → A n → Q n) (from_second : (n : ℕ) → B n → Q n)
-      (old mid new : Core J F S R P means counts) (files : List StoredFile) (at : plain.State) (next : Option World)
-      (after : World) (now : plain.State) (slot : slot_under mid ≡ slot_under old)
-      (first : IsServedBy A old mid files at next at.world at)
+      (old mid new : Core J F S R P means counts) (files : List StoredFile) (at : plain.State)
+      (next : Option plain.State) (after now : plain.State) (slot : slot_under mid ≡ slot_under old)
+      (first : IsServedBy A old mid files at next at at)
       (second : IsServedBy B mid new (files ++ first.put) at first.doubt after now) where
     abbrev both : List StoredFile
     both = first.put ++ second.put
@@ -77,34 +76,34 @@ module _ {J F S R P : Type 0} {means : disk.Ghosts J} {counts : counted.Ghosts J
     joined = append_assoc files first.put second.put
 
     abbrev AtAll : Image → Type 0
-    AtAll = LeavesEither (files ++ both) (slot_under old) at.world next after
+    AtAll = LeavesEither (files ++ both) (slot_under old) at next after
 
     more : AreHeldWith (files ++ first.put) (files ++ both)
     more = subst (AreHeldWith (files ++ first.put)) joined
         (held_more (files ++ first.put) (files ++ first.put) second.put (λ there holds. holds))
 
-    begins : (image : Image) → LeavesEither (files ++ first.put) (slot_under old) at.world next at.world image
+    begins : (image : Image) → LeavesEither (files ++ first.put) (slot_under old) at next at image
         → AtAll image
     begins image (inl leaves) =
-        inl (wider (files ++ first.put) (files ++ both) (slot_under old) at.world next image more leaves)
-    begins image (inr leaves) = inl (same_world (files ++ both) (slot_under old) at.world next image
-        (wider (files ++ first.put) (files ++ both) (slot_under old) at.world (Some at.world) image more leaves))
+        inl (wider (files ++ first.put) (files ++ both) (slot_under old) at next image more leaves)
+    begins image (inr leaves) = inl (same_state (files ++ both) (slot_under old) at next image
+        (wider (files ++ first.put) (files ++ both) (slot_under old) at (Some at) image more leaves))
 
     at_old : (list : List StoredFile) (place : Slot) (image : Image) → place ≡ slot_under old → list ≡ files ++ both
-        → LeavesEither list place at.world first.doubt after image
-        → LeavesEither (files ++ both) (slot_under old) at.world first.doubt after image
+        → LeavesEither list place at first.doubt after image
+        → LeavesEither (files ++ both) (slot_under old) at first.doubt after image
     at_old list place image is are leaves =
-        subst (λ l. LeavesEither l (slot_under old) at.world first.doubt after image) are
-        (subst (λ s. LeavesEither list s at.world first.doubt after image) is leaves)
+        subst (λ l. LeavesEither l (slot_under old) at first.doubt after image) are
+        (subst (λ s. LeavesEither list s at first.doubt after image) is leaves)
 
-    last : (image : Image) → LeavesEither (files ++ both) (slot_under old) at.world first.doubt after image
+    last : (image : Image) → LeavesEither (files ++ both) (slot_under old) at first.doubt after image
         → AtAll image
     last image (inl leaves) =
-        inl (as_before (files ++ both) (slot_under old) at.world next first.doubt image first.may leaves)
+        inl (as_before (files ++ both) (slot_under old) at next first.doubt image first.may leaves)
     last image (inr leaves) = inr leaves
 
     ends : (image : Image)
-        → LeavesEither ((files ++ first.put) ++ second.put) (slot_under mid) at.world first.doubt after image
+        → LeavesEither ((files ++ first.put) ++ second.put) (slot_under mid) at first.doubt after image
         → AtAll image
     ends image leaves =
         last image (at_old ((files ++ first.put) ++ second.put) (slot_under mid) image slot joined leaves)
@@ -118,13 +117,13 @@ module _ {J F S R P : Type 0} {means : disk.Ghosts J} {counts : counted.Ghosts J
           (each_weaker (λ (file : StoredFile). B file.number) (λ (file : StoredFile). Q file.number)
           (λ file has. from_second file.number has) second.put second.numbers);
       doubt = second.doubt;
-      may = doubt_on next first.doubt second.doubt at.world after first.may second.may;
+      may = doubt_on next first.doubt second.doubt at after first.may second.may;
       serving = subst (λ list. IsServing new list now second.doubt) joined second.serving;
       moments = leaves_on (disk_under old) (disk_under mid) (disk_under new) (laws new.logged.frames.journal) AtAll
           (weaker (disk_under old) (disk_under mid)
-          (LeavesEither (files ++ first.put) (slot_under old) at.world next at.world) AtAll begins first.moments)
+          (LeavesEither (files ++ first.put) (slot_under old) at next at) AtAll begins first.moments)
           (weaker (disk_under mid) (disk_under new)
-          (LeavesEither ((files ++ first.put) ++ second.put) (slot_under mid) at.world first.doubt after) AtAll ends
+          (LeavesEither ((files ++ first.put) ++ second.put) (slot_under mid) at first.doubt after) AtAll ends
           second.moments);
     }
 

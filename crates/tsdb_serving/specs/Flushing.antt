@@ -12,14 +12,13 @@ use Rattle.tsdb_kept.specs.Places.{AreOfStore, AreUnread}
 use Rattle.tsdb_layers.specs.Lists.{Among}
 use Rattle.tsdb_logged.specs.Logged.{Outside, log_of, memory_of}
 use Rattle.tsdb_map.specs.State as plain
-use Rattle.tsdb_map.specs.World.{World}
 use Rattle.tsdb_memory.specs.Store.{FrozenPair}
 use Rattle.tsdb_outside.specs.Files.{Store, StoredFile}
 use Rattle.tsdb_outside.specs.declared.disk.Disk as disk
 use Rattle.tsdb_outside.specs.declared.faults.Counted as counted
 use Rattle.tsdb_serving.specs.Serving.{AreHeldWith, IsServedBy, KeepsServing, slot_under}
+use Rattle.tsdb_replay.specs.Stores.{IsStateOf}
 use Rattle.tsdb_state.specs.State.{EngineState, FlushJob as StateFlush}
-use Rattle.tsdb_state.specs.Worlds.{StandsFor}
 
 -- a number that was drawn for the job
 abbrev pub IsOfJob : FlushJob → ℕ → Type 0
@@ -49,7 +48,7 @@ module _ {J F S R P : Type 0} {means : disk.Ghosts J} {counts : counted.Ghosts J
     pub of_store : AreOfStore store (files_of core).places
 
   -- What each part of a flush leaves: the core is ready, its log stays in its slot, and numbers are drawn in their order.
-  -- Where the store tells what its files hold, the core stands for the same worlds.
+  -- Where the store tells what its files hold, the core is in the same states.
   pub record GoesOn (store : Store) (old new : Core J F S R P means counts) : Type 0 where
     pub ready : IsReady store new
     pub limit : limit_of new ≡ limit_of old
@@ -58,9 +57,9 @@ module _ {J F S R P : Type 0} {means : disk.Ghosts J} {counts : counted.Ghosts J
     pub later : faults_under old ≤ faults_under new
     pub keeps : store.tells ≡ true → KeepsServing old new
 
-  -- The core stands for the world, and the job is out as a flush of its state.
+  -- The core is in the state, and the job is out as a flush of what it shows.
   pub record IsServingJob (core : Core J F S R P means counts) (job : FlushJob) (files : List StoredFile)
-      (at : plain.State) (next : Option World)
+      (at : plain.State) (next : Option plain.State)
       : Type 0 where
     pub outside : Outside
     pub state : EngineState
@@ -68,8 +67,7 @@ module _ {J F S R P : Type 0} {means : disk.Ghosts J} {counts : counted.Ghosts J
     pub others : List StateFlush
     pub seen : IsSeen core outside state
     pub out : IsOutAs job flush others state
-    pub stands : StandsFor outside.told state.store at.world
-    pub stamp : state.store.stamp ≡ at.stamp
+    pub stands : IsStateOf outside.told state.store at
     pub doubt : LeadsTo outside.told state.store state.doubt next
     pub held : AreHeldWith outside.kept files
 
@@ -80,5 +78,6 @@ module _ {J F S R P : Type 0} {means : disk.Ghosts J} {counts : counted.Ghosts J
     pub slot : slot_under new ≡ slot_under old
     pub next : next_of new ≡ next_of old
     pub later : faults_under old ≤ faults_under new
-    pub keeps : store.tells ≡ true → (files : List StoredFile) (at : plain.State) (next : Option World)
-        → IsServingJob old job files at next → IsServedBy (IsOfJob job) old new files at next at.world at
+    pub keeps : store.tells ≡ true → (files : List StoredFile) (at : plain.State)
+        (next : Option plain.State) → IsServingJob old job files at next
+        → IsServedBy (IsOfJob job) old new files at next at at

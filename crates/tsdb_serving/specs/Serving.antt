@@ -1,4 +1,5 @@
--- Which worlds a core stands for beside the files of its run, and what a command that it serves makes of them.
+-- Which state of the plain model a core is in beside the files of its run, and what a command that it serves makes of
+-- it.
 use Rattle.std.specs.Prelude.{◌≡◌, ◌⊎◌, ℕ, ◌≤◌, ◌<◌, List, ◌++◌, Option, None, Some}
 use Rattle.std.specs.List.{AllByRecursion as Each}
 use Rattle.tsdb_core.specs.Core.{IsSeen, logged_of, next_of}
@@ -7,10 +8,8 @@ use Rattle.tsdb_frames.specs.Frames.{disk_of, slot_of}
 use Rattle.tsdb_images.specs.Stored.{LeadsTo, LeavesOneOf}
 use Rattle.tsdb_logged.specs.Logged.{Outside, log_of}
 use Rattle.tsdb_base.specs.declared.answers.Answer.TheVariants.{Done}
-use Rattle.tsdb_map.specs.Apply.{accepted}
 use Rattle.tsdb_map.specs.History.{IsAllowed, IsChange, state_after}
 use Rattle.tsdb_map.specs.State as plain
-use Rattle.tsdb_map.specs.World.{World}
 use Rattle.tsdb_map.specs.declared.command.Command.{Command}
 use Rattle.tsdb_map.specs.declared.reply.Reply.{Reply}
 use Rattle.tsdb_map.specs.declared.reply.Reply.TheVariants.{Plain}
@@ -20,25 +19,24 @@ use Rattle.tsdb_outside.specs.Moments.{LeavesOnly}
 use Rattle.tsdb_outside.specs.declared.disk.Disk as disk
 use Rattle.tsdb_outside.specs.declared.disk.Slot.{Slot}
 use Rattle.tsdb_outside.specs.declared.faults.Counted as counted
-use Rattle.tsdb_replay.specs.Stores.{Files, HoldsKept}
+use Rattle.tsdb_replay.specs.Stores.{Files, HoldsKept, IsStateOf}
 use Rattle.tsdb_state.specs.State.{EngineState}
-use Rattle.tsdb_state.specs.Worlds.{StandsFor}
 
 -- whoever holds the second files holds the first
 abbrev pub AreHeldWith : List StoredFile → List StoredFile → Type 0
 AreHeldWith kept more = (files : Files) → HoldsKept more files → HoldsKept kept files
 
--- The world in doubt after a command: none, the one that was, that before the command where what is in doubt changes no
--- world, or the one after it.
-abbrev pub MayDoubt : Option World → World → World → Option World → Type 0
-MayDoubt next world after doubt =
-    (doubt ≡ None) ⊎ ((doubt ≡ next) ⊎ ((doubt ≡ Some world) ⊎ (doubt ≡ Some after)))
+-- The state in doubt after a command: none, the one that was, that before the command where what is in doubt changes no
+-- state, or the one after it.
+abbrev pub MayDoubt : Option plain.State → plain.State → plain.State → Option plain.State → Type 0
+MayDoubt next at after doubt =
+    (doubt ≡ None) ⊎ ((doubt ≡ next) ⊎ ((doubt ≡ Some at) ⊎ (doubt ≡ Some after)))
 
--- With these files, what a stop left in the slot stands for the world, or for the one in doubt, or for that after the
+-- With these files, what a stop left in the slot stands for the state, or for the one in doubt, or for that after the
 -- command.
-abbrev pub LeavesEither : List StoredFile → Slot → World → Option World → World → Image → Type 0
-LeavesEither files slot world next after image =
-    LeavesOneOf files slot world next image ⊎ LeavesOneOf files slot world (Some after) image
+abbrev pub LeavesEither : List StoredFile → Slot → plain.State → Option plain.State → plain.State → Image → Type 0
+LeavesEither files slot at next after image =
+    LeavesOneOf files slot at next image ⊎ LeavesOneOf files slot at (Some after) image
 
 module _ {J F S R P : Type 0} {means : disk.Ghosts J} {counts : counted.Ghosts J} where
   -- what a stop may leave of the log's journal
@@ -49,31 +47,30 @@ module _ {J F S R P : Type 0} {means : disk.Ghosts J} {counts : counted.Ghosts J
   abbrev pub slot_under : Core J F S R P means counts → Slot
   slot_under core = slot_of (log_of (logged_of core))
 
-  -- The core stands for the world and has its stamp, and the record in doubt, if there is one, leads to the next world. The
-  -- files that it keeps are held wherever these are.
+  -- The core is in the state, and the record in doubt, if there is one, leads to the next one. The files that it keeps
+  -- are held wherever these are.
   pub record IsServing (core : Core J F S R P means counts) (files : List StoredFile) (at : plain.State)
-      (next : Option World)
+      (next : Option plain.State)
       : Type 0 where
     pub outside : Outside
     pub state : EngineState
     pub seen : IsSeen core outside state
-    pub stands : StandsFor outside.told state.store at.world
-    pub stamp : state.store.stamp ≡ at.stamp
+    pub stands : IsStateOf outside.told state.store at
     pub doubt : LeadsTo outside.told state.store state.doubt next
     pub held : AreHeldWith outside.kept files
 
-  -- A command leads to the world `after` where it takes effect, and has led to `now`. Files of these numbers were put
-  -- meanwhile. At each moment a stop left the world before it, or the one in doubt, or the one after it.
+  -- A command leads to the state `after` where it takes effect, and has led to `now`. Files of these numbers were put
+  -- meanwhile. At each moment a stop left the state before it, or the one in doubt, or the one after it.
   pub record IsServedBy (Put : ℕ → Type 0) (old new : Core J F S R P means counts) (files : List StoredFile)
-      (at : plain.State) (next : Option World) (after : World) (now : plain.State)
+      (at : plain.State) (next : Option plain.State) (after now : plain.State)
       : Type 0 where
     pub put : List StoredFile
     pub numbers : Each (λ (file : StoredFile). Put file.number) put
-    pub doubt : Option World
-    pub may : MayDoubt next at.world after doubt
+    pub doubt : Option plain.State
+    pub may : MayDoubt next at after doubt
     pub serving : IsServing new (files ++ put) now doubt
     pub moments : LeavesOnly (disk_under old) (disk_under new)
-        (LeavesEither (files ++ put) (slot_under old) at.world next after)
+        (LeavesEither (files ++ put) (slot_under old) at next after)
 
   -- a number that was drawn meanwhile
   pub record IsDrawn (old new : Core J F S R P means counts) (number : ℕ) : Type 0 where
@@ -82,24 +79,26 @@ module _ {J F S R P : Type 0} {means : disk.Ghosts J} {counts : counted.Ghosts J
 
   -- the files that were put have numbers that were drawn for them
   abbrev pub IsServed : Core J F S R P means counts → Core J F S R P means counts → List StoredFile → plain.State
-      → Option World → World → plain.State → Type 0
+      → Option plain.State → plain.State → plain.State → Type 0
   IsServed old new files at next after now = IsServedBy (IsDrawn old new) old new files at next after now
 
-  -- Whatever world the core stood for, it stands for it still, and a stop at any moment left it, or the one in doubt.
+  -- Whatever state the core was in, it is in it still, and a stop at any moment left it, or the one in doubt.
   abbrev pub KeepsServing : Core J F S R P means counts → Core J F S R P means counts → Type 0
-  KeepsServing old new = (files : List StoredFile) (at : plain.State) (next : Option World)
-      → IsServing old files at next → IsServed old new files at next at.world at
+  KeepsServing old new = (files : List StoredFile) (at : plain.State) (next : Option plain.State)
+      → IsServing old files at next → IsServed old new files at next at at
 
   -- What a command leaves, where files of these numbers were put: its reply is one that the map allows at this place, and
-  -- the core stands for the state after it. Once a change is done, nothing is in doubt.
+  -- the core is in the state after it. Once a change is done, nothing is in doubt.
   pub record IsAnsweredBy (Put : ℕ → Type 0) (old new : Core J F S R P means counts) (files : List StoredFile)
-      (at : plain.State) (next : Option World) (command : Command) (reply : Reply)
+      (at : plain.State) (next : Option plain.State) (command : Command) (reply : Reply)
       : Type 0 where
     pub allowed : IsAllowed at command reply
-    pub served : IsServedBy Put old new files at next (accepted at.world command) (state_after at command reply)
+    pub served : IsServedBy Put old new files at next (state_after at command (Plain Done))
+        (state_after at command reply)
     pub settled : IsChange command → reply ≡ Plain Done → served.doubt ≡ None
 
-  -- It leaves this of each world that the core stands for. The files that were put have numbers that were drawn for them.
+  -- It leaves this of each state that the core may be in. The files that were put have numbers that were drawn for
+  -- them.
   abbrev pub Answers : Core J F S R P means counts → Core J F S R P means counts → Command → Reply → Type 0
-  Answers old new command reply = (files : List StoredFile) (at : plain.State) (next : Option World)
+  Answers old new command reply = (files : List StoredFile) (at : plain.State) (next : Option plain.State)
       → IsServing old files at next → IsAnsweredBy (IsDrawn old new) old new files at next command reply

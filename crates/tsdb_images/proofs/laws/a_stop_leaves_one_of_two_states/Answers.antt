@@ -1,5 +1,5 @@
 use Rattle.tsdb_images.proofs.Leaving.{image_stands}
-use Rattle.tsdb_images.proofs.laws.a_stop_leaves_one_of_two_worlds.Goals as goal
+use Rattle.tsdb_images.proofs.laws.a_stop_leaves_one_of_two_states.Goals as goal
 
 pub returns : goal.returns
 returns g c = λ items kept told known state world next slot gate image stored stands leads log left.
