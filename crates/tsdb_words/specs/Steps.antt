@@ -1,0 +1,52 @@
+-- What the reader of the words keeps between two parts. No public clause cites this.
+use Rattle.std.specs.Prelude.{◌≡◌, ℕ, Bool, true, false, List, [], ◌∷◌, ◌++◌, Option, None, Some}
+use Rattle.std.specs.Borrow.{Bor}
+use Rattle.std.specs.List.{AllByRecursion}
+use Rattle.tsdb_words.specs.declared.part.Part.TheVariants as declared
+use Rattle.tsdb_words.specs.declared.part.Part.{Part as DeclaredPart}
+use Rattle.tsdb_words.specs.declared.seen.Seen.{Seen}
+use Rattle.tsdb_words.specs.Limits.{default_pair_points, default_workers}
+use Rattle.tsdb_words.specs.Words.{Asked, Part, Directory, Pair, Workers, End, AreParts, HasNoOptionBehindEnd}
+use Rattle.tsdb_words.specs.Words.{IsGiven, IsOfDirectory, directories, pairs, workers}
+
+-- a part, with a directory as its bytes
+abbrev pub shown : DeclaredPart → Part
+shown (declared.Directory word) = Directory word.now
+shown (declared.Pair number) = Pair number
+shown (declared.Workers number) = Workers number
+shown declared.End = End
+
+-- nothing was read
+abbrev pub nothing : Seen
+nothing = record { directory = None; pair_points = None; workers = None; ended = false }
+
+-- the number that was read, if there was one
+abbrev pub number_in : Option ℕ → List ℕ
+number_in None = []
+number_in (Some number) = number ∷ []
+
+-- the directory that was read, if there was one
+abbrev pub directory_in : Option (Bor (List ℕ)) → List (List ℕ)
+directory_in None = []
+directory_in (Some word) = word.now ∷ []
+
+-- a value is kept if none was kept before
+abbrev pub KeepsFirst : {A : Type 0} → Option A → Option A → A → Bool → Type 0
+KeepsFirst None kept value is_first = (kept ≡ Some value) × (is_first ≡ true)
+KeepsFirst (Some first) kept value is_first = is_first ≡ false
+
+-- the parts may follow, where a lone `--` stands before them or not
+abbrev pub MayFollow : Bool → List Part → Type 0
+MayFollow true parts = AllByRecursion IsOfDirectory parts
+MayFollow false parts = HasNoOptionBehindEnd parts
+
+-- what was read and these parts ask for this
+pub record Completes (seen : Seen) (parts : List Part) (asked : Asked) : Type 0 where
+  pub end : MayFollow seen.ended parts
+  pub directory : directory_in seen.directory ++ directories parts ≡ asked.directory ∷ []
+  pub pair_points : IsGiven (number_in seen.pair_points ++ pairs parts) default_pair_points asked.pair_points
+  pub workers : IsGiven (number_in seen.workers ++ workers parts) default_workers asked.workers
+
+-- what was read and these words ask for this
+abbrev pub Follows : Seen → List (List ℕ) → Asked → Type 0
+Follows seen words asked = (parts : List Part) × AreParts parts words × Completes seen parts asked
