@@ -1,5 +1,5 @@
-//! What no clause says of reading a series: aggregates beside a plain slow fold, which pages are loaded, and loads that
-//! fail. It depends on the crates that it tests.
+//! What no clause says of reading a series: aggregates beside a plain slow fold, which pages are loaded, loads that fail,
+//! and rows of several series. It depends on the crates that it tests.
 #![tactic(auto)]
 
 #[cfg(test)]
@@ -8,3 +8,5 @@ mod aggregates;
 mod loads;
 #[cfg(test)]
 mod pages;
+#[cfg(test)]
+mod rows;
