@@ -1,23 +1,22 @@
 -- What follows once the wanted file is taken up.
 use Rattle.std.proofs.Common.{◌≡◌, ℕ, zero, suc, List, [], ◌∷◌, ◌++◌, length, Option, None, Some, inl, inr, refl, sym, ap, ◌∙◌, subst}
-use Rattle.std.specs.Prelude.{IfSome, slice_get}
+use Rattle.std.specs.Prelude.{slice_get}
 use Rattle.std.specs.FinMap.{get}
-use Rattle.std.specs.Option.{IsSomeAnd, option_map}
-use Rattle.tsdb_adopting.proofs.First.{of_space, wanted_is}
+use Rattle.std.specs.Option.{IsSomeAnd}
+use Rattle.tsdb_adopting.proofs.First.{wanted_is}
 use Rattle.tsdb_adopting.proofs.Paths.{have_paths, place_has_path}
 use Rattle.tsdb_adopting.proofs.Taking.{described_more, first_with, of_each, taken_from, wanted_not_kept}
-use Rattle.tsdb_adopting.specs.Adopting.{AreDescribed, AreFirst, AreFirstOf, IsAdopted, IsKeptOf, IsReadOf, TakesUp, next_in, wanted_file, wanted_of}
-use Rattle.tsdb_adopting.specs.Steps.{KeepsFiles, shown}
+use Rattle.tsdb_adopting.specs.Adopting.{AreDescribed, AreFirstOf, IsAdopted, IsKeptOf, IsReadOf, TakesUp, next_in, wanted_file}
+use Rattle.tsdb_adopting.specs.Steps.{KeepsFiles}
 use Rattle.tsdb_base.specs.declared.ids.Space.{Space}
 use Rattle.tsdb_base.specs.declared.ids.Space.TheVariants.{Sequence, Unsequence}
 use Rattle.tsdb_built.specs.Parts as built
 use Rattle.tsdb_described.proofs.Parts.{says_its_points}
-use Rattle.tsdb_described.specs.Trees.{HavePaths, tree_part}
+use Rattle.tsdb_described.specs.Trees.{HavePaths}
 use Rattle.tsdb_held.specs.Held.{TellTheirBytes, entry_of}
 use Rattle.tsdb_images.specs.Stored.{kept_bytes}
 use Rattle.tsdb_index.specs.declared.index.FileMeta.{FileMeta}
-use Rattle.tsdb_jobs.specs.Built.{paths_of}
-use Rattle.tsdb_kept.specs.Files.{AreKept, KeptFiles, entries_in, kept_file, none_kept}
+use Rattle.tsdb_kept.specs.Files.{AreKept, KeptFiles, kept_file, none_kept}
 use Rattle.tsdb_kept.specs.Places.{AreOfStore, KeptFile}
 use Rattle.tsdb_layers.proofs.Lists.{among_left, among_right}
 use Rattle.tsdb_layers.specs.Lists.{Among}
@@ -25,9 +24,6 @@ use Rattle.tsdb_log.specs.declared.record.LogRecord.{LogRecord}
 use Rattle.tsdb_memory.specs.Model.{IsSound}
 use Rattle.tsdb_memory.specs.Shown.{IsMemoryOf}
 use Rattle.tsdb_memory.specs.Store as memory
-use Rattle.tsdb_opening.specs.Lists.{file_of}
-use Rattle.tsdb_opening.specs.Opening.{list_of}
-use Rattle.tsdb_opening.specs.declared.lists.ListedFile.{ListedFile}
 use Rattle.tsdb_outside.specs.Files.{NamedFile, Store, StoredFile}
 use Rattle.tsdb_plan.specs.declared.entry.FileEntry.{FileEntry}
 use Rattle.tsdb_replay.specs.Replays.{Replays}
@@ -46,28 +42,10 @@ begun files store is = subst (λ f. AreFirstOf f store) (sym is) (record {
   unread = λ n. tt;
 })
 
-pub first_wanted : (file : ListedFile) (first late : Option File) → option_map file_of (Some file) ≡ first
-    → option_map shown (Some (Sequence, file)) ≡ wanted_of first late
-first_wanted file first late is = subst (λ f. option_map shown (Some (Sequence, file)) ≡ wanted_of f late) is refl
-
-pub late_wanted : (found : Option ListedFile) (first late : Option File) → option_map file_of None ≡ first
-    → option_map file_of found ≡ late
-    → option_map (λ (file : ListedFile). (Unsequence, file_of file)) found ≡ wanted_of first late
-late_wanted found first late none is = subst (λ f. option_map (λ (file : ListedFile). (Unsequence, file_of file)) found ≡ wanted_of f late) none
-    (subst (λ l. option_map (λ (file : ListedFile). (Unsequence, file_of file)) found ≡ wanted_of None l) is (each found))
-  where
-    each : (o : Option ListedFile) → option_map (λ (file : ListedFile). (Unsequence, file_of file)) o ≡ wanted_of None (option_map file_of o)
-    each None = refl
-    each (Some file) = refl
-
 -- the number of the wanted file
 pub number_wanted : (next : Space × File) (wanted : Option (Space × File)) (number : ℕ) → Some next ≡ wanted
     → IsSomeAnd wanted (λ w. w.1.number ≡ number) → next.1.number ≡ number
 number_wanted next wanted number is has = subst (λ o. IsSomeAnd o (λ w. w.1.number ≡ number)) (sym is) has
-
-pub none_is_wanted : (wanted : Option (Space × File)) (number : ℕ) → None ≡ wanted
-    → IsSomeAnd wanted (λ w. w.1.number ≡ number) → ⊥
-none_is_wanted wanted number is has = subst (λ o. IsSomeAnd o (λ w. w.1.number ≡ number)) (sym is) has
 
 -- ---- the wanted file is listed
 
@@ -76,7 +54,7 @@ among_got [] n x is = absurd cc
 among_got (y ∷ xs) zero x is = inl cc
 among_got (y ∷ xs) (suc n) x is = inr (among_got xs n x is)
 
-wanted_listed : (files : KeptFiles) (store : StoreState) (space : Space) (file : File)
+pub wanted_listed : (files : KeptFiles) (store : StoreState) (space : Space) (file : File)
     → wanted_file files store ≡ Some (space, file) → Among file (store.sequence ++ store.unsequence)
 wanted_listed files store Sequence file wanted = among_left store.sequence store.unsequence file
     (among_got store.sequence (length files.sequence) file
@@ -149,3 +127,10 @@ module _ (name : NamedFile) (meta : FileMeta) (store : StoreState) (old new : Ke
       paths = have_paths read.whole.tree (told name.number) read.whole.is read.whole.made read.content_is
           (λ place value has. place_has_path told held store adopted.file place value sound is order listed
           (ap (λ n. get (told n) place) (sym number) ∙ has))
+
+-- the wanted file is not kept yet, whatever its list
+pub not_kept_yet : (files : KeptFiles) (items : List LogRecord) (recorded : Recorded) (next : Space × File)
+    → AreKept files → Replays store_steps store_steps.new_store items recorded → AreFirstOf files recorded.store
+    → Some next ≡ wanted_file files recorded.store → kept_file next.1.number files ≡ None
+not_kept_yet files items recorded next are replayed first wanted =
+    wanted_not_kept files items recorded next.0 next.1 are replayed first (sym wanted)

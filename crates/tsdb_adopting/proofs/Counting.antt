@@ -19,7 +19,6 @@ use Rattle.tsdb_state.proofs.Counting.{is_or_not}
 use Rattle.tsdb_state.proofs.Fresh.{count_here}
 use Rattle.tsdb_state.proofs.Numbering.{count_files}
 use Rattle.tsdb_state.specs.Jobs.{NumbersInOrder}
-use Rattle.tsdb_state.specs.Limits.{end_of_numbers}
 use Rattle.tsdb_state.specs.Records.{numbers_of}
 use Rattle.tsdb_state.specs.State.{File, StoreState}
 

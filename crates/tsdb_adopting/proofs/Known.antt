@@ -1,12 +1,12 @@
 -- What is known of a listed file is what is kept of it.
-use Rattle.std.proofs.Common.{◌≡◌, ℕ, ◌+◌, ◌≤◌, ◌==◌, Bool, true, false, cond, List, [], ◌∷◌, ◌++◌, length, map, Option, None, Some, inl, inr, refl, sym, ap, ◌∙◌, subst, arith, nat_eq}
-use Rattle.std.proofs.lemmas.Bool.{eq-eqb, eqb-true, false≢true}
+use Rattle.std.proofs.Common.{◌≡◌, ℕ, ◌+◌, ◌≤◌, ◌==◌, Bool, true, false, cond, List, [], ◌∷◌, ◌++◌, length, Option, None, Some, inl, inr, refl, sym, ap, ◌∙◌, subst, arith, nat_eq}
+use Rattle.std.proofs.lemmas.Bool.{eq-eqb, eqb-true}
 use Rattle.std.proofs.lemmas.List.{map-append}
 use Rattle.std.specs.Prelude.{IfSome, find}
 use Rattle.std.specs.List.{AllByRecursion as Each}
 use Rattle.tsdb_adopting.specs.Known.{known_by, known_of}
 use Rattle.tsdb_held.specs.Held.{entry_of}
-use Rattle.tsdb_kept.specs.Files.{AreKept, KeptFiles, entry_numbers, kept_file, numbers_of, outgoing_numbers}
+use Rattle.tsdb_kept.specs.Files.{AreKept, KeptFiles, entry_numbers, kept_file, outgoing_numbers}
 use Rattle.tsdb_kept.specs.Places.{KeptFile}
 use Rattle.tsdb_layers.proofs.Lists.{among_map, count_append, each_from_among}
 use Rattle.tsdb_layers.specs.Lists.{Among, count, if_some}

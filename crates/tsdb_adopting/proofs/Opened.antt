@@ -1,5 +1,5 @@
 -- The core of a replay, once all listed files are kept.
-use Rattle.std.proofs.Common.{◌≡◌, ◌≢◌, ℕ, ◌+◌, ◌<◌, ◌≤◌, ◌==◌, Bool, true, false, cond, List, [], ◌∷◌, ◌++◌, length, map, Option, None, Some, inl, inr, refl, sym, ap, ◌∙◌, subst, arith}
+use Rattle.std.proofs.Common.{◌≡◌, ℕ, ◌+◌, ◌<◌, ◌≤◌, ◌==◌, Bool, true, false, cond, List, [], ◌∷◌, ◌++◌, length, map, Option, None, Some, inl, inr, refl, sym, ap, ◌∙◌, subst, arith}
 use Rattle.std.specs.Prelude.{IfSome, max, slice_get}
 use Rattle.std.specs.List.{All, AllByRecursion as Each}
 use Rattle.tsdb_adopting.proofs.Counting.{are_all, entry_counted, kept_below}
@@ -14,7 +14,7 @@ use Rattle.tsdb_images.proofs.Storing.{opened_stored}
 use Rattle.tsdb_images.specs.Stored.{IsKept, IsStored}
 use Rattle.tsdb_kept.specs.Files.{AreKept, KeptFiles, kept_file}
 use Rattle.tsdb_kept.specs.Places.{KeptFile}
-use Rattle.tsdb_layers.proofs.Lists.{among_left, among_right, each_append, each_both, each_map}
+use Rattle.tsdb_layers.proofs.Lists.{among_left, among_right, each_append}
 use Rattle.tsdb_layers.specs.Lists.{Among, count, if_some}
 use Rattle.tsdb_log.specs.Spelling.{IsRecord}
 use Rattle.tsdb_log.specs.declared.record.LogRecord.{LogRecord}

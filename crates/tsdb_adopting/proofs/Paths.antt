@@ -1,6 +1,6 @@
 -- The series of a listed file have paths, since a store in order has them.
-use Rattle.std.proofs.Common.{◌≡◌, ℕ, ◌<◌, List, [], ◌∷◌, ◌++◌, length, map, Some, inl, inr, ⊎_elim, refl, sym, ap, ◌∙◌, subst, arith}
-use Rattle.std.specs.Prelude.{◌⊎◌, All}
+use Rattle.std.proofs.Common.{◌≡◌, ℕ, ◌<◌, List, [], ◌∷◌, ◌++◌, length, map, Some, inl, inr, ⊎_elim, refl, ap, ◌∙◌, subst, arith}
+use Rattle.std.specs.Prelude.{◌⊎◌}
 use Rattle.std.specs.FinMap.{get}
 use Rattle.std.specs.List.{AllByRecursion as Each}
 use Rattle.std.proofs.lemmas.List.Elements.{recursion_from_All}
@@ -24,8 +24,8 @@ use Rattle.tsdb_pages.specs.Trees.{IsMade, IsTree}
 use Rattle.tsdb_pages.specs.declared.tree.Tree.{Tree}
 use Rattle.tsdb_path.specs.Nodes.{IsPath}
 use Rattle.tsdb_replay.specs.Stores.{IsContentOf}
-use Rattle.tsdb_state.specs.State.{File, SeriesEntry, StoreState, Told}
-use Rattle.tsdb_state.specs.StoreOrder.{IsOfSeries, StoreInOrder, points_of}
+use Rattle.tsdb_state.specs.State.{File, StoreState, Told}
+use Rattle.tsdb_state.specs.StoreOrder.{IsOfSeries, StoreInOrder}
 use Rattle.tsdb_state.specs.Views.{file_layers}
 
 has_left : (xs ys : List Layer) (place : Place) (value : Value) → HasPoint xs place value → HasPoint (xs ++ ys) place value

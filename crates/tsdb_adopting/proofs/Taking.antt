@@ -1,25 +1,23 @@
 -- What is kept once a file more is taken up.
-use Rattle.std.proofs.Common.{◌≡◌, ◌≢◌, ℕ, ◌+◌, ◌≤◌, List, [], ◌∷◌, ◌++◌, length, map, Option, None, Some, inl, refl, sym, ap, ◌∙◌, subst, arith, nat_eq}
+use Rattle.std.proofs.Common.{◌≡◌, ◌≢◌, ℕ, ◌+◌, List, [], ◌∷◌, ◌++◌, length, map, None, Some, refl, sym, ap, ◌∙◌, subst, arith, nat_eq}
 use Rattle.std.proofs.lemmas.Bool.{eq-eqb}
 use Rattle.std.specs.Prelude.{IfSome}
 use Rattle.std.specs.List.{AllByRecursion as Each}
-use Rattle.std.specs.Option.{IsSomeAnd}
 use Rattle.tsdb_adopting.proofs.Counting.{differ, not_kept}
 use Rattle.tsdb_adopting.proofs.First.{first_more, wanted_is}
 use Rattle.tsdb_adopting.proofs.Numbers.{replay_numbers}
-use Rattle.tsdb_adopting.specs.Adopting.{AreDescribed, AreFirst, AreFirstOf, Describe, IsAdopted, IsKeptOf, TakesUp, next_in, wanted_file}
+use Rattle.tsdb_adopting.specs.Adopting.{AreDescribed, AreFirst, AreFirstOf, Describe, TakesUp, next_in, wanted_file}
 use Rattle.tsdb_adopting.specs.Steps.{KeepsFiles}
 use Rattle.tsdb_base.specs.declared.ids.Space.{Space}
 use Rattle.tsdb_base.specs.declared.ids.Space.TheVariants.{Sequence, Unsequence}
-use Rattle.tsdb_held.specs.Held.{TellTheirBytes, entry_of, listed}
-use Rattle.tsdb_images.specs.Stored.{kept_bytes}
+use Rattle.tsdb_held.specs.Held.{entry_of, listed}
 use Rattle.tsdb_kept.proofs.Counts.{counted}
 use Rattle.tsdb_kept.specs.Files.{AreKept, KeptFiles, entry_numbers, kept_file, numbers_of, outgoing_numbers}
-use Rattle.tsdb_kept.specs.Places.{AreOfStore, AreUnread, KeptFile}
+use Rattle.tsdb_kept.specs.Places.{AreOfStore, KeptFile}
 use Rattle.tsdb_layers.proofs.Lists.{among_left, among_map, among_right, any_among, each_among, each_append, each_from_among}
 use Rattle.tsdb_layers.specs.Lists.{Among, if_some}
 use Rattle.tsdb_log.specs.declared.record.LogRecord.{LogRecord}
-use Rattle.tsdb_outside.specs.Files.{Store, StoredFile}
+use Rattle.tsdb_outside.specs.Files.{Store}
 use Rattle.tsdb_plan.specs.declared.entry.FileEntry.{FileEntry}
 use Rattle.tsdb_replay.specs.Replays.{Replays}
 use Rattle.tsdb_replay.specs.Stores.{Recorded, store_steps}

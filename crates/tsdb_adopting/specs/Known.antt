@@ -1,5 +1,5 @@
 -- What is kept of each file, by its number.
-use Rattle.std.specs.Prelude.{ℕ, [], ◌++◌, find, nat_eq, Option, None, Some}
+use Rattle.std.specs.Prelude.{[], ◌++◌, find, nat_eq, Option, None, Some}
 use Rattle.tsdb_held.specs.Held.{entry_of}
 use Rattle.tsdb_kept.specs.Files.{KeptFiles, kept_file}
 use Rattle.tsdb_kept.specs.Places.{KeptFile}

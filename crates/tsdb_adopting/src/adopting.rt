@@ -1,12 +1,12 @@
 //! Taking up the files of a replayed log. Depends on tsdb_described, tsdb_opening and tsdb_kept.
-ghost use Rattle.std.specs.Prelude.{◌≡◌, None, IfErr, IfOk, OnErr, OnOk};
+ghost use Rattle.std.specs.Prelude.{◌≡◌, None, IfErr, IfOk, IfSome, OnErr, OnOk};
 ghost use Rattle.std.specs.Option.{option_map};
 ghost use Rattle.tsdb_adopting.specs.Adopting.{AreDescribed, IsAdopted, IsKeptOf, IsReadOf, TakesUp, next_in};
 ghost use Rattle.tsdb_adopting.specs.Adopting.{wanted_file};
 ghost use Rattle.tsdb_adopting.specs.Steps.{HasPlaceFor, KeepsFiles, shown};
 ghost use Rattle.tsdb_held.specs.Held.{TellTheirBytes};
 ghost use Rattle.tsdb_images.specs.Stored.{kept_bytes};
-ghost use Rattle.tsdb_kept.specs.Files.{AreKept, IsOpen, entries_in, kept_file, none_kept};
+ghost use Rattle.tsdb_kept.specs.Files.{AreKept, IsOpen, kept_file, none_kept};
 ghost use Rattle.tsdb_kept.specs.Places.{AreOfStore};
 ghost use Rattle.tsdb_kept.specs.Room.{HasRoom};
 ghost use Rattle.tsdb_log.specs.declared.record.LogRecord.{LogRecord};
@@ -29,7 +29,7 @@ use tsdb_index::FileMeta;
 use tsdb_jobs::Built;
 use tsdb_kept::KeptFiles;
 use tsdb_opening::{ListedFile, Opening};
-use tsdb_outside::{Files, SealedFile};
+use tsdb_outside::Files;
 
 /// The replay of a log, and the files that are kept so far: the first of each list.
 pub struct Adopting<F: Files> {
@@ -62,10 +62,13 @@ impl<F: Files> Adopting<F> {
 
     /// The number of the file that is taken up next: the first listed file that is not kept yet, sequence files first.
     pub fn wanted(&self) -> Option<FileNumber>
-        ensures { (recorded : Recorded) → IsOpeningOf (opening_of self.now) recorded
+        ensures first { (recorded : Recorded) → IsOpeningOf (opening_of self.now) recorded
             → option_map (λ number. number.0) result
             ≡ option_map (λ wanted. wanted.1.number) (wanted_file (files_of self.now) recorded.store) }
+        ensures free { (recorded : Recorded) → IsAdoptingOf self.now recorded
+            → IfSome result (λ number. kept_file number.0 (files_of self.now) ≡ None) }
     {
+        self.tell_kept();
         match self.next() {
             Some((_space, file)) => Some(file.number),
             None => None,

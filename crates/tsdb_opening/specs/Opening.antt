@@ -1,5 +1,5 @@
 -- Which state of replay an opening shows, and what a record does to it.
-use Rattle.std.specs.Prelude.{ℕ, ◌+◌, ◌↔◌, List, [], ◌∷◌, max, Option, None, Some}
+use Rattle.std.specs.Prelude.{ℕ, ◌+◌, ◌↔◌, List, [], ◌∷◌, length, max, Option, None, Some}
 use Rattle.tsdb_base.specs.declared.ids.FileNumber.{FileNumber}
 use Rattle.tsdb_base.specs.declared.ids.Space.{Space}
 use Rattle.tsdb_base.specs.declared.ids.Space.TheVariants.{Sequence, Unsequence}
@@ -36,3 +36,7 @@ next_number stored named = greatest (with_stored stored named) + 1
 abbrev pub list_of : Space → StoreState → List File
 list_of Sequence state = state.sequence
 list_of Unsequence state = state.unsequence
+
+-- how many files an opening lists
+abbrev pub listed_in : Opening → ℕ
+listed_in opening = length opening.files.sequence.items + length opening.files.unsequence.items
