@@ -1,10 +1,11 @@
 //! The merge of the sources of a supply, which are read as far as they are needed. It depends on `tree`.
-ghost use Rattle.std.specs.Prelude.{◌≡◌, ◌+◌, ◌*◌, ◌≤◌, List, All, map, length, IfOk, OnOk, IfErr, Some, None, Err};
+ghost use Rattle.std.specs.Prelude.{◌≡◌, ◌+◌, ◌*◌, ◌^◌, ◌<◌, ◌≤◌, List, All, map, length};
+ghost use Rattle.std.specs.Prelude.{IfOk, OnOk, IfErr, Some, None, Err};
 ghost use Rattle.std.specs.Option.{option_to_list};
 ghost use Rattle.tsdb_base.specs.declared.point.Point.{Point};
 ghost use Rattle.tsdb_merge.specs.Causes.{HasSomeCause, NoneFell, SomeHasRisen};
 ghost use Rattle.tsdb_merge.specs.Merging.{lazy_held, lazy_left};
-ghost use Rattle.tsdb_merge.specs.Steps.{IsPulled, IsTree, count_of, first_of, node_held};
+ghost use Rattle.tsdb_merge.specs.Steps.{IsPulled, IsRoot, IsTree, count_of, first_of, node_held};
 ghost use Rattle.tsdb_merge.specs.Winners.{IsRising, IsToldMergeOf, TakesTold};
 ghost use Rattle.tsdb_merge.specs.declared.points.PullFault.{PullFault};
 
@@ -127,6 +128,15 @@ impl LazyMerge {
                 Err(fault)
             }
         }
+    }
+
+    /// The tree of the merge, for a caller that walks it by itself.
+    pub fn into_root(self) -> Option<Node>
+        ensures root { result ≡ self.root }
+        ensures tree { IsRoot self.sources result }
+        ensures few { self.sources < 2 ^ 32 }
+    {
+        self.root
     }
 
     /// How many points are buffered: at most 1,000 of each source.

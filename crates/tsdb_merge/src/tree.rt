@@ -30,7 +30,7 @@ pub enum Node {
 }
 
 /// Takes the last point of a buffer.
-fn pop(buffer: &mut Vec<Point>) -> Head
+pub fn pop(buffer: &mut Vec<Point>) -> Head
     ensures { IsPopped buffer.old.items buffer.new.items result }
 {
     match buffer.pop() {

@@ -1,0 +1,145 @@
+//! What streams give: worked values, the ends of a range, pages that are not read, and calls of a port that fail.
+
+use crate::stored::{Pair, Sources, Stored, read_stored};
+use std::alloc::Global;
+use std::test::Fail;
+use tsdb_base::Time;
+use tsdb_outside::StoreFault;
+
+/// Two files with pages at 1, 2 and 5, 6 and at 2, 3 and 6, 8, and points in memory at 3 and 9.
+const SOURCES: Sources = Sources {
+    files: [
+        Stored {
+            born: 10,
+            pages: [&[(1, 11), (2, 12)], &[(5, 15), (6, 16)]],
+        },
+        Stored {
+            born: 20,
+            pages: [&[(2, 22), (3, 23)], &[(6, 26), (8, 28)]],
+        },
+    ],
+    part: &[(3, 33), (9, 39)],
+    part_born: 30,
+    // The first is older than the newer file, the second than the part in memory.
+    deletions: &[(5, 6, 15), (8, 9, 25)],
+};
+
+/// A range, how many bytes are read, the most points that are held behind a pull, and the points in the range.
+struct Case {
+    from: Time,
+    to: Time,
+    bytes: u64,
+    held: u64,
+    wanted: &'static [Pair],
+}
+
+/// The bytes that are read of the indexes of both files.
+const INDEXES: u64 = 522;
+
+/// The bytes that are read of the first page of a file, whose end the index says.
+const FIRST: u64 = 30;
+
+/// The bytes that are read of the last page of a file: 24 for each point, and 64.
+const LAST: u64 = 112;
+
+const WHOLE: &[Pair] = &[(1, 11), (2, 22), (3, 33), (6, 26), (9, 39)];
+
+const CASES: [Case; 7] = [
+    // At 2 the newer file wins, and at 3 the part in memory. 5 is deleted. At 6 the older point is deleted and the newer
+    // one is not. At 8 a later deletion meets the newer file, and at 9 it is older than the part in memory.
+    Case {
+        from: 0,
+        to: 10,
+        bytes: INDEXES + 2 * FIRST + 2 * LAST,
+        held: 5,
+        wanted: WHOLE,
+    },
+    Case {
+        from: Time::MIN,
+        to: Time::MAX,
+        bytes: INDEXES + 2 * FIRST + 2 * LAST,
+        held: 5,
+        wanted: WHOLE,
+    },
+    Case {
+        from: 2,
+        to: 3,
+        bytes: INDEXES + 2 * FIRST,
+        held: 2,
+        wanted: &[(2, 22), (3, 33)],
+    },
+    Case {
+        from: 1,
+        to: 1,
+        bytes: INDEXES + FIRST,
+        held: 0,
+        wanted: &[(1, 11)],
+    },
+    Case {
+        from: 6,
+        to: 6,
+        bytes: INDEXES + 2 * LAST,
+        held: 0,
+        wanted: &[(6, 26)],
+    },
+    Case {
+        from: 9,
+        to: 9,
+        bytes: INDEXES,
+        held: 0,
+        wanted: &[(9, 39)],
+    },
+    Case {
+        from: 4,
+        to: 5,
+        bytes: INDEXES + LAST,
+        held: 0,
+        wanted: &[],
+    },
+];
+
+/// The place of the first case in which something else is read.
+fn first_wrong(alloc: Global, cases: &[Case]) -> Result<Option<usize>, Fail> {
+    for (place, case) in cases.iter().enumerate() {
+        let (read, bytes) = read_stored(alloc, &SOURCES, (case.from, case.to), u64::MAX)?;
+        let same = read.found.as_slice() == case.wanted && read.fault.is_none();
+        if !same || bytes != case.bytes || read.held != case.held {
+            return Ok(Some(place));
+        }
+    }
+    Ok(None)
+}
+
+/// Which calls of the port fail, from the first to the second, and how many points are found before. Of the calls up to
+/// the twelfth two store the files and five open each of them. A page takes two calls.
+const FAILURES: [(u64, u64, usize); 3] = [(3, 16, 0), (17, 18, 2), (19, 20, 3)];
+
+/// The first number of a call that fails where something else is found, or another fault comes.
+fn first_wrong_failure(alloc: Global, rows: &[(u64, u64, usize)]) -> Result<Option<u64>, Fail> {
+    for row in rows {
+        for failing in row.0..=row.1 {
+            let (read, _bytes) = read_stored(alloc, &SOURCES, (0, 10), failing)?;
+            let same = read.found.len() == row.2 && WHOLE.starts_with(&read.found);
+            if !same || read.fault != Some(StoreFault::Failed) {
+                return Ok(Some(failing));
+            }
+        }
+    }
+    Ok(None)
+}
+
+#[test]
+fn a_stream_gives_the_winners_that_survive(rt: HostRuntime) -> Result<(), Fail> {
+    assert_eq!(rt; first_wrong(rt.alloc(), &CASES)?, None);
+    Ok(())
+}
+
+#[test]
+fn each_call_of_the_port_that_fails_ends_the_stream(rt: HostRuntime) -> Result<(), Fail> {
+    let alloc = rt.alloc();
+    assert_eq!(rt; first_wrong_failure(alloc, &FAILURES)?, None);
+    // A whole read makes 20 calls.
+    let (read, _bytes) = read_stored(alloc, &SOURCES, (0, 10), 21)?;
+    assert!(rt; read.fault.is_none());
+    Ok(())
+}

@@ -1,0 +1,13 @@
+pub mod MarkTests
+pub mod Reasons
+pub mod KeptLemmas
+pub mod PageFacts
+pub mod PartFacts
+pub mod FillLemmas
+pub mod PageLoop
+pub mod LaneFacts
+pub mod Leaving
+pub mod WalkFacts
+pub mod OpenFacts
+pub mod OpenLoop
+pub mod OpenedFacts

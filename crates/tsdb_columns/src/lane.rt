@@ -1,0 +1,27 @@
+//! A source from which points are taken, and what is still to be read of it. Depends on tsdb_base and tsdb_index.
+
+use tsdb_base::{Point, Stamp};
+use tsdb_index::IndexEntry;
+
+/// The pages of a file from the next one on.
+#[derive(Drop)]
+pub(crate) struct PageLane<'a, R> {
+    pub right: &'a R,
+    pub born: Stamp,
+    pub entry: IndexEntry,
+    pub next: usize,
+}
+
+/// The points of a part in memory that were not looked at yet.
+#[derive(Drop)]
+pub(crate) struct PartLane<'a> {
+    pub born: Stamp,
+    pub rest: &'a [Point],
+}
+
+/// What is still to be read of a source. A file without the series is a part without points.
+#[derive(Drop)]
+pub(crate) enum Lane<'a, R> {
+    Pages(PageLane<'a, R>),
+    Part(PartLane<'a>),
+}
