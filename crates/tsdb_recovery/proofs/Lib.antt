@@ -1,0 +1,11 @@
+pub mod AtRest
+pub mod Causes
+pub mod Gone
+pub mod Greatest
+pub mod Next
+pub mod Once
+pub mod Opened
+pub mod Recovered
+pub mod Rest
+pub mod Steps
+pub mod Trees
