@@ -1,0 +1,5 @@
+pub mod Finished
+pub mod Given
+pub mod InState
+pub mod Standing
+pub mod Taken

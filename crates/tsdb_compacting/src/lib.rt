@@ -1,0 +1,20 @@
+//! The inputs of a compaction among the files that a core keeps, and the end of its job. Depends on tsdb_base,
+//! tsdb_outside, tsdb_plan, tsdb_jobs, tsdb_compactions, tsdb_kept and, for their definitions, tsdb_pinning and
+//! tsdb_committing.
+//!
+//! - A job has a right to read each of its inputs. Rights are tokens: the end of the job gives them back.
+//! - The late inputs of a job that is out are claimed, and stand side by side in their list.
+//! - No end of a job takes memory.
+#![tactic(auto)]
+
+mod ending;
+mod finishing;
+mod inputs;
+mod laws;
+mod runs;
+
+pub use ending::give_up;
+pub use finishing::{InputRuns, finish, runs_of};
+pub use inputs::{give_back_inputs, take_inputs};
+pub use laws::a_job_given_up_ends_in_the_state;
+pub use runs::run_of;
