@@ -148,8 +148,11 @@ taken_same stored store old new keeps taken = record {
 pub same_files : (stored : List StoredFile) (store : StoreState) (files : KeptFiles) (old new : Option
     (List StoredFile))
     → WhereTold AreAtRestAgain old new → IsTakingUp stored store files old → IsTakingUp stored store files new
-same_files stored store files old new again up = record { taken = up.taken; others = again_in stored files old new
-    again up.others }
+same_files stored store files old new again up = record {
+  taken = up.taken;
+  others = again_in stored files old new
+      again up.others;
+}
 
 pub no_more : (stored : List StoredFile) (store : StoreState) (old new : KeptFiles) (rest now : Option
     (List StoredFile))

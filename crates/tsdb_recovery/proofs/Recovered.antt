@@ -18,7 +18,7 @@ use Rattle.tsdb_held.specs.Held.{TellTheirBytes}
 use Rattle.tsdb_images.specs.Stored.{IsKept, kept_bytes}
 use Rattle.tsdb_log.specs.Spelling.{IsRecord, spelling}
 use Rattle.tsdb_log.specs.declared.record.LogRecord.{LogRecord}
-use Rattle.tsdb_map.specs.World.{World}
+use Rattle.tsdb_map.specs.State as plain
 use Rattle.tsdb_opening.specs.Opening.{IsOpeningOf, next_number}
 use Rattle.tsdb_opening.specs.declared.opening.Opening.{Opening}
 use Rattle.tsdb_outside.specs.Disk.{Image, State}
@@ -41,11 +41,10 @@ use Rattle.tsdb_recovery.specs.Taking.{AreStored, HasTakenUp}
 use Rattle.tsdb_replay.proofs.Parted as parted
 use Rattle.tsdb_replay.specs.Damage as log_damage
 use Rattle.tsdb_replay.specs.Replays.{IsReplayOf, Replays}
-use Rattle.tsdb_replay.specs.Stores.{IsSound, IsStoreOf, Recorded, store_steps, store_steps_determinate}
+use Rattle.tsdb_replay.specs.Stores.{IsSound, IsStateOf, IsStoreOf, Recorded, store_steps, store_steps_determinate}
 use Rattle.tsdb_state.specs.NewStore.{opened}
 use Rattle.tsdb_state.specs.State.{Told}
 use Rattle.tsdb_state.specs.StoreOrder.{StoreInOrder}
-use Rattle.tsdb_state.specs.Worlds.{StandsFor}
 
 module _ {F S R P : Type 0} (old : Adopting F S R P) (opening : Opening)
     (begins : (items : List LogRecord) (recorded : Recorded) → IsOpeningOf opening recorded
@@ -129,14 +128,14 @@ module _ (opening : Opening) (items : List LogRecord) (recorded : Recorded) (goo
     pub is_recovered : (state : State) (rest : Option (List StoredFile)) (seen : Option Image) → state.seen ≡ seen
         → IfSome seen (λ image. HasRecords (map spelling items) image.a)
         → (IsSettled A state → IfSome seen (λ image. IsLog log (map spelling items) None)) → Opens rest
-        → IfSome seen (λ image. IfSome rest (λ stored. (world : World) → AreStored stored
-        → IsSound A state (kept_bytes stored) world → IsRecovered core image.a stored world))
+        → IfSome seen (λ image. IfSome rest (λ stored. (at : plain.State) → AreStored stored
+        → IsSound A state (kept_bytes stored) at → IsRecovered core image.a stored at))
     is_recovered state rest None is records settled opens = tt
     is_recovered state None (Some image) is records settled opens = tt
-    is_recovered state (Some stored) (Some image) is records settled opens = λ world are sound.
+    is_recovered state (Some stored) (Some image) is records settled opens = λ at are sound.
         let stands = sound.stands image is in
         let same = same_replay image stands.recorded records stands.replayed in
-        let store = subst (λ (r : Recorded). IsStoreOf (kept_bytes stored) r.store world) same stands.store in
+        let store = subst (λ (r : Recorded). IsStoreOf (kept_bytes stored) r.store at) same stands.store in
         let has = opens items recorded replay are in
         let shows = has.seen store.told (settled sound.settled) good store.order store.whole in
         record {
@@ -145,7 +144,7 @@ module _ (opening : Opening) (items : List LogRecord) (recorded : Recorded) (goo
           outside = shows.outside;
           kept = shows.kept;
           seen = shows.seen;
-          stands = subst (λ told. StandsFor told recorded.store world) (sym shows.told_is) store.stands;
+          stands = subst (λ told. IsStateOf told recorded.store at) (sym shows.told_is) store.stands;
         }
 
     pub is_next : (rest : Option (List StoredFile)) (seen : Option Image)

@@ -9,7 +9,7 @@ use Rattle.tsdb_images.specs.Stored.{IsKept, kept_bytes}
 use Rattle.tsdb_log.specs.Spelling.{IsRecord, spelling}
 use Rattle.tsdb_log.specs.declared.record.LogRecord.{LogRecord}
 use Rattle.tsdb_logged.specs.Logged.{Outside}
-use Rattle.tsdb_map.specs.World.{World}
+use Rattle.tsdb_map.specs.State as plain
 use Rattle.tsdb_opening.specs.Opening.{IsOpeningOf, greatest}
 use Rattle.tsdb_opening.specs.declared.opening.Opening.{Opening}
 use Rattle.tsdb_outside.specs.Files.{StoredFile, numbers_of}
@@ -17,23 +17,22 @@ use Rattle.tsdb_outside.specs.declared.disk.Disk as disk
 use Rattle.tsdb_outside.specs.declared.faults.Counted as counted
 use Rattle.tsdb_recovery.specs.Damage.{IsTreeFile}
 use Rattle.tsdb_replay.specs.Replays.{IsReplayOf, Replays}
-use Rattle.tsdb_replay.specs.Stores.{Recorded, store_steps}
+use Rattle.tsdb_replay.specs.Stores.{IsStateOf, Recorded, store_steps}
 use Rattle.tsdb_state.specs.NewStore.{opened}
 use Rattle.tsdb_state.specs.State.{StoreState, Told}
 use Rattle.tsdb_state.specs.StoreOrder.{StoreInOrder}
-use Rattle.tsdb_state.specs.Worlds.{StandsFor}
 
 module _ {J F S R P : Type 0} {means : disk.Ghosts J} {counts : counted.Ghosts J} where
-  -- the core shows the replay of the log, in order, with these stored files, and it stands for the world
+  -- the core shows the replay of the log, in order, with these stored files, and it is in the state of the plain model
   pub record IsRecovered (core : Core J F S R P means counts) (bytes : List ℕ) (stored : List StoredFile)
-      (world : World)
+      (at : plain.State)
       : Type 0 where
     pub recorded : Recorded
     pub replayed : IsReplayOf store_steps bytes recorded
     pub outside : Outside
     pub kept : outside.kept ≡ stored
     pub seen : IsSeen core outside (opened (next_of core) recorded.store)
-    pub stands : StandsFor outside.told recorded.store world
+    pub stands : IsStateOf outside.told recorded.store at
 
 -- one more than the greatest number that a record has named or that a stored file has
 abbrev pub IsNextNumber : ℕ → List StoredFile → List ℕ → Type 0

@@ -11,7 +11,7 @@ ghost use Rattle.tsdb_kept.specs.Files.{none_kept};
 ghost use Rattle.tsdb_kept.specs.Places.{AreOfStore, AreUnread};
 ghost use Rattle.tsdb_log.specs.declared.record.LogRecord.{LogRecord};
 ghost use Rattle.tsdb_logged.specs.Logged.{log_of};
-ghost use Rattle.tsdb_map.specs.World.{World};
+ghost use Rattle.tsdb_map.specs.State as plain;
 ghost use Rattle.tsdb_outside.specs.Causes.{Rose};
 ghost use Rattle.tsdb_outside.specs.Disk.{Keeps};
 ghost use Rattle.tsdb_outside.specs.Files.{StoredFile, plain_numbers};
@@ -46,8 +46,8 @@ pub fn recover<J: Journal, F: Files>(
 ) -> Result<Core<J, F>, OpenRefused<J>>
     requires limit { IsPairLimit options.pair_points }
     ensures seen { IfOk result (λ core. IfSome (J.state journal).seen (λ image. IfSome (F.at_rest files.old) (λ stored.
-        (world : World) → AreStored stored → IsSound slots.A (J.state journal) (kept_bytes stored) world
-        → IsRecovered core image.a stored world))) }
+        (at : plain.State) → AreStored stored → IsSound slots.A (J.state journal) (kept_bytes stored) at
+        → IsRecovered core image.a stored at))) }
     ensures next { IfOk result (λ core. IfSome (J.state journal).seen (λ image. (recorded : Recorded)
         → IsReplayOf store_steps image.a recorded → IfSome (F.at_rest files.old) (λ stored. AreStored stored
         → IsNextNumber (next_of core) stored recorded.named))) }
