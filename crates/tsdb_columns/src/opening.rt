@@ -157,9 +157,8 @@ pub fn open_column<'a, P: Port, K: Told>(
     let (device, measurement) = names_of(alloc, series)?;
     let lanes = open_sources::<P, K>(alloc, &device, &measurement, sources, port)?;
     let merge = LazyMerge::new(alloc, lanes.len())?;
-    let root = merge.into_root();
     Ok(Stream {
-        root,
+        root: merge.into_root(),
         lanes,
         kept: Kept {
             series,
