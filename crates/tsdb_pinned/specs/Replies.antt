@@ -16,7 +16,8 @@ use Rattle.tsdb_pinning.specs.declared.pin.PinFault.TheVariants.{NoPath, WrongTy
 -- the map answers the select of these items as this fault says
 abbrev pub IsMapFault : World → List ℕ → List Item → Range → PinFault → Type 0
 IsMapFault world device items range NoPath = reply_of world (Select device items range) ≡ Plain answer.NoPath
-IsMapFault world device items range WrongType = reply_of world (Select device items range) ≡ Plain answer.WrongType
+IsMapFault world device items range WrongType =
+    reply_of world (Select device items range) ≡ Plain answer.WrongType
 IsMapFault world device items range Memory = Unit {0}
 
 -- The map answers the select of these items with the rows of the pin, or with its values where aggregates are asked for.

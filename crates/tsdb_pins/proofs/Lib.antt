@@ -1,0 +1,5 @@
+pub mod Lent
+pub mod Draining
+pub mod Selected
+pub mod Told
+pub mod Held

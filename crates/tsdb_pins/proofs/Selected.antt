@@ -1,0 +1,68 @@
+-- The points of the columns are those of the series in the world.
+use Rattle.std.proofs.Common.{◌≡◌, ℕ, List, [], ◌∷◌, map, Option, refl, ap, ◌∙◌}
+use Rattle.std.specs.List.{AllByRecursion as Each, AllZip}
+use Rattle.std.specs.declared.alloc.Global.{Global}
+use Rattle.std.specs.declared.vec.Vec.{Vec}
+use Rattle.tsdb_base.specs.declared.point.Point.{Point}
+use Rattle.tsdb_base.specs.declared.point.Range.{Range}
+use Rattle.tsdb_lines.specs.Rows.{vec_lists}
+use Rattle.tsdb_map.specs.Folds.{in_order}
+use Rattle.tsdb_map.specs.World.{World}
+use Rattle.tsdb_marks.specs.declared.marks.Mark.{Mark}
+use Rattle.tsdb_merge.specs.Winners.{IsRising}
+use Rattle.tsdb_outside.specs.Files.{NamedFile}
+use Rattle.tsdb_pinned.proofs.Points.{pin_has}
+use Rattle.tsdb_pinned.specs.Worlds.{HasPointsOf, IsSourceOf, columns_in, series_points}
+use Rattle.tsdb_pinning.specs.Shown.{IsColumnOf, IsPinOf, IsShownAs}
+use Rattle.tsdb_pinning.specs.declared.pin.Column.{Column}
+use Rattle.tsdb_pinning.specs.declared.pin.Pin.{Pin}
+use Rattle.tsdb_pinning.specs.declared.pin.PinnedSource.{PinnedSource}
+use Rattle.tsdb_pinning.specs.declared.pin.PinnedSource.TheVariants.{File, Part}
+use Rattle.tsdb_pins.specs.Reading.{HasTold, IsColumnRead, TellPoints, TellsPoints}
+use Rattle.tsdb_sources.specs.Pieces.{joined}
+use Rattle.tsdb_state.specs.State as state
+use Rattle.tsdb_state.specs.State.{FromFile, FromPart, Told}
+use Rattle.tsdb_state.specs.Steps.{PinStandsFor}
+
+module _ {F S R P : Type 0} (name : R → NamedFile) (pages : List ℕ → ℕ → Option (List (List Point))) (told : Told) where
+  -- the points of all sources of a series
+  record AllPoints (path : List ℕ) (sources : List (PinnedSource F S R P)) : Type 0 where
+    pub lists : List (List Point)
+    pub told_are : AllZip (HasTold name pages path) sources lists
+    pub rising : Each IsRising lists
+    pub are : AllZip (IsSourceOf told path) sources lists
+
+  record OnePoints (path : List ℕ) (source : PinnedSource F S R P) : Type 0 where
+    pub points : List Point
+    pub told_is : HasTold name pages path source points
+    pub rising : IsRising points
+    pub is : IsSourceOf told path source points
+
+  one_points : (path : List ℕ) (source : PinnedSource F S R P) (shown : state.Source) → IsShownAs path source shown → TellsPoints name pages told path source → OnePoints path source
+  one_points path (File number born right) shown is tells = record { points = joined tells.0; told_is = (tells.0, tells.1, refl); rising = tells.2.rising; is = tells.2 }
+  one_points path (Part born copies) (FromFile file) is tells = absurd is
+  one_points path (Part born copies) (FromPart layer) is tells = record { points = copies; told_is = refl; rising = is.1.rising; is = refl }
+
+  all_points : (path : List ℕ) (sources : List (PinnedSource F S R P)) (shown : List state.Source) → AllZip (IsShownAs path) sources shown → Each (TellsPoints name pages told path) sources → AllPoints path sources
+  all_points path [] shown zip tells = record { lists = []; told_are = tt; rising = tt; are = tt }
+  all_points path (source ∷ sources) [] zip tells = absurd zip
+  all_points path (source ∷ sources) (s ∷ shown) zip tells =
+      let one = one_points path source s zip.0 tells.0 in
+      let rest = all_points path sources shown zip.1 tells.1 in
+      record { lists = one.points ∷ rest.lists; told_are = (one.told_is, rest.told_are); rising = (one.rising, rest.rising); are = (one.is, rest.are) }
+
+  columns_are : (all : World) (range : Range) (marks : List Mark) (columns : List (Column F S R P)) (shown : List state.Column) (read : List (Vec Point Global))
+      → AllZip IsColumnOf columns shown → TellPoints name pages told columns → Each (HasPointsOf told all range marks) columns → AllZip (IsColumnRead name pages range marks) columns read
+      → vec_lists read ≡ map in_order (columns_in all range columns)
+  columns_are all range marks [] shown [] zip tells has are = refl
+  columns_are all range marks [] shown (points ∷ read) zip tells has are = absurd are
+  columns_are all range marks (column ∷ columns) [] read zip tells has are = absurd zip
+  columns_are all range marks (column ∷ columns) (s ∷ shown) [] zip tells has are = absurd are
+  columns_are all range marks (column ∷ columns) (s ∷ shown) (points ∷ read) zip tells has are =
+      let sources = all_points column.schema.path column.sources s.sources zip.0.sources tells.0 in
+      let first : points.items ≡ in_order (series_points all range column.schema.path) = has.0 sources.lists points.items sources.are (are.0 sources.lists sources.told_are sources.rising) in
+      ap (λ l. l ∷ vec_lists read) first ∙ ap (λ l. in_order (series_points all range column.schema.path) ∷ l) (columns_are all range marks columns shown read zip.1 tells.1 has.1 are.1)
+
+  pub columns_read : (pin : Pin F S R P) (read : List (Vec Point Global)) → AllZip (IsColumnRead name pages pin.range pin.marks.marks) pin.columns read → (shown : state.Pin) (all : World)
+      → TellPoints name pages told pin.columns → IsPinOf pin shown → PinStandsFor told shown all → vec_lists read ≡ map in_order (columns_in all pin.range pin.columns)
+  columns_read pin read are shown all tells is stands = columns_are all pin.range pin.marks.marks pin.columns shown.columns read is.columns tells (pin_has told all pin shown is stands) are
