@@ -1,10 +1,9 @@
 //! Files of one series in a store in memory, and what streams over them give.
-ghost use Rattle.std.specs.Prelude.{◌≡◌, None};
-ghost use Rattle.tsdb_columns.specs.Streams.{IsStreamOf};
+ghost use Rattle.std.specs.Prelude.{◌≡◌};
+ghost use Rattle.tsdb_columns.specs.Streams.{IsStreamOfStore};
 
 use mem_outside::{Fails, MemPlace, MemPort};
 use std::alloc::Global;
-use std::marker::Brand;
 use std::test::Fail;
 use tsdb_base::{DataType, Encoding, FileNumber, List, Point, Range, Stamp, Time, Value};
 use tsdb_columns::{Source, Stream, open_column, pull};
@@ -165,12 +164,12 @@ fn pair_of(point: &Point) -> Pair {
 
 /// Takes the points of a stream, at most 100.
 fn pull_all<P: Port>(alloc: Global, stream: &mut Stream<'_, P::Right>, port: &mut P) -> Read
-    requires of { IsStreamOf P.Right.file (λ _. None) (P.store port.old) stream.old }
+    requires of_store { IsStreamOfStore P.Right.file (P.store port.old) stream.old }
     ensures same_store { P.store port.new ≡ P.store port.old }
 {
     let mut read = nothing_read(alloc, None);
     for _ in 0..100 {
-        match pull::<P, Brand>(stream, port) {
+        match pull(stream, port) {
             Ok(Some(point)) => {
                 read.held = read.held.max(stream.held());
                 if read.found.push(pair_of(&point)).is_err() {
@@ -216,7 +215,7 @@ fn read_both<P: Port>(
         born: Stamp(asked.born[2]),
     };
     let list = vec![in alloc; older, newer, part]?;
-    match open_column::<P, Brand>(alloc, &asked.series, &asked.range, &asked.marks, list, port) {
+    match open_column(alloc, &asked.series, &asked.range, &asked.marks, list, port) {
         Ok(mut stream) => Ok(pull_all(alloc, &mut stream, port)),
         Err(fault) => Ok(nothing_read(alloc, Some(fault))),
     }

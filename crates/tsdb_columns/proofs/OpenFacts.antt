@@ -6,7 +6,7 @@ use Rattle.std.proofs.lemmas.List.Elements.{All-contains}
 use Rattle.tsdb_base.specs.declared.point.Point.{Point}
 use Rattle.tsdb_base.specs.declared.value.Encoding.{Encoding}
 use Rattle.tsdb_columns.proofs.PageFacts.{at_some, some_same}
-use Rattle.tsdb_columns.specs.Files.{HasEntryPages, HasPages, IsChunkOf, IsTold, IsTruth}
+use Rattle.tsdb_columns.specs.Files.{FilePages, HasEntryPages, HasPages, IsChunkOf, IsTold, IsTruth}
 use Rattle.tsdb_columns.specs.Lanes.{ArePagesOf, IsLaneOf, IsTrueLane}
 use Rattle.tsdb_columns.specs.declared.lane.Lane.TheVariants.{Pages, Part}
 use Rattle.tsdb_columns.specs.declared.lane.PageLane.{PageLane}
@@ -77,7 +77,7 @@ entry_pages names name entry list h of named = (
     place : HasPlaces h.tree h.bytes entry
     place = All-contains (HasPlaces h.tree h.bytes) of.entries entry (entries_stand h.tree h.bytes of.entries h.file of.say) of.there
 
-module _ (pages : ℕ → Option (List (List Point))) (names : List ℕ × List ℕ) (name : NamedFile) (truth : IsTruth names pages name) where
+module _ (pages : FilePages) (names : List ℕ × List ℕ) (name : NamedFile) (truth : IsTruth names pages name) where
   -- what a caller tells of the file
   told_truth : (list : List (List Point)) → pages name.number ≡ Some list → HasPages names name list
   told_truth list e = at_some (pages name.number) list (HasPages names name) e truth
@@ -110,7 +110,7 @@ module _ (pages : ℕ → Option (List (List Point))) (names : List ℕ × List 
       (found_in {T = T} (Err fault) P list.0 list.1 finds).0
 
 -- the lane of the pages of an entry
-pub pages_true : {R : Type 0} (file : R → NamedFile) (pages : ℕ → Option (List (List Point))) (lane : PageLane R) → ArePagesOf file pages lane → IsTrueLane file pages (Pages lane)
+pub pages_true : {R : Type 0} (file : R → NamedFile) (pages : FilePages) (lane : PageLane R) → ArePagesOf file pages lane → IsTrueLane file pages (Pages lane)
 pages_true file pages lane are page e = let same : lane ≡ page = cc in subst (λ l. ArePagesOf file pages l) same are
 
 pub pages_of_store : {R : Type 0} (file : R → NamedFile) (store : Store) (lane : PageLane R) → (file lane.right.now).store ≡ store → IsLaneOf file store (Pages lane)
@@ -120,7 +120,7 @@ pages_of_store file store lane of page e = let same : lane ≡ page = cc in subs
 pub part_of_store : {R : Type 0} (file : R → NamedFile) (store : Store) (part : PartLane) → IsLaneOf file store (Part part)
 part_of_store file store part page e = absurd cc
 
-pub part_true : {R : Type 0} (file : R → NamedFile) (pages : ℕ → Option (List (List Point))) (part : PartLane) → IsTrueLane file pages (Part part)
+pub part_true : {R : Type 0} (file : R → NamedFile) (pages : FilePages) (part : PartLane) → IsTrueLane file pages (Part part)
 part_true file pages part page e = absurd cc
 
 -- a source without pages

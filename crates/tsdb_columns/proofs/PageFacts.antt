@@ -3,7 +3,7 @@ use Rattle.std.proofs.Common.{◌≡◌, ◌⊎◌, inl, inr, ℕ, ◌<◌, ◌�
 use Rattle.std.specs.Prelude.{Option, None, Some, IfSome, is_some, slice_get}
 use Rattle.std.proofs.lemmas.Option.{slice_get_cases}
 use Rattle.tsdb_base.specs.declared.point.Point.{Point}
-use Rattle.tsdb_columns.specs.Files.{HasEntryPages, IsTold}
+use Rattle.tsdb_columns.specs.Files.{FilePages, HasEntryPages, IsTold}
 use Rattle.tsdb_index.specs.declared.index.IndexEntry.{IndexEntry}
 use Rattle.tsdb_index.specs.declared.index.PageEntry.{PageEntry}
 use Rattle.tsdb_outside.specs.Files.{NamedFile}
@@ -48,7 +48,7 @@ told_points (Some list) entry name number points low truth found =
     here.1 ∙ ap Some (sym same)
 
 -- a page of which a caller tells is not damaged
-pub undamaged : (T : Type 0) (pages : ℕ → Option (List (List Point))) (entry : IndexEntry) (name : NamedFile) (number : ℕ) (fault : ReadFault) → number < length entry.pages
+pub undamaged : (T : Type 0) (pages : FilePages) (entry : IndexEntry) (name : NamedFile) (number : ℕ) (fault : ReadFault) → number < length entry.pages
     → ((list : List (List Point)) → pages name.number ≡ Some list → HasEntryPages entry name list)
     → IfDamaged {T = T} (Err fault) (λ at. IfSome name.bytes (λ bytes. (said : PageEntry) → SaysOfPage entry number said → HasNoPage bytes entry said))
     → IsTold pages name → (bytes : List ℕ) → name.bytes ≡ Some bytes → IsNotDamaged {T = T} (Err fault)

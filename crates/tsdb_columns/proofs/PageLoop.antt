@@ -1,44 +1,43 @@
 -- Pages of a file that are read one behind the other.
 use Rattle.std.proofs.Common.{◌≡◌, ℕ, ◌+◌, ◌-◌, ◌*◌, ◌^◌, ◌<◌, ◌≤◌, Bool, true, false, List, [], length, refl, ap, subst, ◌∙◌, arith}
-use Rattle.std.specs.Prelude.{Err, Option, Result}
+use Rattle.std.specs.Prelude.{Err}
 use Rattle.tsdb_index.specs.declared.index.IndexEntry.{IndexEntry}
 use Rattle.tsdb_outside.specs.declared.faults.StoreFault.{StoreFault}
 use Rattle.tsdb_base.specs.declared.point.Point.{Point}
 use Rattle.tsdb_columns.proofs.FillLemmas.{gives_none, gives_then, moves_end, moves_more, none_left}
 use Rattle.tsdb_columns.proofs.Reasons.{reason_then, same_reason}
-use Rattle.tsdb_columns.specs.Files.{HasReason, IsTold}
+use Rattle.tsdb_columns.specs.Files.{FilePages, HasReason, IsTold}
 use Rattle.tsdb_columns.specs.Lanes.{ArePagesOf, Gives, IsSameFile, pages_left}
 use Rattle.tsdb_columns.specs.declared.lane.PageLane.{PageLane}
 use Rattle.tsdb_merge.specs.Supplies.{Moves}
 use Rattle.tsdb_outside.specs.Files.{NamedFile, Store}
 
-module _ {R : Type 0} (file : R → NamedFile) (pages : ℕ → Option (List (List Point))) (keep : ℕ → Point → Bool) where
-  -- no point was found yet, and nothing is lost
-  pub record IsReading (store store_now : Store) (faults faults_now : ℕ) (lane now : PageLane R) (into : List Point) : Type 0 where
-    pub empty : into ≡ []
-    pub gives : Gives (pages_left file pages keep lane) [] (pages_left file pages keep now)
-    pub same : IsSameFile lane now
-    pub further : lane.next ≤ now.next
-    pub same_store : store_now ≡ store
-    pub later : faults ≤ faults_now
-    pub truth : ArePagesOf file pages now
-    pub of_store : (file now.right.now).store ≡ store
-
+module _ {R : Type 0} (file : R → NamedFile) (pages : FilePages) where
   pub truth_of : (lane now : PageLane R) → IsSameFile lane now → ArePagesOf file pages lane → ArePagesOf file pages now
   truth_of lane now same truth = rw (same.right, same.entry) truth
 
   pub told_of : (lane now : PageLane R) → IsSameFile lane now → IsTold pages (file lane.right.now) → IsTold pages (file now.right.now)
   told_of lane now same told = rw same.right told
 
-  pub reads_none : (store : Store) (faults : ℕ) (lane : PageLane R) (into : List Point) → into ≡ [] → ArePagesOf file pages lane → (file lane.right.now).store ≡ store → IsReading store store faults faults lane lane into
-  reads_none store faults lane into none truth of_store = record {
+module _ {R : Type 0} (file : R → NamedFile) (keep : ℕ → Point → Bool) where
+  -- no point was found yet, and nothing is lost
+  pub record IsReading (store store_now : Store) (faults faults_now : ℕ) (lane now : PageLane R) (into : List Point) : Type 0 where
+    pub empty : into ≡ []
+    pub gives : (pages : FilePages) → ArePagesOf file pages lane → Gives (pages_left file pages keep lane) [] (pages_left file pages keep now)
+    pub same : IsSameFile lane now
+    pub further : lane.next ≤ now.next
+    pub same_store : store_now ≡ store
+    pub later : faults ≤ faults_now
+    pub of_store : (file now.right.now).store ≡ store
+
+  pub reads_none : (store : Store) (faults : ℕ) (lane : PageLane R) (into : List Point) → into ≡ [] → (file lane.right.now).store ≡ store → IsReading store store faults faults lane lane into
+  reads_none store faults lane into none of_store = record {
     empty = none;
-    gives = gives_none (pages_left file pages keep lane);
+    gives = λ pages truth. gives_none (pages_left file pages keep lane);
     same = record { right = refl; born = refl; entry = refl };
     further = omega arith;
     same_store = refl;
     later = omega arith;
-    truth = truth;
     of_store = of_store;
   }
 
@@ -46,32 +45,33 @@ module _ {R : Type 0} (file : R → NamedFile) (pages : ℕ → Option (List (Li
   same_then a b c one two = record { right = two.right ∙ one.right; born = two.born ∙ one.born; entry = two.entry ∙ one.entry }
 
   pub reads_on : (store now_store next_store : Store) (faults now_faults next_faults : ℕ) (lane now next : PageLane R) (into more : List Point) → IsReading store now_store faults now_faults lane now into
-      → Gives (pages_left file pages keep now) more (pages_left file pages keep next) → more ≡ [] → next.next ≡ now.next + 1 → IsSameFile now next → next_store ≡ now_store → now_faults ≤ next_faults
+      → ((pages : FilePages) → ArePagesOf file pages now → Gives (pages_left file pages keep now) more (pages_left file pages keep next)) → more ≡ [] → next.next ≡ now.next + 1 → IsSameFile now next → next_store ≡ now_store → now_faults ≤ next_faults
       → IsReading store next_store faults next_faults lane next more
   reads_on store now_store next_store faults now_faults next_faults lane now next into more inv gives none one same same_store later =
       let further = inv.further in
       let before = inv.later in
       record {
         empty = none;
-        gives = gives_then _ _ _ [] inv.gives (subst (λ ps. Gives (pages_left file pages keep now) ps (pages_left file pages keep next)) none gives);
+        gives = λ pages truth. gives_then _ _ _ [] (inv.gives pages truth) (subst (λ ps. Gives (pages_left file pages keep now) ps (pages_left file pages keep next)) none (gives pages (truth_of file pages lane now inv.same truth)));
         same = same_then lane now next inv.same same;
         further = omega (arith, further, one);
         same_store = same_store ∙ inv.same_store;
         later = omega (arith, before, later);
-        truth = truth_of now next same inv.truth;
         of_store = ap (λ r. (file r.now).store) same.right ∙ inv.of_store;
       }
 
   -- points were found
   pub reads_more : (store now_store : Store) (faults now_faults : ℕ) (lane now next : PageLane R) (into more : List Point) → IsReading store now_store faults now_faults lane now into
-      → Gives (pages_left file pages keep now) more (pages_left file pages keep next) → Moves (pages_left file pages keep lane) true more (pages_left file pages keep next)
-  reads_more store now_store faults now_faults lane now next into more inv gives = moves_more _ _ more (gives_then _ _ _ more inv.gives gives)
+      → ((pages : FilePages) → ArePagesOf file pages now → Gives (pages_left file pages keep now) more (pages_left file pages keep next))
+      → (pages : FilePages) → ArePagesOf file pages lane → Moves (pages_left file pages keep lane) true more (pages_left file pages keep next)
+  reads_more store now_store faults now_faults lane now next into more inv gives pages truth =
+      moves_more _ _ more (gives_then _ _ _ more (inv.gives pages truth) (gives pages (truth_of file pages lane now inv.same truth)))
 
   -- no page is left
   pub reads_end : (store now_store : Store) (faults now_faults : ℕ) (lane now : PageLane R) (into : List Point) → IsReading store now_store faults now_faults lane now into → length now.entry.pages ≤ now.next
-      → Moves (pages_left file pages keep lane) false into (pages_left file pages keep now)
-  reads_end store now_store faults now_faults lane now into inv past =
-      moves_rw (moves_end _ _ inv.gives (none_left (pages (file now.right.now).number) (keep now.born.0) now.next now.entry (file now.right.now) past inv.truth))
+      → (pages : FilePages) → ArePagesOf file pages lane → Moves (pages_left file pages keep lane) false into (pages_left file pages keep now)
+  reads_end store now_store faults now_faults lane now into inv past pages truth =
+      moves_rw (moves_end _ _ (inv.gives pages truth) (none_left (pages (file now.right.now).number) (keep now.born.0) now.next now.entry (file now.right.now) past (truth_of file pages lane now inv.same truth)))
     where
       moves_rw : Moves (pages_left file pages keep lane) false [] (pages_left file pages keep now) → Moves (pages_left file pages keep lane) false into (pages_left file pages keep now)
       moves_rw moves = rw inv.empty moves
@@ -102,12 +102,9 @@ module _ {R : Type 0} (file : R → NamedFile) (pages : ℕ → Option (List (Li
       most_by pages at pages_now now n none same further = omega (arith, none, same, further)
 
   -- the reason of the next page's call is one of all of them
-  pub reads_reason : {T : Type 0} (store now_store : Store) (faults now_faults next_faults : ℕ) (lane now : PageLane R) (into : List Point) (result : Result T StoreFault) → IsReading store now_store faults now_faults lane now into
-      → HasReason (IsTold pages (file now.right.now)) now_faults next_faults result → HasReason (IsTold pages (file lane.right.now)) faults next_faults result
-  reads_reason store now_store faults now_faults next_faults lane now into result inv reason =
-      reason_then (IsTold pages (file lane.right.now)) (IsTold pages (file now.right.now)) faults now_faults next_faults result (told_of lane now inv.same) inv.later reason
-
   pub reads_fault : {S T : Type 0} (store now_store : Store) (faults now_faults next_faults : ℕ) (lane now : PageLane R) (into : List Point) (fault : StoreFault) → IsReading store now_store faults now_faults lane now into
-      → HasReason {T = S} (IsTold pages (file now.right.now)) now_faults next_faults (Err fault) → HasReason {T = T} (IsTold pages (file lane.right.now)) faults next_faults (Err fault)
-  reads_fault store now_store faults now_faults next_faults lane now into fault inv reason =
-      same_reason _ _ _ fault (reads_reason store now_store faults now_faults next_faults lane now into (Err fault) inv reason)
+      → ((pages : FilePages) → ArePagesOf file pages now → HasReason {T = S} (IsTold pages (file now.right.now)) now_faults next_faults (Err fault))
+      → (pages : FilePages) → ArePagesOf file pages lane → HasReason {T = T} (IsTold pages (file lane.right.now)) faults next_faults (Err fault)
+  reads_fault store now_store faults now_faults next_faults lane now into fault inv reason pages truth =
+      same_reason _ _ _ fault (reason_then (IsTold pages (file lane.right.now)) (IsTold pages (file now.right.now)) faults now_faults next_faults (Err fault) (told_of file pages lane now inv.same) inv.later
+      (reason pages (truth_of file pages lane now inv.same truth)))

@@ -41,12 +41,16 @@ pub record HasPages (names : List ℕ × List ℕ) (name : NamedFile) (pages : L
   pub file : IsFile tree bytes
   pub pages-are : ArePagesIn tree names pages
 
--- what a caller tells of the file is so
-abbrev pub IsTruth : List ℕ × List ℕ → (ℕ → Option (List (List Point))) → NamedFile → Type 0
+-- the points of each page of a series in the file of a number, where they are told
+abbrev pub FilePages : Type 0
+FilePages = ℕ → Option (List (List Point))
+
+-- what is told of the file is so
+abbrev pub IsTruth : List ℕ × List ℕ → FilePages → NamedFile → Type 0
 IsTruth names pages name = IfSome (pages name.number) (HasPages names name)
 
--- a caller tells of the file, where it tells its bytes
-abbrev pub IsTold : (ℕ → Option (List (List Point))) → NamedFile → Type 0
+-- the pages of the file are told, where it tells its bytes
+abbrev pub IsTold : FilePages → NamedFile → Type 0
 IsTold pages name = (bytes : List ℕ) → name.bytes ≡ Some bytes
     → (list : List (List Point)) × (pages name.number ≡ Some list)
 

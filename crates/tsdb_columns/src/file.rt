@@ -1,10 +1,9 @@
 //! Reading a page of a file, with damage as a fault of the port. Depends on tsfile_reader and tsdb_outside.
 ghost use Rattle.std.specs.Prelude.{◌≡◌, ◌≤◌, ◌<◌, IfOk, IfSome, Some, length, slice_get};
-ghost use Rattle.tsdb_columns.specs.Files.{HasReason, IsCounted, IsTold};
+ghost use Rattle.tsdb_columns.specs.Files.{FilePages, HasReason, IsCounted, IsTold};
 ghost use Rattle.tsdb_columns.specs.Lanes.{ArePagesOf};
 
 use crate::lane::PageLane;
-use crate::told::Told;
 use std::alloc::Global;
 use tsdb_base::Point;
 use tsdb_outside::{Port, StoreFault};
@@ -27,7 +26,7 @@ pub(crate) fn fault_of<P: Port>(port: &mut P, right: &P::Right, fault: ReadFault
 }
 
 /// Reads the points of a page.
-pub(crate) fn load_page<P: Port, K: Told>(
+pub(crate) fn load_page<P: Port>(
     alloc: Global,
     port: &mut P,
     lane: &PageLane<'_, P::Right>,
@@ -35,12 +34,13 @@ pub(crate) fn load_page<P: Port, K: Told>(
 ) -> Result<Vec<Point>, StoreFault>
     requires page { page < length lane.now.entry.pages }
     requires store { (P.Right.file lane.now.right.now).store ≡ P.store port.old }
-    requires truth { ArePagesOf P.Right.file K.pages lane.now }
-    ensures points { IfOk result (λ points. IfSome (K.pages (P.Right.file lane.now.right.now).number)
+    ensures points { (pages : FilePages) → ArePagesOf P.Right.file pages lane.now
+        → IfOk result (λ points. IfSome (pages (P.Right.file lane.now.right.now).number)
         (λ list. slice_get list page ≡ Some points.items)) }
     ensures few { IfOk result (λ points. length points.items ≤ 1000) }
-    ensures reason { HasReason (IsTold K.pages (P.Right.file lane.now.right.now))
-        (P.faults port.old) (P.faults port.new) result }
+    ensures reason { (pages : FilePages) → ArePagesOf P.Right.file pages lane.now
+        → HasReason (IsTold pages (P.Right.file lane.now.right.now)) (P.faults port.old) (P.faults port.new) result }
+    ensures later { P.faults port.old ≤ P.faults port.new }
     ensures same_store { P.store port.new ≡ P.store port.old }
 {
     match read_points(alloc, port, lane.right, &lane.entry, page) {

@@ -2,14 +2,13 @@
 ghost use Rattle.std.specs.Prelude.{◌≡◌, ◌+◌, ◌≤◌, ◌<◌, [], ◌++◌, IfErr, IfOk, OnOk, Some, length};
 ghost use Rattle.tsdb_outside.specs.declared.faults.StoreFault.TheVariants as fault;
 ghost use Rattle.tsdb_merge.specs.Supplies.{IsFilled, Moves};
-ghost use Rattle.tsdb_columns.specs.Files.{HasReason, IsTold};
+ghost use Rattle.tsdb_columns.specs.Files.{FilePages, HasReason, IsTold};
 ghost use Rattle.tsdb_columns.specs.Lanes.{ArePagesOf, Gives, IsLaneOf, IsSameFile, IsToldLane, IsTrueLane};
 ghost use Rattle.tsdb_columns.specs.Lanes.{keep_of, lane_left, lane_most, pages_left, part_left};
 
 use crate::file::load_page;
 use crate::kept::{Kept, meets};
 use crate::lane::{Lane, PageLane, PartLane};
-use crate::told::Told;
 use std::alloc::Global;
 use tsdb_base::{Memory, Point};
 use tsdb_outside::{Port, StoreFault};
@@ -18,7 +17,7 @@ use tsdb_outside::{Port, StoreFault};
 const MOST_TAKEN: usize = 1000;
 
 /// Takes the points of the next page that are kept. The page is not read where its times do not meet the range.
-fn take_page<P: Port, K: Told>(
+fn take_page<P: Port>(
     alloc: Global,
     kept: &Kept<'_>,
     lane: &mut PageLane<'_, P::Right>,
@@ -28,14 +27,15 @@ fn take_page<P: Port, K: Told>(
     requires page { lane.old.next < length lane.old.entry.pages }
     requires empty { into.old.items ≡ [] }
     requires store { (P.Right.file lane.old.right.now).store ≡ P.store port.old }
-    requires truth { ArePagesOf P.Right.file K.pages lane.old }
-    ensures gives { OnOk result (Gives (pages_left P.Right.file K.pages (keep_of kept.now) lane.old) into.new.items
-        (pages_left P.Right.file K.pages (keep_of kept.now) lane.new)) }
+    ensures gives { (pages : FilePages) → ArePagesOf P.Right.file pages lane.old
+        → OnOk result (Gives (pages_left P.Right.file pages (keep_of kept.now) lane.old) into.new.items
+        (pages_left P.Right.file pages (keep_of kept.now) lane.new)) }
     ensures few { OnOk result (length into.new.items ≤ 1000) }
     ensures next { lane.new.next ≡ lane.old.next + 1 }
     ensures same_file { IsSameFile lane.old lane.new }
-    ensures reason { HasReason (IsTold K.pages (P.Right.file lane.old.right.now))
-        (P.faults port.old) (P.faults port.new) result }
+    ensures reason { (pages : FilePages) → ArePagesOf P.Right.file pages lane.old
+        → HasReason (IsTold pages (P.Right.file lane.old.right.now)) (P.faults port.old) (P.faults port.new) result }
+    ensures later { P.faults port.old ≤ P.faults port.new }
     ensures same_store { P.store port.new ≡ P.store port.old }
 {
     let page = lane.next;
@@ -44,14 +44,14 @@ fn take_page<P: Port, K: Told>(
     if !meets {
         return Ok(());
     }
-    let mut points = load_page::<P, K>(alloc, port, lane, page)?;
+    let mut points = load_page(alloc, port, lane, page)?;
     kept.retain(lane.born, &mut points);
     *into = points;
     Ok(())
 }
 
 /// Takes the points of the next page that has one which is kept.
-fn fill_pages<P: Port, K: Told>(
+fn fill_pages<P: Port>(
     alloc: Global,
     kept: &Kept<'_>,
     lane: &mut PageLane<'_, P::Right>,
@@ -60,19 +60,20 @@ fn fill_pages<P: Port, K: Told>(
 ) -> Result<bool, StoreFault>
     requires empty { into.old.items ≡ [] }
     requires store { (P.Right.file lane.old.right.now).store ≡ P.store port.old }
-    requires truth { ArePagesOf P.Right.file K.pages lane.old }
-    ensures moved { IfOk result (λ more. Moves (pages_left P.Right.file K.pages (keep_of kept.now) lane.old) more
-        into.new.items (pages_left P.Right.file K.pages (keep_of kept.now) lane.new)) }
+    ensures moved { (pages : FilePages) → ArePagesOf P.Right.file pages lane.old
+        → IfOk result (λ more. Moves (pages_left P.Right.file pages (keep_of kept.now) lane.old) more
+        into.new.items (pages_left P.Right.file pages (keep_of kept.now) lane.new)) }
     ensures filled { IfOk result (λ more. IsFilled more into.new.items) }
     ensures most { IfOk result (λ _. length into.new.items + lane_most (Lane.Pages lane.new)
         ≤ lane_most (Lane.Pages lane.old)) }
     ensures same_file { IsSameFile lane.old lane.new }
-    ensures reason { HasReason (IsTold K.pages (P.Right.file lane.old.right.now))
-        (P.faults port.old) (P.faults port.new) result }
+    ensures reason { (pages : FilePages) → ArePagesOf P.Right.file pages lane.old
+        → HasReason (IsTold pages (P.Right.file lane.old.right.now)) (P.faults port.old) (P.faults port.new) result }
+    ensures later { P.faults port.old ≤ P.faults port.new }
     ensures same_store { P.store port.new ≡ P.store port.old }
 {
     while lane.next < lane.entry.pages.items().len() {
-        take_page::<P, K>(alloc, kept, lane, into, port)?;
+        take_page(alloc, kept, lane, into, port)?;
         if !into.is_empty() {
             return Ok(true);
         }
@@ -117,7 +118,7 @@ fn fill_part(
 }
 
 /// Takes the next points of a source that are kept.
-pub(crate) fn fill_lane<P: Port, K: Told>(
+pub(crate) fn fill_lane<P: Port>(
     alloc: Global,
     kept: &Kept<'_>,
     lane: &mut Lane<'_, P::Right>,
@@ -126,20 +127,23 @@ pub(crate) fn fill_lane<P: Port, K: Told>(
 ) -> Result<bool, StoreFault>
     requires empty { into.old.items ≡ [] }
     requires store { IsLaneOf P.Right.file (P.store port.old) lane.old }
-    requires truth { IsTrueLane P.Right.file K.pages lane.old }
-    ensures moved { IfOk result (λ more. Moves (lane_left P.Right.file K.pages (keep_of kept.now) lane.old) more
-        into.new.items (lane_left P.Right.file K.pages (keep_of kept.now) lane.new)) }
+    ensures moved { (pages : FilePages) → IsTrueLane P.Right.file pages lane.old
+        → IfOk result (λ more. Moves (lane_left P.Right.file pages (keep_of kept.now) lane.old) more
+        into.new.items (lane_left P.Right.file pages (keep_of kept.now) lane.new)) }
     ensures filled { IfOk result (λ more. IsFilled more into.new.items) }
     ensures most { IfOk result (λ _. length into.new.items + lane_most lane.new ≤ lane_most lane.old) }
     ensures store { IsLaneOf P.Right.file (P.store port.old) lane.new }
-    ensures truth { IsTrueLane P.Right.file K.pages lane.new }
-    ensures told { IsToldLane P.Right.file K.pages lane.old → IsToldLane P.Right.file K.pages lane.new }
-    ensures reason { HasReason (IsToldLane P.Right.file K.pages lane.old)
-        (P.faults port.old) (P.faults port.new) result }
+    ensures truth { (pages : FilePages) → IsTrueLane P.Right.file pages lane.old
+        → IsTrueLane P.Right.file pages lane.new }
+    ensures told { (pages : FilePages) → IsToldLane P.Right.file pages lane.old
+        → IsToldLane P.Right.file pages lane.new }
+    ensures reason { (pages : FilePages) → IsTrueLane P.Right.file pages lane.old
+        → HasReason (IsToldLane P.Right.file pages lane.old) (P.faults port.old) (P.faults port.new) result }
+    ensures later { P.faults port.old ≤ P.faults port.new }
     ensures same_store { P.store port.new ≡ P.store port.old }
 {
     match lane {
-        Lane::Pages(pages) => fill_pages::<P, K>(alloc, kept, pages, into, port),
+        Lane::Pages(pages) => fill_pages(alloc, kept, pages, into, port),
         Lane::Part(part) => fill_part(kept, part, into),
     }
 }

@@ -1,5 +1,5 @@
 //! Which points of a series a stream keeps. It depends on `tsdb_base`, `tsdb_path`, `tsdb_marks` and `tsdb_layers`.
-ghost use Rattle.std.specs.Prelude.{◌≡◌, ◌↔◌, ◌≤ℤ◌, ◌++◌, IsTrue, OnOk};
+ghost use Rattle.std.specs.Prelude.{◌≡◌, ◌↔◌, ◌++◌, IsTrue, OnOk};
 ghost use Rattle.tsdb_map.specs.World.{is_in};
 ghost use Rattle.tsdb_columns.specs.Kept.{Meet, is_kept, kept};
 

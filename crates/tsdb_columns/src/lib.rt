@@ -15,11 +15,9 @@ mod opening;
 mod pulling;
 mod source;
 mod stream;
-mod told;
 mod walking;
 
 pub use opening::open_column;
 pub use pulling::pull;
 pub use source::Source;
 pub use stream::Stream;
-pub use told::Told;

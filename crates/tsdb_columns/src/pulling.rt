@@ -2,11 +2,10 @@
 ghost use Rattle.std.specs.Prelude.{◌≡◌, ◌≤◌, ◌*◌, IfErr, IfOk, OnOk, Err, None, Some, length};
 ghost use Rattle.tsdb_merge.specs.Winners.{TakesTold};
 ghost use Rattle.tsdb_outside.specs.declared.faults.StoreFault.{StoreFault as Fault};
-ghost use Rattle.tsdb_columns.specs.Files.{HasReason};
-ghost use Rattle.tsdb_columns.specs.Streams.{IsStreamOf, IsToldStream, stream_held, stream_left};
+ghost use Rattle.tsdb_columns.specs.Files.{FilePages, HasReason};
+ghost use Rattle.tsdb_columns.specs.Streams.{IsStreamOfStore, IsToldStream, IsTrueStream, stream_held, stream_left};
 
 use crate::stream::Stream;
-use crate::told::Told;
 use crate::walking::pull_from;
 use tsdb_base::Point;
 use tsdb_merge::count_held;
@@ -14,27 +13,32 @@ use tsdb_outside::{Port, StoreFault};
 
 /// Takes the first point that a stream has left, or answers none where no source has one left. The first fault is the
 /// answer of this call and of each later one.
-pub fn pull<P: Port, K: Told>(
+pub fn pull<P: Port>(
     stream: &mut Stream<'_, P::Right>,
     port: &mut P,
 ) -> Result<Option<Point>, StoreFault>
-    requires of { IsStreamOf P.Right.file K.pages (P.store port.old) stream.old }
-    ensures next { IfOk result (λ point. TakesTold (stream_left P.Right.file K.pages stream.old) point
-        (stream_left P.Right.file K.pages stream.new)) }
-    ensures of { IsStreamOf P.Right.file K.pages (P.store port.new) stream.new }
-    ensures told { IsToldStream P.Right.file K.pages stream.old → IsToldStream P.Right.file K.pages stream.new }
+    requires of_store { IsStreamOfStore P.Right.file (P.store port.old) stream.old }
+    ensures next { (pages : FilePages) → IsTrueStream P.Right.file pages stream.old
+        → IfOk result (λ point. TakesTold (stream_left P.Right.file pages stream.old) point
+        (stream_left P.Right.file pages stream.new)) }
+    ensures of_store { IsStreamOfStore P.Right.file (P.store port.new) stream.new }
+    ensures truth { (pages : FilePages) → IsTrueStream P.Right.file pages stream.old
+        → IsTrueStream P.Right.file pages stream.new }
+    ensures told { (pages : FilePages) → IsToldStream P.Right.file pages stream.old
+        → IsToldStream P.Right.file pages stream.new }
     ensures works { OnOk result (stream.new.fault ≡ None) }
     ensures failed { IfErr result (λ fault. stream.new.fault ≡ Some fault) }
     ensures again { (fault : Fault) → stream.old.fault ≡ Some fault →
         (result ≡ Err fault) × (stream.new ≡ stream.old) × (port.new ≡ port.old) }
-    ensures reason { stream.old.fault ≡ None → HasReason (IsToldStream P.Right.file K.pages stream.old)
-        (P.faults port.old) (P.faults port.new) result }
+    ensures reason { (pages : FilePages) → IsTrueStream P.Right.file pages stream.old → stream.old.fault ≡ None
+        → HasReason (IsToldStream P.Right.file pages stream.old) (P.faults port.old) (P.faults port.new) result }
+    ensures later { P.faults port.old ≤ P.faults port.new }
     ensures same_store { P.store port.new ≡ P.store port.old }
 {
     if let Some(fault) = stream.fault {
         return Err(fault);
     }
-    match pull_from::<P, K>(
+    match pull_from(
         stream.alloc,
         &stream.kept,
         &mut stream.lanes,

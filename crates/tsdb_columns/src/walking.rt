@@ -7,19 +7,19 @@ ghost use Rattle.tsdb_merge.specs.Steps.{IsAhead, IsPulled, IsRead, IsRoot, IsTr
 ghost use Rattle.tsdb_merge.specs.Steps.{node_held, root_left};
 ghost use Rattle.tsdb_merge.specs.Supplies.{IsFilled, KeepsOthers, Moves, left_at};
 ghost use Rattle.tsdb_merge.specs.Winners.{TakesTold};
-ghost use Rattle.tsdb_columns.specs.Walking.{AreLanesOf, Leaves, lanes_left, lanes_most};
+ghost use Rattle.tsdb_columns.specs.Files.{FilePages};
+ghost use Rattle.tsdb_columns.specs.Walking.{AreLanesOf, AreTrueLanes, Leaves, lanes_left, lanes_most};
 
 use crate::kept::Kept;
 use crate::lane::Lane;
 use crate::lanes::fill_one;
-use crate::told::Told;
 use std::alloc::Global;
 use tsdb_base::Point;
 use tsdb_merge::{Head, Node, into_point, pop, take_next};
 use tsdb_outside::{Port, StoreFault};
 
 /// Fills an empty buffer from a source, the next point last.
-fn refill<P: Port, K: Told>(
+fn refill<P: Port>(
     alloc: Global,
     kept: &Kept<'_>,
     list: &mut Vec<Lane<'_, P::Right>>,
@@ -29,26 +29,28 @@ fn refill<P: Port, K: Told>(
 ) -> Result<bool, StoreFault>
     requires source { source < length list.old.items }
     requires empty { buffer.old.items ≡ [] }
-    requires of { AreLanesOf P.Right.file K.pages (P.store port.old) list.old.items }
-    ensures moved { IfOk result (λ more.
-        Moves (left_at (lanes_left P.Right.file K.pages kept.now list.old.items) source) more
-        (reverse buffer.new.items) (left_at (lanes_left P.Right.file K.pages kept.now list.new.items) source)) }
+    requires of { AreLanesOf P.Right.file (P.store port.old) list.old.items }
+    ensures moved { (pages : FilePages) → AreTrueLanes P.Right.file pages list.old.items
+        → IfOk result (λ more.
+        Moves (left_at (lanes_left P.Right.file pages kept.now list.old.items) source) more
+        (reverse buffer.new.items) (left_at (lanes_left P.Right.file pages kept.now list.new.items) source)) }
     ensures filled { IfOk result (λ more. IsFilled more (reverse buffer.new.items)) }
     ensures most { IfOk result (λ _.
         length buffer.new.items + lanes_most list.new.items ≤ lanes_most list.old.items) }
-    ensures others { KeepsOthers source (lanes_left P.Right.file K.pages kept.now list.old.items)
-        (lanes_left P.Right.file K.pages kept.now list.new.items) }
+    ensures others { (pages : FilePages)
+        → KeepsOthers source (lanes_left P.Right.file pages kept.now list.old.items)
+        (lanes_left P.Right.file pages kept.now list.new.items) }
     ensures sources { length list.new.items ≡ length list.old.items }
-    ensures leaves { Leaves P.Right.file K.pages (P.store port.old) (P.store port.new)
+    ensures leaves { Leaves P.Right.file (P.store port.old) (P.store port.new)
         (P.faults port.old) (P.faults port.new) list.old.items list.new.items result }
 {
-    let more = fill_one::<P, K>(alloc, kept, list, source, buffer, port)?;
+    let more = fill_one(alloc, kept, list, source, buffer, port)?;
     buffer.reverse();
     Ok(more)
 }
 
 /// Takes the next point of a source: from its buffer, or from its lane where the buffer is empty.
-fn next_of<P: Port, K: Told>(
+fn next_of<P: Port>(
     alloc: Global,
     kept: &Kept<'_>,
     list: &mut Vec<Lane<'_, P::Right>>,
@@ -58,25 +60,26 @@ fn next_of<P: Port, K: Told>(
 ) -> Result<Head, StoreFault>
     requires source { source < length list.old.items }
     requires within { length buffer.old.items ≤ 1000 }
-    requires of { AreLanesOf P.Right.file K.pages (P.store port.old) list.old.items }
-    ensures read { IfOk result (λ head. IsRead source
-        buffer.old.items (lanes_left P.Right.file K.pages kept.now list.old.items) (lanes_most list.old.items) head
-        buffer.new.items (lanes_left P.Right.file K.pages kept.now list.new.items) (lanes_most list.new.items)) }
+    requires of { AreLanesOf P.Right.file (P.store port.old) list.old.items }
+    ensures read { (pages : FilePages) → AreTrueLanes P.Right.file pages list.old.items
+        → IfOk result (λ head. IsRead source
+        buffer.old.items (lanes_left P.Right.file pages kept.now list.old.items) (lanes_most list.old.items) head
+        buffer.new.items (lanes_left P.Right.file pages kept.now list.new.items) (lanes_most list.new.items)) }
     ensures sources { length list.new.items ≡ length list.old.items }
-    ensures leaves { Leaves P.Right.file K.pages (P.store port.old) (P.store port.new)
+    ensures leaves { Leaves P.Right.file (P.store port.old) (P.store port.new)
         (P.faults port.old) (P.faults port.new) list.old.items list.new.items result }
 {
     if !buffer.is_empty() {
         return Ok(pop(buffer));
     }
-    if !refill::<P, K>(alloc, kept, list, source, buffer, port)? {
+    if !refill(alloc, kept, list, source, buffer, port)? {
         return Ok(Head::End);
     }
     Ok(pop(buffer))
 }
 
 /// Reads the next point of a tree into its head, where nothing was read yet.
-fn read_ahead<P: Port, K: Told>(
+fn read_ahead<P: Port>(
     alloc: Global,
     kept: &Kept<'_>,
     list: &mut Vec<Lane<'_, P::Right>>,
@@ -87,12 +90,13 @@ fn read_ahead<P: Port, K: Told>(
     requires tree { IsTree node.old }
     requires within { IsWithin head.old node.old }
     requires sources { first_of node.old + count_of node.old ≤ length list.old.items }
-    requires of { AreLanesOf P.Right.file K.pages (P.store port.old) list.old.items }
-    ensures ahead { IfOk result (λ _. IsAhead
-        head.old node.old (lanes_left P.Right.file K.pages kept.now list.old.items) (lanes_most list.old.items)
-        head.new node.new (lanes_left P.Right.file K.pages kept.now list.new.items) (lanes_most list.new.items)) }
+    requires of { AreLanesOf P.Right.file (P.store port.old) list.old.items }
+    ensures ahead { (pages : FilePages) → AreTrueLanes P.Right.file pages list.old.items
+        → IfOk result (λ _. IsAhead
+        head.old node.old (lanes_left P.Right.file pages kept.now list.old.items) (lanes_most list.old.items)
+        head.new node.new (lanes_left P.Right.file pages kept.now list.new.items) (lanes_most list.new.items)) }
     ensures sources { length list.new.items ≡ length list.old.items }
-    ensures leaves { Leaves P.Right.file K.pages (P.store port.old) (P.store port.new)
+    ensures leaves { Leaves P.Right.file (P.store port.old) (P.store port.new)
         (P.faults port.old) (P.faults port.new) list.old.items list.new.items result }
 {
     if !head.is_unread() {
@@ -100,7 +104,7 @@ fn read_ahead<P: Port, K: Told>(
     }
     match node {
         Node::Leaf { source, buffer } => {
-            *head = next_of::<P, K>(alloc, kept, list, *source, buffer, port)?;
+            *head = next_of(alloc, kept, list, *source, buffer, port)?;
         }
         Node::Pair {
             low,
@@ -108,8 +112,8 @@ fn read_ahead<P: Port, K: Told>(
             low_head,
             high_head,
         } => {
-            read_ahead::<P, K>(alloc, kept, list, low, low_head, port)?;
-            read_ahead::<P, K>(alloc, kept, list, high, high_head, port)?;
+            read_ahead(alloc, kept, list, low, low_head, port)?;
+            read_ahead(alloc, kept, list, high, high_head, port)?;
             *head = take_next(low_head, high_head);
         }
     }
@@ -117,7 +121,7 @@ fn read_ahead<P: Port, K: Told>(
 }
 
 /// Takes the next point of a whole tree.
-fn pull_root<P: Port, K: Told>(
+fn pull_root<P: Port>(
     alloc: Global,
     kept: &Kept<'_>,
     list: &mut Vec<Lane<'_, P::Right>>,
@@ -127,21 +131,22 @@ fn pull_root<P: Port, K: Told>(
     requires tree { IsTree root.old }
     requires within { node_held root.old ≤ 1000 * count_of root.old }
     requires sources { first_of root.old + count_of root.old ≤ length list.old.items }
-    requires of { AreLanesOf P.Right.file K.pages (P.store port.old) list.old.items }
-    ensures pulled { IfOk result (λ point. IsPulled
-        root.old (lanes_left P.Right.file K.pages kept.now list.old.items) (lanes_most list.old.items) point
-        root.new (lanes_left P.Right.file K.pages kept.now list.new.items) (lanes_most list.new.items)) }
+    requires of { AreLanesOf P.Right.file (P.store port.old) list.old.items }
+    ensures pulled { (pages : FilePages) → AreTrueLanes P.Right.file pages list.old.items
+        → IfOk result (λ point. IsPulled
+        root.old (lanes_left P.Right.file pages kept.now list.old.items) (lanes_most list.old.items) point
+        root.new (lanes_left P.Right.file pages kept.now list.new.items) (lanes_most list.new.items)) }
     ensures sources { length list.new.items ≡ length list.old.items }
-    ensures leaves { Leaves P.Right.file K.pages (P.store port.old) (P.store port.new)
+    ensures leaves { Leaves P.Right.file (P.store port.old) (P.store port.new)
         (P.faults port.old) (P.faults port.new) list.old.items list.new.items result }
 {
     let mut head = Head::Unread;
-    read_ahead::<P, K>(alloc, kept, list, root, &mut head, port)?;
+    read_ahead(alloc, kept, list, root, &mut head, port)?;
     Ok(into_point(head))
 }
 
 /// Takes the next point of the merge of the sources. Behind the end and behind a fault nothing is buffered.
-pub(crate) fn pull_from<P: Port, K: Told>(
+pub(crate) fn pull_from<P: Port>(
     alloc: Global,
     kept: &Kept<'_>,
     list: &mut Vec<Lane<'_, P::Right>>,
@@ -149,19 +154,20 @@ pub(crate) fn pull_from<P: Port, K: Told>(
     port: &mut P,
 ) -> Result<Option<Point>, StoreFault>
     requires tree { IsRoot (length list.old.items) root.old }
-    requires of { AreLanesOf P.Right.file K.pages (P.store port.old) list.old.items }
-    ensures next { IfOk result (λ point. TakesTold
-        (root_left root.old (lanes_left P.Right.file K.pages kept.now list.old.items)) point
-        (root_left root.new (lanes_left P.Right.file K.pages kept.now list.new.items))) }
+    requires of { AreLanesOf P.Right.file (P.store port.old) list.old.items }
+    ensures next { (pages : FilePages) → AreTrueLanes P.Right.file pages list.old.items
+        → IfOk result (λ point. TakesTold
+        (root_left root.old (lanes_left P.Right.file pages kept.now list.old.items)) point
+        (root_left root.new (lanes_left P.Right.file pages kept.now list.new.items))) }
     ensures tree { IsRoot (length list.new.items) root.new }
     ensures sources { length list.new.items ≡ length list.old.items }
-    ensures leaves { Leaves P.Right.file K.pages (P.store port.old) (P.store port.new)
+    ensures leaves { Leaves P.Right.file (P.store port.old) (P.store port.new)
         (P.faults port.old) (P.faults port.new) list.old.items list.new.items result }
 {
     let Some(node) = root else {
         return Ok(None);
     };
-    match pull_root::<P, K>(alloc, kept, list, node, port) {
+    match pull_root(alloc, kept, list, node, port) {
         Ok(Some(point)) => Ok(Some(point)),
         Ok(None) => {
             *root = None;

@@ -2,17 +2,14 @@ use Rattle.std.proofs.Common.{◌∙◌, ap, subst}
 use Rattle.tsdb_columns.proofs.OpenFacts.{pages_of_store, pages_true, part_of_store, part_true}
 use Rattle.tsdb_columns.proofs.PageLoop.{told_of, truth_of}
 use Rattle.tsdb_columns.proofs.Reasons.{memory_alone}
-use Rattle.tsdb_columns.specs.Lanes.{IsToldLane, keep_of}
+use Rattle.tsdb_columns.specs.Lanes.{IsToldLane}
 use Rattle.tsdb_columns.proofs.filling.fill_lane.Goals as goal
 
 pub fill_pages-requires-clause-store : goal.fill_pages-requires-clause-store
 fill_pages-requires-clause-store g c = λ lifetimes lives. c.requires.store c.in-Pages.pages c.in-Pages.is
 
-pub fill_pages-requires-clause-truth : goal.fill_pages-requires-clause-truth
-fill_pages-requires-clause-truth g c = λ lifetimes lives. c.requires.truth c.in-Pages.pages c.in-Pages.is
-
 pub returns-in-Pages-clause-moved : goal.returns-in-Pages-clause-moved
-returns-in-Pages-clause-moved g c = rw c.in-Pages.is c.fill_pages.ensures.moved
+returns-in-Pages-clause-moved g c = λ pages truth. rw c.in-Pages.is (c.fill_pages.ensures.moved pages (truth c.in-Pages.pages c.in-Pages.is))
 
 pub returns-in-Pages-clause-most : goal.returns-in-Pages-clause-most
 returns-in-Pages-clause-most g c = rw c.in-Pages.is c.fill_pages.ensures.most
@@ -23,22 +20,20 @@ returns-in-Pages-clause-store g c =
     pages_of_store file _ c.fill_pages.new.lane (ap (λ r. (file r.now).store) c.fill_pages.ensures.same_file.right ∙ c.requires.store c.in-Pages.pages c.in-Pages.is)
 
 pub returns-in-Pages-clause-truth : goal.returns-in-Pages-clause-truth
-returns-in-Pages-clause-truth g c =
+returns-in-Pages-clause-truth g c = λ pages truth.
     let file = g.P.Right.ReadRight.file in
-    let pages = g.K.Told.pages in
-    pages_true file pages c.fill_pages.new.lane (truth_of file pages (keep_of c.args.kept.now) c.in-Pages.pages c.fill_pages.new.lane c.fill_pages.ensures.same_file (c.requires.truth c.in-Pages.pages c.in-Pages.is))
+    pages_true file pages c.fill_pages.new.lane (truth_of file pages c.in-Pages.pages c.fill_pages.new.lane c.fill_pages.ensures.same_file (truth c.in-Pages.pages c.in-Pages.is))
 
 pub returns-in-Pages-clause-told : goal.returns-in-Pages-clause-told
-returns-in-Pages-clause-told g c = λ all.
+returns-in-Pages-clause-told g c = λ pages all.
     let file = g.P.Right.ReadRight.file in
-    let pages = g.K.Told.pages in
-    told_of file pages (keep_of c.args.kept.now) c.in-Pages.pages c.fill_pages.new.lane c.fill_pages.ensures.same_file (subst (IsToldLane file pages) c.in-Pages.is all)
+    told_of file pages c.in-Pages.pages c.fill_pages.new.lane c.fill_pages.ensures.same_file (subst (IsToldLane file pages) c.in-Pages.is all)
 
 pub returns-in-Pages-clause-reason : goal.returns-in-Pages-clause-reason
-returns-in-Pages-clause-reason g c = rw c.in-Pages.is c.fill_pages.ensures.reason
+returns-in-Pages-clause-reason g c = λ pages truth. rw c.in-Pages.is (c.fill_pages.ensures.reason pages (truth c.in-Pages.pages c.in-Pages.is))
 
 pub returns-in-Part-clause-moved : goal.returns-in-Part-clause-moved
-returns-in-Part-clause-moved g c = rw c.in-Part.is c.fill_part.ensures.moved
+returns-in-Part-clause-moved g c = λ pages truth. rw c.in-Part.is c.fill_part.ensures.moved
 
 pub returns-in-Part-clause-most : goal.returns-in-Part-clause-most
 returns-in-Part-clause-most g c = rw c.in-Part.is c.fill_part.ensures.most
@@ -47,10 +42,10 @@ pub returns-in-Part-clause-store : goal.returns-in-Part-clause-store
 returns-in-Part-clause-store g c = part_of_store g.P.Right.ReadRight.file _ c.fill_part.new.lane
 
 pub returns-in-Part-clause-truth : goal.returns-in-Part-clause-truth
-returns-in-Part-clause-truth g c = part_true g.P.Right.ReadRight.file g.K.Told.pages c.fill_part.new.lane
+returns-in-Part-clause-truth g c = λ pages truth. part_true g.P.Right.ReadRight.file pages c.fill_part.new.lane
 
 pub returns-in-Part-clause-told : goal.returns-in-Part-clause-told
-returns-in-Part-clause-told g c = λ all. tt
+returns-in-Part-clause-told g c = λ pages all. tt
 
 pub returns-in-Part-clause-reason : goal.returns-in-Part-clause-reason
-returns-in-Part-clause-reason g c = memory_alone _ _ _ c.fill_part.ensures.memory
+returns-in-Part-clause-reason g c = λ pages truth. memory_alone _ _ _ c.fill_part.ensures.memory

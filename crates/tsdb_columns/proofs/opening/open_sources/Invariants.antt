@@ -1,13 +1,11 @@
 use Rattle.std.specs.Vec.Iter.{into_iter_items}
 use Rattle.tsdb_columns.proofs.OpenLoop.{IsOpening}
-use Rattle.tsdb_columns.specs.Lanes.{IsLaneOf, IsSourceOf, IsToldLane, IsToldSource, IsTrueLane, IsTrueSource, OpensAs}
+use Rattle.tsdb_columns.specs.Lanes.{IsLaneOf, IsSourceOf, OpensAs}
 use Rattle.tsdb_columns.proofs.opening.open_sources.Given as goal
 
 abbrev pub invariant-loop-source : goal.invariant-loop-source
 invariant-loop-source g l = record {
   finite : (goal.iterator-loop-source g).can_next l.source-iterator × (goal.iterator-loop-source g).is_finite l.source-iterator;
-  opening : IsOpening (OpensAs g.P.Right.ReadRight.file g.K.Told.pages) (IsSourceOf g.P.Right.ReadRight.file (g.P.Port.store l.fn.port))
-      (IsTrueSource g.P.Right.ReadRight.file (l.fn.device, l.fn.measurement) g.K.Told.pages) (IsToldSource g.P.Right.ReadRight.file g.K.Told.pages) (IsLaneOf g.P.Right.ReadRight.file (g.P.Port.store l.fn.port))
-      (IsTrueLane g.P.Right.ReadRight.file g.K.Told.pages) (IsToldLane g.P.Right.ReadRight.file g.K.Told.pages) (g.P.Port.store l.fn.port) (g.P.Port.store l.port) (g.P.Counted.faults l.fn.port) (g.P.Counted.faults l.port)
-      l.fn.sources.items (into_iter_items l.source-iterator) l.lanes.items;
+  opening : IsOpening (OpensAs g.P.Right.ReadRight.file (l.fn.device, l.fn.measurement)) (IsSourceOf g.P.Right.ReadRight.file (g.P.Port.store l.fn.port)) (IsLaneOf g.P.Right.ReadRight.file (g.P.Port.store l.fn.port))
+      (g.P.Port.store l.fn.port) (g.P.Port.store l.port) (g.P.Counted.faults l.fn.port) (g.P.Counted.faults l.port) l.fn.sources.items (into_iter_items l.source-iterator) l.lanes.items;
 }
