@@ -1,0 +1,6 @@
+//! Tests of the opening of a store with its files, by its public items alone. Depends on `tsdb_recovery`, and on
+//! `tsdb_outside` and `mem_outside` for places in memory.
+#![tactic(auto)]
+
+#[cfg(test)]
+mod stores;
