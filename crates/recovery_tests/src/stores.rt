@@ -16,7 +16,7 @@ const LOG: [u8; 53] = [
 ];
 
 /// No more records: a closed gate.
-const NOTHING: [u8; 1] = [0];
+pub(crate) const NOTHING: [u8; 1] = [0];
 
 /// A freeze at 53, and a flush to file 1 at 59.
 const FLUSHED: [u8; 29] = [
@@ -57,7 +57,7 @@ const FILE: [u8; 234] = *b"TsFile\x51\
 \x00\x00\x00\x00\x00\x00\x00\xc2TsFile";
 
 /// A stored file: its number, how many bytes of `FILE` it has, and one byte that differs, where its place lies in these.
-type Stored = (u64, usize, usize, u8);
+pub(crate) type Stored = (u64, usize, usize, u8);
 
 /// What came of a store: its stamp, and how many frozen pairs, sequence files and unsequence files the core has; or where
 /// it is damaged.
@@ -81,7 +81,7 @@ fn bytes_of(alloc: Global, stored: &Stored) -> Result<Vec<u8>, Fail> {
 }
 
 /// A place with a log that ends with these bytes, and with these files, of whose calls these fail.
-fn place_of(
+pub(crate) fn place_of(
     alloc: Global,
     ending: &[u8],
     stored: &[Stored],
