@@ -1,5 +1,5 @@
 //! Stores with files that are opened, and damaged ones, over places in memory.
-use mem_outside::{Fails, MemPlace};
+use mem_outside::{Fails, MemPlace, StopKind};
 use std::alloc::Global;
 use std::test::Fail;
 use tsdb_base::{FileNumber, Space};
@@ -265,5 +265,43 @@ fn first_unanswered(alloc: Global, last: u64) -> Result<Option<u64>, Fail> {
 #[test]
 fn each_failing_call_is_answered_and_nothing_is_lost(rt: HostRuntime) -> Result<(), Fail> {
     assert_eq!(rt; first_unanswered(rt.alloc(), 11)?, Some(11));
+    Ok(())
+}
+
+/// What comes of the store that a stop leaves.
+fn stopped_at(
+    alloc: Global,
+    place: &MemPlace,
+    moment: u64,
+    kind: StopKind,
+) -> Result<(Outcome, Option<usize>), Fail> {
+    if moment >= place.moments() {
+        return Err(Fail::from("a moment of the place"));
+    }
+    let mut stopped = place.after_stop(moment, kind)?;
+    open(alloc, &mut stopped)
+}
+
+/// The first moment at which a stop of an opening leaves a store that is not opened whole.
+fn first_lost(alloc: Global, place: &MemPlace, kind: StopKind) -> Result<Option<u64>, Fail> {
+    let whole = (Outcome::Opened(2, 0, 1, 0), Some(1));
+    for moment in 0..place.moments() {
+        if stopped_at(alloc, place, moment, kind)? != whole {
+            return Ok(Some(moment));
+        }
+    }
+    Ok(None)
+}
+
+// The last call that changes something removes the file that no list has.
+#[test]
+fn stopped_opening_is_done_again(rt: HostRuntime) -> Result<(), Fail> {
+    let mut place = place_of(rt.alloc(), &FLUSHED, &WITH_STRAY, &[])?;
+    let (outcome, _) = open(rt.alloc(), &mut place)?;
+    assert_eq!(rt; outcome, Outcome::Opened(2, 0, 1, 0));
+    assert_eq!(rt; place.moments(), 11);
+    for kind in [StopKind::Written, StopKind::Unwritten, StopKind::Scrambled] {
+        assert_eq!(rt; first_lost(rt.alloc(), &place, kind)?, None);
+    }
     Ok(())
 }
