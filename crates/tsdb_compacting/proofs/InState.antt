@@ -108,11 +108,22 @@ file_changed : (f : KeptFile → KeptFile) (place : Option (Option KeptFile))
 file_changed f None = refl
 file_changed f (Some place) = refl
 
+-- what is known of the file of the entry is what is kept of it
+abbrev pub IsKnown : Entries → KeptFiles → FileEntry → Type 0
+IsKnown known files entry = IfSome (kept_file entry.number.0 files)
+    (λ token. known entry.number.0 ≡ entry_of entry token.series)
+
 leaving_output : (file : Option NewFile) → map leaving (map outgoing_of (if_some file)) ≡ sent_files file
 leaving_output None = refl
 leaving_output (Some file) = refl
 
 module _ {F S R P : Type 0} where
+  -- the rights of the job are given back, of all files but that of its output
+  abbrev pub OthersGiveRights : Job F S R P → KeptFiles → KeptFiles → Type 0
+  OthersGiveRights job old new = (number : ℕ) → job.output.0 ≢ number → place_at number new.places
+      ≡ option_map (λ place. option_map (fewer_rights (count number (input_numbers job.inputs))) place)
+      (place_at number old.places)
+
   same_numbers : (inputs : List (Input F S R P)) → records.numbers_of (map input_file inputs) ≡ input_numbers inputs
   same_numbers [] = refl
   same_numbers (input ∷ inputs) = ap (λ rest. input.number.0 ∷ rest) (same_numbers inputs)
@@ -120,7 +131,9 @@ module _ {F S R P : Type 0} where
   module _ (job : Job F S R P) (old new : KeptFiles) (known : Entries) (engine : EngineState) (compaction : Compaction)
       (file : Option NewFile) (are : AreFilesOf old known engine) (kept : AreKept old)
       (open_place : IsOpen job.output.0 old) (is : IsCompactionOf job compaction)
-      (fresh : IsFresh job.output.0 file engine) (up : GivesUp old new job file) where
+      (fresh : IsFresh job.output.0 file engine)
+      (here : kept_file job.output.0 new ≡ option_map (λ one. one.token) file)
+      (others : OthersGiveRights job old new) where
     abbrev held : List ℕ
     held = records.numbers_of (job_inputs compaction)
 
@@ -129,10 +142,10 @@ module _ {F S R P : Type 0} where
 
     others_have : (n : ℕ) → job.output.0 ≢ n
         → kept_file n new ≡ option_map (fewer_rights (count n (input_numbers job.inputs))) (kept_file n old)
-    others_have n apart = ap file_at (up.others n apart)
+    others_have n apart = ap file_at (others n apart)
         ∙ file_changed (fewer_rights (count n (input_numbers job.inputs))) (place_at n old.places)
 
-    rights_are : (n : ℕ) → IfSome (kept_file n new) (λ token. token.rights ≡ engine.rights n - count n held)
+    pub rights_are : (n : ℕ) → IfSome (kept_file n new) (λ token. token.rights ≡ engine.rights n - count n held)
     rights_are n = by (job.output.0 == n) refl
       where
         new_one : (o : Option NewFile) → IfSome o (λ one. (number_of one ≡ job.output.0) × (one.token.rights ≡ 0))
@@ -154,26 +167,21 @@ module _ {F S R P : Type 0} where
             → IfSome (kept_file n new) (λ token. token.rights ≡ engine.rights n - count n held)
         by true e =
             let same : job.output.0 ≡ n = (unsigned_Decides job.output.0 n).0 e in
-            let here = ap (λ m. kept_file m new) (sym same) ∙ up.here in
-            subst (λ o. IfSome o (λ token. token.rights ≡ engine.rights n - count n held)) (sym here)
+            let found = ap (λ m. kept_file m new) (sym same) ∙ here in
+            subst (λ o. IfSome o (λ token. token.rights ≡ engine.rights n - count n held)) (sym found)
             (new_one file fresh.is (ap engine.rights (sym same) ∙ fresh.unread))
         by false e =
             let apart : job.output.0 ≢ n = λ same. false≢true (sym e ∙ (unsigned_Decides job.output.0 n).1 same) in
             subst (λ o. IfSome o (λ token. token.rights ≡ engine.rights n - count n held)) (sym (others_have n apart))
             (old_one (kept_file n old) (are.rights n))
 
-    IsKnown : KeptFiles → FileEntry → Type 0
-    IsKnown files entry = IfSome (kept_file entry.number.0 files)
-        (λ token. known entry.number.0 ≡ entry_of entry token.series)
-
-    still_known : (space : Space) → Each (IsKnown old) (entries_in space old)
-        → Each (IsKnown new) (entries_in space old)
-    unfolding IsKnown
-    still_known space all = each_from_among (IsKnown new) (entries_in space old) (λ entry among.
+    pub still_known : (space : Space) → Each (IsKnown known old) (entries_in space old)
+        → Each (IsKnown known new) (entries_in space old)
+    still_known space all = each_from_among (IsKnown known new) (entries_in space old) (λ entry among.
         subst (λ o. IfSome o (λ token. known entry.number.0 ≡ entry_of entry token.series))
         (sym (others_have entry.number.0 (not_open space old kept job.output.0 open_place entry among)))
         (series_stay entry (kept_file entry.number.0 old)
-        (each_among (IsKnown old) (entries_in space old) entry all among)))
+        (each_among (IsKnown known old) (entries_in space old) entry all among)))
       where
         series_stay : (entry : FileEntry) (o : Option KeptFile)
             → IfSome o (λ token. known entry.number.0 ≡ entry_of entry token.series)
@@ -182,19 +190,23 @@ module _ {F S R P : Type 0} where
         series_stay entry None said = tt
         series_stay entry (Some token) said = said
 
-    pub ended_in_state : (others : List Compaction)
-        → AreFilesOf new known (ended compaction others (sent_files file) engine)
-    unfolding IsKnown
-    ended_in_state others = record {
-      sequence = ap (map listed) up.sequence ∙ are.sequence;
-      unsequence = ap (map listed) up.unsequence.is
-          ∙ run_listed false up.unsequence.run old.unsequence up.unsequence.within ∙ are.unsequence;
-      outgoing = ap (map leaving) up.outgoing ∙ map-append leaving old.outgoing (map outgoing_of (if_some file))
-          ∙ (λ i. are.outgoing i ++ leaving_output file i);
-      rights = rights_are;
-      entries_in_sequence = subst (Each (IsKnown new)) (sym up.sequence)
-          (still_known Sequence are.entries_in_sequence);
-      entries_in_unsequence = subst (Each (IsKnown new)) (sym up.unsequence.is)
-          (run_each (IsKnown new) false (λ entry said. said) up.unsequence.run old.unsequence up.unsequence.within
-          (still_known Unsequence are.entries_in_unsequence));
-    }
+  pub ended_in_state : (job : Job F S R P) (old new : KeptFiles) (known : Entries) (engine : EngineState)
+      (compaction : Compaction) (file : Option NewFile) (are : AreFilesOf old known engine) (kept : AreKept old)
+      (open_place : IsOpen job.output.0 old) (is : IsCompactionOf job compaction)
+      (fresh : IsFresh job.output.0 file engine) (up : GivesUp old new job file) (others : List Compaction)
+      → AreFilesOf new known (ended compaction others (sent_files file) engine)
+  ended_in_state job old new known engine compaction file are kept open_place is fresh up others =
+      let still = still_known job old new known engine compaction file are kept open_place is fresh up.here up.others in
+      record {
+        sequence = ap (map listed) up.sequence ∙ are.sequence;
+        unsequence = ap (map listed) up.unsequence.is
+            ∙ run_listed false up.unsequence.run old.unsequence up.unsequence.within ∙ are.unsequence;
+        outgoing = ap (map leaving) up.outgoing ∙ map-append leaving old.outgoing (map outgoing_of (if_some file))
+            ∙ (λ i. are.outgoing i ++ leaving_output file i);
+        rights = rights_are job old new known engine compaction file are kept open_place is fresh up.here up.others;
+        entries_in_sequence = subst (Each (IsKnown known new)) (sym up.sequence)
+            (still Sequence are.entries_in_sequence);
+        entries_in_unsequence = subst (Each (IsKnown known new)) (sym up.unsequence.is)
+            (run_each (IsKnown known new) false (λ entry said. said) up.unsequence.run old.unsequence
+            up.unsequence.within (still Unsequence are.entries_in_unsequence));
+      }

@@ -29,7 +29,7 @@ counted_middle : (n : ℕ) (before behind : List ℕ) → 1 ≤ count n (before 
 counted_middle n before behind = omega (arith, count_append n before (n ∷ behind), itself n)
 
 -- a number that stands once stands at one place
-only_place : (n : ℕ) (before behind : List ℕ) (place d : ℕ) → count n (before ++ n ∷ behind) ≤ 1
+pub only_place : (n : ℕ) (before behind : List ℕ) (place d : ℕ) → count n (before ++ n ∷ behind) ≤ 1
     → place < length (before ++ n ∷ behind) → get_or (before ++ n ∷ behind) place d ≡ n → place ≡ length before
 only_place n [] behind zero d once within is = refl
 only_place n [] behind (suc place) d once within is =

@@ -29,11 +29,13 @@ StandInSequence Sequence place numbers entries =
 StandInSequence Unsequence place numbers entries = numbers ≡ []
 
 module _ {F S R P : Type 0} where
-  -- the inputs of the job stand in these runs of the two lists, and the sequence output of one at its place
+  -- The inputs of the job stand in these runs of the two lists, sequence inputs from its place on; without late inputs
+  -- theirs begins at place 0.
   pub record AreRunsOf (job : Job F S R P) (runs : InputRuns) (files : KeptFiles) : Type 0 where
     pub sequence : IsRunOf runs.sequence job.sequence files.sequence
     pub unsequence : IsRunOf runs.unsequence job.unsequence files.unsequence
     pub place : job.space ≡ Sequence → runs.sequence.first ≡ job.place
+    pub none : job.unsequence ≡ [] → runs.unsequence.first ≡ 0
 
   -- The inputs of the job are on their way out, its output, if there is one, stands in the place of those of its space,
   -- and its rights are given back.

@@ -1,11 +1,16 @@
--- The output of a job that has no record, as the engine state has it.
-use Rattle.std.specs.Prelude.{◌≡◌, ℕ, List, map, Option, IfSome}
+-- The end of a job, as the engine state has it.
+use Rattle.std.specs.Prelude.{◌≡◌, ℕ, List, map, Option, IfSome, None, Some, slice_range, ⊤}
+use Rattle.tsdb_base.specs.declared.ids.Space.{Space}
+use Rattle.tsdb_base.specs.declared.ids.Space.TheVariants.{Sequence, Unsequence}
 use Rattle.tsdb_committing.specs.Files.{NewFile, number_of}
+use Rattle.tsdb_compacting.specs.declared.finishing.InputRuns.{InputRuns}
 use Rattle.tsdb_held.specs.Held.{listed}
+use Rattle.tsdb_kept.specs.Files.{KeptFiles}
+use Rattle.tsdb_kept.specs.Replacing.{run_length}
 use Rattle.tsdb_layers.specs.Lists.{if_some}
-use Rattle.tsdb_state.specs.State.{EngineState, File}
+use Rattle.tsdb_state.specs.State.{Compaction, EngineState, File}
 
--- the output, where there is one, as the state has it among the files on their way out
+-- the output, where there is one, as the state has it
 abbrev pub sent_files : Option NewFile → List File
 sent_files file = map (λ one. listed one.entry) (if_some file)
 
@@ -13,3 +18,25 @@ sent_files file = map (λ one. listed one.entry) (if_some file)
 pub record IsFresh (number : ℕ) (file : Option NewFile) (engine : EngineState) : Type 0 where
   pub unread : engine.rights number ≡ 0
   pub is : IfSome file (λ one. (number_of one ≡ number) × (one.token.rights ≡ 0))
+
+-- the file has the number, and the stamp at the beginning of the job
+pub record HasNumberAndBorn (drawn stamp : ℕ) (one : NewFile) : Type 0 where
+  pub number : number_of one ≡ drawn
+  pub born : one.entry.born.0 ≡ stamp
+
+-- the output, where there is one, has them
+abbrev pub IsNewOf : ℕ → ℕ → Option NewFile → Type 0
+IsNewOf number born None = ⊤
+IsNewOf number born (Some one) = HasNumberAndBorn number born one
+
+-- The place of the output of a job whose inputs stand in these runs. Late inputs of a sequence output are the first of
+-- their list, and a job of late files has no sequence inputs.
+abbrev pub IsPlaceOf : Space → InputRuns → ℕ → Type 0
+IsPlaceOf Sequence runs place = (place ≡ runs.sequence.first) × (runs.unsequence.first ≡ 0)
+IsPlaceOf Unsequence runs place = (place ≡ runs.unsequence.first) × (run_length runs.sequence ≡ 0)
+
+-- the files of the runs are the inputs of the compaction
+pub record AreInputsIn (runs : InputRuns) (files : KeptFiles) (compaction : Compaction) : Type 0 where
+  pub sequence : map listed (slice_range files.sequence runs.sequence.first runs.sequence.end) ≡ compaction.sequence
+  pub unsequence : map listed (slice_range files.unsequence runs.unsequence.first runs.unsequence.end)
+      ≡ compaction.unsequence

@@ -1,6 +1,6 @@
 //! The end of a job with its record. Depends on `inputs` and `runs`.
 ghost use Rattle.std.specs.Option.{option_map};
-ghost use Rattle.std.specs.Prelude.{◌≡◌, ◌+◌, IfSome, length};
+ghost use Rattle.std.specs.Prelude.{◌≡◌, ◌+◌, [], IfSome, length};
 ghost use Rattle.tsdb_committing.specs.Files.{new_file};
 ghost use Rattle.tsdb_compacting.specs.Ending.{IsOutIn, IsOutputNumbered};
 ghost use Rattle.tsdb_compacting.specs.Finishing.{AreRunsOf, Finishes, IsRunOf, StandInSequence};
@@ -43,7 +43,8 @@ fn sequence_run(space: Space, place: u64, numbers: &[FileNumber], _entries: &[Fi
 /// Where the late inputs of a job stand.
 fn late_run<F: Files>(files: &KeptFiles<F>, numbers: &[FileNumber]) -> Run
     requires { IsRun (plain_numbers numbers.now) (entry_numbers files.now.unsequence) }
-    ensures { IsRunOf result numbers.now files.now.unsequence }
+    ensures run { IsRunOf result numbers.now files.now.unsequence }
+    ensures empty { numbers.now ≡ [] → result.first ≡ 0 }
 {
     run_of(files.entries(Space::Unsequence), numbers)
 }

@@ -1,13 +1,16 @@
-//! The law. The function does nothing; its contract says it.
-ghost use Rattle.std.specs.Prelude.{List, Option};
-ghost use Rattle.tsdb_committing.specs.Files.{NewFile};
+//! The laws. The functions do nothing; their contracts say them.
+ghost use Rattle.std.specs.Prelude.{◌≡◌, ◌≤◌, ℕ, IfSome, List, Option};
+ghost use Rattle.tsdb_committing.specs.Files.{NewFile, known_entry, number_of};
 ghost use Rattle.tsdb_compacting.specs.Ending.{GivesUp};
-ghost use Rattle.tsdb_compacting.specs.States.{IsFresh, sent_files};
+ghost use Rattle.tsdb_compacting.specs.Finishing.{AreRunsOf, Finishes};
+ghost use Rattle.tsdb_compacting.specs.States.{AreInputsIn, IsFresh, IsNewOf, IsPlaceOf, sent_files};
+ghost use Rattle.tsdb_compacting.specs.declared.finishing.InputRuns.{InputRuns};
 ghost use Rattle.tsdb_compactions.specs.Jobs.{IsCompactionOf};
 ghost use Rattle.tsdb_held.specs.Held.{AreFilesOf};
 ghost use Rattle.tsdb_kept.specs.Files.{AreKept, IsOpen, KeptFiles};
-ghost use Rattle.tsdb_state.specs.State.{Compaction, EngineState, Entries};
-ghost use Rattle.tsdb_state.specs.Steps.{ended};
+ghost use Rattle.tsdb_state.specs.Jobs.{HasKind, Stands};
+ghost use Rattle.tsdb_state.specs.State.{Compaction, EngineState, Entries, Told};
+ghost use Rattle.tsdb_state.specs.Steps.{IsOutputPlace, committed, ended};
 
 use tsdb_compactions::Job;
 use tsdb_outside::Files;
@@ -19,4 +22,29 @@ pub fn a_job_given_up_ends_in_the_state<F: Files>(_job: &Job<F>)
         (others : List Compaction) (file : Option NewFile) → AreFilesOf old known engine → AreKept old
         → IsOpen _job.now.output.0 old → IsCompactionOf _job.now compaction → IsFresh _job.now.output.0 file engine
         → GivesUp old new _job.now file → AreFilesOf new known (ended compaction others (sent_files file) engine) }
+{}
+
+/// Where a job is finished, the files are those of the state in which its compaction is committed, with its output at
+/// the place. What is known of its number has to be what is kept of it.
+pub fn a_finished_job_is_committed_in_the_state<F: Files>(_job: &Job<F>)
+    ensures { (old new : KeptFiles) (known : Entries) (engine : EngineState) (compaction : Compaction)
+        (others : List Compaction) (file : Option NewFile) (runs : InputRuns) (place : ℕ) → AreFilesOf old known engine
+        → AreKept old → IsOpen _job.now.output.0 old → IsCompactionOf _job.now compaction
+        → IsFresh _job.now.output.0 file engine → IsNewOf _job.now.output.0 _job.now.born.0 file
+        → (1 ≤ _job.now.output.0) → AreRunsOf _job.now runs old → IsPlaceOf _job.now.space runs place
+        → AreInputsIn runs old compaction → IfSome file (λ one. known (number_of one) ≡ known_entry one)
+        → Finishes old new _job.now runs file
+        → AreFilesOf new known (committed compaction others (sent_files file) place engine) }
+{}
+
+/// The runs of a job that is out have the inputs of its compaction, where these stand in the lists of the state as its
+/// kind asks; its output has a place there.
+pub fn the_runs_of_a_job_have_its_inputs<F: Files>(_job: &Job<F>)
+    ensures { (told : Told) (files : KeptFiles) (known : Entries) (engine : EngineState) (compaction : Compaction)
+        (runs : InputRuns) → AreFilesOf files known engine → AreKept files → IsCompactionOf _job.now compaction
+        → HasKind _job.now.space compaction
+        → Stands _job.now.space told engine.store.sequence engine.store.unsequence compaction
+        → AreRunsOf _job.now runs files → AreInputsIn runs files compaction
+        × ((place : ℕ) × IsPlaceOf _job.now.space runs place
+        × IsOutputPlace _job.now.space compaction engine.store place) }
 {}

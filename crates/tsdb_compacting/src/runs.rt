@@ -1,5 +1,5 @@
 //! Where files stand in a list. Depends on tsdb_plan.
-ghost use Rattle.std.specs.Prelude.{◌≡◌, ◌≢◌, ◌<◌, ◌≤◌, ℕ, IfNone, IfSome, get_or, length, slice_range};
+ghost use Rattle.std.specs.Prelude.{◌≡◌, ◌≢◌, ◌<◌, ◌≤◌, [], ℕ, IfNone, IfSome, get_or, length, slice_range};
 ghost use Rattle.tsdb_compactions.specs.Jobs.{plain_numbers};
 ghost use Rattle.tsdb_kept.specs.Files.{entry_numbers};
 ghost use Rattle.tsdb_kept.specs.Replacing.{IsWithin};
@@ -24,6 +24,7 @@ pub fn run_of(entries: &[FileEntry], numbers: &[FileNumber]) -> Run
     requires run { IsRun (plain_numbers numbers.now) (entry_numbers entries.now) }
     requires once { (number : ℕ) → count number (entry_numbers entries.now) ≤ 1 }
     ensures within { IsWithin result entries.now }
+    ensures empty { numbers.now ≡ [] → result.first ≡ 0 }
     ensures numbers { entry_numbers (slice_range entries.now result.first result.end) ≡ plain_numbers numbers.now }
 {
     let Some(first) = numbers.first() else {
