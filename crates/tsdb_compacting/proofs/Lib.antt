@@ -1,3 +1,4 @@
+pub mod Begun
 pub mod Finished
 pub mod Given
 pub mod InCommit

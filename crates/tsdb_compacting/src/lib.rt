@@ -1,4 +1,4 @@
-//! The inputs of a compaction among the files that a core keeps, and the end of its job. Depends on tsdb_base,
+//! The inputs of a compaction among the files that a core keeps, and the ends of its job. Depends on tsdb_base,
 //! tsdb_outside, tsdb_plan, tsdb_jobs, tsdb_compactions, tsdb_kept and, for their definitions, tsdb_pinning and
 //! tsdb_committing.
 //!
@@ -7,12 +7,14 @@
 //! - No end of a job takes memory.
 #![tactic(auto)]
 
+mod beginning;
 mod ending;
 mod finishing;
 mod inputs;
 mod laws;
 mod runs;
 
+pub use beginning::{TakenInputs, take_job_inputs};
 pub use ending::give_up;
 pub use finishing::{InputRuns, finish, runs_of};
 pub use inputs::{give_back_inputs, take_inputs};
