@@ -13,7 +13,11 @@ use Rattle.tsdb_base.specs.declared.ids.Space.TheVariants.{Sequence, Unsequence}
 use Rattle.tsdb_committing.specs.Coming.{outgoing_of}
 use Rattle.tsdb_committing.specs.Files.{NewFile, number_of}
 use Rattle.tsdb_compacting.proofs.Taken.{all_counted}
+use Rattle.tsdb_compacting.specs.Beginning.{AreBegun, HoldsMore, run_files}
 use Rattle.tsdb_compacting.specs.Ending.{GivesUp}
+use Rattle.tsdb_compacting.specs.declared.beginning.TakenInputs.{TakenInputs}
+use Rattle.tsdb_compacting.specs.declared.finishing.InputRuns.{InputRuns}
+use Rattle.tsdb_outside.specs.Files.{NamedFile}
 use Rattle.tsdb_compacting.specs.Inputs.{input_numbers}
 use Rattle.tsdb_compacting.specs.States.{IsFresh, sent_files}
 use Rattle.tsdb_compactions.specs.Jobs.{IsCompactionOf, input_file}
@@ -27,13 +31,13 @@ use Rattle.tsdb_kept.specs.Replacing.{IsWithin, claim_run, with_claim}
 use Rattle.tsdb_layers.proofs.Lists.{each_among, each_append, each_from_among, each_left, each_map, each_right}
 use Rattle.tsdb_layers.proofs.Lists.{each_weaker}
 use Rattle.tsdb_layers.specs.Lists.{Among, count, if_some}
-use Rattle.tsdb_pinning.specs.Changes.{fewer_rights}
+use Rattle.tsdb_pinning.specs.Changes.{fewer_rights, more_rights}
 use Rattle.tsdb_plan.specs.declared.entry.FileEntry.{FileEntry}
 use Rattle.tsdb_plan.specs.declared.entry.Run.{Run}
 use Rattle.tsdb_state.specs.Jobs.{job_inputs}
 use Rattle.tsdb_state.specs.Records as records
 use Rattle.tsdb_state.specs.State.{Compaction, EngineState, Entries, File}
-use Rattle.tsdb_state.specs.Steps.{ended}
+use Rattle.tsdb_state.specs.Steps.{began, ended}
 
 -- ---- claims
 
@@ -210,3 +214,53 @@ module _ {F S R P : Type 0} where
             (run_each (IsKnown known new) false (λ entry said. said) up.unsequence.run old.unsequence
             up.unsequence.within (still Unsequence are.entries_in_unsequence));
       }
+
+  pub began_in_state : (name : R → NamedFile) (space : Space) (output : ℕ) (runs : InputRuns) (old new : KeptFiles)
+      (known : Entries) (engine : EngineState) (compaction : Compaction) (taken : TakenInputs F S R P)
+      → AreFilesOf old known engine → IsWithin runs.unsequence old.unsequence
+      → job_inputs compaction ≡ run_files runs old → AreBegun name space output runs old new taken
+      → AreFilesOf new known (began compaction engine)
+  began_in_state name space output runs old new known engine compaction taken are within inputs begun = record {
+    sequence = ap (map listed) (ap (λ f. f.sequence) begun.claimed ∙ more.lists.sequence) ∙ are.sequence;
+    unsequence = ap (map listed) late ∙ run_listed true runs.unsequence old.unsequence within ∙ are.unsequence;
+    outgoing = ap (map leaving) (ap (λ f. f.outgoing) begun.claimed ∙ more.lists.outgoing) ∙ are.outgoing;
+    rights = λ n. subst (λ o. IfSome o (λ token. token.rights
+        ≡ engine.rights n + count n (records.numbers_of (job_inputs compaction)))) (sym (found n))
+        (counted n (kept_file n old) (are.rights n));
+    entries_in_sequence = subst (Each (IsKnown known new))
+        (sym (ap (λ f. f.sequence) begun.claimed ∙ more.lists.sequence)) (still old.sequence are.entries_in_sequence);
+    entries_in_unsequence = subst (Each (IsKnown known new)) (sym late)
+        (run_each (IsKnown known new) true (λ entry said. said) runs.unsequence old.unsequence within
+        (still old.unsequence are.entries_in_unsequence));
+  }
+    where
+      more : HoldsMore (input_numbers taken.inputs) old begun.before
+      more = begun.all.more
+
+      late : new.unsequence ≡ claim_run runs.unsequence true old.unsequence
+      late = ap (λ f. f.unsequence) begun.claimed ∙ ap (claim_run runs.unsequence true) more.lists.unsequence
+
+      found : (n : ℕ)
+          → kept_file n new ≡ option_map (more_rights (count n (input_numbers taken.inputs))) (kept_file n old)
+      found n = ap (kept_file n) begun.claimed ∙ more.files n
+
+      held_same : input_numbers taken.inputs ≡ records.numbers_of (job_inputs compaction)
+      held_same = sym (same_numbers taken.inputs) ∙ ap records.numbers_of (begun.all.are ∙ sym inputs)
+
+      counted : (n : ℕ) (o : Option KeptFile) → IfSome o (λ token. token.rights ≡ engine.rights n)
+          → IfSome (option_map (more_rights (count n (input_numbers taken.inputs))) o)
+          (λ token. token.rights ≡ engine.rights n + count n (records.numbers_of (job_inputs compaction)))
+      counted n None same = tt
+      counted n (Some token) same = λ i. same i + count n (held_same i)
+
+      still : (entries : List FileEntry) → Each (IsKnown known old) entries → Each (IsKnown known new) entries
+      still entries all = each_weaker (IsKnown known old) (IsKnown known new) (λ entry said.
+          subst (λ o. IfSome o (λ token. known entry.number.0 ≡ entry_of entry token.series))
+          (sym (found entry.number.0)) (series_stay entry (kept_file entry.number.0 old) said)) entries all
+        where
+          series_stay : (entry : FileEntry) (o : Option KeptFile)
+              → IfSome o (λ token. known entry.number.0 ≡ entry_of entry token.series)
+              → IfSome (option_map (more_rights (count entry.number.0 (input_numbers taken.inputs))) o)
+              (λ token. known entry.number.0 ≡ entry_of entry token.series)
+          series_stay entry None said = tt
+          series_stay entry (Some token) said = said

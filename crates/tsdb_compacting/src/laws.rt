@@ -1,6 +1,8 @@
 //! The laws. The functions do nothing; their contracts say them.
 ghost use Rattle.std.specs.Prelude.{◌≡◌, ◌≤◌, ℕ, IfSome, List, Option};
 ghost use Rattle.tsdb_committing.specs.Files.{NewFile, known_entry, number_of};
+ghost use Rattle.tsdb_base.specs.declared.ids.Space.{Space as SpaceOf};
+ghost use Rattle.tsdb_compacting.specs.Beginning.{AreBegun, run_files};
 ghost use Rattle.tsdb_compacting.specs.Ending.{GivesUp};
 ghost use Rattle.tsdb_compacting.specs.Finishing.{AreRunsOf, Finishes};
 ghost use Rattle.tsdb_compacting.specs.States.{AreInputsIn, IsFresh, IsNewOf, IsPlaceOf, sent_files};
@@ -8,10 +10,12 @@ ghost use Rattle.tsdb_compacting.specs.declared.finishing.InputRuns.{InputRuns};
 ghost use Rattle.tsdb_compactions.specs.Jobs.{IsCompactionOf};
 ghost use Rattle.tsdb_held.specs.Held.{AreFilesOf};
 ghost use Rattle.tsdb_kept.specs.Files.{AreKept, IsOpen, KeptFiles};
-ghost use Rattle.tsdb_state.specs.Jobs.{HasKind, Stands};
+ghost use Rattle.tsdb_kept.specs.Replacing.{IsWithin};
+ghost use Rattle.tsdb_state.specs.Jobs.{HasKind, Stands, job_inputs};
 ghost use Rattle.tsdb_state.specs.State.{Compaction, EngineState, Entries, Told};
-ghost use Rattle.tsdb_state.specs.Steps.{IsOutputPlace, committed, ended};
+ghost use Rattle.tsdb_state.specs.Steps.{IsOutputPlace, began, committed, ended};
 
+use crate::beginning::TakenInputs;
 use tsdb_compactions::Job;
 use tsdb_outside::Files;
 
@@ -47,4 +51,13 @@ pub fn the_runs_of_a_job_have_its_inputs<F: Files>(_job: &Job<F>)
         → AreRunsOf _job.now runs files → AreInputsIn runs files compaction
         × ((place : ℕ) × IsPlaceOf _job.now.space runs place
         × IsOutputPlace _job.now.space compaction engine.store place) }
+{}
+
+/// Where the inputs of a job are taken, the files are those of the state in which its compaction has begun.
+pub fn a_begun_job_begins_in_the_state<F: Files>(_taken: &TakenInputs<F>)
+    ensures { (space : SpaceOf) (output : ℕ) (runs : InputRuns) (old new : KeptFiles) (known : Entries)
+        (engine : EngineState) (compaction : Compaction) → AreFilesOf old known engine
+        → IsWithin runs.unsequence old.unsequence → job_inputs compaction ≡ run_files runs old
+        → AreBegun F.Right.file space output runs old new _taken.now
+        → AreFilesOf new known (began compaction engine) }
 {}
