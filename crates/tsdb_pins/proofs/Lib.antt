@@ -3,3 +3,4 @@ pub mod Draining
 pub mod Selected
 pub mod Told
 pub mod Held
+pub mod Named
