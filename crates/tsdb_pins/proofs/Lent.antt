@@ -1,5 +1,5 @@
 -- Sources that are lent to a stream, as those of the pin.
-use Rattle.std.proofs.Common.{◌≡◌, ℕ, ◌+◌, ◌<◌, List, [], ◌∷◌, ◌++◌, length, take, get_or, map, Option, Some, refl, sym, ap, subst, ◌∙◌}
+use Rattle.std.proofs.Common.{◌≡◌, ℕ, ◌+◌, ◌<◌, List, [], ◌∷◌, ◌++◌, length, take, get_or, map, Some, refl, sym, ap, subst, ◌∙◌}
 use Rattle.std.specs.Prelude.{All, filter, ◌<ℤ◌}
 use Rattle.std.specs.List.{AllByRecursion as Each, AllZip}
 use Rattle.std.specs.Option.{option_map}
@@ -20,7 +20,7 @@ use Rattle.tsdb_path.specs.Nodes.{device_of, measurement_of}
 use Rattle.tsdb_pinned.specs.Worlds.{born_of, is_kept, kept_of}
 use Rattle.tsdb_pinning.specs.declared.pin.PinnedSource.{PinnedSource}
 use Rattle.tsdb_pinning.specs.declared.pin.PinnedSource.TheVariants.{File, Part}
-use Rattle.tsdb_pins.specs.Reading.{HasTold, IsLentAs, IsOfStore, IsToldIn, IsTrueIn}
+use Rattle.tsdb_pins.specs.Reading.{HasTold, IsLentAs, IsOfStore, IsToldIn, IsTrueIn, SeriesPages}
 use Rattle.tsdb_sources.specs.Pieces.{joined}
 
 -- ---- pairs of two lists
@@ -43,7 +43,7 @@ zip_all R Q W f [] (y ∷ ys) zip each = absurd zip
 zip_all R Q W f (x ∷ xs) [] zip each = absurd zip
 zip_all R Q W f (x ∷ xs) (y ∷ ys) zip each = All-cons W y ys (f x y zip.0 each.0) (zip_all R Q W f xs ys zip.1 each.1)
 
-module _ {F S R P : Type 0} (name : R → NamedFile) (pages : List ℕ → ℕ → Option (List (List Point))) (path : List ℕ) where
+module _ {F S R P : Type 0} (name : R → NamedFile) where
   pub of_store_lent : (store : Store) (sources : List (PinnedSource F S R P)) (list : List (Source R)) → AllZip IsLentAs sources list → Each (IsOfStore name store) sources → All (IsSourceOf name store) list
   of_store_lent store sources list zip each = zip_all IsLentAs (IsOfStore name store) (IsSourceOf name store) one sources list zip each
     where
@@ -53,6 +53,7 @@ module _ {F S R P : Type 0} (name : R → NamedFile) (pages : List ℕ → ℕ �
       one (Part born copies) (lent.File read stamp) is of = absurd is
       one (Part born copies) (lent.Part points stamp) is of = tt
 
+module _ {F S R P : Type 0} (name : R → NamedFile) (pages : SeriesPages) (path : List ℕ) where
   pub true_lent : (sources : List (PinnedSource F S R P)) (list : List (Source R)) → AllZip IsLentAs sources list → Each (IsTrueIn name pages path) sources → All (IsTrueSource name (device_of path, measurement_of path) (pages path)) list
   true_lent sources list zip each = zip_all IsLentAs (IsTrueIn name pages path) (IsTrueSource name (device_of path, measurement_of path) (pages path)) one sources list zip each
     where

@@ -1,5 +1,5 @@
 -- The points of the columns are those of the series in the world.
-use Rattle.std.proofs.Common.{◌≡◌, ℕ, List, [], ◌∷◌, map, Option, refl, ap, ◌∙◌}
+use Rattle.std.proofs.Common.{◌≡◌, ℕ, List, [], ◌∷◌, map, refl, ap, ◌∙◌}
 use Rattle.std.specs.List.{AllByRecursion as Each, AllZip}
 use Rattle.std.specs.declared.alloc.Global.{Global}
 use Rattle.std.specs.declared.vec.Vec.{Vec}
@@ -18,13 +18,13 @@ use Rattle.tsdb_pinning.specs.declared.pin.Column.{Column}
 use Rattle.tsdb_pinning.specs.declared.pin.Pin.{Pin}
 use Rattle.tsdb_pinning.specs.declared.pin.PinnedSource.{PinnedSource}
 use Rattle.tsdb_pinning.specs.declared.pin.PinnedSource.TheVariants.{File, Part}
-use Rattle.tsdb_pins.specs.Reading.{HasTold, IsColumnRead, TellPoints, TellsPoints}
+use Rattle.tsdb_pins.specs.Reading.{HasTold, IsColumnRead, SeriesPages, TellPoints, TellsPoints}
 use Rattle.tsdb_sources.specs.Pieces.{joined}
 use Rattle.tsdb_state.specs.State as state
 use Rattle.tsdb_state.specs.State.{FromFile, FromPart, Told}
 use Rattle.tsdb_state.specs.Steps.{PinStandsFor}
 
-module _ {F S R P : Type 0} (name : R → NamedFile) (pages : List ℕ → ℕ → Option (List (List Point))) (told : Told) where
+module _ {F S R P : Type 0} (name : R → NamedFile) (pages : SeriesPages) (told : Told) where
   -- the points of all sources of a series
   record AllPoints (path : List ℕ) (sources : List (PinnedSource F S R P)) : Type 0 where
     pub lists : List (List Point)

@@ -1,11 +1,11 @@
 -- What is told of the files of a pin, and what is read of its columns.
-use Rattle.std.specs.Prelude.{◌≡◌, ℕ, ◌≤◌, List, Option, Some, ⊤}
+use Rattle.std.specs.Prelude.{◌≡◌, ℕ, ◌≤◌, List, Some, ⊤}
 use Rattle.std.specs.List.{AllByRecursion as Each, AllZip}
 use Rattle.std.specs.declared.alloc.Global.{Global}
 use Rattle.std.specs.declared.vec.Vec.{Vec}
 use Rattle.tsdb_base.specs.declared.point.Point.{Point}
 use Rattle.tsdb_base.specs.declared.point.Range.{Range}
-use Rattle.tsdb_columns.specs.Files.{IsTold, IsTruth}
+use Rattle.tsdb_columns.specs.Files.{FilePages, IsTold, IsTruth}
 use Rattle.tsdb_columns.specs.declared.source.Source.{Source}
 use Rattle.tsdb_columns.specs.declared.source.Source.TheVariants as lent
 use Rattle.tsdb_marks.specs.declared.marks.Mark.{Mark}
@@ -41,13 +41,17 @@ module _ {F S R P : Type 0} (name : R → NamedFile) where
   abbrev pub AreColumnsOf : Store → List (Column F S R P) → Type 0
   AreColumnsOf store columns = Each (λ column. Each (IsOfStore store) column.sources) columns
 
-module _ {F S R P : Type 0} (name : R → NamedFile) (pages : List ℕ → ℕ → Option (List (List Point))) where
-  -- what a caller tells of the series in a file is so
+-- the points of each page of a series in the file of a number, where they are told
+abbrev pub SeriesPages : Type 0
+SeriesPages = List ℕ → FilePages
+
+module _ {F S R P : Type 0} (name : R → NamedFile) (pages : SeriesPages) where
+  -- what is told of the series in a file is so
   abbrev pub IsTrueIn : List ℕ → PinnedSource F S R P → Type 0
   IsTrueIn path (File number born right) = IsTruth (device_of path, measurement_of path) (pages path) (name right)
   IsTrueIn path (Part born copies) = ⊤
 
-  -- a caller tells of the series in a file, where the file tells its bytes
+  -- the pages of the series in a file are told, where the file tells its bytes
   abbrev pub IsToldIn : List ℕ → PinnedSource F S R P → Type 0
   IsToldIn path (File number born right) = IsTold (pages path) (name right)
   IsToldIn path (Part born copies) = ⊤

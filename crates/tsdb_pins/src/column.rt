@@ -1,28 +1,27 @@
-//! The points of one column. Depends on `known`, `lending` and tsdb_columns.
+//! The points of one column. Depends on `lending` and tsdb_columns.
 ghost use Rattle.std.specs.List.{AllByRecursion as Each, AllZip};
 ghost use Rattle.std.specs.Prelude.{◌≡◌, ◌≤◌, All, IfOk, List, Some, map};
 ghost use Rattle.tsdb_base.specs.declared.point.Point.{Point as PointModel};
-ghost use Rattle.tsdb_columns.specs.Files.{HasReason};
+ghost use Rattle.tsdb_columns.specs.Files.{FilePages, HasReason};
 ghost use Rattle.tsdb_columns.specs.Kept.{is_kept};
-ghost use Rattle.tsdb_columns.specs.Lanes.{IsSourceOf, IsToldSource, IsTrueSource, source_left};
+ghost use Rattle.tsdb_columns.specs.Lanes.{IsSourceOf, source_left};
+ghost use Rattle.tsdb_columns.specs.Streams.{AreToldSources, AreTrueSources};
 ghost use Rattle.tsdb_merge.specs.Winners.{IsMergeOf, IsRising};
-ghost use Rattle.tsdb_path.specs.Nodes.{device_of, measurement_of, node_count};
+ghost use Rattle.tsdb_path.specs.Nodes.{node_count};
 ghost use Rattle.tsdb_pinned.specs.Worlds.{kept_of};
-ghost use Rattle.tsdb_pins.specs.Reading.{HasTold, IsOfStore, IsToldIn, IsTrueIn};
+ghost use Rattle.tsdb_pins.specs.Reading.{HasTold, IsOfStore, IsToldIn, IsTrueIn, SeriesPages};
 
-use crate::known::Known;
 use crate::lending::lend;
 use std::alloc::Global;
-use std::marker::Brand;
 use tsdb_base::{Point, Range};
-use tsdb_columns::{Source, Told, open_column, pull};
+use tsdb_columns::{Source, open_column, pull};
 use tsdb_marks::Marks;
 use tsdb_outside::{Files, Port, StoreFault};
 use tsdb_path::Path;
 use tsdb_pinning::{Column, Pin};
 
 /// The points of a series in a range that no mark deletes, from these sources.
-fn read_points<'a, P: Port, K: Told>(
+fn read_points<'a, P: Port>(
     alloc: Global,
     series: &'a Path,
     range: &Range,
@@ -32,19 +31,20 @@ fn read_points<'a, P: Port, K: Told>(
 ) -> Result<Vec<Point>, StoreFault>
     requires nodes { 2 ≤ node_count series.now }
     requires of_store { All (IsSourceOf P.Right.file (P.store port.old)) sources.items }
-    requires truth { All (IsTrueSource P.Right.file (device_of series.now, measurement_of series.now) K.pages)
-        sources.items }
-    ensures merged { IfOk result (λ points. (lists : List (List PointModel)) →
-        map (source_left P.Right.file K.pages (is_kept series.now range.now marks.now.marks)) sources.entry.items
+    ensures merged { (pages : FilePages) → AreTrueSources P.Right.file series.now pages sources.entry.items
+        → IfOk result (λ points. (lists : List (List PointModel)) →
+        map (source_left P.Right.file pages (is_kept series.now range.now marks.now.marks)) sources.entry.items
         ≡ map Some lists → All IsRising lists → IsMergeOf lists points.items) }
-    ensures reason { HasReason (All (IsToldSource P.Right.file K.pages) sources.entry.items)
+    ensures reason { (pages : FilePages) → AreTrueSources P.Right.file series.now pages sources.entry.items
+        → HasReason (AreToldSources P.Right.file pages sources.entry.items)
         (P.faults port.old) (P.faults port.new) result }
+    ensures later { P.faults port.old ≤ P.faults port.new }
     ensures same_store { P.store port.new ≡ P.store port.old }
 {
-    let mut stream = open_column::<P, K>(alloc, series, range, marks, sources, port)?;
+    let mut stream = open_column(alloc, series, range, marks, sources, port)?;
     let mut points = Vec::new(alloc);
     for _ in 0..u64::MAX {
-        let Some(point) = pull::<P, K>(&mut stream, port)? else {
+        let Some(point) = pull(&mut stream, port)? else {
             return Ok(points);
         };
         points.push(point)?;
@@ -53,7 +53,7 @@ fn read_points<'a, P: Port, K: Told>(
 }
 
 /// The points of a column in the range of the pin that no mark deletes, in order of time.
-pub(crate) fn read_column<F: Files, K: Known>(
+pub(crate) fn read_column<F: Files>(
     alloc: Global,
     pin: &Pin<F>,
     column: &Column<F>,
@@ -61,17 +61,21 @@ pub(crate) fn read_column<F: Files, K: Known>(
 ) -> Result<Vec<Point>, StoreFault>
     requires nodes { 2 ≤ node_count column.now.schema.path }
     requires of_store { Each (IsOfStore F.Right.file (F.Port.store port.old)) column.now.sources }
-    requires truth { Each (IsTrueIn F.Right.file K.pages column.now.schema.path) column.now.sources }
-    ensures merged { IfOk result (λ points. (lists : List (List PointModel)) →
-        AllZip (HasTold F.Right.file K.pages column.now.schema.path) column.now.sources lists → Each IsRising lists
+    ensures merged { (pages : SeriesPages)
+        → Each (IsTrueIn F.Right.file pages column.now.schema.path) column.now.sources
+        → IfOk result (λ points. (lists : List (List PointModel)) →
+        AllZip (HasTold F.Right.file pages column.now.schema.path) column.now.sources lists → Each IsRising lists
         → IsMergeOf (kept_of column.now.schema.path pin.now.range pin.now.marks.marks column.now.sources lists)
         points.items) }
-    ensures reason { HasReason (Each (IsToldIn F.Right.file K.pages column.now.schema.path) column.now.sources)
+    ensures reason { (pages : SeriesPages)
+        → Each (IsTrueIn F.Right.file pages column.now.schema.path) column.now.sources
+        → HasReason (Each (IsToldIn F.Right.file pages column.now.schema.path) column.now.sources)
         (F.Port.faults port.old) (F.Port.faults port.new) result }
+    ensures later { F.Port.faults port.old ≤ F.Port.faults port.new }
     ensures same_store { F.Port.store port.new ≡ F.Port.store port.old }
 {
     let sources = lend(alloc, column.sources.items())?;
-    read_points::<F::Port, Brand>(
+    read_points(
         alloc,
         &column.schema.path,
         &pin.range,

@@ -6,12 +6,10 @@
 #![tactic(auto)]
 
 mod column;
-mod known;
 mod laws;
 mod lending;
 mod selecting;
 
-pub use known::Known;
 pub use laws::{
     pages_have_the_points_of_their_file, rights_are_of_the_store, series_have_a_device,
 };

@@ -1,10 +1,11 @@
 use Rattle.std.proofs.Common.{◌≡◌, ◌≤◌, take}
 use Rattle.std.specs.List.{AllZip}
-use Rattle.tsdb_pins.specs.Reading.{IsColumnRead}
+use Rattle.tsdb_pins.specs.Reading.{AreColumnsTrue, IsColumnRead, SeriesPages}
 use Rattle.tsdb_pins.proofs.selecting.read_columns.Given as goal
 
 abbrev pub invariant-loop-column : goal.invariant-loop-column
 invariant-loop-column g l =
-    AllZip (IsColumnRead g.F.Right.ReadRight.file g.K.Known.pages l.pin.range l.pin.marks.marks) (take l.column-index l.column-items) l.columns.items
+    ((pages : SeriesPages) → AreColumnsTrue g.F.Right.ReadRight.file pages l.pin.columns
+    → AllZip (IsColumnRead g.F.Right.ReadRight.file pages l.pin.range l.pin.marks.marks) (take l.column-index l.column-items) l.columns.items)
     × (g.F.Port.Counted.faults l.fn.port ≤ g.F.Port.Counted.faults l.port)
     × (g.F.Port.Port.store l.port ≡ g.F.Port.Port.store l.fn.port)
