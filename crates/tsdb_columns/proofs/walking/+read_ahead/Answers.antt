@@ -1,4 +1,4 @@
-use Rattle.std.proofs.Common.{Ok, Err, sym, subst, ◌∙◌}
+use Rattle.std.proofs.Common.{rules, Ok, Err, sym, subst, ◌∙◌}
 use Rattle.tsdb_merge.specs.Steps.{IsAhead}
 use Rattle.std.specs.Prelude.{None}
 use Rattle.std.proofs.lemmas.Bool.{false≢true}
@@ -34,10 +34,16 @@ returns-in_err-read_ahead-in-Pair-2-clause-leaves g t c =
     rw (p.1, p.2) (leaves_then g.P.Right.ReadRight.file _ _ _ _ _ _ _ _ _ tt (Err c.in_err-read_ahead-in-Pair-2.field-0.0) c.in_ok-read_ahead-in-Pair.ensures.leaves c.in_err-read_ahead-in-Pair-2.ensures.leaves)
 
 pub take_next-requires-clause-low : goal.take_next-requires-clause-low
-take_next-requires-clause-low g t c = (c.in_ok-read_ahead-in-Pair.ensures.ahead (λ _. None) (nothing_true g.P.Right.ReadRight.file c.args.list.now.items)).ready
+take_next-requires-clause-low g t c =
+    let low = (c.in_ok-read_ahead-in-Pair.ensures.ahead (λ _. None) (nothing_true g.P.Right.ReadRight.file c.args.list.now.items)).ready in
+    let high = (c.in_ok-read_ahead-in-Pair-2.ensures.ahead (λ _. None) (nothing_true g.P.Right.ReadRight.file c.read_ahead.new.list.items)).ready in
+    search (rules, low, high)
 
 pub take_next-requires-clause-high : goal.take_next-requires-clause-high
-take_next-requires-clause-high g t c = (c.in_ok-read_ahead-in-Pair-2.ensures.ahead (λ _. None) (nothing_true g.P.Right.ReadRight.file c.read_ahead.new.list.items)).ready
+take_next-requires-clause-high g t c =
+    let low = (c.in_ok-read_ahead-in-Pair.ensures.ahead (λ _. None) (nothing_true g.P.Right.ReadRight.file c.args.list.now.items)).ready in
+    let high = (c.in_ok-read_ahead-in-Pair-2.ensures.ahead (λ _. None) (nothing_true g.P.Right.ReadRight.file c.read_ahead.new.list.items)).ready in
+    search (rules, low, high)
 
 pub returns-in_ok-read_ahead-in-Pair-2-clause-ahead : goal.returns-in_ok-read_ahead-in-Pair-2-clause-ahead
 returns-in_ok-read_ahead-in-Pair-2-clause-ahead g t c = λ pages truth.
