@@ -107,7 +107,7 @@ not_open space files kept number open_place entry among same =
     ap (λ n. kept_file n files) (sym same) ∙ ap file_at open_place in
     false≢true (subst IsSome none (kept_among space files kept entry among))
 
-file_changed : (f : KeptFile → KeptFile) (place : Option (Option KeptFile))
+pub file_changed : (f : KeptFile → KeptFile) (place : Option (Option KeptFile))
     → file_at (option_map (λ p. option_map f p) place) ≡ option_map f (file_at place)
 file_changed f None = refl
 file_changed f (Some place) = refl

@@ -6,3 +6,4 @@ pub mod InRuns
 pub mod InState
 pub mod Standing
 pub mod Taken
+pub mod Telling

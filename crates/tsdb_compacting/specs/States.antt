@@ -1,13 +1,15 @@
 -- The end of a job, as the engine state has it.
-use Rattle.std.specs.Prelude.{◌≡◌, ℕ, List, map, Option, IfSome, None, Some, slice_range, ⊤}
+use Rattle.std.specs.Prelude.{◌≡◌, ◌≢◌, ℕ, List, map, Option, IfSome, None, Some, slice_range, ⊤}
 use Rattle.tsdb_base.specs.declared.ids.Space.{Space}
 use Rattle.tsdb_base.specs.declared.ids.Space.TheVariants.{Sequence, Unsequence}
 use Rattle.tsdb_committing.specs.Files.{NewFile, number_of}
 use Rattle.tsdb_compacting.specs.declared.finishing.InputRuns.{InputRuns}
 use Rattle.tsdb_held.specs.Held.{listed}
+use Rattle.tsdb_images.specs.Stored.{kept_bytes}
 use Rattle.tsdb_kept.specs.Files.{KeptFiles}
 use Rattle.tsdb_kept.specs.Replacing.{run_length}
 use Rattle.tsdb_layers.specs.Lists.{if_some}
+use Rattle.tsdb_outside.specs.Files.{StoredFile}
 use Rattle.tsdb_state.specs.State.{Compaction, EngineState, File}
 
 -- the output, where there is one, as the state has it
@@ -40,3 +42,9 @@ pub record AreInputsIn (runs : InputRuns) (files : KeptFiles) (compaction : Comp
   pub sequence : map listed (slice_range files.sequence runs.sequence.first runs.sequence.end) ≡ compaction.sequence
   pub unsequence : map listed (slice_range files.unsequence runs.unsequence.first runs.unsequence.end)
       ≡ compaction.unsequence
+
+-- All numbers but that of the output have the bytes that they had, and the token of the output, where there is one,
+-- tells those of its number.
+pub record TellsOutput (number : ℕ) (file : Option NewFile) (kept told : List StoredFile) : Type 0 where
+  pub others : (n : ℕ) → number ≢ n → kept_bytes told n ≡ kept_bytes kept n
+  pub here : IfSome file (λ one. (one.token.name.number ≡ number) × (one.token.name.bytes ≡ kept_bytes told number))

@@ -5,12 +5,14 @@ ghost use Rattle.tsdb_base.specs.declared.ids.Space.{Space as SpaceOf};
 ghost use Rattle.tsdb_compacting.specs.Beginning.{AreBegun, run_files};
 ghost use Rattle.tsdb_compacting.specs.Ending.{GivesUp};
 ghost use Rattle.tsdb_compacting.specs.Finishing.{AreRunsOf, Finishes};
-ghost use Rattle.tsdb_compacting.specs.States.{AreInputsIn, IsFresh, IsNewOf, IsPlaceOf, sent_files};
+ghost use Rattle.tsdb_compacting.specs.States.{AreInputsIn, IsFresh, IsNewOf, IsPlaceOf, TellsOutput};
+ghost use Rattle.tsdb_compacting.specs.States.{sent_files};
 ghost use Rattle.tsdb_compacting.specs.declared.finishing.InputRuns.{InputRuns};
 ghost use Rattle.tsdb_compactions.specs.Jobs.{IsCompactionOf};
-ghost use Rattle.tsdb_held.specs.Held.{AreFilesOf};
+ghost use Rattle.tsdb_held.specs.Held.{AreFilesOf, TellTheirBytes};
 ghost use Rattle.tsdb_kept.specs.Files.{AreKept, IsOpen, KeptFiles};
 ghost use Rattle.tsdb_kept.specs.Replacing.{IsWithin};
+ghost use Rattle.tsdb_outside.specs.Files.{StoredFile};
 ghost use Rattle.tsdb_state.specs.Jobs.{HasKind, Stands, job_inputs};
 ghost use Rattle.tsdb_state.specs.State.{Compaction, EngineState, Entries, Told};
 ghost use Rattle.tsdb_state.specs.Steps.{IsOutputPlace, began, committed, ended};
@@ -60,4 +62,18 @@ pub fn a_begun_job_begins_in_the_state<F: Files>(_taken: &TakenInputs<F>)
         → IsWithin runs.unsequence old.unsequence → job_inputs compaction ≡ run_files runs old
         → AreBegun F.Right.file space output runs old new _taken.now
         → AreFilesOf new known (began compaction engine) }
+{}
+
+/// Where the inputs of a job are taken, and where it ends, the tokens go on to tell what is kept, if the token of its
+/// output does.
+pub fn tokens_tell_on<F: Files>(_taken: &TakenInputs<F>, _job: &Job<F>)
+    ensures begun { (space : SpaceOf) (output : ℕ) (runs : InputRuns) (old new : KeptFiles) (kept : List StoredFile)
+        → TellTheirBytes old kept → AreBegun F.Right.file space output runs old new _taken.now
+        → TellTheirBytes new kept }
+    ensures given_up { (old new : KeptFiles) (kept told : List StoredFile) (file : Option NewFile)
+        → TellTheirBytes old kept → TellsOutput _job.now.output.0 file kept told → GivesUp old new _job.now file
+        → TellTheirBytes new told }
+    ensures finished { (runs : InputRuns) (old new : KeptFiles) (kept told : List StoredFile) (file : Option NewFile)
+        → TellTheirBytes old kept → TellsOutput _job.now.output.0 file kept told
+        → Finishes old new _job.now runs file → TellTheirBytes new told }
 {}

@@ -20,6 +20,6 @@ pub use finishing::{InputRuns, finish, runs_of};
 pub use inputs::{give_back_inputs, take_inputs};
 pub use laws::{
     a_begun_job_begins_in_the_state, a_finished_job_is_committed_in_the_state,
-    a_job_given_up_ends_in_the_state, the_runs_of_a_job_have_its_inputs,
+    a_job_given_up_ends_in_the_state, the_runs_of_a_job_have_its_inputs, tokens_tell_on,
 };
 pub use runs::run_of;
