@@ -1,0 +1,169 @@
+//! Lists of commands with the text of each reply. Depends on `served`.
+use crate::served::{Served, close, new_place, open};
+use mem_outside::{MemFiles, MemJournal};
+use std::alloc::Global;
+use std::test::Fail;
+use tests_support::command_of;
+use tsdb_map::{Command, Reply};
+use tsdb_print::print_reply;
+
+/// A step of a list.
+#[derive(Clone, Copy)]
+enum Step {
+    Line(&'static str),
+    Flush,
+    Show,
+}
+
+/// A core with this pair limit, whose next file has this number, and steps with the text of each reply.
+#[derive(Clone, Copy)]
+struct Case {
+    limit: u64,
+    next: u64,
+    steps: &'static [(Step, &'static str)],
+}
+
+const CREATE: Step = Step::Line("create timeseries root.g.d.s with datatype=INT64,encoding=PLAIN");
+
+const CASES: &[Case] = &[
+    // A tie at the watermark is late.
+    Case {
+        limit: 10_000,
+        next: 1,
+        steps: &[
+            (CREATE, "ok\n"),
+            (
+                Step::Line("insert into root.g.d(timestamp,s) values(1,5)"),
+                "ok\n",
+            ),
+            (Step::Flush, "ok\n"),
+            (
+                Step::Line("insert into root.g.d(timestamp,s) values(1,6)"),
+                "ok\n",
+            ),
+            (
+                Step::Show,
+                "sequence 1 born 2 points 1 from 1 to 1\nfrozen 0\nworking 0 1\nmarks 0\n",
+            ),
+        ],
+    },
+    // A mark stays while an older file is listed. Refusals change nothing.
+    Case {
+        limit: 10_000,
+        next: 1,
+        steps: &[
+            (CREATE, "ok\n"),
+            (CREATE, "exists\n"),
+            (Step::Line("delete from root.g.d.t where time<=1"), "path\n"),
+            (
+                Step::Line("insert into root.g.d(timestamp,s) values(10,1)"),
+                "ok\n",
+            ),
+            (Step::Flush, "ok\n"),
+            (
+                Step::Line("insert into root.g.d(timestamp,s) values(5,2)"),
+                "ok\n",
+            ),
+            (Step::Flush, "ok\n"),
+            (Step::Line("delete from root.g.d.s where time=5"), "ok\n"),
+            (Step::Flush, "ok\n"),
+            (
+                Step::Show,
+                "sequence 1 born 2 points 1 from 10 to 10\nunsequence 2 born 3 points 1 from 5 to 5\nfrozen 0\nworking 0 0\nmarks 1\n",
+            ),
+        ],
+    },
+    // A row that finds two frozen pairs flushes the oldest first.
+    Case {
+        limit: 1,
+        next: 1,
+        steps: &[
+            (CREATE, "ok\n"),
+            (
+                Step::Line("insert into root.g.d(timestamp,s) values(1,1)"),
+                "ok\n",
+            ),
+            (
+                Step::Line("insert into root.g.d(timestamp,s) values(2,1)"),
+                "ok\n",
+            ),
+            (
+                Step::Line("insert into root.g.d(timestamp,s) values(3,1)"),
+                "ok\n",
+            ),
+            (
+                Step::Line("insert into root.g.d(timestamp,s) values(4,1)"),
+                "ok\n",
+            ),
+            (
+                Step::Show,
+                "sequence 1 born 2 points 1 from 1 to 1\nfrozen 2\nworking 1 0\nmarks 0\n",
+            ),
+        ],
+    },
+    // No number is left for a file: the pair stays frozen.
+    Case {
+        limit: 10_000,
+        next: 9_223_372_036_854_775_808,
+        steps: &[
+            (CREATE, "ok\n"),
+            (
+                Step::Line("insert into root.g.d(timestamp,s) values(1,5)"),
+                "ok\n",
+            ),
+            (Step::Flush, "full\n"),
+            (Step::Show, "frozen 1\nworking 0 0\nmarks 0\n"),
+        ],
+    },
+];
+
+/// The reply to a step, with its command.
+fn take(
+    alloc: Global,
+    served: &mut Served<MemJournal, MemFiles>,
+    step: Step,
+) -> Result<(Command, Reply), Fail> {
+    match step {
+        Step::Line(line) => {
+            let command = command_of(alloc, line)?;
+            match served.change(alloc, &command) {
+                Some(reply) => Ok((command, reply)),
+                None => Err(Fail::from("no change")),
+            }
+        }
+        Step::Flush => Ok((Command::Flush, served.flush(alloc))),
+        Step::Show => Ok((Command::ShowFiles, served.show()?)),
+    }
+}
+
+/// The first step whose reply has another text.
+fn first_wrong(
+    alloc: Global,
+    served: &mut Served<MemJournal, MemFiles>,
+    steps: &[(Step, &'static str)],
+) -> Result<Option<usize>, Fail> {
+    for (at, (step, text)) in steps.iter().enumerate() {
+        let (command, reply) = take(alloc, served, *step)?;
+        if print_reply(alloc, &command, &reply)?.as_slice() != text.as_bytes() {
+            return Ok(Some(at));
+        }
+    }
+    Ok(None)
+}
+
+/// The first wrong step of a case.
+fn run(alloc: Global, case: &Case) -> Result<Option<usize>, Fail> {
+    let mut place = new_place(alloc)?;
+    let mut served = open(alloc, &mut place, case.limit, case.next)?;
+    let wrong = first_wrong(alloc, &mut served, case.steps);
+    close(&mut place, served);
+    wrong
+}
+
+#[test]
+fn cases(rt: HostRuntime) -> Result<(), Fail> {
+    for (number, case) in CASES.iter().enumerate() {
+        assert_eq!(rt; (number, run(rt.alloc(), case)?), (number, None));
+    }
+    Ok(())
+}
