@@ -1,28 +1,41 @@
 -- The series of a pin are of a device with a measurement.
-use Rattle.std.proofs.Common.{ℕ, ◌≤◌, List, [], ◌∷◌, subst, sym, arith}
-use Rattle.std.specs.List.{AllByRecursion as Each, AllZip}
+use Rattle.std.proofs.Common.{◌≡◌, ℕ, ◌≤◌, true, false, eqb, List, [], ◌∷◌, length, refl, subst, sym, arith}
+use Rattle.std.specs.List.{AllZip, onto_first}
+use Rattle.std.proofs.lemmas.List.Splits.{slice_split-cons_no, slice_split-cons_yes}
 use Rattle.tsdb_base.specs.declared.point.Range.{Range}
 use Rattle.tsdb_kept.specs.Files.{KeptFiles}
 use Rattle.tsdb_map.specs.declared.command.Item.{Item}
 use Rattle.tsdb_memory.specs.Store.{Store}
 use Rattle.tsdb_outside.specs.Files.{NamedFile}
-use Rattle.tsdb_path.proofs.Bytes.{IsNode-dotless}
-use Rattle.tsdb_path.proofs.Parts.{node_count-child, parts_some}
-use Rattle.tsdb_path.specs.Nodes.{IsName, child_of, node_count}
+use Rattle.tsdb_path.proofs.Parts.{parts_some}
+use Rattle.tsdb_path.specs.Nodes.{child_of, dot, node_count, parts}
 use Rattle.tsdb_pinning.specs.Pins.{IsColumnFor}
 use Rattle.tsdb_pinning.specs.declared.pin.Column.{Column}
 use Rattle.tsdb_pins.specs.Reading.{HaveNodes}
 
-two_nodes : (device name : List ℕ) → IsName name → 2 ≤ node_count (child_of device name)
-two_nodes device name is =
-    let more = node_count-child device name (IsNode-dotless name is.node) in
-    let some = parts_some device in
-    omega (arith, more, some)
+no_fewer : (byte : ℕ) (nodes : List (List ℕ)) → length nodes ≤ length (onto_first byte nodes)
+no_fewer byte [] = omega arith
+no_fewer byte (node ∷ nodes) = omega arith
 
-pub have_nodes : {F S R P : Type 0} (name : R → NamedFile) (files : KeptFiles) (memory : Store) (device : List ℕ) (range : Range) (items : List Item) (columns : List (Column F S R P))
-    → Each (λ item. IsName item.measurement) items → AllZip (IsColumnFor name files memory device range) items columns → HaveNodes columns
-have_nodes name files memory device range [] [] named zip = tt
-have_nodes name files memory device range [] (column ∷ columns) named zip = absurd zip
-have_nodes name files memory device range (item ∷ items) [] named zip = absurd zip
-have_nodes name files memory device range (item ∷ items) (column ∷ columns) named zip =
-    (subst (λ path. 2 ≤ node_count path) (sym zip.0.of_path) (two_nodes device item.measurement named.0), have_nodes name files memory device range items columns named.1 zip.1)
+-- what stands behind a dot is a further node
+two_nodes : (device name : List ℕ) → 2 ≤ node_count (child_of device name)
+two_nodes [] name = subst (λ all. 2 ≤ length all) (sym (slice_split-cons_yes (λ b. eqb b dot) dot name refl))
+    (omega (arith, parts_some name))
+two_nodes (byte ∷ device) name = elim (eqb byte dot) as (λ t. eqb byte dot ≡ t
+    → 2 ≤ node_count (child_of (byte ∷ device) name)) [
+      | true ↦ λ is. subst (λ all. 2 ≤ length all) (sym (slice_split-cons_yes (λ b. eqb b dot) byte (child_of device name) is))
+          (omega (arith, two_nodes device name))
+      | false ↦ λ is. subst (λ all. 2 ≤ length all) (sym (slice_split-cons_no (λ b. eqb b dot) byte (child_of device name) is))
+          (omega (arith, two_nodes device name, no_fewer byte (parts (child_of device name))))
+    ] refl
+
+pub have_nodes : {F S R P : Type 0} (name : R → NamedFile) (files : KeptFiles) (memory : Store) (device : List ℕ) (range : Range)
+    (items : List Item) (columns : List (Column F S R P)) → AllZip (IsColumnFor name files memory device range) items columns
+    → HaveNodes columns
+have_nodes name files memory device range [] [] zip = tt
+have_nodes name files memory device range [] (column ∷ columns) zip = absurd zip
+have_nodes name files memory device range (item ∷ items) [] zip = absurd zip
+have_nodes name files memory device range (item ∷ items) (column ∷ columns) zip = (
+  subst (λ path. 2 ≤ node_count path) (sym zip.0.of_path) (two_nodes device item.measurement),
+  have_nodes name files memory device range items columns zip.1,
+)

@@ -1,5 +1,4 @@
 //! What is told of files, and the rights and the series of a pin. The functions do nothing; their contracts are the laws.
-ghost use Rattle.std.specs.List.{AllByRecursion as Each};
 ghost use Rattle.std.specs.Prelude.{◌≡◌, ◌≤◌, ℕ, List, Some};
 ghost use Rattle.tsdb_base.specs.declared.point.Point.{Point};
 ghost use Rattle.tsdb_base.specs.declared.point.Range.{Range as RangeSeen};
@@ -9,7 +8,7 @@ ghost use Rattle.tsdb_kept.specs.Places.{AreOfStore};
 ghost use Rattle.tsdb_map.specs.declared.command.Item.{Item};
 ghost use Rattle.tsdb_memory.specs.Store.{Store as MemorySeen};
 ghost use Rattle.tsdb_outside.specs.Files.{NamedFile, Store};
-ghost use Rattle.tsdb_path.specs.Nodes.{IsName, device_of, measurement_of, node_count};
+ghost use Rattle.tsdb_path.specs.Nodes.{device_of, measurement_of, node_count};
 ghost use Rattle.tsdb_pinning.specs.Pins.{AreColumnsHeld, IsPinFor};
 ghost use Rattle.tsdb_pinning.specs.Shown.{ArePointsOf};
 ghost use Rattle.tsdb_pins.specs.Reading.{AreColumnsOf, HaveNodes};
@@ -37,6 +36,5 @@ pub fn rights_are_of_the_store<F: Files>(pin: &Pin<F>)
 /// The series of a pin for some items are of a device with a measurement.
 pub fn series_have_a_device<F: Files>(pin: &Pin<F>)
     ensures { (files : KeptFiles) (memory : MemorySeen) (device : List ℕ) (items : List Item) (range : RangeSeen)
-        → Each (λ item. IsName item.measurement) items
         → IsPinFor F.Right.file files memory device items range pin.now → HaveNodes pin.now.columns }
 {}

@@ -1,0 +1,173 @@
+-- What a query answers.
+use Rattle.std.proofs.Common.{◌≡◌, ℕ, List, [], ◌++◌, map, Option, false, refl, sym, ap}
+use Rattle.std.proofs.Common.{subst, ◌∙◌}
+use Rattle.std.specs.List.{AllByRecursion as Each}
+use Rattle.tsdb_base.specs.declared.answers.Answer.TheVariants as answer
+use Rattle.tsdb_base.specs.declared.point.Range.{Range}
+use Rattle.std.specs.Prelude.{IsErrOf, Result}
+use Rattle.tsdb_columns.specs.Files.{HasReason}
+use Rattle.tsdb_core.specs.Core.{files_of, logged_of}
+use Rattle.tsdb_core.specs.Pins.{IsNotPinned, IsPinStep, IsPinned, IsUnpinned}
+use Rattle.tsdb_core.specs.declared.engine.Core.{Core}
+use Rattle.tsdb_images.specs.Stored.{IsKept}
+use Rattle.tsdb_layers.proofs.Lists.{among_left}
+use Rattle.tsdb_logged.specs.Logged.{log_of, memory_of}
+use Rattle.tsdb_map.specs.Apply.{ask_aggregates, reply_of}
+use Rattle.tsdb_map.specs.Folds.{rows}
+use Rattle.tsdb_map.specs.History.{IsAllowed, IsMapReply, state_after}
+use Rattle.tsdb_map.specs.State as plain
+use Rattle.tsdb_map.specs.World.{World}
+use Rattle.tsdb_map.specs.declared.command.Command.TheVariants.{Select}
+use Rattle.tsdb_map.specs.declared.command.Item.{Item}
+use Rattle.tsdb_map.specs.declared.reply.Line.{Line}
+use Rattle.tsdb_map.specs.declared.reply.Reply.{Reply}
+use Rattle.tsdb_map.specs.declared.reply.Reply.TheVariants.{Lines, Plain}
+use Rattle.tsdb_outside.specs.Disk.{IsLawful}
+use Rattle.tsdb_outside.specs.Files.{NamedFile, StoredFile}
+use Rattle.tsdb_outside.specs.declared.disk.Disk as disk
+use Rattle.tsdb_outside.specs.declared.faults.Counted as counted
+use Rattle.tsdb_outside.specs.declared.faults.StoreFault.{StoreFault}
+use Rattle.tsdb_outside.specs.declared.faults.StoreFault.TheVariants as store
+use Rattle.tsdb_outside.specs.Causes.{Rose}
+use Rattle.tsdb_memory.specs.Shown.{entry_of}
+use Rattle.tsdb_pinned.proofs.Items.{pin_columns}
+use Rattle.tsdb_pinned.proofs.Replies.{fault_replied, rows_replied, types_of}
+use Rattle.tsdb_pinned.specs.Replies.{IsMapFault}
+use Rattle.tsdb_pinned.specs.Worlds.{columns_in}
+use Rattle.tsdb_pinning.specs.Items.{AreFit, IsRefused}
+use Rattle.tsdb_pinning.specs.Pins.{IsPinFor}
+use Rattle.tsdb_pinning.specs.Shown.{IsPinOf}
+use Rattle.tsdb_pinning.specs.declared.pin.Pin.{Pin}
+use Rattle.tsdb_pinning.specs.declared.pin.PinFault.{PinFault}
+use Rattle.tsdb_pins.specs.Reading.{AreColumnsTold, AreColumnsTrue, HaveNodes, SeriesPages, TellPoints}
+use Rattle.tsdb_querying.specs.Answers.{answer_to}
+use Rattle.tsdb_querying.proofs.Pinned.{serves_as_before}
+use Rattle.tsdb_querying.proofs.Telling.{TellsColumns, pages_told, tells_columns}
+use Rattle.tsdb_serving.proofs.Parts.{more_files}
+use Rattle.tsdb_serving.proofs.Steps.{quiet}
+use Rattle.tsdb_serving.specs.Serving.{IsAnsweredBy, IsDrawn, IsServedBy, IsServing}
+use Rattle.tsdb_state.specs.Order.{files_of as state_files_of}
+use Rattle.tsdb_state.specs.State as state
+use Rattle.tsdb_state.specs.State.{Told}
+use Rattle.tsdb_state.specs.Steps.{PinStandsFor}
+
+-- the map's reply is allowed to a query
+pub allowed_reply : (at : plain.State) (device : List ℕ) (items : List Item) (range : Range) (reply : Reply)
+    → reply_of at.world (Select device items range) ≡ reply → IsMapReply at (Select device items range) reply
+allowed_reply at device items range reply is = record {
+  not_listing = λ same. absurd cc;
+  same = sym is;
+  rises = λ change done. absurd cc;
+}
+
+-- what a fault answers is allowed to a query, changes nothing, and tells the fault
+pub fault_allowed : (at : plain.State) (device : List ℕ) (items : List Item) (range : Range) (fault : StoreFault)
+    → IsAllowed at (Select device items range) (Plain (answer_to fault))
+fault_allowed at device items range store.Failed = λ same. absurd cc
+fault_allowed at device items range store.Memory = tt
+
+pub fault_stays : (at : plain.State) (device : List ℕ) (items : List Item) (range : Range) (fault : StoreFault)
+    → state_after at (Select device items range) (Plain (answer_to fault)) ≡ at
+fault_stays at device items range store.Failed = refl
+fault_stays at device items range store.Memory = refl
+
+pub is_failed : (fault : StoreFault) → Plain (answer_to fault) ≡ Plain answer.Device → fault ≡ store.Failed
+is_failed store.Failed same = refl
+is_failed store.Memory same = absurd cc
+
+module _ {J F S R P : Type 0} {means : disk.Ghosts J} {counts : counted.Ghosts J}
+    (laws : (journal : J) → IsLawful (means.state journal)) where
+  -- no pin was taken
+  pub not_taken : (old new : Core J F S R P means counts) → IsNotPinned old new → (device : List ℕ) (items : List Item)
+      (range : Range) (reply : Reply) (files : List StoredFile) (at : plain.State) (next : Option plain.State)
+      → IsServing old files at next → state_after at (Select device items range) reply ≡ at
+      → IsAllowed at (Select device items range) reply
+      → IsAnsweredBy (IsDrawn old new) old new files at next (Select device items range) reply
+  not_taken old new not device items range reply files at next serving stays may = record {
+    allowed = may;
+    served = subst (IsServedBy (IsDrawn old new) old new files at next
+        (state_after at (Select device items range) (Plain answer.Done))) (sym stays)
+        (quiet laws (IsDrawn old new) old new files [] at next (state_after at (Select device items range) (Plain answer.Done))
+        (ap (λ logged. log_of logged) not.rest.logged) tt serving
+        (more_files laws new files [] at next (record {
+          outside = serving.outside;
+          state = serving.state;
+          seen = not.step serving.outside serving.state serving.seen;
+          stands = serving.stands;
+          doubt = serving.doubt;
+          held = serving.held;
+        })));
+    settled = λ change. absurd cc;
+  }
+
+  -- a pin was taken, read, and given back
+  pub taken : (name : R → NamedFile) (old mid new : Core J F S R P means counts) (pin : Pin F S R P)
+      → IsPinned name old mid pin → IsUnpinned mid new pin → (device : List ℕ) (items : List Item) (range : Range)
+      (reply : Reply) (files : List StoredFile) (at : plain.State) (next : Option plain.State)
+      → IsServing old files at next → state_after at (Select device items range) reply ≡ at
+      → IsAllowed at (Select device items range) reply
+      → IsAnsweredBy (IsDrawn old new) old new files at next (Select device items range) reply
+  taken name old mid new pin took gave device items range reply files at next serving stays may = record {
+    allowed = may;
+    served = subst (IsServedBy (IsDrawn old new) old new files at next
+        (state_after at (Select device items range) (Plain answer.Done))) (sym stays)
+        (serves_as_before name old mid new pin took gave laws (IsDrawn old new) files at next serving
+        (state_after at (Select device items range) (Plain answer.Done)));
+    settled = λ change. absurd cc;
+  }
+
+module _ {J F S R P : Type 0} {means : disk.Ghosts J} {counts : counted.Ghosts J} (name : R → NamedFile)
+    (old mid : Core J F S R P means counts) (pin : Pin F S R P) (took : IsPinned name old mid pin)
+    (nodes : HaveNodes pin.columns) (files : List StoredFile) (at : plain.State) (next : Option plain.State)
+    (serving : IsServing old files at next) where
+  step : IsPinStep mid serving.outside serving.state pin
+  step = took.step serving.outside serving.state serving.seen
+
+  whole : Each (IsKept serving.outside.kept serving.outside.told) (state_files_of serving.state)
+  whole = serving.seen.sound.stored.whole
+
+  abbrev pages : SeriesPages
+  pages = pages_told serving.outside.kept serving.outside.told (state_files_of serving.state) whole
+
+  -- what is told of the files that the pin reads
+  tells : TellsColumns name (files_of mid) serving.outside.kept serving.outside.told (state_files_of serving.state)
+      whole step.seen.told pin.columns
+  tells = tells_columns name (files_of mid) serving.outside.kept serving.outside.told (state_files_of serving.state) whole
+      step.seen.told serving.outside.known serving.state.store step.shown.range
+      (λ file among. among_left (serving.state.store.sequence ++ serving.state.store.unsequence) serving.state.outgoing file
+      among) pin.columns step.shown.columns step.is.columns step.takes.columns took.held nodes
+
+  -- the rows that were read are the map's reply
+  pub rows_allowed : (device : List ℕ) (items : List Item) (range : Range) → ask_aggregates items ≡ false
+      → AreFit (map entry_of (memory_of (logged_of old)).series) device items
+      → IsPinFor name (files_of old) (memory_of (logged_of old)) device items range pin → (read reply : List Line)
+      → reply ≡ read
+      → ((pages : SeriesPages) → AreColumnsTrue name pages pin.columns → (told : Told) (shown : state.Pin) (world : World)
+      → TellPoints name pages told pin.columns → IsPinOf pin shown → PinStandsFor told shown world
+      → read ≡ rows (columns_in world pin.range pin.columns)) → IsMapReply at (Select device items range) (Lines reply)
+  rows_allowed device items range asks fit is read reply same rows_are =
+      allowed_reply at device items range (Lines reply)
+      (rows_replied (map entry_of (memory_of (logged_of old)).series) at.world device
+      (types_of serving.outside.told (memory_of (logged_of old)) serving.state.store at.world serving.seen.sound.memory
+      serving.stands.world) items range fit asks
+      ∙ ap (λ l. Lines (rows l)) (sym (pin_columns name (files_of old) (memory_of (logged_of old)) device range at.world items pin is))
+      ∙ ap Lines (sym (same ∙ rows_are pages tells.true_are serving.outside.told step.shown at.world tells.points step.is
+      (step.world at.world serving.stands.world))))
+
+  -- a read that failed without a fault would have found a file that is not whole
+  pub has_risen : {T : Type 0} (before now : ℕ) (result : Result T StoreFault)
+      → ((pages : SeriesPages) → AreColumnsTrue name pages pin.columns
+      → HasReason (AreColumnsTold name pages pin.columns) before now result) → IsErrOf result store.Failed
+      → Rose before now
+  has_risen before now result reason failed = (reason pages tells.true_are).failed failed tells.told_are
+
+module _ {J F S R P : Type 0} {means : disk.Ghosts J} {counts : counted.Ghosts J} where
+  -- a refusal is the map's
+  pub refused : (old : Core J F S R P means counts) (files : List StoredFile) (at : plain.State) (next : Option plain.State)
+      → IsServing old files at next → (device : List ℕ) (items : List Item) (range : Range) (fault : PinFault)
+      → IsRefused (map entry_of (memory_of (logged_of old)).series) device items fault
+      → IsMapFault at.world device items range fault
+  refused old files at next serving device items range fault is =
+      fault_replied (map entry_of (memory_of (logged_of old)).series) at.world device
+      (types_of serving.outside.told (memory_of (logged_of old)) serving.state.store at.world serving.seen.sound.memory
+      serving.stands.world) items range fault is

@@ -1,0 +1,4 @@
+pub mod Trees
+pub mod Telling
+pub mod Pinned
+pub mod Answered

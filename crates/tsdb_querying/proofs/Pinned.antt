@@ -1,0 +1,66 @@
+-- A pin that is taken and given back leaves the core ready, in the state that it was in.
+use Rattle.std.proofs.Common.{◌≡◌, ℕ, List, [], Option, None, Some, arith, refl, sym, subst, ap, ◌∙◌}
+use Rattle.std.specs.Option.{option_map}
+use Rattle.std.specs.Prelude.{IfSome}
+use Rattle.tsdb_core.specs.Core.{files_of, logged_of}
+use Rattle.tsdb_core.specs.Pins.{IsPinned, IsUnpinned}
+use Rattle.tsdb_core.specs.declared.engine.Core.{Core}
+use Rattle.tsdb_kept.specs.Places.{KeptFile, file_at, place_at}
+use Rattle.tsdb_layers.specs.Lists.{count}
+use Rattle.tsdb_logged.specs.Logged.{log_of}
+use Rattle.tsdb_map.specs.State as plain
+use Rattle.tsdb_outside.specs.Disk.{IsLawful}
+use Rattle.tsdb_outside.specs.Files.{NamedFile, Store, StoredFile}
+use Rattle.tsdb_outside.specs.declared.disk.Disk as disk
+use Rattle.tsdb_outside.specs.declared.faults.Counted as counted
+use Rattle.tsdb_pinning.specs.Changes.{column_numbers, fewer_rights, more_rights}
+use Rattle.tsdb_pinning.specs.declared.pin.Pin.{Pin}
+use Rattle.tsdb_serving.proofs.Parts.{more_files}
+use Rattle.tsdb_serving.proofs.Steps.{quiet}
+use Rattle.tsdb_serving.specs.Flushing.{IsReady}
+use Rattle.tsdb_serving.specs.Serving.{IsServedBy, IsServing}
+use Rattle.tsdb_state.specs.Steps.{pinned, unpinned}
+
+-- no right was out, some were given out, and as many came back
+none_out : (place more back : Option (Option KeptFile)) (n : ℕ)
+    → more ≡ option_map (λ p. option_map (more_rights n) p) place
+    → back ≡ option_map (λ p. option_map (fewer_rights n) p) more
+    → IfSome (file_at place) (λ file. file.rights ≡ 0) → IfSome (file_at back) (λ file. file.rights ≡ 0)
+none_out None more back n gave came none = subst (λ b. IfSome (file_at b) (λ file. file.rights ≡ 0))
+    (sym (came ∙ ap (λ m. option_map (λ p. option_map (fewer_rights n) p) m) gave)) tt
+none_out (Some None) more back n gave came none = subst (λ b. IfSome (file_at b) (λ file. file.rights ≡ 0))
+    (sym (came ∙ ap (λ m. option_map (λ p. option_map (fewer_rights n) p) m) gave)) tt
+none_out (Some (Some file)) more back n gave came none = subst (λ b. IfSome (file_at b) (λ file. file.rights ≡ 0))
+    (sym (came ∙ ap (λ m. option_map (λ p. option_map (fewer_rights n) p) m) gave)) (omega (arith, none))
+
+module _ {J F S R P : Type 0} {means : disk.Ghosts J} {counts : counted.Ghosts J} where
+  module _ (name : R → NamedFile) (old mid new : Core J F S R P means counts) (pin : Pin F S R P)
+      (took : IsPinned name old mid pin) (gave : IsUnpinned mid new pin) where
+    pub ready_still : (store : Store) → IsReady store old → IsReady store new
+    ready_still store ready = record {
+      jobs = gave.rest.jobs [] [] (took.rest.jobs [] [] ready.jobs);
+      unread = λ n. none_out (place_at n (files_of old).places) (place_at n (files_of mid).places)
+          (place_at n (files_of new).places) (count n (column_numbers pin.columns)) (took.rights.places n)
+          (gave.rights.places n) (ready.unread n);
+      of_store = gave.rest.store store (took.rest.store store ready.of_store);
+    }
+
+    pub same_log : log_of (logged_of new) ≡ log_of (logged_of old)
+    same_log = ap (λ logged. log_of logged) (gave.rest.logged ∙ took.rest.logged)
+
+    module _ (laws : (journal : J) → IsLawful (means.state journal)) (Q : ℕ → Type 0) (files : List StoredFile)
+        (at : plain.State) (next : Option plain.State) (serving : IsServing old files at next) where
+      serves_still : IsServing new files at next
+      serves_still = let one = took.step serving.outside serving.state serving.seen in record {
+        outside = serving.outside;
+        state = unpinned one.shown serving.state.pins (pinned one.shown serving.state);
+        seen = gave.step serving.outside (pinned one.shown serving.state) one.shown serving.state.pins one.seen one.is
+            (record { before = []; behind = serving.state.pins; with_it = refl; without = refl });
+        stands = serving.stands;
+        doubt = serving.doubt;
+        held = serving.held;
+      }
+
+      pub serves_as_before : (after : plain.State) → IsServedBy Q old new files at next after at
+      serves_as_before after = quiet laws Q old new files [] at next after same_log tt serving
+          (more_files laws new files [] at next serves_still)

@@ -1,0 +1,77 @@
+use Rattle.std.proofs.Common.{Err, ap, map, refl, subst, sym, ◌∙◌}
+use Rattle.tsdb_base.specs.declared.answers.Answer.TheVariants as answer
+use Rattle.tsdb_core.specs.Core.{files_of, logged_of}
+use Rattle.tsdb_logged.specs.Logged.{memory_of}
+use Rattle.tsdb_map.specs.declared.reply.Reply.TheVariants.{Lines, Plain}
+use Rattle.tsdb_memory.specs.Shown.{entry_of}
+use Rattle.tsdb_pinning.specs.Items.{IsRefused}
+use Rattle.tsdb_pinning.specs.declared.pin.PinFault.TheVariants as fault
+use Rattle.tsdb_pins.proofs.Held.{columns_of}
+use Rattle.tsdb_pins.proofs.Named.{have_nodes}
+use Rattle.tsdb_querying.proofs.Answered.{allowed_reply, fault_allowed, fault_stays, has_risen, is_failed, not_taken, refused, rows_allowed, taken}
+use Rattle.tsdb_querying.specs.Answers.{answer_to}
+use Rattle.tsdb_serving.specs.Serving.{IsAnsweredBy, IsDrawn}
+use Rattle.tsdb_map.specs.declared.command.Command.TheVariants.{Select}
+use Rattle.tsdb_querying.proofs.query.select.Goals as goal
+
+pub returns-in-Err-NoPath-clause-answers : goal.returns-in-Err-NoPath-clause-answers
+returns-in-Err-NoPath-clause-answers g c = λ files at next serving. not_taken g.J.Disk.lawful c.args.core.now c.pin.new.self
+    c.in-Err-NoPath.ensures.not c.args.device.now c.args.items.now c.args.range.now (Plain answer.NoPath) files at next
+    serving refl (allowed_reply at c.args.device.now c.args.items.now c.args.range.now (Plain answer.NoPath)
+    (refused c.args.core.now files at next serving c.args.device.now c.args.items.now c.args.range.now fault.NoPath
+    (subst (IsRefused (map entry_of (memory_of (logged_of c.args.core.now)).series) c.args.device.now c.args.items.now)
+    c.in-Err-NoPath.field-0-is c.in-Err-NoPath.ensures.answer)))
+
+pub returns-in-Err-WrongType-clause-answers : goal.returns-in-Err-WrongType-clause-answers
+returns-in-Err-WrongType-clause-answers g c = λ files at next serving. not_taken g.J.Disk.lawful c.args.core.now
+    c.pin.new.self c.in-Err-WrongType.ensures.not c.args.device.now c.args.items.now c.args.range.now
+    (Plain answer.WrongType) files at next serving refl
+    (allowed_reply at c.args.device.now c.args.items.now c.args.range.now (Plain answer.WrongType)
+    (refused c.args.core.now files at next serving c.args.device.now c.args.items.now c.args.range.now fault.WrongType
+    (subst (IsRefused (map entry_of (memory_of (logged_of c.args.core.now)).series) c.args.device.now c.args.items.now)
+    c.in-Err-WrongType.field-0-is c.in-Err-WrongType.ensures.answer)))
+
+pub returns-in-Err-Memory-clause-answers : goal.returns-in-Err-Memory-clause-answers
+returns-in-Err-Memory-clause-answers g c = λ files at next serving. not_taken g.J.Disk.lawful c.args.core.now c.pin.new.self
+    c.in-Err-Memory.ensures.not c.args.device.now c.args.items.now c.args.range.now (Plain answer.Memory) files at next
+    serving refl tt
+
+pub select-lines-requires-clause-nodes : goal.select-lines-requires-clause-nodes
+select-lines-requires-clause-nodes g c = λ lifetimes lives. have_nodes g.F.Right.ReadRight.file (files_of c.args.core.now)
+    (memory_of (logged_of c.args.core.now)) c.args.device.now c.args.range.now c.args.items.now c.in-Ok.pin.columns
+    c.in-Ok.ensures.pin.columns
+
+pub select-lines-requires-clause-of_store : goal.select-lines-requires-clause-of_store
+select-lines-requires-clause-of_store g c = λ lifetimes lives. columns_of g.F.Right.ReadRight.file (files_of c.pin.new.self)
+    (g.F.Port.Port.store c.args.port.now)
+    (c.in-Ok.ensures.taken.rest.store (g.F.Port.Port.store c.args.port.now) c.requires.ready.of_store) c.in-Ok.pin.columns
+    c.in-Ok.ensures.taken.held
+
+pub returns-in-Ok-lines-clause-answers : goal.returns-in-Ok-lines-clause-answers
+returns-in-Ok-lines-clause-answers g c = λ files at next serving. taken g.J.Disk.lawful g.F.Right.ReadRight.file
+    c.args.core.now c.pin.new.self c.unpin.new.self c.in-Ok.pin c.in-Ok.ensures.taken c.unpin.ensures c.args.device.now
+    c.args.items.now c.args.range.now (Lines c.of.result) files at next serving refl
+    (rows_allowed g.F.Right.ReadRight.file c.args.core.now c.pin.new.self c.in-Ok.pin c.in-Ok.ensures.taken
+    (have_nodes g.F.Right.ReadRight.file (files_of c.args.core.now) (memory_of (logged_of c.args.core.now))
+    c.args.device.now c.args.range.now c.args.items.now c.in-Ok.pin.columns c.in-Ok.ensures.pin.columns)
+    files at next serving c.args.device.now c.args.items.now c.args.range.now c.requires.points c.in-Ok.ensures.answer
+    c.in-Ok.ensures.pin c.in-Ok-lines.lines.items c.of.result c.of.ensures c.in-Ok-lines.ensures.rows)
+
+pub returns-in-Err-clause-answers : goal.returns-in-Err-clause-answers
+returns-in-Err-clause-answers g c = λ files at next serving. subst (λ answer. IsAnsweredBy
+    (IsDrawn c.args.core.now c.unpin.new.self) c.args.core.now c.unpin.new.self files at next
+    (Select c.args.device.now c.args.items.now c.args.range.now) (Plain answer)) (sym c.answer_to.ensures)
+    (taken g.J.Disk.lawful g.F.Right.ReadRight.file c.args.core.now c.pin.new.self c.unpin.new.self c.in-Ok.pin
+    c.in-Ok.ensures.taken c.unpin.ensures c.args.device.now c.args.items.now c.args.range.now
+    (Plain (answer_to c.in-Err.fault)) files at next serving
+    (fault_stays at c.args.device.now c.args.items.now c.args.range.now c.in-Err.fault)
+    (fault_allowed at c.args.device.now c.args.items.now c.args.range.now c.in-Err.fault))
+
+pub returns-in-Err-clause-cause : goal.returns-in-Err-clause-cause
+returns-in-Err-clause-cause g c = λ files at next serving same. has_risen g.F.Right.ReadRight.file c.args.core.now
+    c.pin.new.self c.in-Ok.pin c.in-Ok.ensures.taken
+    (have_nodes g.F.Right.ReadRight.file (files_of c.args.core.now) (memory_of (logged_of c.args.core.now))
+    c.args.device.now c.args.range.now c.args.items.now c.in-Ok.pin.columns c.in-Ok.ensures.pin.columns)
+    files at next serving (g.F.Port.Counted.faults c.args.port.now) (g.F.Port.Counted.faults c.select-lines.new.port)
+    c.select-lines.result c.select-lines.ensures.reason
+    (c.in-Err.is ∙ ap Err (is_failed c.in-Err.fault (ap Plain (sym c.answer_to.ensures) ∙ same)))

@@ -1,0 +1,65 @@
+//! The rows of a query. Depends on tsdb_core and tsdb_pins.
+ghost use Rattle.std.specs.Prelude.{◌≡◌, ◌≤◌, false, List, Option};
+ghost use Rattle.tsdb_base.specs.declared.answers.Answer.{Answer as AnswerOf};
+ghost use Rattle.tsdb_map.specs.Apply.{ask_aggregates};
+ghost use Rattle.tsdb_map.specs.State as plain;
+ghost use Rattle.tsdb_map.specs.declared.command.Command.{Command};
+ghost use Rattle.tsdb_map.specs.declared.reply.Reply.{Reply as ReplyOf};
+ghost use Rattle.tsdb_outside.specs.Causes.{Rose};
+ghost use Rattle.tsdb_outside.specs.Files.{StoredFile};
+ghost use Rattle.tsdb_querying.specs.Answers;
+ghost use Rattle.tsdb_serving.specs.Flushing.{IsReady};
+ghost use Rattle.tsdb_serving.specs.Serving.{Answers as AreAnswered, IsServing};
+
+use std::alloc::Global;
+use tsdb_base::{Answer, List, Range};
+use tsdb_core::Core;
+use tsdb_map::{Item, Reply};
+use tsdb_outside::{Files, Journal, StoreFault};
+use tsdb_path::Path;
+use tsdb_pinning::PinFault;
+
+/// Reads the rows of items of a device over a range, of which none asks for an aggregate.
+///
+/// Answers the lines, or `NoPath` or `WrongType` as the plain map does. Answers `Device` where a file could not be read,
+/// and `Memory`. A query changes nothing: its pin is given back whatever it answers.
+pub fn select<J: Journal, F: Files>(
+    alloc: Global,
+    core: &mut Core<J, F>,
+    port: &mut F::Port,
+    device: &Path,
+    items: &[Item],
+    range: &Range,
+) -> Reply
+    requires points { ask_aggregates items.now ≡ false }
+    requires ready { IsReady (F.Port.store port.old) core.old }
+    ensures answers { AreAnswered core.old core.new (Command.Select device.now items.now range.now) result }
+    ensures ready { IsReady (F.Port.store port.old) core.new }
+    ensures same_store { F.Port.store port.new ≡ F.Port.store port.old }
+    ensures cause { (files : List StoredFile) (at : plain.State) (next : Option plain.State)
+        → IsServing core.old files at next → result ≡ ReplyOf.Plain AnswerOf.Device
+        → Rose (F.Port.faults port.old) (F.Port.faults port.new) }
+    ensures later { F.Port.faults port.old ≤ F.Port.faults port.new }
+{
+    let pin = match core.pin(device, items, range) {
+        Ok(pin) => pin,
+        Err(PinFault::NoPath) => return Reply::Plain(Answer::NoPath),
+        Err(PinFault::WrongType) => return Reply::Plain(Answer::WrongType),
+        Err(PinFault::Memory) => return Reply::Plain(Answer::Memory),
+    };
+    let lines = tsdb_pins::select(alloc, &pin, port);
+    core.unpin(pin);
+    match lines {
+        Ok(lines) => Reply::Lines(List::of(lines)),
+        Err(fault) => Reply::Plain(answer_to(fault)),
+    }
+}
+
+fn answer_to(fault: StoreFault) -> Answer
+    ensures { result ≡ Answers.answer_to fault }
+{
+    match fault {
+        StoreFault::Failed => Answer::Device,
+        StoreFault::Memory => Answer::Memory,
+    }
+}
