@@ -2,6 +2,7 @@
 ghost use Rattle.std.specs.Prelude.{◌≡◌, ◌≤◌, IfOk};
 ghost use Rattle.std.proofs.Props.{props};
 ghost use Rattle.tsdb_core.specs.Limits.{IsPairLimit};
+ghost use Rattle.tsdb_map.specs.Apply as apply;
 ghost use Rattle.tsdb_map.specs.Commands.{IsWellFormed};
 ghost use Rattle.tsdb_outside.specs.Files.{Store};
 ghost use Rattle.tsdb_serving.specs.Flushing.{IsReady};
@@ -9,14 +10,16 @@ ghost use Rattle.tsdb_serving.specs.Flushing.{IsReady};
 use mem_outside::{Fails, MemFiles, MemJournal, MemPlace};
 use std::alloc::Global;
 use std::test::Fail;
-use tsdb_base::{Answer, FileNumber};
+use tsdb_base::{Answer, FileNumber, Range};
 use tsdb_core::{Core, Options};
 use tsdb_frames::Frames;
 use tsdb_kept::KeptFiles;
 use tsdb_logged::Logged;
-use tsdb_map::{Command, Reply};
+use tsdb_map::{Command, Item, Reply};
 use tsdb_memory::MemoryStore;
 use tsdb_outside::{Files, Journal, Place, Slot};
+use tsdb_path::Path;
+use tsdb_querying::select;
 use tsdb_serving::{create, delete, flush, insert, show};
 
 /// A place with a new log.
@@ -65,6 +68,37 @@ fn flush_answer<J: Journal, F: Files>(
     }
 }
 
+/// Whether an item asks for an aggregate.
+fn ask_aggregates(items: &[Item]) -> bool
+    ensures { result ≡ apply.ask_aggregates items.now }
+{
+    for item in items {
+        if item.aggregate.is_some() {
+            return true;
+        }
+    }
+    false
+}
+
+/// What a query is answered, or none where an item asks for an aggregate.
+fn query<J: Journal, F: Files>(
+    alloc: Global,
+    core: &mut Core<J, F>,
+    port: &mut F::Port,
+    device: &Path,
+    items: &[Item],
+    range: &Range,
+) -> Option<Reply>
+    requires ready { IsReady (F.Port.store port.old) core.old }
+    ensures ready { IsReady (F.Port.store port.new) core.new }
+    ensures same_store { F.Port.store port.new ≡ F.Port.store port.old }
+{
+    if ask_aggregates(items) {
+        return None;
+    }
+    Some(select::<J, F>(alloc, core, port, device, items, range))
+}
+
 /// A core that is ready, with its files and a port of theirs.
 pub struct Served<J: Journal, F: Files> {
     core: Core<J, F>,
@@ -82,6 +116,25 @@ impl<J: Journal, F: Files> Served<J, F> {
         match change::<J, F>(alloc, &mut self.core, &mut self.port, command) {
             Some(answer) => Some(Reply::Plain(answer)),
             None => None,
+        }
+    }
+
+    /// The reply to a select, or none to another command and where an item asks for an aggregate.
+    pub fn query(&mut self, alloc: Global, command: &Command) -> Option<Reply> {
+        match command {
+            Command::Select {
+                device,
+                items,
+                range,
+            } => query::<J, F>(
+                alloc,
+                &mut self.core,
+                &mut self.port,
+                device,
+                items.items(),
+                range,
+            ),
+            _ => None,
         }
     }
 

@@ -25,6 +25,8 @@ struct Case {
 
 const CREATE: Step = Step::Line("create timeseries root.g.d.s with datatype=INT64,encoding=PLAIN");
 
+const SELECT: Step = Step::Line("select s from root.g.d");
+
 const CASES: &[Case] = &[
     // A tie at the watermark is late.
     Case {
@@ -101,6 +103,36 @@ const CASES: &[Case] = &[
             ),
         ],
     },
+    // Whatever was flushed, a select answers the last value of a time, with a late point and a delete.
+    Case {
+        limit: 10_000,
+        next: 1,
+        steps: &[
+            (CREATE, "ok\n"),
+            (SELECT, "time,s\nrows 0\n"),
+            (
+                Step::Line("insert into root.g.d(timestamp,s) values(10,1)"),
+                "ok\n",
+            ),
+            (SELECT, "time,s\n10,1\nrows 1\n"),
+            (Step::Flush, "ok\n"),
+            (SELECT, "time,s\n10,1\nrows 1\n"),
+            (
+                Step::Line("insert into root.g.d(timestamp,s) values(5,2)"),
+                "ok\n",
+            ),
+            (
+                Step::Line("insert into root.g.d(timestamp,s) values(10,3)"),
+                "ok\n",
+            ),
+            (SELECT, "time,s\n5,2\n10,3\nrows 2\n"),
+            (Step::Flush, "ok\n"),
+            (SELECT, "time,s\n5,2\n10,3\nrows 2\n"),
+            (Step::Line("delete from root.g.d.s where time=5"), "ok\n"),
+            (SELECT, "time,s\n10,3\nrows 1\n"),
+            (Step::Line("select x from root.g.d"), "path\n"),
+        ],
+    },
     // No number is left for a file: the pair stays frozen.
     Case {
         limit: 10_000,
@@ -126,9 +158,13 @@ fn take(
     match step {
         Step::Line(line) => {
             let command = command_of(alloc, line)?;
-            match served.change(alloc, &command) {
+            let reply = match served.query(alloc, &command) {
+                None => served.change(alloc, &command),
+                reply => reply,
+            };
+            match reply {
                 Some(reply) => Ok((command, reply)),
-                None => Err(Fail::from("no change")),
+                None => Err(Fail::from("a command that is not served")),
             }
         }
         Step::Flush => Ok((Command::Flush, served.flush(alloc))),
