@@ -22,11 +22,11 @@ use tsdb_path::Path;
 use tsdb_querying::select;
 use tsdb_serving::{create, delete, flush, insert, show};
 
-/// A place with a new log.
-pub fn new_place(alloc: Global) -> Result<MemPlace, Fail> {
+/// A place with a new log, where these calls on files fail.
+pub fn new_place(alloc: Global, files: &[u64]) -> Result<MemPlace, Fail> {
     let fails = Fails {
         journal: Vec::new(alloc),
-        files: Vec::new(alloc),
+        files: files.to_vec(alloc)?,
     };
     let slots = [vec![in alloc; 0u8]?, vec![in alloc; 0u8]?];
     Ok(MemPlace::new(alloc, slots, Vec::new(alloc), fails)?)

@@ -189,7 +189,7 @@ fn first_wrong(
 
 /// The first wrong step of a case.
 fn run(alloc: Global, case: &Case) -> Result<Option<usize>, Fail> {
-    let mut place = new_place(alloc)?;
+    let mut place = new_place(alloc, &[])?;
     let mut served = open(alloc, &mut place, case.limit, case.next)?;
     let wrong = first_wrong(alloc, &mut served, case.steps);
     close(&mut place, served);
@@ -201,5 +201,66 @@ fn cases(rt: HostRuntime) -> Result<(), Fail> {
     for (number, case) in CASES.iter().enumerate() {
         assert_eq!(rt; (number, run(rt.alloc(), case)?), (number, None));
     }
+    Ok(())
+}
+
+/// What a query answers while a call on the files fails.
+#[derive(Clone, Copy, PartialEq, Eq)]
+enum Answered {
+    Rows,
+    Device,
+    Wrong,
+}
+
+const ROWS: &[u8] = b"time,s\n10,1\nrows 1\n";
+
+/// What a query answers of a point, which a flush put to a file unless it failed.
+fn query_point(alloc: Global, served: &mut Served<MemJournal, MemFiles>) -> Result<Answered, Fail> {
+    let (command, reply) = take(alloc, served, SELECT)?;
+    let text = print_reply(alloc, &command, &reply)?;
+    Ok(match text.as_slice() {
+        ROWS => Answered::Rows,
+        b"device\n" => Answered::Device,
+        _ => Answered::Wrong,
+    })
+}
+
+const POINT: Step = Step::Line("insert into root.g.d(timestamp,s) values(10,1)");
+
+/// The answers of two queries of a point behind a flush.
+fn answered_twice(
+    alloc: Global,
+    served: &mut Served<MemJournal, MemFiles>,
+) -> Result<(Answered, Answered), Fail> {
+    for step in [CREATE, POINT, Step::Flush] {
+        take(alloc, served, step)?;
+    }
+    let first = query_point(alloc, served)?;
+    let second = query_point(alloc, served)?;
+    Ok((first, second))
+}
+
+/// The same, where this call on the files fails.
+fn with_failing(alloc: Global, call: u64) -> Result<(Answered, Answered), Fail> {
+    let mut place = new_place(alloc, &[call])?;
+    let mut served = open(alloc, &mut place, 10_000, 1)?;
+    let both = answered_twice(alloc, &mut served);
+    close(&mut place, served);
+    both
+}
+
+/// Each of the first calls on the files fails in turn: a query answers its rows or `device`, and the next one its rows.
+#[test]
+fn failing_reads(rt: HostRuntime) -> Result<(), Fail> {
+    let mut has_failed = false;
+    for call in 1..13 {
+        let (first, second) = with_failing(rt.alloc(), call)?;
+        assert!(rt; first != Answered::Wrong);
+        if first == Answered::Device {
+            assert!(rt; second == Answered::Rows);
+            has_failed = true;
+        }
+    }
+    assert!(rt; has_failed);
     Ok(())
 }
