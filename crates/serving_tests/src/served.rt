@@ -149,6 +149,13 @@ impl<J: Journal, F: Files> Served<J, F> {
     }
 }
 
+impl Served<MemJournal, MemFiles> {
+    /// How many bytes of files were read.
+    pub fn bytes_read(&self) -> u64 {
+        self.port.bytes_read()
+    }
+}
+
 /// A core over a log and memory that are new, the next file of which gets this number.
 fn new_core<J: Journal, F: Files>(
     alloc: Global,

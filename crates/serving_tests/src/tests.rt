@@ -264,3 +264,45 @@ fn failing_reads(rt: HostRuntime) -> Result<(), Fail> {
     assert!(rt; has_failed);
     Ok(())
 }
+
+/// Inserts points at the times from 1, and flushes them.
+fn flush_many(
+    alloc: Global,
+    served: &mut Served<MemJournal, MemFiles>,
+    count: u64,
+) -> Result<(), Fail> {
+    take(alloc, served, CREATE)?;
+    for time in 1..=count {
+        let line = format!(in alloc; "insert into root.g.d(timestamp,s) values({time},1)")?;
+        let command = command_of(alloc, &line)?;
+        served.change(alloc, &command);
+    }
+    take(alloc, served, Step::Flush)?;
+    Ok(())
+}
+
+/// What a select at time 50 answers, of many points in a file.
+fn select_one(
+    alloc: Global,
+    served: &mut Served<MemJournal, MemFiles>,
+    count: u64,
+) -> Result<bool, Fail> {
+    flush_many(alloc, served, count)?;
+    let one = Step::Line("select s from root.g.d where time=50");
+    let (command, reply) = take(alloc, served, one)?;
+    let text = print_reply(alloc, &command, &reply)?;
+    Ok(text.as_slice() == "time,s\n50,1\nrows 1\n".as_bytes())
+}
+
+/// A select at one time of a file of 5,000 points reads one page of 1,000 points of 16 bytes, and the index of the file.
+#[test]
+fn one_time_of_many(rt: HostRuntime) -> Result<(), Fail> {
+    let mut place = new_place(rt.alloc(), &[])?;
+    let mut served = open(rt.alloc(), &mut place, 1_000_000, 1)?;
+    let is_right = select_one(rt.alloc(), &mut served, 5_000);
+    let bytes = served.bytes_read();
+    close(&mut place, served);
+    assert!(rt; is_right?);
+    assert!(rt; 0 < bytes && bytes < 20_000);
+    Ok(())
+}
