@@ -12,13 +12,16 @@ use Rattle.tsfile_writer.specs.Building.{WasGiven}
 use Rattle.tsdb_base.specs.declared.ids.SeriesId.{SeriesId}
 use Rattle.tsdb_base.specs.declared.ids.Space.{Space}
 use Rattle.tsdb_base.specs.declared.point.Point.{Point}
-use Rattle.tsdb_engine.specs.Making.{IsPart, MayAdd}
-use Rattle.tsdb_engine.specs.Steps.{ComeBefore, filled_with}
+use Rattle.tsdb_engine.specs.Making.{IsOpen, IsPart, MayAdd}
+use Rattle.tsdb_engine.specs.Steps.{AreFrom, ComeBefore, filled_with}
 use Rattle.tsdb_engine.specs.declared.part.Part.{Part}
 use Rattle.tsdb_index.specs.Entries.{IsBefore}
 use Rattle.tsdb_jobs.specs.Parts.{Filled, HasPointsOf, if_any, names_of, part_of, series_of}
 use Rattle.tsdb_layers.proofs.Lists.{each_append, each_middle}
-use Rattle.tsdb_layers.specs.Lists.{EachPair}
+use Rattle.tsdb_layers.specs.Lists.{Among, EachPair}
+use Rattle.tsdb_path.specs.Nodes.{IsName, IsPath, device_of, measurement_of}
+use Rattle.tsfile_writer.specs.declared.builder.Builder.{Builder}
+use Rattle.std.specs.Prelude.{ℤ}
 use Rattle.tsdb_map.specs.declared.command.Schema.{Schema}
 use Rattle.tsdb_memtable.specs.Pairs.{Pair, points_of}
 
@@ -194,6 +197,22 @@ part_more part schema points old new is sound given count hulls paths = record {
   given = given;
   sound = each_append IsSound part (filled_with schema points ∷ []) is.sound (sound, tt);
   points = count ∙ ap (λ (n : ℕ). n + length points) is.points ∙ sym (sum_more part (filled_with schema points));
+  hulls = hulls;
+  paths = paths ∙ ap (λ (l : List (List ℕ)). l ++ schema.path ∷ []) is.paths ∙ sym (paths_more part (filled_with schema points));
+}
+
+some_among : {X : Type 0} (xs : List X) (x : X) → Among x xs → 0 < length xs
+some_among [] x there = absurd there
+some_among (y ∷ xs) x there = omega arith
+
+-- a series that was begun is ended
+pub part_ended : (part : List Filled) (schema : Schema) (points : List Point) (from to : ℤ) (old new : Part) → IsOpen part schema points old → AreFrom points from to → IsPath (device_of schema.path) → IsName (measurement_of schema.path)
+    → new.builder ≡ old.builder → new.points ≡ old.points + length points → AreHullsOf (part ++ filled_with schema points ∷ []) new.hulls.items → new.series.items ≡ old.series.items ++ schema.path ∷ []
+    → IsPart (part ++ filled_with schema points ∷ []) new
+part_ended part schema points from to old new is span device measurement same count hulls paths = record {
+  given = subst (λ (b : Builder). WasGiven b (map series_of (part ++ filled_with schema points ∷ []))) (sym same) is.given;
+  sound = each_append IsSound part (filled_with schema points ∷ []) is.sound (record { some = some_among points span.first span.has_first; device = device; measurement = measurement; points = is.in_range }, tt);
+  points = count ∙ ap (λ (n : ℕ). n + length points) is.counted ∙ sym (sum_more part (filled_with schema points));
   hulls = hulls;
   paths = paths ∙ ap (λ (l : List (List ℕ)). l ++ schema.path ∷ []) is.paths ∙ sym (paths_more part (filled_with schema points));
 }

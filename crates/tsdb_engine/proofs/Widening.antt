@@ -1,7 +1,7 @@
 -- The hulls of a part with one series more.
 use Rattle.std.proofs.Common.{◌≡◌, ◌≢◌, Bool, true, false, ℕ, suc, ℤ, ◌+◌, ◌<◌, List, [], ◌∷◌, ◌++◌, length, get_or, zero, ◌-◌, drop, set, ◌≤◌, inl, inr, ⊎_elim, refl, sym, ap, ◌∙◌, subst, arith}
 use Rattle.std.specs.Int.{int_max, int_min}
-use Rattle.std.specs.Prelude.{int_lt}
+use Rattle.std.specs.Prelude.{int_lt, OnOk, Result, Ok, Err}
 use Rattle.std.proofs.lemmas.Bool.{cases_cond, cases_lt, false≢true}
 use Rattle.std.proofs.lemmas.Int.{clamps, ints}
 use Rattle.std.specs.Prelude.{IsTrue, ◌⊎◌, ◌<ℤ◌, ◌≤ℤ◌, AllPairs, Contains}
@@ -14,7 +14,7 @@ use Rattle.std.proofs.lemmas.List.Elements.{All-from_recursion, recursion_from_A
 use Rattle.std.proofs.lemmas.List.{get_or_append_left, get_or_default, get_or_push, length-append}
 use Rattle.tsdb_memtable.specs.Points.{IsRising}
 use Rattle.tsdb_base.specs.declared.point.Point.{Point}
-use Rattle.tsdb_engine.specs.Steps.{AddsTimes, ComeBefore, EndsIn, IsWidened, filled_with}
+use Rattle.tsdb_engine.specs.Steps.{AddsTimes, AreFrom, ComeBefore, EndsIn, IsWidened, filled_with}
 use Rattle.tsdb_index.specs.Entries.{IsBefore}
 use Rattle.tsdb_jobs.specs.Built.{AreHullsOf, HasHullOver, HasTime}
 use Rattle.tsdb_jobs.specs.Parts.{Filled, names_of}
@@ -28,16 +28,6 @@ use Rattle.tsdb_plan.specs.declared.entry.Hull.{Hull}
 -- the device comes first in the order of bytes
 abbrev pub IsLess : List ℕ → List ℕ → Type 0
 IsLess a b = slice_cmp nat_cmp a b ≡ Less
-
--- the points begin and end at these times
-pub record AreFrom (points : List Point) (from to : ℤ) : Type 0 where
-  pub between : Each (λ point. (from ≤ℤ point.time) × (point.time ≤ℤ to)) points
-  pub first : Point
-  pub has_first : Among first points
-  pub at_first : first.time ≡ from
-  pub last : Point
-  pub has_last : Among last points
-  pub at_last : last.time ≡ to
 
 pub among_cases : {X : Type 0} (xs ys : List X) (x : X) → Among x (xs ++ ys) → Among x xs ⊎ Among x ys
 among_cases [] ys x there = inr there
@@ -298,3 +288,9 @@ widened_at_end hulls points device from to old new n (front, last, is, at_device
   where
     same : last ≡ old
     same = sym (get_or_push front last old (length front) refl) ∙ ap (λ (m : ℕ). get_or (front ++ last ∷ []) m old) (omega (arith, at_n, ap length is, length-append front (last ∷ []))) ∙ ap (λ (l : List Hull). get_or l n old) (sym is) ∙ at_old
+
+-- what a call does for all points of a span, it does for these
+pub times_of_span : {T E : Type 0} (result : Result T E) (device : List ℕ) (points : List Point) (from to : ℤ) (old new : List Hull) → OnOk result ((points : List Point) → AreFrom points from to → AddsTimes device points old new) → AreFrom points from to
+    → OnOk result (AddsTimes device points old new)
+times_of_span (Ok x) device points from to old new all span = all points span
+times_of_span (Err e) device points from to old new all span = tt

@@ -6,6 +6,7 @@ use Rattle.tsdb_base.specs.Values.{type_of}
 use Rattle.tsdb_index.specs.Entries.{IsBefore}
 use Rattle.tsdb_jobs.specs.Built.{AreHullsOf}
 use Rattle.tsdb_jobs.specs.Parts.{Filled, names_of, series_of}
+use Rattle.tsdb_layers.specs.Lists.{Among}
 use Rattle.tsdb_map.specs.declared.command.Schema.{Schema}
 use Rattle.tsdb_pages.specs.Pages.{IsInRange}
 use Rattle.tsdb_path.specs.Nodes.{IsName, IsPath, device_of, measurement_of}
@@ -42,6 +43,16 @@ pub record IsWidened (old : Hull) (from to : ℤ) (new : Hull) : Type 0 where
 abbrev pub EndsIn : List Hull → List ℕ → Bool → Type 0
 EndsIn hulls device true = (front : List Hull) × (last : Hull) × (hulls ≡ front ++ last ∷ []) × (last.device ≡ device)
 EndsIn hulls device false = (front : List Hull) (last : Hull) → hulls ≡ front ++ last ∷ [] → last.device ≢ device
+
+-- the points lie from the one time to the other, and both have a point
+pub record AreFrom (points : List Point) (from to : ℤ) : Type 0 where
+  pub between : Each (λ point. (from ≤ℤ point.time) × (point.time ≤ℤ to)) points
+  pub first : Point
+  pub has_first : Among first points
+  pub at_first : first.time ≡ from
+  pub last : Point
+  pub has_last : Among last points
+  pub at_last : last.time ≡ to
 
 -- hulls of a part become those with one series of the device more, which comes behind the others
 abbrev pub AddsTimes : List ℕ → List Point → List Hull → List Hull → Type 0

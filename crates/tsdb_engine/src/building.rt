@@ -32,7 +32,7 @@ pub(crate) fn begin(builder: &mut Builder, schema: &Schema) -> Result<(), Memory
 }
 
 /// Gives the last series a point of its type, later than the points before.
-fn put_point(builder: &mut Builder, point: Point) -> Result<(), Memory>
+pub(crate) fn put_point(builder: &mut Builder, point: Point) -> Result<(), Memory>
     requires { (front : List Series) × (last : Series)
         × WasGiven builder.old (front ++ last ∷ []) × MayTake point last }
     ensures { OnOk result ((front : List Series) (last : Series) → WasGiven builder.old (front ++ last ∷ [])
