@@ -2,7 +2,6 @@
 ghost use Rattle.std.specs.Prelude.{◌≡◌, ◌≤◌, IfOk};
 ghost use Rattle.std.proofs.Props.{props};
 ghost use Rattle.tsdb_core.specs.Limits.{IsPairLimit};
-ghost use Rattle.tsdb_map.specs.Apply as apply;
 ghost use Rattle.tsdb_map.specs.Commands.{IsWellFormed};
 ghost use Rattle.tsdb_outside.specs.Files.{Store};
 ghost use Rattle.tsdb_serving.specs.Flushing.{IsReady};
@@ -15,7 +14,7 @@ use tsdb_core::{Core, Options};
 use tsdb_frames::Frames;
 use tsdb_kept::KeptFiles;
 use tsdb_logged::Logged;
-use tsdb_map::{Command, Item, Reply};
+use tsdb_map::{Command, Item, Reply, ask_aggregates};
 use tsdb_memory::MemoryStore;
 use tsdb_outside::{Files, Journal, Place, Slot};
 use tsdb_path::Path;
@@ -66,18 +65,6 @@ fn flush_answer<J: Journal, F: Files>(
         Ok(()) => Answer::Done,
         Err(fault) => fault.answer(),
     }
-}
-
-/// Whether an item asks for an aggregate.
-fn ask_aggregates(items: &[Item]) -> bool
-    ensures { result ≡ apply.ask_aggregates items.now }
-{
-    for item in items {
-        if item.aggregate.is_some() {
-            return true;
-        }
-    }
-    false
 }
 
 /// What a query is answered, or none where an item asks for an aggregate.

@@ -24,3 +24,4 @@ pub use literal::value_of;
 pub use pending::{Pending, Prepared};
 pub use plain::Plain;
 pub use reply::{FileLine, Line, Listing, Reply};
+pub use select::ask_aggregates;

@@ -36,8 +36,8 @@ pub fn select(
     Ok(Reply::Lines(List::of(lines)))
 }
 
-/// Whether an item asks for an aggregate.
-fn ask_aggregates(items: &[Item]) -> bool
+/// Whether an item asks for an aggregate, so that the reply is one line of aggregates.
+pub fn ask_aggregates(items: &[Item]) -> bool
     ensures { result ≡ apply.ask_aggregates items.now }
 {
     for item in items {
