@@ -184,13 +184,6 @@ all_taken t i old new values end within taken =
     let long = length-map old (λ (c : VecDeque Point Global). c.items) in
     taken_all t i (lists_of old) values (lists_of new) (omega (arith, long, end, within)) taken
 
-pub still_so_many : (t : ℤ) (i : ℕ) (old new : List (VecDeque Point Global)) (values : List (Option Value)) → AreTakenTo t i (lists_of old) values (lists_of new) → length new ≡ length old
-still_so_many t i old new values taken =
-    let a = length-map old (λ (c : VecDeque Point Global). c.items) in
-    let b = length-map new (λ (c : VecDeque Point Global). c.items) in
-    let e = same_length t i (lists_of old) values (lists_of new) taken in
-    omega (arith, a, b, e)
-
 -- a line of the values that were taken
 pub line_taken : (u t : ℤ) (i : ℕ) (old new : List (VecDeque Point Global)) (values : List (Option Value)) (line : Line) → u ≡ t → line.time ≡ t → line.values ≡ values → length old ≤ i → i ≤ length old
     → AreTakenTo u i (lists_of old) values (lists_of new) → TakesLine t (lists_of old) line (lists_of new)

@@ -17,7 +17,7 @@ use Rattle.std.specs.Cmp.Lexicographic.{slice_cmp}
 use Rattle.std.specs.Map.{lookup}
 use Rattle.std.specs.Option.{unwrap_or}
 use Rattle.std.specs.declared.cmp.Ordering.TheVariants.{Less, Equal, Greater}
-use Rattle.std.proofs.lemmas.Bool.{false_from_ne_true, false≢true}
+use Rattle.std.proofs.lemmas.Bool.{false≢true}
 use Rattle.std.proofs.lemmas.Map.Lookups.{exact_bytes}
 use Rattle.tsdb_marks.specs.Index.{Entries, at, is_path}
 use Rattle.tsdb_marks.specs.Series.{Series, has_none, no_marks, without_old}
@@ -29,9 +29,6 @@ equal Greater h = absurd (false≢true h)
 
 pub one_path : (path other : List ℕ) → is_path path other ≡ true → path ≡ other
 one_path path other h = exact_bytes path other (equal (slice_cmp nat_cmp path other) h)
-
-pub other_path : (path other : List ℕ) → path ≢ other → is_path path other ≡ false
-other_path path other ne = false_from_ne_true _ (λ h. ne (one_path path other h))
 
 -- where no other entry changes
 pub at_other : (path other : List ℕ) (b : Bool) (old new : Option Series) (s : Series) → b ≡ is_path path other → path ≢ other → new ≡ cond b (Some s) old → unwrap_or new no_marks ≡ unwrap_or old no_marks

@@ -1,5 +1,5 @@
 -- Which numbers are named after a step, and which can be.
-use Rattle.std.proofs.Common.{◌≡◌, ◌⊎◌, inl, inr, ⊎_elim, ℕ, ◌==◌, Bool, true, false, cond, List, [], ◌∷◌}
+use Rattle.std.proofs.Common.{◌≡◌, ◌⊎◌, inl, inr, ℕ, ◌==◌, Bool, true, false, cond, List, [], ◌∷◌}
 use Rattle.std.proofs.Common.{Option, Some, None, sym, ap, subst, ◌∙◌}
 use Rattle.std.proofs.Common.{Err, Ok, arith, not, refl, ◌<◌}
 use Rattle.std.proofs.lemmas.Bool.{false≢true}
@@ -9,7 +9,6 @@ use Rattle.std.specs.declared.result.Result.{Result}
 use Rattle.std.specs.List.{AllByRecursion as Each}
 use Rattle.tsdb_layers.specs.Lists.{Among}
 use Rattle.tsdb_opening.specs.Named.{CanName, IsInRun, IsNamed, Named, NamesMore}
-use Rattle.tsdb_opening.specs.Runs.{HasOneMore}
 use Rattle.tsdb_state.specs.Records.{new_numbers}
 
 -- the new numbers of two are those of the one and those of the other
@@ -35,13 +34,6 @@ one_of_two first second n among = by (first == 0) among
     by false (inl (inl same)) = inl same
     by false (inl (inr among)) = absurd among
     by false (inr among) = inr among
-
--- nothing is named
-pub names_none : (old new : Named) → new ≡ old → NamesMore [] old new
-names_none old new same number = (
-  λ named. inr (subst (λ n. IsNamed n number) same named),
-  λ named. ⊎_elim (λ none. absurd none) (λ was. subst (λ n. IsNamed n number) (sym same) was) named,
-)
 
 -- one step, and then another
 pub names_both : (first second : List ℕ) (all : List ℕ) (old middle new : Named)
@@ -79,38 +71,6 @@ names_two first second old settled middle new none one other =
     (names_both [] (new_numbers (first ∷ [])) (new_numbers (first ∷ [])) old settled middle
     (λ n. (λ among. inr among, λ among. ⊎_elim (λ none. absurd none) (λ x. x) among)) none one)
     other
-
--- a number joins the runs
-pub names_run : (number : ℕ) (old new : Named) → (number == 0) ≡ false → old.newest ≡ None → new.newest ≡ None
-    → HasOneMore number old.runs new.runs → NamesMore (new_numbers (number ∷ [])) old new
-names_run number old new some none_old none_new more =
-    subst (λ b. NamesMore (cond b [] (number ∷ [])) old new) (sym some) (λ other. (to other, from other))
-  where
-    to : (other : ℕ) → IsNamed new other → (Among other (number ∷ [])) ⊎ IsNamed old other
-    to other (inl run) = ⊎_elim (λ same. inl (inl same)) (λ was. inr (inl was)) ((more other).0 run)
-    to other (inr newest) = let e : ◌≡◌ {A = Option ℕ} None (Some other) = sym none_new ∙ newest in absurd cc
-
-    from : (other : ℕ) → (Among other (number ∷ [])) ⊎ IsNamed old other → IsNamed new other
-    from other (inl (inl same)) = inl ((more other).1 (inl same))
-    from other (inl (inr none)) = absurd none
-    from other (inr (inl run)) = inl ((more other).1 (inr run))
-    from other (inr (inr newest)) = let e : ◌≡◌ {A = Option ℕ} None (Some other) = sym none_old ∙ newest in absurd cc
-
--- a number is the newest
-pub names_newest : (number : ℕ) (old new : Named) → (number == 0) ≡ false → old.newest ≡ None
-    → new.newest ≡ Some number → new.runs ≡ old.runs → NamesMore (new_numbers (number ∷ [])) old new
-names_newest number old new some none is same =
-    subst (λ b. NamesMore (cond b [] (number ∷ [])) old new) (sym some) (λ other. (to other, from other))
-  where
-    to : (other : ℕ) → IsNamed new other → (Among other (number ∷ [])) ⊎ IsNamed old other
-    to other (inl run) = inr (inl (subst (λ r. IsInRun r other) same run))
-    to other (inr newest) = let e : Some number ≡ Some other = sym is ∙ newest in inl (inl cc)
-
-    from : (other : ℕ) → (Among other (number ∷ [])) ⊎ IsNamed old other → IsNamed new other
-    from other (inl (inl e)) = inr (is ∙ ap Some e)
-    from other (inl (inr none)) = absurd none
-    from other (inr (inl run)) = inl (subst (λ r. IsInRun r other) (sym same) run)
-    from other (inr (inr newest)) = let e : ◌≡◌ {A = Option ℕ} None (Some other) = sym none ∙ newest in absurd cc
 
 -- what holds anyway holds of an error
 pub on_err : {T E P : Type 0} (r : Result T E) → P → OnErr r P

@@ -246,10 +246,6 @@ pub no_row : (store : Store) (device : List ℕ) (time : ℤ) (cells : List Cell
 no_row store device time cells b none own row = λ state is can.
     false≢true (sym none ∙ row.1 (is_row_of store device time cells state is own can))
 
-pub no_series : (store : Store) (time : ℤ) (cells : List CellRecord) → LacksItsSeries store.series cells
-    → HasNoInsert store time cells
-no_series store time cells lacks = λ state is can. lacks_series store [] time cells state is lacks can
-
 le_by : (a b : ℕ) → IsTrue (nat_le a b) ↔ (a ≤ b)
 le_by a b = (λ yes. grind (arith, nat_tests), λ le. grind (arith, nat_tests))
 

@@ -13,22 +13,6 @@ one_end o a b x y = let e : Some a ≡ Some b = sym x ∙ y in cc
 pub no_end : {X : Type 0} (o : Option ℕ) (a : ℕ) → o ≡ None → o ≡ Some a → X
 no_end o a x y = let e : ◌≡◌ {A = Option ℕ} None (Some a) = sym x ∙ y in absurd cc
 
--- a number is in a run exactly where it is in the last run that begins up to it
-pub in_last : (runs : List (ℕ × ℕ)) (number first last : ℕ) → AreRuns runs → IsLastUpTo runs number (Some (first, last))
-    → (number ≤ last → IsInRun runs number) × (IsInRun runs number → number ≤ last)
-in_last runs number first last are is = (
-  λ le. record { first = first; last = last; is_run = is.1; from = is.0; to = le },
-  λ run. by run (cases_lt run.first first),
-)
-  where
-    by : (run : IsInRun runs number) → (run.first < first) ⊎ (first ≤ run.first) → number ≤ last
-    by run (inl lt) = absurd (omega (arith, are.apart run.first run.last first last run.is_run is.1 lt, is.0, run.to))
-    by run (inr ge) =
-        let same : run.first ≡ first = omega (arith, ge, is.2 run.first run.last run.from run.is_run) in
-        let end : run.last ≡ last = one_end (run_from first runs) run.last last
-        (ap (λ n. run_from n runs) (sym same) ∙ run.is_run) is.1 in
-        omega (arith, run.to, end)
-
 pub in_none : (runs : List (ℕ × ℕ)) (number : ℕ) → IsLastUpTo runs number None → IsInRun runs number → ⊥
 in_none runs number none run = no_end (run_from run.first runs) run.last (none run.first run.from) run.is_run
 

@@ -180,18 +180,6 @@ module _ (opening : Opening) (items : List LogRecord) (recorded : Recorded) (goo
       by parts.Log at is = absurd is
       by (parts.File number) at is = (recorded, replay_of image records, is)
 
--- the log is damaged
-pub log_damage_in : (rest : Option (List StoredFile)) (seen : Option Image) (answer : OpenFault)
-    → IfSome seen (λ image. (part : Part) (at : ℕ) → answer ≡ fault.Damaged part at
-    → (part ≡ parts.Log) × log_damage.IsDamaged store_steps at image.a)
-    → IfSome seen (λ image. IfSome rest (λ stored. (part : Part) (at : ℕ) → AreStored stored
-    → answer ≡ fault.Damaged part at → IsDamagedIn (kept_bytes stored) image.a part at))
-log_damage_in rest None answer damaged = tt
-log_damage_in None (Some image) answer damaged = tt
-log_damage_in (Some stored) (Some image) answer damaged = λ part at are is.
-    let found = damaged part at is in
-    subst (λ p. IsDamagedIn (kept_bytes stored) image.a p at) (sym found.0) found.1
-
 -- ---- each damage is answered
 
 module _ (opening : Opening) (items : List LogRecord) (recorded : Recorded) (good : All IsRecord items)

@@ -40,11 +40,6 @@ module _ {T : Type 0} where
   cause_before (Err fault) journal mid journal_after port port_mid port_after next less less_port cause =
       earlier journal mid journal_after port port_mid port_after next less less_port fault cause
 
-pub fault_before : (journal mid journal_after port port_mid port_after next : ℕ) → journal ≤ mid → port ≤ port_mid
-    → (fault : FlushFault) → HasFlushCause mid journal_after port_mid port_after next fault
-    → HasFlushCause journal journal_after port port_after next fault
-fault_before = earlier
-
 -- a file could not be written
 pub file_cause : (journal journal_after port port_after next : ℕ) (fault : StoreFault)
     → (fault ≡ file.Failed → Rose port port_after)

@@ -1,7 +1,6 @@
 -- Finding the entry of one series: what its leaf says, where a part is bad, and what a tree has.
 use Rattle.std.proofs.Common.{◌≡◌, ◌⊎◌, inl, inr, ℕ, zero, suc, ◌+◌, ◌-◌, ◌<◌, ◌≤◌, ◌^◌, List, [], ◌∷◌, ◌++◌, length, get_or, map, take, drop, ⊎_elim, Result, Ok, Err, refl, sym, ap, subst, ◌∙◌, arith}
 use Rattle.std.specs.Prelude.{All, Contains, Option, None, Some, IfSome, IfOk}
-use Rattle.std.specs.Option.{ForSome}
 use Rattle.std.specs.List.{flat_map, AllByRecursion}
 use Rattle.std.proofs.lemmas.List.Elements.{All-contains, Contains-append_left, Contains-append_right, recursion_from_All}
 use Rattle.tsdb_fields.specs.declared.fault.FieldFault.{FieldFault}
@@ -52,13 +51,6 @@ leaf_bounds front names ps pointer behind same root is =
     bounds [] order low inside = record { from = omega (arith, low); to = omega arith }
     bounds (q ∷ qs) order low inside = let less = order.0.1 in let next = inside.0 in record { from = omega (arith, less); to = omega (arith, next) }
 
-pub leaf_within : (o : Option (List ℕ)) (root end place : ℕ) (behind : List Pointer) → IfSome o (λ b. root ≤ length b) → end ≡ end_of root behind → place ≤ end_of root behind → end_of root behind ≤ root → ForSome o (λ b. place + (end - place) ≤ length b)
-leaf_within None root end place behind inside is from to = λ b e. absurd cc
-leaf_within (Some b) root end place behind inside is from to = λ x e.
-    let same : b ≡ x = cc in
-    let n = ap length same in
-    omega (arith, inside, is, from, to, n)
-
 pub one_leaf_found : (o : Option (List ℕ)) (pointer : Pointer) (behind : List Pointer) (root end : ℕ) (part slice : List ℕ) (entries : List IndexEntry) → end ≡ end_of root behind → slice ≡ part → IfSome o (λ b. part ≡ take (end - pointer.place) (drop pointer.place b))
     → IsLeaf pointer behind slice entries → IfSome o (λ b. IsLeaf pointer behind (leaf_bytes root pointer behind b) entries)
 one_leaf_found None pointer behind root end part slice entries end_is same is leaf = tt
@@ -107,10 +99,6 @@ limit_known o front (Err Failed) has = tt
 limit_known None front (Err (Damaged at)) has = tt
 limit_known (Some b) front (Err (Damaged at)) has = let n = has.0 in let limit = front.ends.limit in omega (arith, n, limit)
 limit_known o front (Err Memory) has = tt
-
-pub file_long : (o : Option (List ℕ)) (front : Front) → IfSome o (λ b. IsFrontIn b front) → IfSome o (λ b. front.ends.root ≤ length b)
-file_long None front has = tt
-file_long (Some b) front has = let inside = has.1.tail.inside in omega (arith, inside)
 
 pub none_found : (o : Option (List ℕ)) (front : Front) (names : Names) (ps : List Pointer) → ps ≡ front.root.pointers.items → IfSome o (λ b. IsFrontIn b front) → AreBehind names ps → IfSome o (λ b. IsLookedUp b names None)
 none_found None front names ps same has behind = tt

@@ -156,16 +156,6 @@ before_tail b bytes root ps is counted = before (tail_place b - root) (omega ari
     before zero f e = absurd (let none : length bytes ≡ 0 = ap length is ∙ ap (λ (k : ℕ). length (take k (drop root b))) (sym e) in omega (arith, some, none))
     before (suc n) f e = f (omega arith)
 
--- the leaves end inside the file
-pub part_inside : (o : Option (List ℕ)) (front : Front) → IfSome o (λ b. IsFrontIn b front) → HasSomeRoot front → ForSome o (λ b. front.root.place + (front.ends.root - front.root.place) ≤ length b)
-part_inside None front has root = λ b is. absurd cc
-part_inside (Some b) front has root = λ x is.
-    let same : b ≡ x = cc in
-    let low = first_inside front.root.place front.ends.root root.0 front.root.pointers.items root.1 in
-    let inside = has.1.tail.inside in
-    let n = ap length same in
-    omega (arith, low, inside, n)
-
 pub spread_read : (front : Front) (part slice : List ℕ) (ps : List Pointer) → slice ≡ part → ps ≡ front.root.pointers.items → length part ≡ front.ends.root - front.root.place → HasSomeRoot front → AreSpread front.ends.root ps (length slice)
 spread_read front part slice ps same ps_are size root =
     let low = first_inside front.root.place front.ends.root root.0 front.root.pointers.items root.1 in
