@@ -1,6 +1,6 @@
 -- What a closing leaves.
 use Rattle.std.proofs.Common.{◌≡◌, ℕ, List, map, Option, None, Result, Ok, Err, refl, subst, sym}
-use Rattle.std.specs.Prelude.{◌≤◌, OnOk}
+use Rattle.std.specs.Prelude.{◌≤◌, OnErr, OnOk}
 use Rattle.std.specs.Option.{option_map}
 use Rattle.tsdb_frames.specs.Frames.{IsLog, disk_of, faults_of, journal_of, slot_of}
 use Rattle.tsdb_frames.specs.Log.{HasRecordsOrOneMore, IsLogOn, IsSettled}
@@ -55,6 +55,8 @@ pub closed : {J : Type 0} {means : disk.Ghosts J} {counts : counted.Ghosts J} (l
     (log : Frames J means counts) (journal : J) (outcome : Result (Unit {0}) Failed)
     → OnOk outcome ((acknowledged : List (List ℕ)) (in_doubt : Option (List ℕ))
     → IsLog (log_of logged) acknowledged in_doubt → IsLog log acknowledged None)
+    → OnErr outcome ((acknowledged : List (List ℕ)) (in_doubt : Option (List ℕ))
+    → IsLog (log_of logged) acknowledged in_doubt → IsLog log acknowledged in_doubt)
     → ((acknowledged : List (List ℕ)) (in_doubt : Option (List ℕ)) → IsLog (log_of logged) acknowledged in_doubt
     → LeavesOnly (disk_of (log_of logged)) (disk_of log)
     (λ image. HasRecordsOrOneMore acknowledged in_doubt (in_slot (slot_of (log_of logged)) image)))
@@ -62,7 +64,7 @@ pub closed : {J : Type 0} {means : disk.Ghosts J} {counts : counted.Ghosts J} (l
     → journal ≡ journal_of log
     → ((acknowledged : List (List ℕ)) → IsLog log acknowledged None → IsSettled (slot_of log) (means.state journal))
     → IsClosed logged (means.state journal) (counts.faults journal)
-closed {J} {means} {counts} logged log journal outcome settled_log moments slot cause is settled_slot = record {
+closed {J} {means} {counts} logged log journal outcome settled_log failed_log moments slot cause is settled_slot = record {
   moments = λ outside state at next sound stands leads. closing_moments logged outside state at sound stands next
       (means.state journal) leads
       (subst (λ (j : J). LeavesOnly (disk_of (log_of logged)) (means.state j)
@@ -71,9 +73,24 @@ closed {J} {means} {counts} logged log journal outcome settled_log moments slot 
       (moments (map spelling outside.items) (option_map spelling state.doubt) sound.log.log));
   sound = λ not_risen outside state at files sound stands holds. by outcome settled_log cause not_risen outside state
       at files sound stands holds;
+  undoubted = λ outside state at files none sound stands holds. closed_sound logged outside state at sound stands journal
+      log files (still outcome settled_log failed_log (map spelling outside.items)
+      (subst (λ d. IsLog (log_of logged) (map spelling outside.items) (option_map spelling d)) none sound.log.log)) slot is
+      (settled_slot (map spelling outside.items) (still outcome settled_log failed_log (map spelling outside.items)
+      (subst (λ d. IsLog (log_of logged) (map spelling outside.items) (option_map spelling d)) none sound.log.log))) holds;
   later = subst (λ (j : J). counts.faults (log_of logged).journal ≤ counts.faults j) (sym is) cause.later;
 }
   where
+    -- with nothing in doubt the log goes on with its records, whether it was settled or not
+    still : (outcome : Result (Unit {0}) Failed)
+        → OnOk outcome ((acknowledged : List (List ℕ)) (in_doubt : Option (List ℕ))
+        → IsLog (log_of logged) acknowledged in_doubt → IsLog log acknowledged None)
+        → OnErr outcome ((acknowledged : List (List ℕ)) (in_doubt : Option (List ℕ))
+        → IsLog (log_of logged) acknowledged in_doubt → IsLog log acknowledged in_doubt)
+        → (acknowledged : List (List ℕ)) → IsLog (log_of logged) acknowledged None → IsLog log acknowledged None
+    still (Ok done) settled_log failed_log acknowledged was = settled_log acknowledged None was
+    still (Err fault) settled_log failed_log acknowledged was = failed_log acknowledged None was
+
     by : (outcome : Result (Unit {0}) Failed)
         → OnOk outcome ((acknowledged : List (List ℕ)) (in_doubt : Option (List ℕ))
         → IsLog (log_of logged) acknowledged in_doubt → IsLog log acknowledged None)
