@@ -1,15 +1,19 @@
 -- What stands at a place once another place has changed.
 use Rattle.std.proofs.Common.{◌≡◌, ◌≢◌, ℕ, Bool, true, false, cond, [], ◌∷◌, Some, None, refl, sym, ap, ◌∙◌}
-use Rattle.std.proofs.Common.{arith, nat_eq}
+use Rattle.std.proofs.Common.{arith, nat_eq, ◌<◌, Option, subst, Less}
 use Rattle.std.specs.Prelude.{◌||◌}
-use Rattle.std.specs.Cmp.{Equal-is}
-use Rattle.std.specs.Ordering.{is_eq, nat_cmp}
+use Rattle.std.specs.Cmp.{Equal-is, ranks}
+use Rattle.std.specs.Ordering.{MatchOrdering, is_eq, nat_cmp}
+use Rattle.std.specs.List.{All, AllByRecursion as Each}
+use Rattle.std.specs.BTreeMap.Range.{IsLtBy}
+use Rattle.std.specs.Map.{keys_of}
+use Rattle.std.proofs.lemmas.List.Elements.{recursion_from_All}
 use Rattle.std.proofs.lemmas.Bool.{false≢true}
 use Rattle.std.proofs.lemmas.Bool.Decides.{nat_tests}
 use Rattle.std.proofs.lemmas.Cmp.{nat_cmp_total, tied_itself}
 use Rattle.std.proofs.lemmas.Bool.{false_from_ne_true}
 use Rattle.std.proofs.lemmas.Map.Lookups.{exact_unsigned}
-use Rattle.tsdb_kept.specs.Places.{OnlyMakesPlaces, Places, TakesAway, file_at, is_number, is_one_of, place_at}
+use Rattle.tsdb_kept.specs.Places.{KeptFile, OnlyMakesPlaces, Places, TakesAway, file_at, is_number, is_one_of, place_at}
 
 pub same_number : (number other : ℕ) → is_number number other ≡ true → number ≡ other
 same_number number other is = exact_unsigned number other ((Equal-is (nat_cmp number other)).0 is)
@@ -59,3 +63,16 @@ one_taken number old new set other =
         by : (b : Bool) → nat_eq other number ≡ b → false ≡ (nat_eq other number || false)
         by false e = sym (ap (λ b. b || false) e)
         by true e = absurd (false≢true (sym is ∙ is_same number other (equal number other e)))
+
+-- the numbers behind the first are above it
+pub all_above : (number : ℕ) (places : Places) → All (IsLtBy nat_cmp number) (keys_of places)
+    → Each (λ (other : ℕ × Option KeptFile). number < other.0) places
+all_above number places above = over places (recursion_from_All (IsLtBy nat_cmp number) (keys_of places) above)
+  where
+    less_from : (a b : ℕ) → nat_cmp a b ≡ Less → a < b
+    less_from a b is = subst (λ order. MatchOrdering order (a < b) (a ≡ b) (b < a)) is (ranks a b)
+
+    over : (places : Places) → Each (IsLtBy nat_cmp number) (keys_of places)
+        → Each (λ (other : ℕ × Option KeptFile). number < other.0) places
+    over [] above = tt
+    over (place ∷ places) above = (less_from number place.0 above.0, over places above.1)

@@ -1,6 +1,6 @@
 -- What becomes of the tokens at the end.
-use Rattle.std.specs.Prelude.{◌≡◌, ◌+◌, ◌^◌, ◌<◌, List, ◌++◌, length, map, Option, None, Some}
-use Rattle.std.specs.List.{AllZip, flat_map}
+use Rattle.std.specs.Prelude.{◌≡◌, ◌+◌, ◌^◌, ◌<◌, List, [], ◌∷◌, ◌++◌, length, map, Option, None, Some, ⊤}
+use Rattle.std.specs.List.{AllByRecursion as Each, AllZip, flat_map}
 use Rattle.tsdb_kept.specs.Places.{KeptFile, Places}
 use Rattle.tsdb_layers.specs.Lists.{if_some}
 use Rattle.tsdb_outside.specs.Disk.{WhereTold}
@@ -9,6 +9,11 @@ use Rattle.tsdb_outside.specs.Files.{NamedFile, PutsBack, StoredFile}
 -- the names of the kept files, in order of their numbers
 abbrev pub names_at : Places → List NamedFile
 names_at places = flat_map (λ place. map (λ file. file.name) (if_some place.1)) places
+
+-- the numbers of the places rise
+abbrev pub AreRising : Places → Type 0
+AreRising [] = ⊤
+AreRising (place ∷ places) = Each (λ other. place.0 < other.0) places × AreRising places
 
 -- the token names the stored file, and tells its bytes
 pub record IsNamed (name : NamedFile) (file : StoredFile) : Type 0 where

@@ -59,7 +59,7 @@ impl<F: Files> Model for KeptFiles<F> {
 }
 
 impl<F: Files> KeptFiles<F> {
-    ghost use Rattle.tsdb_kept.specs.Closing.{ArePutBack, names_at};
+    ghost use Rattle.tsdb_kept.specs.Closing.{ArePutBack, AreRising, names_at};
     ghost use Rattle.tsdb_kept.specs.Files.{Appends, AreKept, IsOpen, KeepsLists, KeptFiles as KeptFilesOf, entries_in};
     ghost use Rattle.tsdb_kept.specs.Files.{kept_file};
     ghost use Rattle.tsdb_kept.specs.Files.{listed_borns, none_kept};
@@ -391,6 +391,7 @@ impl<F: Files> KeptFiles<F> {
         requires no_rights { AreUnread self.places }
         requires store { AreOfStore (F.store files.old) self.places }
         ensures at_rest { WhereTold (ArePutBack (names_at self.places)) (F.at_rest files.old) (F.at_rest files.new) }
+        ensures rising { AreRising self.places }
         ensures same_store { F.store files.new ≡ F.store files.old }
         ensures faults { F.faults files.new ≡ F.faults files.old }
     {

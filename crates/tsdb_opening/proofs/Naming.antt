@@ -1,6 +1,6 @@
 -- Which numbers are named after a step, and which can be.
-use Rattle.std.proofs.Common.{◌≡◌, ◌⊎◌, inl, inr, ℕ, ◌==◌, Bool, true, false, cond, List, [], ◌∷◌}
-use Rattle.std.proofs.Common.{Option, Some, None, sym, ap, subst, ◌∙◌}
+use Rattle.std.proofs.Common.{◌≡◌, ◌⊎◌, inl, inr, ⊎_elim, ℕ, ◌==◌, Bool, true, false, cond, List, [], ◌∷◌}
+use Rattle.std.proofs.Common.{sym, subst}
 use Rattle.std.proofs.Common.{Err, Ok, arith, not, refl, ◌<◌}
 use Rattle.std.proofs.lemmas.Bool.{false≢true}
 use Rattle.tsdb_state.specs.Limits.{end_of_numbers}
@@ -8,7 +8,7 @@ use Rattle.std.specs.Prelude.{◌↔◌, IsTrue, OnErr}
 use Rattle.std.specs.declared.result.Result.{Result}
 use Rattle.std.specs.List.{AllByRecursion as Each}
 use Rattle.tsdb_layers.specs.Lists.{Among}
-use Rattle.tsdb_opening.specs.Named.{CanName, IsInRun, IsNamed, Named, NamesMore}
+use Rattle.tsdb_opening.specs.Named.{CanName, IsNamed, Named, NamesMore}
 use Rattle.tsdb_state.specs.Records.{new_numbers}
 
 -- the new numbers of two are those of the one and those of the other

@@ -1,9 +1,9 @@
 use Rattle.std.proofs.Common.{◌≡◌, ◌∷◌, [], Option, length, sym, ap, subst, ◌∙◌, arith}
 use Rattle.std.specs.Prelude.{IfSome}
 use Rattle.std.proofs.lemmas.List.{nil_from_length}
-use Rattle.tsdb_kept.specs.Closing.{names_at}
+use Rattle.tsdb_kept.specs.Closing.{AreRising, names_at}
 use Rattle.tsdb_kept.specs.Places.{KeptFile, Places, file_at}
-use Rattle.tsdb_kept.proofs.PlaceFacts.{one_taken}
+use Rattle.tsdb_kept.proofs.PlaceFacts.{all_above, one_taken}
 use Rattle.tsdb_kept.proofs.PutBack.{IsAtRestAfter, next_at_rest, none_at_rest}
 use Rattle.tsdb_kept.proofs.Taken.{still_all}
 use Rattle.tsdb_kept.proofs.closing.keep_files.Goals as goal
@@ -39,6 +39,8 @@ loop-preserved g c =
           c.loop.invariant.5 last
           (subst After (sym removal) (next_at_rest c.in-Some._number c.in-Some.place new _ _ last
           c.keep_file.ensures.at_rest rest)),
+      λ rest. c.loop.invariant.6 (subst AreRising (sym removal)
+          (all_above c.in-Some._number new c.in-Some.ensures.all_above, rest)),
     )
 
 pub returns-clause-at_rest : goal.returns-clause-at_rest
@@ -50,3 +52,10 @@ returns-clause-at_rest g c =
     IsAtRestAfter (names_at entries) (g.F.Files.at_rest c.loop.files) (g.F.Files.at_rest c.loop.files) in
     c.loop.invariant.5 (g.F.Files.at_rest c.loop.files)
     (subst After (sym none) (none_at_rest (g.F.Files.at_rest c.loop.files)))
+
+pub returns-clause-rising : goal.returns-clause-rising
+returns-clause-rising g c =
+    let none : c.loop.places.entries ≡ [] =
+    nil_from_length c.loop.places.entries
+    (omega (arith, c.loop.invariant.0, c.loop-test.false, c.loop.auto.counter-end)) in
+    c.loop.invariant.6 (subst AreRising (sym none) tt)
