@@ -3,7 +3,7 @@ ghost use Rattle.std.specs.Prelude.{◌≡◌, [], length};
 ghost use Rattle.std.specs.Option.{option_map};
 ghost use Rattle.tsdb_core.specs.Limits.{IsPairLimit};
 ghost use Rattle.tsdb_held.specs.Held.{AreFilesOf, TellTheirBytes};
-ghost use Rattle.tsdb_kept.specs.Files.{entries_in};
+ghost use Rattle.tsdb_kept.specs.Files.{AreKept, entries_in};
 ghost use Rattle.tsdb_logged.specs.Logged.{Outside};
 ghost use Rattle.tsdb_memtable.specs.Pairs.{count};
 ghost use Rattle.tsdb_state.specs.NewStore.{opened};
@@ -101,7 +101,8 @@ impl<J: Journal, F: Files> Core<J, F> {
 
     /// The files on their way out, in the order in which they came.
     pub fn outgoing(&self) -> &[Outgoing]
-        ensures { result.now ≡ (files_of self.now).outgoing }
+        ensures files { result.now ≡ (files_of self.now).outgoing }
+        ensures kept { AreKept (files_of self.now) }
     {
         self.files.outgoing()
     }

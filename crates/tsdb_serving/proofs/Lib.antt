@@ -7,4 +7,5 @@ pub mod Jobs
 pub mod Parts
 pub mod Possible
 pub mod Shown
+pub mod Slots
 pub mod Steps

@@ -47,6 +47,11 @@ module _ {J F S R P : Type 0} {means : disk.Ghosts J} {counts : counted.Ghosts J
   abbrev pub slot_under : Core J F S R P means counts → Slot
   slot_under core = slot_of (log_of (logged_of core))
 
+  -- The log stays in its slot, and numbers for files are drawn in their order.
+  pub record StaysInPlace (old new : Core J F S R P means counts) : Type 0 where
+    pub slot : slot_under new ≡ slot_under old
+    pub next : next_of old ≤ next_of new
+
   -- The core is in the state, and the record in doubt, if there is one, leads to the next one. The files that it keeps
   -- are held wherever these are.
   pub record IsServing (core : Core J F S R P means counts) (files : List StoredFile) (at : plain.State)

@@ -10,7 +10,7 @@ ghost use Rattle.tsdb_outside.specs.Causes.{Rose};
 ghost use Rattle.tsdb_outside.specs.Files.{Store};
 ghost use Rattle.tsdb_serving.specs.Faults.{HasFlushCause};
 ghost use Rattle.tsdb_serving.specs.Flushing.{GoesOn, IsReady, faults_under};
-ghost use Rattle.tsdb_serving.specs.Serving.{Answers};
+ghost use Rattle.tsdb_serving.specs.Serving.{Answers, StaysInPlace};
 
 use crate::fault::FlushFault;
 use crate::flushing::flush_oldest;
@@ -26,6 +26,7 @@ pub fn create<J: Journal, F: Files>(core: &mut Core<J, F>, schema: &Schema) -> A
     requires { IsSchema schema.now }
     ensures answers { Answers core.old core.new (Command.Create schema.now) (Reply.Plain result) }
     ensures ready { (store : Store) → IsReady store core.old → IsReady store core.new }
+    ensures stays { StaysInPlace core.old core.new }
     ensures cause { result ≡ AnswerOf.Device → Rose (faults_under core.old) (faults_under core.new) }
     ensures later { faults_under core.old ≤ faults_under core.new }
 {
@@ -36,6 +37,7 @@ pub fn create<J: Journal, F: Files>(core: &mut Core<J, F>, schema: &Schema) -> A
 pub fn delete<J: Journal, F: Files>(core: &mut Core<J, F>, series: &Path, range: &Range) -> Answer
     ensures answers { Answers core.old core.new (Command.Delete series.now range.now) (Reply.Plain result) }
     ensures ready { (store : Store) → IsReady store core.old → IsReady store core.new }
+    ensures stays { StaysInPlace core.old core.new }
     ensures cause { result ≡ AnswerOf.Device → Rose (faults_under core.old) (faults_under core.new) }
     ensures later { faults_under core.old ≤ faults_under core.new }
 {
@@ -56,6 +58,7 @@ pub fn insert<J: Journal, F: Files>(
     ensures answers { (F.Port.store port.old).tells ≡ true
         → Answers core.old core.new (Command.Insert device.now row.now) (Reply.Plain result) }
     ensures ready { IsReady (F.Port.store port.old) core.new }
+    ensures stays { StaysInPlace core.old core.new }
     ensures same_store { F.Port.store port.new ≡ F.Port.store port.old }
     ensures cause { result ≡ AnswerOf.Device → Rose (faults_under core.old) (faults_under core.new)
         ⊎ Rose (F.Port.faults port.old) (F.Port.faults port.new) }

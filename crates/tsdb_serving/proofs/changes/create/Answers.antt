@@ -1,4 +1,4 @@
-use Rattle.std.proofs.Common.{refl, subst}
+use Rattle.std.proofs.Common.{arith, refl, subst}
 use Rattle.tsdb_answers.proofs.Following.{creation_follows}
 use Rattle.tsdb_core.specs.Core.{logged_of}
 use Rattle.tsdb_logged.specs.Commands.{create_record}
@@ -25,3 +25,7 @@ returns-clause-answers g c = λ files at next serving. answered g.J.Disk.lawful 
 pub returns-clause-ready : goal.returns-clause-ready
 returns-clause-ready g c = λ store ready. kept_ready c.args.core.now c.create.new.self c.create.ensures.command.kept store
     ready
+
+pub returns-clause-stays : goal.returns-clause-stays
+returns-clause-stays g c = let next = c.create.ensures.command.kept.next in
+    record { slot = c.create.ensures.command.slot; next = omega (arith, next) }

@@ -5,6 +5,7 @@ use Rattle.tsdb_map.specs.declared.command.Command.TheVariants.{Insert}
 use Rattle.tsdb_map.specs.declared.reply.Reply.TheVariants.{Plain}
 use Rattle.tsdb_serving.proofs.Answered.{HasStamp, allowed, behind, flush_failed, insert_stamp, row_answered, stamp_is}
 use Rattle.tsdb_serving.proofs.Answered.{world_is}
+use Rattle.tsdb_serving.proofs.Slots.{row_slot}
 use Rattle.tsdb_serving.proofs.Causes.{device_cause, full_cause, rose_later}
 use Rattle.tsdb_serving.proofs.Jobs.{drawn_first, drawn_second, kept_ready}
 use Rattle.tsdb_serving.specs.Flushing.{faults_under}
@@ -57,3 +58,16 @@ returns-in-Err-clause-cause g c = λ device. device_cause _ _ _ _ _ c.in-Err.fau
 
 pub returns-in-Err-clause-later : goal.returns-in-Err-clause-later
 returns-in-Err-clause-later g c = (c.make_room.ensures.goes_on.later, c.make_room.ensures.later)
+
+pub returns-in-Ok-clause-stays : goal.returns-in-Ok-clause-stays
+returns-in-Ok-clause-stays g c =
+    let next = c.insert.ensures.kept.next in
+    let drawn = c.make_room.ensures.goes_on.next in
+    record {
+      slot = row_slot c.make_room.new.core c.insert.new.self c.args.device.now c.args.row.now c.insert.result
+          c.insert.ensures.row ∙ c.make_room.ensures.goes_on.slot;
+      next = omega (arith, next, drawn);
+    }
+
+pub returns-in-Err-clause-stays : goal.returns-in-Err-clause-stays
+returns-in-Err-clause-stays g c = record { slot = c.make_room.ensures.goes_on.slot; next = c.make_room.ensures.goes_on.next }
