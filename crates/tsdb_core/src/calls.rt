@@ -1,6 +1,6 @@
 //! The calls of a core that change it. Depends on `engine`.
 ghost use Rattle.std.specs.Prelude.{◌≡◌, ◌⊎◌, ◌↔◌, ◌<◌, IsTrue, length};
-ghost use Rattle.tsdb_kept.specs.Closing.{ArePutBack, names_at};
+ghost use Rattle.tsdb_kept.specs.Closing.{ArePutBack, AreRising, names_at};
 ghost use Rattle.tsdb_kept.specs.Places.{AreOfStore, AreUnread};
 ghost use Rattle.tsdb_log.specs.declared.record.LogRecord.{LogRecord};
 ghost use Rattle.tsdb_logged.specs.Answers.{IsCreateAnswer, IsDeleteAnswer, IsFreezeAnswer};
@@ -107,6 +107,7 @@ impl<J: Journal, F: Files> Core<J, F> {
         ensures log { IsClosed (logged_of self) (J.state result) (J.faults result) }
         ensures at_rest { WhereTold (ArePutBack (names_at (files_of self).places)) (F.at_rest files.old)
             (F.at_rest files.new) }
+        ensures rising { AreRising (files_of self).places }
         ensures same_store { F.store files.new ≡ F.store files.old }
         ensures faults { F.faults files.new ≡ F.faults files.old }
     {

@@ -15,8 +15,8 @@ use Rattle.tsdb_described.specs.Steps.{AddsHull, AddsPath, IsSummary, Says}
 use Rattle.tsdb_described.specs.Trees.{tree_part}
 use Rattle.tsdb_described.specs.declared.summary.Summary.{Summary}
 use Rattle.tsdb_engine.proofs.Parts.{before_middle}
-use Rattle.tsdb_engine.proofs.Widening.{AreFrom, from_ends}
-use Rattle.tsdb_engine.specs.Steps.{ComeBefore}
+use Rattle.tsdb_engine.proofs.Widening.{from_ends}
+use Rattle.tsdb_engine.specs.Steps.{AreFrom, ComeBefore}
 use Rattle.tsdb_index.specs.declared.index.IndexEntry.{IndexEntry}
 use Rattle.tsdb_jobs.specs.Built.{paths_of}
 use Rattle.tsdb_jobs.specs.Parts.{Filled}

@@ -1,5 +1,5 @@
 -- Changes of a user: what each answers, and which states it leads to.
-use Rattle.std.proofs.Common.{◌≡◌, ◌≢◌, ℕ, ◌+◌, ◌<◌, List, [], ◌++◌, Option, None, Some, inl, inr, refl, sym, ap, arith}
+use Rattle.std.proofs.Common.{◌≡◌, ◌≢◌, ◌⊎◌, ℕ, ◌+◌, ◌<◌, List, [], ◌++◌, Option, None, Some, inl, inr, refl, sym, ap, arith}
 use Rattle.std.proofs.Common.{subst, ◌∙◌}
 use Rattle.tsdb_answers.specs.Answers.{IsInsertAnswer, IsMapAnswer, IsTried}
 use Rattle.tsdb_base.specs.declared.answers.Answer.{Answer}
@@ -15,13 +15,14 @@ use Rattle.tsdb_log.specs.declared.record.LogRecord.TheVariants as item
 use Rattle.tsdb_logged.specs.Answers.{IsCreateAnswer, IsDeleteAnswer}
 use Rattle.tsdb_logged.specs.Commands.{IsAny}
 use Rattle.tsdb_logged.specs.Logged.{Outside, log_of, memory_of, with_record}
-use Rattle.tsdb_map.specs.Apply.{accepted}
+use Rattle.tsdb_map.specs.Apply.{accepted, reply_of}
 use Rattle.tsdb_map.specs.History.{IsAllowed, IsChange, raise, state_after}
 use Rattle.tsdb_map.specs.State as plain
 use Rattle.tsdb_map.specs.World.{World}
 use Rattle.tsdb_map.specs.declared.command.Command.{Command}
 use Rattle.tsdb_map.specs.declared.command.Command.TheVariants as command
 use Rattle.tsdb_map.specs.declared.command.Row.{Row}
+use Rattle.tsdb_map.specs.declared.reply.Reply.{Reply}
 use Rattle.tsdb_map.specs.declared.reply.Reply.TheVariants.{Plain}
 use Rattle.tsdb_memory.specs.Store.{Store}
 use Rattle.tsdb_outside.specs.Disk.{Image, IsLawful}
@@ -31,9 +32,9 @@ use Rattle.tsdb_outside.specs.declared.faults.Counted as counted
 use Rattle.tsdb_replay.specs.Stores.{IsStateOf}
 use Rattle.tsdb_serving.proofs.Held.{either_wider, held_more, same_state}
 use Rattle.tsdb_serving.proofs.Parts.{froze, unchanged}
-use Rattle.tsdb_serving.proofs.Steps.{quiet, then, then_settled}
+use Rattle.tsdb_serving.proofs.Steps.{moved, moved_left, quiet, quiet_left, then, then_left, then_settled}
 use Rattle.tsdb_serving.specs.Faults.{answer_of}
-use Rattle.tsdb_serving.specs.Serving.{IsAnsweredBy, IsDrawn, IsServed, IsServedBy, IsServing, LeavesEither, MayDoubt, disk_under}
+use Rattle.tsdb_serving.specs.Serving.{IsAnsweredBy, IsDrawn, IsServed, IsServedBy, IsServing, LeavesDoubt, LeavesEither, MayDoubt, disk_under}
 use Rattle.tsdb_serving.specs.Serving.{slot_under}
 use Rattle.tsdb_serving.specs.declared.fault.FlushFault.{FlushFault}
 use Rattle.tsdb_serving.specs.declared.fault.FlushFault.TheVariants as fault
@@ -142,6 +143,87 @@ fault_not_done fault.Device is = absurd cc
 fault_not_done fault.Memory is = absurd cc
 fault_not_done (fault.Full counter) is = absurd cc
 
+-- ---- what is in doubt
+
+-- nothing, what was, or the state after the record, where the device failed
+abbrev pub Doubts : Option plain.State → plain.State → Answer → Option plain.State → Type 0
+Doubts next after result doubt =
+    (doubt ≡ None) ⊎ ((doubt ≡ next) ⊎ ((result ≡ answer.Device) × (doubt ≡ Some after)))
+
+-- so too where a pair may have been frozen before it
+abbrev RowDoubts : Option plain.State → plain.State → plain.State → Answer → Option plain.State → Type 0
+RowDoubts next at after result doubt =
+    (doubt ≡ None) ⊎ ((doubt ≡ next) ⊎ ((doubt ≡ Some at) ⊎ ((result ≡ answer.Device) × (doubt ≡ Some after))))
+
+accepts : (world : World) (asked : Command) (result : Answer) → result ≡ answer.Device → IsMapAnswer world asked result
+    → reply_of world asked ≡ Plain answer.Done
+accepts world asked result is map = subst (λ answer. IsMapAnswer world asked answer) is map
+
+pub left_in_doubt : (next : Option plain.State) (at : plain.State) (asked : Command) (result : Answer)
+    (doubt : Option plain.State) → IsChange asked → IsMapAnswer at.world asked result
+    → Doubts next (done_after at asked) result doubt → LeavesDoubt next at asked (Plain result) doubt
+left_in_doubt next at asked result doubt change map (inl none) = inl none
+left_in_doubt next at asked result doubt change map (inr (inl was)) = inr (inl was)
+left_in_doubt next at asked result doubt change map (inr (inr failed)) = inr (inr (inr (record {
+  change = change;
+  failed = ap Plain failed.0;
+  accepted = accepts at.world asked result failed.0 map;
+  leads = failed.1;
+})))
+
+row_in_doubt : (next : Option plain.State) (at : plain.State) (device : List ℕ) (row : Row) (result : Answer)
+    (doubt : Option plain.State) → IsMapAnswer at.world (command.Insert device row) result
+    → RowDoubts next at (done_after at (command.Insert device row)) result doubt
+    → LeavesDoubt next at (command.Insert device row) (Plain result) doubt
+row_in_doubt next at device row result doubt map (inl none) = inl none
+row_in_doubt next at device row result doubt map (inr (inl was)) = inr (inl was)
+row_in_doubt next at device row result doubt map (inr (inr (inl same))) = inr (inr (inl (tt, same)))
+row_in_doubt next at device row result doubt map (inr (inr (inr failed))) = inr (inr (inr (record {
+  change = refl;
+  failed = ap Plain failed.0;
+  accepted = accepts at.world (command.Insert device row) result failed.0 map;
+  leads = failed.1;
+})))
+
+-- what a step left in doubt that keeps the state
+kept_doubts : (next : Option plain.State) (at after : plain.State) (result : Answer) (doubt : Option plain.State)
+    → MayDoubt next at at doubt → RowDoubts next at after result doubt
+kept_doubts next at after result doubt (inl none) = inl none
+kept_doubts next at after result doubt (inr (inl was)) = inr (inl was)
+kept_doubts next at after result doubt (inr (inr (inl same))) = inr (inr (inl same))
+kept_doubts next at after result doubt (inr (inr (inr same))) = inr (inr (inl same))
+
+-- such a step, and then a record
+then_doubts : (next : Option plain.State) (at after : plain.State) (result : Answer) (mid doubt : Option plain.State)
+    → MayDoubt next at at mid → RowDoubts mid at after result doubt → RowDoubts next at after result doubt
+then_doubts next at after result mid doubt may (inl none) = inl none
+then_doubts next at after result mid doubt may (inr (inl was)) =
+    kept_doubts next at after result doubt (subst (MayDoubt next at at) (sym was) may)
+then_doubts next at after result mid doubt may (inr (inr (inl same))) = inr (inr (inl same))
+then_doubts next at after result mid doubt may (inr (inr (inr failed))) = inr (inr (inr failed))
+
+as_row : (next : Option plain.State) (at after : plain.State) (result : Answer) (doubt : Option plain.State)
+    → Doubts next after result doubt → RowDoubts next at after result doubt
+as_row next at after result doubt (inl none) = inl none
+as_row next at after result doubt (inr (inl was)) = inr (inl was)
+as_row next at after result doubt (inr (inr failed)) = inr (inr (inr failed))
+
+-- what an insert leaves in doubt behind a step that keeps the state
+pub behind_doubts : (next : Option plain.State) (at : plain.State) (device : List ℕ) (row : Row) (reply : Reply)
+    (mid doubt : Option plain.State) → MayDoubt next at at mid
+    → LeavesDoubt mid at (command.Insert device row) reply doubt
+    → LeavesDoubt next at (command.Insert device row) reply doubt
+behind_doubts next at device row reply mid doubt may (inl none) = inl none
+behind_doubts next at device row reply mid doubt may (inr (inl was)) =
+    by (subst (MayDoubt next at at) (sym was) may)
+  where
+    by : MayDoubt next at at doubt → LeavesDoubt next at (command.Insert device row) reply doubt
+    by (inl none) = inl none
+    by (inr (inl was)) = inr (inl was)
+    by (inr (inr (inl same))) = inr (inr (inl (tt, same)))
+    by (inr (inr (inr same))) = inr (inr (inl (tt, same)))
+behind_doubts next at device row reply mid doubt may (inr (inr left)) = inr (inr left)
+
 module _ {J F S R P : Type 0} {means : disk.Ghosts J} {counts : counted.Ghosts J}
     (laws : (journal : J) → IsLawful (means.state journal)) where
   -- ---- one record
@@ -177,6 +259,17 @@ module _ {J F S R P : Type 0} {means : disk.Ghosts J} {counts : counted.Ghosts J
 
     still : new ≡ old → IsServedBy Q old new files at next then_state at
     still same = kept (ap (λ (core : Core J F S R P means counts). log_of (logged_of core)) same)
+        (subst (λ (core : Core J F S R P means counts). IsSeen core serving.outside serving.state) (sym same)
+        serving.seen)
+
+    kept_left : (same : log_of (logged_of new) ≡ log_of (logged_of old))
+        (seen : IsSeen new serving.outside serving.state) → (kept same seen).doubt ≡ next
+    unfolding kept
+    kept_left same seen = quiet_left laws Q old new files [] at next then_state same tt serving (shown seen)
+
+    still_left : (same : new ≡ old) → (still same).doubt ≡ next
+    unfolding still
+    still_left same = kept_left (ap (λ (core : Core J F S R P means counts). log_of (logged_of core)) same)
         (subst (λ (core : Core J F S R P means counts). IsSeen core serving.outside serving.state) (sym same)
         serving.seen)
 
@@ -238,39 +331,65 @@ module _ {J F S R P : Type 0} {means : disk.Ghosts J} {counts : counted.Ghosts J
 
     pub served : (result : Answer) → IsCoreCommand old new record_is IsAny result → Leads old record_is asked result
         → IsServedBy Q old new files at next then_state (state_after at asked (Plain result))
-    served answer.Done step leads = done answer.Done step
-        (leads serving.outside serving.state serving.seen tt at.world serving.stands.world)
+    served answer.Done step led = done answer.Done step
+        (led serving.outside serving.state serving.seen tt at.world serving.stands.world)
         (step.step serving.outside serving.state serving.seen tt)
-    served answer.NoPath step leads = still (step.refused tt)
-    served answer.WrongType step leads = still (step.refused tt)
-    served answer.Exists step leads = still (step.refused tt)
-    served answer.Device step leads = faulted answer.Device step
-        (leads serving.outside serving.state serving.seen tt at.world serving.stands.world)
+    served answer.NoPath step led = still (step.refused tt)
+    served answer.WrongType step led = still (step.refused tt)
+    served answer.Exists step led = still (step.refused tt)
+    served answer.Device step led = faulted answer.Device step
+        (led serving.outside serving.state serving.seen tt at.world serving.stands.world)
         (step.step serving.outside serving.state serving.seen tt)
-    served answer.Memory step leads =
+    served answer.Memory step led =
         kept (step.memory refl) (step.step serving.outside serving.state serving.seen tt)
-    served (answer.Full counter) step leads = still (step.refused tt)
+    served (answer.Full counter) step led = still (step.refused tt)
 
     pub settles : (result : Answer) (step : IsCoreCommand old new record_is IsAny result)
-        (leads : Leads old record_is asked result) → Plain result ≡ Plain answer.Done
-        → (served result step leads).doubt ≡ None
+        (led : Leads old record_is asked result) → Plain result ≡ Plain answer.Done
+        → (served result step led).doubt ≡ None
     unfolding served done written
-    settles answer.Done step leads is = refl
-    settles answer.NoPath step leads is = absurd cc
-    settles answer.WrongType step leads is = absurd cc
-    settles answer.Exists step leads is = absurd cc
-    settles answer.Device step leads is = absurd cc
-    settles answer.Memory step leads is = absurd cc
-    settles (answer.Full counter) step leads is = absurd cc
+    settles answer.Done step led is = refl
+    settles answer.NoPath step led is = absurd cc
+    settles answer.WrongType step led is = absurd cc
+    settles answer.Exists step led is = absurd cc
+    settles answer.Device step led is = absurd cc
+    settles answer.Memory step led is = absurd cc
+    settles (answer.Full counter) step led is = absurd cc
+
+    -- in doubt is nothing, what was, or the record, where the device failed
+    faulted_doubts : (step : IsCoreCommand old new record_is IsAny answer.Device)
+        (leads_to : StandsFor serving.outside.told (after record_is serving.state.store) then_state.world)
+        (seen : IsSeenAfter new serving.outside serving.state record_is answer.Device)
+        → Doubts next then_state answer.Device (faulted answer.Device step leads_to seen).doubt
+    unfolding faulted written
+    faulted_doubts step leads_to (inl seen) = inl refl
+    faulted_doubts step leads_to (inr (inl seen)) = inr (inl refl)
+    faulted_doubts step leads_to (inr (inr seen)) = inr (inr (refl, refl))
+
+    pub doubts : (result : Answer) (step : IsCoreCommand old new record_is IsAny result)
+        (led : Leads old record_is asked result) → Doubts next then_state result (served result step led).doubt
+    unfolding served done written
+    doubts answer.Done step led = inl refl
+    doubts answer.NoPath step led = inr (inl (still_left (step.refused tt)))
+    doubts answer.WrongType step led = inr (inl (still_left (step.refused tt)))
+    doubts answer.Exists step led = inr (inl (still_left (step.refused tt)))
+    doubts answer.Device step led = faulted_doubts step
+        (led serving.outside serving.state serving.seen tt at.world serving.stands.world)
+        (step.step serving.outside serving.state serving.seen tt)
+    doubts answer.Memory step led =
+        inr (inl (kept_left (step.memory refl) (step.step serving.outside serving.state serving.seen tt)))
+    doubts (answer.Full counter) step led = inr (inl (still_left (step.refused tt)))
 
     -- a command that is one record
     pub answered : (result : Answer) (step : IsCoreCommand old new record_is IsAny result)
-        (leads : Leads old record_is asked result) → IsAllowed at asked (Plain result)
-        → IsAnsweredBy Q old new files at next asked (Plain result)
-    answered result step leads may = record {
+        (leads : Leads old record_is asked result) → IsChange asked → IsMapAnswer at.world asked result
+        → IsAllowed at asked (Plain result) → IsAnsweredBy Q old new files at next asked (Plain result)
+    answered result step leads change map may = record {
       allowed = may;
       served = served result step leads;
       settled = λ change is. settles result step leads is;
+      doubtful = left_in_doubt next at asked result (served result step leads).doubt change map
+          (doubts result step leads);
     }
 
   -- ---- a row
@@ -284,6 +403,7 @@ module _ {J F S R P : Type 0} {means : disk.Ghosts J} {counts : counted.Ghosts J
     abbrev Ends : Answer → Type 0
     Ends result = (served : IsServedBy Q old new files at next (done_after at asked)
         (state_after at asked (Plain result))) × (Plain result ≡ Plain answer.Done → served.doubt ≡ None)
+        × RowDoubts next at (done_after at asked) result served.doubt
 
     -- the core before the record
     placed : (between : Core J F S R P means counts) → HasPlace row old between
@@ -321,6 +441,19 @@ module _ {J F S R P : Type 0} {means : disk.Ghosts J} {counts : counted.Ghosts J
               (files ++ first.0.put) at first.0.doubt first.0.serving result step (put_leads result put))
               (settles Q put.between new (item.Insert row.time put.cells) asked (λ store. refl) (files ++ first.0.put)
               at first.0.doubt first.0.serving result step (put_leads result put) is),
+          subst (RowDoubts next at (done_after at asked) result)
+              (sym (then_left laws Q Q Q (λ n is. is) (λ n is. is) old put.between new files at next
+              (done_after at asked) (state_after at asked (Plain result)) first.1 first.0
+              (served Q put.between new (item.Insert row.time put.cells) asked (λ store. refl)
+              (files ++ first.0.put) at first.0.doubt first.0.serving result step (put_leads result put))))
+              (then_doubts next at (done_after at asked) result first.0.doubt
+              (served Q put.between new (item.Insert row.time put.cells) asked (λ store. refl)
+              (files ++ first.0.put) at first.0.doubt first.0.serving result step (put_leads result put)).doubt
+              first.0.may (as_row first.0.doubt at (done_after at asked) result
+              (served Q put.between new (item.Insert row.time put.cells) asked (λ store. refl)
+              (files ++ first.0.put) at first.0.doubt first.0.serving result step (put_leads result put)).doubt
+              (doubts Q put.between new (item.Insert row.time put.cells) asked (λ store. refl) (files ++ first.0.put)
+              at first.0.doubt first.0.serving result step (put_leads result put)))),
         )
 
     -- a step that keeps the world, as one of the command
@@ -350,33 +483,54 @@ module _ {J F S R P : Type 0} {means : disk.Ghosts J} {counts : counted.Ghosts J
         left image (inr leaves) =
             inl (same_state (files ++ kept.put) (slot_under old) at next image leaves)
 
-    untouched : new ≡ old → IsServedBy Q old new files at next (done_after at asked) at
-    untouched same = for_command (unchanged laws Q old new files at next at
+    pub command_doubt : (kept : IsServedBy Q old new files at next at at) → (for_command kept).doubt ≡ kept.doubt
+    unfolding for_command
+    command_doubt kept = refl
+
+    -- a step that keeps the world answers a command that is not done
+    only_kept : (result : Answer) → state_after at asked (Plain result) ≡ at → Plain result ≢ Plain answer.Done
+        → IsServedBy Q old new files at next at at → Ends result
+    only_kept result stays not kept = (
+      moved laws Q old new files at next (done_after at asked) at (state_after at asked (Plain result)) (sym stays)
+          (for_command kept),
+      λ is. absurd (not is),
+      subst (RowDoubts next at (done_after at asked) result)
+          (sym (moved_left laws Q old new files at next (done_after at asked) at (state_after at asked (Plain result))
+          (sym stays) (for_command kept) ∙ command_doubt kept))
+          (kept_doubts next at (done_after at asked) result kept.doubt kept.may),
+    )
+
+    untouched : new ≡ old → IsServedBy Q old new files at next at at
+    untouched same = unchanged laws Q old new files at next at
         (ap (λ (core : Core J F S R P means counts). log_of (logged_of core)) same)
         (λ outside engine seen. subst (λ (core : Core J F S R P means counts). IsSeen core outside engine) (sym same)
-        seen) serving)
+        seen) serving
 
-    only_froze : (result : Answer) → IsFrozenFor row old new result
-        → IsServedBy Q old new files at next (done_after at asked) at
-    only_froze result frozen = for_command (froze laws Q old new result frozen.freeze frozen.can files at next serving)
+    only_froze : (result : Answer) → IsFrozenFor row old new result → IsServedBy Q old new files at next at at
+    only_froze result frozen = froze laws Q old new result frozen.freeze frozen.can files at next serving
 
     row_ends : (result : Answer) → IsRowCommand device row old new result → Ends result
     row_ends answer.Done put = put_ends answer.Done put
-    row_ends answer.NoPath same = (untouched same, λ is. absurd cc)
-    row_ends answer.WrongType same = (untouched same, λ is. absurd cc)
-    row_ends answer.Exists same = (untouched same, λ is. absurd cc)
+    row_ends answer.NoPath same = only_kept answer.NoPath refl (λ is. absurd cc) (untouched same)
+    row_ends answer.WrongType same = only_kept answer.WrongType refl (λ is. absurd cc) (untouched same)
+    row_ends answer.Exists same = only_kept answer.Exists refl (λ is. absurd cc) (untouched same)
     row_ends answer.Device (inl put) = put_ends answer.Device put
-    row_ends answer.Device (inr frozen) = (only_froze answer.Device frozen, λ is. absurd cc)
-    row_ends answer.Memory (inl same) = (untouched same, λ is. absurd cc)
+    row_ends answer.Device (inr frozen) =
+        only_kept answer.Device refl (λ is. absurd cc) (only_froze answer.Device frozen)
+    row_ends answer.Memory (inl same) = only_kept answer.Memory refl (λ is. absurd cc) (untouched same)
     row_ends answer.Memory (inr (inl put)) = put_ends answer.Memory put
-    row_ends answer.Memory (inr (inr frozen)) = (only_froze answer.Memory frozen, λ is. absurd cc)
-    row_ends (answer.Full counter) same = (untouched same, λ is. absurd cc)
+    row_ends answer.Memory (inr (inr frozen)) =
+        only_kept answer.Memory refl (λ is. absurd cc) (only_froze answer.Memory frozen)
+    row_ends (answer.Full counter) same = only_kept (answer.Full counter) refl (λ is. absurd cc) (untouched same)
 
-    pub row_answered : (result : Answer) → IsRowCommand device row old new result
+    pub row_answered : (result : Answer) → IsRowCommand device row old new result → IsMapAnswer at.world asked result
         → IsAllowed at asked (Plain result) → IsAnsweredBy Q old new files at next asked (Plain result)
-    row_answered result is may =
-        let ends = row_ends result is in
-        record { allowed = may; served = ends.0; settled = λ change done. ends.1 done }
+    row_answered result is map may = let ends = row_ends result is in record {
+      allowed = may;
+      served = ends.0;
+      settled = λ change done. ends.1 done;
+      doubtful = row_in_doubt next at device row result ends.0.doubt map ends.2;
+    }
 
   -- ---- a row behind a flush
 
@@ -396,6 +550,11 @@ module _ {J F S R P : Type 0} {means : disk.Ghosts J} {counts : counted.Ghosts J
         settled = λ change is. then_settled laws (IsDrawn old mid) (IsDrawn mid new) (IsDrawn old new) low high old mid new
             files at next (done_after at (command.Insert device row))
             (state_after at (command.Insert device row) (Plain result)) slot first second.served (second.settled change is);
+        doubtful = subst (LeavesDoubt next at (command.Insert device row) (Plain result))
+            (sym (then_left laws (IsDrawn old mid) (IsDrawn mid new) (IsDrawn old new) low high old mid new files at next
+            (done_after at (command.Insert device row)) (state_after at (command.Insert device row) (Plain result)) slot
+            first second.served))
+            (behind_doubts next at device row (Plain result) first.doubt second.served.doubt first.may second.doubtful);
       }
 
   -- the flush before a row failed
@@ -406,10 +565,16 @@ module _ {J F S R P : Type 0} {means : disk.Ghosts J} {counts : counted.Ghosts J
       → IsAnsweredBy (IsDrawn old new) old new files at next (command.Insert device row) (Plain (answer_of why))
   flush_failed old new device row files at next why full serving kept = record {
     allowed = fault_allowed at device row why full;
-    served = subst (IsServedBy (IsDrawn old new) old new files at next (done_after at (command.Insert device row)))
-        (sym (fault_state at device row why))
+    served = moved laws (IsDrawn old new) old new files at next (done_after at (command.Insert device row)) at
+        (state_after at (command.Insert device row) (Plain (answer_of why))) (sym (fault_state at device row why))
         (for_command (IsDrawn old new) old new device row files at next serving kept);
     settled = λ change is. absurd (fault_not_done why is);
+    doubtful = subst (LeavesDoubt next at (command.Insert device row) (Plain (answer_of why)))
+        (sym (moved_left laws (IsDrawn old new) old new files at next (done_after at (command.Insert device row)) at
+        (state_after at (command.Insert device row) (Plain (answer_of why))) (sym (fault_state at device row why))
+        (for_command (IsDrawn old new) old new device row files at next serving kept)
+        ∙ command_doubt (IsDrawn old new) old new device row files at next serving kept))
+        (behind_doubts next at device row (Plain (answer_of why)) kept.doubt kept.doubt kept.may (inr (inl refl)));
   }
 
 module _ {J F S R P : Type 0} {means : disk.Ghosts J} {counts : counted.Ghosts J} where

@@ -39,7 +39,7 @@ use Rattle.tsdb_outside.specs.declared.faults.Counted as counted
 use Rattle.tsdb_outside.specs.declared.faults.Failed.{Failed}
 use Rattle.tsdb_replay.specs.Stores.{IsStateOf}
 use Rattle.tsdb_serving.proofs.Held.{either_wider, held_more, held_with, held_without}
-use Rattle.tsdb_serving.proofs.Steps.{quiet}
+use Rattle.tsdb_serving.proofs.Steps.{quiet_left, quiet}
 use Rattle.tsdb_serving.specs.Flushing.{IsServingJob}
 use Rattle.tsdb_serving.specs.Serving.{IsServedBy, IsServing, LeavesEither, MayDoubt, disk_under, slot_under}
 use Rattle.tsdb_state.proofs.Told.{value_same}
@@ -217,6 +217,16 @@ module _ {J F S R P : Type 0} {means : disk.Ghosts J} {counts : counted.Ghosts J
   unchanged Q old new files at next after same step serving = quiet laws Q old new files [] at next after same tt
       serving
       (more_files new files [] at next (same_seen old new files at next step serving))
+
+  pub unchanged_left : (Q : ℕ → Type 0) (old new : Core J F S R P means counts) (files : List StoredFile)
+      (at : plain.State) (next : Option plain.State) (after : plain.State)
+      (same : log_of (logged_of new) ≡ log_of (logged_of old))
+      (step : (outside : Outside) (engine : EngineState) → IsSeen old outside engine → IsSeen new outside engine)
+      (serving : IsServing old files at next)
+      → (unchanged Q old new files at next after same step serving).doubt ≡ next
+  unfolding unchanged
+  unchanged_left Q old new files at next after same step serving = quiet_left laws Q old new files [] at next after same
+      tt serving (more_files new files [] at next (same_seen old new files at next step serving))
 
   -- ---- taking a job
 

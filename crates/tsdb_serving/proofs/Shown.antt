@@ -1,5 +1,5 @@
 -- A listing answers the command that asks for it.
-use Rattle.std.proofs.Common.{Result, Ok, Err, refl}
+use Rattle.std.proofs.Common.{Result, Ok, Err, inl, inr, refl}
 use Rattle.std.specs.Prelude.{IfOk}
 use Rattle.tsdb_base.specs.declared.answers.Answer.TheVariants.{Done}
 use Rattle.tsdb_base.specs.declared.fault.Memory.{Memory}
@@ -12,7 +12,7 @@ use Rattle.tsdb_map.specs.declared.reply.Reply.TheVariants.{Files, Plain}
 use Rattle.tsdb_outside.specs.Disk.{IsLawful}
 use Rattle.tsdb_outside.specs.declared.disk.Disk as disk
 use Rattle.tsdb_outside.specs.declared.faults.Counted as counted
-use Rattle.tsdb_serving.proofs.Parts.{unchanged}
+use Rattle.tsdb_serving.proofs.Parts.{unchanged, unchanged_left}
 use Rattle.tsdb_serving.proofs.Possible.{possible}
 use Rattle.tsdb_serving.specs.Serving.{Answers, IsDrawn}
 
@@ -30,5 +30,7 @@ module _ {J F S R P : Type 0} {means : disk.Ghosts J} {counts : counted.Ghosts J
     served = unchanged laws (IsDrawn core core) core core files at next (state_after at ShowFiles (Plain Done)) refl
         (λ outside engine seen. seen) serving;
     settled = λ change is. absurd cc;
+    doubtful = inr (inl (unchanged_left laws (IsDrawn core core) core core files at next
+        (state_after at ShowFiles (Plain Done)) refl (λ outside engine seen. seen) serving));
   }
   shown core (Err fault) tells = tt

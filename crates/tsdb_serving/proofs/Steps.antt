@@ -63,6 +63,14 @@ module _ {J F S R P : Type 0} {means : disk.Ghosts J} {counts : counted.Ghosts J
         (image_left old files at next image before left))));
   }
 
+  pub quiet_left : (Q : ℕ → Type 0) (old new : Core J F S R P means counts) (files put : List StoredFile)
+      (at : plain.State) (next : Option plain.State) (after : plain.State)
+      (same : log_of (logged_of new) ≡ log_of (logged_of old)) (numbers : Each (λ (file : StoredFile). Q file.number) put)
+      (before : IsServing old files at next) (serving : IsServing new (files ++ put) at next)
+      → (quiet Q old new files put at next after same numbers before serving).doubt ≡ next
+  unfolding quiet
+  quiet_left Q old new files put at next after same numbers before serving = refl
+
   -- a step that keeps the state, and then a command
   module _ (A B Q : ℕ → Type 0) (from_first : (n : ℕ) → A n → Q n) (from_second : (n : ℕ) → B n → Q n)
       (old mid new : Core J F S R P means counts) (files : List StoredFile) (at : plain.State)
@@ -130,3 +138,27 @@ module _ {J F S R P : Type 0} {means : disk.Ghosts J} {counts : counted.Ghosts J
     pub then_settled : second.doubt ≡ None → then.doubt ≡ None
     unfolding then
     then_settled is = is
+
+    pub then_left : then.doubt ≡ second.doubt
+    unfolding then
+    then_left = refl
+
+  -- the same of a state that is written otherwise
+  pub moved : (Q : ℕ → Type 0) (old new : Core J F S R P means counts) (files : List StoredFile) (at : plain.State)
+      (next : Option plain.State) (after now later : plain.State) → now ≡ later
+      → IsServedBy Q old new files at next after now → IsServedBy Q old new files at next after later
+  moved Q old new files at next after now later is served = record {
+    put = served.put;
+    numbers = served.numbers;
+    doubt = served.doubt;
+    may = served.may;
+    serving = subst (λ state. IsServing new (files ++ served.put) state served.doubt) is served.serving;
+    moments = served.moments;
+  }
+
+  pub moved_left : (Q : ℕ → Type 0) (old new : Core J F S R P means counts) (files : List StoredFile) (at : plain.State)
+      (next : Option plain.State) (after now later : plain.State) (is : now ≡ later)
+      (served : IsServedBy Q old new files at next after now)
+      → (moved Q old new files at next after now later is served).doubt ≡ served.doubt
+  unfolding moved
+  moved_left Q old new files at next after now later is served = refl

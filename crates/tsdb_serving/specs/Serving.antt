@@ -7,8 +7,9 @@ use Rattle.tsdb_core.specs.declared.engine.Core.{Core}
 use Rattle.tsdb_frames.specs.Frames.{disk_of, slot_of}
 use Rattle.tsdb_images.specs.Stored.{LeadsTo, LeavesOneOf}
 use Rattle.tsdb_logged.specs.Logged.{Outside, log_of}
-use Rattle.tsdb_base.specs.declared.answers.Answer.TheVariants.{Done}
-use Rattle.tsdb_map.specs.History.{IsAllowed, IsChange, state_after}
+use Rattle.tsdb_base.specs.declared.answers.Answer.TheVariants.{Done, Device}
+use Rattle.tsdb_map.specs.Apply.{reply_of}
+use Rattle.tsdb_map.specs.History.{DrawsNumbers, IsAllowed, IsChange, state_after}
 use Rattle.tsdb_map.specs.State as plain
 use Rattle.tsdb_map.specs.declared.command.Command.{Command}
 use Rattle.tsdb_map.specs.declared.reply.Reply.{Reply}
@@ -31,6 +32,19 @@ AreHeldWith kept more = (files : Files) → HoldsKept more files → HoldsKept k
 abbrev pub MayDoubt : Option plain.State → plain.State → plain.State → Option plain.State → Type 0
 MayDoubt next at after doubt =
     (doubt ≡ None) ⊎ ((doubt ≡ next) ⊎ ((doubt ≡ Some at) ⊎ (doubt ≡ Some after)))
+
+-- a change is in doubt: its device failed, and the map accepts it
+pub record IsInDoubtOf (at : plain.State) (command : Command) (reply : Reply) (doubt : Option plain.State) : Type 0 where
+  pub change : IsChange command
+  pub failed : reply ≡ Plain Device
+  pub accepted : reply_of at.world command ≡ Plain Done
+  pub leads : doubt ≡ Some (state_after at command (Plain Done))
+
+-- What is in doubt after a reply: nothing; what was; where files may be flushed, a record that changes no state; or this
+-- change.
+abbrev pub LeavesDoubt : Option plain.State → plain.State → Command → Reply → Option plain.State → Type 0
+LeavesDoubt next at command reply doubt = (doubt ≡ None) ⊎ ((doubt ≡ next)
+    ⊎ ((DrawsNumbers command × (doubt ≡ Some at)) ⊎ IsInDoubtOf at command reply doubt))
 
 -- With these files, what a stop left in the slot stands for the state, or for the one in doubt, or for that after the
 -- command.
@@ -101,6 +115,7 @@ module _ {J F S R P : Type 0} {means : disk.Ghosts J} {counts : counted.Ghosts J
     pub served : IsServedBy Put old new files at next (state_after at command (Plain Done))
         (state_after at command reply)
     pub settled : IsChange command → reply ≡ Plain Done → served.doubt ≡ None
+    pub doubtful : LeavesDoubt next at command reply served.doubt
 
   -- It leaves this of each state that the core may be in. The files that were put have numbers that were drawn for
   -- them.

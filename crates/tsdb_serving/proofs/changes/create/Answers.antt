@@ -16,6 +16,7 @@ returns-clause-answers g c = λ files at next serving. answered g.J.Disk.lawful 
     (λ outside state seen. (creation_follows outside.told (memory_of (logged_of c.args.core.now)) state.store
     seen.sound.memory seen.sound.stored.order.store c.args.schema.now c.create.result c.requires
     c.create.ensures.answer).leads)
+    refl (c.create.ensures.map.answers at.world (world_is c.args.core.now files at next serving))
     (allowed at (Create c.args.schema.now) (λ is. absurd cc) refl c.create.result
     (c.create.ensures.map.answers at.world (world_is c.args.core.now files at next serving))
     (subst (λ stamp. HasStamp stamp c.create.result) (stamp_is c.args.core.now files at next serving)

@@ -17,6 +17,7 @@ returns-clause-answers g c = λ files at next serving. answered g.J.Disk.lawful 
     (λ outside state seen. (deletion_follows outside.told (memory_of (logged_of c.args.core.now)) state.store
     seen.sound.memory seen.sound.stored.order.store c.args.series.now c.args.range.now c.delete.result
     c.delete.ensures.answer).leads)
+    refl (c.delete.ensures.map.answers at.world (world_is c.args.core.now files at next serving))
     (allowed at (Delete c.args.series.now c.args.range.now) (λ is. absurd cc) refl c.delete.result
     (c.delete.ensures.map.answers at.world (world_is c.args.core.now files at next serving))
     (subst (λ stamp. HasStamp stamp c.delete.result) (stamp_is c.args.core.now files at next serving)

@@ -22,6 +22,7 @@ returns-in-Ok-clause-answers g c = λ tells files at next serving.
     c.insert.result
     (row_answered g.J.Disk.lawful (IsDrawn c.make_room.new.core c.insert.new.self) c.make_room.new.core c.insert.new.self c.args.device.now c.args.row.now
     (files ++ first.put) at first.doubt first.serving c.insert.result c.insert.ensures.row
+    (c.insert.ensures.map.answers at.world (world_is c.make_room.new.core (files ++ first.put) at first.doubt first.serving))
     (allowed at (Insert c.args.device.now c.args.row.now) (λ is. absurd cc) refl c.insert.result
     (c.insert.ensures.map.answers at.world (world_is c.make_room.new.core (files ++ first.put) at first.doubt first.serving))
     (subst (λ stamp. HasStamp stamp c.insert.result)

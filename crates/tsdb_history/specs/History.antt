@@ -1,0 +1,70 @@
+-- Which commands of a script the replies of a history belong to.
+use Rattle.std.specs.Prelude.{◌≡◌, ℕ, ◌==◌, Bool, true, false, List, Option, Some, map, filter, length, slice_get}
+use Rattle.std.specs.Option.{option_map}
+use Rattle.tsdb_base.specs.declared.answers.Answer.TheVariants as answer
+use Rattle.tsdb_history.specs.declared.told.Told.{Told}
+use Rattle.tsdb_map.specs.History.{Entry}
+use Rattle.tsdb_map.specs.declared.command.Command.{Command}
+use Rattle.tsdb_map.specs.declared.command.Command.TheVariants.{Create, Insert, Delete, Select, Flush, CompactInner}
+use Rattle.tsdb_map.specs.declared.command.Command.TheVariants.{CompactCross, ShowFiles}
+use Rattle.tsdb_map.specs.declared.reply.Reply.{Reply}
+use Rattle.tsdb_map.specs.declared.reply.Reply.TheVariants.{Plain}
+use Rattle.tsdb_script.specs.declared.numbered.Numbered.{Numbered}
+
+-- every number of a session is below this
+abbrev pub session_numbers : ℕ
+session_numbers = 1000
+
+-- the commands of a session, in its order
+abbrev pub commands_of : List Numbered → ℕ → List Command
+commands_of script session =
+    map (λ numbered. numbered.command) (filter (λ numbered. numbered.session == session) script)
+
+-- the replies to a session, in their order
+abbrev pub replies_to : List Told → ℕ → List Told
+replies_to history session = filter (λ told. told.session == session) history
+
+-- each session has a reply to each of its commands, with the indexes 0, 1, 2 and on in this order
+abbrev pub IsComplete : List Numbered → List Told → Type 0
+IsComplete script history = (session : ℕ) →
+    (length (replies_to history session) ≡ length (commands_of script session))
+    × ((k : ℕ) (told : Told) → slice_get (replies_to history session) k ≡ Some told → told.index ≡ k)
+
+-- the command that a reply answers
+abbrev pub command_of : List Numbered → Told → Option Command
+command_of script told = slice_get (commands_of script told.session) told.index
+
+-- a reply with its command
+abbrev pub entry_of : List Numbered → Told → Option Entry
+entry_of script told =
+    option_map (λ command. record { command = command; reply = told.reply }) (command_of script told)
+
+-- the replies of a history, each with its command
+abbrev pub AreEntries : List Numbered → List Told → List Entry → Type 0
+AreEntries script history entries = map (entry_of script) history ≡ map Some entries
+
+-- the replies to the commands of a script, in the order of its lines
+pub record IsHistory (script : List Numbered) (history : List Told) (entries : List Entry) : Type 0 where
+  pub in_line_order : map (λ told. told.session) history ≡ map (λ numbered. numbered.session) script
+  pub complete : IsComplete script history
+  pub answers : AreEntries script history entries
+  pub commands : map (λ entry. entry.command) entries ≡ map (λ numbered. numbered.command) script
+
+-- whether something outside failed under a command that was answered so
+abbrev pub is_device_reply : Reply → Bool
+is_device_reply (Plain answer.Device) = true
+is_device_reply reply = false
+
+abbrev pub is_device : Told → Bool
+is_device told = is_device_reply told.reply
+
+-- the commands that are served: the two compactions are not built yet
+abbrev pub IsServed : Command → Type 0
+IsServed (Create schema) = Unit {0}
+IsServed (Insert device row) = Unit {0}
+IsServed (Delete series range) = Unit {0}
+IsServed (Select device items range) = Unit {0}
+IsServed Flush = Unit {0}
+IsServed (CompactInner space) = ⊥
+IsServed CompactCross = ⊥
+IsServed ShowFiles = Unit {0}

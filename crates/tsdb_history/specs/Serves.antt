@@ -1,0 +1,64 @@
+-- What the commands of a script leave, one behind another, on one core.
+use Rattle.std.specs.Prelude.{◌≡◌, ◌⊎◌, ℕ, Bool, true, false, List, ◌++◌, Option, None, Some}
+use Rattle.std.specs.List.{AllByRecursion as Each}
+use Rattle.tsdb_base.specs.declared.answers.Answer.TheVariants as answer
+use Rattle.tsdb_core.specs.declared.engine.Core.{Core}
+use Rattle.tsdb_history.specs.History.{IsHistory}
+use Rattle.tsdb_history.specs.Prefixes.{EndsDone, IsInDoubt, StandsAfterPrefix}
+use Rattle.tsdb_history.specs.declared.told.Told.{Told}
+use Rattle.tsdb_map.specs.History.{Entry, IsLegal, state_after}
+use Rattle.tsdb_map.specs.State as plain
+use Rattle.tsdb_map.specs.declared.command.Command.{Command}
+use Rattle.tsdb_map.specs.declared.reply.Reply.TheVariants.{Plain}
+use Rattle.tsdb_outside.specs.Disk.{Image, in_slot}
+use Rattle.tsdb_outside.specs.Files.{Store, StoredFile}
+use Rattle.tsdb_outside.specs.Moments.{LeavesOnly}
+use Rattle.tsdb_outside.specs.declared.disk.Disk as disk
+use Rattle.tsdb_outside.specs.declared.disk.Slot.{Slot}
+use Rattle.tsdb_outside.specs.declared.faults.Counted as counted
+use Rattle.tsdb_replay.specs.Stores.{Files, HoldsKept}
+use Rattle.tsdb_script.specs.declared.numbered.Numbered.{Numbered}
+use Rattle.tsdb_serving.specs.Serving.{IsDrawn, IsServing, disk_under, slot_under}
+
+-- What may be in doubt after these entries: nothing, a record that changes no state, or one change.
+abbrev pub MayDoubt : List Entry → plain.State → Option plain.State → Type 0
+MayDoubt entries after doubt = (doubt ≡ None) ⊎ ((doubt ≡ Some after)
+    ⊎ ((command : Command) × IsInDoubt entries after command
+    × (doubt ≡ Some (state_after after command (Plain answer.Done)))))
+
+-- with whatever files hold these, what a stop left in the slot stands for the state after a prefix of the entries
+abbrev pub LeavesPrefix : List StoredFile → Slot → plain.State → List Entry → Image → Type 0
+LeavesPrefix kept slot start entries image =
+    (files : Files) → HoldsKept kept files → StandsAfterPrefix files start entries (in_slot slot image)
+
+module _ {J F S R P : Type 0} {means : disk.Ghosts J} {counts : counted.Ghosts J} where
+  -- The store does not tell what its files hold, or the core is in a state of the plain model.
+  abbrev pub IsSure : Store → Core J F S R P means counts → Type 0
+  IsSure store core = (store.tells ≡ false)
+      ⊎ ((files : List StoredFile) × (at : plain.State) × (next : Option plain.State) × IsServing core files at next)
+
+  -- These entries were served, beside the files that were there. The files that were put have numbers that were drawn
+  -- meanwhile. A stop at any moment left the state after a prefix of the entries.
+  pub record HasServed (old new : Core J F S R P means counts) (files : List StoredFile) (start : plain.State)
+      (entries : List Entry)
+      : Type 0 where
+    pub after : plain.State
+    pub legal : IsLegal start entries after
+    pub put : List StoredFile
+    pub numbers : Each (λ (file : StoredFile). IsDrawn old new file.number) put
+    pub doubt : Option plain.State
+    pub may : MayDoubt entries after doubt
+    pub settled : EndsDone entries → doubt ≡ None
+    pub serving : IsServing new (files ++ put) after doubt
+    pub moments : LeavesOnly (disk_under old) (disk_under new)
+        (LeavesPrefix (files ++ put) (slot_under old) start entries)
+
+  -- The commands of a script were executed. Where the store tells what its files hold, they were served from each state
+  -- that the core may have been in.
+  pub record HasExecuted (script : List Numbered) (history : List Told) (tells : Bool)
+      (old new : Core J F S R P means counts)
+      : Type 0 where
+    pub entries : List Entry
+    pub history_of : IsHistory script history entries
+    pub served : tells ≡ true → (files : List StoredFile) (start : plain.State) → IsServing old files start None
+        → HasServed old new files start entries

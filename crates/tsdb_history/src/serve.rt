@@ -1,0 +1,88 @@
+//! One command. Depends on tsdb_serving and tsdb_querying.
+ghost use Rattle.std.specs.Prelude.{◌≡◌, ◌⊎◌, ◌≤◌, true};
+ghost use Rattle.tsdb_base.specs.declared.answers.Answer.{Answer as AnswerOf};
+ghost use Rattle.tsdb_history.specs.History.{IsServed};
+ghost use Rattle.tsdb_history.specs.Serves.{IsSure};
+ghost use Rattle.tsdb_map.specs.Commands.{IsWellFormed};
+ghost use Rattle.tsdb_map.specs.declared.reply.Reply.{Reply as ReplyOf};
+ghost use Rattle.tsdb_outside.specs.Causes.{Rose};
+ghost use Rattle.tsdb_serving.specs.Flushing.{IsReady, faults_under};
+ghost use Rattle.tsdb_serving.specs.Serving.{Answers, StaysInPlace};
+
+use std::alloc::Global;
+use tsdb_base::{Answer, Range};
+use tsdb_core::Core;
+use tsdb_map::{Command, Item, Reply, ask_aggregates};
+use tsdb_outside::{Files, Journal};
+use tsdb_path::Path;
+use tsdb_querying::{aggregates, select};
+use tsdb_serving::{create, delete, flush, insert, show};
+
+/// Serves a command: the core makes one step of the plain map, whatever it does for it.
+pub fn serve<J: Journal, F: Files>(
+    alloc: Global,
+    core: &mut Core<J, F>,
+    port: &mut F::Port,
+    command: &Command,
+) -> Reply
+    requires well_formed { IsWellFormed command.now }
+    requires served { IsServed command.now }
+    requires ready { IsReady (F.Port.store port.old) core.old }
+    ensures answers { (F.Port.store port.old).tells ≡ true → Answers core.old core.new command.now result }
+    ensures ready { IsReady (F.Port.store port.old) core.new }
+    ensures stays { StaysInPlace core.old core.new }
+    ensures same_store { F.Port.store port.new ≡ F.Port.store port.old }
+    ensures cause { IsSure (F.Port.store port.old) core.old → result ≡ ReplyOf.Plain AnswerOf.Device
+        → Rose (faults_under core.old) (faults_under core.new) ⊎ Rose (F.Port.faults port.old) (F.Port.faults port.new) }
+    ensures later { (faults_under core.old ≤ faults_under core.new)
+        × (F.Port.faults port.old ≤ F.Port.faults port.new) }
+{
+    match command {
+        Command::Create(schema) => Reply::Plain(create(core, schema)),
+        Command::Insert { device, row } => Reply::Plain(insert(alloc, core, port, device, row)),
+        Command::Delete { series, range } => Reply::Plain(delete(core, series, range)),
+        Command::Select {
+            device,
+            items,
+            range,
+        } => query(alloc, core, port, device, items.items(), range),
+        Command::Flush => Reply::Plain(flushed(alloc, core, port)),
+        Command::ShowFiles => shown(core),
+        Command::CompactInner(_) | Command::CompactCross => unreachable!(),
+    }
+}
+
+/// What a query is answered.
+fn query<J: Journal, F: Files>(
+    alloc: Global,
+    core: &mut Core<J, F>,
+    port: &mut F::Port,
+    device: &Path,
+    items: &[Item],
+    range: &Range,
+) -> Reply {
+    if ask_aggregates(items) {
+        return aggregates(alloc, core, port, device, items, range);
+    }
+    select(alloc, core, port, device, items, range)
+}
+
+/// What a flush is answered.
+fn flushed<J: Journal, F: Files>(
+    alloc: Global,
+    core: &mut Core<J, F>,
+    port: &mut F::Port,
+) -> Answer {
+    match flush(alloc, core, port) {
+        Ok(()) => Answer::Done,
+        Err(fault) => fault.answer(),
+    }
+}
+
+/// What a listing is answered.
+fn shown<J: Journal, F: Files>(core: &Core<J, F>) -> Reply {
+    match show(core) {
+        Ok(listing) => Reply::Files(listing),
+        Err(_memory) => Reply::Plain(Answer::Memory),
+    }
+}
