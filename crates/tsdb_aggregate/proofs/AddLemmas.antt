@@ -78,10 +78,3 @@ settled range name before now tally old stays h points earlier told first =
     subst (λ xs. IsTally name xs old) all more
 
 -- ---- one point
-
-pub point_added : (range : Range) (name : Aggregate) (point : Point) (before next now : Tally) → is_in range point.time ≡ true → IsTally name (point ∷ []) next
-    → ((xs ys : List Point) → IsTally name xs before → IsTally name ys next → IsTally name (xs ++ ys) now) → AddsPoint range name point before now
-point_added range name point before next now e one join earlier first = rw e (join earlier (point ∷ []) first one)
-
-pub point_passed : (range : Range) (name : Aggregate) (point : Point) (before : Tally) → is_in range point.time ≡ false → AddsPoint range name point before before
-point_passed range name point before e earlier first = rw (e, append-nil earlier) first

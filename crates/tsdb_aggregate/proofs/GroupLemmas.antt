@@ -61,12 +61,6 @@ winners_of_group held range group entries all perm sources apart merge =
     winners_of_same range (parts_of held entries) (parts_of held group) points (same_permuted range (parts_of held entries) (parts_of held group) (IsPermutation-sym (parts_of held group) (parts_of held entries) moved))
     (winners_of_merge range (parts_of held entries) all below merge)
 
-pub cost_permuted : (held : List Held) (group entries : List Entry) → IsPermutation group entries → sum_by (λ part. part.1.cost) (parts_of held entries) ≡ sum_by (λ part. part.1.cost) (parts_of held group)
-cost_permuted held group entries perm = sum_by-IsPermutation (λ part. part.1.cost) (parts_of held group) (parts_of held entries) (IsPermutation-map (part_of held) group entries perm)
-
-pub all_permuted : (P : Part → Type 0) (held : List Held) (group entries : List Entry) → IsPermutation group entries → All P (parts_of held group) → All P (parts_of held entries)
-all_permuted P held group entries perm all = All-permutation P (parts_of held group) (parts_of held entries) (IsPermutation-map (part_of held) group entries perm) all
-
 -- ---- a clean piece alone
 
 pub adds_clean : (held : List Held) (range : Range) (name : Aggregate) (group : List Entry) (x : Entry) (before now next : Tally) → IsGroup group → AreSound range (parts_of held group)

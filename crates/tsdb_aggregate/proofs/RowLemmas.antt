@@ -2,11 +2,10 @@
 use Rattle.std.proofs.Common.{◌≡◌, ℕ, zero, suc, ◌+◌, ◌<◌, ◌≤◌, List, [], ◌∷◌, ◌++◌, length, get_or, take, drop, Some, refl, sym, ap, ◌∙◌, subst, map, sum_by, ⊎_elim, arith}
 use Rattle.std.specs.Prelude.{ℤ, ◌<ℤ◌, ◌≤ℤ◌, ◌≢◌, All, AllPairs, Contains, IsTrue}
 use Rattle.std.specs.List.{AllZip}
-use Rattle.std.specs.List.Sorted.{IsPermutation}
 use Rattle.std.specs.Vec.Iter.{into_iter_items}
 use Rattle.std.proofs.lemmas.Grind.{flat_map-append}
 use Rattle.std.proofs.lemmas.Int.{ints}
-use Rattle.std.proofs.lemmas.List.{append-nil, append_assoc, length-drop, map-append, take_all, take_more}
+use Rattle.std.proofs.lemmas.List.{append-nil, append_assoc, length-drop, map-append, take_more}
 use Rattle.std.proofs.lemmas.List.Elements.{All-cons, All-contains, All-head, All-map, All-nil, All-push, All-tail, Contains-append_cases}
 use Rattle.std.proofs.lemmas.List.Sorted.{All-permutation, IsPermutation-map, sum_by-IsPermutation}
 use Rattle.std.proofs.lemmas.List.Sums.{sum_by-append, sum_by-cons}
@@ -42,10 +41,6 @@ pairs_more R xs x pairs each = AllPairs-append R xs (x ∷ []) pairs (pairs_one 
     only x y (zero, l, e) = e
     only x y (suc k, l, e) = absurd (omega (arith, l))
 
-pub row_first : (entries : List Entry) (x : Entry) → 0 < length entries → x ≡ get_or entries 0 x → IsRow (take 1 entries)
-row_first [] x l is = absurd (omega (arith, l))
-row_first (y ∷ ys) x l is = record { some = omega arith; source = pairs_one same_source y; order = pairs_one ends_before y }
-
 pub row_more : (entries : List Entry) (n : ℕ) (x : Entry) (source : ℕ) (end : ℤ) → n < length entries → x ≡ get_or entries n x → All (λ a. a.piece.now.source ≡ source) (take n entries) → All (λ a. a.piece.now.stats.end ≤ℤ end) (take n entries)
     → (get_or entries n x).piece.now.source ≡ source → end <ℤ (get_or entries n x).piece.now.stats.start → IsRow (take n entries) → IsRow (take (n + 1) entries)
 row_more entries n x source end l is sources ends own after row =
@@ -74,9 +69,6 @@ pub record HasRows (entries : List Entry) (m : ℕ) (lanes : List Lane) : Type 0
   pub each : All IsRow rows
   pub lanes_are : AllZip IsLaneOf rows lanes
 
-pub no_rows : (entries : List Entry) → HasRows entries 0 []
-no_rows entries = record { within = omega arith; rows = []; all = refl; each = All-nil IsRow; lanes_are = tt }
-
 zip_more : {A B : Type 0} (R : A → B → Type 0) (xs : List A) (ys : List B) (x : A) (y : B) → AllZip R xs ys → R x y → AllZip R (xs ++ x ∷ []) (ys ++ y ∷ [])
 zip_more R [] [] x y all own = (own, tt)
 zip_more R [] (b ∷ ys) x y all own = absurd all
@@ -97,17 +89,6 @@ one_row entries rest row m n lanes lane er eg long within own of h =
       each = All-push IsRow h.rows row h.each (subst IsRow (sym eg) own);
       lanes_are = zip_more IsLaneOf h.rows lanes row lane h.lanes_are of;
     })
-
-pub all_rows : (group entries : List Entry) (m : ℕ) (lanes : List Lane) → length entries ≤ m → IsPermutation group entries → AllPairs (λ a b. a.piece.now.source ≤ b.piece.now.source) entries → HasRows entries m lanes → AreLanesOf group lanes
-all_rows group entries m lanes end perm order h =
-    let whole : entries ≡ rows_joined h.rows = sym (take_all m entries end) ∙ h.all in
-    record {
-      rows = h.rows;
-      all = subst (λ es. IsPermutation group es) whole perm;
-      order = subst (λ es. AllPairs (λ a b. a.piece.now.source ≤ b.piece.now.source) es) whole order;
-      each = h.each;
-      lanes_are = h.lanes_are;
-    }
 
 -- ---- what is told of a row
 

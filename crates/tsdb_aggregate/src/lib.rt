@@ -19,3 +19,4 @@ pub use fold::{aggregate, winners_are_one};
 pub use loader::Loader;
 pub use piece::Piece;
 pub use steps::Steps;
+pub use tally::Tally;

@@ -1,28 +1,37 @@
--- The points of the columns are those of the series in the world.
-use Rattle.std.proofs.Common.{◌≡◌, ℕ, List, [], ◌∷◌, map, refl, ap, ◌∙◌}
+-- The points of the columns are those of the series in the world, and so are their aggregates.
+use Rattle.std.proofs.Common.{◌≡◌, ℕ, List, [], ◌∷◌, map, Option, None, Some, refl, ap, ◌∙◌}
 use Rattle.std.specs.List.{AllByRecursion as Each, AllZip}
 use Rattle.std.specs.declared.alloc.Global.{Global}
 use Rattle.std.specs.declared.vec.Vec.{Vec}
+use Rattle.tsdb_base.specs.declared.answers.Aggregate.{Aggregate}
 use Rattle.tsdb_base.specs.declared.point.Point.{Point}
 use Rattle.tsdb_base.specs.declared.point.Range.{Range}
+use Rattle.tsdb_base.specs.declared.value.Value.{Value}
 use Rattle.tsdb_lines.specs.Rows.{vec_lists}
-use Rattle.tsdb_map.specs.Folds.{in_order}
-use Rattle.tsdb_map.specs.World.{World}
+use Rattle.tsdb_map.specs.Apply.{item_value}
+use Rattle.tsdb_map.specs.Folds.{aggregate_of, in_order}
+use Rattle.tsdb_map.specs.World.{Points, World}
 use Rattle.tsdb_marks.specs.declared.marks.Mark.{Mark}
-use Rattle.tsdb_merge.specs.Winners.{IsRising}
+use Rattle.tsdb_merge.specs.Winners.{IsMergeOf, IsRising}
 use Rattle.tsdb_outside.specs.Files.{NamedFile}
 use Rattle.tsdb_pinned.proofs.Points.{pin_has}
-use Rattle.tsdb_pinned.specs.Worlds.{HasPointsOf, IsSourceOf, columns_in, series_points}
+use Rattle.tsdb_pinned.specs.Worlds.{HasPointsOf, IsSourceOf, columns_in, kept_of, series_points, values_in}
 use Rattle.tsdb_pinning.specs.Shown.{IsColumnOf, IsPinOf, IsShownAs}
 use Rattle.tsdb_pinning.specs.declared.pin.Column.{Column}
 use Rattle.tsdb_pinning.specs.declared.pin.Pin.{Pin}
 use Rattle.tsdb_pinning.specs.declared.pin.PinnedSource.{PinnedSource}
 use Rattle.tsdb_pinning.specs.declared.pin.PinnedSource.TheVariants.{File, Part}
-use Rattle.tsdb_pins.specs.Reading.{HasTold, IsColumnRead, SeriesPages, TellPoints, TellsPoints}
+use Rattle.tsdb_pins.specs.Reading.{HasTold, IsColumnRead, IsValueOf, IsValueRead, SeriesPages, TellPoints, TellsPoints}
 use Rattle.tsdb_sources.specs.Pieces.{joined}
 use Rattle.tsdb_state.specs.State as state
 use Rattle.tsdb_state.specs.State.{FromFile, FromPart, Told}
 use Rattle.tsdb_state.specs.Steps.{PinStandsFor}
+
+-- the aggregate of a merge that has the points of the series
+value_is : (aggregate : Option Aggregate) (lists : List (List Point)) (series : Points) (answer : Option Value) → ((points : List Point) → IsMergeOf lists points → points ≡ in_order series) → IsValueOf aggregate lists answer
+    → answer ≡ item_value aggregate series
+value_is None lists series answer has is = is
+value_is (Some a) lists series answer has is = is.is ∙ ap (aggregate_of a) (has is.points is.merge)
 
 module _ {F S R P : Type 0} (name : R → NamedFile) (pages : SeriesPages) (told : Told) where
   -- the points of all sources of a series
@@ -66,3 +75,20 @@ module _ {F S R P : Type 0} (name : R → NamedFile) (pages : SeriesPages) (told
   pub columns_read : (pin : Pin F S R P) (read : List (Vec Point Global)) → AllZip (IsColumnRead name pages pin.range pin.marks.marks) pin.columns read → (shown : state.Pin) (all : World)
       → TellPoints name pages told pin.columns → IsPinOf pin shown → PinStandsFor told shown all → vec_lists read ≡ map in_order (columns_in all pin.range pin.columns)
   columns_read pin read are shown all tells is stands = columns_are all pin.range pin.marks.marks pin.columns shown.columns read is.columns tells (pin_has told all pin shown is stands) are
+
+  values_are : (all : World) (range : Range) (marks : List Mark) (columns : List (Column F S R P)) (shown : List state.Column) (read : List (Option Value))
+      → AllZip IsColumnOf columns shown → TellPoints name pages told columns → Each (HasPointsOf told all range marks) columns → AllZip (IsValueRead name pages range marks) columns read
+      → read ≡ values_in all range columns
+  values_are all range marks [] shown [] zip tells has are = refl
+  values_are all range marks [] shown (value ∷ read) zip tells has are = absurd are
+  values_are all range marks (column ∷ columns) [] read zip tells has are = absurd zip
+  values_are all range marks (column ∷ columns) (s ∷ shown) [] zip tells has are = absurd are
+  values_are all range marks (column ∷ columns) (s ∷ shown) (value ∷ read) zip tells has are =
+      let sources = all_points column.schema.path column.sources s.sources zip.0.sources tells.0 in
+      let first : value ≡ item_value column.aggregate (series_points all range column.schema.path) =
+      value_is column.aggregate (kept_of column.schema.path range marks column.sources sources.lists) (series_points all range column.schema.path) value (λ points merge. has.0 sources.lists points sources.are merge) (are.0 sources.lists sources.told_are sources.rising) in
+      ap (λ l. l ∷ read) first ∙ ap (λ l. item_value column.aggregate (series_points all range column.schema.path) ∷ l) (values_are all range marks columns shown read zip.1 tells.1 has.1 are.1)
+
+  pub values_read : (pin : Pin F S R P) (read : List (Option Value)) → AllZip (IsValueRead name pages pin.range pin.marks.marks) pin.columns read → (shown : state.Pin) (all : World)
+      → TellPoints name pages told pin.columns → IsPinOf pin shown → PinStandsFor told shown all → read ≡ values_in all pin.range pin.columns
+  values_read pin read are shown all tells is stands = values_are all pin.range pin.marks.marks pin.columns shown.columns read is.columns tells (pin_has told all pin shown is stands) are

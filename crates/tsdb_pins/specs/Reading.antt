@@ -1,13 +1,16 @@
 -- What is told of the files of a pin, and what is read of its columns.
-use Rattle.std.specs.Prelude.{◌≡◌, ℕ, ◌≤◌, List, Some, ⊤}
+use Rattle.std.specs.Prelude.{◌≡◌, ℕ, ◌≤◌, List, Option, None, Some, ⊤}
 use Rattle.std.specs.List.{AllByRecursion as Each, AllZip}
 use Rattle.std.specs.declared.alloc.Global.{Global}
 use Rattle.std.specs.declared.vec.Vec.{Vec}
+use Rattle.tsdb_base.specs.declared.answers.Aggregate.{Aggregate}
 use Rattle.tsdb_base.specs.declared.point.Point.{Point}
 use Rattle.tsdb_base.specs.declared.point.Range.{Range}
+use Rattle.tsdb_base.specs.declared.value.Value.{Value}
 use Rattle.tsdb_columns.specs.Files.{FilePages, IsTold, IsTruth}
 use Rattle.tsdb_columns.specs.declared.source.Source.{Source}
 use Rattle.tsdb_columns.specs.declared.source.Source.TheVariants as lent
+use Rattle.tsdb_map.specs.Folds.{aggregate_of}
 use Rattle.tsdb_marks.specs.declared.marks.Mark.{Mark}
 use Rattle.tsdb_merge.specs.Winners.{IsMergeOf, IsRising}
 use Rattle.tsdb_outside.specs.Files.{NamedFile, Store}
@@ -40,6 +43,17 @@ module _ {F S R P : Type 0} (name : R → NamedFile) where
 
   abbrev pub AreColumnsOf : Store → List (Column F S R P) → Type 0
   AreColumnsOf store columns = Each (λ column. Each (IsOfStore store) column.sources) columns
+
+-- the answer is this aggregate of the merge of the lists
+pub record IsFoldOf (name : Aggregate) (lists : List (List Point)) (answer : Option Value) : Type 0 where
+  pub points : List Point
+  pub merge : IsMergeOf lists points
+  pub is : answer ≡ aggregate_of name points
+
+-- the answer is the aggregate that is asked for, if one is
+abbrev pub IsValueOf : Option Aggregate → List (List Point) → Option Value → Type 0
+IsValueOf None lists answer = answer ≡ None
+IsValueOf (Some name) lists answer = IsFoldOf name lists answer
 
 -- the points of each page of a series in the file of a number, where they are told
 abbrev pub SeriesPages : Type 0
@@ -84,3 +98,9 @@ module _ {F S R P : Type 0} (name : R → NamedFile) (pages : SeriesPages) where
   IsColumnRead range marks column points = (lists : List (List Point))
       → AllZip (HasTold column.schema.path) column.sources lists → Each IsRising lists
       → IsMergeOf (kept_of column.schema.path range marks column.sources lists) points.items
+
+  -- This answer was read of the column: the aggregate that it asks for, of the merge of those points.
+  abbrev pub IsValueRead : Range → List Mark → Column F S R P → Option Value → Type 0
+  IsValueRead range marks column answer = (lists : List (List Point))
+      → AllZip (HasTold column.schema.path) column.sources lists → Each IsRising lists
+      → IsValueOf column.aggregate (kept_of column.schema.path range marks column.sources lists) answer

@@ -7,4 +7,4 @@
 
 mod query;
 
-pub use query::select;
+pub use query::{aggregates, select};

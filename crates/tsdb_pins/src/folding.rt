@@ -1,0 +1,88 @@
+//! The aggregate of one column. Depends on `lending`, tsdb_columns and tsdb_aggregate.
+ghost use Rattle.std.specs.List.{AllByRecursion as Each};
+ghost use Rattle.std.specs.Prelude.{◌≡◌, ◌≤◌, All, IfOk, List, Some, map};
+ghost use Rattle.tsdb_base.specs.declared.point.Point.{Point as PointModel};
+ghost use Rattle.tsdb_columns.specs.Files.{FilePages, HasReason};
+ghost use Rattle.tsdb_columns.specs.Kept.{is_kept};
+ghost use Rattle.tsdb_columns.specs.Lanes.{IsSourceOf, source_left};
+ghost use Rattle.tsdb_columns.specs.Streams.{AreToldSources, AreTrueSources};
+ghost use Rattle.tsdb_merge.specs.Winners.{IsRising};
+ghost use Rattle.tsdb_path.specs.Nodes.{node_count};
+ghost use Rattle.tsdb_pins.specs.Reading.{IsFoldOf, IsOfStore, IsToldIn, IsTrueIn, IsValueRead, SeriesPages};
+
+use crate::lending::lend;
+use std::alloc::Global;
+use tsdb_aggregate::Tally;
+use tsdb_base::{Aggregate, Range, Value};
+use tsdb_columns::{Source, open_column, pull};
+use tsdb_marks::Marks;
+use tsdb_outside::{Files, Port, StoreFault};
+use tsdb_path::Path;
+use tsdb_pinning::{Column, Pin};
+
+/// The aggregate of the points of a series in a range that no mark deletes, from these sources.
+fn fold_points<'a, P: Port>(
+    alloc: Global,
+    name: Aggregate,
+    series: &'a Path,
+    range: &Range,
+    marks: &'a Marks,
+    sources: Vec<Source<'a, P::Right>>,
+    port: &mut P,
+) -> Result<Option<Value>, StoreFault>
+    requires nodes { 2 ≤ node_count series.now }
+    requires of_store { All (IsSourceOf P.Right.file (P.store port.old)) sources.items }
+    ensures folded { (pages : FilePages) → AreTrueSources P.Right.file series.now pages sources.entry.items
+        → IfOk result (λ answer. (lists : List (List PointModel)) →
+        map (source_left P.Right.file pages (is_kept series.now range.now marks.now.marks)) sources.entry.items
+        ≡ map Some lists → All IsRising lists → IsFoldOf name lists answer) }
+    ensures reason { (pages : FilePages) → AreTrueSources P.Right.file series.now pages sources.entry.items
+        → HasReason (AreToldSources P.Right.file pages sources.entry.items)
+        (P.faults port.old) (P.faults port.new) result }
+    ensures later { P.faults port.old ≤ P.faults port.new }
+    ensures same_store { P.store port.new ≡ P.store port.old }
+{
+    let mut stream = open_column(alloc, series, range, marks, sources, port)?;
+    let mut tally = Tally::new();
+    for _ in 0..u64::MAX {
+        let Some(point) = pull(&mut stream, port)? else {
+            return Ok(tally.answer(name)?);
+        };
+        tally.join(name, Tally::of_point(name, point))?;
+    }
+    Err(StoreFault::Memory)
+}
+
+/// The aggregate that a column asks for, of its points in the range of the pin that no mark deletes.
+pub(crate) fn read_value<F: Files>(
+    alloc: Global,
+    pin: &Pin<F>,
+    column: &Column<F>,
+    port: &mut F::Port,
+) -> Result<Option<Value>, StoreFault>
+    requires nodes { 2 ≤ node_count column.now.schema.path }
+    requires of_store { Each (IsOfStore F.Right.file (F.Port.store port.old)) column.now.sources }
+    ensures read { (pages : SeriesPages)
+        → Each (IsTrueIn F.Right.file pages column.now.schema.path) column.now.sources
+        → IfOk result (IsValueRead F.Right.file pages pin.now.range pin.now.marks.marks column.now) }
+    ensures reason { (pages : SeriesPages)
+        → Each (IsTrueIn F.Right.file pages column.now.schema.path) column.now.sources
+        → HasReason (Each (IsToldIn F.Right.file pages column.now.schema.path) column.now.sources)
+        (F.Port.faults port.old) (F.Port.faults port.new) result }
+    ensures later { F.Port.faults port.old ≤ F.Port.faults port.new }
+    ensures same_store { F.Port.store port.new ≡ F.Port.store port.old }
+{
+    let Some(name) = column.aggregate else {
+        return Ok(None);
+    };
+    let sources = lend(alloc, column.sources.items())?;
+    fold_points(
+        alloc,
+        name,
+        &column.schema.path,
+        &pin.range,
+        &pin.marks,
+        sources,
+        port,
+    )
+}
