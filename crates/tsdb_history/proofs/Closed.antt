@@ -1,5 +1,5 @@
 -- What a core leaves that is closed.
-use Rattle.std.proofs.Common.{◌≡◌, ◌⊎◌, inl, inr, ℕ, ◌+◌, ◌-◌, ◌^◌, ◌<◌, ◌≤◌, ◌==◌, Bool, true, false, cond, List, [], ◌∷◌, ◌++◌}
+use Rattle.std.proofs.Common.{◌≡◌, ◌⊎◌, inl, inr, ℕ, ◌-◌, ◌<◌, ◌≤◌, ◌==◌, true, cond, List, [], ◌∷◌, ◌++◌}
 use Rattle.std.proofs.Common.{length, map, Option, Some, None, refl, sym, ap, subst, ◌∙◌, arith}
 use Rattle.std.proofs.lemmas.List.{map-append}
 use Rattle.std.specs.List.{AllByRecursion as Each}
@@ -22,17 +22,16 @@ use Rattle.tsdb_layers.proofs.Lists.{each_from_among, among_map}
 use Rattle.tsdb_layers.specs.Lists.{Among, count, if_some}
 use Rattle.tsdb_log.specs.declared.record.LogRecord.{LogRecord}
 use Rattle.tsdb_logged.specs.Closing as logged
-use Rattle.tsdb_logged.specs.Logged.{IsSound, Outside, log_of}
+use Rattle.tsdb_logged.specs.Logged.{IsSound, Outside}
 use Rattle.tsdb_map.specs.State as plain
 use Rattle.tsdb_outside.specs.Causes.{Rose}
-use Rattle.tsdb_outside.specs.Disk.{Image, IsLawful, State, WhereTold}
+use Rattle.tsdb_outside.specs.Disk.{IsLawful, State, WhereTold}
 use Rattle.tsdb_outside.specs.Files.{StoredFile}
 use Rattle.tsdb_outside.specs.Moments.{LeavesOnly}
 use Rattle.tsdb_outside.specs.declared.disk.Disk as disk
 use Rattle.tsdb_outside.specs.declared.faults.Counted as counted
 use Rattle.tsdb_plan.specs.declared.entry.FileEntry.{FileEntry}
 use Rattle.tsdb_frames.proofs.MomentLemmas.{weaker}
-use Rattle.tsdb_frames.specs.Frames.{faults_of}
 use Rattle.tsdb_replay.specs.Stores.{HoldsKept}
 use Rattle.tsdb_replay.specs.Stores as store
 use Rattle.tsdb_serving.proofs.Held.{wider}
@@ -40,7 +39,7 @@ use Rattle.tsdb_serving.specs.Flushing.{faults_under}
 use Rattle.tsdb_serving.specs.Serving.{AreHeldWith, IsServing, disk_under, slot_under}
 use Rattle.tsdb_state.specs.Order.{files_of as state_files}
 use Rattle.tsdb_state.specs.Records.{numbers_of as state_numbers}
-use Rattle.tsdb_state.specs.State.{EngineState, Entries, File, StoreState, Told}
+use Rattle.tsdb_state.specs.State.{EngineState, Entries, File}
 
 -- ---- the numbers of files
 
@@ -62,15 +61,16 @@ same_numbers files known state are =
     ++ state_numbers (sym are.outgoing i))
     ∙ (λ i. (listed_numbers files.sequence i ++ listed_numbers files.unsequence i) ++ leaving_numbers files.outgoing i)
 
-counted : (n : ℕ) (numbers : List ℕ) → Among n numbers → 1 ≤ count n numbers
-counted n (m ∷ numbers) (inl is) = let one = itself is in omega (arith, one)
+stands_counted : (n : ℕ) (numbers : List ℕ) → Among n numbers → 1 ≤ count n numbers
+stands_counted n [] among = absurd among
+stands_counted n (m ∷ numbers) (inl is) = let one = itself is in omega (arith, one)
   where
-    itself : m ≡ n → cond (m == n) 1 0 ≡ 1
-    itself e = ap (λ b. cond b 1 0) (equal m n e)
-
     equal : (a b : ℕ) → a ≡ b → (a == b) ≡ true
     equal a b e = grind (arith, e)
-counted n (m ∷ numbers) (inr among) = let rest = counted n numbers among in omega (arith, rest)
+
+    itself : m ≡ n → ◌≡◌ {A = ℕ} (cond (m == n) 1 0) 1
+    itself e = ap (λ b. cond b 1 0) (equal m n e)
+stands_counted n (m ∷ numbers) (inr among) = let rest = stands_counted n numbers among in omega (arith, rest)
 
 some_of : {X : Type 0} (found : Option X) → 1 ≤ length (if_some found) → (x : X) × (found ≡ Some x)
 some_of None none = absurd (omega (arith, none))
@@ -107,7 +107,7 @@ module _ {J F S R P : Type 0} {means : disk.Ghosts J} {counts : counted.Ghosts J
       let tells = subst (λ found. IfSome found (λ (file : KeptFile). (file.name.number ≡ n)
       × (file.name.bytes ≡ kept_bytes kept n))) is (serving.seen.told n) in
       let numbers = serving.seen.sound.stored.order.numbers in
-      let some = counted n (state_numbers (state_files serving.state)) (in_state n file is) in
+      let some = stands_counted n (state_numbers (state_files serving.state)) (in_state n file is) in
       let range = numbers.range n (omega (arith, some)) in
       let end = numbers.end in
       record {
@@ -145,7 +145,7 @@ module _ {J F S R P : Type 0} {means : disk.Ghosts J} {counts : counted.Ghosts J
       one : (file : File) → Among file.number (state_numbers (state_files serving.state))
           → kept_bytes stored file.number ≡ kept_bytes kept file.number
       one file among =
-          let some = counted file.number (numbers_of (files_of core)) (subst (Among file.number) numbers_are among) in
+          let some = stands_counted file.number (numbers_of (files_of core)) (subst (Among file.number) numbers_are among) in
           let count = are_kept file.number in
           let there = some_of (kept_file file.number (files_of core)) (omega (arith, some, count)) in
           let is = known file.number there.0 there.1 in
