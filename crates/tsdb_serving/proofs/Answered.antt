@@ -34,7 +34,7 @@ use Rattle.tsdb_serving.proofs.Held.{either_wider, held_more, same_state}
 use Rattle.tsdb_serving.proofs.Parts.{froze, unchanged}
 use Rattle.tsdb_serving.proofs.Steps.{moved, moved_left, quiet, quiet_left, then, then_left, then_settled}
 use Rattle.tsdb_serving.specs.Faults.{answer_of}
-use Rattle.tsdb_serving.specs.Serving.{IsAnsweredBy, IsDrawn, IsServed, IsServedBy, IsServing, LeavesDoubt, LeavesEither, MayDoubt, disk_under}
+use Rattle.tsdb_serving.specs.Serving.{IsAnsweredBy, IsDrawn, IsServed, IsServedBy, IsServing, IsWritten, LeavesDoubt, LeavesEither, MayDoubt, disk_under}
 use Rattle.tsdb_serving.specs.Serving.{slot_under}
 use Rattle.tsdb_serving.specs.declared.fault.FlushFault.{FlushFault}
 use Rattle.tsdb_serving.specs.declared.fault.FlushFault.TheVariants as fault
@@ -380,6 +380,27 @@ module _ {J F S R P : Type 0} {means : disk.Ghosts J} {counts : counted.Ghosts J
         inr (inl (kept_left (step.memory refl) (step.step serving.outside serving.state serving.seen tt)))
     doubts (answer.Full counter) step led = inr (inl (still_left (step.refused tt)))
 
+    -- where the record cannot have been written, the log is as it was
+    same_log : log_of (logged_of new) ≡ log_of (logged_of old) → IsSeen new serving.outside serving.state
+        → IsServedBy Q old new files at next at at
+    same_log same seen = quiet laws Q old new files [] at next at same tt serving (shown seen)
+
+    same_core : new ≡ old → IsServedBy Q old new files at next at at
+    same_core same = same_log (ap (λ (core : Core J F S R P means counts). log_of (logged_of core)) same)
+        (subst (λ (core : Core J F S R P means counts). IsSeen core serving.outside serving.state) (sym same)
+        serving.seen)
+
+    pub unmoved : (result : Answer) → IsCoreCommand old new record_is IsAny result → IsMapAnswer at.world asked result
+        → ¬ IsWritten at asked (Plain result) → IsServedBy Q old new files at next at at
+    unmoved answer.Done step map not = absurd (not (inl refl))
+    unmoved answer.NoPath step map not = same_core (step.refused tt)
+    unmoved answer.WrongType step map not = same_core (step.refused tt)
+    unmoved answer.Exists step map not = same_core (step.refused tt)
+    unmoved answer.Device step map not = absurd (not (inr (refl, map)))
+    unmoved answer.Memory step map not =
+        same_log (step.memory refl) (step.step serving.outside serving.state serving.seen tt)
+    unmoved (answer.Full counter) step map not = same_core (step.refused tt)
+
     -- a command that is one record
     pub answered : (result : Answer) (step : IsCoreCommand old new record_is IsAny result)
         (leads : Leads old record_is asked result) → IsChange asked → IsMapAnswer at.world asked result
@@ -390,6 +411,7 @@ module _ {J F S R P : Type 0} {means : disk.Ghosts J} {counts : counted.Ghosts J
       settled = λ change is. settles result step leads is;
       doubtful = left_in_doubt next at asked result (served result step leads).doubt change map
           (doubts result step leads);
+      unwritten = λ change not. unmoved result step map not;
     }
 
   -- ---- a row
@@ -404,6 +426,7 @@ module _ {J F S R P : Type 0} {means : disk.Ghosts J} {counts : counted.Ghosts J
     Ends result = (served : IsServedBy Q old new files at next (done_after at asked)
         (state_after at asked (Plain result))) × (Plain result ≡ Plain answer.Done → served.doubt ≡ None)
         × RowDoubts next at (done_after at asked) result served.doubt
+        × (¬ IsWritten at asked (Plain result) → IsServedBy Q old new files at next at at)
 
     -- the core before the record
     placed : (between : Core J F S R P means counts) → HasPlace row old between
@@ -427,8 +450,8 @@ module _ {J F S R P : Type 0} {means : disk.Ghosts J} {counts : counted.Ghosts J
         (put.can outside state seen).0 world stands
         (subst (λ schemas. AreCells schemas device row.cells put.cells) (sym seen.sound.memory.schemas) put.are)
 
-    put_ends : (result : Answer) → IsPut device row old new result → Ends result
-    put_ends result put =
+    put_ends : (result : Answer) → IsPut device row old new result → IsMapAnswer at.world asked result → Ends result
+    put_ends result put map =
         let first = placed put.between put.place in
         let step = put.put in (
           then laws Q Q Q (λ n is. is) (λ n is. is) old put.between new files at next (done_after at asked)
@@ -454,6 +477,9 @@ module _ {J F S R P : Type 0} {means : disk.Ghosts J} {counts : counted.Ghosts J
               (files ++ first.0.put) at first.0.doubt first.0.serving result step (put_leads result put)).doubt
               (doubts Q put.between new (item.Insert row.time put.cells) asked (λ store. refl) (files ++ first.0.put)
               at first.0.doubt first.0.serving result step (put_leads result put)))),
+          λ not. then laws Q Q Q (λ n is. is) (λ n is. is) old put.between new files at next at at first.1 first.0
+              (unmoved Q put.between new (item.Insert row.time put.cells) asked (λ store. refl) (files ++ first.0.put)
+              at first.0.doubt first.0.serving result step map not),
         )
 
     -- a step that keeps the world, as one of the command
@@ -498,6 +524,7 @@ module _ {J F S R P : Type 0} {means : disk.Ghosts J} {counts : counted.Ghosts J
           (sym (moved_left laws Q old new files at next (done_after at asked) at (state_after at asked (Plain result))
           (sym stays) (for_command kept) ∙ command_doubt kept))
           (kept_doubts next at (done_after at asked) result kept.doubt kept.may),
+      λ unwritten. kept,
     )
 
     untouched : new ≡ old → IsServedBy Q old new files at next at at
@@ -509,27 +536,29 @@ module _ {J F S R P : Type 0} {means : disk.Ghosts J} {counts : counted.Ghosts J
     only_froze : (result : Answer) → IsFrozenFor row old new result → IsServedBy Q old new files at next at at
     only_froze result frozen = froze laws Q old new result frozen.freeze frozen.can files at next serving
 
-    row_ends : (result : Answer) → IsRowCommand device row old new result → Ends result
-    row_ends answer.Done put = put_ends answer.Done put
-    row_ends answer.NoPath same = only_kept answer.NoPath refl (λ is. absurd cc) (untouched same)
-    row_ends answer.WrongType same = only_kept answer.WrongType refl (λ is. absurd cc) (untouched same)
-    row_ends answer.Exists same = only_kept answer.Exists refl (λ is. absurd cc) (untouched same)
-    row_ends answer.Device (inl put) = put_ends answer.Device put
-    row_ends answer.Device (inr frozen) =
+    row_ends : (result : Answer) → IsRowCommand device row old new result → IsMapAnswer at.world asked result
+        → Ends result
+    row_ends answer.Done put map = put_ends answer.Done put map
+    row_ends answer.NoPath same map = only_kept answer.NoPath refl (λ is. absurd cc) (untouched same)
+    row_ends answer.WrongType same map = only_kept answer.WrongType refl (λ is. absurd cc) (untouched same)
+    row_ends answer.Exists same map = only_kept answer.Exists refl (λ is. absurd cc) (untouched same)
+    row_ends answer.Device (inl put) map = put_ends answer.Device put map
+    row_ends answer.Device (inr frozen) map =
         only_kept answer.Device refl (λ is. absurd cc) (only_froze answer.Device frozen)
-    row_ends answer.Memory (inl same) = only_kept answer.Memory refl (λ is. absurd cc) (untouched same)
-    row_ends answer.Memory (inr (inl put)) = put_ends answer.Memory put
-    row_ends answer.Memory (inr (inr frozen)) =
+    row_ends answer.Memory (inl same) map = only_kept answer.Memory refl (λ is. absurd cc) (untouched same)
+    row_ends answer.Memory (inr (inl put)) map = put_ends answer.Memory put map
+    row_ends answer.Memory (inr (inr frozen)) map =
         only_kept answer.Memory refl (λ is. absurd cc) (only_froze answer.Memory frozen)
-    row_ends (answer.Full counter) same = only_kept (answer.Full counter) refl (λ is. absurd cc) (untouched same)
+    row_ends (answer.Full counter) same map = only_kept (answer.Full counter) refl (λ is. absurd cc) (untouched same)
 
     pub row_answered : (result : Answer) → IsRowCommand device row old new result → IsMapAnswer at.world asked result
         → IsAllowed at asked (Plain result) → IsAnsweredBy Q old new files at next asked (Plain result)
-    row_answered result is map may = let ends = row_ends result is in record {
+    row_answered result is map may = let ends = row_ends result is map in record {
       allowed = may;
       served = ends.0;
       settled = λ change done. ends.1 done;
       doubtful = row_in_doubt next at device row result ends.0.doubt map ends.2;
+      unwritten = λ change. ends.3;
     }
 
   -- ---- a row behind a flush
@@ -555,6 +584,8 @@ module _ {J F S R P : Type 0} {means : disk.Ghosts J} {counts : counted.Ghosts J
             (done_after at (command.Insert device row)) (state_after at (command.Insert device row) (Plain result)) slot
             first second.served))
             (behind_doubts next at device row (Plain result) first.doubt second.served.doubt first.may second.doubtful);
+        unwritten = λ change not. then laws (IsDrawn old mid) (IsDrawn mid new) (IsDrawn old new) low high old mid new files
+            at next at at slot first (second.unwritten change not);
       }
 
   -- the flush before a row failed
@@ -575,6 +606,7 @@ module _ {J F S R P : Type 0} {means : disk.Ghosts J} {counts : counted.Ghosts J
         (for_command (IsDrawn old new) old new device row files at next serving kept)
         ∙ command_doubt (IsDrawn old new) old new device row files at next serving kept))
         (behind_doubts next at device row (Plain (answer_of why)) kept.doubt kept.doubt kept.may (inr (inl refl)));
+    unwritten = λ change not. kept;
   }
 
 module _ {J F S R P : Type 0} {means : disk.Ghosts J} {counts : counted.Ghosts J} where

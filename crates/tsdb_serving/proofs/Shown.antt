@@ -32,5 +32,6 @@ module _ {J F S R P : Type 0} {means : disk.Ghosts J} {counts : counted.Ghosts J
     settled = λ change is. absurd cc;
     doubtful = inr (inl (unchanged_left laws (IsDrawn core core) core core files at next
         (state_after at ShowFiles (Plain Done)) refl (λ outside engine seen. seen) serving));
+    unwritten = λ change. absurd cc;
   }
   shown core (Err fault) tells = tt

@@ -46,6 +46,11 @@ abbrev pub LeavesDoubt : Option plain.State → plain.State → Command → Repl
 LeavesDoubt next at command reply doubt = (doubt ≡ None) ⊎ ((doubt ≡ next)
     ⊎ ((DrawsNumbers command × (doubt ≡ Some at)) ⊎ IsInDoubtOf at command reply doubt))
 
+-- the record of a change may have been written: it was done, or its device failed and the map accepts it
+abbrev pub IsWritten : plain.State → Command → Reply → Type 0
+IsWritten at command reply =
+    (reply ≡ Plain Done) ⊎ ((reply ≡ Plain Device) × (reply_of at.world command ≡ Plain Done))
+
 -- With these files, what a stop left in the slot stands for the state, or for the one in doubt, or for that after the
 -- command.
 abbrev pub LeavesEither : List StoredFile → Slot → plain.State → Option plain.State → plain.State → Image → Type 0
@@ -107,7 +112,8 @@ module _ {J F S R P : Type 0} {means : disk.Ghosts J} {counts : counted.Ghosts J
       → IsServing old files at next → IsServed old new files at next at at
 
   -- What a command leaves, where files of these numbers were put: its reply is one that the map allows at this place, and
-  -- the core is in the state after it. Once a change is done, nothing is in doubt.
+  -- the core is in the state after it. Once a change is done, nothing is in doubt; where its record cannot have been
+  -- written, a stop at any moment left the state, or the one in doubt.
   pub record IsAnsweredBy (Put : ℕ → Type 0) (old new : Core J F S R P means counts) (files : List StoredFile)
       (at : plain.State) (next : Option plain.State) (command : Command) (reply : Reply)
       : Type 0 where
@@ -116,6 +122,7 @@ module _ {J F S R P : Type 0} {means : disk.Ghosts J} {counts : counted.Ghosts J
         (state_after at command reply)
     pub settled : IsChange command → reply ≡ Plain Done → served.doubt ≡ None
     pub doubtful : LeavesDoubt next at command reply served.doubt
+    pub unwritten : IsChange command → ¬ IsWritten at command reply → IsServedBy Put old new files at next at at
 
   -- It leaves this of each state that the core may be in. The files that were put have numbers that were drawn for
   -- them.
