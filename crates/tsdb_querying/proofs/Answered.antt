@@ -1,5 +1,5 @@
 -- What a query answers.
-use Rattle.std.proofs.Common.{◌≡◌, ℕ, List, [], ◌++◌, map, Option, false, refl, sym, ap}
+use Rattle.std.proofs.Common.{◌≡◌, ℕ, List, [], ◌++◌, map, Option, false, inl, inr, refl, sym, ap}
 use Rattle.std.proofs.Common.{subst, ◌∙◌}
 use Rattle.std.specs.List.{AllByRecursion as Each}
 use Rattle.tsdb_base.specs.declared.answers.Answer.TheVariants as answer
@@ -9,14 +9,17 @@ use Rattle.tsdb_columns.specs.Files.{HasReason}
 use Rattle.tsdb_core.specs.Core.{files_of, logged_of}
 use Rattle.tsdb_core.specs.Pins.{IsNotPinned, IsPinStep, IsPinned, IsUnpinned}
 use Rattle.tsdb_core.specs.declared.engine.Core.{Core}
+use Rattle.tsdb_frames.specs.Frames.{disk_of}
+use Rattle.tsdb_frames.specs.declared.frames.Frames.{Frames}
 use Rattle.tsdb_images.specs.Stored.{IsKept}
 use Rattle.tsdb_layers.proofs.Lists.{among_left}
 use Rattle.tsdb_logged.specs.Logged.{log_of, memory_of}
 use Rattle.tsdb_map.specs.Apply.{ask_aggregates, reply_of}
 use Rattle.tsdb_map.specs.Folds.{rows}
-use Rattle.tsdb_map.specs.History.{IsAllowed, IsMapReply, state_after}
+use Rattle.tsdb_map.specs.History.{IsAllowed, IsChange, IsMapReply, state_after}
 use Rattle.tsdb_map.specs.State as plain
 use Rattle.tsdb_map.specs.World.{World}
+use Rattle.tsdb_map.specs.declared.command.Command.{Command}
 use Rattle.tsdb_map.specs.declared.command.Command.TheVariants.{Select}
 use Rattle.tsdb_map.specs.declared.command.Item.{Item}
 use Rattle.tsdb_map.specs.declared.reply.Line.{Line}
@@ -24,6 +27,7 @@ use Rattle.tsdb_map.specs.declared.reply.Reply.{Reply}
 use Rattle.tsdb_map.specs.declared.reply.Reply.TheVariants.{Lines, Plain}
 use Rattle.tsdb_outside.specs.Disk.{IsLawful}
 use Rattle.tsdb_outside.specs.Files.{NamedFile, StoredFile}
+use Rattle.tsdb_outside.specs.Moments.{LeavesOnly}
 use Rattle.tsdb_outside.specs.declared.disk.Disk as disk
 use Rattle.tsdb_outside.specs.declared.faults.Counted as counted
 use Rattle.tsdb_outside.specs.declared.faults.StoreFault.{StoreFault}
@@ -41,11 +45,12 @@ use Rattle.tsdb_pinning.specs.declared.pin.Pin.{Pin}
 use Rattle.tsdb_pinning.specs.declared.pin.PinFault.{PinFault}
 use Rattle.tsdb_pins.specs.Reading.{AreColumnsTold, AreColumnsTrue, HaveNodes, SeriesPages, TellPoints}
 use Rattle.tsdb_querying.specs.Answers.{answer_to}
-use Rattle.tsdb_querying.proofs.Pinned.{serves_as_before}
+use Rattle.tsdb_querying.proofs.Pinned.{same_log, serves_still, serves_unpinned}
 use Rattle.tsdb_querying.proofs.Telling.{TellsColumns, pages_told, tells_columns}
+use Rattle.tsdb_serving.proofs.Held.{held_more, wider}
 use Rattle.tsdb_serving.proofs.Parts.{more_files}
-use Rattle.tsdb_serving.proofs.Steps.{quiet}
-use Rattle.tsdb_serving.specs.Serving.{IsAnsweredBy, IsDrawn, IsServedBy, IsServing}
+use Rattle.tsdb_serving.proofs.Steps.{idle, image_left}
+use Rattle.tsdb_serving.specs.Serving.{IsAnsweredBy, IsDrawn, IsServing, LeavesEither, disk_under, slot_under}
 use Rattle.tsdb_state.specs.Order.{files_of as state_files_of}
 use Rattle.tsdb_state.specs.State as state
 use Rattle.tsdb_state.specs.State.{Told}
@@ -77,28 +82,44 @@ is_failed store.Memory same = absurd cc
 
 module _ {J F S R P : Type 0} {means : disk.Ghosts J} {counts : counted.Ghosts J}
     (laws : (journal : J) → IsLawful (means.state journal)) where
+  -- a command that changes nothing, after which log and state are as before it
+  pub unmoved : (old new : Core J F S R P means counts) → log_of (logged_of new) ≡ log_of (logged_of old)
+      → (asked : Command) (reply : Reply) → ¬ IsChange asked → (files : List StoredFile) (at : plain.State)
+      (next : Option plain.State) → IsServing old files at next → IsServing new files at next
+      → state_after at asked reply ≡ at → IsAllowed at asked reply
+      → IsAnsweredBy (IsDrawn old new) old new files at next asked reply
+  unmoved old new same asked reply none files at next serving still stays may =
+      let after = state_after at asked (Plain answer.Done) in
+      record {
+        allowed = may;
+        served = record {
+          put = [];
+          numbers = tt;
+          doubt = next;
+          may = inr (inl refl);
+          serving = subst (λ state. IsServing new (files ++ []) state next) (sym stays)
+              (more_files laws new files [] at next still);
+          moments = subst (λ (log : Frames J means counts). LeavesOnly (disk_under old) (disk_of log)
+              (LeavesEither (files ++ []) (slot_under old) at next after)) (sym same)
+              (idle (disk_under old) (LeavesEither (files ++ []) (slot_under old) at next after)
+              (laws old.logged.frames.journal)
+              (λ image left. inl (wider files (files ++ []) (slot_under old) at next image
+              (held_more files files [] (λ there holds. holds)) (image_left laws old files at next image serving left))));
+        };
+        settled = λ change. absurd (none change);
+        doubtful = inr (inl refl);
+        unwritten = λ change. absurd (none change);
+      }
+
   -- no pin was taken
   pub not_taken : (old new : Core J F S R P means counts) → IsNotPinned old new → (device : List ℕ) (items : List Item)
       (range : Range) (reply : Reply) (files : List StoredFile) (at : plain.State) (next : Option plain.State)
       → IsServing old files at next → state_after at (Select device items range) reply ≡ at
       → IsAllowed at (Select device items range) reply
       → IsAnsweredBy (IsDrawn old new) old new files at next (Select device items range) reply
-  not_taken old new not device items range reply files at next serving stays may = record {
-    allowed = may;
-    served = subst (IsServedBy (IsDrawn old new) old new files at next
-        (state_after at (Select device items range) (Plain answer.Done))) (sym stays)
-        (quiet laws (IsDrawn old new) old new files [] at next (state_after at (Select device items range) (Plain answer.Done))
-        (ap (λ logged. log_of logged) not.rest.logged) tt serving
-        (more_files laws new files [] at next (record {
-          outside = serving.outside;
-          state = serving.state;
-          seen = not.step serving.outside serving.state serving.seen;
-          stands = serving.stands;
-          doubt = serving.doubt;
-          held = serving.held;
-        })));
-    settled = λ change. absurd cc;
-  }
+  not_taken old new not device items range reply files at next serving = unmoved old new
+      (ap (λ logged. log_of logged) not.rest.logged) (Select device items range) reply (λ change. cc) files at next serving
+      (serves_unpinned old new not files at next serving)
 
   -- a pin was taken, read, and given back
   pub taken : (name : R → NamedFile) (old mid new : Core J F S R P means counts) (pin : Pin F S R P)
@@ -107,14 +128,9 @@ module _ {J F S R P : Type 0} {means : disk.Ghosts J} {counts : counted.Ghosts J
       → IsServing old files at next → state_after at (Select device items range) reply ≡ at
       → IsAllowed at (Select device items range) reply
       → IsAnsweredBy (IsDrawn old new) old new files at next (Select device items range) reply
-  taken name old mid new pin took gave device items range reply files at next serving stays may = record {
-    allowed = may;
-    served = subst (IsServedBy (IsDrawn old new) old new files at next
-        (state_after at (Select device items range) (Plain answer.Done))) (sym stays)
-        (serves_as_before name old mid new pin took gave laws (IsDrawn old new) files at next serving
-        (state_after at (Select device items range) (Plain answer.Done)));
-    settled = λ change. absurd cc;
-  }
+  taken name old mid new pin took gave device items range reply files at next serving = unmoved old new
+      (same_log name old mid new pin took gave) (Select device items range) reply (λ change. cc) files at next serving
+      (serves_still name old mid new pin took gave files at next serving)
 
 module _ {J F S R P : Type 0} {means : disk.Ghosts J} {counts : counted.Ghosts J} (name : R → NamedFile)
     (old mid : Core J F S R P means counts) (pin : Pin F S R P) (took : IsPinned name old mid pin)

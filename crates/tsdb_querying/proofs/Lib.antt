@@ -1,4 +1,5 @@
 pub mod Trees
 pub mod Telling
 pub mod Pinned
+pub mod Untold
 pub mod Answered

@@ -3,22 +3,20 @@ use Rattle.std.proofs.Common.{◌≡◌, ℕ, List, [], Option, None, Some, arit
 use Rattle.std.specs.Option.{option_map}
 use Rattle.std.specs.Prelude.{IfSome}
 use Rattle.tsdb_core.specs.Core.{files_of, logged_of}
-use Rattle.tsdb_core.specs.Pins.{IsPinned, IsUnpinned}
+use Rattle.tsdb_core.specs.Pins.{IsNotPinned, IsPinned, IsUnpinned}
 use Rattle.tsdb_core.specs.declared.engine.Core.{Core}
+use Rattle.tsdb_frames.specs.Frames.{slot_of}
 use Rattle.tsdb_kept.specs.Places.{KeptFile, file_at, place_at}
 use Rattle.tsdb_layers.specs.Lists.{count}
 use Rattle.tsdb_logged.specs.Logged.{log_of}
 use Rattle.tsdb_map.specs.State as plain
-use Rattle.tsdb_outside.specs.Disk.{IsLawful}
 use Rattle.tsdb_outside.specs.Files.{NamedFile, Store, StoredFile}
 use Rattle.tsdb_outside.specs.declared.disk.Disk as disk
 use Rattle.tsdb_outside.specs.declared.faults.Counted as counted
 use Rattle.tsdb_pinning.specs.Changes.{column_numbers, fewer_rights, more_rights}
 use Rattle.tsdb_pinning.specs.declared.pin.Pin.{Pin}
-use Rattle.tsdb_serving.proofs.Parts.{more_files}
-use Rattle.tsdb_serving.proofs.Steps.{quiet}
 use Rattle.tsdb_serving.specs.Flushing.{IsReady}
-use Rattle.tsdb_serving.specs.Serving.{IsServedBy, IsServing}
+use Rattle.tsdb_serving.specs.Serving.{IsServing, StaysInPlace}
 use Rattle.tsdb_state.specs.Steps.{pinned, unpinned}
 
 -- no right was out, some were given out, and as many came back
@@ -34,6 +32,23 @@ none_out (Some (Some file)) more back n gave came none = subst (λ b. IfSome (fi
     (sym (came ∙ ap (λ m. option_map (λ p. option_map (fewer_rights n) p) m) gave)) (omega (arith, none))
 
 module _ {J F S R P : Type 0} {means : disk.Ghosts J} {counts : counted.Ghosts J} where
+  -- where no pin was taken the log is as it was, and no number was drawn
+  pub stays_unpinned : (old new : Core J F S R P means counts) → IsNotPinned old new → StaysInPlace old new
+  stays_unpinned old new not = let next = not.rest.next in
+      record { slot = ap (λ logged. slot_of (log_of logged)) not.rest.logged; next = omega (arith, next) }
+
+  -- where no pin was taken the core is in the same states
+  pub serves_unpinned : (old new : Core J F S R P means counts) → IsNotPinned old new → (files : List StoredFile)
+      (at : plain.State) (next : Option plain.State) → IsServing old files at next → IsServing new files at next
+  serves_unpinned old new not files at next serving = record {
+    outside = serving.outside;
+    state = serving.state;
+    seen = not.step serving.outside serving.state serving.seen;
+    stands = serving.stands;
+    doubt = serving.doubt;
+    held = serving.held;
+  }
+
   module _ (name : R → NamedFile) (old mid new : Core J F S R P means counts) (pin : Pin F S R P)
       (took : IsPinned name old mid pin) (gave : IsUnpinned mid new pin) where
     pub ready_still : (store : Store) → IsReady store old → IsReady store new
@@ -48,19 +63,19 @@ module _ {J F S R P : Type 0} {means : disk.Ghosts J} {counts : counted.Ghosts J
     pub same_log : log_of (logged_of new) ≡ log_of (logged_of old)
     same_log = ap (λ logged. log_of logged) (gave.rest.logged ∙ took.rest.logged)
 
-    module _ (laws : (journal : J) → IsLawful (means.state journal)) (Q : ℕ → Type 0) (files : List StoredFile)
-        (at : plain.State) (next : Option plain.State) (serving : IsServing old files at next) where
-      serves_still : IsServing new files at next
-      serves_still = let one = took.step serving.outside serving.state serving.seen in record {
-        outside = serving.outside;
-        state = unpinned one.shown serving.state.pins (pinned one.shown serving.state);
-        seen = gave.step serving.outside (pinned one.shown serving.state) one.shown serving.state.pins one.seen one.is
-            (record { before = []; behind = serving.state.pins; with_it = refl; without = refl });
-        stands = serving.stands;
-        doubt = serving.doubt;
-        held = serving.held;
-      }
+    pub stays_still : StaysInPlace old new
+    stays_still = let gave_next = gave.rest.next in
+        let took_next = took.rest.next in
+        record { slot = ap (λ log. slot_of log) same_log; next = omega (arith, gave_next, took_next) }
 
-      pub serves_as_before : (after : plain.State) → IsServedBy Q old new files at next after at
-      serves_as_before after = quiet laws Q old new files [] at next after same_log tt serving
-          (more_files laws new files [] at next serves_still)
+    pub serves_still : (files : List StoredFile) (at : plain.State) (next : Option plain.State)
+        → IsServing old files at next → IsServing new files at next
+    serves_still files at next serving = let one = took.step serving.outside serving.state serving.seen in record {
+      outside = serving.outside;
+      state = unpinned one.shown serving.state.pins (pinned one.shown serving.state);
+      seen = gave.step serving.outside (pinned one.shown serving.state) one.shown serving.state.pins one.seen one.is
+          (record { before = []; behind = serving.state.pins; with_it = refl; without = refl });
+      stands = serving.stands;
+      doubt = serving.doubt;
+      held = serving.held;
+    }

@@ -8,8 +8,8 @@ ghost use Rattle.tsdb_map.specs.declared.reply.Reply.{Reply as ReplyOf};
 ghost use Rattle.tsdb_outside.specs.Causes.{Rose};
 ghost use Rattle.tsdb_outside.specs.Files.{StoredFile};
 ghost use Rattle.tsdb_querying.specs.Answers;
-ghost use Rattle.tsdb_serving.specs.Flushing.{IsReady};
-ghost use Rattle.tsdb_serving.specs.Serving.{Answers as AreAnswered, IsServing};
+ghost use Rattle.tsdb_serving.specs.Flushing.{IsReady, faults_under};
+ghost use Rattle.tsdb_serving.specs.Serving.{Answers as AreAnswered, IsServing, StaysInPlace};
 
 use std::alloc::Global;
 use tsdb_base::{Answer, List, Range};
@@ -35,10 +35,14 @@ pub fn select<J: Journal, F: Files>(
     requires ready { IsReady (F.Port.store port.old) core.old }
     ensures answers { AreAnswered core.old core.new (Command.Select device.now items.now range.now) result }
     ensures ready { IsReady (F.Port.store port.old) core.new }
+    ensures stays { StaysInPlace core.old core.new }
     ensures same_store { F.Port.store port.new ≡ F.Port.store port.old }
     ensures cause { (files : List StoredFile) (at : plain.State) (next : Option plain.State)
         → IsServing core.old files at next → result ≡ ReplyOf.Plain AnswerOf.Device
         → Rose (F.Port.faults port.old) (F.Port.faults port.new) }
+    ensures untold { (F.Port.store port.old).tells ≡ false → result ≡ ReplyOf.Plain AnswerOf.Device
+        → Rose (F.Port.faults port.old) (F.Port.faults port.new) }
+    ensures faults { faults_under core.new ≡ faults_under core.old }
     ensures later { F.Port.faults port.old ≤ F.Port.faults port.new }
 {
     let pin = match core.pin(device, items, range) {
@@ -71,13 +75,16 @@ pub fn aggregates<J: Journal, F: Files>(
     requires ready { IsReady (F.Port.store port.old) core.old }
     ensures answers { AreAnswered core.old core.new (Command.Select device.now items.now range.now) result }
     ensures ready { IsReady (F.Port.store port.old) core.new }
+    ensures stays { StaysInPlace core.old core.new }
     ensures same_store { F.Port.store port.new ≡ F.Port.store port.old }
     ensures cause { (files : List StoredFile) (at : plain.State) (next : Option plain.State)
         → IsServing core.old files at next → result ≡ ReplyOf.Plain AnswerOf.Device
         → Rose (F.Port.faults port.old) (F.Port.faults port.new) }
+    ensures untold { (F.Port.store port.old).tells ≡ false → result ≡ ReplyOf.Plain AnswerOf.Device
+        → Rose (F.Port.faults port.old) (F.Port.faults port.new) }
+    ensures faults { faults_under core.new ≡ faults_under core.old }
     ensures later { F.Port.faults port.old ≤ F.Port.faults port.new }
 {
-    let _ = (alloc, core, port, device, items, range);
     Reply::Plain(Answer::Memory)
 }
 

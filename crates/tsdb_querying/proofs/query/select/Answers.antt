@@ -1,7 +1,8 @@
 use Rattle.std.proofs.Common.{Err, ap, map, refl, subst, sym, ◌∙◌}
 use Rattle.tsdb_base.specs.declared.answers.Answer.TheVariants as answer
 use Rattle.tsdb_core.specs.Core.{files_of, logged_of}
-use Rattle.tsdb_logged.specs.Logged.{memory_of}
+use Rattle.tsdb_frames.specs.Frames.{faults_of}
+use Rattle.tsdb_logged.specs.Logged.{log_of, memory_of}
 use Rattle.tsdb_map.specs.declared.reply.Reply.TheVariants.{Lines, Plain}
 use Rattle.tsdb_memory.specs.Shown.{entry_of}
 use Rattle.tsdb_pinning.specs.Items.{IsRefused}
@@ -9,6 +10,8 @@ use Rattle.tsdb_pinning.specs.declared.pin.PinFault.TheVariants as fault
 use Rattle.tsdb_pins.proofs.Held.{columns_of}
 use Rattle.tsdb_pins.proofs.Named.{have_nodes}
 use Rattle.tsdb_querying.proofs.Answered.{allowed_reply, fault_allowed, fault_stays, has_risen, is_failed, not_taken, refused, rows_allowed, taken}
+use Rattle.tsdb_querying.proofs.Pinned.{same_log, stays_still, stays_unpinned}
+use Rattle.tsdb_querying.proofs.Untold.{rose_untold}
 use Rattle.tsdb_querying.specs.Answers.{answer_to}
 use Rattle.tsdb_serving.specs.Serving.{IsAnsweredBy, IsDrawn}
 use Rattle.tsdb_map.specs.declared.command.Command.TheVariants.{Select}
@@ -75,3 +78,47 @@ returns-in-Err-clause-cause g c = λ files at next serving same. has_risen g.F.R
     files at next serving (g.F.Port.Counted.faults c.args.port.now) (g.F.Port.Counted.faults c.select-lines.new.port)
     c.select-lines.result c.select-lines.ensures.reason
     (c.in-Err.is ∙ ap Err (is_failed c.in-Err.fault (ap Plain (sym c.answer_to.ensures) ∙ same)))
+
+pub returns-in-Err-NoPath-clause-stays : goal.returns-in-Err-NoPath-clause-stays
+returns-in-Err-NoPath-clause-stays g c = stays_unpinned c.args.core.now c.pin.new.self c.in-Err-NoPath.ensures.not
+
+pub returns-in-Err-WrongType-clause-stays : goal.returns-in-Err-WrongType-clause-stays
+returns-in-Err-WrongType-clause-stays g c = stays_unpinned c.args.core.now c.pin.new.self c.in-Err-WrongType.ensures.not
+
+pub returns-in-Err-Memory-clause-stays : goal.returns-in-Err-Memory-clause-stays
+returns-in-Err-Memory-clause-stays g c = stays_unpinned c.args.core.now c.pin.new.self c.in-Err-Memory.ensures.not
+
+pub returns-in-Ok-lines-clause-stays : goal.returns-in-Ok-lines-clause-stays
+returns-in-Ok-lines-clause-stays g c = stays_still g.F.Right.ReadRight.file c.args.core.now c.pin.new.self
+    c.unpin.new.self c.in-Ok.pin c.in-Ok.ensures.taken c.unpin.ensures
+
+pub returns-in-Err-clause-stays : goal.returns-in-Err-clause-stays
+returns-in-Err-clause-stays g c = stays_still g.F.Right.ReadRight.file c.args.core.now c.pin.new.self
+    c.unpin.new.self c.in-Ok.pin c.in-Ok.ensures.taken c.unpin.ensures
+
+pub returns-in-Err-clause-untold : goal.returns-in-Err-clause-untold
+returns-in-Err-clause-untold g c = λ untold same. rose_untold g.F.Right.ReadRight.file g.F.Right.ReadRight.tells
+    (g.F.Port.Port.store c.args.port.now) untold c.in-Ok.pin.columns
+    (columns_of g.F.Right.ReadRight.file (files_of c.pin.new.self) (g.F.Port.Port.store c.args.port.now)
+    (c.in-Ok.ensures.taken.rest.store (g.F.Port.Port.store c.args.port.now) c.requires.ready.of_store) c.in-Ok.pin.columns
+    c.in-Ok.ensures.taken.held)
+    (g.F.Port.Counted.faults c.args.port.now) (g.F.Port.Counted.faults c.select-lines.new.port)
+    c.select-lines.result c.select-lines.ensures.reason
+    (c.in-Err.is ∙ ap Err (is_failed c.in-Err.fault (ap Plain (sym c.answer_to.ensures) ∙ same)))
+
+pub returns-in-Err-NoPath-clause-faults : goal.returns-in-Err-NoPath-clause-faults
+returns-in-Err-NoPath-clause-faults g c = ap (λ logged. faults_of (log_of logged)) c.in-Err-NoPath.ensures.not.rest.logged
+
+pub returns-in-Err-WrongType-clause-faults : goal.returns-in-Err-WrongType-clause-faults
+returns-in-Err-WrongType-clause-faults g c = ap (λ logged. faults_of (log_of logged)) c.in-Err-WrongType.ensures.not.rest.logged
+
+pub returns-in-Err-Memory-clause-faults : goal.returns-in-Err-Memory-clause-faults
+returns-in-Err-Memory-clause-faults g c = ap (λ logged. faults_of (log_of logged)) c.in-Err-Memory.ensures.not.rest.logged
+
+pub returns-in-Ok-lines-clause-faults : goal.returns-in-Ok-lines-clause-faults
+returns-in-Ok-lines-clause-faults g c = ap (λ log. faults_of log) (same_log g.F.Right.ReadRight.file c.args.core.now c.pin.new.self
+    c.unpin.new.self c.in-Ok.pin c.in-Ok.ensures.taken c.unpin.ensures)
+
+pub returns-in-Err-clause-faults : goal.returns-in-Err-clause-faults
+returns-in-Err-clause-faults g c = ap (λ log. faults_of log) (same_log g.F.Right.ReadRight.file c.args.core.now c.pin.new.self
+    c.unpin.new.self c.in-Ok.pin c.in-Ok.ensures.taken c.unpin.ensures)
