@@ -9,7 +9,7 @@ use Rattle.tsdb_outside.specs.Moments.{LeavesOnly}
 use Rattle.tsdb_outside.specs.declared.disk.Disk as disk
 use Rattle.tsdb_outside.specs.declared.faults.Counted as counted
 use Rattle.tsdb_replay.specs.Stores.{IsSound}
-use Rattle.tsdb_serving.specs.Serving.{AreHeldWith, IsServing, disk_under, slot_under}
+use Rattle.tsdb_serving.specs.Serving.{AreHeldWith, disk_under, slot_under}
 
 module _ {J F S R P : Type 0} {means : disk.Ghosts J} {counts : counted.Ghosts J} where
   -- A core was closed that is in the state; these files are stored then. `rose` says that the journal failed meanwhile.

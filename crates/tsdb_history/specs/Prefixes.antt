@@ -1,6 +1,6 @@
 -- What a log stands for with its files after the entries of a history, or after a prefix of them: the state that they
 -- lead to, or that with the one change in doubt.
-use Rattle.std.specs.Prelude.{◌≡◌, ◌⊎◌, ℕ, List, [], ◌∷◌, ◌++◌, All}
+use Rattle.std.specs.Prelude.{◌≡◌, ◌⊎◌, ℕ, List, ◌∷◌, ◌++◌, All}
 use Rattle.tsdb_base.specs.declared.answers.Answer.TheVariants as answer
 use Rattle.tsdb_map.specs.Apply.{reply_of}
 use Rattle.tsdb_map.specs.History.{DrawsNumbers, Entry, IsChange, IsLegal, state_after}

@@ -3,11 +3,11 @@
 #![tactic(auto)]
 
 mod closing;
-mod execute;
-mod serve;
+mod executing;
+mod serving;
 mod told;
 
 pub use closing::close;
-pub use execute::{Room, execute};
-pub use serve::serve;
+pub use executing::{Room, execute};
+pub use serving::serve;
 pub use told::Told;

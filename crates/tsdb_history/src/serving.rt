@@ -1,9 +1,10 @@
 //! One command. Depends on tsdb_serving and tsdb_querying.
-ghost use Rattle.std.specs.Prelude.{◌≡◌, ◌⊎◌, ◌≤◌, true};
+ghost use Rattle.std.specs.Prelude.{◌≡◌, ◌≢◌, ◌⊎◌, ◌≤◌, true};
 ghost use Rattle.tsdb_base.specs.declared.answers.Answer.{Answer as AnswerOf};
 ghost use Rattle.tsdb_history.specs.History.{IsServed};
 ghost use Rattle.tsdb_history.specs.Serves.{IsSure};
 ghost use Rattle.tsdb_map.specs.Commands.{IsWellFormed};
+ghost use Rattle.tsdb_map.specs.declared.command.Command.{Command as CommandOf};
 ghost use Rattle.tsdb_map.specs.declared.reply.Reply.{Reply as ReplyOf};
 ghost use Rattle.tsdb_outside.specs.Causes.{Rose};
 ghost use Rattle.tsdb_serving.specs.Flushing.{IsReady, faults_under};
@@ -60,7 +61,17 @@ fn query<J: Journal, F: Files>(
     device: &Path,
     items: &[Item],
     range: &Range,
-) -> Reply {
+) -> Reply
+    requires ready { IsReady (F.Port.store port.old) core.old }
+    ensures answers { Answers core.old core.new (CommandOf.Select device.now items.now range.now) result }
+    ensures ready { IsReady (F.Port.store port.old) core.new }
+    ensures stays { StaysInPlace core.old core.new }
+    ensures same_store { F.Port.store port.new ≡ F.Port.store port.old }
+    ensures cause { IsSure (F.Port.store port.old) core.old → result ≡ ReplyOf.Plain AnswerOf.Device
+        → Rose (F.Port.faults port.old) (F.Port.faults port.new) }
+    ensures faults { faults_under core.new ≡ faults_under core.old }
+    ensures later { F.Port.faults port.old ≤ F.Port.faults port.new }
+{
     if ask_aggregates(items) {
         return aggregates(alloc, core, port, device, items, range);
     }
@@ -68,11 +79,18 @@ fn query<J: Journal, F: Files>(
 }
 
 /// What a flush is answered.
-fn flushed<J: Journal, F: Files>(
-    alloc: Global,
-    core: &mut Core<J, F>,
-    port: &mut F::Port,
-) -> Answer {
+fn flushed<J: Journal, F: Files>(alloc: Global, core: &mut Core<J, F>, port: &mut F::Port) -> Answer
+    requires ready { IsReady (F.Port.store port.old) core.old }
+    ensures answers { (F.Port.store port.old).tells ≡ true
+        → Answers core.old core.new CommandOf.Flush (ReplyOf.Plain result) }
+    ensures ready { IsReady (F.Port.store port.old) core.new }
+    ensures stays { StaysInPlace core.old core.new }
+    ensures same_store { F.Port.store port.new ≡ F.Port.store port.old }
+    ensures cause { result ≡ AnswerOf.Device → Rose (faults_under core.old) (faults_under core.new)
+        ⊎ Rose (F.Port.faults port.old) (F.Port.faults port.new) }
+    ensures later { (faults_under core.old ≤ faults_under core.new)
+        × (F.Port.faults port.old ≤ F.Port.faults port.new) }
+{
     match flush(alloc, core, port) {
         Ok(()) => Answer::Done,
         Err(fault) => fault.answer(),
@@ -80,7 +98,10 @@ fn flushed<J: Journal, F: Files>(
 }
 
 /// What a listing is answered.
-fn shown<J: Journal, F: Files>(core: &Core<J, F>) -> Reply {
+fn shown<J: Journal, F: Files>(core: &Core<J, F>) -> Reply
+    ensures answers { Answers core.now core.now CommandOf.ShowFiles result }
+    ensures no_fault { result ≢ ReplyOf.Plain AnswerOf.Device }
+{
     match show(core) {
         Ok(listing) => Reply::Files(listing),
         Err(_memory) => Reply::Plain(Answer::Memory),

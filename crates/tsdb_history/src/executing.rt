@@ -1,4 +1,4 @@
-//! The commands of a script. Depends on `serve` and `told`.
+//! The commands of a script. Depends on `serving` and `told`.
 ghost use Rattle.std.specs.Prelude.{◌≡◌, ℕ, [], ◌+◌, ◌-◌, ◌^◌, ◌<◌, ◌≤◌, min, IfOk, All, count_by, length};
 ghost use Rattle.std.specs.Prelude.{slice_index, slice_set, vec_len, vec_capacity};
 ghost use Rattle.tsdb_history.specs.History.{IsServed, is_device, session_numbers};
@@ -8,7 +8,7 @@ ghost use Rattle.tsdb_script.specs.Limits.{max_commands};
 ghost use Rattle.tsdb_serving.specs.Flushing.{IsReady, faults_under};
 ghost use Rattle.tsdb_serving.specs.Serving.{StaysInPlace};
 
-use crate::serve::serve;
+use crate::serving::serve;
 use crate::told::Told;
 use std::alloc::Global;
 use tsdb_base::{List, Memory};

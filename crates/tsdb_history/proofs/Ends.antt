@@ -1,0 +1,59 @@
+-- The last entries of a history.
+use Rattle.std.proofs.Common.{◌≡◌, ◌⊎◌, List, [], ◌∷◌, ◌++◌, length, inl, inr, refl, sym, ap, append_assoc, arith, subst, ◌∙◌}
+use Rattle.std.proofs.lemmas.List.{length-append}
+use Rattle.std.proofs.lemmas.List.Elements.{All-from_recursion, recursion_from_All}
+use Rattle.std.specs.List.{AllByRecursion as Each}
+use Rattle.tsdb_history.proofs.Entries.{heads}
+use Rattle.tsdb_history.specs.Prefixes.{EndsDone, IsDone, IsQuery}
+use Rattle.tsdb_layers.proofs.Lists.{each_left, each_right}
+use Rattle.tsdb_map.specs.History.{Entry}
+
+-- two lists with the same last element and the same ones before it
+same_end : {X : Type 0} (xs ys : List X) (x y : X) → xs ++ x ∷ [] ≡ ys ++ y ∷ [] → (xs ≡ ys) × (x ≡ y)
+same_end [] [] x y same = (refl, cc)
+same_end [] (b ∷ ys) x y same = absurd (let e = ap length same in let l = length-append ys (y ∷ []) in omega (arith, e, l))
+same_end (a ∷ xs) [] x y same = absurd (let e = ap length same in let l = length-append xs (x ∷ []) in omega (arith, e, l))
+same_end (a ∷ xs) (b ∷ ys) x y same =
+    let h = heads a b (xs ++ x ∷ []) (ys ++ y ∷ []) same in
+    let rest = same_end xs ys x y h.1 in
+    (ap (λ c. c ∷ xs) h.0 ∙ ap (λ l. b ∷ l) rest.0, rest.1)
+
+-- a list is empty, or has a last element
+ends_in : {X : Type 0} (xs : List X) → (xs ≡ []) ⊎ ((front : List X) × (x : X) × (xs ≡ front ++ x ∷ []))
+ends_in [] = inl refl
+ends_in (y ∷ xs) = by (ends_in xs)
+  where
+    by : (xs ≡ []) ⊎ ((front : List _) × (x : _) × (xs ≡ front ++ x ∷ []))
+        → (y ∷ xs ≡ []) ⊎ ((front : List _) × (x : _) × (y ∷ xs ≡ front ++ x ∷ []))
+    by (inl none) = inr ([], y, ap (λ l. y ∷ l) none)
+    by (inr found) = inr (y ∷ found.0, found.1, ap (λ l. y ∷ l) found.2)
+
+-- what ends in a change that was done does so in its last entry, or the last is a query and those before it do so
+pub last_ends : (entries : List Entry) (entry : Entry) → EndsDone (entries ++ entry ∷ [])
+    → IsDone entry ⊎ (EndsDone entries × IsQuery entry.command)
+last_ends entries entry ends = by (ends_in ends.later)
+  where
+    by : (ends.later ≡ []) ⊎ ((front : List Entry) × (x : Entry) × (ends.later ≡ front ++ x ∷ []))
+        → IsDone entry ⊎ (EndsDone entries × IsQuery entry.command)
+    by (inl none) = inl (subst IsDone (sym (same_end entries ends.before entry ends.last
+        (ends.split ∙ ap (λ l. ends.before ++ (ends.last ∷ l)) none)).1) ends.done)
+    by (inr found) =
+        let same = same_end entries (ends.before ++ (ends.last ∷ found.0)) entry found.1
+        (ends.split ∙ ap (λ l. ends.before ++ (ends.last ∷ l)) found.2
+        ∙ sym (append_assoc ends.before (ends.last ∷ found.0) (found.1 ∷ []))) in
+        let each : Each (λ (e : Entry). IsQuery e.command) (found.0 ++ found.1 ∷ []) =
+        subst (Each (λ (e : Entry). IsQuery e.command)) found.2
+        (recursion_from_All (λ (e : Entry). IsQuery e.command) ends.later ends.since) in
+        inr (
+          record {
+            before = ends.before;
+            last = ends.last;
+            later = found.0;
+            split = same.0;
+            done = ends.done;
+            since = All-from_recursion (λ (e : Entry). IsQuery e.command) found.0
+                (each_left (λ (e : Entry). IsQuery e.command) found.0 (found.1 ∷ []) each);
+          },
+          subst (λ (e : Entry). IsQuery e.command) (sym same.1)
+              (each_right (λ (e : Entry). IsQuery e.command) found.0 (found.1 ∷ []) each).0,
+        )

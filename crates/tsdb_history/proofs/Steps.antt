@@ -1,0 +1,288 @@
+-- One more command is served.
+use Rattle.std.proofs.Common.{◌≡◌, ◌≢◌, ◌⊎◌, ℕ, List, [], ◌∷◌, ◌++◌, Option, None, Some, inl, inr, refl, sym, ap}
+use Rattle.std.proofs.Common.{append_assoc, arith, subst, ◌∙◌}
+use Rattle.tsdb_base.specs.declared.answers.Answer.TheVariants as answer
+use Rattle.tsdb_core.specs.declared.engine.Core.{Core}
+use Rattle.tsdb_frames.proofs.MomentLemmas.{leaves_on, weaker}
+use Rattle.tsdb_history.proofs.Ends.{last_ends}
+use Rattle.tsdb_history.proofs.Prefixes.{done_or_not, entry_of, is_change, is_reply, last_doubt, legal_more, may_stay}
+use Rattle.tsdb_history.proofs.Prefixes.{no_change, prefix_stays, stands_after, state_stays, whole_prefix}
+use Rattle.tsdb_history.specs.Prefixes.{EndsDone, IsDone, IsQuery, StandsAfter, StandsAfterPrefix}
+use Rattle.tsdb_history.specs.Serves.{HasServed, LeavesPrefix, MayDoubt}
+use Rattle.tsdb_layers.proofs.Lists.{each_append, each_left, each_weaker}
+use Rattle.tsdb_map.specs.Apply.{reply_of}
+use Rattle.tsdb_map.specs.History.{Entry, IsChange, IsLegal, state_after}
+use Rattle.tsdb_map.specs.State as plain
+use Rattle.tsdb_map.specs.declared.command.Command.{Command}
+use Rattle.tsdb_map.specs.declared.reply.Reply.{Reply}
+use Rattle.tsdb_map.specs.declared.reply.Reply.TheVariants.{Plain}
+use Rattle.tsdb_outside.specs.Disk.{Image, IsLawful, in_slot}
+use Rattle.tsdb_outside.specs.Files.{StoredFile}
+use Rattle.tsdb_outside.specs.declared.disk.Disk as disk
+use Rattle.tsdb_outside.specs.declared.faults.Counted as counted
+use Rattle.tsdb_replay.specs.Stores.{HoldsKept, StandsFor, StandsForOneOf}
+use Rattle.tsdb_replay.specs.Stores as stores
+use Rattle.tsdb_serving.proofs.Parts.{more_files}
+use Rattle.tsdb_serving.proofs.Steps.{idle, image_left}
+use Rattle.tsdb_serving.specs.Serving as serving
+use Rattle.tsdb_serving.specs.Serving.{Answers, IsAnsweredBy, IsDrawn, IsServedBy, IsServing, IsWritten, LeavesDoubt}
+use Rattle.tsdb_serving.specs.Serving.{LeavesEither, StaysInPlace, disk_under, slot_under}
+
+-- this is held of a file
+abbrev Held : stores.Files → StoredFile → Type 0
+Held files file = files file.number ≡ Some file.bytes
+
+module _ {J F S R P : Type 0} {means : disk.Ghosts J} {counts : counted.Ghosts J} where
+  -- the log stays in its slot over one step and then another
+  pub stays_on : (first mid new : Core J F S R P means counts) → StaysInPlace first mid → StaysInPlace mid new
+      → StaysInPlace first new
+  stays_on first mid new before after = let drawn = before.next in let next = after.next in
+      record { slot = after.slot ∙ before.slot; next = omega (arith, drawn, next) }
+
+module _ {J F S R P : Type 0} {means : disk.Ghosts J} {counts : counted.Ghosts J}
+    (laws : (journal : J) → IsLawful (means.state journal)) where
+  -- before the first command
+  pub none_served : (core : Core J F S R P means counts) (files : List StoredFile) (start : plain.State)
+      → IsServing core files start None → HasServed core core files start []
+  none_served core files start is = record {
+    after = start;
+    legal = refl;
+    put = [];
+    numbers = tt;
+    doubt = None;
+    may = inl refl;
+    settled = λ ends. refl;
+    serving = more_files laws core files [] start None is;
+    moments = idle (disk_under core) (LeavesPrefix (files ++ []) (slot_under core) start [])
+        (laws core.logged.frames.journal)
+        (λ image left there holds. whole_prefix there start start [] (in_slot (slot_under core) image) refl
+        (inl (image_left laws core files start None image is left there (each_left (Held there) files [] holds))));
+  }
+
+  module _ (first mid new : Core J F S R P means counts) (files : List StoredFile) (start : plain.State)
+      (entries : List Entry) (command : Command) (reply : Reply) (so_far : HasServed first mid files start entries)
+      (place : StaysInPlace first mid) (stays : StaysInPlace mid new) (answers : Answers mid new command reply) where
+    abbrev at : plain.State
+    at = so_far.after
+
+    abbrev now : plain.State
+    now = state_after at command reply
+
+    abbrev done : plain.State
+    done = state_after at command (Plain answer.Done)
+
+    abbrev entry : Entry
+    entry = entry_of command reply
+
+    abbrev all : List Entry
+    all = entries ++ entry ∷ []
+
+    abbrev held : List StoredFile
+    held = files ++ so_far.put
+
+    answered : IsAnsweredBy (IsDrawn mid new) mid new held at so_far.doubt command reply
+    answered = answers held at so_far.doubt so_far.serving
+
+    legal_all : IsLegal start all now
+    legal_all = legal_more start at entries command reply so_far.legal answered.allowed
+
+    -- the log stands for the state before the command, or for the one in doubt
+    before : (there : stores.Files) (bytes : List ℕ) → StandsForOneOf there bytes at so_far.doubt
+        → StandsAfterPrefix there start all bytes
+    before there bytes is = prefix_stays there start entries entry bytes
+        (whole_prefix there start at entries bytes so_far.legal
+        (stands_after there at entries so_far.doubt bytes so_far.may is))
+
+    stands_still : (there : stores.Files) (bytes : List ℕ) → StandsFor there bytes at
+        → StandsAfterPrefix there start all bytes
+    stands_still there bytes is = prefix_stays there start entries entry bytes
+        (whole_prefix there start at entries bytes so_far.legal (inl is))
+
+    -- the command led to the state `later`, where it took effect
+    module _ (later then : plain.State) (same : then ≡ now)
+        (served : IsServedBy (IsDrawn mid new) mid new held at so_far.doubt later then)
+        (stands_later : (there : stores.Files) (bytes : List ℕ) → StandsFor there bytes later
+        → StandsAfterPrefix there start all bytes) where
+      abbrev put : List StoredFile
+      put = so_far.put ++ served.put
+
+      joined : held ++ served.put ≡ files ++ put
+      joined = append_assoc files so_far.put served.put
+
+      abbrev AtAll : Image → Type 0
+      AtAll = LeavesPrefix (files ++ put) (slot_under first) start all
+
+      holds_all : (there : stores.Files) → HoldsKept (files ++ put) there → HoldsKept (held ++ served.put) there
+      holds_all there holds = subst (λ list. HoldsKept list there) (sym joined) holds
+
+      begins : (image : Image) → LeavesPrefix held (slot_under first) start entries image → AtAll image
+      begins image leaves there holds = prefix_stays there start entries entry (in_slot (slot_under first) image)
+          (leaves there (each_left (Held there) held served.put (holds_all there holds)))
+
+      one_of : (there : stores.Files) (bytes : List ℕ) → StandsForOneOf there bytes at (Some later)
+          → StandsAfterPrefix there start all bytes
+      one_of there bytes (inl is) = stands_still there bytes is
+      one_of there bytes (inr is) = stands_later there bytes is
+
+      last : (image : Image) → LeavesEither (held ++ served.put) (slot_under first) at so_far.doubt later image
+          → AtAll image
+      last image (inl leaves) there holds =
+          before there (in_slot (slot_under first) image) (leaves there (holds_all there holds))
+      last image (inr leaves) there holds =
+          one_of there (in_slot (slot_under first) image) (leaves there (holds_all there holds))
+
+      ends : (image : Image) → LeavesEither (held ++ served.put) (slot_under mid) at so_far.doubt later image
+          → AtAll image
+      ends image leaves = last image
+          (subst (λ slot. LeavesEither (held ++ served.put) slot at so_far.doubt later image) place.slot leaves)
+
+      from_first : (file : StoredFile) → IsDrawn first mid file.number → IsDrawn first new file.number
+      from_first file drawn = let to = drawn.to in let next = stays.next in
+          record { from = drawn.from; to = omega (arith, to, next) }
+
+      from_second : (file : StoredFile) → IsDrawn mid new file.number → IsDrawn first new file.number
+      from_second file drawn = let from = drawn.from in let next = place.next in
+          record { from = omega (arith, from, next); to = drawn.to }
+
+      led : MayDoubt all now served.doubt → (EndsDone all → served.doubt ≡ None) → HasServed first new files start all
+      led may settled = record {
+        after = now;
+        legal = legal_all;
+        put = put;
+        numbers = each_append (λ (file : StoredFile). IsDrawn first new file.number) so_far.put served.put
+            (each_weaker (λ (file : StoredFile). IsDrawn first mid file.number)
+            (λ (file : StoredFile). IsDrawn first new file.number) from_first so_far.put so_far.numbers)
+            (each_weaker (λ (file : StoredFile). IsDrawn mid new file.number)
+            (λ (file : StoredFile). IsDrawn first new file.number) from_second served.put served.numbers);
+        doubt = served.doubt;
+        may = may;
+        settled = settled;
+        serving = subst (λ list. IsServing new list now served.doubt) joined
+            (subst (λ state. IsServing new (held ++ served.put) state served.doubt) same served.serving);
+        moments = leaves_on (disk_under first) (disk_under mid) (disk_under new) (laws new.logged.frames.journal) AtAll
+            (weaker (disk_under first) (disk_under mid) (LeavesPrefix held (slot_under first) start entries) AtAll begins
+            so_far.moments)
+            (weaker (disk_under mid) (disk_under new)
+            (LeavesEither (held ++ served.put) (slot_under mid) at so_far.doubt later) AtAll ends served.moments);
+      }
+
+    -- ---- a command whose record may have been written, or that has none
+
+    doubt_then : (doubt : Option plain.State) → ¬ IsDone entry → LeavesDoubt so_far.doubt at command reply doubt
+        → MayDoubt all at doubt
+    doubt_then doubt not (inl none) = inl none
+    doubt_then doubt not (inr (inl was)) =
+        may_stay entries at entry doubt not (subst (MayDoubt entries at) (sym was) so_far.may)
+    doubt_then doubt not (inr (inr (inl drawn))) = inr (inl drawn.1)
+    doubt_then doubt not (inr (inr (inr failed))) = inr (inr (
+      command,
+      last_doubt entries at command reply failed.change failed.failed failed.accepted,
+      failed.leads,
+    ))
+
+    is_done : IsDone entry ⊎ (¬ IsDone entry)
+    is_done = by (done_or_not reply) (is_change command)
+      where
+        by : (reply ≡ Plain answer.Done) ⊎ (reply ≢ Plain answer.Done) → IsChange command ⊎ (¬ IsChange command)
+            → IsDone entry ⊎ (¬ IsDone entry)
+        by (inl is) (inl change) = inl (change, is)
+        by (inl is) (inr none) = inr (λ is. none is.0)
+        by (inr other) change = inr (λ is. other is.1)
+
+    doubted : MayDoubt all now answered.served.doubt
+    doubted = by is_done
+      where
+        by : IsDone entry ⊎ (¬ IsDone entry) → MayDoubt all now answered.served.doubt
+        by (inl done) = inl (answered.settled done.0 done.1)
+        by (inr not) = subst (λ state. MayDoubt all state answered.served.doubt) (sym (state_stays at command reply not))
+            (doubt_then answered.served.doubt not answered.doubtful)
+
+    query_doubt : (doubt : Option plain.State) → IsQuery command → so_far.doubt ≡ None
+        → LeavesDoubt so_far.doubt at command reply doubt → doubt ≡ None
+    query_doubt doubt query none (inl is) = is
+    query_doubt doubt query none (inr (inl was)) = was ∙ none
+    query_doubt doubt query none (inr (inr (inl drawn))) = absurd (query.1 drawn.0)
+    query_doubt doubt query none (inr (inr (inr failed))) = absurd (query.0 failed.change)
+
+    settled_then : EndsDone all → answered.served.doubt ≡ None
+    settled_then ends = by (last_ends entries entry ends)
+      where
+        by : IsDone entry ⊎ (EndsDone entries × IsQuery entry.command) → answered.served.doubt ≡ None
+        by (inl done) = answered.settled done.0 done.1
+        by (inr rest) = query_doubt answered.served.doubt rest.1 (so_far.settled rest.0) answered.doubtful
+
+    tried : ((there : stores.Files) (bytes : List ℕ) → StandsFor there bytes done
+        → StandsAfterPrefix there start all bytes) → HasServed first new files start all
+    tried stands = led done now refl answered.served stands doubted settled_then
+
+    -- it was done
+    done_stands : reply ≡ Plain answer.Done → (there : stores.Files) (bytes : List ℕ) → StandsFor there bytes done
+        → StandsAfterPrefix there start all bytes
+    done_stands is there bytes stands = whole_prefix there start now all bytes legal_all
+        (inl (subst (StandsFor there bytes) (ap (state_after at command) (sym is)) stands))
+
+    -- its device failed
+    doubt_stands : IsChange command → reply ≡ Plain answer.Device → reply_of at.world command ≡ Plain answer.Done
+        → (there : stores.Files) (bytes : List ℕ) → StandsFor there bytes done → StandsAfterPrefix there start all bytes
+    doubt_stands change is accepts there bytes stands = whole_prefix there start now all bytes legal_all
+        (subst (λ state. StandsAfter there state all bytes) (sym (ap (state_after at command) is))
+        (inr (command, last_doubt entries at command reply change is accepts, stands)))
+
+    -- ---- a change whose record cannot have been written
+
+    module _ (change : IsChange command) (not : ¬ IsWritten at command reply) where
+      other : ¬ IsDone entry
+      other is = not (inl is.1)
+
+      kept : IsServedBy (IsDrawn mid new) mid new held at so_far.doubt at at
+      kept = answered.unwritten change not
+
+      kept_doubt : (doubt : Option plain.State) → serving.MayDoubt so_far.doubt at at doubt → MayDoubt all at doubt
+      kept_doubt doubt (inl none) = inl none
+      kept_doubt doubt (inr (inl was)) =
+          may_stay entries at entry doubt other (subst (MayDoubt entries at) (sym was) so_far.may)
+      kept_doubt doubt (inr (inr (inl same))) = inr (inl same)
+      kept_doubt doubt (inr (inr (inr same))) = inr (inl same)
+
+      no_end : EndsDone all → kept.doubt ≡ None
+      no_end ends = by (last_ends entries entry ends)
+        where
+          by : IsDone entry ⊎ (EndsDone entries × IsQuery entry.command) → kept.doubt ≡ None
+          by (inl done) = absurd (other done)
+          by (inr rest) = absurd (rest.1.0 change)
+
+      not_tried : HasServed first new files start all
+      not_tried = led at at (sym (state_stays at command reply other)) kept stands_still
+          (subst (λ state. MayDoubt all state kept.doubt) (sym (state_stays at command reply other))
+          (kept_doubt kept.doubt kept.may)) no_end
+
+    by_device : IsChange command → reply ≡ Plain answer.Device
+        → (reply_of at.world command ≡ Plain answer.Done) ⊎ (reply_of at.world command ≢ Plain answer.Done)
+        → HasServed first new files start all
+    by_device change is (inl accepts) = tried (doubt_stands change is accepts)
+    by_device change is (inr refuses) = not_tried change (neither is refuses)
+      where
+        neither : reply ≡ Plain answer.Device → reply_of at.world command ≢ Plain answer.Done
+            → ¬ IsWritten at command reply
+        neither is refuses (inl done) =
+            absurd (let e : Plain answer.Device ≡ Plain answer.Done = sym is ∙ done in cc)
+        neither is refuses (inr device) = absurd (refuses device.1)
+
+    by_reply : IsChange command → (reply ≡ Plain answer.Done)
+        ⊎ ((reply ≡ Plain answer.Device) ⊎ ((reply ≢ Plain answer.Done) × (reply ≢ Plain answer.Device)))
+        → HasServed first new files start all
+    by_reply change (inl is) = tried (done_stands is)
+    by_reply change (inr (inl is)) = by_device change is (done_or_not (reply_of at.world command))
+    by_reply change (inr (inr other)) = not_tried change (neither other)
+      where
+        neither : (reply ≢ Plain answer.Done) × (reply ≢ Plain answer.Device) → ¬ IsWritten at command reply
+        neither other (inl done) = other.0 done
+        neither other (inr device) = other.1 device.0
+
+    by_command : IsChange command ⊎ (¬ IsChange command) → HasServed first new files start all
+    by_command (inl change) = by_reply change (is_reply reply)
+    by_command (inr none) = tried (λ there bytes stands.
+        stands_still there bytes (subst (StandsFor there bytes) (no_change at command none) stands))
+
+    pub one_more_served : HasServed first new files start all
+    one_more_served = by_command (is_change command)

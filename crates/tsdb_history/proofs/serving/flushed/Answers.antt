@@ -1,0 +1,11 @@
+use Rattle.tsdb_history.proofs.Replies.{flush_done, flush_failed}
+use Rattle.tsdb_serving.proofs.Causes.{full_cause}
+use Rattle.tsdb_history.proofs.serving.flushed.Goals as goal
+
+pub returns-in-Ok-clause-answers : goal.returns-in-Ok-clause-answers
+returns-in-Ok-clause-answers g c = λ tells. flush_done c.args.core.now c.flush.new.core (c.flush.ensures.goes_on.keeps tells)
+
+pub returns-in-Err-clause-answers : goal.returns-in-Err-clause-answers
+returns-in-Err-clause-answers g c = λ tells. flush_failed c.args.core.now c.flush.new.core
+    (c.flush.ensures.goes_on.keeps tells) c.in-Err.fault (full_cause _ _ _ _ _ c.in-Err.fault c.in-Err.ensures.cause)
+    c.answer.result c.answer.ensures

@@ -1,0 +1,42 @@
+use Rattle.std.proofs.Common.{subst, sym}
+use Rattle.tsdb_map.specs.declared.command.Command.TheVariants.{Select}
+use Rattle.tsdb_map.specs.declared.reply.Reply.TheVariants.{Plain}
+use Rattle.tsdb_serving.specs.Serving.{Answers}
+use Rattle.tsdb_history.proofs.serving.serve.Goals as goal
+
+pub returns-in-Create-clause-answers : goal.returns-in-Create-clause-answers
+returns-in-Create-clause-answers g c = λ tells.
+    subst (λ command. Answers c.args.core.now c.create.new.core command (Plain c.create.result)) (sym c.in-Create.is)
+    c.create.ensures.answers
+
+pub returns-in-Create-clause-ready : goal.returns-in-Create-clause-ready
+returns-in-Create-clause-ready g c = c.create.ensures.ready (g.F.Port.Port.store c.args.port.now) c.requires.ready
+
+pub returns-in-Insert-clause-answers : goal.returns-in-Insert-clause-answers
+returns-in-Insert-clause-answers g c = λ tells.
+    subst (λ command. Answers c.args.core.now c.insert.new.core command (Plain c.insert.result)) (sym c.in-Insert.is)
+    (c.insert.ensures.answers tells)
+
+pub returns-in-Delete-clause-answers : goal.returns-in-Delete-clause-answers
+returns-in-Delete-clause-answers g c = λ tells.
+    subst (λ command. Answers c.args.core.now c.delete.new.core command (Plain c.delete.result)) (sym c.in-Delete.is)
+    c.delete.ensures.answers
+
+pub returns-in-Delete-clause-ready : goal.returns-in-Delete-clause-ready
+returns-in-Delete-clause-ready g c = c.delete.ensures.ready (g.F.Port.Port.store c.args.port.now) c.requires.ready
+
+pub returns-in-Select-clause-answers : goal.returns-in-Select-clause-answers
+returns-in-Select-clause-answers g c = λ tells.
+    subst (λ command. Answers c.args.core.now c.query.new.core command c.query.result) (sym c.in-Select.is)
+    (subst (λ items. Answers c.args.core.now c.query.new.core (Select c.in-Select.device items c.in-Select.range)
+    c.query.result) c.items.ensures c.query.ensures.answers)
+
+pub returns-in-Flush-clause-answers : goal.returns-in-Flush-clause-answers
+returns-in-Flush-clause-answers g c = λ tells.
+    subst (λ command. Answers c.args.core.now c.flushed.new.core command (Plain c.flushed.result)) (sym c.in-Flush.is)
+    (c.flushed.ensures.answers tells)
+
+pub returns-in-ShowFiles-clause-answers : goal.returns-in-ShowFiles-clause-answers
+returns-in-ShowFiles-clause-answers g c = λ tells.
+    subst (λ command. Answers c.args.core.now c.args.core.now command c.shown.result) (sym c.in-ShowFiles.is)
+    c.shown.ensures.answers
