@@ -1,7 +1,8 @@
 -- The output of a job: at each place the value of the last input with a point that survives the marks at its beginning.
-use Rattle.std.specs.Prelude.{◌≡◌, ◌↔◌, ℕ, List, Option, None, Some}
+use Rattle.std.specs.Prelude.{◌≡◌, ◌≢◌, ◌↔◌, ℕ, IsSome, List, Option, None, Some}
 use Rattle.std.specs.FinMap.{get}
 use Rattle.std.specs.List.{AllByRecursion as Each}
+use Rattle.tsdb_base.specs.Values.{type_of}
 use Rattle.tsdb_base.specs.declared.value.Value.{Value}
 use Rattle.tsdb_built.specs.Parts.{HasPartPoint, IsPart, entry_of}
 use Rattle.tsdb_compactions.specs.Jobs.{input_file, input_files}
@@ -11,7 +12,9 @@ use Rattle.tsdb_jobs.specs.Built.{IsBuiltOf}
 use Rattle.tsdb_jobs.specs.Parts.{Filled}
 use Rattle.tsdb_jobs.specs.declared.flush.Built.{Built}
 use Rattle.tsdb_layers.specs.Layers.{value_in}
+use Rattle.tsdb_layers.specs.Lists.{Among, EachPair}
 use Rattle.tsdb_layers.specs.Places.{Content, Place}
+use Rattle.tsdb_map.specs.declared.command.Schema.{Schema}
 use Rattle.tsdb_outside.specs.Files.{NamedFile, Store}
 use Rattle.tsdb_pages.specs.File.{IsFile}
 use Rattle.tsdb_pages.specs.Trees.{IsMade, IsTree}
@@ -25,15 +28,30 @@ use Rattle.tsdb_state.specs.Views.{file_layers}
 abbrev pub winner : {F S R P : Type 0} → Told → Job F S R P → Place → Option Value
 winner told job place = value_in job.marks.marks place (file_layers told (input_files job))
 
+-- the series at the place has a schema, and the value is of its type
+pub record HasSchema (schemas : List Schema) (place : Place) (value : Value) : Type 0 where
+  pub schema : Schema
+  pub among : Among schema schemas
+  pub path : schema.path ≡ place.path
+  pub typed : type_of value ≡ schema.data_type
+
 -- rights name files by `name`, and tokens by `file`, with so many rights out
 module _ {F S R P : Type 0} (name : R → NamedFile) where
   -- the right to read the input tells bytes, which are those of a tree with the points that are told
   abbrev pub IsRead : Told → Input F S R P → Type 0
   IsRead told input = IsWhole (λ number. (name input.right).bytes) told (input_file input)
 
-  -- what is told is what the inputs have
-  abbrev pub TellsInputs : Told → Job F S R P → Type 0
-  TellsInputs told job = Each (IsRead told) job.inputs
+  -- What is told is what those inputs have that tell their bytes: no two rights are to one file, and each winner is of a
+  -- series that has its schema.
+  pub record TellsTruth (told : Told) (job : Job F S R P) : Type 0 where
+    pub read : Each (λ input. IsSome (name input.right).bytes → IsRead told input) job.inputs
+    pub apart : EachPair (λ a b. (name a.right).number ≢ (name b.right).number) job.inputs
+    pub schemas : (place : Place) (value : Value) → winner told job place ≡ Some value → HasSchema job.schemas place value
+
+  -- and each input tells its bytes
+  pub record TellsInputs (told : Told) (job : Job F S R P) : Type 0 where
+    pub truth : TellsTruth told job
+    pub all : Each (λ input. IsSome (name input.right).bytes) job.inputs
 
   -- no place has a winner
   abbrev pub HasNoWinner : Job F S R P → Type 0

@@ -1,0 +1,20 @@
+-- The inputs of a job as the sources of a stream.
+use Rattle.std.specs.Prelude.{◌≡◌, IsSome}
+use Rattle.tsdb_columns.specs.declared.source.Source.{Source}
+use Rattle.tsdb_columns.specs.declared.source.Source.TheVariants.{File, Part}
+use Rattle.tsdb_compactions.specs.declared.job.Input.{Input}
+use Rattle.tsdb_outside.specs.Files.{NamedFile, Store}
+
+-- the input, lent
+abbrev pub IsLentAs : {F S R P : Type 0} → Input F S R P → Source R → Type 0
+IsLentAs input (File right born) = (right.now ≡ input.right) × (born ≡ input.born)
+IsLentAs input (Part points born) = ⊥
+
+module _ {F S R P : Type 0} (file : R → NamedFile) where
+  -- the input is a file of the store
+  abbrev pub IsInputOf : Store → Input F S R P → Type 0
+  IsInputOf store input = (file input.right).store ≡ store
+
+  -- the right to read the input tells bytes
+  abbrev pub TellsBytes : Input F S R P → Type 0
+  TellsBytes input = IsSome (file input.right).bytes

@@ -1,0 +1,4 @@
+pub mod Copies
+pub mod Steps
+pub mod Inputs
+pub mod Winners

@@ -1,0 +1,33 @@
+-- Private steps: points that are put behind the first point of a series.
+use Rattle.std.specs.Prelude.{◌≡◌, ℤ, ◌<ℤ◌, List, [], ◌∷◌, ◌++◌, Option, Some}
+use Rattle.tsdb_base.specs.Values.{type_of}
+use Rattle.tsdb_base.specs.declared.point.Point.{Point}
+use Rattle.tsdb_engine.specs.Making.{IsOpen, IsPart}
+use Rattle.tsdb_engine.specs.Steps.{filled_with}
+use Rattle.tsdb_engine.specs.declared.part.Part.{Part}
+use Rattle.tsdb_inner.specs.Copies.{AreOfType}
+use Rattle.tsdb_jobs.specs.Parts.{Filled}
+use Rattle.tsdb_map.specs.declared.command.Schema.{Schema}
+use Rattle.tsdb_merge.specs.Winners.{IsRising}
+
+-- the point is later than the time, and of the series' type
+abbrev pub MayFollow : ℤ → Schema → Point → Type 0
+MayFollow to schema point = (to <ℤ point.time) × (type_of point.value ≡ schema.data_type)
+
+-- the series was begun, and given its first point, which has this time
+pub record HasBegun (schema : Schema) (from : ℤ) (part : Part) : Type 0 where
+  pub before : List Filled
+  pub first : Point
+  pub is : IsOpen before schema (first ∷ []) part
+  pub at : first.time ≡ from
+
+-- the series was given these points behind its first, which rise in time, and was ended
+pub record Puts (schema : Schema) (from : ℤ) (rest : List Point) (old new : Part) : Type 0 where
+  pub ok : (before : List Filled) (first : Point) → first.time ≡ from → IsOpen before schema (first ∷ []) old
+      → IsPart (before ++ filled_with schema (first ∷ rest) ∷ []) new
+  pub rising : (first : Point) → first.time ≡ from → IsRising (first ∷ rest)
+
+-- where a list is told, its points do not rise behind a first point, or one is not of the series' type
+abbrev pub HaveBrokenOrder : Schema → ℤ → Option (List Point) → Type 0
+HaveBrokenOrder schema from left = (all : List Point) (first : Point) → left ≡ Some all → first.time ≡ from
+    → IsRising (first ∷ all) → AreOfType schema all → ⊥

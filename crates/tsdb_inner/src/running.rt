@@ -1,0 +1,149 @@
+//! Running a compaction. Depends on `copying` and `inputs`.
+ghost use Rattle.std.specs.List.{AllByRecursion as Each};
+ghost use Rattle.std.specs.Prelude.{◌≡◌, ◌≤◌, ◌<◌, IfOk, IfSome, List, OnOk, length};
+ghost use Rattle.tsdb_compactions.specs.Jobs.{IsFormed};
+ghost use Rattle.tsdb_compactions.specs.Outputs.{HasWinners, IsBuiltFor, IsOutputOf, TellsTruth};
+ghost use Rattle.tsdb_engine.specs.Making.{IsPart, MayAdd};
+ghost use Rattle.tsdb_inner.specs.Inputs.{IsInputOf};
+ghost use Rattle.tsdb_inner.specs.Winners.{AreSeries, CopiesSeries};
+ghost use Rattle.tsdb_jobs.specs.Parts.{Filled};
+ghost use Rattle.tsdb_layers.specs.Lists.{Among};
+ghost use Rattle.tsdb_outside.specs.Causes.{HasStoreCause};
+ghost use Rattle.tsdb_state.specs.State.{Told};
+
+use crate::copying::copy_series;
+use crate::inputs::{count_damage, lend};
+use std::alloc::Global;
+use tsdb_compactions::Job;
+use tsdb_engine::{Part, Whole};
+use tsdb_jobs::Built;
+use tsdb_map::Schema;
+use tsdb_outside::{Files, Port, StoreFault};
+
+/// Adds a series of the job with its surviving winners.
+fn copy_one<F: Files>(
+    alloc: Global,
+    job: &Job<F>,
+    schema: &Schema,
+    part: &mut Part,
+    port: &mut F::Port,
+) -> Result<(), StoreFault>
+    requires formed { IsFormed job.now }
+    requires among { Among schema.now job.now.schemas }
+    requires of_store { Each (IsInputOf F.Right.file (F.Port.store port.old)) job.now.inputs }
+    requires follows { MayAdd part.old schema.now }
+    ensures copied { OnOk result (CopiesSeries F.Right.file job.now schema.now part.old part.new) }
+    ensures cause { (told : Told) → TellsTruth F.Right.file told job.now
+        → HasStoreCause (F.Port.faults port.old) (F.Port.faults port.new) result }
+    ensures later { F.Port.faults port.old ≤ F.Port.faults port.new }
+    ensures same_store { F.Port.store port.new ≡ F.Port.store port.old }
+{
+    let sources = lend(alloc, job.inputs.items())?;
+    if copy_series(alloc, schema, &job.marks, sources, part, port)? {
+        return Ok(());
+    }
+    count_damage(job.inputs.items(), port);
+    Err(StoreFault::Failed)
+}
+
+/// The surviving winners of the job's inputs, one series behind another.
+fn copy_all<F: Files>(alloc: Global, job: &Job<F>, port: &mut F::Port) -> Result<Part, StoreFault>
+    requires formed { IsFormed job.now }
+    requires of_store { Each (IsInputOf F.Right.file (F.Port.store port.old)) job.now.inputs }
+    ensures copied { IfOk result (λ part. (filled : List Filled) × IsPart filled part × AreSeries filled
+        × HasWinners F.Right.file job.now filled) }
+    ensures cause { (told : Told) → TellsTruth F.Right.file told job.now
+        → HasStoreCause (F.Port.faults port.old) (F.Port.faults port.new) result }
+    ensures later { F.Port.faults port.old ≤ F.Port.faults port.new }
+    ensures same_store { F.Port.store port.new ≡ F.Port.store port.old }
+{
+    let mut part = Part::new(alloc);
+    for schema in job.schemas.items() {
+        copy_one(alloc, job, schema, &mut part, port)?;
+    }
+    Ok(part)
+}
+
+/// Puts the file of a part that has a series.
+fn put_part<F: Files>(job: &Job<F>, part: Part, port: &mut F::Port) -> Result<Built<F>, StoreFault>
+    requires copied { (filled : List Filled) × IsPart filled part × (0 < length filled) × AreSeries filled
+        × HasWinners F.Right.file job.now filled }
+    ensures built { IfOk result (IsBuiltFor F.Right.file F.Sealed.file F.Sealed.rights job.now) }
+    ensures of_store { IfOk result (λ built. (F.Sealed.file built.sealed).store ≡ F.Port.store port.old) }
+    ensures cause { HasStoreCause (F.Port.faults port.old) (F.Port.faults port.new) result }
+    ensures same_store { F.Port.store port.new ≡ F.Port.store port.old }
+{
+    let Whole {
+        bytes,
+        entry,
+        series,
+    } = part.finish(job.output, job.born)?;
+    let sealed = port.put(job.output, &bytes)?;
+    Ok(Built {
+        sealed,
+        entry,
+        series,
+    })
+}
+
+/// Writes the output of a job.
+fn run<F: Files>(
+    alloc: Global,
+    job: &Job<F>,
+    port: &mut F::Port,
+) -> Result<Option<Built<F>>, StoreFault>
+    requires formed { IsFormed job.now }
+    requires of_store { Each (IsInputOf F.Right.file (F.Port.store port.old)) job.now.inputs }
+    ensures output { IfOk result (IsOutputOf F.Right.file F.Sealed.file F.Sealed.rights job.now) }
+    ensures of_store { IfOk result (λ output. IfSome output (λ built.
+        (F.Sealed.file built.sealed).store ≡ F.Port.store port.old)) }
+    ensures cause { (told : Told) → TellsTruth F.Right.file told job.now
+        → HasStoreCause (F.Port.faults port.old) (F.Port.faults port.new) result }
+    ensures later { F.Port.faults port.old ≤ F.Port.faults port.new }
+    ensures same_store { F.Port.store port.new ≡ F.Port.store port.old }
+{
+    let part = copy_all(alloc, job, port)?;
+    if part.is_empty() {
+        return Ok(None);
+    }
+    Ok(Some(put_part(job, part, port)?))
+}
+
+/// Writes the output of a job of one list: at each place the value of the last input with a point there that survives
+/// the job's marks. Answers none exactly where no point is left. It fails only where the port's count of faults rises.
+pub fn run_inner<F: Files>(
+    alloc: Global,
+    job: &Job<F>,
+    port: &mut F::Port,
+) -> Result<Option<Built<F>>, StoreFault>
+    requires formed { IsFormed job.now }
+    requires of_store { Each (IsInputOf F.Right.file (F.Port.store port.old)) job.now.inputs }
+    ensures output { IfOk result (IsOutputOf F.Right.file F.Sealed.file F.Sealed.rights job.now) }
+    ensures of_store { IfOk result (λ output. IfSome output (λ built.
+        (F.Sealed.file built.sealed).store ≡ F.Port.store port.old)) }
+    ensures cause { (told : Told) → TellsTruth F.Right.file told job.now
+        → HasStoreCause (F.Port.faults port.old) (F.Port.faults port.new) result }
+    ensures later { F.Port.faults port.old ≤ F.Port.faults port.new }
+    ensures same_store { F.Port.store port.new ≡ F.Port.store port.old }
+{
+    run(alloc, job, port)
+}
+
+/// Writes the output of a job of both lists, as `run_inner` does of one: a late input wins over a sequence input.
+pub fn run_cross<F: Files>(
+    alloc: Global,
+    job: &Job<F>,
+    port: &mut F::Port,
+) -> Result<Option<Built<F>>, StoreFault>
+    requires formed { IsFormed job.now }
+    requires of_store { Each (IsInputOf F.Right.file (F.Port.store port.old)) job.now.inputs }
+    ensures output { IfOk result (IsOutputOf F.Right.file F.Sealed.file F.Sealed.rights job.now) }
+    ensures of_store { IfOk result (λ output. IfSome output (λ built.
+        (F.Sealed.file built.sealed).store ≡ F.Port.store port.old)) }
+    ensures cause { (told : Told) → TellsTruth F.Right.file told job.now
+        → HasStoreCause (F.Port.faults port.old) (F.Port.faults port.new) result }
+    ensures later { F.Port.faults port.old ≤ F.Port.faults port.new }
+    ensures same_store { F.Port.store port.new ≡ F.Port.store port.old }
+{
+    run(alloc, job, port)
+}
