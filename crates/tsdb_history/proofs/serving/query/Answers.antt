@@ -11,3 +11,9 @@ pub returns-clause-cause : goal.returns-clause-cause
 returns-clause-cause g c = sure_cause (g.F.Port.Port.store c.args.port.now) c.args.core.now
     c.select.result (Rose (g.F.Port.Counted.faults c.args.port.now) (g.F.Port.Counted.faults c.select.new.port))
     c.select.ensures.cause c.select.ensures.untold
+
+pub returns-then-ask_aggregates-clause-answers : goal.returns-then-ask_aggregates-clause-answers
+returns-then-ask_aggregates-clause-answers g c = c.aggregates.ensures.answers
+
+pub returns-clause-answers : goal.returns-clause-answers
+returns-clause-answers g c = c.select.ensures.answers
