@@ -1,9 +1,10 @@
 -- What a query answers.
-use Rattle.std.proofs.Common.{◌≡◌, ℕ, List, [], ◌++◌, map, Option, false, inl, inr, refl, sym, ap}
+use Rattle.std.proofs.Common.{◌≡◌, ℕ, List, [], ◌++◌, map, Option, false, true, inl, inr, refl, sym, ap}
 use Rattle.std.proofs.Common.{subst, ◌∙◌}
 use Rattle.std.specs.List.{AllByRecursion as Each}
 use Rattle.tsdb_base.specs.declared.answers.Answer.TheVariants as answer
 use Rattle.tsdb_base.specs.declared.point.Range.{Range}
+use Rattle.tsdb_base.specs.declared.value.Value.{Value}
 use Rattle.std.specs.Prelude.{IsErrOf, Result}
 use Rattle.tsdb_columns.specs.Files.{HasReason}
 use Rattle.tsdb_core.specs.Core.{files_of, logged_of}
@@ -24,7 +25,7 @@ use Rattle.tsdb_map.specs.declared.command.Command.TheVariants.{Select}
 use Rattle.tsdb_map.specs.declared.command.Item.{Item}
 use Rattle.tsdb_map.specs.declared.reply.Line.{Line}
 use Rattle.tsdb_map.specs.declared.reply.Reply.{Reply}
-use Rattle.tsdb_map.specs.declared.reply.Reply.TheVariants.{Lines, Plain}
+use Rattle.tsdb_map.specs.declared.reply.Reply.TheVariants.{Lines, Plain, Values}
 use Rattle.tsdb_outside.specs.Disk.{IsLawful}
 use Rattle.tsdb_outside.specs.Files.{NamedFile, StoredFile}
 use Rattle.tsdb_outside.specs.Moments.{LeavesOnly}
@@ -34,10 +35,10 @@ use Rattle.tsdb_outside.specs.declared.faults.StoreFault.{StoreFault}
 use Rattle.tsdb_outside.specs.declared.faults.StoreFault.TheVariants as store
 use Rattle.tsdb_outside.specs.Causes.{Rose}
 use Rattle.tsdb_memory.specs.Shown.{entry_of}
-use Rattle.tsdb_pinned.proofs.Items.{pin_columns}
-use Rattle.tsdb_pinned.proofs.Replies.{fault_replied, rows_replied, types_of}
+use Rattle.tsdb_pinned.proofs.Items.{pin_columns, pin_values}
+use Rattle.tsdb_pinned.proofs.Replies.{fault_replied, rows_replied, types_of, values_replied}
 use Rattle.tsdb_pinned.specs.Replies.{IsMapFault}
-use Rattle.tsdb_pinned.specs.Worlds.{columns_in}
+use Rattle.tsdb_pinned.specs.Worlds.{columns_in, values_in}
 use Rattle.tsdb_pinning.specs.Items.{AreFit, IsRefused}
 use Rattle.tsdb_pinning.specs.Pins.{IsPinFor}
 use Rattle.tsdb_pinning.specs.Shown.{IsPinOf}
@@ -168,6 +169,23 @@ module _ {J F S R P : Type 0} {means : disk.Ghosts J} {counts : counted.Ghosts J
       serving.stands.world) items range fit asks
       ∙ ap (λ l. Lines (rows l)) (sym (pin_columns name (files_of old) (memory_of (logged_of old)) device range at.world items pin is))
       ∙ ap Lines (sym (same ∙ rows_are pages tells.true_are serving.outside.told step.shown at.world tells.points step.is
+      (step.world at.world serving.stands.world))))
+
+  -- the values that were read are the map's reply
+  pub values_allowed : (device : List ℕ) (items : List Item) (range : Range) → ask_aggregates items ≡ true
+      → AreFit (map entry_of (memory_of (logged_of old)).series) device items
+      → IsPinFor name (files_of old) (memory_of (logged_of old)) device items range pin → (read reply : List (Option Value))
+      → reply ≡ read
+      → ((pages : SeriesPages) → AreColumnsTrue name pages pin.columns → (told : Told) (shown : state.Pin) (world : World)
+      → TellPoints name pages told pin.columns → IsPinOf pin shown → PinStandsFor told shown world
+      → read ≡ values_in world pin.range pin.columns) → IsMapReply at (Select device items range) (Values reply)
+  values_allowed device items range asks fit is read reply same values_are =
+      allowed_reply at device items range (Values reply)
+      (values_replied (map entry_of (memory_of (logged_of old)).series) at.world device
+      (types_of serving.outside.told (memory_of (logged_of old)) serving.state.store at.world serving.seen.sound.memory
+      serving.stands.world) items range fit asks
+      ∙ ap Values (sym (pin_values name (files_of old) (memory_of (logged_of old)) device range at.world items pin is))
+      ∙ ap Values (sym (same ∙ values_are pages tells.true_are serving.outside.told step.shown at.world tells.points step.is
       (step.world at.world serving.stands.world))))
 
   -- a read that failed without a fault would have found a file that is not whole

@@ -1,5 +1,5 @@
-//! The rows and the aggregates of a query. Depends on tsdb_core and tsdb_pins.
-ghost use Rattle.std.specs.Prelude.{◌≡◌, ◌≤◌, false, true, List, Option};
+//! The rows of a query. Depends on tsdb_core and tsdb_pins.
+ghost use Rattle.std.specs.Prelude.{◌≡◌, ◌≤◌, false, List, Option};
 ghost use Rattle.tsdb_base.specs.declared.answers.Answer.{Answer as AnswerOf};
 ghost use Rattle.tsdb_map.specs.Apply.{ask_aggregates};
 ghost use Rattle.tsdb_map.specs.State as plain;
@@ -59,36 +59,7 @@ pub fn select<J: Journal, F: Files>(
     }
 }
 
-/// Reads the aggregates of items of a device over a range, each of which asks for one.
-///
-/// Answers one value or none for each item, or `NoPath` or `WrongType` as the plain map does. Answers `Device` where a
-/// file could not be read, and `Memory`. A query changes nothing: its pin is given back whatever it answers.
-pub fn aggregates<J: Journal, F: Files>(
-    alloc: Global,
-    core: &mut Core<J, F>,
-    port: &mut F::Port,
-    device: &Path,
-    items: &[Item],
-    range: &Range,
-) -> Reply
-    requires values { ask_aggregates items.now ≡ true }
-    requires ready { IsReady (F.Port.store port.old) core.old }
-    ensures answers { AreAnswered core.old core.new (Command.Select device.now items.now range.now) result }
-    ensures ready { IsReady (F.Port.store port.old) core.new }
-    ensures stays { StaysInPlace core.old core.new }
-    ensures same_store { F.Port.store port.new ≡ F.Port.store port.old }
-    ensures cause { (files : List StoredFile) (at : plain.State) (next : Option plain.State)
-        → IsServing core.old files at next → result ≡ ReplyOf.Plain AnswerOf.Device
-        → Rose (F.Port.faults port.old) (F.Port.faults port.new) }
-    ensures untold { (F.Port.store port.old).tells ≡ false → result ≡ ReplyOf.Plain AnswerOf.Device
-        → Rose (F.Port.faults port.old) (F.Port.faults port.new) }
-    ensures faults { faults_under core.new ≡ faults_under core.old }
-    ensures later { F.Port.faults port.old ≤ F.Port.faults port.new }
-{
-    Reply::Plain(Answer::Memory)
-}
-
-fn answer_to(fault: StoreFault) -> Answer
+pub(crate) fn answer_to(fault: StoreFault) -> Answer
     ensures { result ≡ Answers.answer_to fault }
 {
     match fault {
