@@ -34,7 +34,8 @@ pub fn serve<J: Journal, F: Files>(
     ensures stays { StaysInPlace core.old core.new }
     ensures same_store { F.Port.store port.new ≡ F.Port.store port.old }
     ensures cause { IsSure (F.Port.store port.old) core.old → result ≡ ReplyOf.Plain AnswerOf.Device
-        → Rose (faults_under core.old) (faults_under core.new) ⊎ Rose (F.Port.faults port.old) (F.Port.faults port.new) }
+        → Rose (faults_under core.old) (faults_under core.new)
+        ⊎ Rose (F.Port.faults port.old) (F.Port.faults port.new) }
     ensures later { (faults_under core.old ≤ faults_under core.new)
         × (F.Port.faults port.old ≤ F.Port.faults port.new) }
 {
