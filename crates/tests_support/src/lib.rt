@@ -29,20 +29,8 @@ use std::test::Fail;
 use tsdb_map::{Command, Line, Reply};
 use tsdb_script::read_script;
 
-/// The command of a line of a script that lacks its session. `flush` and `show files`, which no script has yet, are
-/// commands too.
+/// The command of a line of a script that lacks its session.
 pub fn command_of(alloc: Global, line: &str) -> Result<Command, Fail>
-    ensures { IfOk result IsWellFormed }
-{
-    match line {
-        "flush" => Ok(Command::Flush),
-        "show files" => Ok(Command::ShowFiles),
-        _ => script_command(alloc, line),
-    }
-}
-
-/// The command of a line that a script may have behind a session.
-fn script_command(alloc: Global, line: &str) -> Result<Command, Fail>
     ensures { IfOk result IsWellFormed }
 {
     let script = format!(in alloc; "1 {line}")?;

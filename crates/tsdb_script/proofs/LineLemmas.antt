@@ -228,8 +228,8 @@ built_command (Create path data_type encoding) (command.Create schema) old says 
 built_command (Insert device names time values) (command.Insert path row) old says = tt
 built_command (Delete path conditions) (command.Delete series range) old says = tt
 built_command (Select columns device conditions) (command.Select path items range) old says = tt
-built_command Flush command.Flush old says = absurd (old tt)
+built_command Flush command.Flush old says = tt
 built_command (CompactInner space) (command.CompactInner one) old says = absurd (old tt)
 built_command CompactCross command.CompactCross old says = absurd (old tt)
-built_command ShowFiles command.ShowFiles old says = absurd (old tt)
+built_command ShowFiles command.ShowFiles old says = tt
 built_command syntax said old says = absurd says

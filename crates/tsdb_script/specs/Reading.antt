@@ -10,7 +10,7 @@ use Rattle.tsdb_script.specs.declared.fault.ScriptFault.{ScriptFault}
 use Rattle.tsdb_script.specs.declared.fault.ScriptFault.TheVariants as fault
 use Rattle.tsdb_script.specs.declared.numbered.Numbered.{Numbered}
 use Rattle.tsdb_script.specs.declared.syntax.Syntax.{Syntax}
-use Rattle.tsdb_script.specs.declared.syntax.Syntax.TheVariants.{Flush, CompactInner, CompactCross, ShowFiles}
+use Rattle.tsdb_script.specs.declared.syntax.Syntax.TheVariants.{CompactInner, CompactCross}
 use Rattle.tsdb_script.specs.declared.token.Token.{Token}
 use Rattle.tsdb_script.specs.declared.token.Token.TheVariants.{Word}
 use Rattle.tsdb_script.specs.declared.form.TheConstants.{FORMS}
@@ -78,10 +78,8 @@ BeginsStatement (token ∷ rest) = IsTrue (list_any (λ form. asks_first token (
 
 -- the forms that are not built yet
 abbrev pub IsNotBuilt : Syntax → Type 0
-IsNotBuilt Flush = Unit {0}
 IsNotBuilt (CompactInner space) = Unit {0}
 IsNotBuilt CompactCross = Unit {0}
-IsNotBuilt ShowFiles = Unit {0}
 IsNotBuilt syntax = ⊥
 
 -- ---- the passes over a line, of which the first that objects decides the kind
@@ -205,6 +203,8 @@ IsBuilt (command.Create schema) = Unit {0}
 IsBuilt (command.Insert device row) = Unit {0}
 IsBuilt (command.Delete series range) = Unit {0}
 IsBuilt (command.Select device items range) = Unit {0}
+IsBuilt command.Flush = Unit {0}
+IsBuilt command.ShowFiles = Unit {0}
 IsBuilt command = ⊥
 
 -- why bytes are refused as a script; memory may run out at any place

@@ -146,8 +146,5 @@ fn begins_statement(tokens: &Tokens) -> bool
 fn is_not_built(syntax: &Syntax) -> bool
     ensures { IsTrue result ↔ IsNotBuilt syntax.now }
 {
-    matches!(
-        syntax,
-        Syntax::Flush | Syntax::CompactInner { .. } | Syntax::CompactCross | Syntax::ShowFiles
-    )
+    matches!(syntax, Syntax::CompactInner { .. } | Syntax::CompactCross)
 }

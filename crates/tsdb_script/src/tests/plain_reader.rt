@@ -13,7 +13,7 @@ const STATEMENTS: [&[u8]; 7] = [
 ];
 
 /// The words that begin a statement which is not built yet.
-const NOT_BUILT: [&[u8]; 3] = [b"flush", b"compact", b"show"];
+const NOT_BUILT: [&[u8]; 1] = [b"compact"];
 
 /// A fault of a line.
 pub fn bad<T>(kind: u8) -> Result<T, LineFault> {

@@ -239,7 +239,7 @@ pub fn write_command(
             _ => {}
         }
     }
-    if !insert && count_of(holes, b'E') == 0 {
+    if !insert && !holes.is_empty() && count_of(holes, b'E') == 0 {
         let (from, to) = range_of(holes);
         said.extend_from_slice(format!(in alloc; " {from} {to}")?.as_bytes())?;
     }

@@ -27,7 +27,7 @@ fn first_wrong_line(alloc: Global, kind: u8, lines: &[&[u8]]) -> Option<usize> {
 #[test]
 fn good_scripts(rt: HostRuntime) {
     let alloc = rt.alloc();
-    let scripts: [(&[u8], usize); 12] = [
+    let scripts: [(&[u8], usize); 13] = [
         (b"", 0),
         (b"\n \t\r\n# anything ` ' \x80\n\r", 0),
         (b"#", 0),
@@ -55,6 +55,7 @@ fn good_scripts(rt: HostRuntime) {
         ),
         (b"1 select COUNT(s) , max_value ( s ) from root.g", 1),
         (b"1 select s from root.a.a.a.a.a.a.a.a.a.a.a.a.a.a", 1),
+        (b"1 flush\n2 Show Files ;", 2),
     ];
     for (case, (script, commands)) in scripts.iter().enumerate() {
         assert_eq!(rt; read(alloc, script), Ok(*commands), "case {case}");
@@ -192,12 +193,10 @@ fn forms(rt: HostRuntime) {
         b"1 flush now",
     ];
     assert_eq!(rt; first_wrong_line(alloc, 3, &no_form), None);
-    let not_built: [&[u8]; 5] = [
-        b"1 flush",
+    let not_built: [&[u8]; 3] = [
         b"1 compact inner sequence",
         b"1 Compact inner UNSEQUENCE;",
         b"1 compact cross",
-        b"1 show files ;",
     ];
     assert_eq!(rt; first_wrong_line(alloc, 0, &not_built), None);
 }

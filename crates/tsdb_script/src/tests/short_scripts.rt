@@ -108,6 +108,8 @@ fn write_command(alloc: Global, command: &Command, said: &mut Vec<u8>) -> Result
             write(device.bytes(), said)?;
             write_range(alloc, range, said)
         }
+        Command::Flush => write(b"flush", said),
+        Command::ShowFiles => write(b"show", said),
         _ => write(b"not built", said),
     }
 }
