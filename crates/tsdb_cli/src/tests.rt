@@ -9,7 +9,11 @@ fn codes_and_their_texts(rt: HostRuntime) -> Result<(), Fail> {
     let alloc = rt.alloc();
     let log = Part::Log;
     let ends = [
-        (Status::Words, 2, "usage: tsdb run DIR\n"),
+        (
+            Status::Words,
+            2,
+            "usage: tsdb run DIR [--pair N] [--workers N]\n",
+        ),
         (Status::Script { line: 2, kind: 5 }, 3, "line 2 kind 5\n"),
         (Status::Device, 6, "device\n"),
         (

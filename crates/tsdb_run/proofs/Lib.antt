@@ -1,11 +1,8 @@
-pub mod WordLemmas
 pub mod InputLemmas
-pub mod HistoryLemmas
-pub mod LegalLemmas
-pub mod SoFarLemmas
-pub mod ServeLemmas
-pub mod StoreLemmas
 pub mod PutLemmas
 pub mod TextLemmas
-pub mod PrefixLemmas
-pub mod RunLemmas
+pub mod Whole
+pub mod Prefix
+pub mod Executed
+pub mod Written
+pub mod Opening

@@ -1,5 +1,5 @@
 -- The text of the output, by its parts.
-use Rattle.std.proofs.Common.{◌≡◌, ℕ, ◌+◌, ◌<◌, zero, suc, add-one, arith, eqb, eq-eqb, get_or, Bool, true, false, cond, not, ◌||◌, List, [], ◌∷◌, ◌++◌, append-nil, append_assoc, drop, length, map, Some, refl, sym, ap, ◌∙◌}
+use Rattle.std.proofs.Common.{◌≡◌, ℕ, ◌+◌, ◌<◌, zero, suc, add-one, arith, eqb, eq-eqb, get_or, Bool, true, false, cond, not, ◌||◌, List, [], ◌∷◌, ◌++◌, append-nil, append_assoc, drop, length, map, Option, None, Some, refl, sym, ap, ◌∙◌}
 use Rattle.std.specs.List.{filter, flat_map, list_any}
 use Rattle.std.proofs.lemmas.Bool.{eqb-true, false≢true}
 use Rattle.std.proofs.lemmas.List.{length-map}
@@ -8,11 +8,27 @@ use Rattle.std.proofs.lemmas.Map.Views.{any-filter_same}
 use Rattle.tsdb_map.specs.History.{Entry}
 use Rattle.tsdb_print.specs.Text.{reply_text}
 use Rattle.tsdb_script.specs.declared.numbered.Numbered.{Numbered}
-use Rattle.tsdb_run.specs.History.{AreEntries, command_of, entry_of}
+use Rattle.tsdb_history.specs.History.{AreEntries, command_of, entry_of}
 use Rattle.tsdb_run.specs.Output.{replies_text, sessions_of, told_text}
 use Rattle.tsdb_run.specs.Steps.{IsAnswered, reply_text_of, with_session}
-use Rattle.tsdb_run.specs.declared.status.Told.{Told}
-use Rattle.tsdb_run.proofs.HistoryLemmas.{command_of-entry, heads}
+use Rattle.tsdb_history.specs.declared.told.Told.{Told}
+use Rattle.tsdb_map.specs.declared.command.Command.{Command}
+use Rattle.std.specs.Option.{option_map}
+use Rattle.std.proofs.lemmas.Option.{same_Some}
+
+made : {X Y : Type 0} (f : X → Y) (o : Option X) (y : Y) → option_map f o ≡ Some y → (x : X) × (o ≡ Some x) × (f x ≡ y)
+made f None y e = cc
+made f (Some x) y e = (x, refl, same_Some (f x) y e)
+
+-- an entry has the command that its reply answers
+command_of-entry : (script : List Numbered) (told : Told) (entry : Entry) → entry_of script told ≡ Some entry → command_of script told ≡ Some entry.command
+command_of-entry script told entry is =
+    let with_reply : Command → Entry = λ command. record { command = command; reply = told.reply } in
+    let m = made with_reply (command_of script told) entry is in
+    m.1 ∙ ap (λ (e : Entry). Some e.command) m.2
+
+heads : {X : Type 0} (x y : X) (xs ys : List X) → x ∷ xs ≡ y ∷ ys → (x ≡ y) × (xs ≡ ys)
+heads x y xs ys e = (cc, cc)
 
 abbrev is_other : ℕ → ℕ → Bool
 is_other session other = not (eqb other session)
@@ -73,7 +89,7 @@ sessions_of-push (first ∷ script) numbered =
 -- each command has a reply
 pub length-answered : (script : List Numbered) (history : List Told) → IsAnswered script history → length history ≡ length script
 length-answered script history is =
-    sym (length-map history (λ told. told.session)) ∙ ap length is.in_line_order ∙ length-map script (λ numbered. numbered.session)
+    sym (length-map history (λ told. told.session)) ∙ ap length is.1.in_line_order ∙ length-map script (λ numbered. numbered.session)
 
 -- the replies to a session, of commands and their replies side by side
 abbrev pub side_by_side : ℕ → List Numbered → List Told → List ℕ
@@ -115,8 +131,8 @@ map-Some f (x ∷ xs) = ap (λ l. Some (f x) ∷ l) (map-Some f xs)
 pub replies_text-answered : (script : List Numbered) (history : List Told) (session : ℕ) → IsAnswered script history
     → replies_text script history session ≡ side_by_side session script history
 replies_text-answered script history session is =
-    beside script script history session (their_commands script history is.entries is.answers
-    ∙ map-Some (λ entry. entry.command) is.entries ∙ ap (map Some) is.commands ∙ sym (map-Some (λ numbered. numbered.command) script))
+    beside script script history session (their_commands script history is.0 is.1.answers
+    ∙ map-Some (λ entry. entry.command) is.0 ∙ ap (map Some) is.1.commands ∙ sym (map-Some (λ numbered. numbered.command) script))
 
 next_reply : (session : ℕ) (script : List Numbered) (history : List Told) (i : ℕ) (numbered : Numbered) (told : Told) → i < length script → i < length history
     → side_by_side session (drop i script) (drop i history)

@@ -1,9 +1,7 @@
-pub mod Limits
-pub mod Words
 pub mod Input
-pub mod History
 pub mod Output
 pub mod Status
+pub mod Store
 pub mod Headline
+pub mod Causes
 pub mod Steps
-pub mod Execution

@@ -5,8 +5,8 @@ use Rattle.std.specs.Io.KnownBytes.{Appends}
 use Rattle.tsdb_map.specs.declared.command.Command.{Command}
 use Rattle.tsdb_print.specs.Text.{order_text, reply_text, session_text}
 use Rattle.tsdb_script.specs.declared.numbered.Numbered.{Numbered}
-use Rattle.tsdb_run.specs.History.{command_of, replies_to}
-use Rattle.tsdb_run.specs.declared.status.Told.{Told}
+use Rattle.tsdb_history.specs.History.{command_of, replies_to}
+use Rattle.tsdb_history.specs.declared.told.Told.{Told}
 
 -- the text of a reply, where it answers a command
 abbrev pub told_text : Option Command → Told → List ℕ

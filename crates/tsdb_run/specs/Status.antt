@@ -2,8 +2,8 @@
 use Rattle.std.specs.Prelude.{ℕ, List, [], ◌++◌, codes}
 use Rattle.std.specs.Fmt.{decimal}
 use Rattle.tsdb_print.specs.Text.{line}
-use Rattle.tsdb_plain.specs.declared.fault.Part.{Part}
-use Rattle.tsdb_plain.specs.declared.fault.Part.TheVariants.{Log, File}
+use Rattle.tsdb_recover.specs.declared.fault.Part.{Part}
+use Rattle.tsdb_recover.specs.declared.fault.Part.TheVariants.{Log, File}
 use Rattle.tsdb_run.specs.declared.status.Status.{Status}
 use Rattle.tsdb_run.specs.declared.status.Status.TheVariants as status
 
@@ -27,7 +27,7 @@ status_code (status.Damaged part at) = 7
 abbrev pub status_text : Status → List ℕ
 status_text status.Done = []
 status_text status.Memory = line (codes "memory")
-status_text status.Words = line (codes "usage: tsdb run DIR")
+status_text status.Words = line (codes "usage: tsdb run DIR [--pair N] [--workers N]")
 status_text (status.Script number kind) = line (codes "line " ++ decimal number ++ codes " kind " ++ decimal kind)
 status_text status.Source = line (codes "source")
 status_text status.Sink = line (codes "sink")

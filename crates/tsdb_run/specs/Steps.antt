@@ -1,47 +1,55 @@
 -- What the steps of a run ensure. No public clause cites them.
-use Rattle.std.specs.Prelude.{◌≡◌, ◌==◌, ℕ, List, [], ◌∷◌, ◌++◌, Option, None, Some, Result, OnOk, All, map}
-use Rattle.std.specs.Prelude.{if◌then◌else◌}
-use Rattle.std.specs.List.{list_any}
+use Rattle.std.specs.Prelude.{◌≡◌, ◌==◌, ℕ, ◌<◌, List, [], ◌∷◌, ◌++◌, Option, Result, OnOk, if◌then◌else◌, Some, None}
+use Rattle.std.specs.List.{AllByRecursion as Each, list_any}
 use Rattle.std.specs.Io.KnownBytes.{Appends}
-use Rattle.tsdb_map.specs.History.{Entry, IsLegal}
-use Rattle.tsdb_map.specs.State.{State}
-use Rattle.tsdb_map.specs.declared.command.Command.{Command}
+use Rattle.tsdb_core.specs.Core.{next_of}
+use Rattle.tsdb_core.specs.declared.engine.Core.{Core}
+use Rattle.tsdb_history.specs.History.{IsHistory}
+use Rattle.tsdb_history.specs.declared.told.Told.{Told}
+use Rattle.tsdb_map.specs.History.{Entry}
+use Rattle.tsdb_map.specs.State as plain
 use Rattle.tsdb_outside.specs.Causes.{HasStoreCause}
+use Rattle.tsdb_outside.specs.Files.{StoredFile}
+use Rattle.tsdb_outside.specs.declared.disk.Disk as disk
+use Rattle.tsdb_outside.specs.declared.faults.Counted as counted
 use Rattle.tsdb_outside.specs.declared.faults.StoreFault.{StoreFault}
-use Rattle.tsdb_plain.specs.declared.fault.OpenFault.{OpenFault}
-use Rattle.tsdb_plain.specs.declared.fault.OpenFault.TheVariants as fault
 use Rattle.tsdb_print.specs.Text.{reply_text}
-use Rattle.tsdb_script.specs.declared.numbered.Numbered.{Numbered}
-use Rattle.tsdb_run.specs.Headline.{IsInDoubt, IsWithoutFiles}
-use Rattle.tsdb_run.specs.History.{AreEntries, IsComplete}
+use Rattle.tsdb_recover.specs.declared.fault.OpenFault.{OpenFault}
+use Rattle.tsdb_recover.specs.declared.fault.OpenFault.TheVariants as fault
+use Rattle.tsdb_run.specs.Headline.{HasRun}
 use Rattle.tsdb_run.specs.Output.{AppendsPrefix}
+use Rattle.tsdb_run.specs.Store.{Contents, IsDamaged, IsSound}
 use Rattle.tsdb_run.specs.declared.status.Status.{Status}
 use Rattle.tsdb_run.specs.declared.status.Status.TheVariants.{Done, Memory, Words, Script, Source, Sink, Device}
 use Rattle.tsdb_run.specs.declared.status.Status.TheVariants.{Damaged}
-use Rattle.tsdb_run.specs.declared.status.Told.{Told}
+use Rattle.tsdb_script.specs.declared.numbered.Numbered.{Numbered}
+use Rattle.tsdb_serving.specs.Serving.{IsServing, disk_under}
 
--- the replies to the commands of a script, in the order of its lines
-pub record IsAnswered (script : List Numbered) (history : List Told) : Type 0 where
-  pub in_line_order : map (λ told. told.session) history ≡ map (λ numbered. numbered.session) script
-  pub complete : IsComplete script history
+-- these are replies to the commands of the script
+abbrev pub IsAnswered : List Numbered → List Told → Type 0
+IsAnswered script history = (entries : List Entry) × IsHistory script history entries
+
+-- The script was executed on the store of a place. `rose` says that something of it failed.
+pub record IsRunOn (script : List Numbered) (history : List Told) (old new : Contents) (rose : Type 0) : Type 0 where
   pub entries : List Entry
-  pub answers : AreEntries script history entries
-  pub commands : map (λ entry. entry.command) entries ≡ map (λ numbered. numbered.command) script
+  pub history_of : IsHistory script history entries
+  pub served : (start : plain.State) (sound : IsSound old start)
+      → HasRun sound.files start entries old.disk new rose
 
--- the replies to the commands of a script, from a state to the one after them
-pub record IsHistory (script : List Numbered) (history : List Told) (start after : State)
-    (entries : List Entry) : Type 0 where
-  pub in_line_order : map (λ told. told.session) history ≡ map (λ numbered. numbered.session) script
-  pub complete : IsComplete script history
-  pub answers : AreEntries script history entries
-  pub commands : map (λ entry. entry.command) entries ≡ map (λ numbered. numbered.command) script
-  pub legal : IsLegal start entries after
-  pub without_files : All (λ told. IsWithoutFiles told.reply) history
+module _ {J F S R P : Type 0} {means : disk.Ghosts J} {counts : counted.Ghosts J} where
+  -- the next number is above those of these files
+  abbrev pub IsNewerThan : List StoredFile → Core J F S R P means counts → Type 0
+  IsNewerThan files core = Each (λ (file : StoredFile). file.number < next_of core) files
 
--- at most one command is in doubt after these entries
-abbrev pub MayDoubt : List Entry → Option Command → Type 0
-MayDoubt entries None = Unit {0}
-MayDoubt entries (Some command) = IsInDoubt entries command
+  -- The script was executed on a core, which was closed, with no other file at rest. `rose` says that its journal
+  -- failed meanwhile.
+  pub record IsServedFrom (script : List Numbered) (history : List Told) (at_rest : Option (List StoredFile))
+      (core : Core J F S R P means counts) (new : Contents) (rose : Type 0) : Type 0 where
+    pub entries : List Entry
+    pub history_of : IsHistory script history entries
+    pub served : at_rest ≡ Some [] → (files : List StoredFile) (start : plain.State)
+        → IsServing core files start None → IsNewerThan files core
+        → HasRun files start entries (disk_under core) new rose
 
 -- sessions with one more, if it is not there
 abbrev pub with_session : List ℕ → ℕ → List ℕ
@@ -86,3 +94,14 @@ abbrev pub opening_status : OpenFault → Status
 opening_status fault.Failed = Device
 opening_status (fault.Damaged part at) = Damaged part at
 opening_status fault.Memory = Memory
+
+-- the statuses of a run whose store was not opened
+abbrev pub IsOpeningStatus : Contents → Status → Type 0
+IsOpeningStatus place Done = ⊥
+IsOpeningStatus place Memory = Unit {0}
+IsOpeningStatus place Words = ⊥
+IsOpeningStatus place (Script line kind) = ⊥
+IsOpeningStatus place Source = ⊥
+IsOpeningStatus place Sink = ⊥
+IsOpeningStatus place Device = Unit {0}
+IsOpeningStatus place (Damaged part at) = IsDamaged place part at

@@ -1,20 +1,20 @@
 //! The top call of the engine: it takes the words of the command line and a script, executes the script's commands
-//! in the order of its lines, and writes the replies. Depends on tsdb_base, tsdb_map, tsdb_script, tsdb_print,
-//! tsdb_plain and tsdb_outside.
+//! in the order of its lines on a store, and writes the replies. Depends on tsdb_base, tsdb_outside, tsdb_words,
+//! tsdb_script, tsdb_recovery, tsdb_history, tsdb_core and tsdb_print.
 #![tactic(auto)]
 
-mod execute;
 mod input;
 mod output;
 mod put;
 mod status;
+mod store;
 mod top_call;
-mod word;
 
-pub use status::{Ended, Status, Told};
+pub use status::{Ended, Status};
 pub use top_call::run;
-pub use tsdb_plain::{OpenFault, OpenRefused, Part, PlainCore};
-pub use word::Word;
+pub use tsdb_history::Told;
+pub use tsdb_recover::Part;
+pub use tsdb_words::Word;
 
 #[cfg(test)]
 mod tests;

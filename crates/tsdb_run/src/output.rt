@@ -1,12 +1,12 @@
-//! Puts the text of the output into a sink. Depends on `put` and `status`.
+//! Puts the text of the output into a sink. Depends on `put`, tsdb_history and tsdb_print.
 ghost use Rattle.std.specs.Prelude.{◌≡◌, IfOk, OnOk, List, ◌++◌, map};
 ghost use Rattle.tsdb_run.specs.Output.{output_text, part_text, replies_text, sessions_of};
 ghost use Rattle.tsdb_run.specs.Steps.{IsAnswered, Puts, reply_text_of, with_session};
 
 use crate::put::put_lines;
-use crate::status::Told;
 use std::alloc::Global;
 use tsdb_base::Memory;
+use tsdb_history::Told;
 use tsdb_outside::{Sink, StoreFault};
 use tsdb_print::{print_order, print_reply, print_session};
 use tsdb_script::Numbered;

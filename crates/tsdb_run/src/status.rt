@@ -1,11 +1,11 @@
-//! How a run ends. Depends on nothing here.
+//! How a run ends. Depends on tsdb_base, tsdb_history and tsdb_recover.
 ghost use Rattle.std.specs.Prelude.{◌≡◌, IfOk};
 ghost use Rattle.tsdb_run.specs.Status.{status_code, status_text};
 
 use std::alloc::Global;
 use tsdb_base::{List, Memory};
-use tsdb_map::Reply;
-use tsdb_plain::Part;
+use tsdb_history::Told;
+use tsdb_recover::Part;
 
 /// How a run ended.
 #[derive(Clone, Copy, Debug, PartialEq, Eq)]
@@ -22,18 +22,10 @@ pub enum Status {
     Source,
     /// The sink of the output failed.
     Sink,
-    /// The device of the store failed before a command was executed.
+    /// The journal or the files of the store failed before a command was executed.
     Device,
     /// A part of the store is damaged at this place, counted in bytes from the beginning of the part.
     Damaged { part: Part, at: u64 },
-}
-
-/// A reply, with the session of its command and the command's place in that session, counted from 0.
-#[derive(Drop)]
-pub struct Told {
-    pub session: u16,
-    pub index: u32,
-    pub reply: Reply,
 }
 
 /// What a run leaves: how it ended, and the reply to each command, in the order in which the commands took place. The
@@ -68,7 +60,7 @@ impl Status {
         let text: &[u8] = match self {
             Status::Done => b"",
             Status::Memory => b"memory\n",
-            Status::Words => b"usage: tsdb run DIR\n",
+            Status::Words => b"usage: tsdb run DIR [--pair N] [--workers N]\n",
             Status::Script { line, kind } => return script_text(alloc, *line, *kind),
             Status::Source => b"source\n",
             Status::Sink => b"sink\n",

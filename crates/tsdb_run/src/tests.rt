@@ -1,4 +1,5 @@
 //! What no clause says: that runs succeed with ample memory, and worked examples.
+mod examples;
 mod plain_program;
 mod stores;
 mod types;
@@ -128,11 +129,13 @@ fn worked_examples(rt: HostRuntime) -> Result<(), Fail> {
 #[test]
 fn words_and_statuses(rt: HostRuntime) -> Result<(), Fail> {
     let alloc = rt.alloc();
-    let lists: [&[&str]; 6] = [
+    let lists: [&[&str]; 8] = [
         &[],
         &["run"],
         &["run", "d", "e"],
         &["run", "-x"],
+        &["run", "d", "--pair", "0"],
+        &["run", "d", "--pair", "4", "--pair", "4"],
         &["run", ""],
         &["walk", "d"],
     ];
@@ -149,7 +152,11 @@ fn words_and_statuses(rt: HostRuntime) -> Result<(), Fail> {
     let texts = [
         (Status::Done, 0, ""),
         (Status::Memory, 1, "memory\n"),
-        (Status::Words, 2, "usage: tsdb run DIR\n"),
+        (
+            Status::Words,
+            2,
+            "usage: tsdb run DIR [--pair N] [--workers N]\n",
+        ),
         (Status::Script { line: 7, kind: 5 }, 3, "line 7 kind 5\n"),
         (Status::Source, 4, "source\n"),
         (Status::Sink, 5, "sink\n"),
@@ -170,7 +177,7 @@ fn words_and_statuses(rt: HostRuntime) -> Result<(), Fail> {
 /// Second lines that are bad, and the kinds of their faults.
 const BAD_LINES: [(&str, u8); 6] = [
     ("1 insert into root.g.d(timestamp,s) values(1.5,2)", 5),
-    ("1 show files", 0),
+    ("1 compact inner sequence", 0),
     ("1 compact cross", 0),
     ("0 select s from root.g.d", 1),
     ("1 walk", 2),

@@ -21,9 +21,11 @@ enum Act {
     Rows,
     /// Returns the count of the numbers and the greatest.
     Aggregates,
+    /// Writes what is in memory to files, and changes no answer.
+    Flush,
 }
 
-const STATEMENTS: [(&str, Act); 8] = [
+const STATEMENTS: [(&str, Act); 9] = [
     (
         "create timeseries root.g.d.s with datatype=INT64,encoding=PLAIN",
         Act::Create(Series::Numbers),
@@ -50,13 +52,14 @@ const STATEMENTS: [(&str, Act); 8] = [
         "select count(s),max_value(s) from root.g.d",
         Act::Aggregates,
     ),
+    ("flush", Act::Flush),
 ];
 
 /// A line: its session, and what its statement does.
 type Line = (u8, Act);
 
 /// How many scripts of none to three lines there are, with each statement in two sessions.
-const SHORT_SCRIPTS: usize = 1 + 16 + 256 + 4096;
+const SHORT_SCRIPTS: usize = 1 + 18 + 324 + 5832;
 
 /// How many scripts there are: each short one, alone and behind two lines that create the series.
 pub const SCRIPTS: usize = 2 * SHORT_SCRIPTS;
@@ -67,28 +70,28 @@ pub fn output_of(alloc: Global, number: usize) -> Result<(String, String), Alloc
     let mut lines = Vec::new(alloc);
     if number % 2 == 1 {
         add_line(&mut script, &mut lines, alloc, 0)?;
-        add_line(&mut script, &mut lines, alloc, 9)?;
+        add_line(&mut script, &mut lines, alloc, 10)?;
     }
     let mut rest = number / 2;
     for _ in 0..3 {
         if rest > 0 {
-            add_line(&mut script, &mut lines, alloc, (rest - 1) % 16)?;
-            rest = (rest - 1) / 16;
+            add_line(&mut script, &mut lines, alloc, (rest - 1) % 18)?;
+            rest = (rest - 1) / 18;
         }
     }
     let printed = printed(alloc, &lines)?;
     Ok((script, printed))
 }
 
-/// Adds a line by its number: the first eight are of session 1, the others of session 2.
+/// Adds a line by its number: the first nine are of session 1, the others of session 2.
 fn add_line(
     script: &mut String,
     lines: &mut Vec<Line>,
     alloc: Global,
     number: usize,
 ) -> Result<(), AllocError> {
-    let session = if number < 8 { 1 } else { 2 };
-    let (text, act) = STATEMENTS[number % 8];
+    let session = if number < 9 { 1 } else { 2 };
+    let (text, act) = STATEMENTS[number % 9];
     script.push_str(&format!(in alloc; "{session} {text}\n")?)?;
     lines.push((session, act))?;
     Ok(())
@@ -143,6 +146,7 @@ fn answer(before: &[Line], act: Act) -> &'static str {
             "ok\n"
         }
         Act::Delete if are_there(before, true, false) => "ok\n",
+        Act::Flush => "ok\n",
         _ => "path\n",
     }
 }

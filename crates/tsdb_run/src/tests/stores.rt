@@ -84,15 +84,15 @@ fn script(alloc: Global) -> Result<String, Fail> {
     Ok(script)
 }
 
-/// A second run finds what the first one left. An accepted command makes two writes and two syncs, and no other makes
-/// any.
+/// A second run finds what the first one left. The opening lists the files; then an accepted command makes two writes
+/// and two syncs, and no other makes any.
 #[test]
 fn second_runs(rt: HostRuntime) -> Result<(), Fail> {
     let alloc = rt.alloc();
     let mut place = place_of(alloc, &[0], &[])?;
     let (status, _) = run_on(alloc, &mut place, script(alloc)?.as_str())?;
     assert_eq!(rt; status, Status::Done);
-    assert_eq!(rt; place.moments(), 1 + 4 * 6);
+    assert_eq!(rt; place.moments(), 1 + 1 + 4 * 6);
     let (status, text) = run_on(alloc, &mut place, SELECT)?;
     assert_eq!(rt; status, Status::Done);
     assert_eq!(rt; text.as_slice(), printed(alloc, expected(6))?.as_bytes());
@@ -115,9 +115,9 @@ fn stops_at_each_moment(rt: HostRuntime) -> Result<(), Fail> {
         for kind in [StopKind::Written, StopKind::Unwritten, StopKind::Scrambled] {
             let mut stopped = place.after_stop(moment, kind)?;
             let (status, text) = run_on(alloc, &mut stopped, SELECT)?;
-            let acknowledged = (moment / 4) as usize;
+            let acknowledged = (moment.saturating_sub(1) / 4) as usize;
             let before = text.as_slice() == printed(alloc, expected(acknowledged))?.as_bytes();
-            let after = moment % 4 == 3
+            let after = moment % 4 == 0
                 && text.as_slice() == printed(alloc, expected(acknowledged + 1))?.as_bytes();
             assert_eq!(rt; status, Status::Done);
             assert!(rt; before || after, "{moment}");
@@ -172,15 +172,15 @@ fn command_in_doubt(rt: HostRuntime) -> Result<(), Fail> {
     assert_eq!(rt; status, Status::Done);
     let rows = "session 1\nok\ndevice\ntime,s\nrows 0\nok\ntime,s\n2,6\nrows 1\norder 1 1 1 1 1\n";
     assert_eq!(rt; text.as_slice(), rows.as_bytes());
-    for moment in 4..place.moments() {
+    for moment in 5..place.moments() {
         for kind in [StopKind::Written, StopKind::Unwritten, StopKind::Scrambled] {
             let (_, text) = run_on(alloc, &mut place.after_stop(moment, kind)?, SELECT)?;
             let none = text.as_slice() == printed(alloc, "time,s\nrows 0\n")?.as_bytes();
             let first = text.as_slice() == printed(alloc, "time,s\n1,5\nrows 1\n")?.as_bytes();
             let second = text.as_slice() == printed(alloc, "time,s\n2,6\nrows 1\n")?.as_bytes();
-            // The second insert begins behind call 8 and is acknowledged behind call 14.
+            // The second insert begins behind call 9 and is acknowledged behind call 15.
             assert!(rt;
-                none && moment < 14 || first && moment < 10 || second && 12 < moment,
+                none && moment < 15 || first && moment < 11 || second && 13 < moment,
                 "{moment}"
             );
         }

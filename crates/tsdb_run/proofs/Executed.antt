@@ -1,0 +1,235 @@
+-- The entries of a run, from the store that was taken up to the one that was put down.
+use Rattle.std.proofs.Common.{◌≡◌, ◌⊎◌, ◌∙◌, inl, inr, ⊎_elim, ℕ, ◌+◌, ◌<◌, ◌≤◌, List, [], ◌∷◌, ◌++◌, Option, None, Some}
+use Rattle.std.proofs.Common.{Result, Ok, Err, refl, subst, arith}
+use Rattle.std.specs.Prelude.{◌-◌, ◌^◌, min, IfOk}
+use Rattle.std.specs.List.{AllByRecursion as Each}
+use Rattle.std.specs.Option.{IsSomeAnd}
+use Rattle.tsdb_core.specs.Core.{next_of}
+use Rattle.tsdb_core.specs.declared.engine.Core.{Core}
+use Rattle.tsdb_frames.proofs.MomentLemmas.{leaves_on, weaker}
+use Rattle.tsdb_history.proofs.Prefixes.{stands_after, whole_prefix}
+use Rattle.tsdb_history.specs.Closing.{IsClosed}
+use Rattle.tsdb_history.specs.Prefixes.{EndsDone, StandsAfter, StandsAfterPrefix}
+use Rattle.tsdb_history.specs.Serves.{HasServed, LeavesPrefix}
+use Rattle.tsdb_images.proofs.Kept.{found_with_more, holds_found}
+use Rattle.tsdb_images.specs.Stored.{LeavesOneOf, kept_bytes}
+use Rattle.tsdb_layers.proofs.Lists.{each_weaker}
+use Rattle.tsdb_map.specs.History.{Entry}
+use Rattle.tsdb_map.specs.State as plain
+use Rattle.tsdb_opening.specs.Opening.{greatest}
+use Rattle.tsdb_outside.specs.Causes.{Rose}
+use Rattle.tsdb_outside.specs.Disk.{Image, IsLawful, Keeps, State, in_slot}
+use Rattle.tsdb_outside.specs.Files.{StoredFile, numbers_of}
+use Rattle.tsdb_outside.specs.Moments.{LeavesOnly}
+use Rattle.tsdb_outside.specs.declared.disk.Disk as disk
+use Rattle.tsdb_outside.specs.declared.disk.Slot.{Slot}
+use Rattle.tsdb_outside.specs.declared.disk.Slot.TheVariants.{A}
+use Rattle.tsdb_outside.specs.declared.faults.Counted as counted
+use Rattle.tsdb_replay.proofs.Stores.{sound_kept, stands_with_more}
+use Rattle.tsdb_replay.specs.Stores as stores
+use Rattle.tsdb_replay.specs.Stores.{HoldsKept, StandsFor, StandsForOneOf}
+use Rattle.tsdb_run.specs.Headline.{AreNewer, HasRun}
+use Rattle.tsdb_history.specs.declared.told.Told.{Told}
+use Rattle.tsdb_run.proofs.Whole.{sound_after, sound_left}
+use Rattle.tsdb_run.specs.Steps.{IsNewerThan, IsRunOn}
+use Rattle.tsdb_run.specs.Store.{IsSoundOrSilent, contents}
+use Rattle.tsdb_script.specs.declared.numbered.Numbered.{Numbered}
+use Rattle.tsdb_serving.specs.Serving.{IsDrawn, disk_under, slot_under}
+
+-- a call that writes nothing leaves what the disk might leave
+keeps_leaves : (old new : State) (P : Image → Type 0) → IsLawful old → IsLawful new → Keeps old new
+    → ((image : Image) → old.may_leave image → P image) → LeavesOnly old new P
+keeps_leaves old new P before after keeps each = record {
+  passes = record {
+    later = keeps.time.later;
+    nothing_else = λ t image le left. ⊎_elim (λ earlier. inl earlier)
+        (λ now. inr (after.counts_now old.moment image keeps.time.later now)) (keeps.time.nothing_else t image le left);
+    keeps = keeps.time.keeps;
+  };
+  each = λ image left. each image (⊎_elim (λ earlier. before.only_now image earlier) (λ now. keeps.crash image now)
+      (keeps.time.nothing_else old.moment image (omega arith) left));
+}
+
+-- the state at the beginning is that after no entry
+begins : (files : stores.Files) (start : plain.State) (entries : List Entry) (bytes : List ℕ) → StandsFor files bytes start
+    → StandsAfterPrefix files start entries bytes
+begins files start entries bytes is =
+    record { prefix = []; rest = entries; split = refl; after = start; legal = refl; stands = inl is }
+
+-- ---- the core
+
+module _ {J F S R P : Type 0} {means : disk.Ghosts J} {counts : counted.Ghosts J}
+    (core last : Core J F S R P means counts) (files : List StoredFile) (start : plain.State) (entries : List Entry)
+    (served : HasServed core last files start entries) (slot : slot_under core ≡ A)
+    (stays : slot_under last ≡ slot_under core) (new : State) (laws : IsLawful new) (stored : List StoredFile)
+    (rose : Type 0) (closed : IsClosed last new stored rose (files ++ served.put) served.after served.doubt) where
+  in_a : slot_under last ≡ A
+  in_a = stays ∙ slot
+
+  after_all : (image : Image) (kept : stores.Files)
+      → StandsForOneOf kept (in_slot (slot_under last) image) served.after served.doubt
+      → StandsAfter kept served.after entries (in_slot A image)
+  after_all image kept is =
+      stands_after kept served.after entries served.doubt (in_slot A image) served.may
+      (subst (λ (s : Slot). StandsForOneOf kept (in_slot s image) served.after served.doubt) in_a is)
+
+  abbrev Prefixed : Image → Type 0
+  Prefixed = LeavesPrefix (files ++ served.put) A start entries
+
+  closing : (image : Image) → LeavesOneOf (files ++ served.put) (slot_under last) served.after served.doubt image
+      → Prefixed image
+  closing image leaves = λ kept holds.
+      whole_prefix kept start served.after entries (in_slot A image) served.legal
+      (after_all image kept (leaves kept holds))
+
+  moments : LeavesOnly (disk_under core) new Prefixed
+  moments =
+      leaves_on (disk_under core) (disk_under last) new laws Prefixed
+      (subst (λ (s : Slot). LeavesOnly (disk_under core) (disk_under last)
+      (LeavesPrefix (files ++ served.put) s start entries)) slot served.moments)
+      (weaker (disk_under last) new
+      (LeavesOneOf (files ++ served.put) (slot_under last) served.after served.doubt) Prefixed closing closed.moments)
+
+  newer : IsNewerThan files core → AreNewer served.put files
+  newer below =
+      each_weaker (λ (file : StoredFile). IsDrawn core last file.number)
+      (λ (file : StoredFile). Each (λ (other : StoredFile). other.number < file.number) files)
+      (λ file drawn. each_weaker (λ (other : StoredFile). other.number < next_of core)
+      (λ (other : StoredFile). other.number < file.number)
+      (λ other less. omega (arith, less, drawn.from)) files below) served.put served.numbers
+
+  pub has_run : (now : Option (List StoredFile)) (more : Type 0) → now ≡ Some stored → IsNewerThan files core
+      → (rose → more) → HasRun files start entries (disk_under core) (contents new now) more
+  has_run now more told below wider = record {
+    after = served.after;
+    legal = served.legal;
+    put = served.put;
+    newer = newer below;
+    moments = moments;
+    stored = stored;
+    told = told;
+    held = closed.held;
+    holds = λ image kept left holds. after_all image kept (closed.holds image left kept holds);
+    sound = λ calm. subst (λ (s : Slot). stores.IsSound s new (kept_bytes stored) served.after) in_a (closed.sound (by calm));
+  }
+    where
+      by : (¬ more) ⊎ EndsDone entries → (¬ rose) ⊎ (served.doubt ≡ None)
+      by (inl calm) = inl (λ is. calm (wider is))
+      by (inr ends) = inr (served.settled ends)
+
+pub some_and : {X : Type 0} (P : X → Type 0) (o : Option X) → IsSomeAnd o P → (x : X) × (o ≡ Some x) × P x
+some_and P None is = absurd is
+some_and P (Some x) is = (x, refl, is)
+
+-- a fault behind a call that lowered no count
+pub rose_before : (old mid new : ℕ) → old ≤ mid → Rose mid new → Rose old new
+rose_before old mid new less rose = omega (arith, less, rose)
+
+-- a fault of the journal is one of the place that takes it back
+pub rose_down : (old mid new journal files : ℕ) → old ≤ mid → min (mid + journal + files) (2 ^ 64 - 1) ≤ new
+    → Rose 0 journal → Rose old new
+rose_down old mid new journal files later counts rose = omega (arith, later, counts, rose)
+
+-- what was answered of the faults of both parts is one of the place's faults
+pub counted_down : (old mid new journal files count : ℕ) → old ≤ mid → min (mid + journal + files) (2 ^ 64 - 1) ≤ new
+    → min count (2 ^ 64 - 1) ≤ journal + files → min (old + count) (2 ^ 64 - 1) ≤ new
+counted_down old mid new journal files count later counts answered = omega (arith, later, counts, answered)
+
+pub sure_before : (old new : State) (stored now : Option (List StoredFile)) → Keeps old new → now ≡ stored
+    → IsSoundOrSilent (contents old stored) → IsSoundOrSilent (contents new now)
+sure_before old new stored now keeps same (inl silent) = inl (same ∙ silent)
+sure_before old new stored now keeps same (inr (start, sound)) =
+    inr (start, sound_after old new stored now start keeps same sound)
+
+-- ---- before and behind it
+
+module _ (files : List StoredFile) (start : plain.State) (entries : List Entry) (old mid new : State)
+    (now : Option (List StoredFile)) (rose : Type 0) (before : IsLawful old) (between : IsLawful mid)
+    (behind : IsLawful new) where
+  calmer : (more : Type 0) → (rose → more) → (¬ more) ⊎ EndsDone entries → (¬ rose) ⊎ EndsDone entries
+  calmer more wider (inl calm) = inl (λ is. calm (wider is))
+  calmer more wider (inr ends) = inr ends
+
+  -- a call that writes nothing took the store up
+  pub run_before : (more : Type 0) → Keeps old mid
+      → ((image : Image) → old.may_leave image → StandsFor (kept_bytes files) image.a start) → (rose → more)
+      → HasRun files start entries mid (contents new now) rose → HasRun files start entries old (contents new now) more
+  run_before more keeps stands wider run = record {
+    after = run.after;
+    legal = run.legal;
+    put = run.put;
+    newer = run.newer;
+    moments = leaves_on old mid new behind (LeavesPrefix (files ++ run.put) A start entries)
+        (keeps_leaves old mid (LeavesPrefix (files ++ run.put) A start entries) before between keeps
+        (λ image left kept holds. begins kept start entries image.a
+        (stands_with_more (kept_bytes files) kept image.a start
+        (λ number bytes found. holds_found (files ++ run.put) kept holds number bytes
+        (found_with_more files run.put number bytes found)) (stands image left)))) run.moments;
+    stored = run.stored;
+    told = run.told;
+    held = run.held;
+    holds = run.holds;
+    sound = λ calm. run.sound (calmer more wider calm);
+  }
+
+  -- a call that writes nothing put the store down
+  pub run_behind : (then : Option (List StoredFile)) (more : Type 0) → Keeps mid new → then ≡ now → (rose → more)
+      → HasRun files start entries old (contents mid now) rose → HasRun files start entries old (contents new then) more
+  run_behind then more keeps same wider run = record {
+    after = run.after;
+    legal = run.legal;
+    put = run.put;
+    newer = run.newer;
+    moments = leaves_on old mid new behind (LeavesPrefix (files ++ run.put) A start entries) run.moments
+        (keeps_leaves mid new (LeavesPrefix (files ++ run.put) A start entries) between behind keeps
+        (λ image left kept holds. whole_prefix kept start run.after entries image.a run.legal
+        (run.holds image kept left (run.held kept holds))));
+    stored = run.stored;
+    told = same ∙ run.told;
+    held = run.held;
+    holds = λ image kept left holds. run.holds image kept (keeps.crash image left) holds;
+    sound = λ calm. sound_kept A mid new (kept_bytes run.stored) run.after keeps (run.sound (calmer more wider calm));
+  }
+
+-- the script was executed on the store of a journal, which a place handed out and took back
+pub placed : (script : List Numbered) (history : List Told) (old journal last new : State)
+    (stored at_rest rest now : Option (List StoredFile)) (rose more : Type 0) → IsLawful old → IsLawful journal
+    → IsLawful last → IsLawful new → Keeps old journal → at_rest ≡ stored → Keeps last new → now ≡ rest → (rose → more)
+    → IsRunOn script history (contents journal at_rest) (contents last rest) rose
+    → IsRunOn script history (contents old stored) (contents new now) more
+placed script history old journal last new stored at_rest rest now rose more one two three four takes same puts told wider run =
+    record {
+      entries = run.entries;
+      history_of = run.history_of;
+      served = λ start sound.
+          let inside = sound_after old journal stored at_rest start takes same sound in
+          run_behind sound.files start run.entries old last new rest rose one three four now more puts told wider
+          (run_before sound.files start run.entries old journal last rest rose one two three rose takes
+          (λ image left. sound_left old stored start image sound left) (λ is. is) (run.served start inside));
+    }
+
+pub if_ok : {T E : Type 0} (P Q : T → Type 0) (result : Result T E) → ((x : T) → P x → Q x) → IfOk result P
+    → IfOk result Q
+if_ok P Q (Ok x) more is = more x is
+if_ok P Q (Err e) more is = tt
+
+-- ---- numbers
+
+below_greatest : (files : List StoredFile) (named : List ℕ)
+    → Each (λ (file : StoredFile). file.number ≤ greatest (numbers_of files ++ named)) files
+below_greatest [] named = tt
+below_greatest (file ∷ files) named = (
+  omega arith,
+  each_weaker (λ (other : StoredFile). other.number ≤ greatest (numbers_of files ++ named))
+      (λ (other : StoredFile). other.number ≤ greatest (numbers_of (file ∷ files) ++ named))
+      (λ other less. omega (arith, less)) files (below_greatest files named),
+)
+
+-- the next number of a store that was opened is above those of its files
+pub above_stored : {J F S R P : Type 0} {means : disk.Ghosts J} {counts : counted.Ghosts J}
+    (core : Core J F S R P means counts) (files : List StoredFile) (named : List ℕ)
+    → next_of core ≡ greatest (numbers_of files ++ named) + 1 → IsNewerThan files core
+above_stored core files named next =
+    each_weaker (λ (file : StoredFile). file.number ≤ greatest (numbers_of files ++ named))
+    (λ (file : StoredFile). file.number < next_of core) (λ file less. omega (arith, less, next)) files
+    (below_greatest files named)

@@ -1,0 +1,69 @@
+use Rattle.std.proofs.Common.{◌≡◌, ◌∙◌, inl, inr, ap, None, arith}
+use Rattle.std.specs.Prelude.{is_some}
+use Rattle.tsdb_core.specs.declared.engine.Core.{Core}
+use Rattle.tsdb_frames.specs.Frames.{journal_of}
+use Rattle.tsdb_history.specs.Serves.{IsSure}
+use Rattle.tsdb_logged.specs.Logged.{log_of}
+use Rattle.tsdb_core.specs.Core.{logged_of}
+use Rattle.tsdb_outside.specs.Causes.{Rose}
+use Rattle.tsdb_outside.specs.Files.{Store}
+use Rattle.tsdb_run.proofs.Executed.{above_stored, rose_before, run_before}
+use Rattle.tsdb_run.proofs.Whole.{gone, image, next_is, opened, sound_left}
+use Rattle.tsdb_run.specs.Store.{IsSoundOrSilent, contents}
+use Rattle.tsdb_serving.specs.Flushing.{faults_under}
+use Rattle.tsdb_serving.specs.Serving.{disk_under}
+use Rattle.tsdb_run.proofs.store.run_on.Goals as goal
+
+pub returns-in-Ok-recover-clause-executed : goal.returns-in-Ok-recover-clause-executed
+returns-in-Ok-recover-clause-executed g c =
+    let core = c.in-Ok-recover.core in
+    let state = g.J.Disk.state c.args.journal in
+    let stored = g.F.Files.at_rest c.args.files.now in
+    let now = g.F.Files.at_rest c.port.new.self in
+    let same : now ≡ stored = c.port.ensures.same in
+    let journal = c.serve_script-journal.result.0 in
+    let left = g.F.Files.at_rest c.serve_script-journal.new.files in
+    let served = c.serve_script-journal.ensures.served in
+    record {
+      entries = served.entries;
+      history_of = served.history_of;
+      served = λ start sound.
+          let recovered = opened core state stored now start sound same c.in-Ok-recover.ensures.seen in
+          let serving = c.a_recovered_core_serves.ensures (image core state stored now start sound same).a sound.files start
+          recovered in
+          let next = next_is core state stored now start sound same recovered.recorded recovered.replayed
+          c.in-Ok-recover.ensures.next in
+          let none = gone core state stored now start sound same (g.F.Files.at_rest c.recover.new.files)
+          c.in-Ok-recover.ensures.strays in
+          run_before sound.files start served.entries state (disk_under core) (g.J.Disk.state journal) left
+          (Rose (faults_under core) (g.J.Counted.faults journal)) (g.J.Disk.lawful c.args.journal)
+          (g.J.Disk.lawful (journal_of (log_of (logged_of core)))) (g.J.Disk.lawful journal)
+          (Rose 0 (g.J.Counted.faults journal)) c.in-Ok-recover.ensures.keeps
+          (λ image left. sound_left state stored start image sound left)
+          (rose_before 0 (faults_under core) (g.J.Counted.faults journal) (omega arith))
+          (served.served none sound.files start serving
+          (above_stored core sound.files recovered.recorded.named next));
+    }
+
+pub returns-in-Ok-recover-clause-devices : goal.returns-in-Ok-recover-clause-devices
+returns-in-Ok-recover-clause-devices g c = λ sure. c.serve_script-journal.ensures.devices (by sure)
+  where
+    core : Core g.row.J.Denot g.row.F.Denot g.row.F-Sealed.Denot g.row.F-Right.Denot g.row.F-Port.Denot g.J.Disk g.J.Counted
+    core = c.in-Ok-recover.core
+
+    by : IsSoundOrSilent (contents (g.J.Disk.state c.args.journal) (g.F.Files.at_rest c.args.files.now))
+        → IsSure (g.F.Files.store c.recover.new.files) core
+    by (inl silent) = inl (ap (λ (s : Store). s.tells) (c.recover.ensures.same_store ∙ c.port.ensures.same_store)
+        ∙ g.F.Files.tells c.args.files.now ∙ ap is_some silent)
+    by (inr (start, sound)) =
+        let state = g.J.Disk.state c.args.journal in
+        let stored = g.F.Files.at_rest c.args.files.now in
+        let now = g.F.Files.at_rest c.port.new.self in
+        let recovered = opened core state stored now start sound c.port.ensures.same c.in-Ok-recover.ensures.seen in
+        inr (
+          sound.files,
+          start,
+          None,
+          c.a_recovered_core_serves.ensures
+              (image core state stored now start sound c.port.ensures.same).a sound.files start recovered,
+        )

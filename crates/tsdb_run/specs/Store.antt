@@ -1,0 +1,45 @@
+-- What a place has, and which stores are sound and which are damaged.
+use Rattle.std.specs.Prelude.{◌≡◌, ◌⊎◌, ℕ, List, Option, None, Some}
+use Rattle.tsdb_images.specs.Stored.{kept_bytes}
+use Rattle.tsdb_map.specs.State as plain
+use Rattle.tsdb_outside.specs.Disk.{Image, State}
+use Rattle.tsdb_outside.specs.Files.{StoredFile}
+use Rattle.tsdb_outside.specs.declared.disk.Slot.TheVariants.{A}
+use Rattle.tsdb_recover.specs.declared.fault.Part.{Part}
+use Rattle.tsdb_recovery.specs.Damage.{IsDamagedIn}
+use Rattle.tsdb_recovery.specs.Taking.{AreStored}
+use Rattle.tsdb_replay.specs.Stores as store
+
+-- What a place has: what its disk means, and the files of its store where it tells them.
+pub record Contents : Type 1 where
+  pub disk : State
+  pub stored : Option (List StoredFile)
+
+abbrev pub contents : State → Option (List StoredFile) → Contents
+contents disk stored = record { disk = disk; stored = stored }
+
+-- It tells what reads of its slots give, and these files, which are stored as files are.
+pub record Tells (place : Contents) (image : Image) (files : List StoredFile) : Type 0 where
+  pub slots : place.disk.seen ≡ Some image
+  pub told : place.stored ≡ Some files
+  pub are_stored : AreStored files
+
+-- The log in slot A is sound, and stands with these files for the state.
+abbrev pub IsSoundWith : List StoredFile → State → plain.State → Type 0
+IsSoundWith files disk at = store.IsSound A disk (kept_bytes files) at
+
+-- The place has a sound store, which stands for the state.
+pub record IsSound (place : Contents) (at : plain.State) : Type 0 where
+  pub files : List StoredFile
+  pub told : place.stored ≡ Some files
+  pub are_stored : AreStored files
+  pub sound : IsSoundWith files place.disk at
+
+-- where the place tells its store, the store is damaged in this part at this place in it
+abbrev pub IsDamaged : Contents → Part → ℕ → Type 0
+IsDamaged place part at = (image : Image) (files : List StoredFile) → Tells place image files
+    → IsDamagedIn (kept_bytes files) image.a part at
+
+-- the place does not tell its files, or has a sound store
+abbrev pub IsSoundOrSilent : Contents → Type 0
+IsSoundOrSilent place = (place.stored ≡ None) ⊎ ((at : plain.State) × IsSound place at)

@@ -1,0 +1,334 @@
+//! Worked examples with files: what is flushed, late points, listings, and numbers at their end.
+use super::words;
+use crate::{Part, Status, run};
+use mem_outside::{Fails, MemPlace, SteadySink, SteadySource, StopKind};
+use std::alloc::Global;
+use std::test::Fail;
+use tsdb_base::FileNumber;
+
+/// A run on a store: its options, its commands with `; ` between them, and its replies with ` / ` between their lines.
+/// `C` creates `root.g.d.s`, `I t v` inserts a value at a time, `S` selects all points.
+type Row = (&'static [&'static str], &'static str, &'static str);
+
+const RUN: &[&str] = &["run", "d"];
+
+const SMALL: &[&str] = &["run", "--pair", "4", "--workers", "0", "d"];
+
+/// Runs, each on a new store.
+const ROWS: [Row; 8] = [
+    // A point at the last flushed time goes to the unsequence part, and wins.
+    (
+        RUN,
+        "C; I 1 5; flush; I 1 6; S; show files",
+        "ok / ok / ok / ok / time,s / 1,6 / rows 1 / sequence 1 born 2 points 1 from 1 to 1 / frozen 0 / \
+         working 0 1 / marks 0",
+    ),
+    // The least and the greatest time, on both sides of a flush.
+    (
+        RUN,
+        "C; I -9223372036854775808 1; I 9223372036854775807 2; flush; I 9223372036854775807 3; S",
+        "ok / ok / ok / ok / ok / time,s / -9223372036854775808,1 / 9223372036854775807,3 / rows 2",
+    ),
+    // A delete between a flush and a late point, and one behind both.
+    (
+        RUN,
+        "C; I 1 5; flush; delete from root.g.d.s where time<=1; I 1 6; S; flush; S; \
+         delete from root.g.d.s where time<=1; S",
+        "ok / ok / ok / ok / ok / time,s / 1,6 / rows 1 / ok / time,s / 1,6 / rows 1 / ok / time,s / rows 0",
+    ),
+    // A pair of four points is full: the third one flushes the oldest.
+    (
+        SMALL,
+        "C; I 1 1; I 2 2; I 3 3; I 4 4; I 5 5; I 6 6; I 7 7; I 8 8; I 9 9; I 10 10; I 11 11; I 12 12; \
+         I 13 13; show files",
+        "ok / ok / ok / ok / ok / ok / ok / ok / ok / ok / ok / ok / ok / ok / \
+         sequence 1 born 5 points 4 from 1 to 4 / frozen 2 / working 1 0 / marks 0",
+    ),
+    // A flush of an empty pair writes nothing.
+    (
+        RUN,
+        "flush; C; flush; show files",
+        "ok / ok / ok / frozen 0 / working 0 0 / marks 0",
+    ),
+    // A late point is in a file of its own, and a mark stands for what it deletes in files.
+    (
+        RUN,
+        "C; I 10 1; flush; I 5 2; I 20 3; flush; delete from root.g.d.s where time>=20; S; show files",
+        "ok / ok / ok / ok / ok / ok / ok / time,s / 5,2 / 10,1 / rows 2 / \
+         sequence 1 born 2 points 1 from 10 to 10 / sequence 2 born 4 points 1 from 20 to 20 / \
+         unsequence 3 born 4 points 1 from 5 to 5 / frozen 0 / working 0 0 / marks 1",
+    ),
+    // Aggregates over files and memory.
+    (
+        RUN,
+        "C; I 1 5; I 2 7; flush; I 1 -7; select count(s),min_value(s),last_value(s) from root.g.d; \
+         select count(s) from root.g.d where time<2",
+        "ok / ok / ok / ok / ok / count(s),min_value(s),last_value(s) / 2,-7,7 / count(s) / 1",
+    ),
+    // Refusals say nothing of where points are.
+    (
+        RUN,
+        "C; I 1 5; flush; select x from root.g.d; C; insert into root.g.e(time,s) values(1,1); \
+         insert into root.g.d(time,s) values(1,'a'); S",
+        "ok / ok / ok / path / exists / path / type / time,s / 1,5 / rows 1",
+    ),
+];
+
+fn line_of(alloc: Global, command: &str) -> Result<String, Fail> {
+    if command == "C" {
+        return Ok(String::from_str(alloc, super::CREATE)?);
+    }
+    if command == "S" {
+        return Ok(String::from_str(alloc, "1 select s from root.g.d\n")?);
+    }
+    if let Some(point) = command.strip_prefix("I ") {
+        if let Some((time, value)) = point.split_once(' ') {
+            return Ok(format!(in alloc;
+                "1 insert into root.g.d(timestamp,s) values({time},{value})\n"
+            )?);
+        }
+    }
+    Ok(format!(in alloc; "1 {command}\n")?)
+}
+
+/// The script of these commands, and what it prints with these replies.
+fn script_of(alloc: Global, row: &Row) -> Result<(String, String), Fail> {
+    let mut script = String::new(alloc);
+    let mut order = String::from_str(alloc, "order")?;
+    for command in row.1.split("; ") {
+        script.push_str(line_of(alloc, command)?.as_str())?;
+        order.push_str(" 1")?;
+    }
+    let mut printed = String::from_str(alloc, "session 1\n")?;
+    for line in row.2.split(" / ") {
+        printed.push_str(line)?;
+        printed.push_str("\n")?;
+    }
+    printed.push_str(order.as_str())?;
+    printed.push_str("\n")?;
+    Ok((script, printed))
+}
+
+/// Whether a run on the place ends well and prints what the row says.
+fn prints(alloc: Global, place: &mut MemPlace, row: &Row) -> Result<bool, Fail> {
+    let (script, printed) = script_of(alloc, row)?;
+    let words = words(alloc, row.0)?;
+    let mut source = SteadySource::new(Vec::from_slice(alloc, script.as_bytes())?);
+    let mut sink = SteadySink::new(alloc);
+    let ended = run(alloc, &words, &mut source, &mut sink, place);
+    Ok(ended.status == Status::Done && sink.bytes() == printed.as_bytes())
+}
+
+/// How a run of the commands on the place ends.
+fn status_on(alloc: Global, place: &mut MemPlace, commands: &str) -> Result<Status, Fail> {
+    let words = words(alloc, RUN)?;
+    let mut source = SteadySource::new(Vec::from_slice(alloc, commands.as_bytes())?);
+    let mut sink = SteadySink::new(alloc);
+    Ok(run(alloc, &words, &mut source, &mut sink, place).status)
+}
+
+/// A place with these slots and files, of whose calls on files these fail.
+fn place_with(
+    alloc: Global,
+    slots: [Vec<u8>; 2],
+    files: Vec<(FileNumber, Vec<u8>)>,
+    fails: &[u64],
+) -> Result<MemPlace, Fail> {
+    let fails = Fails {
+        journal: Vec::new(alloc),
+        files: Vec::from_slice(alloc, fails)?,
+    };
+    Ok(MemPlace::new(alloc, slots, files, fails)?)
+}
+
+fn new_place(alloc: Global, fails: &[u64]) -> Result<MemPlace, Fail> {
+    let slots = [vec![in alloc; 0]?, vec![in alloc; 0]?];
+    place_with(alloc, slots, Vec::new(alloc), fails)
+}
+
+/// The first row that prints something else.
+fn first_wrong(alloc: Global, rows: &[Row]) -> Result<Option<usize>, Fail> {
+    for (at, row) in rows.iter().enumerate() {
+        if !prints(alloc, &mut new_place(alloc, &[])?, row)? {
+            return Ok(Some(at));
+        }
+    }
+    Ok(None)
+}
+
+#[test]
+fn files_and_memory(rt: HostRuntime) -> Result<(), Fail> {
+    assert_eq!(rt; first_wrong(rt.alloc(), &ROWS)?, None);
+    Ok(())
+}
+
+/// Runs on one store, one behind another. The watermark of the device stays where it was, although its last point is
+/// gone; what was not flushed is in the log.
+const RUNS: [Row; 4] = [
+    (
+        RUN,
+        "C; I 10 1; flush; I 20 1; flush; I 15 1; flush; delete from root.g.d.s where time=20; I 30 9",
+        "ok / ok / ok / ok / ok / ok / ok / ok / ok",
+    ),
+    (
+        RUN,
+        "delete from root.g.d.s where time>20; I 15 2; I 16 3; S",
+        "ok / ok / ok / time,s / 10,1 / 15,2 / 16,3 / rows 3",
+    ),
+    (
+        SMALL,
+        "S; show files",
+        "time,s / 10,1 / 15,2 / 16,3 / rows 3 / sequence 1 born 2 points 1 from 10 to 10 / \
+         sequence 2 born 3 points 1 from 20 to 20 / unsequence 3 born 4 points 1 from 15 to 15 / frozen 0 / \
+         working 0 2 / marks 2",
+    ),
+    (
+        SMALL,
+        "flush; S; show files",
+        "ok / time,s / 10,1 / 15,2 / 16,3 / rows 3 / sequence 1 born 2 points 1 from 10 to 10 / \
+         sequence 2 born 3 points 1 from 20 to 20 / unsequence 3 born 4 points 1 from 15 to 15 / \
+         unsequence 4 born 9 points 2 from 15 to 16 / frozen 0 / working 0 0 / marks 2",
+    ),
+];
+
+#[test]
+fn runs_behind_one_another(rt: HostRuntime) -> Result<(), Fail> {
+    let alloc = rt.alloc();
+    let mut place = new_place(alloc, &[])?;
+    for (at, row) in RUNS.iter().enumerate() {
+        assert!(rt; prints(alloc, &mut place, row)?, "{at}");
+    }
+    Ok(())
+}
+
+/// With a file of the greatest number in the store too few numbers are left: a flush freezes, and ends `full`.
+#[test]
+fn numbers_at_their_end(rt: HostRuntime) -> Result<(), Fail> {
+    let alloc = rt.alloc();
+    let mut files = Vec::new(alloc);
+    files.push((FileNumber(9_223_372_036_854_775_807), Vec::new(alloc)))?;
+    let slots = [vec![in alloc; 0]?, vec![in alloc; 0]?];
+    let mut place = place_with(alloc, slots, files, &[])?;
+    let row: Row = (
+        RUN,
+        "C; I 1 5; flush; S; show files",
+        "ok / ok / full / time,s / 1,5 / rows 1 / frozen 1 / working 0 0 / marks 0",
+    );
+    assert!(rt; prints(alloc, &mut place, &row)?);
+    Ok(())
+}
+
+/// The log of a created series, an insert of 5 at time 1, a freeze and a flush to file 1.
+const LOG: [u8; 82] = [
+    1, 0, 0, 0, 15, 1, 0, 10, 114, 111, 111, 116, 46, 103, 46, 100, 46, 115, 2, 0, // at 0
+    1, 0, 0, 0, 28, 2, 0, 0, 0, 0, 0, 0, 0, 1, 0, 1, 0, 0, 0, 0, 0, 0, 0, 0, 2, 0, 0, 0, 0, 0, 0,
+    0, 5, // at 20
+    1, 0, 0, 0, 1, 4, // at 53
+    1, 0, 0, 0, 17, 5, 0, 0, 0, 0, 0, 0, 0, 1, 0, 0, 0, 0, 0, 0, 0, 0, 0, // at 59
+];
+
+/// File 1, of 234 bytes.
+const FILE: [u8; 234] = *b"TsFile\x51\
+\x47\x00\x08root.g.d\
+\x43\x00\x01s\x02\x00\
+\x50\x00\x00\x00\x0f\x00\x00\x00\x02\x01\x02\x01\x00\x00\x00\x00\x00\x00\x00\x05\
+\x49\x00\x01\x00\x08root.g.d\x00\x01s\x02\x00\x00\x00\x00\x00\x00\x00\x00\x12\
+\x00\x00\x00\x00\x00\x00\x00\x01\x00\x00\x00\x00\x00\x00\x00\x01\x00\x00\x00\x00\x00\x00\x00\x01\
+\x00\x00\x00\x00\x00\x00\x00\x05\x00\x00\x00\x00\x00\x00\x00\x05\
+\x00\x00\x00\x00\x00\x00\x00\x05\x00\x00\x00\x00\x00\x00\x00\x05\
+\x00\x00\x00\x01\x00\x00\x00\x00\x00\x00\x00\x18\
+\x00\x00\x00\x00\x00\x00\x00\x01\x00\x00\x00\x00\x00\x00\x00\x01\x00\x00\x00\x00\x00\x00\x00\x01\
+\x00\x00\x00\x00\x00\x00\x00\x05\x00\x00\x00\x00\x00\x00\x00\x05\
+\x00\x00\x00\x00\x00\x00\x00\x05\x00\x00\x00\x00\x00\x00\x00\x05\
+\x52\x00\x00\x00\x01\x00\x08root.g.d\x00\x01s\x00\x00\x00\x00\x00\x00\x00\x2c\
+\x00\x00\x00\x00\x00\x00\x00\xc2TsFile";
+
+/// How a run ends on the store of this log with so many bytes of file 1, of the calls on whose files these fail.
+fn status_with(alloc: Global, bytes: usize, fails: &[u64]) -> Result<Status, Fail> {
+    let mut file = FILE.to_vec(alloc)?;
+    file.truncate(bytes);
+    let mut files = Vec::new(alloc);
+    files.push((FileNumber(1), file))?;
+    let slots = [LOG.to_vec(alloc)?, vec![in alloc; 0]?];
+    let mut place = place_with(alloc, slots, files, fails)?;
+    status_on(alloc, &mut place, "1 select s from root.g.d\n")
+}
+
+#[test]
+fn listed_files_are_checked(rt: HostRuntime) -> Result<(), Fail> {
+    let alloc = rt.alloc();
+    let part = Part::File(FileNumber(1));
+    assert_eq!(rt; status_with(alloc, 234, &[])?, Status::Done);
+    assert_eq!(rt;
+        status_with(alloc, 233, &[])?,
+        Status::Damaged { part, at: 219 }
+    );
+    assert_eq!(rt; status_with(alloc, 234, &[1])?, Status::Device);
+    assert_eq!(rt; status_with(alloc, 234, &[2])?, Status::Device);
+    Ok(())
+}
+
+/// Commands, and what a select prints behind each that changes something.
+const LATE: &str = "C; I 1 5; flush; I 1 6; flush";
+
+const SEEN: [Row; 4] = [
+    (RUN, "S", "path"),
+    (RUN, "S", "time,s / rows 0"),
+    (RUN, "S", "time,s / 1,5 / rows 1"),
+    (RUN, "S", "time,s / 1,6 / rows 1"),
+];
+
+/// Which of these a run on the place prints.
+fn seen_on(alloc: Global, place: &mut MemPlace) -> Result<Option<usize>, Fail> {
+    for (at, row) in SEEN.iter().enumerate() {
+        if prints(alloc, place, row)? {
+            return Ok(Some(at));
+        }
+    }
+    Ok(None)
+}
+
+/// A stop at any moment, also within a flush, leaves a store that is opened, and in it what was acknowledged, or that
+/// with the command that was being written.
+#[test]
+fn stops_with_files(rt: HostRuntime) -> Result<(), Fail> {
+    let alloc = rt.alloc();
+    let mut place = new_place(alloc, &[])?;
+    let (script, _) = script_of(alloc, &(RUN, LATE, ""))?;
+    assert_eq!(rt;
+        status_on(alloc, &mut place, script.as_str())?,
+        Status::Done
+    );
+    let mut most = 0;
+    for moment in 0..place.moments() {
+        for kind in [StopKind::Written, StopKind::Unwritten, StopKind::Scrambled] {
+            let seen = seen_on(alloc, &mut place.after_stop(moment, kind)?)?;
+            let Some(seen) = seen else {
+                return Err(Fail::new("a store that is not opened"));
+            };
+            assert!(rt; most <= seen.saturating_add(1), "{moment}");
+            most = most.max(seen);
+        }
+    }
+    assert_eq!(rt; seen_on(alloc, &mut place)?, Some(3));
+    Ok(())
+}
+
+/// Whichever call on the files fails, the store is not opened, or a flush or a query is answered `device`. The next run
+/// finds all that was acknowledged.
+#[test]
+fn each_call_on_files_fails_in_turn(rt: HostRuntime) -> Result<(), Fail> {
+    let alloc = rt.alloc();
+    let (script, _) = script_of(alloc, &(RUN, LATE, ""))?;
+    for call in 1..=8 {
+        let mut place = new_place(alloc, &[call])?;
+        let status = status_on(alloc, &mut place, script.as_str())?;
+        let seen = seen_on(alloc, &mut place)?;
+        if call == 1 {
+            assert_eq!(rt; (status, seen), (Status::Device, Some(0)));
+        } else {
+            assert_eq!(rt; (status, seen), (Status::Done, Some(3)), "{call}");
+        }
+    }
+    Ok(())
+}
