@@ -99,7 +99,6 @@ pub record IsPutting (schema : Schema) (from to : ℤ) (count : ℕ) (old new : 
       → IsOpen before schema (first ∷ rest) new
   pub spans : (first : Point) → first.time ≡ from → AreFrom (first ∷ rest) from to
   pub rising : (first : Point) → first.time ≡ from → IsRising (first ∷ rest)
-  pub typed : AreOfType schema rest
 
 pub none_rise : IsRising []
 none_rise i j d before within = absurd (omega (arith, before, within))
@@ -121,7 +120,6 @@ putting_none schema from part = record {
     at_last = at;
   };
   rising = λ first at. one_rises first;
-  typed = tt;
 }
 
 module _ (schema : Schema) (from to : ℤ) (count : ℕ) (old now : Part) (rest : List Point)
@@ -173,7 +171,6 @@ module _ (schema : Schema) (from to : ℤ) (count : ℕ) (old now : Part) (rest 
         (λ k d below. later_than (get_or (first ∷ rest) k d).time to point.time
         (All-from_recursion (λ (p : Point). (from ≤ℤ p.time) × (p.time ≤ℤ to)) (first ∷ rest)
         (is.spans first begun).between k d below).1 may.0);
-    typed = each_append (λ (p : Point). type_of p.value ≡ schema.data_type) rest (point ∷ []) is.typed (may.1, tt);
   }
 
   -- the series may be ended

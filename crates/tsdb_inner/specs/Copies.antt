@@ -41,7 +41,7 @@ module _ {R : Type 0} (file : R → NamedFile) (schema : Schema) (marks : List M
       × (map (source_left file pages (is_kept schema.path all_times marks)) sources ≡ map Some lists)
       × All IsRising lists
 
-  -- the series was added with points in order of time and of its type, at each time that of the last source with one
+  -- the series was added with points in order of time; where all is told, at each time with that of the last source
   pub record Copies (old new : Part) : Type 0 where
     pub points : List Point
     pub adds : Adds schema points old new

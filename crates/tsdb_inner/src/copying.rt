@@ -46,7 +46,8 @@ fn put_rest<P: Port>(
     requires works { stream.old.fault ≡ None }
     requires begun { HasBegun schema.now from part.old }
     ensures put { IfOk result (λ whole. whole ≡ true → (rest : List PointOf)
-        × Puts schema.now from rest part.old part.new × ((pages : FilePages) → IsTrueStream P.Right.file pages stream.old
+        × Puts schema.now from rest part.old part.new
+        × ((pages : FilePages) → IsTrueStream P.Right.file pages stream.old
         → IsLeft (stream_left P.Right.file pages stream.old) rest)) }
     ensures damaged { IfOk result (λ whole. whole ≡ false → (pages : FilePages)
         → IsTrueStream P.Right.file pages stream.old

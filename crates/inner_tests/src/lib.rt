@@ -1,0 +1,12 @@
+//! Compactions of two files in memory: worked values, late points that win, marks, and calls of a port that fail. It
+//! depends on the crates that it tests.
+#![tactic(auto)]
+
+#[cfg(test)]
+mod cases;
+#[cfg(test)]
+mod jobs;
+#[cfg(test)]
+mod reading;
+#[cfg(test)]
+mod stored;
