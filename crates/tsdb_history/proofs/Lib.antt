@@ -6,3 +6,4 @@ pub mod Prefixes
 pub mod Ends
 pub mod Steps
 pub mod Replies
+pub mod Joined

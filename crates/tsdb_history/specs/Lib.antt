@@ -2,3 +2,4 @@ pub mod History
 pub mod Prefixes
 pub mod Serves
 pub mod Closing
+pub mod Joining

@@ -4,10 +4,12 @@
 
 mod closing;
 mod executing;
+mod laws;
 mod serving;
 mod told;
 
 pub use closing::close;
 pub use executing::{Room, execute};
+pub use laws::{a_new_store_is_sound, runs_join};
 pub use serving::serve;
 pub use told::Told;

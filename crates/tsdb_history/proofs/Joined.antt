@@ -1,0 +1,55 @@
+-- Runs one behind another, and new stores.
+use Rattle.std.proofs.Common.{◌≡◌, inl, inr, ℕ, List, [], ◌∷◌, None, Some, refl, sym, subst, ◌∙◌}
+use Rattle.std.specs.Prelude.{IsSome}
+use Rattle.tsdb_base.specs.declared.answers.Answer.TheVariants as answer
+use Rattle.tsdb_frames.specs.Slots.{HasRecords}
+use Rattle.tsdb_history.specs.Joining.{IsJoined}
+use Rattle.tsdb_history.specs.Prefixes.{StandsAfter, StandsAfterPrefix}
+use Rattle.tsdb_map.specs.History.{Entry, IsLegal, state_after}
+use Rattle.tsdb_map.specs.State as plain
+use Rattle.tsdb_map.specs.declared.reply.Reply.TheVariants.{Plain}
+use Rattle.tsdb_outside.specs.Disk.{Image, State, in_slot}
+use Rattle.tsdb_outside.specs.declared.disk.Slot.{Slot}
+use Rattle.tsdb_replay.proofs.Stores.{new_log_stands, stands_once}
+use Rattle.tsdb_replay.specs.Stores.{Files, IsSound, StandsFor, no_changes}
+
+pub joined : (files : Files) (bytes : List ℕ) (start middle last : plain.State) (first second : List Entry)
+    → StandsAfterPrefix files start first bytes → StandsFor files bytes middle → IsLegal middle second last
+    → IsJoined start first second last
+joined files bytes start middle last first second left stands legal = by left.stands
+  where
+    by : StandsAfter files left.after left.prefix bytes → IsJoined start first second last
+    by (inl is) = record {
+      prefix = left.prefix;
+      rest = left.rest;
+      split = left.split;
+      between = left.after;
+      legal = left.legal;
+      doubt = None;
+      in_doubt = tt;
+      behind = subst (λ state. IsLegal state second last) (stands_once files bytes middle left.after stands is) legal;
+    }
+    by (inr (command, doubt, is)) = record {
+      prefix = left.prefix;
+      rest = left.rest;
+      split = left.split;
+      between = left.after;
+      legal = left.legal;
+      doubt = Some command;
+      in_doubt = doubt;
+      behind = subst (λ state. IsLegal state second last)
+          (stands_once files bytes middle (state_after left.after command (Plain answer.Done)) stands is) legal;
+    }
+
+pub new_is_sound : (slot : Slot) (disk : State) (files : Files) (image : Image) → disk.seen ≡ Some image
+    → in_slot slot image ≡ 0 ∷ [] → ((left : Image) → disk.may_leave left → in_slot slot left ≡ 0 ∷ [])
+    → IsSound slot disk files no_changes
+new_is_sound slot disk files image seen new leaves = record {
+  told = subst IsSome (sym seen) refl;
+  settled = λ payloads found left is records may.
+      subst (HasRecords payloads) (of_seen found is ∙ sym (leaves left may)) records;
+  stands = λ found is. subst (λ bytes. StandsFor files bytes no_changes) (sym (of_seen found is)) (new_log_stands files);
+}
+  where
+    of_seen : (found : Image) → disk.seen ≡ Some found → in_slot slot found ≡ 0 ∷ []
+    of_seen found is = subst (λ i. in_slot slot i ≡ 0 ∷ []) (let e : Some image ≡ Some found = sym seen ∙ is in cc) new
