@@ -1,7 +1,8 @@
 //! A core over a place in memory that serves commands. Depends on nothing here.
-ghost use Rattle.std.specs.Prelude.{◌≡◌, ◌≤◌, IfOk};
+ghost use Rattle.std.specs.Prelude.{◌≡◌, ◌≤◌, false};
 ghost use Rattle.std.proofs.Props.{props};
 ghost use Rattle.tsdb_core.specs.Limits.{IsPairLimit};
+ghost use Rattle.tsdb_history.specs.History.{IsServed};
 ghost use Rattle.tsdb_map.specs.Commands.{IsWellFormed};
 ghost use Rattle.tsdb_outside.specs.Files.{Store};
 ghost use Rattle.tsdb_serving.specs.Flushing.{IsReady};
@@ -9,17 +10,15 @@ ghost use Rattle.tsdb_serving.specs.Flushing.{IsReady};
 use mem_outside::{Fails, MemFiles, MemJournal, MemPlace};
 use std::alloc::Global;
 use std::test::Fail;
-use tsdb_base::{Answer, FileNumber, Range};
+use tsdb_base::FileNumber;
 use tsdb_core::{Core, Options};
 use tsdb_frames::Frames;
+use tsdb_history::serve;
 use tsdb_kept::KeptFiles;
 use tsdb_logged::Logged;
-use tsdb_map::{Command, Item, Reply, ask_aggregates};
+use tsdb_map::{Command, Reply};
 use tsdb_memory::MemoryStore;
 use tsdb_outside::{Files, Journal, Place, Slot};
-use tsdb_path::Path;
-use tsdb_querying::select;
-use tsdb_serving::{create, delete, flush, insert, show};
 
 /// A place with a new log, where these calls on files fail.
 pub fn new_place(alloc: Global, files: &[u64]) -> Result<MemPlace, Fail> {
@@ -31,59 +30,14 @@ pub fn new_place(alloc: Global, files: &[u64]) -> Result<MemPlace, Fail> {
     Ok(MemPlace::new(alloc, slots, Vec::new(alloc), fails)?)
 }
 
-/// What a change is answered.
-fn change<J: Journal, F: Files>(
-    alloc: Global,
-    core: &mut Core<J, F>,
-    port: &mut F::Port,
-    command: &Command,
-) -> Option<Answer>
-    requires formed { IsWellFormed command.now }
-    requires ready { IsReady (F.Port.store port.old) core.old }
-    ensures ready { IsReady (F.Port.store port.new) core.new }
-    ensures same_store { F.Port.store port.new ≡ F.Port.store port.old }
+/// Whether a command is a compaction, which no core serves.
+fn is_compaction(command: &Command) -> bool
+    ensures { result ≡ false → IsServed command.now }
 {
     match command {
-        Command::Create(schema) => Some(create(core, schema)),
-        Command::Insert { device, row } => Some(insert(alloc, core, port, device, row)),
-        Command::Delete { series, range } => Some(delete(core, series, range)),
-        _ => None,
+        Command::CompactInner(_) | Command::CompactCross => true,
+        _ => false,
     }
-}
-
-/// What a flush is answered.
-fn flush_answer<J: Journal, F: Files>(
-    alloc: Global,
-    core: &mut Core<J, F>,
-    port: &mut F::Port,
-) -> Answer
-    requires ready { IsReady (F.Port.store port.old) core.old }
-    ensures ready { IsReady (F.Port.store port.new) core.new }
-    ensures same_store { F.Port.store port.new ≡ F.Port.store port.old }
-{
-    match flush(alloc, core, port) {
-        Ok(()) => Answer::Done,
-        Err(fault) => fault.answer(),
-    }
-}
-
-/// What a query is answered, or none where an item asks for an aggregate.
-fn query<J: Journal, F: Files>(
-    alloc: Global,
-    core: &mut Core<J, F>,
-    port: &mut F::Port,
-    device: &Path,
-    items: &[Item],
-    range: &Range,
-) -> Option<Reply>
-    requires ready { IsReady (F.Port.store port.old) core.old }
-    ensures ready { IsReady (F.Port.store port.new) core.new }
-    ensures same_store { F.Port.store port.new ≡ F.Port.store port.old }
-{
-    if ask_aggregates(items) {
-        return None;
-    }
-    Some(select::<J, F>(alloc, core, port, device, items, range))
 }
 
 /// A core that is ready, with its files and a port of theirs.
@@ -96,43 +50,14 @@ pub struct Served<J: Journal, F: Files> {
 }
 
 impl<J: Journal, F: Files> Served<J, F> {
-    /// The reply to a change, or none to another command.
-    pub fn change(&mut self, alloc: Global, command: &Command) -> Option<Reply>
+    /// The reply to a command, or none to a compaction.
+    pub fn serve(&mut self, alloc: Global, command: &Command) -> Option<Reply>
         requires { IsWellFormed command.now }
     {
-        match change::<J, F>(alloc, &mut self.core, &mut self.port, command) {
-            Some(answer) => Some(Reply::Plain(answer)),
-            None => None,
+        if is_compaction(command) {
+            return None;
         }
-    }
-
-    /// The reply to a select, or none to another command and where an item asks for an aggregate.
-    pub fn query(&mut self, alloc: Global, command: &Command) -> Option<Reply> {
-        match command {
-            Command::Select {
-                device,
-                items,
-                range,
-            } => query::<J, F>(
-                alloc,
-                &mut self.core,
-                &mut self.port,
-                device,
-                items.items(),
-                range,
-            ),
-            _ => None,
-        }
-    }
-
-    /// The reply to a flush.
-    pub fn flush(&mut self, alloc: Global) -> Reply {
-        Reply::Plain(flush_answer::<J, F>(alloc, &mut self.core, &mut self.port))
-    }
-
-    /// The reply to a command that asks for the listing.
-    pub fn show(&self) -> Result<Reply, Fail> {
-        Ok(Reply::Files(show(&self.core)?))
+        Some(serve::<J, F>(alloc, &mut self.core, &mut self.port, command))
     }
 }
 
@@ -189,7 +114,7 @@ pub fn open(
 pub fn close(place: &mut MemPlace, served: Served<MemJournal, MemFiles>) {
     let Served { core, port, files } = served;
     let mut files = files;
-    let journal = core.close(&mut files);
+    let journal = tsdb_history::close(core, &mut files);
     files.end_port(port);
     place.put_down(journal, files);
 }

@@ -7,25 +7,17 @@ use tests_support::command_of;
 use tsdb_map::{Command, Reply};
 use tsdb_print::print_reply;
 
-/// A step of a list.
-#[derive(Clone, Copy)]
-enum Step {
-    Line(&'static str),
-    Flush,
-    Show,
-}
-
-/// A core with this pair limit, whose next file has this number, and steps with the text of each reply.
+/// A core with this pair limit, whose next file has this number, and commands with the text of each reply.
 #[derive(Clone, Copy)]
 struct Case {
     limit: u64,
     next: u64,
-    steps: &'static [(Step, &'static str)],
+    steps: &'static [(&'static str, &'static str)],
 }
 
-const CREATE: Step = Step::Line("create timeseries root.g.d.s with datatype=INT64,encoding=PLAIN");
+const CREATE: &str = "create timeseries root.g.d.s with datatype=INT64,encoding=PLAIN";
 
-const SELECT: Step = Step::Line("select s from root.g.d");
+const SELECT: &str = "select s from root.g.d";
 
 const CASES: &[Case] = &[
     // A tie at the watermark is late.
@@ -34,17 +26,11 @@ const CASES: &[Case] = &[
         next: 1,
         steps: &[
             (CREATE, "ok\n"),
+            ("insert into root.g.d(timestamp,s) values(1,5)", "ok\n"),
+            ("flush", "ok\n"),
+            ("insert into root.g.d(timestamp,s) values(1,6)", "ok\n"),
             (
-                Step::Line("insert into root.g.d(timestamp,s) values(1,5)"),
-                "ok\n",
-            ),
-            (Step::Flush, "ok\n"),
-            (
-                Step::Line("insert into root.g.d(timestamp,s) values(1,6)"),
-                "ok\n",
-            ),
-            (
-                Step::Show,
+                "show files",
                 "sequence 1 born 2 points 1 from 1 to 1\nfrozen 0\nworking 0 1\nmarks 0\n",
             ),
         ],
@@ -56,21 +42,15 @@ const CASES: &[Case] = &[
         steps: &[
             (CREATE, "ok\n"),
             (CREATE, "exists\n"),
-            (Step::Line("delete from root.g.d.t where time<=1"), "path\n"),
+            ("delete from root.g.d.t where time<=1", "path\n"),
+            ("insert into root.g.d(timestamp,s) values(10,1)", "ok\n"),
+            ("flush", "ok\n"),
+            ("insert into root.g.d(timestamp,s) values(5,2)", "ok\n"),
+            ("flush", "ok\n"),
+            ("delete from root.g.d.s where time=5", "ok\n"),
+            ("flush", "ok\n"),
             (
-                Step::Line("insert into root.g.d(timestamp,s) values(10,1)"),
-                "ok\n",
-            ),
-            (Step::Flush, "ok\n"),
-            (
-                Step::Line("insert into root.g.d(timestamp,s) values(5,2)"),
-                "ok\n",
-            ),
-            (Step::Flush, "ok\n"),
-            (Step::Line("delete from root.g.d.s where time=5"), "ok\n"),
-            (Step::Flush, "ok\n"),
-            (
-                Step::Show,
+                "show files",
                 "sequence 1 born 2 points 1 from 10 to 10\nunsequence 2 born 3 points 1 from 5 to 5\nfrozen 0\nworking 0 0\nmarks 1\n",
             ),
         ],
@@ -81,24 +61,12 @@ const CASES: &[Case] = &[
         next: 1,
         steps: &[
             (CREATE, "ok\n"),
+            ("insert into root.g.d(timestamp,s) values(1,1)", "ok\n"),
+            ("insert into root.g.d(timestamp,s) values(2,1)", "ok\n"),
+            ("insert into root.g.d(timestamp,s) values(3,1)", "ok\n"),
+            ("insert into root.g.d(timestamp,s) values(4,1)", "ok\n"),
             (
-                Step::Line("insert into root.g.d(timestamp,s) values(1,1)"),
-                "ok\n",
-            ),
-            (
-                Step::Line("insert into root.g.d(timestamp,s) values(2,1)"),
-                "ok\n",
-            ),
-            (
-                Step::Line("insert into root.g.d(timestamp,s) values(3,1)"),
-                "ok\n",
-            ),
-            (
-                Step::Line("insert into root.g.d(timestamp,s) values(4,1)"),
-                "ok\n",
-            ),
-            (
-                Step::Show,
+                "show files",
                 "sequence 1 born 2 points 1 from 1 to 1\nfrozen 2\nworking 1 0\nmarks 0\n",
             ),
         ],
@@ -110,27 +78,26 @@ const CASES: &[Case] = &[
         steps: &[
             (CREATE, "ok\n"),
             (SELECT, "time,s\nrows 0\n"),
-            (
-                Step::Line("insert into root.g.d(timestamp,s) values(10,1)"),
-                "ok\n",
-            ),
+            ("insert into root.g.d(timestamp,s) values(10,1)", "ok\n"),
             (SELECT, "time,s\n10,1\nrows 1\n"),
-            (Step::Flush, "ok\n"),
+            ("flush", "ok\n"),
             (SELECT, "time,s\n10,1\nrows 1\n"),
-            (
-                Step::Line("insert into root.g.d(timestamp,s) values(5,2)"),
-                "ok\n",
-            ),
-            (
-                Step::Line("insert into root.g.d(timestamp,s) values(10,3)"),
-                "ok\n",
-            ),
+            ("insert into root.g.d(timestamp,s) values(5,2)", "ok\n"),
+            ("insert into root.g.d(timestamp,s) values(10,3)", "ok\n"),
             (SELECT, "time,s\n5,2\n10,3\nrows 2\n"),
-            (Step::Flush, "ok\n"),
+            ("flush", "ok\n"),
             (SELECT, "time,s\n5,2\n10,3\nrows 2\n"),
-            (Step::Line("delete from root.g.d.s where time=5"), "ok\n"),
+            ("delete from root.g.d.s where time=5", "ok\n"),
             (SELECT, "time,s\n10,3\nrows 1\n"),
-            (Step::Line("select x from root.g.d"), "path\n"),
+            ("select x from root.g.d", "path\n"),
+            (
+                "select count(s),max_value(s) from root.g.d",
+                "count(s),max_value(s)\n1,3\n",
+            ),
+            (
+                "select count(s) from root.g.d where time<10",
+                "count(s)\n0\n",
+            ),
         ],
     },
     // No number is left for a file: the pair stays frozen.
@@ -139,36 +106,23 @@ const CASES: &[Case] = &[
         next: 9_223_372_036_854_775_808,
         steps: &[
             (CREATE, "ok\n"),
-            (
-                Step::Line("insert into root.g.d(timestamp,s) values(1,5)"),
-                "ok\n",
-            ),
-            (Step::Flush, "full\n"),
-            (Step::Show, "frozen 1\nworking 0 0\nmarks 0\n"),
+            ("insert into root.g.d(timestamp,s) values(1,5)", "ok\n"),
+            ("flush", "full\n"),
+            ("show files", "frozen 1\nworking 0 0\nmarks 0\n"),
         ],
     },
 ];
 
-/// The reply to a step, with its command.
+/// The reply to the command of a line, with the command.
 fn take(
     alloc: Global,
     served: &mut Served<MemJournal, MemFiles>,
-    step: Step,
+    line: &str,
 ) -> Result<(Command, Reply), Fail> {
-    match step {
-        Step::Line(line) => {
-            let command = command_of(alloc, line)?;
-            let reply = match served.query(alloc, &command) {
-                None => served.change(alloc, &command),
-                reply => reply,
-            };
-            match reply {
-                Some(reply) => Ok((command, reply)),
-                None => Err(Fail::from("a command that is not served")),
-            }
-        }
-        Step::Flush => Ok((Command::Flush, served.flush(alloc))),
-        Step::Show => Ok((Command::ShowFiles, served.show()?)),
+    let command = command_of(alloc, line)?;
+    match served.serve(alloc, &command) {
+        Some(reply) => Ok((command, reply)),
+        None => Err(Fail::from("a command that is not served")),
     }
 }
 
@@ -176,10 +130,10 @@ fn take(
 fn first_wrong(
     alloc: Global,
     served: &mut Served<MemJournal, MemFiles>,
-    steps: &[(Step, &'static str)],
+    steps: &[(&'static str, &'static str)],
 ) -> Result<Option<usize>, Fail> {
-    for (at, (step, text)) in steps.iter().enumerate() {
-        let (command, reply) = take(alloc, served, *step)?;
+    for (at, (line, text)) in steps.iter().enumerate() {
+        let (command, reply) = take(alloc, served, line)?;
         if print_reply(alloc, &command, &reply)?.as_slice() != text.as_bytes() {
             return Ok(Some(at));
         }
@@ -225,15 +179,15 @@ fn query_point(alloc: Global, served: &mut Served<MemJournal, MemFiles>) -> Resu
     })
 }
 
-const POINT: Step = Step::Line("insert into root.g.d(timestamp,s) values(10,1)");
+const POINT: &str = "insert into root.g.d(timestamp,s) values(10,1)";
 
 /// The answers of two queries of a point behind a flush.
 fn answered_twice(
     alloc: Global,
     served: &mut Served<MemJournal, MemFiles>,
 ) -> Result<(Answered, Answered), Fail> {
-    for step in [CREATE, POINT, Step::Flush] {
-        take(alloc, served, step)?;
+    for line in [CREATE, POINT, "flush"] {
+        take(alloc, served, line)?;
     }
     let first = query_point(alloc, served)?;
     let second = query_point(alloc, served)?;
@@ -274,10 +228,9 @@ fn flush_many(
     take(alloc, served, CREATE)?;
     for time in 1..=count {
         let line = format!(in alloc; "insert into root.g.d(timestamp,s) values({time},1)")?;
-        let command = command_of(alloc, &line)?;
-        served.change(alloc, &command);
+        take(alloc, served, &line)?;
     }
-    take(alloc, served, Step::Flush)?;
+    take(alloc, served, "flush")?;
     Ok(())
 }
 
@@ -288,7 +241,7 @@ fn select_one(
     count: u64,
 ) -> Result<bool, Fail> {
     flush_many(alloc, served, count)?;
-    let one = Step::Line("select s from root.g.d where time=50");
+    let one = "select s from root.g.d where time=50";
     let (command, reply) = take(alloc, served, one)?;
     let text = print_reply(alloc, &command, &reply)?;
     Ok(text.as_slice() == "time,s\n50,1\nrows 1\n".as_bytes())
