@@ -15,6 +15,3 @@ pub use top_call::run;
 pub use tsdb_history::Told;
 pub use tsdb_recover::Part;
 pub use tsdb_words::Word;
-
-#[cfg(test)]
-mod tests;

@@ -1,10 +1,10 @@
 //! Stores that are opened again: what a run left, what a stop left at any moment, and damaged logs.
 use super::{CREATE, words};
-use crate::{Part, Status, run};
 use mem_outside::{Fails, MemPlace, SteadySink, SteadySource, StopKind};
 use std::alloc::Global;
 use std::test::Fail;
 use tsdb_outside::StoreFault;
+use tsdb_run::{Part, Status, run};
 
 /// The select that each script ends with, and that a later run asks.
 const SELECT: &str = "1 select s from root.g.d\n";

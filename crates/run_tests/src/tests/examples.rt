@@ -1,10 +1,10 @@
 //! Worked examples with files: what is flushed, late points, listings, and numbers at their end.
 use super::words;
-use crate::{Part, Status, run};
 use mem_outside::{Fails, MemPlace, SteadySink, SteadySource, StopKind};
 use std::alloc::Global;
 use std::test::Fail;
 use tsdb_base::FileNumber;
+use tsdb_run::{Part, Status, run};
 
 /// A run on a store: its options, its commands with `; ` between them, and its replies with ` / ` between their lines.
 /// `C` creates `root.g.d.s`, `I t v` inserts a value at a time, `S` selects all points.

@@ -1,9 +1,9 @@
 //! All types and aggregates over a series without points, with one, and with many.
 
 use super::steady;
-use crate::Status;
 use std::alloc::{AllocError, Global};
 use std::test::Fail;
+use tsdb_run::Status;
 
 /// A type: its name, an encoding that suits it, the literals that are written at 7, -2, 3 and once more at 3, and
 /// how the values at -2, 3 and 7 are printed.

@@ -4,11 +4,11 @@ mod plain_program;
 mod stores;
 mod types;
 
-use crate::{Ended, Part, Status, Word, run};
 use mem_outside::{MemSink, MemSource, SteadyPlace, SteadySink, SteadySource};
 use plain_program::output_of;
 use std::alloc::Global;
 use std::test::Fail;
+use tsdb_run::{Ended, Part, Status, Word, run};
 
 /// A first series, for most scripts.
 const CREATE: &str = "1 create timeseries root.g.d.s with datatype=INT64,encoding=PLAIN\n";
