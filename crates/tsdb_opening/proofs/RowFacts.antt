@@ -6,9 +6,8 @@ use Rattle.std.proofs.Math.Seq.{drop-cons, take-append_seam}
 use Rattle.std.proofs.lemmas.Bool.{eq-eqb, eqb-true, false≢true}
 use Rattle.std.proofs.lemmas.List.{drop_all, length-append}
 use Rattle.std.specs.Cmp.Lexicographic.{pointwise}
-use Rattle.std.proofs.lemmas.List.Elements.{All-from_recursion}
 use Rattle.std.specs.FinMap.{get}
-use Rattle.std.specs.List.{All, AllByRecursion as Each, AllPairs}
+use Rattle.std.specs.List.{AllByRecursion as Each, AllPairs}
 use Rattle.std.specs.Option.{IsSomeAnd, option_and_then, option_map}
 use Rattle.std.proofs.lemmas.Bool.Decides.{nat_tests}
 use Rattle.std.specs.Prelude.{◌↔◌, IsTrue, nat_le}
@@ -256,12 +255,6 @@ le_at points new count most same = subst (λ n. IsTrue (nat_le (points + new) mo
 pub row_differs : (store : Store) (device : List ℕ) (cells : List CellRecord) → IsRowOf store device cells
     → AllPairs (λ cell other. cell.series.0 ≢ other.series.0) cells
 row_differs store device cells row = all_pairs (λ (cell other : CellRecord). cell.series.0 ≢ other.series.0) cells row.differ
-
-pub row_there : (old new : Store) (device : List ℕ) (cells : List CellRecord) → new.series ≡ old.series
-    → IsRowOf old device cells
-    → All (λ cell. IsSomeAnd (slice_get new.series cell.series.0) (IsFitting device cell)) cells
-row_there old new device cells same row = subst (λ series. All (IsCellOf series device) cells) (sym same)
-    (All-from_recursion (IsCellOf old.series device) cells row.there)
 
 -- the bytes before a path's last name are its device
 

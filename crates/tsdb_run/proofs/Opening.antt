@@ -1,32 +1,18 @@
 -- The status of a run whose store was not opened.
 use Rattle.std.proofs.Common.{◌≡◌, ℕ, List, Option, refl}
-use Rattle.std.specs.Prelude.{IfSome}
-use Rattle.tsdb_images.specs.Stored.{kept_bytes}
 use Rattle.tsdb_map.specs.State as plain
 use Rattle.tsdb_outside.specs.Disk.{State}
 use Rattle.tsdb_outside.specs.Files.{StoredFile}
 use Rattle.tsdb_recover.specs.declared.fault.OpenFault.{OpenFault}
 use Rattle.tsdb_recover.specs.declared.fault.OpenFault.TheVariants as faults
 use Rattle.tsdb_recover.specs.declared.fault.Part.{Part}
-use Rattle.tsdb_recovery.specs.Damage.{AnswersDamageIn, IsDamagedIn}
-use Rattle.tsdb_recovery.specs.Taking.{AreStored}
-use Rattle.tsdb_run.proofs.Whole.{not_damaged, told_both}
+use Rattle.tsdb_recovery.specs.Damage.{AnswersDamageIn}
+use Rattle.tsdb_run.proofs.Whole.{not_damaged}
 use Rattle.tsdb_run.specs.Causes.{IsRefusedStore, ReportsDamage}
 use Rattle.tsdb_run.specs.Steps.{IsOpeningStatus, opening_status}
 use Rattle.tsdb_run.specs.Store.{IsSound, contents}
 use Rattle.tsdb_run.specs.declared.status.Status.{Status}
 use Rattle.tsdb_run.specs.declared.status.Status.TheVariants.{Done, Memory, Words, Script, Source, Sink, Device, Damaged}
-
-pub opening_clause : (disk : State) (stored : Option (List StoredFile)) (fault : OpenFault)
-    → IfSome disk.seen (λ image. IfSome stored (λ files. (part : Part) (at : ℕ) → AreStored files
-    → fault ≡ faults.Damaged part at → IsDamagedIn (kept_bytes files) image.a part at))
-    → IsOpeningStatus (contents disk stored) (opening_status fault)
-opening_clause disk stored faults.Failed is = tt
-opening_clause disk stored faults.Memory is = tt
-opening_clause disk stored (faults.Damaged part at) is = λ image files tells.
-    told_both (λ i l. (which : Part) (place : ℕ) → AreStored l → faults.Damaged part at ≡ faults.Damaged which place
-    → IsDamagedIn (kept_bytes l) i.a which place) disk.seen stored image files tells.slots tells.told is part at
-    tells.are_stored refl
 
 pub reports : (fault : OpenFault) (part : Part) (at : ℕ) → AnswersDamageIn part at fault
     → ReportsDamage (opening_status fault) part at

@@ -48,14 +48,6 @@ sound_after old new stored now at keeps same sound = record {
   sound = sound_kept A old new (kept_bytes sound.files) at keeps sound.sound;
 }
 
-pub tells_after : (old new : State) (stored now : Option (List StoredFile)) (image : Image) (files : List StoredFile)
-    → Keeps old new → now ≡ stored → Tells (contents old stored) image files → Tells (contents new now) image files
-tells_after old new stored now image files keeps same tells = record {
-  slots = keeps.seen ∙ tells.slots;
-  told = same ∙ tells.told;
-  are_stored = tells.are_stored;
-}
-
 whole_is : (files : Files) (told : Told) (file : File) → IsWhole files told file → IsTreeFile files file
 whole_is files told file whole = record {
   bytes = whole.bytes;
