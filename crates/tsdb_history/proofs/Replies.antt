@@ -1,5 +1,5 @@
 -- What a flush and a listing answer, and why a device failed.
-use Rattle.std.proofs.Common.{◌≡◌, ℕ, ◌+◌, ◌<◌, Bool, true, false, List, ◌++◌, Option, inl, inr, refl, sym}
+use Rattle.std.proofs.Common.{◌≡◌, ◌≢◌, ℕ, ◌+◌, ◌<◌, Bool, true, false, List, ◌++◌, Option, inl, inr, refl, sym}
 use Rattle.std.proofs.Common.{subst}
 use Rattle.tsdb_base.specs.declared.answers.Answer.{Answer}
 use Rattle.tsdb_base.specs.declared.answers.Answer.TheVariants as answer
@@ -46,6 +46,12 @@ flush_stays at answer.Exists = refl
 flush_stays at answer.Device = refl
 flush_stays at answer.Memory = refl
 flush_stays at (answer.Full counter) = refl
+
+-- a flush that failed is not called done
+pub fault_is_not_done : (why : FlushFault) → answer_of why ≢ answer.Done
+fault_is_not_done fault.Device is = absurd cc
+fault_is_not_done fault.Memory is = absurd cc
+fault_is_not_done (fault.Full counter) is = absurd cc
 
 module _ {J F S R P : Type 0} {means : disk.Ghosts J} {counts : counted.Ghosts J} where
   module _ (Q : ℕ → Type 0) (old new : Core J F S R P means counts) (files : List StoredFile) (at : plain.State)

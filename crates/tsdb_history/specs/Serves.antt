@@ -1,7 +1,8 @@
 -- What the commands of a script leave, one behind another, on one core.
-use Rattle.std.specs.Prelude.{◌≡◌, ◌⊎◌, Bool, true, false, List, ◌++◌, Option, None, Some}
+use Rattle.std.specs.Prelude.{◌≡◌, ◌⊎◌, Bool, true, false, List, [], ◌++◌, Option, None, Some}
 use Rattle.std.specs.List.{AllByRecursion as Each}
 use Rattle.tsdb_base.specs.declared.answers.Answer.TheVariants as answer
+use Rattle.tsdb_core.specs.Core.{working_of}
 use Rattle.tsdb_core.specs.declared.engine.Core.{Core}
 use Rattle.tsdb_history.specs.History.{IsHistory}
 use Rattle.tsdb_history.specs.Prefixes.{EndsDone, IsInDoubt, StandsAfterPrefix}
@@ -17,7 +18,9 @@ use Rattle.tsdb_outside.specs.declared.disk.Disk as disk
 use Rattle.tsdb_outside.specs.declared.disk.Slot.{Slot}
 use Rattle.tsdb_outside.specs.declared.faults.Counted as counted
 use Rattle.tsdb_replay.specs.Stores.{Files, HoldsKept}
+use Rattle.tsdb_rows.specs.Fits.{HasNoPoint}
 use Rattle.tsdb_script.specs.declared.numbered.Numbered.{Numbered}
+use Rattle.tsdb_serving.specs.Flushing.{frozen_in}
 use Rattle.tsdb_serving.specs.Serving.{IsDrawn, IsServing, disk_under, slot_under}
 
 -- What may be in doubt after these entries: nothing, a record that changes no state, or one change.
@@ -36,6 +39,10 @@ module _ {J F S R P : Type 0} {means : disk.Ghosts J} {counts : counted.Ghosts J
   abbrev pub IsSure : Store → Core J F S R P means counts → Type 0
   IsSure store core = (store.tells ≡ false)
       ⊎ ((files : List StoredFile) × (at : plain.State) × (next : Option plain.State) × IsServing core files at next)
+
+  -- All points are in files: no pair is frozen, and the working pair has no point.
+  abbrev pub HasFlushed : Core J F S R P means counts → Type 0
+  HasFlushed core = (frozen_in core ≡ []) × HasNoPoint (working_of core)
 
   -- These entries were served, beside the files that were there. The files that were put have numbers that were drawn
   -- meanwhile. A stop at any moment left the state after a prefix of the entries.

@@ -2,7 +2,7 @@
 ghost use Rattle.std.specs.Prelude.{◌≡◌, ◌≢◌, ◌⊎◌, ◌≤◌, true};
 ghost use Rattle.tsdb_base.specs.declared.answers.Answer.{Answer as AnswerOf};
 ghost use Rattle.tsdb_history.specs.History.{IsServed};
-ghost use Rattle.tsdb_history.specs.Serves.{IsSure};
+ghost use Rattle.tsdb_history.specs.Serves.{HasFlushed, IsSure};
 ghost use Rattle.tsdb_map.specs.Commands.{IsWellFormed};
 ghost use Rattle.tsdb_map.specs.declared.command.Command.{Command as CommandOf};
 ghost use Rattle.tsdb_map.specs.declared.reply.Reply.{Reply as ReplyOf};
@@ -38,6 +38,7 @@ pub fn serve<J: Journal, F: Files>(
         ⊎ Rose (F.Port.faults port.old) (F.Port.faults port.new) }
     ensures later { (faults_under core.old ≤ faults_under core.new)
         × (F.Port.faults port.old ≤ F.Port.faults port.new) }
+    ensures flushed { command.now ≡ CommandOf.Flush → result ≡ ReplyOf.Plain AnswerOf.Done → HasFlushed core.new }
 {
     match command {
         Command::Create(schema) => Reply::Plain(create(core, schema)),
@@ -91,6 +92,7 @@ fn flushed<J: Journal, F: Files>(alloc: Global, core: &mut Core<J, F>, port: &mu
         ⊎ Rose (F.Port.faults port.old) (F.Port.faults port.new) }
     ensures later { (faults_under core.old ≤ faults_under core.new)
         × (F.Port.faults port.old ≤ F.Port.faults port.new) }
+    ensures flushed { result ≡ AnswerOf.Done → HasFlushed core.new }
 {
     match flush(alloc, core, port) {
         Ok(()) => Answer::Done,

@@ -1,4 +1,5 @@
-use Rattle.tsdb_history.proofs.Replies.{flush_done, flush_failed}
+use Rattle.std.proofs.Common.{◌∙◌, sym}
+use Rattle.tsdb_history.proofs.Replies.{fault_is_not_done, flush_done, flush_failed}
 use Rattle.tsdb_serving.proofs.Causes.{full_cause}
 use Rattle.tsdb_history.proofs.serving.flushed.Goals as goal
 
@@ -9,3 +10,6 @@ pub returns-in-Err-clause-answers : goal.returns-in-Err-clause-answers
 returns-in-Err-clause-answers g c = λ tells. flush_failed c.args.core.now c.flush.new.core
     (c.flush.ensures.goes_on.keeps tells) c.in-Err.fault (full_cause _ _ _ _ _ c.in-Err.fault c.in-Err.ensures.cause)
     c.answer.result c.answer.ensures
+
+pub returns-in-Err-clause-flushed : goal.returns-in-Err-clause-flushed
+returns-in-Err-clause-flushed g c = λ done. absurd (fault_is_not_done c.in-Err.fault (sym c.answer.ensures ∙ done))
