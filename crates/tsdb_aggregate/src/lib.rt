@@ -17,6 +17,6 @@ mod tally;
 
 pub use fold::{aggregate, winners_are_one};
 pub use loader::Loader;
-pub use piece::Piece;
+pub use piece::{Piece, overlap};
 pub use steps::Steps;
 pub use tally::Tally;

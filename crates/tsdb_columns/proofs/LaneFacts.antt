@@ -31,6 +31,12 @@ module _ {L : Type 0} (lanes : List L) (k : ℕ) (before after : L) (l : k < len
       omega (arith, one, sum, same)
   most_after (Err e) most n one = tt
 
+  pub due_after : (due : L → ℕ) → due after ≡ due before → sum_by due (set lanes k after) ≡ sum_by due lanes
+  due_after due one =
+      let sum = sum_by-set due lanes k after before l in
+      let same : due before ≡ due (get_or lanes k before) = ap due is in
+      omega (arith, one, sum, same)
+
   pub reason_one : {T : Type 0} (P : L → Type 0) (a b : ℕ) (result : Result T StoreFault) → HasReason (P before) a b result → HasReason (All P lanes) a b result
   reason_one P a b result reason = reason_then (All P lanes) (P before) a a b result (one_of P) (omega arith) reason
 

@@ -28,6 +28,7 @@ module _ {R : Type 0} (file : R → NamedFile) where
     reason = λ pages truth. reason_ok (AreToldLanes file pages lanes) a a x (omega arith);
     later = omega arith;
     same_store = refl;
+    due = λ range. refl;
   }
 
   -- what went well, whatever it returns
@@ -39,6 +40,7 @@ module _ {R : Type 0} (file : R → NamedFile) where
     reason = λ pages truth. reason_ok (AreToldLanes file pages lanes) a b y h.later;
     later = h.later;
     same_store = h.same_store;
+    due = h.due;
   }
 
   -- the same fault
@@ -50,6 +52,7 @@ module _ {R : Type 0} (file : R → NamedFile) where
     reason = λ pages truth. same_reason (AreToldLanes file pages lanes) a b fault (h.reason pages truth);
     later = h.later;
     same_store = h.same_store;
+    due = h.due;
   }
 
   -- one call went well, and then another
@@ -62,4 +65,5 @@ module _ {R : Type 0} (file : R → NamedFile) where
     reason = λ pages truth. reason_then (AreToldLanes file pages lanes) (AreToldLanes file pages one) a b c result (first.told pages) first.later (second.reason pages (first.truth pages truth));
     later = omega (arith, first.later, second.later);
     same_store = second.same_store ∙ first.same_store;
+    due = λ range. second.due range ∙ first.due range;
   }

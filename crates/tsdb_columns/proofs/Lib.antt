@@ -11,3 +11,9 @@ pub mod WalkFacts
 pub mod OpenFacts
 pub mod OpenLoop
 pub mod OpenedFacts
+pub mod CleanFacts
+pub mod Views
+pub mod ViewMerges
+pub mod LaneViews
+pub mod SoundViews
+pub mod OpenParted

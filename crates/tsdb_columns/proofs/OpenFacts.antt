@@ -1,11 +1,13 @@
 -- A file that is opened: the pages of a tree's chunk are those of its entry.
-use Rattle.std.proofs.Common.{◌≡◌, ℕ, Bool, zero, suc, ◌+◌, List, [], ◌∷◌, length, map, Result, Ok, Err, refl, sym, ap, subst, ◌∙◌}
+use Rattle.std.proofs.Common.{◌≡◌, ℕ, Bool, zero, suc, ◌+◌, List, [], ◌∷◌, length, map, get_or, Result, Ok, Err, refl, sym, ap, subst, ◌∙◌, arith}
 use Rattle.std.specs.Prelude.{Option, None, Some, IfSome, Contains, filter, option_map, slice_get}
 use Rattle.std.proofs.lemmas.List.{length-map}
 use Rattle.std.proofs.lemmas.List.Elements.{All-contains}
 use Rattle.tsdb_base.specs.declared.point.Point.{Point}
 use Rattle.tsdb_base.specs.declared.value.Encoding.{Encoding}
-use Rattle.tsdb_columns.proofs.PageFacts.{at_some, some_same}
+use Rattle.std.proofs.lemmas.Option.{get_or_from_slice_get, slice_get_within}
+use Rattle.tsdb_columns.proofs.PageFacts.{at_some, some_same, there}
+use Rattle.tsdb_stats.specs.Statistics.{AreStatsOf}
 use Rattle.tsdb_columns.specs.Files.{FilePages, HasEntryPages, HasPages, IsChunkOf, IsTold, IsTruth}
 use Rattle.tsdb_columns.specs.Lanes.{ArePagesOf, IsLaneOf, IsTrueLane}
 use Rattle.tsdb_columns.specs.declared.lane.Lane.TheVariants.{Pages, Part}
@@ -38,7 +40,7 @@ same_count encoding place [] (e ∷ es) are = absurd are
 same_count encoding place (p ∷ ps) [] are = absurd are
 same_count encoding place (p ∷ ps) (e ∷ es) are = ap suc (same_count encoding (place + length (page_field encoding p)) ps es are.1)
 
-got_map : {X Y : Type 0} (f : X → Y) (xs : List X) (k : ℕ) (x : X) → slice_get xs k ≡ Some x → slice_get (map f xs) k ≡ Some (f x)
+pub got_map : {X Y : Type 0} (f : X → Y) (xs : List X) (k : ℕ) (x : X) → slice_get xs k ≡ Some x → slice_get (map f xs) k ≡ Some (f x)
 got_map f [] k x e = absurd cc
 got_map f (y ∷ xs) zero x e = let same : y ≡ x = cc in ap (λ z. Some (f z)) same
 got_map f (y ∷ xs) (suc k) x e = got_map f xs k x e
@@ -71,11 +73,25 @@ entry_pages names name entry list h of named = (
               λ read has. one_page_there entry.data_type entry.encoding _ (record { points = read }) (record { points = st.page.points }) (subst (λ bs. HasPage bs entry said read) b has).stands st.stands.stands ∙ sym same,
               λ none. subst (λ bs. HasNoPage bs entry said) b none st.page.points st.stands,
             ),
+        stats_of number said points says got,
       ),
 )
   where
     place : HasPlaces h.tree h.bytes entry
     place = All-contains (HasPlaces h.tree h.bytes) of.entries entry (entries_stand h.tree h.bytes of.entries h.file of.say) of.there
+
+    stats_of : (number : ℕ) (said : PageEntry) (points : List Point) → slice_get entry.pages number ≡ Some said → slice_get list number ≡ Some points → AreStatsOf points said.stats
+    stats_of number said points says got =
+        let low = slice_get_within entry.pages number said says in
+        let count = place.count in
+        let found = there place.chunk.pages number (omega (arith, low, count)) in
+        let all = h.pages-are.of_chunk place.chunk (chunk_of h.tree names entry place.group place.chunk named place.in-tree place.in-group place.says) in
+        let same : points ≡ found.0.points = some_same (slice_get list number) points found.0.points got (ap (λ l. slice_get l number) all ∙ got_map (λ (page : Page). page.points) place.chunk.pages number found.0 found.1) in
+        let at_page = get_or_from_slice_get place.chunk.pages number found.0 found.0 found.1 in
+        let at_said = get_or_from_slice_get entry.pages number said said says in
+        subst (λ (q : List Point). AreStatsOf q said.stats) (sym same)
+        (subst (λ (q : Page). AreStatsOf q.points said.stats) at_page
+        (subst (λ (e : PageEntry). AreStatsOf (get_or place.chunk.pages number found.0).points e.stats) at_said (place.pages number found.0 said low).stats))
 
 module _ (pages : FilePages) (names : List ℕ × List ℕ) (name : NamedFile) (truth : IsTruth names pages name) where
   -- what a caller tells of the file

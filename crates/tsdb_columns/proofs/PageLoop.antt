@@ -4,10 +4,12 @@ use Rattle.std.specs.Prelude.{Err}
 use Rattle.tsdb_index.specs.declared.index.IndexEntry.{IndexEntry}
 use Rattle.tsdb_outside.specs.declared.faults.StoreFault.{StoreFault}
 use Rattle.tsdb_base.specs.declared.point.Point.{Point}
+use Rattle.tsdb_base.specs.declared.point.Range.{Range}
 use Rattle.tsdb_columns.proofs.FillLemmas.{gives_none, gives_then, moves_end, moves_more, none_left}
 use Rattle.tsdb_columns.proofs.Reasons.{reason_then, same_reason}
 use Rattle.tsdb_columns.specs.Files.{FilePages, HasReason, IsTold}
-use Rattle.tsdb_columns.specs.Lanes.{ArePagesOf, Gives, IsSameFile, pages_left}
+use Rattle.tsdb_columns.specs.Lanes.{ArePagesOf, Gives, IsSameFile, lane_due, pages_left}
+use Rattle.tsdb_columns.specs.declared.lane.Lane.TheVariants.{Pages}
 use Rattle.tsdb_columns.specs.declared.lane.PageLane.{PageLane}
 use Rattle.tsdb_merge.specs.Supplies.{Moves}
 use Rattle.tsdb_outside.specs.Files.{NamedFile, Store}
@@ -18,6 +20,10 @@ module _ {R : Type 0} (file : R → NamedFile) (pages : FilePages) where
 
   pub told_of : (lane now : PageLane R) → IsSameFile lane now → IsTold pages (file lane.right.now) → IsTold pages (file now.right.now)
   told_of lane now same told = rw same.right told
+
+-- as many pages are due
+pub same_due : {R : Type 0} (range : Range) (lane now : PageLane R) → IsSameFile lane now → lane_due range (Pages now) ≡ lane_due range (Pages lane)
+same_due range lane now same = rw (same.passed, same.entry) refl
 
 module _ {R : Type 0} (file : R → NamedFile) (keep : ℕ → Point → Bool) where
   -- no point was found yet, and nothing is lost
@@ -34,7 +40,7 @@ module _ {R : Type 0} (file : R → NamedFile) (keep : ℕ → Point → Bool) w
   reads_none store faults lane into none of_store = record {
     empty = none;
     gives = λ pages truth. gives_none (pages_left file pages keep lane);
-    same = record { right = refl; born = refl; entry = refl };
+    same = record { right = refl; born = refl; entry = refl; passed = refl };
     further = omega arith;
     same_store = refl;
     later = omega arith;
@@ -42,7 +48,7 @@ module _ {R : Type 0} (file : R → NamedFile) (keep : ℕ → Point → Bool) w
   }
 
   pub same_then : (a b c : PageLane R) → IsSameFile a b → IsSameFile b c → IsSameFile a c
-  same_then a b c one two = record { right = two.right ∙ one.right; born = two.born ∙ one.born; entry = two.entry ∙ one.entry }
+  same_then a b c one two = record { right = two.right ∙ one.right; born = two.born ∙ one.born; entry = two.entry ∙ one.entry; passed = two.passed ∙ one.passed }
 
   pub reads_on : (store now_store next_store : Store) (faults now_faults next_faults : ℕ) (lane now next : PageLane R) (into more : List Point) → IsReading store now_store faults now_faults lane now into
       → ((pages : FilePages) → ArePagesOf file pages now → Gives (pages_left file pages keep now) more (pages_left file pages keep next)) → more ≡ [] → next.next ≡ now.next + 1 → IsSameFile now next → next_store ≡ now_store → now_faults ≤ next_faults
@@ -71,7 +77,7 @@ module _ {R : Type 0} (file : R → NamedFile) (keep : ℕ → Point → Bool) w
   pub reads_end : (store now_store : Store) (faults now_faults : ℕ) (lane now : PageLane R) (into : List Point) → IsReading store now_store faults now_faults lane now into → length now.entry.pages ≤ now.next
       → (pages : FilePages) → ArePagesOf file pages lane → Moves (pages_left file pages keep lane) false into (pages_left file pages keep now)
   reads_end store now_store faults now_faults lane now into inv past pages truth =
-      moves_rw (moves_end _ _ (inv.gives pages truth) (none_left (pages (file now.right.now).number) (keep now.born.0) now.next now.entry (file now.right.now) past (truth_of file pages lane now inv.same truth)))
+      moves_rw (moves_end _ _ (inv.gives pages truth) (none_left (pages (file now.right.now).number) now.passed.items (keep now.born.0) now.next now.entry (file now.right.now) past (truth_of file pages lane now inv.same truth)))
     where
       moves_rw : Moves (pages_left file pages keep lane) false [] (pages_left file pages keep now) → Moves (pages_left file pages keep lane) false into (pages_left file pages keep now)
       moves_rw moves = rw inv.empty moves

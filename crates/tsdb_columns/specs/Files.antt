@@ -14,6 +14,7 @@ use Rattle.tsdb_pages.specs.declared.tree.Chunk.{Chunk}
 use Rattle.tsdb_pages.specs.declared.tree.Group.{Group}
 use Rattle.tsdb_pages.specs.declared.tree.Page.{Page}
 use Rattle.tsdb_pages.specs.declared.tree.Tree.{Tree}
+use Rattle.tsdb_stats.specs.Statistics.{AreStatsOf}
 use Rattle.tsfile_reader.specs.Page.{HasNoPage, HasPage, LieIn, SaysOfPage}
 use Rattle.tsfile_reader.specs.declared.fault.ReadFault.{ReadFault}
 use Rattle.tsfile_reader.specs.declared.fault.ReadFault.TheVariants.{Failed, Damaged, Memory}
@@ -55,11 +56,12 @@ IsTold pages name = (bytes : List ℕ) → name.bytes ≡ Some bytes
     → (list : List (List Point)) × (pages name.number ≡ Some list)
 
 -- the page of which the entry says this has these points: they lie within its times, whatever is read of it is these,
--- and some page stands there
+-- and some page stands there, and the entry says their statistics
 abbrev pub HasPagePoints : IndexEntry → NamedFile → PageEntry → List Point → Type 0
 HasPagePoints entry name said points = LieIn said.stats points
     × ((bytes : List ℕ) → name.bytes ≡ Some bytes
     → ((read : List Point) → HasPage bytes entry said read → read ≡ points) × (HasNoPage bytes entry said → ⊥))
+    × AreStatsOf points said.stats
 
 -- the file tells its bytes, and has these points in the pages of the entry
 abbrev pub HasEntryPages : IndexEntry → NamedFile → List (List Point) → Type 0

@@ -1,5 +1,5 @@
 -- Which points of a series a stream keeps.
-use Rattle.std.specs.Prelude.{ℕ, ℤ, ◌≤ℤ◌, Bool, ◌&&◌, List, filter}
+use Rattle.std.specs.Prelude.{ℕ, ℤ, Bool, ◌&&◌, List, filter}
 use Rattle.tsdb_base.specs.declared.point.Point.{Point}
 use Rattle.tsdb_base.specs.declared.point.Range.{Range}
 use Rattle.tsdb_base.specs.declared.point.Stats.{Stats}
@@ -20,6 +20,6 @@ is_kept path range marks born point = is_in range point.time && survives marks (
 abbrev pub kept : List ℕ → Range → List Mark → ℕ → List Point → List Point
 kept path range marks born points = filter (is_kept path range marks born) points
 
--- the times of a page with these statistics meet the range
-abbrev pub Meet : Range → Stats → Type 0
-Meet range stats = (stats.start ≤ℤ range.to) × (range.from ≤ℤ stats.end)
+-- the times from the start to the end of statistics
+abbrev pub times_of : Stats → Range
+times_of stats = record { from = stats.start; to = stats.end }

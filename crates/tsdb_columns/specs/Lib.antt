@@ -1,6 +1,9 @@
 pub mod Kept
+pub mod Clean
+pub mod Cleaning
 pub mod Files
 pub mod Lanes
 pub mod Props
 pub mod Walking
 pub mod Streams
+pub mod Parted

@@ -1,8 +1,8 @@
 -- What a stream has left, and what it keeps.
-use Rattle.std.specs.Prelude.{ℕ, List, All, Option, map}
+use Rattle.std.specs.Prelude.{ℕ, List, All, Option, map, sum_by}
 use Rattle.tsdb_base.specs.declared.point.Point.{Point}
 use Rattle.tsdb_columns.specs.Files.{FilePages}
-use Rattle.tsdb_columns.specs.Lanes.{IsLaneOf, IsToldLane, IsToldSource, IsTrueLane, IsTrueSource, keep_of, lane_left}
+use Rattle.tsdb_columns.specs.Lanes.{IsLaneOf, IsToldLane, IsToldSource, IsTrueLane, IsTrueSource, keep_of, lane_due, lane_left}
 use Rattle.tsdb_columns.specs.declared.source.Source.{Source}
 use Rattle.tsdb_columns.specs.declared.stream.Stream.{Stream}
 use Rattle.tsdb_merge.specs.Steps.{root_held, root_left}
@@ -12,6 +12,10 @@ use Rattle.tsdb_path.specs.Nodes.{device_of, measurement_of}
 -- how many points a stream holds
 abbrev pub stream_held : {R : Type 0} → Stream R → ℕ
 stream_held stream = root_held stream.root
+
+-- how many pages of a stream are due, whether they were read or not
+abbrev pub stream_due : {R : Type 0} → Stream R → ℕ
+stream_due stream = sum_by (lane_due stream.kept.range) stream.lanes.items
 
 module _ {R : Type 0} (file : R → NamedFile) where
   -- the points that a stream has left, where all of its sources tell theirs

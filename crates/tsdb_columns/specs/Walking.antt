@@ -1,8 +1,9 @@
 -- Private steps: what a call that takes points of several sources leaves of them.
 use Rattle.std.specs.Prelude.{◌≡◌, ℕ, ◌≤◌, List, All, Option, Result, map, sum_by}
 use Rattle.tsdb_base.specs.declared.point.Point.{Point}
+use Rattle.tsdb_base.specs.declared.point.Range.{Range}
 use Rattle.tsdb_columns.specs.Files.{FilePages, HasReason}
-use Rattle.tsdb_columns.specs.Lanes.{IsLaneOf, IsToldLane, IsTrueLane, keep_of, lane_left, lane_most}
+use Rattle.tsdb_columns.specs.Lanes.{IsLaneOf, IsToldLane, IsTrueLane, keep_of, lane_due, lane_left, lane_most}
 use Rattle.tsdb_columns.specs.declared.kept.Kept.{Kept}
 use Rattle.tsdb_columns.specs.declared.lane.Lane.{Lane}
 use Rattle.tsdb_outside.specs.Files.{NamedFile, Store}
@@ -30,7 +31,7 @@ module _ {R : Type 0} (file : R → NamedFile) where
   AreToldLanes pages lanes = All (IsToldLane file pages) lanes
 
   -- after a call the files are still of the store, and what was told of them is so and is told on; it stayed in the
-  -- store, and where all is told truly it failed only if the count of faults has risen
+  -- store, and where all is told truly it failed only if the count of faults has risen; as many pages are due
   pub record Leaves {T : Type 0} (store store_now : Store) (faults faults_now : ℕ) (lanes lanes_now : List (Lane R))
       (result : Result T StoreFault) : Type 0 where
     pub of : AreLanesOf store_now lanes_now
@@ -40,3 +41,4 @@ module _ {R : Type 0} (file : R → NamedFile) where
         → HasReason (AreToldLanes pages lanes) faults faults_now result
     pub later : faults ≤ faults_now
     pub same_store : store_now ≡ store
+    pub due : (range : Range) → sum_by (lane_due range) lanes_now ≡ sum_by (lane_due range) lanes

@@ -4,19 +4,39 @@ ghost use Rattle.tsdb_outside.specs.declared.faults.StoreFault.TheVariants as fa
 ghost use Rattle.tsdb_merge.specs.Supplies.{IsFilled, Moves};
 ghost use Rattle.tsdb_columns.specs.Files.{FilePages, HasReason, IsTold};
 ghost use Rattle.tsdb_columns.specs.Lanes.{ArePagesOf, Gives, IsLaneOf, IsSameFile, IsToldLane, IsTrueLane};
-ghost use Rattle.tsdb_columns.specs.Lanes.{keep_of, lane_left, lane_most, pages_left, part_left};
+ghost use Rattle.tsdb_base.specs.declared.point.Range.{Range as RangeModel};
+ghost use Rattle.tsdb_columns.specs.Lanes.{is_due, is_passed, keep_of, lane_due, lane_left, lane_most, pages_left, part_left};
 
 use crate::file::load_page;
-use crate::kept::{Kept, meets};
+use crate::kept::{Kept, times_of};
 use crate::lane::{Lane, PageLane, PartLane};
 use std::alloc::Global;
-use tsdb_base::{Memory, Point};
+use tsdb_aggregate::overlap;
+use tsdb_base::{Memory, Point, Range};
+use tsdb_index::PageEntry;
 use tsdb_outside::{Port, StoreFault};
 
 /// The most points that are taken at once.
 const MOST_TAKEN: usize = 1000;
 
-/// Takes the points of the next page that are kept. The page is not read where its times do not meet the range.
+/// Whether the page with this number is passed over, where the flags are those of the first pages.
+pub(crate) fn is_passed(flags: &[bool], number: usize) -> bool
+    ensures { result ≡ is_passed flags.now number }
+{
+    match flags.get(number) {
+        Some(passed) => *passed,
+        None => false,
+    }
+}
+
+/// Whether a page is read: it is not passed over, and its times meet the range.
+pub(crate) fn is_due(range: &Range, passed: &[bool], number: usize, page: &PageEntry) -> bool
+    ensures { result ≡ is_due range.now (is_passed passed.now number) page.now }
+{
+    !is_passed(passed, number) && overlap(range, &times_of(&page.stats))
+}
+
+/// Takes the points of the next page that are kept. The page is read only where it is due.
 fn take_page<P: Port>(
     alloc: Global,
     kept: &Kept<'_>,
@@ -39,9 +59,14 @@ fn take_page<P: Port>(
     ensures same_store { P.store port.new ≡ P.store port.old }
 {
     let page = lane.next;
-    let meets = meets(&kept.range, &lane.entry.pages.items()[page].stats);
+    let due = is_due(
+        &kept.range,
+        &lane.passed,
+        page,
+        &lane.entry.pages.items()[page],
+    );
     lane.next += 1;
-    if !meets {
+    if !due {
         return Ok(());
     }
     let mut points = load_page(alloc, port, lane, page)?;
@@ -137,6 +162,7 @@ pub(crate) fn fill_lane<P: Port>(
         → IsTrueLane P.Right.file pages lane.new }
     ensures told { (pages : FilePages) → IsToldLane P.Right.file pages lane.old
         → IsToldLane P.Right.file pages lane.new }
+    ensures due { (range : RangeModel) → lane_due range lane.new ≡ lane_due range lane.old }
     ensures reason { (pages : FilePages) → IsTrueLane P.Right.file pages lane.old
         → HasReason (IsToldLane P.Right.file pages lane.old) (P.faults port.old) (P.faults port.new) result }
     ensures later { P.faults port.old ≤ P.faults port.new }

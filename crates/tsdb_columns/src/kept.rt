@@ -1,7 +1,7 @@
 //! Which points of a series a stream keeps. It depends on `tsdb_base`, `tsdb_path`, `tsdb_marks` and `tsdb_layers`.
-ghost use Rattle.std.specs.Prelude.{◌≡◌, ◌↔◌, ◌++◌, IsTrue, OnOk};
+ghost use Rattle.std.specs.Prelude.{◌≡◌, ◌++◌, OnOk};
 ghost use Rattle.tsdb_map.specs.World.{is_in};
-ghost use Rattle.tsdb_columns.specs.Kept.{Meet, is_kept, kept};
+ghost use Rattle.tsdb_columns.specs.Kept.{is_kept, kept, times_of as times};
 
 use tsdb_base::{Memory, Point, Range, Stamp, Stats, Time};
 use tsdb_marks::Marks;
@@ -16,17 +16,20 @@ pub(crate) struct Kept<'a> {
 }
 
 /// Whether the range has the time.
-fn contains(range: &Range, time: Time) -> bool
+pub(crate) fn contains(range: &Range, time: Time) -> bool
     ensures { result ≡ is_in range.now time }
 {
     range.from <= time && time <= range.to
 }
 
-/// Whether a page with these statistics may have a point in the range.
-pub(crate) fn meets(range: &Range, stats: &Stats) -> bool
-    ensures { IsTrue result ↔ Meet range.now stats.now }
+/// The times from the start to the end of statistics.
+pub(crate) fn times_of(stats: &Stats) -> Range
+    ensures { result ≡ times stats.now }
 {
-    stats.start <= range.to && range.from <= stats.end
+    Range {
+        from: stats.start,
+        to: stats.end,
+    }
 }
 
 impl Kept<'_> {

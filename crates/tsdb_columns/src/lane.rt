@@ -9,6 +9,8 @@ pub(crate) struct PageLane<'a, R> {
     pub right: &'a R,
     pub born: Stamp,
     pub entry: IndexEntry,
+    /// Which of the first pages are passed over.
+    pub passed: Vec<bool>,
     pub next: usize,
 }
 

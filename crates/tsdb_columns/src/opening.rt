@@ -6,17 +6,20 @@ ghost use Rattle.tsdb_merge.specs.Winners.{IsRising, IsToldMergeOf};
 ghost use Rattle.tsdb_path.specs.Nodes.{device_of, measurement_of, node_count};
 ghost use Rattle.tsdb_columns.specs.Files.{FilePages, HasReason, IsTold, IsTruth};
 ghost use Rattle.tsdb_columns.specs.Kept.{is_kept};
-ghost use Rattle.tsdb_columns.specs.Lanes.{IsLaneOf, IsSourceOf, IsToldSource, IsTrueSource, OpensAs, source_left};
+ghost use Rattle.tsdb_columns.specs.Lanes.{IsLaneOf, IsSourceOf, IsToldSource, IsTrueSource, OpensAs, source_all};
+ghost use Rattle.tsdb_columns.specs.Lanes.{source_left};
+ghost use Rattle.tsdb_columns.specs.Parted.{IsParted};
 ghost use Rattle.tsdb_columns.specs.Streams.{AreToldSources, AreTrueSources, IsStreamOfStore, IsToldStream};
 ghost use Rattle.tsdb_columns.specs.Streams.{IsTrueStream, stream_held, stream_left};
 
+use crate::cleaning::{pass_clean, passed_stats};
 use crate::file::fault_of;
 use crate::kept::Kept;
 use crate::lane::{Lane, PageLane, PartLane};
 use crate::source::Source;
 use crate::stream::Stream;
 use std::alloc::Global;
-use tsdb_base::{Memory, Range, Stamp};
+use tsdb_base::{Memory, Range, Stamp, Stats};
 use tsdb_marks::Marks;
 use tsdb_merge::LazyMerge;
 use tsdb_outside::{Port, StoreFault};
@@ -46,6 +49,7 @@ fn open_file<'a, P: Port>(
             right,
             born,
             entry,
+            passed: Vec::new(alloc),
             next: 0,
         })),
         Ok(None) => Ok(Lane::Part(PartLane { born, rest: &[] })),
@@ -159,4 +163,53 @@ pub fn open_column<'a, P: Port>(
         fault: None,
         alloc,
     })
+}
+
+/// Opens the stream of a series over these sources without its clean pages, and answers the statistics of these, in order
+/// of time. It reads the index of each file, and no page.
+pub fn open_parted<'a, P: Port>(
+    alloc: Global,
+    series: &'a Path,
+    range: &Range,
+    marks: &'a Marks,
+    sources: Vec<Source<'a, P::Right>>,
+    port: &mut P,
+) -> Result<(Vec<Stats>, Stream<'a, P::Right>), StoreFault>
+    requires nodes { 2 ≤ node_count series.now }
+    requires of_store { All (IsSourceOf P.Right.file (P.store port.old)) sources.items }
+    ensures parted { (pages : FilePages) → AreTrueSources P.Right.file series.now pages sources.entry.items
+        → IfOk result (λ opened. (lists kept : List (List PointModel)) →
+        map (source_all P.Right.file pages) sources.entry.items ≡ map Some lists → All IsRising lists →
+        map (source_left P.Right.file pages (is_kept series.now range.now marks.now.marks)) sources.entry.items
+        ≡ map Some kept → IsParted kept opened.0.items (stream_left P.Right.file pages opened.1)) }
+    ensures of_store { IfOk result (λ opened. IsStreamOfStore P.Right.file (P.store port.new) opened.1) }
+    ensures truth { (pages : FilePages) → AreTrueSources P.Right.file series.now pages sources.entry.items
+        → IfOk result (λ opened. IsTrueStream P.Right.file pages opened.1) }
+    ensures told { (pages : FilePages) → AreToldSources P.Right.file pages sources.entry.items
+        → IfOk result (λ opened. IsToldStream P.Right.file pages opened.1) }
+    ensures works { IfOk result (λ opened. opened.1.fault ≡ None) }
+    ensures reason { (pages : FilePages) → AreTrueSources P.Right.file series.now pages sources.entry.items
+        → HasReason (AreToldSources P.Right.file pages sources.entry.items)
+        (P.faults port.old) (P.faults port.new) result }
+    ensures later { P.faults port.old ≤ P.faults port.new }
+    ensures same_store { P.store port.new ≡ P.store port.old }
+{
+    let (device, measurement) = names_of(alloc, series)?;
+    let mut lanes = open_sources(alloc, &device, &measurement, sources, port)?;
+    let kept = Kept {
+        series,
+        range: *range,
+        marks,
+    };
+    pass_clean(alloc, &kept, &mut lanes)?;
+    let clean = passed_stats(alloc, &lanes)?;
+    let merge = LazyMerge::new(alloc, lanes.len())?;
+    let stream = Stream {
+        root: merge.into_root(),
+        lanes,
+        kept,
+        fault: None,
+        alloc,
+    };
+    Ok((clean, stream))
 }

@@ -3,7 +3,7 @@ ghost use Rattle.std.specs.Prelude.{◌≡◌, ◌≤◌, ◌*◌, IfErr, IfOk, 
 ghost use Rattle.tsdb_merge.specs.Winners.{TakesTold};
 ghost use Rattle.tsdb_outside.specs.declared.faults.StoreFault.{StoreFault as Fault};
 ghost use Rattle.tsdb_columns.specs.Files.{FilePages, HasReason};
-ghost use Rattle.tsdb_columns.specs.Streams.{IsStreamOfStore, IsToldStream, IsTrueStream, stream_held, stream_left};
+ghost use Rattle.tsdb_columns.specs.Streams.{IsStreamOfStore, IsToldStream, IsTrueStream, stream_due, stream_held, stream_left};
 
 use crate::stream::Stream;
 use crate::walking::pull_from;
@@ -26,6 +26,7 @@ pub fn pull<P: Port>(
         → IsTrueStream P.Right.file pages stream.new }
     ensures told { (pages : FilePages) → IsToldStream P.Right.file pages stream.old
         → IsToldStream P.Right.file pages stream.new }
+    ensures due { stream_due stream.new ≡ stream_due stream.old }
     ensures works { OnOk result (stream.new.fault ≡ None) }
     ensures failed { IfErr result (λ fault. stream.new.fault ≡ Some fault) }
     ensures again { (fault : Fault) → stream.old.fault ≡ Some fault →

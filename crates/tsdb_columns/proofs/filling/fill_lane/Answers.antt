@@ -1,6 +1,6 @@
-use Rattle.std.proofs.Common.{◌∙◌, ap, subst}
+use Rattle.std.proofs.Common.{◌∙◌, ap, refl, subst}
 use Rattle.tsdb_columns.proofs.OpenFacts.{pages_of_store, pages_true, part_of_store, part_true}
-use Rattle.tsdb_columns.proofs.PageLoop.{told_of, truth_of}
+use Rattle.tsdb_columns.proofs.PageLoop.{same_due, told_of, truth_of}
 use Rattle.tsdb_columns.proofs.Reasons.{memory_alone}
 use Rattle.tsdb_columns.specs.Lanes.{IsToldLane}
 use Rattle.tsdb_columns.proofs.filling.fill_lane.Goals as goal
@@ -49,3 +49,9 @@ returns-in-Part-clause-told g c = λ pages all. tt
 
 pub returns-in-Part-clause-reason : goal.returns-in-Part-clause-reason
 returns-in-Part-clause-reason g c = λ pages truth. memory_alone _ _ _ c.fill_part.ensures.memory
+
+pub returns-in-Pages-clause-due : goal.returns-in-Pages-clause-due
+returns-in-Pages-clause-due g c = λ range. rw c.in-Pages.is (same_due range c.in-Pages.pages c.fill_pages.new.lane c.fill_pages.ensures.same_file)
+
+pub returns-in-Part-clause-due : goal.returns-in-Part-clause-due
+returns-in-Part-clause-due g c = λ range. rw c.in-Part.is refl

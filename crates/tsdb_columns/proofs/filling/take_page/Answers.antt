@@ -1,26 +1,24 @@
-use Rattle.std.proofs.Common.{◌≡◌, ◌+◌, length, refl, ap, arith, subst}
+use Rattle.std.proofs.Common.{rules, ◌≡◌, ◌+◌, length, refl, ap, arith}
 use Rattle.tsdb_columns.proofs.FillLemmas.{gives_page, gives_skipped}
 use Rattle.tsdb_columns.proofs.KeptLemmas.{fewer_kept}
-use Rattle.tsdb_columns.proofs.PartFacts.{got_item, not_true}
+use Rattle.tsdb_columns.proofs.PartFacts.{got_item}
 use Rattle.std.proofs.lemmas.Result.{err_from_is_err_and}
 use Rattle.tsdb_columns.proofs.Reasons.{reason_ok, same_reason}
-use Rattle.tsdb_columns.specs.Kept.{Meet}
 use Rattle.tsdb_columns.specs.Lanes.{keep_of}
-use Rattle.tsdb_index.specs.declared.index.PageEntry.{PageEntry}
 use Rattle.tsdb_columns.proofs.filling.take_page.Goals as goal
 
-pub returns-then-not-meets-clause-gives : goal.returns-then-not-meets-clause-gives
-returns-then-not-meets-clause-gives g c = λ pages truth.
+pub returns-then-not-due-clause-gives : goal.returns-then-not-due-clause-gives
+returns-then-not-due-clause-gives g c = λ pages truth.
     let lane = c.args.lane.now in
     let kept = c.args.kept.now in
     let name = g.P.Right.ReadRight.file lane.right.now in
-    rw c.requires.empty (gives_skipped (pages name.number) kept.series.now kept.range kept.marks.now.marks lane.born.0 lane.next (lane.next + 1) lane.entry name c.index-items-page.result refl c.requires.page
+    rw c.requires.empty (gives_skipped (pages name.number) lane.passed.items kept.series.now kept.range kept.marks.now.marks lane.born.0 lane.next (lane.next + 1) lane.entry name c.index-items-page.result refl c.requires.page
     (got_item lane.entry.pages c.items.result.now lane.next c.index-items-page.result c.items.ensures c.requires.page c.index-items-page.is)
-    (λ m. not_true c.meets-meets.result (c.meets-meets.ensures.1 (subst (λ (e : PageEntry). Meet kept.range e.stats) c.index-items-page.is m)) c.if-not-meets.true) truth)
+    (search rules) truth)
 
 pub returns-clause-gives : goal.returns-clause-gives
 returns-clause-gives g c = λ pages truth.
-    gives_page _ (keep_of c.args.kept.now c.args.lane.now.born.0) c.args.lane.now.next (c.args.lane.now.next + 1) c.in_ok-points.points.items c.retain.new.points.items refl c.retain.ensures (c.in_ok-points.ensures.points pages truth)
+    gives_page _ c.args.lane.now.passed.items (keep_of c.args.kept.now c.args.lane.now.born.0) c.args.lane.now.next (c.args.lane.now.next + 1) c.in_ok-points.points.items c.retain.new.points.items (search rules) refl c.retain.ensures (c.in_ok-points.ensures.points pages truth)
 
 pub returns-clause-few : goal.returns-clause-few
 returns-clause-few g c =
@@ -28,8 +26,8 @@ returns-clause-few g c =
     let fewer = fewer_kept (keep_of c.args.kept.now c.args.lane.now.born.0) c.in_ok-points.points.items in
     omega (arith, same, fewer, c.in_ok-points.ensures.few)
 
-pub returns-then-not-meets-clause-reason : goal.returns-then-not-meets-clause-reason
-returns-then-not-meets-clause-reason g c = λ pages truth. reason_ok _ _ _ _ (omega arith)
+pub returns-then-not-due-clause-reason : goal.returns-then-not-due-clause-reason
+returns-then-not-due-clause-reason g c = λ pages truth. reason_ok _ _ _ _ (omega arith)
 
 pub returns-in_err-points-clause-reason : goal.returns-in_err-points-clause-reason
 returns-in_err-points-clause-reason g c = λ pages truth.

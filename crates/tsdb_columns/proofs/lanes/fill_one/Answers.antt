@@ -2,8 +2,8 @@ use Rattle.std.proofs.Common.{rules, ◌≡◌, length, get_or, set, subst, sym}
 use Rattle.std.specs.Prelude.{All}
 use Rattle.std.proofs.lemmas.List.{length-set}
 use Rattle.tsdb_merge.proofs.SourceLemmas.{others_of}
-use Rattle.tsdb_columns.proofs.LaneFacts.{all_after, left_after, left_before, most_after, one_of, reason_one}
-use Rattle.tsdb_columns.specs.Lanes.{IsLaneOf, IsToldLane, IsTrueLane, keep_of, lane_left, lane_most}
+use Rattle.tsdb_columns.proofs.LaneFacts.{all_after, due_after, left_after, left_before, most_after, one_of, reason_one}
+use Rattle.tsdb_columns.specs.Lanes.{IsLaneOf, IsToldLane, IsTrueLane, keep_of, lane_due, lane_left, lane_most}
 use Rattle.tsdb_columns.proofs.lanes.fill_one.Goals as goal
 
 pub fill_lane-requires-clause-store : goal.fill_lane-requires-clause-store
@@ -51,4 +51,5 @@ returns-clause-leaves g c =
       reason = λ pages truth. reason_one list c.args.source old new c.requires.source is (IsToldLane file pages) _ _ c.fill_lane.result (done.reason pages (one_of list c.args.source old new c.requires.source is (IsTrueLane file pages) truth));
       later = done.later;
       same_store = done.same_store;
+      due = λ range. due_after list c.args.source old new c.requires.source is (lane_due range) (done.due range);
     }
