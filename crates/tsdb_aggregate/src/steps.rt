@@ -4,7 +4,7 @@ ghost use Rattle.std.specs.Prelude.{◌≡◌, ◌+◌, ℕ};
 use std::marker::Model;
 use std::sync::ledger::{Blank, Book, Ledger, Share};
 
-/// How many steps were taken. Only `tick` changes it.
+/// How many steps were taken. Only `tick` and `add` change it.
 #[derive(Drop)]
 pub struct Steps<L: Ledger> {
     book: Book<L>,
@@ -38,5 +38,12 @@ impl<L: Ledger> Steps<L> {
         ensures { self.new ≡ self.old + 1 }
     {
         self.book.add(&mut self.share, 1);
+    }
+
+    /// So many steps more.
+    pub fn add(&mut self, steps: u64)
+        ensures { self.new ≡ self.old + steps }
+    {
+        self.book.add(&mut self.share, steps);
     }
 }
