@@ -12,8 +12,11 @@ pub mod OpenFacts
 pub mod OpenLoop
 pub mod OpenedFacts
 pub mod CleanFacts
+pub mod OrderFacts
 pub mod Views
 pub mod ViewMerges
 pub mod LaneViews
 pub mod SoundViews
 pub mod OpenParted
+pub mod CountFacts
+pub mod DueFacts

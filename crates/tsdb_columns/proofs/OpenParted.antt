@@ -1,6 +1,6 @@
 -- The merge of sources that were opened and pass over their clean pages is parted.
-use Rattle.std.proofs.Common.{◌≡◌, ℕ, zero, suc, ◌<◌, Bool, not, inl, inr, List, [], ◌∷◌, ◌++◌, map, length, get_or, drop, Option, None, Some, refl, sym, ap, subst, ◌∙◌, arith}
-use Rattle.std.specs.Prelude.{All, filter, flat_map, slice_get, ◌<ℤ◌}
+use Rattle.std.proofs.Common.{◌≡◌, ℕ, zero, suc, ◌+◌, ◌<◌, Bool, not, inl, inr, List, [], ◌∷◌, ◌++◌, map, length, get_or, drop, Option, None, Some, refl, sym, ap, subst, ◌∙◌, arith}
+use Rattle.std.specs.Prelude.{All, filter, flat_map, slice_get, sum_by, ◌<ℤ◌}
 use Rattle.std.specs.List.{AllZip}
 use Rattle.std.specs.List.Sorted.{IsPermutation}
 use Rattle.std.specs.Option.{option_map, unwrap_or}
@@ -17,10 +17,11 @@ use Rattle.tsdb_columns.proofs.OpenFacts.{got_map, pages_of_store, pages_true, p
 use Rattle.tsdb_columns.proofs.SoundViews.{AreOpen, IsOpen, part_left as left_of_part, part_passed, part_points, sound, view, views}
 use Rattle.tsdb_columns.proofs.Views.{View, all_of, covered, gathered, kept_all, kept_left, lists_left, passed_of}
 use Rattle.tsdb_columns.proofs.ViewMerges.{parted}
-use Rattle.tsdb_columns.specs.Clean.{others}
+use Rattle.tsdb_columns.proofs.DueFacts.{all_hulls_are, hulls_are, one_due, sums}
+use Rattle.tsdb_columns.specs.Clean.{others, source_hulls, source_read, sources_read}
 use Rattle.tsdb_columns.specs.Cleaning.{AreCleaned, IsFlagged, flags_of, is_clean_page, lane_hulls, lane_passed}
 use Rattle.tsdb_columns.specs.Files.{FilePages, HasEntryPages}
-use Rattle.tsdb_columns.specs.Lanes.{IsLaneOf, IsToldLane, IsTrueLane, IsTrueSource, OpensAs, keep_of, lane_left, left_pages, source_all, source_left}
+use Rattle.tsdb_columns.specs.Lanes.{IsLaneOf, IsToldLane, IsTrueLane, IsTrueSource, OpensAs, keep_of, lane_due, lane_left, left_pages, source_all, source_left}
 use Rattle.tsdb_columns.specs.Parted.{IsParted}
 use Rattle.tsdb_columns.specs.declared.kept.Kept.{Kept}
 use Rattle.tsdb_columns.specs.declared.lane.Lane.{Lane}
@@ -151,6 +152,30 @@ module _ {R : Type 0} (file : R → NamedFile) (pages : FilePages) (kept : Kept)
   got_at [] k d low = absurd (omega (arith, low))
   got_at (x ∷ xs) zero d low = (x, refl)
   got_at (x ∷ xs) (suc k) d low = got_at xs k d (omega (arith, low))
+
+  -- as many pages are due as meet the range and are not clean
+  pub as_many_due : (names : List ℕ × List ℕ) (sources : List (Source R)) (olds news : List (Lane R)) (lists : List (List Point)) → AllZip (OpensAs file names) sources olds → All (IsTrueSource file names pages) sources → AreCleaned kept olds news
+      → map (source_all file pages) sources ≡ map Some lists → sum_by (lane_due kept.range) news ≡ sources_read file pages kept.series.now kept.range kept.marks.now.marks sources
+  as_many_due names sources olds news lists opens truth cleaned told =
+      sums (lane_due kept.range) (source_read file pages kept.series.now kept.range kept.marks.now.marks (map (source_hulls file pages) sources)) news sources 0 (cleaned.long ∙ sym (zip_long (OpensAs file names) sources olds opens))
+      (λ k lane from b a. let same : k ≡ 0 + k = omega arith in here k lane from b a ∙ ap (λ m. source_read file pages kept.series.now kept.range kept.marks.now.marks (map (source_hulls file pages) sources) m from) same)
+    where
+      hulls : map lane_hulls olds ≡ map (source_hulls file pages) sources
+      hulls = all_hulls_are file pages names sources olds lists opens truth told
+
+      here : (k : ℕ) (lane : Lane R) (from : Source R) → slice_get news k ≡ Some lane → slice_get sources k ≡ Some from
+          → lane_due kept.range lane ≡ source_read file pages kept.series.now kept.range kept.marks.now.marks (map (source_hulls file pages) sources) k from
+      here k lane from b a =
+          let old = zip_at (OpensAs file names) sources olds k from opens a in
+          let low : k < length olds = slice_get_within olds k old.0 old.1 in
+          let list = some_at (source_all file pages) sources lists k from told a in
+          let old_is : get_or olds k lane ≡ old.0 = get_or_from_slice_get olds k old.0 lane old.1 in
+          let new_is : get_or news k lane ≡ lane = get_or_from_slice_get news k lane lane b in
+          let flagged : IsFlagged (flags_of kept (others k (map (source_hulls file pages) sources)) old.0) old.0 lane =
+          subst (λ h. IsFlagged (flags_of kept (others k h) old.0) old.0 lane) hulls
+          (subst (λ z. IsFlagged (flags_of kept (others k (map lane_hulls olds)) old.0) old.0 z) new_is
+          (subst (λ z. IsFlagged (flags_of kept (others k (map lane_hulls olds)) z) z (get_or news k lane)) old_is (cleaned.each k lane low))) in
+          one_due file pages kept names (map (source_hulls file pages) sources) k from old.0 lane old.2 (hulls_are file pages names from old.0 list.0 old.2 (all_at (IsTrueSource file names pages) sources k from truth a) list.1) flagged
 
   module _ (names : List ℕ × List ℕ) (sources : List (Source R)) (olds news : List (Lane R)) (lists : List (List Point)) (opens : AllZip (OpensAs file names) sources olds) (truth : All (IsTrueSource file names pages) sources)
       (cleaned : AreCleaned kept olds news) (told : map (source_all file pages) sources ≡ map Some lists) (rising : All IsRising lists) where

@@ -1,14 +1,18 @@
 -- Which pages of a series are clean.
 use Rattle.std.specs.Prelude.{ℕ, ◌+◌, Bool, not, ◌&&◌, nat_lt, List, [], ◌∷◌, ◌++◌, drop, filter, length}
-use Rattle.std.specs.Prelude.{slice_get, take}
-use Rattle.std.specs.List.{list_any}
+use Rattle.std.specs.Prelude.{flat_map, map, slice_get, sum_by, take}
+use Rattle.std.specs.List.{enumerate_from, list_any}
 use Rattle.std.specs.Option.{option_map, unwrap_or}
 use Rattle.tsdb_aggregate.specs.Pieces.{overlap}
 use Rattle.tsdb_base.specs.declared.point.Point.{Point}
 use Rattle.tsdb_base.specs.declared.point.Range.{Range}
+use Rattle.tsdb_columns.specs.Files.{FilePages}
+use Rattle.tsdb_columns.specs.declared.source.Source.{Source}
+use Rattle.tsdb_columns.specs.declared.source.Source.TheVariants as source
 use Rattle.tsdb_layers.specs.Places.{is_path}
 use Rattle.tsdb_map.specs.World.{is_in}
 use Rattle.tsdb_marks.specs.declared.marks.Mark.{Mark}
+use Rattle.tsdb_outside.specs.Files.{NamedFile}
 
 -- the times from the first point to the last one, where there is one
 abbrev pub hull_of : List Point → List Range
@@ -41,3 +45,20 @@ is_clean path range marks hulls born times = (is_in range times.from && is_in ra
 abbrev pub count_read : List ℕ → Range → List Mark → List (List Range) → ℕ → List Range → ℕ
 count_read path range marks hulls born pages =
     length (filter (λ times. not (is_clean path range marks hulls born times) && overlap range times) pages)
+
+module _ {R : Type 0} (file : R → NamedFile) (pages : FilePages) where
+  -- the times of each page of a source, as its points are told, or of the part
+  abbrev pub source_hulls : Source R → List Range
+  source_hulls (source.File right born) = flat_map hull_of (unwrap_or (pages (file right.now).number) [])
+  source_hulls (source.Part points born) = hull_of points.now
+
+  -- how many pages of the source with this number meet the range and are not clean; `hulls` has the times of each
+  abbrev pub source_read : List ℕ → Range → List Mark → List (List Range) → ℕ → Source R → ℕ
+  source_read path range marks hulls number (source.File right born) =
+      count_read path range marks (others number hulls) born.0 (source_hulls (source.File right born))
+  source_read path range marks hulls number (source.Part points born) = 0
+
+  -- how many pages of the sources meet the range and are not clean
+  abbrev pub sources_read : List ℕ → Range → List Mark → List (Source R) → ℕ
+  sources_read path range marks sources = sum_by
+      (λ entry. source_read path range marks (map source_hulls sources) entry.0 entry.1) (enumerate_from 0 sources)

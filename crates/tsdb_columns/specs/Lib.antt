@@ -3,6 +3,7 @@ pub mod Clean
 pub mod Cleaning
 pub mod Files
 pub mod Lanes
+pub mod Order
 pub mod Props
 pub mod Walking
 pub mod Streams

@@ -1,30 +1,19 @@
-//! The clean pages of a column. Depends on `kept`, `lane` and tsdb_aggregate.
+//! The clean pages of a column. Depends on `kept`, `lane`, `ordering` and tsdb_aggregate.
 ghost use Rattle.std.specs.List.{list_any};
 ghost use Rattle.std.specs.List.Sorted.{IsPermutation};
 ghost use Rattle.std.specs.Prelude.{◌≡◌, ◌<◌, ◌≤ℤ◌, ◌++◌, AllPairs, IfOk, OnOk, flat_map, length, map};
 ghost use Rattle.tsdb_columns.specs.Clean.{any_meets, hull_of, is_clean as clean, others};
-ghost use Rattle.tsdb_columns.specs.Cleaning.{AreCleaned, IsFlagged, flags_of, lane_hulls, lane_passed, page_times};
+ghost use Rattle.tsdb_columns.specs.Cleaning.{AreCleaned, IsFlagged, flags_of, lane_hulls, lane_passed};
 ghost use Rattle.tsdb_columns.specs.Cleaning.{picked};
 
 use crate::filling::is_passed;
 use crate::kept::{Kept, contains, times_of};
 use crate::lane::Lane;
+use crate::ordering::page_meets;
 use std::alloc::Global;
 use tsdb_aggregate::overlap;
 use tsdb_base::{Memory, Point, Range, Stamp, Stats, Value};
 use tsdb_index::PageEntry;
-
-/// Whether one of these pages meets the times.
-fn page_meets(pages: &[PageEntry], times: &Range) -> bool
-    ensures { result ≡ any_meets times.now (map page_times pages.now) }
-{
-    for page in pages {
-        if overlap(&times_of(&page.stats), times) {
-            return true;
-        }
-    }
-    false
-}
 
 /// Whether the times from the first of these points to the last one meet the times.
 fn points_meet(points: &[Point], times: &Range) -> bool
@@ -45,7 +34,7 @@ fn lane_meets<R>(lane: &Lane<'_, R>, times: &Range) -> bool
     ensures { result ≡ any_meets times.now (lane_hulls lane.now) }
 {
     match lane {
-        Lane::Pages(pages) => page_meets(pages.entry.pages.items(), times),
+        Lane::Pages(pages) => page_meets(pages.entry.pages.items(), pages.in_order, times),
         Lane::Part(part) => points_meet(part.rest, times),
     }
 }

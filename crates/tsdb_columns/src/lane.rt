@@ -1,4 +1,6 @@
 //! A source from which points are taken, and what is still to be read of it. Depends on tsdb_base and tsdb_index.
+ghost use Rattle.std.specs.Prelude.{IsTrue};
+ghost use Rattle.tsdb_columns.specs.Order.{AreInOrder, order_prop};
 
 use tsdb_base::{Point, Stamp};
 use tsdb_index::IndexEntry;
@@ -9,9 +11,12 @@ pub(crate) struct PageLane<'a, R> {
     pub right: &'a R,
     pub born: Stamp,
     pub entry: IndexEntry,
+    /// Whether the pages of the entry were found to stand in order of time.
+    pub in_order: bool,
     /// Which of the first pages are passed over.
     pub passed: Vec<bool>,
     pub next: usize,
+    ghost order: { IsTrue in_order → AreInOrder entry.pages } by { order_prop in_order entry.pages },
 }
 
 /// The points of a part in memory that were not looked at yet.

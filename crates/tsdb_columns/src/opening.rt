@@ -4,18 +4,20 @@ ghost use Rattle.std.specs.Prelude.{◌≡◌, ◌≤◌, All, IfOk, List, None,
 ghost use Rattle.tsdb_base.specs.declared.point.Point.{Point as PointModel};
 ghost use Rattle.tsdb_merge.specs.Winners.{IsRising, IsToldMergeOf};
 ghost use Rattle.tsdb_path.specs.Nodes.{device_of, measurement_of, node_count};
+ghost use Rattle.tsdb_columns.specs.Clean.{sources_read};
 ghost use Rattle.tsdb_columns.specs.Files.{FilePages, HasReason, IsTold, IsTruth};
 ghost use Rattle.tsdb_columns.specs.Kept.{is_kept};
 ghost use Rattle.tsdb_columns.specs.Lanes.{IsLaneOf, IsSourceOf, IsToldSource, IsTrueSource, OpensAs, source_all};
 ghost use Rattle.tsdb_columns.specs.Lanes.{source_left};
 ghost use Rattle.tsdb_columns.specs.Parted.{IsParted};
 ghost use Rattle.tsdb_columns.specs.Streams.{AreToldSources, AreTrueSources, IsStreamOfStore, IsToldStream};
-ghost use Rattle.tsdb_columns.specs.Streams.{IsTrueStream, stream_held, stream_left};
+ghost use Rattle.tsdb_columns.specs.Streams.{IsTrueStream, stream_due, stream_held, stream_left};
 
 use crate::cleaning::{pass_clean, passed_stats};
 use crate::file::fault_of;
 use crate::kept::Kept;
 use crate::lane::{Lane, PageLane, PartLane};
+use crate::ordering::are_in_order;
 use crate::source::Source;
 use crate::stream::Stream;
 use std::alloc::Global;
@@ -48,6 +50,7 @@ fn open_file<'a, P: Port>(
         Ok(Some(entry)) => Ok(Lane::Pages(PageLane {
             right,
             born,
+            in_order: are_in_order(entry.pages.items()),
             entry,
             passed: Vec::new(alloc),
             next: 0,
@@ -165,8 +168,8 @@ pub fn open_column<'a, P: Port>(
     })
 }
 
-/// Opens the stream of a series over these sources without its clean pages, and answers the statistics of these, in order
-/// of time. It reads the index of each file, and no page.
+/// Opens the stream of a series over these sources without its clean pages, and answers the statistics of these, in
+/// order of time. It reads the index of each file, and no page.
 pub fn open_parted<'a, P: Port>(
     alloc: Global,
     series: &'a Path,
@@ -182,6 +185,10 @@ pub fn open_parted<'a, P: Port>(
         map (source_all P.Right.file pages) sources.entry.items ≡ map Some lists → All IsRising lists →
         map (source_left P.Right.file pages (is_kept series.now range.now marks.now.marks)) sources.entry.items
         ≡ map Some kept → IsParted kept opened.0.items (stream_left P.Right.file pages opened.1)) }
+    ensures due { (pages : FilePages) → AreTrueSources P.Right.file series.now pages sources.entry.items
+        → IfOk result (λ opened. (lists : List (List PointModel)) →
+        map (source_all P.Right.file pages) sources.entry.items ≡ map Some lists → stream_due opened.1
+        ≡ sources_read P.Right.file pages series.now range.now marks.now.marks sources.entry.items) }
     ensures of_store { IfOk result (λ opened. IsStreamOfStore P.Right.file (P.store port.new) opened.1) }
     ensures truth { (pages : FilePages) → AreTrueSources P.Right.file series.now pages sources.entry.items
         → IfOk result (λ opened. IsTrueStream P.Right.file pages opened.1) }

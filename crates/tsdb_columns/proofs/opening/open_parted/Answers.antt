@@ -7,7 +7,7 @@ use Rattle.tsdb_columns.specs.Lanes.{IsLaneOf, IsToldLane, IsToldSource, IsTrueL
 use Rattle.tsdb_columns.proofs.Reasons.{reason_memory, reason_ok, same_reason}
 use Rattle.tsdb_path.specs.Nodes.{device_of, measurement_of}
 use Rattle.tsdb_merge.specs.Steps.{root_left}
-use Rattle.tsdb_columns.proofs.OpenParted.{all_cleaned, flagged_of, flagged_told, flagged_true, is_parted}
+use Rattle.tsdb_columns.proofs.OpenParted.{all_cleaned, flagged_of, flagged_told, flagged_true, as_many_due, is_parted}
 use Rattle.tsdb_columns.specs.Cleaning.{lane_passed}
 use Rattle.tsdb_columns.specs.declared.kept.Kept.{Kept}
 use Rattle.std.specs.List.Sorted.{IsPermutation}
@@ -74,3 +74,11 @@ pub returns-in_err-clean-clause-reason : goal.returns-in_err-clean-clause-reason
 returns-in_err-clean-clause-reason g c = λ pages truth.
     let p = err_from_is_err_and c.from_residual-in_err-clean.result c.from_residual-in_err-clean.ensures.1 in
     rw p.1 (reason_memory _ _ _ _ c.in_ok-lanes.ensures.later p.2)
+
+pub returns-clause-due : goal.returns-clause-due
+returns-clause-due g c = λ pages truth lists all.
+    let names : List ℕ × List ℕ = (device_of c.args.series.now, measurement_of c.args.series.now) in
+    let opens : AllZip (OpensAs g.P.Right.ReadRight.file names) c.args.sources.items c.in_ok-lanes.lanes.items =
+    subst (λ (n : List ℕ × List ℕ). AllZip (OpensAs g.P.Right.ReadRight.file n) c.args.sources.items c.in_ok-lanes.lanes.items) c.in_ok-device.ensures c.in_ok-lanes.ensures.opens in
+    let asked : Kept = record { series = c.args.series; range = c.args.range.now; marks = c.args.marks } in
+    as_many_due g.P.Right.ReadRight.file pages asked names c.args.sources.items c.in_ok-lanes.lanes.items c.pass_clean.new.lanes.items lists opens truth c.in_ok-pass_clean.ensures all
