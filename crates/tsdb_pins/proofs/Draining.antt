@@ -14,14 +14,14 @@ pub record Drains (first now : Option (List Point)) (points : List Point) : Type
 pub drains_none : (first : Option (List Point)) (points : List Point) → points ≡ [] → Drains first first points
 drains_none first points none = record { rest = λ all is. (all, is, ap (λ l. l ++ all) (sym none)) }
 
-takes_one : (now next : Option (List Point)) (left : List Point) (point : Point) → now ≡ Some left → TakesTold now (Some point) next → (rest : List Point) × (next ≡ Some rest) × (left ≡ point ∷ rest)
+pub takes_one : (now next : Option (List Point)) (left : List Point) (point : Point) → now ≡ Some left → TakesTold now (Some point) next → (rest : List Point) × (next ≡ Some rest) × (left ≡ point ∷ rest)
 takes_one None next left point is takes = absurd cc
 takes_one (Some before) None left point is takes = absurd takes
 takes_one (Some before) (Some rest) left point is takes =
     let same : before ≡ left = cc in
     (rest, refl, sym same ∙ takes)
 
-takes_none : (now next : Option (List Point)) (left : List Point) → now ≡ Some left → TakesTold now None next → left ≡ []
+pub takes_none : (now next : Option (List Point)) (left : List Point) → now ≡ Some left → TakesTold now None next → left ≡ []
 takes_none None next left is takes = absurd cc
 takes_none (Some before) None left is takes = absurd takes
 takes_none (Some before) (Some rest) left is takes =

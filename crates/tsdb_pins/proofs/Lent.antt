@@ -9,7 +9,7 @@ use Rattle.std.proofs.lemmas.List.Kept.{AllPairs-filter}
 use Rattle.tsdb_base.specs.declared.point.Point.{Point}
 use Rattle.tsdb_base.specs.declared.point.Range.{Range}
 use Rattle.tsdb_columns.specs.Kept as columns
-use Rattle.tsdb_columns.specs.Lanes.{IsSourceOf, IsToldSource, IsTrueSource, source_left}
+use Rattle.tsdb_columns.specs.Lanes.{IsSourceOf, IsToldSource, IsTrueSource, source_all, source_left}
 use Rattle.tsdb_columns.specs.declared.source.Source.{Source}
 use Rattle.tsdb_columns.specs.declared.source.Source.TheVariants as lent
 use Rattle.tsdb_columns.specs.Files.{IsTold, IsTruth}
@@ -71,6 +71,23 @@ module _ {F S R P : Type 0} (name : R → NamedFile) (pages : SeriesPages) (path
       one (File number born right) (lent.Part points stamp) is of = absurd is
       one (Part born copies) (lent.File read stamp) is of = absurd is
       one (Part born copies) (lent.Part points stamp) is of = tt
+
+  one_told : (source : PinnedSource F S R P) (other : Source R) (points : List Point) → IsLentAs source other → HasTold name pages path source points → source_all name (pages path) other ≡ Some points
+  one_told (File number born right) (lent.File read stamp) points is has = ap (λ r. option_map joined (pages path (name r).number)) is.0 ∙ ap (option_map joined) has.1 ∙ ap (λ (l : List Point). Some l) (sym has.2)
+  one_told (File number born right) (lent.Part parts stamp) points is has = absurd is
+  one_told (Part born copies) (lent.File read stamp) points is has = absurd is
+  one_told (Part born copies) (lent.Part parts stamp) points is has = ap (λ (l : List Point). Some l) (is.0 ∙ sym has)
+
+  -- what a stream is told of the lent sources
+  pub all_told : (sources : List (PinnedSource F S R P)) (list : List (Source R)) (lists : List (List Point)) → AllZip IsLentAs sources list → AllZip (HasTold name pages path) sources lists
+      → map (source_all name (pages path)) list ≡ map (λ (l : List Point). Some l) lists
+  all_told [] [] [] zip has = refl
+  all_told [] [] (points ∷ lists) zip has = absurd has
+  all_told [] (other ∷ list) lists zip has = absurd zip
+  all_told (source ∷ sources) [] lists zip has = absurd zip
+  all_told (source ∷ sources) (other ∷ list) [] zip has = absurd has
+  all_told (source ∷ sources) (other ∷ list) (points ∷ lists) zip has =
+      ap (λ o. o ∷ map (source_all name (pages path)) list) (one_told source other points zip.0 has.0) ∙ ap (λ l. Some points ∷ l) (all_told sources list lists zip.1 has.1)
 
   module _ (range : Range) (marks : List Mark) where
     -- what a stream has of a lent source at first are the points of the source that are kept

@@ -1,6 +1,8 @@
 pub mod Lent
 pub mod Draining
 pub mod Tallied
+pub mod Weaving
+pub mod Counted
 pub mod Selected
 pub mod Told
 pub mod Held

@@ -1,17 +1,19 @@
-use Rattle.std.proofs.Common.{rules, ◌∙◌, ◌≤◌, Err, sym, subst, refl, arith}
+use Rattle.std.proofs.Common.{rules, ◌∙◌, ◌+◌, ◌≤◌, Err, sym, subst, refl, arith}
 use Rattle.std.specs.List.{AllByRecursion as Each, AllZip}
 use Rattle.std.proofs.lemmas.List.{take_all}
 use Rattle.std.proofs.lemmas.Result.{err_from_is_err_and}
 use Rattle.tsdb_columns.proofs.Reasons.{reason_memory, reason_ok, reason_then, same_reason}
 use Rattle.tsdb_path.specs.Nodes.{node_count}
+use Rattle.tsdb_pins.proofs.Counted.{read_all, read_more}
 use Rattle.tsdb_pins.proofs.Draining.{each_at, later_then}
 use Rattle.tsdb_pins.proofs.Lent.{zip_more}
 use Rattle.tsdb_pins.proofs.Selected.{values_read}
+use Rattle.tsdb_pins.specs.Clean.{TellsPages, column_read}
 use Rattle.tsdb_pins.specs.Reading.{IsValueRead, IsOfStore, IsToldIn, IsTrueIn}
 use Rattle.tsdb_pins.proofs.aggregating.aggregates.Goals as goal
 
 pub loop-column-init : goal.loop-column-init
-loop-column-init g c = (λ pages truth. search rules, omega arith, refl)
+loop-column-init g c = (λ pages truth. search rules, omega arith, refl, omega arith, λ told truth tells. omega arith)
 
 pub read_value-requires-clause-nodes : goal.read_value-requires-clause-nodes
 read_value-requires-clause-nodes g c = λ lifetimes lives.
@@ -31,6 +33,10 @@ loop-column-preserved g c =
           (done.read pages (each_at (λ column. Each (IsTrueIn file pages column.schema.path) column.sources) _ _ _ c.column-item.result c.items-column-items.ensures truth c.loop-column-test.true c.column-item.is)) (search rules),
       later_then _ _ _ inv.1 done.later,
       done.same_store ∙ inv.2,
+      later_then _ _ _ inv.3 done.counted,
+      λ told truth tells. read_more (column_read file told c.args.pin.now.range c.args.pin.now.marks.marks) _ _ c.column-item.result _ _ _ c.loop-column-test.true c.column-item.is (inv.4 told truth tells)
+          (done.most told (each_at (λ column. Each (IsTrueIn file told column.schema.path) column.sources) _ _ _ c.column-item.result c.items-column-items.ensures truth c.loop-column-test.true c.column-item.is)
+          (each_at (λ column. Each (TellsPages file told column.schema.path) column.sources) _ _ _ c.column-item.result c.items-column-items.ensures tells c.loop-column-test.true c.column-item.is)),
     )
 
 pub returns-in_err-read_value-clause-reason : goal.returns-in_err-read_value-clause-reason
@@ -46,6 +52,30 @@ returns-in_err-read_value-clause-later g c = later_then _ _ _ c.loop-column.inva
 
 pub returns-in_err-read_value-clause-same_store : goal.returns-in_err-read_value-clause-same_store
 returns-in_err-read_value-clause-same_store g c = c.in_err-read_value.ensures.same_store ∙ c.loop-column.invariant.2
+
+pub returns-in_err-read_value-clause-counted : goal.returns-in_err-read_value-clause-counted
+returns-in_err-read_value-clause-counted g c = later_then _ _ _ c.loop-column.invariant.3 c.in_err-read_value.ensures.counted
+
+pub returns-in_err-read_value-clause-most : goal.returns-in_err-read_value-clause-most
+returns-in_err-read_value-clause-most g c = λ told truth tells.
+    let file = g.F.Right.ReadRight.file in
+    let f = column_read file told c.args.pin.now.range c.args.pin.now.marks.marks in
+    read_all f _ _ (c.loop-column.column-index + 1) _ _ c.items-column-items.ensures
+    (read_more f _ _ c.column-item.result _ _ _ c.loop-column-test.true c.column-item.is (c.loop-column.invariant.4 told truth tells)
+    (c.in_err-read_value.ensures.most told (each_at (λ column. Each (IsTrueIn file told column.schema.path) column.sources) _ _ _ c.column-item.result c.items-column-items.ensures truth c.loop-column-test.true c.column-item.is)
+    (each_at (λ column. Each (TellsPages file told column.schema.path) column.sources) _ _ _ c.column-item.result c.items-column-items.ensures tells c.loop-column-test.true c.column-item.is)))
+
+pub returns-in_err-push-clause-counted : goal.returns-in_err-push-clause-counted
+returns-in_err-push-clause-counted g c = later_then _ _ _ c.loop-column.invariant.3 c.in_ok-read_value.ensures.counted
+
+pub returns-in_err-push-clause-most : goal.returns-in_err-push-clause-most
+returns-in_err-push-clause-most g c = λ told truth tells.
+    let file = g.F.Right.ReadRight.file in
+    let f = column_read file told c.args.pin.now.range c.args.pin.now.marks.marks in
+    read_all f _ _ (c.loop-column.column-index + 1) _ _ c.items-column-items.ensures
+    (read_more f _ _ c.column-item.result _ _ _ c.loop-column-test.true c.column-item.is (c.loop-column.invariant.4 told truth tells)
+    (c.in_ok-read_value.ensures.most told (each_at (λ column. Each (IsTrueIn file told column.schema.path) column.sources) _ _ _ c.column-item.result c.items-column-items.ensures truth c.loop-column-test.true c.column-item.is)
+    (each_at (λ column. Each (TellsPages file told column.schema.path) column.sources) _ _ _ c.column-item.result c.items-column-items.ensures tells c.loop-column-test.true c.column-item.is)))
 
 pub returns-in_err-push-clause-reason : goal.returns-in_err-push-clause-reason
 returns-in_err-push-clause-reason g c = λ pages truth.
@@ -74,3 +104,10 @@ returns-clause-later g c = c.loop-column.invariant.1
 
 pub returns-clause-same_store : goal.returns-clause-same_store
 returns-clause-same_store g c = c.loop-column.invariant.2
+
+pub returns-clause-counted : goal.returns-clause-counted
+returns-clause-counted g c = c.loop-column.invariant.3
+
+pub returns-clause-most : goal.returns-clause-most
+returns-clause-most g c = λ told truth tells.
+    read_all (column_read g.F.Right.ReadRight.file told c.args.pin.now.range c.args.pin.now.marks.marks) _ _ c.loop-column.column-index _ _ c.items-column-items.ensures (c.loop-column.invariant.4 told truth tells)
