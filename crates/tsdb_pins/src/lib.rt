@@ -2,7 +2,8 @@
 //! tsdb_columns, tsdb_lines, tsdb_aggregate, tsdb_pinned and tsdb_replay.
 //!
 //! A query takes neither the core nor any lock: it reads the pin's files through the port of its session. A column is a
-//! stream, so of each file only the pages are read that meet the range.
+//! stream, so of each file only the pages are read that meet the range. An aggregate takes the statistics of the pages
+//! that are clean, and reads the others.
 #![tactic(auto)]
 
 mod aggregating;
