@@ -11,7 +11,7 @@ use Rattle.tsdb_compacting.specs.Inputs.{input_numbers}
 use Rattle.tsdb_compacting.specs.declared.finishing.InputRuns.{InputRuns}
 use Rattle.tsdb_compactions.specs.declared.job.Job.{Job}
 use Rattle.tsdb_kept.specs.Files.{KeptFiles, kept_file}
-use Rattle.tsdb_kept.specs.Places.{KeptFile, OthersStay}
+use Rattle.tsdb_kept.specs.Places.{OthersStay}
 use Rattle.tsdb_kept.specs.Replacing.{HasReplaced, leaving_run, less_compaction, output_in, replace_run, run_length}
 use Rattle.tsdb_base.specs.declared.ids.Space.TheVariants.{Sequence, Unsequence}
 use Rattle.tsdb_layers.specs.Lists.{if_some}

@@ -1,5 +1,5 @@
 -- The files after a job was finished are those of the state in which its compaction is committed.
-use Rattle.std.proofs.Common.{◌≡◌, ℕ, ◌+◌, ◌-◌, ◌≤◌, ◌==◌, Bool, true, false, cond, List, [], ◌∷◌, ◌++◌, drop}
+use Rattle.std.proofs.Common.{◌≡◌, ℕ, ◌+◌, ◌≤◌, ◌==◌, Bool, true, false, cond, List, [], ◌∷◌, ◌++◌, drop}
 use Rattle.std.proofs.Common.{length, map, take, Option, Some, None, refl, sym, ap, subst, ◌∙◌, arith}
 use Rattle.std.specs.Cmp.{unsigned_Decides}
 use Rattle.std.specs.List.{AllByRecursion as Each}
@@ -19,7 +19,7 @@ use Rattle.tsdb_compactions.specs.Jobs.{IsCompactionOf, plain_numbers}
 use Rattle.tsdb_compactions.specs.declared.job.Job.{Job}
 use Rattle.tsdb_held.specs.Held.{AreFilesOf, entry_of, leaving, listed}
 use Rattle.tsdb_kept.proofs.Replaced.{run_parts}
-use Rattle.tsdb_kept.specs.Files.{AreKept, IsOpen, KeptFiles, entries_in, kept_file}
+use Rattle.tsdb_kept.specs.Files.{AreKept, IsOpen, KeptFiles, kept_file}
 use Rattle.tsdb_kept.specs.Places.{KeptFile}
 use Rattle.tsdb_kept.specs.Replacing.{IsWithin, leaving as sent, output_in, replace_run, run_length}
 use Rattle.tsdb_layers.proofs.Lists.{each_append, each_left, each_right}

@@ -1,5 +1,5 @@
 -- The runs of a job have the inputs of its compaction.
-use Rattle.std.proofs.Common.{◌≡◌, ℕ, zero, suc, ◌+◌, ◌-◌, ◌<◌, ◌≤◌, List, [], ◌∷◌, ◌++◌, drop, get_or, length, map}
+use Rattle.std.proofs.Common.{◌≡◌, ℕ, zero, suc, ◌<◌, ◌≤◌, List, [], ◌∷◌, ◌++◌, drop, get_or, length, map}
 use Rattle.std.proofs.Common.{take}
 use Rattle.std.proofs.Common.{refl, sym, ap, subst, ◌∙◌, arith}
 use Rattle.std.specs.Prelude.{slice_range}
@@ -48,7 +48,7 @@ head_at (suc place) long (x ∷ xs) y ys is =
     let rest = head_at place long xs y ys is in
     record { within = omega (arith, rest.within); at = rest.at }
 
-listed_numbers : (entries : List FileEntry) → numbers_of (map listed entries) ≡ entry_numbers entries
+pub listed_numbers : (entries : List FileEntry) → numbers_of (map listed entries) ≡ entry_numbers entries
 listed_numbers [] = refl
 listed_numbers (entry ∷ entries) = ap (λ rest. entry.number.0 ∷ rest) (listed_numbers entries)
 

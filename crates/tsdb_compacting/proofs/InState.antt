@@ -36,7 +36,7 @@ use Rattle.tsdb_plan.specs.declared.entry.FileEntry.{FileEntry}
 use Rattle.tsdb_plan.specs.declared.entry.Run.{Run}
 use Rattle.tsdb_state.specs.Jobs.{job_inputs}
 use Rattle.tsdb_state.specs.Records as records
-use Rattle.tsdb_state.specs.State.{Compaction, EngineState, Entries, File}
+use Rattle.tsdb_state.specs.State.{Compaction, EngineState, Entries}
 use Rattle.tsdb_state.specs.Steps.{began, ended}
 
 -- ---- claims
@@ -46,7 +46,7 @@ claims_listed : (claimed : Bool) (entries : List FileEntry)
 claims_listed claimed [] = refl
 claims_listed claimed (entry ∷ entries) = ap (λ rest. listed entry ∷ rest) (claims_listed claimed entries)
 
-run_listed : (claimed : Bool) (run : Run) (entries : List FileEntry) → IsWithin run entries
+pub run_listed : (claimed : Bool) (run : Run) (entries : List FileEntry) → IsWithin run entries
     → map listed (claim_run run claimed entries) ≡ map listed entries
 run_listed claimed run entries within =
     let front = take run.first entries in
@@ -82,7 +82,7 @@ counted_among (e ∷ entries) entry (inl is) =
 counted_among (e ∷ entries) entry (inr among) =
     let rest = counted_among entries entry among in omega (arith, rest)
 
-kept_among : (space : Space) (files : KeptFiles) → AreKept files → (entry : FileEntry)
+pub kept_among : (space : Space) (files : KeptFiles) → AreKept files → (entry : FileEntry)
     → Among entry (entries_in space files) → IsSome (kept_file entry.number.0 files)
 kept_among space files kept entry among = by (kept_file entry.number.0 files) refl (one space among)
   where
@@ -128,7 +128,7 @@ module _ {F S R P : Type 0} where
       ≡ option_map (λ place. option_map (fewer_rights (count number (input_numbers job.inputs))) place)
       (place_at number old.places)
 
-  same_numbers : (inputs : List (Input F S R P)) → records.numbers_of (map input_file inputs) ≡ input_numbers inputs
+  pub same_numbers : (inputs : List (Input F S R P)) → records.numbers_of (map input_file inputs) ≡ input_numbers inputs
   same_numbers [] = refl
   same_numbers (input ∷ inputs) = ap (λ rest. input.number.0 ∷ rest) (same_numbers inputs)
 

@@ -7,3 +7,9 @@ pub mod InState
 pub mod Standing
 pub mod Taken
 pub mod Telling
+pub mod Gathering
+pub mod Moments
+pub mod Ordered
+pub mod Out
+pub mod Schemas
+pub mod Truth

@@ -1,6 +1,6 @@
 -- Where files stand in a list in which each number stands once.
 use Rattle.std.proofs.Common.{◌≡◌, ◌≢◌, ℕ, Some, zero, suc, ◌+◌, ◌-◌, ◌<◌, ◌≤◌, ◌==◌, cond, List, [], ◌∷◌, ◌++◌, drop}
-use Rattle.std.proofs.Common.{length, map}
+use Rattle.std.proofs.Common.{length}
 use Rattle.std.proofs.Common.{get_or, take, refl, sym, ap, subst, ◌∙◌, arith}
 use Rattle.std.specs.Cmp.{unsigned_Decides}
 use Rattle.std.specs.Prelude.{slice_get, slice_range}
@@ -13,7 +13,6 @@ use Rattle.tsdb_kept.specs.Replacing.{IsWithin}
 use Rattle.tsdb_layers.proofs.Lists.{count_append}
 use Rattle.tsdb_layers.specs.Lists.{IsRun, count}
 use Rattle.tsdb_plan.specs.declared.entry.FileEntry.{FileEntry}
-use Rattle.tsdb_plan.specs.declared.entry.Run.{Run}
 
 itself : (n : ℕ) → ◌≡◌ {A = ℕ} (cond (n == n) 1 0) 1
 itself n = ap {B = ℕ} (λ b. cond b 1 0) ((unsigned_Decides n n).1 refl)

@@ -27,7 +27,6 @@ use Rattle.tsdb_pinning.proofs.Changing.{takes_then}
 use Rattle.tsdb_pinning.specs.Changes.{ChangesFiles, GivesRights, KeepsFiles, TakesRights, fewer_rights, more_rights}
 use Rattle.tsdb_plan.specs.declared.entry.FileEntry.{FileEntry}
 use Rattle.tsdb_plan.specs.declared.entry.Run.{Run}
-use Rattle.tsdb_state.specs.State.{File}
 
 pub on_err : {T E P : Type 0} (r : Result T E) → P → OnErr r P
 on_err (Ok x) p = tt

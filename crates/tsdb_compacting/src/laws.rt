@@ -1,21 +1,34 @@
 //! The laws. The functions do nothing; their contracts say them.
-ghost use Rattle.std.specs.Prelude.{◌≡◌, ◌≤◌, ℕ, IfSome, List, Option};
+ghost use Rattle.std.specs.Prelude.{◌≡◌, ◌+◌, ◌≤◌, ℕ, IfSome, List, Option, Some};
+ghost use Rattle.tsdb_base.specs.declared.value.Value.{Value};
 ghost use Rattle.tsdb_committing.specs.Files.{NewFile, known_entry, number_of};
 ghost use Rattle.tsdb_base.specs.declared.ids.Space.{Space as SpaceOf};
 ghost use Rattle.tsdb_compacting.specs.Beginning.{AreBegun, run_files};
 ghost use Rattle.tsdb_compacting.specs.Ending.{GivesUp};
 ghost use Rattle.tsdb_compacting.specs.Finishing.{AreRunsOf, Finishes};
+ghost use Rattle.tsdb_compacting.specs.Series.{AreOfJob, run_paths};
 ghost use Rattle.tsdb_compacting.specs.States.{AreInputsIn, IsFresh, IsNewOf, IsPlaceOf, TellsOutput};
 ghost use Rattle.tsdb_compacting.specs.States.{sent_files};
 ghost use Rattle.tsdb_compacting.specs.declared.finishing.InputRuns.{InputRuns};
+ghost use Rattle.tsdb_compacting.specs.declared.series.JobSeries.{JobSeries as SeriesOf};
 ghost use Rattle.tsdb_compactions.specs.Jobs.{IsCompactionOf};
+ghost use Rattle.tsdb_compactions.specs.Outputs.{HasSchema};
+ghost use Rattle.tsdb_compactions.specs.Plans.{IsOfMoment};
 ghost use Rattle.tsdb_held.specs.Held.{AreFilesOf, TellTheirBytes};
 ghost use Rattle.tsdb_kept.specs.Files.{AreKept, IsOpen, KeptFiles};
 ghost use Rattle.tsdb_kept.specs.Replacing.{IsWithin};
+ghost use Rattle.tsdb_layers.specs.Layers.{value_in};
+ghost use Rattle.tsdb_layers.specs.Places.{Place};
+ghost use Rattle.tsdb_marks.specs.declared.marks.Mark.{Mark};
+ghost use Rattle.tsdb_memory.specs.Shown.{IsMemoryOf};
+ghost use Rattle.tsdb_memory.specs.Store.{Store};
 ghost use Rattle.tsdb_outside.specs.Files.{StoredFile};
 ghost use Rattle.tsdb_state.specs.Jobs.{HasKind, Stands, job_inputs};
+ghost use Rattle.tsdb_state.specs.Limits.{end_of_numbers};
+ghost use Rattle.tsdb_state.specs.Order.{IsInOrder};
 ghost use Rattle.tsdb_state.specs.State.{Compaction, EngineState, Entries, Told};
 ghost use Rattle.tsdb_state.specs.Steps.{IsOutputPlace, began, committed, ended};
+ghost use Rattle.tsdb_state.specs.Views.{file_layers};
 
 use crate::beginning::TakenInputs;
 use tsdb_compactions::Job;
@@ -76,4 +89,27 @@ pub fn tokens_tell_on<F: Files>(_taken: &TakenInputs<F>, _job: &Job<F>)
     ensures finished { (runs : InputRuns) (old new : KeptFiles) (kept told : List StoredFile) (file : Option NewFile)
         → TellTheirBytes old kept → TellsOutput _job.now.output.0 file kept told
         → Finishes old new _job.now runs file → TellTheirBytes new told }
+{}
+
+/// A compaction of the files of the runs, with the stamp, the next number, and the marks that memory has of their
+/// series, is of its moment.
+pub fn the_marks_of_a_job_are_of_its_moment()
+    ensures { (files : KeptFiles) (runs : InputRuns) (store : Store) (series : SeriesOf) (known : Entries)
+        (engine : EngineState) (job : Compaction) → AreFilesOf files known engine → AreKept files
+        → IsWithin runs.sequence files.sequence → IsWithin runs.unsequence files.unsequence
+        → IsMemoryOf store engine.store → AreOfJob (run_paths runs files) store series
+        → job_inputs job ≡ run_files runs files → job.marks ≡ series.marks.marks → job.born ≡ store.stamp
+        → job.output ≡ engine.next_file → engine.next_file + 2 ≤ end_of_numbers → IsOfMoment known engine job }
+{}
+
+/// Each value that the files of the runs have at a place, under whatever marks, is of a series that has its schema, in
+/// a state in order.
+pub fn a_winner_of_a_job_has_its_schema()
+    ensures { (told : Told) (known : Entries) (named : List ℕ) (engine : EngineState) (files : KeptFiles)
+        (runs : InputRuns) (store : Store) (series : SeriesOf) (marks : List Mark) (place : Place) (value : Value)
+        → IsInOrder told known named engine → AreFilesOf files known engine → AreKept files
+        → IsWithin runs.sequence files.sequence → IsWithin runs.unsequence files.unsequence
+        → IsMemoryOf store engine.store → AreOfJob (run_paths runs files) store series
+        → value_in marks place (file_layers told (run_files runs files)) ≡ Some value
+        → HasSchema series.schemas place value }
 {}
