@@ -15,11 +15,12 @@ use Rattle.tsdb_committing.specs.Coming.{AreSentOut, HaveCome, StandLast}
 use Rattle.tsdb_committing.specs.Files.{AreAllThere, AreOfJob, IsOutAs, NewFile, NewFiles, TellBytes, all_of, number_of}
 use Rattle.tsdb_committing.specs.Files.{state_files}
 use Rattle.tsdb_committing.specs.Files.{with_files}
+use Rattle.tsdb_core.proofs.Claims.{after_commit, claims_stay, same_lists}
 use Rattle.tsdb_core.proofs.Parts.{both_come, both_lists}
 use Rattle.tsdb_core.proofs.Built.{room_first, room_second}
 use Rattle.tsdb_core.proofs.Jobs.{drawn_is, is_open, others_kept, parts_apart, places, same_kept}
 use Rattle.tsdb_core.proofs.Seen.{jobs_stay}
-use Rattle.tsdb_core.specs.Core.{IsSeen, KeepsJobs}
+use Rattle.tsdb_core.specs.Core.{AreClaimed, IsSeen, KeepsJobs}
 use Rattle.tsdb_core.specs.Ending.{IsLeastWith, PartEnds, drawn_for, less_if, number_for}
 use Rattle.tsdb_core.specs.Ending.{numbers_if}
 use Rattle.tsdb_core.specs.Flushes.{AppendsFlush, EndsFlush as EndsInCore, HasNumbersOf, IsAbandoned, IsCommit}
@@ -123,6 +124,8 @@ module _ {J F S R P : Type 0} {means : disk.Ghosts J} {counts : counted.Ghosts J
       told = places_told old.files files outside.kept made seen.told;
       next = seen.next;
       jobs = same_kept old logged files prepared.record_room made spare engine.flushes engine.compactions seen.jobs;
+      claims = claims_stay old (record old { logged = logged; files = files }) engine.compactions
+          (same_lists old.files files lists.sequence lists.unsequence) refl seen.claims;
     };
   }
 
@@ -150,6 +153,7 @@ module _ {J F S R P : Type 0} {means : disk.Ghosts J} {counts : counted.Ghosts J
           is_out keeps files new come drawn (second.room ∙ ap (less_if Unsequence job.unsequence) first.room);
       next = refl;
       limit = refl;
+      claimed = refl;
     }
 
   -- what each part's end needs
@@ -229,6 +233,9 @@ module _ {J F S R P : Type 0} {means : disk.Ghosts J} {counts : counted.Ghosts J
     jobs = ends.jobs flush others engine.flushes engine.compactions has out.out
         (jobs_stay old logged more engine.flushes engine.compactions seen.jobs)
 
+    claims : AreClaimed new engine.compactions
+    claims = claims_stay old new engine.compactions (after_commit commit files old.files kept ends.lists) refl seen.claims
+
     -- what the core shows with the files told is sound
     sound : IsSound old.logged later engine
     sound = record {
@@ -269,6 +276,7 @@ module _ {J F S R P : Type 0} {means : disk.Ghosts J} {counts : counted.Ghosts J
       told = told;
       next = seen.next;
       jobs = jobs;
+      claims = claims;
     }
 
     module _ (all : AreAllThere job files) (listed : Option Stamp) (is_oldest : IsOldest job (memory_of old.logged))
@@ -302,6 +310,7 @@ module _ {J F S R P : Type 0} {means : disk.Ghosts J} {counts : counted.Ghosts J
         told = told;
         next = seen.next;
         jobs = jobs;
+        claims = claims;
       }
 
       pub commit_keeps : KeepsStoreWorld later.told engine.store (committed_flush flush others engine).store
@@ -354,6 +363,7 @@ module _ {J F S R P : Type 0} {means : disk.Ghosts J} {counts : counted.Ghosts J
             told = told;
             next = seen.next;
             jobs = jobs;
+            claims = claims;
           }
 
           by : IsSound logged later (settled ended)
@@ -387,6 +397,7 @@ module _ {J F S R P : Type 0} {means : disk.Ghosts J} {counts : counted.Ghosts J
         (jobs_stay old logged more flushes compactions keeps);
     next = ends.next;
     limit = ends.limit;
+    claimed = ends.claimed;
   }
 
   module _ (old : Core J F S R P means counts) (logged : Logged J means counts) (kept : KeptFiles) (job : FlushJob)

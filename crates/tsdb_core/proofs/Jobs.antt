@@ -50,7 +50,7 @@ pub drawn_is : (job : FlushJob) (flush : state.FlushJob) → HasNumbersOf job fl
 drawn_is job flush has = (λ i. if_some (has.sequence i) ++ if_some (has.unsequence i))
     ∙ (λ i. numbers_plain job.sequence i ++ numbers_plain job.unsequence i)
 
-is_counted : (n : ℕ) (numbers : List ℕ) → Among n numbers → 1 ≤ count n numbers
+pub is_counted : (n : ℕ) (numbers : List ℕ) → Among n numbers → 1 ≤ count n numbers
 is_counted n numbers among = counted n numbers (any_among (nat_eq n) numbers n among (eq-eqb n n refl))
 
 same_number : (a n : ℕ) → (a == n) ≡ true → a ≡ n

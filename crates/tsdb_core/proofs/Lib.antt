@@ -11,3 +11,4 @@ pub mod ListingLemmas
 pub mod Opened
 pub mod RowMoments
 pub mod PinSteps
+pub mod Claims

@@ -36,4 +36,5 @@ module _ {J F S R P : Type 0} {means : disk.Ghosts J} {counts : counted.Ghosts J
     told = told;
     next = is;
     jobs = quiet_jobs core above;
+    claims = record { late = tt; sequence = λ free. tt };
   }

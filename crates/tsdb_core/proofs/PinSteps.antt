@@ -3,7 +3,8 @@ use Rattle.std.proofs.Common.{◌≡◌, ℕ, List, Option, None, Some, Result, 
 use Rattle.std.specs.Prelude.{◌<◌, IfOk, IfSome, OnErr}
 use Rattle.std.specs.List.{AllByRecursion as Each}
 use Rattle.std.specs.Option.{option_map}
-use Rattle.tsdb_core.specs.Core.{IsSeen, KeepsJobs, files_of, logged_of, next_of}
+use Rattle.tsdb_core.proofs.Claims.{claims_stay, same_lists}
+use Rattle.tsdb_core.specs.Core.{AreClaimed, IsSeen, KeepsJobs, files_of, logged_of, next_of}
 use Rattle.tsdb_core.specs.Pins.{ChangesRights, IsNotPinned, IsPinStep, IsPinned, IsUnpinned}
 use Rattle.tsdb_core.specs.Worlds.{IsWorldOf, KeepsWorld}
 use Rattle.tsdb_core.specs.declared.engine.Core.{Core}
@@ -77,9 +78,15 @@ module _ {J F S R P : Type 0} {means : disk.Ghosts J} {counts : counted.Ghosts J
       logged = refl;
       next = refl;
       limit = refl;
+      claimed = refl;
       jobs = jobs_stay;
       store = λ store all. names_stay (λ n name. name.store ≡ store) change leaves old.files files changes all;
     }
+
+    claims_on : (compactions : List Compaction) → AreClaimed old compactions
+        → AreClaimed (with_files old files) compactions
+    claims_on compactions = claims_stay old (with_files old files) compactions
+        (same_lists old.files files changes.lists.sequence changes.lists.unsequence) refl
 
     tells_on : (kept : List StoredFile) → TellTheirBytes old.files kept → TellTheirBytes files kept
     tells_on kept told = names_stay (λ n name. (name.number ≡ n) × (name.bytes ≡ kept_bytes kept n)) change leaves old.files
@@ -120,6 +127,7 @@ module _ {J F S R P : Type 0} {means : disk.Ghosts J} {counts : counted.Ghosts J
               told = tells_on old files change leaves rights outside.kept seen.told;
               next = seen.next;
               jobs = jobs_stay old files change leaves rights engine.flushes engine.compactions seen.jobs;
+              claims = claims_on old files change leaves rights engine.compactions seen.claims;
             };
             world = λ world stands. pin_stands outside.told outside.known engine seen.sound.stored.order.entries world stands
                 one.shown one.takes;
@@ -148,6 +156,7 @@ module _ {J F S R P : Type 0} {means : disk.Ghosts J} {counts : counted.Ghosts J
         told = tells_on old files same leaves keeps outside.kept seen.told;
         next = seen.next;
         jobs = jobs_stay old files same leaves keeps engine.flushes engine.compactions seen.jobs;
+        claims = claims_on old files same leaves keeps engine.compactions seen.claims;
       }
 
   pub is_unpinned : (old : Core J F S R P means counts) (files : KeptFiles) (pin : Pin F S R P)
@@ -178,6 +187,7 @@ module _ {J F S R P : Type 0} {means : disk.Ghosts J} {counts : counted.Ghosts J
         told = tells_on old files change leaves rights outside.kept seen.told;
         next = seen.next;
         jobs = jobs_stay old files change leaves rights engine.flushes engine.compactions seen.jobs;
+        claims = claims_on old files change leaves rights engine.compactions seen.claims;
       }
 
   -- worlds

@@ -170,6 +170,7 @@ module _ {J F S R P : Type 0} {means : disk.Ghosts J} {counts : counted.Ghosts J
     files = second.files ∙ first.files;
     next = second.next ∙ first.next;
     limit = second.limit ∙ first.limit;
+    claimed = second.claimed ∙ first.claimed;
     jobs = λ flushes compactions jobs. second.jobs flushes compactions (first.jobs flushes compactions jobs);
   }
 
@@ -178,6 +179,7 @@ module _ {J F S R P : Type 0} {means : disk.Ghosts J} {counts : counted.Ghosts J
     files = refl;
     next = refl;
     limit = refl;
+    claimed = refl;
     jobs = λ flushes compactions jobs. jobs;
   })
 

@@ -9,8 +9,9 @@ use Rattle.tsdb_base.specs.declared.answers.Answer.TheVariants as answer
 use Rattle.tsdb_base.specs.declared.ids.FileNumber.{FileNumber}
 use Rattle.tsdb_base.specs.declared.ids.Stamp.{Stamp}
 use Rattle.tsdb_base.specs.declared.point.Range.{Range}
+use Rattle.tsdb_core.proofs.Claims.{claims_stay, same_lists}
 use Rattle.tsdb_core.specs.Commands.{IsCoreCommand, IsSeenAfter}
-use Rattle.tsdb_core.specs.Core.{IsSeen, KeepsJobs, next_of}
+use Rattle.tsdb_core.specs.Core.{AreClaimed, IsSeen, KeepsJobs, next_of}
 use Rattle.tsdb_core.specs.Sweeps.{IsSwept, IsSweptOf, without_files}
 use Rattle.tsdb_core.specs.declared.engine.Core.{Core}
 use Rattle.tsdb_frames.specs.Frames.{is_aside_in_doubt}
@@ -97,33 +98,37 @@ module _ {J F S R P : Type 0} {means : disk.Ghosts J} {counts : counted.Ghosts J
     abbrev new : Core J F S R P means counts
     new = record old { logged = logged }
 
+    claimed : AreClaimed new state.compactions
+    claimed = record { late = seen.claims.late; sequence = seen.claims.sequence }
+
     -- the files are those of a state with the same lists
     shown : (later : Outside) (other : EngineState) → later.known ≡ outside.known → later.kept ≡ outside.kept
         → other.store.sequence ≡ state.store.sequence → other.store.unsequence ≡ state.store.unsequence
         → other.outgoing ≡ state.outgoing → other.rights ≡ state.rights → other.next_file ≡ state.next_file
-        → KeepsJobs new other.flushes other.compactions → IsSound logged later other
-        → IsSeen new later other
-    shown later other known kept sequence unsequence outgoing rights next still sound = record {
+        → KeepsJobs new other.flushes other.compactions → AreClaimed new other.compactions
+        → IsSound logged later other → IsSeen new later other
+    shown later other known kept sequence unsequence outgoing rights next still claims sound = record {
       sound = sound;
       files = files_as old.files later.known state other sequence unsequence outgoing rights
           (subst (λ (entries : Entries). AreFilesOf old.files entries state) (sym known) seen.files);
       told = subst (λ stored. TellTheirBytes old.files stored) (sym kept) seen.told;
       next = seen.next ∙ sym next;
       jobs = still;
+      claims = claims;
     }
 
     seen_after : (result : Answer) → IsAfter logged outside state item result → IsSeenAfter new outside state item result
     seen_after answer.Done sound = shown (with_record item outside) (wrote item state) refl refl
-        (keeps.sequence state.store) (keeps.unsequence state.store) refl refl refl jobs sound
-    seen_after answer.NoPath sound = shown outside state refl refl refl refl refl refl refl jobs sound
-    seen_after answer.WrongType sound = shown outside state refl refl refl refl refl refl refl jobs sound
-    seen_after answer.Exists sound = shown outside state refl refl refl refl refl refl refl jobs sound
-    seen_after answer.Device (inl sound) = inl (shown outside (settled state) refl refl refl refl refl refl refl jobs sound)
-    seen_after answer.Device (inr (inl sound)) = inr (inl (shown outside state refl refl refl refl refl refl refl jobs sound))
+        (keeps.sequence state.store) (keeps.unsequence state.store) refl refl refl jobs claimed sound
+    seen_after answer.NoPath sound = shown outside state refl refl refl refl refl refl refl jobs claimed sound
+    seen_after answer.WrongType sound = shown outside state refl refl refl refl refl refl refl jobs claimed sound
+    seen_after answer.Exists sound = shown outside state refl refl refl refl refl refl refl jobs claimed sound
+    seen_after answer.Device (inl sound) = inl (shown outside (settled state) refl refl refl refl refl refl refl jobs claimed sound)
+    seen_after answer.Device (inr (inl sound)) = inr (inl (shown outside state refl refl refl refl refl refl refl jobs claimed sound))
     seen_after answer.Device (inr (inr sound)) =
-        inr (inr (shown outside (failed item state) refl refl refl refl refl refl refl jobs sound))
-    seen_after answer.Memory sound = shown outside state refl refl refl refl refl refl refl jobs sound
-    seen_after (answer.Full counter) sound = shown outside state refl refl refl refl refl refl refl jobs sound
+        inr (inr (shown outside (failed item state) refl refl refl refl refl refl refl jobs claimed sound))
+    seen_after answer.Memory sound = shown outside state refl refl refl refl refl refl refl jobs claimed sound
+    seen_after (answer.Full counter) sound = shown outside state refl refl refl refl refl refl refl jobs claimed sound
 
   pub core_command : (old : Core J F S R P means counts) (logged : Logged J means counts) (item : LogRecord)
       (Needs Asks : EngineState → Type 0) (result : Answer) → KeepsLists item
@@ -137,7 +142,13 @@ module _ {J F S R P : Type 0} {means : disk.Ghosts J} {counts : counted.Ghosts J
     moments = λ outside state seen needs. command.moments outside state seen.sound (asks outside state seen needs);
     refused = λ is. ap (λ later. record old { logged = later }) (command.refused is);
     memory = λ is. (command.memory is).log;
-    kept = record { files = refl; next = refl; limit = refl; jobs = jobs_stay old logged command.room };
+    kept = record {
+      files = refl;
+      next = refl;
+      limit = refl;
+      claimed = refl;
+      jobs = jobs_stay old logged command.room;
+    };
     slot = command.slot;
     cause = command.cause;
     later = command.later;
@@ -217,6 +228,8 @@ module _ {J F S R P : Type 0} {means : disk.Ghosts J} {counts : counted.Ghosts J
             told = tell_on old.files files doubted part outside.kept seen.told leaves;
             next = seen.next;
             jobs = jobs state.flushes state.compactions seen.jobs;
+            claims = claims_stay old (record old { files = files }) state.compactions
+                (same_lists old.files files leaves.sequence leaves.unsequence) refl seen.claims;
           }
 
   pub is_swept : (old : Core J F S R P means counts) (files : KeptFiles) (doubted : List (Option FileNumber))
@@ -236,6 +249,7 @@ module _ {J F S R P : Type 0} {means : disk.Ghosts J} {counts : counted.Ghosts J
     logged = refl;
     next = refl;
     limit = refl;
+    claimed = refl;
     counted = counted;
     all = swept_of old files doubted old.files.outgoing (λ file among. among) named leaves;
     stopped = tt;
@@ -247,6 +261,7 @@ module _ {J F S R P : Type 0} {means : disk.Ghosts J} {counts : counted.Ghosts J
     logged = refl;
     next = refl;
     limit = refl;
+    claimed = refl;
     counted = tt;
     all = tt;
     stopped = (

@@ -1,12 +1,13 @@
 -- What taking a flush makes of a core, and of the states that it shows.
 use Rattle.std.proofs.Common.{◌≡◌, ℕ, ◌+◌, ◌≤◌, List, ◌++◌, length, Option, None, Some}
-use Rattle.std.proofs.Common.{ap, arith, length-append, sym, subst, ◌∙◌}
+use Rattle.std.proofs.Common.{ap, arith, length-append, refl, sym, subst, ◌∙◌}
 use Rattle.std.proofs.lemmas.List.{map-append}
 use Rattle.std.specs.Arc.{arc_value}
 use Rattle.std.specs.List.{range_with_len}
 use Rattle.std.specs.Option.{IsSomeAnd}
 use Rattle.std.specs.Prelude.{slice_get}
 use Rattle.tsdb_base.specs.declared.ids.FileNumber.{FileNumber}
+use Rattle.tsdb_core.proofs.Claims.{claims_stay, same_lists}
 use Rattle.tsdb_core.proofs.Commits.{places_told, prepared_sound}
 use Rattle.tsdb_core.proofs.Jobs.{one_more_kept}
 use Rattle.tsdb_core.specs.Core.{IsSeen, next_of}
@@ -103,6 +104,8 @@ module _ {J F S R P : Type 0} {means : disk.Ghosts J} {counts : counted.Ghosts J
             (drawn_for job))
             numbers (omega (arith, left, two_at_most job)) made placed room logged next is_next prepared.record_room
             enough;
+        claims = claims_stay old new engine.compactions (same_lists old.files files lists.sequence lists.unsequence) refl
+            seen.claims;
       },
     )
       where

@@ -1,7 +1,8 @@
 -- Which state of the engine a core shows, and what it keeps for the jobs that are out.
-use Rattle.std.specs.Prelude.{◌≡◌, ◌≤◌, ◌<◌, ◌-◌, ℕ, List, Option, IfSome, length, slice_get}
+use Rattle.std.specs.Prelude.{◌≡◌, ◌≤◌, ◌<◌, ◌-◌, ◌==◌, ◌&&◌, ℕ, Bool, false, List, ◌++◌, Option, IfSome, length}
+use Rattle.std.specs.Prelude.{slice_get}
 use Rattle.std.specs.Option.{option_map}
-use Rattle.std.specs.List.{AllByRecursion as Each}
+use Rattle.std.specs.List.{AllByRecursion as Each, list_any}
 use Rattle.tsdb_core.specs.declared.engine.Core.{Core}
 use Rattle.tsdb_held.specs.Held.{AreFilesOf, TellTheirBytes}
 use Rattle.tsdb_kept.specs.Files.{IsOpen, KeptFiles, kept_file}
@@ -13,7 +14,8 @@ use Rattle.tsdb_memtable.specs.Pairs.{Pair}
 use Rattle.tsdb_outside.specs.declared.disk.Disk as disk
 use Rattle.tsdb_outside.specs.declared.faults.Counted as counted
 use Rattle.tsdb_state.specs.Jobs.{KeepsRoom, drawn_numbers}
-use Rattle.tsdb_state.specs.State.{Compaction, EngineState, FlushJob, Room}
+use Rattle.tsdb_state.specs.Plans.{ClaimLate, IsSequenceFree}
+use Rattle.tsdb_state.specs.State.{Compaction, EngineState, File, FlushJob, Room}
 
 -- the number is one, and above those of all kept files
 pub record IsAbove (next : ℕ) (files : KeptFiles) : Type 0 where
@@ -23,6 +25,11 @@ pub record IsAbove (next : ℕ) (files : KeptFiles) : Type 0 where
 -- the born of the last of the frozen pairs
 abbrev pub newest_born : List FrozenPair → Option ℕ
 newest_born frozen = option_map (λ pair. pair.born) (slice_get frozen (length frozen - 1))
+
+-- a listed file of this number is claimed by a job
+abbrev pub is_claimed : KeptFiles → File → Bool
+is_claimed files file =
+    list_any (λ entry. (entry.number.0 == file.number) && entry.claimed) (files.sequence ++ files.unsequence)
 
 module _ {J F S R P : Type 0} {means : disk.Ghosts J} {counts : counted.Ghosts J} where
   -- what is in memory behind its log
@@ -44,6 +51,16 @@ module _ {J F S R P : Type 0} {means : disk.Ghosts J} {counts : counted.Ghosts J
   -- the number that the next file gets
   abbrev pub next_of : Core J F S R P means counts → ℕ
   next_of core = core.next_file
+
+  -- a job with a sequence output is out
+  abbrev pub is_sequence_claimed : Core J F S R P means counts → Bool
+  is_sequence_claimed core = core.sequence_claimed
+
+  -- What the compactions that are out have claimed is claimed: their late inputs, and the sequence list where one of
+  -- them has a sequence output.
+  pub record AreClaimed (core : Core J F S R P means counts) (compactions : List Compaction) : Type 0 where
+    pub late : ClaimLate (is_claimed (files_of core)) compactions
+    pub sequence : is_sequence_claimed core ≡ false → IsSequenceFree compactions
 
   -- the room kept for the ends of jobs: places for files, and bytes of a record
   abbrev pub kept_room : Core J F S R P means counts → Room
@@ -67,10 +84,11 @@ module _ {J F S R P : Type 0} {means : disk.Ghosts J} {counts : counted.Ghosts J
     pub room : KeepsRoom (kept_room core) flushes compactions
 
   -- The log and memory are sound for the state, the files are those of the state, and they tell what is kept; the next
-  -- number is that of the state, and its jobs are kept.
+  -- number is that of the state, its jobs are kept, and its compactions have their claims.
   pub record IsSeen (core : Core J F S R P means counts) (outside : Outside) (state : EngineState) : Type 0 where
     pub sound : IsSound (logged_of core) outside state
     pub files : AreFilesOf (files_of core) outside.known state
     pub told : TellTheirBytes (files_of core) outside.kept
     pub next : next_of core ≡ state.next_file
     pub jobs : KeepsJobs core state.flushes state.compactions
+    pub claims : AreClaimed core state.compactions

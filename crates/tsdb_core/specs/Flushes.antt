@@ -9,7 +9,8 @@ use Rattle.tsdb_base.specs.declared.ids.FileNumber.{FileNumber}
 use Rattle.tsdb_base.specs.declared.ids.Stamp.{Stamp}
 use Rattle.tsdb_committing.specs.Coming.{HaveCome}
 use Rattle.tsdb_committing.specs.Files.{IsOutAs, NewFiles, TellBytes, all_of, state_files, told_with, with_files}
-use Rattle.tsdb_core.specs.Core.{IsSeen, KeepsJobs, files_of, limit_of, logged_of, next_of, working_of}
+use Rattle.tsdb_core.specs.Core.{IsSeen, KeepsJobs, files_of, is_sequence_claimed, limit_of, logged_of, next_of}
+use Rattle.tsdb_core.specs.Core.{working_of}
 use Rattle.tsdb_core.specs.Ending.{AreAfterCommit, IsLeastWith, drawn_for, number_for}
 use Rattle.tsdb_core.specs.Worlds.{IsWorldOf}
 use Rattle.tsdb_core.specs.declared.engine.Core.{Core}
@@ -88,6 +89,7 @@ module _ {J F S R P : Type 0} {means : disk.Ghosts J} {counts : counted.Ghosts J
     pub lists : KeepsLists (files_of old) (files_of new)
     pub places : OnlyMakesPlaces (files_of old).places (files_of new).places
     pub limit : limit_of new ≡ limit_of old
+    pub claimed : is_sequence_claimed new ≡ is_sequence_claimed old
 
   -- no flush was taken: the core shows the same states, and keeps what it kept for jobs
   pub record IsNotTaken (old new : Core J F S R P means counts) : Type 0 where
@@ -146,6 +148,7 @@ module _ {J F S R P : Type 0} {means : disk.Ghosts J} {counts : counted.Ghosts J
         → KeepsJobs new others compactions
     pub next : next_of new ≡ next_of old
     pub limit : limit_of new ≡ limit_of old
+    pub claimed : is_sequence_claimed new ≡ is_sequence_claimed old
 
   -- The state after a commit: done, the files are listed, and the pair is frozen no longer; gone, they are on their way
   -- out; the device failed, they are too, and none is in doubt, or what was, or this record.

@@ -3,6 +3,7 @@ pub mod Ending
 pub mod Flushes
 pub mod Limits
 pub mod Commands
+pub mod Compactions
 pub mod Sweeps
 pub mod Worlds
 pub mod Rows

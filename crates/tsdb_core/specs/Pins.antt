@@ -2,7 +2,7 @@
 use Rattle.std.specs.Prelude.{◌≡◌, List, Result}
 use Rattle.std.specs.declared.result.Result.TheVariants.{Ok, Err}
 use Rattle.tsdb_base.specs.declared.point.Range.{Range}
-use Rattle.tsdb_core.specs.Core.{IsSeen, KeepsJobs, files_of, limit_of, logged_of, next_of}
+use Rattle.tsdb_core.specs.Core.{IsSeen, KeepsJobs, files_of, is_sequence_claimed, limit_of, logged_of, next_of}
 use Rattle.tsdb_core.specs.Worlds.{IsWorldOf}
 use Rattle.tsdb_core.specs.declared.engine.Core.{Core}
 use Rattle.tsdb_kept.specs.Places.{AreOfStore}
@@ -26,11 +26,12 @@ use Rattle.tsdb_state.specs.Worlds.{StandsFor}
 
 module _ {J F S R P : Type 0} {means : disk.Ghosts J} {counts : counted.Ghosts J} where
   -- Nothing has changed but how many rights are out: log and memory, the number of the next file, the limit of a pair,
-  -- what is kept for jobs, and the store of the files.
+  -- whether the sequence list is claimed, what is kept for jobs, and the store of the files.
   pub record ChangesRights (old new : Core J F S R P means counts) : Type 0 where
     pub logged : logged_of new ≡ logged_of old
     pub next : next_of new ≡ next_of old
     pub limit : limit_of new ≡ limit_of old
+    pub claimed : is_sequence_claimed new ≡ is_sequence_claimed old
     pub jobs : (flushes : List FlushJob) (compactions : List Compaction) → KeepsJobs old flushes compactions
         → KeepsJobs new flushes compactions
     pub store : (store : outside.Store) → AreOfStore store (files_of old).places

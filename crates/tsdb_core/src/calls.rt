@@ -117,6 +117,7 @@ impl<J: Journal, F: Files> Core<J, F> {
             files: kept,
             limit: _,
             next_file: _,
+            sequence_claimed: _,
         } = self;
         kept.close(files);
         logged.close()

@@ -1,5 +1,5 @@
 //! The core, and what is read of it. Depends on `options`, tsdb_logged and tsdb_kept.
-ghost use Rattle.std.specs.Prelude.{◌≡◌, [], length};
+ghost use Rattle.std.specs.Prelude.{◌≡◌, [], false, length};
 ghost use Rattle.std.specs.Option.{option_map};
 ghost use Rattle.tsdb_core.specs.Limits.{IsPairLimit};
 ghost use Rattle.tsdb_held.specs.Held.{AreFilesOf, TellTheirBytes};
@@ -25,11 +25,13 @@ pub struct Core<J: Journal, F: Files> {
     pub(crate) files: KeptFiles<F>,
     pub(crate) limit: PairLimit,
     pub(crate) next_file: u64,
+    /// A job with a sequence output is out.
+    pub(crate) sequence_claimed: bool,
 }
 
 impl<J: Journal, F: Files> Core<J, F> {
     ghost use Rattle.tsdb_core.specs.Core.{IsAbove, IsSeen, KeepsJobs, files_of, limit_of, logged_of};
-    ghost use Rattle.tsdb_core.specs.Core.{newest_born, next_of, working_of};
+    ghost use Rattle.tsdb_core.specs.Core.{is_sequence_claimed, newest_born, next_of, working_of};
     ghost use Rattle.tsdb_logged.specs.Logged.{IsSound, memory_of};
 
     /// The core of these, where the next file gets this number.
@@ -45,6 +47,7 @@ impl<J: Journal, F: Files> Core<J, F> {
         ensures files { files_of result ≡ files }
         ensures limit { limit_of result ≡ options.pair_points }
         ensures next { next_of result ≡ next_file.0 }
+        ensures claims { is_sequence_claimed result ≡ false }
         ensures quiet { IsAbove next_file.0 files → KeepsJobs result [] [] }
         // It shows the engine that was opened over a replay, where these are of it.
         ensures opened { (outside : Outside) (store : StoreState) → IsAbove next_file.0 files
@@ -58,6 +61,7 @@ impl<J: Journal, F: Files> Core<J, F> {
             files,
             limit: PairLimit::of(options),
             next_file: next_file.0,
+            sequence_claimed: false,
         }
     }
 

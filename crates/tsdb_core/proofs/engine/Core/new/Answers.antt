@@ -1,4 +1,4 @@
-use Rattle.std.proofs.Common.{refl}
+use Rattle.std.proofs.Common.{false, refl}
 use Rattle.tsdb_core.proofs.Opened.{opened_seen, quiet_jobs}
 use Rattle.tsdb_core.proofs.engine.Core.new.Goals as goal
 
@@ -9,6 +9,7 @@ returns-clause-quiet g c = λ above. quiet_jobs (record {
   files = c.args.files;
   limit = c.of.result;
   next_file = c.args.next_file.0;
+  sequence_claimed = false;
 }) above
 
 pub returns-clause-opened : goal.returns-clause-opened
@@ -18,4 +19,5 @@ returns-clause-opened g c = λ outside store above sound files told. opened_seen
   files = c.args.files;
   limit = c.of.result;
   next_file = c.args.next_file.0;
+  sequence_claimed = false;
 }) outside store c.args.next_file.0 refl above sound files told
