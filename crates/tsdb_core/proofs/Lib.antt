@@ -12,3 +12,7 @@ pub mod Opened
 pub mod RowMoments
 pub mod PinSteps
 pub mod Claims
+pub mod ReplacementsClaims
+pub mod ReplacementsJobs
+pub mod ReplacementsFiles
+pub mod Replacements

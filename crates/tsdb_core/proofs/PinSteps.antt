@@ -1,25 +1,22 @@
 -- Rights that are given out and taken back are steps of the state.
 use Rattle.std.proofs.Common.{◌≡◌, ℕ, List, Option, None, Some, Result, Ok, Err, refl, sym, ap, subst, ◌∙◌}
 use Rattle.std.specs.Prelude.{◌<◌, IfOk, IfSome, OnErr}
-use Rattle.std.specs.List.{AllByRecursion as Each}
 use Rattle.std.specs.Option.{option_map}
 use Rattle.tsdb_core.proofs.Claims.{claims_stay, same_lists}
-use Rattle.tsdb_core.specs.Core.{AreClaimed, IsSeen, KeepsJobs, files_of, logged_of, next_of}
+use Rattle.tsdb_core.specs.Core.{AreClaimed, IsSeen, KeepsJobs, next_of}
 use Rattle.tsdb_core.specs.Pins.{ChangesRights, IsNotPinned, IsPinStep, IsPinned, IsUnpinned}
-use Rattle.tsdb_core.specs.Worlds.{IsWorldOf, KeepsWorld}
+use Rattle.tsdb_core.specs.Worlds.{KeepsWorld}
 use Rattle.tsdb_core.specs.declared.engine.Core.{Core}
-use Rattle.tsdb_held.specs.Held.{AreFilesOf, TellTheirBytes}
+use Rattle.tsdb_held.specs.Held.{TellTheirBytes}
 use Rattle.tsdb_images.proofs.Storing.{pin_stored, unpin_stored}
 use Rattle.tsdb_images.specs.Stored.{kept_bytes}
 use Rattle.tsdb_kept.specs.Files.{IsOpen, KeptFiles, kept_file}
-use Rattle.tsdb_kept.specs.Places.{AreOfStore, KeptFile}
+use Rattle.tsdb_kept.specs.Places.{KeptFile}
 use Rattle.tsdb_kept.specs.declared.room.Spare.{Spare}
 use Rattle.tsdb_layers.proofs.Lists.{each_weaker}
 use Rattle.tsdb_layers.specs.Lists.{IsWithOne, count}
 use Rattle.tsdb_logged.specs.Logged.{Outside, memory_of, room_of}
-use Rattle.tsdb_map.specs.World.{World}
 use Rattle.tsdb_memory.specs.Store.{Store}
-use Rattle.tsdb_outside.specs.Files as outside
 use Rattle.tsdb_outside.specs.Files.{NamedFile, StoredFile}
 use Rattle.tsdb_outside.specs.declared.disk.Disk as disk
 use Rattle.tsdb_outside.specs.declared.faults.Counted as counted
@@ -28,15 +25,14 @@ use Rattle.tsdb_pinning.proofs.Gathered.{columns_stay}
 use Rattle.tsdb_pinning.proofs.Pinned.{files_with}
 use Rattle.tsdb_pinning.specs.Changes.{ChangesFiles, GivesRights, KeepsFiles, TakesRights, column_numbers, fewer_rights, more_rights}
 use Rattle.tsdb_pinning.specs.Pins.{AreColumnsHeld, IsTakenOrNot}
-use Rattle.tsdb_pinning.specs.Shown.{IsPinOf, IsPinOfState, IsStated, LeavesState}
+use Rattle.tsdb_pinning.specs.Shown.{IsPinOf, IsPinOfState, LeavesState}
 use Rattle.tsdb_pinning.specs.declared.pin.Pin.{Pin}
 use Rattle.tsdb_pinning.specs.declared.pin.PinFault.{PinFault}
 use Rattle.tsdb_state.proofs.Pinning.{pin_stands}
 use Rattle.tsdb_state.specs.Jobs.{KeepsRoom, drawn_numbers}
 use Rattle.tsdb_state.specs.State as state
 use Rattle.tsdb_state.specs.State.{Compaction, EngineState, FlushJob}
-use Rattle.tsdb_state.specs.Steps.{PinStandsFor, pinned, unpinned}
-use Rattle.tsdb_state.specs.Worlds.{StandsFor}
+use Rattle.tsdb_state.specs.Steps.{pinned, unpinned}
 
 -- what holds of the name of each kept file goes on to hold
 names_stay : (P : ℕ → NamedFile → Type 0) (change : ℕ → KeptFile → KeptFile) → LeavesNames change → (a b : KeptFiles)

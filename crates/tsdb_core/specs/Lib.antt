@@ -10,3 +10,4 @@ pub mod Rows
 pub mod RowSteps
 pub mod Pins
 pub mod Listings
+pub mod Replacements

@@ -1,24 +1,19 @@
 -- What pinning and unpinning leave of a core.
-use Rattle.std.specs.Prelude.{◌≡◌, List, Result}
-use Rattle.std.specs.declared.result.Result.TheVariants.{Ok, Err}
-use Rattle.tsdb_base.specs.declared.point.Range.{Range}
+use Rattle.std.specs.Prelude.{◌≡◌, List}
 use Rattle.tsdb_core.specs.Core.{IsSeen, KeepsJobs, files_of, is_sequence_claimed, limit_of, logged_of, next_of}
-use Rattle.tsdb_core.specs.Worlds.{IsWorldOf}
 use Rattle.tsdb_core.specs.declared.engine.Core.{Core}
 use Rattle.tsdb_kept.specs.Places.{AreOfStore}
 use Rattle.tsdb_layers.specs.Lists.{IsWithOne}
-use Rattle.tsdb_logged.specs.Logged.{Outside, memory_of}
+use Rattle.tsdb_logged.specs.Logged.{Outside}
 use Rattle.tsdb_map.specs.World.{World}
-use Rattle.tsdb_map.specs.declared.command.Item.{Item}
 use Rattle.tsdb_outside.specs.Files as outside
 use Rattle.tsdb_outside.specs.Files.{NamedFile}
 use Rattle.tsdb_outside.specs.declared.disk.Disk as disk
 use Rattle.tsdb_outside.specs.declared.faults.Counted as counted
 use Rattle.tsdb_pinning.specs.Changes.{GivesRights, KeepsFiles, TakesRights, column_numbers}
-use Rattle.tsdb_pinning.specs.Pins.{AreColumnsHeld, IsPinFor}
+use Rattle.tsdb_pinning.specs.Pins.{AreColumnsHeld}
 use Rattle.tsdb_pinning.specs.Shown.{IsPinOf}
 use Rattle.tsdb_pinning.specs.declared.pin.Pin.{Pin}
-use Rattle.tsdb_pinning.specs.declared.pin.PinFault.{PinFault}
 use Rattle.tsdb_state.specs.State as state
 use Rattle.tsdb_state.specs.State.{Compaction, EngineState, FlushJob}
 use Rattle.tsdb_state.specs.Steps.{PinStandsFor, TakesPin, pinned, unpinned}
