@@ -73,7 +73,7 @@ run_each P claimed step run entries within all =
 
 -- ---- files that are listed are kept
 
-counted_among : (entries : List FileEntry) (entry : FileEntry) → Among entry entries
+pub counted_among : (entries : List FileEntry) (entry : FileEntry) → Among entry entries
     → 1 ≤ count entry.number.0 (entry_numbers entries)
 counted_among [] entry among = absurd among
 counted_among (e ∷ entries) entry (inl is) =

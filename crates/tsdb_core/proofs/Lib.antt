@@ -16,3 +16,8 @@ pub mod ReplacementsClaims
 pub mod ReplacementsJobs
 pub mod ReplacementsFiles
 pub mod Replacements
+pub mod Beginnings
+pub mod BeginningsClaims
+pub mod BeginningsExits
+pub mod BeginningsHulls
+pub mod BeginningsKept

@@ -10,4 +10,5 @@ pub mod Rows
 pub mod RowSteps
 pub mod Pins
 pub mod Listings
+pub mod Beginnings
 pub mod Replacements

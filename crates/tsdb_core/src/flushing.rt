@@ -17,7 +17,7 @@ use tsdb_memory::{FrozenPair, lesser};
 use tsdb_outside::{Failed, Files, Journal};
 
 /// The numbers of files lie below this one.
-const END_OF_NUMBERS: u64 = 0x8000_0000_0000_0000;
+pub(crate) const END_OF_NUMBERS: u64 = 0x8000_0000_0000_0000;
 
 impl<J: Journal, F: Files> Core<J, F> {
     ghost use Rattle.tsdb_committing.specs.Files.{AreDone, AreDoneSoFar, new_files};

@@ -6,6 +6,7 @@
 //! Which state of the engine a core shows says one relation, `IsSeen`. Each call is a step of that state.
 #![tactic(auto)]
 
+mod beginning;
 mod calls;
 mod commit;
 mod ending;

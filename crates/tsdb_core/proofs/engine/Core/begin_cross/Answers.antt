@@ -1,0 +1,21 @@
+use Rattle.std.proofs.Common.{◌≡◌}
+use Rattle.tsdb_base.specs.declared.ids.Space.TheVariants.{Sequence}
+use Rattle.tsdb_core.proofs.BeginningsExits.{answer_of, begun_of, same_world}
+use Rattle.tsdb_core.proofs.BeginningsHulls.{hulls_in_order}
+use Rattle.tsdb_core.specs.Beginnings.{IsCrossRuns}
+use Rattle.tsdb_core.proofs.engine.Core.begin_cross.Goals as goal
+
+pub returns-then-not-has_hulls-clause-order : goal.returns-then-not-has_hulls-clause-order
+returns-then-not-has_hulls-clause-order g c = hulls_in_order c.args.self.now c.has_hulls.ensures.kept
+
+pub returns-in-Some-clause-answer : goal.returns-in-Some-clause-answer
+returns-in-Some-clause-answer g c = λ hulls. answer_of (IsCrossRuns c.args.self.now) c.in-Some.runs
+    c.args.self.now.next_file c.begin.result c.in-Some.ensures.found c.begin.ensures.answer
+
+pub returns-in-Some-clause-begun : goal.returns-in-Some-clause-begun
+returns-in-Some-clause-begun g c = begun_of g.F.Right.ReadRight.file Sequence (IsCrossRuns c.args.self.now)
+    c.in-Some.runs c.args.self.now c.begin.new.self c.begin.result c.in-Some.ensures.found c.begin.ensures.begun
+
+pub returns-in-Some-clause-world : goal.returns-in-Some-clause-world
+returns-in-Some-clause-world g c = same_world g.F.Right.ReadRight.file Sequence (λ these. these ≡ c.in-Some.runs)
+    c.args.self.now c.begin.new.self c.begin.result c.begin.ensures.begun
