@@ -46,7 +46,8 @@ grown_lists old new a b first second file is = (λ i. list_any (is_claim_of file
 
 pub after_commit : (commit : Commit) (files : NewFiles) (old new : KeptFiles) → AreAfterCommit commit files old new
     → ClaimsStay old new
-after_commit Done files old new after = grown_lists old new (map (λ (file : NewFile). file.entry) (if_some files.sequence))
+after_commit Done files old new after = grown_lists old new
+    (map (λ (file : NewFile). file.entry) (if_some files.sequence))
     (map (λ (file : NewFile). file.entry) (if_some files.unsequence)) after.sequence after.unsequence
 after_commit Gone files old new after = same_lists old new after.sequence after.unsequence
 after_commit Device files old new after = same_lists old new after.sequence after.unsequence

@@ -19,7 +19,8 @@ use Rattle.tsdb_compactions.specs.Outputs.{IsOutputOf, TellsInputs}
 use Rattle.tsdb_compactions.specs.declared.job.Job.{Job}
 use Rattle.tsdb_core.proofs.ReplacementsClaims.{claims_without, over_finished, over_given_up}
 use Rattle.tsdb_core.proofs.ReplacementsFiles.{can_replace, ended_later, files_finished, files_given_up, items_later}
-use Rattle.tsdb_core.proofs.ReplacementsFiles.{output_stands, place, same_record, stored_later, told_later, worlds_later}
+use Rattle.tsdb_core.proofs.ReplacementsFiles.{output_stands, place, same_record, stored_later, told_later}
+use Rattle.tsdb_core.proofs.ReplacementsFiles.{worlds_later}
 use Rattle.tsdb_core.proofs.ReplacementsJobs.{IsGone, gone_finished, gone_up, others_kept, store_of_each}
 use Rattle.tsdb_core.specs.Compactions.{IsJobOut}
 use Rattle.tsdb_core.specs.Core.{AreClaimed, IsSeen, KeepsJobs}
@@ -219,8 +220,8 @@ module _ {J F S R P : Type 0} {means : disk.Ghosts J} {counts : counted.Ghosts J
         abbrev item : LogRecord
         item = compaction_record compaction (sent_files file) output_at
 
-        module _ (outcome : Result (Unit {0}) Failed) (appends : AppendsEnd old (record old { logged = logged }) job runs
-            file outcome) where
+        module _ (outcome : Result (Unit {0}) Failed)
+            (appends : AppendsEnd old (record old { logged = logged }) job runs file outcome) where
           can : CanReplace item appends.listed later engine compaction others (sent_files file) output_at
           can = can_replace job outside engine compaction others file content seen.sound.stored is out output old.files
               seen.files are_kept job_out.kept.held.place runs stand none appends.listed appends.least
@@ -232,8 +233,8 @@ module _ {J F S R P : Type 0} {means : disk.Ghosts J} {counts : counted.Ghosts J
 
           keeps_world : KeepsWorld later.told engine.store
               (committed compaction others (sent_files file) output_at engine).store
-          keeps_world = commit_keeps later.told later.known sound.stored.named engine sound.stored.order compaction others
-              (sent_files file) output_at can.commits
+          keeps_world = commit_keeps later.told later.known sound.stored.named engine sound.stored.order compaction
+              others (sent_files file) output_at can.commits
 
           commits : IsSeenAfterEnd new later engine compaction others (sent_files file) output_at outcome
               → ((world : World) → StandsFor outside.told engine.store world → IsWorldOf new world)
@@ -296,8 +297,8 @@ module _ {J F S R P : Type 0} {means : disk.Ghosts J} {counts : counted.Ghosts J
 
             after : IsSeen new later (settled gone_state)
                 ⊎ (IsSeen new later gone_state ⊎ IsSeen new later (failed item gone_state))
-            after = from ((replaced (Err fault) appends).failed later engine compaction others (sent_files file) output_at
-                sound (can (Err fault) appends))
+            after = from ((replaced (Err fault) appends).failed later engine compaction others (sent_files file)
+                output_at sound (can (Err fault) appends))
 
             in_world : (world : World) → StandsFor outside.told engine.store world
                 → IsSeen new later (settled gone_state)
@@ -344,8 +345,8 @@ module _ {J F S R P : Type 0} {means : disk.Ghosts J} {counts : counted.Ghosts J
       files = up;
       states = λ outside engine compaction others seen is out tells some.
           let made = output_in name sealed rights job outside.told compaction is tells built of some in
-          commits_in old logged kept job (made_of sealed built) name job_out are_kept appends.replaced.room outside engine compaction
-          others made.0 seen is out made.1 runs stand
+          commits_in old logged kept job (made_of sealed built) name job_out are_kept appends.replaced.room outside
+          engine compaction others made.0 seen is out made.1 runs stand
           (no_output_in name sealed rights job outside.told compaction is tells built of) outcome appends up;
       memory = appends.replaced.memory;
       slot = appends.replaced.slot;
@@ -357,10 +358,12 @@ module _ {J F S R P : Type 0} {means : disk.Ghosts J} {counts : counted.Ghosts J
         → spot ≡ output_place job.space runs
         → number ≡ record { 0 = output_number (sent_files (made_of sealed built)) }
         → born ≡ option_map (λ (b : Built F S R P). b.entry.born) built
-        → ((output : Option FileEntry) (files : KeptFiles) → option_map (λ (entry : FileEntry). entry.born) output ≡ born
+        → ((output : Option FileEntry) (files : KeptFiles)
+        → option_map (λ (entry : FileEntry). entry.born) output ≡ born
         → HasReplaced job.space runs.sequence runs.unsequence output old.files files
         → IsLeastOf listed (listed_borns files))
-        → IsReplaced old.logged logged (Replaced job.born job.space spot number job.sequence job.unsequence) listed outcome
+        → IsReplaced old.logged logged (Replaced job.born job.space spot number job.sequence job.unsequence) listed
+        outcome
         → AppendsEnd old (record old { logged = logged }) job runs (made_of sealed built) outcome
     appends_end old logged runs outcome listed born spot number at is_number is_born least replaced = record {
       listed = listed;
@@ -378,7 +381,8 @@ module _ {J F S R P : Type 0} {means : disk.Ghosts J} {counts : counted.Ghosts J
         → IsOutputOf name sealed rights job built → AreRunsOf job runs old.files
         → mid ≡ record old { logged = mid.logged } → AppendsEnd old mid job runs (made_of sealed built) outcome
         → free ≡ record mid { sequence_claimed = without_claim job.space mid.sequence_claimed }
-        → new ≡ record free { files = new.files } → EndsFiles job runs (made_of sealed built) free.files new.files outcome
+        → new ≡ record free { files = new.files }
+        → EndsFiles job runs (made_of sealed built) free.files new.files outcome
         → IsJobCommit name old new job (made_of sealed built) outcome
     committed_from old mid free new runs outcome job_out are_kept of stand is_mid appends is_free is_new up =
         subst (λ core. IsJobCommit name old core job (made_of sealed built) outcome) (sym whole)
@@ -409,20 +413,24 @@ module _ {J F S R P : Type 0} {means : disk.Ghosts J} {counts : counted.Ghosts J
           (gone_up job (made_of sealed built) old.files kept up);
       files = up;
       step = step;
-      world = λ outside engine compaction others content world seen is out output stands. world_of old old.logged kept job
-          (made_of sealed built) name job_out are_kept (omega arith) outside engine compaction others content seen is out output world
+      world = λ outside engine compaction others content world seen is out output stands. world_of old old.logged kept
+          job (made_of sealed built) name job_out are_kept (omega arith) outside engine compaction others content seen
+          is out output world
           (ended compaction others (sent_files (made_of sealed built)) engine) refl stands
           (step outside engine compaction others content seen is out output);
     }
       where
         step : (outside : Outside) (engine : EngineState) (compaction : Compaction) (others : List Compaction)
             (content : Content) → IsSeen old outside engine → IsCompactionOf job compaction
-            → IsWithOne compaction others engine.compactions → IsOutputIn outside.told compaction (made_of sealed built) content
+            → IsWithOne compaction others engine.compactions
+            → IsOutputIn outside.told compaction (made_of sealed built) content
             → IsSeen (record old {
               files = kept;
               sequence_claimed = without_claim job.space old.sequence_claimed;
-            }) (with_new content (made_of sealed built) outside) (ended compaction others (sent_files (made_of sealed built)) engine)
-        step outside engine compaction others content seen is out output = given_up_seen old old.logged kept job (made_of sealed built)
+            }) (with_new content (made_of sealed built) outside)
+            (ended compaction others (sent_files (made_of sealed built)) engine)
+        step outside engine compaction others content seen is out output = given_up_seen old old.logged kept job
+            (made_of sealed built)
             name job_out are_kept (omega arith) outside engine compaction others content seen is out output up refl
 
     pub abandoned_from : (old free new : Core J F S R P means counts) → IsJobOut name old job → AreKept old.files

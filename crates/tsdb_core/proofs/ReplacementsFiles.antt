@@ -107,7 +107,8 @@ given_at held number (entry ∷ places) = by (is_number number entry.0) refl (gi
   where
     by : (b : Bool) → is_number number entry.0 ≡ b → place_at number (give_all held places)
         ≡ option_map (λ place. option_map (fewer_rights (count number held)) place) (place_at number places)
-        → cond b (Some (option_map (fewer_rights (count entry.0 held)) entry.1)) (place_at number (give_all held places))
+        → cond b (Some (option_map (fewer_rights (count entry.0 held)) entry.1))
+        (place_at number (give_all held places))
         ≡ option_map (λ place. option_map (fewer_rights (count number held)) place)
         (cond b (Some entry.1) (place_at number places))
     by true e rest = ap (λ n. Some (option_map (fewer_rights (count n held)) entry.1))
@@ -173,7 +174,8 @@ module _ {F S R P : Type 0} (job : Job F S R P) (outside : Outside) (engine : En
       by : (o : Option NewFile) → IsOutputIn outside.told compaction o content
           → StandsFor outside.told engine.store world → StandsFor (with_new content o outside).told engine.store world
       by None none stands = stands
-      by (Some one) new stands = (worlds_with outside engine compaction others stored out content one new world).0 stands
+      by (Some one) new stands =
+          (worlds_with outside engine compaction others stored out content one new world).0 stands
 
   pub items_later : later.items ≡ outside.items
   items_later = by file
@@ -314,8 +316,8 @@ module _ {F S R P : Type 0} (job : Job F S R P) (outside : Outside) (engine : En
     module _ (runs : InputRuns) (stand : AreRunsOf job runs old) where
       pub at_place : AreInputsIn runs old compaction
           × ((place : ℕ) × IsPlaceOf job.space runs place × IsOutputPlace job.space compaction engine.store place)
-      at_place = inputs_stand job outside.told old later.known engine compaction runs known_later kept is stand job.space
-          refl
+      at_place = inputs_stand job outside.told old later.known engine compaction runs known_later kept is stand
+          job.space refl
           (subst (λ space. HasKind space compaction) is.space
           (kind outside.told outside.known stored.named engine stored.order compaction others out))
           (subst (λ space. Stands space outside.told engine.store.sequence engine.store.unsequence compaction) is.space
@@ -332,8 +334,8 @@ module _ {F S R P : Type 0} (job : Job F S R P) (outside : Outside) (engine : En
 
       pub files_finished : (new : KeptFiles) → Finishes old new job runs file
           → AreFilesOf new later.known (committed compaction others (sent_files file) place engine)
-      files_finished new up = committed_in_state job runs old new later.known engine compaction file place known_later is
-          stand new_of from_one up kept open_place fresh at_place.1.1 at_place.0 output_known others
+      files_finished new up = committed_in_state job runs old new later.known engine compaction file place known_later
+          is stand new_of from_one up kept open_place fresh at_place.1.1 at_place.0 output_known others
 
       -- the least born once the files are replaced is that of the state
       least_later : (least : Option Stamp)

@@ -151,7 +151,8 @@ module _ {J F S R P : Type 0} {means : disk.Ghosts J} {counts : counted_by.Ghost
     less : KeepsRoom (compaction_room (λ a b. a - b) compaction (kept_room core)) flushes others
     less = room_without_compaction compaction others (kept_room core) flushes compactions out keeps.room
 
-    pub others_kept : KeepsJobs (record core { logged = logged; files = kept; sequence_claimed = claimed }) flushes others
+    pub others_kept : KeepsJobs (record core { logged = logged; files = kept; sequence_claimed = claimed }) flushes
+        others
     others_kept = record {
       from_one = keeps.from_one;
       below = name_of_each (λ n one. n < next_of core) job file core.files kept gone (λ n k one is. is)

@@ -15,7 +15,8 @@ returns g c = committed_from g.F.Right.ReadRight.file g.F.Sealed.SealedFile.file
     }) c.log_end-job.ensures.job c.free_sequence.ensures)
     c.end_files.ensures.rest
     (subst (λ job. EndsFiles job c.runs_of-runs.result (option_map (new_file g.F.Sealed.SealedFile.file) c.args.output)
-    c.free_sequence.new.self.files c.end_files.new.self.files c.log_end-job.result.1) c.log_end-job.ensures.job c.end_files.ensures.files)
+    c.free_sequence.new.self.files c.end_files.new.self.files c.log_end-job.result.1) c.log_end-job.ensures.job
+    c.end_files.ensures.files)
 
 pub end_files-requires-clause-all : goal.end_files-requires-clause-all
 end_files-requires-clause-all g c = λ lifetimes lives.
