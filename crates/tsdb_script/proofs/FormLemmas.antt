@@ -1,5 +1,5 @@
 -- The parser finds what stands in the tokens, and finds it again whatever stands behind.
-use Rattle.std.proofs.Common.{◌≡◌, ◌≤◌, ◌<◌, ℕ, zero, suc, Bool, true, false, true≢false, cond, List, [], ◌∷◌, length, Option, None, Some, option_map, refl, sym, ap, ◌∙◌, subst, arith, codes}
+use Rattle.std.proofs.Common.{◌≡◌, ◌≤◌, ◌<◌, ℕ, zero, suc, true, false, true≢false, cond, List, [], ◌∷◌, length, Option, None, Some, option_map, refl, sym, ap, ◌∙◌, subst, arith}
 use Rattle.std.specs.Prelude.{IsTrue}
 use Rattle.tsdb_script.specs.declared.form.Keyword.TheVariants as key
 use Rattle.tsdb_script.specs.declared.form.Place.{Place}
@@ -11,8 +11,8 @@ use Rattle.tsdb_script.specs.declared.syntax.Condition.{Condition}
 use Rattle.tsdb_script.specs.declared.syntax.Operand.{Operand}
 use Rattle.tsdb_script.specs.declared.syntax.Operand.TheVariants as operand
 use Rattle.tsdb_script.specs.declared.token.Token.{Token}
-use Rattle.tsdb_script.specs.declared.token.Token.TheVariants.{Word, Text, Open, Close, Comma, Semicolon, Equal, Less, LessEqual, Greater, GreaterEqual}
-use Rattle.tsdb_script.specs.Forms.{is_at, comparison_token, Standing, IsName, IsValue, Called, IsColumn, Behind, IsCompared, IsCondition, AreRow, AreListed, AreConditions}
+use Rattle.tsdb_script.specs.declared.token.Token.TheVariants.{Word, Text, Open, Close, Equal, Less, LessEqual, Greater, GreaterEqual}
+use Rattle.tsdb_script.specs.Forms.{is_at, comparison_token, Standing, IsName, IsValue, Called, IsColumn, Behind, IsCondition, AreRow, AreListed, AreConditions}
 use Rattle.tsdb_script.specs.Parse.{Tokens, ◌>>=◌, stands_at, fixed_at, word_at, operand_at, comparison_at, condition_at, called_at, column_at, onto, items_at, list_at, conditions_at}
 
 pub some_is : {A : Type 0} (x y : A) → Some x ≡ Some y → x ≡ y

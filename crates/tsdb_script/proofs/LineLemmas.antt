@@ -1,21 +1,19 @@
 -- A line is read pass by pass.
-use Rattle.std.proofs.Common.{◌≡◌, ℕ, ◌<◌, ◌≤◌, ◌||◌, Bool, true, false, true≢false, List, [], ◌∷◌, ◌++◌, length, refl, sym, ap, ◌∙◌, arith, subst, inl, inr}
+use Rattle.std.proofs.Common.{◌≡◌, ℕ, ◌<◌, ◌≤◌, false, true≢false, List, [], ◌∷◌, ◌++◌, length, refl, sym, ap, ◌∙◌, arith, subst, inl, inr}
 use Rattle.std.specs.Prelude.{◌⊎◌}
 use Rattle.std.specs.Str.Parse.{digits_value}
 use Rattle.std.proofs.lemmas.Bool.{cases_lt, cases_Bool}
 use Rattle.tsdb_map.specs.declared.command.Command.{Command}
-use Rattle.tsdb_map.specs.declared.command.Command.TheVariants as command
 use Rattle.tsdb_script.specs.declared.numbered.Numbered.{Numbered}
 use Rattle.tsdb_script.specs.declared.syntax.Syntax.{Syntax}
-use Rattle.tsdb_script.specs.declared.syntax.Syntax.TheVariants.{Create, Insert, Delete, Select, Flush, CompactInner, CompactCross, ShowFiles}
 use Rattle.tsdb_script.specs.declared.token.Token.{Token}
 use Rattle.tsdb_script.specs.declared.token.Token.TheVariants.{Word}
 use Rattle.tsdb_script.specs.Forms.{Fits, HasNoForm}
 use Rattle.tsdb_script.specs.LineSteps.{HasNoSession, HasRoom, HasSession}
-use Rattle.tsdb_script.specs.Meaning.{Means, Objects, Says}
-use Rattle.tsdb_script.specs.Reading.{Line, content_of, is_skipped, session_count, passes, BeginsStatement, FirstObjects, IsBad, IsBuilt, IsCommand, IsNotBuilt, IsOfSession, IsSkipped, ObjectsIn}
-use Rattle.tsdb_script.specs.Reading.{Pass, Limits, Tokens, Session, Room, FirstWord, Form, Built, Meaning}
-use Rattle.tsdb_script.specs.Tokens.{is_keyword, AreTokens, HasNoTokens}
+use Rattle.tsdb_script.specs.Meaning.{Means, Objects}
+use Rattle.tsdb_script.specs.Reading.{Line, content_of, is_skipped, session_count, passes, BeginsStatement, FirstObjects, IsBad, IsCommand, IsOfSession, IsSkipped, ObjectsIn}
+use Rattle.tsdb_script.specs.Reading.{Pass, Limits, Tokens, Session, Room, FirstWord, Form, Meaning}
+use Rattle.tsdb_script.specs.Tokens.{AreTokens, HasNoTokens}
 use Rattle.tsdb_script.proofs.TokenLemmas.{same_kind, same_tokens, not_both}
 use Rattle.tsdb_script.proofs.MeaningLaws.{one_command, one_objection, no_objection}
 use Rattle.tsdb_script.proofs.StatementLemmas.{form_begins, same_statement}
@@ -69,15 +67,10 @@ module _ (line : Line) (session : ℕ) (statement : List Token) (is : IsOfSessio
   fits : (syntax : Syntax) → Fits statement syntax → Passes Form line
   fits syntax fit kind objects = objects.3.0 syntax (subst (λ s. Fits s syntax) (one_session line session objects.0 statement objects.1 is objects.2).1 fit)
 
-  built : (syntax : Syntax) → Fits statement syntax → ¬ IsNotBuilt syntax → Passes Built line
-  built syntax fit old kind objects =
-      let fit_again = subst (λ s. Fits s syntax) (one_session line session objects.0 statement objects.1 is objects.2).1 fit in
-      old (subst IsNotBuilt (sym (same_statement objects.1 syntax objects.3.0 fit_again objects.3.1)) objects.3.2)
-
 -- ---- the first pass that objects
 
 module _ (line : Line) (is : IsWithin line) where
-  bad : (kind : ℕ) → FirstObjects (Tokens ∷ Session ∷ Room ∷ FirstWord ∷ Form ∷ Built ∷ Meaning ∷ []) line kind → IsBad line kind
+  bad : (kind : ℕ) → FirstObjects (Tokens ∷ Session ∷ Room ∷ FirstWord ∷ Form ∷ Meaning ∷ []) line kind → IsBad line kind
   bad kind objects = inr (is.says, inr (within_limits line is, objects))
 
   pub bad_tokens : (kind : ℕ) → HasNoTokens (content_of line.bytes) kind → IsBad line kind
@@ -94,7 +87,7 @@ module _ (line : Line) (is : IsWithin line) where
       pub of_session : IsOfSession line session statement
       of_session = record { word = has.word; tokens = subst (AreTokens (content_of line.bytes)) has.whole are; number = has.number }
 
-      bad_behind : (kind : ℕ) → FirstObjects (Room ∷ FirstWord ∷ Form ∷ Built ∷ Meaning ∷ []) line kind → IsBad line kind
+      bad_behind : (kind : ℕ) → FirstObjects (Room ∷ FirstWord ∷ Form ∷ Meaning ∷ []) line kind → IsBad line kind
       bad_behind kind objects = bad kind (inr (has_tokens line tokens are, inr (has_session line session statement of_session, objects)))
 
       pub bad_room : ¬ HasRoom line.sessions session → IsBad line 9
@@ -107,7 +100,7 @@ module _ (line : Line) (is : IsWithin line) where
           ]
 
       module _ (room : HasRoom line.sessions session) where
-        bad_statement : (kind : ℕ) → FirstObjects (FirstWord ∷ Form ∷ Built ∷ Meaning ∷ []) line kind → IsBad line kind
+        bad_statement : (kind : ℕ) → FirstObjects (FirstWord ∷ Form ∷ Meaning ∷ []) line kind → IsBad line kind
         bad_statement kind objects = bad_behind kind (inr (has_room line session statement of_session room, objects))
 
         pub bad_first_word : ¬ BeginsStatement statement → IsBad line 2
@@ -118,18 +111,18 @@ module _ (line : Line) (is : IsWithin line) where
           bad_form kind none = bad_statement kind (inr (begins line session statement of_session begin, inl (session, statement, of_session, none)))
 
           module _ (syntax : Syntax) (fit : Fits statement syntax) where
-            bad_syntax : (kind : ℕ) → FirstObjects (Built ∷ Meaning ∷ []) line kind → IsBad line kind
-            bad_syntax kind objects = bad_statement kind (inr (begins line session statement of_session begin, inr (fits line session statement of_session syntax fit, objects)))
+            pub bad_meaning : (kind : ℕ) → Objects syntax kind → IsBad line kind
+            bad_meaning kind objects =
+                bad_statement kind (inr (
+                  begins line session statement of_session begin,
+                  inr (
+                    fits line session statement of_session syntax fit,
+                    inl (session, statement, of_session, (syntax, fit, objects)),
+                  ),
+                ))
 
-            pub bad_built : IsNotBuilt syntax → IsBad line 0
-            bad_built later = bad_syntax 0 (inl (session, statement, of_session, (syntax, fit, later, refl)))
-
-            pub bad_meaning : ¬ IsNotBuilt syntax → (kind : ℕ) → Objects syntax kind → IsBad line kind
-            bad_meaning old kind objects =
-                bad_syntax kind (inr (built line session statement of_session syntax fit old, inl (session, statement, of_session, (syntax, fit, objects))))
-
-            pub is_command : ¬ IsNotBuilt syntax → (numbered : Numbered) → numbered.session ≡ session → Means syntax numbered.command → IsCommand line numbered
-            is_command old numbered same means = record {
+            pub is_command : (numbered : Numbered) → numbered.session ≡ session → Means syntax numbered.command → IsCommand line numbered
+            is_command numbered same means = record {
               says_something = is.says;
               line_bytes = is.line_bytes;
               script_bytes = is.script_bytes;
@@ -139,7 +132,6 @@ module _ (line : Line) (is : IsWithin line) where
               sessions = subst (λ s. session_count (line.sessions ++ s ∷ []) ≤ 8) (sym same) room.1;
               syntax = syntax;
               fits = fit;
-              built = old;
               means = means;
             }
 
@@ -165,7 +157,6 @@ one_kind Session line kind other h k = h.1 ∙ sym k.1
 one_kind Room line kind other h k = h.3.1 ∙ sym k.3.1
 one_kind FirstWord line kind other h k = h.3.1 ∙ sym k.3.1
 one_kind Form line kind other h k = h.3.1 ∙ sym k.3.1
-one_kind Built line kind other h k = h.3.3 ∙ sym k.3.3
 one_kind Meaning line kind other h k =
     let same = one_session line h.0 k.0 h.1 k.1 h.2 k.2 in
     let syntax = same_statement k.1 h.3.0 k.3.0 (subst (λ s. Fits s h.3.0) same.1 h.3.1) k.3.1 in
@@ -196,7 +187,6 @@ command_passes line numbered is Session kind h = has_session line numbered.sessi
 command_passes line numbered is Room kind h = has_room line numbered.session is.statement is.tokens (is.commands, is.sessions) kind h
 command_passes line numbered is FirstWord kind h = begins line numbered.session is.statement is.tokens (fits_begins is.statement is.syntax is.fits) kind h
 command_passes line numbered is Form kind h = fits line numbered.session is.statement is.tokens is.syntax is.fits kind h
-command_passes line numbered is Built kind h = built line numbered.session is.statement is.tokens is.syntax is.fits is.built kind h
 command_passes line numbered is Meaning kind h =
     let same = one_session line numbered.session h.0 is.statement h.1 is.tokens h.2 in
     let syntax = same_statement h.1 is.syntax h.3.0 (subst (λ s. Fits s is.syntax) same.1 is.fits) h.3.1 in
@@ -221,15 +211,3 @@ past_limit line long = elim (cases_Bool (is_skipped line.bytes)) [
   | inl skipped ↦ inl (skipped, long, refl)
   | inr says ↦ inr (says, inl (inr long, refl))
 ]
-
--- what a statement that is built says is a command that is built
-pub built_command : (syntax : Syntax) (said : Command) → ¬ IsNotBuilt syntax → Says syntax said → IsBuilt said
-built_command (Create path data_type encoding) (command.Create schema) old says = tt
-built_command (Insert device names time values) (command.Insert path row) old says = tt
-built_command (Delete path conditions) (command.Delete series range) old says = tt
-built_command (Select columns device conditions) (command.Select path items range) old says = tt
-built_command Flush command.Flush old says = tt
-built_command (CompactInner space) (command.CompactInner one) old says = absurd (old tt)
-built_command CompactCross command.CompactCross old says = absurd (old tt)
-built_command ShowFiles command.ShowFiles old says = tt
-built_command syntax said old says = absurd says

@@ -6,8 +6,8 @@ use Rattle.std.proofs.lemmas.List.Elements.{All-nil, All-push}
 use Rattle.std.proofs.lemmas.List.Folds.{concat-append}
 use Rattle.tsdb_map.specs.Commands.{IsWellFormed}
 use Rattle.tsdb_script.specs.declared.numbered.Numbered.{Numbered}
-use Rattle.tsdb_script.specs.Reading.{Line, line_behind, lines_of, sessions_of, session_count, Give, no_line, skipped_line, command_line, IsBad, IsBuilt, IsCommand, IsFirstBad, IsScript, IsSkipped, IsWithinLimits}
-use Rattle.tsdb_script.proofs.LineLemmas.{one_line_command, one_line_fault, command_not_bad, skipped_not_bad, past_limit, built_command}
+use Rattle.tsdb_script.specs.Reading.{Line, line_behind, lines_of, sessions_of, session_count, Give, no_line, skipped_line, command_line, IsBad, IsCommand, IsFirstBad, IsScript, IsSkipped, IsWithinLimits}
+use Rattle.tsdb_script.proofs.LineLemmas.{one_line_command, one_line_fault, command_not_bad, skipped_not_bad, past_limit}
 use Rattle.tsdb_script.proofs.LinesLemmas.{concat-lines_of, goes_on, GoesOn}
 use Rattle.tsdb_script.proofs.MeaningLaws.{well_formed as well_formed_meaning}
 use Rattle.tsdb_script.proofs.StatementLemmas.{has_parts}
@@ -203,12 +203,6 @@ well_formed_lines lines script (skipped_line front before line gives is) = well_
 well_formed_lines lines script (command_line front before line numbered gives is) =
     All-push (λ (numbered : Numbered). IsWellFormed numbered.command) before numbered (well_formed_lines front before gives) (well_formed_meaning is.syntax numbered.command (has_parts is.statement is.syntax is.fits) is.means)
 
-built_lines : (lines : List (List ℕ)) (script : List Numbered) → Give lines script → All (λ numbered. IsBuilt numbered.command) script
-built_lines lines script no_line = All-nil (λ (numbered : Numbered). IsBuilt numbered.command)
-built_lines lines script (skipped_line front before line gives is) = built_lines front before gives
-built_lines lines script (command_line front before line numbered gives is) =
-    All-push (λ (numbered : Numbered). IsBuilt numbered.command) before numbered (built_lines front before gives) (built_command is.syntax numbered.command is.built is.means.says)
-
 pub within_limits : (bytes : List ℕ) (script : List Numbered) → IsScript bytes script → IsWithinLimits bytes script
 within_limits bytes script is = record {
   short = omega (arith, lines_short (lines_of bytes) script is, ap length (concat-lines_of bytes));
@@ -219,9 +213,6 @@ within_limits bytes script is = record {
 
 pub well_formed : (bytes : List ℕ) (script : List Numbered) → IsScript bytes script → All (λ numbered. IsWellFormed numbered.command) script
 well_formed bytes script is = well_formed_lines (lines_of bytes) script is
-
-pub built : (bytes : List ℕ) (script : List Numbered) → IsScript bytes script → All (λ numbered. IsBuilt numbered.command) script
-built bytes script is = built_lines (lines_of bytes) script is
 
 -- ---- a script that is too long
 

@@ -16,9 +16,9 @@ use Rattle.tsdb_script.specs.declared.syntax.Part.{Part}
 use Rattle.tsdb_script.specs.declared.syntax.Part.TheVariants as part
 use Rattle.tsdb_script.specs.declared.syntax.Syntax.{Syntax}
 use Rattle.tsdb_script.specs.declared.token.Token.{Token}
-use Rattle.tsdb_script.specs.declared.token.Token.TheVariants.{Word, Open, Close, Semicolon}
+use Rattle.tsdb_script.specs.declared.token.Token.TheVariants.{Word, Close, Semicolon}
 use Rattle.tsdb_script.specs.Forms.{asks_first, is_at, keyword_text, places, statement_of, IsName, IsValue, IsColumn, Stands, Stand, HasParts, Fits, HasNoForm}
-use Rattle.tsdb_script.specs.Parse.{Gives, Tokens, ◌>>=◌, stands_at, fixed_at, word_at, end_at, operand_at, column_at, conditions_at, list_at, place_at, before, read_at, is_keyword_place, begins_at, form_at, statement_at, create_of, insert_of, delete_of, select_of, bare_of, made_of}
+use Rattle.tsdb_script.specs.Parse.{Gives, Tokens, ◌>>=◌, stands_at, fixed_at, word_at, end_at, operand_at, column_at, place_at, before, read_at, is_keyword_place, begins_at, form_at, statement_at, create_of, insert_of, delete_of, select_of, bare_of, made_of}
 use Rattle.tsdb_script.specs.Steps.{FaultsWith}
 use Rattle.tsdb_script.specs.Tokens.{is_keyword}
 use Rattle.tsdb_script.proofs.FormLemmas.{some_is, step, leads, mapped, fixed_found, fixed_again, word_found, finds_name, finds_value, finds_column, list_found, list_again, some_listed, conditions_found, conditions_again}

@@ -22,7 +22,7 @@ use Rattle.tsdb_script.specs.declared.syntax.Syntax.{Syntax}
 use Rattle.tsdb_script.specs.declared.syntax.Syntax.TheVariants.{Create, Insert, Delete, Select, Flush, CompactInner}
 use Rattle.tsdb_script.specs.declared.syntax.Syntax.TheVariants.{CompactCross, ShowFiles}
 use Rattle.tsdb_script.specs.declared.token.Token.{Token}
-use Rattle.tsdb_script.specs.declared.token.Token.TheVariants.{Word, Text, Open, Close, Comma, Semicolon, Equal, Less}
+use Rattle.tsdb_script.specs.declared.token.Token.TheVariants.{Word, Text, Semicolon, Equal, Less}
 use Rattle.tsdb_script.specs.declared.token.Token.TheVariants.{LessEqual, Greater, GreaterEqual}
 use Rattle.tsdb_script.specs.Forms.{is_at, places}
 use Rattle.tsdb_script.specs.Tokens.{is_keyword}

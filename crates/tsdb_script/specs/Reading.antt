@@ -4,13 +4,10 @@ use Rattle.std.specs.Prelude.{◌++◌, length, map, if◌then◌else◌}
 use Rattle.std.specs.List.{concat, list_all, list_any}
 use Rattle.std.specs.Set.{distinct_count}
 use Rattle.std.specs.Str.Parse.{IsNumeral, digits_value}
-use Rattle.tsdb_map.specs.declared.command.Command.{Command}
-use Rattle.tsdb_map.specs.declared.command.Command.TheVariants as command
 use Rattle.tsdb_script.specs.declared.fault.ScriptFault.{ScriptFault}
 use Rattle.tsdb_script.specs.declared.fault.ScriptFault.TheVariants as fault
 use Rattle.tsdb_script.specs.declared.numbered.Numbered.{Numbered}
 use Rattle.tsdb_script.specs.declared.syntax.Syntax.{Syntax}
-use Rattle.tsdb_script.specs.declared.syntax.Syntax.TheVariants.{CompactInner, CompactCross}
 use Rattle.tsdb_script.specs.declared.token.Token.{Token}
 use Rattle.tsdb_script.specs.declared.token.Token.TheVariants.{Word}
 use Rattle.tsdb_script.specs.declared.form.TheConstants.{FORMS}
@@ -76,12 +73,6 @@ abbrev pub BeginsStatement : List Token → Type 0
 BeginsStatement [] = ⊥
 BeginsStatement (token ∷ rest) = IsTrue (list_any (λ form. asks_first token (places form)) FORMS.now)
 
--- the forms that are not built yet
-abbrev pub IsNotBuilt : Syntax → Type 0
-IsNotBuilt (CompactInner space) = Unit {0}
-IsNotBuilt CompactCross = Unit {0}
-IsNotBuilt syntax = ⊥
-
 -- ---- the passes over a line, of which the first that objects decides the kind
 
 pub data Pass : Type 0 where
@@ -91,11 +82,10 @@ pub data Pass : Type 0 where
   Room : Pass
   FirstWord : Pass
   Form : Pass
-  Built : Pass
   Meaning : Pass
 
 abbrev pub passes : List Pass
-passes = Limits ∷ Tokens ∷ Session ∷ Room ∷ FirstWord ∷ Form ∷ Built ∷ Meaning ∷ []
+passes = Limits ∷ Tokens ∷ Session ∷ Room ∷ FirstWord ∷ Form ∷ Meaning ∷ []
 
 -- the line is a session and a statement of which this holds
 abbrev pub OfStatement : Line → (ℕ → List Token → Type 0) → Type 0
@@ -118,9 +108,6 @@ ObjectsIn Room line kind = OfStatement line (λ session statement.
 ObjectsIn FirstWord line kind = OfStatement line (λ session statement. (¬ BeginsStatement statement) × (kind ≡ 2))
 -- F: the tokens fit no form
 ObjectsIn Form line kind = OfStatement line (λ session statement. HasNoForm statement kind)
--- the form is not built yet
-ObjectsIn Built line kind = OfStatement line
-    (λ session statement. (syntax : Syntax) × Fits statement syntax × IsNotBuilt syntax × (kind ≡ 0))
 -- G and H: a word is not what its place asks for, or the whole is bad
 ObjectsIn Meaning line kind = OfStatement line
     (λ session statement. (syntax : Syntax) × Fits statement syntax × Objects syntax kind)
@@ -147,7 +134,6 @@ pub record IsCommand (line : Line) (numbered : Numbered) : Type 0 where
   pub sessions : session_count (line.sessions ++ numbered.session ∷ []) ≤ max_sessions
   pub syntax : Syntax
   pub fits : Fits statement syntax
-  pub built : ¬ IsNotBuilt syntax
   pub means : Means syntax numbered.command
 
 -- only the script's limit is asked of a line that says nothing
@@ -196,16 +182,6 @@ pub record IsWithinLimits (bytes : List ℕ) (script : List Numbered) : Type 0 w
   pub commands : length script ≤ max_commands
   pub sessions : session_count (sessions_of script) ≤ max_sessions
   pub numbers : All (λ session. (1 ≤ session) × (session ≤ 999)) (sessions_of script)
-
--- a command whose form is built
-abbrev pub IsBuilt : Command → Type 0
-IsBuilt (command.Create schema) = Unit {0}
-IsBuilt (command.Insert device row) = Unit {0}
-IsBuilt (command.Delete series range) = Unit {0}
-IsBuilt (command.Select device items range) = Unit {0}
-IsBuilt command.Flush = Unit {0}
-IsBuilt command.ShowFiles = Unit {0}
-IsBuilt command = ⊥
 
 -- why bytes are refused as a script; memory may run out at any place
 abbrev pub RefusesScript : List ℕ → ScriptFault → Type 0

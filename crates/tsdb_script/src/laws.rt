@@ -6,7 +6,7 @@ ghost use Rattle.tsdb_script.specs.declared.syntax.Syntax.{Syntax};
 ghost use Rattle.tsdb_script.specs.declared.token.Token.{Token};
 ghost use Rattle.tsdb_script.specs.Forms.{Fits};
 ghost use Rattle.tsdb_script.specs.Limits.{max_script_bytes};
-ghost use Rattle.tsdb_script.specs.Reading.{IsBuilt, IsFirstBad, IsScript, IsWithinLimits};
+ghost use Rattle.tsdb_script.specs.Reading.{IsFirstBad, IsScript, IsWithinLimits};
 ghost use Rattle.tsdb_script.specs.Tokens.{AreTokens, HasNoTokens};
 
 /// A line has one list of tokens, or a fault of one kind.
@@ -33,13 +33,11 @@ pub fn one_script()
         → ¬ IsFirstBad bytes line kind }
 {}
 
-/// A script keeps to the limits. Its commands are well formed, and of forms that are built.
+/// A script keeps to the limits, and its commands are well formed.
 pub fn good_script()
     ensures limits { (bytes : List ℕ) (script : List Numbered) → IsScript bytes script → IsWithinLimits bytes script }
     ensures well_formed { (bytes : List ℕ) (script : List Numbered) → IsScript bytes script
         → All (λ numbered. IsWellFormed numbered.command) script }
-    ensures built { (bytes : List ℕ) (script : List Numbered) → IsScript bytes script
-        → All (λ numbered. IsBuilt numbered.command) script }
 {}
 
 /// Whoever reads one byte more than a script may have needs no byte behind it.

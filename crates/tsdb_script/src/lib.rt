@@ -22,6 +22,3 @@ pub use laws::{cut_script, good_script, one_reading, one_script, one_statement};
 pub use line::MAX_SCRIPT_BYTES;
 pub use numbered::Numbered;
 pub use script::read_script;
-
-#[cfg(test)]
-mod tests;

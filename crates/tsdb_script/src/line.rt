@@ -4,7 +4,7 @@ ghost use Rattle.std.specs.Prelude.{◌≡◌, ◌↔◌, ◌≤◌, ℕ, length
 ghost use Rattle.tsdb_map.specs.Commands.{IsWellFormed};
 ghost use Rattle.tsdb_script.specs.Limits.{max_commands, max_line_bytes, max_script_bytes};
 ghost use Rattle.tsdb_script.specs.Reading.{content_of, is_skipped, sessions_of, BeginsStatement, IsBad, IsCommand};
-ghost use Rattle.tsdb_script.specs.Reading.{IsNotBuilt, IsSession, IsSkipped};
+ghost use Rattle.tsdb_script.specs.Reading.{IsSession, IsSkipped};
 ghost use Rattle.tsdb_script.specs.LineSteps.{line_at, AreDifferentOf, HasNoSession, HasRoom, HasSession};
 ghost use Rattle.tsdb_script.specs.Steps.{FaultsWith};
 
@@ -14,7 +14,6 @@ use crate::lines::{begins_with, content, is_skipped};
 use crate::meaning::command_of;
 use crate::numbered::Numbered;
 use crate::parser::{Tokens, begins_form, statement};
-use crate::syntax::Syntax;
 use crate::token::{Token, Word};
 use std::alloc::Global;
 use std::str;
@@ -39,9 +38,6 @@ const NO_SESSION: LineFault = LineFault::Bad { kind: 1 };
 
 /// No statement begins with what stands behind the session.
 const NO_STATEMENT: LineFault = LineFault::Bad { kind: 2 };
-
-/// The form is not built yet.
-const NOT_BUILT: LineFault = LineFault::Bad { kind: 0 };
 
 /// The command of a line, where it is not skipped. The line ends so many bytes behind the beginning of the script.
 /// The commands before it are `script`, and their sessions, each once, are `sessions`.
@@ -94,9 +90,6 @@ fn read_command(
         return Err(NO_STATEMENT);
     }
     let syntax = statement(alloc, &mut tokens)?;
-    if is_not_built(&syntax) {
-        return Err(NOT_BUILT);
-    }
     let command = command_of(alloc, &syntax)?;
     Ok(Numbered { session, command })
 }
@@ -140,11 +133,4 @@ fn begins_statement(tokens: &Tokens) -> bool
         Some(token) => begins_form(token),
         None => false,
     }
-}
-
-/// Whether a statement has a form that is not built yet.
-fn is_not_built(syntax: &Syntax) -> bool
-    ensures { IsTrue result ↔ IsNotBuilt syntax.now }
-{
-    matches!(syntax, Syntax::CompactInner { .. } | Syntax::CompactCross)
 }

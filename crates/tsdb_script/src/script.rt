@@ -13,7 +13,6 @@ use std::alloc::Global;
 /// The commands of a script, in the order of its lines, all of them well formed. Where a line is bad, the first bad
 /// line and the kind of its fault:
 ///
-/// - 0: a form that is not built yet
 /// - 1: no session from 1 to 999
 /// - 2: no word that begins a statement
 /// - 3: a byte that begins no token, or tokens that fit no form

@@ -5,7 +5,7 @@ use Rattle.tsdb_script.specs.Forms.{HasNoForm}
 use Rattle.tsdb_script.specs.Meaning.{Objects}
 use Rattle.tsdb_script.specs.Reading.{IsBad}
 use Rattle.tsdb_script.specs.Tokens.{AreTokens}
-use Rattle.tsdb_script.proofs.LineLemmas.{within, bad_session, bad_room, bad_first_word, bad_form, bad_built, bad_meaning}
+use Rattle.tsdb_script.proofs.LineLemmas.{within, bad_session, bad_room, bad_first_word, bad_form, bad_meaning}
 use Rattle.tsdb_script.proofs.WordLists.{faults}
 use Rattle.tsdb_script.proofs.line.read_command.Goals as goal
 
@@ -44,14 +44,6 @@ returns-in_err-syntax-clause-bad c =
     (bad_form line (within line c.requires.says c.requires.line_bytes c.requires.script_bytes) tokens are c.in_ok-session.session c.session.new.tokens.items c.in_ok-session.ensures.found
     (c.has_room.ensures.0 c.if-not-has_room.false) (c.begins_statement.ensures.0 c.if-not-begins_statement.false))
 
-pub returns-then-is_not_built-clause-bad : goal.returns-then-is_not_built-clause-bad
-returns-then-is_not_built-clause-bad c =
-    let line = line_at c.args.line.now c.args.script.now c.args.end in
-    let tokens = c.in_ok-tokens.tokens.items in
-    let are = subst (λ l. AreTokens l tokens) c.content.ensures c.in_ok-tokens.ensures.tokens in
-    bad_built line (within line c.requires.says c.requires.line_bytes c.requires.script_bytes) tokens are c.in_ok-session.session c.session.new.tokens.items c.in_ok-session.ensures.found
-    (c.has_room.ensures.0 c.if-not-has_room.false) (c.begins_statement.ensures.0 c.if-not-begins_statement.false) c.in_ok-syntax.syntax c.in_ok-syntax.ensures.found (c.is_not_built.ensures.0 c.if-is_not_built.true)
-
 pub returns-in_err-command-clause-bad : goal.returns-in_err-command-clause-bad
 returns-in_err-command-clause-bad c =
     let line = line_at c.args.line.now c.args.script.now c.args.end in
@@ -60,4 +52,4 @@ returns-in_err-command-clause-bad c =
     let p = err_from_is_err_and c.from_residual-in_err-command.result c.from_residual-in_err-command.ensures.1 in
     faults (Objects c.in_ok-syntax.syntax) (IsBad line) c.from_residual-in_err-command.result c.in_err-command.field-0.0 p.0 p.1 p.2 c.in_err-command.ensures.bad
     (bad_meaning line (within line c.requires.says c.requires.line_bytes c.requires.script_bytes) tokens are c.in_ok-session.session c.session.new.tokens.items c.in_ok-session.ensures.found
-    (c.has_room.ensures.0 c.if-not-has_room.false) (c.begins_statement.ensures.0 c.if-not-begins_statement.false) c.in_ok-syntax.syntax c.in_ok-syntax.ensures.found (λ later. true≢false (sym (c.is_not_built.ensures.1 later) ∙ c.if-is_not_built.false)))
+    (c.has_room.ensures.0 c.if-not-has_room.false) (c.begins_statement.ensures.0 c.if-not-begins_statement.false) c.in_ok-syntax.syntax c.in_ok-syntax.ensures.found)

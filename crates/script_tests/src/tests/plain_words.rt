@@ -1,7 +1,7 @@
 //! What words mean in their places, whether they are bad there, and the text of a command. Depends on `plain_forms`.
+use super::fault::Fault;
 use super::plain_forms::Hole;
-use super::plain_tokens::{Shape, Token};
-use crate::fault::LineFault;
+use super::plain_tokens::{Shape, Token, write_content};
 use std::alloc::Global;
 
 /// The types with their encodings.
@@ -31,32 +31,25 @@ fn is_node(bytes: &[u8]) -> bool {
         && bytes.len() <= 255
 }
 
-/// So many nodes at least and 16 at most, joined by dots, the first of them `root`, in 255 bytes.
-fn is_path(alloc: Global, bytes: &[u8], least: usize) -> Result<bool, LineFault> {
-    let mut count = 0usize;
-    let mut node = Vec::new(alloc);
-    let mut good = bytes.len() <= 255;
-    for byte in bytes.iter().chain(b".") {
-        if *byte != b'.' {
-            node.push(*byte)?;
-            continue;
-        }
-        good = good
-            && is_node(node.as_slice())
-            && (count > 0 || node.as_slice() == b"root".as_slice());
-        count = count.saturating_add(1);
-        node.clear();
-    }
-    Ok(good && least <= count && count <= 16)
+/// How many parts there are between dots.
+fn nodes(bytes: &[u8]) -> usize {
+    bytes.split(|byte| *byte == b'.').count()
 }
 
-/// The path of a device and a measurement.
-fn is_child(alloc: Global, device: &[u8], name: &[u8]) -> Result<bool, LineFault> {
-    let mut path = Vec::new(alloc);
-    path.extend_from_slice(device)?;
-    path.push(b'.')?;
-    path.extend_from_slice(name)?;
-    is_path(alloc, path.as_slice(), 3)
+/// So many nodes at least and 16 at most, joined by dots, the first of them `root`, in 255 bytes.
+fn is_path(bytes: &[u8], least: usize) -> bool {
+    bytes.len() <= 255
+        && (least..=16).contains(&nodes(bytes))
+        && bytes.split(|byte| *byte == b'.').next() == Some(b"root")
+        && bytes.split(|byte| *byte == b'.').all(is_node)
+}
+
+/// Whether a device and a measurement make a path.
+fn is_child(device: &[u8], name: &[u8]) -> bool {
+    is_path(device, 2)
+        && is_node(name)
+        && nodes(device) < 16
+        && device.len().saturating_add(name.len()) < 255
 }
 
 /// A sign or none and digits, which write a number of 64 bits.
@@ -90,15 +83,13 @@ fn is_one_of(bytes: &[u8], words: &[&[u8]]) -> bool {
 }
 
 /// The kind of the first word from the left that is bad in its place, or else of the whole statement.
-pub fn bad_kind(alloc: Global, holes: &[Hole]) -> Result<Option<u8>, LineFault> {
-    let mut before = Vec::new(alloc);
-    for hole in holes {
-        if is_bad_alone(alloc, hole)? || is_bad_behind(alloc, before.as_slice(), hole)? {
-            return Ok(Some(kind_of(hole.role)));
+pub fn bad_kind(holes: &[Hole]) -> Option<u8> {
+    for (at, hole) in holes.iter().enumerate() {
+        if is_bad_alone(hole) || is_bad_behind(holes, at, hole) {
+            return Some(kind_of(hole.role));
         }
-        before.push(*hole)?;
     }
-    Ok(if is_unbalanced(holes) { Some(7) } else { None })
+    if is_unbalanced(holes) { Some(7) } else { None }
 }
 
 /// The kind of fault of a bad word in such a place.
@@ -111,11 +102,11 @@ fn kind_of(role: u8) -> u8 {
 }
 
 /// Whether a word is bad in its place, whatever stands before it.
-fn is_bad_alone(alloc: Global, hole: &Hole) -> Result<bool, LineFault> {
+fn is_bad_alone(hole: &Hole) -> bool {
     let word = hole.bytes;
-    Ok(match hole.role {
-        b'P' => !is_path(alloc, word, 3)?,
-        b'D' => !is_path(alloc, word, 2)?,
+    match hole.role {
+        b'P' => !is_path(word, 3),
+        b'D' => !is_path(word, 2),
         b'M' => !is_node(word),
         b'N' => number_of(word).is_none(),
         b'V' => {
@@ -128,23 +119,17 @@ fn is_bad_alone(alloc: Global, hole: &Hole) -> Result<bool, LineFault> {
             .any(|entry| word.eq_ignore_ascii_case(entry.0)),
         b'A' => !is_one_of(word, &AGGREGATES),
         _ => false,
-    })
+    }
 }
 
 /// Whether a word does not go with one before it: a measurement with its device, or an encoding with its type.
-fn is_bad_behind(alloc: Global, before: &[Hole], hole: &Hole) -> Result<bool, LineFault> {
-    for other in before {
-        let good = match (other.role, hole.role) {
-            (b'D', b'M') => is_child(alloc, other.bytes, hole.bytes)?,
-            (b'M', b'D') => is_child(alloc, hole.bytes, other.bytes)?,
-            (b'T', b'E') => is_suitable(other.bytes, hole.bytes),
-            _ => true,
-        };
-        if !good {
-            return Ok(true);
-        }
-    }
-    Ok(false)
+fn is_bad_behind(holes: &[Hole], at: usize, hole: &Hole) -> bool {
+    holes.iter().take(at).any(|other| match (other.role, hole.role) {
+        (b'D', b'M') => !is_child(other.bytes, hole.bytes),
+        (b'M', b'D') => !is_child(hole.bytes, other.bytes),
+        (b'T', b'E') => !is_suitable(other.bytes, hole.bytes),
+        _ => false,
+    })
 }
 
 fn is_suitable(data_type: &[u8], encoding: &[u8]) -> bool {
@@ -220,40 +205,60 @@ pub fn write_command(
     statement: &[Token],
     holes: &[Hole],
     said: &mut Vec<u8>,
-) -> Result<(), LineFault> {
+) -> Result<(), Fault> {
     let insert = count_of(holes, b'V') > 0;
-    for token in statement.iter().take(1) {
-        write_lower(token.bytes.as_slice(), said)?;
-    }
+    write_words(statement, if holes.is_empty() { 3 } else { 1 }, said)?;
     for hole in holes {
-        match hole.role {
-            b'P' | b'D' | b'M' => write_word(hole.bytes, said)?,
-            b'A' | b'T' | b'E' => write_lower(hole.bytes, said)?,
-            b'N' if insert => write_number(alloc, hole.bytes, said)?,
-            b'V' if hole.shape == Shape::Text => {
-                said.extend_from_slice(b" '")?;
-                said.extend_from_slice(hole.bytes)?;
-            }
-            b'V' if number_of(hole.bytes).is_some() => write_number(alloc, hole.bytes, said)?,
-            b'V' => write_lower(hole.bytes, said)?,
-            _ => {}
+        if insert || hole.role != b'N' {
+            write_hole(alloc, hole, said)?;
         }
     }
     if !insert && !holes.is_empty() && count_of(holes, b'E') == 0 {
         let (from, to) = range_of(holes);
-        said.extend_from_slice(format!(in alloc; " {from} {to}")?.as_bytes())?;
+        write_number(alloc, from, said)?;
+        write_number(alloc, to, said)?;
     }
     said.push(b'\n')?;
     Ok(())
 }
 
-fn write_word(bytes: &[u8], said: &mut Vec<u8>) -> Result<(), LineFault> {
+/// Adds at most so many words that a statement begins with, in lower case.
+fn write_words(statement: &[Token], most: usize, said: &mut Vec<u8>) -> Result<(), Fault> {
+    for token in statement.iter().take(most) {
+        if token.shape == Shape::Word {
+            write_lower(token.bytes, said)?;
+        }
+    }
+    Ok(())
+}
+
+fn write_hole(alloc: Global, hole: &Hole, said: &mut Vec<u8>) -> Result<(), Fault> {
+    match hole.role {
+        b'P' | b'D' | b'M' => write_word(hole.bytes, said),
+        b'A' | b'T' | b'E' => write_lower(hole.bytes, said),
+        b'N' | b'V' => write_value(alloc, hole, said),
+        _ => Ok(()),
+    }
+}
+
+fn write_value(alloc: Global, hole: &Hole, said: &mut Vec<u8>) -> Result<(), Fault> {
+    if hole.shape == Shape::Text {
+        said.extend_from_slice(b" '")?;
+        return write_content(hole.bytes, said);
+    }
+    match number_of(hole.bytes) {
+        Some(number) => write_number(alloc, number, said),
+        None => write_lower(hole.bytes, said),
+    }
+}
+
+fn write_word(bytes: &[u8], said: &mut Vec<u8>) -> Result<(), Fault> {
     said.push(b' ')?;
     said.extend_from_slice(bytes)?;
     Ok(())
 }
 
-fn write_lower(bytes: &[u8], said: &mut Vec<u8>) -> Result<(), LineFault> {
+fn write_lower(bytes: &[u8], said: &mut Vec<u8>) -> Result<(), Fault> {
     said.push(b' ')?;
     for byte in bytes {
         said.push(byte.to_ascii_lowercase())?;
@@ -261,8 +266,7 @@ fn write_lower(bytes: &[u8], said: &mut Vec<u8>) -> Result<(), LineFault> {
     Ok(())
 }
 
-fn write_number(alloc: Global, bytes: &[u8], said: &mut Vec<u8>) -> Result<(), LineFault> {
-    let number = number_of(bytes).unwrap_or(0);
+fn write_number(alloc: Global, number: i64, said: &mut Vec<u8>) -> Result<(), Fault> {
     said.extend_from_slice(format!(in alloc; " {number}")?.as_bytes())?;
     Ok(())
 }
