@@ -60,7 +60,7 @@ run_numbers run numbers entries of =
     ∙ take-map (λ (e : FileEntry). e.number.0) (run_length run) (drop run.first entries) ∙ of.are
 
 -- where a run of files begins that stands side by side
-begins_at : (run : Run) (numbers : List FileNumber) (entries : List FileEntry) (file : File)
+pub begins_at : (run : Run) (numbers : List FileNumber) (entries : List FileEntry) (file : File)
     (files before behind : List File) → IsRunOf run numbers entries
     → ((n : ℕ) → count n (entry_numbers entries) ≤ 1) → numbers_of (file ∷ files) ≡ plain_numbers numbers
     → map listed entries ≡ before ++ ((file ∷ files) ++ behind) → run.first ≡ length before

@@ -17,7 +17,7 @@ use Rattle.tsdb_compacting.specs.declared.beginning.TakenInputs.{TakenInputs}
 use Rattle.tsdb_compacting.specs.declared.finishing.InputRuns.{InputRuns}
 use Rattle.tsdb_compacting.specs.declared.series.JobSeries.{JobSeries}
 use Rattle.tsdb_compactions.specs.Jobs.{input_file}
-use Rattle.tsdb_compactions.specs.Outputs.{IsRead, TellsTruth}
+use Rattle.tsdb_compactions.specs.Outputs.{IsOneTold, IsRead, TellsTruth}
 use Rattle.tsdb_compactions.specs.declared.job.Input.{Input}
 use Rattle.tsdb_held.specs.Held.{AreFilesOf, TellTheirBytes, listed}
 use Rattle.tsdb_images.specs.Stored.{IsKept, kept_bytes}
@@ -101,10 +101,11 @@ module _ {F S R P : Type 0} (name : R → NamedFile) where
 
   apart : (kept : List StoredFile) (inputs : List (Input F S R P)) → Each (Tells kept) inputs
       → ((n : ℕ) → count n (input_numbers inputs) ≤ 1)
-      → EachPair (λ a b. (name a.right).number ≢ (name b.right).number) inputs
+      → EachPair (λ a b. IsOneTold name a b → (name a.right).number ≢ (name b.right).number) inputs
   apart kept [] tell once = tt
   apart kept (input ∷ inputs) tell once = (
-    each_from_among (λ other. (name input.right).number ≢ (name other.right).number) inputs (λ other among same.
+    each_from_among (λ other. IsOneTold name input other → (name input.right).number ≢ (name other.right).number) inputs
+        (λ other among told same.
         let number : other.number.0 ≡ input.number.0 =
         sym (each_among (Tells kept) inputs other tell.1 among).number ∙ sym same ∙ tell.0.number in
         omega (

@@ -1,5 +1,5 @@
 -- The output of a job: at each place the value of the last input with a point that survives the marks at its beginning.
-use Rattle.std.specs.Prelude.{◌≡◌, ◌≢◌, ◌↔◌, ℕ, IsSome, List, Option, None, Some}
+use Rattle.std.specs.Prelude.{◌≡◌, ◌≢◌, ◌⊎◌, ◌↔◌, ℕ, IsSome, List, Option, None, Some}
 use Rattle.std.specs.FinMap.{get}
 use Rattle.std.specs.List.{AllByRecursion as Each}
 use Rattle.tsdb_base.specs.Values.{type_of}
@@ -41,11 +41,15 @@ module _ {F S R P : Type 0} (name : R → NamedFile) where
   abbrev pub IsRead : Told → Input F S R P → Type 0
   IsRead told input = IsWhole (λ number. (name input.right).bytes) told (input_file input)
 
-  -- What is told is what those inputs have that tell their bytes: no two rights are to one file, and each winner is of a
-  -- series that has its schema.
+  -- one of two inputs tells its bytes
+  abbrev pub IsOneTold : Input F S R P → Input F S R P → Type 0
+  IsOneTold a b = IsSome (name a.right).bytes ⊎ IsSome (name b.right).bytes
+
+  -- What is told is what those inputs have that tell their bytes: no other right is to their file, and each winner is of
+  -- a series that has its schema.
   pub record TellsTruth (told : Told) (job : Job F S R P) : Type 0 where
     pub read : Each (λ input. IsSome (name input.right).bytes → IsRead told input) job.inputs
-    pub apart : EachPair (λ a b. (name a.right).number ≢ (name b.right).number) job.inputs
+    pub apart : EachPair (λ a b. IsOneTold a b → (name a.right).number ≢ (name b.right).number) job.inputs
     pub schemas : (place : Place) (value : Value) → winner told job place ≡ Some value → HasSchema job.schemas place value
 
   -- and each input tells its bytes

@@ -1,6 +1,6 @@
 -- What is told of the inputs of a job, as the pages of a series in their files.
-use Rattle.std.proofs.Common.{◌≡◌, ◌≢◌, ℕ, ◌≤◌, Bool, true, false, cond, ◌&&◌, inl, inr, List, [], ◌∷◌, map, Option, None}
-use Rattle.std.proofs.Common.{Some, refl, sym, ap, subst, ◌∙◌, arith}
+use Rattle.std.proofs.Common.{◌≡◌, ◌≢◌, ◌⊎◌, ℕ, ◌≤◌, Bool, true, false, cond, ◌&&◌, inl, inr, List, [], ◌∷◌, map, Option}
+use Rattle.std.proofs.Common.{None, Some, refl, sym, ap, subst, ◌∙◌, arith}
 use Rattle.std.specs.Prelude.{◌<ℤ◌, All, IfSome, IsSome, filter, nat_eq}
 use Rattle.std.specs.FinMap.{get}
 use Rattle.std.specs.List.{AllByRecursion as Each, AllZip}
@@ -16,7 +16,7 @@ use Rattle.tsdb_columns.specs.Lanes.{IsToldSource, IsTrueSource, source_left}
 use Rattle.tsdb_columns.specs.declared.source.Source.{Source}
 use Rattle.tsdb_columns.specs.declared.source.Source.TheVariants as lent
 use Rattle.tsdb_compactions.specs.Jobs.{input_file}
-use Rattle.tsdb_compactions.specs.Outputs.{IsRead}
+use Rattle.tsdb_compactions.specs.Outputs.{IsOneTold, IsRead}
 use Rattle.tsdb_compactions.specs.declared.job.Input.{Input}
 use Rattle.tsdb_inner.proofs.Told.{HasList, has_list}
 use Rattle.tsdb_inner.proofs.Trees.{among_of, contains_of}
@@ -80,6 +80,14 @@ differs a b apart = by (nat_eq a b) refl
     by true is = absurd (apart (eqb-true a b is))
     by false is = refl
 
+told_or_not : {A : Type 0} (o : Option A) → IsSome o ⊎ (o ≡ None)
+told_or_not None = inr refl
+told_or_not (Some x) = inl refl
+
+either_is : {A : Type 0} (b : Bool) (x y z : A) → x ≡ z → y ≡ z → cond b x y ≡ z
+either_is true x y z first second = first
+either_is false x y z first second = second
+
 module _ {F S R P : Type 0} (name : R → NamedFile) (told : Told) (path : List ℕ) (two : 2 ≤ node_count path) where
   abbrev pub Reads : Input F S R P → Type 0
   Reads input = IsSome (name input.right).bytes → IsRead name told input
@@ -136,8 +144,38 @@ module _ {F S R P : Type 0} (name : R → NamedFile) (told : Told) (path : List 
   abbrev pub Owns : FilePages → Input F S R P → Type 0
   Owns pages input = (read : Reads input) × (pages (name input.right).number ≡ own input read)
 
+  own_none : (input : Input F S R P) (bytes : Option (List ℕ)) (read : IsSome bytes → IsRead name told input)
+      → bytes ≡ None → own_of input bytes read ≡ None
+  own_none input None read is = refl
+  own_none input (Some bytes) read is = absurd cc
+
+  -- those of an input before another hide its pages only where neither tells its bytes
+  behind : (input other : Input F S R P) (read : Reads input) (pages : FilePages)
+      → (IsOneTold name input other → (name input.right).number ≢ (name other.right).number) → (owned : Owns pages other)
+      → cond (nat_eq (name input.right).number (name other.right).number) (own input read)
+      (pages (name other.right).number) ≡ own other owned.0
+  behind input other read pages apart owned =
+      by (told_or_not (name input.right).bytes) (told_or_not (name other.right).bytes)
+    where
+      differ : IsOneTold name input other → cond (nat_eq (name input.right).number (name other.right).number)
+          (own input read) (pages (name other.right).number) ≡ own other owned.0
+      differ one = ap (λ c. cond c (own input read) (pages (name other.right).number))
+          (differs (name input.right).number (name other.right).number (apart one)) ∙ owned.1
+
+      by : IsSome (name input.right).bytes ⊎ ((name input.right).bytes ≡ None)
+          → IsSome (name other.right).bytes ⊎ ((name other.right).bytes ≡ None)
+          → cond (nat_eq (name input.right).number (name other.right).number) (own input read)
+          (pages (name other.right).number) ≡ own other owned.0
+      by (inl told) any = differ (inl told)
+      by (inr none) (inl told) = differ (inr told)
+      by (inr none) (inr also) = either_is (nat_eq (name input.right).number (name other.right).number) (own input read)
+          (pages (name other.right).number) (own other owned.0)
+          (own_none input (name input.right).bytes read none
+          ∙ sym (own_none other (name other.right).bytes owned.0 also)) owned.1
+
   pub owns : (inputs : List (Input F S R P)) (reads : Each Reads inputs)
-      → EachPair (λ a b. (name a.right).number ≢ (name b.right).number) inputs → Each (Owns (pages_of inputs reads)) inputs
+      → EachPair (λ a b. IsOneTold name a b → (name a.right).number ≢ (name b.right).number) inputs
+      → Each (Owns (pages_of inputs reads)) inputs
   owns [] reads apart = tt
   owns (input ∷ inputs) reads apart = (
     (
@@ -145,11 +183,10 @@ module _ {F S R P : Type 0} (name : R → NamedFile) (told : Told) (path : List 
       ap (λ c. cond c (own input reads.0) (pages_of inputs reads.1 (name input.right).number))
           (itself (name input.right).number),
     ),
-    each_both (λ other. (name input.right).number ≢ (name other.right).number) (Owns (pages_of inputs reads.1))
-        (Owns (pages_of (input ∷ inputs) reads)) (λ other apart has. (
+    each_both (λ other. IsOneTold name input other → (name input.right).number ≢ (name other.right).number)
+        (Owns (pages_of inputs reads.1)) (Owns (pages_of (input ∷ inputs) reads)) (λ other apart has. (
           has.0,
-          ap (λ c. cond c (own input reads.0) (pages_of inputs reads.1 (name other.right).number))
-              (differs (name input.right).number (name other.right).number apart) ∙ has.1,
+          behind input other reads.0 (pages_of inputs reads.1) apart has,
         )) inputs apart.0 (owns inputs reads.1 apart.1),
   )
 
