@@ -126,7 +126,7 @@ if_weaker P Q None weaker holds = tt
 if_weaker P Q (Some file) weaker holds = weaker file holds
 
 -- what the bytes of files that tell them are stored under
-stored_number : (Q : ℕ → Type 0) (files : List NewFile) → Each (λ file. Q (number_of file)) files
+pub stored_number : (Q : ℕ → Type 0) (files : List NewFile) → Each (λ file. Q (number_of file)) files
     → Each (λ (stored : StoredFile). Q stored.number) (flat_map stored_of files)
 stored_number Q [] all = tt
 stored_number Q (file ∷ files) all = each_append (λ (stored : StoredFile). Q stored.number) (stored_of file)
@@ -175,7 +175,7 @@ flush_of job = record {
 only_one : (flush : state.FlushJob) → IsWithOne flush [] (flush ∷ [])
 only_one flush = record { before = []; behind = []; with_it = refl; without = refl }
 
-still_made : (Q : KeptFile → Type 0) (old new : Places) → OnlyMakesPlaces old new → AllFiles Q old → AllFiles Q new
+pub still_made : (Q : KeptFile → Type 0) (old new : Places) → OnlyMakesPlaces old new → AllFiles Q old → AllFiles Q new
 still_made Q old new made all n = subst (λ found. IfSome found Q) (sym (made.files n)) (all n)
 
 module _ {J F S R P : Type 0} {means : disk.Ghosts J} {counts : counted.Ghosts J} where

@@ -77,7 +77,7 @@ module _ (told other : Told) where
   state_as store at same stands = record { world = stands_as store at.world same stands.world; stamp = stands.stamp }
 
   -- a record in doubt leads to the same state, where all files that are there are told as before
-  leads_as : (named : List ℕ) (store : StoreState) (outgoing : List File) (doubt : Option LogRecord)
+  pub leads_as : (named : List ℕ) (store : StoreState) (outgoing : List File) (doubt : Option LogRecord)
       (next : Option plain.State) → Each Same ((store.sequence ++ store.unsequence) ++ outgoing)
       → IfSome doubt (DoubtInOrder told named store outgoing) → LeadsTo told store doubt next
       → LeadsTo other store doubt next

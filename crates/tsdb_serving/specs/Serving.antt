@@ -1,6 +1,6 @@
 -- Which state of the plain model a core is in beside the files of its run, and what a command that it serves makes of
 -- it.
-use Rattle.std.specs.Prelude.{◌≡◌, ◌⊎◌, ℕ, ◌≤◌, ◌<◌, List, ◌++◌, Option, None, Some}
+use Rattle.std.specs.Prelude.{◌≡◌, ◌⊎◌, ℕ, ◌≤◌, ◌<◌, false, List, ◌++◌, Option, None, Some}
 use Rattle.std.specs.List.{AllByRecursion as Each}
 use Rattle.tsdb_core.specs.Core.{IsSeen, logged_of, next_of}
 use Rattle.tsdb_core.specs.declared.engine.Core.{Core}
@@ -15,7 +15,7 @@ use Rattle.tsdb_map.specs.declared.command.Command.{Command}
 use Rattle.tsdb_map.specs.declared.reply.Reply.{Reply}
 use Rattle.tsdb_map.specs.declared.reply.Reply.TheVariants.{Plain}
 use Rattle.tsdb_outside.specs.Disk.{Image, State}
-use Rattle.tsdb_outside.specs.Files.{StoredFile}
+use Rattle.tsdb_outside.specs.Files.{Store, StoredFile}
 use Rattle.tsdb_outside.specs.Moments.{LeavesOnly}
 use Rattle.tsdb_outside.specs.declared.disk.Disk as disk
 use Rattle.tsdb_outside.specs.declared.disk.Slot.{Slot}
@@ -82,6 +82,11 @@ module _ {J F S R P : Type 0} {means : disk.Ghosts J} {counts : counted.Ghosts J
     pub stands : IsStateOf outside.told state.store at
     pub doubt : LeadsTo outside.told state.store state.doubt next
     pub held : AreHeldWith outside.kept files
+
+  -- The store does not tell what its files hold, or the core is in a state of the plain model.
+  abbrev pub IsSure : Store → Core J F S R P means counts → Type 0
+  IsSure store core = (store.tells ≡ false)
+      ⊎ ((files : List StoredFile) × (at : plain.State) × (next : Option plain.State) × IsServing core files at next)
 
   -- A command leads to the state `after` where it takes effect, and has led to `now`. Files of these numbers were put
   -- meanwhile. At each moment a stop left the state before it, or the one in doubt, or the one after it.

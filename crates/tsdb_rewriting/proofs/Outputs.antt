@@ -1,0 +1,174 @@
+-- What is known of the output of a job before it is listed, and why a job fails.
+use Rattle.std.proofs.Common.{◌≡◌, ◌≢◌, ◌⊎◌, ℕ, ◌+◌, ◌<◌, ◌≤◌, true, List, [], Option, None, Some, Result, Ok, Err, inl, inr, arith, zero, suc}
+use Rattle.std.proofs.Common.{ap, refl, sym, subst, ◌∙◌}
+use Rattle.std.proofs.lemmas.Bool.{false≢true}
+use Rattle.std.specs.Option.{option_map}
+use Rattle.std.specs.Prelude.{IfErr, IfSome, IsErrOf, IsSome, is_some}
+use Rattle.tsdb_committing.specs.Files.{new_file}
+use Rattle.tsdb_compacting.specs.Finishing.{AreRunsOf}
+use Rattle.tsdb_compacting.specs.declared.finishing.InputRuns.{InputRuns}
+use Rattle.tsdb_core.specs.Beginnings.{IsBeginAnswer}
+use Rattle.tsdb_core.specs.Core.{files_of, next_of}
+use Rattle.tsdb_core.specs.Replacements.{EndsFiles, TellsNew}
+use Rattle.tsdb_core.specs.Sweeps.{IsSwept}
+use Rattle.tsdb_core.specs.declared.commit.CoreFault.{CoreFault}
+use Rattle.tsdb_core.specs.declared.commit.CoreFault.TheVariants as core_fault
+use Rattle.tsdb_core.specs.declared.engine.Core.{Core}
+use Rattle.tsdb_compactions.specs.Outputs.{IsOutputOf}
+use Rattle.tsdb_compactions.specs.declared.job.Job.{Job}
+use Rattle.tsdb_committing.specs.Files.{NewFile}
+use Rattle.tsdb_jobs.specs.declared.flush.Built.{Built}
+use Rattle.tsdb_outside.specs.Causes.{HasStoreCause, Rose}
+use Rattle.tsdb_outside.specs.Files.{NamedFile, Store, Tells}
+use Rattle.tsdb_outside.specs.declared.disk.Disk as disk
+use Rattle.tsdb_outside.specs.declared.faults.Counted as counted
+use Rattle.tsdb_outside.specs.declared.faults.Failed.{Failed}
+use Rattle.tsdb_rewriting.specs.Rewriting.{IsFinished, KeepsBoth}
+use Rattle.tsdb_serving.specs.Faults.{of_core_fault, of_file_fault}
+use Rattle.tsdb_serving.specs.declared.fault.FlushFault.{FlushFault}
+use Rattle.tsdb_serving.specs.declared.fault.FlushFault.TheVariants as fault
+use Rattle.tsdb_outside.specs.declared.faults.StoreFault.{StoreFault}
+use Rattle.tsdb_outside.specs.declared.faults.StoreFault.TheVariants as file_fault
+use Rattle.tsdb_state.specs.Limits.{end_of_numbers}
+
+pub told_bytes : (bytes : Option (List ℕ)) → is_some bytes ≡ true → IsSome bytes
+told_bytes None is = absurd (false≢true is)
+told_bytes (Some bytes) is = refl
+
+module _ {F S R P : Type 0} (file : S → NamedFile) where
+  pub output_unread : (output : Option (Built F S R P))
+      → IfSome (option_map (new_file file) output) (λ one. one.token.rights ≡ 0)
+  output_unread None = tt
+  output_unread (Some built) = refl
+
+  -- it has the number of the job
+  pub output_numbered : (name : R → NamedFile) (rights : S → ℕ) (job : Job F S R P) (output : Option (Built F S R P))
+      → IsOutputOf name file rights job output
+      → IfSome (option_map (new_file file) output) (λ one. one.entry.number.0 ≡ job.output.0)
+  output_numbered name rights job None is = tt
+  output_numbered name rights job (Some built) is = is.file_is.kept.number_is
+
+  pub output_in : (store : Store) (output : Option (Built F S R P))
+      → IfSome output (λ built. (file built.sealed).store ≡ store)
+      → IfSome (option_map (new_file file) output) (λ one. one.token.name.store ≡ store)
+  output_in store None is = tt
+  output_in store (Some built) is = is
+
+  pub output_tells : ((sealed : S) → Tells (file sealed)) → (store : Store) → store.tells ≡ true
+      → (output : Option (Built F S R P)) → IfSome output (λ built. (file built.sealed).store ≡ store)
+      → TellsNew (option_map (new_file file) output)
+  output_tells laws store tells None is = tt
+  output_tells laws store tells (Some built) is = told_bytes (file built.sealed).bytes
+      (sym (laws built.sealed) ∙ ap (λ (s : Store). s.tells) is ∙ tells)
+
+-- the fault of a job that could not begin is no fault of a device
+pub not_device : (why : CoreFault) → of_core_fault why ≢ fault.Device
+not_device core_fault.Memory is = absurd cc
+not_device (core_fault.Full counter) is = absurd cc
+
+pub not_full : (why : StoreFault) (counter : ℕ) → of_file_fault why ≢ fault.Full counter
+not_full file_fault.Failed counter is = absurd cc
+not_full file_fault.Memory counter is = absurd cc
+
+pub device_failed : (why : StoreFault) → of_file_fault why ≡ fault.Device → why ≡ file_fault.Failed
+device_failed file_fault.Failed is = refl
+device_failed file_fault.Memory is = absurd cc
+
+device_is_not_full : (counter : ℕ) → fault.Device ≢ fault.Full counter
+device_is_not_full counter is = absurd cc
+
+-- a commit fails at the device alone
+pub device_alone : (result : Result (Unit {0}) FlushFault) (rose : Type 0)
+    → IfErr result (λ why. (why ≡ fault.Device) × rose)
+    → IfErr result (λ why. (counter : ℕ) → why ≢ fault.Full counter)
+device_alone (Ok value) rose cause = tt
+device_alone (Err why) rose cause = λ counter is. device_is_not_full counter (sym cause.0 ∙ is)
+
+pub device_cause : (result : Result (Unit {0}) FlushFault) (before after port port_after : ℕ)
+    → IfErr result (λ why. (why ≡ fault.Device) × Rose before after)
+    → IfErr result (λ why. why ≡ fault.Device → Rose before after ⊎ Rose port port_after)
+device_cause (Ok value) before after port port_after cause = tt
+device_cause (Err why) before after port port_after cause = λ is. inl cause.1
+
+-- a job that could not be run
+pub store_cause : {T : Type 0} (result : Result T StoreFault) (why : StoreFault) (before after : ℕ) → result ≡ Err why
+    → HasStoreCause before after result → why ≡ file_fault.Failed → Rose before after
+store_cause result why before after is cause failed =
+    cause.failed (subst (λ r. IsErrOf r file_fault.Failed) (sym (is ∙ ap Err failed)) refl)
+
+below_or_not : (a b : ℕ) → (a < b) ⊎ (b ≤ a)
+below_or_not zero zero = inr (omega arith)
+below_or_not zero (suc b) = inl (omega arith)
+below_or_not (suc a) zero = inr (omega arith)
+below_or_not (suc a) (suc b) = by (below_or_not a b)
+  where
+    by : (a < b) ⊎ (b ≤ a) → (suc a < suc b) ⊎ (suc b ≤ suc a)
+    by (inl below) = inl (omega (arith, below))
+    by (inr not) = inr (omega (arith, not))
+
+-- numbers have ended, where order cannot be ruled out
+pub full_counter : {F S R P : Type 0} (IsPlan : InputRuns → Type 0) (next : ℕ) (Order : Type 0)
+    (result : Result (Option (Job F S R P)) CoreFault) (why : CoreFault) → result ≡ Err why → ¬ (¬ Order)
+    → (Order → IsBeginAnswer IsPlan next result) → (counter : ℕ) → of_core_fault why ≡ fault.Full counter
+    → end_of_numbers < counter + 2
+full_counter IsPlan next Order result core_fault.Memory is sure answer counter same = absurd cc
+full_counter IsPlan next Order result (core_fault.Full number) is sure answer counter same =
+    by (below_or_not end_of_numbers (counter + 2))
+  where
+    equal : number ≡ counter
+    equal = cc
+
+    by : (end_of_numbers < counter + 2) ⊎ (counter + 2 ≤ end_of_numbers) → end_of_numbers < counter + 2
+    by (inl below) = below
+    by (inr not) = absurd (sure (λ order.
+        let answered = subst (IsBeginAnswer IsPlan next) is (answer order) in
+        omega (arith, answered.1, answered.2, equal, not)))
+
+full_is_no_memory : {F S R P : Type 0} (result : Result (Option (Job F S R P)) CoreFault) (number : ℕ)
+    → result ≡ Err (core_fault.Full number) → result ≡ Err core_fault.Memory → ⊥
+full_is_no_memory result number is other = cc
+
+-- the same of a call that answers where order is not there with a want of memory
+pub full_of_cross : {F S R P : Type 0} (IsPlan : InputRuns → Type 0) (next : ℕ) (Order : Type 0)
+    (result : Result (Option (Job F S R P)) CoreFault) (why : CoreFault) → result ≡ Err why
+    → (¬ Order → result ≡ Err core_fault.Memory) → (Order → IsBeginAnswer IsPlan next result) → (counter : ℕ)
+    → of_core_fault why ≡ fault.Full counter → end_of_numbers < counter + 2
+full_of_cross IsPlan next Order result core_fault.Memory is disorder answer counter same = absurd cc
+full_of_cross IsPlan next Order result (core_fault.Full number) is disorder answer counter same =
+    full_counter IsPlan next Order result (core_fault.Full number) is
+    (λ not. full_is_no_memory result number is (disorder not)) answer counter same
+
+module _ {J F S R P : Type 0} {means : disk.Ghosts J} {counts : counted.Ghosts J} where
+  -- a sweep leaves both lists
+  pub swept_lists : (old new : Core J F S R P means counts) (outcome : Result ℕ Failed) → IsSwept old new outcome
+      → KeepsBoth (files_of old) (files_of new)
+  swept_lists old new (Ok count) sweeps = record {
+    sequence = sweeps.all.left.sequence;
+    unsequence = sweeps.all.left.unsequence;
+  }
+  swept_lists old new (Err failure) sweeps = record {
+    sequence = sweeps.stopped.1.left.sequence;
+    unsequence = sweeps.stopped.1.left.unsequence;
+  }
+
+  -- a commit that is done has replaced the files of the job, and a sweep leaves that
+  pub finished : (old mid new : Core J F S R P means counts) (job : Job F S R P) (file : Option NewFile)
+      → (runs : InputRuns) → AreRunsOf job runs (files_of old)
+      → IfSome file (λ one. one.entry.number.0 ≡ job.output.0)
+      → EndsFiles job runs file (files_of old) (files_of mid) (Ok tt)
+      → KeepsBoth (files_of mid) (files_of new) → IsFinished job old new
+  finished old mid new job file runs stand numbered ends keeps = (
+    runs,
+    stand,
+    record {
+      output = option_map (λ one. one.entry) file;
+      numbered = number_of file numbered;
+      sequence = keeps.sequence ∙ ends.lists.sequence_is;
+      unsequence = keeps.unsequence ∙ ends.lists.unsequence_is;
+    },
+  )
+    where
+      number_of : (o : Option NewFile) → IfSome o (λ one. one.entry.number.0 ≡ job.output.0)
+          → IfSome (option_map (λ one. one.entry) o) (λ entry. entry.number.0 ≡ job.output.0)
+      number_of None is = tt
+      number_of (Some one) is = is

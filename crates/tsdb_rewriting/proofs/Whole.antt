@@ -1,0 +1,55 @@
+-- What a compaction leaves as a whole.
+use Rattle.std.proofs.Common.{◌≡◌, ◌≢◌, ◌⊎◌, ℕ, ◌+◌, ◌<◌, Option, None, Result, Ok, Err, inl, inr, sym, ◌∙◌}
+use Rattle.std.specs.Prelude.{IfErr, OnOk}
+use Rattle.tsdb_base.specs.declared.ids.Space.{Space}
+use Rattle.tsdb_compacting.specs.declared.finishing.InputRuns.{InputRuns}
+use Rattle.tsdb_compactions.specs.declared.job.Job.{Job}
+use Rattle.tsdb_core.proofs.Beginnings.{Fit}
+use Rattle.tsdb_core.specs.Beginnings.{IsBegun}
+use Rattle.tsdb_core.specs.Core.{files_of}
+use Rattle.tsdb_core.specs.declared.commit.CoreFault.{CoreFault}
+use Rattle.tsdb_core.specs.declared.engine.Core.{Core}
+use Rattle.tsdb_kept.specs.Files.{AreKept}
+use Rattle.tsdb_outside.specs.Files.{NamedFile}
+use Rattle.tsdb_outside.specs.declared.disk.Disk as disk
+use Rattle.tsdb_outside.specs.declared.faults.Counted as counted
+use Rattle.tsdb_rewriting.proofs.Listed.{replaced_by}
+use Rattle.tsdb_rewriting.specs.Rewriting.{IsCompacted, IsFinished, KeepsBoth}
+use Rattle.tsdb_serving.specs.declared.fault.FlushFault.{FlushFault}
+use Rattle.tsdb_serving.specs.declared.fault.FlushFault.TheVariants as fault
+use Rattle.tsdb_state.specs.Limits.{end_of_numbers}
+
+module _ {J F S R P : Type 0} {means : disk.Ghosts J} {counts : counted.Ghosts J} (name : R → NamedFile) where
+  pub compacted : (IsPlan : InputRuns → Type 0) (space : Space) (runs : InputRuns) (old mid new : Core J F S R P means counts)
+      (job : Job F S R P) (result : Result (Unit {0}) FlushFault) → IsPlan runs → IsBegun name space runs old mid job
+      → Fit space runs (files_of old) → AreKept (files_of mid) → OnOk result (IsFinished job mid new)
+      → OnOk result (IsCompacted IsPlan space old new)
+  compacted IsPlan space runs old mid new job (Ok value) plan begun fit kept finished =
+      inl (runs, plan, replaced_by name space runs old mid job begun fit kept new finished)
+  compacted IsPlan space runs old mid new job (Err why) plan begun fit kept finished = tt
+
+pub keeps_on : {J F S R P : Type 0} {means : disk.Ghosts J} {counts : counted.Ghosts J}
+    (old mid new : Core J F S R P means counts) → (files_of mid).sequence ≡ (files_of old).sequence
+    → (files_of mid).unsequence ≡ (files_of old).unsequence → KeepsBoth (files_of mid) (files_of new)
+    → KeepsBoth (files_of old) (files_of new)
+keeps_on old mid new early late keeps = record {
+  sequence = keeps.sequence ∙ early;
+  unsequence = keeps.unsequence ∙ late;
+}
+
+-- no number was asked for
+pub no_full : (result : Result (Unit {0}) FlushFault) → IfErr result (λ why. (counter : ℕ) → why ≢ fault.Full counter)
+    → IfErr result (λ why. (counter : ℕ) → why ≡ fault.Full counter → end_of_numbers < counter + 2)
+no_full (Ok value) not = tt
+no_full (Err why) not = λ counter is. absurd (not counter is)
+
+-- without hulls in order there is no answer that there is no plan
+module _ {A : Type 0} (result : Result (Option A) CoreFault) (why : CoreFault) where
+  abbrev nothing : Result (Option A) CoreFault
+  nothing = Ok None
+
+  differ : nothing ≡ Err why → ⊥
+  differ is = cc
+
+  pub no_plan : (Order Plan : Type 0) → result ≡ Ok None → (¬ Order → result ≡ Err why) → (Order → ¬ Plan) → ¬ Plan
+  no_plan Order Plan none disorder never plan = differ (sym none ∙ disorder (λ order. never order plan))

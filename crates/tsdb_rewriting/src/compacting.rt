@@ -1,0 +1,218 @@
+//! A compaction: the files of a plan become one. Depends on tsdb_core, tsdb_inner and tsdb_serving.
+ghost use Rattle.std.specs.List.{AllByRecursion as Each};
+ghost use Rattle.std.specs.Option.{option_map};
+ghost use Rattle.std.specs.Prelude.{◌≡◌, ◌≢◌, ◌⊎◌, ◌≤◌, ◌<◌, ◌+◌, ℕ, IfErr, IfOk, IfSome, OnOk};
+ghost use Rattle.tsdb_base.specs.declared.ids.Space.TheVariants.{Sequence as SequenceSpace};
+ghost use Rattle.tsdb_committing.specs.Files.{new_file};
+ghost use Rattle.tsdb_compactions.specs.Jobs.{IsFormed};
+ghost use Rattle.tsdb_compactions.specs.Outputs.{IsOutputOf, TellsTruth};
+ghost use Rattle.tsdb_core.specs.Beginnings.{IsCrossRuns, IsInnerRuns};
+ghost use Rattle.tsdb_core.specs.Compactions.{IsJobOut};
+ghost use Rattle.tsdb_core.specs.Core.{files_of};
+ghost use Rattle.tsdb_core.specs.Replacements.{IsJobCommit};
+ghost use Rattle.tsdb_inner.specs.Inputs.{IsInputOf};
+ghost use Rattle.tsdb_kept.specs.Files.{AreKept};
+ghost use Rattle.tsdb_outside.specs.Causes.{HasStoreCause, Rose};
+ghost use Rattle.tsdb_rewriting.specs.Rewriting.{EndsRewrite, IsCompacted, IsFinished, IsRewriting, KeepsBoth};
+ghost use Rattle.tsdb_serving.specs.Flushing.{GoesOn, IsReady, faults_under};
+ghost use Rattle.tsdb_serving.specs.Serving.{IsSure};
+ghost use Rattle.tsdb_serving.specs.declared.fault.FlushFault.{FlushFault as FaultOf};
+ghost use Rattle.tsdb_state.specs.Limits.{end_of_numbers};
+ghost use Rattle.tsdb_state.specs.State.{Told};
+
+use std::alloc::Global;
+use tsdb_base::Space;
+use tsdb_compactions::Job;
+use tsdb_core::Core;
+use tsdb_inner::{run_cross, run_inner};
+use tsdb_jobs::Built;
+use tsdb_outside::{Failed, Files, Journal, Port, StoreFault};
+use tsdb_serving::FlushFault;
+
+/// Replaces the files of the inner plan of a list by one, where there is a plan, and removes files on their way out.
+///
+/// A job that cannot be run is given up, and a file that cannot be removed is passed over.
+pub fn compact_inner<J: Journal, F: Files>(
+    alloc: Global,
+    core: &mut Core<J, F>,
+    port: &mut F::Port,
+    space: Space,
+) -> Result<(), FlushFault>
+    requires ready { IsReady (F.Port.store port.old) core.old }
+    ensures compacted { OnOk result (IsCompacted (IsInnerRuns space core.old) space core.old core.new) }
+    ensures goes_on { GoesOn (F.Port.store port.old) core.old core.new }
+    ensures same_store { F.Port.store port.new ≡ F.Port.store port.old }
+    ensures cause { IsSure (F.Port.store port.old) core.old → IfErr result (λ fault. fault ≡ FaultOf.Device
+        → Rose (faults_under core.old) (faults_under core.new)
+        ⊎ Rose (F.Port.faults port.old) (F.Port.faults port.new)) }
+    ensures full { IfErr result (λ fault. (counter : ℕ) → fault ≡ FaultOf.Full counter
+        → end_of_numbers < counter + 2) }
+    ensures later { F.Port.faults port.old ≤ F.Port.faults port.new }
+{
+    match core.begin_inner(space) {
+        Ok(Some(job)) => rewrite(alloc, core, port, Kind::Inner, job),
+        Ok(None) => {
+            sweep(core, port);
+            Ok(())
+        }
+        Err(fault) => Err(FlushFault::of_core(fault)),
+    }
+}
+
+/// Replaces the files of the cross plan by one, where there is a plan, as `compact_inner` does those of an inner one.
+pub fn compact_cross<J: Journal, F: Files>(
+    alloc: Global,
+    core: &mut Core<J, F>,
+    port: &mut F::Port,
+) -> Result<(), FlushFault>
+    requires ready { IsReady (F.Port.store port.old) core.old }
+    ensures compacted { OnOk result (IsCompacted (IsCrossRuns core.old) SequenceSpace core.old core.new) }
+    ensures goes_on { GoesOn (F.Port.store port.old) core.old core.new }
+    ensures same_store { F.Port.store port.new ≡ F.Port.store port.old }
+    ensures cause { IsSure (F.Port.store port.old) core.old → IfErr result (λ fault. fault ≡ FaultOf.Device
+        → Rose (faults_under core.old) (faults_under core.new)
+        ⊎ Rose (F.Port.faults port.old) (F.Port.faults port.new)) }
+    ensures full { IfErr result (λ fault. (counter : ℕ) → fault ≡ FaultOf.Full counter
+        → end_of_numbers < counter + 2) }
+    ensures later { F.Port.faults port.old ≤ F.Port.faults port.new }
+{
+    match core.begin_cross() {
+        Ok(Some(job)) => rewrite(alloc, core, port, Kind::Cross, job),
+        Ok(None) => {
+            sweep(core, port);
+            Ok(())
+        }
+        Err(fault) => Err(FlushFault::of_core(fault)),
+    }
+}
+
+/// Which of the two calls for each step of a job are its own.
+#[derive(Clone, Copy)]
+enum Kind {
+    Inner,
+    Cross,
+}
+
+/// Removes files on their way out. One that cannot be removed is passed over.
+fn sweep<J: Journal, F: Files>(core: &mut Core<J, F>, port: &mut F::Port)
+    requires ready { IsReady (F.Port.store port.old) core.old }
+    ensures goes_on { GoesOn (F.Port.store port.old) core.old core.new }
+    ensures lists { KeepsBoth (files_of core.old) (files_of core.new) }
+    ensures same_store { F.Port.store port.new ≡ F.Port.store port.old }
+    ensures later { F.Port.faults port.old ≤ F.Port.faults port.new }
+{
+    let _ = core.sweep(port);
+}
+
+/// Writes the output of the only job that is out, and lists it; or gives the job up, where it cannot be written.
+fn rewrite<J: Journal, F: Files>(
+    alloc: Global,
+    core: &mut Core<J, F>,
+    port: &mut F::Port,
+    kind: Kind,
+    job: Job<F>,
+) -> Result<(), FlushFault>
+    requires rewriting { IsRewriting F.Right.file (F.Port.store port.old) core.old job }
+    ensures finished { OnOk result (IsFinished job core.old core.new) }
+    ensures kept { AreKept (files_of core.old) }
+    ensures ends { EndsRewrite F.Right.file (F.Port.store port.old) core.old core.new job }
+    ensures same_store { F.Port.store port.new ≡ F.Port.store port.old }
+    ensures cause { (told : Told) → TellsTruth F.Right.file told job → IfErr result (λ fault. fault ≡ FaultOf.Device
+        → Rose (faults_under core.old) (faults_under core.new)
+        ⊎ Rose (F.Port.faults port.old) (F.Port.faults port.new)) }
+    ensures full { IfErr result (λ fault. (counter : ℕ) → fault ≢ FaultOf.Full counter) }
+    ensures later { F.Port.faults port.old ≤ F.Port.faults port.new }
+{
+    tell_kept(core);
+    match run(alloc, kind, &job, port) {
+        Ok(output) => commit(core, port, kind, job, output),
+        Err(fault) => {
+            give_up(core, port, job);
+            Err(FlushFault::of_file(fault))
+        }
+    }
+}
+
+/// Tells that each kept file is at one place.
+fn tell_kept<J: Journal, F: Files>(core: &Core<J, F>)
+    ensures { AreKept (files_of core.now) }
+{
+    let _ = core.outgoing();
+}
+
+/// Writes the output of a job, by the call of its kind.
+fn run<F: Files>(
+    alloc: Global,
+    kind: Kind,
+    job: &Job<F>,
+    port: &mut F::Port,
+) -> Result<Option<Built<F>>, StoreFault>
+    requires formed { IsFormed job.now }
+    requires of_store { Each (IsInputOf F.Right.file (F.Port.store port.old)) job.now.inputs }
+    ensures output { IfOk result (IsOutputOf F.Right.file F.Sealed.file F.Sealed.rights job.now) }
+    ensures of_store { IfOk result (λ output. IfSome output (λ built.
+        (F.Sealed.file built.sealed).store ≡ F.Port.store port.old)) }
+    ensures cause { (told : Told) → TellsTruth F.Right.file told job.now
+        → HasStoreCause (F.Port.faults port.old) (F.Port.faults port.new) result }
+    ensures later { F.Port.faults port.old ≤ F.Port.faults port.new }
+    ensures same_store { F.Port.store port.new ≡ F.Port.store port.old }
+{
+    match kind {
+        Kind::Inner => run_inner(alloc, job, port),
+        Kind::Cross => run_cross(alloc, job, port),
+    }
+}
+
+/// Lists the output of the only job that is out. Then files on their way out are removed.
+fn commit<J: Journal, F: Files>(
+    core: &mut Core<J, F>,
+    port: &mut F::Port,
+    kind: Kind,
+    job: Job<F>,
+    output: Option<Built<F>>,
+) -> Result<(), FlushFault>
+    requires rewriting { IsRewriting F.Right.file (F.Port.store port.old) core.old job }
+    requires output { IsOutputOf F.Right.file F.Sealed.file F.Sealed.rights job output }
+    requires of_store { IfSome output (λ built. (F.Sealed.file built.sealed).store ≡ F.Port.store port.old) }
+    ensures finished { OnOk result (IsFinished job core.old core.new) }
+    ensures ends { EndsRewrite F.Right.file (F.Port.store port.old) core.old core.new job }
+    ensures same_store { F.Port.store port.new ≡ F.Port.store port.old }
+    ensures cause { IfErr result (λ fault. (fault ≡ FaultOf.Device)
+        × Rose (faults_under core.old) (faults_under core.new)) }
+    ensures later { F.Port.faults port.old ≤ F.Port.faults port.new }
+{
+    let committed = list(core, kind, job, output);
+    let _ = core.sweep(port);
+    match committed {
+        Ok(()) => Ok(()),
+        Err(Failed) => Err(FlushFault::Device),
+    }
+}
+
+/// Lists the output of a job, by the call of its kind.
+fn list<J: Journal, F: Files>(
+    core: &mut Core<J, F>,
+    kind: Kind,
+    job: Job<F>,
+    output: Option<Built<F>>,
+) -> Result<(), Failed>
+    requires out { IsJobOut F.Right.file core.old job }
+    requires output { IsOutputOf F.Right.file F.Sealed.file F.Sealed.rights job output }
+    ensures { IsJobCommit F.Right.file core.old core.new job (option_map (new_file F.Sealed.file) output) result }
+{
+    match kind {
+        Kind::Inner => core.commit_inner(job, output),
+        Kind::Cross => core.commit_cross(job, output),
+    }
+}
+
+/// Gives the only job that is out up. Then files on their way out are removed.
+fn give_up<J: Journal, F: Files>(core: &mut Core<J, F>, port: &mut F::Port, job: Job<F>)
+    requires rewriting { IsRewriting F.Right.file (F.Port.store port.old) core.old job }
+    ensures ends { EndsRewrite F.Right.file (F.Port.store port.old) core.old core.new job }
+    ensures same_store { F.Port.store port.new ≡ F.Port.store port.old }
+    ensures later { F.Port.faults port.old ≤ F.Port.faults port.new }
+{
+    core.abandon(job, None);
+    let _ = core.sweep(port);
+}
