@@ -175,10 +175,9 @@ fn words_and_statuses(rt: HostRuntime) -> Result<(), Fail> {
 }
 
 /// Second lines that are bad, and the kinds of their faults.
-const BAD_LINES: [(&str, u8); 6] = [
+const BAD_LINES: [(&str, u8); 5] = [
     ("1 insert into root.g.d(timestamp,s) values(1.5,2)", 5),
-    ("1 compact inner sequence", 0),
-    ("1 compact cross", 0),
+    ("1 compact outer", 3),
     ("0 select s from root.g.d", 1),
     ("1 walk", 2),
     ("1 select s", 3),

@@ -1,8 +1,7 @@
 //! A core over a place in memory that serves commands. Depends on nothing here.
-ghost use Rattle.std.specs.Prelude.{◌≡◌, ◌≤◌, false};
+ghost use Rattle.std.specs.Prelude.{◌≡◌, ◌≤◌};
 ghost use Rattle.std.proofs.Props.{props};
 ghost use Rattle.tsdb_core.specs.Limits.{IsPairLimit};
-ghost use Rattle.tsdb_history.specs.History.{IsServed};
 ghost use Rattle.tsdb_map.specs.Commands.{IsWellFormed};
 ghost use Rattle.tsdb_outside.specs.Files.{Store};
 ghost use Rattle.tsdb_serving.specs.Flushing.{IsReady};
@@ -30,16 +29,6 @@ pub fn new_place(alloc: Global, files: &[u64]) -> Result<MemPlace, Fail> {
     Ok(MemPlace::new(alloc, slots, Vec::new(alloc), fails)?)
 }
 
-/// Whether a command is a compaction, which no core serves.
-fn is_compaction(command: &Command) -> bool
-    ensures { result ≡ false → IsServed command.now }
-{
-    match command {
-        Command::CompactInner(_) | Command::CompactCross => true,
-        _ => false,
-    }
-}
-
 /// A core that is ready, with its files and a port of theirs.
 pub struct Served<J: Journal, F: Files> {
     core: Core<J, F>,
@@ -50,14 +39,11 @@ pub struct Served<J: Journal, F: Files> {
 }
 
 impl<J: Journal, F: Files> Served<J, F> {
-    /// The reply to a command, or none to a compaction.
-    pub fn serve(&mut self, alloc: Global, command: &Command) -> Option<Reply>
+    /// The reply to a command.
+    pub fn serve(&mut self, alloc: Global, command: &Command) -> Reply
         requires { IsWellFormed command.now }
     {
-        if is_compaction(command) {
-            return None;
-        }
-        Some(serve::<J, F>(alloc, &mut self.core, &mut self.port, command))
+        serve::<J, F>(alloc, &mut self.core, &mut self.port, command)
     }
 }
 

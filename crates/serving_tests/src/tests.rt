@@ -100,6 +100,57 @@ const CASES: &[Case] = &[
             ),
         ],
     },
+    // An inner compaction leaves what survives. One without a plan changes nothing.
+    Case {
+        limit: 10_000,
+        next: 1,
+        steps: &[
+            ("compact inner sequence", "ok\n"),
+            (CREATE, "ok\n"),
+            ("insert into root.g.d(timestamp,s) values(10,1)", "ok\n"),
+            ("flush", "ok\n"),
+            ("compact inner unsequence", "ok\n"),
+            ("insert into root.g.d(timestamp,s) values(20,1)", "ok\n"),
+            ("flush", "ok\n"),
+            ("insert into root.g.d(timestamp,s) values(15,1)", "ok\n"),
+            ("flush", "ok\n"),
+            ("delete from root.g.d.s where time=20", "ok\n"),
+            ("compact inner sequence", "ok\n"),
+            (SELECT, "time,s\n10,1\n15,1\nrows 2\n"),
+            (
+                "show files",
+                "sequence 4 born 5 points 1 from 10 to 10\nunsequence 3 born 4 points 1 from 15 to 15\n\
+                 frozen 0\nworking 0 0\nmarks 1\n",
+            ),
+        ],
+    },
+    // A cross compaction whose run of sequence files is empty puts its output between two files.
+    Case {
+        limit: 10_000,
+        next: 1,
+        steps: &[
+            (CREATE, "ok\n"),
+            (
+                "create timeseries root.g.e.s with datatype=INT64,encoding=PLAIN",
+                "ok\n",
+            ),
+            ("insert into root.g.d(timestamp,s) values(10,1)", "ok\n"),
+            ("insert into root.g.e(timestamp,s) values(100,1)", "ok\n"),
+            ("flush", "ok\n"),
+            ("insert into root.g.d(timestamp,s) values(30,1)", "ok\n"),
+            ("insert into root.g.e(timestamp,s) values(200,1)", "ok\n"),
+            ("flush", "ok\n"),
+            ("insert into root.g.d(timestamp,s) values(20,1)", "ok\n"),
+            ("flush", "ok\n"),
+            ("compact cross", "ok\n"),
+            (
+                "show files",
+                "sequence 1 born 4 points 2 from 10 to 100\nsequence 4 born 7 points 1 from 20 to 20\n\
+                 sequence 2 born 6 points 2 from 30 to 200\nfrozen 0\nworking 0 0\nmarks 0\n",
+            ),
+            (SELECT, "time,s\n10,1\n20,1\n30,1\nrows 3\n"),
+        ],
+    },
     // No number is left for a file: the pair stays frozen.
     Case {
         limit: 10_000,
@@ -120,10 +171,8 @@ fn take(
     line: &str,
 ) -> Result<(Command, Reply), Fail> {
     let command = command_of(alloc, line)?;
-    match served.serve(alloc, &command) {
-        Some(reply) => Ok((command, reply)),
-        None => Err(Fail::from("a command that is not served")),
-    }
+    let reply = served.serve(alloc, &command);
+    Ok((command, reply))
 }
 
 /// The first step whose reply has another text.

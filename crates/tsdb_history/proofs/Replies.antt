@@ -1,16 +1,17 @@
--- What a flush and a listing answer, and why a device failed.
+-- What a flush, a compaction and a listing answer, and why a device failed.
 use Rattle.std.proofs.Common.{◌≡◌, ◌≢◌, ℕ, ◌+◌, ◌<◌, Bool, true, false, List, ◌++◌, Option, inl, inr, refl, sym}
 use Rattle.std.proofs.Common.{subst}
 use Rattle.tsdb_base.specs.declared.answers.Answer.{Answer}
 use Rattle.tsdb_base.specs.declared.answers.Answer.TheVariants as answer
+use Rattle.tsdb_base.specs.declared.ids.Space.{Space}
 use Rattle.tsdb_core.specs.declared.engine.Core.{Core}
 use Rattle.tsdb_frames.proofs.MomentLemmas.{weaker}
 use Rattle.tsdb_history.proofs.Prefixes.{no_change}
-use Rattle.tsdb_history.specs.Serves.{IsSure}
-use Rattle.tsdb_map.specs.History.{IsAllowed, state_after}
+use Rattle.tsdb_map.specs.Apply.{reply_of}
+use Rattle.tsdb_map.specs.History.{DrawsNumbers, IsAllowed, IsChange, state_after}
 use Rattle.tsdb_map.specs.State as plain
 use Rattle.tsdb_map.specs.declared.command.Command.{Command}
-use Rattle.tsdb_map.specs.declared.command.Command.TheVariants.{Flush, ShowFiles}
+use Rattle.tsdb_map.specs.declared.command.Command.TheVariants.{CompactCross, CompactInner, Flush, ShowFiles}
 use Rattle.tsdb_map.specs.declared.reply.Reply.{Reply}
 use Rattle.tsdb_map.specs.declared.reply.Reply.TheVariants.{Plain}
 use Rattle.tsdb_outside.specs.Disk.{Image, IsLawful}
@@ -20,44 +21,91 @@ use Rattle.tsdb_outside.specs.declared.faults.Counted as counted
 use Rattle.tsdb_querying.proofs.Answered.{unmoved}
 use Rattle.tsdb_serving.proofs.Held.{same_state}
 use Rattle.tsdb_serving.specs.Faults.{answer_of}
-use Rattle.tsdb_serving.specs.Serving.{Answers, IsAnsweredBy, IsDrawn, IsServedBy, IsServing, KeepsServing}
+use Rattle.tsdb_serving.specs.Serving.{Answers, IsAnsweredBy, IsDrawn, IsServedBy, IsServing, IsSure, KeepsServing}
 use Rattle.tsdb_serving.specs.Serving.{LeavesDoubt, LeavesEither, MayDoubt, disk_under, slot_under}
 use Rattle.tsdb_serving.specs.declared.fault.FlushFault.{FlushFault}
 use Rattle.tsdb_serving.specs.declared.fault.FlushFault.TheVariants as fault
 use Rattle.tsdb_state.specs.Limits.{end_of_numbers}
 
--- a flush that went well, and one that ended before its end
-done_allowed : (at : plain.State) → IsAllowed at Flush (Plain answer.Done)
-done_allowed at = record { not_listing = λ is. absurd cc; same = refl; rises = λ change. absurd cc }
+-- A command that writes files, and changes no state.
+pub record WritesFiles (command : Command) : Type 0 where
+  pub draws : DrawsNumbers command
+  pub no_change : ¬ IsChange command
+  pub not_listing : command ≢ ShowFiles
+  pub accepted : (at : plain.State) → Plain answer.Done ≡ reply_of at.world command
+  pub stays : (at : plain.State) → state_after at command (Plain answer.Done) ≡ at
 
-fault_allowed : (at : plain.State) (why : FlushFault)
-    → ((counter : ℕ) → why ≡ fault.Full counter → end_of_numbers < counter + 2)
-    → IsAllowed at Flush (Plain (answer_of why))
-fault_allowed at fault.Device full = λ is. absurd cc
-fault_allowed at fault.Memory full = tt
-fault_allowed at (fault.Full counter) full = inr (record { draws = tt; end = full counter refl })
+pub writes_flush : WritesFiles Flush
+writes_flush = record {
+  draws = tt;
+  no_change = λ change. cc;
+  not_listing = λ is. absurd cc;
+  accepted = λ at. refl;
+  stays = λ at. no_change at Flush (λ change. cc);
+}
 
--- a flush changes no state
-flush_stays : (at : plain.State) (result : Answer) → state_after at Flush (Plain result) ≡ at
-flush_stays at answer.Done = no_change at Flush (λ change. cc)
-flush_stays at answer.NoPath = refl
-flush_stays at answer.WrongType = refl
-flush_stays at answer.Exists = refl
-flush_stays at answer.Device = refl
-flush_stays at answer.Memory = refl
-flush_stays at (answer.Full counter) = refl
+pub writes_inner : (space : Space) → WritesFiles (CompactInner space)
+writes_inner space = record {
+  draws = tt;
+  no_change = λ change. cc;
+  not_listing = λ is. absurd cc;
+  accepted = λ at. refl;
+  stays = λ at. no_change at (CompactInner space) (λ change. cc);
+}
 
--- a flush that failed is not called done
+pub writes_cross : WritesFiles CompactCross
+writes_cross = record {
+  draws = tt;
+  no_change = λ change. cc;
+  not_listing = λ is. absurd cc;
+  accepted = λ at. refl;
+  stays = λ at. no_change at CompactCross (λ change. cc);
+}
+
+module _ (command : Command) (writes : WritesFiles command) where
+  -- a command that went well, and one that ended before its end
+  done_allowed : (at : plain.State) → IsAllowed at command (Plain answer.Done)
+  done_allowed at = record {
+    not_listing = writes.not_listing;
+    same = writes.accepted at;
+    rises = λ change. absurd (writes.no_change change);
+  }
+
+  fault_allowed : (at : plain.State) (why : FlushFault)
+      → ((counter : ℕ) → why ≡ fault.Full counter → end_of_numbers < counter + 2)
+      → IsAllowed at command (Plain (answer_of why))
+  fault_allowed at fault.Device full = writes.not_listing
+  fault_allowed at fault.Memory full = tt
+  fault_allowed at (fault.Full counter) full = inr (record { draws = writes.draws; end = full counter refl })
+
+  -- it changes no state
+  state_stays : (at : plain.State) (result : Answer) → state_after at command (Plain result) ≡ at
+  state_stays at answer.Done = writes.stays at
+  state_stays at answer.NoPath = refl
+  state_stays at answer.WrongType = refl
+  state_stays at answer.Exists = refl
+  state_stays at answer.Device = refl
+  state_stays at answer.Memory = refl
+  state_stays at (answer.Full counter) = refl
+
+-- a fault is not called done
 pub fault_is_not_done : (why : FlushFault) → answer_of why ≢ answer.Done
 fault_is_not_done fault.Device is = absurd cc
 fault_is_not_done fault.Memory is = absurd cc
 fault_is_not_done (fault.Full counter) is = absurd cc
 
+-- and it is one of the device where it is answered so
+pub fault_is_device : (why : FlushFault) → answer_of why ≡ answer.Device → why ≡ fault.Device
+fault_is_device fault.Device is = refl
+fault_is_device fault.Memory is = absurd cc
+fault_is_device (fault.Full counter) is = absurd cc
+
 module _ {J F S R P : Type 0} {means : disk.Ghosts J} {counts : counted.Ghosts J} where
-  module _ (Q : ℕ → Type 0) (old new : Core J F S R P means counts) (files : List StoredFile) (at : plain.State)
-      (next : Option plain.State) (kept : IsServedBy Q old new files at next at at) (result : Answer) where
+  module _ (command : Command) (writes : WritesFiles command) (Q : ℕ → Type 0) (old new : Core J F S R P means counts)
+      (files : List StoredFile) (at : plain.State) (next : Option plain.State)
+      (kept : IsServedBy Q old new files at next at at) (result : Answer) where
     abbrev done : plain.State
-    done = state_after at Flush (Plain answer.Done)
+    done = state_after at command (Plain answer.Done)
 
     may_then : MayDoubt next at at kept.doubt → MayDoubt next at done kept.doubt
     may_then (inl none) = inl none
@@ -65,48 +113,49 @@ module _ {J F S R P : Type 0} {means : disk.Ghosts J} {counts : counted.Ghosts J
     may_then (inr (inr (inl same))) = inr (inr (inl same))
     may_then (inr (inr (inr same))) = inr (inr (inl same))
 
-    doubt_then : MayDoubt next at at kept.doubt → LeavesDoubt next at Flush (Plain result) kept.doubt
+    doubt_then : MayDoubt next at at kept.doubt → LeavesDoubt next at command (Plain result) kept.doubt
     doubt_then (inl none) = inl none
     doubt_then (inr (inl was)) = inr (inl was)
-    doubt_then (inr (inr (inl same))) = inr (inr (inl (tt, same)))
-    doubt_then (inr (inr (inr same))) = inr (inr (inl (tt, same)))
+    doubt_then (inr (inr (inl same))) = inr (inr (inl (writes.draws, same)))
+    doubt_then (inr (inr (inr same))) = inr (inr (inl (writes.draws, same)))
 
     left_then : (image : Image) → LeavesEither (files ++ kept.put) (slot_under old) at next at image
         → LeavesEither (files ++ kept.put) (slot_under old) at next done image
     left_then image (inl leaves) = inl leaves
     left_then image (inr leaves) = inl (same_state (files ++ kept.put) (slot_under old) at next image leaves)
 
-    -- what keeps the state answers a flush
-    pub flush_answered : IsAllowed at Flush (Plain result)
-        → IsAnsweredBy Q old new files at next Flush (Plain result)
-    flush_answered may = record {
+    -- what keeps the state answers the command
+    pub kept_answered : IsAllowed at command (Plain result)
+        → IsAnsweredBy Q old new files at next command (Plain result)
+    kept_answered may = record {
       allowed = may;
       served = record {
         put = kept.put;
         numbers = kept.numbers;
         doubt = kept.doubt;
         may = may_then kept.may;
-        serving = subst (λ state. IsServing new (files ++ kept.put) state kept.doubt) (sym (flush_stays at result))
-            kept.serving;
+        serving = subst (λ state. IsServing new (files ++ kept.put) state kept.doubt)
+            (sym (state_stays command writes at result)) kept.serving;
         moments = weaker (disk_under old) (disk_under new) (LeavesEither (files ++ kept.put) (slot_under old) at next at)
             (LeavesEither (files ++ kept.put) (slot_under old) at next done) left_then kept.moments;
       };
-      settled = λ change. absurd cc;
+      settled = λ change. absurd (writes.no_change change);
       doubtful = doubt_then kept.may;
-      unwritten = λ change. absurd cc;
+      unwritten = λ change. absurd (writes.no_change change);
     }
 
-  pub flush_done : (old new : Core J F S R P means counts) → KeepsServing old new
-      → Answers old new Flush (Plain answer.Done)
-  flush_done old new keeps files at next serving = flush_answered (IsDrawn old new) old new files at next
-      (keeps files at next serving) answer.Done (done_allowed at)
+  pub writing_done : (command : Command) → WritesFiles command → (old new : Core J F S R P means counts)
+      → KeepsServing old new → Answers old new command (Plain answer.Done)
+  writing_done command writes old new keeps files at next serving = kept_answered command writes (IsDrawn old new) old new
+      files at next (keeps files at next serving) answer.Done (done_allowed command writes at)
 
-  pub flush_failed : (old new : Core J F S R P means counts) → KeepsServing old new → (why : FlushFault)
+  pub writing_failed : (command : Command) → WritesFiles command → (old new : Core J F S R P means counts)
+      → KeepsServing old new → (why : FlushFault)
       → ((counter : ℕ) → why ≡ fault.Full counter → end_of_numbers < counter + 2) → (result : Answer)
-      → result ≡ answer_of why → Answers old new Flush (Plain result)
-  flush_failed old new keeps why full result is files at next serving =
-      flush_answered (IsDrawn old new) old new files at next (keeps files at next serving) result
-      (subst (λ answer. IsAllowed at Flush (Plain answer)) (sym is) (fault_allowed at why full))
+      → result ≡ answer_of why → Answers old new command (Plain result)
+  writing_failed command writes old new keeps why full result is files at next serving = kept_answered command writes
+      (IsDrawn old new) old new files at next (keeps files at next serving) result
+      (subst (λ answer. IsAllowed at command (Plain answer)) (sym is) (fault_allowed command writes at why full))
 
   -- a listing for which memory ended
   pub not_shown : ((journal : J) → IsLawful (means.state journal)) → (core : Core J F S R P means counts)

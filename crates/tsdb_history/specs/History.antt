@@ -5,8 +5,6 @@ use Rattle.tsdb_base.specs.declared.answers.Answer.TheVariants as answer
 use Rattle.tsdb_history.specs.declared.told.Told.{Told}
 use Rattle.tsdb_map.specs.History.{Entry}
 use Rattle.tsdb_map.specs.declared.command.Command.{Command}
-use Rattle.tsdb_map.specs.declared.command.Command.TheVariants.{Create, Insert, Delete, Select, Flush, CompactInner}
-use Rattle.tsdb_map.specs.declared.command.Command.TheVariants.{CompactCross, ShowFiles}
 use Rattle.tsdb_map.specs.declared.reply.Reply.{Reply}
 use Rattle.tsdb_map.specs.declared.reply.Reply.TheVariants.{Plain}
 use Rattle.tsdb_script.specs.declared.numbered.Numbered.{Numbered}
@@ -57,14 +55,3 @@ is_device_reply reply = false
 
 abbrev pub is_device : Told → Bool
 is_device told = is_device_reply told.reply
-
--- the commands that are served: the two compactions are not built yet
-abbrev pub IsServed : Command → Type 0
-IsServed (Create schema) = Unit {0}
-IsServed (Insert device row) = Unit {0}
-IsServed (Delete series range) = Unit {0}
-IsServed (Select device items range) = Unit {0}
-IsServed Flush = Unit {0}
-IsServed (CompactInner space) = ⊥
-IsServed CompactCross = ⊥
-IsServed ShowFiles = Unit {0}

@@ -1,7 +1,9 @@
 -- What the commands of a script leave, one behind another, on one core.
-use Rattle.std.specs.Prelude.{◌≡◌, ◌⊎◌, Bool, true, false, List, [], ◌++◌, Option, None, Some}
+use Rattle.std.specs.Prelude.{◌≡◌, ◌⊎◌, Bool, true, List, [], ◌++◌, Option, None, Some, ⊤}
 use Rattle.std.specs.List.{AllByRecursion as Each}
 use Rattle.tsdb_base.specs.declared.answers.Answer.TheVariants as answer
+use Rattle.tsdb_base.specs.declared.ids.Space.TheVariants.{Sequence}
+use Rattle.tsdb_core.specs.Beginnings.{IsCrossRuns, IsInnerRuns}
 use Rattle.tsdb_core.specs.Core.{working_of}
 use Rattle.tsdb_core.specs.declared.engine.Core.{Core}
 use Rattle.tsdb_history.specs.History.{IsHistory}
@@ -10,14 +12,17 @@ use Rattle.tsdb_history.specs.declared.told.Told.{Told}
 use Rattle.tsdb_map.specs.History.{Entry, IsLegal, state_after}
 use Rattle.tsdb_map.specs.State as plain
 use Rattle.tsdb_map.specs.declared.command.Command.{Command}
+use Rattle.tsdb_map.specs.declared.command.Command.TheVariants.{Create, Insert, Delete, Select, Flush, CompactInner}
+use Rattle.tsdb_map.specs.declared.command.Command.TheVariants.{CompactCross, ShowFiles}
 use Rattle.tsdb_map.specs.declared.reply.Reply.TheVariants.{Plain}
 use Rattle.tsdb_outside.specs.Disk.{Image, in_slot}
-use Rattle.tsdb_outside.specs.Files.{Store, StoredFile}
+use Rattle.tsdb_outside.specs.Files.{StoredFile}
 use Rattle.tsdb_outside.specs.Moments.{LeavesOnly}
 use Rattle.tsdb_outside.specs.declared.disk.Disk as disk
 use Rattle.tsdb_outside.specs.declared.disk.Slot.{Slot}
 use Rattle.tsdb_outside.specs.declared.faults.Counted as counted
 use Rattle.tsdb_replay.specs.Stores.{Files, HoldsKept}
+use Rattle.tsdb_rewriting.specs.Rewriting.{IsCompacted}
 use Rattle.tsdb_rows.specs.Fits.{HasNoPoint}
 use Rattle.tsdb_script.specs.declared.numbered.Numbered.{Numbered}
 use Rattle.tsdb_serving.specs.Flushing.{frozen_in}
@@ -35,14 +40,20 @@ LeavesPrefix kept slot start entries image =
     (files : Files) → HoldsKept kept files → StandsAfterPrefix files start entries (in_slot slot image)
 
 module _ {J F S R P : Type 0} {means : disk.Ghosts J} {counts : counted.Ghosts J} where
-  -- The store does not tell what its files hold, or the core is in a state of the plain model.
-  abbrev pub IsSure : Store → Core J F S R P means counts → Type 0
-  IsSure store core = (store.tells ≡ false)
-      ⊎ ((files : List StoredFile) × (at : plain.State) × (next : Option plain.State) × IsServing core files at next)
-
   -- All points are in files: no pair is frozen, and the working pair has no point.
   abbrev pub HasFlushed : Core J F S R P means counts → Type 0
   HasFlushed core = (frozen_in core ≡ []) × HasNoPoint (working_of core)
+
+  -- What a compaction that was done leaves: the files of a plan, where there is one, are one file, or none.
+  abbrev pub HasCompacted : Command → Core J F S R P means counts → Core J F S R P means counts → Type 0
+  HasCompacted (CompactInner space) old new = IsCompacted (IsInnerRuns space old) space old new
+  HasCompacted CompactCross old new = IsCompacted (IsCrossRuns old) Sequence old new
+  HasCompacted (Create schema) old new = ⊤
+  HasCompacted (Insert device row) old new = ⊤
+  HasCompacted (Delete series range) old new = ⊤
+  HasCompacted (Select device items range) old new = ⊤
+  HasCompacted Flush old new = ⊤
+  HasCompacted ShowFiles old new = ⊤
 
   -- These entries were served, beside the files that were there. The files that were put have numbers that were drawn
   -- meanwhile. A stop at any moment left the state after a prefix of the entries.

@@ -1,12 +1,12 @@
 //! The commands of a script. Depends on `serving` and `told`.
 ghost use Rattle.std.specs.Prelude.{◌≡◌, ℕ, [], ◌+◌, ◌-◌, ◌^◌, ◌<◌, ◌≤◌, min, IfOk, All, count_by, length};
 ghost use Rattle.std.specs.Prelude.{slice_index, slice_set, vec_len, vec_capacity};
-ghost use Rattle.tsdb_history.specs.History.{IsServed, is_device, session_numbers};
-ghost use Rattle.tsdb_history.specs.Serves.{HasExecuted, IsSure};
+ghost use Rattle.tsdb_history.specs.History.{is_device, session_numbers};
+ghost use Rattle.tsdb_history.specs.Serves.{HasExecuted};
 ghost use Rattle.tsdb_map.specs.Commands.{IsWellFormed};
 ghost use Rattle.tsdb_script.specs.Limits.{max_commands};
 ghost use Rattle.tsdb_serving.specs.Flushing.{IsReady, faults_under};
-ghost use Rattle.tsdb_serving.specs.Serving.{StaysInPlace};
+ghost use Rattle.tsdb_serving.specs.Serving.{IsSure, StaysInPlace};
 
 use crate::serving::serve;
 use crate::told::Told;
@@ -52,7 +52,6 @@ pub fn execute<J: Journal, F: Files>(
     requires few { length script.now ≤ max_commands }
     requires sessions { All (λ numbered. numbered.session < session_numbers) script.now }
     requires well_formed { All (λ numbered. IsWellFormed numbered.command) script.now }
-    requires served { All (λ numbered. IsServed numbered.command) script.now }
     requires long { length room.counts.items ≡ session_numbers }
     requires zero { (at : ℕ) → slice_index room.counts.items at ≡ 0 }
     requires none { (room.history.items ≡ []) × (vec_len room.history ≡ 0) }

@@ -1,22 +1,25 @@
-//! One command. Depends on tsdb_serving and tsdb_querying.
+//! One command. Depends on tsdb_serving, tsdb_querying and tsdb_rewriting.
 ghost use Rattle.std.specs.Prelude.{◌≡◌, ◌≢◌, ◌⊎◌, ◌≤◌, true};
 ghost use Rattle.tsdb_base.specs.declared.answers.Answer.{Answer as AnswerOf};
-ghost use Rattle.tsdb_history.specs.History.{IsServed};
-ghost use Rattle.tsdb_history.specs.Serves.{HasFlushed, IsSure};
+ghost use Rattle.tsdb_base.specs.declared.ids.Space.TheVariants.{Sequence as SequenceSpace};
+ghost use Rattle.tsdb_core.specs.Beginnings.{IsCrossRuns, IsInnerRuns};
+ghost use Rattle.tsdb_history.specs.Serves.{HasCompacted, HasFlushed};
 ghost use Rattle.tsdb_map.specs.Commands.{IsWellFormed};
 ghost use Rattle.tsdb_map.specs.declared.command.Command.{Command as CommandOf};
 ghost use Rattle.tsdb_map.specs.declared.reply.Reply.{Reply as ReplyOf};
 ghost use Rattle.tsdb_outside.specs.Causes.{Rose};
+ghost use Rattle.tsdb_rewriting.specs.Rewriting.{IsCompacted};
 ghost use Rattle.tsdb_serving.specs.Flushing.{IsReady, faults_under};
-ghost use Rattle.tsdb_serving.specs.Serving.{Answers, StaysInPlace};
+ghost use Rattle.tsdb_serving.specs.Serving.{Answers, IsSure, StaysInPlace};
 
 use std::alloc::Global;
-use tsdb_base::{Answer, Range};
+use tsdb_base::{Answer, Range, Space};
 use tsdb_core::Core;
 use tsdb_map::{Command, Item, Reply, ask_aggregates};
 use tsdb_outside::{Files, Journal};
 use tsdb_path::Path;
 use tsdb_querying::{aggregates, select};
+use tsdb_rewriting::{compact_cross, compact_inner};
 use tsdb_serving::{create, delete, flush, insert, show};
 
 /// Serves a command: the core makes one step of the plain map, whatever it does for it.
@@ -27,7 +30,6 @@ pub fn serve<J: Journal, F: Files>(
     command: &Command,
 ) -> Reply
     requires well_formed { IsWellFormed command.now }
-    requires served { IsServed command.now }
     requires ready { IsReady (F.Port.store port.old) core.old }
     ensures answers { (F.Port.store port.old).tells ≡ true → Answers core.old core.new command.now result }
     ensures ready { IsReady (F.Port.store port.old) core.new }
@@ -39,6 +41,7 @@ pub fn serve<J: Journal, F: Files>(
     ensures later { (faults_under core.old ≤ faults_under core.new)
         × (F.Port.faults port.old ≤ F.Port.faults port.new) }
     ensures flushed { command.now ≡ CommandOf.Flush → result ≡ ReplyOf.Plain AnswerOf.Done → HasFlushed core.new }
+    ensures compacted { result ≡ ReplyOf.Plain AnswerOf.Done → HasCompacted command.now core.old core.new }
 {
     match command {
         Command::Create(schema) => Reply::Plain(create(core, schema)),
@@ -51,7 +54,8 @@ pub fn serve<J: Journal, F: Files>(
         } => query(alloc, core, port, device, items.items(), range),
         Command::Flush => Reply::Plain(flushed(alloc, core, port)),
         Command::ShowFiles => shown(core),
-        Command::CompactInner(_) | Command::CompactCross => unreachable!(),
+        Command::CompactInner(space) => { Reply::Plain(inner_compacted(alloc, core, port, *space)) }
+        Command::CompactCross => Reply::Plain(cross_compacted(alloc, core, port)),
     }
 }
 
@@ -95,6 +99,57 @@ fn flushed<J: Journal, F: Files>(alloc: Global, core: &mut Core<J, F>, port: &mu
     ensures flushed { result ≡ AnswerOf.Done → HasFlushed core.new }
 {
     match flush(alloc, core, port) {
+        Ok(()) => Answer::Done,
+        Err(fault) => fault.answer(),
+    }
+}
+
+/// What a compaction of one list is answered.
+fn inner_compacted<J: Journal, F: Files>(
+    alloc: Global,
+    core: &mut Core<J, F>,
+    port: &mut F::Port,
+    space: Space,
+) -> Answer
+    requires ready { IsReady (F.Port.store port.old) core.old }
+    ensures answers { (F.Port.store port.old).tells ≡ true
+        → Answers core.old core.new (CommandOf.CompactInner space) (ReplyOf.Plain result) }
+    ensures ready { IsReady (F.Port.store port.old) core.new }
+    ensures stays { StaysInPlace core.old core.new }
+    ensures same_store { F.Port.store port.new ≡ F.Port.store port.old }
+    ensures cause { IsSure (F.Port.store port.old) core.old → result ≡ AnswerOf.Device
+        → Rose (faults_under core.old) (faults_under core.new)
+        ⊎ Rose (F.Port.faults port.old) (F.Port.faults port.new) }
+    ensures later { (faults_under core.old ≤ faults_under core.new)
+        × (F.Port.faults port.old ≤ F.Port.faults port.new) }
+    ensures compacted { result ≡ AnswerOf.Done → IsCompacted (IsInnerRuns space core.old) space core.old core.new }
+{
+    match compact_inner(alloc, core, port, space) {
+        Ok(()) => Answer::Done,
+        Err(fault) => fault.answer(),
+    }
+}
+
+/// What a compaction of both lists is answered.
+fn cross_compacted<J: Journal, F: Files>(
+    alloc: Global,
+    core: &mut Core<J, F>,
+    port: &mut F::Port,
+) -> Answer
+    requires ready { IsReady (F.Port.store port.old) core.old }
+    ensures answers { (F.Port.store port.old).tells ≡ true
+        → Answers core.old core.new CommandOf.CompactCross (ReplyOf.Plain result) }
+    ensures ready { IsReady (F.Port.store port.old) core.new }
+    ensures stays { StaysInPlace core.old core.new }
+    ensures same_store { F.Port.store port.new ≡ F.Port.store port.old }
+    ensures cause { IsSure (F.Port.store port.old) core.old → result ≡ AnswerOf.Device
+        → Rose (faults_under core.old) (faults_under core.new)
+        ⊎ Rose (F.Port.faults port.old) (F.Port.faults port.new) }
+    ensures later { (faults_under core.old ≤ faults_under core.new)
+        × (F.Port.faults port.old ≤ F.Port.faults port.new) }
+    ensures compacted { result ≡ AnswerOf.Done → IsCompacted (IsCrossRuns core.old) SequenceSpace core.old core.new }
+{
+    match compact_cross(alloc, core, port) {
         Ok(()) => Answer::Done,
         Err(fault) => fault.answer(),
     }

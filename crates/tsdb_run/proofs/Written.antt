@@ -4,16 +4,14 @@ use Rattle.std.specs.Prelude.{All, IfSome}
 use Rattle.std.specs.Io.KnownBytes.{Appends}
 use Rattle.std.proofs.Math.ListN.{get_or-map}
 use Rattle.std.proofs.lemmas.List.{length-map}
-use Rattle.tsdb_history.specs.History.{IsServed, session_numbers}
-use Rattle.tsdb_map.specs.declared.command.Command.{Command}
-use Rattle.tsdb_map.specs.declared.command.Command.TheVariants.{Create, Insert, Delete, Select, Flush, CompactInner, CompactCross, ShowFiles}
+use Rattle.tsdb_history.specs.History.{session_numbers}
 use Rattle.tsdb_run.specs.Headline.{IsExecuted, Run, Says}
 use Rattle.tsdb_run.specs.Output.{AppendsPrefix, output_text}
 use Rattle.tsdb_run.specs.Steps.{IsRunOn, IsWritten}
 use Rattle.tsdb_run.specs.declared.status.Status.{Status}
 use Rattle.tsdb_run.specs.declared.status.Status.TheVariants.{Done, Memory, Words, Script, Source, Sink, Device, Damaged}
-use Rattle.tsdb_script.proofs.ReadingLemmas.{built, within_limits}
-use Rattle.tsdb_script.specs.Reading.{IsBuilt, IsScript}
+use Rattle.tsdb_script.proofs.ReadingLemmas.{within_limits}
+use Rattle.tsdb_script.specs.Reading.{IsScript}
 use Rattle.tsdb_script.specs.declared.numbered.Numbered.{Numbered}
 use Rattle.tsdb_words.specs.Words.{AreWords, Asked}
 
@@ -23,21 +21,6 @@ pub small_sessions : (bytes : List ℕ) (script : List Numbered) → IsScript by
 small_sessions bytes script is = λ k numbered lt.
     let numbers = (within_limits bytes script is).numbers k numbered.session (omega (arith, length-map script (λ n. n.session))) in
     omega (arith, numbers.1, get_or-map (λ n. n.session) script k numbered)
-
-served_command : (command : Command) → IsBuilt command → IsServed command
-served_command (Create schema) is = tt
-served_command (Insert device row) is = tt
-served_command (Delete series range) is = tt
-served_command (Select device items range) is = tt
-served_command Flush is = tt
-served_command (CompactInner space) is = absurd is
-served_command CompactCross is = absurd is
-served_command ShowFiles is = tt
-
--- its commands are served
-pub served_script : (bytes : List ℕ) (script : List Numbered) → IsScript bytes script
-    → All (λ numbered. IsServed numbered.command) script
-served_script bytes script is = λ k numbered lt. served_command _ (built bytes script is k numbered lt)
 
 -- a script that was executed, and what was written of its output
 module _ (run : Run) (bytes : List ℕ) (script : List Numbered) (asked : Asked) (left : run.left ≡ Some bytes)

@@ -2,8 +2,7 @@
 ghost use Rattle.std.specs.Prelude.{◌≡◌, ℕ, ◌+◌, ◌-◌, ◌^◌, ◌<◌, ◌≤◌, min, [], All, Some, IfErr, IfOk, IsErrAnd, OnErr};
 ghost use Rattle.std.specs.Prelude.{List, OnOk, count_by, length, slice_index, vec_len, vec_capacity};
 ghost use Rattle.tsdb_core.specs.Limits.{IsPairLimit};
-ghost use Rattle.tsdb_history.specs.History.{IsServed, is_device, session_numbers};
-ghost use Rattle.tsdb_history.specs.Serves.{IsSure};
+ghost use Rattle.tsdb_history.specs.History.{is_device, session_numbers};
 ghost use Rattle.tsdb_images.specs.Stored.{kept_bytes};
 ghost use Rattle.tsdb_map.specs.Commands.{IsWellFormed};
 ghost use Rattle.tsdb_outside.specs.Causes.{Rose};
@@ -17,7 +16,7 @@ ghost use Rattle.tsdb_run.specs.Steps.{IsOpeningStatus, IsRunOn, IsServedFrom, o
 ghost use Rattle.tsdb_run.specs.Store.{IsSoundOrSilent, Tells, contents};
 ghost use Rattle.tsdb_script.specs.Limits.{max_commands};
 ghost use Rattle.tsdb_serving.specs.Flushing.{IsReady, faults_under};
-ghost use Rattle.tsdb_serving.specs.Serving.{slot_under};
+ghost use Rattle.tsdb_serving.specs.Serving.{IsSure, slot_under};
 
 use crate::status::Status;
 use std::alloc::Global;
@@ -42,7 +41,6 @@ pub fn run_commands<P: Place>(
     requires few { length script.now ≤ max_commands }
     requires sessions { All (λ numbered. numbered.session < session_numbers) script.now }
     requires well_formed { All (λ numbered. IsWellFormed numbered.command) script.now }
-    requires served { All (λ numbered. IsServed numbered.command) script.now }
     ensures executed { IfOk result (λ history. IsRunOn script.now history
         (contents (P.state place.old) (P.stored place.old)) (contents (P.state place.new) (P.stored place.new))
         (Rose (P.faults place.old) (P.faults place.new))) }
@@ -89,7 +87,6 @@ fn run_on<J: Journal, F: Files>(
     requires few { length script.now ≤ max_commands }
     requires sessions { All (λ numbered. numbered.session < session_numbers) script.now }
     requires well_formed { All (λ numbered. IsWellFormed numbered.command) script.now }
-    requires served { All (λ numbered. IsServed numbered.command) script.now }
     requires long { length room.counts.items ≡ session_numbers }
     requires zero { (at : ℕ) → slice_index room.counts.items at ≡ 0 }
     requires none { (room.history.items ≡ []) × (vec_len room.history ≡ 0) }
@@ -136,7 +133,6 @@ fn serve_script<J: Journal, F: Files>(
     requires few { length script.now ≤ max_commands }
     requires sessions { All (λ numbered. numbered.session < session_numbers) script.now }
     requires well_formed { All (λ numbered. IsWellFormed numbered.command) script.now }
-    requires served { All (λ numbered. IsServed numbered.command) script.now }
     requires long { length room.counts.items ≡ session_numbers }
     requires zero { (at : ℕ) → slice_index room.counts.items at ≡ 0 }
     requires none { (room.history.items ≡ []) × (vec_len room.history ≡ 0) }

@@ -15,7 +15,7 @@ const RUN: &[&str] = &["run", "d"];
 const SMALL: &[&str] = &["run", "--pair", "4", "--workers", "0", "d"];
 
 /// Runs, each on a new store.
-const ROWS: [Row; 8] = [
+const ROWS: [Row; 11] = [
     // A point at the last flushed time goes to the unsequence part, and wins.
     (
         RUN,
@@ -64,6 +64,30 @@ const ROWS: [Row; 8] = [
         "C; I 1 5; I 2 7; flush; I 1 -7; select count(s),min_value(s),last_value(s) from root.g.d; \
          select count(s) from root.g.d where time<2",
         "ok / ok / ok / ok / ok / count(s),min_value(s),last_value(s) / 2,-7,7 / count(s) / 1",
+    ),
+    // A cross compaction of a late file that meets no sequence file: its output stands between two files.
+    (
+        RUN,
+        "C; create timeseries root.g.e.s with datatype=INT64,encoding=PLAIN; I 10 1; \
+         insert into root.g.e(timestamp,s) values(100,1); flush; I 30 1; \
+         insert into root.g.e(timestamp,s) values(200,1); flush; I 20 1; flush; compact cross; show files",
+        "ok / ok / ok / ok / ok / ok / ok / ok / ok / ok / ok / \
+         sequence 1 born 4 points 2 from 10 to 100 / sequence 4 born 7 points 1 from 20 to 20 / \
+         sequence 2 born 6 points 2 from 30 to 200 / frozen 0 / working 0 0 / marks 0",
+    ),
+    // Late files become one, and then a sequence file. What is in files, a later value wins over what it meets.
+    (
+        RUN,
+        "C; I 10 1; flush; I 5 2; flush; I 5 3; I 10 4; flush; compact inner unsequence; S; compact cross; S; \
+         compact cross; compact inner sequence; show files",
+        "ok / ok / ok / ok / ok / ok / ok / ok / ok / time,s / 5,3 / 10,4 / rows 2 / ok / time,s / 5,3 / 10,4 / \
+         rows 2 / ok / ok / sequence 5 born 5 points 2 from 5 to 10 / frozen 0 / working 0 0 / marks 0",
+    ),
+    // A compaction whose inputs have no surviving point leaves no file.
+    (
+        RUN,
+        "C; I 1 1; flush; I 2 2; flush; delete from root.g.d.s; compact inner sequence; S; show files",
+        "ok / ok / ok / ok / ok / ok / ok / time,s / rows 0 / frozen 0 / working 0 0 / marks 0",
     ),
     // Refusals say nothing of where points are.
     (
@@ -191,13 +215,38 @@ const RUNS: [Row; 4] = [
     ),
 ];
 
+/// Two runs on one store, with a compaction in the first. No file has a point behind 15 then, and the watermark is still
+/// 20.
+const COMPACTED: [Row; 2] = [
+    (
+        RUN,
+        "C; I 10 1; flush; I 20 1; flush; I 15 1; flush; delete from root.g.d.s where time=20; \
+         compact inner sequence",
+        "ok / ok / ok / ok / ok / ok / ok / ok / ok",
+    ),
+    (
+        RUN,
+        "I 15 2; I 16 3; S; show files",
+        "ok / ok / time,s / 10,1 / 15,2 / 16,3 / rows 3 / sequence 4 born 5 points 1 from 10 to 10 / \
+         unsequence 3 born 4 points 1 from 15 to 15 / frozen 0 / working 0 2 / marks 1",
+    ),
+];
+
+/// The first of these runs on one store that prints something else.
+fn first_wrong_behind(alloc: Global, rows: &[Row]) -> Result<Option<usize>, Fail> {
+    let mut place = new_place(alloc, &[])?;
+    for (at, row) in rows.iter().enumerate() {
+        if !prints(alloc, &mut place, row)? {
+            return Ok(Some(at));
+        }
+    }
+    Ok(None)
+}
+
 #[test]
 fn runs_behind_one_another(rt: HostRuntime) -> Result<(), Fail> {
-    let alloc = rt.alloc();
-    let mut place = new_place(alloc, &[])?;
-    for (at, row) in RUNS.iter().enumerate() {
-        assert!(rt; prints(alloc, &mut place, row)?, "{at}");
-    }
+    assert_eq!(rt; first_wrong_behind(rt.alloc(), &RUNS)?, None);
+    assert_eq!(rt; first_wrong_behind(rt.alloc(), &COMPACTED)?, None);
     Ok(())
 }
 
@@ -271,6 +320,9 @@ fn listed_files_are_checked(rt: HostRuntime) -> Result<(), Fail> {
 /// Commands, and what a select prints behind each that changes something.
 const LATE: &str = "C; I 1 5; flush; I 1 6; flush";
 
+/// The same, and then both files become one.
+const LATE_AND_COMPACTED: &str = "C; I 1 5; flush; I 1 6; flush; compact cross";
+
 const SEEN: [Row; 4] = [
     (RUN, "S", "path"),
     (RUN, "S", "time,s / rows 0"),
@@ -288,39 +340,43 @@ fn seen_on(alloc: Global, place: &mut MemPlace) -> Result<Option<usize>, Fail> {
     Ok(None)
 }
 
-/// A stop at any moment, also within a flush, leaves a store that is opened, and in it what was acknowledged, or that
-/// with the command that was being written.
-#[test]
-fn stops_with_files(rt: HostRuntime) -> Result<(), Fail> {
-    let alloc = rt.alloc();
+/// The first moment of a run of the commands at which a stop leaves a store that is not opened, or in which something
+/// is not there that was acknowledged.
+fn lost_at(alloc: Global, commands: &'static str) -> Result<Option<u64>, Fail> {
     let mut place = new_place(alloc, &[])?;
-    let (script, _) = script_of(alloc, &(RUN, LATE, ""))?;
-    assert_eq!(rt;
-        status_on(alloc, &mut place, script.as_str())?,
-        Status::Done
-    );
+    let (script, _) = script_of(alloc, &(RUN, commands, ""))?;
+    let status = status_on(alloc, &mut place, script.as_str())?;
+    if status != Status::Done || seen_on(alloc, &mut place)? != Some(3) {
+        return Ok(Some(place.moments()));
+    }
     let mut most = 0;
     for moment in 0..place.moments() {
         for kind in [StopKind::Written, StopKind::Unwritten, StopKind::Scrambled] {
-            let seen = seen_on(alloc, &mut place.after_stop(moment, kind)?)?;
-            let Some(seen) = seen else {
-                return Err(Fail::new("a store that is not opened"));
-            };
-            assert!(rt; most <= seen.saturating_add(1), "{moment}");
-            most = most.max(seen);
+            match seen_on(alloc, &mut place.after_stop(moment, kind)?)? {
+                Some(seen) if most <= seen.saturating_add(1) => most = most.max(seen),
+                _ => return Ok(Some(moment)),
+            }
         }
     }
-    assert_eq!(rt; seen_on(alloc, &mut place)?, Some(3));
+    Ok(None)
+}
+
+/// A stop at any moment, also within a flush or a compaction, leaves a store that is opened, and in it what was
+/// acknowledged, or that with the command that was being written.
+#[test]
+fn stops_with_files(rt: HostRuntime) -> Result<(), Fail> {
+    assert_eq!(rt; lost_at(rt.alloc(), LATE)?, None);
+    assert_eq!(rt; lost_at(rt.alloc(), LATE_AND_COMPACTED)?, None);
     Ok(())
 }
 
-/// Whichever call on the files fails, the store is not opened, or a flush or a query is answered `device`. The next run
-/// finds all that was acknowledged.
+/// Whichever call on the files fails, the store is not opened, or a flush, a compaction or a query is answered `device`.
+/// The next run finds all that was acknowledged.
 #[test]
 fn each_call_on_files_fails_in_turn(rt: HostRuntime) -> Result<(), Fail> {
     let alloc = rt.alloc();
-    let (script, _) = script_of(alloc, &(RUN, LATE, ""))?;
-    for call in 1..=8 {
+    let (script, _) = script_of(alloc, &(RUN, LATE_AND_COMPACTED, ""))?;
+    for call in 1..=16 {
         let mut place = new_place(alloc, &[call])?;
         let status = status_on(alloc, &mut place, script.as_str())?;
         let seen = seen_on(alloc, &mut place)?;

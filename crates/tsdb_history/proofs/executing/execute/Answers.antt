@@ -8,7 +8,7 @@ use Rattle.tsdb_history.proofs.Replies.{sure_still}
 use Rattle.tsdb_history.proofs.SoFar.{SoFar, devices_more, few_of, nothing_so_far, one_more, whole_slice}
 use Rattle.tsdb_history.proofs.Steps.{none_served, one_more_served, stays_on}
 use Rattle.tsdb_history.specs.History.{IsHistory, is_device, session_numbers}
-use Rattle.tsdb_history.specs.Serves.{IsSure}
+use Rattle.tsdb_serving.specs.Serving.{IsSure}
 use Rattle.tsdb_history.specs.declared.told.Told.{Told}
 use Rattle.tsdb_script.specs.declared.numbered.Numbered.{Numbered}
 use Rattle.tsdb_serving.specs.Flushing.{IsReady, faults_under}

@@ -1,13 +1,13 @@
 use Rattle.std.proofs.Common.{◌∙◌, sym}
-use Rattle.tsdb_history.proofs.Replies.{fault_is_not_done, flush_done, flush_failed}
+use Rattle.tsdb_history.proofs.Replies.{fault_is_not_done, writes_flush, writing_done, writing_failed}
 use Rattle.tsdb_serving.proofs.Causes.{full_cause}
 use Rattle.tsdb_history.proofs.serving.flushed.Goals as goal
 
 pub returns-in-Ok-clause-answers : goal.returns-in-Ok-clause-answers
-returns-in-Ok-clause-answers g c = λ tells. flush_done c.args.core.now c.flush.new.core (c.flush.ensures.goes_on.keeps tells)
+returns-in-Ok-clause-answers g c = λ tells. writing_done _ writes_flush c.args.core.now c.flush.new.core (c.flush.ensures.goes_on.keeps tells)
 
 pub returns-in-Err-clause-answers : goal.returns-in-Err-clause-answers
-returns-in-Err-clause-answers g c = λ tells. flush_failed c.args.core.now c.flush.new.core
+returns-in-Err-clause-answers g c = λ tells. writing_failed _ writes_flush c.args.core.now c.flush.new.core
     (c.flush.ensures.goes_on.keeps tells) c.in-Err.fault (full_cause _ _ _ _ _ c.in-Err.fault c.in-Err.ensures.cause)
     c.answer.result c.answer.ensures
 

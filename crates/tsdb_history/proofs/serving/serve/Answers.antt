@@ -40,3 +40,13 @@ pub returns-in-ShowFiles-clause-answers : goal.returns-in-ShowFiles-clause-answe
 returns-in-ShowFiles-clause-answers g c = λ tells.
     subst (λ command. Answers c.args.core.now c.args.core.now command c.shown.result) (sym c.in-ShowFiles.is)
     c.shown.ensures.answers
+
+pub returns-in-CompactInner-clause-answers : goal.returns-in-CompactInner-clause-answers
+returns-in-CompactInner-clause-answers g c = λ tells.
+    subst (λ command. Answers c.args.core.now c.inner_compacted.new.core command (Plain c.inner_compacted.result))
+    (sym c.in-CompactInner.is) (c.inner_compacted.ensures.answers tells)
+
+pub returns-in-CompactCross-clause-answers : goal.returns-in-CompactCross-clause-answers
+returns-in-CompactCross-clause-answers g c = λ tells.
+    subst (λ command. Answers c.args.core.now c.cross_compacted.new.core command (Plain c.cross_compacted.result))
+    (sym c.in-CompactCross.is) (c.cross_compacted.ensures.answers tells)

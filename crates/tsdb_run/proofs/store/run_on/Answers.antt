@@ -2,7 +2,6 @@ use Rattle.std.proofs.Common.{◌≡◌, ◌∙◌, inl, inr, ap, None, arith}
 use Rattle.std.specs.Prelude.{is_some}
 use Rattle.tsdb_core.specs.declared.engine.Core.{Core}
 use Rattle.tsdb_frames.specs.Frames.{journal_of}
-use Rattle.tsdb_history.specs.Serves.{IsSure}
 use Rattle.tsdb_logged.specs.Logged.{log_of}
 use Rattle.tsdb_core.specs.Core.{logged_of}
 use Rattle.tsdb_outside.specs.Causes.{Rose}
@@ -11,7 +10,7 @@ use Rattle.tsdb_run.proofs.Executed.{above_stored, rose_before, run_before}
 use Rattle.tsdb_run.proofs.Whole.{gone, image, next_is, opened, sound_left}
 use Rattle.tsdb_run.specs.Store.{IsSoundOrSilent, contents}
 use Rattle.tsdb_serving.specs.Flushing.{faults_under}
-use Rattle.tsdb_serving.specs.Serving.{disk_under}
+use Rattle.tsdb_serving.specs.Serving.{IsSure, disk_under}
 use Rattle.tsdb_run.proofs.store.run_on.Goals as goal
 
 pub returns-in-Ok-recover-clause-executed : goal.returns-in-Ok-recover-clause-executed

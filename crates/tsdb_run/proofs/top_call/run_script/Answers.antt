@@ -1,7 +1,7 @@
 use Rattle.std.proofs.Common.{Some, length, refl, subst, sym, ap, arith}
 use Rattle.tsdb_outside.specs.Causes.{Rose}
 use Rattle.tsdb_run.proofs.Opening.{refused_rose}
-use Rattle.tsdb_run.proofs.Written.{Says-written, served_script, small_sessions}
+use Rattle.tsdb_run.proofs.Written.{Says-written, small_sessions}
 use Rattle.tsdb_run.specs.Causes.{IsRefusedStore}
 use Rattle.tsdb_run.specs.Headline.{Run}
 use Rattle.tsdb_run.specs.Output.{output_text}
@@ -24,11 +24,6 @@ run_commands-requires-clause-few g c κs within =
 pub run_commands-requires-clause-sessions : goal.run_commands-requires-clause-sessions
 run_commands-requires-clause-sessions g c κs within = λ k numbered lt.
     small_sessions c.deref.result.now c.deref-2.result.now
-    (subst (IsScript c.deref.result.now) (sym c.deref-2.ensures.value) c.in-Ok.ensures.found) k numbered lt
-
-pub run_commands-requires-clause-served : goal.run_commands-requires-clause-served
-run_commands-requires-clause-served g c κs within = λ k numbered lt.
-    served_script c.deref.result.now c.deref-2.result.now
     (subst (IsScript c.deref.result.now) (sym c.deref-2.ensures.value) c.in-Ok.ensures.found) k numbered lt
 
 pub returns-in-Ok-run_commands-clause-headline : goal.returns-in-Ok-run_commands-clause-headline
