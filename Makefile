@@ -1,7 +1,8 @@
 # make demo   runs two example scripts on one store, by a program that is built without proofs
 # make build  proves the program and leaves it at bin/tsdb
 # make bench  proves the programs and prints what they take; GROUP=name measures one group
-# make check-disk   kills the program in the middle of its writes, and looks at what the next run finds; stores many files,
+# make check-disk   kills the program in the middle of its writes, and looks at what the next run finds; runs a plant's day
+#                   with a flush and a compaction; stores many files,
 #                   and fills a small disk
 # make test   proves every crate and runs every test and program
 .PHONY: demo build bench check-disk test
@@ -22,12 +23,16 @@ build:
 bench: build
 	@echo 'Proving and building the program tsdb_bench ...' >&2
 	@cd crates/tsdb_bench && rt run -- quick >&2
-	@[ "$(GROUP)" = scripts ] || [ "$(GROUP)" = durable ] || crates/tsdb_bench/out/tsdb_bench $(GROUP)
+	@[ "$(GROUP)" = scripts ] || [ "$(GROUP)" = durable ] || [ "$(GROUP)" = compactions ] || [ "$(GROUP)" = queries ] \
+	    || crates/tsdb_bench/out/tsdb_bench $(GROUP)
 	@[ -n "$(GROUP)" ] && [ "$(GROUP)" != scripts ] || bench/scripts.py bin/tsdb
 	@[ -n "$(GROUP)" ] && [ "$(GROUP)" != durable ] || bench/durable.py bin/tsdb
+	@[ -n "$(GROUP)" ] && [ "$(GROUP)" != compactions ] || bench/compactions.py bin/tsdb
+	@[ -n "$(GROUP)" ] && [ "$(GROUP)" != queries ] || bench/queries.py bin/tsdb
 
 check-disk: build
 	@checks/kill bin/tsdb
+	@checks/plants bin/tsdb
 	@cd crates/tsdb_bench && rt run -- quick >&2
 	@checks/files crates/tsdb_bench/out/tsdb_bench
 
