@@ -24,6 +24,7 @@ use Rattle.tsdb_compactions.proofs.Planned.{planned_begins}
 use Rattle.tsdb_compactions.specs.Jobs.{IsCompactionOf, input_file}
 use Rattle.tsdb_compactions.specs.Plans.{IsOfMoment, IsPlanned}
 use Rattle.tsdb_compactions.specs.declared.job.Job.{Job}
+use Rattle.tsdb_core.proofs.LoansJobs.{begun_inputs, job_rights_taken, planned_free, planned_unclaimed}
 use Rattle.tsdb_core.proofs.BeginningsClaims.{claims_stay, in_sequence, in_unsequence, run_claimed}
 use Rattle.tsdb_core.proofs.BeginningsKept.{begun_kept, none_next}
 use Rattle.tsdb_core.proofs.Commits.{prepared_sound}
@@ -362,6 +363,18 @@ module _ {J F S R P : Type 0} {means : disk.Ghosts J} {counts : counted.Ghosts J
       };
       rights = has_found;
       jobs = jobs;
+      loans = λ made flushes compactions lent made_of keeps. record {
+        jobs = jobs made flushes compactions made_of keeps.jobs;
+        inputs = begun_inputs old.files files old.sequence_claimed claimed job made compactions runs.unsequence made_of
+            kept fit.unsequence
+            (late_list name space stamp (next_of old) runs old.files files taken series begun fit.sequence
+            fit.unsequence)
+            (early_list name space stamp (next_of old) runs old.files files taken series begun fit.sequence
+            fit.unsequence) begun.unsequence (planned_free space old runs plan)
+            (is_kept flushes compactions keeps.jobs).stands (planned_unclaimed space old runs plan) is_claimed_by
+            keeps.inputs;
+        rights = job_rights_taken name old.files files job lent has_found begun.all.held keeps.rights;
+      };
       step = step;
       truth = λ outside engine seen.
           let sound = prepared_sound old.logged logged prepared outside engine seen.sound in

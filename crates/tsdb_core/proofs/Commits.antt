@@ -18,6 +18,7 @@ use Rattle.tsdb_committing.specs.Files.{with_files}
 use Rattle.tsdb_core.proofs.Claims.{after_commit, claims_stay, same_lists}
 use Rattle.tsdb_core.proofs.Parts.{both_come, both_lists}
 use Rattle.tsdb_core.proofs.Built.{room_first, room_second}
+use Rattle.tsdb_core.proofs.Loans.{AreUnreadYet, all_same, flush_loans}
 use Rattle.tsdb_core.proofs.Jobs.{drawn_is, is_open, others_kept, parts_apart, places, same_kept}
 use Rattle.tsdb_core.proofs.Seen.{jobs_stay}
 use Rattle.tsdb_core.specs.Core.{AreClaimed, IsSeen, KeepsJobs}
@@ -118,6 +119,8 @@ module _ {J F S R P : Type 0} {means : disk.Ghosts J} {counts : counted.Ghosts J
   not_taken old logged files prepared lists made spare = record {
     next = refl;
     jobs = same_kept old logged files prepared.record_room made spare;
+    loans = all_same old (record old { logged = logged; files = files }) lists.sequence lists.unsequence refl made.files
+        (same_kept old logged files prepared.record_room made spare);
     step = λ outside engine seen. record {
       sound = prepared_sound old.logged logged prepared outside engine seen.sound;
       files = only_places old.files files outside.known engine seen.files lists made;
@@ -136,7 +139,7 @@ module _ {J F S R P : Type 0} {means : disk.Ghosts J} {counts : counted.Ghosts J
       (first : PartEnds commit Sequence job.sequence files.sequence core.files mid)
       (second : PartEnds commit Unsequence job.unsequence files.unsequence mid new)
       (drawn_first : Each (λ file. Among (number_of file) (numbers_if job.sequence)) (if_some files.sequence))
-      (drawn : Each (λ file. Among (number_of file) (drawn_for job)) (all_of files)) where
+      (drawn : Each (λ file. Among (number_of file) (drawn_for job)) (all_of files)) (unread : AreUnreadYet files) where
     come : HaveCome (drawn_for job) files core.files new
     come = both_come commit job.sequence job.unsequence files.sequence files.unsequence core.files mid new first second
         (parts_apart core job out.flush out.others out.flushes out.compactions out.numbers out.out out.keeps)
@@ -151,6 +154,12 @@ module _ {J F S R P : Type 0} {means : disk.Ghosts J} {counts : counted.Ghosts J
       jobs = λ flush others flushes compactions has is_out keeps. others_kept core job flush others flushes compactions
           has
           is_out keeps files new come drawn (second.room ∙ ap (less_if Unsequence job.unsequence) first.room);
+      loans = λ flush others flushes compactions lent has is_out keeps. flush_loans core new commit (drawn_for job) files
+          (both_lists commit job.sequence job.unsequence files.sequence files.unsequence core.files mid new first
+          second) come drawn unread (is_open core job flush others flushes compactions has is_out keeps.jobs) others flushes
+          compactions lent
+          (others_kept core job flush others flushes compactions has is_out keeps.jobs files new come drawn
+          (second.room ∙ ap (less_if Unsequence job.unsequence) first.room)) keeps;
       next = refl;
       limit = refl;
       claimed = refl;
@@ -395,6 +404,9 @@ module _ {J F S R P : Type 0} {means : disk.Ghosts J} {counts : counted.Ghosts J
     of_store = ends.of_store;
     jobs = λ flush others flushes compactions has out keeps. ends.jobs flush others flushes compactions has out
         (jobs_stay old logged more flushes compactions keeps);
+    loans = λ flush others flushes compactions lent has out keeps. ends.loans flush others flushes compactions lent has
+        out (all_same old (record old { logged = logged }) refl refl refl (λ n. refl) (jobs_stay old logged more) flushes
+        compactions lent keeps);
     next = ends.next;
     limit = ends.limit;
     claimed = ends.claimed;

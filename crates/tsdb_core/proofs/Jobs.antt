@@ -66,7 +66,7 @@ is_there n (m ∷ numbers) some = by (m == n) refl (is_there n numbers) some
     by true is rest some = inl (same_number m n is)
     by false is rest some = inr (rest (omega (arith, some)))
 
-one_of : {X : Type 0} (f : X → ℕ) (x : X) (others all : List X) → IsWithOne x others all → f x ≤ sum_by f all
+pub one_of : {X : Type 0} (f : X → ℕ) (x : X) (others all : List X) → IsWithOne x others all → f x ≤ sum_by f all
 one_of f x others all out = omega (
   arith,
   ap (sum_by f) out.with_it,

@@ -1,3 +1,8 @@
+pub mod Loans
+pub mod LoansInputs
+pub mod LoansJobs
+pub mod LoansOut
+pub mod LoansRights
 pub mod Seen
 pub mod Built
 pub mod Parts

@@ -3,6 +3,7 @@ use Rattle.std.proofs.Common.{◌≡◌, ℕ, List, Option, None, Some, Result, 
 use Rattle.std.specs.Prelude.{◌<◌, IfOk, IfSome, OnErr}
 use Rattle.std.specs.Option.{option_map}
 use Rattle.tsdb_core.proofs.Claims.{claims_stay, same_lists}
+use Rattle.tsdb_core.proofs.Loans.{all_same, pinned_loans, unpinned_loans}
 use Rattle.tsdb_core.specs.Core.{AreClaimed, IsSeen, KeepsJobs, next_of}
 use Rattle.tsdb_core.specs.Pins.{ChangesRights, IsNotPinned, IsPinStep, IsPinned, IsUnpinned}
 use Rattle.tsdb_core.specs.Worlds.{KeepsWorld}
@@ -95,6 +96,7 @@ module _ {J F S R P : Type 0} {means : disk.Ghosts J} {counts : counted.Ghosts J
     rest = rest_stays old files change leaves rights;
     rights = rights;
     held = columns_stay name change leaves old.files files rights pin.columns held;
+    loans = pinned_loans name old files pin rights held (jobs_stay old files change leaves rights);
     step = step;
   }
     where
@@ -134,11 +136,18 @@ module _ {J F S R P : Type 0} {means : disk.Ghosts J} {counts : counted.Ghosts J
   not_pinned old files keeps = record {
     rest = rest_stays old files same leaves keeps;
     files = keeps;
+    loans = all_same old (with_files old files) keeps.lists.sequence keeps.lists.unsequence refl
+        (λ n. kept_changed same old.files files keeps n ∙ unchanged (kept_file n old.files))
+        (jobs_stay old files same leaves keeps);
     step = step;
   }
     where
       same : ℕ → KeptFile → KeptFile
       same n file = file
+
+      unchanged : (o : Option KeptFile) → option_map (λ (file : KeptFile). file) o ≡ o
+      unchanged None = refl
+      unchanged (Some file) = refl
 
       leaves : LeavesNames same
       leaves = record { name = λ n file. refl; series = λ n file. refl }
@@ -161,6 +170,7 @@ module _ {J F S R P : Type 0} {means : disk.Ghosts J} {counts : counted.Ghosts J
   is_unpinned old files pin rights left = record {
     rest = rest_stays old files change leaves rights;
     rights = rights;
+    loans = unpinned_loans old files pin rights (jobs_stay old files change leaves rights);
     step = step;
   }
     where

@@ -17,6 +17,7 @@ use Rattle.tsdb_compactions.proofs.Outputs.{no_output}
 use Rattle.tsdb_compactions.specs.Jobs.{IsCompactionOf, IsFormed, input_file, input_files, plain_numbers}
 use Rattle.tsdb_compactions.specs.Outputs.{IsOutputOf, TellsInputs}
 use Rattle.tsdb_compactions.specs.declared.job.Job.{Job}
+use Rattle.tsdb_core.proofs.LoansJobs.{LeavesInputs, given_up_inputs, job_rights_given, left_as}
 use Rattle.tsdb_core.proofs.ReplacementsClaims.{claims_without, over_finished, over_given_up}
 use Rattle.tsdb_core.proofs.ReplacementsFiles.{can_replace, ended_later, files_finished, files_given_up, items_later}
 use Rattle.tsdb_core.proofs.ReplacementsFiles.{output_stands, place, same_record, stored_later, told_later}
@@ -50,7 +51,7 @@ use Rattle.tsdb_plan.specs.declared.entry.FileEntry.{FileEntry}
 use Rattle.tsdb_replacing.proofs.Built.{new_output}
 use Rattle.tsdb_state.proofs.EngineCompaction.{commit_keeps}
 use Rattle.tsdb_state.specs.Jobs.{replaced_bytes}
-use Rattle.tsdb_state.specs.State.{Compaction, EngineState, Told}
+use Rattle.tsdb_state.specs.State.{Compaction, EngineState, FlushJob, Told}
 use Rattle.tsdb_state.specs.Steps.{IsOutput, committed, compaction_record, ended, failed, output_number, settled}
 use Rattle.tsdb_state.specs.Worlds.{KeepsWorld, StandsFor}
 
@@ -79,6 +80,12 @@ module _ {F S R P : Type 0} (name : R → NamedFile) (file : S → NamedFile) (r
 -- the output as a core keeps it
 abbrev made_of : {F S R P : Type 0} → (S → NamedFile) → Option (Built F S R P) → Option NewFile
 made_of sealed built = option_map (new_file sealed) built
+
+-- no right on it is out
+made_unread : {F S R P : Type 0} (sealed : S → NamedFile) (o : Option (Built F S R P))
+    → IfSome (made_of sealed o) (λ one. one.token.rights ≡ 0)
+made_unread sealed None = tt
+made_unread sealed (Some one) = refl
 
 -- the born of the output, where there is one
 same_born : {F S R P : Type 0} (sealed : S → NamedFile) (o : Option (Built F S R P))
@@ -116,15 +123,27 @@ module _ {J F S R P : Type 0} {means : disk.Ghosts J} {counts : counted.Ghosts J
       sequence_claimed = without_claim job.space old.sequence_claimed;
     }
 
-    ends_job : IsGone job file old.files kept → EndsJob old new job file
-    ends_job gone = record {
+    jobs_left : IsGone job file old.files kept → (compaction : Compaction) (others compactions : List Compaction)
+        (flushes : List FlushJob) → IsCompactionOf job compaction → IsWithOne compaction others compactions
+        → KeepsJobs old flushes compactions → KeepsJobs new flushes others
+    jobs_left gone compaction others compactions flushes is out keeps = others_kept old logged kept
+        (without_claim job.space old.sequence_claimed) job file more job_out.kept.held.some gone compaction others
+        compactions flushes is out keeps
+
+    ends_job : IsGone job file old.files kept → LeavesInputs job old.files kept old.sequence_claimed
+        → IfSome file (λ one. one.token.rights ≡ 0) → EndsJob old new job file
+    ends_job gone left unread = record {
       claimed = refl;
       next = refl;
       limit = refl;
       of_store = λ store all output. store_of_each job file old.files kept gone store all output;
-      jobs = λ compaction others compactions flushes is out keeps. others_kept old logged kept
-          (without_claim job.space old.sequence_claimed) job file more job_out.kept.held.some gone compaction others
-          compactions flushes is out keeps;
+      jobs = jobs_left gone;
+      loans = λ compaction others compactions flushes mine others_lent lent is out on lent_out keeps. record {
+        jobs = jobs_left gone compaction others compactions flushes is out keeps.jobs;
+        inputs = left compaction others compactions is out keeps.inputs;
+        rights = job_rights_given old.files kept job file mine others_lent lent gone.here unread gone.others
+            job_out.kept.held.place on lent_out keeps.rights;
+      };
     }
 
     module _ (outside : Outside) (engine : EngineState) (compaction : Compaction) (others : List Compaction)
@@ -151,7 +170,7 @@ module _ {J F S R P : Type 0} {means : disk.Ghosts J} {counts : counted.Ghosts J
 
       -- what stays for the other jobs, and what is told
       jobs : IsGone job file old.files kept → KeepsJobs new engine.flushes others
-      jobs gone = (ends_job gone).jobs compaction others engine.compactions engine.flushes is out seen.jobs
+      jobs gone = jobs_left gone compaction others engine.compactions engine.flushes is out seen.jobs
 
       told : IsGone job file old.files kept → TellTheirBytes kept later.kept
       told gone = told_later job outside engine compaction others file content seen.sound.stored is out output old.files
@@ -339,7 +358,9 @@ module _ {J F S R P : Type 0} {means : disk.Ghosts J} {counts : counted.Ghosts J
         }) job (made_of sealed built) outcome
     is_commit old logged kept runs outcome job_out are_kept of stand appends up = record {
       ends = ends_job old logged kept job (made_of sealed built) name job_out are_kept appends.replaced.room
-          (gone_as job runs (made_of sealed built) old.files kept outcome up);
+          (gone_as job runs (made_of sealed built) old.files kept outcome up)
+          (left_as job old.files kept old.sequence_claimed job_out.kept.stands job_out.kept.formed runs
+          (made_of sealed built) outcome stand up) (made_unread sealed built);
       runs = runs;
       stand = stand;
       files = up;
@@ -410,7 +431,9 @@ module _ {J F S R P : Type 0} {means : disk.Ghosts J} {counts : counted.Ghosts J
     is_abandoned old kept job_out are_kept up = record {
       logged = refl;
       ends = ends_job old old.logged kept job (made_of sealed built) name job_out are_kept (omega arith)
-          (gone_up job (made_of sealed built) old.files kept up);
+          (gone_up job (made_of sealed built) old.files kept up)
+          (given_up_inputs job old.files kept old.sequence_claimed job_out.kept.stands (made_of sealed built) up)
+          (made_unread sealed built);
       files = up;
       step = step;
       world = λ outside engine compaction others content world seen is out output stands. world_of old old.logged kept

@@ -172,6 +172,8 @@ module _ {J F S R P : Type 0} {means : disk.Ghosts J} {counts : counted.Ghosts J
     limit = second.limit ∙ first.limit;
     claimed = second.claimed ∙ first.claimed;
     jobs = λ flushes compactions jobs. second.jobs flushes compactions (first.jobs flushes compactions jobs);
+    loans = λ flushes compactions lent loans. second.loans flushes compactions lent
+        (first.loans flushes compactions lent loans);
   }
 
   pub kept_itself : (old new : Core J F S R P means counts) → new ≡ old → KeepsFiles old new
@@ -181,6 +183,7 @@ module _ {J F S R P : Type 0} {means : disk.Ghosts J} {counts : counted.Ghosts J
     limit = refl;
     claimed = refl;
     jobs = λ flushes compactions jobs. jobs;
+    loans = λ flushes compactions lent loans. loans;
   })
 
   pub keeps_itself : (old new : Core J F S R P means counts) → new ≡ old → KeepsWorld old new

@@ -10,6 +10,7 @@ use Rattle.tsdb_base.specs.declared.ids.FileNumber.{FileNumber}
 use Rattle.tsdb_base.specs.declared.ids.Stamp.{Stamp}
 use Rattle.tsdb_base.specs.declared.point.Range.{Range}
 use Rattle.tsdb_core.proofs.Claims.{claims_stay, same_lists}
+use Rattle.tsdb_core.proofs.Loans.{all_same, all_swept}
 use Rattle.tsdb_core.specs.Commands.{IsCoreCommand, IsSeenAfter}
 use Rattle.tsdb_core.specs.Core.{AreClaimed, IsSeen, KeepsJobs, next_of}
 use Rattle.tsdb_core.specs.Sweeps.{IsSwept, IsSweptOf, without_files}
@@ -148,6 +149,7 @@ module _ {J F S R P : Type 0} {means : disk.Ghosts J} {counts : counted.Ghosts J
       limit = refl;
       claimed = refl;
       jobs = jobs_stay old logged command.room;
+      loans = all_same old (record old { logged = logged }) refl refl refl (λ n. refl) (jobs_stay old logged command.room);
     };
     slot = command.slot;
     cause = command.cause;
@@ -190,7 +192,12 @@ module _ {J F S R P : Type 0} {means : disk.Ghosts J} {counts : counted.Ghosts J
       → ((outside : Outside) (state : EngineState) → IsSeen old outside state → IsDoubtOf doubted state)
       → LeavesWithout (may_go doubted old.files part) old.files files
       → IsSweptOf old (record old { files = files }) (may_go doubted old.files part)
-  swept_of old files doubted part some named leaves = record { left = leaves; jobs = jobs; step = step }
+  swept_of old files doubted part some named leaves = record {
+    left = leaves;
+    jobs = jobs;
+    loans = all_swept old files doubted part leaves jobs;
+    step = step;
+  }
     where
       jobs : (flushes : List FlushJob) (compactions : List Compaction) → KeepsJobs old flushes compactions
           → KeepsJobs (record old { files = files }) flushes compactions

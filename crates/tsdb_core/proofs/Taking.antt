@@ -1,5 +1,5 @@
 -- What taking a flush makes of a core, and of the states that it shows.
-use Rattle.std.proofs.Common.{◌≡◌, ℕ, ◌+◌, ◌≤◌, List, ◌++◌, length, Option, None, Some}
+use Rattle.std.proofs.Common.{◌∷◌, ◌≡◌, ℕ, ◌+◌, ◌≤◌, List, ◌++◌, length, Option, None, Some}
 use Rattle.std.proofs.Common.{ap, arith, length-append, refl, sym, subst, ◌∙◌}
 use Rattle.std.proofs.lemmas.List.{map-append}
 use Rattle.std.specs.Arc.{arc_value}
@@ -9,6 +9,7 @@ use Rattle.std.specs.Prelude.{slice_get}
 use Rattle.tsdb_base.specs.declared.ids.FileNumber.{FileNumber}
 use Rattle.tsdb_core.proofs.Claims.{claims_stay, same_lists}
 use Rattle.tsdb_core.proofs.Commits.{places_told, prepared_sound}
+use Rattle.tsdb_core.proofs.Loans.{same_but_jobs}
 use Rattle.tsdb_core.proofs.Jobs.{one_more_kept}
 use Rattle.tsdb_core.specs.Core.{IsSeen, next_of}
 use Rattle.tsdb_core.specs.Ending.{drawn_for, numbers_if}
@@ -135,6 +136,10 @@ module _ {J F S R P : Type 0} {means : disk.Ghosts J} {counts : counted.Ghosts J
       jobs = λ flush flushes compactions has keeps. one_more_kept old job flush flushes compactions has keeps files
           (length (drawn_for job)) numbers (omega (arith, left, two_at_most job)) made placed room logged next is_next
           prepared.record_room enough;
+      loans = λ flush flushes compactions lent has keeps. same_but_jobs old new lists.sequence lists.unsequence refl
+          made.files flushes (flush ∷ flushes) compactions lent
+          (one_more_kept old job flush flushes compactions has keeps.jobs files (length (drawn_for job)) numbers
+          (omega (arith, left, two_at_most job)) made placed room logged next is_next prepared.record_room enough) keeps;
       step = step;
     }
 

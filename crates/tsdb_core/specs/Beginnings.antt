@@ -13,9 +13,10 @@ use Rattle.tsdb_compacting.specs.declared.finishing.InputRuns.{InputRuns}
 use Rattle.tsdb_compactions.specs.Jobs.{IsCompactionOf, input_files}
 use Rattle.tsdb_compactions.specs.Outputs.{TellsTruth}
 use Rattle.tsdb_compactions.specs.declared.job.Job.{Job}
-use Rattle.tsdb_core.specs.Compactions.{IsJobKept}
+use Rattle.tsdb_core.specs.Compactions.{IsJobKept, job_rights}
 use Rattle.tsdb_core.specs.Core.{IsSeen, KeepsJobs, files_of, is_sequence_claimed, limit_of, logged_of, next_of}
 use Rattle.tsdb_core.specs.Flushes.{IsNotTaken}
+use Rattle.tsdb_core.specs.Loans.{KeepsLoans, LentRight}
 use Rattle.tsdb_core.specs.declared.commit.CoreFault.{CoreFault}
 use Rattle.tsdb_core.specs.declared.commit.CoreFault.TheVariants.{Memory, Full}
 use Rattle.tsdb_core.specs.declared.engine.Core.{Core}
@@ -141,6 +142,9 @@ module _ {J F S R P : Type 0} {means : disk.Ghosts J} {counts : counted.Ghosts J
     pub jobs : (compaction : Compaction) (flushes : List FlushJob) (compactions : List Compaction)
         → IsCompactionOf job compaction → KeepsJobs old flushes compactions
         → KeepsJobs new flushes (compaction ∷ compactions)
+    pub loans : (compaction : Compaction) (flushes : List FlushJob) (compactions : List Compaction)
+        (lent : List (List LentRight)) → IsCompactionOf job compaction → KeepsLoans old flushes compactions lent
+        → KeepsLoans new flushes (compaction ∷ compactions) (job_rights name job ∷ lent)
     pub step : (outside : Outside) (engine : EngineState) → IsSeen old outside engine
         → (compaction : Compaction) × IsCompactionOf job compaction × Begins outside.told compaction engine
         × IsSeen new outside (began compaction engine)

@@ -3,6 +3,7 @@ use Rattle.std.specs.Prelude.{◌≡◌, ◌≤◌, ◌⊎◌, List}
 use Rattle.tsdb_base.specs.declared.answers.Answer.{Answer}
 use Rattle.tsdb_base.specs.declared.answers.Answer.TheVariants.{Done, NoPath, WrongType, Exists, Device, Memory, Full}
 use Rattle.tsdb_core.specs.Core.{IsSeen, KeepsJobs, files_of, is_sequence_claimed, limit_of, logged_of, next_of}
+use Rattle.tsdb_core.specs.Loans.{KeepsAllLoans}
 use Rattle.tsdb_core.specs.declared.engine.Core.{Core}
 use Rattle.tsdb_frames.specs.Frames.{faults_of, slot_of}
 use Rattle.tsdb_log.specs.declared.record.LogRecord.{LogRecord}
@@ -28,7 +29,7 @@ module _ {J F S R P : Type 0} {means : disk.Ghosts J} {counts : counted.Ghosts J
   IsSeenAfter new outside state item (Full counter) = IsSeen new outside state
 
   -- What no command touches: the files, the number of the next one, the limit of a pair, and whether the sequence list is
-  -- claimed. What is kept for jobs stays.
+  -- claimed. What is kept for jobs and pins stays.
   pub record KeepsFiles (old new : Core J F S R P means counts) : Type 0 where
     pub files : files_of new ≡ files_of old
     pub next : next_of new ≡ next_of old
@@ -36,6 +37,7 @@ module _ {J F S R P : Type 0} {means : disk.Ghosts J} {counts : counted.Ghosts J
     pub claimed : is_sequence_claimed new ≡ is_sequence_claimed old
     pub jobs : (flushes : List FlushJob) (compactions : List Compaction) → KeepsJobs old flushes compactions
         → KeepsJobs new flushes compactions
+    pub loans : KeepsAllLoans old new
 
   -- What a command leaves of every state that has what it needs. At each moment a stop leaves the world of the state, or
   -- that of the record that was in doubt, or that of this record. A refusal changes nothing, and where memory ends the log

@@ -1,16 +1,35 @@
 -- What a core keeps for a compaction that is out.
-use Rattle.std.specs.Prelude.{◌≤◌, List, length}
+use Rattle.std.specs.Prelude.{◌≡◌, ◌≤◌, List, length, map}
 use Rattle.tsdb_compacting.specs.Ending.{IsOutIn}
 use Rattle.tsdb_compacting.specs.Finishing.{StandInSequence}
+use Rattle.tsdb_compacting.specs.Inputs.{input_numbers}
 use Rattle.tsdb_compactions.specs.Jobs.{IsCompactionOf, IsFormed}
+use Rattle.tsdb_compactions.specs.declared.job.Input.{Input}
 use Rattle.tsdb_compactions.specs.declared.job.Job.{Job}
 use Rattle.tsdb_core.specs.Core.{KeepsJobs, files_of}
+use Rattle.tsdb_core.specs.Loans.{LentRight, lent_numbers}
 use Rattle.tsdb_core.specs.declared.engine.Core.{Core}
 use Rattle.tsdb_layers.specs.Lists.{IsWithOne}
 use Rattle.tsdb_outside.specs.Files.{NamedFile}
 use Rattle.tsdb_outside.specs.declared.disk.Disk as disk
 use Rattle.tsdb_outside.specs.declared.faults.Counted as counted
 use Rattle.tsdb_state.specs.State.{Compaction, FlushJob}
+
+module _ {F S R P : Type 0} where
+  -- rights on the inputs of the job, one on each
+  abbrev pub AreOnInputs : Job F S R P → List LentRight → Type 0
+  AreOnInputs job rights = lent_numbers rights ≡ input_numbers job.inputs
+
+  -- what holds of a job that a core hands out, whatever comes later
+  pub record IsHandedOut (job : Job F S R P) : Type 0 where
+    pub formed : IsFormed job
+    pub few_sequence : length job.sequence ≤ 100000000
+    pub few_late : length job.unsequence ≤ 100000000
+
+module _ {F S R P : Type 0} (name : R → NamedFile) where
+  -- the rights that the job has
+  abbrev pub job_rights : Job F S R P → List LentRight
+  job_rights job = map (λ (input : Input F S R P). record { number = input.number.0; name = name input.right }) job.inputs
 
 module _ {J F S R P : Type 0} {means : disk.Ghosts J} {counts : counted.Ghosts J} (name : R → NamedFile) where
   -- The job is as a core hands it out, its inputs stand in the lists and are held, and few enough for one record.

@@ -12,6 +12,7 @@ use Rattle.tsdb_committing.specs.Files.{IsOutAs, NewFiles, TellBytes, all_of, st
 use Rattle.tsdb_core.specs.Core.{IsSeen, KeepsJobs, files_of, is_sequence_claimed, limit_of, logged_of, next_of}
 use Rattle.tsdb_core.specs.Core.{working_of}
 use Rattle.tsdb_core.specs.Ending.{AreAfterCommit, IsLeastWith, drawn_for, number_for}
+use Rattle.tsdb_core.specs.Loans.{KeepsAllLoans, KeepsLoans, LentRight}
 use Rattle.tsdb_core.specs.Worlds.{IsWorldOf}
 use Rattle.tsdb_core.specs.declared.engine.Core.{Core}
 use Rattle.tsdb_core.specs.declared.commit.Commit.{Commit}
@@ -96,6 +97,7 @@ module _ {J F S R P : Type 0} {means : disk.Ghosts J} {counts : counted.Ghosts J
     pub next : next_of new ≡ next_of old
     pub jobs : (flushes : List state.FlushJob) (compactions : List Compaction) → KeepsJobs old flushes compactions
         → KeepsJobs new flushes compactions
+    pub loans : KeepsAllLoans old new
     pub step : (outside : Outside) (engine : EngineState) → IsSeen old outside engine → IsSeen new outside engine
 
   -- The job of the oldest frozen pair was taken, with the next numbers for its parts that have a point. What its end
@@ -109,6 +111,9 @@ module _ {J F S R P : Type 0} {means : disk.Ghosts J} {counts : counted.Ghosts J
     pub next : next_of new ≡ next_of old + length (drawn_for job)
     pub jobs : (flush : state.FlushJob) (flushes : List state.FlushJob) (compactions : List Compaction)
         → HasNumbersOf job flush → KeepsJobs old flushes compactions → KeepsJobs new (flush ∷ flushes) compactions
+    pub loans : (flush : state.FlushJob) (flushes : List state.FlushJob) (compactions : List Compaction)
+        (lent : List (List LentRight)) → HasNumbersOf job flush → KeepsLoans old flushes compactions lent
+        → KeepsLoans new (flush ∷ flushes) compactions lent
     pub step : (outside : Outside) (engine : EngineState) → IsSeen old outside engine
         → (flush : state.FlushJob) × IsFlushOf job flush × TakesFlush flush engine
         × IsSeen new outside (took_flush flush engine)
@@ -146,6 +151,9 @@ module _ {J F S R P : Type 0} {means : disk.Ghosts J} {counts : counted.Ghosts J
     pub jobs : (flush : state.FlushJob) (others flushes : List state.FlushJob) (compactions : List Compaction)
         → HasNumbersOf job flush → IsWithOne flush others flushes → KeepsJobs old flushes compactions
         → KeepsJobs new others compactions
+    pub loans : (flush : state.FlushJob) (others flushes : List state.FlushJob) (compactions : List Compaction)
+        (lent : List (List LentRight)) → HasNumbersOf job flush → IsWithOne flush others flushes
+        → KeepsLoans old flushes compactions lent → KeepsLoans new others compactions lent
     pub next : next_of new ≡ next_of old
     pub limit : limit_of new ≡ limit_of old
     pub claimed : is_sequence_claimed new ≡ is_sequence_claimed old

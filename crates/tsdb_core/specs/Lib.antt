@@ -2,6 +2,7 @@ pub mod Core
 pub mod Ending
 pub mod Flushes
 pub mod Limits
+pub mod Loans
 pub mod Commands
 pub mod Compactions
 pub mod Sweeps

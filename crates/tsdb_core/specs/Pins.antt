@@ -1,6 +1,8 @@
 -- What pinning and unpinning leave of a core.
-use Rattle.std.specs.Prelude.{◌≡◌, List}
+use Rattle.std.specs.Prelude.{◌≡◌, List, [], ◌∷◌}
+use Rattle.std.specs.List.{flat_map}
 use Rattle.tsdb_core.specs.Core.{IsSeen, KeepsJobs, files_of, is_sequence_claimed, limit_of, logged_of, next_of}
+use Rattle.tsdb_core.specs.Loans.{KeepsAllLoans, KeepsLoans, LentRight, lent_numbers}
 use Rattle.tsdb_core.specs.declared.engine.Core.{Core}
 use Rattle.tsdb_kept.specs.Places.{AreOfStore}
 use Rattle.tsdb_layers.specs.Lists.{IsWithOne}
@@ -14,10 +16,26 @@ use Rattle.tsdb_pinning.specs.Changes.{GivesRights, KeepsFiles, TakesRights, col
 use Rattle.tsdb_pinning.specs.Pins.{AreColumnsHeld}
 use Rattle.tsdb_pinning.specs.Shown.{IsPinOf}
 use Rattle.tsdb_pinning.specs.declared.pin.Pin.{Pin}
+use Rattle.tsdb_pinning.specs.declared.pin.PinnedSource.{PinnedSource}
+use Rattle.tsdb_pinning.specs.declared.pin.PinnedSource.TheVariants.{File, Part}
 use Rattle.tsdb_state.specs.State as state
 use Rattle.tsdb_state.specs.State.{Compaction, EngineState, FlushJob}
 use Rattle.tsdb_state.specs.Steps.{PinStandsFor, TakesPin, pinned, unpinned}
 use Rattle.tsdb_state.specs.Worlds.{StandsFor}
+
+module _ {F S R P : Type 0} where
+  -- rights on the files of the pin, one for each right that it has
+  abbrev pub AreOnColumns : Pin F S R P → List LentRight → Type 0
+  AreOnColumns pin rights = lent_numbers rights ≡ column_numbers pin.columns
+
+module _ {F S R P : Type 0} (name : R → NamedFile) where
+  -- the right that a source has, where it is a file, and those of the pin
+  abbrev pub source_rights : PinnedSource F S R P → List LentRight
+  source_rights (File number born right) = record { number = number.0; name = name right } ∷ []
+  source_rights (Part born points) = []
+
+  abbrev pub pin_rights : Pin F S R P → List LentRight
+  pin_rights pin = flat_map (λ column. flat_map source_rights column.sources) pin.columns
 
 module _ {J F S R P : Type 0} {means : disk.Ghosts J} {counts : counted.Ghosts J} where
   -- Nothing has changed but how many rights are out: log and memory, the number of the next file, the limit of a pair,
@@ -46,6 +64,9 @@ module _ {J F S R P : Type 0} {means : disk.Ghosts J} {counts : counted.Ghosts J
     pub rest : ChangesRights old new
     pub rights : TakesRights (column_numbers pin.columns) (files_of old) (files_of new)
     pub held : AreColumnsHeld name (files_of new) pin.columns
+    pub loans : (flushes : List FlushJob) (compactions : List Compaction) (lent : List (List LentRight))
+        → KeepsLoans old flushes compactions lent
+        → KeepsLoans new flushes compactions (pin_rights name pin ∷ lent)
     pub step : (outside : Outside) (engine : EngineState) → IsSeen old outside engine
         → IsPinStep new outside engine pin
 
@@ -53,12 +74,16 @@ module _ {J F S R P : Type 0} {means : disk.Ghosts J} {counts : counted.Ghosts J
   pub record IsNotPinned (old new : Core J F S R P means counts) : Type 0 where
     pub rest : ChangesRights old new
     pub files : KeepsFiles (files_of old) (files_of new)
+    pub loans : KeepsAllLoans old new
     pub step : (outside : Outside) (engine : EngineState) → IsSeen old outside engine → IsSeen new outside engine
 
   -- The rights of the pin are given back: the core shows each state without the pin.
   pub record IsUnpinned (old new : Core J F S R P means counts) (pin : Pin F S R P) : Type 0 where
     pub rest : ChangesRights old new
     pub rights : GivesRights (column_numbers pin.columns) (files_of old) (files_of new)
+    pub loans : (flushes : List FlushJob) (compactions : List Compaction) (rights : List LentRight)
+        (others lent : List (List LentRight)) → AreOnColumns pin rights → IsWithOne rights others lent
+        → KeepsLoans old flushes compactions lent → KeepsLoans new flushes compactions others
     pub step : (outside : Outside) (engine : EngineState) (shown : state.Pin) (others : List state.Pin)
         → IsSeen old outside engine → IsPinOf pin shown → IsWithOne shown others engine.pins
         → IsSeen new outside (unpinned shown others engine)

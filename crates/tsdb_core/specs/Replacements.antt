@@ -14,7 +14,9 @@ use Rattle.tsdb_compacting.specs.declared.finishing.InputRuns.{InputRuns}
 use Rattle.tsdb_compactions.specs.Jobs.{IsCompactionOf}
 use Rattle.tsdb_compactions.specs.Outputs.{TellsInputs}
 use Rattle.tsdb_compactions.specs.declared.job.Job.{Job}
+use Rattle.tsdb_core.specs.Compactions.{AreOnInputs}
 use Rattle.tsdb_core.specs.Core.{IsSeen, KeepsJobs, files_of, is_sequence_claimed, limit_of, logged_of, next_of}
+use Rattle.tsdb_core.specs.Loans.{KeepsLoans, LentRight}
 use Rattle.tsdb_core.specs.Worlds.{IsWorldOf}
 use Rattle.tsdb_core.specs.declared.engine.Core.{Core}
 use Rattle.tsdb_frames.specs.Frames.{faults_of, slot_of}
@@ -100,6 +102,10 @@ module _ {J F S R P : Type 0} {means : disk.Ghosts J} {counts : counted.Ghosts J
     pub jobs : (compaction : Compaction) (others compactions : List Compaction) (flushes : List FlushJob)
         → IsCompactionOf job compaction → IsWithOne compaction others compactions
         → KeepsJobs old flushes compactions → KeepsJobs new flushes others
+    pub loans : (compaction : Compaction) (others compactions : List Compaction) (flushes : List FlushJob)
+        (rights : List LentRight) (others_lent lent : List (List LentRight)) → IsCompactionOf job compaction
+        → IsWithOne compaction others compactions → AreOnInputs job rights → IsWithOne rights others_lent lent
+        → KeepsLoans old flushes compactions lent → KeepsLoans new flushes others others_lent
 
   -- the record of the job was appended, or could not be
   pub record AppendsEnd (old new : Core J F S R P means counts) (job : Job F S R P) (runs : InputRuns)

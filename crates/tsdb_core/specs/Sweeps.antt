@@ -2,6 +2,7 @@
 use Rattle.std.specs.Prelude.{◌≡◌, ℕ, [], false, List, length, None, Option, Result, OnErr, OnOk, IfOk}
 use Rattle.tsdb_base.specs.declared.ids.FileNumber.{FileNumber}
 use Rattle.tsdb_core.specs.Core.{IsSeen, KeepsJobs, files_of, is_sequence_claimed, limit_of, logged_of, next_of}
+use Rattle.tsdb_core.specs.Loans.{KeepsAllLoans}
 use Rattle.tsdb_core.specs.declared.engine.Core.{Core}
 use Rattle.tsdb_frames.specs.Frames.{is_aside_in_doubt}
 use Rattle.tsdb_held.specs.Held.{IsDoubtOf, may_go, told_numbers}
@@ -19,12 +20,13 @@ abbrev pub without_files : List ℕ → Outside → Outside
 without_files numbers outside = record outside { kept = without_numbers numbers outside.kept }
 
 module _ {J F S R P : Type 0} {means : disk.Ghosts J} {counts : counted.Ghosts J} where
-  -- The files of these numbers were removed, or could not be, and all others stay, as does what is kept for jobs. The
-  -- state is swept of them, and they are kept no longer.
+  -- The files of these numbers were removed, or could not be, and all others stay, as does what is kept for jobs and
+  -- pins. The state is swept of them, and they are kept no longer.
   pub record IsSweptOf (old new : Core J F S R P means counts) (numbers : List ℕ) : Type 0 where
     pub left : LeavesWithout numbers (files_of old) (files_of new)
     pub jobs : (flushes : List FlushJob) (compactions : List Compaction) → KeepsJobs old flushes compactions
         → KeepsJobs new flushes compactions
+    pub loans : KeepsAllLoans old new
     pub step : (outside : Outside) (state : EngineState) → IsSeen old outside state
         → IsSeen new (without_files numbers outside) (swept numbers state)
 

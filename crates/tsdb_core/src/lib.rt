@@ -12,6 +12,7 @@ mod commit;
 mod ending;
 mod engine;
 mod flushing;
+mod laws;
 mod listing;
 mod options;
 mod pins;

@@ -1,4 +1,4 @@
-use Rattle.tsdb_core.proofs.RowLemmas.{row_follows, tried_answer, untouched_follows}
+use Rattle.tsdb_core.proofs.RowLemmas.{row_follows, row_kept, tried_answer, untouched_follows}
 use Rattle.tsdb_core.proofs.RowMoments.{still_leaves}
 use Rattle.tsdb_logged.specs.Logged.{memory_of}
 use Rattle.tsdb_core.proofs.engine.Core.insert.Goals as goal
@@ -8,6 +8,10 @@ returns-in-Ok-clause-map g c = row_follows c.args.device.now c.args.row.now c.ar
     c.put_row.result
     (tried_answer (memory_of c.args.self.now.logged) c.args.device.now c.args.row.now c.in-Ok.cells c.put_row.result
     c.in-Ok.ensures.cells c.in-Ok.ensures.stamp c.put_row.ensures.tried) c.put_row.ensures.world
+
+pub returns-in-Ok-clause-kept : goal.returns-in-Ok-clause-kept
+returns-in-Ok-clause-kept g c = row_kept c.args.device.now c.args.row.now c.args.self.now c.put_row.new.self
+    c.put_row.result c.put_row.ensures.row
 
 pub returns-in-Err-clause-map : goal.returns-in-Err-clause-map
 returns-in-Err-clause-map g c = untouched_follows c.args.device.now c.args.row.now c.args.self.now c.in-Err.answer

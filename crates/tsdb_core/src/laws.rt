@@ -1,0 +1,60 @@
+//! The laws. A function here does nothing; its contract says a law: what a core keeps for jobs and pins that are out, it
+//! keeps until they end, so that their ends can be called. Depends on `engine`, tsdb_compactions, tsdb_jobs and
+//! tsdb_pinning.
+ghost use Rattle.std.specs.Prelude.{[], List};
+ghost use Rattle.tsdb_compactions.specs.Jobs.{IsCompactionOf};
+ghost use Rattle.tsdb_core.specs.Compactions.{IsHandedOut, IsJobOut, job_rights};
+ghost use Rattle.tsdb_core.specs.Core.{KeepsJobs, files_of};
+ghost use Rattle.tsdb_core.specs.Flushes.{HasNumbersOf, IsOut};
+ghost use Rattle.tsdb_core.specs.Loans.{KeepsLoans, LentRight};
+ghost use Rattle.tsdb_core.specs.Pins.{pin_rights};
+ghost use Rattle.tsdb_kept.specs.Places.{AreUnread};
+ghost use Rattle.tsdb_layers.specs.Lists.{Among, IsWithOne};
+ghost use Rattle.tsdb_pinning.specs.Pins.{AreColumnsHeld};
+ghost use Rattle.tsdb_state.specs.State as state;
+ghost use Rattle.tsdb_state.specs.State.{Compaction};
+
+use crate::engine::Core;
+use tsdb_compactions::Job;
+use tsdb_jobs::FlushJob;
+use tsdb_outside::{Files, Journal};
+use tsdb_pinning::Pin;
+
+/// Where no compaction and no right is out, what is kept for flushes is all.
+pub fn nothing_is_lent<J: Journal, F: Files>(_core: &Core<J, F>)
+    ensures { (flushes : List state.FlushJob) → KeepsJobs _core.now flushes [] → AreUnread (files_of _core.now).places
+        → KeepsLoans _core.now flushes [] [] }
+{}
+
+/// Where no job and no pin has a right, none is out: so the core can be closed.
+pub fn nothing_lent_is_unread<J: Journal, F: Files>(_core: &Core<J, F>)
+    ensures { (flushes : List state.FlushJob) (compactions : List Compaction) → KeepsLoans _core.now flushes compactions []
+        → AreUnread (files_of _core.now).places }
+{}
+
+/// A flush that is kept can be ended.
+pub fn a_kept_flush_is_out<J: Journal, F: Files>(_core: &Core<J, F>, _job: &FlushJob)
+    ensures { (flush : state.FlushJob) (others flushes : List state.FlushJob) (compactions : List Compaction)
+        (lent : List (List LentRight)) → HasNumbersOf _job.now flush → IsWithOne flush others flushes
+        → KeepsLoans _core.now flushes compactions lent → IsOut _core.now _job.now }
+{}
+
+/// Each job that a core hands out is one of a compaction.
+pub fn a_job_is_of_a_compaction<F: Files>(_job: &Job<F>)
+    ensures { IsHandedOut _job.now → (compaction : Compaction) × IsCompactionOf _job.now compaction }
+{}
+
+/// A compaction that is kept, with its rights, can be ended.
+pub fn a_kept_compaction_is_out<J: Journal, F: Files>(_core: &Core<J, F>, _job: &Job<F>)
+    ensures { (compaction : Compaction) (others compactions : List Compaction) (flushes : List state.FlushJob)
+        (lent : List (List LentRight)) → IsHandedOut _job.now → IsCompactionOf _job.now compaction
+        → IsWithOne compaction others compactions → Among (job_rights F.Right.file _job.now) lent
+        → KeepsLoans _core.now flushes compactions lent → IsJobOut F.Right.file _core.now _job.now }
+{}
+
+/// A pin whose rights are kept can be given back.
+pub fn a_kept_pin_is_held<J: Journal, F: Files>(_core: &Core<J, F>, _pin: &Pin<F>)
+    ensures { (flushes : List state.FlushJob) (compactions : List Compaction) (lent : List (List LentRight))
+        → Among (pin_rights F.Right.file _pin.now) lent → KeepsLoans _core.now flushes compactions lent
+        → AreColumnsHeld F.Right.file (files_of _core.now) _pin.now.columns }
+{}
