@@ -1,6 +1,6 @@
 -- The inputs of compactions that are out stand in the lists, whatever else is done with these.
-use Rattle.std.proofs.Common.{◌≡◌, ◌≢◌, ◌⊎◌, ℕ, ◌+◌, ◌-◌, ◌≤◌, ◌==◌, Bool, true, false, cond, List, [], ◌∷◌, ◌++◌, drop}
-use Rattle.std.proofs.Common.{length, map, take, Option, None, Some, inl, inr, ⊎_elim, ap, append_assoc, arith, length-append}
+use Rattle.std.proofs.Common.{◌≡◌, ℕ, ◌+◌, ◌-◌, ◌≤◌, Bool, true, false, cond, List, [], ◌∷◌, ◌++◌, drop}
+use Rattle.std.proofs.Common.{length, map, take, Option, inl, inr, ⊎_elim, ap, append_assoc, arith, length-append}
 use Rattle.std.proofs.Common.{refl, sym, subst, ◌∙◌}
 use Rattle.std.proofs.lemmas.Bool.{false≢true}
 use Rattle.std.proofs.lemmas.List.{drop-map, drop_at, length-map, length-take-le, map-append, take-map, take_at}
@@ -11,7 +11,6 @@ use Rattle.tsdb_base.specs.declared.ids.FileNumber.{FileNumber}
 use Rattle.tsdb_base.specs.declared.ids.Space.{Space}
 use Rattle.tsdb_base.specs.declared.ids.Space.TheVariants.{Sequence, Unsequence}
 use Rattle.tsdb_compacting.proofs.InState.{counted_among}
-use Rattle.tsdb_compacting.proofs.Out.{plain_is}
 use Rattle.tsdb_compacting.specs.Finishing.{IsRunOf, StandInSequence}
 use Rattle.tsdb_compactions.specs.Jobs.{plain_numbers}
 use Rattle.tsdb_core.specs.Loans.{AreApart, KeepsInputs, StandClaimed, StandFrom, StandsIn}
@@ -19,8 +18,8 @@ use Rattle.tsdb_core.specs.Replacements.{without_claim}
 use Rattle.tsdb_kept.proofs.Replaced.{run_parts}
 use Rattle.tsdb_kept.specs.Files.{KeptFiles, entry_numbers}
 use Rattle.tsdb_kept.specs.Replacing.{IsWithin, claim_run, output_in, replace_run, with_claim}
-use Rattle.tsdb_layers.proofs.Lists.{among_left, among_map, among_right, count_append, each_all, each_among, each_both}
-use Rattle.tsdb_layers.proofs.Lists.{each_from_among, each_map, each_weaker, runs_apart}
+use Rattle.tsdb_layers.proofs.Lists.{among_left, among_map, among_right, each_all, each_among, each_both}
+use Rattle.tsdb_layers.proofs.Lists.{each_map, each_weaker, runs_apart}
 use Rattle.tsdb_layers.proofs.Lists.{with_one_apart, with_one_each, with_one_pairs}
 use Rattle.tsdb_layers.specs.Lists.{Among, EachPair, IsRun, IsWithOne, count, if_some}
 use Rattle.tsdb_plan.specs.declared.entry.FileEntry.{FileEntry}

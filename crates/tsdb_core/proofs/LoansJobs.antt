@@ -1,13 +1,12 @@
 -- What a core keeps for jobs and pins that are out, as a compaction begins and as it ends.
-use Rattle.std.proofs.Common.{◌≡◌, ◌≢◌, ◌==◌, ◌++◌, ℕ, ◌-◌, Bool, true, false, List, [], ◌∷◌, drop, length, map, take, Option}
+use Rattle.std.proofs.Common.{◌≡◌, ◌≢◌, ◌==◌, ◌++◌, ℕ, ◌-◌, Bool, true, false, List, [], ◌∷◌, drop, map, take, Option}
 use Rattle.std.proofs.Common.{None, Some, Result, Ok, Err, inl, inr, ap, arith, refl, sym, subst, ◌∙◌}
 use Rattle.std.proofs.lemmas.Bool.{false≢true}
 use Rattle.std.proofs.lemmas.List.Elements.{recursion_from_All}
 use Rattle.std.specs.Cmp.{unsigned_Decides}
 use Rattle.std.specs.List.{AllByRecursion as Each}
-use Rattle.std.specs.Option.{IsSomeAnd, option_map}
+use Rattle.std.specs.Option.{option_map}
 use Rattle.std.specs.Prelude.{IfSome, slice_range}
-use Rattle.tsdb_base.specs.declared.ids.FileNumber.{FileNumber}
 use Rattle.tsdb_base.specs.declared.ids.Space.{Space}
 use Rattle.tsdb_base.specs.declared.ids.Space.TheVariants.{Sequence, Unsequence}
 use Rattle.tsdb_compacting.proofs.Given.{once_late}
@@ -15,7 +14,7 @@ use Rattle.tsdb_compacting.proofs.InState.{OthersGiveRights, file_changed}
 use Rattle.tsdb_compacting.proofs.Out.{plain_is}
 use Rattle.tsdb_compacting.specs.Ending.{GivesUp}
 use Rattle.tsdb_compacting.specs.Finishing.{AreRunsOf, Finishes, StandInSequence}
-use Rattle.tsdb_compacting.specs.Inputs.{AreHeld, IsHeld, input_numbers}
+use Rattle.tsdb_compacting.specs.Inputs.{AreHeld, input_numbers}
 use Rattle.tsdb_compacting.specs.declared.finishing.InputRuns.{InputRuns}
 use Rattle.tsdb_committing.specs.Files.{NewFile}
 use Rattle.tsdb_compactions.specs.Jobs.{IsCompactionOf, IsFormed, input_file, plain_numbers}
@@ -26,7 +25,7 @@ use Rattle.tsdb_core.proofs.LoansInputs.{free_apart, from_stands, inputs_left, l
 use Rattle.tsdb_core.proofs.LoansInputs.{sequence_beside}
 use Rattle.tsdb_core.proofs.LoansRights.{IsNamedIn, fewer_counted, no_right_on, none_of_others, rights_given}
 use Rattle.tsdb_core.proofs.LoansRights.{rights_taken}
-use Rattle.tsdb_core.specs.Beginnings.{ArePlanned, claimed_by, no_files}
+use Rattle.tsdb_core.specs.Beginnings.{ArePlanned, claimed_by}
 use Rattle.tsdb_core.specs.Compactions.{AreOnInputs, job_rights}
 use Rattle.tsdb_core.specs.Core.{files_of, is_sequence_claimed}
 use Rattle.tsdb_core.specs.Loans.{AreApart, AreRightsKept, KeepsInputs, LentRight, StandClaimed, StandFrom, StandsIn}
@@ -46,7 +45,6 @@ use Rattle.tsdb_outside.specs.declared.faults.Failed.{Failed}
 use Rattle.tsdb_pinning.specs.Changes.{fewer_rights, more_rights}
 use Rattle.tsdb_plan.specs.declared.entry.FileEntry.{FileEntry}
 use Rattle.tsdb_plan.specs.declared.entry.Run.{Run}
-use Rattle.tsdb_state.specs.Plans.{IsSequenceFree}
 use Rattle.tsdb_state.specs.Records.{numbers_of}
 use Rattle.tsdb_state.specs.State.{Compaction}
 

@@ -1,10 +1,9 @@
 -- A flush, a compaction or a pin that is among those for which a core keeps is out, as its end asks for it.
-use Rattle.std.proofs.Common.{◌≡◌, ◌≢◌, ℕ, ◌+◌, ◌<◌, ◌≤◌, List, [], ◌∷◌, ◌++◌, length, map, Option, None, Some}
+use Rattle.std.proofs.Common.{◌≡◌, ◌≢◌, ℕ, ◌≤◌, List, [], ◌∷◌, ◌++◌, length, map}
 use Rattle.std.proofs.Common.{ap, arith, drop, refl, sym, subst, take, ◌∙◌}
 use Rattle.std.proofs.Math.Seq.{drop-append_seam, take-append_seam}
 use Rattle.std.proofs.lemmas.List.{drop-map, length-map, map-append, take-append-drop, take-map}
 use Rattle.std.specs.List.{AllByRecursion as Each, flat_map}
-use Rattle.std.specs.Prelude.{IfSome}
 use Rattle.tsdb_base.specs.declared.ids.FileNumber.{FileNumber}
 use Rattle.tsdb_base.specs.declared.ids.Space.{Space}
 use Rattle.tsdb_base.specs.declared.ids.Space.TheVariants.{Sequence, Unsequence}
@@ -18,7 +17,7 @@ use Rattle.tsdb_core.proofs.Jobs.{one_of}
 use Rattle.tsdb_core.proofs.Loans.{right_named}
 use Rattle.tsdb_core.proofs.LoansInputs.{stands_from}
 use Rattle.tsdb_core.proofs.LoansRights.{IsNamedIn, named_of}
-use Rattle.tsdb_core.specs.Compactions.{IsHandedOut, IsJobKept, IsJobOut, job_rights}
+use Rattle.tsdb_core.specs.Compactions.{IsHandedOut, IsJobOut, job_rights}
 use Rattle.tsdb_core.specs.Core.{KeepsJobs, files_of}
 use Rattle.tsdb_core.specs.Flushes.{HasNumbersOf, IsOut}
 use Rattle.tsdb_core.specs.Loans.{KeepsLoans, LentRight, StandClaimed, StandFrom, StandsIn}

@@ -1,6 +1,6 @@
 -- The files of rights that are out stay kept, under their names.
-use Rattle.std.proofs.Common.{◌≡◌, ℕ, ◌+◌, ◌-◌, ◌≤◌, ◌==◌, Bool, true, false, not, zero, suc, cond, List, [], ◌∷◌, ◌++◌, map, Option}
-use Rattle.std.proofs.Common.{None, Some, inl, inr, ap, arith, refl, sym, subst, ◌∙◌, nat_eq}
+use Rattle.std.proofs.Common.{◌≡◌, ℕ, ◌+◌, ◌≤◌, ◌==◌, Bool, true, false, not, cond, List, [], ◌∷◌, ◌++◌, Option}
+use Rattle.std.proofs.Common.{None, Some, ap, arith, refl, sym, subst, ◌∙◌, nat_eq}
 use Rattle.std.proofs.lemmas.Bool.{eq-eqb, eqb-true, false≢true}
 use Rattle.std.proofs.lemmas.List.{map-append}
 use Rattle.std.specs.Cmp.{unsigned_Decides}

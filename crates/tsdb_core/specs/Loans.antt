@@ -1,5 +1,5 @@
 -- What a core keeps for the jobs and the pins that are out, whatever is told.
-use Rattle.std.specs.Prelude.{◌≡◌, ℕ, Bool, true, false, List, [], ◌∷◌, length, map, IfSome}
+use Rattle.std.specs.Prelude.{◌≡◌, ℕ, Bool, true, false, List, [], length, map, IfSome}
 use Rattle.std.specs.List.{AllByRecursion as Each, flat_map}
 use Rattle.std.specs.Option.{IsSomeAnd}
 use Rattle.tsdb_base.specs.declared.ids.Space.{Space}

@@ -1,13 +1,13 @@
-//! The laws. A function here does nothing; its contract says a law: what a core keeps for jobs and pins that are out, it
+//! The laws. A function here does nothing; its contract says a law. What a core keeps for jobs and pins that are out, it
 //! keeps until they end, so that their ends can be called. Depends on `engine`, tsdb_compactions, tsdb_jobs and
 //! tsdb_pinning.
 ghost use Rattle.std.specs.Prelude.{[], List};
 ghost use Rattle.tsdb_compactions.specs.Jobs.{IsCompactionOf};
-ghost use Rattle.tsdb_core.specs.Compactions.{IsHandedOut, IsJobOut, job_rights};
+ghost use Rattle.tsdb_core.specs.Compactions.{AreOnInputs, IsHandedOut, IsJobOut, job_rights};
 ghost use Rattle.tsdb_core.specs.Core.{KeepsJobs, files_of};
 ghost use Rattle.tsdb_core.specs.Flushes.{HasNumbersOf, IsOut};
 ghost use Rattle.tsdb_core.specs.Loans.{KeepsLoans, LentRight};
-ghost use Rattle.tsdb_core.specs.Pins.{pin_rights};
+ghost use Rattle.tsdb_core.specs.Pins.{AreOnColumns, pin_rights};
 ghost use Rattle.tsdb_kept.specs.Places.{AreUnread};
 ghost use Rattle.tsdb_layers.specs.Lists.{Among, IsWithOne};
 ghost use Rattle.tsdb_pinning.specs.Pins.{AreColumnsHeld};
@@ -28,8 +28,8 @@ pub fn nothing_is_lent<J: Journal, F: Files>(_core: &Core<J, F>)
 
 /// Where no job and no pin has a right, none is out: so the core can be closed.
 pub fn nothing_lent_is_unread<J: Journal, F: Files>(_core: &Core<J, F>)
-    ensures { (flushes : List state.FlushJob) (compactions : List Compaction) → KeepsLoans _core.now flushes compactions []
-        → AreUnread (files_of _core.now).places }
+    ensures { (flushes : List state.FlushJob) (compactions : List Compaction)
+        → KeepsLoans _core.now flushes compactions [] → AreUnread (files_of _core.now).places }
 {}
 
 /// A flush that is kept can be ended.
@@ -39,9 +39,10 @@ pub fn a_kept_flush_is_out<J: Journal, F: Files>(_core: &Core<J, F>, _job: &Flus
         → KeepsLoans _core.now flushes compactions lent → IsOut _core.now _job.now }
 {}
 
-/// Each job that a core hands out is one of a compaction.
+/// Each job that a core hands out is one of a compaction, and has a right on each of its inputs.
 pub fn a_job_is_of_a_compaction<F: Files>(_job: &Job<F>)
-    ensures { IsHandedOut _job.now → (compaction : Compaction) × IsCompactionOf _job.now compaction }
+    ensures compaction { IsHandedOut _job.now → (compaction : Compaction) × IsCompactionOf _job.now compaction }
+    ensures rights { AreOnInputs _job.now (job_rights F.Right.file _job.now) }
 {}
 
 /// A compaction that is kept, with its rights, can be ended.
@@ -52,9 +53,10 @@ pub fn a_kept_compaction_is_out<J: Journal, F: Files>(_core: &Core<J, F>, _job: 
         → KeepsLoans _core.now flushes compactions lent → IsJobOut F.Right.file _core.now _job.now }
 {}
 
-/// A pin whose rights are kept can be given back.
+/// A pin has the rights that it gives back; where they are kept it can be given back.
 pub fn a_kept_pin_is_held<J: Journal, F: Files>(_core: &Core<J, F>, _pin: &Pin<F>)
-    ensures { (flushes : List state.FlushJob) (compactions : List Compaction) (lent : List (List LentRight))
+    ensures rights { AreOnColumns _pin.now (pin_rights F.Right.file _pin.now) }
+    ensures held { (flushes : List state.FlushJob) (compactions : List Compaction) (lent : List (List LentRight))
         → Among (pin_rights F.Right.file _pin.now) lent → KeepsLoans _core.now flushes compactions lent
         → AreColumnsHeld F.Right.file (files_of _core.now) _pin.now.columns }
 {}
