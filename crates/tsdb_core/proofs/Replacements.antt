@@ -369,6 +369,8 @@ module _ {J F S R P : Type 0} {means : disk.Ghosts J} {counts : counted.Ghosts J
           commits_in old logged kept job (made_of sealed built) name job_out are_kept appends.replaced.room outside
           engine compaction others made.0 seen is out made.1 runs stand
           (no_output_in name sealed rights job outside.told compaction is tells built of) outcome appends up;
+      frozen = appends.replaced.frozen;
+      working = appends.replaced.working;
       memory = appends.replaced.memory;
       slot = appends.replaced.slot;
       cause = appends.replaced.cause;

@@ -16,6 +16,7 @@ use Rattle.tsdb_compactions.specs.Outputs.{TellsInputs}
 use Rattle.tsdb_compactions.specs.declared.job.Job.{Job}
 use Rattle.tsdb_core.specs.Compactions.{AreOnInputs}
 use Rattle.tsdb_core.specs.Core.{IsSeen, KeepsJobs, files_of, is_sequence_claimed, limit_of, logged_of, next_of}
+use Rattle.tsdb_core.specs.Core.{working_of}
 use Rattle.tsdb_core.specs.Loans.{KeepsLoans, LentRight}
 use Rattle.tsdb_core.specs.Worlds.{IsWorldOf}
 use Rattle.tsdb_core.specs.declared.engine.Core.{Core}
@@ -157,6 +158,8 @@ module _ {J F S R P : Type 0} {means : disk.Ghosts J} {counts : counted.Ghosts J
         → IsSeen old outside engine → IsCompactionOf job compaction → IsWithOne compaction others engine.compactions
         → TellsInputs name outside.told job → TellsNew file
         → CommitsIn old new outside engine compaction others file outcome
+    pub frozen : (memory_of (logged_of new)).frozen ≡ (memory_of (logged_of old)).frozen
+    pub working : working_of new ≡ working_of old
     pub memory : OnErr outcome (memory_of (logged_of new) ≡ memory_of (logged_of old))
     pub slot : slot_of (log_of (logged_of new)) ≡ slot_of (log_of (logged_of old))
     pub cause : HasCause (faults_of (log_of (logged_of old))) (faults_of (log_of (logged_of new))) outcome

@@ -62,6 +62,8 @@ module _ {J : Type 0} {means : disk.Ghosts J} {counts : counted.Ghosts J} where
         (output : List File) (place : ℕ)
         → IsSound old outside state → CanReplace item listed outside state job others output place
         → LeavesStates old new outside state item
+    pub frozen : (memory_of new).frozen ≡ (memory_of old).frozen
+    pub working : (memory_of new).working ≡ (memory_of old).working
     pub room : room_of old ≤ room_of new
     pub slot : slot_of (log_of new) ≡ slot_of (log_of old)
     pub cause : HasCause (faults_of (log_of old)) (faults_of (log_of new)) outcome

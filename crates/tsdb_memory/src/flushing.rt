@@ -28,6 +28,8 @@ impl MemoryStore {
     /// Files were replaced: the marks that cover nothing go; `listed` is the least stamp at which a file was frozen that
     /// is listed now. It takes no memory.
     pub fn finish_replaced(&mut self, listed: Option<Stamp>)
+        ensures frozen { self.new.frozen ≡ self.old.frozen }
+        ensures working { self.new.working ≡ self.old.working }
         ensures effect { (state : StoreState) (item : Replacement) → IsMemoryOf self.old state
             → IsLeastOf listed (file_borns (replaced item state))
             → IsMemoryOf self.new (replaced item state) }

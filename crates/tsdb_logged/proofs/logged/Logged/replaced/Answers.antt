@@ -1,9 +1,10 @@
-use Rattle.std.proofs.Common.{Err, Ok, subst, sym}
+use Rattle.std.proofs.Common.{◌∙◌, Err, Ok, ap, subst, sym}
 use Rattle.tsdb_logged.proofs.Commanding.{other_memory}
 use Rattle.tsdb_logged.proofs.Replacements.{few_parts, fits_frame, has_room, replaced_done, replaced_faulted}
 use Rattle.tsdb_logged.proofs.Replacements.{replaced_moments}
 use Rattle.tsdb_logged.specs.Appends.{IsAppended}
 use Rattle.tsdb_memory.specs.Shown.{IsMemoryOf}
+use Rattle.tsdb_memory.specs.Store.{Store}
 use Rattle.tsdb_logged.proofs.logged.Logged.replaced.Goals as goal
 
 pub append-requires-clause-few : goal.append-requires-clause-few
@@ -28,6 +29,8 @@ returns-in-Ok-Err g c =
       moments = λ outside state job others output place sound can. replaced_moments c.args.self.now c.append.new.self
           c.args.item.now c.args.listed c.in-Ok-Err.ensures.record outside state job others output place sound can
           (Err c.in-Ok-Err.failed) append;
+      frozen = ap (λ (s : Store). s.frozen) c.in-Ok-Err.ensures.memory;
+      working = ap (λ (s : Store). s.working) c.in-Ok-Err.ensures.memory;
       room = c.in-Ok-Err.ensures.capacity;
       slot = append.slot;
       cause = append.cause;
@@ -49,6 +52,8 @@ returns g c =
       moments = λ outside state job others output place sound can. replaced_moments c.args.self.now
           (record c.append.new.self { memory = c.finish_replaced.new.self }) c.args.item.now c.args.listed
           c.in-Ok-Ok.ensures.record outside state job others output place sound can (Ok tt) append;
+      frozen = c.finish_replaced.ensures.frozen ∙ ap (λ (s : Store). s.frozen) c.in-Ok-Ok.ensures.memory;
+      working = c.finish_replaced.ensures.working ∙ ap (λ (s : Store). s.working) c.in-Ok-Ok.ensures.memory;
       room = c.in-Ok-Ok.ensures.capacity;
       slot = append.slot;
       cause = append.cause;

@@ -11,6 +11,8 @@ use Rattle.tsdb_memory.proofs.store.MemoryStore.finish_replaced.Goals as goal
 
 pub returns : goal.returns
 returns c = record {
+  frozen = ap (λ (s : value.Store). s.frozen) c.self.view_is;
+  working = ap (λ (s : value.Store). s.working) c.self.view_is;
   effect = λ state item is low.
       let old = c.self.inside in
       replaced_shown (store_in old) c.purge.new.self c.args.listed state item
