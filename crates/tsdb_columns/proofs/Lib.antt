@@ -20,3 +20,4 @@ pub mod SoundViews
 pub mod OpenParted
 pub mod CountFacts
 pub mod DueFacts
+pub mod Trees

@@ -1,7 +1,6 @@
 pub mod Lists
 pub mod Putting
 pub mod Copied
-pub mod Trees
 pub mod Told
 pub mod Sources
 pub mod Series

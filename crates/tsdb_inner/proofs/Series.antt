@@ -6,6 +6,7 @@ use Rattle.std.proofs.lemmas.List.Elements.{All-from_recursion, recursion_from_A
 use Rattle.tsdb_base.specs.Values.{type_of}
 use Rattle.tsdb_base.specs.declared.point.Point.{Point}
 use Rattle.tsdb_columns.proofs.OpenedFacts.{zip_all}
+use Rattle.tsdb_columns.proofs.Trees.{among_of, one_alone}
 use Rattle.tsdb_columns.specs.Files.{FilePages, HasReason}
 use Rattle.tsdb_columns.specs.Lanes.{IsSourceOf}
 use Rattle.tsdb_columns.specs.Streams.{AreToldSources, AreTrueSources}
@@ -19,7 +20,6 @@ use Rattle.tsdb_engine.specs.declared.part.Part.{Part}
 use Rattle.tsdb_index.proofs.Found.{not_itself}
 use Rattle.tsdb_index.specs.Entries.{IsBefore}
 use Rattle.tsdb_inner.proofs.Sources.{all_survivors, owns, pages_of, told_sources, true_sources}
-use Rattle.tsdb_inner.proofs.Trees.{among_of, one_alone}
 use Rattle.tsdb_inner.specs.Copies.{Copies, AreDamaged, Survive}
 use Rattle.tsdb_inner.specs.Inputs.{IsInputOf, IsLentAs, TellsBytes}
 use Rattle.tsdb_inner.specs.Winners.{AreWinners, CopiesSeries}

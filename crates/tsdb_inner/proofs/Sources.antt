@@ -10,6 +10,7 @@ use Rattle.std.proofs.lemmas.List.Elements.{All-cons, All-from_recursion, All-ni
 use Rattle.std.proofs.lemmas.List.Kept.{AllPairs-filter}
 use Rattle.tsdb_base.specs.declared.point.Point.{Point}
 use Rattle.tsdb_columns.proofs.OpenedFacts.{zip_all}
+use Rattle.tsdb_columns.proofs.Trees.{among_of, contains_of}
 use Rattle.tsdb_columns.specs.Files.{FilePages, HasPages, IsTold, IsTruth}
 use Rattle.tsdb_columns.specs.Kept.{is_kept}
 use Rattle.tsdb_columns.specs.Lanes.{IsToldSource, IsTrueSource, source_left}
@@ -19,7 +20,6 @@ use Rattle.tsdb_compactions.specs.Jobs.{input_file}
 use Rattle.tsdb_compactions.specs.Outputs.{IsOneTold, IsRead}
 use Rattle.tsdb_compactions.specs.declared.job.Input.{Input}
 use Rattle.tsdb_inner.proofs.Told.{HasList, has_list}
-use Rattle.tsdb_inner.proofs.Trees.{among_of, contains_of}
 use Rattle.tsdb_inner.specs.Copies.{all_times}
 use Rattle.tsdb_inner.specs.Inputs.{IsLentAs, TellsBytes}
 use Rattle.tsdb_layers.proofs.Lists.{each_both}

@@ -8,9 +8,9 @@ use Rattle.std.proofs.lemmas.Int.{ints}
 use Rattle.std.proofs.lemmas.List.Elements.{recursion_from_All}
 use Rattle.tsdb_base.specs.declared.point.Point.{Point}
 use Rattle.tsdb_base.specs.declared.value.Value.{Value}
+use Rattle.tsdb_columns.proofs.Trees.{At, Listed, listed_pages, one_chunk, pages_of}
 use Rattle.tsdb_columns.specs.Files.{ArePagesIn, HasPages}
 use Rattle.tsdb_inner.proofs.Putting.{none_rise}
-use Rattle.tsdb_inner.proofs.Trees.{At, Listed, listed_pages, one_chunk, pages_of}
 use Rattle.tsdb_inner.specs.Copies.{all_times}
 use Rattle.tsdb_layers.proofs.Lists.{among_left, among_right, each_among}
 use Rattle.tsdb_layers.specs.Lists.{Among}

@@ -1,4 +1,3 @@
-pub mod Trees
 pub mod Telling
 pub mod Pinned
 pub mod Untold

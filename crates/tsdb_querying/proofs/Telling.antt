@@ -6,6 +6,7 @@ use Rattle.std.specs.List.{AllByRecursion as Each, AllZip}
 use Rattle.std.proofs.lemmas.Bool.{eqb-true, false≢true}
 use Rattle.tsdb_base.specs.declared.point.Point.{Point}
 use Rattle.tsdb_base.specs.declared.point.Range.{Range}
+use Rattle.tsdb_columns.proofs.Trees.{Listed, listed_pages}
 use Rattle.tsdb_columns.specs.Files.{HasPages}
 use Rattle.tsdb_held.specs.Held.{TellTheirBytes}
 use Rattle.tsdb_images.specs.Stored.{IsKept, kept_bytes}
@@ -25,7 +26,6 @@ use Rattle.tsdb_pinning.specs.declared.pin.PinnedSource.{PinnedSource}
 use Rattle.tsdb_pinning.specs.declared.pin.PinnedSource.TheVariants as pinned
 use Rattle.tsdb_pins.proofs.Told.{told_points}
 use Rattle.tsdb_pins.specs.Reading.{AreColumnsTold, AreColumnsTrue, HaveNodes, IsToldIn, IsTrueIn, TellPoints, TellsPoints}
-use Rattle.tsdb_querying.proofs.Trees.{Listed, listed_pages}
 use Rattle.tsdb_sources.specs.Pieces.{joined}
 use Rattle.tsdb_state.specs.Records.{numbers_of}
 use Rattle.tsdb_state.specs.State as state
