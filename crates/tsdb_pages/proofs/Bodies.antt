@@ -139,14 +139,15 @@ no_rise data_type encoding suits bytes times values ts vs short found in_times i
     none (subst IsRising (points_same points pairs (same.0 ∙ sym of_times) (same.1 ∙ sym of_values)) is.points-are.rising)
 
 -- the points of the times and values that were found are a page with this body
-pub is_body : (data_type : DataType) (encoding : Encoding) (bytes times values : List ℕ) (ts : List ℤ) (vs : List Value) → bytes ≡ number32 (length times) ++ times ++ values
+pub is_body : (data_type : DataType) (encoding : Encoding) → is_suitable data_type encoding ≡ true → (bytes times values : List ℕ) (ts : List ℤ) (vs : List Value) → bytes ≡ number32 (length times) ++ times ++ values
     → IsSpelling ts2diff.spelling (FitsSigned w64) times ts → IsSpelling (spelling encoding) (IsValueOf data_type) values vs
     → (pairs : List Point) → times_of pairs ≡ ts → values_of pairs ≡ vs → 0 < length ts → IsRising pairs → IsBody data_type encoding bytes pairs
-is_body data_type encoding bytes times values ts vs found in_times in_values pairs of_times of_values some rising =
+is_body data_type encoding suits bytes times values ts vs found in_times in_values pairs of_times of_values some rising =
     let n : length pairs ≡ length ts = sym (length-map pairs (λ (p : Point). p.time)) ∙ ap length of_times in
     let fit : All (FitsSigned w64) (times_of pairs) = subst (λ l. All (FitsSigned w64) l) (sym of_times) in_times.list.typed in
     let typed : All (IsValueOf data_type) (values_of pairs) = subst (λ l. All (IsValueOf data_type) l) (sym of_values) in_values.list.typed in
     record {
+      suits = suits;
       points-are = record {
         some = subst (λ k. 0 < k) (sym n) some;
         few = subst (λ k. k ≤ max_values) (sym n) in_times.list.few;

@@ -11,7 +11,7 @@ use crate::fault::PageFault;
 use crate::rising::is_rising;
 use enc_values::{decode, encode_into};
 use std::alloc::Global;
-use tsdb_base::{DataType, Encoding, Memory, Point, Time, Value};
+use tsdb_base::{DataType, Encoding, Memory, Point, Time, Value, suits};
 
 /// How many bytes the length of the times has.
 const LENGTH_BYTES: usize = 4;
@@ -87,18 +87,20 @@ fn join(alloc: Global, times: Vec<Time>, values: Vec<Value>) -> Result<Vec<Point
     Ok(points)
 }
 
-/// The points of the page with this body, of a type and in an encoding that suits it. It is `Bad` exactly where no page
-/// of 1 to 1,000 points of the type in order of time has the body.
+/// The points of the page with this body. It is `Bad` exactly where no page of 1 to 1,000 points of the type in order of
+/// time has the body, so also where the encoding does not suit the type.
 pub fn read_page(
     alloc: Global,
     body: &[u8],
     data_type: DataType,
     encoding: Encoding,
 ) -> Result<Vec<Point>, PageFault>
-    requires suits { is_suitable data_type encoding ≡ true }
     ensures found { IfOk result (λ points. IsBody data_type encoding body.now points.items) }
     ensures bad { IsErrOf result PageFault.Bad → IsNoBody data_type encoding body.now }
 {
+    if !suits(data_type, encoding) {
+        return Err(PageFault::Bad);
+    }
     let (times, values) = split(body)?;
     let times = enc_ts2diff::decode_i64(alloc, times)?;
     let values = decode(alloc, data_type, encoding, values)?;

@@ -59,7 +59,7 @@ one_page_first t e suits xs ys x y in_x in_y same =
     let inner : number32 (length (body e xs)) ++ body e xs ++ x ≡ number32 (length (body e ys)) ++ body e ys ++ y =
     tail_same 80 (number32 (length (body e xs)) ++ body e xs ++ x) (number32 (length (body e ys)) ++ body e ys ++ y) same in
     let bodies = parts_same (body e xs) (body e ys) x y (body_is_short t e suits xs in_x.0 in_x.1) (body_is_short t e suits ys in_y.0 in_y.1) inner in
-    one_body t e suits (body e ys) xs ys (record { points-are = in_x.0; ranges = in_x.1; bytes-are = sym bodies.0 }) (record { points-are = in_y.0; ranges = in_y.1; bytes-are = refl })
+    one_body t e suits (body e ys) xs ys (record { suits = suits; points-are = in_x.0; ranges = in_x.1; bytes-are = sym bodies.0 }) (record { suits = suits; points-are = in_y.0; ranges = in_y.1; bytes-are = refl })
 
 pub first_of : (points : List Point) (p : Point) → 0 < length points → p ≡ get_or points 0 p → (others : List Point) × (points ≡ p ∷ others)
 first_of [] p some is = absurd (omega (arith, some))

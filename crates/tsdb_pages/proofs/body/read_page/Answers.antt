@@ -1,11 +1,18 @@
-use Rattle.std.proofs.Common.{◌≡◌, Err, ap, arith, rules}
+use Rattle.std.proofs.Common.{◌≡◌, ◌∙◌, Err, ap, arith, false, rules, sym}
+use Rattle.std.proofs.lemmas.Bool.{false≢true}
 use Rattle.std.proofs.lemmas.Result.{err_from_is_err_and}
+use Rattle.tsdb_base.specs.Values.{is_suitable}
 use Rattle.tsdb_pages.specs.declared.fault.PageFault.TheVariants as page
 use Rattle.tsdb_pages.specs.Pages.{times_field, values_of}
 use Rattle.enc_values.specs.Spelling.{spelling}
 use Rattle.tsdb_pages.proofs.Bodies.{bad_there, no_rise, is_body, no_times, no_values, short_times, no_pairing}
 use Rattle.tsdb_pages.proofs.body.read_page.Goals as goal
 use Rattle.tsdb_pages.proofs.body.read_page.Goals.{then-is_empty-via-then-is_empty, then-is_empty-via-else-is_empty+then-len}
+
+pub returns-then-not-suits-clause-bad : goal.returns-then-not-suits-clause-bad
+returns-then-not-suits-clause-bad c = λ is_bad points is.
+    let unfit : is_suitable c.args.data_type c.args.encoding ≡ false = search rules in
+    false≢true (sym unfit ∙ is.suits)
 
 pub returns-in_err-times-clause-bad : goal.returns-in_err-times-clause-bad
 returns-in_err-times-clause-bad c = λ is_bad points is.
@@ -32,15 +39,15 @@ returns-in_err-values-clause-bad c = λ is_bad.
 
 pub returns-then-is_empty-clause-bad : goal.returns-then-is_empty-clause-bad
 returns-then-is_empty-clause-bad c = λ is_bad.
-    no_pairing c.args.data_type c.args.encoding c.requires.suits c.args.body.now c.in_ok-times.times.now c.in_ok-times.values.now c.in_ok-times-2.times.items c.in_ok-values.values.items (search rules) (search rules) c.in_ok-times-2.ensures.found c.in_ok-values.ensures.found
+    no_pairing c.args.data_type c.args.encoding (search rules) c.args.body.now c.in_ok-times.times.now c.in_ok-times.values.now c.in_ok-times-2.times.items c.in_ok-values.values.items (search rules) (search rules) c.in_ok-times-2.ensures.found c.in_ok-values.ensures.found
     (λ some same. elim c.then-is_empty.branch [ then-is_empty-via-then-is_empty w ↦ grind (arith, some) | then-is_empty-via-else-is_empty+then-len w ↦ grind (arith, same) ])
 
 pub returns-then-not-is_rising-clause-bad : goal.returns-then-not-is_rising-clause-bad
 returns-then-not-is_rising-clause-bad c = λ is_bad.
-    no_rise c.args.data_type c.args.encoding c.requires.suits c.args.body.now c.in_ok-times.times.now c.in_ok-times.values.now c.in_ok-times-2.times.items c.in_ok-values.values.items (search rules) (search rules) c.in_ok-times-2.ensures.found c.in_ok-values.ensures.found
+    no_rise c.args.data_type c.args.encoding (search rules) c.args.body.now c.in_ok-times.times.now c.in_ok-times.values.now c.in_ok-times-2.times.items c.in_ok-values.values.items (search rules) (search rules) c.in_ok-times-2.ensures.found c.in_ok-values.ensures.found
     c.in_ok-points.points.items c.in_ok-points.ensures.times c.in_ok-points.ensures.values (λ rising. search (rules, rising))
 
 pub returns-clause-found : goal.returns-clause-found
 returns-clause-found c =
-    is_body c.args.data_type c.args.encoding c.args.body.now c.in_ok-times.times.now c.in_ok-times.values.now c.in_ok-times-2.times.items c.in_ok-values.values.items (search rules) c.in_ok-times-2.ensures.found c.in_ok-values.ensures.found
+    is_body c.args.data_type c.args.encoding (search rules) c.args.body.now c.in_ok-times.times.now c.in_ok-times.values.now c.in_ok-times-2.times.items c.in_ok-values.values.items (search rules) c.in_ok-times-2.ensures.found c.in_ok-values.ensures.found
     c.in_ok-points.points.items c.in_ok-points.ensures.times c.in_ok-points.ensures.values (grind arith) (search rules)
