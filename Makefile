@@ -23,12 +23,13 @@ build:
 bench: build
 	@echo 'Proving and building the program tsdb_bench ...' >&2
 	@cd crates/tsdb_bench && rt run -- quick >&2
-	@[ "$(GROUP)" = scripts ] || [ "$(GROUP)" = durable ] || [ "$(GROUP)" = compactions ] || [ "$(GROUP)" = queries ] \
-	    || crates/tsdb_bench/out/tsdb_bench $(GROUP)
+	@case " scripts durable compactions queries sizes " in *" $(or $(GROUP),none) "*) ;; \
+	    *) crates/tsdb_bench/out/tsdb_bench $(GROUP);; esac
 	@[ -n "$(GROUP)" ] && [ "$(GROUP)" != scripts ] || bench/scripts.py bin/tsdb
 	@[ -n "$(GROUP)" ] && [ "$(GROUP)" != durable ] || bench/durable.py bin/tsdb
 	@[ -n "$(GROUP)" ] && [ "$(GROUP)" != compactions ] || bench/compactions.py bin/tsdb
 	@[ -n "$(GROUP)" ] && [ "$(GROUP)" != queries ] || bench/queries.py bin/tsdb
+	@[ -n "$(GROUP)" ] && [ "$(GROUP)" != sizes ] || bench/sizes.py bin/tsdb
 
 check-disk: build
 	@checks/kill bin/tsdb
