@@ -1,11 +1,16 @@
-//! Tests of tsdb_stats, tsdb_fields and of finding an entry in a file, by their public items alone. The library itself
-//! is empty. Depends on the crates of files, tsdb_base, tsdb_path, tsdb_outside and mem_outside.
+//! Tests of the parts of files: tsdb_stats, tsdb_fields, tsdb_index and tsdb_pages, by their public items alone. A
+//! plain slow reader of indexes stands beside them to compare with. The library itself is empty. Depends on these
+//! crates, tsdb_base, tsdb_path and the codecs of pages.
 #![tactic(auto)]
 
 #[cfg(test)]
 mod fields;
 #[cfg(test)]
-mod finding;
+mod index;
+#[cfg(test)]
+mod pages;
+#[cfg(test)]
+mod plain_index;
 #[cfg(test)]
 mod samples;
 #[cfg(test)]

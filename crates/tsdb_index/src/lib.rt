@@ -29,8 +29,3 @@ pub use order::are_root;
 pub use pointer::Pointer;
 pub use reading::{end_of, pointers_in, read_index, read_leaf, read_leaves};
 pub use writing::{write_index, write_leaves_and_root};
-
-#[cfg(test)]
-mod slow;
-#[cfg(test)]
-mod tests;

@@ -30,6 +30,3 @@ pub use laws::{
 };
 pub use rising::is_rising;
 pub use tree::{Chunk, Group, Page, Tree};
-
-#[cfg(test)]
-mod tests;

@@ -11,6 +11,3 @@ mod reply;
 pub use laws::replies_that_print_alike;
 pub use order::{print_order, print_session};
 pub use reply::print_reply;
-
-#[cfg(test)]
-mod tests;

@@ -13,6 +13,3 @@ pub use asked::Asked;
 pub use laws::one_meaning;
 pub use read::read_words;
 pub use word::Word;
-
-#[cfg(test)]
-mod tests;

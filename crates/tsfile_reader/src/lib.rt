@@ -30,6 +30,3 @@ pub use fault::ReadFault;
 pub use finding::find_entry;
 pub use laws::{no_file_is_blamed, one_blame};
 pub use reader::{check_file, read_meta, read_points};
-
-#[cfg(test)]
-mod tests;

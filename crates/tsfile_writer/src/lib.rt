@@ -14,10 +14,3 @@ pub use builder::Builder;
 pub use fault::BuildFault;
 pub use laws::one_file_of_series;
 pub use tree::write_tree;
-
-#[cfg(test)]
-mod built;
-#[cfg(test)]
-mod plain_file;
-#[cfg(test)]
-mod tests;

@@ -1,8 +1,14 @@
-//! A file in a store on a real disk.
+//! Tests of tsfile_reader on a file in a store on a real disk.
 ghost use Rattle.std.specs.Prelude.{◌≡◌};
 
-use super::*;
+use super::reader::{Call, is_worked_point, read_bytes, read_page_in};
+use super::samples::{WORKED, worked_but};
 use fs_outside::FsPlace;
+use std::alloc::Global;
+use std::test::Fail;
+use tsdb_base::Point;
+use tsdb_outside::{Files, Place, Port};
+use tsfile_reader::ReadFault;
 
 /// The first page of a file that is stored through the port, once all of its parts are tested.
 fn first_page<P: Port>(alloc: Global, port: &mut P, bytes: &[u8]) -> Result<Vec<Point>, ReadFault>
@@ -48,17 +54,14 @@ fn first_page_on_disk(
 
 #[test]
 fn file_on_a_disk(rt: HostRuntime) -> Result<(), Fail> {
-    let alloc = rt.alloc();
-    let wanted = vec![in alloc;
-        Point {
-            time: 1,
-            value: Value::I64(5)
-        },
-    ]?;
-    assert!(rt; first_page_on_disk(&rt, &WORKED)? == Ok(wanted));
-    let mut bytes = WORKED;
-    bytes[24] ^= 0xff;
-    let damaged = Err(ReadFault::Damaged { at: 24 });
-    assert!(rt; first_page_on_disk(&rt, &bytes)? == damaged);
+    let page = first_page_on_disk(&rt, &WORKED)?;
+    assert!(rt; is_worked_point(&page));
+    Ok(())
+}
+
+#[test]
+fn damage_on_a_disk(rt: HostRuntime) -> Result<(), Fail> {
+    let page = first_page_on_disk(&rt, &worked_but(24, 0xff))?;
+    assert!(rt; matches!(page, Err(ReadFault::Damaged { at: 24 })));
     Ok(())
 }

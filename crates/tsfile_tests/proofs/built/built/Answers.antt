@@ -1,5 +1,5 @@
 use Rattle.tsfile_writer.proofs.Driving.{bare_from}
-use Rattle.tsfile_writer.proofs.built.built.Goals as goal
+use Rattle.tsfile_tests.proofs.built.built.Goals as goal
 
 pub put_points-requires : goal.put_points-requires
 put_points-requires c =

@@ -2,12 +2,13 @@
 //! the port, and damage. Depends on tsfile_reader, tsfile_writer, tsdb_pages, tsdb_index, mem_outside, tsdb_outside,
 //! tsdb_path and tsdb_base.
 
-use mem_outside::{Fails, MemPlace, MemPort, SteadyPlace, SteadyPort};
+use super::reader::{port_failing_at, steady_port};
+use mem_outside::SteadyPort;
 use std::alloc::Global;
 use std::test::Fail;
 use tsdb_base::{DataType, Encoding, FileNumber, List, Point, Value};
 use tsdb_index::{FileMeta, IndexEntry};
-use tsdb_outside::{Files, Place, Port};
+use tsdb_outside::Port;
 use tsdb_pages::{Chunk, Group, Page, Tree, is_tree};
 use tsdb_path::{Name, Path};
 use tsfile_reader::{ReadFault, find_entry, read_meta};
@@ -18,26 +19,6 @@ const SERIES: u64 = 600;
 
 /// How many bytes a pointer of the root has: `root.g.d`, a name of four bytes, and a place.
 const POINTER: usize = 24;
-
-/// A port that never fails.
-fn steady_port(alloc: Global) -> Result<SteadyPort, Fail> {
-    let slots = [vec![in alloc; 0]?, vec![in alloc; 0]?];
-    let mut place = SteadyPlace::new(alloc, slots, Vec::new(alloc))?;
-    let (_journal, mut files) = place.take_up(b"store")?;
-    Ok(files.port()?)
-}
-
-/// A port of which this call fails, counted from 1.
-fn port_failing_at(alloc: Global, number: u64) -> Result<MemPort, Fail> {
-    let slots = [vec![in alloc; 0]?, vec![in alloc; 0]?];
-    let fails = Fails {
-        journal: Vec::new(alloc),
-        files: vec![in alloc; number]?,
-    };
-    let mut place = MemPlace::new(alloc, slots, Vec::new(alloc), fails)?;
-    let (_journal, mut files) = place.take_up(b"store")?;
-    Ok(files.port()?)
-}
 
 /// The chunk of the measurement with this number, of one point.
 fn one_chunk(alloc: Global, number: u64) -> Result<Chunk, Fail> {

@@ -5,7 +5,7 @@ use Rattle.tsdb_base.specs.declared.point.Point.{Point}
 use Rattle.tsdb_base.specs.Values.{type_of}
 use Rattle.tsdb_pages.specs.Pages.{IsRising}
 use Rattle.tsfile_writer.proofs.Driving.{filled_more, takes}
-use Rattle.tsfile_writer.proofs.built.put_points.Goals as goal
+use Rattle.tsfile_tests.proofs.built.put_points.Goals as goal
 
 pub point-requires : goal.point-requires
 point-requires c =

@@ -1,4 +1,4 @@
-//! Files that the builder makes, beside those of `write_tree` and of the plain writer.
+//! Tests of `Builder` of tsfile_writer: files that it makes, beside those of `write_tree` and of the plain writer.
 ghost use Rattle.std.specs.Prelude.{◌≡◌, ◌<◌, ◌≤◌, ◌↔◌, All, IsTrue, IfOk, OnOk, length};
 ghost use Rattle.tsdb_base.specs.Values.{type_of};
 ghost use Rattle.tsdb_pages.specs.Pages.{IsRising};
@@ -6,15 +6,14 @@ ghost use Rattle.tsdb_index.specs.Entries as index;
 ghost use Rattle.tsdb_path.specs.Nodes.{device_of as device_in, measurement_of as measurement_in, node_count};
 ghost use Rattle.tsfile_writer.specs.Driving.{HasLast, IsBare};
 
-use super::names::{device_of, measurement_of};
-use super::tests::{WORKED, points, written};
-use super::*;
+use super::samples::{WORKED, add_chunk, chunk_of, numbered, pages, points};
+use super::writer::{tree_of, wide_tree, written};
 use std::alloc::Global;
-use std::mem;
 use std::test::Fail;
-use tsdb_base::{DataType, Encoding, List, Point, Value, suits};
-use tsdb_pages::{Chunk, Group, Page, Tree, is_rising};
+use tsdb_base::{DataType, Encoding, Point, Value, suits};
+use tsdb_pages::{Group, is_rising};
 use tsdb_path::{Name, Path};
+use tsfile_writer::Builder;
 
 /// A series to build: its path, type, encoding and points.
 #[derive(Drop)]
@@ -23,6 +22,22 @@ struct Series {
     data_type: DataType,
     encoding: Encoding,
     points: Vec<Point>,
+}
+
+/// The device of a series.
+fn device_of(path: &Path) -> Result<Path, Fail>
+    requires { 2 ≤ node_count path.now }
+    ensures { IfOk result (λ device. device ≡ device_in path.now) }
+{
+    Ok(path.device()?)
+}
+
+/// The measurement of a series.
+fn measurement_of(alloc: Global, path: &Path) -> Result<Name, Fail>
+    requires { 2 ≤ node_count path.now }
+    ensures { IfOk result (λ name. name ≡ measurement_in path.now) }
+{
+    Ok(Name::read(alloc, path.measurement())?)
 }
 
 /// Whether the names of the second path come behind those of the first.
@@ -104,20 +119,16 @@ fn built(alloc: Global, all: Vec<Series>) -> Result<Vec<u8>, Fail> {
     Ok(builder.finish()?)
 }
 
-/// The same points in pages of 1,000 and a last one.
-fn pages(alloc: Global, data_type: DataType, count: u16) -> Result<Vec<Page>, Fail> {
-    let mut pages = Vec::new(alloc);
-    for k in 0..4u16 {
-        let start = k.wrapping_mul(1000);
+/// The sizes of pages with so many points, of up to 4,000, of 1,000 each and a last one.
+fn sizes(alloc: Global, count: u16) -> Result<Vec<u16>, Fail> {
+    let mut sizes = Vec::new(alloc);
+    for page in 0..4u16 {
+        let start = page.wrapping_mul(1000);
         if start < count {
-            let size = (count - start).min(1000);
-            let first = i64::from(start).wrapping_add(1);
-            pages.push(Page {
-                points: List::of(points(alloc, data_type, first, size)?),
-            })?;
+            sizes.push((count - start).min(1000))?;
         }
     }
-    Ok(pages)
+    Ok(sizes)
 }
 
 /// The devices and measurements of three series.
@@ -137,75 +148,123 @@ const CASES: [(DataType, Encoding, [u16; 3]); 10] = [
     (DataType::Text, Encoding::Dictionary, [1001, 2000, 1]),
 ];
 
-/// The file that the builder makes of three series of so many points, and the tree of these.
+/// A series of so many points.
+fn series_of(
+    alloc: Global,
+    names: (&[u8], &[u8]),
+    kind: (DataType, Encoding),
+    count: u16,
+) -> Result<Series, Fail> {
+    let device = Path::read(alloc, names.0)?;
+    let path = device.child(&Name::read(alloc, names.1)?)?;
+    let points = points(alloc, kind.0, 1, count)?;
+    Ok(Series {
+        path,
+        data_type: kind.0,
+        encoding: kind.1,
+        points,
+    })
+}
+
+/// The three series of a case, of so many points.
 fn three_series(
     alloc: Global,
-    data_type: DataType,
-    encoding: Encoding,
+    kind: (DataType, Encoding),
     counts: [u16; 3],
-) -> Result<(Vec<u8>, Tree), Fail> {
+) -> Result<Vec<Series>, Fail> {
     let mut all = Vec::new(alloc);
-    let mut groups: Vec<Group> = Vec::new(alloc);
-    for ((device, measurement), count) in NAMES.into_iter().zip(counts) {
-        let device = Path::read(alloc, device)?;
-        let measurement = Name::read(alloc, measurement)?;
-        all.push(Series {
-            path: device.child(&measurement)?,
-            data_type,
-            encoding,
-            points: points(alloc, data_type, 1, count)?,
-        })?;
-        let chunk = Chunk {
-            measurement,
-            data_type,
-            encoding,
-            pages: List::of(pages(alloc, data_type, count)?),
-        };
-        match groups.last_mut() {
-            Some(group) if group.device == device => {
-                let none = List::of(Vec::new(alloc));
-                let mut chunks = mem::replace(&mut group.chunks, none).into_vec();
-                chunks.push(chunk)?;
-                group.chunks = List::of(chunks);
-            }
-            _ => groups.push(Group {
-                device,
-                chunks: List::of(vec![in alloc; chunk]?),
-            })?,
-        }
+    for (names, count) in NAMES.into_iter().zip(counts) {
+        all.push(series_of(alloc, names, kind, count)?)?;
     }
-    let tree = Tree {
-        groups: List::of(groups),
+    Ok(all)
+}
+
+/// Adds the chunk of a series, with pages of 1,000 points and a last one.
+fn add_series(
+    alloc: Global,
+    names: (&[u8], &[u8]),
+    kind: (DataType, Encoding),
+    count: u16,
+    groups: &mut Vec<Group>,
+) -> Result<(), Fail> {
+    let sizes = sizes(alloc, count)?;
+    let pages = pages(alloc, kind.0, &sizes)?;
+    let chunk = chunk_of(alloc, names.1, kind, pages)?;
+    add_chunk(alloc, names.0, chunk, groups)
+}
+
+/// The groups of the three series of a case.
+fn three_chunks(
+    alloc: Global,
+    kind: (DataType, Encoding),
+    counts: [u16; 3],
+) -> Result<Vec<Group>, Fail> {
+    let mut groups = Vec::new(alloc);
+    for (names, count) in NAMES.into_iter().zip(counts) {
+        add_series(alloc, names, kind, count, &mut groups)?;
+    }
+    Ok(groups)
+}
+
+/// The points of the worked file.
+fn worked_points(alloc: Global) -> Result<Vec<Point>, Fail> {
+    let point = Point {
+        time: 1,
+        value: Value::I64(5),
     };
-    Ok((built(alloc, all)?, tree))
+    Ok(vec![in alloc; point]?)
 }
 
 #[test]
 fn worked_file_built(rt: HostRuntime) -> Result<(), Fail> {
     let alloc = rt.alloc();
+    let path = Path::read(alloc, b"root.g.d.s")?;
+    let points = worked_points(alloc)?;
     let series = Series {
-        path: Path::read(alloc, b"root.g.d.s")?,
+        path,
         data_type: DataType::Int64,
         encoding: Encoding::Plain,
-        points: vec![in alloc;
-            Point {
-                time: 1,
-                value: Value::I64(5)
-            },
-        ]?,
+        points,
     };
     let bytes = built(alloc, vec![in alloc; series]?)?;
-    assert_eq!(rt; bytes.as_slice(), WORKED.as_slice());
+    assert!(rt; bytes.as_slice() == WORKED.as_slice());
     Ok(())
 }
 
-/// The builder gives the bytes of `write_tree` and of the plain writer, with pages begun at 1,000 points alone.
+/// Whether the builder gives the bytes of `write_tree` and of the plain writer.
+fn is_same_file(alloc: Global, kind: (DataType, Encoding), counts: [u16; 3]) -> Result<bool, Fail> {
+    let bytes = built(alloc, three_series(alloc, kind, counts)?)?;
+    let tree = tree_of(three_chunks(alloc, kind, counts)?);
+    Ok(bytes == written(alloc, &tree)?)
+}
+
+/// Pages are begun at 1,000 points alone.
 #[test]
 fn pages_filled_in_turn(rt: HostRuntime) -> Result<(), Fail> {
     for (data_type, encoding, counts) in CASES {
-        let (bytes, tree) = three_series(rt.alloc(), data_type, encoding, counts)?;
-        let other = written(&rt, &tree)?;
-        assert!(rt; bytes == other, "{data_type:?} {encoding:?}");
+        let is_same = is_same_file(rt.alloc(), (data_type, encoding), counts)?;
+        assert!(rt; is_same, "{data_type:?} {encoding:?}");
     }
+    Ok(())
+}
+
+/// 300 series of one point each.
+fn many_series(alloc: Global) -> Result<Vec<Series>, Fail> {
+    let mut all = Vec::new(alloc);
+    for number in 0..300u64 {
+        let name = numbered(number);
+        let names = (b"root.d".as_slice(), name.as_slice());
+        all.push(series_of(alloc, names, (DataType::Int32, Encoding::Rle), 1)?)?;
+    }
+    Ok(all)
+}
+
+/// The entries of the series stand in two leaves.
+#[test]
+fn many_series_built(rt: HostRuntime) -> Result<(), Fail> {
+    let alloc = rt.alloc();
+    let bytes = built(alloc, many_series(alloc)?)?;
+    let other = written(alloc, &wide_tree(alloc)?)?;
+    assert!(rt; bytes == other);
     Ok(())
 }

@@ -1,5 +1,5 @@
 use Rattle.tsfile_writer.proofs.Driving.{Stands}
-use Rattle.tsfile_writer.proofs.built.built.Given as goal
+use Rattle.tsfile_tests.proofs.built.built.Given as goal
 
 abbrev pub invariant-loop-series : goal.invariant-loop-series
 invariant-loop-series l = record {

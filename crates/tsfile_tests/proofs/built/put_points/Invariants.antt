@@ -1,6 +1,6 @@
 use Rattle.std.specs.Vec.Iter.{into_iter_items}
 use Rattle.tsfile_writer.proofs.Driving.{IsFilling}
-use Rattle.tsfile_writer.proofs.built.put_points.Given as goal
+use Rattle.tsfile_tests.proofs.built.put_points.Given as goal
 
 abbrev pub invariant-loop-point : goal.invariant-loop-point
 invariant-loop-point l = record {

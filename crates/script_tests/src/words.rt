@@ -1,10 +1,14 @@
-//! Lists of words, and what they ask for.
-use crate::{Asked, Word, one_meaning, read_words};
+//! Tests of tsdb_words: lists of words, and what they ask for. Depends on tsdb_words.
+
 use std::alloc::Global;
 use std::test::Fail;
+use tsdb_words::{Asked, Word, one_meaning, read_words};
+
+/// A directory, a number of points of a pair and a number of workers.
+type Wanted = (&'static str, u64, u64);
 
 /// Lists of words that ask for a directory, a number of points of a pair and a number of workers.
-const GOOD: [(&[&str], (&str, u64, u64)); 20] = [
+const GOOD: [(&[&str], Wanted); 20] = [
     (&["run", "d"], ("d", 10_000, 1)),
     (&["run", "a/b c=--pair"], ("a/b c=--pair", 10_000, 1)),
     // The first lone `--` is dropped, before the directory or behind it.
@@ -87,7 +91,7 @@ const BAD: [&[&str]; 47] = [
 ];
 
 /// Words of these texts.
-fn words(alloc: Global, texts: &[&str]) -> Result<Vec<Word>, Fail> {
+fn words_of(alloc: Global, texts: &[&str]) -> Result<Vec<Word>, Fail> {
     let mut words = Vec::new(alloc);
     for text in texts {
         words.push(Word::new(alloc, text.as_bytes())?)?;
@@ -96,51 +100,67 @@ fn words(alloc: Global, texts: &[&str]) -> Result<Vec<Word>, Fail> {
 }
 
 /// Whether this is asked for.
-fn is_asked(asked: &Asked, directory: &str, pair_points: u64, workers: u64) -> bool {
+fn is_asked(asked: &Asked, wanted: Wanted) -> bool {
+    let (directory, pair_points, workers) = wanted;
     asked.directory() == directory.as_bytes()
         && asked.pair_points() == pair_points
         && asked.workers() == workers
 }
 
+/// Whether the words ask for this, or for nothing.
+fn ask_for(alloc: Global, texts: &[&str], wanted: Option<Wanted>) -> Result<bool, Fail> {
+    let words = words_of(alloc, texts)?;
+    Ok(match (read_words(words.as_slice()), wanted) {
+        (Some(asked), Some(wanted)) => is_asked(&asked, wanted),
+        (None, None) => true,
+        _ => false,
+    })
+}
+
 /// A body that always answers none, or out of memory, fails here.
 #[test]
 fn good_words(rt: HostRuntime) -> Result<(), Fail> {
-    let alloc = rt.alloc();
-    for (texts, (directory, pair_points, workers)) in GOOD {
-        let words = words(alloc, texts)?;
-        let Some(asked) = read_words(words.as_slice()) else {
-            return Err(Fail::new("refused"));
-        };
-        assert!(rt;
-            is_asked(&asked, directory, pair_points, workers),
-            "{texts:?}"
-        );
+    for (texts, wanted) in GOOD {
+        let is_right = ask_for(rt.alloc(), texts, Some(wanted))?;
+        assert!(rt; is_right, "{texts:?}");
     }
     Ok(())
 }
 
 #[test]
 fn bad_words(rt: HostRuntime) -> Result<(), Fail> {
-    let alloc = rt.alloc();
     for texts in BAD {
-        let words = words(alloc, texts)?;
-        assert!(rt; read_words(words.as_slice()).is_none(), "{texts:?}");
+        let is_right = ask_for(rt.alloc(), texts, None)?;
+        assert!(rt; is_right, "{texts:?}");
     }
     Ok(())
+}
+
+/// A word that is no text.
+const NO_TEXT: &[u8] = b"\xff/\x00";
+
+fn run_of(alloc: Global, word: Word) -> Result<Vec<Word>, Fail> {
+    let mut words = words_of(alloc, &["run"])?;
+    words.push(word)?;
+    Ok(words)
+}
+
+/// Whether a run in the directory of these bytes is read as one.
+fn names_directory(alloc: Global, bytes: &[u8]) -> Result<bool, Fail> {
+    let words = run_of(alloc, Word::new(alloc, bytes)?)?;
+    Ok(match read_words(words.as_slice()) {
+        Some(asked) => asked.directory() == bytes,
+        None => false,
+    })
 }
 
 /// Words need not be texts.
 #[test]
 fn words_are_bytes(rt: HostRuntime) -> Result<(), Fail> {
-    let alloc = rt.alloc();
-    let word = Word::new(alloc, b"\xff/\x00")?;
-    assert_eq!(rt; word.bytes(), b"\xff/\x00".as_slice());
-    let mut words = words(alloc, &["run"])?;
-    words.push(word)?;
-    let Some(asked) = read_words(words.as_slice()) else {
-        return Err(Fail::new("refused"));
-    };
-    assert!(rt; asked.directory() == b"\xff/\x00".as_slice());
+    let word = Word::new(rt.alloc(), NO_TEXT)?;
+    assert!(rt; word.bytes() == NO_TEXT);
+    let is_read = names_directory(rt.alloc(), NO_TEXT)?;
+    assert!(rt; is_read);
     one_meaning();
     Ok(())
 }
