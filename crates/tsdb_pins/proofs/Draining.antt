@@ -1,8 +1,9 @@
 -- A loop that takes all points of a stream.
-use Rattle.std.proofs.Common.{◌≡◌, ℕ, ◌<◌, ◌≤◌, Result, Ok, Err, length, get_or, List, [], ◌∷◌, ◌++◌, Option, None, Some, refl, sym, ap, subst, ◌∙◌, append_assoc, arith}
-use Rattle.std.specs.Prelude.{IfOk}
+use Rattle.std.proofs.Common.{◌≡◌, ℕ, ◌<◌, ◌≤◌, Result, Ok, Err, length, get_or, List, [], ◌∷◌, ◌++◌, Option, None, Some, refl, sym, ap, subst, ◌∙◌, append_assoc, zero, suc, arith}
+use Rattle.std.specs.Prelude.{IfOk, slice_get}
 use Rattle.std.specs.List.{AllByRecursion as Each}
 use Rattle.std.proofs.lemmas.List.{append-nil}
+use Rattle.std.proofs.lemmas.Option.{slice_get_read}
 use Rattle.std.proofs.lemmas.List.Elements.{All-from_recursion}
 use Rattle.tsdb_base.specs.declared.point.Point.{Point}
 use Rattle.tsdb_merge.specs.Winners.{IsMergeOf, IsToldMergeOf, TakesTold}
@@ -55,3 +56,19 @@ ok_then Q W f (Err e) is = tt
 
 pub each_at : {X : Type 0} (Q : X → Type 0) (xs ys : List X) (i : ℕ) (x : X) → ys ≡ xs → Each Q xs → i < length ys → x ≡ get_or ys i x → Q x
 each_at Q xs ys i x same each below at = subst Q (sym at) (All-from_recursion Q ys (subst (Each Q) (sym same) each) i x below)
+
+-- ---- what is found at a place of a list
+
+pub found_at : {X : Type 0} (xs ys : List X) (i : ℕ) (x : X) → ys ≡ xs → i < length xs → x ≡ get_or ys i x
+    → slice_get xs i ≡ Some x
+found_at xs ys i x same below at = slice_get_read xs (length xs) i x refl below (subst (λ l. x ≡ get_or l i x) same at)
+
+pub each_found : {X : Type 0} (Q : X → Type 0) (xs : List X) (i : ℕ) (x : X) → Each Q xs → slice_get xs i ≡ Some x → Q x
+each_found Q [] i x each at = absurd cc
+each_found Q (y ∷ xs) zero x each at =
+    let same : y ≡ x = cc in
+    subst Q same each.0
+each_found Q (y ∷ xs) (suc i) x each at = each_found Q xs i x each.1 at
+
+pub one_found : {X : Type 0} (xs : List X) (i : ℕ) (x y : X) → slice_get xs i ≡ Some x → slice_get xs i ≡ Some y → x ≡ y
+one_found xs i x y here there = cc

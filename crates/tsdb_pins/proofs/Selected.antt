@@ -1,5 +1,6 @@
 -- The points of the columns are those of the series in the world, and so are their aggregates.
-use Rattle.std.proofs.Common.{◌≡◌, ℕ, List, [], ◌∷◌, map, Option, None, Some, refl, ap, ◌∙◌}
+use Rattle.std.proofs.Common.{◌≡◌, ℕ, List, [], ◌∷◌, map, Option, None, Some, refl, ap, subst, zero, suc, ◌∙◌}
+use Rattle.std.specs.Prelude.{slice_get}
 use Rattle.std.specs.List.{AllByRecursion as Each, AllZip}
 use Rattle.std.specs.declared.alloc.Global.{Global}
 use Rattle.std.specs.declared.vec.Vec.{Vec}
@@ -12,7 +13,9 @@ use Rattle.tsdb_map.specs.Apply.{item_value}
 use Rattle.tsdb_map.specs.Folds.{aggregate_of, in_order}
 use Rattle.tsdb_map.specs.World.{Points, World}
 use Rattle.tsdb_marks.specs.declared.marks.Mark.{Mark}
-use Rattle.tsdb_merge.specs.Winners.{IsMergeOf, IsRising}
+use Rattle.tsdb_columns.specs.Streams.{stream_left}
+use Rattle.tsdb_columns.specs.declared.stream.Stream.{Stream}
+use Rattle.tsdb_merge.specs.Winners.{IsMergeOf, IsRising, IsToldMergeOf}
 use Rattle.tsdb_outside.specs.Files.{NamedFile}
 use Rattle.tsdb_pinned.proofs.Points.{pin_has}
 use Rattle.tsdb_pinned.specs.Worlds.{HasPointsOf, IsSourceOf, columns_in, kept_of, series_points, values_in}
@@ -22,6 +25,7 @@ use Rattle.tsdb_pinning.specs.declared.pin.Pin.{Pin}
 use Rattle.tsdb_pinning.specs.declared.pin.PinnedSource.{PinnedSource}
 use Rattle.tsdb_pinning.specs.declared.pin.PinnedSource.TheVariants.{File, Part}
 use Rattle.tsdb_pins.specs.Reading.{HasTold, IsColumnRead, IsValueOf, IsValueRead, SeriesPages, TellPoints, TellsPoints}
+use Rattle.tsdb_pins.specs.Streams.{HasColumnLeft, IsColumnOpened}
 use Rattle.tsdb_sources.specs.Pieces.{joined}
 use Rattle.tsdb_state.specs.State as state
 use Rattle.tsdb_state.specs.State.{FromFile, FromPart, Told}
@@ -92,3 +96,49 @@ module _ {F S R P : Type 0} (name : R → NamedFile) (pages : SeriesPages) (told
   pub values_read : (pin : Pin F S R P) (read : List (Option Value)) → AllZip (IsValueRead name pages pin.range pin.marks.marks) pin.columns read → (shown : state.Pin) (all : World)
       → TellPoints name pages told pin.columns → IsPinOf pin shown → PinStandsFor told shown all → read ≡ values_in all pin.range pin.columns
   values_read pin read are shown all tells is stands = values_are all pin.range pin.marks.marks pin.columns shown.columns read is.columns tells (pin_has told all pin shown is stands) are
+
+  -- what the stream of one column has left is told, and has the points of the series
+  one_left : (all : World) (range : Range) (marks : List Mark) (column : Column F S R P) (shown : state.Column)
+      → IsColumnOf column shown → Each (TellsPoints name pages told column.schema.path) column.sources
+      → HasPointsOf told all range marks column → (left : Option (List Point))
+      → ((lists : List (List Point)) → AllZip (HasTold name pages column.schema.path) column.sources lists
+      → Each IsRising lists → IsToldMergeOf (kept_of column.schema.path range marks column.sources lists) left)
+      → left ≡ Some (in_order (series_points all range column.schema.path))
+  one_left all range marks column shown is tells has left merged =
+      let sources = all_points column.schema.path column.sources shown.sources is.sources tells in
+      by left (merged sources.lists sources.told_are sources.rising) (λ points merge. has sources.lists points sources.are merge)
+    where
+      by : {lists : List (List Point)} (left : Option (List Point)) → IsToldMergeOf lists left
+          → ((points : List Point) → IsMergeOf lists points → points ≡ in_order (series_points all range column.schema.path))
+          → left ≡ Some (in_order (series_points all range column.schema.path))
+      by None merge are = absurd merge
+      by (Some points) merge are = ap (λ (l : List Point). Some l) (are points merge)
+
+  some_left : (all : World) (range : Range) (marks : List Mark) (columns : List (Column F S R P))
+      (shown : List state.Column) (place : ℕ) (column : Column F S R P) → AllZip IsColumnOf columns shown
+      → TellPoints name pages told columns → Each (HasPointsOf told all range marks) columns
+      → slice_get columns place ≡ Some column → (left : Option (List Point))
+      → ((lists : List (List Point)) → AllZip (HasTold name pages column.schema.path) column.sources lists
+      → Each IsRising lists → IsToldMergeOf (kept_of column.schema.path range marks column.sources lists) left)
+      → left ≡ Some (in_order (series_points all range column.schema.path))
+  some_left all range marks [] shown place column zip tells has at left merged = absurd cc
+  some_left all range marks (first ∷ columns) [] place column zip tells has at left merged = absurd zip
+  some_left all range marks (first ∷ columns) (s ∷ shown) zero column zip tells has at left merged =
+      let same : first ≡ column = cc in
+      one_left all range marks column s (subst (λ (c : Column F S R P). IsColumnOf c s) same zip.0)
+      (subst (λ (c : Column F S R P). Each (TellsPoints name pages told c.schema.path) c.sources) same tells.0)
+      (subst (HasPointsOf told all range marks) same has.0) left merged
+  some_left all range marks (first ∷ columns) (s ∷ shown) (suc place) column zip tells has at left merged =
+      some_left all range marks columns shown place column zip.1 tells.1 has.1 at left merged
+
+  pub column_left : (pin : Pin F S R P) (place : ℕ) (column : Column F S R P) (stream : Stream R)
+      → slice_get pin.columns place ≡ Some column
+      → IsColumnOpened name pages pin.range pin.marks.marks column stream → (shown : state.Pin) (all : World)
+      → TellPoints name pages told pin.columns → IsPinOf pin shown → PinStandsFor told shown all
+      → HasColumnLeft name pages all pin.range pin.columns place stream
+  column_left pin place column stream at opened shown all tells is stands other there =
+      let same : column ≡ other = cc in
+      subst (λ (c : Column F S R P). stream_left name (pages c.schema.path) stream
+      ≡ Some (in_order (series_points all pin.range c.schema.path))) same
+      (some_left all pin.range pin.marks.marks pin.columns shown.columns place column is.columns tells
+      (pin_has told all pin shown is stands) at (stream_left name (pages column.schema.path) stream) opened)

@@ -1,3 +1,4 @@
 pub mod Reading
 pub mod Clean
 pub mod Weaving
+pub mod Streams

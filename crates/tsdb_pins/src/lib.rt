@@ -12,9 +12,12 @@ mod folding;
 mod laws;
 mod lending;
 mod selecting;
+mod streaming;
 
 pub use aggregating::aggregates;
 pub use laws::{
     pages_have_the_points_of_their_file, rights_are_of_the_store, series_have_a_device,
 };
 pub use selecting::select;
+pub use streaming::open_column;
+pub use tsdb_columns::{Stream, pull};
