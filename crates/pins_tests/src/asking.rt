@@ -1,6 +1,7 @@
 //! Pins of one series over a file, and what they answer.
 ghost use Rattle.std.specs.List.{AllByRecursion as Each};
 ghost use Rattle.std.specs.Prelude.{◌≡◌, ◌<◌, ◌≤◌, ◌∷◌, ◌++◌, [], vec_capacity, vec_len};
+ghost use Rattle.tsdb_columns.specs.Streams.{IsStreamOfStore};
 ghost use Rattle.tsdb_path.specs.Nodes.{node_count};
 ghost use Rattle.tsdb_pins.specs.Reading.{AreColumnsOf, HaveNodes, IsOfStore};
 
@@ -12,11 +13,12 @@ use std::mem::replace;
 use std::sync::ledger::{Blank, Ledger};
 use std::test::Fail;
 use tsdb_aggregate::Steps;
-use tsdb_base::{FileNumber, List, Stamp, Time, Value};
+use tsdb_base::{FileNumber, List, Point, Range, Stamp, Time, Value};
 use tsdb_map::Line;
+use tsdb_marks::Marks;
 use tsdb_outside::{Files, Place, Port, StoreFault};
 use tsdb_pinning::{Column, Pin, PinnedSource};
-use tsdb_pins::{aggregates, select};
+use tsdb_pins::{Stream, aggregates, open_column, pull, select};
 
 /// What a pin of one column answers.
 #[derive(Clone, Copy, Debug, PartialEq, Eq)]
@@ -103,6 +105,106 @@ fn pop<T>(items: &mut Vec<T>) -> T
     }
 }
 
+/// These rows and one more.
+fn with_point(rows: Answer, point: &Point) -> Answer {
+    match (rows, &point.value) {
+        (Answer::Rows(count, time, value), _) => Answer::Rows(count.saturating_add(1), time, value),
+        (_, Value::I64(value)) => Answer::Rows(1, point.time, *value),
+        _ => Answer::Nothing,
+    }
+}
+
+/// The points that a stream gives, as rows. It is pulled behind its end too.
+fn pull_all<P: Port>(stream: &mut Stream<'_, P::Right>, port: &mut P) -> Answer
+    requires of_store { IsStreamOfStore P.Right.file (P.store port.old) stream.old }
+    ensures same_store { P.store port.new ≡ P.store port.old }
+{
+    let mut rows = Answer::Nothing;
+    for _ in 0..3_000 {
+        match pull(stream, port) {
+            Ok(Some(point)) => rows = with_point(rows, &point),
+            Ok(None) => (),
+            Err(fault) => return Answer::Fault(fault),
+        }
+    }
+    rows
+}
+
+/// The points that the stream of the pin's column gives, as rows.
+fn stream<F: Files>(alloc: Global, port: &mut F::Port, pin: &Pin<F>) -> Answer
+    requires nodes { HaveNodes pin.now.columns }
+    requires of_store { AreColumnsOf F.Right.file (F.Port.store port.old) pin.now.columns }
+    ensures same_store { F.Port.store port.new ≡ F.Port.store port.old }
+{
+    if pin.columns.items().is_empty() {
+        return Answer::Nothing;
+    }
+    match open_column(alloc, pin, 0, port) {
+        Ok(mut stream) => pull_all(&mut stream, port),
+        Err(fault) => Answer::Fault(fault),
+    }
+}
+
+/// The aggregate of the pin's column where one is asked for, and else its rows, or its stream.
+fn answer_of<F: Files>(alloc: Global, port: &mut F::Port, pin: &Pin<F>, streams: bool) -> Answer
+    requires nodes { HaveNodes pin.now.columns }
+    requires of_store { AreColumnsOf F.Right.file (F.Port.store port.old) pin.now.columns }
+    ensures same_store { F.Port.store port.new ≡ F.Port.store port.old }
+{
+    let [column] = pin.columns.items() else {
+        return Answer::Nothing;
+    };
+    if column.aggregate.is_some() {
+        return fold::<F, Brand>(alloc, port, pin, Blank::new(1));
+    }
+    if streams {
+        return stream::<F>(alloc, port, pin);
+    }
+    read::<F>(alloc, port, pin)
+}
+
+/// Asks a pin of these columns, and hands them back.
+fn ask_columns<F: Files>(
+    alloc: Global,
+    port: &mut F::Port,
+    range: Range,
+    marks: Marks,
+    columns: Vec<Column<F>>,
+    streams: bool,
+) -> (Answer, Vec<Column<F>>)
+    requires nodes { HaveNodes columns.items }
+    requires of_store { AreColumnsOf F.Right.file (F.Port.store port.old) columns.items }
+    ensures columns { result.1.items ≡ columns.items }
+    ensures same_store { F.Port.store port.new ≡ F.Port.store port.old }
+{
+    let pin = Pin {
+        stamp: Stamp(9),
+        range,
+        marks,
+        columns: List::of(columns),
+    };
+    let answer = answer_of::<F>(alloc, port, &pin, streams);
+    let Pin {
+        stamp: _,
+        range: _,
+        marks: _,
+        columns,
+    } = pin;
+    (answer, columns.into_vec())
+}
+
+/// The sources of a column, which is let go.
+fn sources_of<F: Files>(column: Column<F>) -> Vec<PinnedSource<F>>
+    ensures { result.items ≡ column.sources }
+{
+    let Column {
+        schema: _,
+        aggregate: _,
+        sources,
+    } = column;
+    sources.into_vec()
+}
+
 /// Asks a pin of these sources, and hands them back.
 fn ask_sources<F: Files>(
     alloc: Global,
@@ -126,40 +228,21 @@ fn ask_sources<F: Files>(
         range,
         aggregate,
         part: _,
+        streams,
     } = asked;
+    let sources = List::of(sources);
     push(
         &mut columns,
         Column::<F> {
             schema,
             aggregate,
-            sources: List::of(sources),
+            sources,
         },
     );
-    let pin = Pin {
-        stamp: Stamp(9),
-        range,
-        marks,
-        columns: List::of(columns),
-    };
-    let answer = if aggregate.is_some() {
-        fold::<F, Brand>(alloc, port, &pin, Blank::new(1))
-    } else {
-        read::<F>(alloc, port, &pin)
-    };
-    let Pin {
-        stamp: _,
-        range: _,
-        marks: _,
-        columns,
-    } = pin;
-    let mut columns = columns.into_vec();
-    let Column {
-        schema: _,
-        aggregate: _,
-        sources,
-    } = pop(&mut columns);
+    let (answer, mut columns) = ask_columns(alloc, port, range, marks, columns, streams);
+    let column = pop(&mut columns);
     columns.destroy_empty();
-    (Ok(answer), sources.into_vec())
+    (Ok(answer), sources_of(column))
 }
 
 /// Asks with the part in memory, if there is one, behind the other sources.
@@ -201,7 +284,7 @@ fn ask_with_part<F: Files>(
 }
 
 /// Asks with a right of the file.
-fn ask_file<F: Files>(
+pub fn ask_file<F: Files>(
     alloc: Global,
     port: &mut F::Port,
     asked: Asked,

@@ -14,14 +14,39 @@ struct Case {
     bytes: u64,
 }
 
-/// The bytes that are read of the index of two pages.
-const INDEX: u64 = 261;
+/// The names of the series in the index: `root.g.d` and `s`, each behind its length in two bytes.
+const NAMES: u64 = 2 + 8 + 2 + 1;
 
-/// The bytes that are read of the first of two pages, whose end the index says.
-const FIRST: u64 = 8_016;
+/// Statistics of INT64: the count, the first and the last time, and four values.
+const STATISTICS: u64 = 7 * 8;
 
-/// The bytes that are read of the second page.
-const SECOND: u64 = 8_271;
+/// The root with its one pointer, and the tail behind it.
+const ROOT: u64 = 1 + 4 + NAMES + 8;
+
+const TAIL: u64 = 8 + 6;
+
+/// The leaf with the one entry: names, type, encoding and place, the statistics of all points, and those of each page
+/// with its place.
+const LEAF_WITHOUT_PAGES: u64 = 1 + 2 + NAMES + 1 + 1 + 8 + STATISTICS + 4;
+
+const LEAF: u64 = LEAF_WITHOUT_PAGES + 2 * PAGE_IN_LEAF;
+
+const PAGE_IN_LEAF: u64 = 8 + STATISTICS;
+
+/// What is read of the index of two pages: the tail, the head of 7 bytes, the root, and the leaf.
+const INDEX: u64 = TAIL + 7 + ROOT + LEAF;
+
+/// A page of 1,000 points without its times: its head, the length of the times, and their values, in PLAIN behind how
+/// many there are.
+const PAGE_WITHOUT_TIMES: u64 = 1 + 4 + 4 + 2 + 1000 * 8;
+
+/// What is read of the first page. Its end is where the next one begins. Of times that rise by 1 from 1, TS_2DIFF has
+/// their number in two bytes, the first one, the least difference and the width 0 in one each, and no offsets.
+const FIRST: u64 = PAGE_WITHOUT_TIMES + 2 + 1 + 1 + 1;
+
+/// What is read of the second page, whose first time takes two bytes. The index does not say where the last page ends:
+/// 24 bytes for each point and 64 are read, and these go on to the end of the file.
+const SECOND: u64 = PAGE_WITHOUT_TIMES + 2 + 2 + 1 + 1 + LEAF + ROOT + TAIL;
 
 /// How many points lie at the times 1 to 2,000, which are two pages.
 const COUNT: Query = Query {
@@ -30,6 +55,7 @@ const COUNT: Query = Query {
     deleted: None,
     times: (1, 2_000),
     aggregate: Some(Aggregate::Count),
+    streams: false,
 };
 
 /// The least value, where a later point at 1 is in memory.
@@ -39,6 +65,7 @@ const LEAST: Query = Query {
     deleted: None,
     times: (Time::MIN, Time::MAX),
     aggregate: Some(Aggregate::MinValue),
+    streams: false,
 };
 
 const CASES: [Case; 5] = [
@@ -56,6 +83,7 @@ const CASES: [Case; 5] = [
             deleted: None,
             times: (1, 1_999),
             aggregate: Some(Aggregate::Count),
+            streams: false,
         },
         answer: Answer::Value(1_999),
         bytes: INDEX + SECOND,
@@ -68,6 +96,7 @@ const CASES: [Case; 5] = [
             deleted: None,
             times: (Time::MIN, Time::MAX),
             aggregate: Some(Aggregate::Count),
+            streams: false,
         },
         answer: Answer::Value(2_000),
         bytes: INDEX + FIRST,
@@ -85,6 +114,7 @@ const CASES: [Case; 5] = [
             deleted: Some((1_500, 1_500)),
             times: (1, 2_000),
             aggregate: Some(Aggregate::Count),
+            streams: false,
         },
         answer: Answer::Value(1_999),
         bytes: INDEX + SECOND,
@@ -108,21 +138,23 @@ fn an_aggregate_reads_the_pages_that_are_not_clean(rt: HostRuntime) -> Result<()
     Ok(())
 }
 
-/// The rows at one time of 20 pages.
+/// The rows at one time of 100 pages.
 const ONE_TIME: Query = Query {
-    last: 20_000,
+    last: 100_000,
     part: &[],
     deleted: None,
-    times: (7_654, 7_654),
+    times: (50, 50),
     aggregate: None,
+    streams: false,
 };
 
+/// Of a file of 1.6 MB less than 100,000 bytes are read: its index and the first page.
 #[test]
 fn a_select_at_one_time_reads_one_page(rt: HostRuntime) -> Result<(), Fail> {
     let (answer, bytes) = ask_stored(rt.alloc(), &ONE_TIME, u64::MAX)?;
-    assert_eq!(rt; answer, Answer::Rows(1, 7_654, 7_654));
-    // Two pages have more.
-    assert!(rt; bytes < 2 * FIRST);
+    assert_eq!(rt; answer, Answer::Rows(1, 50, 50));
+    assert_eq!(rt; bytes, INDEX + 98 * PAGE_IN_LEAF + FIRST);
+    assert!(rt; bytes < 100_000);
     Ok(())
 }
 
@@ -133,6 +165,7 @@ const OF_TWO: Query = Query {
     deleted: None,
     times: (3, 3),
     aggregate: None,
+    streams: false,
 };
 
 /// The first number of a call in the range whose failure gives something else than a fault.
@@ -162,5 +195,35 @@ fn the_call_that_removes_the_file_fails_no_answer(rt: HostRuntime) -> Result<(),
     assert_eq!(rt; least, Answer::Value(-7));
     let (rows, _bytes) = ask_stored(alloc, &OF_TWO, 9)?;
     assert_eq!(rt; rows, Answer::Rows(1, 3, 3));
+    Ok(())
+}
+
+/// The stream at one time, at which a later point is in memory.
+const REPLACED: Query = Query {
+    last: 10,
+    part: &[(10, 2)],
+    deleted: None,
+    times: (10, 10),
+    aggregate: None,
+    streams: true,
+};
+
+/// The stream of two pages without what is deleted.
+const STREAM: Query = Query {
+    last: 2_000,
+    part: &[(2_001, -1)],
+    deleted: Some((1, 999)),
+    times: (2, 3_000),
+    aggregate: None,
+    streams: true,
+};
+
+#[test]
+fn a_stream_of_a_pin_gives_the_points_of_its_column(rt: HostRuntime) -> Result<(), Fail> {
+    let alloc = rt.alloc();
+    let (replaced, _bytes) = ask_stored(alloc, &REPLACED, u64::MAX)?;
+    assert_eq!(rt; replaced, Answer::Rows(1, 10, 2));
+    let (stream, _bytes) = ask_stored(alloc, &STREAM, u64::MAX)?;
+    assert_eq!(rt; stream, Answer::Rows(1_002, 1_000, 1_000));
     Ok(())
 }

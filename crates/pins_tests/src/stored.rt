@@ -24,6 +24,8 @@ pub struct Query {
     pub deleted: Option<(Time, Time)>,
     pub times: (Time, Time),
     pub aggregate: Option<Aggregate>,
+    /// Whether the points are taken from a stream, in place of rows.
+    pub streams: bool,
 }
 
 /// What a pin has beside its sources.
@@ -34,6 +36,7 @@ pub struct Asked {
     pub range: Range,
     pub aggregate: Option<Aggregate>,
     pub part: Vec<Point>,
+    pub streams: bool,
 }
 
 fn points_of(alloc: Global, pairs: &[Pair]) -> Result<Vec<Point>, Fail> {
@@ -135,5 +138,6 @@ pub fn asked_of(alloc: Global, query: &Query) -> Result<Asked, Fail>
         },
         aggregate: query.aggregate,
         part,
+        streams: query.streams,
     })
 }
