@@ -9,8 +9,8 @@ ghost use Rattle.tsdb_core.specs.Limits.{IsPairLimit};
 ghost use Rattle.tsdb_frames.specs.Frames.{IsLog};
 ghost use Rattle.tsdb_held.specs.Held.{TellTheirBytes};
 ghost use Rattle.tsdb_images.specs.Stored.{IsKept};
-ghost use Rattle.tsdb_kept.specs.Closing.{ArePutBack, names_at};
-ghost use Rattle.tsdb_kept.specs.Files.{kept_file};
+ghost use Rattle.tsdb_kept.specs.Closing.{ArePutBack, AreRising, names_at};
+ghost use Rattle.tsdb_kept.specs.Files.{AreKept, kept_file};
 ghost use Rattle.tsdb_kept.specs.Places.{AreOfStore, AreUnread};
 ghost use Rattle.tsdb_layers.specs.Lists.{Among};
 ghost use Rattle.tsdb_log.specs.Spelling.{IsRecord, spelling};
@@ -88,15 +88,19 @@ impl<F: Files> Adopting<F> {
         Core::new(alloc, logged, files, options, next_file)
     }
 
-    /// Gives each token back to its store; no other file comes to be at rest.
+    /// Gives each token back to its store; no other file comes to be at rest. It tells what always holds of the kept
+    /// files.
     pub fn end(self, files: &mut F)
         requires no_rights { AreUnread (files_of self).places }
         requires store { AreOfStore (F.store files.old) (files_of self).places }
         ensures at_rest { WhereTold (ArePutBack (names_at (files_of self).places)) (F.at_rest files.old)
             (F.at_rest files.new) }
+        ensures rising { AreRising (files_of self).places }
+        ensures kept { AreKept (files_of self) }
         ensures same_store { F.store files.new ≡ F.store files.old }
         ensures faults { F.faults files.new ≡ F.faults files.old }
     {
+        self.tell_kept();
         let Adopting {
             alloc: _,
             opening: _,

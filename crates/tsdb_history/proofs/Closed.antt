@@ -9,7 +9,7 @@ use Rattle.tsdb_core.proofs.Jobs.{is_there}
 use Rattle.tsdb_core.specs.Core.{files_of, logged_of}
 use Rattle.tsdb_core.specs.declared.engine.Core.{Core}
 use Rattle.tsdb_held.specs.Held.{AreFilesOf, listed, leaving}
-use Rattle.tsdb_history.proofs.Stored.{IsToldAt, at_place, each_stored, few, found, named, stored_at}
+use Rattle.tsdb_history.proofs.Stored.{IsToldAt, at_place, differing, each_stored, few, found, named, stored_at}
 use Rattle.tsdb_history.specs.Closing.{IsClosed}
 use Rattle.tsdb_images.proofs.Kept.{holds_found, kept_by_number}
 use Rattle.tsdb_images.proofs.Storing.{others_kept}
@@ -26,7 +26,7 @@ use Rattle.tsdb_logged.specs.Logged.{IsSound, Outside}
 use Rattle.tsdb_map.specs.State as plain
 use Rattle.tsdb_outside.specs.Causes.{Rose}
 use Rattle.tsdb_outside.specs.Disk.{IsLawful, State, WhereTold}
-use Rattle.tsdb_outside.specs.Files.{StoredFile}
+use Rattle.tsdb_outside.specs.Files.{IsFileNumber, StoredFile}
 use Rattle.tsdb_outside.specs.Moments.{LeavesOnly}
 use Rattle.tsdb_outside.specs.declared.disk.Disk as disk
 use Rattle.tsdb_outside.specs.declared.faults.Counted as counted
@@ -181,6 +181,11 @@ module _ {J F S R P : Type 0} {means : disk.Ghosts J} {counts : counted.Ghosts J
       by (n, None) here = tt
       by (n, Some file) here = λ bytes told. found n (files_of core).places file bytes (ap file_at here) told
 
+  numbers : Each (λ (file : StoredFile). IsFileNumber file.number) stored
+  numbers = each_stored (λ (file : StoredFile). IsFileNumber file.number) (files_of core).places
+      (each_place (λ n file. (bytes : List ℕ) → file.name.bytes ≡ Some bytes → IsFileNumber n)
+      (λ n file is bytes told. record { low = is.from; high = is.to }))
+
   no_doubt : next ≡ None → serving.state.doubt ≡ None
   no_doubt none = by serving.state.doubt
       (subst (LeadsTo serving.outside.told serving.state.store serving.state.doubt) none serving.doubt)
@@ -192,6 +197,8 @@ module _ {J F S R P : Type 0} {means : disk.Ghosts J} {counts : counted.Ghosts J
   is_closed : (new : State) (faults : ℕ) → IsLawful new → logged.IsClosed (logged_of core) new faults
       → IsClosed core new stored (Rose (faults_under core) faults) put at next
   is_closed new faults laws closes = record {
+    differ = differing (files_of core).places rising;
+    numbers = numbers;
     held = held;
     moments = weaker (disk_under core) new (LeavesOneOf stored (slot_under core) at next)
         (LeavesOneOf put (slot_under core) at next)

@@ -3,7 +3,7 @@ use Rattle.std.proofs.Common.{◌≡◌, inl, inr, ℕ, List, [], ◌∷◌, Non
 use Rattle.std.specs.Prelude.{IsSome}
 use Rattle.tsdb_base.specs.declared.answers.Answer.TheVariants as answer
 use Rattle.tsdb_frames.specs.Slots.{HasRecords}
-use Rattle.tsdb_history.specs.Joining.{IsJoined}
+use Rattle.tsdb_history.specs.Joining.{IsFollowed, IsJoined}
 use Rattle.tsdb_history.specs.Prefixes.{StandsAfter, StandsAfterPrefix}
 use Rattle.tsdb_map.specs.History.{Entry, IsLegal, state_after}
 use Rattle.tsdb_map.specs.State as plain
@@ -39,6 +39,28 @@ joined files bytes start middle last first second left stands legal = by left.st
       in_doubt = doubt;
       behind = subst (λ state. IsLegal state second last)
           (stands_once files bytes middle (state_after left.after command (Plain answer.Done)) stands is) legal;
+    }
+
+pub followed : (files : Files) (bytes : List ℕ) (start between middle last : plain.State) (first second : List Entry)
+    → IsLegal start first between → StandsAfter files between first bytes → StandsFor files bytes middle
+    → IsLegal middle second last → IsFollowed start first second last
+followed files bytes start between middle last first second leads left stands legal = by left
+  where
+    by : StandsAfter files between first bytes → IsFollowed start first second last
+    by (inl is) = record {
+      between = between;
+      legal = leads;
+      doubt = None;
+      in_doubt = tt;
+      behind = subst (λ state. IsLegal state second last) (stands_once files bytes middle between stands is) legal;
+    }
+    by (inr (command, doubt, is)) = record {
+      between = between;
+      legal = leads;
+      doubt = Some command;
+      in_doubt = doubt;
+      behind = subst (λ state. IsLegal state second last)
+          (stands_once files bytes middle (state_after between command (Plain answer.Done)) stands is) legal;
     }
 
 pub new_is_sound : (slot : Slot) (disk : State) (files : Files) (image : Image) → disk.seen ≡ Some image

@@ -1,5 +1,5 @@
 -- The files that are stored when a core is closed: those at its places.
-use Rattle.std.proofs.Common.{◌≡◌, inl, inr, ℕ, ◌+◌, ◌-◌, ◌<◌, ◌≤◌, Bool, true, false, cond, nat_eq, List, [], ◌∷◌, ◌++◌}
+use Rattle.std.proofs.Common.{◌≡◌, ◌≢◌, inl, inr, ℕ, ◌+◌, ◌-◌, ◌<◌, ◌≤◌, Bool, true, false, cond, nat_eq, List, [], ◌∷◌, ◌++◌}
 use Rattle.std.proofs.Common.{length, length-append, Option, Some, None, refl, sym, ap, subst, ◌∙◌, arith}
 use Rattle.std.proofs.lemmas.Bool.{false≢true}
 use Rattle.std.proofs.lemmas.Bool.Decides.{nat_tests}
@@ -12,8 +12,8 @@ use Rattle.tsdb_images.specs.Stored.{kept_bytes}
 use Rattle.tsdb_kept.proofs.PlaceFacts.{other_number, same_number}
 use Rattle.tsdb_kept.specs.Closing.{AreRising, IsNamed, names_at}
 use Rattle.tsdb_kept.specs.Places.{KeptFile, Places, file_at, is_number, place_at}
-use Rattle.tsdb_layers.proofs.Lists.{each_append, each_among}
-use Rattle.tsdb_layers.specs.Lists.{Among, if_some}
+use Rattle.tsdb_layers.proofs.Lists.{each_append, each_among, each_weaker}
+use Rattle.tsdb_layers.specs.Lists.{Among, EachPair, if_some}
 use Rattle.tsdb_outside.specs.Files.{StoredFile}
 
 stored_in : ℕ → Option (List ℕ) → List StoredFile
@@ -145,3 +145,27 @@ few ((number, Some file) ∷ places) from to rising low high =
     above_all ((other, None) ∷ places) above = (tt, above_all places above.1)
     above_all ((other, Some file) ∷ places) above =
         let less = above.0 in (omega (arith, less), above_all places above.1)
+
+-- files of rising numbers have different ones
+pub differing : (places : Places) → AreRising places
+    → EachPair (λ (a b : StoredFile). a.number ≢ b.number) (stored_at places)
+unfolding stored_at stored_place stored_in
+differing [] rising = tt
+differing ((number, None) ∷ places) rising = differing places rising.1
+differing ((number, Some file) ∷ places) rising = by file.name.bytes (differing places rising.1)
+  where
+    one : (bytes : List ℕ) (other : ℕ × Option KeptFile) → number < other.0 → IfSome other.1 (λ file. (told : List ℕ)
+        → file.name.bytes ≡ Some told → number ≢ other.0)
+    one bytes (n, None) less = tt
+    one bytes (n, Some file) less = λ told is same. absurd (omega (arith, less, same))
+
+    apart : (bytes : List ℕ) → Each (λ (other : StoredFile). number ≢ other.number) (stored_at places)
+    apart bytes = each_stored (λ (other : StoredFile). number ≢ other.number) places
+        (each_weaker (λ (other : ℕ × Option KeptFile). number < other.0)
+        (λ (other : ℕ × Option KeptFile). IfSome other.1 (λ file. (told : List ℕ) → file.name.bytes ≡ Some told
+        → number ≢ other.0)) (one bytes) places rising.0)
+
+    by : (bytes : Option (List ℕ)) → EachPair (λ (a b : StoredFile). a.number ≢ b.number) (stored_at places)
+        → EachPair (λ (a b : StoredFile). a.number ≢ b.number) (stored_in number bytes ++ stored_at places)
+    by None rest = rest
+    by (Some bytes) rest = (apart bytes, rest)

@@ -1,10 +1,12 @@
 -- What a core leaves that is closed.
-use Rattle.std.specs.Prelude.{◌≡◌, ◌⊎◌, List, Option, None}
+use Rattle.std.specs.Prelude.{◌≡◌, ◌≢◌, ◌⊎◌, List, Option, None}
+use Rattle.std.specs.List.{AllByRecursion as Each}
 use Rattle.tsdb_core.specs.declared.engine.Core.{Core}
 use Rattle.tsdb_images.specs.Stored.{LeavesOneOf, kept_bytes}
+use Rattle.tsdb_layers.specs.Lists.{EachPair}
 use Rattle.tsdb_map.specs.State as plain
 use Rattle.tsdb_outside.specs.Disk.{Image, State}
-use Rattle.tsdb_outside.specs.Files.{StoredFile}
+use Rattle.tsdb_outside.specs.Files.{IsFileNumber, StoredFile}
 use Rattle.tsdb_outside.specs.Moments.{LeavesOnly}
 use Rattle.tsdb_outside.specs.declared.disk.Disk as disk
 use Rattle.tsdb_outside.specs.declared.faults.Counted as counted
@@ -12,12 +14,15 @@ use Rattle.tsdb_replay.specs.Stores.{IsSound}
 use Rattle.tsdb_serving.specs.Serving.{AreHeldWith, disk_under, slot_under}
 
 module _ {J F S R P : Type 0} {means : disk.Ghosts J} {counts : counted.Ghosts J} where
-  -- A core was closed that is in the state; these files are stored then. `rose` says that the journal failed meanwhile.
+  -- A core was closed that is in the state; these files are stored then, of different numbers that files may have. `rose`
+  -- says that the journal failed meanwhile.
   -- A stop at any moment left the state, or the one in doubt. What is left stands with the stored files for the state, or
   -- for the one in doubt, and is a sound store unless the journal failed, and wherever nothing is in doubt.
   pub record IsClosed (core : Core J F S R P means counts) (new : State) (stored : List StoredFile) (rose : Type 0)
       (files : List StoredFile) (at : plain.State) (next : Option plain.State)
       : Type 0 where
+    pub differ : EachPair (λ (a b : StoredFile). a.number ≢ b.number) stored
+    pub numbers : Each (λ (file : StoredFile). IsFileNumber file.number) stored
     pub held : AreHeldWith stored files
     pub moments : LeavesOnly (disk_under core) new (LeavesOneOf files (slot_under core) at next)
     pub holds : (image : Image) → new.may_leave image → LeavesOneOf stored (slot_under core) at next image

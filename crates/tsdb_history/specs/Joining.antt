@@ -23,3 +23,12 @@ pub record IsJoined (start : plain.State) (first second : List Entry) (last : pl
   pub doubt : Option Command
   pub in_doubt : IfSome doubt (IsInDoubt prefix between)
   pub behind : IsLegal (with_doubt between doubt) second last
+
+-- The second entries follow all of the first ones, with the change in doubt after them or without, and lead from the
+-- first start to the last state.
+pub record IsFollowed (start : plain.State) (first second : List Entry) (last : plain.State) : Type 0 where
+  pub between : plain.State
+  pub legal : IsLegal start first between
+  pub doubt : Option Command
+  pub in_doubt : IfSome doubt (IsInDoubt first between)
+  pub behind : IsLegal (with_doubt between doubt) second last

@@ -19,7 +19,9 @@ use Rattle.tsdb_recover.specs.Files.{AreAtRestAgain}
 use Rattle.tsdb_recovery.proofs.Rest.{found_again, found_there, none_is_some, not_left, others_left, still_stored}
 use Rattle.tsdb_recovery.proofs.Rest.{stored_again}
 use Rattle.tsdb_recovery.specs.Damage.{IsTreeFile}
-use Rattle.tsdb_recovery.specs.Taking.{AreStored, AreTaken, IsRest, IsRestIn, IsTakingUp, rests_of}
+use Rattle.tsdb_recovery.specs.Taking.{AreTaken, IsRest, IsRestIn, IsTakingUp, rests_of}
+use Rattle.tsdb_recovery.proofs.Stored.{few_stored}
+use Rattle.tsdb_recovery.specs.Stored.{AreStored}
 use Rattle.tsdb_state.proofs.Counting.{is_or_not}
 use Rattle.tsdb_state.specs.Jobs.{Describes}
 use Rattle.tsdb_state.specs.State.{StoreState, Told}
@@ -90,7 +92,7 @@ again_at_rest : (stored : List StoredFile) (files : KeptFiles) (old new : List S
 again_at_rest stored files old new (inl same) up = subst (IsRest stored files) (sym same) up
 again_at_rest stored files old new (inr put) up =
     let parted = subst AreStored put.old_is up.are_stored in
-    let is = put.new_is up.are_stored.few in
+    let is = put.new_is (few_stored old up.are_stored) in
     record {
       are_stored = subst AreStored (sym is) (stored_again put.before put.file put.after parted);
       each = λ n. ap (λ l. kept_bytes l n) is ∙ found_again put.before put.file put.after parted n

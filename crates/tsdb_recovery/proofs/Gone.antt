@@ -13,7 +13,8 @@ use Rattle.tsdb_kept.specs.Places.{KeptFile}
 use Rattle.tsdb_outside.specs.Disk.{WhereTold}
 use Rattle.tsdb_outside.specs.Files.{NamedFile, StoredFile, TakesOut, numbers_of, plain_numbers}
 use Rattle.tsdb_recovery.proofs.Rest.{found_contains, not_left, others_left, still_stored}
-use Rattle.tsdb_recovery.specs.Taking.{AreGone, AreGoneIn, AreStored}
+use Rattle.tsdb_recovery.specs.Taking.{AreGone, AreGoneIn}
+use Rattle.tsdb_recovery.specs.Stored.{AreStored}
 use Rattle.tsdb_state.proofs.Counting.{is_or_not}
 
 -- ---- one file

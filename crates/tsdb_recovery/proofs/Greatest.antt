@@ -11,7 +11,8 @@ use Rattle.tsdb_base.specs.declared.ids.FileNumber.{FileNumber}
 use Rattle.tsdb_opening.specs.Opening.{greatest, next_number}
 use Rattle.tsdb_outside.specs.Files.{IsFileNumber, StoredFile, numbers_of, plain_numbers}
 use Rattle.tsdb_recovery.specs.Opened.{IsNextNumber}
-use Rattle.tsdb_recovery.specs.Taking.{AreStored, IsGreatest, IsStorable}
+use Rattle.tsdb_recovery.specs.Taking.{IsGreatest}
+use Rattle.tsdb_recovery.specs.Stored.{AreStored, IsNumbered}
 use Rattle.tsdb_state.specs.Limits.{end_of_numbers}
 
 pub only : (m n : ℕ) → Contains (m ∷ []) n → m ≡ n
@@ -101,7 +102,7 @@ all_numbers (x ∷ xs) n all there =
     by (inl one) rest = subst IsFileNumber (only x n one) (All-head IsFileNumber x xs all)
     by (inr more) rest = rest more
 
-pub stored_numbers : (files : List StoredFile) (n : ℕ) → Each IsStorable files → Contains (numbers_of files) n
+pub stored_numbers : (files : List StoredFile) (n : ℕ) → Each IsNumbered files → Contains (numbers_of files) n
     → IsFileNumber n
 stored_numbers [] n all there = absurd (omega (arith, there.1))
 stored_numbers (f ∷ fs) n all there =
@@ -109,7 +110,7 @@ stored_numbers (f ∷ fs) n all there =
   where
     by : Contains (f.number ∷ []) n ⊎ Contains (numbers_of fs) n → (Contains (numbers_of fs) n → IsFileNumber n)
         → IsFileNumber n
-    by (inl one) rest = subst IsFileNumber (only f.number n one) all.0.number
+    by (inl one) rest = subst IsFileNumber (only f.number n one) all.0
     by (inr more) rest = rest more
 
 -- the list of a store has the numbers of its files
@@ -120,7 +121,7 @@ pub stored_greatest : (last : Option FileNumber) (list : List ℕ) (stored : Lis
     → IsListOf stored list → All IsFileNumber list → AreStored stored → IsGreatest last (numbers_of stored)
 stored_greatest None list [] is exact all are = refl
 stored_greatest None list (f ∷ fs) is exact all are =
-    let there = (exact f.number are.each.0.number).1 (here f.number (numbers_of fs)) in
+    let there = (exact f.number are.each.0).1 (here f.number (numbers_of fs)) in
     absurd (nothing (subst (λ l. Contains l f.number) is there))
   where
     nothing : Contains [] f.number → ⊥

@@ -2,10 +2,12 @@ pub mod AtRest
 pub mod Causes
 pub mod Gone
 pub mod Greatest
+pub mod Left
 pub mod Next
 pub mod Once
 pub mod Opened
 pub mod Recovered
 pub mod Rest
 pub mod Steps
+pub mod Stored
 pub mod Trees

@@ -1,12 +1,13 @@
 -- A store is damaged in one part at one place at most.
-use Rattle.std.proofs.Common.{◌≡◌, ◌∙◌, ℕ, List, [], ◌∷◌, ◌++◌, Option, None, Some, refl, sym, ap, subst, arith}
+use Rattle.std.proofs.Common.{◌≡◌, ◌∙◌, ℕ, List, [], ◌∷◌, ◌++◌, length, Option, None, Some, refl, sym, ap, subst, arith}
 use Rattle.std.specs.List.{AllByRecursion as Each}
 use Rattle.tsdb_images.specs.Stored.{kept_bytes}
 use Rattle.tsdb_layers.proofs.Lists.{each_middle}
 use Rattle.tsdb_outside.specs.Files.{StoredFile}
-use Rattle.tsdb_recovery.proofs.Rest.{found_storable, none_is_some}
+use Rattle.tsdb_recovery.proofs.Rest.{found_each, none_is_some}
 use Rattle.tsdb_recovery.specs.Damage.{IsBadAt, IsDamagedFile, IsTreeFile}
-use Rattle.tsdb_recovery.specs.Taking.{AreStored}
+use Rattle.tsdb_outside.specs.Limits.{FitsSlot}
+use Rattle.tsdb_recovery.specs.Taking.{HaveLengths}
 use Rattle.tsdb_replay.specs.Stores.{Files}
 use Rattle.tsdb_state.specs.State.{File, StoreState}
 use Rattle.tsfile_reader.proofs.Blames.{one_blame}
@@ -56,16 +57,16 @@ first_is_one P (a ∷ xs) x ys (c ∷ bs) b cs same before not also nor =
     tails : (x : File) (ys : List File) (b : File) (cs : List File) → x ∷ ys ≡ b ∷ cs → ys ≡ cs
     tails x ys b cs same = cc
 
-one_place : (stored : List StoredFile) (n at by : ℕ) → AreStored stored → IsBadAt (kept_bytes stored n) at
+one_place : (stored : List StoredFile) (n at by : ℕ) → HaveLengths stored → IsBadAt (kept_bytes stored n) at
     → IsBadAt (kept_bytes stored n) by → at ≡ by
 one_place stored n at other are bad also = by (kept_bytes stored n) refl bad also
   where
     by : (found : Option (List ℕ)) → kept_bytes stored n ≡ found → IsBadAt found at → IsBadAt found other → at ≡ other
     by None is bad also = bad ∙ sym also
     by (Some bytes) is bad also =
-        one_blame bytes at other (omega (arith, (found_storable stored n bytes are.each is).size)) bad.1 also.1
+        one_blame bytes at other (omega (arith, (found_each (λ (file : StoredFile). FitsSlot (length file.bytes)) stored n bytes are is))) bad.1 also.1
 
-pub one_damage : (stored : List StoredFile) (store : StoreState) (n at m place : ℕ) → AreStored stored
+pub one_damage : (stored : List StoredFile) (store : StoreState) (n at m place : ℕ) → HaveLengths stored
     → IsDamagedFile (kept_bytes stored) store n at → IsDamagedFile (kept_bytes stored) store m place
     → (n ≡ m) × (at ≡ place)
 one_damage stored store n at m place are one two =

@@ -1,7 +1,7 @@
 -- All listed files are taken up, and no other is left: a store is opened.
 use Rattle.std.proofs.Common.{◌≡◌, ◌⊎◌, ◌∙◌, ℕ, List, [], Option, None, Some, Result, Ok, Err, IfSome, inl, inr, refl}
 use Rattle.std.proofs.Common.{sym, ap, subst}
-use Rattle.std.specs.Prelude.{OnOk}
+use Rattle.std.specs.Prelude.{OnErr, OnOk}
 use Rattle.std.specs.List.{All}
 use Rattle.tsdb_adopting.specs.Adopting.{HasAdoptedAll, IsAdoptingOf, files_of}
 use Rattle.tsdb_adopting.specs.declared.adopting.Adopting.{Adopting}
@@ -14,16 +14,17 @@ use Rattle.tsdb_recover.specs.declared.fault.OpenFault.{OpenFault}
 use Rattle.tsdb_recover.specs.declared.fault.OpenFault.TheVariants as fault
 use Rattle.tsdb_recover.specs.declared.fault.Part.{Part}
 use Rattle.tsdb_recovery.proofs.Greatest.{IsListOf, below_end, stored_greatest}
-use Rattle.tsdb_recovery.proofs.Rest.{found_contains, found_storable, none_found}
+use Rattle.tsdb_recovery.proofs.Rest.{found_contains, found_each, none_found}
 use Rattle.tsdb_recovery.specs.Damage.{IsFileDamaged}
-use Rattle.tsdb_recovery.specs.Taking.{AreAllTaken, AreGone, AreGoneIn, AreStored, GoesOn, HasTaken, HasTakenUp}
-use Rattle.tsdb_recovery.specs.Taking.{IsGreatest}
+use Rattle.tsdb_recovery.specs.Taking.{AreAllTaken, AreGone, AreGoneIn, GoesOn, HasLeft, HasTaken}
+use Rattle.tsdb_recovery.specs.Stored.{AreStored, IsNumbered}
+use Rattle.tsdb_recovery.specs.Taking.{HasTakenUp, IsGreatest}
 use Rattle.tsdb_recovery.specs.Taking.{IsRest, IsTakingUp, rests_of}
 use Rattle.tsdb_replay.specs.Stores.{Recorded}
 use Rattle.tsdb_state.specs.State.{StoreState}
 
 -- at the beginning all files are at rest
-begun : (stored : List StoredFile) (store : StoreState) (files : KeptFiles) → files ≡ none_kept → AreStored stored
+pub begun : (stored : List StoredFile) (store : StoreState) (files : KeptFiles) → files ≡ none_kept → AreStored stored
     → IsTakingUp stored store files (Some stored)
 begun stored store files none are =
     subst (λ f. IsTakingUp stored store f (Some stored)) (sym none) (record {
@@ -54,7 +55,7 @@ none_left stored files list mid now are rest gone exact =
     by n None is None kept =
         still n (gone.others n) (rest.each n ∙ ap (λ k. rests_of k (kept_bytes stored n)) kept ∙ is)
     by n (Some bytes) is None kept =
-        gone.gone n ((exact n (found_storable stored n bytes are.each is).number).1
+        gone.gone n ((exact n (found_each IsNumbered stored n bytes are.each is)).1
         (found_contains stored n bytes is)) kept
 
 module _ {F S R P : Type 0} (old new : Adopting F S R P) where
@@ -93,8 +94,10 @@ module _ {F S R P : Type 0} (old new : Adopting F S R P) where
       damages part at is stored recorded adopting (begun stored recorded.store (files_of old) none are)
 
   pub is_refused : (store : Store) (rest now : Option (List StoredFile)) (answer : OpenFault) → files_of old ≡ none_kept
-      → GoesOn store old new → Damages rest answer → HasTakenUp store old new rest now (Err answer)
-  is_refused store rest now answer none goes damages = record {
+      → GoesOn store old new → Damages rest answer → HasLeft old new rest now
+      → HasTakenUp store old new rest now (Err answer)
+  is_refused store rest now answer none goes damages left = record {
+    left = left;
     goes_on = goes;
     all = tt;
     number = tt;
@@ -112,6 +115,7 @@ module _ {F S R P : Type 0} (old new : Adopting F S R P) where
     all = all;
     number = below_end last list is numbers;
     taken = all_taken rest mid now list last none taken gone exact numbers is;
+    left = tt;
     damaged = λ part at is. absurd (no_error part at is);
   }
     where
@@ -121,3 +125,12 @@ module _ {F S R P : Type 0} (old new : Adopting F S R P) where
 pub ok_with : {T E : Type 0} (result : Result T E) (P Q : Type 0) → (P → Q) → OnOk result P → OnOk result Q
 ok_with (Ok value) P Q step holds = step holds
 ok_with (Err fault) P Q step holds = tt
+
+pub err_with : {T E : Type 0} (result : Result T E) (P Q : Type 0) → (P → Q) → OnErr result P → OnErr result Q
+err_with (Ok value) P Q step holds = tt
+err_with (Err fault) P Q step holds = step holds
+
+-- where nothing was taken up, all that was at rest is
+pub nothing_left : {F S R P : Type 0} (old : Adopting F S R P) (rest now : Option (List StoredFile)) → now ≡ rest
+    → HasLeft old old rest now
+nothing_left old rest now same = record { before = rest; taken = λ stored recorded is up. up; gone = inl same }

@@ -1,8 +1,10 @@
 -- The core of a store whose files are taken up, and what of the log and the files is said together.
-use Rattle.std.proofs.Common.{◌≡◌, ℕ, List, [], ◌++◌, map, Option, None, Some, Result, Ok, Err, IfSome, refl, sym, ap}
+use Rattle.std.proofs.Common.{◌≡◌, ◌⊎◌, ℕ, List, [], ◌++◌, map, Option, None, Some, Result, Ok, Err, IfSome, inl, inr}
+use Rattle.std.proofs.Common.{refl, sym, ap}
 use Rattle.std.proofs.Common.{subst}
 use Rattle.std.specs.Prelude.{IfErr, IfOk, IsErrAnd}
 use Rattle.std.specs.List.{All, AllByRecursion as Each}
+use Rattle.std.specs.Option.{IsSomeAnd}
 use Rattle.tsdb_adopting.proofs.Opened.{same_wanted}
 use Rattle.tsdb_adopting.specs.Adopting.{AreDescribed, IsAdoptingOf, files_of, opening_of}
 use Rattle.tsdb_adopting.specs.Known.{known_of}
@@ -36,8 +38,10 @@ use Rattle.tsdb_recovery.proofs.Greatest.{said_number}
 use Rattle.tsdb_recovery.proofs.Once.{none_damaged, one_damage}
 use Rattle.tsdb_recovery.proofs.Trees.{all_trees}
 use Rattle.tsdb_recovery.specs.Damage.{AnswersDamageIn, IsDamagedFile, IsDamagedIn, IsFileDamaged, IsTreeFile}
+use Rattle.tsdb_recovery.specs.Left.{AreLeft, IsStray, IsUnlisted}
 use Rattle.tsdb_recovery.specs.Opened.{HasOpened, IsNextNumber, IsRecovered, IsReplay}
-use Rattle.tsdb_recovery.specs.Taking.{AreStored, HasTakenUp}
+use Rattle.tsdb_recovery.specs.Taking.{HasTakenUp, HaveLengths}
+use Rattle.tsdb_recovery.specs.Stored.{AreStored}
 use Rattle.tsdb_replay.proofs.Parted as parted
 use Rattle.tsdb_replay.specs.Damage as log_damage
 use Rattle.tsdb_replay.specs.Replays.{IsReplayOf, Replays}
@@ -180,6 +184,35 @@ module _ (opening : Opening) (items : List LogRecord) (recorded : Recorded) (goo
       by parts.Log at is = absurd is
       by (parts.File number) at is = (recorded, replay_of image records, is)
 
+  -- what is gone of a store whose log has a replay is listed nowhere
+  pub strays_gone : (rest now : Option (List StoredFile)) (seen : Option Image)
+      → IfSome seen (λ image. HasRecords (map spelling items) image.a)
+      → IfSome rest (λ stored. (items : List LogRecord) (recorded : Recorded) → IsReplay opening items recorded
+      → AreStored stored → IsSomeAnd now (AreLeft (IsUnlisted recorded.store) stored))
+      → IfSome seen (λ image. IfSome rest (λ stored. AreStored stored
+      → IsSomeAnd now (AreLeft (IsStray image.a) stored)))
+  strays_gone rest now None records left = tt
+  strays_gone None now (Some image) records left = tt
+  strays_gone (Some stored) now (Some image) records left = λ are. by now (left items recorded replay are)
+    where
+      may_go : (files : List StoredFile) (n : ℕ) → (kept_bytes files n ≡ kept_bytes stored n)
+          ⊎ ((kept_bytes files n ≡ None) × IsUnlisted recorded.store n)
+          → (kept_bytes files n ≡ kept_bytes stored n) ⊎ ((kept_bytes files n ≡ None) × IsStray image.a n)
+      may_go files n (inl same) = inl same
+      may_go files n (inr gone) = inr (gone.0, (recorded, replay_of image records, gone.1))
+
+      by : (now : Option (List StoredFile)) → IsSomeAnd now (AreLeft (IsUnlisted recorded.store) stored)
+          → IsSomeAnd now (AreLeft (IsStray image.a) stored)
+      by None is = absurd is
+      by (Some files) is = record { are_stored = is.are_stored; each = λ n. may_go files n (is.each n) }
+
+-- where the log is refused no file goes
+pub none_gone : (rest : Option (List StoredFile)) (seen : Option Image)
+    → IfSome seen (λ image. IfSome rest (λ stored. AreStored stored → IsSomeAnd rest (AreLeft (IsStray image.a) stored)))
+none_gone rest None = tt
+none_gone None (Some image) = tt
+none_gone (Some stored) (Some image) = λ are. record { are_stored = are; each = λ n. inl refl }
+
 -- ---- each damage is answered
 
 module _ (opening : Opening) (items : List LogRecord) (recorded : Recorded) (good : All IsRecord items)
@@ -195,7 +228,7 @@ module _ (opening : Opening) (items : List LogRecord) (recorded : Recorded) (goo
       subst (λ (r : Recorded). IsDamagedFile (kept_bytes stored) r.store number.0 at)
       (same_replay opening items recorded good replayed shown image damaged.0 records damaged.1) damaged.2
 
-  one_answer : (stored : List StoredFile) (part : Part) (at : ℕ) (answer : OpenFault) → AreStored stored
+  one_answer : (stored : List StoredFile) (part : Part) (at : ℕ) (answer : OpenFault) → HaveLengths stored
       → IsFileDamaged (kept_bytes stored) recorded.store part at
       → ((part : Part) (at : ℕ) → answer ≡ fault.Damaged part at
       → IsFileDamaged (kept_bytes stored) recorded.store part at) → AnswersDamageIn part at answer
@@ -221,12 +254,12 @@ module _ (opening : Opening) (items : List LogRecord) (recorded : Recorded) (goo
         → IfErr result (λ refused. IfSome rest (λ stored. (items : List LogRecord) (recorded : Recorded)
         → IsReplay opening items recorded → AreStored stored → (part : Part) (at : ℕ)
         → refused.fault ≡ fault.Damaged part at → IsFileDamaged (kept_bytes stored) recorded.store part at))
-        → IfSome seen (λ image. IfSome rest (λ stored. (part : Part) (at : ℕ) → AreStored stored
+        → IfSome seen (λ image. IfSome rest (λ stored. (part : Part) (at : ℕ) → AreStored stored → HaveLengths stored
         → IsDamagedIn (kept_bytes stored) image.a part at
         → IsErrAnd result (λ refused. AnswersDamageIn part at refused.fault)))
     each_answered result rest None records opens damages = tt
     each_answered result None (Some image) records opens damages = tt
-    each_answered (Ok core) (Some stored) (Some image) records opens damages = λ part at are damaged.
+    each_answered (Ok core) (Some stored) (Some image) records opens damages = λ part at are lengths damaged.
         none part at (damage_of image stored part at records damaged) (opens items recorded here are).whole
       where
         here : IsReplay opening items recorded
@@ -237,8 +270,8 @@ module _ (opening : Opening) (items : List LogRecord) (recorded : Recorded) (goo
         none parts.Log at damaged all = damaged
         none (parts.File number) at damaged all =
             none_damaged (kept_bytes stored) recorded.store number.0 at all damaged
-    each_answered (Err refused) (Some stored) (Some image) records opens damages = λ part at are damaged.
-        one_answer stored part at refused.fault are (damage_of image stored part at records damaged)
+    each_answered (Err refused) (Some stored) (Some image) records opens damages = λ part at are lengths damaged.
+        one_answer stored part at refused.fault lengths (damage_of image stored part at records damaged)
         (damages items recorded (record { shown = shown; replayed = replayed }) are)
 
 -- where the log is refused
@@ -246,13 +279,13 @@ pub log_answered : (rest : Option (List StoredFile)) (seen : Option Image) (answ
     → IfSome seen (λ image. (part : Part) (at : ℕ) → answer ≡ fault.Damaged part at
     → (part ≡ parts.Log) × log_damage.IsDamaged store_steps at image.a)
     → IfSome seen (λ image. (at : ℕ) → log_damage.IsDamaged store_steps at image.a → AnswersDamage at answer)
-    → IfSome seen (λ image. IfSome rest (λ stored. (part : Part) (at : ℕ) → AreStored stored
+    → IfSome seen (λ image. IfSome rest (λ stored. (part : Part) (at : ℕ) → AreStored stored → HaveLengths stored
     → IsDamagedIn (kept_bytes stored) image.a part at → AnswersDamageIn part at answer))
 log_answered rest None answer damaged each = tt
 log_answered None (Some image) answer damaged each = tt
-log_answered (Some stored) (Some image) fault.Failed damaged each = λ part at are is. tt
-log_answered (Some stored) (Some image) fault.Memory damaged each = λ part at are is. tt
-log_answered (Some stored) (Some image) (fault.Damaged other place) damaged each = λ part at are is. by part at is
+log_answered (Some stored) (Some image) fault.Failed damaged each = λ part at are lengths is. tt
+log_answered (Some stored) (Some image) fault.Memory damaged each = λ part at are lengths is. tt
+log_answered (Some stored) (Some image) (fault.Damaged other place) damaged each = λ part at are lengths is. by part at is
   where
     by : (part : Part) (at : ℕ) → IsDamagedIn (kept_bytes stored) image.a part at
         → AnswersDamageIn part at (fault.Damaged other place)

@@ -1,18 +1,18 @@
 -- Stored files by their numbers, where one is taken out or put back.
 use Rattle.std.proofs.Common.{◌≡◌, ◌≢◌, ◌∙◌, ℕ, Bool, true, false, cond, List, [], ◌∷◌, ◌++◌}
 use Rattle.std.proofs.Common.{None, Some, inl, inr, refl, sym, ap, subst, arith, nat_eq, rules, append-nil}
-use Rattle.std.proofs.Common.{length-append}
 use Rattle.std.proofs.lemmas.Bool.{eq-eqb, eqb-true, false≢true}
 use Rattle.std.proofs.lemmas.List.Elements.{Contains-append_cases, Contains-append_right, Contains-push_cases}
 use Rattle.std.specs.Prelude.{◌⊎◌, Contains}
 use Rattle.std.specs.List.{AllByRecursion as Each, find}
 use Rattle.tsdb_images.proofs.Kept.{found_bytes, has_number}
 use Rattle.tsdb_images.specs.Stored.{kept_bytes}
-use Rattle.tsdb_layers.proofs.Lists.{each_append, each_left, each_middle, each_weaker, each_without, pairs_of_one}
+use Rattle.tsdb_layers.proofs.Lists.{each_append, each_both, each_left, each_middle, each_weaker, each_without, pairs_of_one}
 use Rattle.tsdb_layers.proofs.Lists.{pairs_push, pairs_without}
 use Rattle.tsdb_layers.specs.Lists.{EachPair}
 use Rattle.tsdb_outside.specs.Files.{StoredFile, numbers_of}
-use Rattle.tsdb_recovery.specs.Taking.{AreStored, DifferInNumber, IsStorable}
+use Rattle.tsdb_replay.specs.Stores.{HoldsKept}
+use Rattle.tsdb_recovery.specs.Stored.{AreStored, DifferInNumber, IsNumbered}
 
 other_number : (a b : ℕ) → a ≢ b → nat_eq a b ≡ false
 other_number a b differ = by (nat_eq a b) refl
@@ -34,7 +34,7 @@ none_there (file ∷ files) n apart =
     ap (λ b. found_bytes (cond b (Some file) (find (has_number n) files))) (other_number file.number n apart.0)
     ∙ none_there files n apart.1
 
-behind : (n : ℕ) (xs ys : List StoredFile) → Each (λ file. file.number ≢ n) xs
+pub behind : (n : ℕ) (xs ys : List StoredFile) → Each (λ file. file.number ≢ n) xs
     → kept_bytes (xs ++ ys) n ≡ kept_bytes ys n
 behind n [] ys apart = refl
 behind n (x ∷ xs) ys apart =
@@ -104,23 +104,34 @@ found_contains (f ∷ fs) n bytes is = by (nat_eq f.number n) refl (found_contai
         subst (λ m. Contains (f.number ∷ numbers_of fs) m) (eqb-true f.number n same) (here f.number (numbers_of fs))
     by false other rest is = Contains-append_right (f.number ∷ []) (numbers_of fs) n (rest is)
 
--- and its number is one that a file may have
-pub found_storable : (files : List StoredFile) (n : ℕ) (bytes : List ℕ) → Each IsStorable files
-    → kept_bytes files n ≡ Some bytes → IsStorable (record { number = n; bytes = bytes })
-found_storable [] n bytes all is = absurd (none_is_some bytes is)
-found_storable (f ∷ fs) n bytes all is = by (nat_eq f.number n) refl (found_storable fs n bytes all.1) is
+-- and what holds of each file holds of it
+pub found_each : (P : StoredFile → Type 0) (files : List StoredFile) (n : ℕ) (bytes : List ℕ) → Each P files
+    → kept_bytes files n ≡ Some bytes → P (record { number = n; bytes = bytes })
+found_each P [] n bytes all is = absurd (none_is_some bytes is)
+found_each P (f ∷ fs) n bytes all is = by (nat_eq f.number n) refl (found_each P fs n bytes all.1) is
   where
     some_is : (a b : List ℕ) → Some a ≡ Some b → a ≡ b
     some_is a b same = cc
 
     by : (b : Bool) → nat_eq f.number n ≡ b
-        → (kept_bytes fs n ≡ Some bytes → IsStorable (record { number = n; bytes = bytes }))
+        → (kept_bytes fs n ≡ Some bytes → P (record { number = n; bytes = bytes }))
         → found_bytes (cond b (Some f) (find (has_number n) fs)) ≡ Some bytes
-        → IsStorable (record { number = n; bytes = bytes })
+        → P (record { number = n; bytes = bytes })
     by true same rest is =
-        subst (λ m. IsStorable (record { number = m; bytes = bytes })) (eqb-true f.number n same)
-        (subst (λ l. IsStorable (record { number = f.number; bytes = l })) (some_is f.bytes bytes is) all.0)
+        subst (λ m. P (record { number = m; bytes = bytes })) (eqb-true f.number n same)
+        (subst (λ l. P (record { number = f.number; bytes = l })) (some_is f.bytes bytes is) all.0)
     by false other rest is = rest is
+
+-- each of the files is found
+pub holds_itself : (files : List StoredFile) → EachPair DifferInNumber files → HoldsKept files (kept_bytes files)
+holds_itself [] differ = tt
+holds_itself (f ∷ fs) differ = (
+  first f fs,
+  each_both (DifferInNumber f) (λ file. kept_bytes fs file.number ≡ Some file.bytes)
+      (λ file. kept_bytes (f ∷ fs) file.number ≡ Some file.bytes)
+      (λ file apart is. ap (λ b. found_bytes (cond b (Some f) (find (has_number file.number) fs)))
+      (other_number f.number file.number apart) ∙ is) fs differ.0 (holds_itself fs differ.1),
+)
 
 -- where no file is found there is none
 pub none_found : (files : List StoredFile) → ((n : ℕ) → kept_bytes files n ≡ None) → files ≡ []
@@ -150,8 +161,7 @@ module _ (before : List StoredFile) (file : StoredFile) (after : List StoredFile
   pub still_stored : AreStored (before ++ after)
   still_stored = record {
     differ = pairs_without DifferInNumber before file after are.differ;
-    each = each_without IsStorable before file after are.each;
-    few = omega (arith, are.few, length-append before (file ∷ after), length-append before after);
+    each = each_without IsNumbered before file after are.each;
   }
 
   -- put back behind the others, it is found again
@@ -173,13 +183,6 @@ module _ (before : List StoredFile) (file : StoredFile) (after : List StoredFile
   stored_again = record {
     differ = pairs_push DifferInNumber (before ++ after) file still_stored.differ
         (each_weaker (DifferInNumber file) (λ f. DifferInNumber f file) (turn file) (before ++ after) apart);
-    each = each_append IsStorable (before ++ after) (file ∷ []) still_stored.each
-        (each_middle IsStorable before file after are.each, tt);
-    few = omega (
-      arith,
-      are.few,
-      length-append before (file ∷ after),
-      length-append (before ++ after) (file ∷ []),
-      length-append before after,
-    );
+    each = each_append IsNumbered (before ++ after) (file ∷ []) still_stored.each
+        (each_middle IsNumbered before file after are.each, tt);
   }

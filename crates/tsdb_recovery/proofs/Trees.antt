@@ -19,7 +19,8 @@ use Rattle.tsdb_plan.specs.declared.entry.FileEntry.{FileEntry}
 use Rattle.tsdb_recover.specs.Files.{IsDamagedAmong}
 use Rattle.tsdb_recovery.proofs.Rest.{contains_found, found_contains, none_is_some}
 use Rattle.tsdb_recovery.specs.Damage.{IsBadAt, IsDamagedFile, IsTreeFile}
-use Rattle.tsdb_recovery.specs.Taking.{AreStored, IsNext, IsRestIn, rests_of}
+use Rattle.tsdb_recovery.specs.Taking.{IsNext, IsRestIn, rests_of}
+use Rattle.tsdb_recovery.specs.Stored.{AreStored}
 use Rattle.tsdb_state.specs.State.{File, StoreState}
 
 spaces_differ : Sequence ≡ Unsequence → ⊥

@@ -1,6 +1,6 @@
 -- How far the files of a store are taken up, and which are at rest meanwhile.
-use Rattle.std.specs.Prelude.{◌≡◌, ◌⊎◌, ℕ, ◌+◌, ◌^◌, ◌<◌, ◌≤◌, ◌≢◌, List, [], ◌++◌, length, map, Option, None, Some}
-use Rattle.std.specs.Prelude.{Contains, IfOk, IfSome, IsErrOf, OnOk, Result}
+use Rattle.std.specs.Prelude.{◌≡◌, ◌⊎◌, ℕ, ◌+◌, ◌<◌, ◌≤◌, List, [], ◌++◌, length, map, Option, None, Some}
+use Rattle.std.specs.Prelude.{Contains, IfOk, IfSome, IsErrOf, OnErr, OnOk, Result}
 use Rattle.std.specs.List.{AllByRecursion as Each}
 use Rattle.std.specs.Option.{IsSomeAnd}
 use Rattle.tsdb_adopting.specs.Adopting.{AreDescribed, HasAdoptedAll, IsAdoptingOf, files_of, next_in, opening_of}
@@ -12,32 +12,22 @@ use Rattle.tsdb_held.specs.Held.{TellTheirBytes, listed}
 use Rattle.tsdb_images.specs.Stored.{IsKept, kept_bytes}
 use Rattle.tsdb_kept.specs.Files.{KeptFiles, kept_file}
 use Rattle.tsdb_kept.specs.Places.{AreOfStore, KeptFile}
-use Rattle.tsdb_layers.specs.Lists.{EachPair}
 use Rattle.tsdb_outside.specs.Causes.{Rose}
-use Rattle.tsdb_outside.specs.Files.{IsFileNumber, Store, StoredFile, numbers_of}
+use Rattle.tsdb_outside.specs.Files.{Store, StoredFile, numbers_of}
 use Rattle.tsdb_outside.specs.Limits.{FitsSlot}
 use Rattle.tsdb_recover.specs.declared.fault.OpenFault.{OpenFault}
 use Rattle.tsdb_recover.specs.declared.fault.OpenFault.TheVariants as fault
 use Rattle.tsdb_recover.specs.declared.fault.Part.{Part}
 use Rattle.tsdb_recovery.specs.Damage.{IsFileDamaged, IsTreeFile}
 use Rattle.tsdb_replay.specs.Stores.{Recorded}
+use Rattle.tsdb_recovery.specs.Stored.{AreStored}
 use Rattle.tsdb_state.specs.Limits.{end_of_numbers}
 use Rattle.tsdb_state.specs.State.{StoreState, Told}
 use Rattle.tsdb_state.specs.StoreOrder.{StoreInOrder}
 
-abbrev pub DifferInNumber : StoredFile → StoredFile → Type 0
-DifferInNumber a b = a.number ≢ b.number
-
--- a file has a number that it may have, and its length is one that a file may have
-pub record IsStorable (file : StoredFile) : Type 0 where
-  pub number : IsFileNumber file.number
-  pub size : FitsSlot (length file.bytes)
-
--- Files as a store has them: their numbers differ, so that there are fewer than 2^63.
-pub record AreStored (files : List StoredFile) : Type 0 where
-  pub differ : EachPair DifferInNumber files
-  pub each : Each IsStorable files
-  pub few : length files < 2 ^ 63
+-- each file has a length that a file may have
+abbrev pub HaveLengths : List StoredFile → Type 0
+HaveLengths files = Each (λ (file : StoredFile). FitsSlot (length file.bytes)) files
 
 -- what is at rest of a file: nothing while it is kept
 abbrev pub rests_of : Option KeptFile → Option (List ℕ) → Option (List ℕ)
@@ -131,6 +121,13 @@ pub record AreAllTaken (stored : List StoredFile) (store : StoreState) (files : 
   pub none : rest ≡ Some []
 
 module _ {F S R P : Type 0} where
+  -- Taking up has failed. More files are taken up, and all others are at rest; or all listed ones are taken up, and of
+  -- the others some are gone.
+  pub record HasLeft (old new : Adopting F S R P) (rest now : Option (List StoredFile)) : Type 0 where
+    pub before : Option (List StoredFile)
+    pub taken : HasTaken old new rest before
+    pub gone : (now ≡ before) ⊎ (HasAdoptedAll new × AreGoneIn [] (files_of new) before now)
+
   -- All listed files were taken up and all others removed, or a fault came. Before it these were at rest.
   pub record HasTakenUp (store : Store) (old new : Adopting F S R P) (rest now : Option (List StoredFile))
       (result : Result (Option FileNumber) OpenFault)
@@ -140,6 +137,7 @@ module _ {F S R P : Type 0} where
     pub number : IfOk result (λ last. IfSome last (λ number. number.0 < end_of_numbers))
     pub taken : IfOk result (λ last. IfSome rest (λ stored. (recorded : Recorded) → IsAdoptingOf old recorded
         → AreStored stored → AreAllTaken stored recorded.store (files_of new) last now))
+    pub left : OnErr result (HasLeft old new rest now)
     pub damaged : (part : Part) (at : ℕ) → IsErrOf result (fault.Damaged part at)
         → IfSome rest (λ stored. (recorded : Recorded) → IsAdoptingOf old recorded → AreStored stored
         → IsFileDamaged (kept_bytes stored) recorded.store part at)

@@ -1,7 +1,9 @@
 //! The opening of a store. Depends on `taking`, `strays`, tsdb_recover, tsdb_adopting and tsdb_core.
-ghost use Rattle.std.specs.Prelude.{◌≡◌, ◌⊎◌, ◌≤◌, [], ℕ, IfErr, IfOk, IfSome, IsErrAnd, IsErrOf, List, OnOk, Some};
+ghost use Rattle.std.specs.Prelude.{◌≡◌, ◌⊎◌, ◌≤◌, [], ℕ, IfErr, IfOk, IfSome, IsErrAnd, IsErrOf, List, OnErr, OnOk};
+ghost use Rattle.std.specs.Prelude.{Some};
 ghost use Rattle.std.specs.declared.option.Option.{Option};
 ghost use Rattle.std.specs.List.Sorted.{IsStrictlyIncreasing};
+ghost use Rattle.std.specs.Option.{IsSomeAnd};
 ghost use Rattle.tsdb_adopting.specs.Adopting.{HasAdoptedAll, IsAdoptingOf, files_of};
 ghost use Rattle.tsdb_core.specs.Core.{KeepsJobs, files_of as core_files, limit_of, logged_of, next_of};
 ghost use Rattle.tsdb_core.specs.Limits.{IsPairLimit};
@@ -20,10 +22,12 @@ ghost use Rattle.tsdb_recover.specs.Files.{HasFilesCause};
 ghost use Rattle.tsdb_recover.specs.declared.fault.Part as store_part;
 ghost use Rattle.tsdb_recovery.specs.Damage.{AnswersDamageIn, IsDamagedIn, IsFileDamaged};
 ghost use Rattle.tsdb_recovery.specs.Opened.{HasOpened, IsNextNumber, IsRecovered, IsReplay};
-ghost use Rattle.tsdb_recovery.specs.Taking.{AreGoneIn, AreStored, GoesOn, HasOpenCause, HasTaken, HasTakenUp};
-ghost use Rattle.tsdb_recovery.specs.Taking.{IsGreatest, IsTakingUp};
+ghost use Rattle.tsdb_recovery.specs.Left.{AreLeft, IsStray, IsUnlisted};
+ghost use Rattle.tsdb_recovery.specs.Taking.{AreGoneIn, GoesOn, HasLeft, HasOpenCause, HasTaken, HasTakenUp};
+ghost use Rattle.tsdb_recovery.specs.Taking.{HaveLengths, IsGreatest, IsTakingUp};
 ghost use Rattle.tsdb_replay.specs.Replays.{IsReplayOf};
 ghost use Rattle.tsdb_replay.specs.Stores.{IsSound, Recorded, store_steps};
+ghost use Rattle.tsdb_recovery.specs.Stored.{AreStored};
 
 use crate::strays::remove_strays;
 use crate::taking::adopt_all;
@@ -57,8 +61,11 @@ pub fn recover<J: Journal, F: Files>(
         (λ stored. (part : store_part.Part) (at : ℕ) → AreStored stored
         → refused.fault ≡ OpenFault.Damaged part at → IsDamagedIn (kept_bytes stored) image.a part at))) }
     ensures each { IfSome (J.state journal).seen (λ image. IfSome (F.at_rest files.old) (λ stored.
-        (part : store_part.Part) (at : ℕ) → AreStored stored → IsDamagedIn (kept_bytes stored) image.a part at
+        (part : store_part.Part) (at : ℕ) → AreStored stored → HaveLengths stored
+        → IsDamagedIn (kept_bytes stored) image.a part at
         → IsErrAnd result (λ refused. AnswersDamageIn part at refused.fault))) }
+    ensures left { IfErr result (λ refused. IfSome (J.state journal).seen (λ image. IfSome (F.at_rest files.old)
+        (λ stored. AreStored stored → IsSomeAnd (F.at_rest files.new) (AreLeft (IsStray image.a) stored)))) }
 
     // Nothing is out, and all files are of the store.
     ensures quiet { IfOk result (λ core. KeepsJobs core [] []) }
@@ -99,6 +106,9 @@ fn open_files<J: Journal, F: Files>(
     ensures damaged { IfErr result (λ refused. IfSome (F.at_rest files.old) (λ stored. (items : List LogRecord)
         (recorded : Recorded) → IsReplay opening items recorded → AreStored stored → (part : store_part.Part) (at : ℕ)
         → refused.fault ≡ OpenFault.Damaged part at → IsFileDamaged (kept_bytes stored) recorded.store part at)) }
+    ensures left { IfErr result (λ refused. IfSome (F.at_rest files.old) (λ stored. (items : List LogRecord)
+        (recorded : Recorded) → IsReplay opening items recorded → AreStored stored
+        → IsSomeAnd (F.at_rest files.new) (AreLeft (IsUnlisted recorded.store) stored))) }
     ensures log { IfOk result (λ core. log_of (logged_of core) ≡ log) }
     ensures quiet { IfOk result (λ core. KeepsJobs core [] []) }
     ensures no_rights { IfOk result (λ core. AreUnread (core_files core).places) }
@@ -192,6 +202,7 @@ fn take_listed<F: Files>(
     ensures taken { OnOk result ((rest : Option (List StoredFile)) × HasTaken adopting.old adopting.new
         (F.at_rest files.old) rest × AreGoneIn (plain_numbers numbers.now) (files_of adopting.new) rest
         (F.at_rest files.new)) }
+    ensures left { OnErr result (HasLeft adopting.old adopting.new (F.at_rest files.old) (F.at_rest files.new)) }
     ensures damaged { (part : store_part.Part) (at : ℕ) → IsErrOf result (OpenFault.Damaged part at)
         → (stored : List StoredFile) (recorded : Recorded) → IsAdoptingOf adopting.old recorded
         → IsTakingUp stored recorded.store (files_of adopting.old) (F.at_rest files.old)

@@ -25,7 +25,8 @@ use Rattle.tsdb_outside.specs.declared.disk.Disk as disk
 use Rattle.tsdb_outside.specs.declared.disk.Slot.{Slot}
 use Rattle.tsdb_outside.specs.declared.disk.Slot.TheVariants.{A}
 use Rattle.tsdb_outside.specs.declared.faults.Counted as counted
-use Rattle.tsdb_replay.proofs.Stores.{sound_kept, stands_with_more}
+use Rattle.tsdb_recovery.specs.Stored.{AreStored}
+use Rattle.tsdb_replay.proofs.Stores.{stands_with_more}
 use Rattle.tsdb_replay.specs.Stores as stores
 use Rattle.tsdb_replay.specs.Stores.{HoldsKept, StandsFor, StandsForOneOf}
 use Rattle.tsdb_run.specs.Headline.{AreNewer, HasRun}
@@ -108,11 +109,20 @@ module _ {J F S R P : Type 0} {means : disk.Ghosts J} {counts : counted.Ghosts J
     moments = moments;
     stored = stored;
     told = told;
+    are_stored = are_stored;
     held = closed.held;
     holds = λ image kept left holds. after_all image kept (closed.holds image left kept holds);
-    sound = λ calm. subst (λ (s : Slot). stores.IsSound s new (kept_bytes stored) served.after) in_a (closed.sound (by calm));
+    sound = λ calm. record {
+      files = stored;
+      told = told;
+      are_stored = are_stored;
+      sound = subst (λ (s : Slot). stores.IsSound s new (kept_bytes stored) served.after) in_a (closed.sound (by calm));
+    };
   }
     where
+      are_stored : AreStored stored
+      are_stored = record { differ = closed.differ; each = closed.numbers }
+
       by : (¬ more) ⊎ EndsDone entries → (¬ rose) ⊎ (served.doubt ≡ None)
       by (inl calm) = inl (λ is. calm (wider is))
       by (inr ends) = inr (served.settled ends)
@@ -167,6 +177,7 @@ module _ (files : List StoredFile) (start : plain.State) (entries : List Entry) 
         (found_with_more files run.put number bytes found)) (stands image left)))) run.moments;
     stored = run.stored;
     told = run.told;
+    are_stored = run.are_stored;
     held = run.held;
     holds = run.holds;
     sound = λ calm. run.sound (calmer more wider calm);
@@ -186,9 +197,10 @@ module _ (files : List StoredFile) (start : plain.State) (entries : List Entry) 
         (run.holds image kept left (run.held kept holds))));
     stored = run.stored;
     told = same ∙ run.told;
+    are_stored = run.are_stored;
     held = run.held;
     holds = λ image kept left holds. run.holds image kept (keeps.crash image left) holds;
-    sound = λ calm. sound_kept A mid new (kept_bytes run.stored) run.after keeps (run.sound (calmer more wider calm));
+    sound = λ calm. sound_after mid new now then run.after keeps same (run.sound (calmer more wider calm));
   }
 
 -- the script was executed on the store of a journal, which a place handed out and took back

@@ -8,7 +8,6 @@ use Rattle.tsdb_images.specs.Stored.{kept_bytes}
 use Rattle.tsdb_outside.specs.declared.disk.Disk as disk
 use Rattle.tsdb_outside.specs.declared.faults.Counted as counted
 use Rattle.tsdb_recovery.specs.Opened.{IsNextNumber, IsRecovered}
-use Rattle.tsdb_recovery.specs.Taking.{AreStored}
 use Rattle.tsdb_replay.specs.Replays.{IsReplayOf}
 use Rattle.tsdb_replay.specs.Stores as replay
 use Rattle.tsdb_map.specs.State as plain
@@ -22,6 +21,7 @@ use Rattle.tsdb_recovery.specs.Damage.{IsDamagedFile, IsDamagedIn, IsTreeFile}
 use Rattle.tsdb_layers.proofs.Lists.{each_weaker}
 use Rattle.tsdb_replay.proofs.Parted.{damaged_none, replay_once}
 use Rattle.tsdb_replay.proofs.Stores.{sound_images, sound_kept}
+use Rattle.tsdb_recovery.specs.Stored.{AreStored}
 use Rattle.tsdb_replay.specs.Stores.{Files, IsWhole, Recorded, StandsFor, store_steps, store_steps_determinate}
 use Rattle.tsdb_run.specs.Store.{IsDamaged, IsSound, Tells, contents}
 use Rattle.tsdb_state.specs.State.{File, Told}

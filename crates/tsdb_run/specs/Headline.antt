@@ -16,13 +16,14 @@ use Rattle.tsdb_outside.specs.Moments.{LeavesOnly}
 use Rattle.tsdb_outside.specs.declared.disk.Slot.TheVariants.{A}
 use Rattle.tsdb_replay.specs.Stores.{Files, HoldsKept}
 use Rattle.tsdb_run.specs.Output.{AppendsPrefix, output_text}
-use Rattle.tsdb_run.specs.Store.{Contents, IsDamaged, IsSound, IsSoundWith}
+use Rattle.tsdb_run.specs.Store.{Contents, IsDamaged, IsSound}
 use Rattle.tsdb_run.specs.declared.status.Status.{Status}
 use Rattle.tsdb_run.specs.declared.status.Status.TheVariants.{Done, Memory, Words, Script, Source, Sink, Device}
 use Rattle.tsdb_run.specs.declared.status.Status.TheVariants.{Damaged}
 use Rattle.tsdb_script.specs.Reading.{IsScript, IsFirstBad}
 use Rattle.tsdb_script.specs.declared.numbered.Numbered.{Numbered}
 use Rattle.tsdb_serving.specs.Serving.{AreHeldWith}
+use Rattle.tsdb_recovery.specs.Stored.{AreStored}
 use Rattle.tsdb_words.specs.Words.{AreWords, Asked}
 
 -- What a run was given, and what it left.
@@ -64,12 +65,13 @@ pub record HasRun (files : List StoredFile) (start : plain.State) (entries : Lis
   -- what is left, which holds no file but those of the run
   pub stored : List StoredFile
   pub told : new.stored ≡ Some stored
+  pub are_stored : AreStored stored
   pub held : AreHeldWith stored (files ++ put)
   -- it stands for the state after all entries, with whatever files hold what is stored
   pub holds : (image : Image) (kept : Files) → new.disk.may_leave image → HoldsKept stored kept
       → StandsAfter kept after entries image.a
-  -- and it is a sound store, unless something failed and no later change was done
-  pub sound : (¬ rose) ⊎ EndsDone entries → IsSoundWith stored new.disk after
+  -- and it is a sound store, on which the next run begins, unless something failed and no later change was done
+  pub sound : (¬ rose) ⊎ EndsDone entries → IsSound new after
 
 -- The script was executed on the store of the directory that the words name.
 pub record IsExecuted (run : Run) (puts : List ℕ → Type 0) : Type 0 where

@@ -7,8 +7,8 @@ use Rattle.tsdb_outside.specs.Files.{StoredFile}
 use Rattle.tsdb_outside.specs.declared.disk.Slot.TheVariants.{A}
 use Rattle.tsdb_recover.specs.declared.fault.Part.{Part}
 use Rattle.tsdb_recovery.specs.Damage.{IsDamagedIn}
-use Rattle.tsdb_recovery.specs.Taking.{AreStored}
 use Rattle.tsdb_replay.specs.Stores as store
+use Rattle.tsdb_recovery.specs.Stored.{AreStored}
 
 -- What a place has: what its disk means, and the files of its store where it tells them.
 pub record Contents : Type 1 where

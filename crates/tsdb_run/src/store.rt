@@ -11,6 +11,7 @@ ghost use Rattle.tsdb_outside.specs.Files.{StoredFile};
 ghost use Rattle.tsdb_outside.specs.declared.disk.Slot.TheVariants as slots;
 ghost use Rattle.tsdb_recover.specs.declared.fault.Part as store_part;
 ghost use Rattle.tsdb_recovery.specs.Damage.{IsDamagedIn};
+ghost use Rattle.tsdb_recovery.specs.Taking.{HaveLengths};
 ghost use Rattle.tsdb_run.specs.Causes.{ReportsDamage};
 ghost use Rattle.tsdb_run.specs.Steps.{IsOpeningStatus, IsRunOn, IsServedFrom, opening_status};
 ghost use Rattle.tsdb_run.specs.Store.{IsSoundOrSilent, Tells, contents};
@@ -51,7 +52,7 @@ pub fn run_commands<P: Place>(
     ensures status { IfErr result (IsOpeningStatus (contents (P.state place.old) (P.stored place.old))) }
     ensures device { IfErr result (λ status. status ≡ Status.Device → Rose (P.faults place.old) (P.faults place.new)) }
     ensures damaged { (image : Image) (files : List StoredFile) (part : store_part.Part) (at : ℕ)
-        → Tells (contents (P.state place.old) (P.stored place.old)) image files
+        → Tells (contents (P.state place.old) (P.stored place.old)) image files → HaveLengths files
         → IsDamagedIn (kept_bytes files) image.a part at → IsErrAnd result (λ status. ReportsDamage status part at) }
     ensures later { P.faults place.old ≤ P.faults place.new }
 {
@@ -101,7 +102,7 @@ fn run_on<J: Journal, F: Files>(
     ensures status { IfErr result.1 (IsOpeningStatus (contents (J.state journal) (F.at_rest files.old))) }
     ensures device { IfErr result.1 (λ status. status ≡ Status.Device → 0 < J.faults result.0 + F.faults files.new) }
     ensures damaged { (image : Image) (files_there : List StoredFile) (part : store_part.Part) (at : ℕ)
-        → Tells (contents (J.state journal) (F.at_rest files.old)) image files_there
+        → Tells (contents (J.state journal) (F.at_rest files.old)) image files_there → HaveLengths files_there
         → IsDamagedIn (kept_bytes files_there) image.a part at
         → IsErrAnd result.1 (λ status. ReportsDamage status part at) }
 {

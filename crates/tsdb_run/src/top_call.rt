@@ -10,6 +10,7 @@ ghost use Rattle.tsdb_outside.specs.Disk.{Image};
 ghost use Rattle.tsdb_outside.specs.Files.{StoredFile};
 ghost use Rattle.tsdb_recover.specs.declared.fault.Part as store_part;
 ghost use Rattle.tsdb_recovery.specs.Damage.{IsDamagedIn};
+ghost use Rattle.tsdb_recovery.specs.Taking.{HaveLengths};
 ghost use Rattle.tsdb_run.specs.Causes.{IsBeforeOutput, IsBeforeStore, IsDoneOrMemory, IsGoodScript, IsRefusedStore};
 ghost use Rattle.tsdb_run.specs.Causes.{ReportsBad, ReportsDamage};
 ghost use Rattle.tsdb_run.specs.Headline.{Headline};
@@ -88,7 +89,7 @@ pub fn run<S: Source, K: Sink, P: Place>(
         (line kind : ℕ) → IsFirstBad bytes line kind → ReportsBad result.status line kind) }
     ensures damaged { (asked : model.Asked) → AreWords words.now asked → IfSome (S.left script.old) (λ bytes.
         IsGoodScript bytes → (image : Image) (files : List StoredFile) (part : store_part.Part) (at : ℕ)
-        → Tells (contents (P.state place.old) (P.stored place.old)) image files
+        → Tells (contents (P.state place.old) (P.stored place.old)) image files → HaveLengths files
         → IsDamagedIn (kept_bytes files) image.a part at → ReportsDamage result.status part at) }
     ensures complete { (asked : model.Asked) → AreWords words.now asked → IfSome (S.left script.old) (λ bytes.
         IsGoodScript bytes → (state : plain.State) → IsSound (contents (P.state place.old) (P.stored place.old)) state
@@ -137,7 +138,7 @@ fn run_script<K: Sink, P: Place>(
     ensures place_untouched { IsBeforeStore result.status → place.new ≡ place.old }
     ensures place_later { P.faults place.old ≤ P.faults place.new }
     ensures damaged { IsGoodScript bytes.items → (image : Image) (files : List StoredFile) (part : store_part.Part)
-        (at : ℕ) → Tells (contents (P.state place.old) (P.stored place.old)) image files
+        (at : ℕ) → Tells (contents (P.state place.old) (P.stored place.old)) image files → HaveLengths files
         → IsDamagedIn (kept_bytes files) image.a part at → ReportsDamage result.status part at }
     ensures sound { (state : plain.State) → IsSound (contents (P.state place.old) (P.stored place.old)) state
         → IsRefusedStore result.status → Rose (P.faults place.old) (P.faults place.new) }

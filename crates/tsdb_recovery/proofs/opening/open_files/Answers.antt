@@ -1,5 +1,6 @@
 use Rattle.std.proofs.Common.{Err, ap}
 use Rattle.tsdb_recovery.proofs.Recovered.{has_damage, has_opened}
+use Rattle.tsdb_recovery.proofs.Left.{has_left}
 use Rattle.tsdb_recovery.proofs.opening.open_files.Goals as goal
 
 pub take_up-requires-clause-some : goal.take_up-requires-clause-some
@@ -24,3 +25,10 @@ pub returns-in-Err-clause-damaged : goal.returns-in-Err-clause-damaged
 returns-in-Err-clause-damaged g c =
     has_damage c.new-adopting.result c.args.opening c.new-adopting.ensures.begins (g.F.Files.at_rest c.args.files.now)
     c.in-Err.fault (λ part at is. c.in-Err.ensures.takes.damaged part at (ap (λ fault. Err fault) is))
+
+pub returns-in-Err-clause-left : goal.returns-in-Err-clause-left
+returns-in-Err-clause-left g c =
+    has_left c.new-adopting.result c.take_up.new.adopting c.args.opening c.new-adopting.ensures.begins
+    (g.F.Files.store c.args.files.now) (g.F.Files.at_rest c.args.files.now) (g.F.Files.at_rest c.take_up.new.files)
+    (g.F.Files.at_rest c.end.new.files) c.in-Err.fault c.new-adopting.ensures.files c.in-Err.ensures.takes
+    c.end.ensures.at_rest c.end.ensures.rising c.end.ensures.kept

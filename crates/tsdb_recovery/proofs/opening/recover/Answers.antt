@@ -1,6 +1,6 @@
 use Rattle.tsdb_recovery.proofs.Recovered.{each_answered, file_damage, if_err, if_ok, is_next, is_recovered}
 use Rattle.tsdb_recovery.proofs.Recovered.{log_answered}
-use Rattle.tsdb_recovery.proofs.Recovered.{no_stray}
+use Rattle.tsdb_recovery.proofs.Recovered.{no_stray, none_gone, strays_gone}
 use Rattle.tsdb_recovery.proofs.opening.recover.Goals as goal
 use Rattle.std.proofs.Common.{refl}
 
@@ -53,3 +53,15 @@ pub returns-in-Err-clause-each : goal.returns-in-Err-clause-each
 returns-in-Err-clause-each g c =
     log_answered (g.F.Files.at_rest c.args.files.now) (g.J.Disk.state c.args.journal).seen c.in-Err.refused.fault
     c.in-Err.ensures.damaged c.in-Err.ensures.each
+
+pub returns-in-Ok-clause-left : goal.returns-in-Ok-clause-left
+returns-in-Ok-clause-left g c =
+    let read = c.in-Ok.ensures.read in
+    if_err c.open_files.result _ _ (λ refused left.
+    strays_gone c.in-Ok.opening read.items read.recorded read.good read.replayed read.shown
+    (g.F.Files.at_rest c.args.files.now) (g.F.Files.at_rest c.open_files.new.files) (g.J.Disk.state c.args.journal).seen
+    read.records left) c.open_files.ensures.left
+
+pub returns-in-Err-clause-left : goal.returns-in-Err-clause-left
+returns-in-Err-clause-left g c =
+    none_gone (g.F.Files.at_rest c.args.files.now) (g.J.Disk.state c.args.journal).seen

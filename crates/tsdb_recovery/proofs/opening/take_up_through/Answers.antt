@@ -1,7 +1,9 @@
 use Rattle.std.proofs.Common.{subst}
 use Rattle.tsdb_adopting.specs.Adopting.{files_of}
 use Rattle.tsdb_outside.specs.Files.{plain_numbers}
-use Rattle.tsdb_recovery.proofs.Opened.{is_taken_up}
+use Rattle.tsdb_recover.specs.declared.fault.OpenFault.TheVariants.{Failed, Memory}
+use Rattle.tsdb_recovery.proofs.Opened.{is_refused, is_taken_up, nothing_left}
+use Rattle.tsdb_recovery.proofs.Steps.{goes_nowhere}
 use Rattle.tsdb_recovery.specs.Taking.{AreGoneIn, GoesOn, HasTaken, IsGreatest}
 use Rattle.tsdb_recovery.proofs.opening.take_up_through.Goals as goal
 
@@ -19,3 +21,21 @@ returns-in-Ok-take_listed-clause-takes g c =
     c.in-Ok.ensures.exact c.in-Ok.ensures.numbers
     (subst (λ list. IsGreatest c.greatest_of-last.result (plain_numbers list)) c.deref.ensures.value
     c.greatest_of-last.ensures)
+
+pub returns-in-Err-Failed-clause-takes : goal.returns-in-Err-Failed-clause-takes
+returns-in-Err-Failed-clause-takes g c =
+    let old = c.args.adopting.now in
+    let rest = g.F.Files.at_rest c.args.files.now in
+    let now = g.F.Files.at_rest c.list.new.self in
+    is_refused old old (g.F.Files.store c.args.files.now) rest now Failed c.requires.none
+    (goes_nowhere (g.F.Files.store c.args.files.now) old) (λ part at is. absurd cc)
+    (nothing_left old rest now c.list.ensures.same)
+
+pub returns-clause-takes : goal.returns-clause-takes
+returns-clause-takes g c =
+    let old = c.args.adopting.now in
+    let rest = g.F.Files.at_rest c.args.files.now in
+    let now = g.F.Files.at_rest c.list.new.self in
+    is_refused old old (g.F.Files.store c.args.files.now) rest now Memory c.requires.none
+    (goes_nowhere (g.F.Files.store c.args.files.now) old) (λ part at is. absurd cc)
+    (nothing_left old rest now c.list.ensures.same)
