@@ -318,22 +318,75 @@ fn listed_files_are_checked(rt: HostRuntime) -> Result<(), Fail> {
 }
 
 /// Commands, and what a select prints behind each that changes something.
-const LATE: &str = "C; I 1 5; flush; I 1 6; flush";
+#[derive(Clone, Copy)]
+struct Course {
+    commands: &'static str,
+    seen: &'static [Row],
+}
 
-/// The same, and then both files become one.
-const LATE_AND_COMPACTED: &str = "C; I 1 5; flush; I 1 6; flush; compact cross";
-
-const SEEN: [Row; 4] = [
+const SEEN: &[Row] = &[
     (RUN, "S", "path"),
     (RUN, "S", "time,s / rows 0"),
     (RUN, "S", "time,s / 1,5 / rows 1"),
     (RUN, "S", "time,s / 1,6 / rows 1"),
 ];
 
-/// Which of these a run on the place prints.
-fn seen_on(alloc: Global, place: &mut MemPlace) -> Result<Option<usize>, Fail> {
-    for (at, row) in SEEN.iter().enumerate() {
-        if prints(alloc, place, row)? {
+const LATE: Course = Course {
+    commands: "C; I 1 5; flush; I 1 6; flush",
+    seen: SEEN,
+};
+
+/// The same, and then both files become one.
+const LATE_AND_COMPACTED: Course = Course {
+    commands: "C; I 1 5; flush; I 1 6; flush; compact cross",
+    seen: SEEN,
+};
+
+/// Late files become one, and that and the file before them.
+const ALL_COMPACTED: Course = Course {
+    commands: "C; I 1 5; flush; I 1 6; flush; I 1 7; flush; compact inner unsequence; compact cross",
+    seen: &[
+        (RUN, "S", "path"),
+        (RUN, "S", "time,s / rows 0"),
+        (RUN, "S", "time,s / 1,5 / rows 1"),
+        (RUN, "S", "time,s / 1,6 / rows 1"),
+        (RUN, "S", "time,s / 1,7 / rows 1"),
+    ],
+};
+
+/// Sequence files become one, without a point that was deleted; then that and a third one.
+const SEQUENCE_COMPACTED: Course = Course {
+    commands: "C; I 1 5; flush; I 2 6; flush; delete from root.g.d.s where time<=1; compact inner sequence; \
+               I 3 7; flush; compact inner sequence",
+    seen: &[
+        (RUN, "S", "path"),
+        (RUN, "S", "time,s / rows 0"),
+        (RUN, "S", "time,s / 1,5 / rows 1"),
+        (RUN, "S", "time,s / 1,5 / 2,6 / rows 2"),
+        (RUN, "S", "time,s / 2,6 / rows 1"),
+        (RUN, "S", "time,s / 2,6 / 3,7 / rows 2"),
+    ],
+};
+
+/// What a run of the commands on the place prints.
+fn printed_on(alloc: Global, place: &mut MemPlace, commands: &str) -> Result<Vec<u8>, Fail> {
+    let words = words(alloc, RUN)?;
+    let mut script = String::new(alloc);
+    for command in commands.split("; ") {
+        script.push_str(line_of(alloc, command)?.as_str())?;
+    }
+    let mut source = SteadySource::new(Vec::from_slice(alloc, script.as_bytes())?);
+    let mut sink = SteadySink::new(alloc);
+    run(alloc, &words, &mut source, &mut sink, place);
+    Ok(Vec::from_slice(alloc, sink.bytes())?)
+}
+
+/// Which of these rows a select on the place prints.
+fn seen_on(alloc: Global, place: &mut MemPlace, seen: &[Row]) -> Result<Option<usize>, Fail> {
+    let printed = printed_on(alloc, place, "S")?;
+    for (at, row) in seen.iter().enumerate() {
+        let (_, wanted) = script_of(alloc, row)?;
+        if printed.as_slice() == wanted.as_bytes() {
             return Ok(Some(at));
         }
     }
@@ -342,17 +395,19 @@ fn seen_on(alloc: Global, place: &mut MemPlace) -> Result<Option<usize>, Fail> {
 
 /// The first moment of a run of the commands at which a stop leaves a store that is not opened, or in which something
 /// is not there that was acknowledged.
-fn lost_at(alloc: Global, commands: &'static str) -> Result<Option<u64>, Fail> {
+fn lost_at(alloc: Global, course: &Course) -> Result<Option<u64>, Fail> {
     let mut place = new_place(alloc, &[])?;
-    let (script, _) = script_of(alloc, &(RUN, commands, ""))?;
+    let (script, _) = script_of(alloc, &(RUN, course.commands, ""))?;
     let status = status_on(alloc, &mut place, script.as_str())?;
-    if status != Status::Done || seen_on(alloc, &mut place)? != Some(3) {
+    let last = course.seen.len().checked_sub(1);
+    if status != Status::Done || seen_on(alloc, &mut place, course.seen)? != last {
         return Ok(Some(place.moments()));
     }
     let mut most = 0;
     for moment in 0..place.moments() {
         for kind in [StopKind::Written, StopKind::Unwritten, StopKind::Scrambled] {
-            match seen_on(alloc, &mut place.after_stop(moment, kind)?)? {
+            let mut stopped = place.after_stop(moment, kind)?;
+            match seen_on(alloc, &mut stopped, course.seen)? {
                 Some(seen) if most <= seen.saturating_add(1) => most = most.max(seen),
                 _ => return Ok(Some(moment)),
             }
@@ -365,8 +420,67 @@ fn lost_at(alloc: Global, commands: &'static str) -> Result<Option<u64>, Fail> {
 /// acknowledged, or that with the command that was being written.
 #[test]
 fn stops_with_files(rt: HostRuntime) -> Result<(), Fail> {
-    assert_eq!(rt; lost_at(rt.alloc(), LATE)?, None);
-    assert_eq!(rt; lost_at(rt.alloc(), LATE_AND_COMPACTED)?, None);
+    assert_eq!(rt; lost_at(rt.alloc(), &LATE)?, None);
+    assert_eq!(rt; lost_at(rt.alloc(), &LATE_AND_COMPACTED)?, None);
+    Ok(())
+}
+
+#[test]
+fn stops_with_inner_compactions(rt: HostRuntime) -> Result<(), Fail> {
+    assert_eq!(rt; lost_at(rt.alloc(), &ALL_COMPACTED)?, None);
+    assert_eq!(rt; lost_at(rt.alloc(), &SEQUENCE_COMPACTED)?, None);
+    Ok(())
+}
+
+/// How many commands were answered `device`.
+fn devices(printed: &[u8]) -> usize {
+    let lines = printed.split(|byte| *byte == b'\n');
+    lines.filter(|line| *line == b"device".as_slice()).count()
+}
+
+/// The replies of what was printed to so many commands, without the heading and the order.
+fn replies(printed: &[u8], commands: usize) -> Option<&[u8]> {
+    let order = commands.saturating_mul(2).saturating_add(6);
+    let end = printed.len().checked_sub(order)?;
+    printed.get(..end)?.strip_prefix(b"session 1\n".as_slice())
+}
+
+/// Whether the replies to the commands end with those to one.
+fn ends_so(printed: &[u8], commands: usize, again: &[u8]) -> bool {
+    match (replies(printed, commands), replies(again, 1)) {
+        (Some(replies), Some(last)) => replies.ends_with(last),
+        _ => false,
+    }
+}
+
+/// The first call of the journal, up to so many, at whose failure not one command is answered `device`, or the next run
+/// does not see what this one saw last.
+fn first_lost(alloc: Global, commands: &str, calls: u64) -> Result<Option<u64>, Fail> {
+    let count = commands.split("; ").count();
+    for call in 1..=calls {
+        let fails = Fails {
+            journal: Vec::from_slice(alloc, &[call])?,
+            files: Vec::new(alloc),
+        };
+        let slots = [vec![in alloc; 0]?, vec![in alloc; 0]?];
+        let mut place = MemPlace::new(alloc, slots, Vec::new(alloc), fails)?;
+        let printed = printed_on(alloc, &mut place, commands)?;
+        let again = printed_on(alloc, &mut place, "S")?;
+        if devices(&printed) != 1 || !ends_so(&printed, count, &again) {
+            return Ok(Some(call));
+        }
+    }
+    Ok(None)
+}
+
+/// Whichever call of the journal fails, one command is answered `device`, also a compaction, and the next run sees what
+/// this one saw last. An accepted command is four calls, a flush eight and a compaction four.
+#[test]
+fn each_call_of_the_journal_fails_in_turn(rt: HostRuntime) -> Result<(), Fail> {
+    let commands =
+        "C; I 1 5; flush; I 2 6; flush; delete from root.g.d.s where time<=1; compact inner sequence; \
+                    I 1 7; flush; I 2 8; flush; compact inner unsequence; compact cross; S";
+    assert_eq!(rt; first_lost(rt.alloc(), commands, 68)?, None);
     Ok(())
 }
 
@@ -375,11 +489,11 @@ fn stops_with_files(rt: HostRuntime) -> Result<(), Fail> {
 #[test]
 fn each_call_on_files_fails_in_turn(rt: HostRuntime) -> Result<(), Fail> {
     let alloc = rt.alloc();
-    let (script, _) = script_of(alloc, &(RUN, LATE_AND_COMPACTED, ""))?;
+    let (script, _) = script_of(alloc, &(RUN, LATE_AND_COMPACTED.commands, ""))?;
     for call in 1..=16 {
         let mut place = new_place(alloc, &[call])?;
         let status = status_on(alloc, &mut place, script.as_str())?;
-        let seen = seen_on(alloc, &mut place)?;
+        let seen = seen_on(alloc, &mut place, SEEN)?;
         if call == 1 {
             assert_eq!(rt; (status, seen), (Status::Device, Some(0)));
         } else {
