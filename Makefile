@@ -28,6 +28,7 @@ bench: build
 	@[ -n "$(GROUP)" ] && [ "$(GROUP)" != scripts ] || bench/scripts.py bin/tsdb
 	@[ -n "$(GROUP)" ] && [ "$(GROUP)" != durable ] || bench/durable.py bin/tsdb
 	@[ -n "$(GROUP)" ] && [ "$(GROUP)" != compactions ] || bench/compactions.py bin/tsdb
+	@[ -n "$(GROUP)" ] && [ "$(GROUP)" != compactions ] || bench/compaction_memory.py bin/tsdb
 	@[ -n "$(GROUP)" ] && [ "$(GROUP)" != queries ] || bench/queries.py bin/tsdb
 	@[ -n "$(GROUP)" ] && [ "$(GROUP)" != sizes ] || bench/sizes.py bin/tsdb
 
