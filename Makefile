@@ -23,7 +23,7 @@ build:
 bench: build
 	@echo 'Proving and building the program tsdb_bench ...' >&2
 	@cd crates/tsdb_bench && rt run -- quick >&2
-	@case " scripts durable compactions queries sizes " in *" $(or $(GROUP),none) "*) ;; \
+	@case " scripts durable compactions queries sizes openings " in *" $(or $(GROUP),none) "*) ;; \
 	    *) crates/tsdb_bench/out/tsdb_bench $(GROUP);; esac
 	@[ -n "$(GROUP)" ] && [ "$(GROUP)" != scripts ] || bench/scripts.py bin/tsdb
 	@[ -n "$(GROUP)" ] && [ "$(GROUP)" != durable ] || bench/durable.py bin/tsdb
@@ -31,6 +31,7 @@ bench: build
 	@[ -n "$(GROUP)" ] && [ "$(GROUP)" != compactions ] || bench/compaction_memory.py bin/tsdb
 	@[ -n "$(GROUP)" ] && [ "$(GROUP)" != queries ] || bench/queries.py bin/tsdb
 	@[ -n "$(GROUP)" ] && [ "$(GROUP)" != sizes ] || bench/sizes.py bin/tsdb
+	@[ -n "$(GROUP)" ] && [ "$(GROUP)" != openings ] || bench/openings.py bin/tsdb
 
 check-disk: build
 	@checks/kill bin/tsdb

@@ -6,7 +6,7 @@
 Needs Python 3's standard library and its sqlite3. Stores are made in a temporary folder, on a tmpfs where there is one. A
 file has 999,998 points of one series, or 10 points of each of 10,000 series. A script asks the same query many times; what
 an empty script takes is taken off, and the rest divided by how many there are. So a row is what one query takes, the
-text of its reply among it; a row of an opening is what an empty script takes. SQLite has the points of one series in a table with an index on time, is asked from Python, and
+text of its reply among it. SQLite has the points of one series in a table with an index on time, is asked from Python, and
 its rows are fetched.
 """
 
@@ -109,8 +109,6 @@ def main():
                     check=True,
                 )
                 stores[lines] = seconds_of(program, store, b"")
-                what_opens = f"opening of {lines.__name__.replace('_', ' ')}"
-                print(f"{what_opens:<36} {1000 * stores[lines]:>9.3f} {100.0:>7.1f}", flush=True)
             script = f"1 {query}\n".encode() * times
             taken = (seconds_of(program, store, script) - stores[lines]) / times
             beside = f"{1000 * sqlite_seconds(connection, asked, times):>10.3f}" if asked else f"{'':>10}"
