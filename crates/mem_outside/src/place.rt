@@ -2,7 +2,7 @@
 ghost use Rattle.std.specs.Prelude.{◌≡◌, ◌↔◌, ◌+◌, ◌-◌, ◌^◌, ◌<◌, ◌≤◌, ◌++◌, [], min, map, None, Some, IfOk, IfSome};
 ghost use Rattle.std.specs.Prelude.{IsErrOf, IsOk, IsSome, OnErr, OnOk};
 ghost use Rattle.tsdb_outside.specs.declared.faults.StoreFault.TheVariants as fault;
-ghost use Rattle.tsdb_outside.specs.Causes.{HasStoreCause};
+ghost use Rattle.tsdb_outside.specs.Causes.{HasStoreCause, RisesOnlyByFailed};
 ghost use Rattle.mem_outside.specs.PlaceLaws.{place_is_lawful};
 
 use crate::entry::{Entry, new_entries};
@@ -194,6 +194,7 @@ impl Place for MemPlace {
         ensures err { OnErr result (Keeps (place_state self.old) (place_state self.new)
             × place_stored self.new ≡ place_stored self.old) }
         ensures still_asked { OnErr result (place_asked self.new ≡ place_asked self.old) }
+        ensures no_fault { RisesOnlyByFailed (place_faults self.old) (place_faults self.new) result }
         ensures cause { HasStoreCause (place_faults self.old) (place_faults self.new) result }
 
         // It hands its parts out where they are in it, unless memory runs out, and fails where they are not.
@@ -203,7 +204,7 @@ impl Place for MemPlace {
         ensures files { IfOk result (λ parts. IfSome (files_of self.old) (λ f. SameFiles f parts.1)) }
         ensures out { OnOk result (journal_of self.new ≡ None × files_of self.new ≡ None) }
         ensures same { OnErr result (journal_of self.new ≡ journal_of self.old × files_of self.new ≡ files_of self.old) }
-        ensures no_fault { IsSome (journal_of self.old) → place_faults self.new ≡ place_faults self.old }
+        ensures unfailing { IsSome (journal_of self.old) → place_faults self.new ≡ place_faults self.old }
     {
         if self.parts.is_none() {
             self.faults = self.faults.saturating_add(1);

@@ -182,7 +182,7 @@ impl Disk for SteadyPlace {
 }
 
 impl Place for SteadyPlace {
-    ghost use Rattle.tsdb_outside.specs.Causes.{HasStoreCause};
+    ghost use Rattle.tsdb_outside.specs.Causes.{HasStoreCause, RisesOnlyByFailed};
     ghost use Rattle.tsdb_outside.specs.Disk.{Keeps};
     ghost use Rattle.tsdb_outside.specs.declared.faults.StoreFault.TheVariants as fault;
     ghost use Rattle.mem_outside.specs.Journal.{journal_faults, journal_state};
@@ -208,11 +208,13 @@ impl Place for SteadyPlace {
         ensures err { OnErr result (Keeps (place_state (inner_place self.old)) (place_state (inner_place self.new))
             × place_stored (inner_place self.new) ≡ place_stored (inner_place self.old)) }
         ensures still_asked { OnErr result (place_asked (inner_place self.new) ≡ place_asked (inner_place self.old)) }
+        ensures no_fault { RisesOnlyByFailed (place_faults (inner_place self.old))
+            (place_faults (inner_place self.new)) result }
         ensures cause { HasStoreCause (place_faults (inner_place self.old)) (place_faults (inner_place self.new)) result }
 
         // Where its parts are in it, it hands them out unless memory runs out, and its count stays.
         ensures ok { IsSome (journal_of (inner_place self.old)) → ¬ IsErrOf result fault.Failed }
-        ensures no_fault { IsSome (journal_of (inner_place self.old))
+        ensures unfailing { IsSome (journal_of (inner_place self.old))
             → place_faults (inner_place self.new) ≡ place_faults (inner_place self.old) }
     {
         let (journal, files) = self.place.take_up(dir)?;

@@ -3,7 +3,7 @@ ghost use Rattle.std.specs.Prelude.{◌≡◌, ◌≢◌, ◌↔◌, ◌≤◌, 
 ghost use Rattle.std.specs.Prelude.{OnErr, refl, vec_len};
 ghost use Rattle.std.specs.Io.{ReadsAtMost, WritesAtMost};
 ghost use Rattle.std.specs.Io.KnownBytes.{ReadConsumes, WriteAppends};
-ghost use Rattle.tsdb_outside.specs.Causes.{HasCause, HasStoreCause};
+ghost use Rattle.tsdb_outside.specs.Causes.{HasCause, HasStoreCause, RisesOnlyByFailed};
 ghost use Rattle.mem_outside.specs.Calls.{NextFails, with_call, with_fault};
 
 use crate::calls::Calls;
@@ -172,6 +172,7 @@ impl Sink for MemSink {
         ensures bound { WritesAtMost result bytes.now }
         ensures moves { IfOk result (λ count. 0 < length bytes.now → 0 < count) }
         ensures bytes { WriteAppends (Some (mem_held self.old)) (Some (mem_held self.new)) result bytes.now }
+        ensures no_fault { RisesOnlyByFailed self.old.calls.faults self.new.calls.faults result }
         ensures cause { HasStoreCause self.old.calls.faults self.new.calls.faults result }
 
         // It takes the whole piece.
@@ -233,6 +234,7 @@ impl Sink for SteadySink {
         ensures bound { WritesAtMost result bytes.now }
         ensures moves { IfOk result (λ count. 0 < length bytes.now → 0 < count) }
         ensures bytes { WriteAppends (Some (steady_held self.old)) (Some (steady_held self.new)) result bytes.now }
+        ensures no_fault { RisesOnlyByFailed 0 0 result }
         ensures cause { HasStoreCause 0 0 result }
 
         // It takes the whole piece.

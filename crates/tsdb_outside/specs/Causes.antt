@@ -1,5 +1,5 @@
 -- When a call may return that something outside failed: only where the count of faults of an object rose in that call.
-use Rattle.std.specs.Prelude.{ℕ, ◌+◌, ◌-◌, ◌^◌, ◌≤◌, min, Result, OnErr, IsErrOf}
+use Rattle.std.specs.Prelude.{◌≡◌, ℕ, ◌+◌, ◌-◌, ◌^◌, ◌≤◌, min, Result, OnErr, IsErrOf}
 use Rattle.tsdb_outside.specs.declared.faults.StoreFault.{StoreFault}
 use Rattle.tsdb_outside.specs.declared.faults.StoreFault.TheVariants.{Failed}
 
@@ -16,3 +16,7 @@ pub record HasCause {T E : Type 0} (before now : ℕ) (result : Result T E) : Ty
 pub record HasStoreCause {T : Type 0} (before now : ℕ) (result : Result T StoreFault) : Type 0 where
   pub later : before ≤ now
   pub failed : IsErrOf result Failed → Rose before now
+
+-- the count rises in no other answer than `Failed`
+abbrev pub RisesOnlyByFailed : {T : Type 0} → ℕ → ℕ → Result T StoreFault → Type 0
+RisesOnlyByFailed before now result = ¬ IsErrOf result Failed → now ≡ before

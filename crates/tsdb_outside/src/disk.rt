@@ -17,7 +17,7 @@ ghost use Rattle.std.specs.Prelude.{◌≡◌, ℕ, List, ◌+◌, ◌-◌, ◌^
 ghost use Rattle.std.specs.Prelude.{IfSome, Some};
 ghost use Rattle.std.specs.declared.option.Option.{Option};
 ghost use Rattle.std.specs.Option.{ForSome};
-ghost use Rattle.tsdb_outside.specs.Causes.{HasCause, HasStoreCause};
+ghost use Rattle.tsdb_outside.specs.Causes.{HasCause, HasStoreCause, RisesOnlyByFailed};
 ghost use Rattle.tsdb_outside.specs.Limits.{FitsSlot};
 
 use crate::{Counted, Failed, Files, StoreFault};
@@ -94,7 +94,8 @@ pub trait Place: Disk {
 
     /// Hands out the journal and the files of the store in the directory, which mean what the place meant. They have no
     /// fault so far, and no `Sealed` is out. Where the directory has no store it makes one, whose slots have one synced
-    /// byte 0 each. After an error the place means what it meant before.
+    /// byte 0 each. After an error the place means what it meant before. Its count of faults rises only where it
+    /// returns `Failed`.
     fn take_up(&mut self, dir: &[u8]) -> Result<(Self::Journal, Self::Files), StoreFault>
         ensures keeps { IfOk result (λ parts. Keeps (Self.state self.old) (Self.Journal.state parts.0)) }
         ensures at_rest { IfOk result (λ parts. Self.Files.at_rest parts.1 ≡ Self.stored self.old) }
@@ -104,6 +105,7 @@ pub trait Place: Disk {
         ensures err { OnErr result (Keeps (Self.state self.old) (Self.state self.new)
             × Self.stored self.new ≡ Self.stored self.old) }
         ensures still_asked { OnErr result (Self.asked self.new ≡ Self.asked self.old) }
+        ensures no_fault { RisesOnlyByFailed (Self.faults self.old) (Self.faults self.new) result }
         ensures cause { HasStoreCause (Self.faults self.old) (Self.faults self.new) result };
 
     /// Takes both parts back. The place then means what they meant, and its count rises by at least theirs together.

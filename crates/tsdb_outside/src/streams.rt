@@ -3,7 +3,7 @@ ghost use Rattle.std.specs.Prelude.{ℕ, List, ◌≡◌, ◌<◌, length, IfOk,
 ghost use Rattle.std.specs.declared.option.Option.{Option};
 ghost use Rattle.std.specs.Io.{ReadsAtMost, WritesAtMost};
 ghost use Rattle.std.specs.Io.KnownBytes.{ReadConsumes, WriteAppends};
-ghost use Rattle.tsdb_outside.specs.Causes.{HasCause, HasStoreCause};
+ghost use Rattle.tsdb_outside.specs.Causes.{HasCause, HasStoreCause, RisesOnlyByFailed};
 
 use crate::{Counted, Failed, StoreFault};
 
@@ -28,10 +28,11 @@ pub trait Sink: Counted {
     ghost held: { Self → Option (List ℕ) };
 
     /// Appends a prefix of `bytes`, and returns its length: at least one byte where `bytes` is not empty. After an
-    /// error it holds what it held before.
+    /// error it holds what it held before. Its count of faults rises only where it returns `Failed`.
     fn put(&mut self, bytes: &[u8]) -> Result<usize, StoreFault>
         ensures bound { WritesAtMost result bytes.now }
         ensures moves { IfOk result (λ count. 0 < length bytes.now → 0 < count) }
         ensures bytes { WriteAppends (held self.old) (held self.new) result bytes.now }
+        ensures no_fault { RisesOnlyByFailed (Self.faults self.old) (Self.faults self.new) result }
         ensures cause { HasStoreCause (Self.faults self.old) (Self.faults self.new) result };
 }
