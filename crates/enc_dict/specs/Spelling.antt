@@ -2,6 +2,7 @@
 -- different texts, these in the order of their first use, and the place of each value among them.
 use Rattle.std.specs.Prelude.{ℕ, ◌-◌, not, List, [], ◌∷◌, ◌++◌, length, map, filter}
 use Rattle.std.specs.List.{flat_map, position_or_len}
+use denote.Ref.{Bor}
 use Rattle.std.specs.Str.{bytes_eq}
 use Rattle.tsdb_bits.specs.Leb.{leb}
 use Rattle.tsdb_bits.specs.Packing.{pack_bytes, binary_digits}
@@ -11,6 +12,10 @@ use Rattle.tsdb_base.specs.Plain.{plain_text}
 unfoldable pub first_uses : List (List ℕ) → List (List ℕ)
 first_uses [] = []
 first_uses (text ∷ texts) = text ∷ filter (λ other. not (bytes_eq text other)) (first_uses texts)
+
+-- texts that are lent, as texts
+abbrev pub lent : List (Bor (List ℕ)) → List (List ℕ)
+lent texts = map (λ text. text.now) texts
 
 -- how many texts stand before a text
 abbrev pub place_in : List (List ℕ) → List ℕ → ℕ

@@ -6,7 +6,7 @@ ghost use Rattle.enc_list.specs.Lists.{HasNone, IsSpelling, IsOnly, SpellNone};
 ghost use Rattle.enc_dict.specs.Spelling.{parts, spelling};
 ghost use Rattle.enc_dict.specs.Steps.{AreParts, AreUses, HaveNoParts};
 
-use crate::encode::uses_of;
+use crate::encode::{lend, uses_of};
 use enc_list::{take_count, take_number, take_packed};
 use std::alloc::Global;
 use tsdb_base::{DecodeFault, Text, take_all};
@@ -59,7 +59,8 @@ fn texts_at(alloc: Global, texts: &[Text], places: &[u64]) -> Result<Vec<Text>, 
     ensures found { IfOk result (λ values. AreUses texts.now places.now values.items) }
     ensures bad { IsErrOf result DecodeFault.Bad → HasNone (AreUses texts.now places.now) }
 {
-    let uses = uses_of(alloc, texts)?;
+    let lent = lend(alloc, texts)?;
+    let uses = uses_of(alloc, &lent)?;
     if uses.different != texts.len() as u64 {
         return Err(DecodeFault::Bad);
     }

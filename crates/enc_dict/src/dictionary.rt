@@ -2,6 +2,7 @@
 //! is made of its bytes; where that value is the text, its place is known. Texts that were made to have the same number
 //! are found in the map, so no list of texts costs a comparison of all pairs. It depends on `tsdb_base`.
 ghost use Rattle.std.specs.Prelude.{◌≡◌, ◌<◌, length, List, ℕ, IfOk, IfSome};
+ghost use Rattle.enc_dict.specs.Spelling.{lent};
 ghost use Rattle.enc_dict.specs.Steps.{Enters, IsDictionary, IsKnown, IsPlaceOf};
 
 use std::collections::BTreeMap;
@@ -43,11 +44,11 @@ fn word_of(bytes: &[u8]) -> u64
 }
 
 /// The place of the value at the index, where that is the text and its place is there.
-pub fn known_place(values: &[Text], places: &[u64], index: usize, text: &Text) -> Option<u64>
-    ensures { IfSome result (λ place. IsKnown values.now places.now text.now place) }
+pub fn known_place(values: &[&Text], places: &[u64], index: usize, text: &Text) -> Option<u64>
+    ensures { IfSome result (λ place. IsKnown (lent values.now) places.now text.now place) }
 {
     match (values.get(index), places.get(index)) {
-        (Some(value), Some(place)) if value == text => Some(*place),
+        (Some(value), Some(place)) if *value == text => Some(*place),
         _ => None,
     }
 }

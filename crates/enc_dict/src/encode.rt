@@ -4,7 +4,7 @@ ghost use Rattle.std.specs.Prelude.{if◌then◌else◌};
 ghost use Rattle.std.specs.List.{flat_map};
 ghost use Rattle.tsdb_base.specs.Limits.{max_values};
 ghost use Rattle.tsdb_base.specs.Plain.{plain_text};
-ghost use Rattle.enc_dict.specs.Spelling.{first_uses, place_in, spelling};
+ghost use Rattle.enc_dict.specs.Spelling.{first_uses, lent, place_in, spelling};
 
 use crate::dictionary::{HINTS, hint_of, known_place, place_of};
 use std::alloc::Global;
@@ -35,10 +35,11 @@ fn put_first_use(text: &Text, is_new: bool, into: &mut Vec<u8>) -> Result<(), Me
 }
 
 /// Numbers the texts in the order of their first use.
-pub fn uses_of(alloc: Global, values: &[Text]) -> Result<Uses, Memory>
-    ensures different { IfOk result (λ uses. uses.different ≡ length (first_uses values.now)) }
-    ensures texts { IfOk result (λ uses. uses.texts.items ≡ flat_map plain_text (first_uses values.now)) }
-    ensures places { IfOk result (λ uses. uses.places.items ≡ map (place_in (first_uses values.now)) values.now) }
+pub fn uses_of(alloc: Global, values: &[&Text]) -> Result<Uses, Memory>
+    ensures different { IfOk result (λ uses. uses.different ≡ length (first_uses (lent values.now))) }
+    ensures texts { IfOk result (λ uses. uses.texts.items ≡ flat_map plain_text (first_uses (lent values.now))) }
+    ensures places { IfOk result (λ uses. uses.places.items
+        ≡ map (place_in (first_uses (lent values.now))) (lent values.now)) }
 {
     let mut dictionary = BTreeMap::new(alloc);
     let mut texts = Vec::new(alloc);
@@ -59,10 +60,10 @@ pub fn uses_of(alloc: Global, values: &[Text]) -> Result<Uses, Memory>
     })
 }
 
-/// Appends the bytes of at most 1,000 TEXT values. After `Memory` the list is as it was.
-pub fn encode_text_into(alloc: Global, values: &[Text], into: &mut Vec<u8>) -> Result<(), Memory>
+/// Appends the bytes of at most 1,000 TEXT values, which are lent. After `Memory` the list is as it was.
+pub fn encode_text_into(alloc: Global, values: &[&Text], into: &mut Vec<u8>) -> Result<(), Memory>
     requires { length values.now ≤ max_values }
-    ensures ok { OnOk result (into.new.items ≡ into.old.items ++ spelling values.now) }
+    ensures ok { OnOk result (into.new.items ≡ into.old.items ++ spelling (lent values.now)) }
     ensures memory { OnErr result (into.new.items ≡ into.old.items) }
 {
     let start = into.len();
@@ -78,15 +79,27 @@ pub fn encode_text(alloc: Global, values: &[Text]) -> Result<Vec<u8>, Memory>
     requires { length values.now ≤ max_values }
     ensures { IfOk result (λ bytes. bytes.items ≡ spelling values.now) }
 {
+    let texts = lend(alloc, values)?;
     let mut bytes = Vec::new(alloc);
-    encode_text_into(alloc, values, &mut bytes)?;
+    encode_text_into(alloc, &texts, &mut bytes)?;
     Ok(bytes)
 }
 
+/// Lends each text.
+pub fn lend(alloc: Global, texts: &[Text]) -> Result<Vec<&Text>, Memory>
+    ensures { IfOk result (λ list. lent list.items ≡ texts.now) }
+{
+    let mut list = Vec::with_capacity(alloc, texts.len())?;
+    for text in texts {
+        list.push(text)?;
+    }
+    Ok(list)
+}
+
 /// Appends the bytes. After `Memory` some of them may stand behind what was there.
-fn append(alloc: Global, values: &[Text], into: &mut Vec<u8>) -> Result<(), Memory>
+fn append(alloc: Global, values: &[&Text], into: &mut Vec<u8>) -> Result<(), Memory>
     requires { length values.now ≤ max_values }
-    ensures ok { OnOk result (into.new.items ≡ into.old.items ++ spelling values.now) }
+    ensures ok { OnOk result (into.new.items ≡ into.old.items ++ spelling (lent values.now)) }
     ensures kept { take (vec_len into.old) into.new.items ≡ into.old.items }
 {
     put_leb(values.len() as u64, into)?;

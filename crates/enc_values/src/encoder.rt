@@ -4,6 +4,7 @@ ghost use Rattle.std.specs.List.{flat_map};
 ghost use Rattle.tsdb_base.specs.Limits.{max_values};
 ghost use Rattle.tsdb_base.specs.Values.{is_suitable, type_of};
 ghost use Rattle.enc_plain.specs.Spelling as plain;
+ghost use Rattle.enc_dict.specs.Spelling.{lent};
 ghost use Rattle.enc_values.specs.Spelling.{integer_of, plain_value, spelling, text_of};
 ghost use Rattle.enc_values.specs.Steps.{truth_of};
 
@@ -130,17 +131,17 @@ fn integers_of<T: HasValue>(alloc: Global, items: &[T]) -> Result<Vec<i64>, Memo
     Ok(integers)
 }
 
-/// The texts of items that have texts.
-fn texts_of<T: HasValue>(alloc: Global, items: &[T]) -> Result<Vec<Text>, Memory>
+/// The texts of items that have texts, lent.
+fn texts_of<T: HasValue>(alloc: Global, items: &[T]) -> Result<Vec<&Text>, Memory>
     requires { All (λ item. type_of (T.value_of item) ≡ DataType.Text) items.now }
-    ensures { IfOk result (λ texts. texts.items ≡ map (λ item. text_of (T.value_of item)) items.now) }
+    ensures { IfOk result (λ texts. lent texts.items ≡ map (λ item. text_of (T.value_of item)) items.now) }
 {
     let mut texts = Vec::with_capacity(alloc, items.len())?;
     for item in items {
         let Value::Text(text) = item.value() else {
             unreachable!()
         };
-        texts.push(text.clone()?)?;
+        texts.push(text)?;
     }
     Ok(texts)
 }

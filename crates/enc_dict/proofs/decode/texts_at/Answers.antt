@@ -1,6 +1,7 @@
-use Rattle.std.proofs.Common.{◌≡◌, ◌+◌, ◌<◌, [], ◌∷◌, ◌++◌, length, take, get_or, refl, rules, arith}
+use Rattle.std.proofs.Common.{◌≡◌, ◌+◌, ◌<◌, [], ◌∷◌, ◌++◌, length, take, get_or, ap, ◌∙◌, refl, rules, arith}
 use Rattle.std.proofs.lemmas.Grind.{common_steps}
 use Rattle.std.proofs.lemmas.List.{take_more}
+use Rattle.enc_dict.specs.Spelling.{first_uses, lent}
 use Rattle.enc_dict.proofs.Different.{AllDiffer, using_none, using_old, using_new, all_differ, no_skip, used_all, texts_differ}
 use Rattle.enc_dict.proofs.decode.texts_at.Goals as goal
 use Rattle.enc_dict.proofs.decode.texts_at.Goals.{then-place-used-2, else-place-used-2}
@@ -8,7 +9,8 @@ use Rattle.enc_dict.proofs.decode.texts_at.Goals.{then-place-used-2, else-place-
 pub returns-then-uses-texts-clause-bad : goal.returns-then-uses-texts-clause-bad
 returns-then-uses-texts-clause-bad c = λ is_bad values is.
     let same = texts_differ c.args.texts.now c.args.places.now values is in
-    absurd (omega (arith, c.if-uses-texts.true, c.in_ok-uses.ensures.different, same))
+    let lent_is = ap lent c.deref.ensures.value ∙ c.in_ok-lent.ensures in
+    absurd (omega (arith, c.if-uses-texts.true, c.in_ok-uses.ensures.different ∙ ap (λ t. length (first_uses t)) lent_is, same))
 
 pub loop-place-init : goal.loop-place-init
 loop-place-init c = using_none c.args.texts.now c.in_ok-values.values.items c.in_ok-values.ensures.items
@@ -32,7 +34,8 @@ loop-place-preserved c =
     let texts = c.args.texts.now in
     let places = c.args.places.now in
     let place = get_or places l.place-index 0 in
-    let differ : AllDiffer texts = all_differ texts (omega (arith, c.if-uses-texts.false, c.in_ok-uses.ensures.different)) in
+    let lent_is = ap lent c.deref.ensures.value ∙ c.in_ok-lent.ensures in
+    let differ : AllDiffer texts = all_differ texts (omega (arith, c.if-uses-texts.false, c.in_ok-uses.ensures.different ∙ ap (λ t. length (first_uses t)) lent_is)) in
     let within : place < length texts = search rules in
     let at : c.in-Some.text.now ≡ get_or texts place [] = search rules in
     let now : c.push.new.self.items ≡ l.values.items ++ c.in-Some.text.now ∷ [] = search rules in

@@ -28,5 +28,5 @@ returns-in_ok-integers-in-Ts2diff-clause-ok g c =
 
 pub returns-in_ok-texts-in-Dictionary-clause-ok : goal.returns-in_ok-texts-in-Dictionary-clause-ok
 returns-in_ok-texts-in-Dictionary-clause-ok g c =
-    let same = ap dict.spelling (c.deref-in-Dictionary.ensures.value ∙ c.in_ok-texts-in-Dictionary.ensures) ∙ texts_spell g.T.HasValue.value_of c.args.encoding c.args.items.now c.in-Dictionary.is in
+    let same = ap dict.spelling (ap dict.lent c.deref-in-Dictionary.ensures.value ∙ c.in_ok-texts-in-Dictionary.ensures) ∙ texts_spell g.T.HasValue.value_of c.args.encoding c.args.items.now c.in-Dictionary.is in
     IfOk-equal c.encode_text_into.result _ _ _ c.encode_text_into.ensures.ok (ap (λ (t : List ℕ). c.args.into.now.items ++ t) same)
