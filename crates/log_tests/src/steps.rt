@@ -129,13 +129,7 @@ pub(crate) fn wrong_step_in<P: Place>(
             place.put_down(log.end(), files);
             wrong
         }
-        Err(
-            ScanRefused {
-                journal,
-                fault: _,
-                frames: _,
-            },
-        ) => {
+        Err(ScanRefused { journal, fault: _ }) => {
             place.put_down(journal, files);
             Err(StoreFault::Failed)
         }
@@ -154,13 +148,7 @@ pub(crate) fn scan_place<P: Place>(
             place.put_down(log.end(), files);
             Ok(Ok(frames))
         }
-        Err(
-            ScanRefused {
-                journal,
-                fault,
-                frames: _,
-            },
-        ) => {
+        Err(ScanRefused { journal, fault }) => {
             place.put_down(journal, files);
             Ok(Err(fault))
         }

@@ -5,6 +5,7 @@ pub mod MomentLemmas
 mod StepLemmas
 pub mod FirstLemmas
 pub mod PieceLemmas
+pub mod ReaderLemmas
 pub mod RecordLemmas
 pub mod ScanLemmas
 pub mod SlotLemmas

@@ -1,13 +1,11 @@
 -- Reading the records of a slot, one after another.
-use Rattle.std.proofs.Common.{subst, ◌≡◌, ◌⊎◌, inl, inr, ℕ, ◌+◌, ◌≤◌, List, [], ◌∷◌, ◌++◌, length, refl, sym, ◌∙◌, ap, arith, append_assoc, length-append, get_or, take, drop, ◌-◌}
-use Rattle.std.specs.List.{All}
-use Rattle.std.proofs.lemmas.List.{append-nil, map-append, take_all}
-use Rattle.std.proofs.lemmas.List.Elements.{All-append, All-cons, All-nil}
+use Rattle.std.proofs.Common.{◌≡◌, ◌⊎◌, inl, inr, ℕ, ◌+◌, ◌≤◌, List, [], ◌∷◌, ◌++◌, length, refl, sym, ◌∙◌, ap, arith, length-append, get_or, take, drop, ◌-◌}
+use Rattle.std.proofs.lemmas.List.{append-nil, take_all}
+use Rattle.std.proofs.lemmas.List.Elements.{All-nil}
 use Rattle.std.proofs.lemmas.Grind.{flat_map-append}
 use Rattle.tsdb_base.specs.Fields.{number32}
 use Rattle.tsdb_frames.specs.declared.record.Frame.{Frame}
 use Rattle.tsdb_frames.specs.Slots.{IsPayload, with_length, open_records, BeginsWith, IsTorn, IsTornBehind, payloads_of, ArePlaced}
-use Rattle.tsdb_frames.specs.Steps.{HasRead}
 
 -- one record more, behind the others
 pub open_records_more : (payloads : List (List ℕ)) (payload : List ℕ)
@@ -34,57 +32,12 @@ split_last (a ∷ xs) (b ∷ before) after x y same =
       | inr earlier ↦ let more = earlier.0 in let front = earlier.1 in inr (more, cc)
     ]
 
-places_more : (frames : List Frame) (new : Frame) → ArePlaced frames → new.at ≡ length (open_records (payloads_of frames))
+pub places_more : (frames : List Frame) (new : Frame) → ArePlaced frames → new.at ≡ length (open_records (payloads_of frames))
     → ArePlaced (frames ++ (new ∷ []))
 places_more frames new placed at before after frame same = elim (split_last frames before after new frame same) [
   | inl last ↦ ap (λ (f : Frame). f.at) last.1 ∙ at ∙ ap (λ (l : List Frame). length (open_records (payloads_of l))) (sym last.0)
   | inr earlier ↦ placed before earlier.0 frame earlier.1
 ]
-
-none_placed : ArePlaced []
-none_placed [] after frame same = absurd cc
-none_placed (b ∷ before) after frame same = absurd cc
-
-pub reads_more : (frames all : List Frame) (at next : ℕ) (rest behind bytes payload after : List ℕ) (new : Frame)
-    → HasRead frames at rest bytes → rest ≡ 1 ∷ behind → BeginsWith behind payload after
-    → all ≡ frames ++ (new ∷ []) → new.at ≡ at → new.payload ≡ payload → next ≡ at + 1 + 4 + length payload
-    → HasRead all next after bytes
-reads_more frames all at next rest behind bytes payload after new read gate begins grows place same is_next =
-    let payloads = payloads_of frames in
-    let more : payloads_of all ≡ payloads ++ (payload ∷ []) =
-    ap payloads_of grows ∙ map-append (λ (f : Frame). f.payload) frames (new ∷ [])
-    ∙ ap (λ (l : List ℕ). payloads ++ (l ∷ [])) same in
-    let grown : open_records (payloads_of all) ≡ open_records payloads ++ (1 ∷ with_length payload) =
-    ap open_records more ∙ open_records_more payloads payload in
-    let whole : bytes ≡ open_records payloads ++ (1 ∷ (with_length payload ++ after)) =
-    read.split ∙ ap (λ (l : List ℕ). open_records payloads ++ l) gate
-    ∙ ap (λ (l : List ℕ). open_records payloads ++ (1 ∷ l)) begins.split in
-    record {
-      fit = subst (λ (l : List (List ℕ)). All IsPayload l) (sym more)
-          (All-append IsPayload payloads (payload ∷ []) read.fit (All-cons IsPayload payload [] begins.fits (All-nil IsPayload)));
-      split = whole ∙ sym (append_assoc (open_records payloads) (1 ∷ with_length payload) after) ∙ ap (λ (l : List ℕ). l ++ after) (sym grown);
-      place = omega (arith, is_next, read.place, ap length grown, length-append (open_records payloads) (1 ∷ with_length payload), length-with_length payload);
-      places = subst ArePlaced (sym grows) (places_more frames new read.places (place ∙ read.place));
-      gate = begins.gate;
-    }
-
--- where behind an open gate no record stands, the slot is torn there
-pub torn_here : (frames : List Frame) (at : ℕ) (rest behind bytes : List ℕ) → HasRead frames at rest bytes → rest ≡ 1 ∷ behind
-    → ((payload after : List ℕ) → ¬ BeginsWith behind payload after) → ArePlaced frames × IsTornBehind (payloads_of frames) at bytes
-torn_here frames at rest behind bytes read gate none = (
-  read.places,
-  inl (
-    record {
-      payloads = payloads_of frames;
-      fit = read.fit;
-      behind = behind;
-      split = read.split ∙ ap (λ (l : List ℕ). open_records (payloads_of frames) ++ l) gate;
-      place = read.place;
-      broken = none;
-    },
-    refl,
-  ),
-)
 
 -- where no record stands behind an open first gate, the slot is torn at 0
 pub torn_at_first : (bytes behind : List ℕ) → bytes ≡ 1 ∷ behind → ((payload after : List ℕ) → ¬ BeginsWith behind payload after) → IsTorn 0 bytes

@@ -6,6 +6,8 @@ pub mod Firsts
 pub mod Frames
 pub mod Laws
 pub mod Log
+pub mod Pieces
+pub mod Readers
 pub mod Scans
 pub mod Slots
 pub mod Steps

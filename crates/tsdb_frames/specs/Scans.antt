@@ -12,7 +12,7 @@ use Rattle.tsdb_frames.specs.declared.frames.Frames.{Frames}
 use Rattle.tsdb_frames.specs.declared.record.Frame.{Frame}
 use Rattle.tsdb_frames.specs.Frames.{disk_of, faults_of, slot_of, is_in_doubt, IsAside, IsLog}
 use Rattle.tsdb_frames.specs.Log.{IsSettled}
-use Rattle.tsdb_frames.specs.Slots.{payloads_of, ArePlaced, HasRecords, IsTorn, IsTornBehind}
+use Rattle.tsdb_frames.specs.Slots.{payloads_of, ArePlaced, HasRecords, IsTorn}
 
 module _ {J : Type 0} {means : disk.Ghosts J} {counts : counted.Ghosts J} where
   -- The slot has these records, and its journal is a log now. Nothing was written.
@@ -30,13 +30,10 @@ module _ {J : Type 0} {means : disk.Ghosts J} {counts : counted.Ghosts J} where
     pub keeps : Keeps (means.state journal) (disk_of now)
     pub later : counts.faults journal ≤ faults_of now
 
--- A scan is refused for this fault: the slot is torn at the place that is told, behind these records, or could not be
--- read. Nothing was written, and the count of faults rose where the journal failed.
-pub record IsScanRefused (place : Slot) (old new : State) (before now : ℕ) (fault : ScanFault) (frames : List Frame) : Type 0 where
+-- A scan is refused for this fault: the slot is torn at the place that is told, or could not be read. Nothing was written,
+-- and the count of faults rose where the journal failed.
+pub record IsScanRefused (place : Slot) (old new : State) (before now : ℕ) (fault : ScanFault) : Type 0 where
   pub torn : IfSome old.seen (λ image. (at : ℕ) → fault ≡ Torn at → IsTorn at (in_slot place image))
-  pub torn_behind : IfSome old.seen (λ image. (at : ℕ) → fault ≡ Torn at
-      → IsTornBehind (payloads_of frames) at (in_slot place image))
-  pub places : ArePlaced frames
   pub keeps : Keeps old new
   pub later : before ≤ now
   pub cause : fault ≡ Failed → Rose before now

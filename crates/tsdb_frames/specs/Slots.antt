@@ -28,6 +28,13 @@ pub record HasRecords (payloads : List (List ℕ)) (bytes : List ℕ) : Type 0 w
   pub split : bytes ≡ open_records payloads ++ (gate ∷ rest)
   pub closed : gate ≢ 1
 
+-- The slot begins with these records behind open gates, and goes on with a gate.
+pub record GoesOn (payloads : List (List ℕ)) (bytes : List ℕ) : Type 0 where
+  pub fit : All IsPayload payloads
+  pub rest : List ℕ
+  pub split : bytes ≡ open_records payloads ++ rest
+  pub gate : 1 ≤ length rest
+
 -- The bytes behind an open gate begin with this record, and go on with the next gate.
 pub record BeginsWith (bytes payload after : List ℕ) : Type 0 where
   pub fits : IsPayload payload
@@ -60,9 +67,3 @@ payloads_of frames = map (λ frame. frame.payload) frames
 abbrev pub ArePlaced : List Frame → Type 0
 ArePlaced frames = (before after : List Frame) (frame : Frame) → frames ≡ before ++ (frame ∷ after)
     → frame.at ≡ length (open_records (payloads_of before))
-
--- These are the records of a slot with their places, and this is the place of the closed gate behind them.
-pub record AreFrames (frames : List Frame) (gate : ℕ) (bytes : List ℕ) : Type 0 where
-  pub records : HasRecords (payloads_of frames) bytes
-  pub places : ArePlaced frames
-  pub behind : gate ≡ length (open_records (payloads_of frames))

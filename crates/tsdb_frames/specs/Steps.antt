@@ -1,17 +1,14 @@
 -- What private calls cite: how far a slot has been read, and what one write leaves.
-use Rattle.std.specs.Prelude.{◌≡◌, ℕ, ◌≤◌, List, [], ◌++◌, length}
+use Rattle.std.specs.Prelude.{◌≡◌, ℕ, List, [], length}
 use Rattle.std.specs.List.{All}
 use Rattle.tsdb_outside.specs.Disk.{Image, State, in_slot, overwrite, TornIn, WhereTold}
 use Rattle.tsdb_outside.specs.Moments.{LeavesOnly}
 use Rattle.tsdb_outside.specs.declared.disk.Slot.{Slot}
 use Rattle.tsdb_frames.specs.declared.record.Frame.{Frame}
-use Rattle.tsdb_frames.specs.Log.{HasGateAt}
-use Rattle.tsdb_frames.specs.declared.reading.End.{End}
-use Rattle.tsdb_frames.specs.declared.reading.End.TheVariants.{Closed, Torn}
 use Rattle.tsdb_frames.specs.declared.reading.Start.{Start}
 use Rattle.tsdb_frames.specs.declared.reading.Start.TheVariants.{Shut, Whole, Broken}
 use Rattle.tsdb_frames.specs.Firsts.{HasFirst}
-use Rattle.tsdb_frames.specs.Slots.{HasRecords, IsPayload, IsTorn, open_records, payloads_of, AreFrames, ArePlaced, IsTornBehind}
+use Rattle.tsdb_frames.specs.Slots.{HasRecords, IsPayload, IsTorn, open_records, payloads_of, ArePlaced}
 
 -- these are records with their places, and this is the place behind them
 pub record HasFrames (frames : List Frame) (at : ℕ) : Type 0 where
@@ -19,34 +16,11 @@ pub record HasFrames (frames : List Frame) (at : ℕ) : Type 0 where
   pub place : at ≡ length (open_records (payloads_of frames))
   pub places : ArePlaced frames
 
--- the records end at this place
-abbrev pub place_of : End → ℕ
-place_of (Closed at) = at
-place_of (Torn at) = at
-
--- these are the first records of the bytes, and the rest stands at this place and begins with a gate
-pub record HasRead (frames : List Frame) (at : ℕ) (rest bytes : List ℕ) : Type 0 where
-  pub fit : All IsPayload (payloads_of frames)
-  pub split : bytes ≡ open_records (payloads_of frames) ++ rest
-  pub place : at ≡ length (open_records (payloads_of frames))
-  pub places : ArePlaced frames
-  pub gate : 1 ≤ length rest
-
--- the records of a slot with their places, before its closed gate or before the place where it is torn
-abbrev pub AreFramesUpTo : List Frame → End → List ℕ → Type 0
-AreFramesUpTo frames (Closed at) bytes = AreFrames frames at bytes
-AreFramesUpTo frames (Torn at) bytes = ArePlaced frames × IsTornBehind (payloads_of frames) at bytes
-
 -- how bytes begin: with a closed gate, with a whole record, or with an open gate that has none
 abbrev pub BeginsAs : Start → List ℕ → Type 0
 BeginsAs Shut bytes = HasRecords [] bytes
 BeginsAs (Whole frame) bytes = HasFirst frame bytes
 BeginsAs Broken bytes = IsTorn 0 bytes
-
--- the records end before a gate that the slot has, which has so many bytes, or the slot is torn
-abbrev pub HasEndAt : State → Slot → ℕ → End → Type 0
-HasEndAt disk slot bytes (Closed at) = HasGateAt disk slot at bytes
-HasEndAt disk slot bytes (Torn at) = Unit {0}
 
 -- what the disk might leave of this slot
 pub record IsAsIn (slot : Slot) (disk : State) (image : Image) : Type 0 where

@@ -1,6 +1,6 @@
 //! The log in a slot of a journal: it is read once, grows record by record, and turns over to the other slot. Depends on
-//! `record`, `reading`, `growing`, `writing` and `aside`.
-ghost use Rattle.std.specs.Prelude.{◌≡◌, ◌≢◌, ◌⊎◌, ℕ, ◌+◌, ◌≤◌, List, [], ◌∷◌, ◌++◌, true, false, length, None, Some, IsOk, IfOk};
+//! `record`, `reading`, `reader`, `growing`, `writing` and `aside`.
+ghost use Rattle.std.specs.Prelude.{◌≡◌, ◌⊎◌, ℕ, ◌+◌, ◌≤◌, List, [], ◌∷◌, ◌++◌, true, false, length, None, Some, IsOk, IfOk};
 ghost use Rattle.std.specs.Prelude.{IfErr, IfSome, IsErrAnd, IsErrOf, IsSome, OnErr, OnOk};
 ghost use Rattle.std.specs.declared.option.Option.{Option};
 ghost use Rattle.std.specs.Option.{ForSome};
@@ -9,12 +9,13 @@ ghost use Rattle.tsdb_outside.specs.Disk.{in_slot, Keeps};
 ghost use Rattle.tsdb_outside.specs.Limits.{FitsSlot};
 ghost use Rattle.tsdb_frames.specs.Causes.{AnswersTorn, HasScanCause};
 ghost use Rattle.tsdb_frames.specs.Log.{HasGateAt, first_bytes};
-ghost use Rattle.tsdb_frames.specs.Slots.{payloads_of};
 ghost use Rattle.tsdb_frames.specs.declared.aside.Aside.TheVariants as aside;
+ghost use Rattle.tsdb_outside.specs.declared.disk.Slot.{Slot};
 
 use crate::aside::{Aside, is_closed, other_slot};
 use crate::growing::{BLOCK_PIECES, passes_end, zeros_behind};
-use crate::reading::{End, read_first_record, read_slot};
+use crate::reader::{FrameReader, first_after};
+use crate::reading::read_first_record;
 use crate::writing::{Unopened, write_and_sync, write_record};
 use crate::{Frame, ScanFault};
 use std::alloc::Global;
@@ -36,31 +37,11 @@ pub struct Frames<J: Journal> {
     ghost within: { HasGateAt (J.state journal) slot gate end },
 }
 
-// The bytes of the first of these frames: its record with its length and a gate. None has 0.
-fn first_of(frames: &[Frame]) -> u64
-    ensures { result ≡ first_bytes (payloads_of frames.now) }
-{
-    match frames.first() {
-        Some(frame) => frame.payload.items().len() as u64 + 5,
-        None => 0,
-    }
-}
-
-// The bytes of the first frame of a log with its gate at this place, once a frame of so many bytes is added.
-fn first_after(first: u64, gate: u64, bytes: u64) -> u64
-    ensures first { gate ≡ 0 → result ≡ bytes }
-    ensures later { gate ≢ 0 → result ≡ first }
-{
-    if gate == 0 { bytes } else { first }
-}
-
 /// A journal whose slot could not be read, and why.
 #[derive(Drop)]
 pub struct ScanRefused<J> {
     pub journal: J,
     pub fault: ScanFault,
-    /// The records before the place where the slot is torn. None after another fault.
-    pub frames: Vec<Frame>,
 }
 
 impl<J: Journal> Frames<J> {
@@ -71,8 +52,10 @@ impl<J: Journal> Frames<J> {
     ghost use Rattle.tsdb_frames.specs.Frames.{is_aside_in_doubt, IsAside, settled_aside};
     ghost use Rattle.tsdb_frames.specs.Log.{IsFrame, payload_of, HasRecordsOrOneMore, IsSettled};
     ghost use Rattle.tsdb_outside.specs.Moments.{LeavesOnly, LeavesFirstThen, IsUntouched, other};
+    ghost use Rattle.tsdb_frames.specs.Readers.{HasEnded, IsWholeRead};
     ghost use Rattle.tsdb_frames.specs.Scans.{IsScanned, IsScanRefused};
-    ghost use Rattle.tsdb_frames.specs.Slots.{open_records, HasRecords, ArePlaced, IsTorn, IsTornBehind};
+    ghost use Rattle.tsdb_frames.specs.declared.record.Frame.{Frame};
+    ghost use Rattle.tsdb_frames.specs.Slots.{open_records, HasRecords, IsTorn};
     ghost use Rattle.tsdb_frames.specs.Steps.{LeavesSlot};
     ghost use Rattle.tsdb_frames.specs.Turns.{LeavesInTurn};
 
@@ -93,40 +76,39 @@ impl<J: Journal> Frames<J> {
     /// its first closed gate, so that it costs what the log has, and not what the slot has.
     pub fn scan(
         alloc: Global,
-        mut journal: J,
+        journal: J,
         slot: Slot,
     ) -> Result<(Frames<J>, Vec<Frame>), ScanRefused<J>>
         ensures scanned { IfOk result (λ r. IsScanned journal slot r.0 r.1.items) }
         ensures refused { IfErr result (λ refused. IsScanRefused slot (J.state journal) (J.state refused.journal)
-            (J.faults journal) (J.faults refused.journal) refused.fault refused.frames.items) }
+            (J.faults journal) (J.faults refused.journal) refused.fault) }
         ensures each { IfSome (J.state journal).seen (λ image. (at : ℕ) → IsTorn at (in_slot slot image)
             → IsErrAnd result (λ refused. AnswersTorn at refused.fault)) }
     {
-        match read_slot(alloc, &mut journal, slot) {
-            Ok((frames, end, length)) => match end {
-                End::Closed { at } => {
-                    let log = Frames {
-                        journal,
-                        slot,
-                        gate: at,
-                        doubt: false,
-                        first: first_of(&frames),
-                        aside: Aside::Settled,
-                        end: length,
-                    };
-                    Ok((log, frames))
-                }
-                End::Torn { at } => Err(ScanRefused {
-                    journal,
-                    fault: ScanFault::Torn { at },
-                    frames,
-                }),
-            },
+        let mut reader = FrameReader::new(alloc, journal, slot);
+        match reader.read_all(alloc) {
+            Ok(frames) => Ok((Frames::of_reader(reader), frames)),
             Err(fault) => Err(ScanRefused {
-                journal,
+                journal: reader.end(),
                 fault,
-                frames: Vec::new(alloc),
             }),
+        }
+    }
+
+    /// The log of a slot that was read frame by frame, up to its first closed gate.
+    pub fn of_reader(reader: FrameReader<J>) -> Frames<J>
+        requires { HasEnded reader }
+        ensures { (journal : J) (place : Slot) (frames : List Frame) → IsWholeRead journal place reader frames
+            → IsScanned journal place result frames }
+    {
+        Frames {
+            slot: reader.slot,
+            gate: reader.at,
+            doubt: false,
+            first: reader.first,
+            aside: Aside::Settled,
+            end: reader.end,
+            journal: reader.journal,
         }
     }
 

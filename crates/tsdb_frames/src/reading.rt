@@ -1,31 +1,20 @@
 //! Reading the records of a slot. Depends on `record`, `fault`, `tsdb_base` and `tsdb_outside`.
-ghost use Rattle.std.specs.Prelude.{◌≡◌, ◌≢◌, ◌⊎◌, ℕ, ◌+◌, ◌*◌, ◌≤◌, List, ◌++◌, None, length, take, drop, IfOk, IfErr, IfSome, IsErrOf};
+ghost use Rattle.std.specs.Prelude.{◌≡◌, ℕ, ◌+◌, ◌≤◌, List, None, length, take, drop, IfOk, IfErr, IfSome, IsErrOf};
 ghost use Rattle.std.specs.Option.{ForSome};
-ghost use Rattle.tsdb_outside.specs.Causes.{HasCause};
 ghost use Rattle.tsdb_outside.specs.Disk.{in_slot, Keeps};
-ghost use Rattle.tsdb_outside.specs.Limits.{FitsSlot};
 ghost use Rattle.tsdb_frames.specs.Causes.{HasScanCause};
 ghost use Rattle.tsdb_frames.specs.Firsts.{IsFirst};
-ghost use Rattle.tsdb_frames.specs.Slots.{BeginsWith, ArePlaced, IsTorn, open_records, payloads_of};
-ghost use Rattle.tsdb_frames.specs.Steps.{AreFramesUpTo, BeginsAs, HasEndAt, HasFrames, place_of};
+ghost use Rattle.tsdb_frames.specs.Slots.{BeginsWith, IsTorn};
+ghost use Rattle.tsdb_frames.specs.Steps.{BeginsAs};
 
 use crate::{Frame, ScanFault};
 use std::alloc::Global;
 use tsdb_base::List;
 use tsdb_outside::{Journal, Slot};
 
-// Where the records of a slot end.
-#[derive(Clone, Copy)]
-pub(crate) enum End {
-    // Before a closed gate at this place.
-    Closed { at: u64 },
-    // Before this place, where the slot is torn.
-    Torn { at: u64 },
-}
-
 // How bytes begin.
 #[derive(Drop)]
-enum Start {
+pub(crate) enum Start {
     // With a closed gate.
     Shut,
     // With a whole record behind an open gate, and the next gate.
@@ -38,7 +27,7 @@ enum Start {
 const LENGTH_BYTES: usize = 4;
 
 // The bytes of a piece of a slot.
-const PIECE_BYTES: u64 = 65_536;
+pub(crate) const PIECE_BYTES: u64 = 65_536;
 
 // The record that stands behind an open gate, and the next gate with all behind it. None where there is no such record
 // or no next gate.
@@ -57,41 +46,8 @@ fn split_record(bytes: &[u8]) -> Option<(&[u8], &[u8])>
     Some(rest.split_at(size))
 }
 
-// The records that stand whole in a piece of a slot, behind those that were read, and where they end in it. The piece
-// begins with a gate at this place.
-fn read_records(
-    alloc: Global,
-    start: u64,
-    piece: &[u8],
-    frames: &mut Vec<Frame>,
-) -> Result<End, ScanFault>
-    requires read { HasFrames frames.old.items start }
-    requires gate { 1 ≤ length piece.now }
-    requires fits { FitsSlot (start + length piece.now) }
-    ensures records { IfOk result (λ end. AreFramesUpTo frames.new.items end
-        (open_records (payloads_of frames.old.items) ++ piece.now)) }
-    ensures later { IfOk result (λ end. start ≤ place_of end) }
-    ensures memory { IfErr result (λ fault. fault ≡ ScanFault.Memory) }
-{
-    let mut at = start;
-    let mut rest = piece;
-    while let [1, behind @ ..] = rest {
-        let Some((payload, after)) = split_record(behind) else {
-            return Ok(End::Torn { at });
-        };
-        let next = at + 1 + LENGTH_BYTES as u64 + payload.len() as u64;
-        frames.push(Frame {
-            at,
-            payload: List::of(payload.to_vec(alloc)?),
-        })?;
-        at = next;
-        rest = after;
-    }
-    Ok(End::Closed { at })
-}
-
 // How these bytes begin.
-fn start_of(alloc: Global, bytes: &[u8]) -> Result<Start, ScanFault>
+pub(crate) fn start_of(alloc: Global, bytes: &[u8]) -> Result<Start, ScanFault>
     requires { 1 ≤ length bytes.now }
     ensures begins { IfOk result (λ start. BeginsAs start bytes.now) }
     ensures memory { IfErr result (λ fault. fault ≡ ScanFault.Memory) }
@@ -109,7 +65,7 @@ fn start_of(alloc: Global, bytes: &[u8]) -> Result<Start, ScanFault>
 }
 
 // So many bytes of a slot from a place on.
-fn read_piece<J: Journal>(
+pub(crate) fn read_piece<J: Journal>(
     alloc: Global,
     journal: &mut J,
     slot: Slot,
@@ -146,52 +102,6 @@ fn read_start<J: Journal>(
 {
     let piece = read_piece(alloc, journal, slot, 0, size)?;
     start_of(alloc, &piece)
-}
-
-// The bytes of the next piece: twice as many where this one had no whole record.
-fn next_size(size: u64, at: u64, place: u64) -> u64
-    requires { FitsSlot size }
-    ensures { ((place ≡ at) × (result ≡ size * 2)) ⊎ ((place ≢ at) × (result ≡ size)) }
-{
-    if place == at { size * 2 } else { size }
-}
-
-// The records of a slot, where they end, and how many bytes the slot has. It is read in pieces, up to the first closed
-// gate, so that it costs no more than the records do. A piece that has no whole record is read once more, with twice as
-// many bytes.
-pub(crate) fn read_slot<J: Journal>(
-    alloc: Global,
-    journal: &mut J,
-    slot: Slot,
-) -> Result<(Vec<Frame>, End, u64), ScanFault>
-    ensures records { IfOk result (λ r. IfSome (J.state journal.old).seen
-        (λ image. AreFramesUpTo r.0.items r.1 (in_slot slot image))) }
-    ensures places { IfOk result (λ r. ArePlaced r.0.items) }
-    ensures not_torn { (at : ℕ) → ¬ IsErrOf result (ScanFault.Torn at) }
-    ensures gate { IfOk result (λ r. HasEndAt (J.state journal.new) slot r.2 r.1) }
-    ensures keeps { Keeps (J.state journal.old) (J.state journal.new) }
-    ensures cause { HasScanCause (J.faults journal.old) (J.faults journal.new) result }
-{
-    let length = journal.length(slot)?;
-    let mut frames = Vec::new(alloc);
-    if length == 0 {
-        return Ok((frames, End::Torn { at: 0 }, length));
-    }
-    let mut at = 0;
-    let mut size = PIECE_BYTES;
-    loop {
-        let left = length - at;
-        let piece = read_piece(alloc, journal, slot, at, size.min(left))?;
-        let end = read_records(alloc, at, &piece, &mut frames)?;
-        let End::Torn { at: place } = end else {
-            return Ok((frames, end, length));
-        };
-        if size >= left {
-            return Ok((frames, end, length));
-        }
-        size = next_size(size, at, place);
-        at = place;
-    }
 }
 
 // The first record of a slot. It is read in pieces from its first byte on, each twice as long, up to the one that has the
