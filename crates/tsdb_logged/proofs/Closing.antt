@@ -1,5 +1,5 @@
 -- What a closing leaves.
-use Rattle.std.proofs.Common.{◌≡◌, ℕ, List, map, Option, None, Result, Ok, Err, refl, subst, sym}
+use Rattle.std.proofs.Common.{◌≡◌, ◌⊎◌, inl, inr, ℕ, List, map, Option, None, Result, Ok, Err, refl, subst, sym}
 use Rattle.std.specs.Prelude.{◌≤◌, OnErr, OnOk}
 use Rattle.std.specs.Option.{option_map}
 use Rattle.tsdb_frames.specs.Frames.{IsLog, disk_of, faults_of, journal_of, slot_of}
@@ -9,7 +9,8 @@ use Rattle.tsdb_images.proofs.Leaving.{bytes_stand, settled_is_sound}
 use Rattle.tsdb_images.proofs.Storing.{settled_stored}
 use Rattle.tsdb_images.specs.Stored.{LeadsTo, LeavesOneOf}
 use Rattle.tsdb_log.specs.Spelling.{spelling}
-use Rattle.tsdb_logged.specs.Closing.{IsClosed}
+use Rattle.tsdb_log.specs.declared.record.LogRecord.{LogRecord}
+use Rattle.tsdb_logged.specs.Closing.{IsClosed, LeavesRecords}
 use Rattle.tsdb_logged.specs.Logged.{IsSound, Outside, log_of}
 use Rattle.tsdb_logged.specs.declared.logged.Logged.{Logged}
 use Rattle.tsdb_map.specs.State as plain
@@ -17,6 +18,7 @@ use Rattle.tsdb_outside.specs.Causes.{HasCause, Rose}
 use Rattle.tsdb_outside.specs.Disk.{State, in_slot}
 use Rattle.tsdb_outside.specs.Moments.{LeavesOnly}
 use Rattle.tsdb_outside.specs.declared.disk.Disk as disk
+use Rattle.tsdb_outside.specs.declared.disk.Slot.{Slot}
 use Rattle.tsdb_outside.specs.declared.faults.Counted as counted
 use Rattle.tsdb_outside.specs.declared.faults.Failed.{Failed}
 use Rattle.tsdb_replay.specs.Stores as store
@@ -50,6 +52,14 @@ module _ {J : Type 0} {means : disk.Ghosts J} {counts : counted.Ghosts J} (logge
       (subst (λ (j : J). IsLogOn (means.state j) log.slot log.gate
       (map spelling outside.items) None) (sym is) stands_log.stands) settled_slot holds)
 
+-- what a log without doubt leaves of its slot
+closed_records : {J : Type 0} {means : disk.Ghosts J} {counts : counted.Ghosts J} (slot : Slot) (journal : J)
+    (log : Frames J means counts) (items : List LogRecord) → IsLog log (map spelling items) None → slot_of log ≡ slot
+    → journal ≡ log.journal → LeavesRecords slot (means.state journal) items
+closed_records {J} {means} slot journal log items stands same is =
+    subst (λ (s : Slot). LeavesRecords s (means.state journal) items) same
+    (subst (λ (j : J). LeavesRecords (slot_of log) (means.state j) items) (sym is) stands.stands.left)
+
 -- a settling, and then the end
 pub closed : {J : Type 0} {means : disk.Ghosts J} {counts : counted.Ghosts J} (logged : Logged J means counts)
     (log : Frames J means counts) (journal : J) (outcome : Result (Unit {0}) Failed)
@@ -71,39 +81,43 @@ closed {J} {means} {counts} logged log journal outcome settled_log failed_log mo
       (λ image. HasRecordsOrOneMore (map spelling outside.items) (option_map spelling state.doubt)
       (in_slot (slot_of (log_of logged)) image))) (sym is)
       (moments (map spelling outside.items) (option_map spelling state.doubt) sound.log.log));
-  sound = λ not_risen outside state at files sound stands holds. by outcome settled_log cause not_risen outside state
-      at files sound stands holds;
-  undoubted = λ outside state at files none sound stands holds. closed_sound logged outside state at sound stands journal
-      log files (still outcome settled_log failed_log (map spelling outside.items)
-      (subst (λ d. IsLog (log_of logged) (map spelling outside.items) (option_map spelling d)) none sound.log.log)) slot is
-      (settled_slot (map spelling outside.items) (still outcome settled_log failed_log (map spelling outside.items)
-      (subst (λ d. IsLog (log_of logged) (map spelling outside.items) (option_map spelling d)) none sound.log.log))) holds;
+  sound = λ not_risen outside state at files sound stands holds. is_sound outside state at files sound stands holds
+      (stands_still outside state sound (inl not_risen));
+  undoubted = λ outside state at files none sound stands holds. is_sound outside state at files sound stands holds
+      (stands_still outside state sound (inr none));
+  records = λ outside state sound sure. closed_records (slot_of (log_of logged)) journal log outside.items
+      (stands_still outside state sound sure) slot is;
   later = subst (λ (j : J). counts.faults (log_of logged).journal ≤ counts.faults j) (sym is) cause.later;
 }
   where
-    -- with nothing in doubt the log goes on with its records, whether it was settled or not
-    still : (outcome : Result (Unit {0}) Failed)
+    -- the log goes on with its records, and nothing is in doubt
+    by : (outcome : Result (Unit {0}) Failed)
         → OnOk outcome ((acknowledged : List (List ℕ)) (in_doubt : Option (List ℕ))
         → IsLog (log_of logged) acknowledged in_doubt → IsLog log acknowledged None)
         → OnErr outcome ((acknowledged : List (List ℕ)) (in_doubt : Option (List ℕ))
         → IsLog (log_of logged) acknowledged in_doubt → IsLog log acknowledged in_doubt)
-        → (acknowledged : List (List ℕ)) → IsLog (log_of logged) acknowledged None → IsLog log acknowledged None
-    still (Ok done) settled_log failed_log acknowledged was = settled_log acknowledged None was
-    still (Err fault) settled_log failed_log acknowledged was = failed_log acknowledged None was
-
-    by : (outcome : Result (Unit {0}) Failed)
-        → OnOk outcome ((acknowledged : List (List ℕ)) (in_doubt : Option (List ℕ))
-        → IsLog (log_of logged) acknowledged in_doubt → IsLog log acknowledged None)
         → HasCause (faults_of (log_of logged)) (faults_of log) outcome
-        → ¬ Rose (faults_of (log_of logged)) (counts.faults journal) → (outside : Outside) (state : EngineState)
-        (at : plain.State) (files : store.Files) → IsSound logged outside state
-        → store.IsStateOf outside.told state.store at
-        → store.HoldsKept outside.kept files
-        → store.IsSound (slot_of (log_of logged)) (means.state journal) files at
-    by (Ok done) settled_log cause not_risen outside state at files sound stands holds =
-        let log_is = settled_log (map spelling outside.items) (option_map spelling state.doubt) sound.log.log in
-        closed_sound logged outside state at sound stands journal log files log_is slot is
-        (settled_slot (map spelling outside.items) log_is) holds
-    by (Err fault) settled_log cause not_risen outside state at files sound stands holds =
+        → (acknowledged : List (List ℕ)) (in_doubt : Option LogRecord)
+        → IsLog (log_of logged) acknowledged (option_map spelling in_doubt)
+        → (¬ Rose (faults_of (log_of logged)) (counts.faults journal)) ⊎ (in_doubt ≡ None)
+        → IsLog log acknowledged None
+    by (Ok done) settled_log failed_log cause acknowledged in_doubt was sure =
+        settled_log acknowledged (option_map spelling in_doubt) was
+    by (Err fault) settled_log failed_log cause acknowledged in_doubt was (inl not_risen) =
         absurd (not_risen (subst (λ (j : J). Rose (counts.faults (log_of logged).journal) (counts.faults j)) (sym is)
         cause.failed))
+    by (Err fault) settled_log failed_log cause acknowledged in_doubt was (inr none) =
+        failed_log acknowledged None (subst (λ d. IsLog (log_of logged) acknowledged (option_map spelling d)) none was)
+
+    stands_still : (outside : Outside) (state : EngineState) → IsSound logged outside state
+        → (¬ Rose (faults_of (log_of logged)) (counts.faults journal)) ⊎ (state.doubt ≡ None)
+        → IsLog log (map spelling outside.items) None
+    stands_still outside state sound sure =
+        by outcome settled_log failed_log cause (map spelling outside.items) state.doubt sound.log.log sure
+
+    is_sound : (outside : Outside) (state : EngineState) (at : plain.State) (files : store.Files)
+        → IsSound logged outside state → store.IsStateOf outside.told state.store at
+        → store.HoldsKept outside.kept files → IsLog log (map spelling outside.items) None
+        → store.IsSound (slot_of (log_of logged)) (means.state journal) files at
+    is_sound outside state at files sound stands holds log_is = closed_sound logged outside state at sound stands journal
+        log files log_is slot is (settled_slot (map spelling outside.items) log_is) holds
