@@ -7,3 +7,4 @@ pub mod Counts
 pub mod Taken
 pub mod Swept
 pub mod Replaced
+pub mod Searched

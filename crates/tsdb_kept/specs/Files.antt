@@ -1,5 +1,7 @@
 -- The files that a core keeps, as contracts see them.
-use Rattle.std.specs.Prelude.{◌≡◌, ℕ, List, [], ◌∷◌, ◌++◌, length, map, Option, None, Some}
+use Rattle.std.specs.Prelude.{◌≡◌, ℕ, Bool, List, [], ◌∷◌, ◌++◌, length, map, Option, None, Some}
+use Rattle.std.specs.List.{list_any}
+use Rattle.std.specs.Option.{option_map, unwrap_or}
 use Rattle.tsdb_base.specs.declared.ids.Space.{Space}
 use Rattle.tsdb_base.specs.declared.ids.Space.TheVariants.{Sequence, Unsequence}
 use Rattle.tsdb_kept.specs.declared.files.Outgoing.{Outgoing}
@@ -7,6 +9,7 @@ use Rattle.tsdb_kept.specs.declared.room.Spare.{Spare}
 use Rattle.tsdb_kept.specs.Places.{KeptFile, Places, file_at, place_at}
 use Rattle.tsdb_kept.specs.Room.{no_room}
 use Rattle.tsdb_layers.specs.Lists.{count, if_some}
+use Rattle.tsdb_layers.specs.Places.{is_path}
 use Rattle.tsdb_plan.specs.declared.entry.FileEntry.{FileEntry}
 
 -- the places, the two lists, the files on their way out, and the places promised to jobs that are out
@@ -24,6 +27,14 @@ none_kept = record { places = []; sequence = []; unsequence = []; outgoing = [];
 -- the file that is kept under the number
 abbrev pub kept_file : ℕ → KeptFiles → Option KeptFile
 kept_file number files = file_at (place_at number files.places)
+
+-- the paths of the series of the kept file with this number
+abbrev pub series_at : ℕ → KeptFiles → List (List ℕ)
+series_at number files = unwrap_or (option_map (λ file. file.series) (kept_file number files)) []
+
+-- whether the kept file of the number has the series
+abbrev pub has_path : List ℕ → KeptFiles → ℕ → Bool
+has_path path files number = list_any (is_path path) (series_at number files)
 
 -- there is a place for the number, and its file is not there yet
 abbrev pub IsOpen : ℕ → KeptFiles → Type 0

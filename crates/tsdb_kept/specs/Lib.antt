@@ -2,6 +2,7 @@ pub mod Closing
 pub mod Files
 pub mod Growth
 pub mod Kept
+pub mod Order
 pub mod Places
 pub mod Replacing
 pub mod Rights

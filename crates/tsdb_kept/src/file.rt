@@ -1,7 +1,10 @@
-//! A stored file whose token is kept. Depends on tsdb_base, tsdb_path and tsdb_outside.
+//! A stored file whose token is kept. Depends on `series`, tsdb_base, tsdb_path and tsdb_outside.
 ghost use Rattle.std.specs.Prelude.{◌≡◌, IfOk, OnErr, OnOk};
+ghost use Rattle.std.specs.List.{list_any};
 ghost use Rattle.tsdb_kept.specs.Rights.{one_less, one_more};
+ghost use Rattle.tsdb_layers.specs.Places.{is_path};
 
+use crate::series::SeriesPaths;
 use std::marker::Model;
 use tsdb_base::{List, Memory};
 use tsdb_outside::{Files, Port};
@@ -10,7 +13,7 @@ use tsdb_path::Path;
 /// The token of a stored file, the paths of its series, and how many rights to read it are out.
 pub(crate) struct KeptFile<F: Files> {
     sealed: F::Sealed,
-    series: List<Path>,
+    series: SeriesPaths,
     rights: u64,
 }
 
@@ -33,7 +36,7 @@ impl<F: Files> KeptFile<F> {
     {
         KeptFile {
             sealed,
-            series,
+            series: SeriesPaths::new(series),
             rights: 0,
         }
     }
@@ -50,6 +53,13 @@ impl<F: Files> KeptFile<F> {
         ensures { result.now ≡ self.now.series }
     {
         self.series.items()
+    }
+
+    /// Whether the path is that of one of its series.
+    pub(crate) fn has(&self, path: &Path) -> bool
+        ensures { result ≡ list_any (is_path path.now) self.now.series }
+    {
+        self.series.has(path)
     }
 
     /// Gives out a right to read the file. Rights take memory, so they end before their count does.

@@ -61,7 +61,7 @@ impl<F: Files> Model for KeptFiles<F> {
 impl<F: Files> KeptFiles<F> {
     ghost use Rattle.tsdb_kept.specs.Closing.{ArePutBack, AreRising, names_at};
     ghost use Rattle.tsdb_kept.specs.Files.{Appends, AreKept, IsOpen, KeepsLists, KeptFiles as KeptFilesOf, entries_in};
-    ghost use Rattle.tsdb_kept.specs.Files.{kept_file};
+    ghost use Rattle.tsdb_kept.specs.Files.{has_path, kept_file};
     ghost use Rattle.tsdb_kept.specs.Files.{listed_borns, none_kept};
     ghost use Rattle.tsdb_kept.specs.Places.{AreOfStore, ArePlacesMade, AreUnread, OnlyMakesPlaces, OthersStay};
     ghost use Rattle.tsdb_kept.specs.Places.{place_at};
@@ -360,6 +360,17 @@ impl<F: Files> KeptFiles<F> {
         match self.tokens.get(&number.0) {
             Some(Some(file)) => Some(file.series()),
             _ => None,
+        }
+    }
+
+    /// Whether the file of the number is kept and has the series. It looks the path up by a binary search, where the
+    /// series of the file stand in the order of a tree.
+    pub fn has_series(&self, number: FileNumber, path: &Path) -> bool
+        ensures { result ≡ has_path path.now self.now number.0 }
+    {
+        match self.tokens.get(&number.0) {
+            Some(Some(file)) => file.has(path),
+            _ => false,
         }
     }
 

@@ -4,6 +4,7 @@
 //! - A number that is drawn for a file gets a place, and room in its list and among the outgoing files. So no end of a
 //!   job takes memory, and none can fail for want of it.
 //! - Each file of the two lists and each outgoing file has its token here, and each token is of one of them.
+//! - A series is looked up among those of a file by a binary search, as they stand in the order of a tree.
 //! - An outgoing file is removed from the store once no right to read it is out, and no record in doubt names it.
 #![tactic(auto)]
 
@@ -14,6 +15,7 @@ mod places;
 mod replacing;
 mod rights;
 mod room;
+mod series;
 mod sweeping;
 
 pub use files::{KeptFiles, Outgoing};
