@@ -1,7 +1,7 @@
 -- The sources of listed files, taken file by file, and sources taken one part after another.
-use Rattle.std.proofs.Common.{◌≡◌, ℕ, zero, suc, ◌+◌, ◌<◌, ◌≤◌, Bool, true, false, cond, List, [], ◌∷◌, ◌++◌, length, take, get_or}
-use Rattle.std.proofs.Common.{Option, Some, None, Result, Ok, Err, refl, sym, ap, subst, ◌∙◌, append_assoc, arith}
-use Rattle.std.specs.Prelude.{◌||◌, IsSome, OnErr, OnOk}
+use Rattle.std.proofs.Common.{◌≡◌, ℕ, ◌+◌, ◌<◌, ◌≤◌, Bool, true, false, cond, List, [], ◌∷◌, ◌++◌, length, take, get_or}
+use Rattle.std.proofs.Common.{Option, Some, None, Result, Ok, Err, refl, sym, ap, subst, ◌∙◌, append_assoc}
+use Rattle.std.specs.Prelude.{IsSome, OnErr, OnOk}
 use Rattle.std.specs.List.{AllZip, filter, list_any}
 use Rattle.std.specs.Option.{option_map, unwrap_or}
 use Rattle.std.proofs.lemmas.Bool.{false≢true}
@@ -10,20 +10,19 @@ use Rattle.tsdb_base.specs.declared.ids.FileNumber.{FileNumber}
 use Rattle.tsdb_base.specs.declared.ids.Space.{Space}
 use Rattle.tsdb_base.specs.declared.ids.Space.TheVariants.{Sequence, Unsequence}
 use Rattle.tsdb_base.specs.declared.ids.Stamp.{Stamp}
-use Rattle.tsdb_kept.specs.Files.{KeepsLists, KeptFiles, entries_in, kept_file}
+use Rattle.tsdb_kept.specs.Files.{KeepsLists, KeptFiles, entries_in, has_path, kept_file, series_at}
 use Rattle.tsdb_kept.specs.Places.{KeptFile}
 use Rattle.tsdb_kept.specs.Rights.{HasChanged, IsRightTo, one_more}
 use Rattle.tsdb_kept.specs.Places.{OthersStay}
 use Rattle.tsdb_layers.proofs.Lists.{each_append, each_weaker, filter_append}
-use Rattle.tsdb_layers.proofs.Places.{is_path_same, path_itself}
 use Rattle.tsdb_layers.specs.Lists.{count}
 use Rattle.tsdb_layers.specs.Places.{is_path}
 use Rattle.tsdb_outside.specs.Files.{NamedFile}
 use Rattle.tsdb_pinning.proofs.Changing.{LeavesNames, kept_changed, none_shared, right_stays, right_was, takes_names}
 use Rattle.tsdb_pinning.proofs.Changing.{takes_none, takes_one, takes_then, nothing_changed}
 use Rattle.tsdb_pinning.specs.Changes.{ChangesFiles, KeepsFiles, Takes, TakesAll, TakesRights, TakesSome, more_rights}
-use Rattle.tsdb_pinning.specs.Sources.{AreHeldIn, AreOfFiles, IsFileWithRight, IsHeldIn, IsOfEntry, has_path, numbers_in}
-use Rattle.tsdb_pinning.specs.Sources.{series_at, source_numbers}
+use Rattle.tsdb_pinning.specs.Sources.{AreHeldIn, AreOfFiles, IsFileWithRight, IsHeldIn, IsOfEntry, numbers_in}
+use Rattle.tsdb_pinning.specs.Sources.{source_numbers}
 use Rattle.tsdb_pinning.specs.declared.pin.PinnedSource.{PinnedSource}
 use Rattle.tsdb_pinning.specs.declared.pin.PinnedSource.TheVariants.{File, Part}
 use Rattle.tsdb_plan.specs.declared.entry.FileEntry.{FileEntry}
@@ -59,45 +58,6 @@ ok_of_both (Err e) f a b = tt
 pub when_err : {T E A B : Type 0} (r : Result T E) → (A → B) → OnErr r A → OnErr r B
 when_err (Ok x) f a = tt
 when_err (Err e) f a = f a
-
--- whether a path is one of several, one by one
-
-pub any_at : {X : Type 0} (test : X → Bool) (xs : List X) (i : ℕ) (x : X) → i < length xs → x ≡ get_or xs i x → test x ≡ true
-    → list_any test xs ≡ true
-any_at test [] i x inside at is = absurd (omega (arith, inside))
-any_at test (y ∷ ys) zero x inside at is = ap (λ (b : Bool). b || list_any test ys) (ap test (sym at) ∙ is)
-any_at test (y ∷ ys) (suc i) x inside at is = either (test y) (any_at test ys i x (omega (arith, inside)) at is)
-  where
-    either : (b : Bool) → list_any test ys ≡ true → (b || list_any test ys) ≡ true
-    either true h = refl
-    either false h = h
-
-any_push : {X : Type 0} (test : X → Bool) (xs : List X) (x : X) → list_any test xs ≡ false → test x ≡ false
-    → list_any test (xs ++ x ∷ []) ≡ false
-any_push test [] x none is = ap (λ (b : Bool). b || false) is
-any_push test (y ∷ ys) x none is = both (test y) none (λ h. any_push test ys x h is)
-  where
-    both : (b : Bool) → (b || list_any test ys) ≡ false
-        → (list_any test ys ≡ false → list_any test (ys ++ x ∷ []) ≡ false)
-        → (b || list_any test (ys ++ x ∷ [])) ≡ false
-    both true h next = h
-    both false h next = next h
-
-pub path_found : (path other : List ℕ) (series : List (List ℕ)) (i : ℕ) → i < length series
-    → other ≡ get_or series i other → path ≡ other → true ≡ list_any (is_path path) series
-path_found path other series i inside at same = sym (any_at (is_path path) series i other inside at
-    (subst (λ (p : List ℕ). is_path path p ≡ true) same (path_itself path)))
-
-pub path_not_yet : (path other : List ℕ) (series : List (List ℕ)) (i : ℕ) → i < length series
-    → other ≡ get_or series i other → (path ≡ other → ⊥) → list_any (is_path path) (take i series) ≡ false
-    → list_any (is_path path) (take (i + 1) series) ≡ false
-path_not_yet path other series i inside at differ none =
-    ap (list_any (is_path path)) (take_more series i other inside ∙ ap (λ (p : List ℕ). take i series ++ p ∷ []) (sym at))
-    ∙ any_push (is_path path) (take i series) other none (by (is_path path other) refl)
-  where
-    by : (b : Bool) → is_path path other ≡ b → b ≡ false
-    by true e = absurd (differ (is_path_same path other e))
-    by false e = refl
 
 -- what a file with points of a series is known by
 

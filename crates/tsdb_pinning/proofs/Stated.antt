@@ -16,7 +16,8 @@ use Rattle.tsdb_base.specs.declared.point.Point.{Point}
 use Rattle.tsdb_base.specs.declared.point.Range.{Range}
 use Rattle.tsdb_base.specs.declared.value.Value.{Value}
 use Rattle.tsdb_held.specs.Held.{AreFilesOf, entry_of, listed}
-use Rattle.tsdb_kept.specs.Files.{AreKept, KeptFiles, entries_in, entry_numbers, kept_file, numbers_of, outgoing_numbers}
+use Rattle.tsdb_kept.specs.Files.{AreKept, KeptFiles, entries_in, entry_numbers, has_path, kept_file, numbers_of}
+use Rattle.tsdb_kept.specs.Files.{outgoing_numbers}
 use Rattle.tsdb_kept.specs.Places.{KeptFile}
 use Rattle.tsdb_layers.proofs.Lists.{count_append, each_from_among, each_both}
 use Rattle.tsdb_layers.proofs.Places.{is_path_same, path_itself, place_cmp-IsAntisymmetric, same_content}
@@ -34,8 +35,8 @@ use Rattle.tsdb_memtable.specs.Points.{IsRising, is_within}
 use Rattle.tsdb_outside.specs.Files.{NamedFile}
 use Rattle.tsdb_pinning.proofs.Listed.{zip_append}
 use Rattle.tsdb_pinning.specs.Shown.{ArePointsOf, IsShownAs}
-use Rattle.tsdb_pinning.specs.Sources.{AreOfFiles, AreRisingIn, AreSourcesOf, IsOfEntry, has_path, has_slice, pairs_in}
-use Rattle.tsdb_pinning.specs.Sources.{part_in, parts_in, slice_of}
+use Rattle.tsdb_pinning.specs.Sources.{AreOfFiles, AreRisingIn, AreSourcesOf, IsOfEntry, has_slice, pairs_in, part_in}
+use Rattle.tsdb_pinning.specs.Sources.{parts_in, slice_of}
 use Rattle.tsdb_pinning.specs.declared.pin.PinnedSource.{PinnedSource}
 use Rattle.tsdb_pinning.specs.declared.pin.PinnedSource.TheVariants as source
 use Rattle.tsdb_plan.specs.declared.entry.FileEntry.{FileEntry}

@@ -1,16 +1,14 @@
 -- The sources of a series: rights on listed files, and copies of points in memory.
 use Rattle.std.specs.Prelude.{◌≡◌, ℕ, ◌==◌, Bool, not, List, [], ◌∷◌, ◌++◌, length, map, IsSome, Some}
-use Rattle.std.specs.List.{AllByRecursion as Each, AllZip, filter, flat_map, list_any}
-use Rattle.std.specs.Option.{option_map, unwrap_or}
+use Rattle.std.specs.List.{AllByRecursion as Each, AllZip, filter, flat_map}
 use Rattle.tsdb_base.specs.declared.ids.FileNumber.{FileNumber}
 use Rattle.tsdb_base.specs.declared.ids.Space.{Space}
 use Rattle.tsdb_base.specs.declared.ids.Space.TheVariants.{Sequence, Unsequence}
 use Rattle.tsdb_base.specs.declared.ids.Stamp.{Stamp}
 use Rattle.tsdb_base.specs.declared.point.Point.{Point}
 use Rattle.tsdb_base.specs.declared.point.Range.{Range}
-use Rattle.tsdb_kept.specs.Files.{KeptFiles, entries_in, kept_file}
+use Rattle.tsdb_kept.specs.Files.{KeptFiles, entries_in, has_path, kept_file}
 use Rattle.tsdb_kept.specs.Rights.{IsRightTo}
-use Rattle.tsdb_layers.specs.Places.{is_path}
 use Rattle.tsdb_memory.specs.Store.{FrozenPair, Store}
 use Rattle.tsdb_memtable.specs.Pairs.{points_of}
 use Rattle.tsdb_memtable.specs.Points.{IsRising, is_within}
@@ -33,14 +31,6 @@ has_slice space number range pair = not (length (slice_of space number range pai
 -- the points of the series rise in time in each of the pairs
 abbrev pub AreRisingIn : Space → ℕ → List FrozenPair → Type 0
 AreRisingIn space number pairs = Each (λ pair. IsRising (points_of space number pair.pair)) pairs
-
--- the paths of the series of the kept file with this number
-abbrev pub series_at : ℕ → KeptFiles → List (List ℕ)
-series_at number files = unwrap_or (option_map (λ file. file.series) (kept_file number files)) []
-
--- whether the kept file of the number has the series
-abbrev pub has_path : List ℕ → KeptFiles → ℕ → Bool
-has_path path files number = list_any (is_path path) (series_at number files)
 
 module _ {F S R P : Type 0} where
   -- copies of the points of the series in the range, from each pair that has some

@@ -1,10 +1,8 @@
 //! Rights to read the files of a list that have a series. Depends on `pin`.
 ghost use Rattle.std.specs.Prelude.{◌≡◌, ◌<◌, ◌∷◌, ◌++◌, [], OnErr, OnOk, vec_capacity, vec_len};
-ghost use Rattle.std.specs.List.{list_any};
 ghost use Rattle.tsdb_kept.specs.Files.{entries_in};
-ghost use Rattle.tsdb_layers.specs.Places.{is_path};
 ghost use Rattle.tsdb_pinning.specs.Changes.{KeepsFiles, TakesAll, TakesSome};
-ghost use Rattle.tsdb_pinning.specs.Sources.{AreOfFiles, IsFileWithRight, has_path as has_path_of};
+ghost use Rattle.tsdb_pinning.specs.Sources.{AreOfFiles, IsFileWithRight};
 
 use crate::pin::PinnedSource;
 use tsdb_base::{FileNumber, Memory, Space, Stamp};
@@ -20,28 +18,6 @@ pub(crate) fn push<T>(list: &mut Vec<T>, item: T)
     match list.push(item) {
         Ok(()) => (),
         Err(_full) => unreachable!(),
-    }
-}
-
-/// Whether one of the paths is this one.
-fn has_path(series: &[Path], path: &Path) -> bool
-    ensures { result ≡ list_any (is_path path.now) series.now }
-{
-    for other in series {
-        if path.covers(other) {
-            return true;
-        }
-    }
-    false
-}
-
-/// Whether the kept file of the number has points of the series.
-fn has_series<F: Files>(files: &KeptFiles<F>, number: FileNumber, path: &Path) -> bool
-    ensures { result ≡ has_path_of path.now files.now number.0 }
-{
-    match files.series(number) {
-        Some(series) => has_path(series, path),
-        None => false,
     }
 }
 
@@ -85,7 +61,7 @@ pub(crate) fn take_files<F: Files>(
     for place in 0..files.entries(space).len() {
         let entry = &files.entries(space)[place];
         let (number, born) = (entry.number, entry.born);
-        if has_series(files, number, path) {
+        if files.has_series(number, path) {
             take_file(files, number, born, sources)?;
         }
     }
