@@ -143,6 +143,13 @@ fn refused_bodies(rt: HostRuntime) {
     }
 }
 
+/// Runs suit no texts, so no page of texts is written in runs.
+#[test]
+fn texts_in_runs_are_refused(rt: HostRuntime) {
+    let read = read_page(rt.alloc(), &WORKED_BODY, DataType::Text, Encoding::Rle);
+    assert!(rt; matches!(read, Err(PageFault::Bad)));
+}
+
 /// Points 5 at these times, each in a page of its own.
 fn chunk_at(
     alloc: Global,
