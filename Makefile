@@ -2,8 +2,8 @@
 # make build  proves the program and leaves it at bin/tsdb
 # make bench  proves the programs and prints what they take; GROUP=name measures one group
 # make check-disk   kills the program in the middle of its writes, and looks at what the next run finds; runs a plant's day
-#                   with a flush and a compaction; stores many files,
-#                   and fills a small disk
+#                   with a flush and a compaction; compares short scripts with a plain slow store; stores many files, and
+#                   fills a small disk
 # make test   proves every crate and runs every test and program
 .PHONY: demo build bench check-disk test
 
@@ -36,6 +36,7 @@ bench: build
 check-disk: build
 	@checks/kill bin/tsdb
 	@checks/plants bin/tsdb
+	@checks/scripts bin/tsdb
 	@cd crates/tsdb_bench && rt run -- quick >&2
 	@checks/files crates/tsdb_bench/out/tsdb_bench
 
