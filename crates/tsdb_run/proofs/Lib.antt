@@ -6,3 +6,5 @@ pub mod Prefix
 pub mod Executed
 pub mod Written
 pub mod Opening
+pub mod Refused
+pub mod Ends

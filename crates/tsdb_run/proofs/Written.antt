@@ -1,5 +1,5 @@
 -- What the parts of a run say of the whole.
-use Rattle.std.proofs.Common.{◌≡◌, inl, ℕ, ◌<◌, List, Option, Some, arith, subst, sym}
+use Rattle.std.proofs.Common.{◌≡◌, inl, ℕ, ◌<◌, List, Some, arith}
 use Rattle.std.specs.Prelude.{All, IfSome}
 use Rattle.std.specs.Io.KnownBytes.{Appends}
 use Rattle.std.proofs.Math.ListN.{get_or-map}
@@ -23,8 +23,8 @@ small_sessions bytes script is = λ k numbered lt.
     omega (arith, numbers.1, get_or-map (λ n. n.session) script k numbered)
 
 -- a script that was executed, and what was written of its output
-module _ (run : Run) (bytes : List ℕ) (script : List Numbered) (asked : Asked) (left : run.left ≡ Some bytes)
-    (words : AreWords run.words asked) (directory : run.directory ≡ Some asked.directory) (is : IsScript bytes script)
+module _ (run : Run) (script : List Numbered) (asked : Asked) (words : AreWords run.words asked)
+    (directory : run.directory ≡ Some asked.directory) (read : IfSome run.left (λ bytes. IsScript bytes script))
     (done : IsRunOn script run.history run.old run.new run.rose) where
   executed : (puts : List ℕ → Type 0) → puts (output_text script run.history) → IsExecuted run puts
   executed puts printed = record {
@@ -32,7 +32,7 @@ module _ (run : Run) (bytes : List ℕ) (script : List Numbered) (asked : Asked)
     words = words;
     directory = directory;
     script = script;
-    read = subst (λ (o : Option (List ℕ)). IfSome o (λ b. IsScript b script)) (sym left) is;
+    read = read;
     entries = done.entries;
     history_of = done.history_of;
     served = done.served;

@@ -16,7 +16,7 @@ use Rattle.tsdb_outside.specs.Moments.{LeavesOnly}
 use Rattle.tsdb_outside.specs.declared.disk.Slot.TheVariants.{A}
 use Rattle.tsdb_replay.specs.Stores.{Files, HoldsKept}
 use Rattle.tsdb_run.specs.Output.{AppendsPrefix, output_text}
-use Rattle.tsdb_run.specs.Store.{Contents, IsDamaged, IsSound}
+use Rattle.tsdb_run.specs.Store.{Contents, IsDamaged, IsSound, KeepsListed}
 use Rattle.tsdb_run.specs.declared.status.Status.{Status}
 use Rattle.tsdb_run.specs.declared.status.Status.TheVariants.{Done, Memory, Words, Script, Source, Sink, Device}
 use Rattle.tsdb_run.specs.declared.status.Status.TheVariants.{Damaged}
@@ -44,6 +44,22 @@ pub record Run : Type 1 where
   -- what the sink held and holds, where it tells that
   pub held : Option (List ℕ)
   pub holds : Option (List ℕ)
+
+-- the run of these words and this source, with what it left
+abbrev pub run_of : List (List ℕ) → Option (List ℕ) → Contents → Contents → Type 0 → Option (List ℕ) → Status
+    → List Told → Option (List ℕ) → Option (List ℕ) → Run
+run_of words left old new rose directory status history held holds = record {
+  words = words;
+  left = left;
+  old = old;
+  new = new;
+  rose = rose;
+  directory = directory;
+  status = status;
+  history = history;
+  held = held;
+  holds = holds;
+}
 
 -- each of these files has a number above those of the others
 abbrev pub AreNewer : List StoredFile → List StoredFile → Type 0
@@ -87,11 +103,15 @@ pub record IsExecuted (run : Run) (puts : List ℕ → Type 0) : Type 0 where
       → HasRun sound.files start entries run.old.disk run.new run.rose
   pub printed : puts (output_text script run.history)
 
--- no command was executed, nothing was written, and the log is as it was
+-- No command was executed, nothing was written, and the log is as it was.
 pub record IsWithoutCommands (run : Run) : Type 0 where
   pub none : run.history ≡ []
   pub sink : KeepsBytes run.held run.holds
   pub log : Keeps run.old.disk run.new.disk
+  -- each file is as it was, but that some which the log does not list may be gone
+  pub files : KeepsListed run.old run.new
+  -- so a sound store is left sound, in the state that it was in
+  pub sound : (at : plain.State) → IsSound run.old at → IsSound run.new at
 
 -- What each status says. Done: the script was executed and exactly its output written. Where the sink failed, or memory
 -- ran out as the output was written, a prefix of the output was. With every other status nothing was written.

@@ -1,5 +1,6 @@
 -- What the steps of a run ensure. No public clause cites them.
 use Rattle.std.specs.Prelude.{◌≡◌, ◌==◌, ℕ, ◌<◌, List, [], ◌∷◌, ◌++◌, Option, Result, OnOk, if◌then◌else◌, Some, None}
+use Rattle.std.specs.Prelude.{IfSome}
 use Rattle.std.specs.List.{AllByRecursion as Each, list_any}
 use Rattle.std.specs.Io.KnownBytes.{Appends}
 use Rattle.tsdb_core.specs.Core.{next_of}
@@ -8,7 +9,7 @@ use Rattle.tsdb_history.specs.History.{IsHistory}
 use Rattle.tsdb_history.specs.declared.told.Told.{Told}
 use Rattle.tsdb_map.specs.History.{Entry}
 use Rattle.tsdb_map.specs.State as plain
-use Rattle.tsdb_outside.specs.Causes.{HasStoreCause}
+use Rattle.tsdb_outside.specs.Causes.{HasStoreCause, RisesOnlyByFailed}
 use Rattle.tsdb_outside.specs.Files.{StoredFile}
 use Rattle.tsdb_outside.specs.declared.disk.Disk as disk
 use Rattle.tsdb_outside.specs.declared.faults.Counted as counted
@@ -16,12 +17,17 @@ use Rattle.tsdb_outside.specs.declared.faults.StoreFault.{StoreFault}
 use Rattle.tsdb_print.specs.Text.{reply_text}
 use Rattle.tsdb_recover.specs.declared.fault.OpenFault.{OpenFault}
 use Rattle.tsdb_recover.specs.declared.fault.OpenFault.TheVariants as fault
+use Rattle.tsdb_run.specs.Causes.{AreGoodWords}
 use Rattle.tsdb_run.specs.Headline.{HasRun}
+use Rattle.tsdb_run.specs.Input.{TakesScript}
 use Rattle.tsdb_run.specs.Output.{AppendsPrefix}
 use Rattle.tsdb_run.specs.Store.{Contents, IsDamaged, IsSound}
 use Rattle.tsdb_run.specs.declared.status.Status.{Status}
 use Rattle.tsdb_run.specs.declared.status.Status.TheVariants.{Done, Memory, Words, Script, Source, Sink, Device}
 use Rattle.tsdb_run.specs.declared.status.Status.TheVariants.{Damaged}
+use Rattle.tsdb_script.specs.Reading.{IsFirstBad, IsScript}
+use Rattle.tsdb_script.specs.declared.fault.ScriptFault.{ScriptFault}
+use Rattle.tsdb_script.specs.declared.fault.ScriptFault.TheVariants as script_fault
 use Rattle.tsdb_script.specs.declared.numbered.Numbered.{Numbered}
 use Rattle.tsdb_serving.specs.Serving.{IsServing, disk_under}
 
@@ -60,12 +66,14 @@ with_session sessions session =
 abbrev pub reply_text_of : ℕ → Numbered → Told → List ℕ
 reply_text_of session numbered told = if told.session == session then reply_text numbered.command told.reply else []
 
--- a call put the text: all of it where it succeeded, and a prefix of it in any case; and its faults have a cause
+-- A call put the text: all of it where it succeeded, and a prefix of it in any case. Its faults have a cause, and the
+-- count of faults rises in no other answer than `Failed`.
 pub record Puts {T : Type 0} (old new : Option (List ℕ)) (text : List ℕ)
     (before now : ℕ) (result : Result T StoreFault) : Type 0 where
   pub whole : OnOk result (Appends old new text)
   pub prefix : AppendsPrefix old new text
   pub cause : HasStoreCause before now result
+  pub no_fault : RisesOnlyByFailed before now result
 
 -- the status of a run that wrote a text, or a prefix of it
 abbrev pub IsWritten : Status → Option (List ℕ) → Option (List ℕ) → List ℕ → Type 0
@@ -78,16 +86,36 @@ IsWritten Source old new text = ⊥
 IsWritten Device old new text = ⊥
 IsWritten (Damaged part at) old new text = ⊥
 
--- the statuses once the script's bytes are there
-abbrev pub IsOfScript : Status → Type 0
-IsOfScript Done = Unit {0}
-IsOfScript Memory = Unit {0}
-IsOfScript (Script line kind) = Unit {0}
-IsOfScript Sink = Unit {0}
-IsOfScript Words = ⊥
-IsOfScript Source = ⊥
-IsOfScript Device = Unit {0}
-IsOfScript (Damaged part at) = Unit {0}
+-- these are the commands of a script that was read to the end of its source
+abbrev pub IsReadFrom : Option (List ℕ) → Option (List ℕ) → List Numbered → Type 0
+IsReadFrom left new commands = (bytes : List ℕ) × TakesScript left new bytes × IsScript bytes commands
+
+-- why a script was not read, as the status of a run
+abbrev pub script_status : ScriptFault → Status
+script_status (script_fault.Bad line kind) = Script line kind
+script_status script_fault.Memory = Memory
+
+-- the statuses of a run that ended before the store was taken up
+abbrev pub EndsInput : List (List ℕ) → Option (List ℕ) → Status → Type 0
+EndsInput words left Done = ⊥
+EndsInput words left Memory = AreGoodWords words
+EndsInput words left Words = ¬ AreGoodWords words
+EndsInput words left (Script line kind) = AreGoodWords words × IfSome left (λ bytes. IsFirstBad bytes line kind)
+EndsInput words left Source = AreGoodWords words
+EndsInput words left Sink = ⊥
+EndsInput words left Device = ⊥
+EndsInput words left (Damaged part at) = ⊥
+
+-- the statuses of a run that read its script
+abbrev pub IsServedStatus : Status → Type 0
+IsServedStatus Done = Unit {0}
+IsServedStatus Memory = Unit {0}
+IsServedStatus Words = ⊥
+IsServedStatus (Script line kind) = ⊥
+IsServedStatus Source = ⊥
+IsServedStatus Sink = Unit {0}
+IsServedStatus Device = Unit {0}
+IsServedStatus (Damaged part at) = Unit {0}
 
 -- why a store was not opened, as the status of a run
 abbrev pub opening_status : OpenFault → Status

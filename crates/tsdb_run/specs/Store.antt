@@ -1,5 +1,6 @@
 -- What a place has, and which stores are sound and which are damaged.
 use Rattle.std.specs.Prelude.{◌≡◌, ◌⊎◌, ℕ, List, Option, None, Some}
+use Rattle.std.specs.Option.{IsSomeAnd}
 use Rattle.tsdb_images.specs.Stored.{kept_bytes}
 use Rattle.tsdb_map.specs.State as plain
 use Rattle.tsdb_outside.specs.Disk.{Image, State}
@@ -7,6 +8,7 @@ use Rattle.tsdb_outside.specs.Files.{StoredFile}
 use Rattle.tsdb_outside.specs.declared.disk.Slot.TheVariants.{A}
 use Rattle.tsdb_recover.specs.declared.fault.Part.{Part}
 use Rattle.tsdb_recovery.specs.Damage.{IsDamagedIn}
+use Rattle.tsdb_recovery.specs.Left.{AreLeft, IsStray}
 use Rattle.tsdb_replay.specs.Stores as store
 use Rattle.tsdb_recovery.specs.Stored.{AreStored}
 
@@ -43,3 +45,8 @@ IsDamaged place part at = (image : Image) (files : List StoredFile) → Tells pl
 -- the place does not tell its files, or has a sound store
 abbrev pub IsSoundOrSilent : Contents → Type 0
 IsSoundOrSilent place = (place.stored ≡ None) ⊎ ((at : plain.State) × IsSound place at)
+
+-- each file of the store is as it was, or it is gone, and the log does not list it
+abbrev pub KeepsListed : Contents → Contents → Type 0
+KeepsListed old new = (image : Image) (files : List StoredFile) → Tells old image files
+    → IsSomeAnd new.stored (AreLeft (IsStray image.a) files)

@@ -12,9 +12,9 @@ ghost use Rattle.tsdb_outside.specs.declared.disk.Slot.TheVariants as slots;
 ghost use Rattle.tsdb_recover.specs.declared.fault.Part as store_part;
 ghost use Rattle.tsdb_recovery.specs.Damage.{IsDamagedIn};
 ghost use Rattle.tsdb_recovery.specs.Taking.{HaveLengths};
-ghost use Rattle.tsdb_run.specs.Causes.{ReportsDamage};
+ghost use Rattle.tsdb_run.specs.Causes.{ReportsDamage, TellsDevice};
 ghost use Rattle.tsdb_run.specs.Steps.{IsOpeningStatus, IsRunOn, IsServedFrom, opening_status};
-ghost use Rattle.tsdb_run.specs.Store.{IsSoundOrSilent, Tells, contents};
+ghost use Rattle.tsdb_run.specs.Store.{IsSoundOrSilent, KeepsListed, Tells, contents};
 ghost use Rattle.tsdb_script.specs.Limits.{max_commands};
 ghost use Rattle.tsdb_serving.specs.Flushing.{IsReady, faults_under};
 ghost use Rattle.tsdb_serving.specs.Serving.{IsSure, slot_under};
@@ -31,7 +31,7 @@ use tsdb_script::Numbered;
 use tsdb_words::Asked;
 
 /// Executes the commands of a script on the store that is asked for. Where the store cannot be opened, its log is as it
-/// was.
+/// was, and so is each file that it lists.
 pub fn run_commands<P: Place>(
     alloc: Global,
     place: &mut P,
@@ -49,8 +49,11 @@ pub fn run_commands<P: Place>(
     ensures devices { IfOk result (λ history. IsSoundOrSilent (contents (P.state place.old) (P.stored place.old))
         → min (P.faults place.old + count_by is_device history) (2 ^ 64 - 1) ≤ P.faults place.new) }
     ensures keeps { OnErr result (Keeps (P.state place.old) (P.state place.new)) }
+    ensures files { OnErr result (KeepsListed (contents (P.state place.old) (P.stored place.old))
+        (contents (P.state place.new) (P.stored place.new))) }
     ensures status { IfErr result (IsOpeningStatus (contents (P.state place.old) (P.stored place.old))) }
-    ensures device { IfErr result (λ status. status ≡ Status.Device → Rose (P.faults place.old) (P.faults place.new)) }
+    ensures device { IfErr result (λ status. TellsDevice status (P.asked place.new ≡ Some asked.now.directory)
+        (P.faults place.old) (P.faults place.new)) }
     ensures damaged { (image : Image) (files : List StoredFile) (part : store_part.Part) (at : ℕ)
         → Tells (contents (P.state place.old) (P.stored place.old)) image files → HaveLengths files
         → IsDamagedIn (kept_bytes files) image.a part at → IsErrAnd result (λ status. ReportsDamage status part at) }
@@ -99,6 +102,8 @@ fn run_on<J: Journal, F: Files>(
     ensures devices { IfOk result.1 (λ history. IsSoundOrSilent (contents (J.state journal) (F.at_rest files.old))
         → min (count_by is_device history) (2 ^ 64 - 1) ≤ J.faults result.0 + F.faults files.new) }
     ensures keeps { OnErr result.1 (Keeps (J.state journal) (J.state result.0)) }
+    ensures files { OnErr result.1 (KeepsListed (contents (J.state journal) (F.at_rest files.old))
+        (contents (J.state result.0) (F.at_rest files.new))) }
     ensures status { IfErr result.1 (IsOpeningStatus (contents (J.state journal) (F.at_rest files.old))) }
     ensures device { IfErr result.1 (λ status. status ≡ Status.Device → 0 < J.faults result.0 + F.faults files.new) }
     ensures damaged { (image : Image) (files_there : List StoredFile) (part : store_part.Part) (at : ℕ)

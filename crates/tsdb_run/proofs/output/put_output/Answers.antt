@@ -4,7 +4,7 @@ use Rattle.std.proofs.lemmas.List.{drop_all}
 use Rattle.std.proofs.lemmas.Result.{err_from_is_err_and}
 use Rattle.tsdb_print.specs.Text.{order_text}
 use Rattle.tsdb_run.specs.Output.{output_text, part_text}
-use Rattle.tsdb_run.proofs.PutLemmas.{HasPut, HasPut-more, HasPut-none, Puts-after, Puts-in_part, Puts-memory, held_after}
+use Rattle.tsdb_run.proofs.PutLemmas.{HasPut, HasPut-more, HasPut-none, Puts-after, Puts-in_part, Puts-memory, calm_after, held_after}
 use Rattle.tsdb_run.proofs.TextLemmas.{flat_map-drop}
 use Rattle.tsdb_run.proofs.output.put_output.Goals as goal
 
@@ -32,7 +32,7 @@ loop-session-preserved g c =
     let last = order_text (map (λ told. told.session) c.args.history.now) in
     let next = flat_map-drop (part_text c.args.script.now c.args.history.now) c.deref-session-items.result.now last c.loop-session.session-index 0 (omega arith) in
     HasPut-more _ text _ _ _ _ _ _ _ _ c.loop-session.invariant next (held_after _ _ _ _ _ c.put_part.result _ c.put_part.ensures c.in_ok-put_part.was)
-    c.put_part.ensures.cause.later
+    (calm_after _ _ _ _ _ c.put_part.result _ c.put_part.ensures c.in_ok-put_part.was)
 
 pub returns-in_err-print_order : goal.returns-in_err-print_order
 returns-in_err-print_order g c =
@@ -49,5 +49,5 @@ returns g c =
     c.deref-2.ensures.value ∙ c.in_ok-print_order.ensures ∙ ap order_text (c.deref.ensures.value ∙ c.in_ok-order.ensures) in
     let none = ap (λ l. flat_map (part_text c.args.script.now c.args.history.now) l ++ last)
     (drop_all c.loop-session.session-index c.deref-session-items.result.now (omega arith)) in
-    Puts-after _ _ _ text put.prefix c.deref-2.result.now _ _ _ _ put.held put.later
+    Puts-after _ _ _ text put.prefix c.deref-2.result.now _ _ _ _ put.held put.same
     (put.splits ∙ ap (λ l. put.prefix ++ l) (none ∙ sym order)) c.put_lines.ensures

@@ -1,7 +1,7 @@
 use Rattle.std.proofs.Common.{◌≡◌, ◌++◌, ◌∙◌, ap, sym}
 use Rattle.std.proofs.lemmas.Result.{err_from_is_err_and}
 use Rattle.tsdb_run.specs.Output.{part_text, replies_text}
-use Rattle.tsdb_run.proofs.PutLemmas.{HasPut-none, Puts-after, Puts-in_part, held_after}
+use Rattle.tsdb_run.proofs.PutLemmas.{HasPut-none, Puts-after, Puts-in_part, calm_after, held_after}
 use Rattle.tsdb_run.proofs.output.put_part.Goals as goal
 
 pub returns-in_err-put_lines : goal.returns-in_err-put_lines
@@ -18,5 +18,6 @@ returns g c =
     let text = part_text c.args.script.now c.args.history.now c.args.session in
     let replies = replies_text c.args.script.now c.args.history.now c.args.session in
     let heading : text ≡ c.deref.result.now ++ replies = ap (λ l. l ++ replies) (sym (c.deref.ensures.value ∙ c.in_ok-print_session.ensures)) in
-    Puts-after _ _ _ text c.deref.result.now replies _ _ _ _ (held_after _ _ _ _ _ c.put_lines.result _ c.put_lines.ensures c.in_ok-put_lines.was) c.put_lines.ensures.cause.later
+    Puts-after _ _ _ text c.deref.result.now replies _ _ _ _ (held_after _ _ _ _ _ c.put_lines.result _ c.put_lines.ensures c.in_ok-put_lines.was)
+    (calm_after _ _ _ _ _ c.put_lines.result _ c.put_lines.ensures c.in_ok-put_lines.was)
     heading c.put_replies.ensures

@@ -1,7 +1,7 @@
 use Rattle.std.proofs.Common.{arith, subst}
 use Rattle.std.proofs.lemmas.Result.{err_from_is_err_and}
 use Rattle.tsdb_run.specs.Output.{replies_text}
-use Rattle.tsdb_run.proofs.PutLemmas.{HasPut, HasPut-more, HasPut-none, Puts-in_part, held_after}
+use Rattle.tsdb_run.proofs.PutLemmas.{HasPut, HasPut-more, HasPut-none, Puts-in_part, calm_after, held_after}
 use Rattle.tsdb_run.proofs.TextLemmas.{length-answered, replies_text-answered, side_by_side-drop}
 use Rattle.tsdb_run.proofs.output.put_replies.Goals as goal
 
@@ -26,4 +26,5 @@ loop-at-preserved g c =
     let long = length-answered c.args.script.now c.args.history.now c.requires in
     let next = side_by_side-drop c.args.session c.args.script.now c.args.history.now c.loop-at.at c.index-script-at.result c.index-history-at.result
     (omega arith) (omega (arith, long)) c.index-script-at.is c.index-history-at.is in
-    HasPut-more _ _ _ _ _ _ _ _ _ _ c.loop-at.invariant next (held_after _ _ _ _ _ c.put_reply.result _ c.put_reply.ensures c.in_ok-put_reply.was) c.put_reply.ensures.cause.later
+    HasPut-more _ _ _ _ _ _ _ _ _ _ c.loop-at.invariant next (held_after _ _ _ _ _ c.put_reply.result _ c.put_reply.ensures c.in_ok-put_reply.was)
+    (calm_after _ _ _ _ _ c.put_reply.result _ c.put_reply.ensures c.in_ok-put_reply.was)

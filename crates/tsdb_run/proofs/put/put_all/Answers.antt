@@ -8,4 +8,4 @@ loop-rest-preserved g c =
     let rest = c.loop-rest.rest.now in
     HasPut-more _ c.args.bytes.now _ _ _ (take count rest) rest _ _ _ c.loop-rest.invariant
     (begins count rest _ c.split_at.ensures.back)
-    c.in_ok-count.ensures.bytes c.in_ok-count.ensures.cause.later
+    c.in_ok-count.ensures.bytes (c.in_ok-count.ensures.no_fault (λ failed. cc))

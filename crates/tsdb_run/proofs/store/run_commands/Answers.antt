@@ -1,7 +1,11 @@
+use Rattle.std.proofs.Common.{◌∙◌, Err, Some, ap, refl, sym}
 use Rattle.std.specs.Prelude.{count_by}
 use Rattle.tsdb_history.specs.History.{is_device}
 use Rattle.tsdb_outside.specs.Causes.{Rose}
 use Rattle.tsdb_run.proofs.Executed.{counted_down, if_ok, placed, rose_down, sure_before}
+use Rattle.tsdb_run.proofs.Ends.{device_down, device_failed, device_memory}
+use Rattle.tsdb_run.proofs.PutLemmas.{memory_is_no_failure, same_error}
+use Rattle.tsdb_run.proofs.Refused.{err_again, placed_listed, same_listed}
 use Rattle.tsdb_run.proofs.store.run_commands.Goals as goal
 
 pub returns-in-Ok-take_up-clause-executed : goal.returns-in-Ok-take_up-clause-executed
@@ -32,3 +36,46 @@ returns-in-Ok-take_up-clause-devices g c =
     (counts (sure_before (g.P.Disk.state old) (g.P.Journal.Disk.state c.in-Ok-take_up.journal) (g.P.Place.stored old)
     (g.P.Files.Files.at_rest c.in-Ok-take_up.files) c.in-Ok-take_up.ensures.keeps c.in-Ok-take_up.ensures.at_rest sure)))
     c.run_on-journal.ensures.devices
+
+pub returns-in-Ok-take_up-clause-files : goal.returns-in-Ok-take_up-clause-files
+returns-in-Ok-take_up-clause-files g c =
+    let old = c.args.place.now in
+    let new = c.put_down.new.self in
+    err_again _ _ c.run_on-journal.result.1 (λ left.
+    placed_listed (g.P.Disk.state old) (g.P.Journal.Disk.state c.in-Ok-take_up.journal)
+    (g.P.Journal.Disk.state c.run_on-journal.result.0) (g.P.Disk.state new) (g.P.Place.stored old)
+    (g.P.Files.Files.at_rest c.in-Ok-take_up.files) (g.P.Files.Files.at_rest c.run_on-journal.new.files)
+    (g.P.Place.stored new) c.in-Ok-take_up.ensures.keeps c.in-Ok-take_up.ensures.at_rest c.put_down.ensures.stored left)
+    c.run_on-journal.ensures.files
+
+pub returns-in_default-clause-files : goal.returns-in_default-clause-files
+returns-in_default-clause-files g c =
+    same_listed (g.P.Disk.state c.args.place.now) (g.P.Disk.state c.args.place.now) (g.P.Place.stored c.args.place.now)
+    (g.P.Place.stored c.args.place.now) refl
+
+pub returns-in-Err-Failed-clause-files : goal.returns-in-Err-Failed-clause-files
+returns-in-Err-Failed-clause-files g c =
+    same_listed (g.P.Disk.state c.args.place.now) (g.P.Disk.state c.take_up.new.self) (g.P.Place.stored c.args.place.now)
+    (g.P.Place.stored c.take_up.new.self) c.in-Err-Failed.ensures.err.1
+
+pub returns-clause-files : goal.returns-clause-files
+returns-clause-files g c =
+    same_listed (g.P.Disk.state c.args.place.now) (g.P.Disk.state c.take_up.new.self) (g.P.Place.stored c.args.place.now)
+    (g.P.Place.stored c.take_up.new.self) c.in-Err-Memory.ensures.err.1
+
+pub returns-in_default-clause-device : goal.returns-in_default-clause-device
+returns-in_default-clause-device g c = device_memory _ _ _ refl
+
+pub returns-in-Ok-take_up-clause-device : goal.returns-in-Ok-take_up-clause-device
+returns-in-Ok-take_up-clause-device g c =
+    device_down c.run_on-journal.result.1 _ _ _ _ _ _ c.take_up.ensures.cause.later c.put_down.ensures.later
+    c.put_down.ensures.faults (c.put_down.ensures.asked ∙ c.in-Ok-take_up.ensures.asked ∙ ap Some c.directory.ensures)
+    c.run_on-journal.ensures.device
+
+pub returns-in-Err-Failed-clause-device : goal.returns-in-Err-Failed-clause-device
+returns-in-Err-Failed-clause-device g c =
+    device_failed _ _ _ (c.in-Err-Failed.ensures.cause.failed (ap Err c.in-Err-Failed.field-0-is)) c.in-Err-Failed.ensures.cause.later
+
+pub returns-clause-device : goal.returns-clause-device
+returns-clause-device g c = device_memory _ _ _ (c.in-Err-Memory.ensures.no_fault
+    (λ failed. memory_is_no_failure (sym c.in-Err-Memory.field-0-is ∙ same_error _ failed)))

@@ -11,6 +11,7 @@ use Rattle.tsdb_run.proofs.Whole.{gone, image, next_is, opened, sound_left}
 use Rattle.tsdb_run.specs.Store.{IsSoundOrSilent, contents}
 use Rattle.tsdb_serving.specs.Flushing.{faults_under}
 use Rattle.tsdb_serving.specs.Serving.{IsSure, disk_under}
+use Rattle.tsdb_run.proofs.Refused.{opening_listed, same_listed}
 use Rattle.tsdb_run.proofs.store.run_on.Goals as goal
 
 pub returns-in-Ok-recover-clause-executed : goal.returns-in-Ok-recover-clause-executed
@@ -66,3 +67,14 @@ returns-in-Ok-recover-clause-devices g c = λ sure. c.serve_script-journal.ensur
           c.a_recovered_core_serves.ensures
               (image core state stored now start sound c.port.ensures.same).a sound.files start recovered,
         )
+
+pub returns-in-Err-clause-files : goal.returns-in-Err-clause-files
+returns-in-Err-clause-files g c =
+    opening_listed (g.J.Disk.state c.args.journal) (g.J.Disk.state c.in-Err.journal)
+    (g.F.Files.at_rest c.args.files.now) (g.F.Files.at_rest c.port.new.self) (g.F.Files.at_rest c.recover.new.files)
+    (g.F.Files.at_rest c.end_port.new.self) c.port.ensures.same c.end_port.ensures.same c.in-Err.ensures.left
+
+pub returns-in_default-clause-files : goal.returns-in_default-clause-files
+returns-in_default-clause-files g c =
+    same_listed (g.J.Disk.state c.args.journal) (g.J.Disk.state c.args.journal) (g.F.Files.at_rest c.args.files.now)
+    (g.F.Files.at_rest c.port.new.self) c.port.ensures.same

@@ -1,63 +1,80 @@
-use Rattle.std.proofs.Common.{Some, length, refl, subst, sym, ap, arith}
+use Rattle.std.proofs.Common.{◌∙◌, refl, subst, sym}
+use Rattle.std.proofs.KnownBytes.{Keeps-refl}
 use Rattle.tsdb_outside.specs.Causes.{Rose}
+use Rattle.tsdb_run.proofs.Ends.{calm, shows_device, taken_device}
 use Rattle.tsdb_run.proofs.Opening.{refused_rose}
+use Rattle.tsdb_run.proofs.Refused.{says, says_refused, without}
 use Rattle.tsdb_run.proofs.Written.{Says-written, small_sessions}
 use Rattle.tsdb_run.specs.Causes.{IsRefusedStore}
-use Rattle.tsdb_run.specs.Headline.{Run}
+use Rattle.tsdb_run.specs.Headline.{run_of}
 use Rattle.tsdb_run.specs.Output.{output_text}
-use Rattle.tsdb_run.specs.Steps.{IsRunOn, IsWritten}
+use Rattle.tsdb_run.specs.Steps.{IsOpeningStatus, IsWritten}
 use Rattle.tsdb_run.specs.Store.{contents}
-use Rattle.tsdb_script.proofs.ReadingLemmas.{not_both, within_limits}
-use Rattle.tsdb_script.specs.Reading.{IsFirstBad, IsScript, RefusesScript}
+use Rattle.tsdb_run.specs.declared.status.Status.TheVariants.{Sink}
+use Rattle.tsdb_script.proofs.ReadingLemmas.{well_formed, within_limits}
 use Rattle.tsdb_run.proofs.top_call.run_script.Goals as goal
-
-pub returns-in-Err-Bad-clause-damaged : goal.returns-in-Err-Bad-clause-damaged
-returns-in-Err-Bad-clause-damaged g c good = λ image files part at tells damaged.
-    absurd (not_both c.args.bytes.items good.0 c.in-Err-Bad.line c.in-Err-Bad.kind good.1
-    (subst (λ b. IsFirstBad b c.in-Err-Bad.line c.in-Err-Bad.kind) c.deref.ensures.value
-    (subst (RefusesScript c.deref.result.now) c.in-Err-Bad.field-0-is c.in-Err-Bad.ensures.bad)))
 
 pub run_commands-requires-clause-few : goal.run_commands-requires-clause-few
 run_commands-requires-clause-few g c κs within =
-    omega (arith, (within_limits c.deref.result.now c.in-Ok.script.items c.in-Ok.ensures.found).commands, ap length c.deref-2.ensures.value)
+    (within_limits c.requires.some.0 c.args.script.now c.requires.some.1).commands
 
 pub run_commands-requires-clause-sessions : goal.run_commands-requires-clause-sessions
-run_commands-requires-clause-sessions g c κs within = λ k numbered lt.
-    small_sessions c.deref.result.now c.deref-2.result.now
-    (subst (IsScript c.deref.result.now) (sym c.deref-2.ensures.value) c.in-Ok.ensures.found) k numbered lt
+run_commands-requires-clause-sessions g c κs within =
+    small_sessions c.requires.some.0 c.args.script.now c.requires.some.1
 
-pub returns-in-Ok-run_commands-clause-headline : goal.returns-in-Ok-run_commands-clause-headline
-returns-in-Ok-run_commands-clause-headline g c = λ words are.
-    let script = c.in-Ok.script.items in
-    let history = c.in-Ok-run_commands.history in
+pub run_commands-requires-clause-well_formed : goal.run_commands-requires-clause-well_formed
+run_commands-requires-clause-well_formed g c κs within =
+    well_formed c.requires.some.0 c.args.script.now c.requires.some.1
+
+pub returns-in-Ok-clause-headline : goal.returns-in-Ok-clause-headline
+returns-in-Ok-clause-headline g c = λ words left are read.
+    let script = c.args.script.now in
+    let history = c.in-Ok.history in
     let status = c.write_output-status.result in
-    let before = contents (g.P.Disk.state c.args.place.now) (g.P.Place.stored c.args.place.now) in
-    let after = contents (g.P.Disk.state c.run_commands.new.place) (g.P.Place.stored c.run_commands.new.place) in
-    let rose = Rose (g.P.Counted.faults c.args.place.now) (g.P.Counted.faults c.run_commands.new.place) in
     let old = g.K.Sink.held c.args.out.now in
     let new = g.K.Sink.held c.write_output-status.new.out in
-    let run : Run = record {
-      words = words;
-      left = Some c.args.bytes.items;
-      old = before;
-      new = after;
-      rose = rose;
-      directory = g.P.Place.asked c.run_commands.new.place;
-      status = status;
-      history = history;
-      held = old;
-      holds = new;
-    } in
-    Says-written run c.args.bytes.items script c.args.asked.now refl are c.in-Ok-run_commands.ensures.directory
-    (subst (λ b. IsScript b script) c.deref.ensures.value c.in-Ok.ensures.found)
-    (subst (λ s. IsRunOn s history before after rose) c.deref-2.ensures.value c.in-Ok-run_commands.ensures.executed) status
-    (subst (λ h. IsWritten status old new (output_text script h)) c.items.ensures
-    (subst (λ s. IsWritten status old new (output_text s c.items.result.now)) c.deref-in-Ok-run_commands.ensures.value
-    c.write_output-status.ensures.written))
+    let run = run_of words left (contents (g.P.Disk.state c.args.place.now) (g.P.Place.stored c.args.place.now))
+    (contents (g.P.Disk.state c.run_commands.new.place) (g.P.Place.stored c.run_commands.new.place))
+    (Rose (g.P.Counted.faults c.args.place.now) (g.P.Counted.faults c.run_commands.new.place))
+    (g.P.Place.asked c.run_commands.new.place) status history old new in
+    Says-written run script c.args.asked.now are c.in-Ok.ensures.directory read c.in-Ok.ensures.executed status
+    (subst (λ h. IsWritten status old new (output_text script h)) c.items.ensures c.write_output-status.ensures.written)
 
-pub returns-clause-sound : goal.returns-clause-sound
-returns-clause-sound g c state sound refused =
-    refused_rose (g.P.Disk.state c.args.place.now) (g.P.Place.stored c.args.place.now) state c.in-Err.status
+pub returns-in-Ok-clause-device : goal.returns-in-Ok-clause-device
+returns-in-Ok-clause-device g c =
+    taken_device c.write_output-status.result _ _ _ _ _ _ c.write_output-status.ensures.written
+    c.in-Ok.ensures.directory c.run_commands.ensures.later
+
+pub returns-in-Ok-clause-damaged : goal.returns-in-Ok-clause-damaged
+returns-in-Ok-clause-damaged g c = λ image files part at tells lengths damaged.
+    absurd (c.in-Ok.ensures.damaged image files part at tells lengths damaged)
+
+pub returns-in-Err-clause-headline : goal.returns-in-Err-clause-headline
+returns-in-Err-clause-headline g c = λ words left are read.
+    let held = g.K.Sink.held c.args.out.now in
+    let run = run_of words left (contents (g.P.Disk.state c.args.place.now) (g.P.Place.stored c.args.place.now))
+    (contents (g.P.Disk.state c.run_commands.new.place) (g.P.Place.stored c.run_commands.new.place))
+    (Rose (g.P.Counted.faults c.args.place.now) (g.P.Counted.faults c.run_commands.new.place))
+    (g.P.Place.asked c.run_commands.new.place) c.end_without_commands.result.status
+    c.end_without_commands.result.history held held in
+    says run c.in-Err.refused c.end_without_commands.ensures.status
+    (says_refused run c.in-Err.refused c.in-Err.ensures.status
+    (without run c.end_without_commands.ensures.history (Keeps-refl held) c.in-Err.ensures.keeps
+    c.in-Err.ensures.files))
+
+pub returns-in-Err-clause-sink : goal.returns-in-Err-clause-sink
+returns-in-Err-clause-sink g c =
+    let place = contents (g.P.Disk.state c.args.place.now) (g.P.Place.stored c.args.place.now) in
+    calm Sink c.end_without_commands.result.status (g.K.Counted.faults c.args.out.now) (g.K.Counted.faults c.args.out.now)
+    (λ same. subst (IsOpeningStatus place) (sym c.end_without_commands.ensures.status ∙ same) c.in-Err.ensures.status) refl
+
+pub returns-in-Err-clause-device : goal.returns-in-Err-clause-device
+returns-in-Err-clause-device g c =
+    shows_device _ _ _ _ _ c.end_without_commands.ensures.status c.in-Err.ensures.device
+
+pub returns-in-Err-clause-sound : goal.returns-in-Err-clause-sound
+returns-in-Err-clause-sound g c at sound refused =
+    refused_rose (g.P.Disk.state c.args.place.now) (g.P.Place.stored c.args.place.now) at c.in-Err.refused
     (Rose (g.P.Counted.faults c.args.place.now) (g.P.Counted.faults c.run_commands.new.place)) sound
-    c.in-Err.ensures.status c.in-Err.ensures.device
-    (subst IsRefusedStore c.end_without_commands-in-Err.ensures.status refused)
+    c.in-Err.ensures.status c.in-Err.ensures.device.rose
+    (subst IsRefusedStore c.end_without_commands.ensures.status refused)

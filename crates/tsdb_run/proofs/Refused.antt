@@ -1,0 +1,179 @@
+-- What is left of a store whose commands were not executed.
+use Rattle.std.proofs.Common.{◌≡◌, ◌⊎◌, ◌∙◌, inl, inr, ℕ, List, [], ◌++◌, Option, None, Some, Result, Ok, Err, refl, sym}
+use Rattle.std.proofs.Common.{subst}
+use Rattle.std.specs.Prelude.{IfErr, IfSome, OnErr}
+use Rattle.std.specs.Io.KnownBytes.{Keeps as KeepsBytes}
+use Rattle.std.proofs.lemmas.Option.{same_Some}
+use Rattle.std.proofs.KnownBytes.{Keeps-refl}
+use Rattle.std.specs.List.{AllByRecursion as Each}
+use Rattle.std.specs.Option.{IsSomeAnd}
+use Rattle.tsdb_images.specs.Stored.{kept_bytes}
+use Rattle.tsdb_layers.proofs.Lists.{among_map, each_among, each_from_among}
+use Rattle.tsdb_layers.specs.Lists.{Among}
+use Rattle.tsdb_history.specs.declared.told.Told.{Told as Answered}
+use Rattle.tsdb_map.specs.State as plain
+use Rattle.tsdb_outside.proofs.DiskLemmas.{Keeps-same}
+use Rattle.tsdb_outside.specs.Disk.{Image, Keeps, State}
+use Rattle.tsdb_outside.specs.Files.{StoredFile}
+use Rattle.tsdb_outside.specs.declared.disk.Slot.TheVariants.{A}
+use Rattle.tsdb_recovery.specs.Left.{AreLeft, IsStray}
+use Rattle.tsdb_replay.proofs.Parted.{replay_once}
+use Rattle.tsdb_replay.proofs.Stores.{sound_kept}
+use Rattle.tsdb_replay.specs.Stores.{IsWhole, Recorded, StandsFor, store_steps, store_steps_determinate}
+use Rattle.tsdb_run.proofs.Executed.{some_and}
+use Rattle.tsdb_run.proofs.Whole.{tells_sound, told_both}
+use Rattle.tsdb_run.specs.Headline.{Headline, IsWithoutCommands, Run, Says, run_of}
+use Rattle.tsdb_run.specs.Steps.{IsOpeningStatus}
+use Rattle.tsdb_run.specs.Store.{Contents, IsSound, KeepsListed, Tells, contents}
+use Rattle.tsdb_recovery.specs.Stored.{AreStored}
+use Rattle.tsdb_run.specs.declared.status.Status.{Status}
+use Rattle.tsdb_run.specs.declared.status.Status.TheVariants.{Done, Memory, Words, Script, Source, Sink, Device, Damaged}
+use Rattle.tsdb_state.specs.Records.{numbers_of}
+use Rattle.tsdb_state.specs.State.{File, Told}
+
+-- ---- a sound store stays sound
+
+module _ (files now : List StoredFile) (bytes : List ℕ) (left : AreLeft (IsStray bytes) files now) (at : plain.State)
+    (stands : StandsFor (kept_bytes files) bytes at) where
+  abbrev listed : List File
+  listed = stands.recorded.store.sequence ++ stands.recorded.store.unsequence
+
+  -- a listed file is as it was
+  listed_same : (n : ℕ) → Among n (numbers_of listed) → kept_bytes now n ≡ kept_bytes files n
+  listed_same n among = by (left.each n)
+    where
+      by : (kept_bytes now n ≡ kept_bytes files n) ⊎ ((kept_bytes now n ≡ None) × IsStray bytes n)
+          → kept_bytes now n ≡ kept_bytes files n
+      by (inl same) = same
+      by (inr gone) =
+          let same = replay_once store_steps store_steps_determinate bytes stands.recorded gone.1.0 stands.replayed
+          gone.1.1 in
+          absurd (gone.1.2 (subst (λ (r : Recorded). Among n (numbers_of (r.store.sequence ++ r.store.unsequence))) same
+          among))
+
+  whole_same : (file : File) → IsWhole (kept_bytes files) stands.store.told file
+      → kept_bytes now file.number ≡ kept_bytes files file.number → IsWhole (kept_bytes now) stands.store.told file
+  whole_same file whole same = record {
+    bytes = whole.bytes;
+    tree = whole.tree;
+    there = same ∙ whole.there;
+    is_tree = whole.is_tree;
+    is_made = whole.is_made;
+    is_file = whole.is_file;
+    content = whole.content;
+  }
+
+  stands_left : StandsFor (kept_bytes now) bytes at
+  stands_left = record {
+    recorded = stands.recorded;
+    replayed = stands.replayed;
+    store = record {
+      told = stands.store.told;
+      whole = each_from_among (IsWhole (kept_bytes now) stands.store.told) listed
+          (λ file among. whole_same file (each_among (IsWhole (kept_bytes files) stands.store.told) listed file
+          stands.store.whole among)
+          (listed_same file.number (among_map (λ (f : File). f.number) listed file among)));
+      order = stands.store.order;
+      stands = stands.store.stands;
+    };
+  }
+
+pub still_sound : (old new : State) (stored now : Option (List StoredFile)) (at : plain.State) → Keeps old new
+    → KeepsListed (contents old stored) (contents new now) → IsSound (contents old stored) at
+    → IsSound (contents new now) at
+still_sound old new stored now at keeps keeps_files sound =
+    let tells = tells_sound old stored at sound in
+    let left = some_and (AreLeft (IsStray tells.0.a) sound.files) now (keeps_files tells.0 sound.files tells.1) in
+    let kept = sound_kept A old new (kept_bytes sound.files) at keeps sound.sound in
+    record {
+      files = left.0;
+      told = left.1;
+      are_stored = left.2.are_stored;
+      sound = record {
+        told = kept.told;
+        settled = kept.settled;
+        stands = λ image seen.
+            let same = same_Some tells.0 image (sym tells.1.slots ∙ sym keeps.seen ∙ seen) in
+            stands_left sound.files left.0 image.a
+            (subst (λ (i : Image). AreLeft (IsStray i.a) sound.files left.0) same left.2) at (kept.stands image seen);
+      };
+    }
+
+-- a run that executed no command
+pub without : (run : Run) → run.history ≡ [] → KeepsBytes run.held run.holds → Keeps run.old.disk run.new.disk
+    → KeepsListed run.old run.new → IsWithoutCommands run
+without run none sink log files = record {
+  none = none;
+  sink = sink;
+  log = log;
+  files = files;
+  sound = λ at. still_sound run.old.disk run.new.disk run.old.stored run.new.stored at log files;
+}
+
+-- ---- which files are left
+
+-- where no file comes or goes
+pub same_listed : (old new : State) (stored now : Option (List StoredFile)) → now ≡ stored
+    → KeepsListed (contents old stored) (contents new now)
+same_listed old new stored now same = λ image files tells.
+    subst (λ o. IsSomeAnd o (AreLeft (IsStray image.a) files)) (sym (same ∙ tells.told))
+    (record { are_stored = tells.are_stored; each = λ n. inl refl })
+
+-- what an opening that failed leaves
+pub opening_listed : (state new : State) (stored start mid now : Option (List StoredFile)) → start ≡ stored → now ≡ mid
+    → IfSome state.seen (λ image. IfSome start (λ files. AreStored files
+    → IsSomeAnd mid (AreLeft (IsStray image.a) files)))
+    → KeepsListed (contents state stored) (contents new now)
+opening_listed state new stored start mid now begins ends left = λ image files tells.
+    subst (λ o. IsSomeAnd o (AreLeft (IsStray image.a) files)) (sym ends)
+    (told_both (λ i l. AreStored l → IsSomeAnd mid (AreLeft (IsStray i.a) l)) state.seen start image files tells.slots
+    (begins ∙ tells.told) left tells.are_stored)
+
+-- a place that handed the store out and took it back
+pub placed_listed : (old journal last new : State) (stored at_rest rest now : Option (List StoredFile))
+    → Keeps old journal → at_rest ≡ stored → now ≡ rest → KeepsListed (contents journal at_rest) (contents last rest)
+    → KeepsListed (contents old stored) (contents new now)
+placed_listed old journal last new stored at_rest rest now takes same puts left = λ image files tells.
+    subst (λ o. IsSomeAnd o (AreLeft (IsStray image.a) files)) (sym puts) (left image files (record {
+      slots = takes.seen ∙ tells.slots;
+      told = same ∙ tells.told;
+      are_stored = tells.are_stored;
+    }))
+
+pub on_err : {T E : Type 0} (P : E → Type 0) (Q : Type 0) (result : Result T E) → ((e : E) → P e → Q) → IfErr result P
+    → OnErr result Q
+on_err P Q (Ok value) step holds = tt
+on_err P Q (Err fault) step holds = step fault holds
+
+pub err_again : {T E : Type 0} (P Q : Type 0) (result : Result T E) → (P → Q) → OnErr result P → OnErr result Q
+err_again P Q (Ok value) step holds = tt
+err_again P Q (Err fault) step holds = step holds
+
+-- ---- what is said by the status
+
+-- the run of these words and this source that left place and sink as they were
+abbrev pub idle : List (List ℕ) → Option (List ℕ) → Contents → Type 0 → Option (List ℕ) → Status → List Answered
+    → Option (List ℕ) → Run
+idle words left place rose directory status history held =
+    run_of words left place place rose directory status history held held
+
+pub without_any : (words : List (List ℕ)) (left : Option (List ℕ)) (place : Contents) (rose : Type 0)
+    (directory : Option (List ℕ)) (status : Status) (history : List Answered) (held : Option (List ℕ)) → history ≡ []
+    → IsWithoutCommands (idle words left place rose directory status history held)
+without_any words left place rose directory status history held none =
+    without (idle words left place rose directory status history held) none (Keeps-refl held) (Keeps-same place.disk)
+    (same_listed place.disk place.disk place.stored place.stored refl)
+
+pub says : (run : Run) (status : Status) → run.status ≡ status → Says status run → Headline run
+says run status same is = subst (λ s. Says s run) (sym same) is
+
+pub says_refused : (run : Run) (status : Status) → IsOpeningStatus run.old status → IsWithoutCommands run
+    → Says status run
+says_refused run Done is none = absurd is
+says_refused run Memory is none = inr none
+says_refused run Words is none = absurd is
+says_refused run (Script line kind) is none = absurd is
+says_refused run Source is none = absurd is
+says_refused run Sink is none = absurd is
+says_refused run Device is none = none
+says_refused run (Damaged part at) is none = (is, none)
