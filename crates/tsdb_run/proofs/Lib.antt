@@ -8,3 +8,4 @@ pub mod Written
 pub mod Opening
 pub mod Refused
 pub mod Ends
+pub mod Following

@@ -4,12 +4,14 @@
 #![tactic(auto)]
 
 mod input;
+mod laws;
 mod output;
 mod put;
 mod status;
 mod store;
 mod top_call;
 
+pub use laws::a_run_follows_another;
 pub use status::{Ended, Status};
 pub use top_call::run;
 pub use tsdb_history::Told;
