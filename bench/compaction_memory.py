@@ -3,8 +3,8 @@
 
     bench/compaction_memory.py PROGRAM
 
-Needs Python 3's standard library and a C compiler, `cc`. The opening of a store holds its log, which has more bytes than
-the files, so the greatest memory of the program does not show a compaction. So a small library stands before `malloc`: it
+Needs Python 3's standard library and a C compiler, `cc`. The opening of a store replays its log, with a pair of points
+in memory, so the greatest memory of the program does not show a compaction. So a small library stands before `malloc`: it
 counts the bytes that are held, and writes at each opening of a stored file how many there are, and the most since the last
 one. An opening opens each listed file; what is opened behind that is opened by the compaction. The stores are those of
 bench/compactions.py. A row has what is compacted, the most bytes that were held while it ran beyond those held at its

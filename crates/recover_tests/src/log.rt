@@ -149,6 +149,105 @@ const CHANGED: [(usize, usize, &[u8], Outcome); 15] = [
     ),
 ];
 
+/// Behind the first 53 bytes of the worked log: its pair is flushed to sequence file 1; then an insert of 5 at time 2, and
+/// its pair is flushed to sequence file 2.
+const TWO_FILES: [u8; 89] = [
+    1, 0, 0, 0, 1, 4, // at 53
+    1, 0, 0, 0, 17, 5, 0, 0, 0, 0, 0, 0, 0, 1, 0, 0, 0, 0, 0, 0, 0, 0, // at 59
+    1, 0, 0, 0, 28, 2, 0, 0, 0, 0, 0, 0, 0, 2, 0, 1, 0, 0, 0, 0, 0, 0, 0, 0, 2, 0, 0, 0, 0, 0, 0,
+    0, 5, // at 81
+    1, 0, 0, 0, 1, 4, // at 114
+    1, 0, 0, 0, 17, 5, 0, 0, 0, 0, 0, 0, 0, 2, 0, 0, 0, 0, 0, 0, 0, 0, // at 120
+];
+
+/// What stands at 142 in a log with these two files, and what comes of it. Each kind of record is there with a replay and
+/// without one.
+const ENDINGS: [(&[u8], Outcome); 10] = [
+    (&[0], Outcome::Read(3, 0, 2)),
+    // a series that is there
+    (
+        b"\x01\x00\x00\x00\x0f\x01\x00\x0aroot.g.d.s\x02\x00\x00",
+        Outcome::Damaged(142),
+    ),
+    // a deletion of all its points
+    (
+        b"\x01\x00\x00\x00\x1d\x03\x00\x0aroot.g.d.s\x80\0\0\0\0\0\0\0\x7f\xff\xff\xff\xff\xff\xff\xff\0",
+        Outcome::Read(4, 0, 2),
+    ),
+    // of a series that is not there
+    (
+        b"\x01\x00\x00\x00\x1d\x03\x00\x0aroot.g.d.t\x80\0\0\0\0\0\0\0\x7f\xff\xff\xff\xff\xff\xff\xff\0",
+        Outcome::Damaged(142),
+    ),
+    // files 1 and 2 become file 3, which is born at 3 as file 2 is
+    (
+        &[
+            1, 0, 0, 0, 50, 6, 0, 0, 0, 0, 0, 0, 0, 3, 0, 0, 0, 0, 0, 0, 0, 0, 0, 0, 0, 0, 0, 0, 0,
+            0, 3, 0, 0, 0, 2, 0, 0, 0, 0, 0, 0, 0, 1, 0, 0, 0, 0, 0, 0, 0, 2, 0, 0, 0, 0, 0,
+        ],
+        Outcome::Read(3, 0, 1),
+    ),
+    // they do not stand side by side so
+    (
+        &[
+            1, 0, 0, 0, 50, 6, 0, 0, 0, 0, 0, 0, 0, 3, 0, 0, 0, 0, 0, 0, 0, 0, 0, 0, 0, 0, 0, 0, 0,
+            0, 3, 0, 0, 0, 2, 0, 0, 0, 0, 0, 0, 0, 2, 0, 0, 0, 0, 0, 0, 0, 1, 0, 0, 0, 0, 0,
+        ],
+        Outcome::Damaged(142),
+    ),
+    // an output that is older than an input
+    (
+        &[
+            1, 0, 0, 0, 50, 6, 0, 0, 0, 0, 0, 0, 0, 2, 0, 0, 0, 0, 0, 0, 0, 0, 0, 0, 0, 0, 0, 0, 0,
+            0, 3, 0, 0, 0, 2, 0, 0, 0, 0, 0, 0, 0, 1, 0, 0, 0, 0, 0, 0, 0, 2, 0, 0, 0, 0, 0,
+        ],
+        Outcome::Damaged(142),
+    ),
+    // a number that a record has named
+    (
+        &[
+            1, 0, 0, 0, 50, 6, 0, 0, 0, 0, 0, 0, 0, 3, 0, 0, 0, 0, 0, 0, 0, 0, 0, 0, 0, 0, 0, 0, 0,
+            0, 2, 0, 0, 0, 2, 0, 0, 0, 0, 0, 0, 0, 1, 0, 0, 0, 0, 0, 0, 0, 2, 0, 0, 0, 0, 0,
+        ],
+        Outcome::Damaged(142),
+    ),
+    // an empty snapshot
+    (
+        &[
+            1, 0, 0, 0, 82, 7, 0, 0, 0, 0, 0, 0, 0, 1, 0, 0, 0, 0, 0, 0, 0, 0, 0, 0, 0, 0, 0, 0, 0,
+            1, 0, 0, 0, 0, 0, 0, 0, 0, 0, 0, 0, 0, 0, 0, 0, 0, 0, 0, 0, 0, 0, 0, 0, 0, 0, 0, 0, 0,
+            0, 0, 0, 0, 0, 0, 0, 0, 0, 0, 0, 0, 0, 0, 0, 0, 0, 0, 0, 0, 0, 0, 0, 0, 0, 0, 0, 0, 0,
+            0,
+        ],
+        Outcome::Damaged(142),
+    ),
+    // a freeze where there is no point, and a torn record behind it
+    (&[1, 0, 0, 0, 1, 4, 1, 0], Outcome::Damaged(142)),
+];
+
+/// What comes of a log with the two files that ends so.
+fn outcome_behind(alloc: Global, ending: &[u8]) -> Result<Outcome, Fail> {
+    let mut log = changed(alloc, 53, 53, &TWO_FILES)?;
+    log.extend_from_slice(ending)?;
+    outcome_of(alloc, &log, &[])
+}
+
+/// The first of the endings of which something else comes.
+fn first_wrong_ending(alloc: Global, endings: &[(&[u8], Outcome)]) -> Result<Option<usize>, Fail> {
+    for (case, (ending, wanted)) in endings.iter().enumerate() {
+        if outcome_behind(alloc, ending)? != *wanted {
+            return Ok(Some(case));
+        }
+    }
+    Ok(None)
+}
+
+#[test]
+fn each_kind_of_record_is_replayed_or_damaged(rt: HostRuntime) -> Result<(), Fail> {
+    assert_eq!(rt; first_wrong_ending(rt.alloc(), &ENDINGS)?, None);
+    Ok(())
+}
+
 /// The first of the changed logs of which something else comes.
 fn first_wrong(
     alloc: Global,

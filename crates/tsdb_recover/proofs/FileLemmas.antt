@@ -79,6 +79,11 @@ pub on_error : {T E : Type 0} (result : Result T E) (P Q : Type 0) → (P → Q)
 on_error (Ok value) P Q step holds = tt
 on_error (Err fault) P Q step holds = step holds
 
+-- what always holds does so after an error
+pub always_on_err : {T E P : Type 0} (result : Result T E) → P → OnErr result P
+always_on_err (Ok value) holds = tt
+always_on_err (Err fault) holds = holds
+
 -- what holds of an option holds of what is in it
 pub in_some : {S : Type 0} (found : Option S) (x : S) (P : S → Type 0) → found ≡ Some x → IfSome found P → P x
 in_some None x P is holds = absurd cc

@@ -1,16 +1,25 @@
 -- The replay of the frames of a log. No public clause speaks of these.
-use Rattle.std.specs.Prelude.{◌≡◌, ◌⊎◌, ℕ, List, ◌∷◌, ◌++◌, map}
+use Rattle.std.specs.Prelude.{◌≡◌, ℕ, List, [], map, IfSome}
 use Rattle.std.specs.List.{All}
+use Rattle.tsdb_frames.specs.Readers.{IsReading, IsWholeRead}
 use Rattle.tsdb_frames.specs.Slots.{payloads_of}
 use Rattle.tsdb_frames.specs.declared.fault.ScanFault.{ScanFault}
-use Rattle.tsdb_frames.specs.declared.fault.ScanFault.TheVariants.{Torn}
+use Rattle.tsdb_frames.specs.declared.fault.ScanFault.TheVariants as scan
+use Rattle.tsdb_frames.specs.declared.reader.FrameReader.{FrameReader}
 use Rattle.tsdb_frames.specs.declared.record.Frame.{Frame}
 use Rattle.tsdb_log.specs.Spelling.{IsRecord, spelling}
 use Rattle.tsdb_log.specs.declared.record.LogRecord.{LogRecord}
 use Rattle.tsdb_opening.specs.Opening.{IsOpeningOf}
 use Rattle.tsdb_opening.specs.Redone.{IsReplayed, IsWithoutReplay}
 use Rattle.tsdb_opening.specs.declared.opening.Opening.{Opening}
-use Rattle.tsdb_replay.specs.Replays.{HasNoReplay, Replays}
+use Rattle.tsdb_outside.specs.declared.disk.Disk as disk
+use Rattle.tsdb_outside.specs.declared.disk.Slot.TheVariants.{A}
+use Rattle.tsdb_outside.specs.declared.faults.Counted as counted
+use Rattle.tsdb_recover.specs.declared.fault.OpenFault.{OpenFault}
+use Rattle.tsdb_recover.specs.declared.fault.OpenFault.TheVariants as fault
+use Rattle.tsdb_recover.specs.declared.fault.Part.TheVariants.{Log}
+use Rattle.tsdb_replay.specs.Damage.{IsDamaged}
+use Rattle.tsdb_replay.specs.Replays.{Replays}
 use Rattle.tsdb_replay.specs.Stores.{Recorded, store_steps}
 
 -- the records of frames lead to this state
@@ -20,31 +29,11 @@ pub record AreReplayedTo (frames : List Frame) (recorded : Recorded) : Type 0 wh
   pub payloads : payloads_of frames ≡ map spelling items
   pub replayed : Replays store_steps store_steps.new_store items recorded
 
--- all of them have a replay
-abbrev pub AreReplayed : List Frame → Type 0
-AreReplayed frames = (recorded : Recorded) × AreReplayedTo frames recorded
-
 -- the records of frames lead to a state that the opening shows
 pub record IsReadFrom (frames : List Frame) (opening : Opening) : Type 0 where
   pub recorded : Recorded
   pub replayed : AreReplayedTo frames recorded
   pub shown : IsOpeningOf opening recorded
-
--- the bytes of the frame are those of no record that has a replay in the state
-abbrev pub HasNoReplayOf : Recorded → Frame → Type 0
-HasNoReplayOf recorded frame = (item : LogRecord) → IsRecord item → frame.payload ≡ spelling item
-    → HasNoReplay store_steps item recorded
-
--- The replay of frames stops at this place, where a frame has no replay.
-pub record StopsAt (frames : List Frame) (at : ℕ) : Type 0 where
-  pub before : List Frame
-  pub frame : Frame
-  pub after : List Frame
-  pub recorded : Recorded
-  pub split : frames ≡ before ++ frame ∷ after
-  pub replayed : AreReplayedTo before recorded
-  pub place : at ≡ frame.at
-  pub none : HasNoReplayOf recorded frame
 
 -- the bytes of a frame are a record, and it was replayed
 pub record IsFrameRedone (old new : Opening) (frame : Frame) : Type 0 where
@@ -58,8 +47,30 @@ abbrev pub IsFrameRefused : Opening → Frame → Type 0
 IsFrameRefused opening frame = (item : LogRecord) → IsRecord item → frame.payload ≡ spelling item
     → IsWithoutReplay opening item
 
--- The first damage of a torn slot with these frames before the torn place: a frame without a replay, or that place.
-pub record IsFirstDamage (frames : List Frame) (fault : ScanFault) (at : ℕ) : Type 0 where
-  pub torn : ℕ
-  pub fault_is : fault ≡ Torn torn
-  pub first : StopsAt frames at ⊎ ((at ≡ torn) × AreReplayed frames)
+-- the fault of a log that could not be read on
+abbrev pub of_scan : ScanFault → OpenFault
+of_scan scan.Failed = fault.Failed
+of_scan (scan.Torn at) = fault.Damaged Log at
+of_scan scan.Memory = fault.Memory
+
+module _ {J : Type 0} {means : disk.Ghosts J} {counts : counted.Ghosts J} where
+  -- Of slot A these frames are read, and their records lead to a state that the opening shows.
+  pub record IsReplaying (journal : J) (reader : FrameReader J means counts) (opening : Opening) : Type 0 where
+    pub frames : List Frame
+    pub reading : IsReading journal A reader frames
+    pub read : IsReadFrom frames opening
+
+  -- these frames are all that slot A has
+  pub record HasReplayed (journal : J) (reader : FrameReader J means counts) (opening : Opening) : Type 0 where
+    pub frames : List Frame
+    pub whole : IsWholeRead journal A reader frames
+    pub read : IsReadFrom frames opening
+
+  -- of the journal's slot A no frame is read
+  abbrev pub IsUnread : J → FrameReader J means counts → Type 0
+  IsUnread journal reader = IsReading journal A reader []
+
+  -- the log is damaged at this place
+  abbrev pub IsDamagedLog : FrameReader J means counts → ℕ → Type 0
+  IsDamagedLog old at = (journal : J) → IsUnread journal old
+      → IfSome (means.state journal).seen (λ image. IsDamaged store_steps at image.a)

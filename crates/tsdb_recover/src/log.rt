@@ -1,10 +1,11 @@
 //! The log of a store, read and replayed. Depends on `fault`.
-ghost use Rattle.std.specs.Prelude.{◌≡◌, ◌≤◌, ℕ, IfErr, IfOk, IfSome, IsErrAnd, IsErrOf, OnOk};
+ghost use Rattle.std.specs.Prelude.{◌≡◌, ◌≤◌, ℕ, IfErr, IfOk, IfSome, IsErrAnd, IsErrOf, OnErr, OnOk};
+ghost use Rattle.tsdb_frames.specs.Readers.{HasEnded, disk_read, faults_read};
 ghost use Rattle.tsdb_outside.specs.Causes.{Rose};
 ghost use Rattle.tsdb_outside.specs.Disk.{Keeps};
 ghost use Rattle.tsdb_recover.specs.Causes.{AnswersDamage};
 ghost use Rattle.tsdb_recover.specs.Log.{IsLogRead};
-ghost use Rattle.tsdb_recover.specs.Replaying.{IsFirstDamage, IsFrameRedone, IsFrameRefused, IsReadFrom, StopsAt};
+ghost use Rattle.tsdb_recover.specs.Replaying.{HasReplayed, IsDamagedLog, IsFrameRedone, IsFrameRefused, IsUnread, of_scan};
 ghost use Rattle.tsdb_recover.specs.declared.fault.Part as store_part;
 ghost use Rattle.tsdb_recover.specs.declared.fault.Part.TheVariants as parts;
 ghost use Rattle.tsdb_replay.specs.Damage.{IsDamaged};
@@ -12,12 +13,13 @@ ghost use Rattle.tsdb_replay.specs.Stores.{store_steps};
 
 use crate::{OpenFault, OpenRefused, Part};
 use std::alloc::Global;
-use tsdb_frames::{Frame, Frames, ScanFault, ScanRefused};
+use tsdb_frames::{Frame, FrameReader, Frames, ScanFault};
 use tsdb_log::{LogFault, read_record};
 use tsdb_opening::{Opening, RedoFault};
 use tsdb_outside::{Journal, Slot};
 
-/// Reads the log in slot A of a journal, and replays its records. It writes nothing.
+/// Reads the log in slot A of a journal record by record, and replays each as it is read. It writes nothing. It takes the
+/// memory of what the records lead to, and of one piece of the log.
 pub fn read_log<J: Journal>(
     alloc: Global,
     journal: J,
@@ -34,58 +36,50 @@ pub fn read_log<J: Journal>(
     ensures cause { IfErr result (λ refused. refused.fault ≡ OpenFault.Failed
         → Rose (J.faults journal) (J.faults refused.journal)) }
 {
-    match Frames::scan(alloc, journal, Slot::A) {
-        Ok((log, frames)) => match replay(alloc, &frames) {
-            Ok(opening) => Ok((log, opening)),
-            Err(fault) => Err(OpenRefused {
-                journal: log.end(),
-                fault,
-            }),
-        },
-        Err(refused) => {
-            let ScanRefused {
-                journal,
-                fault,
-                frames,
-            } = refused;
-            Err(OpenRefused {
-                journal,
-                fault: refusal(alloc, fault, &frames),
-            })
+    let mut reader = FrameReader::new(alloc, journal, Slot::A);
+    match replay(alloc, &mut reader) {
+        Ok(opening) => Ok((Frames::of_reader(reader), opening)),
+        Err(fault) => Err(OpenRefused {
+            journal: reader.end(),
+            fault,
+        }),
+    }
+}
+
+/// Replays the records of a slot, of which none is read yet, each as it is read. Damaged at the place of the first that is
+/// torn, cannot be read, or has no replay.
+fn replay<J: Journal>(alloc: Global, reader: &mut FrameReader<J>) -> Result<Opening, OpenFault>
+    ensures read { IfOk result (λ opening. (journal : J) → IsUnread journal reader.old
+        → HasReplayed journal reader.new opening) }
+    ensures ended { OnOk result (HasEnded reader.new) }
+    ensures damaged { (part : store_part.Part) (at : ℕ) → IsErrOf result (OpenFault.Damaged part at)
+        → (part ≡ parts.Log) × IsDamagedLog reader.old at }
+    ensures keeps { OnErr result ((journal : J) → IsUnread journal reader.old
+        → Keeps (J.state journal) (disk_read reader.new)) }
+    ensures later { faults_read reader.old ≤ faults_read reader.new }
+    ensures failed { IsErrOf result OpenFault.Failed → Rose (faults_read reader.old) (faults_read reader.new) }
+{
+    let mut opening = Opening::new(alloc);
+    loop {
+        match reader.read_frame(alloc) {
+            Ok(Some(frame)) => redo(&mut opening, alloc, &frame)?,
+            Ok(None) => return Ok(opening),
+            Err(fault) => return Err(log_fault(fault)),
         }
     }
 }
 
-/// What the records of frames give. Damaged at the place of the first that cannot be read or has no replay.
-fn replay(alloc: Global, frames: &[Frame]) -> Result<Opening, OpenFault>
-    ensures read { IfOk result (IsReadFrom frames.now) }
-    ensures damaged { (part : store_part.Part) (at : ℕ) → IsErrOf result (OpenFault.Damaged part at)
-        → (part ≡ parts.Log) × StopsAt frames.now at }
-    ensures no_failure { ¬ IsErrOf result OpenFault.Failed }
-{
-    let mut opening = Opening::new(alloc);
-    for frame in frames {
-        redo(&mut opening, alloc, frame)?;
-    }
-    Ok(opening)
-}
-
-/// Why a log whose scan was refused is not opened. An earlier record without a replay comes before a torn one.
-fn refusal(alloc: Global, fault: ScanFault, frames: &[Frame]) -> OpenFault
-    ensures failed { result ≡ OpenFault.Failed → fault ≡ ScanFault.Failed }
-    ensures damaged { (part : store_part.Part) (at : ℕ) → result ≡ OpenFault.Damaged part at
-        → (part ≡ parts.Log) × IsFirstDamage frames.now fault at }
+/// The fault of a log that could not be read on.
+fn log_fault(fault: ScanFault) -> OpenFault
+    ensures { result ≡ of_scan fault }
 {
     match fault {
         ScanFault::Failed => OpenFault::Failed,
-        ScanFault::Memory => OpenFault::Memory,
-        ScanFault::Torn { at } => match replay(alloc, frames) {
-            Ok(_) => OpenFault::Damaged {
-                part: Part::Log,
-                at,
-            },
-            Err(fault) => fault,
+        ScanFault::Torn { at } => OpenFault::Damaged {
+            part: Part::Log,
+            at,
         },
+        ScanFault::Memory => OpenFault::Memory,
     }
 }
 
