@@ -7,10 +7,12 @@ use Rattle.std.specs.Option.{IsSomeAnd}
 use Rattle.std.specs.Prelude.{IfSome}
 use Rattle.tsdb_core.proofs.Jobs.{is_there}
 use Rattle.tsdb_core.specs.Core.{files_of, logged_of}
+use Rattle.tsdb_core.specs.Listings.{TellsStore}
 use Rattle.tsdb_core.specs.declared.engine.Core.{Core}
 use Rattle.tsdb_held.specs.Held.{AreFilesOf, listed, leaving}
 use Rattle.tsdb_history.proofs.Stored.{IsToldAt, at_place, differing, each_stored, few, found, named, stored_at}
 use Rattle.tsdb_history.specs.Closing.{IsClosed}
+use Rattle.tsdb_history.specs.Listings.{IsListingOf}
 use Rattle.tsdb_images.proofs.Kept.{holds_found, kept_by_number}
 use Rattle.tsdb_images.proofs.Storing.{others_kept}
 use Rattle.tsdb_images.specs.Stored.{LeadsTo, LeavesOneOf, kept_bytes}
@@ -18,21 +20,22 @@ use Rattle.tsdb_kept.specs.Closing.{ArePutBack, AreRising, names_at}
 use Rattle.tsdb_kept.specs.Files.{AreKept, KeptFiles, entry_numbers, kept_file, numbers_of, outgoing_numbers}
 use Rattle.tsdb_kept.specs.Places.{KeptFile, file_at, place_at}
 use Rattle.tsdb_kept.specs.declared.files.Outgoing.{Outgoing}
-use Rattle.tsdb_layers.proofs.Lists.{each_from_among, among_map}
+use Rattle.tsdb_layers.proofs.Lists.{each_from_among, each_left, among_map}
 use Rattle.tsdb_layers.specs.Lists.{Among, count, if_some}
 use Rattle.tsdb_log.specs.declared.record.LogRecord.{LogRecord}
 use Rattle.tsdb_logged.specs.Closing as logged
 use Rattle.tsdb_logged.specs.Logged.{IsSound, Outside}
 use Rattle.tsdb_map.specs.State as plain
+use Rattle.tsdb_map.specs.declared.reply.Listing.{Listing}
 use Rattle.tsdb_outside.specs.Causes.{Rose}
-use Rattle.tsdb_outside.specs.Disk.{IsLawful, State, WhereTold}
+use Rattle.tsdb_outside.specs.Disk.{Image, IsLawful, State, WhereTold, in_slot}
 use Rattle.tsdb_outside.specs.Files.{IsFileNumber, StoredFile}
 use Rattle.tsdb_outside.specs.Moments.{LeavesOnly}
 use Rattle.tsdb_outside.specs.declared.disk.Disk as disk
 use Rattle.tsdb_outside.specs.declared.faults.Counted as counted
 use Rattle.tsdb_plan.specs.declared.entry.FileEntry.{FileEntry}
 use Rattle.tsdb_frames.proofs.MomentLemmas.{weaker}
-use Rattle.tsdb_replay.specs.Stores.{HoldsKept}
+use Rattle.tsdb_replay.specs.Stores.{HoldsKept, IsWhole}
 use Rattle.tsdb_replay.specs.Stores as store
 use Rattle.tsdb_serving.proofs.Held.{wider}
 use Rattle.tsdb_serving.specs.Flushing.{faults_under}
@@ -205,16 +208,40 @@ module _ {J F S R P : Type 0} {means : disk.Ghosts J} {counts : counted.Ghosts J
         (λ image leaves. wider stored put (slot_under core) at next image held leaves) moments;
     holds = λ image left. moments.each image
         (laws.counts_now (disk_under core).moment image moments.passes.later left);
-    sound = by;
+    sound = λ sure. is_sound (calm sure);
+    listed = λ sure listing tells image left. lists (calm sure) listing tells image left;
   }
     where
       moments : LeavesOnly (disk_under core) new (LeavesOneOf stored (slot_under core) at next)
       moments = closes.moments outside serving.state at next sound serving.stands serving.doubt
 
-      by : (¬ Rose (faults_under core) faults) ⊎ (next ≡ None) → store.IsSound (slot_under core) new (kept_bytes stored) at
-      by (inl not) = closes.sound not outside serving.state at (kept_bytes stored) sound serving.stands stored_found
-      by (inr none) = closes.undoubted outside serving.state at (kept_bytes stored) (no_doubt none) sound serving.stands
+      calm : (¬ Rose (faults_under core) faults) ⊎ (next ≡ None)
+          → (¬ Rose (faults_under core) faults) ⊎ (serving.state.doubt ≡ None)
+      calm (inl not) = inl not
+      calm (inr none) = inr (no_doubt none)
+
+      is_sound : (¬ Rose (faults_under core) faults) ⊎ (serving.state.doubt ≡ None)
+          → store.IsSound (slot_under core) new (kept_bytes stored) at
+      is_sound (inl not) = closes.sound not outside serving.state at (kept_bytes stored) sound serving.stands stored_found
+      is_sound (inr none) = closes.undoubted outside serving.state at (kept_bytes stored) none sound serving.stands
           stored_found
+
+      lists : (¬ Rose (faults_under core) faults) ⊎ (serving.state.doubt ≡ None) → (listing : Listing)
+          → TellsStore core listing → (image : Image) → new.may_leave image
+          → IsListingOf (kept_bytes stored) (in_slot (slot_under core) image) listing
+      lists sure listing tells image left = record {
+        recorded = record { named = sound.stored.named; store = serving.state.store };
+        replayed = record {
+          items = serving.outside.items;
+          good = sound.stored.good;
+          records = closes.records outside serving.state sound sure image left;
+          replayed = sound.stored.replayed;
+        };
+        told = serving.outside.told;
+        whole = each_left (IsWhole (kept_bytes stored) serving.outside.told)
+            (serving.state.store.sequence ++ serving.state.store.unsequence) serving.state.outgoing sound.stored.whole;
+        lists = tells serving.outside serving.state serving.seen;
+      }
 
   -- all of them are put to rest
   pub closed : (new : State) (faults : ℕ) → IsLawful new → logged.IsClosed (logged_of core) new faults

@@ -4,9 +4,15 @@ use Rattle.std.proofs.lemmas.List.{length-append}
 use Rattle.std.proofs.lemmas.List.Elements.{All-from_recursion, recursion_from_All}
 use Rattle.std.specs.List.{AllByRecursion as Each}
 use Rattle.tsdb_history.proofs.Entries.{heads}
+use Rattle.tsdb_history.specs.Listings.{EndsListed}
 use Rattle.tsdb_history.specs.Prefixes.{EndsDone, IsDone, IsQuery}
 use Rattle.tsdb_layers.proofs.Lists.{each_left, each_right}
 use Rattle.tsdb_map.specs.History.{Entry}
+use Rattle.tsdb_map.specs.declared.command.Command.{Command}
+use Rattle.tsdb_map.specs.declared.command.Command.TheVariants.{ShowFiles}
+use Rattle.tsdb_map.specs.declared.reply.Listing.{Listing}
+use Rattle.tsdb_map.specs.declared.reply.Reply.{Reply}
+use Rattle.tsdb_map.specs.declared.reply.Reply.TheVariants.{Files}
 
 -- two lists with the same last element and the same ones before it
 same_end : {X : Type 0} (xs ys : List X) (x y : X) → xs ++ x ∷ [] ≡ ys ++ y ∷ [] → (xs ≡ ys) × (x ≡ y)
@@ -57,3 +63,19 @@ last_ends entries entry ends = by (ends_in ends.later)
           subst (λ (e : Entry). IsQuery e.command) (sym same.1)
               (each_right (λ (e : Entry). IsQuery e.command) found.0 (found.1 ∷ []) each).0,
         )
+
+-- no entries end in a listing where there are none
+pub none_listed : (listing : Listing) → ¬ EndsListed [] listing
+none_listed listing (before, split) =
+    let e = ap length split in
+    let l = length-append before (record { command = ShowFiles; reply = Files listing } ∷ []) in
+    omega (arith, e, l)
+
+-- a listing at the end of entries is the last one's reply
+pub last_listed : (entries : List Entry) (command : Command) (reply : Reply) (listing : Listing)
+    → EndsListed (entries ++ record { command = command; reply = reply } ∷ []) listing
+    → (command ≡ ShowFiles) × (reply ≡ Files listing)
+last_listed entries command reply listing (before, split) =
+    let same = (same_end entries before (record { command = command; reply = reply })
+    (record { command = ShowFiles; reply = Files listing }) split).1 in
+    (ap (λ e. e.command) same, ap (λ e. e.reply) same)

@@ -2,9 +2,10 @@
 use Rattle.std.proofs.Common.{◌≡◌, ◌≢◌, ◌⊎◌, ℕ, List, [], ◌∷◌, ◌++◌, Option, None, Some, inl, inr, refl, sym, ap}
 use Rattle.std.proofs.Common.{append_assoc, arith, subst, ◌∙◌}
 use Rattle.tsdb_base.specs.declared.answers.Answer.TheVariants as answer
+use Rattle.tsdb_core.specs.Listings.{TellsStore}
 use Rattle.tsdb_core.specs.declared.engine.Core.{Core}
 use Rattle.tsdb_frames.proofs.MomentLemmas.{leaves_on, weaker}
-use Rattle.tsdb_history.proofs.Ends.{last_ends}
+use Rattle.tsdb_history.proofs.Ends.{last_ends, last_listed, none_listed}
 use Rattle.tsdb_history.proofs.Prefixes.{done_or_not, entry_of, is_change, is_reply, last_doubt, legal_more, may_stay}
 use Rattle.tsdb_history.proofs.Prefixes.{no_change, prefix_stays, stands_after, state_stays, whole_prefix}
 use Rattle.tsdb_history.specs.Prefixes.{EndsDone, IsDone, IsQuery, StandsAfter, StandsAfterPrefix}
@@ -14,8 +15,10 @@ use Rattle.tsdb_map.specs.Apply.{reply_of}
 use Rattle.tsdb_map.specs.History.{Entry, IsChange, IsLegal, state_after}
 use Rattle.tsdb_map.specs.State as plain
 use Rattle.tsdb_map.specs.declared.command.Command.{Command}
+use Rattle.tsdb_map.specs.declared.command.Command.TheVariants.{ShowFiles}
+use Rattle.tsdb_map.specs.declared.reply.Listing.{Listing}
 use Rattle.tsdb_map.specs.declared.reply.Reply.{Reply}
-use Rattle.tsdb_map.specs.declared.reply.Reply.TheVariants.{Plain}
+use Rattle.tsdb_map.specs.declared.reply.Reply.TheVariants.{Plain, Files}
 use Rattle.tsdb_outside.specs.Disk.{Image, IsLawful, in_slot}
 use Rattle.tsdb_outside.specs.Files.{StoredFile}
 use Rattle.tsdb_outside.specs.declared.disk.Disk as disk
@@ -57,11 +60,13 @@ module _ {J F S R P : Type 0} {means : disk.Ghosts J} {counts : counted.Ghosts J
         (laws core.logged.frames.journal)
         (λ image left there holds. whole_prefix there start start [] (in_slot (slot_under core) image) refl
         (inl (image_left laws core files start None image is left there (each_left (Held there) files [] holds))));
+    listed = λ listing ends. absurd (none_listed listing ends);
   }
 
   module _ (first mid new : Core J F S R P means counts) (files : List StoredFile) (start : plain.State)
       (entries : List Entry) (command : Command) (reply : Reply) (so_far : HasServed first mid files start entries)
-      (place : StaysInPlace first mid) (stays : StaysInPlace mid new) (answers : Answers mid new command reply) where
+      (place : StaysInPlace first mid) (stays : StaysInPlace mid new) (answers : Answers mid new command reply)
+      (shows : (listing : Listing) → command ≡ ShowFiles → reply ≡ Files listing → TellsStore new listing) where
     abbrev at : plain.State
     at = so_far.after
 
@@ -164,6 +169,9 @@ module _ {J F S R P : Type 0} {means : disk.Ghosts J} {counts : counted.Ghosts J
             so_far.moments)
             (weaker (disk_under mid) (disk_under new)
             (LeavesEither (held ++ served.put) (slot_under mid) at so_far.doubt later) AtAll ends served.moments);
+        listed = λ listing ended.
+            let is = last_listed entries command reply listing ended in
+            shows listing is.0 is.1;
       }
 
     -- ---- a command whose record may have been written, or that has none

@@ -1,11 +1,14 @@
 -- What a core leaves that is closed.
 use Rattle.std.specs.Prelude.{◌≡◌, ◌≢◌, ◌⊎◌, List, Option, None}
 use Rattle.std.specs.List.{AllByRecursion as Each}
+use Rattle.tsdb_core.specs.Listings.{TellsStore}
 use Rattle.tsdb_core.specs.declared.engine.Core.{Core}
+use Rattle.tsdb_history.specs.Listings.{IsListingOf}
 use Rattle.tsdb_images.specs.Stored.{LeavesOneOf, kept_bytes}
 use Rattle.tsdb_layers.specs.Lists.{EachPair}
 use Rattle.tsdb_map.specs.State as plain
-use Rattle.tsdb_outside.specs.Disk.{Image, State}
+use Rattle.tsdb_map.specs.declared.reply.Listing.{Listing}
+use Rattle.tsdb_outside.specs.Disk.{Image, State, in_slot}
 use Rattle.tsdb_outside.specs.Files.{IsFileNumber, StoredFile}
 use Rattle.tsdb_outside.specs.Moments.{LeavesOnly}
 use Rattle.tsdb_outside.specs.declared.disk.Disk as disk
@@ -17,7 +20,8 @@ module _ {J F S R P : Type 0} {means : disk.Ghosts J} {counts : counted.Ghosts J
   -- A core was closed that is in the state; these files are stored then, of different numbers that files may have. `rose`
   -- says that the journal failed meanwhile.
   -- A stop at any moment left the state, or the one in doubt. What is left stands with the stored files for the state, or
-  -- for the one in doubt, and is a sound store unless the journal failed, and wherever nothing is in doubt.
+  -- for the one in doubt. Unless the journal failed, and wherever nothing is in doubt, it is a sound store, and a listing
+  -- of the core is the store's.
   pub record IsClosed (core : Core J F S R P means counts) (new : State) (stored : List StoredFile) (rose : Type 0)
       (files : List StoredFile) (at : plain.State) (next : Option plain.State)
       : Type 0 where
@@ -27,3 +31,5 @@ module _ {J F S R P : Type 0} {means : disk.Ghosts J} {counts : counted.Ghosts J
     pub moments : LeavesOnly (disk_under core) new (LeavesOneOf files (slot_under core) at next)
     pub holds : (image : Image) → new.may_leave image → LeavesOneOf stored (slot_under core) at next image
     pub sound : (¬ rose) ⊎ (next ≡ None) → IsSound (slot_under core) new (kept_bytes stored) at
+    pub listed : (¬ rose) ⊎ (next ≡ None) → (listing : Listing) → TellsStore core listing → (image : Image)
+        → new.may_leave image → IsListingOf (kept_bytes stored) (in_slot (slot_under core) image) listing

@@ -5,8 +5,10 @@ use Rattle.tsdb_base.specs.declared.answers.Answer.TheVariants as answer
 use Rattle.tsdb_base.specs.declared.ids.Space.TheVariants.{Sequence}
 use Rattle.tsdb_core.specs.Beginnings.{IsCrossRuns, IsInnerRuns}
 use Rattle.tsdb_core.specs.Core.{working_of}
+use Rattle.tsdb_core.specs.Listings.{TellsStore}
 use Rattle.tsdb_core.specs.declared.engine.Core.{Core}
 use Rattle.tsdb_history.specs.History.{IsHistory}
+use Rattle.tsdb_history.specs.Listings.{EndsListed}
 use Rattle.tsdb_history.specs.Prefixes.{EndsDone, IsInDoubt, StandsAfterPrefix}
 use Rattle.tsdb_history.specs.declared.told.Told.{Told}
 use Rattle.tsdb_map.specs.History.{Entry, IsLegal, state_after}
@@ -14,6 +16,7 @@ use Rattle.tsdb_map.specs.State as plain
 use Rattle.tsdb_map.specs.declared.command.Command.{Command}
 use Rattle.tsdb_map.specs.declared.command.Command.TheVariants.{Create, Insert, Delete, Select, Flush, CompactInner}
 use Rattle.tsdb_map.specs.declared.command.Command.TheVariants.{CompactCross, ShowFiles}
+use Rattle.tsdb_map.specs.declared.reply.Listing.{Listing}
 use Rattle.tsdb_map.specs.declared.reply.Reply.TheVariants.{Plain}
 use Rattle.tsdb_outside.specs.Disk.{Image, in_slot}
 use Rattle.tsdb_outside.specs.Files.{StoredFile}
@@ -56,7 +59,8 @@ module _ {J F S R P : Type 0} {means : disk.Ghosts J} {counts : counted.Ghosts J
   HasCompacted ShowFiles old new = ⊤
 
   -- These entries were served, beside the files that were there. The files that were put have numbers that were drawn
-  -- meanwhile. A stop at any moment left the state after a prefix of the entries.
+  -- meanwhile. A stop at any moment left the state after a prefix of the entries. A listing that was answered last is
+  -- that of the core.
   pub record HasServed (old new : Core J F S R P means counts) (files : List StoredFile) (start : plain.State)
       (entries : List Entry)
       : Type 0 where
@@ -70,6 +74,7 @@ module _ {J F S R P : Type 0} {means : disk.Ghosts J} {counts : counted.Ghosts J
     pub serving : IsServing new (files ++ put) after doubt
     pub moments : LeavesOnly (disk_under old) (disk_under new)
         (LeavesPrefix (files ++ put) (slot_under old) start entries)
+    pub listed : (listing : Listing) → EndsListed entries listing → TellsStore new listing
 
   -- The commands of a script were executed. Where the store tells what its files hold, they were served from each state
   -- that the core may have been in.

@@ -3,9 +3,11 @@ ghost use Rattle.std.specs.Prelude.{◌≡◌, ◌≢◌, ◌⊎◌, ◌≤◌, 
 ghost use Rattle.tsdb_base.specs.declared.answers.Answer.{Answer as AnswerOf};
 ghost use Rattle.tsdb_base.specs.declared.ids.Space.TheVariants.{Sequence as SequenceSpace};
 ghost use Rattle.tsdb_core.specs.Beginnings.{IsCrossRuns, IsInnerRuns};
+ghost use Rattle.tsdb_core.specs.Listings.{TellsStore};
 ghost use Rattle.tsdb_history.specs.Serves.{HasCompacted, HasFlushed};
 ghost use Rattle.tsdb_map.specs.Commands.{IsWellFormed};
 ghost use Rattle.tsdb_map.specs.declared.command.Command.{Command as CommandOf};
+ghost use Rattle.tsdb_map.specs.declared.reply.Listing.{Listing};
 ghost use Rattle.tsdb_map.specs.declared.reply.Reply.{Reply as ReplyOf};
 ghost use Rattle.tsdb_outside.specs.Causes.{Rose};
 ghost use Rattle.tsdb_rewriting.specs.Rewriting.{IsCompacted};
@@ -42,6 +44,8 @@ pub fn serve<J: Journal, F: Files>(
         × (F.Port.faults port.old ≤ F.Port.faults port.new) }
     ensures flushed { command.now ≡ CommandOf.Flush → result ≡ ReplyOf.Plain AnswerOf.Done → HasFlushed core.new }
     ensures compacted { result ≡ ReplyOf.Plain AnswerOf.Done → HasCompacted command.now core.old core.new }
+    ensures listed { (listing : Listing) → command.now ≡ CommandOf.ShowFiles → result ≡ ReplyOf.Files listing
+        → TellsStore core.new listing }
 {
     match command {
         Command::Create(schema) => Reply::Plain(create(core, schema)),
@@ -158,6 +162,7 @@ fn cross_compacted<J: Journal, F: Files>(
 /// What a listing is answered.
 fn shown<J: Journal, F: Files>(core: &Core<J, F>) -> Reply
     ensures answers { Answers core.now core.now CommandOf.ShowFiles result }
+    ensures listed { (listing : Listing) → result ≡ ReplyOf.Files listing → TellsStore core.now listing }
     ensures no_fault { result ≢ ReplyOf.Plain AnswerOf.Device }
 {
     match show(core) {

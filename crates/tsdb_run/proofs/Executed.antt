@@ -9,6 +9,7 @@ use Rattle.tsdb_core.specs.declared.engine.Core.{Core}
 use Rattle.tsdb_frames.proofs.MomentLemmas.{leaves_on, weaker}
 use Rattle.tsdb_history.proofs.Prefixes.{stands_after, whole_prefix}
 use Rattle.tsdb_history.specs.Closing.{IsClosed}
+use Rattle.tsdb_history.specs.Listings.{IsListingOf}
 use Rattle.tsdb_history.specs.Prefixes.{EndsDone, StandsAfter, StandsAfterPrefix}
 use Rattle.tsdb_history.specs.Serves.{HasServed, LeavesPrefix}
 use Rattle.tsdb_images.proofs.Kept.{found_with_more, holds_found}
@@ -118,6 +119,9 @@ module _ {J F S R P : Type 0} {means : disk.Ghosts J} {counts : counted.Ghosts J
       are_stored = are_stored;
       sound = subst (λ (s : Slot). stores.IsSound s new (kept_bytes stored) served.after) in_a (closed.sound (by calm));
     };
+    listed = λ calm listing image ends left.
+        subst (λ (s : Slot). IsListingOf (kept_bytes stored) (in_slot s image) listing) in_a
+        (closed.listed (by calm) listing (served.listed listing ends) image left);
   }
     where
       are_stored : AreStored stored
@@ -181,6 +185,7 @@ module _ (files : List StoredFile) (start : plain.State) (entries : List Entry) 
     held = run.held;
     holds = run.holds;
     sound = λ calm. run.sound (calmer more wider calm);
+    listed = λ calm. run.listed (calmer more wider calm);
   }
 
   -- a call that writes nothing put the store down
@@ -201,6 +206,8 @@ module _ (files : List StoredFile) (start : plain.State) (entries : List Entry) 
     held = run.held;
     holds = λ image kept left holds. run.holds image kept (keeps.crash image left) holds;
     sound = λ calm. sound_after mid new now then run.after keeps same (run.sound (calmer more wider calm));
+    listed = λ calm listing image ends left.
+        run.listed (calmer more wider calm) listing image ends (keeps.crash image left);
   }
 
 -- the script was executed on the store of a journal, which a place handed out and took back

@@ -5,11 +5,14 @@ use Rattle.std.specs.Prelude.{◌≡◌, ◌⊎◌, ℕ, ◌<◌, List, [], ◌+
 use Rattle.std.specs.Io.KnownBytes.{Appends, Keeps as KeepsBytes}
 use Rattle.std.specs.List.{AllByRecursion as Each}
 use Rattle.tsdb_history.specs.History.{IsHistory}
+use Rattle.tsdb_history.specs.Listings.{EndsListed, IsListingOf}
 use Rattle.tsdb_history.specs.Prefixes.{EndsDone, StandsAfter}
 use Rattle.tsdb_history.specs.Serves.{LeavesPrefix}
 use Rattle.tsdb_history.specs.declared.told.Told.{Told}
+use Rattle.tsdb_images.specs.Stored.{kept_bytes}
 use Rattle.tsdb_map.specs.History.{Entry, IsLegal}
 use Rattle.tsdb_map.specs.State as plain
+use Rattle.tsdb_map.specs.declared.reply.Listing.{Listing}
 use Rattle.tsdb_outside.specs.Disk.{Image, Keeps, State}
 use Rattle.tsdb_outside.specs.Files.{StoredFile}
 use Rattle.tsdb_outside.specs.Moments.{LeavesOnly}
@@ -88,6 +91,9 @@ pub record HasRun (files : List StoredFile) (start : plain.State) (entries : Lis
       → StandsAfter kept after entries image.a
   -- and it is a sound store, on which the next run begins, unless something failed and no later change was done
   pub sound : (¬ rose) ⊎ EndsDone entries → IsSound new after
+  -- and then a listing that is the last reply is that of this store
+  pub listed : (¬ rose) ⊎ EndsDone entries → (listing : Listing) (image : Image) → EndsListed entries listing
+      → new.disk.may_leave image → IsListingOf (kept_bytes stored) image.a listing
 
 -- The script was executed on the store of the directory that the words name.
 pub record IsExecuted (run : Run) (puts : List ℕ → Type 0) : Type 0 where

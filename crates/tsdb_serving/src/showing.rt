@@ -1,5 +1,6 @@
 //! The listing of a store. Depends on tsdb_core.
 ghost use Rattle.std.specs.Prelude.{IfOk};
+ghost use Rattle.tsdb_core.specs.Listings.{TellsStore};
 ghost use Rattle.tsdb_map.specs.declared.command.Command.{Command};
 ghost use Rattle.tsdb_map.specs.declared.reply.Reply.{Reply};
 ghost use Rattle.tsdb_serving.specs.Serving.{Answers};
@@ -11,7 +12,8 @@ use tsdb_outside::{Files, Journal};
 
 /// What the store holds.
 pub fn show<J: Journal, F: Files>(core: &Core<J, F>) -> Result<Listing, Memory>
-    ensures { IfOk result (λ listing. Answers core.now core.now Command.ShowFiles (Reply.Files listing)) }
+    ensures tells { IfOk result (TellsStore core.now) }
+    ensures answers { IfOk result (λ listing. Answers core.now core.now Command.ShowFiles (Reply.Files listing)) }
 {
     core.show()
 }

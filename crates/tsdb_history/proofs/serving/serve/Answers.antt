@@ -1,4 +1,4 @@
-use Rattle.std.proofs.Common.{subst, sym}
+use Rattle.std.proofs.Common.{◌∙◌, subst, sym}
 use Rattle.tsdb_map.specs.declared.command.Command.TheVariants.{Select}
 use Rattle.tsdb_map.specs.declared.reply.Reply.TheVariants.{Plain}
 use Rattle.tsdb_serving.specs.Serving.{Answers}
@@ -50,3 +50,29 @@ pub returns-in-CompactCross-clause-answers : goal.returns-in-CompactCross-clause
 returns-in-CompactCross-clause-answers g c = λ tells.
     subst (λ command. Answers c.args.core.now c.cross_compacted.new.core command (Plain c.cross_compacted.result))
     (sym c.in-CompactCross.is) (c.cross_compacted.ensures.answers tells)
+
+pub returns-in-Create-clause-listed : goal.returns-in-Create-clause-listed
+returns-in-Create-clause-listed g c = λ listing asked is. absurd (let same = sym asked ∙ c.in-Create.is in cc)
+
+pub returns-in-Insert-clause-listed : goal.returns-in-Insert-clause-listed
+returns-in-Insert-clause-listed g c = λ listing asked is. absurd (let same = sym asked ∙ c.in-Insert.is in cc)
+
+pub returns-in-Delete-clause-listed : goal.returns-in-Delete-clause-listed
+returns-in-Delete-clause-listed g c = λ listing asked is. absurd (let same = sym asked ∙ c.in-Delete.is in cc)
+
+pub returns-in-Select-clause-listed : goal.returns-in-Select-clause-listed
+returns-in-Select-clause-listed g c = λ listing asked is. absurd (let same = sym asked ∙ c.in-Select.is in cc)
+
+pub returns-in-Flush-clause-listed : goal.returns-in-Flush-clause-listed
+returns-in-Flush-clause-listed g c = λ listing asked is. absurd (let same = sym asked ∙ c.in-Flush.is in cc)
+
+pub returns-in-CompactInner-clause-listed : goal.returns-in-CompactInner-clause-listed
+returns-in-CompactInner-clause-listed g c = λ listing asked is.
+    absurd (let same = sym asked ∙ c.in-CompactInner.is in cc)
+
+pub returns-in-CompactCross-clause-listed : goal.returns-in-CompactCross-clause-listed
+returns-in-CompactCross-clause-listed g c = λ listing asked is.
+    absurd (let same = sym asked ∙ c.in-CompactCross.is in cc)
+
+pub returns-in-ShowFiles-clause-listed : goal.returns-in-ShowFiles-clause-listed
+returns-in-ShowFiles-clause-listed g c = λ listing asked is. c.shown.ensures.listed listing is
