@@ -3,6 +3,7 @@ pub mod Closed
 pub mod Entries
 pub mod SoFar
 pub mod Prefixes
+pub mod Reach
 pub mod Ends
 pub mod Steps
 pub mod Replies

@@ -1,7 +1,8 @@
 -- One more command is served.
-use Rattle.std.proofs.Common.{◌≡◌, ◌≢◌, ◌⊎◌, ℕ, List, [], ◌∷◌, ◌++◌, Option, None, Some, inl, inr, refl, sym, ap}
+use Rattle.std.proofs.Common.{◌≡◌, ◌≢◌, ◌⊎◌, ℕ, List, [], ◌∷◌, ◌++◌, Option, None, Some, inl, inr, ⊎_elim, refl, sym, ap}
 use Rattle.std.proofs.Common.{append_assoc, arith, subst, ◌∙◌}
 use Rattle.tsdb_base.specs.declared.answers.Answer.TheVariants as answer
+use Rattle.tsdb_core.specs.Core.{logged_of, next_of}
 use Rattle.tsdb_core.specs.Listings.{TellsStore}
 use Rattle.tsdb_core.specs.declared.engine.Core.{Core}
 use Rattle.tsdb_frames.proofs.MomentLemmas.{leaves_on, weaker}
@@ -9,8 +10,11 @@ use Rattle.tsdb_history.proofs.Ends.{last_ends, last_listed, none_listed}
 use Rattle.tsdb_history.proofs.Prefixes.{done_or_not, entry_of, is_change, is_reply, last_doubt, legal_more, may_stay}
 use Rattle.tsdb_history.proofs.Prefixes.{no_change, prefix_stays, stands_after, state_stays, whole_prefix}
 use Rattle.tsdb_history.specs.Prefixes.{EndsDone, IsDone, IsQuery, StandsAfter, StandsAfterPrefix}
+use Rattle.tsdb_history.proofs.Reach.{all_further, within_more}
+use Rattle.tsdb_history.specs.Reach.{AreFullWithin, IsFullWithin}
 use Rattle.tsdb_history.specs.Serves.{HasServed, LeavesPrefix, MayDoubt}
 use Rattle.tsdb_layers.proofs.Lists.{each_append, each_left, each_weaker}
+use Rattle.tsdb_logged.specs.Logged.{memory_of}
 use Rattle.tsdb_map.specs.Apply.{reply_of}
 use Rattle.tsdb_map.specs.History.{Entry, IsChange, IsLegal, state_after}
 use Rattle.tsdb_map.specs.State as plain
@@ -27,9 +31,10 @@ use Rattle.tsdb_replay.specs.Stores.{HoldsKept, StandsFor, StandsForOneOf}
 use Rattle.tsdb_replay.specs.Stores as stores
 use Rattle.tsdb_serving.proofs.Parts.{more_files}
 use Rattle.tsdb_serving.proofs.Steps.{idle, image_left}
+use Rattle.tsdb_serving.proofs.Answered.{stamp_is}
 use Rattle.tsdb_serving.specs.Serving as serving
-use Rattle.tsdb_serving.specs.Serving.{Answers, IsAnsweredBy, IsDrawn, IsServedBy, IsServing, IsWritten, LeavesDoubt}
-use Rattle.tsdb_serving.specs.Serving.{LeavesEither, StaysInPlace, disk_under, slot_under}
+use Rattle.tsdb_serving.specs.Serving.{Answers, HasFullCause, IsAnsweredBy, IsDrawn, IsServedBy, IsServing, IsWritten}
+use Rattle.tsdb_serving.specs.Serving.{LeavesDoubt, LeavesEither, StaysInPlace, disk_under, slot_under}
 
 -- this is held of a file
 abbrev Held : stores.Files → StoredFile → Type 0
@@ -50,6 +55,7 @@ module _ {J F S R P : Type 0} {means : disk.Ghosts J} {counts : counted.Ghosts J
   none_served core files start is = record {
     after = start;
     legal = refl;
+    reached = tt;
     put = [];
     numbers = tt;
     doubt = None;
@@ -65,7 +71,8 @@ module _ {J F S R P : Type 0} {means : disk.Ghosts J} {counts : counted.Ghosts J
 
   module _ (first mid new : Core J F S R P means counts) (files : List StoredFile) (start : plain.State)
       (entries : List Entry) (command : Command) (reply : Reply) (so_far : HasServed first mid files start entries)
-      (place : StaysInPlace first mid) (stays : StaysInPlace mid new) (answers : Answers mid new command reply)
+      (place : StaysInPlace first mid) (stays : StaysInPlace mid new) (full : HasFullCause new reply)
+      (answers : Answers mid new command reply)
       (shows : (listing : Listing) → command ≡ ShowFiles → reply ≡ Files listing → TellsStore new listing) where
     abbrev at : plain.State
     at = so_far.after
@@ -149,10 +156,24 @@ module _ {J F S R P : Type 0} {means : disk.Ghosts J} {counts : counted.Ghosts J
       from_second file drawn = let from = drawn.from in let next = place.next in
           record { from = omega (arith, from, next); to = drawn.to }
 
+      same_stamp : (counter : ℕ) → reply ≡ Plain (answer.Full counter) → (memory_of (logged_of new)).stamp ≡ at.stamp
+      same_stamp counter is =
+          stamp_is new (held ++ served.put) then served.doubt served.serving ∙ ap (λ (s : plain.State). s.stamp) same
+          ∙ ap (λ r. (state_after at command r).stamp) is
+
+      last_within : IsFullWithin (next_of new) at reply
+      last_within counter is =
+          ⊎_elim (λ ended. inl (sym (same_stamp counter is) ∙ ended)) (λ few. inr few) (full counter is)
+
+      reached_all : AreFullWithin (next_of new) start all
+      reached_all = within_more (next_of new) start at entries command reply so_far.legal
+          (all_further (next_of mid) (next_of new) start entries stays.next so_far.reached) last_within
+
       led : MayDoubt all now served.doubt → (EndsDone all → served.doubt ≡ None) → HasServed first new files start all
       led may settled = record {
         after = now;
         legal = legal_all;
+        reached = reached_all;
         put = put;
         numbers = each_append (λ (file : StoredFile). IsDrawn first new file.number) so_far.put served.put
             (each_weaker (λ (file : StoredFile). IsDrawn first mid file.number)

@@ -1,5 +1,6 @@
 pub mod History
 pub mod Prefixes
+pub mod Reach
 pub mod Serves
 pub mod Listings
 pub mod Closing

@@ -4,12 +4,13 @@ use Rattle.std.specs.List.{AllByRecursion as Each}
 use Rattle.tsdb_base.specs.declared.answers.Answer.TheVariants as answer
 use Rattle.tsdb_base.specs.declared.ids.Space.TheVariants.{Sequence}
 use Rattle.tsdb_core.specs.Beginnings.{IsCrossRuns, IsInnerRuns}
-use Rattle.tsdb_core.specs.Core.{working_of}
+use Rattle.tsdb_core.specs.Core.{next_of, working_of}
 use Rattle.tsdb_core.specs.Listings.{TellsStore}
 use Rattle.tsdb_core.specs.declared.engine.Core.{Core}
 use Rattle.tsdb_history.specs.History.{IsHistory}
 use Rattle.tsdb_history.specs.Listings.{EndsListed}
 use Rattle.tsdb_history.specs.Prefixes.{EndsDone, IsInDoubt, StandsAfterPrefix}
+use Rattle.tsdb_history.specs.Reach.{AreFullWithin}
 use Rattle.tsdb_history.specs.declared.told.Told.{Told}
 use Rattle.tsdb_map.specs.History.{Entry, IsLegal, state_after}
 use Rattle.tsdb_map.specs.State as plain
@@ -66,6 +67,7 @@ module _ {J F S R P : Type 0} {means : disk.Ghosts J} {counts : counted.Ghosts J
       : Type 0 where
     pub after : plain.State
     pub legal : IsLegal start entries after
+    pub reached : AreFullWithin (next_of new) start entries
     pub put : List StoredFile
     pub numbers : Each (λ (file : StoredFile). IsDrawn old new file.number) put
     pub doubt : Option plain.State

@@ -1,7 +1,9 @@
 //! The commands of a script. Depends on `serving` and `told`.
-ghost use Rattle.std.specs.Prelude.{◌≡◌, ℕ, [], ◌+◌, ◌-◌, ◌^◌, ◌<◌, ◌≤◌, min, IfOk, All, count_by, length};
+ghost use Rattle.std.specs.Prelude.{◌≡◌, ℕ, [], ◌+◌, ◌-◌, ◌*◌, ◌^◌, ◌<◌, ◌≤◌, min, IfOk, All, count_by, length};
 ghost use Rattle.std.specs.Prelude.{slice_index, slice_set, vec_len, vec_capacity};
 ghost use Rattle.tsdb_history.specs.History.{is_device, session_numbers};
+ghost use Rattle.tsdb_core.specs.Core.{next_of};
+ghost use Rattle.tsdb_history.specs.Reach.{max_drawn};
 ghost use Rattle.tsdb_history.specs.Serves.{HasExecuted};
 ghost use Rattle.tsdb_map.specs.Commands.{IsWellFormed};
 ghost use Rattle.tsdb_script.specs.Limits.{max_commands};
@@ -60,6 +62,7 @@ pub fn execute<J: Journal, F: Files>(
     ensures executed { HasExecuted script.now result (F.Port.store port.old).tells core.old core.new }
     ensures ready { IsReady (F.Port.store port.old) core.new }
     ensures stays { StaysInPlace core.old core.new }
+    ensures draws { next_of core.new ≤ next_of core.old + max_drawn * length script.now }
     ensures same_store { F.Port.store port.new ≡ F.Port.store port.old }
     ensures devices { IsSure (F.Port.store port.old) core.old
         → min ((faults_under core.old + F.Port.faults port.old) + count_by is_device result) (2 ^ 64 - 1)

@@ -1,9 +1,11 @@
 //! One command. Depends on tsdb_serving, tsdb_querying and tsdb_rewriting.
-ghost use Rattle.std.specs.Prelude.{◌≡◌, ◌≢◌, ◌⊎◌, ◌≤◌, true};
+ghost use Rattle.std.specs.Prelude.{◌≡◌, ◌≢◌, ◌⊎◌, ◌+◌, ◌≤◌, ℕ, true};
 ghost use Rattle.tsdb_base.specs.declared.answers.Answer.{Answer as AnswerOf};
 ghost use Rattle.tsdb_base.specs.declared.ids.Space.TheVariants.{Sequence as SequenceSpace};
 ghost use Rattle.tsdb_core.specs.Beginnings.{IsCrossRuns, IsInnerRuns};
+ghost use Rattle.tsdb_core.specs.Core.{next_of};
 ghost use Rattle.tsdb_core.specs.Listings.{TellsStore};
+ghost use Rattle.tsdb_history.specs.Reach.{max_drawn};
 ghost use Rattle.tsdb_history.specs.Serves.{HasCompacted, HasFlushed};
 ghost use Rattle.tsdb_map.specs.Commands.{IsWellFormed};
 ghost use Rattle.tsdb_map.specs.declared.command.Command.{Command as CommandOf};
@@ -12,7 +14,7 @@ ghost use Rattle.tsdb_map.specs.declared.reply.Reply.{Reply as ReplyOf};
 ghost use Rattle.tsdb_outside.specs.Causes.{Rose};
 ghost use Rattle.tsdb_rewriting.specs.Rewriting.{IsCompacted};
 ghost use Rattle.tsdb_serving.specs.Flushing.{IsReady, faults_under};
-ghost use Rattle.tsdb_serving.specs.Serving.{Answers, IsSure, StaysInPlace};
+ghost use Rattle.tsdb_serving.specs.Serving.{Answers, HasFullCause, IsSure, StaysInPlace};
 
 use std::alloc::Global;
 use tsdb_base::{Answer, Range, Space};
@@ -36,6 +38,8 @@ pub fn serve<J: Journal, F: Files>(
     ensures answers { (F.Port.store port.old).tells ≡ true → Answers core.old core.new command.now result }
     ensures ready { IsReady (F.Port.store port.old) core.new }
     ensures stays { StaysInPlace core.old core.new }
+    ensures draws { next_of core.new ≤ next_of core.old + max_drawn }
+    ensures full { HasFullCause core.new result }
     ensures same_store { F.Port.store port.new ≡ F.Port.store port.old }
     ensures cause { IsSure (F.Port.store port.old) core.old → result ≡ ReplyOf.Plain AnswerOf.Device
         → Rose (faults_under core.old) (faults_under core.new)
@@ -76,6 +80,8 @@ fn query<J: Journal, F: Files>(
     ensures answers { Answers core.old core.new (CommandOf.Select device.now items.now range.now) result }
     ensures ready { IsReady (F.Port.store port.old) core.new }
     ensures stays { StaysInPlace core.old core.new }
+    ensures draws { next_of core.new ≡ next_of core.old }
+    ensures no_full { (counter : ℕ) → result ≢ ReplyOf.Plain (AnswerOf.Full counter) }
     ensures same_store { F.Port.store port.new ≡ F.Port.store port.old }
     ensures cause { IsSure (F.Port.store port.old) core.old → result ≡ ReplyOf.Plain AnswerOf.Device
         → Rose (F.Port.faults port.old) (F.Port.faults port.new) }
@@ -95,6 +101,8 @@ fn flushed<J: Journal, F: Files>(alloc: Global, core: &mut Core<J, F>, port: &mu
         → Answers core.old core.new CommandOf.Flush (ReplyOf.Plain result) }
     ensures ready { IsReady (F.Port.store port.old) core.new }
     ensures stays { StaysInPlace core.old core.new }
+    ensures draws { next_of core.new ≤ next_of core.old + 6 }
+    ensures full { HasFullCause core.new (ReplyOf.Plain result) }
     ensures same_store { F.Port.store port.new ≡ F.Port.store port.old }
     ensures cause { result ≡ AnswerOf.Device → Rose (faults_under core.old) (faults_under core.new)
         ⊎ Rose (F.Port.faults port.old) (F.Port.faults port.new) }
@@ -120,6 +128,8 @@ fn inner_compacted<J: Journal, F: Files>(
         → Answers core.old core.new (CommandOf.CompactInner space) (ReplyOf.Plain result) }
     ensures ready { IsReady (F.Port.store port.old) core.new }
     ensures stays { StaysInPlace core.old core.new }
+    ensures draws { next_of core.new ≤ next_of core.old + 1 }
+    ensures full { HasFullCause core.new (ReplyOf.Plain result) }
     ensures same_store { F.Port.store port.new ≡ F.Port.store port.old }
     ensures cause { IsSure (F.Port.store port.old) core.old → result ≡ AnswerOf.Device
         → Rose (faults_under core.old) (faults_under core.new)
@@ -145,6 +155,8 @@ fn cross_compacted<J: Journal, F: Files>(
         → Answers core.old core.new CommandOf.CompactCross (ReplyOf.Plain result) }
     ensures ready { IsReady (F.Port.store port.old) core.new }
     ensures stays { StaysInPlace core.old core.new }
+    ensures draws { next_of core.new ≤ next_of core.old + 1 }
+    ensures full { HasFullCause core.new (ReplyOf.Plain result) }
     ensures same_store { F.Port.store port.new ≡ F.Port.store port.old }
     ensures cause { IsSure (F.Port.store port.old) core.old → result ≡ AnswerOf.Device
         → Rose (faults_under core.old) (faults_under core.new)
@@ -164,6 +176,7 @@ fn shown<J: Journal, F: Files>(core: &Core<J, F>) -> Reply
     ensures answers { Answers core.now core.now CommandOf.ShowFiles result }
     ensures listed { (listing : Listing) → result ≡ ReplyOf.Files listing → TellsStore core.now listing }
     ensures no_fault { result ≢ ReplyOf.Plain AnswerOf.Device }
+    ensures no_full { (counter : ℕ) → result ≢ ReplyOf.Plain (AnswerOf.Full counter) }
 {
     match show(core) {
         Ok(listing) => Reply::Files(listing),

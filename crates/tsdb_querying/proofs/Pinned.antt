@@ -2,7 +2,7 @@
 use Rattle.std.proofs.Common.{◌≡◌, ℕ, List, [], Option, None, Some, arith, refl, sym, subst, ap, ◌∙◌}
 use Rattle.std.specs.Option.{option_map}
 use Rattle.std.specs.Prelude.{IfSome}
-use Rattle.tsdb_core.specs.Core.{files_of, logged_of}
+use Rattle.tsdb_core.specs.Core.{files_of, logged_of, next_of}
 use Rattle.tsdb_core.specs.Pins.{IsNotPinned, IsPinned, IsUnpinned}
 use Rattle.tsdb_core.specs.declared.engine.Core.{Core}
 use Rattle.tsdb_frames.specs.Frames.{slot_of}
@@ -67,6 +67,9 @@ module _ {J F S R P : Type 0} {means : disk.Ghosts J} {counts : counted.Ghosts J
     stays_still = let gave_next = gave.rest.next in
         let took_next = took.rest.next in
         record { slot = ap (λ log. slot_of log) same_log; next = omega (arith, gave_next, took_next) }
+
+    pub next_still : next_of new ≡ next_of old
+    next_still = gave.rest.next ∙ took.rest.next
 
     pub serves_still : (files : List StoredFile) (at : plain.State) (next : Option plain.State)
         → IsServing old files at next → IsServing new files at next

@@ -1,7 +1,8 @@
 //! The aggregates of a query. Depends on `query`, tsdb_core, tsdb_aggregate and tsdb_pins.
-ghost use Rattle.std.specs.Prelude.{◌≡◌, ◌≤◌, false, true, IfOk, List, Option};
+ghost use Rattle.std.specs.Prelude.{◌≡◌, ◌≢◌, ℕ, ◌≤◌, false, true, IfOk, List, Option};
 ghost use Rattle.tsdb_base.specs.declared.answers.Answer.{Answer as AnswerOf};
 ghost use Rattle.tsdb_columns.specs.Files.{HasReason};
+ghost use Rattle.tsdb_core.specs.Core.{next_of};
 ghost use Rattle.tsdb_map.specs.Apply.{ask_aggregates};
 ghost use Rattle.tsdb_map.specs.State as plain;
 ghost use Rattle.tsdb_map.specs.World.{World};
@@ -73,6 +74,8 @@ pub fn aggregates<J: Journal, F: Files>(
     ensures answers { AreAnswered core.old core.new (Command.Select device.now items.now range.now) result }
     ensures ready { IsReady (F.Port.store port.old) core.new }
     ensures stays { StaysInPlace core.old core.new }
+    ensures draws { next_of core.new ≡ next_of core.old }
+    ensures no_full { (counter : ℕ) → result ≢ ReplyOf.Plain (AnswerOf.Full counter) }
     ensures same_store { F.Port.store port.new ≡ F.Port.store port.old }
     ensures cause { (files : List StoredFile) (at : plain.State) (next : Option plain.State)
         → IsServing core.old files at next → result ≡ ReplyOf.Plain AnswerOf.Device

@@ -1,7 +1,8 @@
 -- What is known of the output of a job before it is listed, and why a job fails.
 use Rattle.std.proofs.Common.{◌≡◌, ◌≢◌, ◌⊎◌, ℕ, ◌+◌, ◌<◌, ◌≤◌, true, List, [], Option, None, Some, Result, Ok, Err, inl, inr, arith, zero, suc}
-use Rattle.std.proofs.Common.{ap, refl, sym, subst, ◌∙◌}
+use Rattle.std.proofs.Common.{ap, refl, sym, subst, ◌∙◌, Bool, false, nat_eq}
 use Rattle.std.proofs.lemmas.Bool.{false≢true}
+use Rattle.std.proofs.lemmas.Bool.Decides.{nat_tests}
 use Rattle.std.specs.Option.{option_map}
 use Rattle.std.specs.Prelude.{IfErr, IfSome, IsErrOf, IsSome, is_some}
 use Rattle.tsdb_committing.specs.Files.{new_file}
@@ -136,6 +137,45 @@ pub full_of_cross : {F S R P : Type 0} (IsPlan : InputRuns → Type 0) (next : �
 full_of_cross IsPlan next Order result core_fault.Memory is disorder answer counter same = absurd cc
 full_of_cross IsPlan next Order result (core_fault.Full number) is disorder answer counter same =
     full_counter IsPlan next Order result (core_fault.Full number) is
+    (λ not. full_is_no_memory result number is (disorder not)) answer counter same
+
+equal_or_not : (a b : ℕ) → (a ≡ b) ⊎ (a ≢ b)
+equal_or_not a b = by (nat_eq a b) refl
+  where
+    equal : nat_eq a b ≡ true → a ≡ b
+    equal e = grind (arith, nat_tests, e)
+
+    apart : nat_eq a b ≡ false → a ≢ b
+    apart e = grind (arith, nat_tests, e)
+
+    by : (c : Bool) → nat_eq a b ≡ c → (a ≡ b) ⊎ (a ≢ b)
+    by true is = inl (equal is)
+    by false is = inr (apart is)
+
+-- the counter is the next number
+pub counter_is : {F S R P : Type 0} (IsPlan : InputRuns → Type 0) (next : ℕ) (Order : Type 0)
+    (result : Result (Option (Job F S R P)) CoreFault) (why : CoreFault) → result ≡ Err why → ¬ (¬ Order)
+    → (Order → IsBeginAnswer IsPlan next result) → (counter : ℕ) → of_core_fault why ≡ fault.Full counter
+    → counter ≡ next
+counter_is IsPlan next Order result core_fault.Memory is sure answer counter same = absurd cc
+counter_is IsPlan next Order result (core_fault.Full number) is sure answer counter same = by (equal_or_not counter next)
+  where
+    equal : number ≡ counter
+    equal = cc
+
+    by : (counter ≡ next) ⊎ (counter ≢ next) → counter ≡ next
+    by (inl at) = at
+    by (inr other) = absurd (sure (λ order.
+        let answered = subst (IsBeginAnswer IsPlan next) is (answer order) in
+        other (sym equal ∙ answered.2)))
+
+pub counter_of_cross : {F S R P : Type 0} (IsPlan : InputRuns → Type 0) (next : ℕ) (Order : Type 0)
+    (result : Result (Option (Job F S R P)) CoreFault) (why : CoreFault) → result ≡ Err why
+    → (¬ Order → result ≡ Err core_fault.Memory) → (Order → IsBeginAnswer IsPlan next result) → (counter : ℕ)
+    → of_core_fault why ≡ fault.Full counter → counter ≡ next
+counter_of_cross IsPlan next Order result core_fault.Memory is disorder answer counter same = absurd cc
+counter_of_cross IsPlan next Order result (core_fault.Full number) is disorder answer counter same =
+    counter_is IsPlan next Order result (core_fault.Full number) is
     (λ not. full_is_no_memory result number is (disorder not)) answer counter same
 
 module _ {J F S R P : Type 0} {means : disk.Ghosts J} {counts : counted.Ghosts J} where

@@ -53,3 +53,10 @@ module _ {A : Type 0} (result : Result (Option A) CoreFault) (why : CoreFault) w
 
   pub no_plan : (Order Plan : Type 0) → result ≡ Ok None → (¬ Order → result ≡ Err why) → (Order → ¬ Plan) → ¬ Plan
   no_plan Order Plan none disorder never plan = differ (sym none ∙ disorder (λ order. never order plan))
+
+-- no counter is told where no numbers ended
+pub no_counter : (result : Result (Unit {0}) FlushFault) (next : ℕ)
+    → IfErr result (λ why. (counter : ℕ) → why ≢ fault.Full counter)
+    → IfErr result (λ why. (counter : ℕ) → why ≡ fault.Full counter → counter ≡ next)
+no_counter (Ok value) next not = tt
+no_counter (Err why) next not = λ counter is. absurd (not counter is)

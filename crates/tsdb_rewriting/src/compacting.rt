@@ -8,7 +8,7 @@ ghost use Rattle.tsdb_compactions.specs.Jobs.{IsFormed};
 ghost use Rattle.tsdb_compactions.specs.Outputs.{IsOutputOf, TellsTruth};
 ghost use Rattle.tsdb_core.specs.Beginnings.{IsCrossRuns, IsInnerRuns};
 ghost use Rattle.tsdb_core.specs.Compactions.{IsJobOut};
-ghost use Rattle.tsdb_core.specs.Core.{files_of};
+ghost use Rattle.tsdb_core.specs.Core.{files_of, next_of};
 ghost use Rattle.tsdb_core.specs.Replacements.{IsJobCommit};
 ghost use Rattle.tsdb_inner.specs.Inputs.{IsInputOf};
 ghost use Rattle.tsdb_kept.specs.Files.{AreKept};
@@ -47,6 +47,9 @@ pub fn compact_inner<J: Journal, F: Files>(
         ⊎ Rose (F.Port.faults port.old) (F.Port.faults port.new)) }
     ensures full { IfErr result (λ fault. (counter : ℕ) → fault ≡ FaultOf.Full counter
         → end_of_numbers < counter + 2) }
+    ensures draws { next_of core.new ≤ next_of core.old + 1 }
+    ensures counter { IfErr result (λ fault. (counter : ℕ) → fault ≡ FaultOf.Full counter
+        → counter ≡ next_of core.new) }
     ensures later { F.Port.faults port.old ≤ F.Port.faults port.new }
 {
     match core.begin_inner(space) {
@@ -74,6 +77,9 @@ pub fn compact_cross<J: Journal, F: Files>(
         ⊎ Rose (F.Port.faults port.old) (F.Port.faults port.new)) }
     ensures full { IfErr result (λ fault. (counter : ℕ) → fault ≡ FaultOf.Full counter
         → end_of_numbers < counter + 2) }
+    ensures draws { next_of core.new ≤ next_of core.old + 1 }
+    ensures counter { IfErr result (λ fault. (counter : ℕ) → fault ≡ FaultOf.Full counter
+        → counter ≡ next_of core.new) }
     ensures later { F.Port.faults port.old ≤ F.Port.faults port.new }
 {
     match core.begin_cross() {
@@ -97,6 +103,7 @@ enum Kind {
 fn sweep<J: Journal, F: Files>(core: &mut Core<J, F>, port: &mut F::Port)
     requires ready { IsReady (F.Port.store port.old) core.old }
     ensures goes_on { GoesOn (F.Port.store port.old) core.old core.new }
+    ensures draws { next_of core.new ≡ next_of core.old }
     ensures lists { KeepsBoth (files_of core.old) (files_of core.new) }
     ensures same_store { F.Port.store port.new ≡ F.Port.store port.old }
     ensures later { F.Port.faults port.old ≤ F.Port.faults port.new }

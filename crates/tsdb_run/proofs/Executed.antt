@@ -225,6 +225,14 @@ placed script history old journal last new stored at_rest rest now rose more one
           run_behind sound.files start run.entries old last new rest rose one three four now more puts told wider
           (run_before sound.files start run.entries old journal last rest rose one two three rose takes
           (λ image left. sound_left old stored start image sound left) (λ is. is) (run.served start inside));
+      within = λ start sound next is. run.within start (sound_after old journal stored at_rest start takes same sound) next
+          (record {
+            image = is.image;
+            slots = takes.seen ∙ is.slots;
+            recorded = is.recorded;
+            replayed = is.replayed;
+            above = is.above;
+          });
     }
 
 pub if_ok : {T E : Type 0} (P Q : T → Type 0) (result : Result T E) → ((x : T) → P x → Q x) → IfOk result P

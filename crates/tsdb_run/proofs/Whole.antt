@@ -1,5 +1,5 @@
 -- A sound store is not damaged, and whatever a stop leaves of it stands for its state.
-use Rattle.std.proofs.Common.{◌≡◌, ◌∙◌, ℕ, List, [], ◌++◌, Option, None, Some, refl, subst}
+use Rattle.std.proofs.Common.{◌≡◌, ◌∙◌, ℕ, List, [], ◌++◌, Option, None, Some, refl, subst, sym}
 use Rattle.std.specs.Prelude.{IfSome, IsSome}
 use Rattle.std.proofs.lemmas.Bool.{false≢true}
 use Rattle.tsdb_core.specs.Core.{next_of}
@@ -24,6 +24,7 @@ use Rattle.tsdb_replay.proofs.Stores.{sound_images, sound_kept}
 use Rattle.tsdb_recovery.specs.Stored.{AreStored}
 use Rattle.tsdb_replay.specs.Stores.{Files, IsWhole, Recorded, StandsFor, store_steps, store_steps_determinate}
 use Rattle.tsdb_run.specs.Store.{IsDamaged, IsSound, Tells, contents}
+use Rattle.tsdb_run.specs.Store.{IsNextNumber as IsNextNumberOf}
 use Rattle.tsdb_state.specs.State.{File, Told}
 
 seen_some : (seen : Option Image) → IsSome seen → (image : Image) × (seen ≡ Some image)
@@ -117,6 +118,18 @@ module _ {J F S R P : Type 0} {means : disk.Ghosts J} {counts : counted.Ghosts J
       if_some (λ l. AreStored l → IsNextNumber (next_of core) l recorded.named) now sound.files (same ∙ sound.told)
       (if_some (λ (i : Image). (recorded : Recorded) → IsReplayOf store_steps i.a recorded → IfSome now (λ l. AreStored l
       → IsNextNumber (next_of core) l recorded.named)) state.seen image slots next recorded replayed) sound.are_stored
+
+  some_is : (a b : Image) → Some a ≡ Some b → a ≡ b
+  some_is a b same = cc
+
+  -- the number that a core draws next is that of the store
+  pub next_same : (next : ℕ) → IsNextNumberOf (contents state stored) sound.files next
+      → IfSome state.seen (λ i. (recorded : Recorded) → IsReplayOf store_steps i.a recorded → IfSome now (λ l. AreStored l
+      → IsNextNumber (next_of core) l recorded.named)) → next_of core ≡ next
+  next_same next is number =
+      let here = some_is is.image image (sym is.slots ∙ slots) in
+      next_is is.recorded (subst (λ (i : Image). IsReplayOf store_steps i.a is.recorded) here is.replayed) number
+      ∙ sym is.above
 
   pub gone : (rest : Option (List StoredFile)) → IfSome now (λ l. AreStored l → rest ≡ Some []) → rest ≡ Some []
   gone rest strays = if_some (λ l. AreStored l → rest ≡ Some []) now sound.files (same ∙ sound.told) strays sound.are_stored

@@ -36,6 +36,7 @@ module _ (run : Run) (script : List Numbered) (asked : Asked) (words : AreWords 
     entries = done.entries;
     history_of = done.history_of;
     served = done.served;
+    within = done.within;
     printed = printed;
   }
 

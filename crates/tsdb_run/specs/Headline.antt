@@ -1,12 +1,13 @@
 -- The headline: every reply is the one that a last-write-wins map per series returns at that command's place in the
 -- printed order, which keeps each session's order, whatever is flushed in between; and whenever the machine stops,
 -- within any write too, the next run finds the map after a prefix of that order that has every acknowledged command.
-use Rattle.std.specs.Prelude.{◌≡◌, ◌⊎◌, ℕ, ◌<◌, List, [], ◌++◌, Option, Some, IfSome}
+use Rattle.std.specs.Prelude.{◌≡◌, ◌⊎◌, ℕ, ◌+◌, ◌*◌, ◌<◌, List, [], ◌++◌, length, Option, Some, IfSome}
 use Rattle.std.specs.Io.KnownBytes.{Appends, Keeps as KeepsBytes}
 use Rattle.std.specs.List.{AllByRecursion as Each}
 use Rattle.tsdb_history.specs.History.{IsHistory}
 use Rattle.tsdb_history.specs.Listings.{EndsListed, IsListingOf}
 use Rattle.tsdb_history.specs.Prefixes.{EndsDone, StandsAfter}
+use Rattle.tsdb_history.specs.Reach.{AreFullWithin, max_drawn}
 use Rattle.tsdb_history.specs.Serves.{LeavesPrefix}
 use Rattle.tsdb_history.specs.declared.told.Told.{Told}
 use Rattle.tsdb_images.specs.Stored.{kept_bytes}
@@ -19,7 +20,7 @@ use Rattle.tsdb_outside.specs.Moments.{LeavesOnly}
 use Rattle.tsdb_outside.specs.declared.disk.Slot.TheVariants.{A}
 use Rattle.tsdb_replay.specs.Stores.{Files, HoldsKept}
 use Rattle.tsdb_run.specs.Output.{AppendsPrefix, output_text}
-use Rattle.tsdb_run.specs.Store.{Contents, IsDamaged, IsSound, KeepsListed}
+use Rattle.tsdb_run.specs.Store.{Contents, IsDamaged, IsNextNumber, IsSound, KeepsListed}
 use Rattle.tsdb_run.specs.declared.status.Status.{Status}
 use Rattle.tsdb_run.specs.declared.status.Status.TheVariants.{Done, Memory, Words, Script, Source, Sink, Device}
 use Rattle.tsdb_run.specs.declared.status.Status.TheVariants.{Damaged}
@@ -95,6 +96,12 @@ pub record HasRun (files : List StoredFile) (start : plain.State) (entries : Lis
   pub listed : (¬ rose) ⊎ EndsDone entries → (listing : Listing) (image : Image) → EndsListed entries listing
       → new.disk.may_leave image → IsListingOf (kept_bytes stored) image.a listing
 
+-- A reply is `full` only where the stamp at its place can rise no further, or with a counter up to the number that the
+-- commands of the script can have drawn, from the next number of the store on.
+abbrev pub HaveReach : Contents → List Numbered → List Entry → Type 0
+HaveReach old script entries = (start : plain.State) (sound : IsSound old start) (next : ℕ)
+    → IsNextNumber old sound.files next → AreFullWithin (next + max_drawn * length script) start entries
+
 -- The script was executed on the store of the directory that the words name.
 pub record IsExecuted (run : Run) (puts : List ℕ → Type 0) : Type 0 where
   pub asked : Asked
@@ -107,6 +114,8 @@ pub record IsExecuted (run : Run) (puts : List ℕ → Type 0) : Type 0 where
   pub history_of : IsHistory script run.history entries
   pub served : (start : plain.State) (sound : IsSound run.old start)
       → HasRun sound.files start entries run.old.disk run.new run.rose
+  -- and none is `full` before a counter is at its end, or the numbers of files can have come so far in this run
+  pub within : HaveReach run.old script entries
   pub printed : puts (output_text script run.history)
 
 -- No command was executed, nothing was written, and the log is as it was.

@@ -1,11 +1,12 @@
 -- What the steps of a run ensure. No public clause cites them.
-use Rattle.std.specs.Prelude.{◌≡◌, ◌==◌, ℕ, ◌<◌, List, [], ◌∷◌, ◌++◌, Option, Result, OnOk, if◌then◌else◌, Some, None}
+use Rattle.std.specs.Prelude.{◌≡◌, ◌==◌, ℕ, ◌+◌, ◌*◌, ◌<◌, length, List, [], ◌∷◌, ◌++◌, Option, Result, OnOk, if◌then◌else◌, Some, None}
 use Rattle.std.specs.Prelude.{IfSome}
 use Rattle.std.specs.List.{AllByRecursion as Each, list_any}
 use Rattle.std.specs.Io.KnownBytes.{Appends}
 use Rattle.tsdb_core.specs.Core.{next_of}
 use Rattle.tsdb_core.specs.declared.engine.Core.{Core}
 use Rattle.tsdb_history.specs.History.{IsHistory}
+use Rattle.tsdb_history.specs.Reach.{AreFullWithin, max_drawn}
 use Rattle.tsdb_history.specs.declared.told.Told.{Told}
 use Rattle.tsdb_map.specs.History.{Entry}
 use Rattle.tsdb_map.specs.State as plain
@@ -18,7 +19,7 @@ use Rattle.tsdb_print.specs.Text.{reply_text}
 use Rattle.tsdb_recover.specs.declared.fault.OpenFault.{OpenFault}
 use Rattle.tsdb_recover.specs.declared.fault.OpenFault.TheVariants as fault
 use Rattle.tsdb_run.specs.Causes.{AreGoodWords}
-use Rattle.tsdb_run.specs.Headline.{HasRun}
+use Rattle.tsdb_run.specs.Headline.{HasRun, HaveReach}
 use Rattle.tsdb_run.specs.Input.{TakesScript}
 use Rattle.tsdb_run.specs.Output.{AppendsPrefix}
 use Rattle.tsdb_run.specs.Store.{Contents, IsDamaged, IsSound}
@@ -41,6 +42,7 @@ pub record IsRunOn (script : List Numbered) (history : List Told) (old new : Con
   pub history_of : IsHistory script history entries
   pub served : (start : plain.State) (sound : IsSound old start)
       → HasRun sound.files start entries old.disk new rose
+  pub within : HaveReach old script entries
 
 module _ {J F S R P : Type 0} {means : disk.Ghosts J} {counts : counted.Ghosts J} where
   -- the next number is above those of these files
@@ -56,6 +58,8 @@ module _ {J F S R P : Type 0} {means : disk.Ghosts J} {counts : counted.Ghosts J
     pub served : at_rest ≡ Some [] → (files : List StoredFile) (start : plain.State)
         → IsServing core files start None → IsNewerThan files core
         → HasRun files start entries (disk_under core) new rose
+    pub within : at_rest ≡ Some [] → (files : List StoredFile) (start : plain.State)
+        → IsServing core files start None → AreFullWithin (next_of core + max_drawn * length script) start entries
 
 -- sessions with one more, if it is not there
 abbrev pub with_session : List ℕ → ℕ → List ℕ

@@ -9,6 +9,8 @@ use Rattle.tsdb_outside.specs.declared.disk.Slot.TheVariants.{A}
 use Rattle.tsdb_recover.specs.declared.fault.Part.{Part}
 use Rattle.tsdb_recovery.specs.Damage.{IsDamagedIn}
 use Rattle.tsdb_recovery.specs.Left.{AreLeft, IsStray}
+use Rattle.tsdb_recovery.specs.Opened as recovery
+use Rattle.tsdb_replay.specs.Replays.{IsReplayOf}
 use Rattle.tsdb_replay.specs.Stores as store
 use Rattle.tsdb_recovery.specs.Stored.{AreStored}
 
@@ -50,3 +52,12 @@ IsSoundOrSilent place = (place.stored ≡ None) ⊎ ((at : plain.State) × IsSou
 abbrev pub KeepsListed : Contents → Contents → Type 0
 KeepsListed old new = (image : Image) (files : List StoredFile) → Tells old image files
     → IsSomeAnd new.stored (AreLeft (IsStray image.a) files)
+
+-- The number of the next file of a place with these files: one more than the greatest that a record of its log has named
+-- or that a file has.
+pub record IsNextNumber (place : Contents) (files : List StoredFile) (next : ℕ) : Type 0 where
+  pub image : Image
+  pub slots : place.disk.seen ≡ Some image
+  pub recorded : store.Recorded
+  pub replayed : IsReplayOf store.store_steps image.a recorded
+  pub above : recovery.IsNextNumber next files recorded.named

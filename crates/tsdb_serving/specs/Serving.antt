@@ -6,8 +6,8 @@ use Rattle.tsdb_core.specs.Core.{IsSeen, logged_of, next_of}
 use Rattle.tsdb_core.specs.declared.engine.Core.{Core}
 use Rattle.tsdb_frames.specs.Frames.{disk_of, slot_of}
 use Rattle.tsdb_images.specs.Stored.{LeadsTo, LeavesOneOf}
-use Rattle.tsdb_logged.specs.Logged.{Outside, log_of}
-use Rattle.tsdb_base.specs.declared.answers.Answer.TheVariants.{Done, Device}
+use Rattle.tsdb_logged.specs.Logged.{Outside, log_of, memory_of}
+use Rattle.tsdb_base.specs.declared.answers.Answer.TheVariants.{Done, Device, Full}
 use Rattle.tsdb_map.specs.Apply.{reply_of}
 use Rattle.tsdb_map.specs.History.{DrawsNumbers, IsAllowed, IsChange, state_after}
 use Rattle.tsdb_map.specs.State as plain
@@ -21,6 +21,7 @@ use Rattle.tsdb_outside.specs.declared.disk.Disk as disk
 use Rattle.tsdb_outside.specs.declared.disk.Slot.{Slot}
 use Rattle.tsdb_outside.specs.declared.faults.Counted as counted
 use Rattle.tsdb_replay.specs.Stores.{Files, HoldsKept, IsStateOf}
+use Rattle.tsdb_state.specs.Limits.{end_of_numbers}
 use Rattle.tsdb_state.specs.State.{EngineState}
 
 -- whoever holds the second files holds the first
@@ -70,6 +71,11 @@ module _ {J F S R P : Type 0} {means : disk.Ghosts J} {counts : counted.Ghosts J
   pub record StaysInPlace (old new : Core J F S R P means counts) : Type 0 where
     pub slot : slot_under new ≡ slot_under old
     pub next : next_of old ≤ next_of new
+
+  -- `full` is answered only where the stamp can rise no further, or with a number that was reached by those of files.
+  abbrev pub HasFullCause : Core J F S R P means counts → Reply → Type 0
+  HasFullCause core reply = (counter : ℕ) → reply ≡ Plain (Full counter)
+      → ((memory_of (logged_of core)).stamp ≡ end_of_numbers) ⊎ (counter ≤ next_of core)
 
   -- The core is in the state, and the record in doubt, if there is one, leads to the next one. The files that it keeps
   -- are held wherever these are.

@@ -1,5 +1,5 @@
 //! Changes of a user: a series is created, a row written, points deleted. Depends on `flushing` and tsdb_core.
-ghost use Rattle.std.specs.Prelude.{◌≡◌, ◌⊎◌, ◌≤◌, IfErr, OnOk, true};
+ghost use Rattle.std.specs.Prelude.{◌≡◌, ◌⊎◌, ◌+◌, ◌≤◌, IfErr, OnOk, true};
 ghost use Rattle.tsdb_core.specs.Core.{next_of};
 ghost use Rattle.tsdb_core.specs.Rows.{NeedsFlush};
 ghost use Rattle.tsdb_base.specs.declared.answers.Answer.{Answer as AnswerOf};
@@ -10,7 +10,7 @@ ghost use Rattle.tsdb_outside.specs.Causes.{Rose};
 ghost use Rattle.tsdb_outside.specs.Files.{Store};
 ghost use Rattle.tsdb_serving.specs.Faults.{HasFlushCause};
 ghost use Rattle.tsdb_serving.specs.Flushing.{GoesOn, IsReady, faults_under};
-ghost use Rattle.tsdb_serving.specs.Serving.{Answers, StaysInPlace};
+ghost use Rattle.tsdb_serving.specs.Serving.{Answers, HasFullCause, StaysInPlace};
 
 use crate::fault::FlushFault;
 use crate::flushing::flush_oldest;
@@ -27,6 +27,8 @@ pub fn create<J: Journal, F: Files>(core: &mut Core<J, F>, schema: &Schema) -> A
     ensures answers { Answers core.old core.new (Command.Create schema.now) (Reply.Plain result) }
     ensures ready { (store : Store) → IsReady store core.old → IsReady store core.new }
     ensures stays { StaysInPlace core.old core.new }
+    ensures draws { next_of core.new ≡ next_of core.old }
+    ensures full { HasFullCause core.new (Reply.Plain result) }
     ensures cause { result ≡ AnswerOf.Device → Rose (faults_under core.old) (faults_under core.new) }
     ensures later { faults_under core.old ≤ faults_under core.new }
 {
@@ -38,6 +40,8 @@ pub fn delete<J: Journal, F: Files>(core: &mut Core<J, F>, series: &Path, range:
     ensures answers { Answers core.old core.new (Command.Delete series.now range.now) (Reply.Plain result) }
     ensures ready { (store : Store) → IsReady store core.old → IsReady store core.new }
     ensures stays { StaysInPlace core.old core.new }
+    ensures draws { next_of core.new ≡ next_of core.old }
+    ensures full { HasFullCause core.new (Reply.Plain result) }
     ensures cause { result ≡ AnswerOf.Device → Rose (faults_under core.old) (faults_under core.new) }
     ensures later { faults_under core.old ≤ faults_under core.new }
 {
@@ -59,6 +63,8 @@ pub fn insert<J: Journal, F: Files>(
         → Answers core.old core.new (Command.Insert device.now row.now) (Reply.Plain result) }
     ensures ready { IsReady (F.Port.store port.old) core.new }
     ensures stays { StaysInPlace core.old core.new }
+    ensures draws { next_of core.new ≤ next_of core.old + 2 }
+    ensures full { HasFullCause core.new (Reply.Plain result) }
     ensures same_store { F.Port.store port.new ≡ F.Port.store port.old }
     ensures cause { result ≡ AnswerOf.Device → Rose (faults_under core.old) (faults_under core.new)
         ⊎ Rose (F.Port.faults port.old) (F.Port.faults port.new) }
@@ -82,6 +88,7 @@ fn make_room<J: Journal, F: Files>(
     requires ready { IsReady (F.Port.store port.old) core.old }
     ensures place { OnOk result (¬ NeedsFlush row.now core.new) }
     ensures goes_on { GoesOn (F.Port.store port.old) core.old core.new }
+    ensures draws { next_of core.new ≤ next_of core.old + 2 }
     ensures same_store { F.Port.store port.new ≡ F.Port.store port.old }
     ensures cause { IfErr result (HasFlushCause (faults_under core.old) (faults_under core.new)
         (F.Port.faults port.old) (F.Port.faults port.new) (next_of core.new)) }

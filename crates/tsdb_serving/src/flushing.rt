@@ -1,6 +1,6 @@
 //! A flush: the working pair and all frozen pairs become files. Depends on `fault`, tsdb_core and tsdb_engine.
-ghost use Rattle.std.specs.Prelude.{◌≡◌, ◌≢◌, ◌⊎◌, ◌<◌, ◌≤◌, ◌↔◌, ℕ, [], None, IfErr, IfOk, IsTrue, OnErr, OnOk, drop, length};
-ghost use Rattle.std.specs.Prelude.{slice_get};
+ghost use Rattle.std.specs.Prelude.{◌≡◌, ◌≢◌, ◌⊎◌, ◌+◌, ◌<◌, ◌≤◌, ◌↔◌, ℕ, [], None, IfErr, IfOk, IsTrue, OnErr, OnOk, drop};
+ghost use Rattle.std.specs.Prelude.{length, slice_get};
 ghost use Rattle.std.specs.Option.{option_map};
 ghost use Rattle.tsdb_core.specs.Core.{logged_of, next_of, working_of};
 ghost use Rattle.tsdb_core.specs.Flushes.{IsDue, IsOldest};
@@ -39,6 +39,7 @@ pub fn flush<J: Journal, F: Files>(
     requires ready { IsReady (F.Port.store port.old) core.old }
     ensures flushed { OnOk result ((frozen_in core.new ≡ []) × HasNoPoint (working_of core.new)) }
     ensures goes_on { GoesOn (F.Port.store port.old) core.old core.new }
+    ensures draws { next_of core.new ≤ next_of core.old + 6 }
     ensures same_store { F.Port.store port.new ≡ F.Port.store port.old }
     ensures cause { IfErr result (HasFlushCause (faults_under core.old) (faults_under core.new)
         (F.Port.faults port.old) (F.Port.faults port.new) (next_of core.new)) }
@@ -60,6 +61,7 @@ fn freeze_and_flush<J: Journal, F: Files>(
     requires ready { IsReady (F.Port.store port.old) core.old }
     ensures flushed { OnOk result ((frozen_in core.new ≡ []) × HasNoPoint (working_of core.new)) }
     ensures goes_on { GoesOn (F.Port.store port.old) core.old core.new }
+    ensures draws { next_of core.new ≤ next_of core.old + 4 }
     ensures same_store { F.Port.store port.new ≡ F.Port.store port.old }
     ensures cause { IfErr result (HasFlushCause (faults_under core.old) (faults_under core.new)
         (F.Port.faults port.old) (F.Port.faults port.new) (next_of core.new)) }
@@ -81,6 +83,7 @@ fn flush_both<J: Journal, F: Files>(
     ensures flushed { OnOk result (frozen_in core.new ≡ []) }
     ensures working { working_of core.new ≡ working_of core.old }
     ensures goes_on { GoesOn (F.Port.store port.old) core.old core.new }
+    ensures draws { next_of core.new ≤ next_of core.old + 4 }
     ensures same_store { F.Port.store port.new ≡ F.Port.store port.old }
     ensures cause { IfErr result (HasFlushCause (faults_under core.old) (faults_under core.new)
         (F.Port.faults port.old) (F.Port.faults port.new) (next_of core.new)) }
@@ -101,6 +104,7 @@ fn make_place<J: Journal, F: Files>(
     requires ready { IsReady (F.Port.store port.old) core.old }
     ensures place { OnOk result (HasNoPoint (working_of core.new) ⊎ (length (frozen_in core.new) < max_frozen)) }
     ensures goes_on { GoesOn (F.Port.store port.old) core.old core.new }
+    ensures draws { next_of core.new ≤ next_of core.old + 2 }
     ensures same_store { F.Port.store port.new ≡ F.Port.store port.old }
     ensures cause { IfErr result (HasFlushCause (faults_under core.old) (faults_under core.new)
         (F.Port.faults port.old) (F.Port.faults port.new) (next_of core.new)) }
@@ -127,6 +131,7 @@ fn freeze<J: Journal, F: Files>(core: &mut Core<J, F>) -> Result<(), FlushFault>
     requires place { HasNoPoint (working_of core.old) ⊎ (length (frozen_in core.old) < max_frozen) }
     ensures emptied { OnOk result (HasNoPoint (working_of core.new)) }
     ensures goes_on { (store : Store) → IsReady store core.old → GoesOn store core.old core.new }
+    ensures draws { next_of core.new ≡ next_of core.old }
     ensures cause { IfErr result (λ fault. fault ≡ FaultOf.Device
         → Rose (faults_under core.old) (faults_under core.new)) }
     ensures full { IfErr result (λ fault. (counter : ℕ) → fault ≢ FaultOf.Full counter) }
@@ -163,6 +168,7 @@ pub(crate) fn flush_oldest<J: Journal, F: Files>(
     ensures few { length (frozen_in core.old) ≤ max_frozen }
     ensures working { working_of core.new ≡ working_of core.old }
     ensures goes_on { GoesOn (F.Port.store port.old) core.old core.new }
+    ensures draws { next_of core.new ≤ next_of core.old + 2 }
     ensures same_store { F.Port.store port.new ≡ F.Port.store port.old }
     ensures cause { IfErr result (HasFlushCause (faults_under core.old) (faults_under core.new)
         (F.Port.faults port.old) (F.Port.faults port.new) (next_of core.new)) }
@@ -186,6 +192,7 @@ fn flush_due<J: Journal, F: Files>(
     ensures flushed { OnOk result (frozen_in core.new ≡ drop 1 (frozen_in core.old)) }
     ensures working { working_of core.new ≡ working_of core.old }
     ensures goes_on { GoesOn (F.Port.store port.old) core.old core.new }
+    ensures draws { next_of core.new ≤ next_of core.old + 2 }
     ensures same_store { F.Port.store port.new ≡ F.Port.store port.old }
     ensures cause { IfErr result (HasFlushCause (faults_under core.old) (faults_under core.new)
         (F.Port.faults port.old) (F.Port.faults port.new) (next_of core.new)) }

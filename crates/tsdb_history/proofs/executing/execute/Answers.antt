@@ -39,6 +39,7 @@ loop-numbered-init g c = record {
   same_store = refl;
   ready = c.requires.ready;
   stays = record { slot = refl; next = omega arith };
+  drawn = omega arith;
   served = λ tells files start serving. none_served g.J.Disk.lawful c.args.core.now files start serving;
   sure = λ sure. sure;
   devices = λ sure. rw c.requires.none.0 (omega arith);
@@ -95,9 +96,11 @@ loop-numbered-preserved g c =
       same_store = c.serve-reply.ensures.same_store ∙ same_store;
       ready = subst (λ s. IsReady s core) same_store c.serve-reply.ensures.ready;
       stays = stays_on first mid core c.loop-numbered.invariant.stays c.serve-reply.ensures.stays;
+      drawn = (let drawn = c.loop-numbered.invariant.drawn in let one = c.serve-reply.ensures.draws in
+          omega (arith, drawn, one));
       served = λ tells files start serving. one_more_served g.J.Disk.lawful first mid core files start entries
           numbered.command told.reply (c.loop-numbered.invariant.served tells files start serving)
-          c.loop-numbered.invariant.stays c.serve-reply.ensures.stays
+          c.loop-numbered.invariant.stays c.serve-reply.ensures.stays c.serve-reply.ensures.full
           (c.serve-reply.ensures.answers (ap (λ s. s.tells) same_store ∙ tells)) c.serve-reply.ensures.listed;
       sure = λ sure. sure_still store mid core numbered.command told.reply
           (λ tells. c.serve-reply.ensures.answers (ap (λ s. s.tells) same_store ∙ tells))
@@ -124,3 +127,6 @@ returns-clause-executed g c =
           c.loop-numbered.invariant.so_far.history_of);
       served = c.loop-numbered.invariant.served;
     }
+
+pub returns-clause-draws : goal.returns-clause-draws
+returns-clause-draws g c = let drawn = c.loop-numbered.invariant.drawn in omega (arith, drawn)

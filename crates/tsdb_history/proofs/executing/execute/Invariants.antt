@@ -1,8 +1,10 @@
 -- The commands up to here are served, each from what those before it left.
 use Rattle.std.proofs.Common.{◌≡◌, ◌+◌, ◌≤◌, length, take, true, List, None}
-use Rattle.std.specs.Prelude.{◌-◌, ◌^◌, count_by, min, vec_len, vec_capacity}
+use Rattle.std.specs.Prelude.{◌-◌, ◌*◌, ◌^◌, count_by, min, vec_len, vec_capacity}
 use Rattle.tsdb_history.proofs.SoFar.{SoFar}
 use Rattle.tsdb_history.specs.History.{is_device, session_numbers}
+use Rattle.tsdb_core.specs.Core.{next_of}
+use Rattle.tsdb_history.specs.Reach.{max_drawn}
 use Rattle.tsdb_history.specs.Serves.{HasServed}
 use Rattle.tsdb_map.specs.History.{Entry}
 use Rattle.tsdb_map.specs.State as plain
@@ -21,6 +23,7 @@ invariant-loop-numbered g l = record {
   same_store : g.F.Port.Port.store l.port ≡ g.F.Port.Port.store l.fn.port;
   ready : IsReady (g.F.Port.Port.store l.fn.port) l.core;
   stays : StaysInPlace l.fn.core l.core;
+  drawn : next_of l.core ≤ next_of l.fn.core + max_drawn * l.numbered-index;
   served : (g.F.Port.Port.store l.fn.port).tells ≡ true → (files : List StoredFile) (start : plain.State)
       → IsServing l.fn.core files start None → HasServed l.fn.core l.core files start entries;
   sure : IsSure (g.F.Port.Port.store l.fn.port) l.fn.core → IsSure (g.F.Port.Port.store l.fn.port) l.core;

@@ -1,6 +1,9 @@
 use Rattle.std.proofs.Common.{◌∙◌, sym}
 use Rattle.tsdb_history.proofs.Replies.{fault_is_not_done, writes_flush, writing_done, writing_failed}
 use Rattle.tsdb_serving.proofs.Causes.{full_cause}
+use Rattle.tsdb_map.specs.declared.reply.Reply.TheVariants.{Plain}
+use Rattle.tsdb_base.specs.declared.answers.Answer.TheVariants.{Done}
+use Rattle.tsdb_serving.proofs.Full.{by_number, next_counter, no_full}
 use Rattle.tsdb_history.proofs.serving.flushed.Goals as goal
 
 pub returns-in-Ok-clause-answers : goal.returns-in-Ok-clause-answers
@@ -13,3 +16,10 @@ returns-in-Err-clause-answers g c = λ tells. writing_failed _ writes_flush c.ar
 
 pub returns-in-Err-clause-flushed : goal.returns-in-Err-clause-flushed
 returns-in-Err-clause-flushed g c = λ done. absurd (fault_is_not_done c.in-Err.fault (sym c.answer.ensures ∙ done))
+
+pub returns-in-Ok-clause-full : goal.returns-in-Ok-clause-full
+returns-in-Ok-clause-full g c = no_full c.flush.new.core (Plain Done) (λ counter is. absurd cc)
+
+pub returns-in-Err-clause-full : goal.returns-in-Err-clause-full
+returns-in-Err-clause-full g c = by_number c.args.core.now c.flush.new.core c.answer.result
+    (next_counter _ _ _ _ _ c.in-Err.fault c.in-Err.ensures.cause c.answer.result c.answer.ensures)

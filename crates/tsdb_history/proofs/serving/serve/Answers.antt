@@ -2,6 +2,7 @@ use Rattle.std.proofs.Common.{◌∙◌, subst, sym}
 use Rattle.tsdb_map.specs.declared.command.Command.TheVariants.{Select}
 use Rattle.tsdb_map.specs.declared.reply.Reply.TheVariants.{Plain}
 use Rattle.tsdb_serving.specs.Serving.{Answers}
+use Rattle.tsdb_serving.proofs.Full.{no_full}
 use Rattle.tsdb_history.proofs.serving.serve.Goals as goal
 
 pub returns-in-Create-clause-answers : goal.returns-in-Create-clause-answers
@@ -50,6 +51,12 @@ pub returns-in-CompactCross-clause-answers : goal.returns-in-CompactCross-clause
 returns-in-CompactCross-clause-answers g c = λ tells.
     subst (λ command. Answers c.args.core.now c.cross_compacted.new.core command (Plain c.cross_compacted.result))
     (sym c.in-CompactCross.is) (c.cross_compacted.ensures.answers tells)
+
+pub returns-in-Select-clause-full : goal.returns-in-Select-clause-full
+returns-in-Select-clause-full g c = no_full c.query.new.core c.query.result c.query.ensures.no_full
+
+pub returns-in-ShowFiles-clause-full : goal.returns-in-ShowFiles-clause-full
+returns-in-ShowFiles-clause-full g c = no_full c.args.core.now c.shown.result c.shown.ensures.no_full
 
 pub returns-in-Create-clause-listed : goal.returns-in-Create-clause-listed
 returns-in-Create-clause-listed g c = λ listing asked is. absurd (let same = sym asked ∙ c.in-Create.is in cc)

@@ -10,7 +10,8 @@ use Rattle.tsdb_pinning.specs.declared.pin.PinFault.TheVariants as fault
 use Rattle.tsdb_pins.proofs.Held.{columns_of}
 use Rattle.tsdb_pins.proofs.Named.{have_nodes}
 use Rattle.tsdb_querying.proofs.Answered.{allowed_reply, fault_allowed, fault_stays, has_risen, is_failed, not_taken, refused, rows_allowed, taken}
-use Rattle.tsdb_querying.proofs.Pinned.{same_log, stays_still, stays_unpinned}
+use Rattle.tsdb_querying.proofs.Full.{never_full}
+use Rattle.tsdb_querying.proofs.Pinned.{next_still, same_log, stays_still, stays_unpinned}
 use Rattle.tsdb_querying.proofs.Untold.{rose_untold}
 use Rattle.tsdb_querying.specs.Answers.{answer_to}
 use Rattle.tsdb_serving.specs.Serving.{IsAnsweredBy, IsDrawn}
@@ -122,3 +123,35 @@ returns-in-Ok-lines-clause-faults g c = ap (λ log. faults_of log) (same_log g.F
 pub returns-in-Err-clause-faults : goal.returns-in-Err-clause-faults
 returns-in-Err-clause-faults g c = ap (λ log. faults_of log) (same_log g.F.Right.ReadRight.file c.args.core.now c.pin.new.self
     c.unpin.new.self c.in-Ok.pin c.in-Ok.ensures.taken c.unpin.ensures)
+
+pub returns-in-Err-NoPath-clause-draws : goal.returns-in-Err-NoPath-clause-draws
+returns-in-Err-NoPath-clause-draws g c = c.in-Err-NoPath.ensures.not.rest.next
+
+pub returns-in-Err-NoPath-clause-no_full : goal.returns-in-Err-NoPath-clause-no_full
+returns-in-Err-NoPath-clause-no_full g c = λ counter is. absurd cc
+
+pub returns-in-Err-WrongType-clause-draws : goal.returns-in-Err-WrongType-clause-draws
+returns-in-Err-WrongType-clause-draws g c = c.in-Err-WrongType.ensures.not.rest.next
+
+pub returns-in-Err-WrongType-clause-no_full : goal.returns-in-Err-WrongType-clause-no_full
+returns-in-Err-WrongType-clause-no_full g c = λ counter is. absurd cc
+
+pub returns-in-Err-Memory-clause-draws : goal.returns-in-Err-Memory-clause-draws
+returns-in-Err-Memory-clause-draws g c = c.in-Err-Memory.ensures.not.rest.next
+
+pub returns-in-Err-Memory-clause-no_full : goal.returns-in-Err-Memory-clause-no_full
+returns-in-Err-Memory-clause-no_full g c = λ counter is. absurd cc
+
+pub returns-in-Ok-lines-clause-draws : goal.returns-in-Ok-lines-clause-draws
+returns-in-Ok-lines-clause-draws g c = next_still g.F.Right.ReadRight.file c.args.core.now c.pin.new.self c.unpin.new.self
+    c.in-Ok.pin c.in-Ok.ensures.taken c.unpin.ensures
+
+pub returns-in-Err-clause-draws : goal.returns-in-Err-clause-draws
+returns-in-Err-clause-draws g c = next_still g.F.Right.ReadRight.file c.args.core.now c.pin.new.self c.unpin.new.self
+    c.in-Ok.pin c.in-Ok.ensures.taken c.unpin.ensures
+
+pub returns-in-Ok-lines-clause-no_full : goal.returns-in-Ok-lines-clause-no_full
+returns-in-Ok-lines-clause-no_full g c = λ counter is. absurd cc
+
+pub returns-in-Err-clause-no_full : goal.returns-in-Err-clause-no_full
+returns-in-Err-clause-no_full g c = never_full c.in-Err.fault c.answer_to.result c.answer_to.ensures

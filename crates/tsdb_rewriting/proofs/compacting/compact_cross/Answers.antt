@@ -1,13 +1,13 @@
-use Rattle.std.proofs.Common.{◌≡◌, Ok, ap, inl, inr, refl, subst, sym, ◌∙◌}
+use Rattle.std.proofs.Common.{◌≡◌, Ok, ap, arith, inl, inr, refl, subst, sym, ◌∙◌}
 use Rattle.tsdb_base.specs.declared.ids.Space.TheVariants.{Sequence}
 use Rattle.tsdb_core.proofs.Beginnings.{plan_fits}
 use Rattle.tsdb_core.specs.Beginnings.{HaveHulls, IsBeginAnswer, IsBegunOrNot, IsCrossRuns, IsInnerRuns}
 use Rattle.tsdb_core.specs.Core.{next_of}
 use Rattle.tsdb_core.specs.declared.commit.CoreFault.TheVariants.{Memory as NoMemory}
 use Rattle.tsdb_rewriting.proofs.Begun.{cause_of, not_begun, rewritten, sure_truth}
-use Rattle.tsdb_rewriting.proofs.Outputs.{full_of_cross, not_device}
+use Rattle.tsdb_rewriting.proofs.Outputs.{counter_of_cross, full_of_cross, not_device}
 use Rattle.tsdb_rewriting.proofs.Ready.{is_rewriting}
-use Rattle.tsdb_rewriting.proofs.Whole.{compacted, keeps_on, no_full, no_plan}
+use Rattle.tsdb_rewriting.proofs.Whole.{compacted, keeps_on, no_counter, no_full, no_plan}
 use Rattle.tsdb_serving.proofs.Flushes.{and_then}
 use Rattle.tsdb_serving.specs.declared.fault.FlushFault.TheVariants as fault
 use Rattle.tsdb_rewriting.proofs.compacting.compact_cross.Goals as goal
@@ -84,3 +84,35 @@ returns-in-Err-clause-cause g c = λ sure is. absurd (not_device c.in-Err.fault 
 pub returns-in-Err-clause-full : goal.returns-in-Err-clause-full
 returns-in-Err-clause-full g c = λ counter is. full_of_cross (IsCrossRuns c.args.core.now) (next_of c.args.core.now) (HaveHulls c.args.core.now) c.begin_cross.result c.in-Err.fault c.in-Err.is
     c.begin_cross.ensures.disorder c.begin_cross.ensures.answer counter (sym c.of_core.ensures ∙ is)
+
+pub returns-in-Ok-Some-clause-draws : goal.returns-in-Ok-Some-clause-draws
+returns-in-Ok-Some-clause-draws g c =
+    let begun = subst (IsBegunOrNot g.F.Right.ReadRight.file Sequence (IsCrossRuns c.args.core.now) c.args.core.now c.begin_cross.new.self)
+    (c.in-Ok-Some.is ∙ ap Ok c.in-Ok-Some.field-0-is) c.begin_cross.ensures.begun in
+    let drawn = begun.2.next in
+    let ends = c.rewrite.ensures.ends.next in
+    omega (arith, drawn, ends)
+
+pub returns-in-Ok-Some-clause-counter : goal.returns-in-Ok-Some-clause-counter
+returns-in-Ok-Some-clause-counter g c = no_counter c.rewrite.result (next_of c.rewrite.new.core) c.rewrite.ensures.full
+
+pub returns-in-Ok-None-clause-draws : goal.returns-in-Ok-None-clause-draws
+returns-in-Ok-None-clause-draws g c =
+    let not = subst (IsBegunOrNot g.F.Right.ReadRight.file Sequence (IsCrossRuns c.args.core.now) c.args.core.now c.begin_cross.new.self)
+    (c.in-Ok-None.is ∙ ap Ok c.in-Ok-None.field-0-is) c.begin_cross.ensures.begun in
+    let same = not.same.next in
+    let swept = c.sweep.ensures.draws in
+    omega (arith, same, swept)
+
+pub returns-in-Err-clause-draws : goal.returns-in-Err-clause-draws
+returns-in-Err-clause-draws g c =
+    let not = subst (IsBegunOrNot g.F.Right.ReadRight.file Sequence (IsCrossRuns c.args.core.now) c.args.core.now c.begin_cross.new.self) c.in-Err.is c.begin_cross.ensures.begun in
+    let same = not.same.next in
+    omega (arith, same)
+
+pub returns-in-Err-clause-counter : goal.returns-in-Err-clause-counter
+returns-in-Err-clause-counter g c = λ counter is.
+    let not = subst (IsBegunOrNot g.F.Right.ReadRight.file Sequence (IsCrossRuns c.args.core.now) c.args.core.now c.begin_cross.new.self) c.in-Err.is c.begin_cross.ensures.begun in
+    counter_of_cross (IsCrossRuns c.args.core.now) (next_of c.args.core.now) (HaveHulls c.args.core.now) c.begin_cross.result c.in-Err.fault
+    c.in-Err.is c.begin_cross.ensures.disorder c.begin_cross.ensures.answer counter (sym c.of_core.ensures ∙ is)
+    ∙ sym not.same.next

@@ -1,13 +1,13 @@
-use Rattle.std.proofs.Common.{◌≡◌, Ok, ap, inl, inr, refl, subst, sym, ◌∙◌}
+use Rattle.std.proofs.Common.{◌≡◌, Ok, ap, arith, inl, inr, refl, subst, sym, ◌∙◌}
 use Rattle.tsdb_base.specs.declared.ids.Space.TheVariants.{Sequence}
 use Rattle.tsdb_core.proofs.Beginnings.{plan_fits}
 use Rattle.tsdb_core.specs.Beginnings.{HaveHulls, IsBeginAnswer, IsBegunOrNot, IsCrossRuns, IsInnerRuns}
 use Rattle.tsdb_core.specs.Core.{next_of}
 use Rattle.tsdb_core.specs.declared.commit.CoreFault.TheVariants.{Memory as NoMemory}
 use Rattle.tsdb_rewriting.proofs.Begun.{cause_of, not_begun, rewritten, sure_truth}
-use Rattle.tsdb_rewriting.proofs.Outputs.{full_counter, not_device}
+use Rattle.tsdb_rewriting.proofs.Outputs.{counter_is, full_counter, not_device}
 use Rattle.tsdb_rewriting.proofs.Ready.{is_rewriting}
-use Rattle.tsdb_rewriting.proofs.Whole.{compacted, keeps_on, no_full, no_plan}
+use Rattle.tsdb_rewriting.proofs.Whole.{compacted, keeps_on, no_counter, no_full, no_plan}
 use Rattle.tsdb_serving.proofs.Flushes.{and_then}
 use Rattle.tsdb_serving.specs.declared.fault.FlushFault.TheVariants as fault
 use Rattle.tsdb_rewriting.proofs.compacting.compact_inner.Goals as goal
@@ -83,3 +83,35 @@ pub returns-in-Err-clause-full : goal.returns-in-Err-clause-full
 returns-in-Err-clause-full g c = λ counter is. full_counter (IsInnerRuns c.args.space c.args.core.now) (next_of c.args.core.now) (Unit {0}) c.begin_inner.result c.in-Err.fault c.in-Err.is (λ not. not tt)
     (λ order. c.begin_inner.ensures.answer)
     counter (sym c.of_core.ensures ∙ is)
+
+pub returns-in-Ok-Some-clause-draws : goal.returns-in-Ok-Some-clause-draws
+returns-in-Ok-Some-clause-draws g c =
+    let begun = subst (IsBegunOrNot g.F.Right.ReadRight.file c.args.space (IsInnerRuns c.args.space c.args.core.now) c.args.core.now c.begin_inner.new.self)
+    (c.in-Ok-Some.is ∙ ap Ok c.in-Ok-Some.field-0-is) c.begin_inner.ensures.begun in
+    let drawn = begun.2.next in
+    let ends = c.rewrite.ensures.ends.next in
+    omega (arith, drawn, ends)
+
+pub returns-in-Ok-Some-clause-counter : goal.returns-in-Ok-Some-clause-counter
+returns-in-Ok-Some-clause-counter g c = no_counter c.rewrite.result (next_of c.rewrite.new.core) c.rewrite.ensures.full
+
+pub returns-in-Ok-None-clause-draws : goal.returns-in-Ok-None-clause-draws
+returns-in-Ok-None-clause-draws g c =
+    let not = subst (IsBegunOrNot g.F.Right.ReadRight.file c.args.space (IsInnerRuns c.args.space c.args.core.now) c.args.core.now c.begin_inner.new.self)
+    (c.in-Ok-None.is ∙ ap Ok c.in-Ok-None.field-0-is) c.begin_inner.ensures.begun in
+    let same = not.same.next in
+    let swept = c.sweep.ensures.draws in
+    omega (arith, same, swept)
+
+pub returns-in-Err-clause-draws : goal.returns-in-Err-clause-draws
+returns-in-Err-clause-draws g c =
+    let not = subst (IsBegunOrNot g.F.Right.ReadRight.file c.args.space (IsInnerRuns c.args.space c.args.core.now) c.args.core.now c.begin_inner.new.self) c.in-Err.is c.begin_inner.ensures.begun in
+    let same = not.same.next in
+    omega (arith, same)
+
+pub returns-in-Err-clause-counter : goal.returns-in-Err-clause-counter
+returns-in-Err-clause-counter g c = λ counter is.
+    let not = subst (IsBegunOrNot g.F.Right.ReadRight.file c.args.space (IsInnerRuns c.args.space c.args.core.now) c.args.core.now c.begin_inner.new.self) c.in-Err.is c.begin_inner.ensures.begun in
+    counter_is (IsInnerRuns c.args.space c.args.core.now) (next_of c.args.core.now) (Unit {0}) c.begin_inner.result c.in-Err.fault c.in-Err.is (λ not. not tt)
+    (λ order. c.begin_inner.ensures.answer) counter (sym c.of_core.ensures ∙ is)
+    ∙ sym not.same.next

@@ -8,3 +8,6 @@ returns-clause-lists g c = swept_lists c.args.core.now c.sweep.new.self c.sweep.
 pub returns-clause-goes_on : goal.returns-clause-goes_on
 returns-clause-goes_on g c = sweeps_on g.J.Disk.lawful (g.F.Port.Port.store c.args.port.now) c.args.core.now
     c.sweep.new.self c.sweep.result c.sweep.ensures.swept c.requires.ready
+
+pub returns-clause-draws : goal.returns-clause-draws
+returns-clause-draws g c = c.sweep.ensures.swept.next

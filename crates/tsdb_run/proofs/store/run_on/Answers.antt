@@ -1,4 +1,6 @@
-use Rattle.std.proofs.Common.{◌≡◌, ◌∙◌, inl, inr, ap, None, arith}
+use Rattle.std.proofs.Common.{◌≡◌, ◌∙◌, ◌+◌, inl, inr, ap, length, subst, None, arith}
+use Rattle.std.specs.Prelude.{◌*◌}
+use Rattle.tsdb_history.specs.Reach.{AreFullWithin, max_drawn}
 use Rattle.std.specs.Prelude.{is_some}
 use Rattle.tsdb_core.specs.declared.engine.Core.{Core}
 use Rattle.tsdb_frames.specs.Frames.{journal_of}
@@ -7,7 +9,7 @@ use Rattle.tsdb_core.specs.Core.{logged_of}
 use Rattle.tsdb_outside.specs.Causes.{Rose}
 use Rattle.tsdb_outside.specs.Files.{Store}
 use Rattle.tsdb_run.proofs.Executed.{above_stored, rose_before, run_before}
-use Rattle.tsdb_run.proofs.Whole.{gone, image, next_is, opened, sound_left}
+use Rattle.tsdb_run.proofs.Whole.{gone, image, next_is, next_same, opened, sound_left}
 use Rattle.tsdb_run.specs.Store.{IsSoundOrSilent, contents}
 use Rattle.tsdb_serving.specs.Flushing.{faults_under}
 use Rattle.tsdb_serving.specs.Serving.{IsSure, disk_under}
@@ -43,6 +45,15 @@ returns-in-Ok-recover-clause-executed g c =
           (rose_before 0 (faults_under core) (g.J.Counted.faults journal) (omega arith))
           (served.served none sound.files start serving
           (above_stored core sound.files recovered.recorded.named next));
+      within = λ start sound next is.
+          let recovered = opened core state stored now start sound same c.in-Ok-recover.ensures.seen in
+          let serving = c.a_recovered_core_serves.ensures (image core state stored now start sound same).a sound.files start
+          recovered in
+          let none = gone core state stored now start sound same (g.F.Files.at_rest c.recover.new.files)
+          c.in-Ok-recover.ensures.strays in
+          subst (λ n. AreFullWithin (n + max_drawn * length c.args.script.now) start served.entries)
+          (next_same core state stored now start sound same next is c.in-Ok-recover.ensures.next)
+          (served.within none sound.files start serving);
     }
 
 pub returns-in-Ok-recover-clause-devices : goal.returns-in-Ok-recover-clause-devices

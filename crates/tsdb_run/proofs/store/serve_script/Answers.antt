@@ -1,4 +1,8 @@
-use Rattle.std.proofs.Common.{◌∙◌, ◌++◌, ap}
+use Rattle.std.proofs.Common.{◌∙◌, ◌+◌, ◌++◌, ap, length}
+use Rattle.std.specs.Prelude.{◌*◌}
+use Rattle.tsdb_core.specs.Core.{next_of}
+use Rattle.tsdb_history.proofs.Reach.{all_further}
+use Rattle.tsdb_history.specs.Reach.{max_drawn}
 use Rattle.std.specs.Prelude.{is_some}
 use Rattle.tsdb_outside.specs.Causes.{Rose}
 use Rattle.tsdb_outside.specs.Files.{Store}
@@ -27,4 +31,9 @@ returns-clause-served g c =
           (Rose (faults_under core) (g.J.Counted.faults journal)) closed.1 below
           (rose_before (faults_under core) (faults_under last) (g.J.Counted.faults journal)
           c.execute-history.ensures.later.0);
+      within = λ none files start serving.
+          let tells = ap (λ (s : Store). s.tells) c.requires.port ∙ g.F.Files.tells c.args.files.now ∙ ap is_some none in
+          let served = executed.served tells files start serving in
+          all_further (next_of last) (next_of core + max_drawn * length c.args.script.now) start executed.entries
+          c.execute-history.ensures.draws served.reached;
     }

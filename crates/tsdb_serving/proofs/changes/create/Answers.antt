@@ -1,4 +1,4 @@
-use Rattle.std.proofs.Common.{arith, refl, subst}
+use Rattle.std.proofs.Common.{arith, refl, subst, sym}
 use Rattle.tsdb_answers.proofs.Following.{creation_follows}
 use Rattle.tsdb_core.specs.Core.{logged_of}
 use Rattle.tsdb_logged.specs.Commands.{create_record}
@@ -7,6 +7,8 @@ use Rattle.tsdb_map.specs.declared.command.Command.TheVariants.{Create}
 use Rattle.tsdb_serving.proofs.Answered.{HasStamp, allowed, answered, create_stamp, stamp_is, world_is}
 use Rattle.tsdb_serving.proofs.Jobs.{kept_ready}
 use Rattle.tsdb_serving.specs.Serving.{IsDrawn}
+use Rattle.tsdb_logged.specs.Answers.{IsRefusal}
+use Rattle.tsdb_serving.proofs.Full.{by_stamp}
 use Rattle.tsdb_serving.proofs.changes.create.Goals as goal
 
 pub returns-clause-answers : goal.returns-clause-answers
@@ -30,3 +32,11 @@ returns-clause-ready g c = λ store ready. kept_ready c.args.core.now c.create.n
 pub returns-clause-stays : goal.returns-clause-stays
 returns-clause-stays g c = let next = c.create.ensures.command.kept.next in
     record { slot = c.create.ensures.command.slot; next = omega (arith, next) }
+
+pub returns-clause-draws : goal.returns-clause-draws
+returns-clause-draws g c = c.create.ensures.command.kept.next
+
+pub returns-clause-full : goal.returns-clause-full
+returns-clause-full g c = by_stamp c.args.core.now c.create.new.self c.create.result
+    (create_stamp (memory_of (logged_of c.args.core.now)) c.args.schema.now.path c.create.result c.create.ensures.answer)
+    (λ counter is. c.create.ensures.command.refused (subst IsRefusal (sym is) tt))

@@ -1,4 +1,4 @@
-use Rattle.std.proofs.Common.{arith, refl, subst}
+use Rattle.std.proofs.Common.{arith, refl, subst, sym}
 use Rattle.tsdb_answers.proofs.Following.{deletion_follows}
 use Rattle.tsdb_core.specs.Core.{logged_of}
 use Rattle.tsdb_log.specs.declared.record.LogRecord.TheVariants as item
@@ -7,6 +7,8 @@ use Rattle.tsdb_map.specs.declared.command.Command.TheVariants.{Delete}
 use Rattle.tsdb_serving.proofs.Answered.{HasStamp, allowed, answered, delete_stamp, stamp_is, world_is}
 use Rattle.tsdb_serving.proofs.Jobs.{kept_ready}
 use Rattle.tsdb_serving.specs.Serving.{IsDrawn}
+use Rattle.tsdb_logged.specs.Answers.{IsRefusal}
+use Rattle.tsdb_serving.proofs.Full.{by_stamp}
 use Rattle.tsdb_serving.proofs.changes.delete.Goals as goal
 
 pub returns-clause-answers : goal.returns-clause-answers
@@ -30,3 +32,11 @@ returns-clause-ready g c = λ store ready. kept_ready c.args.core.now c.delete.n
 pub returns-clause-stays : goal.returns-clause-stays
 returns-clause-stays g c = let next = c.delete.ensures.command.kept.next in
     record { slot = c.delete.ensures.command.slot; next = omega (arith, next) }
+
+pub returns-clause-draws : goal.returns-clause-draws
+returns-clause-draws g c = c.delete.ensures.command.kept.next
+
+pub returns-clause-full : goal.returns-clause-full
+returns-clause-full g c = by_stamp c.args.core.now c.delete.new.self c.delete.result
+    (delete_stamp (memory_of (logged_of c.args.core.now)) c.args.series.now c.delete.result c.delete.ensures.answer)
+    (λ counter is. c.delete.ensures.command.refused (subst IsRefusal (sym is) tt))

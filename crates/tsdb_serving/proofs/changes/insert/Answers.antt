@@ -10,6 +10,8 @@ use Rattle.tsdb_serving.proofs.Causes.{device_cause, full_cause, rose_later}
 use Rattle.tsdb_serving.proofs.Jobs.{drawn_first, drawn_second, kept_ready}
 use Rattle.tsdb_serving.specs.Flushing.{faults_under}
 use Rattle.tsdb_serving.specs.Serving.{IsAnsweredBy, IsDrawn}
+use Rattle.tsdb_core.specs.Rows.{IsRowCommand}
+use Rattle.tsdb_serving.proofs.Full.{by_number, by_stamp, next_counter}
 use Rattle.tsdb_serving.proofs.changes.insert.Goals as goal
 
 pub returns-in-Ok-clause-answers : goal.returns-in-Ok-clause-answers
@@ -72,3 +74,20 @@ returns-in-Ok-clause-stays g c =
 
 pub returns-in-Err-clause-stays : goal.returns-in-Err-clause-stays
 returns-in-Err-clause-stays g c = record { slot = c.make_room.ensures.goes_on.slot; next = c.make_room.ensures.goes_on.next }
+
+pub returns-in-Ok-clause-draws : goal.returns-in-Ok-clause-draws
+returns-in-Ok-clause-draws g c =
+    let same = c.insert.ensures.kept.next in
+    let drawn = c.make_room.ensures.draws in
+    omega (arith, same, drawn)
+
+pub returns-in-Ok-clause-full : goal.returns-in-Ok-clause-full
+returns-in-Ok-clause-full g c = by_stamp c.make_room.new.core c.insert.new.self c.insert.result
+    (insert_stamp (memory_of (logged_of c.make_room.new.core)) c.args.device.now c.args.row.now c.insert.result
+    c.insert.ensures.answer)
+    (λ counter is. subst (IsRowCommand c.args.device.now c.args.row.now c.make_room.new.core c.insert.new.self) is
+    c.insert.ensures.row)
+
+pub returns-in-Err-clause-full : goal.returns-in-Err-clause-full
+returns-in-Err-clause-full g c = by_number c.args.core.now c.make_room.new.core c.answer.result
+    (next_counter _ _ _ _ _ c.in-Err.fault c.in-Err.ensures.cause c.answer.result c.answer.ensures)

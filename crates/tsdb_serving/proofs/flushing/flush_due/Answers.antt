@@ -8,6 +8,7 @@ use Rattle.tsdb_serving.proofs.Flushes.{dropped, flushed, no_less, not_taken, ol
 use Rattle.tsdb_serving.proofs.Jobs.{is_busy}
 use Rattle.tsdb_serving.specs.Faults.{HasFlushCause}
 use Rattle.tsdb_serving.specs.Flushing.{faults_under}
+use Rattle.tsdb_serving.proofs.Full.{few_drawn}
 use Rattle.tsdb_serving.proofs.flushing.flush_due.Goals as goal
 
 pub run_job-requires-clause-is_job : goal.run_job-requires-clause-is_job
@@ -74,3 +75,22 @@ returns-in-Err-clause-cause g c = subst (HasFlushCause (faults_under c.args.core
     (subst (IsTakeAnswer c.args.upto.0 (next_of c.args.core.now) (memory_of (logged_of c.args.core.now))) c.in-Err.is
     c.take_flush.ensures.answer))
     (subst (IsTakenOrNot c.args.core.now c.take_flush.new.self) c.in-Err.is c.take_flush.ensures.taken).next)
+
+pub returns-in-Ok-Some-clause-draws : goal.returns-in-Ok-Some-clause-draws
+returns-in-Ok-Some-clause-draws g c =
+    let ends = c.run_job.ensures.ends.next in
+    let taken = (subst (IsTakenOrNot c.args.core.now c.take_flush.new.self) (c.in-Ok-Some.is ∙ ap Ok c.in-Ok-Some.field-0-is)
+    c.take_flush.ensures.taken).next in
+    let few = few_drawn c.in-Ok-Some.job in
+    omega (arith, ends, taken, few)
+
+pub returns-in-Ok-None-clause-draws : goal.returns-in-Ok-None-clause-draws
+returns-in-Ok-None-clause-draws g c =
+    let same = (subst (IsTakenOrNot c.args.core.now c.take_flush.new.self) (c.in-Ok-None.is ∙ ap Ok c.in-Ok-None.field-0-is)
+    c.take_flush.ensures.taken).next in
+    omega (arith, same)
+
+pub returns-in-Err-clause-draws : goal.returns-in-Err-clause-draws
+returns-in-Err-clause-draws g c =
+    let same = (subst (IsTakenOrNot c.args.core.now c.take_flush.new.self) c.in-Err.is c.take_flush.ensures.taken).next in
+    omega (arith, same)
