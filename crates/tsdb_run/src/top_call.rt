@@ -44,9 +44,18 @@ pub fn run<S: Source, K: Sink, P: Place>(
     out: &mut K,
     place: &mut P,
 ) -> Ended
-    ensures headline { Headline (run_of words.now (S.left script.old) (contents (P.state place.old) (P.stored place.old))
-        (contents (P.state place.new) (P.stored place.new)) (Rose (P.faults place.old) (P.faults place.new))
-        (P.asked place.new) result.status result.history (K.held out.old) (K.held out.new)) }
+    ensures headline { Headline (record {
+      words = words.now;
+      left = S.left script.old;
+      old = contents (P.state place.old) (P.stored place.old);
+      new = contents (P.state place.new) (P.stored place.new);
+      rose = Rose (P.faults place.old) (P.faults place.new);
+      directory = P.asked place.new;
+      status = result.status;
+      history = result.history;
+      held = K.held out.old;
+      holds = K.held out.new;
+    }) }
     ensures whole_source { result.status ≡ Status.Done → IsAtEnd (S.left script.new) }
     ensures budget { TakesPrefix (S.left script.old) (S.left script.new) }
     ensures words { (result.status ≡ Status.Words) ↔ ¬ AreGoodWords words.now }
