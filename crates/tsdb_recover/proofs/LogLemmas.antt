@@ -167,12 +167,6 @@ torn_of scan.Failed part at is = absurd cc
 torn_of scan.Memory part at is = absurd cc
 torn_of (scan.Torn place) part at is = (cc, cc)
 
--- the journal failed where this is answered
-pub failed_of : (scanned : ScanFault) → of_scan scanned ≡ Failed → scanned ≡ scan.Failed
-failed_of scan.Failed is = refl
-failed_of scan.Memory is = absurd cc
-failed_of (scan.Torn place) is = absurd cc
-
 module _ {J : Type 0} {means : disk.Ghosts J} {counts : counted.Ghosts J} where
   -- one record more is replayed
   pub replays_on : (mid : FrameReader J means counts) (frame : Frame) (journal : J) (old new : Opening) (reader : FrameReader J means counts)
