@@ -1,24 +1,14 @@
 -- The status of a run whose store was not opened.
-use Rattle.std.proofs.Common.{◌≡◌, ℕ, List, Option, refl}
+use Rattle.std.proofs.Common.{◌≡◌, List, Option, refl}
 use Rattle.tsdb_map.specs.State as plain
 use Rattle.tsdb_outside.specs.Disk.{State}
 use Rattle.tsdb_outside.specs.Files.{StoredFile}
-use Rattle.tsdb_recover.specs.declared.fault.OpenFault.{OpenFault}
-use Rattle.tsdb_recover.specs.declared.fault.OpenFault.TheVariants as faults
-use Rattle.tsdb_recover.specs.declared.fault.Part.{Part}
-use Rattle.tsdb_recovery.specs.Damage.{AnswersDamageIn}
 use Rattle.tsdb_run.proofs.Whole.{not_damaged}
-use Rattle.tsdb_run.specs.Causes.{IsRefusedStore, ReportsDamage}
-use Rattle.tsdb_run.specs.Steps.{IsOpeningStatus, opening_status}
+use Rattle.tsdb_run.specs.Causes.{IsRefusedStore}
+use Rattle.tsdb_run.specs.Steps.{IsOpeningStatus}
 use Rattle.tsdb_run.specs.Store.{IsSound, contents}
 use Rattle.tsdb_run.specs.declared.status.Status.{Status}
 use Rattle.tsdb_run.specs.declared.status.Status.TheVariants.{Done, Memory, Words, Script, Source, Sink, Device, Damaged}
-
-pub reports : (fault : OpenFault) (part : Part) (at : ℕ) → AnswersDamageIn part at fault
-    → ReportsDamage (opening_status fault) part at
-reports faults.Failed part at is = tt
-reports (faults.Damaged other place) part at is = is
-reports faults.Memory part at is = tt
 
 -- a sound store is refused only where something outside failed
 pub refused_rose : (disk : State) (stored : Option (List StoredFile)) (at : plain.State) (status : Status) (rose : Type 0)
