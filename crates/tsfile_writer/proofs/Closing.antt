@@ -13,7 +13,8 @@ use Rattle.tsdb_base.specs.declared.value.Encoding.{Encoding}
 use Rattle.tsdb_base.specs.Fields.{number64}
 use Rattle.tsdb_base.specs.Limits.{max_values}
 use Rattle.tsdb_base.specs.Values.{is_suitable, type_of}
-use Rattle.tsdb_path.specs.Nodes.{device_of, measurement_of, node_count}
+use Rattle.tsdb_path.specs.Nodes.{IsPath, device_of, measurement_of, node_count}
+use Rattle.tsdb_path.proofs.Parts.{IsName-measurement_of, IsPath-device_of}
 use Rattle.tsdb_index.specs.declared.index.IndexEntry.{IndexEntry}
 use Rattle.tsdb_index.specs.Entries as index
 use Rattle.tsdb_index.specs.Spelling.{IsSpelling}
@@ -23,16 +24,17 @@ use Rattle.tsdb_pages.specs.declared.tree.Group.{Group}
 use Rattle.tsdb_pages.specs.declared.tree.Tree.{Tree}
 use Rattle.tsdb_pages.specs.File.{IsFile, group_start, head, magic}
 use Rattle.tsdb_pages.specs.Limits.{max_chunks, max_pages}
-use Rattle.tsdb_pages.specs.Pages.{ArePoints, IsRising}
-use Rattle.tsdb_pages.specs.Trees.{IsBefore, IsChunk, IsGroup, chunks_of, points_of}
+use Rattle.tsdb_pages.specs.Pages.{ArePoints, IsInRange, IsRising}
+use Rattle.tsdb_pages.specs.Trees.{IsBefore, IsChunk, IsGroup, IsMade, chunks_of, points_of}
 use Rattle.tsfile_writer.specs.declared.layout.OpenChunk.{OpenChunk}
-use Rattle.tsfile_writer.specs.Given.{AreChunksOf, IsChunkOf, IsTreeOf, MayBeFollowedBy, Series, placed, series_at}
+use Rattle.tsfile_writer.specs.Given.{AreChunksOf, IsChunkOf, IsMadeSeries, IsTreeOf, MayBeFollowedBy, Series, placed, series_at}
 use Rattle.tsfile_writer.specs.Steps.{AreChunks, AreGroups, start_if}
 use Rattle.tsfile_writer.specs.Building.{AreClosed, AreGrouped, BeginsGroup, BuildState, IsOpenOf, PutsIn}
 use Rattle.tsdb_pages.proofs.Entries.{flat_push}
 use Rattle.tsfile_writer.proofs.Appending.{IsEntryOf, chunk_ended, count_entries, file_made, group_begun, group_ended, no_groups}
 use Rattle.tsdb_pages.proofs.Order.{pairs_push}
 use Rattle.tsfile_writer.proofs.Grouping.{before_through, chunks_of_push, filled_push, one_group, placed_push, same_ends}
+use Rattle.tsfile_writer.proofs.Made.{tree_made}
 use Rattle.tsfile_writer.proofs.Waiting.{are_points, put_few, put_stands}
 
 -- ---- a chunk is whole
@@ -102,6 +104,7 @@ series_closed given page old new before after path data_type encoding chunk whol
       entry = entry;
       last = added;
       device-is = is.device-is;
+      made = state.made;
     }
 
 -- ---- the group of the last device
@@ -153,6 +156,14 @@ begun path data_type encoding nodes suits = record {
   ahead = λ none. refl;
 }
 
+-- a series that is begun is as its types say, where its path is one
+made_begun : (path : List ℕ) (data_type : DataType) (encoding : Encoding) → 2 ≤ node_count path → IsPath path → IsMadeSeries (series_at path data_type encoding)
+made_begun path data_type encoding nodes path_is = record {
+  device = IsPath-device_of path path_is nodes;
+  measurement = IsName-measurement_of path path_is nodes;
+  points = All-nil IsInRange;
+}
+
 no_pairs : {A : Type 0} (R : A → A → Type 0) → AllPairs R []
 no_pairs R i j d lt within = absurd (omega arith)
 
@@ -162,9 +173,9 @@ not_itself a less =
     let none : Less ≡ Equal = sym less ∙ tied in
     absurd cc
 
-pub first_begun : (bytes : List ℕ) (entries : List IndexEntry) (path : List ℕ) (data_type : DataType) (encoding : Encoding) → bytes ≡ head → entries ≡ [] → 2 ≤ node_count path → is_suitable data_type encoding ≡ true
+pub first_begun : (bytes : List ℕ) (entries : List IndexEntry) (path : List ℕ) (data_type : DataType) (encoding : Encoding) → bytes ≡ head → entries ≡ [] → 2 ≤ node_count path → is_suitable data_type encoding ≡ true → IsPath path
     → BuildState (series_at path data_type encoding ∷ []) bytes entries path data_type encoding None []
-first_begun bytes entries path data_type encoding is none nodes suits = record {
+first_begun bytes entries path data_type encoding is none nodes suits path_is = record {
   front = [];
   last = series_at path data_type encoding;
   all = refl;
@@ -183,6 +194,7 @@ first_begun bytes entries path data_type encoding is none nodes suits = record {
   chunks-before = All-nil (λ (c : Chunk). IsBefore c.measurement (measurement_of path));
   few = let n : length entries ≡ 0 = ap length none in omega (arith, n);
   stand = (refl, stand);
+  made = All-push IsMadeSeries [] (series_at path data_type encoding) (All-nil IsMadeSeries) (made_begun path data_type encoding nodes path_is);
 }
   where
     stand : (begins : Bool) → BeginsGroup entries (device_of path) begins → AreChunks [] (device_of path) [] (bytes ++ start_if begins (device_of path)) entries
@@ -193,8 +205,8 @@ first_begun bytes entries path data_type encoding is none nodes suits = record {
         absurd (omega (arith, n, m))
 
 pub next_begun : (given : List Series) (device measurement : List ℕ) (bytes : List ℕ) (entries : List IndexEntry) (path : List ℕ) (data_type : DataType) (encoding : Encoding) → AreClosed given device measurement bytes entries
-    → 2 ≤ node_count path → is_suitable data_type encoding ≡ true → index.IsBefore (device, measurement) (device_of path, measurement_of path) → BuildState (given ++ series_at path data_type encoding ∷ []) bytes entries path data_type encoding None []
-next_begun given device measurement bytes entries path data_type encoding closed nodes suits (inl less) =
+    → 2 ≤ node_count path → is_suitable data_type encoding ≡ true → IsPath path → index.IsBefore (device, measurement) (device_of path, measurement_of path) → BuildState (given ++ series_at path data_type encoding ∷ []) bytes entries path data_type encoding None []
+next_begun given device measurement bytes entries path data_type encoding closed nodes suits path_is (inl less) =
     let all = all_groups given device measurement bytes entries closed in
     let groups = closed.groups ++ group_of device closed.chunks ∷ [] in
     record {
@@ -216,6 +228,7 @@ next_begun given device measurement bytes entries path data_type encoding closed
       chunks-before = All-nil (λ (c : Chunk). IsBefore c.measurement (measurement_of path));
       few = closed.few;
       stand = (refl, stand closed less groups all.layout);
+      made = All-push IsMadeSeries given (series_at path data_type encoding) closed.made (made_begun path data_type encoding nodes path_is);
     }
   where
     stand : (closed : AreClosed given device measurement bytes entries) → IsBefore device (device_of path) → (groups : List Group) → AreGroups groups bytes entries
@@ -225,7 +238,7 @@ next_begun given device measurement bytes entries path data_type encoding closed
         let same : test.1 ≡ closed.entry = (same_ends test.0 closed.front test.1 closed.entry (sym test.2 ∙ closed.last)).1 in
         let devices : device ≡ device_of path = sym closed.device-is ∙ ap (λ (e : IndexEntry). e.device) (sym same) ∙ test.3 in
         absurd (not_itself device (subst (IsBefore device) (sym devices) less))
-next_begun given device measurement bytes entries path data_type encoding closed nodes suits (inr also) = record {
+next_begun given device measurement bytes entries path data_type encoding closed nodes suits path_is (inr also) = record {
   front = given;
   last = series_at path data_type encoding;
   all = refl;
@@ -237,6 +250,7 @@ next_begun given device measurement bytes entries path data_type encoding closed
   chunks-before = closed.before (measurement_of path) also.1;
   few = closed.few;
   stand = (refl, stand closed also.0);
+  made = All-push IsMadeSeries given (series_at path data_type encoding) closed.made (made_begun path data_type encoding nodes path_is);
 }
   where
     stand : (closed : AreClosed given device measurement bytes entries) → device ≡ device_of path → (begins : Bool) → BeginsGroup entries (device_of path) begins
@@ -261,14 +275,12 @@ names_before bytes entries path data_type encoding chunk points device measureme
 -- ---- the file
 
 pub file_whole : (given : List Series) (device measurement : List ℕ) (bytes file index-bytes : List ℕ) (root : ℕ) (entries : List IndexEntry) → AreClosed given device measurement bytes entries
-    → IsSpelling (length bytes) root entries index-bytes → file ≡ bytes ++ index-bytes ++ number64 root ++ magic → (tree : Tree) × IsTreeOf given tree × IsFile tree file
+    → IsSpelling (length bytes) root entries index-bytes → file ≡ bytes ++ index-bytes ++ number64 root ++ magic → (tree : Tree) × IsTreeOf given tree × IsFile tree file × IsMade tree
 file_whole given device measurement bytes file index-bytes root entries closed index_is is =
     let all = all_groups given device measurement bytes entries closed in
     let groups = closed.groups ++ group_of device closed.chunks ∷ [] in
     let n : length entries ≡ length (chunks_of (closed.groups ++ group_of device closed.chunks ∷ [])) = count_entries groups bytes entries all.layout in
     let few = subst (λ k. k ≤ max_chunks) n closed.few in
-    let tree : Tree = record { groups = groups } in (
-      tree,
-      record { is-tree = record { some = all.some; few = few; groups = all.good; rising = all.rising }; chunks = all.of },
-      file_made tree bytes file index-bytes root entries all.layout index_is is,
-    )
+    let tree : Tree = record { groups = groups } in
+    let of : IsTreeOf given tree = record { is-tree = record { some = all.some; few = few; groups = all.good; rising = all.rising }; chunks = all.of } in
+    (tree, of, file_made tree bytes file index-bytes root entries all.layout index_is is, tree_made given tree closed.made of)

@@ -1,5 +1,6 @@
 pub mod Appending
 pub mod Grouping
+pub mod Made
 pub mod Waiting
 pub mod Closing
 pub mod Same

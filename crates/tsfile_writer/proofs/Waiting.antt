@@ -2,7 +2,7 @@
 use Rattle.std.proofs.Common.{◌≡◌, ℕ, ◌+◌, ◌-◌, ◌<◌, ◌≤◌, Bool, true, false, not, Ok, Err, take, List, [], ◌∷◌, ◌++◌, length, get_or, refl, sym, ap, ◌∙◌, subst, append_assoc, arith}
 use Rattle.std.specs.Prelude.{◌<ℤ◌, ◌↔◌, All, IfOk, IsTrue, OnOk, Option, None, Result, Some}
 use Rattle.std.proofs.lemmas.Bool.{false≢true}
-use Rattle.std.proofs.lemmas.List.{append-nil, length-append, take_all, take_more}
+use Rattle.std.proofs.lemmas.List.{append-nil, get_or_append_left, length-append, take_all, take_more}
 use Rattle.std.proofs.lemmas.List.Elements.{All-append, All-head, All-nil, All-push, Contains-get_or}
 use Rattle.tsdb_base.specs.declared.point.Point.{Point}
 use Rattle.tsdb_base.specs.declared.value.DataType.{DataType}
@@ -16,11 +16,11 @@ use Rattle.tsdb_pages.specs.declared.tree.Chunk.{Chunk}
 use Rattle.tsdb_pages.specs.declared.tree.Group.{Group}
 use Rattle.tsdb_pages.specs.File.{chunk_start, page_bytes}
 use Rattle.tsdb_pages.specs.Limits.{max_pages}
-use Rattle.tsdb_pages.specs.Pages.{ArePoints, IsRising}
+use Rattle.tsdb_pages.specs.Pages.{ArePoints, IsInRange, IsRising}
 use Rattle.tsdb_pages.specs.Trees.{points_of}
 use Rattle.tsdb_pages.proofs.Order.{pairs_across, pairs_behind, pairs_push, rises}
 use Rattle.tsfile_writer.specs.declared.layout.OpenChunk.{OpenChunk}
-use Rattle.tsfile_writer.specs.Given.{MayTake, Series, with_point}
+use Rattle.tsfile_writer.specs.Given.{IsMadeSeries, MayTake, Series, with_point}
 use Rattle.tsfile_writer.specs.Steps.{AreChunks, ArePages, IsBegun, start_if}
 use Rattle.tsfile_writer.specs.Building.{BeginsGroup, BuildState, IsOpenOf, IsStarted, PutsIn, SameIfAny, StandIn}
 use Rattle.tsdb_pages.proofs.Entries.{count_pages, flat_push}
@@ -99,6 +99,7 @@ state_as given old new entries path path' data_type type' encoding encoding' bef
       chunks-before = state.chunks-before;
       few = state.few;
       stand = same_stands state.groups state.chunks state.pages path data_type encoding old new entries before after state.stand same same_chunk;
+      made = state.made;
     })
     same_path same_type same_encoding same_points
 
@@ -150,15 +151,17 @@ begins_by entries entry device same some is tells =
 pub record Suits (data_type : DataType) (points : List Point) (point : Point) : Type 0 where
   pub typed : type_of point.value ≡ data_type
   pub later : All (λ before. before.time <ℤ point.time) points
+  pub in_range : IsInRange point
 
 pub point_suits : (front : List Series) (last : Series) (bytes : List ℕ) (entries : List IndexEntry) (path : List ℕ) (data_type : DataType) (encoding : Encoding) (chunk : Option OpenChunk) (points : List Point) (point : Point)
-    → BuildState (front ++ last ∷ []) bytes entries path data_type encoding chunk points → MayTake point last → Suits data_type points point
-point_suits front last bytes entries path data_type encoding chunk points point state may =
+    → BuildState (front ++ last ∷ []) bytes entries path data_type encoding chunk points → MayTake point last → IsInRange point → Suits data_type points point
+point_suits front last bytes entries path data_type encoding chunk points point state may in_range =
     let same : last ≡ state.last = (same_ends front state.front last state.last state.all).1 in
     let all : last.points ≡ points_of state.pages ++ points = ap (λ (s : Series). s.points) same ∙ state.is.points-are in
     record {
       typed = may.typed ∙ ap (λ (s : Series). s.data_type) same ∙ state.is.type-is;
       later = all_behind (λ (p : Point). p.time <ℤ point.time) (points_of state.pages) points (subst (λ (ps : List Point). All (λ (p : Point). p.time <ℤ point.time) ps) all may.later);
+      in_range = in_range;
     }
 
 -- a point later than the last points is later than all
@@ -183,6 +186,18 @@ given_more : (front : List Series) (last : Series) (front' : List Series) (last'
 given_more front last front' last' point same =
     let ends = same_ends front front' last last' same in
     ap (λ (s : Series). front ++ with_point point s ∷ []) ends.1 ∙ ap (λ (l : List Series). l ++ with_point point last' ∷ []) ends.0
+
+-- each series is still as its types say
+made_more : (front : List Series) (last : Series) (point : Point) → All IsMadeSeries (front ++ last ∷ []) → IsInRange point → All IsMadeSeries (front ++ with_point point last ∷ [])
+made_more front last point all in_range =
+    let n : length (front ++ last ∷ []) ≡ length front + 1 = length-append front (last ∷ []) in
+    let before : All IsMadeSeries front = λ k d lt. subst IsMadeSeries (get_or_append_left front (last ∷ []) d k lt) (all k d (omega (arith, lt, n))) in
+    let here : IsMadeSeries last = All-head IsMadeSeries last [] (all_behind IsMadeSeries front (last ∷ []) all) in
+    All-push IsMadeSeries front (with_point point last) before (record {
+      device = here.device;
+      measurement = here.measurement;
+      points = All-push IsInRange last.points point here.points in_range;
+    })
 
 -- the point waits with the others
 pub point_waits : (front : List Series) (last : Series) (bytes : List ℕ) (entries : List IndexEntry) (path : List ℕ) (data_type : DataType) (encoding : Encoding) (chunk : Option OpenChunk) (points : List Point) (point : Point)
@@ -217,6 +232,7 @@ point_waits front last bytes entries path data_type encoding chunk points point 
       chunks-before = state.chunks-before;
       few = state.few;
       stand = state.stand;
+      made = made_more front last point state.made suits.in_range;
     }
 
 pub are_points : (series : Series) (pages : List Page) (path : List ℕ) (data_type : DataType) (encoding : Encoding) (points : List Point) → IsOpenOf series pages path data_type encoding points → 0 < length points → ArePoints data_type points
@@ -261,4 +277,5 @@ page_turned front last page old new entries path data_type encoding before after
       chunks-before = state.chunks-before;
       few = state.few;
       stand = put_stands state.groups state.chunks state.pages page path data_type encoding points old new entries before after same state.stand puts;
+      made = made_more front last point state.made suits.in_range;
     }

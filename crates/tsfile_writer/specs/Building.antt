@@ -18,7 +18,7 @@ use Rattle.tsdb_pages.specs.Trees.{IsBefore, IsChunk, IsGroup, points_of}
 use Rattle.tsfile_writer.specs.declared.builder.Builder.{Builder}
 use Rattle.tsfile_writer.specs.declared.builder.OpenSeries.{OpenSeries}
 use Rattle.tsfile_writer.specs.declared.layout.OpenChunk.{OpenChunk}
-use Rattle.tsfile_writer.specs.Given.{AreChunksOf, Series, placed}
+use Rattle.tsfile_writer.specs.Given.{AreChunksOf, IsMadeSeries, Series, placed}
 use Rattle.tsfile_writer.specs.Steps.{AreChunks, ArePages, IsBegun, IsLonger, SameChunk}
 use Rattle.tsfile_writer.specs.Steps.{start_if}
 
@@ -80,6 +80,7 @@ pub record BuildState (given : List Series) (bytes : List ℕ) (entries : List I
   pub chunks-before : All (λ chunk. IsBefore chunk.measurement (measurement_of path)) chunks
   pub few : length entries ≤ max_chunks
   pub stand : StandIn groups chunks pages bytes entries path data_type encoding chunk
+  pub made : All IsMadeSeries given
 
 -- these series were given, and the last of them is open
 abbrev pub IsBuilding : List Series → List ℕ → List IndexEntry → OpenSeries → Type 0
@@ -116,6 +117,7 @@ pub record AreClosed (given : List Series) (device measurement : List ℕ) (byte
   pub entry : IndexEntry
   pub last : entries ≡ front ++ entry ∷ []
   pub device-is : entry.device ≡ device
+  pub made : All IsMadeSeries given
 
 -- a chunk with one page, behind what stands before a group's chunks where one begins
 pub record IsStarted (path : List ℕ) (data_type : DataType) (encoding : Encoding) (points : List Point)

@@ -6,12 +6,13 @@ use Rattle.tsdb_base.specs.declared.value.DataType.{DataType}
 use Rattle.tsdb_base.specs.declared.value.Encoding.{Encoding}
 use Rattle.tsdb_base.specs.Limits.{max_values}
 use Rattle.tsdb_base.specs.Values.{type_of}
-use Rattle.tsdb_path.specs.Nodes.{device_of, measurement_of}
+use Rattle.tsdb_path.specs.Nodes.{IsName, IsPath, device_of, measurement_of}
 use Rattle.tsdb_index.specs.Entries as index
 use Rattle.tsdb_pages.specs.declared.tree.Page.{Page}
 use Rattle.tsdb_pages.specs.declared.tree.Chunk.{Chunk}
 use Rattle.tsdb_pages.specs.declared.tree.Group.{Group}
 use Rattle.tsdb_pages.specs.declared.tree.Tree.{Tree}
+use Rattle.tsdb_pages.specs.Pages.{IsInRange}
 use Rattle.tsdb_pages.specs.Trees.{IsTree, points_of}
 
 -- a series as it is given: its names, type and encoding, and its points in their order
@@ -21,6 +22,12 @@ pub record Series : Type 0 where
   pub data_type : DataType
   pub encoding : Encoding
   pub points : List Point
+
+-- what the types of a series' parts say: a device that is a path, a name, and points in the ranges of their types
+pub record IsMadeSeries (series : Series) : Type 0 where
+  pub device : IsPath series.device
+  pub measurement : IsName series.measurement
+  pub points : All IsInRange series.points
 
 -- the series at this path, without points
 abbrev pub series_at : List ℕ → DataType → Encoding → Series

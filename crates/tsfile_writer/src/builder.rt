@@ -11,7 +11,8 @@ ghost use Rattle.tsdb_base.specs.Values.{is_suitable};
 ghost use Rattle.tsdb_pages.specs.declared.tree.Tree.{Tree};
 ghost use Rattle.tsdb_pages.specs.File.{IsFile};
 ghost use Rattle.tsdb_pages.specs.Pages.{ArePoints};
-ghost use Rattle.tsdb_path.specs.Nodes.{device_of as device_in, measurement_of as measurement_in, node_count};
+ghost use Rattle.tsdb_pages.specs.Trees.{IsMade};
+ghost use Rattle.tsdb_path.specs.Nodes.{IsPath, device_of as device_in, measurement_of as measurement_in, node_count};
 ghost use Rattle.tsfile_writer.specs.Building.{AreClosed, BeginsGroup, IsBuilding, IsStarted, PutsIn, SameIfAny};
 ghost use Rattle.tsfile_writer.specs.Building.{SameSeries, WasGiven};
 ghost use Rattle.tsfile_writer.specs.Given.{IsTreeOf, MayBeFollowedBy, MayTake, Series, series_at, with_point};
@@ -74,7 +75,9 @@ impl OpenSeries {
         ensures encoding { IfOk result (λ series. series.encoding ≡ encoding) }
         ensures chunk { IfOk result (λ series. series.chunk ≡ None) }
         ensures points { IfOk result (λ series. series.points.items ≡ []) }
+        ensures good { OnOk result (IsPath path.now) }
     {
+        let _path = path.bytes();
         Ok(OpenSeries {
             path: copy_path(path)?,
             data_type,
@@ -275,12 +278,12 @@ impl Builder {
         Ok(())
     }
 
-    /// The bytes of the file, where the last series has a point.
+    /// The bytes of the file, where the last series has a point. Its tree is one that a reader reads back.
     pub fn finish(mut self) -> Result<Vec<u8>, BuildFault>
         requires { (front : List Series) × (last : Series)
             × WasGiven self (front ++ last ∷ []) × (0 < length last.points) }
         ensures { IfOk result (λ bytes. (given : List Series) → WasGiven self given →
-            (tree : Tree) × IsTreeOf given tree × IsFile tree bytes.items) }
+            (tree : Tree) × IsTreeOf given tree × IsFile tree bytes.items × IsMade tree) }
     {
         let Some(last) = &mut self.series else {
             unreachable!()

@@ -8,6 +8,7 @@ mod fault;
 mod laws;
 mod layout;
 mod names;
+mod told;
 mod tree;
 
 pub use builder::Builder;

@@ -1,13 +1,14 @@
-//! Writing the file of a tree. Depends on `layout` and `names`.
+//! Writing the file of a tree. Depends on `layout`, `names` and `told`.
 ghost use Rattle.std.specs.Prelude.{◌≡◌, List, [], ◌∷◌, ◌++◌, true, IfOk, OnOk};
 ghost use Rattle.tsdb_pages.specs.declared.tree.Chunk.{Chunk as ChunkOf};
 ghost use Rattle.tsdb_pages.specs.declared.tree.Group.{Group as GroupOf};
 ghost use Rattle.tsdb_pages.specs.File.{IsFile};
-ghost use Rattle.tsdb_pages.specs.Trees.{IsChunk, IsGroup, IsTree};
+ghost use Rattle.tsdb_pages.specs.Trees.{IsChunk, IsGroup, IsMade, IsTree};
 ghost use Rattle.tsfile_writer.specs.Steps.{AreChunks, AreGroups};
 
 use crate::layout::{HEAD, append_chunk, append_end, append_group_start};
 use crate::names::{copy_name, copy_path};
+use crate::told::tell_tree;
 use std::alloc::Global;
 use tsdb_base::Memory;
 use tsdb_index::IndexEntry;
@@ -76,8 +77,10 @@ fn write_group(
 /// The bytes of the file of a tree.
 pub fn write_tree(alloc: Global, tree: &Tree) -> Result<Vec<u8>, Memory>
     requires { IsTree tree.now }
-    ensures { IfOk result (λ bytes. IsFile tree.now bytes.items) }
+    ensures file { IfOk result (λ bytes. IsFile tree.now bytes.items) }
+    ensures made { IsMade tree.now }
 {
+    tell_tree(tree);
     let mut entries = Vec::new(alloc);
     let mut bytes = Vec::from_slice(alloc, &HEAD)?;
     for group in tree.groups.items() {

@@ -23,6 +23,9 @@ pub returns : goal.returns
 returns c =
     let groups = c.args.tree.now.groups in
     let layout = subst (λ (gs : List Group). AreGroups gs c.loop-group.bytes.items c.loop-group.entries.items) (take_all c.loop-group.group-index groups (search rules)) c.loop-group.invariant in
-    if_ok_then _ _ c.append_end.result
-    (λ file made. file_made c.args.tree.now c.loop-group.bytes.items file.items made.0 made.1 c.loop-group.entries.items layout made.2 made.3)
-    c.append_end.ensures
+    record {
+      file = if_ok_then _ _ c.append_end.result
+          (λ file made. file_made c.args.tree.now c.loop-group.bytes.items file.items made.0 made.1 c.loop-group.entries.items layout made.2 made.3)
+          c.append_end.ensures;
+      made = c.tell_tree.ensures;
+    }

@@ -1,6 +1,7 @@
-use Rattle.std.proofs.Common.{◌≡◌, ◌<◌, List, [], ◌∷◌, ◌++◌, length, refl, ap, arith}
+use Rattle.std.proofs.Common.{◌≡◌, ◌<◌, List, [], ◌∷◌, ◌++◌, length, refl, ap, arith, rules}
 use Rattle.tsdb_base.specs.declared.point.Point.{Point}
 use Rattle.tsdb_base.specs.Limits.{max_values}
+use Rattle.tsdb_pages.specs.Pages.{IsInRange}
 use Rattle.tsfile_writer.specs.Given.{with_point}
 use Rattle.tsfile_writer.proofs.Waiting.{are_points, state_at, page_turned, point_suits, point_waits}
 use Rattle.tsfile_writer.proofs.builder.OpenSeries.add_point.Goals as goal
@@ -15,7 +16,8 @@ put_page-requires-clause-points c =
 pub returns-clause-ok : goal.returns-clause-ok
 returns-clause-ok c = λ front last state.
     let self = c.args.self.now in
-    let suits = point_suits c.requires.0 c.requires.1 c.args.into.now.items c.args.entries.now self.path self.data_type self.encoding self.chunk self.points.items c.args.point c.requires.2 c.requires.3 in
+    let in_range : IsInRange c.args.point = search rules in
+    let suits = point_suits c.requires.0 c.requires.1 c.args.into.now.items c.args.entries.now self.path self.data_type self.encoding self.chunk self.points.items c.args.point c.requires.2 c.requires.3 in_range in
     elim c.if-len-eq-MAX_POINTS.branch [
       | then-len-eq-MAX_POINTS+in_ok-put_page w ↦
           let put = w.in_ok-put_page.ensures in
