@@ -24,7 +24,7 @@ const FLUSHED: [u8; 29] = [
 ];
 
 /// A freeze and a flush to file 5; an insert at time 0, a freeze and a flush to the unsequence file 3.
-const LATE: [u8; 90] = [
+pub(crate) const LATE: [u8; 90] = [
     1, 0, 0, 0, 1, 4, 1, 0, 0, 0, 17, 5, 0, 0, 0, 0, 0, 0, 0, 5, 0, 0, 0, 0, 0, 0, 0, 0, // at 53
     1, 0, 0, 0, 28, 2, 0, 0, 0, 0, 0, 0, 0, 0, 0, 1, 0, 0, 0, 0, 0, 0, 0, 0, 2, 0, 0, 0, 0, 0, 0,
     0, 9, // at 81
@@ -37,6 +37,24 @@ const TWICE: [u8; 90] = [
     1, 0, 0, 0, 28, 2, 0, 0, 0, 0, 0, 0, 0, 0, 0, 1, 0, 0, 0, 0, 0, 0, 0, 0, 2, 0, 0, 0, 0, 0, 0,
     0, 9, // at 81
     1, 0, 0, 0, 1, 4, 1, 0, 0, 0, 17, 5, 0, 0, 0, 0, 0, 0, 0, 0, 0, 0, 0, 0, 0, 0, 0, 5, 0, // at 114
+];
+
+/// A freeze and a flush to file 5; an insert at time 2, a freeze and a flush to file 3, which stands behind file 5.
+const TWO: [u8; 90] = [
+    1, 0, 0, 0, 1, 4, 1, 0, 0, 0, 17, 5, 0, 0, 0, 0, 0, 0, 0, 5, 0, 0, 0, 0, 0, 0, 0, 0, // at 53
+    1, 0, 0, 0, 28, 2, 0, 0, 0, 0, 0, 0, 0, 2, 0, 1, 0, 0, 0, 0, 0, 0, 0, 0, 2, 0, 0, 0, 0, 0, 0,
+    0, 9, // at 81
+    1, 0, 0, 0, 1, 4, 1, 0, 0, 0, 17, 5, 0, 0, 0, 0, 0, 0, 0, 3, 0, 0, 0, 0, 0, 0, 0, 0, 0, // at 114
+];
+
+/// The same, and at 142 files 5 and 3 become file 6.
+const REPLACED: [u8; 145] = [
+    1, 0, 0, 0, 1, 4, 1, 0, 0, 0, 17, 5, 0, 0, 0, 0, 0, 0, 0, 5, 0, 0, 0, 0, 0, 0, 0, 0, // at 53
+    1, 0, 0, 0, 28, 2, 0, 0, 0, 0, 0, 0, 0, 2, 0, 1, 0, 0, 0, 0, 0, 0, 0, 0, 2, 0, 0, 0, 0, 0, 0,
+    0, 9, // at 81
+    1, 0, 0, 0, 1, 4, 1, 0, 0, 0, 17, 5, 0, 0, 0, 0, 0, 0, 0, 3, 0, 0, 0, 0, 0, 0, 0, 0, // at 114
+    1, 0, 0, 0, 50, 6, 0, 0, 0, 0, 0, 0, 0, 3, 0, 0, 0, 0, 0, 0, 0, 0, 0, 0, 0, 0, 0, 0, 0, 0, 6,
+    0, 0, 0, 2, 0, 0, 0, 0, 0, 0, 0, 5, 0, 0, 0, 0, 0, 0, 0, 3, 0, 0, 0, 0, 0, // at 142
 ];
 
 /// The file of the device `root.g.d` with INT64 PLAIN measurement `s` and the one point 1, 5: its head, a group at 7, a
@@ -159,7 +177,7 @@ fn open<P: Place>(alloc: Global, place: &mut P) -> Result<(Outcome, Option<usize
 /// How a log ends, the stored files, what comes of the store, and how many files it has then.
 type Case = (&'static [u8], &'static [Stored], Outcome, usize);
 
-const CASES: [Case; 21] = [
+const CASES: [Case; 26] = [
     (&NOTHING, &[], Outcome::Opened(2, 0, 0, 0), 0),
     (
         &FLUSHED,
@@ -216,8 +234,40 @@ const CASES: [Case; 21] = [
     (&LATE, &[(5, 234, 234, 0)], Outcome::File(3, 0), 1),
     (
         &LATE,
+        &[(3, 234, 24, 0), (5, 234, 234, 0)],
+        Outcome::File(3, 24),
+        2,
+    ),
+    (
+        &LATE,
         &[(3, 234, 234, 0), (5, 234, 234, 0)],
         Outcome::Opened(3, 0, 1, 1),
+        2,
+    ),
+    // in the order of the list
+    (
+        &TWO,
+        &[(3, 100, 100, 0), (5, 233, 233, 0)],
+        Outcome::File(5, 219),
+        2,
+    ),
+    (
+        &TWO,
+        &[(3, 233, 233, 0), (5, 234, 234, 0)],
+        Outcome::File(3, 219),
+        2,
+    ),
+    // files that were listed once: they go, but not while the file in their place is missing
+    (
+        &REPLACED,
+        &[(3, 234, 234, 0), (5, 100, 100, 0), (6, 234, 234, 0)],
+        Outcome::Opened(3, 0, 1, 0),
+        1,
+    ),
+    (
+        &REPLACED,
+        &[(3, 234, 234, 0), (5, 234, 234, 0)],
+        Outcome::File(6, 0),
         2,
     ),
 ];
