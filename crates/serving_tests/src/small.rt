@@ -36,7 +36,7 @@ const STEPS: [Step; 10] = [
 
 const LIMIT: u64 = 2;
 
-/// Of these states the first write is at 2, and each other one at any of the times 1 to 4.
+/// In these states each write is at any of the times 1 to 4, and the last one at that of the second.
 const FIRST: u64 = 4_096;
 
 const BEHIND: u64 = 8_192;
