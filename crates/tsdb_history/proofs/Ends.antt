@@ -4,8 +4,7 @@ use Rattle.std.proofs.lemmas.List.{length-append}
 use Rattle.std.proofs.lemmas.List.Elements.{All-from_recursion, recursion_from_All}
 use Rattle.std.specs.List.{AllByRecursion as Each}
 use Rattle.tsdb_history.proofs.Entries.{heads}
-use Rattle.tsdb_history.specs.Listings.{EndsListed}
-use Rattle.tsdb_history.specs.Prefixes.{EndsDone, IsDone, IsQuery}
+use Rattle.tsdb_history.specs.Prefixes.{EndsDone, EndsListed, IsDone, IsQuery}
 use Rattle.tsdb_layers.proofs.Lists.{each_left, each_right}
 use Rattle.tsdb_map.specs.History.{Entry}
 use Rattle.tsdb_map.specs.declared.command.Command.{Command}

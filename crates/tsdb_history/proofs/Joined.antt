@@ -14,11 +14,11 @@ use Rattle.tsdb_replay.proofs.Stores.{new_log_stands, stands_once}
 use Rattle.tsdb_replay.specs.Stores.{Files, IsSound, StandsFor, no_changes}
 
 pub joined : (files : Files) (bytes : List ℕ) (start middle last : plain.State) (first second : List Entry)
-    → StandsAfterPrefix files start first bytes → StandsFor files bytes middle → IsLegal middle second last
+    → StandsAfterPrefix (StandsFor files bytes) start first → StandsFor files bytes middle → IsLegal middle second last
     → IsJoined start first second last
 joined files bytes start middle last first second left stands legal = by left.stands
   where
-    by : StandsAfter files left.after left.prefix bytes → IsJoined start first second last
+    by : StandsAfter (StandsFor files bytes) left.after left.prefix → IsJoined start first second last
     by (inl is) = record {
       prefix = left.prefix;
       rest = left.rest;
@@ -42,11 +42,11 @@ joined files bytes start middle last first second left stands legal = by left.st
     }
 
 pub followed : (files : Files) (bytes : List ℕ) (start between middle last : plain.State) (first second : List Entry)
-    → IsLegal start first between → StandsAfter files between first bytes → StandsFor files bytes middle
+    → IsLegal start first between → StandsAfter (StandsFor files bytes) between first → StandsFor files bytes middle
     → IsLegal middle second last → IsFollowed start first second last
 followed files bytes start between middle last first second leads left stands legal = by left
   where
-    by : StandsAfter files between first bytes → IsFollowed start first second last
+    by : StandsAfter (StandsFor files bytes) between first → IsFollowed start first second last
     by (inl is) = record {
       between = between;
       legal = leads;

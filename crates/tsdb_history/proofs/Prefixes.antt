@@ -114,30 +114,54 @@ longer : {X : Type 0} (all front behind : List X) (x : X) → all ≡ front ++ b
     → all ++ x ∷ [] ≡ front ++ (behind ++ x ∷ [])
 longer all front behind x e = ap (λ l. l ++ x ∷ []) e ∙ append_assoc front behind (x ∷ [])
 
--- a prefix of the entries is one of more entries
-pub prefix_stays : (files : stores.Files) (start : plain.State) (entries : List Entry) (entry : Entry) (bytes : List ℕ)
-    → StandsAfterPrefix files start entries bytes → StandsAfterPrefix files start (entries ++ entry ∷ []) bytes
-prefix_stays files start entries entry bytes is = record {
-  prefix = is.prefix;
-  rest = is.rest ++ entry ∷ [];
-  split = longer entries is.prefix is.rest entry is.split;
-  after = is.after;
-  legal = is.legal;
-  stands = is.stands;
-}
+module _ (Stands : plain.State → Type 0) where
+  -- a prefix of the entries is one of more entries
+  pub prefix_stays : (start : plain.State) (entries : List Entry) (entry : Entry)
+      → StandsAfterPrefix Stands start entries → StandsAfterPrefix Stands start (entries ++ entry ∷ [])
+  prefix_stays start entries entry is = record {
+    prefix = is.prefix;
+    rest = is.rest ++ entry ∷ [];
+    split = longer entries is.prefix is.rest entry is.split;
+    after = is.after;
+    legal = is.legal;
+    stands = is.stands;
+  }
 
--- all entries are a prefix
-pub whole_prefix : (files : stores.Files) (start after : plain.State) (entries : List Entry) (bytes : List ℕ)
-    → IsLegal start entries after → StandsAfter files after entries bytes
-    → StandsAfterPrefix files start entries bytes
-whole_prefix files start after entries bytes legal stands = record {
-  prefix = entries;
-  rest = [];
-  split = sym (append-nil entries);
-  after = after;
-  legal = legal;
-  stands = stands;
-}
+  -- all entries are a prefix
+  pub whole_prefix : (start after : plain.State) (entries : List Entry) → IsLegal start entries after
+      → StandsAfter Stands after entries → StandsAfterPrefix Stands start entries
+  whole_prefix start after entries legal stands = record {
+    prefix = entries;
+    rest = [];
+    split = sym (append-nil entries);
+    after = after;
+    legal = legal;
+    stands = stands;
+  }
+
+  -- so is none of them
+  pub no_prefix : (start : plain.State) (entries : List Entry) → Stands start → StandsAfterPrefix Stands start entries
+  no_prefix start entries is =
+      record { prefix = []; rest = entries; split = refl; after = start; legal = refl; stands = inl is }
+
+-- what stands for a state in one way stands for it in another
+module _ (Stands Wider : plain.State → Type 0) (wider : (at : plain.State) → Stands at → Wider at) where
+  pub after_wider : (after : plain.State) (entries : List Entry) → StandsAfter Stands after entries
+      → StandsAfter Wider after entries
+  after_wider after entries (inl is) = inl (wider after is)
+  after_wider after entries (inr (command, doubt, is)) =
+      inr (command, doubt, wider (state_after after command (Plain answer.Done)) is)
+
+  pub prefix_wider : (start : plain.State) (entries : List Entry) → StandsAfterPrefix Stands start entries
+      → StandsAfterPrefix Wider start entries
+  prefix_wider start entries is = record {
+    prefix = is.prefix;
+    rest = is.rest;
+    split = is.split;
+    after = is.after;
+    legal = is.legal;
+    stands = after_wider is.after is.prefix is.stands;
+  }
 
 -- ---- what is in doubt
 
@@ -177,7 +201,7 @@ last_doubt entries at command reply change is accepts = record {
 -- the log stands for the state after the entries, or for the one in doubt
 pub stands_after : (files : stores.Files) (at : plain.State) (entries : List Entry) (doubt : Option plain.State)
     (bytes : List ℕ) → MayDoubt entries at doubt → StandsForOneOf files bytes at doubt
-    → StandsAfter files at entries bytes
+    → StandsAfter (StandsFor files bytes) at entries
 stands_after files at entries None bytes may is = inl is
 stands_after files at entries (Some other) bytes may (inl is) = inl is
 stands_after files at entries (Some other) bytes (inl none) (inr is) = absurd cc

@@ -9,7 +9,7 @@ use Rattle.std.proofs.lemmas.List.Sums.{sum_by_push}
 use Rattle.std.proofs.Math.Seq.{take-length}
 use Rattle.tsdb_base.specs.declared.answers.Answer.TheVariants as answer
 use Rattle.tsdb_history.proofs.Entries.{AreEntries-push, IsComplete-push, command_of-last, length-commands_of-push}
-use Rattle.tsdb_history.specs.History.{IsHistory, commands_of, is_device, is_device_reply}
+use Rattle.tsdb_history.specs.History.{IsHistory, IsInLineOrder, commands_of, is_device, is_device_reply}
 use Rattle.tsdb_history.specs.History.{session_numbers}
 use Rattle.tsdb_history.specs.declared.told.Told.{Told}
 use Rattle.tsdb_map.specs.History.{Entry}
@@ -23,19 +23,16 @@ abbrev pub Count : List ℕ → List Numbered → Type 0
 Count counts script = (session : ℕ) → session < session_numbers
     → slice_index counts session ≡ length (commands_of script session)
 
--- the commands are answered, and those of each session are counted
+-- the commands are answered in their order, and those of each session are counted
 pub record SoFar (script : List Numbered) (history : List Told) (entries : List Entry) (counts : List ℕ) : Type 0 where
   pub history_of : IsHistory script history entries
+  pub in_line_order : IsInLineOrder script history
   pub counts_are : Count counts script
 
 pub nothing_so_far : (counts : List ℕ) → ((at : ℕ) → slice_index counts at ≡ 0) → SoFar [] [] [] counts
 nothing_so_far counts none = record {
-  history_of = record {
-    in_line_order = refl;
-    complete = λ session. (refl, λ k told is. cc);
-    answers = refl;
-    commands = refl;
-  };
+  history_of = record { complete = λ session. (refl, λ k told is. cc); answers = refl };
+  in_line_order = refl;
   counts_are = λ session lt. none session;
 }
 
@@ -97,14 +94,11 @@ one_more script history entries counts next numbered told so_far long within sam
     let index = at ∙ so_far.counts_are numbered.session within in
     record {
       history_of = record {
-        in_line_order = pushed (λ t. t.session) (λ n. n.session) history script told numbered
-            so_far.history_of.in_line_order same;
         complete = IsComplete-push script history numbered told same index so_far.history_of.complete;
         answers = AreEntries-push script numbered history told entries so_far.history_of.answers
             (command_of-last script history numbered told same index);
-        commands = pushed (λ e. e.command) (λ n. n.command) entries script
-            (record { command = numbered.command; reply = told.reply }) numbered so_far.history_of.commands refl;
       };
+      in_line_order = pushed (λ t. t.session) (λ n. n.session) history script told numbered so_far.in_line_order same;
       counts_are = Count-push counts next script numbered long within is so_far.counts_are;
     }
 

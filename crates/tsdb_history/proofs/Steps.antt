@@ -64,7 +64,7 @@ module _ {J F S R P : Type 0} {means : disk.Ghosts J} {counts : counted.Ghosts J
     serving = more_files laws core files [] start None is;
     moments = idle (disk_under core) (LeavesPrefix (files ++ []) (slot_under core) start [])
         (laws core.logged.frames.journal)
-        (λ image left there holds. whole_prefix there start start [] (in_slot (slot_under core) image) refl
+        (λ image left there holds. whole_prefix (StandsFor there (in_slot (slot_under core) image)) start start [] refl
         (inl (image_left laws core files start None image is left there (each_left (Held there) files [] holds))));
     listed = λ listing ends. absurd (none_listed listing ends);
   }
@@ -100,21 +100,21 @@ module _ {J F S R P : Type 0} {means : disk.Ghosts J} {counts : counted.Ghosts J
 
     -- the log stands for the state before the command, or for the one in doubt
     before : (there : stores.Files) (bytes : List ℕ) → StandsForOneOf there bytes at so_far.doubt
-        → StandsAfterPrefix there start all bytes
-    before there bytes is = prefix_stays there start entries entry bytes
-        (whole_prefix there start at entries bytes so_far.legal
+        → StandsAfterPrefix (StandsFor there bytes) start all
+    before there bytes is = prefix_stays (StandsFor there bytes) start entries entry
+        (whole_prefix (StandsFor there bytes) start at entries so_far.legal
         (stands_after there at entries so_far.doubt bytes so_far.may is))
 
     stands_still : (there : stores.Files) (bytes : List ℕ) → StandsFor there bytes at
-        → StandsAfterPrefix there start all bytes
-    stands_still there bytes is = prefix_stays there start entries entry bytes
-        (whole_prefix there start at entries bytes so_far.legal (inl is))
+        → StandsAfterPrefix (StandsFor there bytes) start all
+    stands_still there bytes is = prefix_stays (StandsFor there bytes) start entries entry
+        (whole_prefix (StandsFor there bytes) start at entries so_far.legal (inl is))
 
     -- the command led to the state `later`, where it took effect
     module _ (later then : plain.State) (same : then ≡ now)
         (served : IsServedBy (IsDrawn mid new) mid new held at so_far.doubt later then)
         (stands_later : (there : stores.Files) (bytes : List ℕ) → StandsFor there bytes later
-        → StandsAfterPrefix there start all bytes) where
+        → StandsAfterPrefix (StandsFor there bytes) start all) where
       abbrev put : List StoredFile
       put = so_far.put ++ served.put
 
@@ -128,11 +128,11 @@ module _ {J F S R P : Type 0} {means : disk.Ghosts J} {counts : counted.Ghosts J
       holds_all there holds = subst (λ list. HoldsKept list there) (sym joined) holds
 
       begins : (image : Image) → LeavesPrefix held (slot_under first) start entries image → AtAll image
-      begins image leaves there holds = prefix_stays there start entries entry (in_slot (slot_under first) image)
-          (leaves there (each_left (Held there) held served.put (holds_all there holds)))
+      begins image leaves there holds = prefix_stays (StandsFor there (in_slot (slot_under first) image)) start entries
+          entry (leaves there (each_left (Held there) held served.put (holds_all there holds)))
 
       one_of : (there : stores.Files) (bytes : List ℕ) → StandsForOneOf there bytes at (Some later)
-          → StandsAfterPrefix there start all bytes
+          → StandsAfterPrefix (StandsFor there bytes) start all
       one_of there bytes (inl is) = stands_still there bytes is
       one_of there bytes (inr is) = stands_later there bytes is
 
@@ -241,20 +241,20 @@ module _ {J F S R P : Type 0} {means : disk.Ghosts J} {counts : counted.Ghosts J
         by (inr rest) = query_doubt answered.served.doubt rest.1 (so_far.settled rest.0) answered.doubtful
 
     tried : ((there : stores.Files) (bytes : List ℕ) → StandsFor there bytes done
-        → StandsAfterPrefix there start all bytes) → HasServed first new files start all
+        → StandsAfterPrefix (StandsFor there bytes) start all) → HasServed first new files start all
     tried stands = led done now refl answered.served stands doubted settled_then
 
     -- it was done
     done_stands : reply ≡ Plain answer.Done → (there : stores.Files) (bytes : List ℕ) → StandsFor there bytes done
-        → StandsAfterPrefix there start all bytes
-    done_stands is there bytes stands = whole_prefix there start now all bytes legal_all
+        → StandsAfterPrefix (StandsFor there bytes) start all
+    done_stands is there bytes stands = whole_prefix (StandsFor there bytes) start now all legal_all
         (inl (subst (StandsFor there bytes) (ap (state_after at command) (sym is)) stands))
 
     -- its device failed
     doubt_stands : IsChange command → reply ≡ Plain answer.Device → reply_of at.world command ≡ Plain answer.Done
-        → (there : stores.Files) (bytes : List ℕ) → StandsFor there bytes done → StandsAfterPrefix there start all bytes
-    doubt_stands change is accepts there bytes stands = whole_prefix there start now all bytes legal_all
-        (subst (λ state. StandsAfter there state all bytes) (sym (ap (state_after at command) is))
+        → (there : stores.Files) (bytes : List ℕ) → StandsFor there bytes done → StandsAfterPrefix (StandsFor there bytes) start all
+    doubt_stands change is accepts there bytes stands = whole_prefix (StandsFor there bytes) start now all legal_all
+        (subst (λ state. StandsAfter (StandsFor there bytes) state all) (sym (ap (state_after at command) is))
         (inr (command, last_doubt entries at command reply change is accepts, stands)))
 
     -- ---- a change whose record cannot have been written

@@ -1,17 +1,27 @@
 -- Which commands of a script the replies of a history belong to.
-use Rattle.std.specs.Prelude.{◌≡◌, ℕ, ◌==◌, Bool, true, false, List, Option, Some, map, filter, length, slice_get}
+use Rattle.std.specs.Prelude.{◌≡◌, ℕ, ◌==◌, ◌<◌, ◌≤◌, Bool, true, false, All, List, Option, Some, map, filter, length}
+use Rattle.std.specs.Prelude.{slice_get}
 use Rattle.std.specs.Option.{option_map}
 use Rattle.tsdb_base.specs.declared.answers.Answer.TheVariants as answer
 use Rattle.tsdb_history.specs.declared.told.Told.{Told}
+use Rattle.tsdb_map.specs.Commands.{IsWellFormed}
 use Rattle.tsdb_map.specs.History.{Entry}
 use Rattle.tsdb_map.specs.declared.command.Command.{Command}
 use Rattle.tsdb_map.specs.declared.reply.Reply.{Reply}
 use Rattle.tsdb_map.specs.declared.reply.Reply.TheVariants.{Plain}
+use Rattle.tsdb_script.specs.Limits.{max_commands}
 use Rattle.tsdb_script.specs.declared.numbered.Numbered.{Numbered}
 
 -- every number of a session is below this
 abbrev pub session_numbers : ℕ
 session_numbers = 1000
+
+-- These commands can be executed: they are as many as a script may have, their sessions have such numbers, and each is
+-- well-formed.
+pub record CanExecute (script : List Numbered) : Type 0 where
+  pub few : length script ≤ max_commands
+  pub sessions : All (λ numbered. numbered.session < session_numbers) script
+  pub well_formed : All (λ numbered. IsWellFormed numbered.command) script
 
 -- the commands of a session, in its order
 abbrev pub commands_of : List Numbered → ℕ → List Command
@@ -41,12 +51,14 @@ entry_of script told =
 abbrev pub AreEntries : List Numbered → List Told → List Entry → Type 0
 AreEntries script history entries = map (entry_of script) history ≡ map Some entries
 
--- the replies to the commands of a script, in the order of its lines
+-- the replies to the commands of a script
 pub record IsHistory (script : List Numbered) (history : List Told) (entries : List Entry) : Type 0 where
-  pub in_line_order : map (λ told. told.session) history ≡ map (λ numbered. numbered.session) script
   pub complete : IsComplete script history
   pub answers : AreEntries script history entries
-  pub commands : map (λ entry. entry.command) entries ≡ map (λ numbered. numbered.command) script
+
+-- the commands took place in the order of the script's lines
+abbrev pub IsInLineOrder : List Numbered → List Told → Type 0
+IsInLineOrder script history = map (λ told. told.session) history ≡ map (λ numbered. numbered.session) script
 
 -- whether something outside failed under a command that was answered so
 abbrev pub is_device_reply : Reply → Bool

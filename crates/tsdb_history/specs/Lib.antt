@@ -1,4 +1,5 @@
 pub mod History
+pub mod Rooms
 pub mod Prefixes
 pub mod Reach
 pub mod Serves

@@ -1,19 +1,11 @@
--- The listing that the last command of a history was answered, and what it lists.
-use Rattle.std.specs.Prelude.{◌≡◌, ℕ, List, [], ◌∷◌, ◌++◌}
+-- The store that a listing lists.
+use Rattle.std.specs.Prelude.{ℕ, List, ◌++◌}
 use Rattle.std.specs.List.{AllByRecursion as Each}
 use Rattle.tsdb_core.specs.Listings.{ListsStore}
-use Rattle.tsdb_map.specs.History.{Entry}
-use Rattle.tsdb_map.specs.declared.command.Command.TheVariants.{ShowFiles}
 use Rattle.tsdb_map.specs.declared.reply.Listing.{Listing}
-use Rattle.tsdb_map.specs.declared.reply.Reply.TheVariants.{Files as Listed}
 use Rattle.tsdb_replay.specs.Replays.{IsReplayOf}
 use Rattle.tsdb_replay.specs.Stores.{Files, IsWhole, Recorded, store_steps}
 use Rattle.tsdb_state.specs.State.{Told}
-
--- the last of these entries is `show files`, answered with this listing
-abbrev pub EndsListed : List Entry → Listing → Type 0
-EndsListed entries listing =
-    (before : List Entry) × (entries ≡ before ++ (record { command = ShowFiles; reply = Listed listing } ∷ []))
 
 -- The log in these bytes of a slot has a replay, and with the points that these files have the listing is that of its
 -- store.

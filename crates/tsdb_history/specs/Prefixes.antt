@@ -1,13 +1,14 @@
--- What a log stands for with its files after the entries of a history, or after a prefix of them: the state that they
--- lead to, or that with the one change in doubt.
-use Rattle.std.specs.Prelude.{◌≡◌, ◌⊎◌, ℕ, List, ◌∷◌, ◌++◌, All}
+-- What a store stands for after the entries of a history, or after a prefix of them: the state that they lead to, or that
+-- with the one change in doubt. `Stands` says for which states it stands.
+use Rattle.std.specs.Prelude.{◌≡◌, ◌⊎◌, List, [], ◌∷◌, ◌++◌, All}
 use Rattle.tsdb_base.specs.declared.answers.Answer.TheVariants as answer
 use Rattle.tsdb_map.specs.Apply.{reply_of}
 use Rattle.tsdb_map.specs.History.{DrawsNumbers, Entry, IsChange, IsLegal, state_after}
 use Rattle.tsdb_map.specs.State as plain
 use Rattle.tsdb_map.specs.declared.command.Command.{Command}
-use Rattle.tsdb_map.specs.declared.reply.Reply.TheVariants.{Plain}
-use Rattle.tsdb_replay.specs.Stores.{Files, StandsFor}
+use Rattle.tsdb_map.specs.declared.command.Command.TheVariants.{ShowFiles}
+use Rattle.tsdb_map.specs.declared.reply.Listing.{Listing}
+use Rattle.tsdb_map.specs.declared.reply.Reply.TheVariants.{Plain, Files}
 
 -- a change that was done
 abbrev pub IsDone : Entry → Type 0
@@ -23,21 +24,19 @@ pub record IsInDoubt (entries : List Entry) (after : plain.State) (command : Com
   pub change : IsChange command
   pub accepted : reply_of after.world command ≡ Plain answer.Done
 
--- the log in these bytes stands with the files for the state after these entries, or for it with the change in doubt
-abbrev pub StandsAfter : Files → plain.State → List Entry → List ℕ → Type 0
-StandsAfter files after entries bytes = StandsFor files bytes after
-    ⊎ ((command : Command) × IsInDoubt entries after command
-    × StandsFor files bytes (state_after after command (Plain answer.Done)))
+-- it stands for the state after these entries, or for that with the change in doubt
+abbrev pub StandsAfter : (plain.State → Type 0) → plain.State → List Entry → Type 0
+StandsAfter Stands after entries = Stands after ⊎ ((command : Command) × IsInDoubt entries after command
+    × Stands (state_after after command (Plain answer.Done)))
 
--- the log in these bytes stands with the files for the state after a prefix of these entries, from this start
-pub record StandsAfterPrefix (files : Files) (start : plain.State) (entries : List Entry) (bytes : List ℕ)
-    : Type 0 where
+-- it stands for the state after a prefix of these entries, from this start
+pub record StandsAfterPrefix (Stands : plain.State → Type 0) (start : plain.State) (entries : List Entry) : Type 0 where
   pub prefix : List Entry
   pub rest : List Entry
   pub split : entries ≡ prefix ++ rest
   pub after : plain.State
   pub legal : IsLegal start prefix after
-  pub stands : StandsAfter files after prefix bytes
+  pub stands : StandsAfter Stands after prefix
 
 -- a command that neither changes the map nor writes a file
 abbrev pub IsQuery : Command → Type 0
@@ -51,3 +50,8 @@ pub record EndsDone (entries : List Entry) : Type 0 where
   pub split : entries ≡ before ++ (last ∷ later)
   pub done : IsDone last
   pub since : All (λ entry. IsQuery entry.command) later
+
+-- the last of these entries is `show files`, answered with this listing
+abbrev pub EndsListed : List Entry → Listing → Type 0
+EndsListed entries listing =
+    (before : List Entry) × (entries ≡ before ++ (record { command = ShowFiles; reply = Files listing } ∷ []))

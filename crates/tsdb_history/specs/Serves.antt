@@ -7,9 +7,8 @@ use Rattle.tsdb_core.specs.Beginnings.{IsCrossRuns, IsInnerRuns}
 use Rattle.tsdb_core.specs.Core.{next_of, working_of}
 use Rattle.tsdb_core.specs.Listings.{TellsStore}
 use Rattle.tsdb_core.specs.declared.engine.Core.{Core}
-use Rattle.tsdb_history.specs.History.{IsHistory}
-use Rattle.tsdb_history.specs.Listings.{EndsListed}
-use Rattle.tsdb_history.specs.Prefixes.{EndsDone, IsInDoubt, StandsAfterPrefix}
+use Rattle.tsdb_history.specs.History.{IsHistory, IsInLineOrder}
+use Rattle.tsdb_history.specs.Prefixes.{EndsDone, EndsListed, IsInDoubt, StandsAfterPrefix}
 use Rattle.tsdb_history.specs.Reach.{AreFullWithin}
 use Rattle.tsdb_history.specs.declared.told.Told.{Told}
 use Rattle.tsdb_map.specs.History.{Entry, IsLegal, state_after}
@@ -25,7 +24,7 @@ use Rattle.tsdb_outside.specs.Moments.{LeavesOnly}
 use Rattle.tsdb_outside.specs.declared.disk.Disk as disk
 use Rattle.tsdb_outside.specs.declared.disk.Slot.{Slot}
 use Rattle.tsdb_outside.specs.declared.faults.Counted as counted
-use Rattle.tsdb_replay.specs.Stores.{Files, HoldsKept}
+use Rattle.tsdb_replay.specs.Stores.{Files, HoldsKept, StandsFor}
 use Rattle.tsdb_rewriting.specs.Rewriting.{IsCompacted}
 use Rattle.tsdb_rows.specs.Fits.{HasNoPoint}
 use Rattle.tsdb_script.specs.declared.numbered.Numbered.{Numbered}
@@ -41,7 +40,7 @@ MayDoubt entries after doubt = (doubt ≡ None) ⊎ ((doubt ≡ Some after)
 -- with whatever files hold these, what a stop left in the slot stands for the state after a prefix of the entries
 abbrev pub LeavesPrefix : List StoredFile → Slot → plain.State → List Entry → Image → Type 0
 LeavesPrefix kept slot start entries image =
-    (files : Files) → HoldsKept kept files → StandsAfterPrefix files start entries (in_slot slot image)
+    (files : Files) → HoldsKept kept files → StandsAfterPrefix (StandsFor files (in_slot slot image)) start entries
 
 module _ {J F S R P : Type 0} {means : disk.Ghosts J} {counts : counted.Ghosts J} where
   -- All points are in files: no pair is frozen, and the working pair has no point.
@@ -78,12 +77,13 @@ module _ {J F S R P : Type 0} {means : disk.Ghosts J} {counts : counted.Ghosts J
         (LeavesPrefix (files ++ put) (slot_under old) start entries)
     pub listed : (listing : Listing) → EndsListed entries listing → TellsStore new listing
 
-  -- The commands of a script were executed. Where the store tells what its files hold, they were served from each state
-  -- that the core may have been in.
+  -- The commands of a script were executed, in the order of its lines. Where the store tells what its files hold, they
+  -- were served from each state that the core may have been in.
   pub record HasExecuted (script : List Numbered) (history : List Told) (tells : Bool)
       (old new : Core J F S R P means counts)
       : Type 0 where
     pub entries : List Entry
     pub history_of : IsHistory script history entries
+    pub in_line_order : IsInLineOrder script history
     pub served : tells ≡ true → (files : List StoredFile) (start : plain.State) → IsServing old files start None
         → HasServed old new files start entries

@@ -14,7 +14,7 @@ use tsdb_outside::Disk;
 /// first's, with the one change in doubt or without.
 pub fn runs_join()
     ensures { (files : Files) (bytes : List ℕ) (start middle last : plain.State) (first second : List Entry)
-        → StandsAfterPrefix files start first bytes → StandsFor files bytes middle → IsLegal middle second last
+        → StandsAfterPrefix (StandsFor files bytes) start first → StandsFor files bytes middle → IsLegal middle second last
         → IsJoined start first second last }
 {}
 

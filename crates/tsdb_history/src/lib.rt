@@ -5,11 +5,13 @@
 mod closing;
 mod executing;
 mod laws;
+mod room;
 mod serving;
 mod told;
 
 pub use closing::close;
-pub use executing::{Room, execute};
+pub use executing::execute;
 pub use laws::{a_new_store_is_sound, runs_join};
+pub use room::Room;
 pub use serving::serve;
 pub use told::Told;

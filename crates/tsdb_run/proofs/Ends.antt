@@ -1,21 +1,21 @@
 -- What the clauses of a run say by its status.
 use Rattle.std.proofs.Common.{◌≡◌, ◌≢◌, ◌⊎◌, ◌∙◌, inl, inr, ℕ, ◌+◌, ◌<◌, ◌≤◌, List, [], Option, None, Some, refl, sym}
-use Rattle.std.proofs.Common.{Result, Ok, Err, arith, subst}
+use Rattle.std.proofs.Common.{Result, Ok, Err, ap, arith, subst}
 use Rattle.std.specs.Prelude.{◌↔◌, ◌-◌, ◌^◌, min, IfErr, IfSome}
+use Rattle.tsdb_history.specs.History.{IsInLineOrder}
 use Rattle.tsdb_history.specs.declared.told.Told.{Told}
-use Rattle.tsdb_map.specs.State as plain
 use Rattle.tsdb_outside.specs.Causes.{Rose}
 use Rattle.tsdb_run.proofs.Refused.{idle, without_any}
-use Rattle.tsdb_run.specs.Causes.{AreGoodWords, IsBeforeStore, IsDoneOrMemory, IsGoodScript, IsRefusedStore, IsTakenUp}
+use Rattle.tsdb_run.specs.Causes.{AreGoodWords, IsBeforeStore, IsDoneOrMemory, IsGoodScript, IsRefusedStore}
 use Rattle.tsdb_run.specs.Causes.{ReportsBad, ReportsDamageOf, TellsDevice, TellsFaults}
-use Rattle.tsdb_run.specs.Headline.{Headline}
+use Rattle.tsdb_run.specs.Headline.{Headline, IsTakenUp, KeepsLineOrder}
 use Rattle.tsdb_run.proofs.Prefix.{bad-line}
 use Rattle.tsdb_run.specs.Input.{TakesScript}
 use Rattle.tsdb_run.specs.Steps.{EndsInput, IsServedStatus, IsWritten, script_status}
-use Rattle.tsdb_run.specs.Store.{Contents, IsSound}
+use Rattle.tsdb_run.specs.Store.{Contents}
 use Rattle.tsdb_run.specs.declared.status.Status.{Status}
 use Rattle.tsdb_run.specs.declared.status.Status.TheVariants.{Done, Memory, Words, Script, Source, Sink, Device, Damaged}
-use Rattle.tsdb_script.proofs.ReadingLemmas.{not_both, same_first_bad}
+use Rattle.tsdb_script.proofs.ReadingLemmas.{not_both, same_first_bad, same_script}
 use Rattle.tsdb_script.specs.Reading.{IsFirstBad, IsScript, RefusesScript}
 use Rattle.tsdb_script.specs.declared.fault.ScriptFault.{ScriptFault}
 use Rattle.tsdb_script.specs.declared.fault.ScriptFault.TheVariants as script_fault
@@ -129,14 +129,8 @@ module _ (words : List (List ℕ)) (left : Option (List ℕ)) where
   ends_good_words (Damaged part at) is other = absurd is
 
   pub ends_unrefused : (status : Status) → EndsInput words left status → ¬ IsRefusedStore status
-  ends_unrefused Device is refused = is
-  ends_unrefused (Damaged part at) is refused = is
-  ends_unrefused Done is refused = refused
-  ends_unrefused Memory is refused = refused
-  ends_unrefused Words is refused = refused
-  ends_unrefused (Script line kind) is refused = refused
-  ends_unrefused Source is refused = refused
-  ends_unrefused Sink is refused = refused
+  ends_unrefused status is (inl same) = subst (EndsInput words left) same is
+  ends_unrefused status is (inr (part, at, same)) = subst (EndsInput words left) same is
 
   pub ends_headline : (place : Contents) (rose : Type 0) (directory : Option (List ℕ)) (status : Status)
       (history : List Told) (held : Option (List ℕ)) → EndsInput words left status → history ≡ []
@@ -154,15 +148,19 @@ module _ (words : List (List ℕ)) (left : Option (List ℕ)) where
   ends_headline place rose directory Device history held is none = absurd is
   ends_headline place rose directory (Damaged part at) history held is none = absurd is
 
+  same_line : (at which line kind : ℕ) → (at ≡ line) × (which ≡ kind) → Script at which ≡ Script line kind
+  same_line at which line kind same = ap (λ n. Script n which) same.0 ∙ ap (Script line) same.1
+
   pub ends_first_bad : (status : Status) → EndsInput words left status → AreGoodWords words
       → IfSome left (λ bytes. (line kind : ℕ) → IsFirstBad bytes line kind → ReportsBad status line kind)
   ends_first_bad Words none good = absurd (none good)
-  ends_first_bad Memory is good = some_always _ left (λ bytes line kind bad. tt)
+  ends_first_bad Memory is good = some_always _ left (λ bytes line kind bad. inr (inl refl))
   ends_first_bad (Script at which) is good =
       some_more (λ bytes. IsFirstBad bytes at which)
       (λ bytes. (line kind : ℕ) → IsFirstBad bytes line kind → ReportsBad (Script at which) line kind) left
-      (λ bytes first line kind bad. same_first_bad bytes at which line kind first bad) is.1
-  ends_first_bad Source is good = some_always _ left (λ bytes line kind bad. tt)
+      (λ bytes first line kind bad. inl (same_line at which line kind
+      (same_first_bad bytes at which line kind first bad))) is.1
+  ends_first_bad Source is good = some_always _ left (λ bytes line kind bad. inr (inr refl))
   ends_first_bad Done is good = absurd is
   ends_first_bad Sink is good = absurd is
   ends_first_bad Device is good = absurd is
@@ -178,11 +176,9 @@ module _ (words : List (List ℕ)) (left : Option (List ℕ)) where
   pub ends_damaged : (place : Contents) (status : Status) → EndsInput words left status → AreGoodWords words
       → IfSome left (λ bytes. IsGoodScript bytes → ReportsDamageOf place status)
   ends_damaged place Words none good = absurd (none good)
-  ends_damaged place Memory is good =
-      some_always _ left (λ bytes script image files part at tells lengths damaged. tt)
+  ends_damaged place Memory is good = some_always _ left (λ bytes script part at damaged. inr (inl refl))
   ends_damaged place (Script line kind) is good = script_is_bad (ReportsDamageOf place (Script line kind)) line kind is.1
-  ends_damaged place Source is good =
-      some_always _ left (λ bytes script image files part at tells lengths damaged. tt)
+  ends_damaged place Source is good = some_always _ left (λ bytes script part at damaged. inr (inr (inl refl)))
   ends_damaged place Done is good = absurd is
   ends_damaged place Sink is good = absurd is
   ends_damaged place Device is good = absurd is
@@ -192,7 +188,7 @@ module _ (words : List (List ℕ)) (left : Option (List ℕ)) where
   pub ends_complete : (X : Type 0) (status : Status) → EndsInput words left status → (status ≡ Source → X)
       → AreGoodWords words → IfSome left (λ bytes. IsGoodScript bytes → ¬ X → IsDoneOrMemory status)
   ends_complete X Words none source good = absurd (none good)
-  ends_complete X Memory is source good = some_always _ left (λ bytes script calm. tt)
+  ends_complete X Memory is source good = some_always _ left (λ bytes script calm. inr refl)
   ends_complete X (Script line kind) is source good =
       script_is_bad (¬ X → IsDoneOrMemory (Script line kind)) line kind is.1
   ends_complete X Source is source good = some_always _ left (λ bytes script calm. absurd (calm (source refl)))
@@ -214,23 +210,33 @@ module _ (left : Option (List ℕ)) (script : List Numbered) (read : IfSome left
       (λ bytes. (line kind : ℕ) → IsFirstBad bytes line kind → ReportsBad status line kind) left
       (λ bytes is line kind bad. absurd (not_both bytes script line kind is bad)) read
 
+-- the commands took place in the order of the script's lines
+pub read_in_order : (left : Option (List ℕ)) (script : List Numbered) (history : List Told)
+    → IfSome left (λ bytes. IsScript bytes script) → (history ≡ []) ⊎ IsInLineOrder script history
+    → IfSome left (λ bytes. KeepsLineOrder bytes history)
+read_in_order left script history read ordered =
+    some_more (λ bytes. IsScript bytes script) (λ bytes. KeepsLineOrder bytes history) left
+    (λ bytes is other also. subst (λ s. (history ≡ []) ⊎ IsInLineOrder s history)
+    (same_script bytes script other is also) ordered) read
+
 pub served_untouched : (status : Status) → IsServedStatus status → ¬ IsBeforeStore status
-served_untouched Words is before = is
-served_untouched (Script line kind) is before = is
-served_untouched Source is before = is
-served_untouched Done is before = before
-served_untouched Memory is before = before
-served_untouched Sink is before = before
-served_untouched Device is before = before
-served_untouched (Damaged part at) is before = before
+served_untouched status is (inl same) = subst IsServedStatus same is
+served_untouched status is (inr (inl same)) = subst IsServedStatus same is
+served_untouched status is (inr (inr (line, kind, same))) = subst IsServedStatus same is
+
+-- nor is one refused whose output was written, or a part of it
+pub written_unrefused : (status : Status) (old new : Option (List ℕ)) (text : List ℕ) → IsWritten status old new text
+    → ¬ IsRefusedStore status
+written_unrefused status old new text is (inl same) = subst (λ s. IsWritten s old new text) same is
+written_unrefused status old new text is (inr (part, at, same)) = subst (λ s. IsWritten s old new text) same is
 
 pub served_complete : (X Y : Type 0) (status : Status) → IsServedStatus status → (status ≡ Sink → X)
     → (IsRefusedStore status → Y) → ¬ X → ¬ Y → IsDoneOrMemory status
-served_complete X Y Done is sink store no_sink calm = tt
-served_complete X Y Memory is sink store no_sink calm = tt
+served_complete X Y Done is sink store no_sink calm = inl refl
+served_complete X Y Memory is sink store no_sink calm = inr refl
 served_complete X Y Sink is sink store no_sink calm = absurd (no_sink (sink refl))
-served_complete X Y Device is sink store no_sink calm = absurd (calm (store tt))
-served_complete X Y (Damaged part at) is sink store no_sink calm = absurd (calm (store tt))
+served_complete X Y Device is sink store no_sink calm = absurd (calm (store (inl refl)))
+served_complete X Y (Damaged part at) is sink store no_sink calm = absurd (calm (store (inr (part, at, refl))))
 served_complete X Y Words is sink store no_sink calm = absurd is
 served_complete X Y (Script line kind) is sink store no_sink calm = absurd is
 served_complete X Y Source is sink store no_sink calm = absurd is

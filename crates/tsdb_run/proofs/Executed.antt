@@ -1,18 +1,18 @@
 -- The entries of a run, from the store that was taken up to the one that was put down.
 use Rattle.std.proofs.Common.{◌≡◌, ◌⊎◌, ◌∙◌, inl, inr, ⊎_elim, ℕ, ◌+◌, ◌<◌, ◌≤◌, List, [], ◌∷◌, ◌++◌, Option, None, Some}
-use Rattle.std.proofs.Common.{Result, Ok, Err, refl, subst, arith}
+use Rattle.std.proofs.Common.{Result, Ok, Err, refl, subst, sym, arith}
 use Rattle.std.specs.Prelude.{◌-◌, ◌^◌, min, IfOk}
 use Rattle.std.specs.List.{AllByRecursion as Each}
 use Rattle.std.specs.Option.{IsSomeAnd}
 use Rattle.tsdb_core.specs.Core.{next_of}
 use Rattle.tsdb_core.specs.declared.engine.Core.{Core}
 use Rattle.tsdb_frames.proofs.MomentLemmas.{leaves_on, weaker}
-use Rattle.tsdb_history.proofs.Prefixes.{stands_after, whole_prefix}
+use Rattle.std.proofs.lemmas.Option.{same_Some}
+use Rattle.tsdb_history.proofs.Prefixes.{after_wider, no_prefix, stands_after, whole_prefix}
 use Rattle.tsdb_history.specs.Closing.{IsClosed}
 use Rattle.tsdb_history.specs.Listings.{IsListingOf}
 use Rattle.tsdb_history.specs.Prefixes.{EndsDone, StandsAfter, StandsAfterPrefix}
 use Rattle.tsdb_history.specs.Serves.{HasServed, LeavesPrefix}
-use Rattle.tsdb_images.proofs.Kept.{found_with_more, holds_found}
 use Rattle.tsdb_images.specs.Stored.{LeavesOneOf, kept_bytes}
 use Rattle.tsdb_layers.proofs.Lists.{each_weaker}
 use Rattle.tsdb_map.specs.History.{Entry}
@@ -27,14 +27,14 @@ use Rattle.tsdb_outside.specs.declared.disk.Slot.{Slot}
 use Rattle.tsdb_outside.specs.declared.disk.Slot.TheVariants.{A}
 use Rattle.tsdb_outside.specs.declared.faults.Counted as counted
 use Rattle.tsdb_recovery.specs.Stored.{AreStored}
-use Rattle.tsdb_replay.proofs.Stores.{stands_with_more}
 use Rattle.tsdb_replay.specs.Stores as stores
-use Rattle.tsdb_replay.specs.Stores.{HoldsKept, StandsFor, StandsForOneOf}
+use Rattle.tsdb_replay.specs.Stores.{StandsForOneOf}
 use Rattle.tsdb_run.specs.Headline.{AreNewer, HasRun}
 use Rattle.tsdb_history.specs.declared.told.Told.{Told}
+use Rattle.tsdb_run.proofs.Standing.{all_stand, one_prefix, stands_with_put}
 use Rattle.tsdb_run.proofs.Whole.{sound_after, sound_left}
 use Rattle.tsdb_run.specs.Steps.{IsNewerThan, IsRunOn}
-use Rattle.tsdb_run.specs.Store.{IsSoundOrSilent, contents}
+use Rattle.tsdb_run.specs.Store.{IsSoundOrSilent, StandsFor, contents}
 use Rattle.tsdb_script.specs.declared.numbered.Numbered.{Numbered}
 use Rattle.tsdb_serving.specs.Serving.{IsDrawn, disk_under, slot_under}
 
@@ -52,12 +52,6 @@ keeps_leaves old new P before after keeps each = record {
       (keeps.time.nothing_else old.moment image (omega arith) left));
 }
 
--- the state at the beginning is that after no entry
-begins : (files : stores.Files) (start : plain.State) (entries : List Entry) (bytes : List ℕ) → StandsFor files bytes start
-    → StandsAfterPrefix files start entries bytes
-begins files start entries bytes is =
-    record { prefix = []; rest = entries; split = refl; after = start; legal = refl; stands = inl is }
-
 -- ---- the core
 
 module _ {J F S R P : Type 0} {means : disk.Ghosts J} {counts : counted.Ghosts J}
@@ -70,25 +64,27 @@ module _ {J F S R P : Type 0} {means : disk.Ghosts J} {counts : counted.Ghosts J
 
   after_all : (image : Image) (kept : stores.Files)
       → StandsForOneOf kept (in_slot (slot_under last) image) served.after served.doubt
-      → StandsAfter kept served.after entries (in_slot A image)
+      → StandsAfter (stores.StandsFor kept image.a) served.after entries
   after_all image kept is =
-      stands_after kept served.after entries served.doubt (in_slot A image) served.may
+      stands_after kept served.after entries served.doubt image.a served.may
       (subst (λ (s : Slot). StandsForOneOf kept (in_slot s image) served.after served.doubt) in_a is)
 
   abbrev Prefixed : Image → Type 0
-  Prefixed = LeavesPrefix (files ++ served.put) A start entries
+  Prefixed image = StandsAfterPrefix (StandsFor (files ++ served.put) image) start entries
 
   closing : (image : Image) → LeavesOneOf (files ++ served.put) (slot_under last) served.after served.doubt image
       → Prefixed image
-  closing image leaves = λ kept holds.
-      whole_prefix kept start served.after entries (in_slot A image) served.legal
-      (after_all image kept (leaves kept holds))
+  closing image leaves = one_prefix (files ++ served.put) image start entries (λ kept holds.
+      whole_prefix (stores.StandsFor kept image.a) start served.after entries served.legal
+      (after_all image kept (leaves kept holds)))
 
   moments : LeavesOnly (disk_under core) new Prefixed
   moments =
       leaves_on (disk_under core) (disk_under last) new laws Prefixed
+      (weaker (disk_under core) (disk_under last) (LeavesPrefix (files ++ served.put) A start entries) Prefixed
+      (λ image leaves. one_prefix (files ++ served.put) image start entries leaves)
       (subst (λ (s : Slot). LeavesOnly (disk_under core) (disk_under last)
-      (LeavesPrefix (files ++ served.put) s start entries)) slot served.moments)
+      (LeavesPrefix (files ++ served.put) s start entries)) slot served.moments))
       (weaker (disk_under last) new
       (LeavesOneOf (files ++ served.put) (slot_under last) served.after served.doubt) Prefixed closing closed.moments)
 
@@ -109,19 +105,19 @@ module _ {J F S R P : Type 0} {means : disk.Ghosts J} {counts : counted.Ghosts J
     newer = newer below;
     moments = moments;
     stored = stored;
-    told = told;
-    are_stored = are_stored;
-    held = closed.held;
-    holds = λ image kept left holds. after_all image kept (closed.holds image left kept holds);
+    at_rest = record { told = told; are_stored = are_stored; held = closed.held };
+    holds = λ image left. all_stand stored image served.after entries are_stored
+        (λ kept holds. after_all image kept (closed.holds image left kept holds));
     sound = λ calm. record {
       files = stored;
       told = told;
       are_stored = are_stored;
       sound = subst (λ (s : Slot). stores.IsSound s new (kept_bytes stored) served.after) in_a (closed.sound (by calm));
     };
-    listed = λ calm listing image ends left.
-        subst (λ (s : Slot). IsListingOf (kept_bytes stored) (in_slot s image) listing) in_a
-        (closed.listed (by calm) listing (served.listed listing ends) image left);
+    listed = λ calm listing ends files image there left.
+        subst (λ l. IsListingOf (kept_bytes l) image.a listing) (same_Some stored files (sym told ∙ there))
+        (subst (λ (s : Slot). IsListingOf (kept_bytes stored) (in_slot s image) listing) in_a
+        (closed.listed (by calm) listing (served.listed listing ends) image left));
   }
     where
       are_stored : AreStored stored
@@ -160,29 +156,28 @@ sure_before old new stored now keeps same (inr (start, sound)) =
 module _ (files : List StoredFile) (start : plain.State) (entries : List Entry) (old mid new : State)
     (now : Option (List StoredFile)) (rose : Type 0) (before : IsLawful old) (between : IsLawful mid)
     (behind : IsLawful new) where
+  abbrev prefixed : List StoredFile → Image → Type 0
+  prefixed put image = StandsAfterPrefix (StandsFor (files ++ put) image) start entries
+
   calmer : (more : Type 0) → (rose → more) → (¬ more) ⊎ EndsDone entries → (¬ rose) ⊎ EndsDone entries
   calmer more wider (inl calm) = inl (λ is. calm (wider is))
   calmer more wider (inr ends) = inr ends
 
   -- a call that writes nothing took the store up
   pub run_before : (more : Type 0) → Keeps old mid
-      → ((image : Image) → old.may_leave image → StandsFor (kept_bytes files) image.a start) → (rose → more)
+      → ((image : Image) → old.may_leave image → stores.StandsFor (kept_bytes files) image.a start) → (rose → more)
       → HasRun files start entries mid (contents new now) rose → HasRun files start entries old (contents new now) more
   run_before more keeps stands wider run = record {
     after = run.after;
     legal = run.legal;
     put = run.put;
     newer = run.newer;
-    moments = leaves_on old mid new behind (LeavesPrefix (files ++ run.put) A start entries)
-        (keeps_leaves old mid (LeavesPrefix (files ++ run.put) A start entries) before between keeps
-        (λ image left kept holds. begins kept start entries image.a
-        (stands_with_more (kept_bytes files) kept image.a start
-        (λ number bytes found. holds_found (files ++ run.put) kept holds number bytes
-        (found_with_more files run.put number bytes found)) (stands image left)))) run.moments;
+    moments = leaves_on old mid new behind (prefixed run.put)
+        (keeps_leaves old mid (prefixed run.put) before between keeps
+        (λ image left. no_prefix (StandsFor (files ++ run.put) image) start entries
+        (stands_with_put files run.put image start (stands image left)))) run.moments;
     stored = run.stored;
-    told = run.told;
-    are_stored = run.are_stored;
-    held = run.held;
+    at_rest = run.at_rest;
     holds = run.holds;
     sound = λ calm. run.sound (calmer more wider calm);
     listed = λ calm. run.listed (calmer more wider calm);
@@ -196,18 +191,21 @@ module _ (files : List StoredFile) (start : plain.State) (entries : List Entry) 
     legal = run.legal;
     put = run.put;
     newer = run.newer;
-    moments = leaves_on old mid new behind (LeavesPrefix (files ++ run.put) A start entries) run.moments
-        (keeps_leaves mid new (LeavesPrefix (files ++ run.put) A start entries) between behind keeps
-        (λ image left kept holds. whole_prefix kept start run.after entries image.a run.legal
-        (run.holds image kept left (run.held kept holds))));
+    moments = leaves_on old mid new behind (prefixed run.put) run.moments
+        (keeps_leaves mid new (prefixed run.put) between behind keeps
+        (λ image left. whole_prefix (StandsFor (files ++ run.put) image) start run.after entries run.legal
+        (after_wider (StandsFor run.stored image) (StandsFor (files ++ run.put) image)
+        (λ at stands kept holds. stands kept (run.at_rest.held kept holds)) run.after entries (run.holds image left))));
     stored = run.stored;
-    told = same ∙ run.told;
-    are_stored = run.are_stored;
-    held = run.held;
-    holds = λ image kept left holds. run.holds image kept (keeps.crash image left) holds;
+    at_rest = record {
+      told = same ∙ run.at_rest.told;
+      are_stored = run.at_rest.are_stored;
+      held = run.at_rest.held;
+    };
+    holds = λ image left. run.holds image (keeps.crash image left);
     sound = λ calm. sound_after mid new now then run.after keeps same (run.sound (calmer more wider calm));
-    listed = λ calm listing image ends left.
-        run.listed (calmer more wider calm) listing image ends (keeps.crash image left);
+    listed = λ calm listing ends stored image there left.
+        run.listed (calmer more wider calm) listing ends stored image (sym same ∙ there) (keeps.crash image left);
   }
 
 -- the script was executed on the store of a journal, which a place handed out and took back
@@ -220,6 +218,7 @@ placed script history old journal last new stored at_rest rest now rose more one
     record {
       entries = run.entries;
       history_of = run.history_of;
+      in_line_order = run.in_line_order;
       served = λ start sound.
           let inside = sound_after old journal stored at_rest start takes same sound in
           run_behind sound.files start run.entries old last new rest rose one three four now more puts told wider

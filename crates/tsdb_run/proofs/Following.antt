@@ -1,7 +1,8 @@
 -- A run that begins on what another one left.
-use Rattle.std.proofs.Common.{◌≡◌, ◌∙◌, ℕ, List, Option, Some, sym, subst}
+use Rattle.std.proofs.Common.{◌∙◌, List, Option, sym, subst}
 use Rattle.std.proofs.lemmas.Option.{same_Some}
 use Rattle.tsdb_history.proofs.Joined.{followed}
+use Rattle.tsdb_history.proofs.Prefixes.{after_wider}
 use Rattle.tsdb_history.specs.Joining.{IsFollowed}
 use Rattle.tsdb_images.specs.Stored.{kept_bytes}
 use Rattle.tsdb_map.specs.History.{Entry, IsLegal}
@@ -9,10 +10,10 @@ use Rattle.tsdb_map.specs.State as plain
 use Rattle.tsdb_outside.specs.Disk.{IsLawful, State}
 use Rattle.tsdb_outside.specs.Files.{StoredFile}
 use Rattle.tsdb_recovery.proofs.Rest.{holds_itself}
-use Rattle.tsdb_replay.specs.Stores.{StandsFor}
+use Rattle.tsdb_replay.specs.Stores as replay
 use Rattle.tsdb_run.proofs.Whole.{tells_sound}
 use Rattle.tsdb_run.specs.Headline.{HasRun}
-use Rattle.tsdb_run.specs.Store.{IsSound, contents}
+use Rattle.tsdb_run.specs.Store.{IsSound, StandsFor, contents}
 
 pub follows : (old new : State) (now : Option (List StoredFile)) → IsLawful new → (files : List StoredFile)
     (start middle last : plain.State) (first second : List Entry) (rose : Type 0)
@@ -20,8 +21,10 @@ pub follows : (old new : State) (now : Option (List StoredFile)) → IsLawful ne
     → IsLegal middle second last → IsFollowed start first second last
 follows old new now laws files start middle last first second rose run sound legal =
     let tells = tells_sound new now middle sound in
-    let same = same_Some sound.files run.stored (sym sound.told ∙ run.told) in
+    let same = same_Some sound.files run.stored (sym sound.told ∙ run.at_rest.told) in
     followed (kept_bytes run.stored) tells.0.a start run.after middle last first second run.legal
-    (run.holds tells.0 (kept_bytes run.stored) (laws.seen_may_stay tells.0 tells.1.slots)
-    (holds_itself run.stored run.are_stored.differ))
-    (subst (λ list. StandsFor (kept_bytes list) tells.0.a middle) same (sound.sound.stands tells.0 tells.1.slots)) legal
+    (after_wider (StandsFor run.stored tells.0) (replay.StandsFor (kept_bytes run.stored) tells.0.a)
+    (λ at stands. stands (kept_bytes run.stored) (holds_itself run.stored run.at_rest.are_stored.differ)) run.after first
+    (run.holds tells.0 (laws.seen_may_stay tells.0 tells.1.slots)))
+    (subst (λ list. replay.StandsFor (kept_bytes list) tells.0.a middle) same
+    (sound.sound.stands tells.0 tells.1.slots)) legal

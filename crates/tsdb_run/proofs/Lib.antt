@@ -1,8 +1,10 @@
 pub mod InputLemmas
 pub mod PutLemmas
+pub mod LineOrder
 pub mod TextLemmas
 pub mod Whole
 pub mod Prefix
+pub mod Standing
 pub mod Executed
 pub mod Written
 pub mod Opening

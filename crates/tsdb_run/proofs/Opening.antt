@@ -1,5 +1,5 @@
 -- The status of a run whose store was not opened.
-use Rattle.std.proofs.Common.{◌≡◌, List, Option, refl}
+use Rattle.std.proofs.Common.{◌≡◌, List, Option, inl, inr, refl}
 use Rattle.tsdb_map.specs.State as plain
 use Rattle.tsdb_outside.specs.Disk.{State}
 use Rattle.tsdb_outside.specs.Files.{StoredFile}
@@ -17,9 +17,13 @@ pub refused_rose : (disk : State) (stored : Option (List StoredFile)) (at : plai
 refused_rose disk stored at Device rose sound is device refused = device refl
 refused_rose disk stored at (Damaged part place) rose sound is device refused =
     absurd (not_damaged disk stored at part place sound is)
-refused_rose disk stored at Done rose sound is device refused = absurd refused
-refused_rose disk stored at Memory rose sound is device refused = absurd refused
-refused_rose disk stored at Words rose sound is device refused = absurd refused
-refused_rose disk stored at (Script line kind) rose sound is device refused = absurd refused
-refused_rose disk stored at Source rose sound is device refused = absurd refused
-refused_rose disk stored at Sink rose sound is device refused = absurd refused
+refused_rose disk stored at Memory rose sound is device refused = absurd (by refused)
+  where
+    by : IsRefusedStore Memory → ⊥
+    by (inl same) = cc
+    by (inr (part, place, same)) = cc
+refused_rose disk stored at Done rose sound is device refused = absurd is
+refused_rose disk stored at Words rose sound is device refused = absurd is
+refused_rose disk stored at (Script line kind) rose sound is device refused = absurd is
+refused_rose disk stored at Source rose sound is device refused = absurd is
+refused_rose disk stored at Sink rose sound is device refused = absurd is

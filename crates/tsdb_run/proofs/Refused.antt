@@ -1,11 +1,10 @@
 -- What is left of a store whose commands were not executed.
-use Rattle.std.proofs.Common.{◌≡◌, ◌⊎◌, ◌∙◌, inl, inr, ℕ, List, [], ◌++◌, Option, None, Some, Result, Ok, Err, refl, sym}
-use Rattle.std.proofs.Common.{subst}
-use Rattle.std.specs.Prelude.{IfErr, IfSome, OnErr}
+use Rattle.std.proofs.Common.{◌≡◌, ◌⊎◌, ◌∙◌, inl, inr, ℕ, List, [], ◌++◌, Option, None, Result, Ok, Err, refl, sym}
+use Rattle.std.proofs.Common.{ap, subst}
+use Rattle.std.specs.Prelude.{IfErr, IfSome}
 use Rattle.std.specs.Io.KnownBytes.{Keeps as KeepsBytes}
 use Rattle.std.proofs.lemmas.Option.{same_Some}
 use Rattle.std.proofs.KnownBytes.{Keeps-refl}
-use Rattle.std.specs.List.{AllByRecursion as Each}
 use Rattle.std.specs.Option.{IsSomeAnd}
 use Rattle.tsdb_images.specs.Stored.{kept_bytes}
 use Rattle.tsdb_layers.proofs.Lists.{among_map, each_among, each_from_among}
@@ -13,7 +12,8 @@ use Rattle.tsdb_layers.specs.Lists.{Among}
 use Rattle.tsdb_history.specs.declared.told.Told.{Told as Answered}
 use Rattle.tsdb_map.specs.State as plain
 use Rattle.tsdb_outside.proofs.DiskLemmas.{Keeps-same}
-use Rattle.tsdb_outside.specs.Disk.{Image, Keeps, State}
+use Rattle.tsdb_frames.proofs.FirstLemmas.{keeps_on}
+use Rattle.tsdb_outside.specs.Disk.{Image, IsLawful, Keeps, State}
 use Rattle.tsdb_outside.specs.Files.{StoredFile}
 use Rattle.tsdb_outside.specs.declared.disk.Slot.TheVariants.{A}
 use Rattle.tsdb_recovery.specs.Left.{AreLeft, IsStray}
@@ -22,14 +22,20 @@ use Rattle.tsdb_replay.proofs.Stores.{sound_kept}
 use Rattle.tsdb_replay.specs.Stores.{IsWhole, Recorded, StandsFor, store_steps, store_steps_determinate}
 use Rattle.tsdb_run.proofs.Executed.{some_and}
 use Rattle.tsdb_run.proofs.Whole.{tells_sound, told_both}
-use Rattle.tsdb_run.specs.Headline.{Headline, IsWithoutCommands, Run, Says, run_of}
-use Rattle.tsdb_run.specs.Steps.{IsOpeningStatus}
-use Rattle.tsdb_run.specs.Store.{Contents, IsSound, KeepsListed, Tells, contents}
+use Rattle.tsdb_recover.specs.declared.fault.OpenFault.{OpenFault}
+use Rattle.tsdb_recover.specs.declared.fault.OpenFault.TheVariants as fault
+use Rattle.tsdb_recover.specs.declared.fault.Part.{Part}
+use Rattle.tsdb_recovery.specs.Damage.{AnswersDamageIn, IsDamagedIn}
 use Rattle.tsdb_recovery.specs.Stored.{AreStored}
+use Rattle.tsdb_recovery.specs.Taking.{HaveLengths}
+use Rattle.tsdb_run.specs.Causes.{ReportsDamage}
+use Rattle.tsdb_run.specs.Headline.{Headline, IsWithoutCommands, Run, Says}
+use Rattle.tsdb_run.specs.Steps.{IsOpeningStatus, IsRefused, opening_status, run_of}
+use Rattle.tsdb_run.specs.Store.{Contents, HasDamage, IsLeftAlone, IsSound, KeepsListed, Tells, contents}
 use Rattle.tsdb_run.specs.declared.status.Status.{Status}
 use Rattle.tsdb_run.specs.declared.status.Status.TheVariants.{Done, Memory, Words, Script, Source, Sink, Device, Damaged}
 use Rattle.tsdb_state.specs.Records.{numbers_of}
-use Rattle.tsdb_state.specs.State.{File, Told}
+use Rattle.tsdb_state.specs.State.{File}
 
 -- ---- a sound store stays sound
 
@@ -100,14 +106,13 @@ still_sound old new stored now at keeps keeps_files sound =
     }
 
 -- a run that executed no command
-pub without : (run : Run) → run.history ≡ [] → KeepsBytes run.held run.holds → Keeps run.old.disk run.new.disk
-    → KeepsListed run.old run.new → IsWithoutCommands run
-without run none sink log files = record {
+pub without : (run : Run) → run.history ≡ [] → KeepsBytes run.held run.holds → IsLeftAlone run.old run.new
+    → IsWithoutCommands run
+without run none sink alone = record {
   none = none;
   sink = sink;
-  log = log;
-  files = files;
-  sound = λ at. still_sound run.old.disk run.new.disk run.old.stored run.new.stored at log files;
+  left_alone = alone;
+  sound = λ at. still_sound run.old.disk run.new.disk run.old.stored run.new.stored at alone.log alone.files;
 }
 
 -- ---- which files are left
@@ -119,35 +124,135 @@ same_listed old new stored now same = λ image files tells.
     subst (λ o. IsSomeAnd o (AreLeft (IsStray image.a) files)) (sym (same ∙ tells.told))
     (record { are_stored = tells.are_stored; each = λ n. inl refl })
 
+pub same_left : (old new : State) (stored now : Option (List StoredFile)) → Keeps old new → now ≡ stored
+    → IsLeftAlone (contents old stored) (contents new now)
+same_left old new stored now keeps same = record { log = keeps; files = same_listed old new stored now same }
+
+-- a store that was not opened, though memory or something of it failed, with no file come or gone
+pub same_refused : (old new : State) (stored now : Option (List StoredFile)) (status : Status) → Keeps old new
+    → now ≡ stored → IsOpeningStatus (contents old stored) status
+    → IsRefused (contents old stored) (contents new now) status
+same_refused old new stored now status keeps same why =
+    record { why = why; left_alone = same_left old new stored now keeps same }
+
+-- why a store was not opened, where what is answered of its damage is so
+opening_why : (state : State) (stored start : Option (List StoredFile)) (reason : OpenFault) → start ≡ stored
+    → IfSome state.seen (λ image. IfSome start (λ files. (which : Part) (at : ℕ) → AreStored files
+    → reason ≡ fault.Damaged which at → IsDamagedIn (kept_bytes files) image.a which at))
+    → IsOpeningStatus (contents state stored) (opening_status reason)
+opening_why state stored start fault.Failed begins damaged = tt
+opening_why state stored start fault.Memory begins damaged = tt
+opening_why state stored start (fault.Damaged part place) begins damaged = λ image files tells.
+    told_both (λ i l. (which : Part) (at : ℕ) → AreStored l → fault.Damaged part place ≡ fault.Damaged which at
+    → IsDamagedIn (kept_bytes l) i.a which at) state.seen start image files tells.slots (begins ∙ tells.told) damaged part
+    place tells.are_stored refl
+
 -- what an opening that failed leaves
-pub opening_listed : (state new : State) (stored start mid now : Option (List StoredFile)) → start ≡ stored → now ≡ mid
+pub opening_refused : (state new : State) (stored start mid now : Option (List StoredFile)) (reason : OpenFault)
+    → start ≡ stored → now ≡ mid → Keeps state new
+    → IfSome state.seen (λ image. IfSome start (λ files. (which : Part) (at : ℕ) → AreStored files
+    → reason ≡ fault.Damaged which at → IsDamagedIn (kept_bytes files) image.a which at))
     → IfSome state.seen (λ image. IfSome start (λ files. AreStored files
     → IsSomeAnd mid (AreLeft (IsStray image.a) files)))
-    → KeepsListed (contents state stored) (contents new now)
-opening_listed state new stored start mid now begins ends left = λ image files tells.
-    subst (λ o. IsSomeAnd o (AreLeft (IsStray image.a) files)) (sym ends)
-    (told_both (λ i l. AreStored l → IsSomeAnd mid (AreLeft (IsStray i.a) l)) state.seen start image files tells.slots
-    (begins ∙ tells.told) left tells.are_stored)
+    → IsRefused (contents state stored) (contents new now) (opening_status reason)
+opening_refused state new stored start mid now reason begins ends keeps damaged left = record {
+  why = opening_why state stored start reason begins damaged;
+  left_alone = record {
+    log = keeps;
+    files = λ image files tells.
+        subst (λ o. IsSomeAnd o (AreLeft (IsStray image.a) files)) (sym ends)
+        (told_both (λ i l. AreStored l → IsSomeAnd mid (AreLeft (IsStray i.a) l)) state.seen start image files tells.slots
+        (begins ∙ tells.told) left tells.are_stored);
+  };
+}
 
--- a place that handed the store out and took it back
-pub placed_listed : (old journal last new : State) (stored at_rest rest now : Option (List StoredFile))
-    → Keeps old journal → at_rest ≡ stored → now ≡ rest → KeepsListed (contents journal at_rest) (contents last rest)
-    → KeepsListed (contents old stored) (contents new now)
-placed_listed old journal last new stored at_rest rest now takes same puts left = λ image files tells.
-    subst (λ o. IsSomeAnd o (AreLeft (IsStray image.a) files)) (sym puts) (left image files (record {
+-- what an opening answers of a store that is damaged
+answers_reports : (part : Part) (at : ℕ) (reason : OpenFault) → AnswersDamageIn part at reason
+    → ReportsDamage (opening_status reason) part at
+answers_reports part at fault.Failed is = inr (inr (inr refl))
+answers_reports part at (fault.Damaged other place) is = inl (ap (λ p. Damaged p place) is.0 ∙ ap (Damaged part) is.1)
+answers_reports part at fault.Memory is = inr (inl refl)
+
+-- where the store is damaged, what is said of each damage is said of this one
+damage_of : (state : State) (stored start : Option (List StoredFile)) (part : Part) (at : ℕ)
+    (Answered : Part → ℕ → Type 0) → start ≡ stored
+    → IfSome state.seen (λ image. IfSome start (λ files. (which : Part) (place : ℕ) → AreStored files
+    → HaveLengths files → IsDamagedIn (kept_bytes files) image.a which place → Answered which place))
+    → HasDamage (contents state stored) part at → Answered part at
+damage_of state stored start part at Answered begins each has =
+    told_both (λ i l. (which : Part) (place : ℕ) → AreStored l → HaveLengths l
+    → IsDamagedIn (kept_bytes l) i.a which place → Answered which place) state.seen start has.image has.files
+    has.tells.slots (begins ∙ has.tells.told) each part at has.tells.are_stored has.lengths has.damaged
+
+-- a damaged store was opened, which cannot be
+pub never_opened : (state : State) (stored start : Option (List StoredFile)) (part : Part) (at : ℕ) → start ≡ stored
+    → IfSome state.seen (λ image. IfSome start (λ files. (which : Part) (place : ℕ) → AreStored files
+    → HaveLengths files → IsDamagedIn (kept_bytes files) image.a which place → ⊥))
+    → ¬ HasDamage (contents state stored) part at
+never_opened state stored start part at = damage_of state stored start part at (λ which place. ⊥)
+
+-- it was not opened
+pub reports : (state : State) (stored start : Option (List StoredFile)) (part : Part) (at : ℕ) (reason : OpenFault)
+    → start ≡ stored
+    → IfSome state.seen (λ image. IfSome start (λ files. (which : Part) (place : ℕ) → AreStored files
+    → HaveLengths files → IsDamagedIn (kept_bytes files) image.a which place → AnswersDamageIn which place reason))
+    → HasDamage (contents state stored) part at → ReportsDamage (opening_status reason) part at
+reports state stored start part at reason begins each has = answers_reports part at reason
+    (damage_of state stored start part at (λ which place. AnswersDamageIn which place reason) begins each has)
+
+-- a place that handed the store out, and took it back after it was not opened
+pub placed_refused : (old journal last new : State) (stored at_rest rest now : Option (List StoredFile))
+    (status : Status) → IsLawful old → Keeps old journal → at_rest ≡ stored → Keeps last new → now ≡ rest
+    → IsRefused (contents journal at_rest) (contents last rest) status
+    → IsRefused (contents old stored) (contents new now) status
+placed_refused old journal last new stored at_rest rest now status laws takes same puts told refused = record {
+  why = handed_why status refused.why;
+  left_alone = record {
+    log = keeps_on old last new laws (keeps_on old journal last laws takes refused.left_alone.log) puts;
+    files = λ image files tells. subst (λ o. IsSomeAnd o (AreLeft (IsStray image.a) files)) (sym told)
+        (refused.left_alone.files image files (handed image files tells));
+  };
+}
+  where
+    handed : (image : Image) (files : List StoredFile) → Tells (contents old stored) image files
+        → Tells (contents journal at_rest) image files
+    handed image files tells = record {
       slots = takes.seen ∙ tells.slots;
       told = same ∙ tells.told;
       are_stored = tells.are_stored;
-    }))
+    }
 
-pub on_err : {T E : Type 0} (P : E → Type 0) (Q : Type 0) (result : Result T E) → ((e : E) → P e → Q) → IfErr result P
-    → OnErr result Q
-on_err P Q (Ok value) step holds = tt
-on_err P Q (Err fault) step holds = step fault holds
+    handed_why : (status : Status) → IsOpeningStatus (contents journal at_rest) status
+        → IsOpeningStatus (contents old stored) status
+    handed_why Memory is = tt
+    handed_why Device is = tt
+    handed_why (Damaged part at) is = λ image files tells. is image files (handed image files tells)
+    handed_why Done is = absurd is
+    handed_why Words is = absurd is
+    handed_why (Script line kind) is = absurd is
+    handed_why Source is = absurd is
+    handed_why Sink is = absurd is
 
-pub err_again : {T E : Type 0} (P Q : Type 0) (result : Result T E) → (P → Q) → OnErr result P → OnErr result Q
+-- its damage is that of the store that it handed out
+pub placed_damage : (old journal : State) (stored at_rest : Option (List StoredFile)) (part : Part) (at : ℕ)
+    → Keeps old journal → at_rest ≡ stored → HasDamage (contents old stored) part at
+    → HasDamage (contents journal at_rest) part at
+placed_damage old journal stored at_rest part at takes same has = record {
+  image = has.image;
+  files = has.files;
+  tells = record {
+    slots = takes.seen ∙ has.tells.slots;
+    told = same ∙ has.tells.told;
+    are_stored = has.tells.are_stored;
+  };
+  lengths = has.lengths;
+  damaged = has.damaged;
+}
+
+pub err_again : {T E : Type 0} (P Q : E → Type 0) (result : Result T E) → ((e : E) → P e → Q e) → IfErr result P
+    → IfErr result Q
 err_again P Q (Ok value) step holds = tt
-err_again P Q (Err fault) step holds = step holds
+err_again P Q (Err fault) step holds = step fault holds
 
 -- ---- what is said by the status
 
@@ -161,8 +266,8 @@ pub without_any : (words : List (List ℕ)) (left : Option (List ℕ)) (place : 
     (directory : Option (List ℕ)) (status : Status) (history : List Answered) (held : Option (List ℕ)) → history ≡ []
     → IsWithoutCommands (idle words left place rose directory status history held)
 without_any words left place rose directory status history held none =
-    without (idle words left place rose directory status history held) none (Keeps-refl held) (Keeps-same place.disk)
-    (same_listed place.disk place.disk place.stored place.stored refl)
+    without (idle words left place rose directory status history held) none (Keeps-refl held)
+    (same_left place.disk place.disk place.stored place.stored (Keeps-same place.disk) refl)
 
 pub says : (run : Run) (status : Status) → run.status ≡ status → Says status run → Headline run
 says run status same is = subst (λ s. Says s run) (sym same) is

@@ -1,31 +1,17 @@
 -- The text of the output, by its parts.
-use Rattle.std.proofs.Common.{◌≡◌, ℕ, ◌+◌, ◌<◌, zero, suc, add-one, arith, eqb, eq-eqb, get_or, Bool, true, false, cond, not, ◌||◌, List, [], ◌∷◌, ◌++◌, append-nil, append_assoc, drop, length, map, Option, None, Some, refl, sym, ap, ◌∙◌}
+use Rattle.std.proofs.Common.{◌≡◌, ℕ, ◌+◌, ◌<◌, zero, suc, add-one, arith, eqb, eq-eqb, get_or, Bool, true, false, cond, not, ◌||◌, List, [], ◌∷◌, ◌++◌, append-nil, append_assoc, drop, length, map, Some, refl, sym, ap, ◌∙◌}
 use Rattle.std.specs.List.{filter, flat_map, list_any}
 use Rattle.std.proofs.lemmas.Bool.{eqb-true, false≢true}
 use Rattle.std.proofs.lemmas.List.{length-map}
 use Rattle.std.proofs.lemmas.List.Elements.{filter-append}
 use Rattle.std.proofs.lemmas.Map.Views.{any-filter_same}
-use Rattle.tsdb_map.specs.History.{Entry}
 use Rattle.tsdb_print.specs.Text.{reply_text}
 use Rattle.tsdb_script.specs.declared.numbered.Numbered.{Numbered}
-use Rattle.tsdb_history.specs.History.{AreEntries, command_of, entry_of}
+use Rattle.tsdb_history.specs.History.{command_of}
+use Rattle.tsdb_run.proofs.LineOrder.{their_own}
 use Rattle.tsdb_run.specs.Output.{replies_text, sessions_of, told_text}
 use Rattle.tsdb_run.specs.Steps.{IsAnswered, reply_text_of, with_session}
 use Rattle.tsdb_history.specs.declared.told.Told.{Told}
-use Rattle.tsdb_map.specs.declared.command.Command.{Command}
-use Rattle.std.specs.Option.{option_map}
-use Rattle.std.proofs.lemmas.Option.{same_Some}
-
-made : {X Y : Type 0} (f : X → Y) (o : Option X) (y : Y) → option_map f o ≡ Some y → (x : X) × (o ≡ Some x) × (f x ≡ y)
-made f None y e = cc
-made f (Some x) y e = (x, refl, same_Some (f x) y e)
-
--- an entry has the command that its reply answers
-command_of-entry : (script : List Numbered) (told : Told) (entry : Entry) → entry_of script told ≡ Some entry → command_of script told ≡ Some entry.command
-command_of-entry script told entry is =
-    let with_reply : Command → Entry = λ command. record { command = command; reply = told.reply } in
-    let m = made with_reply (command_of script told) entry is in
-    m.1 ∙ ap (λ (e : Entry). Some e.command) m.2
 
 heads : {X : Type 0} (x y : X) (xs ys : List X) → x ∷ xs ≡ y ∷ ys → (x ≡ y) × (xs ≡ ys)
 heads x y xs ys e = (cc, cc)
@@ -89,7 +75,7 @@ sessions_of-push (first ∷ script) numbered =
 -- each command has a reply
 pub length-answered : (script : List Numbered) (history : List Told) → IsAnswered script history → length history ≡ length script
 length-answered script history is =
-    sym (length-map history (λ told. told.session)) ∙ ap length is.1.in_line_order ∙ length-map script (λ numbered. numbered.session)
+    sym (length-map history (λ told. told.session)) ∙ ap length is.in_line_order ∙ length-map script (λ numbered. numbered.session)
 
 -- the replies to a session, of commands and their replies side by side
 abbrev pub side_by_side : ℕ → List Numbered → List Told → List ℕ
@@ -113,26 +99,11 @@ beside all (n ∷ script) (t ∷ history) session same =
       | false ↦ more
     ]
 
-their_commands : (script : List Numbered) (history : List Told) (entries : List Entry) → AreEntries script history entries
-    → map (command_of script) history ≡ map (λ entry. Some entry.command) entries
-their_commands script [] [] are = refl
-their_commands script [] (e ∷ entries) are = cc
-their_commands script (t ∷ history) [] are = cc
-their_commands script (t ∷ history) (e ∷ entries) are =
-    let h = heads (entry_of script t) (Some e) (map (entry_of script) history) (map Some entries) are in
-    ap (λ c. c ∷ map (command_of script) history) (command_of-entry script t e h.0)
-    ∙ ap (λ l. Some e.command ∷ l) (their_commands script history entries h.1)
-
-map-Some : {X Y : Type 0} (f : X → Y) (xs : List X) → map (λ x. Some (f x)) xs ≡ map Some (map f xs)
-map-Some f [] = refl
-map-Some f (x ∷ xs) = ap (λ l. Some (f x) ∷ l) (map-Some f xs)
-
 -- the replies to a session are those of its commands, each in its place
 pub replies_text-answered : (script : List Numbered) (history : List Told) (session : ℕ) → IsAnswered script history
     → replies_text script history session ≡ side_by_side session script history
 replies_text-answered script history session is =
-    beside script script history session (their_commands script history is.0 is.1.answers
-    ∙ map-Some (λ entry. entry.command) is.0 ∙ ap (map Some) is.1.commands ∙ sym (map-Some (λ numbered. numbered.command) script))
+    beside script script history session (their_own script history is.history_of.complete is.in_line_order)
 
 next_reply : (session : ℕ) (script : List Numbered) (history : List Told) (i : ℕ) (numbered : Numbered) (told : Told) → i < length script → i < length history
     → side_by_side session (drop i script) (drop i history)

@@ -28,9 +28,7 @@ module _ (run : Run) (script : List Numbered) (asked : Asked) (words : AreWords 
     (done : IsRunOn script run.history run.old run.new run.rose) where
   executed : (puts : List ℕ → Type 0) → puts (output_text script run.history) → IsExecuted run puts
   executed puts printed = record {
-    asked = asked;
-    words = words;
-    directory = directory;
+    taken_up = (asked, words, directory);
     script = script;
     read = read;
     entries = done.entries;

@@ -1,16 +1,10 @@
 -- When each status may come.
-use Rattle.std.specs.Prelude.{◌≡◌, ◌≢◌, ◌⊎◌, ℕ, ◌≤◌, List, Option, Some}
-use Rattle.tsdb_images.specs.Stored.{kept_bytes}
+use Rattle.std.specs.Prelude.{◌≡◌, ◌≢◌, ◌⊎◌, ℕ, ◌≤◌, List}
 use Rattle.tsdb_outside.specs.Causes.{Rose}
-use Rattle.tsdb_outside.specs.Disk.{Image}
-use Rattle.tsdb_outside.specs.Files.{StoredFile}
 use Rattle.tsdb_recover.specs.declared.fault.Part.{Part}
-use Rattle.tsdb_recovery.specs.Damage.{IsDamagedIn}
-use Rattle.tsdb_recovery.specs.Taking.{HaveLengths}
-use Rattle.tsdb_run.specs.Store.{Contents, Tells}
+use Rattle.tsdb_run.specs.Store.{Contents, HasDamage}
 use Rattle.tsdb_run.specs.declared.status.Status.{Status}
-use Rattle.tsdb_run.specs.declared.status.Status.TheVariants.{Done, Memory, Words, Script, Source, Sink, Device}
-use Rattle.tsdb_run.specs.declared.status.Status.TheVariants.{Damaged}
+use Rattle.tsdb_run.specs.declared.status.Status.TheVariants.{Done, Memory, Words, Script, Source, Device, Damaged}
 use Rattle.tsdb_script.specs.Reading.{IsScript}
 use Rattle.tsdb_script.specs.declared.numbered.Numbered.{Numbered}
 use Rattle.tsdb_words.specs.Words.{AreWords, Asked}
@@ -35,78 +29,28 @@ pub record TellsDevice (status : Status) (taken : Type 0) (before now : ℕ) : T
   pub same : status ≢ Device → taken ⊎ (now ≡ before)
   pub later : before ≤ now
 
--- the store of the directory that the words name was taken up last
-abbrev pub IsTakenUp : List (List ℕ) → Option (List ℕ) → Type 0
-IsTakenUp words directory = (asked : Asked) × AreWords words asked × (directory ≡ Some asked.directory)
-
--- the run ended before the store was taken up
+-- the run ended before the store was taken up, and memory did not run out
 abbrev pub IsBeforeStore : Status → Type 0
-IsBeforeStore Done = ⊥
-IsBeforeStore Memory = ⊥
-IsBeforeStore Words = Unit {0}
-IsBeforeStore (Script line kind) = Unit {0}
-IsBeforeStore Source = Unit {0}
-IsBeforeStore Sink = ⊥
-IsBeforeStore Device = ⊥
-IsBeforeStore (Damaged part at) = ⊥
+IsBeforeStore status = (status ≡ Words) ⊎ ((status ≡ Source)
+    ⊎ ((line : ℕ) × (kind : ℕ) × (status ≡ Script line kind)))
 
--- the run ended before it wrote
-abbrev pub IsBeforeOutput : Status → Type 0
-IsBeforeOutput Done = ⊥
-IsBeforeOutput Memory = ⊥
-IsBeforeOutput Words = Unit {0}
-IsBeforeOutput (Script line kind) = Unit {0}
-IsBeforeOutput Source = Unit {0}
-IsBeforeOutput Sink = ⊥
-IsBeforeOutput Device = Unit {0}
-IsBeforeOutput (Damaged part at) = Unit {0}
-
--- the store could not be opened
+-- the store could not be opened, and memory did not run out
 abbrev pub IsRefusedStore : Status → Type 0
-IsRefusedStore Done = ⊥
-IsRefusedStore Memory = ⊥
-IsRefusedStore Words = ⊥
-IsRefusedStore (Script line kind) = ⊥
-IsRefusedStore Source = ⊥
-IsRefusedStore Sink = ⊥
-IsRefusedStore Device = Unit {0}
-IsRefusedStore (Damaged part at) = Unit {0}
-
--- the first bad line is reported, unless memory or the source failed first
-abbrev pub ReportsBad : Status → ℕ → ℕ → Type 0
-ReportsBad Done line kind = ⊥
-ReportsBad Memory line kind = Unit {0}
-ReportsBad Words line kind = ⊥
-ReportsBad (Script number which) line kind = (number ≡ line) × (which ≡ kind)
-ReportsBad Source line kind = Unit {0}
-ReportsBad Sink line kind = ⊥
-ReportsBad Device line kind = ⊥
-ReportsBad (Damaged part at) line kind = ⊥
-
--- the damage is reported, unless memory, the source or something of the place failed first
-abbrev pub ReportsDamage : Status → Part → ℕ → Type 0
-ReportsDamage Done part at = ⊥
-ReportsDamage Memory part at = Unit {0}
-ReportsDamage Words part at = ⊥
-ReportsDamage (Script line kind) part at = ⊥
-ReportsDamage Source part at = Unit {0}
-ReportsDamage Sink part at = ⊥
-ReportsDamage Device part at = Unit {0}
-ReportsDamage (Damaged other place) part at = (other ≡ part) × (place ≡ at)
-
--- where the place tells its store, each damage that it has is reported so
-abbrev pub ReportsDamageOf : Contents → Status → Type 0
-ReportsDamageOf place status = (image : Image) (files : List StoredFile) (part : Part) (at : ℕ)
-    → Tells place image files → HaveLengths files → IsDamagedIn (kept_bytes files) image.a part at
-    → ReportsDamage status part at
+IsRefusedStore status = (status ≡ Device) ⊎ ((part : Part) × (at : ℕ) × (status ≡ Damaged part at))
 
 -- a good script is executed and its output written, unless memory runs out
 abbrev pub IsDoneOrMemory : Status → Type 0
-IsDoneOrMemory Done = Unit {0}
-IsDoneOrMemory Memory = Unit {0}
-IsDoneOrMemory Words = ⊥
-IsDoneOrMemory (Script line kind) = ⊥
-IsDoneOrMemory Source = ⊥
-IsDoneOrMemory Sink = ⊥
-IsDoneOrMemory Device = ⊥
-IsDoneOrMemory (Damaged part at) = ⊥
+IsDoneOrMemory status = (status ≡ Done) ⊎ (status ≡ Memory)
+
+-- the first bad line is reported, unless memory or the source failed first
+abbrev pub ReportsBad : Status → ℕ → ℕ → Type 0
+ReportsBad status line kind = (status ≡ Script line kind) ⊎ ((status ≡ Memory) ⊎ (status ≡ Source))
+
+-- the damage is reported, unless memory, the source or something of the place failed first
+abbrev pub ReportsDamage : Status → Part → ℕ → Type 0
+ReportsDamage status part at =
+    (status ≡ Damaged part at) ⊎ ((status ≡ Memory) ⊎ ((status ≡ Source) ⊎ (status ≡ Device)))
+
+-- so is each damage of the store
+abbrev pub ReportsDamageOf : Contents → Status → Type 0
+ReportsDamageOf place status = (part : Part) (at : ℕ) → HasDamage place part at → ReportsDamage status part at

@@ -4,30 +4,23 @@
 use Rattle.std.specs.Prelude.{◌≡◌, ◌⊎◌, ℕ, ◌+◌, ◌*◌, ◌<◌, List, [], ◌++◌, length, Option, Some, IfSome}
 use Rattle.std.specs.Io.KnownBytes.{Appends, Keeps as KeepsBytes}
 use Rattle.std.specs.List.{AllByRecursion as Each}
-use Rattle.tsdb_history.specs.History.{IsHistory}
-use Rattle.tsdb_history.specs.Listings.{EndsListed, IsListingOf}
-use Rattle.tsdb_history.specs.Prefixes.{EndsDone, StandsAfter}
+use Rattle.tsdb_history.specs.History.{IsHistory, IsInLineOrder}
+use Rattle.tsdb_history.specs.Prefixes.{EndsDone, EndsListed, StandsAfter, StandsAfterPrefix}
 use Rattle.tsdb_history.specs.Reach.{AreFullWithin, max_drawn}
-use Rattle.tsdb_history.specs.Serves.{LeavesPrefix}
 use Rattle.tsdb_history.specs.declared.told.Told.{Told}
-use Rattle.tsdb_images.specs.Stored.{kept_bytes}
 use Rattle.tsdb_map.specs.History.{Entry, IsLegal}
 use Rattle.tsdb_map.specs.State as plain
 use Rattle.tsdb_map.specs.declared.reply.Listing.{Listing}
-use Rattle.tsdb_outside.specs.Disk.{Image, Keeps, State}
+use Rattle.tsdb_outside.specs.Disk.{Image, State}
 use Rattle.tsdb_outside.specs.Files.{StoredFile}
 use Rattle.tsdb_outside.specs.Moments.{LeavesOnly}
-use Rattle.tsdb_outside.specs.declared.disk.Slot.TheVariants.{A}
-use Rattle.tsdb_replay.specs.Stores.{Files, HoldsKept}
 use Rattle.tsdb_run.specs.Output.{AppendsPrefix, output_text}
-use Rattle.tsdb_run.specs.Store.{Contents, IsDamaged, IsNextNumber, IsSound, KeepsListed}
+use Rattle.tsdb_run.specs.Store.{Contents, IsDamaged, IsLeftAlone, IsListed, IsNextNumber, IsSound, StandsFor, Stores}
 use Rattle.tsdb_run.specs.declared.status.Status.{Status}
 use Rattle.tsdb_run.specs.declared.status.Status.TheVariants.{Done, Memory, Words, Script, Source, Sink, Device}
 use Rattle.tsdb_run.specs.declared.status.Status.TheVariants.{Damaged}
 use Rattle.tsdb_script.specs.Reading.{IsScript, IsFirstBad}
 use Rattle.tsdb_script.specs.declared.numbered.Numbered.{Numbered}
-use Rattle.tsdb_serving.specs.Serving.{AreHeldWith}
-use Rattle.tsdb_recovery.specs.Stored.{AreStored}
 use Rattle.tsdb_words.specs.Words.{AreWords, Asked}
 
 -- What a run was given, and what it left.
@@ -49,22 +42,6 @@ pub record Run : Type 1 where
   pub held : Option (List ℕ)
   pub holds : Option (List ℕ)
 
--- the run of these words and this source, with what it left
-abbrev pub run_of : List (List ℕ) → Option (List ℕ) → Contents → Contents → Type 0 → Option (List ℕ) → Status
-    → List Told → Option (List ℕ) → Option (List ℕ) → Run
-run_of words left old new rose directory status history held holds = record {
-  words = words;
-  left = left;
-  old = old;
-  new = new;
-  rose = rose;
-  directory = directory;
-  status = status;
-  history = history;
-  held = held;
-  holds = holds;
-}
-
 -- each of these files has a number above those of the others
 abbrev pub AreNewer : List StoredFile → List StoredFile → Type 0
 AreNewer files others =
@@ -80,21 +57,17 @@ pub record HasRun (files : List StoredFile) (start : plain.State) (entries : Lis
   -- the files that were put
   pub put : List StoredFile
   pub newer : AreNewer put files
-  -- a stop at any moment left the state after a prefix of the entries, with whatever files hold those of the run
-  pub moments : LeavesOnly old new.disk (LeavesPrefix (files ++ put) A start entries)
-  -- what is left, which holds no file but those of the run
+  -- a stop at any moment left what stands for the state after a prefix of the entries
+  pub moments : LeavesOnly old new.disk (λ image. StandsAfterPrefix (StandsFor (files ++ put) image) start entries)
+  -- the files that are stored then, none but those of the run
   pub stored : List StoredFile
-  pub told : new.stored ≡ Some stored
-  pub are_stored : AreStored stored
-  pub held : AreHeldWith stored (files ++ put)
-  -- it stands for the state after all entries, with whatever files hold what is stored
-  pub holds : (image : Image) (kept : Files) → new.disk.may_leave image → HoldsKept stored kept
-      → StandsAfter kept after entries image.a
+  pub at_rest : Stores new stored (files ++ put)
+  -- what is left stands with them for the state after all entries
+  pub holds : (image : Image) → new.disk.may_leave image → StandsAfter (StandsFor stored image) after entries
   -- and it is a sound store, on which the next run begins, unless something failed and no later change was done
   pub sound : (¬ rose) ⊎ EndsDone entries → IsSound new after
   -- and then a listing that is the last reply is that of this store
-  pub listed : (¬ rose) ⊎ EndsDone entries → (listing : Listing) (image : Image) → EndsListed entries listing
-      → new.disk.may_leave image → IsListingOf (kept_bytes stored) image.a listing
+  pub listed : (¬ rose) ⊎ EndsDone entries → (listing : Listing) → EndsListed entries listing → IsListed new listing
 
 -- A reply is `full` only where the stamp at its place can rise no further, or with a counter up to the number that the
 -- commands of the script can have drawn, from the next number of the store on.
@@ -102,29 +75,35 @@ abbrev pub HaveReach : Contents → List Numbered → List Entry → Type 0
 HaveReach old script entries = (start : plain.State) (sound : IsSound old start) (next : ℕ)
     → IsNextNumber old sound.files next → AreFullWithin (next + max_drawn * length script) start entries
 
+-- the store of the directory that the words name was taken up last
+abbrev pub IsTakenUp : List (List ℕ) → Option (List ℕ) → Type 0
+IsTakenUp words directory = (asked : Asked) × AreWords words asked × (directory ≡ Some asked.directory)
+
 -- The script was executed on the store of the directory that the words name.
 pub record IsExecuted (run : Run) (puts : List ℕ → Type 0) : Type 0 where
-  pub asked : Asked
-  pub words : AreWords run.words asked
-  pub directory : run.directory ≡ Some asked.directory
+  pub taken_up : IsTakenUp run.words run.directory
   pub script : List Numbered
   pub read : IfSome run.left (λ bytes. IsScript bytes script)
-  -- each session's commands have their replies, once and in order, and took place in the order of the script's lines
+  -- each session's commands have their replies, once and in order
   pub entries : List Entry
   pub history_of : IsHistory script run.history entries
+  -- from a state for which the store stood
   pub served : (start : plain.State) (sound : IsSound run.old start)
       → HasRun sound.files start entries run.old.disk run.new run.rose
   -- and none is `full` before a counter is at its end, or the numbers of files can have come so far in this run
   pub within : HaveReach run.old script entries
   pub printed : puts (output_text script run.history)
 
--- No command was executed, nothing was written, and the log is as it was.
+-- Where commands were executed, they took place in the order of the lines of the script in these bytes.
+abbrev pub KeepsLineOrder : List ℕ → List Told → Type 0
+KeepsLineOrder bytes history =
+    (script : List Numbered) → IsScript bytes script → (history ≡ []) ⊎ IsInLineOrder script history
+
+-- No command was executed, nothing was written, and the store was left alone.
 pub record IsWithoutCommands (run : Run) : Type 0 where
   pub none : run.history ≡ []
   pub sink : KeepsBytes run.held run.holds
-  pub log : Keeps run.old.disk run.new.disk
-  -- each file is as it was, but that some which the log does not list may be gone
-  pub files : KeepsListed run.old run.new
+  pub left_alone : IsLeftAlone run.old run.new
   -- so a sound store is left sound, in the state that it was in
   pub sound : (at : plain.State) → IsSound run.old at → IsSound run.new at
 

@@ -5,7 +5,7 @@ use Rattle.std.specs.List.{AllByRecursion as Each, list_any}
 use Rattle.std.specs.Io.KnownBytes.{Appends}
 use Rattle.tsdb_core.specs.Core.{next_of}
 use Rattle.tsdb_core.specs.declared.engine.Core.{Core}
-use Rattle.tsdb_history.specs.History.{IsHistory}
+use Rattle.tsdb_history.specs.History.{IsHistory, IsInLineOrder}
 use Rattle.tsdb_history.specs.Reach.{AreFullWithin, max_drawn}
 use Rattle.tsdb_history.specs.declared.told.Told.{Told}
 use Rattle.tsdb_map.specs.History.{Entry}
@@ -19,10 +19,10 @@ use Rattle.tsdb_print.specs.Text.{reply_text}
 use Rattle.tsdb_recover.specs.declared.fault.OpenFault.{OpenFault}
 use Rattle.tsdb_recover.specs.declared.fault.OpenFault.TheVariants as fault
 use Rattle.tsdb_run.specs.Causes.{AreGoodWords}
-use Rattle.tsdb_run.specs.Headline.{HasRun, HaveReach}
+use Rattle.tsdb_run.specs.Headline.{HasRun, HaveReach, Run}
 use Rattle.tsdb_run.specs.Input.{TakesScript}
 use Rattle.tsdb_run.specs.Output.{AppendsPrefix}
-use Rattle.tsdb_run.specs.Store.{Contents, IsDamaged, IsSound}
+use Rattle.tsdb_run.specs.Store.{Contents, IsDamaged, IsLeftAlone, IsSound}
 use Rattle.tsdb_run.specs.declared.status.Status.{Status}
 use Rattle.tsdb_run.specs.declared.status.Status.TheVariants.{Done, Memory, Words, Script, Source, Sink, Device}
 use Rattle.tsdb_run.specs.declared.status.Status.TheVariants.{Damaged}
@@ -32,14 +32,33 @@ use Rattle.tsdb_script.specs.declared.fault.ScriptFault.TheVariants as script_fa
 use Rattle.tsdb_script.specs.declared.numbered.Numbered.{Numbered}
 use Rattle.tsdb_serving.specs.Serving.{IsServing, disk_under}
 
--- these are replies to the commands of the script
-abbrev pub IsAnswered : List Numbered → List Told → Type 0
-IsAnswered script history = (entries : List Entry) × IsHistory script history entries
+-- the run of these words and this source, with what it left
+abbrev pub run_of : List (List ℕ) → Option (List ℕ) → Contents → Contents → Type 0 → Option (List ℕ) → Status
+    → List Told → Option (List ℕ) → Option (List ℕ) → Run
+run_of words left old new rose directory status history held holds = record {
+  words = words;
+  left = left;
+  old = old;
+  new = new;
+  rose = rose;
+  directory = directory;
+  status = status;
+  history = history;
+  held = held;
+  holds = holds;
+}
+
+-- These are replies to the commands of the script, in the order of its lines.
+pub record IsAnswered (script : List Numbered) (history : List Told) : Type 0 where
+  pub entries : List Entry
+  pub history_of : IsHistory script history entries
+  pub in_line_order : IsInLineOrder script history
 
 -- The script was executed on the store of a place. `rose` says that something of it failed.
 pub record IsRunOn (script : List Numbered) (history : List Told) (old new : Contents) (rose : Type 0) : Type 0 where
   pub entries : List Entry
   pub history_of : IsHistory script history entries
+  pub in_line_order : IsInLineOrder script history
   pub served : (start : plain.State) (sound : IsSound old start)
       → HasRun sound.files start entries old.disk new rose
   pub within : HaveReach old script entries
@@ -55,6 +74,7 @@ module _ {J F S R P : Type 0} {means : disk.Ghosts J} {counts : counted.Ghosts J
       (core : Core J F S R P means counts) (new : Contents) (rose : Type 0) : Type 0 where
     pub entries : List Entry
     pub history_of : IsHistory script history entries
+    pub in_line_order : IsInLineOrder script history
     pub served : at_rest ≡ Some [] → (files : List StoredFile) (start : plain.State)
         → IsServing core files start None → IsNewerThan files core
         → HasRun files start entries (disk_under core) new rose
@@ -137,3 +157,8 @@ IsOpeningStatus place Source = ⊥
 IsOpeningStatus place Sink = ⊥
 IsOpeningStatus place Device = Unit {0}
 IsOpeningStatus place (Damaged part at) = IsDamaged place part at
+
+-- The store of a place was not opened, for this reason, and was left alone.
+pub record IsRefused (old new : Contents) (status : Status) : Type 0 where
+  pub why : IsOpeningStatus old status
+  pub left_alone : IsLeftAlone old new

@@ -1,18 +1,24 @@
--- What a place has, and which stores are sound and which are damaged.
+-- What a place has, and the words for its store: what it stands for, whether it is sound, where it is damaged, and what
+-- is left of it. Replay, the state of the engine, and the bytes of logs and files stand behind these words alone;
+-- docs/DEFINITIONS.md says why they need not be read.
 use Rattle.std.specs.Prelude.{◌≡◌, ◌⊎◌, ℕ, List, Option, None, Some}
 use Rattle.std.specs.Option.{IsSomeAnd}
+use Rattle.tsdb_history.specs.Listings.{IsListingOf}
 use Rattle.tsdb_images.specs.Stored.{kept_bytes}
 use Rattle.tsdb_map.specs.State as plain
-use Rattle.tsdb_outside.specs.Disk.{Image, State}
+use Rattle.tsdb_map.specs.declared.reply.Listing.{Listing}
+use Rattle.tsdb_outside.specs.Disk.{Image, Keeps, State}
 use Rattle.tsdb_outside.specs.Files.{StoredFile}
 use Rattle.tsdb_outside.specs.declared.disk.Slot.TheVariants.{A}
 use Rattle.tsdb_recover.specs.declared.fault.Part.{Part}
 use Rattle.tsdb_recovery.specs.Damage.{IsDamagedIn}
 use Rattle.tsdb_recovery.specs.Left.{AreLeft, IsStray}
 use Rattle.tsdb_recovery.specs.Opened as recovery
+use Rattle.tsdb_recovery.specs.Stored.{AreStored}
+use Rattle.tsdb_recovery.specs.Taking.{HaveLengths}
 use Rattle.tsdb_replay.specs.Replays.{IsReplayOf}
 use Rattle.tsdb_replay.specs.Stores as store
-use Rattle.tsdb_recovery.specs.Stored.{AreStored}
+use Rattle.tsdb_serving.specs.Serving.{AreHeldWith}
 
 -- What a place has: what its disk means, and the files of its store where it tells them.
 pub record Contents : Type 1 where
@@ -28,6 +34,12 @@ pub record Tells (place : Contents) (image : Image) (files : List StoredFile) : 
   pub told : place.stored ≡ Some files
   pub are_stored : AreStored files
 
+-- ---- what a store stands for
+
+-- with whatever files hold these, the log in slot A of what a stop left stands for the state
+abbrev pub StandsFor : List StoredFile → Image → plain.State → Type 0
+StandsFor files image at = (kept : store.Files) → store.HoldsKept files kept → store.StandsFor kept image.a at
+
 -- The log in slot A is sound, and stands with these files for the state.
 abbrev pub IsSoundWith : List StoredFile → State → plain.State → Type 0
 IsSoundWith files disk at = store.IsSound A disk (kept_bytes files) at
@@ -39,19 +51,26 @@ pub record IsSound (place : Contents) (at : plain.State) : Type 0 where
   pub are_stored : AreStored files
   pub sound : IsSoundWith files place.disk at
 
--- where the place tells its store, the store is damaged in this part at this place in it
-abbrev pub IsDamaged : Contents → Part → ℕ → Type 0
-IsDamaged place part at = (image : Image) (files : List StoredFile) → Tells place image files
-    → IsDamagedIn (kept_bytes files) image.a part at
-
 -- the place does not tell its files, or has a sound store
 abbrev pub IsSoundOrSilent : Contents → Type 0
 IsSoundOrSilent place = (place.stored ≡ None) ⊎ ((at : plain.State) × IsSound place at)
 
--- each file of the store is as it was, or it is gone, and the log does not list it
-abbrev pub KeepsListed : Contents → Contents → Type 0
-KeepsListed old new = (image : Image) (files : List StoredFile) → Tells old image files
-    → IsSomeAnd new.stored (AreLeft (IsStray image.a) files)
+-- ---- damage
+
+-- The place tells a store that is damaged in this part, at this place in it.
+pub record HasDamage (place : Contents) (part : Part) (at : ℕ) : Type 0 where
+  pub image : Image
+  pub files : List StoredFile
+  pub tells : Tells place image files
+  pub lengths : HaveLengths files
+  pub damaged : IsDamagedIn (kept_bytes files) image.a part at
+
+-- where the place tells its store, the store is damaged in this part, at this place in it
+abbrev pub IsDamaged : Contents → Part → ℕ → Type 0
+IsDamaged place part at = (image : Image) (files : List StoredFile) → Tells place image files
+    → IsDamagedIn (kept_bytes files) image.a part at
+
+-- ---- what a run begins with, and what it leaves
 
 -- The number of the next file of a place with these files: one more than the greatest that a record of its log has named
 -- or that a file has.
@@ -61,3 +80,25 @@ pub record IsNextNumber (place : Contents) (files : List StoredFile) (next : ℕ
   pub recorded : store.Recorded
   pub replayed : IsReplayOf store.store_steps image.a recorded
   pub above : recovery.IsNextNumber next files recorded.named
+
+-- The place stores these files, as files are stored, and none but those of a run: whoever holds the run's holds these.
+pub record Stores (place : Contents) (stored run : List StoredFile) : Type 0 where
+  pub told : place.stored ≡ Some stored
+  pub are_stored : AreStored stored
+  pub held : AreHeldWith stored run
+
+-- the listing is that of the place's store, whatever a stop leaves of its slots
+abbrev pub IsListed : Contents → Listing → Type 0
+IsListed place listing = (stored : List StoredFile) (image : Image) → place.stored ≡ Some stored
+    → place.disk.may_leave image → IsListingOf (kept_bytes stored) image.a listing
+
+-- each file of the store is as it was, or it is gone, and the log does not list it
+abbrev pub KeepsListed : Contents → Contents → Type 0
+KeepsListed old new = (image : Image) (files : List StoredFile) → Tells old image files
+    → IsSomeAnd new.stored (AreLeft (IsStray image.a) files)
+
+-- The store was left alone: its log means what it meant, and each file is as it was, but that some which the log does not
+-- list may be gone.
+pub record IsLeftAlone (old new : Contents) : Type 0 where
+  pub log : Keeps old.disk new.disk
+  pub files : KeepsListed old new

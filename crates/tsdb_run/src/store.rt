@@ -1,21 +1,15 @@
 //! Executes the commands of a script on a store. Depends on tsdb_recovery, tsdb_history and tsdb_core.
-ghost use Rattle.std.specs.Prelude.{◌≡◌, ℕ, ◌+◌, ◌-◌, ◌^◌, ◌<◌, ◌≤◌, min, [], All, Some, IfErr, IfOk, IsErrAnd, OnErr};
-ghost use Rattle.std.specs.Prelude.{List, OnOk, count_by, length, slice_index, vec_len, vec_capacity};
+ghost use Rattle.std.specs.Prelude.{◌≡◌, ℕ, ◌+◌, ◌-◌, ◌^◌, ◌<◌, ◌≤◌, min, Some, IfErr, IfOk, IsErrAnd, OnOk};
+ghost use Rattle.std.specs.Prelude.{count_by, length};
 ghost use Rattle.tsdb_core.specs.Limits.{IsPairLimit};
-ghost use Rattle.tsdb_history.specs.History.{is_device, session_numbers};
-ghost use Rattle.tsdb_images.specs.Stored.{kept_bytes};
-ghost use Rattle.tsdb_map.specs.Commands.{IsWellFormed};
+ghost use Rattle.tsdb_history.specs.History.{CanExecute, is_device};
+ghost use Rattle.tsdb_history.specs.Rooms.{IsRoomFor};
 ghost use Rattle.tsdb_outside.specs.Causes.{Rose};
-ghost use Rattle.tsdb_outside.specs.Disk.{Image, Keeps};
-ghost use Rattle.tsdb_outside.specs.Files.{StoredFile};
 ghost use Rattle.tsdb_outside.specs.declared.disk.Slot.TheVariants as slots;
 ghost use Rattle.tsdb_recover.specs.declared.fault.Part as store_part;
-ghost use Rattle.tsdb_recovery.specs.Damage.{IsDamagedIn};
-ghost use Rattle.tsdb_recovery.specs.Taking.{HaveLengths};
 ghost use Rattle.tsdb_run.specs.Causes.{ReportsDamage, TellsDevice};
-ghost use Rattle.tsdb_run.specs.Steps.{IsOpeningStatus, IsRunOn, IsServedFrom, opening_status};
-ghost use Rattle.tsdb_run.specs.Store.{IsSoundOrSilent, KeepsListed, Tells, contents};
-ghost use Rattle.tsdb_script.specs.Limits.{max_commands};
+ghost use Rattle.tsdb_run.specs.Steps.{IsRefused, IsRunOn, IsServedFrom, opening_status};
+ghost use Rattle.tsdb_run.specs.Store.{HasDamage, IsSoundOrSilent, contents};
 ghost use Rattle.tsdb_serving.specs.Flushing.{IsReady, faults_under};
 ghost use Rattle.tsdb_serving.specs.Serving.{IsSure, slot_under};
 
@@ -39,24 +33,20 @@ pub fn run_commands<P: Place>(
     script: &[Numbered],
 ) -> Result<List<Told>, Status>
     requires limit { IsPairLimit asked.now.pair_points }
-    requires few { length script.now ≤ max_commands }
-    requires sessions { All (λ numbered. numbered.session < session_numbers) script.now }
-    requires well_formed { All (λ numbered. IsWellFormed numbered.command) script.now }
+    requires script { CanExecute script.now }
     ensures executed { IfOk result (λ history. IsRunOn script.now history
         (contents (P.state place.old) (P.stored place.old)) (contents (P.state place.new) (P.stored place.new))
         (Rose (P.faults place.old) (P.faults place.new))) }
     ensures directory { OnOk result (P.asked place.new ≡ Some asked.now.directory) }
     ensures devices { IfOk result (λ history. IsSoundOrSilent (contents (P.state place.old) (P.stored place.old))
         → min (P.faults place.old + count_by is_device history) (2 ^ 64 - 1) ≤ P.faults place.new) }
-    ensures keeps { OnErr result (Keeps (P.state place.old) (P.state place.new)) }
-    ensures files { OnErr result (KeepsListed (contents (P.state place.old) (P.stored place.old))
+    ensures refused { IfErr result (IsRefused (contents (P.state place.old) (P.stored place.old))
         (contents (P.state place.new) (P.stored place.new))) }
-    ensures status { IfErr result (IsOpeningStatus (contents (P.state place.old) (P.stored place.old))) }
     ensures device { IfErr result (λ status. TellsDevice status (P.asked place.new ≡ Some asked.now.directory)
         (P.faults place.old) (P.faults place.new)) }
-    ensures damaged { (image : Image) (files : List StoredFile) (part : store_part.Part) (at : ℕ)
-        → Tells (contents (P.state place.old) (P.stored place.old)) image files → HaveLengths files
-        → IsDamagedIn (kept_bytes files) image.a part at → IsErrAnd result (λ status. ReportsDamage status part at) }
+    ensures damaged { (part : store_part.Part) (at : ℕ)
+        → HasDamage (contents (P.state place.old) (P.stored place.old)) part at
+        → IsErrAnd result (λ status. ReportsDamage status part at) }
     ensures later { P.faults place.old ≤ P.faults place.new }
 {
     let Ok(room) = Room::new(alloc, script.len()) else {
@@ -64,11 +54,9 @@ pub fn run_commands<P: Place>(
     };
     match place.take_up(asked.directory()) {
         Ok((journal, files)) => {
-            let options = Options {
-                pair_points: asked.pair_points(),
-            };
             let mut files = files;
-            let (journal, outcome) = run_on(alloc, journal, &mut files, options, script, room);
+            let limit = asked.pair_points();
+            let (journal, outcome) = run_on(alloc, journal, &mut files, limit, script, room);
             place.put_down(journal, files);
             outcome
         }
@@ -83,38 +71,29 @@ fn run_on<J: Journal, F: Files>(
     alloc: Global,
     journal: J,
     files: &mut F,
-    options: Options,
+    pair_points: u64,
     script: &[Numbered],
     room: Room,
 ) -> (J, Result<List<Told>, Status>)
-    requires limit { IsPairLimit options.pair_points }
-    requires few { length script.now ≤ max_commands }
-    requires sessions { All (λ numbered. numbered.session < session_numbers) script.now }
-    requires well_formed { All (λ numbered. IsWellFormed numbered.command) script.now }
-    requires long { length room.counts.items ≡ session_numbers }
-    requires zero { (at : ℕ) → slice_index room.counts.items at ≡ 0 }
-    requires none { (room.history.items ≡ []) × (vec_len room.history ≡ 0) }
-    requires places { vec_capacity room.history ≡ length script.now }
+    requires limit { IsPairLimit pair_points }
+    requires script { CanExecute script.now }
+    requires room { IsRoomFor (length script.now) room }
     requires no_faults { (J.faults journal ≡ 0) × (F.faults files.old ≡ 0) }
-    ensures executed { IfOk result.1 (λ history. IsRunOn script.now history
-        (contents (J.state journal) (F.at_rest files.old)) (contents (J.state result.0) (F.at_rest files.new))
-        (Rose 0 (J.faults result.0))) }
+    ensures executed { IfOk result.1 (λ history. IsRunOn script.now history (contents (J.state journal)
+        (F.at_rest files.old)) (contents (J.state result.0) (F.at_rest files.new)) (Rose 0 (J.faults result.0))) }
     ensures devices { IfOk result.1 (λ history. IsSoundOrSilent (contents (J.state journal) (F.at_rest files.old))
         → min (count_by is_device history) (2 ^ 64 - 1) ≤ J.faults result.0 + F.faults files.new) }
-    ensures keeps { OnErr result.1 (Keeps (J.state journal) (J.state result.0)) }
-    ensures files { OnErr result.1 (KeepsListed (contents (J.state journal) (F.at_rest files.old))
+    ensures refused { IfErr result.1 (IsRefused (contents (J.state journal) (F.at_rest files.old))
         (contents (J.state result.0) (F.at_rest files.new))) }
-    ensures status { IfErr result.1 (IsOpeningStatus (contents (J.state journal) (F.at_rest files.old))) }
     ensures device { IfErr result.1 (λ status. status ≡ Status.Device → 0 < J.faults result.0 + F.faults files.new) }
-    ensures damaged { (image : Image) (files_there : List StoredFile) (part : store_part.Part) (at : ℕ)
-        → Tells (contents (J.state journal) (F.at_rest files.old)) image files_there → HaveLengths files_there
-        → IsDamagedIn (kept_bytes files_there) image.a part at
+    ensures damaged { (part : store_part.Part) (at : ℕ)
+        → HasDamage (contents (J.state journal) (F.at_rest files.old)) part at
         → IsErrAnd result.1 (λ status. ReportsDamage status part at) }
 {
     let Ok(port) = files.port() else {
         return (journal, Err(Status::Memory));
     };
-    match recover(alloc, journal, files, options) {
+    match recover(alloc, journal, files, Options { pair_points }) {
         Ok(core) => {
             a_recovered_core_serves(&core);
             let (journal, history) = serve_script(alloc, core, files, port, script, room);
@@ -136,13 +115,8 @@ fn serve_script<J: Journal, F: Files>(
     script: &[Numbered],
     room: Room,
 ) -> (J, List<Told>)
-    requires few { length script.now ≤ max_commands }
-    requires sessions { All (λ numbered. numbered.session < session_numbers) script.now }
-    requires well_formed { All (λ numbered. IsWellFormed numbered.command) script.now }
-    requires long { length room.counts.items ≡ session_numbers }
-    requires zero { (at : ℕ) → slice_index room.counts.items at ≡ 0 }
-    requires none { (room.history.items ≡ []) × (vec_len room.history ≡ 0) }
-    requires places { vec_capacity room.history ≡ length script.now }
+    requires script { CanExecute script.now }
+    requires room { IsRoomFor (length script.now) room }
     requires ready { IsReady (F.Port.store port) core }
     requires port { F.Port.store port ≡ F.store files.old }
     requires slot { slot_under core ≡ slots.A }

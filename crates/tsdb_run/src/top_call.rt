@@ -1,17 +1,17 @@
 //! The top call: words, source and sink in, status and history out. Depends on all other modules.
-ghost use Rattle.std.specs.Prelude.{◌≡◌, ◌≢◌, ◌↔◌, ◌+◌, ◌-◌, ◌^◌, ◌≤◌, min, ℕ, List, [], Some, IfSome, count_by};
+ghost use Rattle.std.specs.Prelude.{◌≡◌, ◌≢◌, ◌⊎◌, ◌↔◌, ◌+◌, ◌-◌, ◌^◌, ◌≤◌, min, ℕ, List, [], Some, IfSome, count_by};
 ghost use Rattle.std.specs.declared.option.Option.{Option};
 ghost use Rattle.std.specs.Io.KnownBytes.{IsAtEnd};
 ghost use Rattle.tsdb_core.specs.Limits.{IsPairLimit};
-ghost use Rattle.tsdb_history.specs.History.{is_device};
+ghost use Rattle.tsdb_history.specs.History.{IsInLineOrder, is_device};
 ghost use Rattle.tsdb_map.specs.State as plain;
 ghost use Rattle.tsdb_outside.specs.Causes.{Rose};
-ghost use Rattle.tsdb_run.specs.Causes.{AreGoodWords, IsBeforeOutput, IsBeforeStore, IsDoneOrMemory, IsGoodScript};
-ghost use Rattle.tsdb_run.specs.Causes.{IsRefusedStore, IsTakenUp, ReportsBad, ReportsDamageOf, TellsDevice, TellsFaults};
-ghost use Rattle.tsdb_run.specs.Headline.{Headline, run_of};
+ghost use Rattle.tsdb_run.specs.Causes.{AreGoodWords, IsBeforeStore, IsDoneOrMemory, IsGoodScript, IsRefusedStore};
+ghost use Rattle.tsdb_run.specs.Causes.{ReportsBad, ReportsDamageOf, TellsDevice, TellsFaults};
+ghost use Rattle.tsdb_run.specs.Headline.{Headline, IsTakenUp, KeepsLineOrder};
 ghost use Rattle.tsdb_run.specs.Input.{TakesPrefix};
 ghost use Rattle.tsdb_run.specs.Output.{output_text};
-ghost use Rattle.tsdb_run.specs.Steps.{IsAnswered, IsServedStatus, IsWritten};
+ghost use Rattle.tsdb_run.specs.Steps.{IsAnswered, IsServedStatus, IsWritten, run_of};
 ghost use Rattle.tsdb_run.specs.Store.{IsSound, IsSoundOrSilent, contents};
 ghost use Rattle.tsdb_script.specs.Reading.{IsFirstBad, IsScript};
 ghost use Rattle.tsdb_words.specs.Words.{AreWords};
@@ -56,6 +56,7 @@ pub fn run<S: Source, K: Sink, P: Place>(
       held = K.held out.old;
       holds = K.held out.new;
     }) }
+    ensures in_line_order { IfSome (S.left script.old) (λ bytes. KeepsLineOrder bytes result.history) }
     ensures whole_source { result.status ≡ Status.Done → IsAtEnd (S.left script.new) }
     ensures budget { TakesPrefix (S.left script.old) (S.left script.new) }
     ensures words { (result.status ≡ Status.Words) ↔ ¬ AreGoodWords words.now }
@@ -68,7 +69,7 @@ pub fn run<S: Source, K: Sink, P: Place>(
         → min (P.faults place.old + count_by is_device result.history) (2 ^ 64 - 1) ≤ P.faults place.new }
     ensures refused { IsRefusedStore result.status → IfSome (S.left script.old) IsGoodScript }
     ensures source_untouched { result.status ≡ Status.Words → script.new ≡ script.old }
-    ensures sink_untouched { IsBeforeOutput result.status → out.new ≡ out.old }
+    ensures sink_untouched { IsBeforeStore result.status ⊎ IsRefusedStore result.status → out.new ≡ out.old }
     ensures place_untouched { IsBeforeStore result.status → place.new ≡ place.old }
     ensures first_bad { AreGoodWords words.now → IfSome (S.left script.old) (λ bytes. (line kind : ℕ)
         → IsFirstBad bytes line kind → ReportsBad result.status line kind) }
@@ -100,13 +101,14 @@ fn run_script<K: Sink, P: Place>(
         (contents (P.state place.old) (P.stored place.old)) (contents (P.state place.new) (P.stored place.new))
         (Rose (P.faults place.old) (P.faults place.new)) (P.asked place.new) result.status result.history
         (K.held out.old) (K.held out.new)) }
+    ensures in_line_order { (result.history ≡ []) ⊎ IsInLineOrder script.now result.history }
     ensures statuses { IsServedStatus result.status }
     ensures sink { TellsFaults Status.Sink result.status (K.faults out.old) (K.faults out.new) }
     ensures device { TellsDevice result.status (P.asked place.new ≡ Some asked.now.directory) (P.faults place.old)
         (P.faults place.new) }
     ensures devices { IsSoundOrSilent (contents (P.state place.old) (P.stored place.old))
         → min (P.faults place.old + count_by is_device result.history) (2 ^ 64 - 1) ≤ P.faults place.new }
-    ensures sink_untouched { IsBeforeOutput result.status → out.new ≡ out.old }
+    ensures sink_untouched { IsRefusedStore result.status → out.new ≡ out.old }
     ensures damaged { ReportsDamageOf (contents (P.state place.old) (P.stored place.old)) result.status }
     ensures sound { (at : plain.State) → IsSound (contents (P.state place.old) (P.stored place.old)) at
         → IsRefusedStore result.status → Rose (P.faults place.old) (P.faults place.new) }

@@ -7,7 +7,7 @@ use Rattle.std.proofs.lemmas.List.{length-set}
 use Rattle.tsdb_history.proofs.Replies.{sure_still}
 use Rattle.tsdb_history.proofs.SoFar.{SoFar, devices_more, few_of, nothing_so_far, one_more, whole_slice}
 use Rattle.tsdb_history.proofs.Steps.{none_served, one_more_served, stays_on}
-use Rattle.tsdb_history.specs.History.{IsHistory, is_device, session_numbers}
+use Rattle.tsdb_history.specs.History.{IsHistory, IsInLineOrder, is_device, session_numbers}
 use Rattle.tsdb_serving.specs.Serving.{IsSure}
 use Rattle.tsdb_history.specs.declared.told.Told.{Told}
 use Rattle.tsdb_script.specs.declared.numbered.Numbered.{Numbered}
@@ -20,29 +20,29 @@ next_index-index-requires-clause-few g c =
     let session = c.numbered-item.result.session in
     let within : session < session_numbers =
     subst (λ (n : Numbered). n.session < session_numbers) (sym c.numbered-item.is)
-    (c.requires.sessions c.loop-numbered.numbered-index c.numbered-item.result (omega arith)) in
+    (c.requires.script.sessions c.loop-numbered.numbered-index c.numbered-item.result (omega arith)) in
     rw c.deref_mut.ensures.value (omega (
       arith,
       c.loop-numbered.invariant.so_far.counts_are session within,
       few_of done session,
       length-take c.loop-numbered.numbered-index c.args.script.now,
-      c.requires.few,
+      c.requires.script.few,
     ))
 
 pub loop-numbered-init : goal.loop-numbered-init
 loop-numbered-init g c = record {
-  long = c.requires.long;
-  placed = c.requires.none.1;
-  capacity = omega (arith, c.requires.places);
+  long = c.requires.room.long;
+  placed = c.requires.room.len;
+  capacity = omega (arith, c.requires.room.places);
   entries = [];
-  so_far = rw c.requires.none.0 (nothing_so_far c.args.room.counts.items c.requires.zero);
+  so_far = rw c.requires.room.none (nothing_so_far c.args.room.counts.items c.requires.room.zero);
   same_store = refl;
   ready = c.requires.ready;
   stays = record { slot = refl; next = omega arith };
   drawn = omega arith;
   served = λ tells files start serving. none_served g.J.Disk.lawful c.args.core.now files start serving;
   sure = λ sure. sure;
-  devices = λ sure. rw c.requires.none.0 (omega arith);
+  devices = λ sure. rw c.requires.room.none (omega arith);
   later = (omega arith, omega arith);
 }
 
@@ -75,7 +75,7 @@ loop-numbered-preserved g c =
     ∙ ap (λ x. take at script ++ x ∷ []) (sym c.numbered-item.is) in
     let within : numbered.session < session_numbers =
     subst (λ (n : Numbered). n.session < session_numbers) (sym c.numbered-item.is)
-    (c.requires.sessions at numbered (omega arith)) in
+    (c.requires.script.sessions at numbered (omega arith)) in
     let entries = c.loop-numbered.invariant.entries in
     let more = entries ++ record { command = numbered.command; reply = told.reply } ∷ [] in
     let pushed : SoFar (take at script ++ numbered ∷ []) (c.loop-numbered.history.items ++ told ∷ []) more new =
@@ -125,6 +125,8 @@ returns-clause-executed g c =
       history_of = subst (λ h. IsHistory script h entries) (sym c.of.ensures)
           (subst (λ s. IsHistory s c.loop-numbered.history.items entries) all
           c.loop-numbered.invariant.so_far.history_of);
+      in_line_order = subst (IsInLineOrder script) (sym c.of.ensures)
+          (subst (λ s. IsInLineOrder s c.loop-numbered.history.items) all c.loop-numbered.invariant.so_far.in_line_order);
       served = c.loop-numbered.invariant.served;
     }
 

@@ -1,11 +1,13 @@
-use Rattle.std.proofs.Common.{◌∙◌, Err, Some, ap, refl, sym}
+use Rattle.std.proofs.Common.{◌∙◌, Err, Some, ap, inl, inr, refl, sym}
 use Rattle.std.specs.Prelude.{count_by}
 use Rattle.tsdb_history.specs.History.{is_device}
 use Rattle.tsdb_outside.specs.Causes.{Rose}
 use Rattle.tsdb_run.proofs.Executed.{counted_down, if_ok, placed, rose_down, sure_before}
 use Rattle.tsdb_run.proofs.Ends.{device_down, device_failed, device_memory}
 use Rattle.tsdb_run.proofs.PutLemmas.{memory_is_no_failure, same_error}
-use Rattle.tsdb_run.proofs.Refused.{err_again, placed_listed, same_listed}
+use Rattle.tsdb_outside.proofs.DiskLemmas.{Keeps-same}
+use Rattle.tsdb_run.proofs.Refused.{err_again, placed_damage, placed_refused, same_refused}
+use Rattle.tsdb_run.specs.declared.status.Status.TheVariants.{Device, Memory}
 use Rattle.tsdb_run.proofs.store.run_commands.Goals as goal
 
 pub returns-in-Ok-take_up-clause-executed : goal.returns-in-Ok-take_up-clause-executed
@@ -37,31 +39,48 @@ returns-in-Ok-take_up-clause-devices g c =
     (g.P.Files.Files.at_rest c.in-Ok-take_up.files) c.in-Ok-take_up.ensures.keeps c.in-Ok-take_up.ensures.at_rest sure)))
     c.run_on-journal.ensures.devices
 
-pub returns-in-Ok-take_up-clause-files : goal.returns-in-Ok-take_up-clause-files
-returns-in-Ok-take_up-clause-files g c =
+pub returns-in-Ok-take_up-clause-refused : goal.returns-in-Ok-take_up-clause-refused
+returns-in-Ok-take_up-clause-refused g c =
     let old = c.args.place.now in
     let new = c.put_down.new.self in
-    err_again _ _ c.run_on-journal.result.1 (λ left.
-    placed_listed (g.P.Disk.state old) (g.P.Journal.Disk.state c.in-Ok-take_up.journal)
-    (g.P.Journal.Disk.state c.run_on-journal.result.0) (g.P.Disk.state new) (g.P.Place.stored old)
-    (g.P.Files.Files.at_rest c.in-Ok-take_up.files) (g.P.Files.Files.at_rest c.run_on-journal.new.files)
-    (g.P.Place.stored new) c.in-Ok-take_up.ensures.keeps c.in-Ok-take_up.ensures.at_rest c.put_down.ensures.stored left)
-    c.run_on-journal.ensures.files
+    let last = c.run_on-journal.result.0 in
+    err_again _ _ c.run_on-journal.result.1 (λ status refused.
+    placed_refused (g.P.Disk.state old) (g.P.Journal.Disk.state c.in-Ok-take_up.journal) (g.P.Journal.Disk.state last)
+    (g.P.Disk.state new) (g.P.Place.stored old) (g.P.Files.Files.at_rest c.in-Ok-take_up.files)
+    (g.P.Files.Files.at_rest c.run_on-journal.new.files) (g.P.Place.stored new) status (g.P.Disk.lawful old)
+    c.in-Ok-take_up.ensures.keeps c.in-Ok-take_up.ensures.at_rest c.put_down.ensures.keeps c.put_down.ensures.stored
+    refused) c.run_on-journal.ensures.refused
 
-pub returns-in_default-clause-files : goal.returns-in_default-clause-files
-returns-in_default-clause-files g c =
-    same_listed (g.P.Disk.state c.args.place.now) (g.P.Disk.state c.args.place.now) (g.P.Place.stored c.args.place.now)
-    (g.P.Place.stored c.args.place.now) refl
+pub returns-in-Ok-take_up-clause-damaged : goal.returns-in-Ok-take_up-clause-damaged
+returns-in-Ok-take_up-clause-damaged g c = λ part at damaged.
+    c.run_on-journal.ensures.damaged part at (placed_damage (g.P.Disk.state c.args.place.now)
+    (g.P.Journal.Disk.state c.in-Ok-take_up.journal) (g.P.Place.stored c.args.place.now)
+    (g.P.Files.Files.at_rest c.in-Ok-take_up.files) part at c.in-Ok-take_up.ensures.keeps
+    c.in-Ok-take_up.ensures.at_rest damaged)
 
-pub returns-in-Err-Failed-clause-files : goal.returns-in-Err-Failed-clause-files
-returns-in-Err-Failed-clause-files g c =
-    same_listed (g.P.Disk.state c.args.place.now) (g.P.Disk.state c.take_up.new.self) (g.P.Place.stored c.args.place.now)
-    (g.P.Place.stored c.take_up.new.self) c.in-Err-Failed.ensures.err.1
+pub returns-in_default-clause-refused : goal.returns-in_default-clause-refused
+returns-in_default-clause-refused g c =
+    same_refused (g.P.Disk.state c.args.place.now) (g.P.Disk.state c.args.place.now) (g.P.Place.stored c.args.place.now)
+    (g.P.Place.stored c.args.place.now) Memory (Keeps-same (g.P.Disk.state c.args.place.now)) refl tt
 
-pub returns-clause-files : goal.returns-clause-files
-returns-clause-files g c =
-    same_listed (g.P.Disk.state c.args.place.now) (g.P.Disk.state c.take_up.new.self) (g.P.Place.stored c.args.place.now)
-    (g.P.Place.stored c.take_up.new.self) c.in-Err-Memory.ensures.err.1
+pub returns-in_default-clause-damaged : goal.returns-in_default-clause-damaged
+returns-in_default-clause-damaged g c = λ part at damaged. inr (inl refl)
+
+pub returns-in-Err-Failed-clause-refused : goal.returns-in-Err-Failed-clause-refused
+returns-in-Err-Failed-clause-refused g c =
+    same_refused (g.P.Disk.state c.args.place.now) (g.P.Disk.state c.take_up.new.self) (g.P.Place.stored c.args.place.now)
+    (g.P.Place.stored c.take_up.new.self) Device c.in-Err-Failed.ensures.err.0 c.in-Err-Failed.ensures.err.1 tt
+
+pub returns-in-Err-Failed-clause-damaged : goal.returns-in-Err-Failed-clause-damaged
+returns-in-Err-Failed-clause-damaged g c = λ part at damaged. inr (inr (inr refl))
+
+pub returns-clause-refused : goal.returns-clause-refused
+returns-clause-refused g c =
+    same_refused (g.P.Disk.state c.args.place.now) (g.P.Disk.state c.take_up.new.self) (g.P.Place.stored c.args.place.now)
+    (g.P.Place.stored c.take_up.new.self) Memory c.in-Err-Memory.ensures.err.0 c.in-Err-Memory.ensures.err.1 tt
+
+pub returns-clause-damaged : goal.returns-clause-damaged
+returns-clause-damaged g c = λ part at damaged. inr (inl refl)
 
 pub returns-in_default-clause-device : goal.returns-in_default-clause-device
 returns-in_default-clause-device g c = device_memory _ _ _ refl

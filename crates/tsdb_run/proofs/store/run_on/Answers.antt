@@ -1,4 +1,4 @@
-use Rattle.std.proofs.Common.{◌≡◌, ◌∙◌, ◌+◌, inl, inr, ap, length, subst, None, arith}
+use Rattle.std.proofs.Common.{◌≡◌, ◌∙◌, ◌+◌, inl, inr, ap, length, refl, subst, sym, None, arith}
 use Rattle.std.specs.Prelude.{◌*◌}
 use Rattle.tsdb_history.specs.Reach.{AreFullWithin, max_drawn}
 use Rattle.std.specs.Prelude.{is_some}
@@ -13,7 +13,11 @@ use Rattle.tsdb_run.proofs.Whole.{gone, image, next_is, next_same, opened, sound
 use Rattle.tsdb_run.specs.Store.{IsSoundOrSilent, contents}
 use Rattle.tsdb_serving.specs.Flushing.{faults_under}
 use Rattle.tsdb_serving.specs.Serving.{IsSure, disk_under}
-use Rattle.tsdb_run.proofs.Refused.{opening_listed, same_listed}
+use Rattle.tsdb_outside.proofs.DiskLemmas.{Keeps-same}
+use Rattle.tsdb_run.proofs.Refused.{never_opened, opening_refused, reports, same_refused}
+use Rattle.tsdb_run.specs.Causes.{ReportsDamage}
+use Rattle.tsdb_run.specs.Steps.{IsRefused}
+use Rattle.tsdb_run.specs.declared.status.Status.TheVariants.{Memory}
 use Rattle.tsdb_run.proofs.store.run_on.Goals as goal
 
 pub returns-in-Ok-recover-clause-executed : goal.returns-in-Ok-recover-clause-executed
@@ -29,6 +33,7 @@ returns-in-Ok-recover-clause-executed g c =
     record {
       entries = served.entries;
       history_of = served.history_of;
+      in_line_order = served.in_line_order;
       served = λ start sound.
           let recovered = opened core state stored now start sound same c.in-Ok-recover.ensures.seen in
           let serving = c.a_recovered_core_serves.ensures (image core state stored now start sound same).a sound.files start
@@ -79,13 +84,30 @@ returns-in-Ok-recover-clause-devices g c = λ sure. c.serve_script-journal.ensur
               (image core state stored now start sound c.port.ensures.same).a sound.files start recovered,
         )
 
-pub returns-in-Err-clause-files : goal.returns-in-Err-clause-files
-returns-in-Err-clause-files g c =
-    opening_listed (g.J.Disk.state c.args.journal) (g.J.Disk.state c.in-Err.journal)
-    (g.F.Files.at_rest c.args.files.now) (g.F.Files.at_rest c.port.new.self) (g.F.Files.at_rest c.recover.new.files)
-    (g.F.Files.at_rest c.end_port.new.self) c.port.ensures.same c.end_port.ensures.same c.in-Err.ensures.left
+pub returns-in-Ok-recover-clause-damaged : goal.returns-in-Ok-recover-clause-damaged
+returns-in-Ok-recover-clause-damaged g c = λ part at damaged.
+    absurd (never_opened (g.J.Disk.state c.args.journal) (g.F.Files.at_rest c.args.files.now)
+    (g.F.Files.at_rest c.port.new.self) part at c.port.ensures.same c.in-Ok-recover.ensures.each damaged)
 
-pub returns-in_default-clause-files : goal.returns-in_default-clause-files
-returns-in_default-clause-files g c =
-    same_listed (g.J.Disk.state c.args.journal) (g.J.Disk.state c.args.journal) (g.F.Files.at_rest c.args.files.now)
-    (g.F.Files.at_rest c.port.new.self) c.port.ensures.same
+pub returns-in-Err-clause-refused : goal.returns-in-Err-clause-refused
+returns-in-Err-clause-refused g c =
+    subst (IsRefused (contents (g.J.Disk.state c.args.journal) (g.F.Files.at_rest c.args.files.now))
+    (contents (g.J.Disk.state c.in-Err.field-0.journal) (g.F.Files.at_rest c.end_port.new.self))) (sym c.status_of.ensures)
+    (opening_refused (g.J.Disk.state c.args.journal) (g.J.Disk.state c.in-Err.field-0.journal)
+    (g.F.Files.at_rest c.args.files.now) (g.F.Files.at_rest c.port.new.self) (g.F.Files.at_rest c.recover.new.files)
+    (g.F.Files.at_rest c.end_port.new.self) c.in-Err.field-0.fault c.port.ensures.same c.end_port.ensures.same
+    c.in-Err.ensures.returns c.in-Err.ensures.damaged c.in-Err.ensures.left)
+
+pub returns-in-Err-clause-damaged : goal.returns-in-Err-clause-damaged
+returns-in-Err-clause-damaged g c = λ part at damaged.
+    subst (λ status. ReportsDamage status part at) (sym c.status_of.ensures)
+    (reports (g.J.Disk.state c.args.journal) (g.F.Files.at_rest c.args.files.now) (g.F.Files.at_rest c.port.new.self)
+    part at c.in-Err.field-0.fault c.port.ensures.same c.in-Err.ensures.each damaged)
+
+pub returns-in_default-clause-refused : goal.returns-in_default-clause-refused
+returns-in_default-clause-refused g c =
+    same_refused (g.J.Disk.state c.args.journal) (g.J.Disk.state c.args.journal) (g.F.Files.at_rest c.args.files.now)
+    (g.F.Files.at_rest c.port.new.self) Memory (Keeps-same (g.J.Disk.state c.args.journal)) c.port.ensures.same tt
+
+pub returns-in_default-clause-damaged : goal.returns-in_default-clause-damaged
+returns-in_default-clause-damaged g c = λ part at damaged. inr (inl refl)

@@ -20,6 +20,7 @@ returns-clause-served g c =
     record {
       entries = executed.entries;
       history_of = executed.history_of;
+      in_line_order = executed.in_line_order;
       served = λ none files start serving below.
           let tells = ap (λ (s : Store). s.tells) c.requires.port ∙ g.F.Files.tells c.args.files.now ∙ ap is_some none in
           let served = executed.served tells files start serving in

@@ -1,12 +1,13 @@
-use Rattle.std.proofs.Common.{◌∙◌, Err, ap, arith, inr, refl, subst, sym}
+use Rattle.std.proofs.Common.{◌∙◌, Err, ap, arith, inl, inr, ⊎_elim, refl, subst, sym}
 use Rattle.std.specs.Prelude.{IfSome}
 use Rattle.tsdb_outside.specs.Causes.{Rose}
 use Rattle.tsdb_run.proofs.Ends.{calm, ends_complete, ends_damaged, ends_first_bad, ends_good_words, ends_headline}
-use Rattle.tsdb_run.proofs.Ends.{ends_unrefused, ends_words, read_first_bad, read_good, served_complete}
+use Rattle.tsdb_run.proofs.Ends.{ends_unrefused, ends_words, read_first_bad, read_good, read_in_order, served_complete}
 use Rattle.tsdb_run.proofs.Ends.{served_untouched, shows_faults, some_always, some_more}
 use Rattle.tsdb_run.proofs.Ends.{taken_up}
 use Rattle.tsdb_run.proofs.Prefix.{read-script, whole-script}
 use Rattle.tsdb_run.specs.Causes.{IsDoneOrMemory, IsGoodScript}
+use Rattle.tsdb_run.specs.Headline.{KeepsLineOrder}
 use Rattle.tsdb_run.specs.Steps.{EndsInput, IsServedStatus}
 use Rattle.tsdb_run.specs.Store.{contents}
 use Rattle.tsdb_run.specs.declared.status.Status.TheVariants.{Sink, Source}
@@ -27,6 +28,20 @@ returns-in-Ok-clause-headline g c =
     c.run_script.ensures.headline c.args.words.now left c.in-Ok.ensures.words
     (subst (λ commands. IfSome left (λ bytes. IsScript bytes commands)) (sym c.deref.ensures.value)
     (read-script left (g.S.Source.left c.read_input.new.script) is.0 is.1 c.in-Ok.commands.items is.2))
+
+pub returns-in-Ok-clause-in_line_order : goal.returns-in-Ok-clause-in_line_order
+returns-in-Ok-clause-in_line_order g c =
+    let left = g.S.Source.left c.args.script.now in
+    let is = c.in-Ok.ensures.script in
+    read_in_order left c.deref.result.now c.run_script.result.history
+    (subst (λ commands. IfSome left (λ bytes. IsScript bytes commands)) (sym c.deref.ensures.value)
+    (read-script left (g.S.Source.left c.read_input.new.script) is.0 is.1 c.in-Ok.commands.items is.2))
+    c.run_script.ensures.in_line_order
+
+pub returns-in-Ok-clause-sink_untouched : goal.returns-in-Ok-clause-sink_untouched
+returns-in-Ok-clause-sink_untouched g c ended = ⊎_elim
+    (λ before. absurd (served_untouched c.run_script.result.status c.run_script.ensures.statuses before))
+    (λ refused. c.run_script.ensures.sink_untouched refused) ended
 
 pub returns-in-Ok-clause-whole_source : goal.returns-in-Ok-clause-whole_source
 returns-in-Ok-clause-whole_source g c done =
@@ -94,6 +109,11 @@ returns-in-Err-clause-headline g c =
     (Rose (g.P.Counted.faults c.args.place.now) (g.P.Counted.faults c.args.place.now)) (g.P.Place.asked c.args.place.now)
     c.end_without_commands.result.status c.end_without_commands.result.history (g.K.Sink.held c.args.out.now) is
     c.end_without_commands.ensures.history
+
+pub returns-in-Err-clause-in_line_order : goal.returns-in-Err-clause-in_line_order
+returns-in-Err-clause-in_line_order g c =
+    some_always (λ bytes. KeepsLineOrder bytes c.end_without_commands.result.history)
+    (g.S.Source.left c.args.script.now) (λ bytes script is. inl c.end_without_commands.ensures.history)
 
 pub returns-in-Err-clause-whole_source : goal.returns-in-Err-clause-whole_source
 returns-in-Err-clause-whole_source g c done =
