@@ -106,10 +106,7 @@ comparison_is (_ ∷ rest) r e = cc
 
 comparison_again : (c : Comparison) (tokens rest : Tokens) → tokens ≡ comparison_token c ∷ rest → comparison_at tokens ≡ Some (c, rest)
 comparison_again compared.Less tokens rest e = ap comparison_at e
-comparison_again compared.LessEqual tokens rest e = ap comparison_at e
-comparison_again compared.Greater tokens rest e = ap comparison_at e
-comparison_again compared.GreaterEqual tokens rest e = ap comparison_at e
-comparison_again compared.Equal tokens rest e = ap comparison_at e
+comparison_again _ tokens rest e = ap comparison_at e
 
 condition_found : (tokens : Tokens) (r : Condition × Tokens) → condition_at tokens ≡ Some r → IsCondition r.0 tokens r.1
 unfolding condition_at

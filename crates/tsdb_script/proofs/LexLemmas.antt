@@ -1,14 +1,14 @@
 -- The tokens of a line, as the reader finds them.
-use Rattle.std.proofs.Common.{◌≡◌, ◌≤◌, ◌<◌, ℕ, Bool, true, false, cond, eqb, leb, ◌||◌, inl, inr, List, [], ◌∷◌, ◌++◌, length, Option, None, Some, option_map, refl, sym, ap, ◌∙◌, subst, length-append, arith}
+use Rattle.std.proofs.Common.{◌≡◌, ◌≤◌, ◌<◌, ℕ, Bool, true, false, cond, eqb, leb, ◌||◌, inl, inr, List, [], ◌∷◌, ◌++◌, length, Option, None, Some, option_map, refl, sym, ap, ◌∙◌, subst, append_assoc, length-append, arith}
 use Rattle.std.specs.Prelude.{All, IsTrue, MatchBool, option_and_then}
 use Rattle.std.proofs.lemmas.Bool.{eqb-true, false≢true, or_cases, cases_Bool, leb-true, le-leb, eq-eqb}
 use Rattle.std.proofs.lemmas.List.Elements.{All-nil, All-cons, All-head, All-tail}
 use Rattle.tsdb_script.specs.declared.token.Token.{Token}
-use Rattle.tsdb_script.specs.declared.token.Token.TheVariants.{Word, Text, Open, Close, Comma, Semicolon, Equal, Less, LessEqual, Greater, GreaterEqual}
+use Rattle.tsdb_script.specs.declared.token.Token.TheVariants.{Word, Text, Less, LessEqual, Greater, GreaterEqual}
 use Rattle.tsdb_script.specs.declared.fault.LineFault.{LineFault}
 use Rattle.tsdb_script.specs.declared.fault.LineFault.TheVariants.{Bad}
 use Rattle.tsdb_script.specs.Steps.{FaultsWith, after_blanks, word_parts, onto, content_parts, short_text, text_at, less_at, greater_at, mark_at, token_at}
-use Rattle.tsdb_script.specs.Tokens.{is_blank, is_word_byte, is_quote, is_mark, starts, escape, AreWordAnd, BeginsWith, AreBlanksAnd, AreTokensAnd, IsStray, IsBadText, HasNoTokens}
+use Rattle.tsdb_script.specs.Tokens.{is_blank, is_word_byte, is_quote, is_mark, starts, escape, AreWordAnd, AreTextAnd, BeginsWith, AreBlanksAnd, AreTokensAnd, IsStray, IsBadText, HasNoTokens}
 use Rattle.tsdb_script.proofs.TextLemmas.{content_parts-other, content_parts-pair, content_parts-end}
 
 some_is : {A : Type 0} (x y : A) → Some x ≡ Some y → x ≡ y
@@ -48,32 +48,19 @@ blanks_unique bytes rest h solid = sym (ap after_blanks h.whole ∙ blanks_go h.
 
 -- marks
 
-mark_cases : (P : ℕ → Type 0) → P 40 → P 41 → P 44 → P 59 → P 61 → P 60 → P 62 → (b : ℕ) → is_mark b ≡ true → P b
-mark_cases P a c d e f g i b h = elim (or_cases _ _ h) [
-  | inl h ↦ subst P (sym (eqb-true b 40 h)) a
-  | inr h ↦ elim (or_cases _ _ h) [
-    | inl h ↦ subst P (sym (eqb-true b 41 h)) c
-    | inr h ↦ elim (or_cases _ _ h) [
-      | inl h ↦ subst P (sym (eqb-true b 44 h)) d
-      | inr h ↦ elim (or_cases _ _ h) [
-        | inl h ↦ subst P (sym (eqb-true b 59 h)) e
-        | inr h ↦ elim (or_cases _ _ h) [
-          | inl h ↦ subst P (sym (eqb-true b 61 h)) f
-          | inr h ↦ elim (or_cases _ _ h) [
-            | inl h ↦ subst P (sym (eqb-true b 60 h)) g
-            | inr h ↦ subst P (sym (eqb-true b 62 h)) i
-          ]
-        ]
-      ]
-    ]
-  ]
-]
+either : {P : Type 0} (a b : Bool) → (a ≡ true → P) → (b ≡ true → P) → (a || b) ≡ true → P
+either a b one other h = elim (or_cases a b h) [ inl h ↦ one h | inr h ↦ other h ]
 
-quote_cases : (P : ℕ → Type 0) → P 39 → P 34 → (b : ℕ) → is_quote b ≡ true → P b
-quote_cases P a c b h = elim (or_cases _ _ h) [
-  | inl h ↦ subst P (sym (eqb-true b 39 h)) a
-  | inr h ↦ subst P (sym (eqb-true b 34 h)) c
-]
+here : (P : ℕ → Type 0) (b m : ℕ) → P m → eqb b m ≡ true → P b
+here P b m p is = subst P (sym (eqb-true b m is)) p
+
+mark_cases : (P : ℕ → Type 0) → P 40 → P 41 → P 44 → P 59 → P 61 → P 60 → P 62 → (b : ℕ) → is_mark b ≡ true → P b
+mark_cases P a c d e f g i b =
+    either _ _ (here P b 40 a) (either _ _ (here P b 41 c) (either _ _ (here P b 44 d) (either _ _ (here P b 59 e)
+    (either _ _ (here P b 61 f) (either _ _ (here P b 60 g) (here P b 62 i))))))
+
+pub quote_cases : (P : ℕ → Type 0) → P 39 → P 34 → (b : ℕ) → is_quote b ≡ true → P b
+quote_cases P a c b = either _ _ (here P b 39 a) (here P b 34 c)
 
 abbrev Begins : Token × List ℕ → List ℕ → Type 0
 Begins r bytes = BeginsWith r.0 bytes r.1
@@ -99,35 +86,27 @@ begins_mark bytes = mark_cases (λ b. Begins (mark_at b bytes) (b ∷ bytes)) re
 
 -- words
 
-word_whole : (bytes : List ℕ) → bytes ≡ (word_parts bytes).0 ++ (word_parts bytes).1
-word_whole [] = refl
-word_whole (b ∷ bytes) =
-    elim (is_word_byte b) as (λ t. b ∷ bytes ≡ (cond t (onto b (word_parts bytes)) ([], b ∷ bytes)).0 ++ (cond t (onto b (word_parts bytes)) ([], b ∷ bytes)).1) [
-      | true ↦ ap (λ l. b ∷ l) (word_whole bytes)
-      | false ↦ refl
-    ]
+-- the longest word, which may have no byte
+record IsLongest (word bytes rest : List ℕ) : Type 0 where
+  whole : bytes ≡ word ++ rest
+  letters : All (λ b. IsTrue (is_word_byte b)) word
+  longest : starts is_word_byte rest ≡ false
 
-word_letters : (bytes : List ℕ) → All (λ b. IsTrue (is_word_byte b)) (word_parts bytes).0
-word_letters [] = All-nil (λ b. IsTrue (is_word_byte b))
-word_letters (b ∷ bytes) =
-    elim (is_word_byte b) as (λ t. is_word_byte b ≡ t → All (λ b. IsTrue (is_word_byte b)) (cond t (onto b (word_parts bytes)) ([], b ∷ bytes)).0) [
-      | true ↦ λ e. All-cons (λ b. IsTrue (is_word_byte b)) b (word_parts bytes).0 e (word_letters bytes)
-      | false ↦ λ e. All-nil (λ b. IsTrue (is_word_byte b))
-    ] refl
-
-word_longest : (bytes : List ℕ) → starts is_word_byte (word_parts bytes).1 ≡ false
-word_longest [] = refl
-word_longest (b ∷ bytes) =
-    elim (is_word_byte b) as (λ t. is_word_byte b ≡ t → starts is_word_byte (cond t (onto b (word_parts bytes)) ([], b ∷ bytes)).1 ≡ false) [
-      | true ↦ λ e. word_longest bytes
-      | false ↦ λ e. e
+longest_word : (bytes : List ℕ) → IsLongest (word_parts bytes).0 bytes (word_parts bytes).1
+longest_word [] = record { whole = refl; letters = All-nil (λ b. IsTrue (is_word_byte b)); longest = refl }
+longest_word (b ∷ bytes) =
+    let h = longest_word bytes in
+    elim (is_word_byte b) as (λ t. is_word_byte b ≡ t
+    → IsLongest (cond t (onto b (word_parts bytes)) ([], b ∷ bytes)).0 (b ∷ bytes) (cond t (onto b (word_parts bytes)) ([], b ∷ bytes)).1) [
+      | true ↦ λ e. record { whole = ap (λ l. b ∷ l) h.whole; letters = All-cons (λ b. IsTrue (is_word_byte b)) b (word_parts bytes).0 e h.letters; longest = h.longest }
+      | false ↦ λ e. record { whole = refl; letters = All-nil (λ b. IsTrue (is_word_byte b)); longest = e }
     ] refl
 
 word_some : (b : ℕ) (bytes : List ℕ) → is_word_byte b ≡ true → 0 < length (word_parts (b ∷ bytes)).0
 word_some b bytes e = subst (λ t. 0 < length (cond t (onto b (word_parts bytes)) ([], b ∷ bytes)).0) (sym e) (omega arith)
 
 begins_word : (b : ℕ) (bytes : List ℕ) → is_word_byte b ≡ true → AreWordAnd (word_parts (b ∷ bytes)).0 (b ∷ bytes) (word_parts (b ∷ bytes)).1
-begins_word b bytes e = record { whole = word_whole (b ∷ bytes); some = word_some b bytes e; letters = word_letters (b ∷ bytes); longest = word_longest (b ∷ bytes) }
+begins_word b bytes e = let h = longest_word (b ∷ bytes) in record { whole = h.whole; some = word_some b bytes e; letters = h.letters; longest = h.longest }
 
 word_stops : (rest : List ℕ) → starts is_word_byte rest ≡ false → word_parts rest ≡ ([], rest)
 word_stops [] longest = refl
@@ -145,15 +124,11 @@ pub record IsContent (quote : ℕ) (bytes content rest : List ℕ) : Type 0 wher
   pub whole : bytes ≡ escape quote content ++ quote ∷ rest
   pub longest : starts (λ b. eqb b quote) rest ≡ false
 
-content_onto : (quote b : ℕ) (bytes content rest : List ℕ) → eqb b quote ≡ false → IsContent quote bytes content rest → IsContent quote (b ∷ bytes) (b ∷ content) rest
-content_onto quote b bytes content rest other h = record {
-  whole = ap (λ l. b ∷ l) h.whole ∙ ap (λ t. (cond t (b ∷ b ∷ []) (b ∷ []) ++ escape quote content) ++ quote ∷ rest) (sym other);
-  longest = h.longest;
-}
-
-content_twice : (quote b : ℕ) (bytes content rest : List ℕ) → eqb b quote ≡ true → IsContent quote bytes content rest → IsContent quote (b ∷ b ∷ bytes) (b ∷ content) rest
-content_twice quote b bytes content rest same h = record {
-  whole = ap (λ l. b ∷ b ∷ l) h.whole ∙ ap (λ t. (cond t (b ∷ b ∷ []) (b ∷ []) ++ escape quote content) ++ quote ∷ rest) (sym same);
+-- one more byte of the content, with a quote doubled
+content_more : (quote b : ℕ) (front bytes content rest : List ℕ) → front ≡ cond (eqb b quote) (b ∷ b ∷ []) (b ∷ []) → IsContent quote bytes content rest
+    → IsContent quote (front ++ bytes) (b ∷ content) rest
+content_more quote b front bytes content rest is h = record {
+  whole = ap (λ l. front ++ l) h.whole ∙ sym (append_assoc front (escape quote content) (quote ∷ rest)) ∙ ap (λ f. (f ++ escape quote content) ++ quote ∷ rest) is;
   longest = h.longest;
 }
 
@@ -161,16 +136,12 @@ abbrev IsContentIn : ℕ → List ℕ → Option (List ℕ × List ℕ) → Type
 IsContentIn quote bytes None = Unit {0}
 IsContentIn quote bytes (Some r) = IsContent quote bytes r.0 r.1
 
-content_onto_in : (quote b : ℕ) (bytes : List ℕ) (o : Option (List ℕ × List ℕ)) → eqb b quote ≡ false → IsContentIn quote bytes o → IsContentIn quote (b ∷ bytes) (option_map (onto b) o)
-content_onto_in quote b bytes None other h = h
-content_onto_in quote b bytes (Some r) other h = content_onto quote b bytes r.0 r.1 other h
+content_more_in : (quote b : ℕ) (front bytes : List ℕ) (o : Option (List ℕ × List ℕ)) → front ≡ cond (eqb b quote) (b ∷ b ∷ []) (b ∷ []) → IsContentIn quote bytes o
+    → IsContentIn quote (front ++ bytes) (option_map (onto b) o)
+content_more_in quote b front bytes None is h = h
+content_more_in quote b front bytes (Some r) is h = content_more quote b front bytes r.0 r.1 is h
 
-content_twice_in : (quote b c : ℕ) (bytes : List ℕ) (o : Option (List ℕ × List ℕ)) → eqb b quote ≡ true → eqb c quote ≡ true → IsContentIn quote bytes o → IsContentIn quote (b ∷ c ∷ bytes) (option_map (onto b) o)
-content_twice_in quote b c bytes None same again h = h
-content_twice_in quote b c bytes (Some r) same again h =
-    subst (λ c. IsContent quote (b ∷ c ∷ bytes) (b ∷ r.0) r.1) (eqb-true b quote same ∙ sym (eqb-true c quote again)) (content_twice quote b bytes r.0 r.1 same h)
-
-content_found : (quote : ℕ) (bytes : List ℕ) → IsContentIn quote bytes (content_parts quote bytes)
+pub content_found : (quote : ℕ) (bytes : List ℕ) → IsContentIn quote bytes (content_parts quote bytes)
 content_found quote [] = tt
 content_found quote (b ∷ []) =
     elim (eqb b quote) as (λ t. eqb b quote ≡ t → IsContentIn quote (b ∷ []) (cond t (Some ([], [])) None)) [
@@ -181,10 +152,11 @@ content_found quote (b ∷ c ∷ bytes) =
     elim (eqb b quote) as (λ t. eqb b quote ≡ t → IsContentIn quote (b ∷ c ∷ bytes)
     (cond t (cond (eqb c quote) (option_map (onto b) (content_parts quote bytes)) (Some ([], c ∷ bytes))) (option_map (onto b) (content_parts quote (c ∷ bytes))))) [
       | true ↦ λ e. elim (eqb c quote) as (λ t. eqb c quote ≡ t → IsContentIn quote (b ∷ c ∷ bytes) (cond t (option_map (onto b) (content_parts quote bytes)) (Some ([], c ∷ bytes)))) [
-        | true ↦ λ f. content_twice_in quote b c bytes (content_parts quote bytes) e f (content_found quote bytes)
+        | true ↦ λ f. subst (λ c. IsContentIn quote (b ∷ c ∷ bytes) (option_map (onto b) (content_parts quote bytes))) (eqb-true b quote e ∙ sym (eqb-true c quote f))
+            (content_more_in quote b (b ∷ b ∷ []) bytes (content_parts quote bytes) (ap (λ t. cond t (b ∷ b ∷ []) (b ∷ [])) (sym e)) (content_found quote bytes))
         | false ↦ λ f. record { whole = ap (λ x. x ∷ c ∷ bytes) (eqb-true b quote e); longest = f }
       ] refl
-      | false ↦ λ e. content_onto_in quote b (c ∷ bytes) (content_parts quote (c ∷ bytes)) e (content_found quote (c ∷ bytes))
+      | false ↦ λ e. content_more_in quote b (b ∷ []) (c ∷ bytes) (content_parts quote (c ∷ bytes)) (ap (λ t. cond t (b ∷ b ∷ []) (b ∷ [])) (sym e)) (content_found quote (c ∷ bytes))
     ] refl
 
 content_again : (quote : ℕ) (content rest : List ℕ) → starts (λ b. eqb b quote) rest ≡ false → content_parts quote (escape quote content ++ quote ∷ rest) ≡ Some (content, rest)
@@ -195,13 +167,16 @@ content_again quote (b ∷ content) rest longest =
       | false ↦ λ e. content_parts-other quote b (escape quote content ++ quote ∷ rest) e ∙ ap (option_map (onto b)) (content_again quote content rest longest)
     ] refl
 
-begins_short : (quote : ℕ) (bytes : List ℕ) (o : Option (List ℕ × List ℕ)) (r : Token × List ℕ) → is_quote quote ≡ true → IsContentIn quote bytes o → option_and_then short_text o ≡ Some r → Begins r (quote ∷ bytes)
-begins_short quote bytes None r is h e = cc
-begins_short quote bytes (Some p) r is h e =
-    elim (leb (length p.0) 65535) as (λ t. leb (length p.0) 65535 ≡ t → cond t (Some (Text p.0, p.1)) None ≡ Some r → Begins r (quote ∷ bytes)) [
+-- a text that is found is one
+pub text_found : (quote : ℕ) (bytes : List ℕ) (o : Option (List ℕ × List ℕ)) (r : Token × List ℕ) → is_quote quote ≡ true → IsContentIn quote bytes o
+    → option_and_then short_text o ≡ Some r → (content : List ℕ) × (Text content ≡ r.0) × AreTextAnd content (quote ∷ bytes) r.1
+text_found quote bytes None r is h e = cc
+text_found quote bytes (Some p) r is h e =
+    elim (leb (length p.0) 65535) as (λ t. leb (length p.0) 65535 ≡ t → cond t (Some (Text p.0, p.1)) None ≡ Some r
+    → (content : List ℕ) × (Text content ≡ r.0) × AreTextAnd content (quote ∷ bytes) r.1) [
       | true ↦ λ fits e. (let same : ◌≡◌ {A = Token × List ℕ} (Text p.0, p.1) r = some_is _ r e in
-          let found : Begins (Text p.0, p.1) (quote ∷ bytes) = record { quote = quote; quotes = is; whole = ap (λ l. quote ∷ l) h.whole; longest = h.longest; short = leb-true (length p.0) 65535 fits } in
-          subst (λ r. Begins r (quote ∷ bytes)) same found)
+          let found : AreTextAnd p.0 (quote ∷ bytes) p.1 = record { quote = quote; quotes = is; whole = ap (λ l. quote ∷ l) h.whole; longest = h.longest; short = leb-true (length p.0) 65535 fits } in
+          (p.0, ap (λ (r : Token × List ℕ). r.0) same, subst (λ (r : Token × List ℕ). AreTextAnd p.0 (quote ∷ bytes) r.1) same found))
       | false ↦ λ fits e. cc
     ] refl e
 
@@ -212,7 +187,7 @@ token_found (b ∷ bytes) r e =
     elim (is_mark b) as (λ t. is_mark b ≡ t → cond t (Some (mark_at b bytes)) (cond (is_quote b) (text_at b bytes) (cond (is_word_byte b) (Some (Word (word_parts (b ∷ bytes)).0, (word_parts (b ∷ bytes)).1)) None)) ≡ Some r → Begins r (b ∷ bytes)) [
       | true ↦ λ is e. subst (λ r. Begins r (b ∷ bytes)) (some_is (mark_at b bytes) r e) (begins_mark bytes b is)
       | false ↦ λ no e. elim (is_quote b) as (λ t. is_quote b ≡ t → cond t (text_at b bytes) (cond (is_word_byte b) (Some (Word (word_parts (b ∷ bytes)).0, (word_parts (b ∷ bytes)).1)) None) ≡ Some r → Begins r (b ∷ bytes)) [
-        | true ↦ λ is e. begins_short b bytes (content_parts b bytes) r is (content_found b bytes) e
+        | true ↦ λ is e. (let t = text_found b bytes (content_parts b bytes) r is (content_found b bytes) e in subst (λ token. BeginsWith token (b ∷ bytes) r.1) t.1 t.2)
         | false ↦ λ no e. elim (is_word_byte b) as (λ t. is_word_byte b ≡ t → cond t (Some (Word (word_parts (b ∷ bytes)).0, (word_parts (b ∷ bytes)).1)) None ≡ Some r → Begins r (b ∷ bytes)) [
           | true ↦ λ is e. subst (λ r. Begins r (b ∷ bytes)) (some_is _ r e) (begins_word b bytes is)
           | false ↦ λ no e. cc
@@ -262,29 +237,17 @@ greater_token (b ∷ rest) other = ap (λ t. cond t (GreaterEqual, rest) (Greate
 pub token_again : (token : Token) (bytes rest : List ℕ) → BeginsWith token bytes rest → token_at bytes ≡ Some (token, rest)
 token_again (Word word) bytes rest h = ap token_at h.whole ∙ word_token word rest h.some h.letters h.longest
 token_again (Text content) bytes rest h = ap token_at h.whole ∙ text_token content rest h.short h.quote h.quotes h.longest
-token_again Open bytes rest h = ap token_at h
-token_again Close bytes rest h = ap token_at h
-token_again Comma bytes rest h = ap token_at h
-token_again Semicolon bytes rest h = ap token_at h
-token_again Equal bytes rest h = ap token_at h
 token_again Less bytes rest h = ap token_at h.0 ∙ ap Some (less_token rest h.1)
-token_again LessEqual bytes rest h = ap token_at h
 token_again Greater bytes rest h = ap token_at h.0 ∙ ap Some (greater_token rest h.1)
-token_again GreaterEqual bytes rest h = ap token_at h
+token_again token bytes rest h = ap token_at h
 
 -- a token has bytes
 pub token_shorter : (token : Token) (bytes rest : List ℕ) → BeginsWith token bytes rest → length rest < length bytes
 token_shorter (Word word) bytes rest h = omega (arith, ap length h.whole, length-append word rest, h.some)
 token_shorter (Text content) bytes rest h = omega (arith, ap length h.whole, length-append (escape h.quote content) (h.quote ∷ rest))
-token_shorter Open bytes rest h = omega (arith, ap length h)
-token_shorter Close bytes rest h = omega (arith, ap length h)
-token_shorter Comma bytes rest h = omega (arith, ap length h)
-token_shorter Semicolon bytes rest h = omega (arith, ap length h)
-token_shorter Equal bytes rest h = omega (arith, ap length h)
 token_shorter Less bytes rest h = omega (arith, ap length h.0)
-token_shorter LessEqual bytes rest h = omega (arith, ap length h)
 token_shorter Greater bytes rest h = omega (arith, ap length h.0)
-token_shorter GreaterEqual bytes rest h = omega (arith, ap length h)
+token_shorter token bytes rest h = omega (arith, ap length h)
 
 pub blanks_shorter : (bytes : List ℕ) → length (after_blanks bytes) ≤ length bytes
 blanks_shorter bytes = omega (arith, ap length (after_blanks_is bytes).whole, length-append (after_blanks_is bytes).blanks (after_blanks bytes))

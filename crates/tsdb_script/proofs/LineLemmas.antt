@@ -3,7 +3,6 @@ use Rattle.std.proofs.Common.{◌≡◌, ℕ, ◌<◌, ◌≤◌, false, true≢
 use Rattle.std.specs.Prelude.{◌⊎◌}
 use Rattle.std.specs.Str.Parse.{digits_value}
 use Rattle.std.proofs.lemmas.Bool.{cases_lt, cases_Bool}
-use Rattle.tsdb_map.specs.declared.command.Command.{Command}
 use Rattle.tsdb_script.specs.declared.numbered.Numbered.{Numbered}
 use Rattle.tsdb_script.specs.declared.syntax.Syntax.{Syntax}
 use Rattle.tsdb_script.specs.declared.token.Token.{Token}
@@ -15,7 +14,7 @@ use Rattle.tsdb_script.specs.Reading.{Line, content_of, is_skipped, session_coun
 use Rattle.tsdb_script.specs.Reading.{Pass, Limits, Tokens, Session, Room, FirstWord, Form, Meaning}
 use Rattle.tsdb_script.specs.Tokens.{AreTokens, HasNoTokens}
 use Rattle.tsdb_script.proofs.TokenLemmas.{same_kind, same_tokens, not_both}
-use Rattle.tsdb_script.proofs.MeaningLaws.{one_command, one_objection, no_objection}
+use Rattle.tsdb_script.proofs.MeaningLaws.{made_same, one_command, one_objection, no_objection}
 use Rattle.tsdb_script.proofs.StatementLemmas.{form_begins, same_statement}
 
 -- a line that says something, and is short enough
@@ -139,10 +138,7 @@ module _ (line : Line) (is : IsWithin line) where
 
 same_numbered : (one other : Numbered) → one.session ≡ other.session → one.command ≡ other.command → one ≡ other
 same_numbered one other session command =
-    ap (λ s. numbered s one.command) session ∙ ap (numbered other.session) command
-  where
-    numbered : ℕ → Command → Numbered
-    numbered session command = record { session = session; command = command }
+    made_same {C = Numbered} (λ session command. record { session = session; command = command }) one.session other.session one.command other.command session command
 
 pub one_line_command : (line : Line) (one other : Numbered) → IsCommand line one → IsCommand line other → one ≡ other
 one_line_command line one other is again =

@@ -17,7 +17,6 @@ use Rattle.tsdb_map.specs.declared.command.Cell.{Cell}
 use Rattle.tsdb_map.specs.declared.command.Command.{Command}
 use Rattle.tsdb_map.specs.declared.command.Command.TheVariants as command
 use Rattle.tsdb_map.specs.declared.command.Item.{Item}
-use Rattle.tsdb_map.specs.declared.command.Literal.{Literal}
 use Rattle.tsdb_map.specs.declared.command.Row.{Row}
 use Rattle.tsdb_map.specs.declared.command.Schema.{Schema}
 use Rattle.tsdb_map.specs.Commands.{AreDifferent, AreItems, IsDevice, IsRow, IsSeries, IsSchema, IsWellFormed}
@@ -48,11 +47,9 @@ one_each Is one (x ∷ xs) (y ∷ ys) (z ∷ zs) each again =
     let others = one_each Is one xs ys zs each.1 again.1 in
     cc
 
-same_cell : (c d : Cell) → c.measurement ≡ d.measurement → c.value ≡ d.value → c ≡ d
-same_cell c d name value =
-    let cell : List ℕ → Literal → Cell = λ measurement value. record { measurement = measurement; value = value } in
-    let same : cell c.measurement c.value ≡ cell d.measurement d.value = cc in
-    same
+-- what is made of the same parts is the same
+pub made_same : {A B C : Type 0} (make : A → B → C) (a other : A) (b another : B) → a ≡ other → b ≡ another → make a b ≡ make other another
+made_same make a other b another first second = cc
 
 -- cells are their names and their values
 same_cells : (cells others : List Cell) → map (λ cell. cell.measurement) cells ≡ map (λ cell. cell.measurement) others
@@ -63,7 +60,7 @@ same_cells (c ∷ cells) [] names values = absurd cc
 same_cells (c ∷ cells) (d ∷ others) names values =
     let name : c.measurement ≡ d.measurement = cc in
     let value : c.value ≡ d.value = cc in
-    let first : c ≡ d = same_cell c d name value in
+    let first : c ≡ d = made_same {C = Cell} (λ name value. record { measurement = name; value = value }) c.measurement d.measurement c.value d.value name value in
     let more_names : map (λ (cell : Cell). cell.measurement) cells ≡ map (λ cell. cell.measurement) others = cc in
     let more_values : map (λ (cell : Cell). cell.value) cells ≡ map (λ cell. cell.value) others = cc in
     let others_same = same_cells cells others more_names more_values in
@@ -71,11 +68,8 @@ same_cells (c ∷ cells) (d ∷ others) names values =
 
 one_item : (column : Column) (item other : Item) → IsItem column item → IsItem column other → item ≡ other
 one_item column item other is again =
-    let name : item.measurement ≡ other.measurement = is.0 ∙ sym again.0 in
-    let named : item.aggregate ≡ other.aggregate = one_named column.aggregate item.aggregate other.aggregate is.1 again.1 in
-    let made : List ℕ → Option Aggregate → Item = λ measurement aggregate. record { measurement = measurement; aggregate = aggregate } in
-    let same : made item.measurement item.aggregate ≡ made other.measurement other.aggregate = cc in
-    same
+    made_same {C = Item} (λ name aggregate. record { measurement = name; aggregate = aggregate }) item.measurement other.measurement item.aggregate other.aggregate
+    (is.0 ∙ sym again.0) (one_named column.aggregate item.aggregate other.aggregate is.1 again.1)
 
 -- ---- ranges
 
@@ -93,10 +87,7 @@ module _ (conditions : List Condition) where
       (not_before other.from other.to range.from first, not_behind other.from other.to range.from first, not_behind other.from other.to range.to last)
 
   same_ends : (range other : Range) → range.from ≡ other.from → range.to ≡ other.to → range ≡ other
-  same_ends range other first last =
-      let made : ℤ → ℤ → Range = λ from to. record { from = from; to = to } in
-      let same : made range.from range.to ≡ made other.from other.to = cc in
-      same
+  same_ends range other first last = made_same {C = Range} (λ from to. record { from = from; to = to }) range.from other.from range.to other.to first last
 
   one_range : (range other : Range) → IsRangeOf conditions range → IsRangeOf conditions other → range ≡ other
   one_range range other is again =
@@ -136,25 +127,19 @@ no_bad_word words kind good h = h.bad (among h.before h.word h.behind (subst (Al
 
 -- ---- statements
 
-same_schema : (one other : Schema) → one.path ≡ other.path → one.data_type ≡ other.data_type → one.encoding ≡ other.encoding → one ≡ other
-same_schema one other paths types encodings =
-    let made : List ℕ → DataType → Encoding → Schema = λ path data_type encoding. record { path = path; data_type = data_type; encoding = encoding } in
-    let same : made one.path one.data_type one.encoding ≡ made other.path other.data_type other.encoding = cc in
-    same
-
 same_row : (one other : Row) → one.time ≡ other.time → one.cells ≡ other.cells → one ≡ other
-same_row one other times cells =
-    let made : ℤ → List Cell → Row = λ time cells. record { time = time; cells = cells } in
-    let same : made one.time one.cells ≡ made other.time other.cells = cc in
-    same
+same_row one other times cells = made_same {C = Row} (λ time cells. record { time = time; cells = cells }) one.time other.time one.cells other.cells times cells
 
-module _ (path data_type encoding : List ℕ) where
-  one_create : (schema : Schema) (other : Command) → Says (Create path data_type encoding) (command.Create schema) → Says (Create path data_type encoding) other
-      → command.Create schema ≡ other
-  one_create schema (command.Create other) says again =
-      ap command.Create (same_schema schema other (says.0 ∙ sym again.0) (one_type data_type schema.data_type other.data_type says.1 again.1)
-      (one_encoding encoding schema.encoding other.encoding says.2 again.2))
-  one_create schema other says again = absurd again
+one_create : (path data_type encoding : List ℕ) (schema : Schema) (other : Command) → Says (Create path data_type encoding) (command.Create schema)
+    → Says (Create path data_type encoding) other → command.Create schema ≡ other
+one_create path data_type encoding schema (command.Create other) says again =
+    let made : List ℕ → DataType → Encoding → Schema = λ path data_type encoding. record { path = path; data_type = data_type; encoding = encoding } in
+    let paths : schema.path ≡ other.path = says.0 ∙ sym again.0 in
+    let types = one_type data_type schema.data_type other.data_type says.1 again.1 in
+    let encodings = one_encoding encoding schema.encoding other.encoding says.2 again.2 in
+    let same : made schema.path schema.data_type schema.encoding ≡ made other.path other.data_type other.encoding = cc in
+    ap command.Create same
+one_create path data_type encoding schema other says again = absurd again
 
 module _ (device : List ℕ) (names : List (List ℕ)) (time : List ℕ) (values : List Operand) where
   one_insert : (path : List ℕ) (row : Row) (other : Command) → Says (Insert device names time values) (command.Insert path row) → Says (Insert device names time values) other
@@ -243,21 +228,14 @@ named_some None aggregate is some = absurd (true≢false (sym some))
 named_some (Some word) None is some = absurd is
 named_some (Some word) (Some aggregate) is some = refl
 
-no_aggregates : (columns : List Column) (items : List Item) → AllZip IsItem columns items → All (λ column. column.aggregate ≡ None) columns → All (λ item. item.aggregate ≡ None) items
-no_aggregates [] [] each none = All-nil (λ item. item.aggregate ≡ None)
-no_aggregates [] (i ∷ items) each none = absurd each
-no_aggregates (c ∷ columns) [] each none = absurd each
-no_aggregates (c ∷ columns) (i ∷ items) each none =
-    All-cons (λ item. item.aggregate ≡ None) i items (named_none c.aggregate i.aggregate each.0.1 (All-head (λ column. column.aggregate ≡ None) c columns none))
-    (no_aggregates columns items each.1 (All-tail (λ column. column.aggregate ≡ None) c columns none))
-
-aggregates : (columns : List Column) (items : List Item) → AllZip IsItem columns items → All (λ column. IsSome column.aggregate) columns → All (λ item. IsSome item.aggregate) items
-aggregates [] [] each some = All-nil (λ item. IsSome item.aggregate)
-aggregates [] (i ∷ items) each some = absurd each
-aggregates (c ∷ columns) [] each some = absurd each
-aggregates (c ∷ columns) (i ∷ items) each some =
-    All-cons (λ item. IsSome item.aggregate) i items (named_some c.aggregate i.aggregate each.0.1 (All-head (λ column. IsSome column.aggregate) c columns some))
-    (aggregates columns items each.1 (All-tail (λ column. IsSome column.aggregate) c columns some))
+-- what follows for an item's aggregate from the column's, for all items
+each_item : (P : Option (List ℕ) → Type 0) (Q : Option Aggregate → Type 0) → ((word : Option (List ℕ)) (aggregate : Option Aggregate) → IsNamed word aggregate → P word → Q aggregate)
+    → (columns : List Column) (items : List Item) → AllZip IsItem columns items → All (λ column. P column.aggregate) columns → All (λ item. Q item.aggregate) items
+each_item P Q step columns [] each all = All-nil (λ item. Q item.aggregate)
+each_item P Q step [] (i ∷ items) each all = absurd each
+each_item P Q step (c ∷ columns) (i ∷ items) each all =
+    All-cons (λ item. Q item.aggregate) i items (step c.aggregate i.aggregate each.0.1 (All-head (λ column. P column.aggregate) c columns all))
+    (each_item P Q step columns items each.1 (All-tail (λ column. P column.aggregate) c columns all))
 
 well_formed_items : (columns : List Column) (items : List Item) → 0 < length columns → AreAlike columns → AllZip IsItem columns items → AreItems items
 well_formed_items columns items some alike each =
@@ -265,7 +243,10 @@ well_formed_items columns items some alike each =
     record {
       some = omega arith;
       few = omega (arith, alike.few);
-      alike = elim alike.alike [ inl none ↦ inl (no_aggregates columns items each none) | inr all ↦ inr (aggregates columns items each all) ];
+      alike = elim alike.alike [
+        | inl none ↦ inl (each_item (λ word. word ≡ None) (λ aggregate. aggregate ≡ None) named_none columns items each none)
+        | inr all ↦ inr (each_item IsSome IsSome named_some columns items each all)
+      ];
     }
 
 -- what a statement with its parts means is well-formed

@@ -1,6 +1,6 @@
 -- Bytes are one script, or have one first bad line, and not both. What every script keeps to.
-use Rattle.std.proofs.Common.{◌≡◌, ℕ, ◌+◌, ◌<◌, ◌≤◌, true≢false, List, [], ◌∷◌, ◌++◌, length, refl, sym, ap, ◌∙◌, arith, subst, inl, inr, append_assoc, append-nil, length-append}
-use Rattle.std.specs.Prelude.{◌⊎◌, ◌↔◌, All}
+use Rattle.std.proofs.Common.{◌≡◌, ℕ, ◌+◌, ◌<◌, ◌≤◌, true≢false, List, [], ◌∷◌, ◌++◌, length, refl, sym, ap, ◌∙◌, arith, subst, append_assoc, length-append}
+use Rattle.std.specs.Prelude.{◌↔◌, All}
 use Rattle.std.specs.List.{concat}
 use Rattle.std.proofs.lemmas.List.Elements.{All-nil, All-push}
 use Rattle.std.proofs.lemmas.List.Folds.{concat-append}
@@ -13,23 +13,7 @@ use Rattle.tsdb_script.proofs.MeaningLaws.{well_formed as well_formed_meaning}
 use Rattle.tsdb_script.proofs.StatementLemmas.{has_parts}
 use Rattle.tsdb_script.proofs.SessionLemmas.{as_many, session_number, sessions-push}
 
--- ---- the last of some lines
-
--- what the last line is
-abbrev Last : List (List ℕ) → List ℕ → List Numbered → Type 0
-Last front line script = (Give front script × IsSkipped (line_behind front script line))
-    ⊎ ((before : List Numbered) × (numbered : Numbered) × (script ≡ before ++ numbered ∷ []) × Give front before × IsCommand (line_behind front before line) numbered)
-
-record HasLast (lines : List (List ℕ)) (script : List Numbered) : Type 0 where
-  front : List (List ℕ)
-  line : List ℕ
-  whole : lines ≡ front ++ line ∷ []
-  last : Last front line script
-
-some_last : (lines : List (List ℕ)) (script : List Numbered) → Give lines script → ((lines ≡ []) × (script ≡ [])) ⊎ HasLast lines script
-some_last lines script no_line = inl (refl, refl)
-some_last lines script (skipped_line front before line gives is) = inr (record { front = front; line = line; whole = refl; last = inl (gives, is) })
-some_last lines script (command_line front before line numbered gives is) = inr (record { front = front; line = line; whole = refl; last = inr (before, numbered, refl, gives, is) })
+-- ---- lines give one list of commands
 
 same_last : {X : Type 0} (xs ys : List X) (x y : X) → xs ++ x ∷ [] ≡ ys ++ y ∷ [] → (xs ≡ ys) × (x ≡ y)
 same_last [] [] x y e = (refl, cc)
@@ -41,135 +25,99 @@ same_last {X} (z ∷ xs) (w ∷ ys) x y e =
     let more = same_last xs ys x y rest in
     (ap (λ (a : X). a ∷ xs) first ∙ ap (λ l. w ∷ l) more.0, more.1)
 
-last_of : (front : List (List ℕ)) (line : List ℕ) (script : List Numbered) → Give (front ++ line ∷ []) script → Last front line script
-last_of front line script gives = by_cases (some_last (front ++ line ∷ []) script gives)
-  where
-    by_cases : ((front ++ line ∷ [] ≡ []) × (script ≡ [])) ⊎ HasLast (front ++ line ∷ []) script → Last front line script
-    by_cases (inl none) = absurd (omega (arith, ap length none.0, length-append front (line ∷ [])))
-    by_cases (inr has) =
-        let same = same_last front has.front line has.line has.whole in
-        subst (λ f. Last f line script) (sym same.0) (subst (λ l. Last has.front l script) (sym same.1) has.last)
+no_last : (front : List (List ℕ)) (line : List ℕ) → ◌≡◌ {A = List (List ℕ)} [] (front ++ line ∷ []) → ⊥
+no_last front line e = omega (arith, ap length e, length-append front (line ∷ []))
 
--- ---- lines give one list of commands
-
-no_lines : (script : List Numbered) → Give [] script → script ≡ []
-no_lines script gives = by_cases (some_last [] script gives)
-  where
-    by_cases : ((◌≡◌ {A = List (List ℕ)} [] []) × (script ≡ [])) ⊎ HasLast [] script → script ≡ []
-    by_cases (inl none) = none.1
-    by_cases (inr has) = absurd (omega (arith, ap length has.whole, length-append has.front (has.line ∷ [])))
+-- what holds of a line holds of the same line behind the same lines
+moved : (P : Line → Type 0) (front other : List (List ℕ)) (script said : List Numbered) (line last : List ℕ)
+    → front ≡ other → script ≡ said → line ≡ last → P (line_behind front script line) → P (line_behind other said last)
+moved P front other script said line last fronts scripts lines holds =
+    subst (λ l. P (line_behind other said l)) lines
+    (subst (λ s. P (line_behind other s line)) scripts (subst (λ f. P (line_behind f script line)) fronts holds))
 
 skips : (line : Line) (numbered : Numbered) → IsSkipped line → IsCommand line numbered → ⊥
 skips line numbered skipped is = true≢false (sym skipped.says_nothing ∙ is.says_something)
 
-same_commands : (lines : List (List ℕ)) (script other : List Numbered) → Give lines script → Give lines other → script ≡ other
-same_commands lines script other no_line again = sym (no_lines other again)
-same_commands lines script other (skipped_line front before line gives skipped) again =
-    by_last (last_of front line other again) (λ others again. same_commands front before others gives again)
-  where
-    by_last : Last front line other → ((others : List Numbered) → Give front others → before ≡ others) → before ≡ other
-    by_last (inl h) same = same other h.0
-    by_last (inr h) same = absurd (skips (line_behind front before line) h.1 skipped
-        (subst (λ s. IsCommand (line_behind front s line) h.1) (sym (same h.0 h.3)) h.4))
-same_commands lines script other (command_line front before line numbered gives is) again =
-    by_last (last_of front line other again) (λ others again. same_commands front before others gives again)
-  where
-    by_last : Last front line other → ((others : List Numbered) → Give front others → before ≡ others) → before ++ numbered ∷ [] ≡ other
-    by_last (inl h) same = absurd (skips (line_behind front before line) numbered
-        (subst (λ s. IsSkipped (line_behind front s line)) (sym (same other h.0)) h.1) is)
-    by_last (inr h) same =
-        let first = same h.0 h.3 in
-        let second = one_line_command (line_behind front before line) numbered h.1 is (subst (λ s. IsCommand (line_behind front s line) h.1) (sym first) h.4) in
-        ap (λ s. s ++ numbered ∷ []) first ∙ ap (λ (n : Numbered). h.0 ++ n ∷ []) second ∙ sym h.2
-
--- ---- a first part of lines gives commands too
-
-snoc : {X : Type 0} (x : X) (xs : List X) → (front : List X) × (last : X) × (x ∷ xs ≡ front ++ last ∷ [])
-snoc x [] = ([], x, refl)
-snoc x (y ∷ xs) = let more = snoc y xs in (x ∷ more.0, more.1, ap (λ l. x ∷ l) more.2)
-
-abbrev Front : List (List ℕ) → Type 0
-Front front = (script : List Numbered) × Give front script
-
--- either the whole, or a part of the lines before the last
-shorter : (lines front behind : List (List ℕ)) (line : List ℕ) (script : List Numbered) → Give (lines ++ line ∷ []) script
-    → ((front behind : List (List ℕ)) → lines ≡ front ++ behind → Front front) → lines ++ line ∷ [] ≡ front ++ behind → Front front
-shorter lines front [] line script gives more e = (script, subst (λ l. Give l script) (e ∙ append-nil front) gives)
-shorter lines front (b ∷ behind) line script gives more e =
-    let back = snoc b behind in
-    let same = same_last lines (front ++ back.0) line back.1 (e ∙ ap (λ l. front ++ l) back.2 ∙ sym (append_assoc front back.0 (back.1 ∷ []))) in
-    more front back.0 same.0
-
-nothing_before : {X : Type 0} (front behind : List X) → [] ≡ front ++ behind → front ≡ []
-nothing_before [] behind e = refl
-nothing_before (x ∷ front) behind e = absurd cc
-
-front_gives : (lines front behind : List (List ℕ)) (script : List Numbered) → Give lines script → lines ≡ front ++ behind → Front front
-front_gives lines front behind script no_line e = ([], subst (λ l. Give l []) (sym (nothing_before front behind e)) no_line)
-front_gives lines front behind script (skipped_line before said line gives is) e =
-    shorter before front behind line said (skipped_line before said line gives is) (λ front behind e. front_gives before front behind said gives e) e
-front_gives lines front behind script (command_line before said line numbered gives is) e =
-    shorter before front behind line (said ++ numbered ∷ []) (command_line before said line numbered gives is) (λ front behind e. front_gives before front behind said gives e) e
+same_commands : (lines others : List (List ℕ)) (script other : List Numbered) → Give lines script → Give others other → lines ≡ others → script ≡ other
+same_commands lines others script other no_line no_line e = refl
+same_commands lines others script other no_line (skipped_line front said line gives is) e = absurd (no_last front line e)
+same_commands lines others script other no_line (command_line front said line numbered gives is) e = absurd (no_last front line e)
+same_commands lines others script other (skipped_line front said line gives is) no_line e = absurd (no_last front line (sym e))
+same_commands lines others script other (command_line front said line numbered gives is) no_line e = absurd (no_last front line (sym e))
+same_commands lines others script other (skipped_line f s l gives is) (skipped_line g t m again skipped) e = same_commands f g s t gives again (same_last f g l m e).0
+same_commands lines others script other (skipped_line f s l gives skipped) (command_line g t m numbered again is) e =
+    let same = same_last f g l m e in
+    absurd (skips (line_behind g t m) numbered (moved IsSkipped f g s t l m same.0 (same_commands f g s t gives again same.0) same.1 skipped) is)
+same_commands lines others script other (command_line f s l numbered gives is) (skipped_line g t m again skipped) e =
+    let same = same_last f g l m e in
+    absurd (skips (line_behind g t m) numbered skipped
+    (moved (λ line. IsCommand line numbered) f g s t l m same.0 (same_commands f g s t gives again same.0) same.1 is))
+same_commands lines others script other (command_line f s l one gives is) (command_line g t m two again also) e =
+    let same = same_last f g l m e in
+    let first = same_commands f g s t gives again same.0 in
+    let second = one_line_command (line_behind g t m) one two (moved (λ line. IsCommand line one) f g s t l m same.0 first same.1 is) also in
+    ap (λ s. s ++ one ∷ []) first ∙ ap (λ (n : Numbered). t ++ n ∷ []) second
 
 -- ---- a bad line
 
--- lines among which a bad one stands give no commands
-clash : (before : List (List ℕ)) (line : List ℕ) (behind : List (List ℕ)) (script said : List Numbered) (kind : ℕ)
-    → Give (before ++ line ∷ behind) said → Give before script → ¬ IsBad (line_behind before script line) kind
-clash before line behind script said kind gives good bad =
-    let part = front_gives (before ++ line ∷ behind) (before ++ line ∷ []) behind said gives (sym (append_assoc before (line ∷ []) behind)) in
-    by_last part.0 (last_of before line part.0 part.1)
-  where
-    by_last : (s : List Numbered) → Last before line s → ⊥
-    by_last s (inl h) = let same = same_commands before s script h.0 good in skipped_not_bad (line_behind before script line) kind (subst (λ s. IsSkipped (line_behind before s line)) same h.1) bad
-    by_last s (inr h) = let same = same_commands before h.0 script h.3 good in command_not_bad (line_behind before script line) h.1 kind (subst (λ s. IsCommand (line_behind before s line) h.1) same h.4) bad
-
 -- which of two places of a list stands first
-abbrev Order : {X : Type 0} → List X → X → List X → X → Type 0
-Order {X} a x b y = ((more : List X) × (b ≡ a ++ x ∷ more)) ⊎ (((more : List X) × (a ≡ b ++ y ∷ more)) ⊎ ((a ≡ b) × (x ≡ y)))
+data Order (front : List (List ℕ)) (line : List ℕ) (before : List (List ℕ)) (other : List ℕ) : Type 0 where
+  ahead : (more : List (List ℕ)) → before ≡ front ++ line ∷ more → Order front line before other
+  behind : (more : List (List ℕ)) → front ≡ before ++ other ∷ more → Order front line before other
+  equal : front ≡ before → line ≡ other → Order front line before other
 
-order : {X : Type 0} (a : List X) (x : X) (xs b : List X) (y : X) (ys : List X) → a ++ x ∷ xs ≡ b ++ y ∷ ys → Order a x b y
-order [] x xs [] y ys e = inr (inr (refl, cc))
-order {X} [] x xs (c ∷ b) y ys e = let first : x ≡ c = cc in inl (b, ap (λ (z : X). z ∷ b) (sym first))
-order {X} (c ∷ a) x xs [] y ys e = let first : c ≡ y = cc in inr (inl (a, ap (λ (z : X). z ∷ a) first))
-order {X} (c ∷ a) x xs (d ∷ b) y ys e =
+order : (a : List (List ℕ)) (x : List ℕ) (xs b : List (List ℕ)) (y : List ℕ) (ys : List (List ℕ)) → a ++ x ∷ xs ≡ b ++ y ∷ ys → Order a x b y
+order [] x xs [] y ys e = equal refl cc
+order [] x xs (c ∷ b) y ys e = let first : x ≡ c = cc in ahead b (ap (λ (z : List ℕ). z ∷ b) (sym first))
+order (c ∷ a) x xs [] y ys e = let first : c ≡ y = cc in behind a (ap (λ (z : List ℕ). z ∷ a) first)
+order (c ∷ a) x xs (d ∷ b) y ys e =
     let first : c ≡ d = cc in
     let rest : a ++ x ∷ xs ≡ b ++ y ∷ ys = cc in
     elim (order a x xs b y ys rest) [
-      | inl h ↦ inl (h.0, ap (λ (z : X). z ∷ b) (sym first) ∙ ap (λ l. c ∷ l) h.1)
-      | inr h ↦ elim h [
-        | inl h ↦ inr (inl (h.0, ap (λ (z : X). z ∷ a) first ∙ ap (λ l. d ∷ l) h.1))
-        | inr h ↦ inr (inr (ap (λ (z : X). z ∷ a) first ∙ ap (λ l. d ∷ l) h.0, h.1))
-      ]
+      | ahead more is ↦ ahead more (ap (λ (z : List ℕ). z ∷ b) (sym first) ∙ ap (λ l. c ∷ l) is)
+      | behind more is ↦ behind more (ap (λ (z : List ℕ). z ∷ a) first ∙ ap (λ l. d ∷ l) is)
+      | equal fronts is ↦ equal (ap (λ (z : List ℕ). z ∷ a) first ∙ ap (λ l. d ∷ l) fronts) is
     ]
+
+-- lines among which a bad one stands give no commands
+module _ (before : List (List ℕ)) (line : List ℕ) (script : List Numbered) (kind : ℕ) (good : Give before script) (bad : IsBad (line_behind before script line) kind) where
+  -- the last of some lines is none that is good, and stands behind the bad one
+  stands : (front rest : List (List ℕ)) (last : List ℕ) (said : List Numbered) → front ++ last ∷ [] ≡ before ++ line ∷ rest → Give front said
+      → ((kind : ℕ) → ¬ IsBad (line_behind front said last) kind) → (more : List (List ℕ)) × (front ≡ before ++ line ∷ more)
+  stands front rest last said e gives fine = elim (order front last [] before line rest e) [
+    | ahead more is ↦ absurd (omega (arith, ap length e, ap length is, length-append front (last ∷ []), length-append before (line ∷ rest), length-append front (last ∷ more)))
+    | behind more is ↦ (more, is)
+    | equal fronts is ↦ absurd (fine kind (moved (λ line. IsBad line kind) before front script said line last (sym fronts)
+        (same_commands before front script said good gives (sym fronts)) (sym is) bad))
+  ]
+
+  clash : (lines rest : List (List ℕ)) (said : List Numbered) → Give lines said → lines ≡ before ++ line ∷ rest → ⊥
+  clash lines rest said no_line e = omega (arith, ap length e, length-append before (line ∷ rest))
+  clash lines rest said (skipped_line front s last gives is) e =
+      let h = stands front rest last s e gives (λ kind. skipped_not_bad (line_behind front s last) kind is) in clash front h.0 s gives h.1
+  clash lines rest said (command_line front s last numbered gives is) e =
+      let h = stands front rest last s e gives (λ kind. command_not_bad (line_behind front s last) numbered kind is) in clash front h.0 s gives h.1
 
 -- ---- the laws
 
 pub same_script : (bytes : List ℕ) (one other : List Numbered) → IsScript bytes one → IsScript bytes other → one ≡ other
-same_script bytes one other is again = same_commands (lines_of bytes) one other is again
+same_script bytes one other is again = same_commands (lines_of bytes) (lines_of bytes) one other is again refl
 
 pub not_both : (bytes : List ℕ) (script : List Numbered) (line kind : ℕ) → IsScript bytes script → ¬ IsFirstBad bytes line kind
-not_both bytes script line kind is bad =
-    clash bad.before bad.line bad.behind bad.script script kind (subst (λ l. Give l script) bad.lines is) bad.good bad.bad
+not_both bytes script line kind is bad = clash bad.before bad.line bad.script kind bad.good bad.bad (lines_of bytes) bad.behind script is bad.lines
 
 pub same_first_bad : (bytes : List ℕ) (line kind other_line other_kind : ℕ) → IsFirstBad bytes line kind → IsFirstBad bytes other_line other_kind
     → (line ≡ other_line) × (kind ≡ other_kind)
 same_first_bad bytes line kind other_line other_kind a b =
     elim (order a.before a.line a.behind b.before b.line b.behind (sym a.lines ∙ b.lines)) [
-      | inl h ↦ absurd (clash a.before a.line h.0 a.script b.script kind (subst (λ l. Give l b.script) h.1 b.good) a.good a.bad)
-      | inr h ↦ elim h [
-        | inl h ↦ absurd (clash b.before b.line h.0 b.script a.script other_kind (subst (λ l. Give l a.script) h.1 a.good) b.good b.bad)
-        | inr h ↦ same h.0 h.1
-      ]
+      | ahead more is ↦ absurd (clash a.before a.line a.script kind a.good a.bad b.before more b.script b.good is)
+      | behind more is ↦ absurd (clash b.before b.line b.script other_kind b.good b.bad a.before more a.script a.good is)
+      | equal before here ↦ (
+        a.count_is ∙ ap (λ (l : List (List ℕ)). length l + 1) before ∙ sym b.count_is,
+        one_line_fault (line_behind b.before b.script b.line) kind other_kind
+            (moved (λ line. IsBad line kind) a.before b.before a.script b.script a.line b.line before (same_commands a.before b.before a.script b.script a.good b.good before) here a.bad) b.bad,
+      )
     ]
-  where
-    same : a.before ≡ b.before → a.line ≡ b.line → (line ≡ other_line) × (kind ≡ other_kind)
-    same before here =
-        let script = same_commands a.before a.script b.script a.good (subst (λ l. Give l b.script) (sym before) b.good) in
-        let bad : IsBad (line_behind b.before b.script b.line) kind =
-        subst (λ f. IsBad (line_behind f b.script b.line) kind) before
-        (subst (λ s. IsBad (line_behind a.before s b.line) kind) script (subst (λ l. IsBad (line_behind a.before a.script l) kind) here a.bad)) in
-        (a.count_is ∙ ap (λ (l : List (List ℕ)). length l + 1) before ∙ sym b.count_is, one_line_fault (line_behind b.before b.script b.line) kind other_kind bad b.bad)
 
 -- ---- what every script keeps to
 
@@ -220,108 +168,62 @@ well_formed bytes script is = well_formed_lines (lines_of bytes) script is
 pub cut_long : (front rest : List ℕ) (script : List Numbered) → 67108864 < length front → ¬ IsScript (front ++ rest) script
 cut_long front rest script long is = omega (arith, (within_limits (front ++ rest) script is).short, length-append front rest)
 
--- the bytes in which the limit is passed end in this line, which is not behind a bad one
-module _ (front : List (List ℕ)) (last more : List ℕ) (long : 67108864 < length (concat (front ++ last ∷ []))) where
-  ends : length (concat (front ++ last ∷ [])) ≡ length (concat front) + length last
-  ends = ap length (concat-append front (last ∷ [])) ∙ length-append (concat front) (last ++ []) ∙ ap (λ l. length (concat front) + length l) (append-nil last)
+-- where the limit is passed in the line behind these, the first bad line is one of these or that one, however it goes on
+module _ (bytes other : List ℕ) (front : List (List ℕ)) (last last' : List ℕ) (others others' : List (List ℕ))
+    (lines : lines_of bytes ≡ front ++ last ∷ others) (lines' : lines_of other ≡ front ++ last' ∷ others')
+    (long : 67108864 < length (concat front) + length last) (long' : 67108864 < length (concat front) + length last') where
+  not_behind : (before more : List (List ℕ)) (script : List Numbered) → Give before script → before ≡ front ++ last ∷ more → ⊥
+  not_behind before more script gives e =
+      omega (arith, long, lines_short before script gives, ap length (ap concat e ∙ concat-append front (last ∷ more)), length-append (concat front) (last ++ concat more), length-append last (concat more))
 
-  past : (script : List Numbered) → 67108864 < (line_behind front script (last ++ more)).end
-  past script = omega (arith, long, ends, length-append last more)
-
-  -- where the lines before a bad one are good, it is not behind the last
-  not_behind : (before others : List (List ℕ)) (script : List Numbered) → before ≡ front ++ (last ++ more) ∷ others → ¬ Give before script
-  not_behind before others script e gives =
-      let part = front_gives before (front ++ (last ++ more) ∷ []) others script gives (e ∙ sym (append_assoc front ((last ++ more) ∷ []) others)) in
-      omega (
-        arith,
-        long,
-        ends,
-        lines_short (front ++ (last ++ more) ∷ []) part.0 part.1,
-        ap length (concat-append front ((last ++ more) ∷ [])),
-        length-append (concat front) ((last ++ more) ++ []),
-        length-append (last ++ more) [],
-        length-append last more,
-      )
-
--- the kind of a line in which the limit is passed
-nine : (line : Line) (kind : ℕ) → 67108864 < line.end → IsBad line kind → kind ≡ 9
-nine line kind long bad = one_line_fault line kind 9 bad (past_limit line long)
-
--- a line that is bad in lines is bad where the last goes on
-goes_on_bad : (bytes rest : List ℕ) (line kind : ℕ) (g : GoesOn bytes rest) → 67108864 < length (concat (g.front ++ g.last ∷ [])) → IsFirstBad bytes line kind → IsFirstBad (bytes ++ rest) line kind
-goes_on_bad bytes rest line kind g long bad =
-    elim (order g.front g.last [] bad.before bad.line bad.behind (sym g.short ∙ bad.lines)) [
-      | inl h ↦ absurd (not_behind g.front g.last [] long bad.before h.0 bad.script (h.1 ∙ ap (λ l. g.front ++ l ∷ h.0) (sym (append-nil g.last))) bad.good)
-      | inr h ↦ elim h [
-        | inl h ↦ record {
+  stays_bad : (line kind : ℕ) → IsFirstBad bytes line kind → IsFirstBad other line kind
+  stays_bad line kind bad =
+      elim (order front last others bad.before bad.line bad.behind (sym lines ∙ bad.lines)) [
+        | ahead more is ↦ absurd (not_behind bad.before more bad.script bad.good is)
+        | behind more is ↦ record {
           before = bad.before;
           line = bad.line;
-          behind = h.0 ++ (g.last ++ g.more) ∷ g.others;
-          lines = g.long ∙ ap (λ l. l ++ (g.last ++ g.more) ∷ g.others) h.1 ∙ append_assoc bad.before (bad.line ∷ h.0) ((g.last ++ g.more) ∷ g.others);
+          behind = more ++ last' ∷ others';
+          lines = lines' ∙ ap (λ l. l ++ last' ∷ others') is ∙ append_assoc bad.before (bad.line ∷ more) (last' ∷ others');
           count_is = bad.count_is;
           script = bad.script;
           good = bad.good;
           bad = bad.bad;
         }
-        | inr h ↦ record {
-          before = g.front;
-          line = g.last ++ g.more;
-          behind = g.others;
-          lines = g.long;
-          count_is = bad.count_is ∙ ap (λ (l : List (List ℕ)). length l + 1) (sym h.0);
+        | equal before here ↦ record {
+          before = front;
+          line = last';
+          behind = others';
+          lines = lines';
+          count_is = bad.count_is ∙ ap (λ (l : List (List ℕ)). length l + 1) (sym before);
           script = bad.script;
-          good = subst (λ l. Give l bad.script) (sym h.0) bad.good;
-          bad = subst (IsBad (line_behind g.front bad.script (g.last ++ g.more))) (sym (kind_is h.0 h.1)) (past_limit (line_behind g.front bad.script (g.last ++ g.more)) (past g.front g.last g.more long bad.script));
+          good = subst (λ l. Give l bad.script) (sym before) bad.good;
+          bad = subst (IsBad (line_behind front bad.script last')) (sym (nine bad.script before here bad.bad)) (past_limit (line_behind front bad.script last') long');
         }
       ]
-    ]
-  where
-    kind_is : g.front ≡ bad.before → g.last ≡ bad.line → kind ≡ 9
-    kind_is front last =
-        nine (line_behind g.front bad.script g.last) kind (omega (arith, long, ends g.front g.last [] long))
-        (subst (λ f. IsBad (line_behind f bad.script g.last) kind) (sym front) (subst (λ l. IsBad (line_behind bad.before bad.script l) kind) (sym last) bad.bad))
-
--- and the other way round
-goes_back_bad : (bytes rest : List ℕ) (line kind : ℕ) (g : GoesOn bytes rest) → 67108864 < length (concat (g.front ++ g.last ∷ [])) → IsFirstBad (bytes ++ rest) line kind → IsFirstBad bytes line kind
-goes_back_bad bytes rest line kind g long bad =
-    elim (order g.front (g.last ++ g.more) g.others bad.before bad.line bad.behind (sym g.long ∙ bad.lines)) [
-      | inl h ↦ absurd (not_behind g.front g.last g.more long bad.before h.0 bad.script h.1 bad.good)
-      | inr h ↦ elim h [
-        | inl h ↦ record {
-          before = bad.before;
-          line = bad.line;
-          behind = h.0 ++ g.last ∷ [];
-          lines = g.short ∙ ap (λ l. l ++ g.last ∷ []) h.1 ∙ append_assoc bad.before (bad.line ∷ h.0) (g.last ∷ []);
-          count_is = bad.count_is;
-          script = bad.script;
-          good = bad.good;
-          bad = bad.bad;
-        }
-        | inr h ↦ record {
-          before = g.front;
-          line = g.last;
-          behind = [];
-          lines = g.short;
-          count_is = bad.count_is ∙ ap (λ (l : List (List ℕ)). length l + 1) (sym h.0);
-          script = bad.script;
-          good = subst (λ l. Give l bad.script) (sym h.0) bad.good;
-          bad = subst (IsBad (line_behind g.front bad.script g.last)) (sym (kind_is h.0 h.1))
-              (past_limit (line_behind g.front bad.script g.last) (omega (arith, long, ends g.front g.last g.more long)));
-        }
-      ]
-    ]
-  where
-    kind_is : g.front ≡ bad.before → g.last ++ g.more ≡ bad.line → kind ≡ 9
-    kind_is front last =
-        nine (line_behind g.front bad.script (g.last ++ g.more)) kind (past g.front g.last g.more long bad.script)
-        (subst (λ f. IsBad (line_behind f bad.script (g.last ++ g.more)) kind) (sym front) (subst (λ l. IsBad (line_behind bad.before bad.script l) kind) (sym last) bad.bad))
+    where
+      nine : (script : List Numbered) → front ≡ bad.before → last ≡ bad.line → IsBad (line_behind bad.before script bad.line) kind → kind ≡ 9
+      nine script before here is =
+          one_line_fault (line_behind front script last) kind 9 (moved (λ line. IsBad line kind) bad.before front script script bad.line last (sym before) refl (sym here) is)
+          (past_limit (line_behind front script last) long)
 
 -- the first bad line of a script that is too long stands in what is read of it
 pub cut_bad : (front rest : List ℕ) (line kind : ℕ) → 67108864 < length front → IsFirstBad front line kind ↔ IsFirstBad (front ++ rest) line kind
 cut_bad [] rest line kind long = absurd (omega arith)
-cut_bad (b ∷ front) rest line kind long = both (goes_on b front rest)
+cut_bad (b ∷ bytes) rest line kind long = (
+  stays_bad front (front ++ rest) g.front g.last (g.last ++ g.more) [] g.others g.short g.long passed further line kind,
+  stays_bad (front ++ rest) front g.front (g.last ++ g.more) g.last g.others [] g.long g.short further passed line kind,
+)
   where
-    both : GoesOn (b ∷ front) rest → IsFirstBad (b ∷ front) line kind ↔ IsFirstBad ((b ∷ front) ++ rest) line kind
-    both g =
-        let passed : 67108864 < length (concat (g.front ++ g.last ∷ [])) = subst (λ l. 67108864 < length l) (sym (ap concat (sym g.short) ∙ concat-lines_of (b ∷ front))) long in
-        (goes_on_bad (b ∷ front) rest line kind g passed, goes_back_bad (b ∷ front) rest line kind g passed)
+    front : List ℕ
+    front = b ∷ bytes
+
+    g : GoesOn front rest
+    g = goes_on b bytes rest
+
+    passed : 67108864 < length (concat g.front) + length g.last
+    passed =
+        omega (arith, long, ap length (sym (concat-lines_of front) ∙ ap concat g.short ∙ concat-append g.front (g.last ∷ [])), length-append (concat g.front) (g.last ++ []), length-append g.last [])
+
+    further : 67108864 < length (concat g.front) + length (g.last ++ g.more)
+    further = omega (arith, passed, length-append g.last g.more)

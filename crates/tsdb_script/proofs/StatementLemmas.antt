@@ -17,8 +17,8 @@ use Rattle.tsdb_script.specs.declared.syntax.Part.TheVariants as part
 use Rattle.tsdb_script.specs.declared.syntax.Syntax.{Syntax}
 use Rattle.tsdb_script.specs.declared.token.Token.{Token}
 use Rattle.tsdb_script.specs.declared.token.Token.TheVariants.{Word, Close, Semicolon}
-use Rattle.tsdb_script.specs.Forms.{asks_first, is_at, keyword_text, places, statement_of, IsName, IsValue, IsColumn, Stands, Stand, HasParts, Fits, HasNoForm}
-use Rattle.tsdb_script.specs.Parse.{Gives, Tokens, ◌>>=◌, stands_at, fixed_at, word_at, end_at, operand_at, column_at, place_at, before, read_at, is_keyword_place, begins_at, form_at, statement_at, create_of, insert_of, delete_of, select_of, bare_of, made_of}
+use Rattle.tsdb_script.specs.Forms.{asks_first, is_at, keyword_text, places, statement_of, Standing, AreConditions, AreListed, IsName, IsValue, IsColumn, Stands, Stand, HasParts, Fits, HasNoForm}
+use Rattle.tsdb_script.specs.Parse.{Gives, Tokens, ◌>>=◌, stands_at, fixed_at, word_at, end_at, operand_at, column_at, list_at, conditions_at, place_at, before, read_at, is_keyword_place, begins_at, form_at, statement_at, create_of, insert_of, delete_of, select_of, bare_of, made_of}
 use Rattle.tsdb_script.specs.Steps.{FaultsWith}
 use Rattle.tsdb_script.specs.Tokens.{is_keyword}
 use Rattle.tsdb_script.proofs.FormLemmas.{some_is, step, leads, mapped, fixed_found, fixed_again, word_found, finds_name, finds_value, finds_column, list_found, list_again, some_listed, conditions_found, conditions_again}
@@ -67,14 +67,7 @@ are_ended (at ∷ behind) = cond (is_list at) (ends_list behind) true && are_end
 
 all_ended : (f : Form) → are_ended (places f) ≡ true
 all_ended form.Create = refl
-all_ended form.Insert = refl
-all_ended form.Delete = refl
-all_ended form.Select = refl
-all_ended form.Flush = refl
-all_ended form.CompactSequence = refl
-all_ended form.CompactUnsequence = refl
-all_ended form.CompactCross = refl
-all_ended form.ShowFiles = refl
+all_ended _ = refl
 
 all_differ : (f g : Form) → (f ≡ g) ⊎ (differ (places f) (places g) ≡ true)
 all_differ form.Create form.Create = inl refl
@@ -125,33 +118,26 @@ fixed_place at tokens r others e =
     let is : ◌≡◌ {A = Option Part × Tokens} (None, a.0) r = some_is _ r a.2 in
     (f.0, f.1 ∙ ap (λ (r : Option Part × Tokens). f.0 ∷ r.1) is, f.2, ap (λ (r : Option Part × Tokens). before r.0 others) (sym is))
 
+-- a place that gives a part
+part_found : {X : Type 0} (make : X → Part) (Is : Standing X) (item : Tokens → Option (X × Tokens)) (tokens : Tokens) → ((r : X × Tokens) → item tokens ≡ Some r → Is r.0 tokens r.1)
+    → (r : Option Part × Tokens) (others : List Part) → (item tokens >>= (λ x. Some (Some (make x.0), x.1))) ≡ Some r
+    → (x : X) × Is x tokens r.1 × (before r.0 others ≡ make x ∷ others)
+part_found {X} make Is item tokens found r others e =
+    let a = step _ _ _ e in
+    let is : ◌≡◌ {A = Option Part × Tokens} (Some (make a.0.0), a.0.1) r = some_is _ r a.2 in
+    subst (λ (r : Option Part × Tokens). (x : X) × Is x tokens r.1 × (before r.0 others ≡ make x ∷ others)) is (a.0.0, found a.0 a.1, refl)
+
 place_found : (at : Place) (tokens : Tokens) (r : Option Part × Tokens) (others : List Part) → place_at at tokens ≡ Some r → Stands at tokens r.1 (before r.0 others) others
 unfolding place_at
-place_found place.Word tokens r others e =
-    let a = step _ _ _ e in
-    subst (λ (r : Option Part × Tokens). Stands place.Word tokens r.1 (before r.0 others) others) (some_is (Some (part.Word a.0.0), a.0.1) r a.2) (a.0.0, word_found tokens a.0 a.1, refl)
+place_found place.Word tokens r others e = part_found part.Word IsName word_at tokens (word_found tokens) r others e
 place_found place.Names tokens r others e =
-    let a = step _ _ _ e in
-    subst (λ (r : Option Part × Tokens). Stands place.Names tokens r.1 (before r.0 others) others) (some_is (Some (part.Names a.0.0), a.0.1) r a.2)
-    (a.0.0, list_found place.Comma IsName word_at finds_name tokens a.0 a.1, refl)
+    part_found part.Names (AreListed place.Comma IsName) (list_at place.Comma word_at) tokens (list_found place.Comma IsName word_at finds_name tokens) r others e
 place_found place.Values tokens r others e =
-    let a = step _ _ _ e in
-    subst (λ (r : Option Part × Tokens). Stands place.Values tokens r.1 (before r.0 others) others) (some_is (Some (part.Values a.0.0), a.0.1) r a.2)
-    (a.0.0, list_found place.Comma IsValue operand_at finds_value tokens a.0 a.1, refl)
+    part_found part.Values (AreListed place.Comma IsValue) (list_at place.Comma operand_at) tokens (list_found place.Comma IsValue operand_at finds_value tokens) r others e
 place_found place.Columns tokens r others e =
-    let a = step _ _ _ e in
-    subst (λ (r : Option Part × Tokens). Stands place.Columns tokens r.1 (before r.0 others) others) (some_is (Some (part.Columns a.0.0), a.0.1) r a.2)
-    (a.0.0, list_found place.Comma IsColumn column_at finds_column tokens a.0 a.1, refl)
-place_found place.Where tokens r others e =
-    let a = step _ _ _ e in
-    subst (λ (r : Option Part × Tokens). Stands place.Where tokens r.1 (before r.0 others) others) (some_is (Some (part.Conditions a.0.0), a.0.1) r a.2)
-    (a.0.0, conditions_found tokens a.0 a.1, refl)
-place_found (place.Keyword k) tokens r others e = fixed_place (place.Keyword k) tokens r others e
-place_found place.Timestamp tokens r others e = fixed_place place.Timestamp tokens r others e
-place_found place.Open tokens r others e = fixed_place place.Open tokens r others e
-place_found place.Close tokens r others e = fixed_place place.Close tokens r others e
-place_found place.Comma tokens r others e = fixed_place place.Comma tokens r others e
-place_found place.Equal tokens r others e = fixed_place place.Equal tokens r others e
+    part_found part.Columns (AreListed place.Comma IsColumn) (list_at place.Comma column_at) tokens (list_found place.Comma IsColumn column_at finds_column tokens) r others e
+place_found place.Where tokens r others e = part_found part.Conditions AreConditions conditions_at tokens (conditions_found tokens) r others e
+place_found at tokens r others e = fixed_place at tokens r others e
 
 -- no list goes on with these tokens
 record Ends (rest : Tokens) : Type 0 where
@@ -182,12 +168,7 @@ place_again place.Columns tokens rest parts others ends h =
     (Some (part.Columns h.0), leads _ (h.0, rest) _ _ (list_again place.Comma IsColumn column_at finds_column refl rest (ends refl).no_comma (ends refl).no_open h.0 tokens h.1) refl, h.2)
 place_again place.Where tokens rest parts others ends h =
     (Some (part.Conditions h.0), leads _ (h.0, rest) _ _ (conditions_again h.0 tokens rest (ends refl).no_where (ends refl).no_and (ends refl).no_open h.1) refl, h.2)
-place_again (place.Keyword k) tokens rest parts others ends h = fixed_gives (place.Keyword k) tokens rest parts others h.0 h.1 h.2 h.3
-place_again place.Timestamp tokens rest parts others ends h = fixed_gives place.Timestamp tokens rest parts others h.0 h.1 h.2 h.3
-place_again place.Open tokens rest parts others ends h = fixed_gives place.Open tokens rest parts others h.0 h.1 h.2 h.3
-place_again place.Close tokens rest parts others ends h = fixed_gives place.Close tokens rest parts others h.0 h.1 h.2 h.3
-place_again place.Comma tokens rest parts others ends h = fixed_gives place.Comma tokens rest parts others h.0 h.1 h.2 h.3
-place_again place.Equal tokens rest parts others ends h = fixed_gives place.Equal tokens rest parts others h.0 h.1 h.2 h.3
+place_again at tokens rest parts others ends h = fixed_gives at tokens rest parts others h.0 h.1 h.2 h.3
 
 -- what stands behind a list ends it
 ends_at : (behind : List Place) (rest : Tokens) (parts : List Part) → ends_list behind ≡ true → Stand behind rest parts → Ends rest
@@ -250,14 +231,7 @@ keyword_first (at ∷ row) = is_keyword_place at
 
 all_keyword_first : (f : Form) → keyword_first (places f) ≡ true
 all_keyword_first form.Create = refl
-all_keyword_first form.Insert = refl
-all_keyword_first form.Delete = refl
-all_keyword_first form.Select = refl
-all_keyword_first form.Flush = refl
-all_keyword_first form.CompactSequence = refl
-all_keyword_first form.CompactUnsequence = refl
-all_keyword_first form.CompactCross = refl
-all_keyword_first form.ShowFiles = refl
+all_keyword_first _ = refl
 
 any_has : (test : Form → Bool) (f : Form) (forms : List Form) → Has f forms → test f ≡ true → list_any test forms ≡ true
 any_has test f [] has is = absurd has

@@ -1,13 +1,12 @@
 -- A line has one reading.
-use Rattle.std.proofs.Common.{◌≡◌, ℕ, ◌<◌, true, false, cond, ◌||◌, inl, inr, List, [], ◌∷◌, ◌++◌, length, Option, None, Some, refl, sym, ap, ◌∙◌, subst, arith}
-use Rattle.std.specs.Prelude.{◌⊎◌, All, IsTrue}
+use Rattle.std.proofs.Common.{◌≡◌, ℕ, true, false, cond, ◌||◌, inl, inr, List, [], ◌∷◌, Option, None, Some, refl, sym, ap, ◌∙◌, subst}
+use Rattle.std.specs.Prelude.{◌⊎◌}
 use Rattle.std.proofs.lemmas.Bool.{eqb-true, false≢true, or_cases, or_parts, cases_Bool}
-use Rattle.std.proofs.lemmas.List.Elements.{All-head}
 use Rattle.tsdb_script.specs.declared.token.Token.{Token}
-use Rattle.tsdb_script.specs.declared.token.Token.TheVariants.{Word, Text, Open, Close, Comma, Semicolon, Equal, Less, LessEqual, Greater, GreaterEqual}
-use Rattle.tsdb_script.specs.Steps.{token_at, mark_at, text_at, word_parts}
-use Rattle.tsdb_script.specs.Tokens.{is_blank, is_word_byte, is_quote, is_mark, starts, BeginsWith, AreTokensAnd, AreTokens, AreTextAnd, IsStray, IsBadText, HasNoTokens}
-use Rattle.tsdb_script.proofs.LexLemmas.{blanks_unique, token_again, token_found, word_no_quote}
+use Rattle.tsdb_script.specs.declared.token.Token.TheVariants.{Word}
+use Rattle.tsdb_script.specs.Steps.{after_blanks, content_parts, token_at, mark_at, text_at, word_parts}
+use Rattle.tsdb_script.specs.Tokens.{is_blank, is_word_byte, is_quote, is_mark, starts, AreTokensAnd, AreTokens, AreTextAnd, IsStray, IsBadText, HasNoTokens}
+use Rattle.tsdb_script.proofs.LexLemmas.{blanks_unique, content_found, quote_cases, text_found, token_again}
 
 -- a blank begins no token
 token_solid : (bytes : List ℕ) (r : Token × List ℕ) → token_at bytes ≡ Some r → starts is_blank bytes ≡ false
@@ -48,29 +47,17 @@ quote_solid (b ∷ bytes) h = elim (or_cases _ _ h) [
 ]
 
 -- no token but a text begins with a quote
-quoted_token : (token : Token) (bytes rest : List ℕ) → starts is_quote bytes ≡ true → ((content rest : List ℕ) → ¬ AreTextAnd content bytes rest) → BeginsWith token bytes rest → ⊥
-quoted_token (Word word) bytes rest quote no_text h = by_word word h.some h.letters (ap (starts is_quote) (sym h.whole) ∙ quote)
+no_text_found : (bytes : List ℕ) → starts is_quote bytes ≡ true → ((content rest : List ℕ) → ¬ AreTextAnd content bytes rest) → token_at bytes ≡ None
+no_text_found [] quote no_text = refl
+no_text_found (b ∷ bytes) quote no_text =
+    quote_cases (λ b. token_at (b ∷ bytes) ≡ text_at b bytes) refl refl b quote ∙ by_found (text_at b bytes) refl
   where
-    by_word : (word : List ℕ) → 0 < length word → All (λ b. IsTrue (is_word_byte b)) word → starts is_quote (word ++ rest) ≡ true → ⊥
-    by_word [] some letters quote = absurd (omega (arith, some))
-    by_word (b ∷ word) some letters quote = false≢true (sym (word_no_quote b (All-head (λ b. IsTrue (is_word_byte b)) b word letters)) ∙ quote)
-quoted_token (Text content) bytes rest quote no_text h = no_text content rest h
-quoted_token Open bytes rest quote no_text h = false≢true (ap (starts is_quote) (sym h) ∙ quote)
-quoted_token Close bytes rest quote no_text h = false≢true (ap (starts is_quote) (sym h) ∙ quote)
-quoted_token Comma bytes rest quote no_text h = false≢true (ap (starts is_quote) (sym h) ∙ quote)
-quoted_token Semicolon bytes rest quote no_text h = false≢true (ap (starts is_quote) (sym h) ∙ quote)
-quoted_token Equal bytes rest quote no_text h = false≢true (ap (starts is_quote) (sym h) ∙ quote)
-quoted_token Less bytes rest quote no_text h = false≢true (ap (starts is_quote) (sym h.0) ∙ quote)
-quoted_token LessEqual bytes rest quote no_text h = false≢true (ap (starts is_quote) (sym h) ∙ quote)
-quoted_token Greater bytes rest quote no_text h = false≢true (ap (starts is_quote) (sym h.0) ∙ quote)
-quoted_token GreaterEqual bytes rest quote no_text h = false≢true (ap (starts is_quote) (sym h) ∙ quote)
+    by_found : (o : Option (Token × List ℕ)) → text_at b bytes ≡ o → o ≡ None
+    by_found None e = refl
+    by_found (Some r) e = let t = text_found b bytes (content_parts b bytes) r quote (content_found b bytes) e in absurd (no_text t.0 r.1 t.2)
 
 final_bad : (bytes : List ℕ) → IsBadText bytes → IsFinal bytes
-final_bad bytes h = record { solid = quote_solid bytes h.begins; none = by_found (token_at bytes) refl }
-  where
-    by_found : (o : Option (Token × List ℕ)) → token_at bytes ≡ o → token_at bytes ≡ None
-    by_found None e = e
-    by_found (Some r) e = absurd (quoted_token r.0 bytes r.1 h.begins h.no_text (token_found bytes r e))
+final_bad bytes h = record { solid = quote_solid bytes h.begins; none = no_text_found bytes h.begins h.no_text }
 
 final_stuck : (rest : List ℕ) (kind : ℕ) → (IsStray rest × (kind ≡ 3)) ⊎ (IsBadText rest × (kind ≡ 6)) → IsFinal rest
 final_stuck rest kind (inl h) = final_stray rest h.0
@@ -79,30 +66,25 @@ final_stuck rest kind (inr h) = final_bad rest h.0
 some_is : {A : Type 0} (x y : A) → Some x ≡ Some y → x ≡ y
 some_is x y e = cc
 
+-- what the reader finds in a line without tokens, and in one that begins with a token
+none_left : (line rest : List ℕ) → IsFinal rest → AreTokensAnd [] line rest → (rest ≡ after_blanks line) × (token_at (after_blanks line) ≡ None)
+none_left line rest f h = let same = blanks_unique line rest h f.solid in (same, ap token_at (sym same) ∙ f.none)
+
+one_left : (t : Token) (ts : List Token) (line rest : List ℕ) (h : AreTokensAnd (t ∷ ts) line rest) → token_at (after_blanks line) ≡ Some (t, h.1)
+one_left t ts line rest h =
+    let found : token_at h.0 ≡ Some (t, h.1) = token_again t h.0 h.1 h.3 in
+    ap token_at (sym (blanks_unique line h.0 h.2 (token_solid h.0 (t, h.1) found))) ∙ found
+
+clash : (o : Option (Token × List ℕ)) (r : Token × List ℕ) → o ≡ None → o ≡ Some r → ⊥
+clash o r none found = cc
+
 -- up to where no token begins the tokens are the only ones
 only_one : (one other : List Token) (line rest rest' : List ℕ) → IsFinal rest → IsFinal rest' → AreTokensAnd one line rest → AreTokensAnd other line rest' → (one ≡ other) × (rest ≡ rest')
-only_one [] [] line rest rest' f f' h k = (refl, blanks_unique line rest h f.solid ∙ sym (blanks_unique line rest' k f'.solid))
-only_one [] (u ∷ us) line rest rest' f f' h k =
-    let found : token_at k.0 ≡ Some (u, k.1) = token_again u k.0 k.1 k.3 in
-    let same : rest ≡ k.0 = blanks_unique line rest h f.solid ∙ sym (blanks_unique line k.0 k.2 (token_solid k.0 (u, k.1) found)) in
-    let none : token_at k.0 ≡ None = ap token_at (sym same) ∙ f.none in
-    absurd (clash (u, k.1) (sym none ∙ found))
-  where
-    clash : (r : Token × List ℕ) → None ≡ Some r → ⊥
-    clash r e = cc
-only_one (t ∷ ts) [] line rest rest' f f' h k =
-    let found : token_at h.0 ≡ Some (t, h.1) = token_again t h.0 h.1 h.3 in
-    let same : rest' ≡ h.0 = blanks_unique line rest' k f'.solid ∙ sym (blanks_unique line h.0 h.2 (token_solid h.0 (t, h.1) found)) in
-    let none : token_at h.0 ≡ None = ap token_at (sym same) ∙ f'.none in
-    absurd (clash (t, h.1) (sym none ∙ found))
-  where
-    clash : (r : Token × List ℕ) → None ≡ Some r → ⊥
-    clash r e = cc
+only_one [] [] line rest rest' f f' h k = (refl, (none_left line rest f h).0 ∙ sym (none_left line rest' f' k).0)
+only_one [] (u ∷ us) line rest rest' f f' h k = absurd (clash _ _ (none_left line rest f h).1 (one_left u us line rest' k))
+only_one (t ∷ ts) [] line rest rest' f f' h k = absurd (clash _ _ (none_left line rest' f' k).1 (one_left t ts line rest h))
 only_one (t ∷ ts) (u ∷ us) line rest rest' f f' h k =
-    let found : token_at h.0 ≡ Some (t, h.1) = token_again t h.0 h.1 h.3 in
-    let found' : token_at k.0 ≡ Some (u, k.1) = token_again u k.0 k.1 k.3 in
-    let same : h.0 ≡ k.0 = blanks_unique line h.0 h.2 (token_solid h.0 (t, h.1) found) ∙ sym (blanks_unique line k.0 k.2 (token_solid k.0 (u, k.1) found')) in
-    let both : ◌≡◌ {A = Token × List ℕ} (t, h.1) (u, k.1) = some_is (t, h.1) (u, k.1) (sym found ∙ ap token_at same ∙ found') in
+    let both : ◌≡◌ {A = Token × List ℕ} (t, h.1) (u, k.1) = some_is (t, h.1) (u, k.1) (sym (one_left t ts line rest h) ∙ one_left u us line rest' k) in
     let token : t ≡ u = ap (λ (r : Token × List ℕ). r.0) both in
     let more : h.1 ≡ k.1 = ap (λ (r : Token × List ℕ). r.1) both in
     let rec = only_one ts us k.1 rest rest' f f' (subst (λ l. AreTokensAnd ts l rest) more h.4) k.4 in
