@@ -1,16 +1,11 @@
 -- The parser finds what stands in the tokens, and finds it again whatever stands behind.
 use Rattle.std.proofs.Common.{◌≡◌, ◌≤◌, ◌<◌, ℕ, zero, suc, true, false, true≢false, cond, List, [], ◌∷◌, length, Option, None, Some, option_map, refl, sym, ap, ◌∙◌, subst, arith}
 use Rattle.std.specs.Prelude.{IsTrue}
+use Rattle.tsdb_script.specs.Types.{Column, Comparison, Condition, Operand, Place, Token}
 use Rattle.tsdb_script.specs.declared.form.Keyword.TheVariants as key
-use Rattle.tsdb_script.specs.declared.form.Place.{Place}
 use Rattle.tsdb_script.specs.declared.form.Place.TheVariants as place
-use Rattle.tsdb_script.specs.declared.syntax.Column.{Column}
-use Rattle.tsdb_script.specs.declared.syntax.Comparison.{Comparison}
 use Rattle.tsdb_script.specs.declared.syntax.Comparison.TheVariants as compared
-use Rattle.tsdb_script.specs.declared.syntax.Condition.{Condition}
-use Rattle.tsdb_script.specs.declared.syntax.Operand.{Operand}
 use Rattle.tsdb_script.specs.declared.syntax.Operand.TheVariants as operand
-use Rattle.tsdb_script.specs.declared.token.Token.{Token}
 use Rattle.tsdb_script.specs.declared.token.Token.TheVariants.{Word, Text, Open, Close, Equal, Less, LessEqual, Greater, GreaterEqual}
 use Rattle.tsdb_script.specs.Forms.{is_at, comparison_token, Standing, IsName, IsValue, Called, IsColumn, Behind, IsCondition, AreRow, AreListed, AreConditions}
 use Rattle.tsdb_script.specs.Parse.{Tokens, ◌>>=◌, stands_at, fixed_at, word_at, operand_at, comparison_at, condition_at, called_at, column_at, onto, items_at, list_at, conditions_at}
@@ -67,9 +62,8 @@ pub record Finds {X : Type 0} (Is : Standing X) (item : Tokens → Option (X × 
   pub shrinks : (x : X) (tokens rest : Tokens) → Is x tokens rest → length rest < length tokens
 
 pub word_found : (tokens : Tokens) (r : List ℕ × Tokens) → word_at tokens ≡ Some r → tokens ≡ Word r.0 ∷ r.1
-word_found [] r e = cc
 word_found (Word w ∷ rest) r e = ap (λ (r : List ℕ × Tokens). Word r.0 ∷ r.1) (some_is (w, rest) r e)
-word_found (_ ∷ rest) r e = cc
+word_found _ r e = cc
 
 pub finds_name : Finds IsName word_at
 finds_name = record {
@@ -82,10 +76,9 @@ pub finds_value : Finds IsValue operand_at
 finds_value = record { found = found; again = again; shrinks = shrinks }
   where
     found : (tokens : Tokens) (r : Operand × Tokens) → operand_at tokens ≡ Some r → IsValue r.0 tokens r.1
-    found [] r e = cc
     found (Word w ∷ rest) r e = subst (λ (r : Operand × Tokens). IsValue r.0 (Word w ∷ rest) r.1) (some_is (operand.Word w, rest) r e) refl
     found (Text t ∷ rest) r e = subst (λ (r : Operand × Tokens). IsValue r.0 (Text t ∷ rest) r.1) (some_is (operand.Text t, rest) r e) refl
-    found (_ ∷ rest) r e = cc
+    found _ r e = cc
 
     again : (x : Operand) (tokens rest : Tokens) → IsValue x tokens rest → stands_at place.Open rest ≡ false → operand_at tokens ≡ Some (x, rest)
     again (operand.Word w) tokens rest e calm = ap operand_at e
@@ -96,13 +89,12 @@ finds_value = record { found = found; again = again; shrinks = shrinks }
     shrinks (operand.Text t) tokens rest e = let long = ap length e in omega (arith, long)
 
 comparison_is : (tokens : Tokens) (r : Comparison × Tokens) → comparison_at tokens ≡ Some r → tokens ≡ comparison_token r.0 ∷ r.1
-comparison_is [] r e = cc
 comparison_is (Less ∷ rest) r e = ap (λ (r : Comparison × Tokens). comparison_token r.0 ∷ r.1) (some_is (compared.Less, rest) r e)
 comparison_is (LessEqual ∷ rest) r e = ap (λ (r : Comparison × Tokens). comparison_token r.0 ∷ r.1) (some_is (compared.LessEqual, rest) r e)
 comparison_is (Greater ∷ rest) r e = ap (λ (r : Comparison × Tokens). comparison_token r.0 ∷ r.1) (some_is (compared.Greater, rest) r e)
 comparison_is (GreaterEqual ∷ rest) r e = ap (λ (r : Comparison × Tokens). comparison_token r.0 ∷ r.1) (some_is (compared.GreaterEqual, rest) r e)
 comparison_is (Equal ∷ rest) r e = ap (λ (r : Comparison × Tokens). comparison_token r.0 ∷ r.1) (some_is (compared.Equal, rest) r e)
-comparison_is (_ ∷ rest) r e = cc
+comparison_is _ r e = cc
 
 comparison_again : (c : Comparison) (tokens rest : Tokens) → tokens ≡ comparison_token c ∷ rest → comparison_at tokens ≡ Some (c, rest)
 comparison_again compared.Less tokens rest e = ap comparison_at e

@@ -32,9 +32,8 @@ ascii (b ∷ bytes) digits =
 pub IsUtf8-integer : (bytes : List ℕ) (number : ℤ) → IsInteger bytes number → IsUtf8 bytes
 IsUtf8-integer bytes number is = IsUtf8-from_ascii bytes (ascii bytes is.digits.1)
 
--- bytes that are no text are no integer
-pub no_integer : (bytes : List ℕ) (text : Result (Bor (List ℕ)) Utf8Error) (found : Option (Bor (List ℕ)))
-    → MatchResult text (λ s. (s.now ≡ bytes) × IsUtf8 bytes) (λ e. ¬ (IsUtf8 bytes) × IsValidUpTo bytes (valid_up_to e))
-    → found ≡ None → found ≡ result_ok text → (number : ℤ) → ¬ IsInteger bytes number
-no_integer bytes (Ok s) found cases none is number integer = cc
-no_integer bytes (Err e) found cases none is number integer = cases.0 (IsUtf8-integer bytes number integer)
+-- bytes of which no text was made are none
+pub no_text : (bytes : List ℕ) (text : Result (Bor (List ℕ)) Utf8Error) (found : Option (Bor (List ℕ)))
+    → MatchResult text (λ s. (s.now ≡ bytes) × IsUtf8 bytes) (λ e. ¬ (IsUtf8 bytes) × IsValidUpTo bytes (valid_up_to e)) → found ≡ None → found ≡ result_ok text → ¬ (IsUtf8 bytes)
+no_text bytes (Ok s) found cases none is = cc
+no_text bytes (Err e) found cases none is = cases.0

@@ -3,9 +3,8 @@ use Rattle.std.proofs.Common.{◌≡◌, ◌≤◌, ◌<◌, ℕ, Bool, true, fa
 use Rattle.std.specs.Prelude.{All, IsTrue, MatchBool, option_and_then}
 use Rattle.std.proofs.lemmas.Bool.{eqb-true, false≢true, or_cases, cases_Bool, leb-true, le-leb, eq-eqb}
 use Rattle.std.proofs.lemmas.List.Elements.{All-nil, All-cons, All-head, All-tail}
-use Rattle.tsdb_script.specs.declared.token.Token.{Token}
+use Rattle.tsdb_script.specs.Types.{LineFault, Token}
 use Rattle.tsdb_script.specs.declared.token.Token.TheVariants.{Word, Text, Less, LessEqual, Greater, GreaterEqual}
-use Rattle.tsdb_script.specs.declared.fault.LineFault.{LineFault}
 use Rattle.tsdb_script.specs.declared.fault.LineFault.TheVariants.{Bad}
 use Rattle.tsdb_script.specs.Steps.{FaultsWith, after_blanks, word_parts, onto, content_parts, short_text, text_at, less_at, greater_at, mark_at, token_at}
 use Rattle.tsdb_script.specs.Tokens.{is_blank, is_word_byte, is_quote, is_mark, starts, escape, AreWordAnd, AreTextAnd, BeginsWith, AreBlanksAnd, AreTokensAnd, IsStray, IsBadText, HasNoTokens}

@@ -3,9 +3,7 @@ use Rattle.std.proofs.Common.{◌≡◌, ℕ, ◌<◌, ◌≤◌, false, true≢
 use Rattle.std.specs.Prelude.{◌⊎◌}
 use Rattle.std.specs.Str.Parse.{digits_value}
 use Rattle.std.proofs.lemmas.Bool.{cases_lt, cases_Bool}
-use Rattle.tsdb_script.specs.declared.numbered.Numbered.{Numbered}
-use Rattle.tsdb_script.specs.declared.syntax.Syntax.{Syntax}
-use Rattle.tsdb_script.specs.declared.token.Token.{Token}
+use Rattle.tsdb_script.specs.Types.{Numbered, Syntax, Token}
 use Rattle.tsdb_script.specs.declared.token.Token.TheVariants.{Word}
 use Rattle.tsdb_script.specs.Forms.{Fits, HasNoForm}
 use Rattle.tsdb_script.specs.LineSteps.{HasNoSession, HasRoom, HasSession}

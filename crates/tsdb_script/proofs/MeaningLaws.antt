@@ -8,24 +8,13 @@ use Rattle.std.proofs.lemmas.Int.{ints}
 use Rattle.std.proofs.lemmas.List.{length-map}
 use Rattle.std.proofs.lemmas.List.Elements.{All-head, All-tail, All-cons, All-nil}
 use Rattle.std.proofs.lemmas.Slice.Zip.{AllZip-long}
-use Rattle.tsdb_base.specs.declared.answers.Aggregate.{Aggregate}
-use Rattle.tsdb_base.specs.declared.value.DataType.{DataType}
-use Rattle.tsdb_base.specs.declared.value.Encoding.{Encoding}
-use Rattle.tsdb_base.specs.Values.{is_suitable}
-use Rattle.tsdb_base.specs.declared.point.Range.{Range}
-use Rattle.tsdb_map.specs.declared.command.Cell.{Cell}
-use Rattle.tsdb_map.specs.declared.command.Command.{Command}
+use Rattle.tsdb_script.specs.Types.{Aggregate, Cell, Column, Command, Condition, DataType, Encoding, Item, LineFault, Operand, Range, Syntax}
 use Rattle.tsdb_map.specs.declared.command.Command.TheVariants as command
-use Rattle.tsdb_map.specs.declared.command.Item.{Item}
+use Rattle.tsdb_base.specs.Values.{is_suitable}
 use Rattle.tsdb_map.specs.declared.command.Row.{Row}
 use Rattle.tsdb_map.specs.declared.command.Schema.{Schema}
 use Rattle.tsdb_map.specs.Commands.{AreDifferent, AreItems, IsDevice, IsRow, IsSeries, IsSchema, IsWellFormed}
 use Rattle.tsdb_map.specs.World.{is_in}
-use Rattle.tsdb_script.specs.declared.fault.LineFault.{LineFault}
-use Rattle.tsdb_script.specs.declared.syntax.Column.{Column}
-use Rattle.tsdb_script.specs.declared.syntax.Condition.{Condition}
-use Rattle.tsdb_script.specs.declared.syntax.Operand.{Operand}
-use Rattle.tsdb_script.specs.declared.syntax.Syntax.{Syntax}
 use Rattle.tsdb_script.specs.declared.syntax.Syntax.TheVariants.{Create, Insert, Delete, Select, Flush, CompactInner, CompactCross, ShowFiles}
 use Rattle.tsdb_script.specs.Forms.{HasParts}
 use Rattle.tsdb_script.specs.Meaning.{HasBadWord, AreAlike, ArePaired, IsGood, IsItem, IsLiteral, IsNamed, IsRangeOf, Means, Objects, Role, DeviceOf, Says, column_roles, condition_roles, measurements_of, roles}
@@ -39,13 +28,12 @@ one_each : {A B : Type 0} (Is : A → B → Type 0) → ((a : A) (b c : B) → I
     → AllZip Is xs ys → AllZip Is xs zs → ys ≡ zs
 one_each Is one [] [] [] each again = refl
 one_each Is one [] [] (z ∷ zs) each again = absurd again
-one_each Is one [] (y ∷ ys) zs each again = absurd each
-one_each Is one (x ∷ xs) [] zs each again = absurd each
 one_each Is one (x ∷ xs) (y ∷ ys) [] each again = absurd again
 one_each Is one (x ∷ xs) (y ∷ ys) (z ∷ zs) each again =
     let first = one x y z each.0 again.0 in
     let others = one_each Is one xs ys zs each.1 again.1 in
     cc
+one_each Is one xs ys zs each again = absurd each
 
 -- what is made of the same parts is the same
 pub made_same : {A B C : Type 0} (make : A → B → C) (a other : A) (b another : B) → a ≡ other → b ≡ another → make a b ≡ make other another

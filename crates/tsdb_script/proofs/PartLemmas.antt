@@ -1,9 +1,7 @@
 -- The loops of the parser: the items of a list, the places of a form, and the forms.
 use Rattle.std.proofs.Common.{◌≡◌, ◌≤◌, ◌<◌, ◌+◌, ◌-◌, ℕ, zero, suc, Bool, true, false, true≢false, cond, drop, List, [], ◌∷◌, ◌++◌, Option, None, Some, option_map, refl, sym, ap, ◌∙◌, append_assoc, append-nil, arith}
 use Rattle.std.specs.Prelude.{◌&&◌}
-use Rattle.tsdb_script.specs.declared.form.Place.{Place}
-use Rattle.tsdb_script.specs.declared.syntax.Part.{Part}
-use Rattle.tsdb_script.specs.declared.token.Token.{Token}
+use Rattle.tsdb_script.specs.Types.{Part, Place, Token}
 use Rattle.tsdb_script.specs.Forms.{is_at}
 use Rattle.tsdb_script.specs.Parse.{Tokens, onto, items_at, stands_at, fixed_at, is_keyword_place, begins_at, place_at, before, read_at, end_at, ◌>>=◌}
 

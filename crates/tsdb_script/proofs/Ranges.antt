@@ -3,9 +3,8 @@ use Rattle.std.proofs.Common.{◌≡◌, ℕ, ◌+◌, ◌<◌, true, List, [], 
 use Rattle.std.specs.Prelude.{ℤ, ◌≤ℤ◌, ◌↔◌, ◌&&◌, int_le, FitsSigned}
 use Rattle.std.specs.Int.{w64}
 use Rattle.std.proofs.lemmas.Int.{ints}
-use Rattle.tsdb_base.specs.declared.point.Range.{Range}
+use Rattle.tsdb_script.specs.Types.{Condition, Range}
 use Rattle.tsdb_map.specs.World.{is_in}
-use Rattle.tsdb_script.specs.declared.syntax.Condition.{Condition}
 use Rattle.tsdb_script.specs.Meaning.{Compares, HasRangeForm, IsInteger, IsRangeOf, Meets}
 use Rattle.tsdb_script.proofs.WordLists.{AllByRecursion-append, AllByRecursion-split, next}
 

@@ -6,7 +6,7 @@ use Rattle.std.proofs.lemmas.List.Elements.{All-head, All-tail, All-cons, All-ni
 use Rattle.tsdb_path.specs.Nodes.{dot, IsName, IsPath, child_of, node_count}
 use Rattle.tsdb_path.proofs.Bytes.{IsNode-dotless}
 use Rattle.tsdb_path.proofs.Parts.{IsPath-child, node_count-child, parts_from_path}
-use Rattle.tsdb_script.specs.declared.syntax.Column.{Column}
+use Rattle.tsdb_script.specs.Types.{Column}
 use Rattle.tsdb_script.specs.Meaning.{IsGood, Node, aggregate_role, column_role, column_roles, measurements_of}
 use Rattle.tsdb_script.proofs.WordLists.{AllByRecursion-split}
 

@@ -5,15 +5,11 @@ use Rattle.std.specs.Char.{to_ascii_lowercase}
 use Rattle.std.specs.Str.{str_to_ascii_lowercase}
 use Rattle.std.proofs.lemmas.Bool.Decides.{nat_tests}
 use Rattle.std.proofs.lemmas.Slice.Eq.{bytes_eq-Decides}
-use Rattle.tsdb_base.specs.declared.answers.Aggregate.{Aggregate}
+use Rattle.tsdb_script.specs.Types.{Aggregate, DataType, Encoding, Literal, Operand}
 use Rattle.tsdb_base.specs.declared.answers.Aggregate.TheVariants as aggregate
-use Rattle.tsdb_base.specs.declared.value.DataType.{DataType}
 use Rattle.tsdb_base.specs.declared.value.DataType.TheVariants as type
-use Rattle.tsdb_base.specs.declared.value.Encoding.{Encoding}
 use Rattle.tsdb_base.specs.declared.value.Encoding.TheVariants as encoding
-use Rattle.tsdb_map.specs.declared.command.Literal.{Literal}
 use Rattle.tsdb_map.specs.declared.command.Literal.TheVariants as literal
-use Rattle.tsdb_script.specs.declared.syntax.Operand.{Operand}
 use Rattle.tsdb_script.specs.declared.syntax.Operand.TheVariants as operand
 use Rattle.tsdb_script.specs.Meaning.{IsInteger, IsLiteral, IsNamed, Names, aggregate_name, encoding_name, type_name}
 use Rattle.tsdb_script.specs.Tokens.{is_keyword}
@@ -67,9 +63,8 @@ pub one_named : (word : Option (List ℕ)) (one other : Option Aggregate) → Is
 one_named None None None is again = refl
 one_named (Some word) (Some one) (Some other) is again = ap Some (one_aggregate word one other is again)
 one_named None None (Some other) is again = absurd again
-one_named None (Some one) other is again = absurd is
 one_named (Some word) (Some one) None is again = absurd again
-one_named (Some word) None other is again = absurd is
+one_named word one other is again = absurd is
 
 pub one_integer : (word : List ℕ) (one other : ℤ) → IsInteger word one → IsInteger word other → one ≡ other
 one_integer word one other is again = is.value ∙ sym again.value
@@ -79,33 +74,25 @@ letter : (b c : ℕ) → to_ascii_lowercase b ≡ c → (b ≡ c) ⊎ (b + 32 �
 letter b c e = grind (arith, nat_tests)
 
 -- what begins with a T or an F is no integer
-no_integer_t : (b : ℕ) (word : List ℕ) (number : ℤ) → to_ascii_lowercase b ≡ 116 → ¬ IsInteger (b ∷ word) number
-no_integer_t b word number e is =
-    elim (letter b 116 e) [
-      | inl small ↦ (let digits = rw small at is.digits in omega (arith, digits.1.0))
-      | inr upper ↦ (let big : b ≡ 84 = omega arith in let digits = rw big at is.digits in omega (arith, digits.1.0))
-    ]
-
-no_integer_f : (b : ℕ) (word : List ℕ) (number : ℤ) → to_ascii_lowercase b ≡ 102 → ¬ IsInteger (b ∷ word) number
-no_integer_f b word number e is =
-    elim (letter b 102 e) [
-      | inl small ↦ (let digits = rw small at is.digits in omega (arith, digits.1.0))
-      | inr upper ↦ (let big : b ≡ 70 = omega arith in let digits = rw big at is.digits in omega (arith, digits.1.0))
-    ]
+no_integer : (b : ℕ) (word : List ℕ) (number : ℤ) → (b ≡ 116) ⊎ ((b ≡ 84) ⊎ ((b ≡ 102) ⊎ (b ≡ 70))) → ¬ IsInteger (b ∷ word) number
+no_integer b word number (inl e) is = let digits = rw e at is.digits in omega (arith, digits.1.0)
+no_integer b word number (inr (inl e)) is = let digits = rw e at is.digits in omega (arith, digits.1.0)
+no_integer b word number (inr (inr (inl e))) is = let digits = rw e at is.digits in omega (arith, digits.1.0)
+no_integer b word number (inr (inr (inr e))) is = let digits = rw e at is.digits in omega (arith, digits.1.0)
 
 no_true : (word : List ℕ) (number : ℤ) → Names word (codes "true") → ¬ IsInteger word number
 no_true [] number names is = omega (arith, is.digits.0)
 no_true (b ∷ word) number names is =
     let lower = lower_names (b ∷ word) (codes "true") names in
     let first : to_ascii_lowercase b ≡ 116 = cc in
-    no_integer_t b word number first is
+    no_integer b word number (elim (letter b 116 first) [ inl small ↦ inl small | inr upper ↦ inr (inl (omega arith)) ]) is
 
 no_false : (word : List ℕ) (number : ℤ) → Names word (codes "false") → ¬ IsInteger word number
 no_false [] number names is = omega (arith, is.digits.0)
 no_false (b ∷ word) number names is =
     let lower = lower_names (b ∷ word) (codes "false") names in
     let first : to_ascii_lowercase b ≡ 102 = cc in
-    no_integer_f b word number first is
+    no_integer b word number (elim (letter b 102 first) [ inl small ↦ inr (inr (inl small)) | inr upper ↦ inr (inr (inr (omega arith))) ]) is
 
 pub one_literal : (operand : Operand) (one other : Literal) → IsLiteral operand one → IsLiteral operand other → one ≡ other
 one_literal (operand.Text content) (literal.Text one) (literal.Text other) is again = ap literal.Text (is ∙ sym again)

@@ -3,9 +3,8 @@ use Rattle.std.proofs.Common.{◌≡◌, ℕ, ◌+◌, ◌-◌, ◌<◌, ◌≤�
 use Rattle.std.specs.List.{concat}
 use Rattle.std.proofs.lemmas.Bool.{eqb-true}
 use Rattle.std.proofs.lemmas.List.Folds.{concat-append}
-use Rattle.tsdb_script.specs.declared.fault.LineFault.{LineFault}
+use Rattle.tsdb_script.specs.Types.{LineFault, Numbered}
 use Rattle.tsdb_script.specs.declared.fault.LineFault.TheVariants.{Bad, Memory}
-use Rattle.tsdb_script.specs.declared.numbered.Numbered.{Numbered}
 use Rattle.tsdb_script.specs.LineSteps.{fault_at, line_at, AreDifferentOf}
 use Rattle.tsdb_script.specs.Reading.{Line, lines_of, line_behind, sessions_of, Give, no_line, skipped_line, command_line, IsBad, IsCommand, IsFirstBad, IsScript, IsSkipped, RefusesScript}
 use Rattle.tsdb_script.specs.Steps.{FaultsWith}

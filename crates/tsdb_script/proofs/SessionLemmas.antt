@@ -17,7 +17,7 @@ use Rattle.std.proofs.lemmas.Map.Keys.{IsDistinct-push}
 use Rattle.std.proofs.lemmas.Map.Made.{length-from_keys}
 use Rattle.std.proofs.lemmas.Str.{IsUtf8-from_ascii}
 use Rattle.std.proofs.lemmas.Str.Parse.{digits_value_short, numerals_by_value, tells_digits}
-use Rattle.tsdb_script.specs.declared.numbered.Numbered.{Numbered}
+use Rattle.tsdb_script.specs.Types.{Numbered}
 use Rattle.tsdb_script.specs.LineSteps.{AreDifferentOf, HasRoom}
 use Rattle.tsdb_script.specs.Reading.{IsSession, session_count, sessions_of}
 use Rattle.tsdb_script.specs.Tokens.{starts}
@@ -28,12 +28,9 @@ no_plus : (bytes : List ℕ) → starts (λ b. eqb b 43) bytes ≡ false → wit
 no_plus [] e = refl
 no_plus (b ∷ bytes) e = ap (λ t. drop (cond t 1 0) (b ∷ bytes)) e
 
--- bytes that are no text are no session
-pub no_text : (bytes : List ℕ) (text : Result (Bor (List ℕ)) Utf8Error) (found : Option (Bor (List ℕ)))
-    → MatchResult text (λ s. (s.now ≡ bytes) × IsUtf8 bytes) (λ e. ¬ (IsUtf8 bytes) × IsValidUpTo bytes (valid_up_to e))
-    → found ≡ None → found ≡ result_ok text → (session : ℕ) → ¬ IsSession bytes session
-no_text bytes (Ok s) found cases none is session it = cc
-no_text bytes (Err e) found cases none is session it = cases.0 (IsUtf8-from_ascii bytes (IsAscii-from_digits bytes it.digits.1))
+-- a session is a text
+pub IsUtf8-session : (bytes : List ℕ) (session : ℕ) → IsSession bytes session → IsUtf8 bytes
+IsUtf8-session bytes session it = IsUtf8-from_ascii bytes (IsAscii-from_digits bytes it.digits.1)
 
 -- a text of bytes has these bytes
 pub text_is : (bytes : List ℕ) (text : Result (Bor (List ℕ)) Utf8Error) (found : Option (Bor (List ℕ))) (s : Bor (List ℕ))

@@ -4,18 +4,13 @@ use Rattle.std.specs.Prelude.{◌⊎◌, ◌&&◌, not, IsTrue, IfOk, IfErr}
 use Rattle.std.specs.List.{AllByRecursion, list_any}
 use Rattle.std.specs.Str.{bytes_eq, str_to_ascii_lowercase}
 use Rattle.std.proofs.lemmas.Slice.Eq.{bytes_eq-Decides}
-use Rattle.tsdb_script.specs.declared.fault.LineFault.{LineFault}
-use Rattle.tsdb_script.specs.declared.fault.LineFault.TheVariants.{Bad, Memory}
-use Rattle.tsdb_script.specs.declared.form.Form.{Form}
+use Rattle.tsdb_script.specs.Types.{Form, LineFault, Part, Place, Syntax, Token}
 use Rattle.tsdb_script.specs.declared.form.Form.TheVariants as form
 use Rattle.tsdb_script.specs.declared.form.Keyword.TheVariants as key
-use Rattle.tsdb_script.specs.declared.form.Place.{Place}
 use Rattle.tsdb_script.specs.declared.form.Place.TheVariants as place
-use Rattle.tsdb_script.specs.declared.form.TheConstants.{FORMS}
-use Rattle.tsdb_script.specs.declared.syntax.Part.{Part}
 use Rattle.tsdb_script.specs.declared.syntax.Part.TheVariants as part
-use Rattle.tsdb_script.specs.declared.syntax.Syntax.{Syntax}
-use Rattle.tsdb_script.specs.declared.token.Token.{Token}
+use Rattle.tsdb_script.specs.declared.fault.LineFault.TheVariants.{Bad, Memory}
+use Rattle.tsdb_script.specs.declared.form.TheConstants.{FORMS}
 use Rattle.tsdb_script.specs.declared.token.Token.TheVariants.{Word, Close, Semicolon}
 use Rattle.tsdb_script.specs.Forms.{asks_first, is_at, keyword_text, places, statement_of, Standing, AreConditions, AreListed, IsName, IsValue, IsColumn, Stands, Stand, HasParts, Fits, HasNoForm}
 use Rattle.tsdb_script.specs.Parse.{Gives, Tokens, ◌>>=◌, stands_at, fixed_at, word_at, end_at, operand_at, column_at, list_at, conditions_at, place_at, before, read_at, is_keyword_place, begins_at, form_at, statement_at, create_of, insert_of, delete_of, select_of, bare_of, made_of}
@@ -193,8 +188,7 @@ ends_at (_ ∷ behind) rest parts e h = absurd (true≢false (sym e))
 end_is : (tokens : Tokens) (u : Unit {0}) → end_at tokens ≡ Some u → (tokens ≡ []) ⊎ (tokens ≡ Semicolon ∷ [])
 end_is [] u e = inl refl
 end_is (Semicolon ∷ []) u e = inr refl
-end_is (Semicolon ∷ t ∷ rest) u e = cc
-end_is (_ ∷ rest) u e = cc
+end_is _ u e = cc
 
 end_again : (tokens : Tokens) → (tokens ≡ []) ⊎ (tokens ≡ Semicolon ∷ []) → end_at tokens ≡ Some tt
 end_again tokens (inl e) = ap end_at e
@@ -266,47 +260,23 @@ form_again (g ∷ forms) f tokens has begins =
 
 create_is : (parts : List Part) → create_of parts ≡ statement_of form.Create parts
 unfolding create_of
-create_is [] = refl
-create_is (part.Word p ∷ []) = refl
-create_is (part.Word p ∷ part.Word t ∷ []) = refl
 create_is (part.Word p ∷ part.Word t ∷ part.Word c ∷ []) = refl
-create_is (part.Word p ∷ part.Word t ∷ part.Word c ∷ x ∷ more) = refl
-create_is (part.Word p ∷ part.Word t ∷ _ ∷ more) = refl
-create_is (part.Word p ∷ _ ∷ more) = refl
-create_is (_ ∷ more) = refl
+create_is _ = refl
 
 insert_is : (parts : List Part) → insert_of parts ≡ statement_of form.Insert parts
 unfolding insert_of
-insert_is [] = refl
-insert_is (part.Word d ∷ []) = refl
-insert_is (part.Word d ∷ part.Names ns ∷ []) = refl
-insert_is (part.Word d ∷ part.Names ns ∷ part.Word t ∷ []) = refl
 insert_is (part.Word d ∷ part.Names ns ∷ part.Word t ∷ part.Values vs ∷ []) = refl
-insert_is (part.Word d ∷ part.Names ns ∷ part.Word t ∷ part.Values vs ∷ x ∷ more) = refl
-insert_is (part.Word d ∷ part.Names ns ∷ part.Word t ∷ _ ∷ more) = refl
-insert_is (part.Word d ∷ part.Names ns ∷ _ ∷ more) = refl
-insert_is (part.Word d ∷ _ ∷ more) = refl
-insert_is (_ ∷ more) = refl
+insert_is _ = refl
 
 delete_is : (parts : List Part) → delete_of parts ≡ statement_of form.Delete parts
 unfolding delete_of
-delete_is [] = refl
-delete_is (part.Word p ∷ []) = refl
 delete_is (part.Word p ∷ part.Conditions cs ∷ []) = refl
-delete_is (part.Word p ∷ part.Conditions cs ∷ x ∷ more) = refl
-delete_is (part.Word p ∷ _ ∷ more) = refl
-delete_is (_ ∷ more) = refl
+delete_is _ = refl
 
 select_is : (parts : List Part) → select_of parts ≡ statement_of form.Select parts
 unfolding select_of
-select_is [] = refl
-select_is (part.Columns cs ∷ []) = refl
-select_is (part.Columns cs ∷ part.Word d ∷ []) = refl
 select_is (part.Columns cs ∷ part.Word d ∷ part.Conditions ws ∷ []) = refl
-select_is (part.Columns cs ∷ part.Word d ∷ part.Conditions ws ∷ x ∷ more) = refl
-select_is (part.Columns cs ∷ part.Word d ∷ _ ∷ more) = refl
-select_is (part.Columns cs ∷ _ ∷ more) = refl
-select_is (_ ∷ more) = refl
+select_is _ = refl
 
 made_is : (f : Form) (parts : List Part) → made_of f parts ≡ statement_of f parts
 unfolding bare_of

@@ -1,10 +1,11 @@
 -- Words one after another, of which one may be bad.
-use Rattle.std.proofs.Common.{◌≡◌, ℕ, suc, ◌+◌, ◌<◌, List, [], ◌∷◌, ◌++◌, length, get_or, take, drop, map, Result, Err, refl, sym, ap, subst, ◌∙◌, append_assoc, add-one, take-suc, drop-cons}
+use Rattle.std.proofs.Common.{◌≡◌, ℕ, suc, ◌+◌, ◌<◌, List, [], ◌∷◌, ◌++◌, length, get_or, take, drop, map, Result, Ok, Err, refl, sym, ap, subst, ◌∙◌, append_assoc, add-one, take-suc, drop-cons}
 use Rattle.std.specs.Prelude.{IfErr}
 use Rattle.std.specs.List.{AllByRecursion, AllZip, flat_map}
+use Rattle.std.specs.Result.{IsErrAnd}
 use Rattle.std.proofs.lemmas.List.{map-append, take-append-drop}
 use Rattle.std.proofs.lemmas.Grind.{flat_map-append}
-use Rattle.tsdb_script.specs.declared.fault.LineFault.{LineFault}
+use Rattle.tsdb_script.specs.Types.{LineFault}
 use Rattle.tsdb_script.specs.declared.fault.LineFault.TheVariants.{Bad, Memory}
 use Rattle.tsdb_script.specs.Meaning.{HasBadWord, IsBad, IsGood, Role}
 use Rattle.tsdb_script.specs.Steps.{FaultsWith}
@@ -46,9 +47,10 @@ widened : (P Q : ℕ → Type 0) → ((kind : ℕ) → P kind → Q kind) → (e
 widened P Q step (Bad kind) h = step kind h
 widened P Q step Memory h = tt
 
--- a fault that is passed on
-pub faults : {T : Type 0} (P Q : ℕ → Type 0) (r : Result T LineFault) (e y : LineFault) → r ≡ Err y → y ≡ e → FaultsWith P e → ((kind : ℕ) → P kind → Q kind) → IfErr r (FaultsWith Q)
-faults P Q r e y is same h step = rw (is, same) (widened P Q step e h)
+-- a fault that is passed on by `?`
+pub passed_on : {T : Type 0} (P Q : ℕ → Type 0) (r : Result T LineFault) (e : LineFault) → IsErrAnd r (λ y. y ≡ e) → FaultsWith P e → ((kind : ℕ) → P kind → Q kind) → IfErr r (FaultsWith Q)
+passed_on P Q (Ok x) e passed bad step = absurd passed
+passed_on P Q (Err y) e passed bad step = subst (FaultsWith Q) (sym passed) (widened P Q step e bad)
 
 split_at : {X : Type 0} (xs : List X) (i : ℕ) (x : X) → i < length xs → x ≡ get_or xs i x → xs ≡ take i xs ++ x ∷ drop (suc i) xs
 split_at xs i x lt e = sym (take-append-drop i xs) ∙ ap (λ (t : List _). take i xs ++ t) (drop-cons xs i x lt ∙ ap (λ y. y ∷ drop (suc i) xs) (sym e))
@@ -84,9 +86,8 @@ good_among f xs i x lt e all good =
 
 AllZip-snoc : {A B : Type 0} (Is : A → B → Type 0) (xs : List A) (ys : List B) (x : A) (y : B) → AllZip Is xs ys → Is x y → AllZip Is (xs ++ x ∷ []) (ys ++ y ∷ [])
 AllZip-snoc Is [] [] x y each is = (is, tt)
-AllZip-snoc Is [] (b ∷ ys) x y each is = absurd each
-AllZip-snoc Is (a ∷ xs) [] x y each is = absurd each
 AllZip-snoc Is (a ∷ xs) (b ∷ ys) x y each is = (each.0, AllZip-snoc Is xs ys x y each.1 is)
+AllZip-snoc Is xs ys x y each is = absurd each
 
 -- one item more on each side
 pub each_next : {A B : Type 0} (Is : A → B → Type 0) (xs : List A) (i : ℕ) (x : A) (ys new : List B) (y : B) → i < length xs → x ≡ get_or xs i x

@@ -1,26 +1,18 @@
 -- Which tokens fit the form of a statement. A form is a row of places, in the table of `src/form.rt`.
 use Rattle.std.specs.Prelude.{◌≡◌, ◌⊎◌, ℕ, ◌<◌, ◌||◌, Bool, true, false, IsTrue, List, [], ◌∷◌, Option, None, Some, length, codes}
 use Rattle.tsdb_base.specs.declared.ids.Space.TheVariants.{Sequence, Unsequence}
-use Rattle.tsdb_script.specs.declared.form.Form.{Form}
+use Rattle.tsdb_script.specs.Types.{Column, Comparison, Condition, Form, Operand, Part, Place, Syntax, Token}
 use Rattle.tsdb_script.specs.declared.form.Form.TheVariants as form
-use Rattle.tsdb_script.specs.declared.form.Keyword.{Keyword}
 use Rattle.tsdb_script.specs.declared.form.Keyword.TheVariants as key
-use Rattle.tsdb_script.specs.declared.form.Place.{Place}
 use Rattle.tsdb_script.specs.declared.form.Place.TheVariants as place
+use Rattle.tsdb_script.specs.declared.syntax.Comparison.TheVariants as compared
+use Rattle.tsdb_script.specs.declared.syntax.Operand.TheVariants as operand
+use Rattle.tsdb_script.specs.declared.syntax.Part.TheVariants as part
+use Rattle.tsdb_script.specs.declared.form.Keyword.{Keyword}
 use Rattle.tsdb_script.specs.declared.form.TheConstants.{CREATE, INSERT, DELETE, SELECT, FLUSH, COMPACT_SEQUENCE}
 use Rattle.tsdb_script.specs.declared.form.TheConstants.{COMPACT_UNSEQUENCE, COMPACT_CROSS, SHOW_FILES}
-use Rattle.tsdb_script.specs.declared.syntax.Column.{Column}
-use Rattle.tsdb_script.specs.declared.syntax.Comparison.{Comparison}
-use Rattle.tsdb_script.specs.declared.syntax.Comparison.TheVariants as compared
-use Rattle.tsdb_script.specs.declared.syntax.Condition.{Condition}
-use Rattle.tsdb_script.specs.declared.syntax.Operand.{Operand}
-use Rattle.tsdb_script.specs.declared.syntax.Operand.TheVariants as operand
-use Rattle.tsdb_script.specs.declared.syntax.Part.{Part}
-use Rattle.tsdb_script.specs.declared.syntax.Part.TheVariants as part
-use Rattle.tsdb_script.specs.declared.syntax.Syntax.{Syntax}
 use Rattle.tsdb_script.specs.declared.syntax.Syntax.TheVariants.{Create, Insert, Delete, Select, Flush, CompactInner}
 use Rattle.tsdb_script.specs.declared.syntax.Syntax.TheVariants.{CompactCross, ShowFiles}
-use Rattle.tsdb_script.specs.declared.token.Token.{Token}
 use Rattle.tsdb_script.specs.declared.token.Token.TheVariants as token
 use Rattle.tsdb_script.specs.Tokens.{is_keyword}
 

@@ -6,3 +6,4 @@ pub mod Parse
 pub mod Reading
 pub mod Steps
 pub mod Tokens
+pub mod Types

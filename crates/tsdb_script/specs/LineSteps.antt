@@ -2,12 +2,9 @@
 use Rattle.std.specs.Prelude.{◌≡◌, ℕ, ◌<◌, ◌≤◌, ◌==◌, List, [], ◌∷◌, ◌++◌, length}
 use Rattle.std.specs.List.{IsDistinct}
 use Rattle.std.specs.Set.{is_member}
-use Rattle.tsdb_script.specs.declared.fault.LineFault.{LineFault}
+use Rattle.tsdb_script.specs.Types.{LineFault, Numbered, ScriptFault, Token}
 use Rattle.tsdb_script.specs.declared.fault.LineFault.TheVariants.{Bad, Memory}
-use Rattle.tsdb_script.specs.declared.fault.ScriptFault.{ScriptFault}
 use Rattle.tsdb_script.specs.declared.fault.ScriptFault.TheVariants as script
-use Rattle.tsdb_script.specs.declared.numbered.Numbered.{Numbered}
-use Rattle.tsdb_script.specs.declared.token.Token.{Token}
 use Rattle.tsdb_script.specs.declared.token.Token.TheVariants.{Word}
 use Rattle.tsdb_script.specs.Limits.{max_commands, max_sessions}
 use Rattle.tsdb_script.specs.Reading.{sessions_of, session_count, IsSession, Line}

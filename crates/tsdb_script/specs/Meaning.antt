@@ -5,30 +5,19 @@ use Rattle.std.specs.Int.{w64}
 use Rattle.std.specs.List.{AllByRecursion, AllZip, flat_map}
 use Rattle.std.specs.Option.{IsSome}
 use Rattle.std.specs.Str.Parse.{IsNumeral, without_leading_sign, signed_digits_value}
-use Rattle.tsdb_base.specs.declared.answers.Aggregate.{Aggregate}
+use Rattle.tsdb_script.specs.Types.{Aggregate, Column, Command, Comparison, Condition, DataType, Encoding, Item, Literal, Operand, Range, Syntax}
 use Rattle.tsdb_base.specs.declared.answers.Aggregate.TheVariants as aggregate
-use Rattle.tsdb_base.specs.declared.point.Range.{Range}
-use Rattle.tsdb_base.specs.declared.value.DataType.{DataType}
 use Rattle.tsdb_base.specs.declared.value.DataType.TheVariants as type
-use Rattle.tsdb_base.specs.declared.value.Encoding.{Encoding}
 use Rattle.tsdb_base.specs.declared.value.Encoding.TheVariants as encoding
-use Rattle.tsdb_base.specs.Values.{is_suitable}
-use Rattle.tsdb_map.specs.declared.command.Command.{Command}
 use Rattle.tsdb_map.specs.declared.command.Command.TheVariants as command
-use Rattle.tsdb_map.specs.declared.command.Item.{Item}
-use Rattle.tsdb_map.specs.declared.command.Literal.{Literal}
 use Rattle.tsdb_map.specs.declared.command.Literal.TheVariants as literal
+use Rattle.tsdb_script.specs.declared.syntax.Operand.TheVariants as operand
+use Rattle.tsdb_base.specs.Values.{is_suitable}
 use Rattle.tsdb_map.specs.Commands.{AreDifferent, IsDevice, IsSeries}
 use Rattle.tsdb_map.specs.Limits.{max_names}
 use Rattle.tsdb_map.specs.World.{is_in}
 use Rattle.tsdb_path.specs.Nodes.{IsName, IsPath, child_of}
-use Rattle.tsdb_script.specs.declared.syntax.Column.{Column}
-use Rattle.tsdb_script.specs.declared.syntax.Comparison.{Comparison}
 use Rattle.tsdb_script.specs.declared.syntax.Comparison.TheVariants.{Less, LessEqual, Greater, GreaterEqual, Equal}
-use Rattle.tsdb_script.specs.declared.syntax.Condition.{Condition}
-use Rattle.tsdb_script.specs.declared.syntax.Operand.{Operand}
-use Rattle.tsdb_script.specs.declared.syntax.Operand.TheVariants as operand
-use Rattle.tsdb_script.specs.declared.syntax.Syntax.{Syntax}
 use Rattle.tsdb_script.specs.declared.syntax.Syntax.TheVariants.{Create, Insert, Delete, Select, Flush, CompactInner}
 use Rattle.tsdb_script.specs.declared.syntax.Syntax.TheVariants.{CompactCross, ShowFiles}
 use Rattle.tsdb_script.specs.Tokens.{is_keyword}
@@ -118,16 +107,12 @@ IsGood (AggregateName word) = (aggregate : Aggregate) × Names word (aggregate_n
 
 -- the kind of the fault where it isn't
 abbrev pub kind_of : Role → ℕ
-kind_of (SeriesPath word) = 4
-kind_of (DevicePath word) = 4
-kind_of (Measurement device word) = 4
-kind_of (Node word) = 4
-kind_of (DeviceOf names word) = 4
 kind_of (Number word) = 5
 kind_of (Scalar operand) = 5
 kind_of (TypeName word) = 8
 kind_of (EncodingName type word) = 8
 kind_of (AggregateName word) = 8
+kind_of path_or_name = 4
 
 -- the word is not what its place asks for, which is a fault of this kind
 abbrev pub IsBad : Role → ℕ → Type 0
@@ -158,10 +143,7 @@ roles (Insert device names time values) = DevicePath device
 roles (Delete path conditions) = SeriesPath path ∷ condition_roles conditions
 roles (Select columns device conditions) =
     column_roles columns ++ DeviceOf (measurements_of columns) device ∷ condition_roles conditions
-roles Flush = []
-roles (CompactInner space) = []
-roles CompactCross = []
-roles ShowFiles = []
+roles syntax = []
 
 -- the first word that is not what its place asks for decides the kind
 pub record HasBadWord (words : List Role) (kind : ℕ) : Type 0 where

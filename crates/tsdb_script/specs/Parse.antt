@@ -2,26 +2,17 @@
 use Rattle.std.specs.Prelude.{◌≡◌, ℕ, zero, suc, length, ◌&&◌, Bool, true, false, List, [], ◌∷◌, Option, None, Some}
 use Rattle.std.specs.Prelude.{Result, Ok, Err, option_map, if◌then◌else◌}
 use Rattle.tsdb_base.specs.declared.ids.Space.TheVariants.{Sequence, Unsequence}
-use Rattle.tsdb_script.specs.declared.fault.LineFault.{LineFault}
-use Rattle.tsdb_script.specs.declared.fault.LineFault.TheVariants.{Bad, Memory}
-use Rattle.tsdb_script.specs.declared.form.Form.{Form}
+use Rattle.tsdb_script.specs.Types.{Column, Comparison, Condition, Form, LineFault, Operand, Part, Place, Syntax, Token}
 use Rattle.tsdb_script.specs.declared.form.Form.TheVariants as form
 use Rattle.tsdb_script.specs.declared.form.Keyword.TheVariants as key
-use Rattle.tsdb_script.specs.declared.form.Place.{Place}
 use Rattle.tsdb_script.specs.declared.form.Place.TheVariants as place
-use Rattle.tsdb_script.specs.declared.form.TheConstants.{FORMS}
-use Rattle.tsdb_script.specs.declared.syntax.Column.{Column}
-use Rattle.tsdb_script.specs.declared.syntax.Comparison.{Comparison}
 use Rattle.tsdb_script.specs.declared.syntax.Comparison.TheVariants as compared
-use Rattle.tsdb_script.specs.declared.syntax.Condition.{Condition}
-use Rattle.tsdb_script.specs.declared.syntax.Operand.{Operand}
 use Rattle.tsdb_script.specs.declared.syntax.Operand.TheVariants as operand
-use Rattle.tsdb_script.specs.declared.syntax.Part.{Part}
 use Rattle.tsdb_script.specs.declared.syntax.Part.TheVariants as part
-use Rattle.tsdb_script.specs.declared.syntax.Syntax.{Syntax}
+use Rattle.tsdb_script.specs.declared.fault.LineFault.TheVariants.{Bad, Memory}
+use Rattle.tsdb_script.specs.declared.form.TheConstants.{FORMS}
 use Rattle.tsdb_script.specs.declared.syntax.Syntax.TheVariants.{Create, Insert, Delete, Select, Flush, CompactInner}
 use Rattle.tsdb_script.specs.declared.syntax.Syntax.TheVariants.{CompactCross, ShowFiles}
-use Rattle.tsdb_script.specs.declared.token.Token.{Token}
 use Rattle.tsdb_script.specs.declared.token.Token.TheVariants.{Word, Text, Semicolon, Equal, Less}
 use Rattle.tsdb_script.specs.declared.token.Token.TheVariants.{LessEqual, Greater, GreaterEqual}
 use Rattle.tsdb_script.specs.Forms.{is_at, places}

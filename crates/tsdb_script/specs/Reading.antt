@@ -4,11 +4,8 @@ use Rattle.std.specs.Prelude.{◌++◌, length, map, if◌then◌else◌}
 use Rattle.std.specs.List.{concat, list_all, list_any}
 use Rattle.std.specs.Set.{distinct_count}
 use Rattle.std.specs.Str.Parse.{IsNumeral, digits_value}
-use Rattle.tsdb_script.specs.declared.fault.ScriptFault.{ScriptFault}
+use Rattle.tsdb_script.specs.Types.{Numbered, ScriptFault, Syntax, Token}
 use Rattle.tsdb_script.specs.declared.fault.ScriptFault.TheVariants as fault
-use Rattle.tsdb_script.specs.declared.numbered.Numbered.{Numbered}
-use Rattle.tsdb_script.specs.declared.syntax.Syntax.{Syntax}
-use Rattle.tsdb_script.specs.declared.token.Token.{Token}
 use Rattle.tsdb_script.specs.declared.token.Token.TheVariants.{Word}
 use Rattle.tsdb_script.specs.declared.form.TheConstants.{FORMS}
 use Rattle.tsdb_script.specs.Forms.{asks_first, places, Fits, HasNoForm}

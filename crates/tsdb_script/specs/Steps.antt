@@ -1,9 +1,8 @@
 -- What the steps of the reader give, as functions on lists. No public clause cites them.
 use Rattle.std.specs.Prelude.{ℕ, ◌==◌, List, [], ◌∷◌, Option, None, Some, option_map, option_and_then, nat_le, length}
 use Rattle.std.specs.Prelude.{if◌then◌else◌}
-use Rattle.tsdb_script.specs.declared.fault.LineFault.{LineFault}
+use Rattle.tsdb_script.specs.Types.{LineFault, Token}
 use Rattle.tsdb_script.specs.declared.fault.LineFault.TheVariants.{Bad, Memory}
-use Rattle.tsdb_script.specs.declared.token.Token.{Token}
 use Rattle.tsdb_script.specs.declared.token.Token.TheVariants.{Word, Text, Open, Close, Comma, Semicolon, Equal, Less}
 use Rattle.tsdb_script.specs.declared.token.Token.TheVariants.{LessEqual, Greater, GreaterEqual}
 use Rattle.tsdb_script.specs.Tokens.{is_blank, is_word_byte, is_quote, is_mark}

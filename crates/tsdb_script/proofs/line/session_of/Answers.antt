@@ -1,11 +1,12 @@
 use Rattle.std.proofs.Common.{sym, ◌∙◌}
-use Rattle.tsdb_script.proofs.SessionLemmas.{no_text, not_parsed, text_is}
+use Rattle.tsdb_script.proofs.IntegerLemmas.{no_text}
+use Rattle.tsdb_script.proofs.SessionLemmas.{not_parsed, text_is, IsUtf8-session}
 use Rattle.tsdb_script.proofs.line.session_of.Goals as goal
 
 pub returns-in_err-ok-clause-none : goal.returns-in_err-ok-clause-none
 returns-in_err-ok-clause-none c =
     rw (c.from_residual.ensures, sym c.bytes-bytes.ensures)
-    (no_text c.bytes-bytes.result.now c.from_utf8.result c.ok.result c.from_utf8.ensures.cases c.in_err-ok.was c.ok.ensures.value)
+    (λ session is. no_text _ _ _ c.from_utf8.ensures.cases c.in_err-ok.was c.ok.ensures.value (IsUtf8-session _ session is))
 
 pub returns-clause-none : goal.returns-clause-none
 returns-clause-none c =

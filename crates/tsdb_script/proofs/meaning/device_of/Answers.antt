@@ -1,15 +1,10 @@
 use Rattle.std.proofs.Common.{refl, sym, ◌∙◌, true≢false}
-use Rattle.std.proofs.lemmas.Result.{err_from_is_err_and}
-use Rattle.tsdb_script.specs.Meaning.{DeviceOf, DevicePath, IsBad, measurements_of}
 use Rattle.tsdb_script.proofs.Rooms.{all_fit}
-use Rattle.tsdb_script.proofs.WordLists.{faults}
+use Rattle.tsdb_script.proofs.WordLists.{passed_on}
 use Rattle.tsdb_script.proofs.meaning.device_of.Goals as goal
 
 pub returns-in_err-device-clause-bad : goal.returns-in_err-device-clause-bad
-returns-in_err-device-clause-bad c =
-    let p = err_from_is_err_and c.from_residual.result c.from_residual.ensures.1 in
-    faults (IsBad (DevicePath c.args.word.now)) (IsBad (DeviceOf (measurements_of c.args.columns.now) c.args.word.now)) c.from_residual.result c.in_err-device.field-0.0 p.0 p.1 p.2
-    c.in_err-device.ensures.bad (λ kind bad. ((λ good. bad.0 (good.0, good.1)), bad.1))
+returns-in_err-device-clause-bad c = passed_on _ _ _ _ c.from_residual.ensures.1 c.in_err-device.ensures.bad (λ kind bad. ((λ good. bad.0 (good.0, good.1)), bad.1))
 
 pub returns-then-are_short-clause-found : goal.returns-then-are_short-clause-found
 returns-then-are_short-clause-found c =

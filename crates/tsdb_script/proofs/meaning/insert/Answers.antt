@@ -1,46 +1,34 @@
-use Rattle.std.proofs.Common.{◌≡◌, true, false, map, true≢false, sym, ◌∙◌, rules}
+use Rattle.std.proofs.Common.{◌≡◌, ◌∷◌, [], true, false, true≢false, inl, sym, ◌∙◌, rules}
 use Rattle.std.specs.Prelude.{FitsSigned}
 use Rattle.std.specs.Int.{w64}
 use Rattle.std.proofs.lemmas.Int.{to_z-of_z}
-use Rattle.std.proofs.lemmas.Result.{err_from_is_err_and}
-use Rattle.tsdb_script.specs.declared.syntax.Syntax.TheVariants.{Insert}
-use Rattle.tsdb_script.specs.Meaning.{DevicePath, HasBadWord, IsBad, Measurement, Number, Objects, Scalar}
-use Rattle.tsdb_script.proofs.Objections.{insert_device, insert_names, insert_time, insert_values, insert_means, insert_whole}
-use Rattle.tsdb_script.proofs.WordLists.{faults}
+use Rattle.tsdb_script.specs.Meaning.{DevicePath, Number}
+use Rattle.tsdb_script.proofs.Objections.{insert_means, insert_whole}
+use Rattle.tsdb_script.proofs.WordLists.{bad_behind, bad_earlier, bad_later, passed_on}
 use Rattle.tsdb_script.proofs.meaning.insert.Goals as goal
 
 pub returns-in_err-device-clause-bad : goal.returns-in_err-device-clause-bad
-returns-in_err-device-clause-bad c =
-    let a = c.args in
-    let p = err_from_is_err_and c.from_residual.result c.from_residual.ensures.1 in
-    faults (IsBad (DevicePath a.device.now)) (Objects (Insert a.device.now a.names.now a.time.now a.values.now)) c.from_residual.result c.in_err-device.field-0.0 p.0 p.1 p.2
-    c.in_err-device.ensures.bad (insert_device a.device.now a.names.now a.time.now a.values.now)
+returns-in_err-device-clause-bad c = passed_on _ _ _ _ c.from_residual.ensures.1 c.in_err-device.ensures.bad (λ kind bad. inl (bad_behind [] _ _ kind tt bad))
 
 pub returns-in_err-names-clause-bad : goal.returns-in_err-names-clause-bad
 returns-in_err-names-clause-bad c =
-    let a = c.args in
-    let p = err_from_is_err_and c.from_residual-in_err-names.result c.from_residual-in_err-names.ensures.1 in
     let bad = rw (c.items.ensures, c.in_ok-device.ensures.found.0) at c.in_err-names.ensures.bad in
-    faults (HasBadWord (map (Measurement a.device.now) a.names.now)) (Objects (Insert a.device.now a.names.now a.time.now a.values.now)) c.from_residual-in_err-names.result
-    c.in_err-names.field-0.0 p.0 p.1 p.2 bad (λ kind bad. insert_names a.device.now a.names.now a.time.now a.values.now kind c.in_ok-device.ensures.found.1 bad)
+    passed_on _ _ _ _ c.from_residual-in_err-names.ensures.1 bad
+    (λ kind bad. inl (bad_later (DevicePath _ ∷ []) _ kind (c.in_ok-device.ensures.found.1, tt) (bad_earlier _ _ kind bad)))
 
 pub returns-in_err-time-clause-bad : goal.returns-in_err-time-clause-bad
 returns-in_err-time-clause-bad c =
-    let a = c.args in
-    let p = err_from_is_err_and c.from_residual-in_err-time.result c.from_residual-in_err-time.ensures.1 in
     let named = rw (c.items.ensures, c.in_ok-device.ensures.found.0) at c.in_ok-names.ensures.found.1 in
-    faults (IsBad (Number a.time.now)) (Objects (Insert a.device.now a.names.now a.time.now a.values.now)) c.from_residual-in_err-time.result c.in_err-time.field-0.0 p.0 p.1 p.2
-    c.in_err-time.ensures.bad (λ kind bad. insert_time a.device.now a.names.now a.time.now a.values.now kind c.in_ok-device.ensures.found.1 named bad)
+    passed_on _ _ _ _ c.from_residual-in_err-time.ensures.1 c.in_err-time.ensures.bad
+    (λ kind bad. inl (bad_later (DevicePath _ ∷ []) _ kind (c.in_ok-device.ensures.found.1, tt) (bad_behind _ _ _ kind named bad)))
 
 pub returns-in_err-literals-clause-bad : goal.returns-in_err-literals-clause-bad
 returns-in_err-literals-clause-bad c =
-    let a = c.args in
-    let p = err_from_is_err_and c.from_residual-in_err-literals.result c.from_residual-in_err-literals.ensures.1 in
     let named = rw (c.items.ensures, c.in_ok-device.ensures.found.0) at c.in_ok-names.ensures.found.1 in
     let bad = rw c.items-2.ensures at c.in_err-literals.ensures.bad in
-    faults (HasBadWord (map Scalar a.values.now)) (Objects (Insert a.device.now a.names.now a.time.now a.values.now)) c.from_residual-in_err-literals.result
-    c.in_err-literals.field-0.0 p.0 p.1 p.2 bad
-    (λ kind bad. insert_values a.device.now a.names.now a.time.now a.values.now kind c.in_ok-device.ensures.found.1 named (c.in_ok-time.time, c.in_ok-time.ensures.found) bad)
+    passed_on _ _ _ _ c.from_residual-in_err-literals.ensures.1 bad
+    (λ kind bad. inl (bad_later (DevicePath _ ∷ []) _ kind (c.in_ok-device.ensures.found.1, tt) (bad_later _ _ kind named
+    (bad_later (Number _ ∷ []) _ kind ((c.in_ok-time.time, c.in_ok-time.ensures.found), tt) bad))))
 
 pub returns-then-not-branch-clause-bad : goal.returns-then-not-branch-clause-bad
 returns-then-not-branch-clause-bad c =

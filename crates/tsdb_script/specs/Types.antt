@@ -1,0 +1,21 @@
+-- The types of this crate and of the commands that definitions and proofs speak of, under the names that they have there.
+pub use Rattle.tsdb_base.specs.declared.answers.Aggregate.{Aggregate}
+pub use Rattle.tsdb_base.specs.declared.point.Range.{Range}
+pub use Rattle.tsdb_base.specs.declared.value.DataType.{DataType}
+pub use Rattle.tsdb_base.specs.declared.value.Encoding.{Encoding}
+pub use Rattle.tsdb_map.specs.declared.command.Cell.{Cell}
+pub use Rattle.tsdb_map.specs.declared.command.Command.{Command}
+pub use Rattle.tsdb_map.specs.declared.command.Item.{Item}
+pub use Rattle.tsdb_map.specs.declared.command.Literal.{Literal}
+pub use Rattle.tsdb_script.specs.declared.fault.LineFault.{LineFault}
+pub use Rattle.tsdb_script.specs.declared.fault.ScriptFault.{ScriptFault}
+pub use Rattle.tsdb_script.specs.declared.form.Form.{Form}
+pub use Rattle.tsdb_script.specs.declared.form.Place.{Place}
+pub use Rattle.tsdb_script.specs.declared.numbered.Numbered.{Numbered}
+pub use Rattle.tsdb_script.specs.declared.syntax.Column.{Column}
+pub use Rattle.tsdb_script.specs.declared.syntax.Comparison.{Comparison}
+pub use Rattle.tsdb_script.specs.declared.syntax.Condition.{Condition}
+pub use Rattle.tsdb_script.specs.declared.syntax.Operand.{Operand}
+pub use Rattle.tsdb_script.specs.declared.syntax.Part.{Part}
+pub use Rattle.tsdb_script.specs.declared.syntax.Syntax.{Syntax}
+pub use Rattle.tsdb_script.specs.declared.token.Token.{Token}
