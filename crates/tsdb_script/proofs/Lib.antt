@@ -18,3 +18,4 @@ pub mod SessionLemmas
 pub mod LineLemmas
 pub mod ReadingLemmas
 pub mod ScriptLemmas
+pub mod WordBytes
