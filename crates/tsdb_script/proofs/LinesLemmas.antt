@@ -82,39 +82,25 @@ feed b bytes e = ap (λ t. cond t ((b ∷ []) ∷ lines_of bytes) (before_lines 
 no_feed : (b : ℕ) (bytes : List ℕ) → eqb b 10 ≡ false → lines_of (b ∷ bytes) ≡ before_lines b (lines_of bytes)
 no_feed b bytes e = ap (λ t. cond t ((b ∷ []) ∷ lines_of bytes) (before_lines b (lines_of bytes))) e
 
+goes : (bytes rest : List ℕ) (front : List (List ℕ)) (last more : List ℕ) (others : List (List ℕ)) → lines_of bytes ≡ front ++ last ∷ []
+    → lines_of (bytes ++ rest) ≡ front ++ (last ++ more) ∷ others → GoesOn bytes rest
+goes bytes rest front last more others short long = record { front = front; last = last; more = more; others = others; short = short; long = long }
+
 single : (b : ℕ) (rest : List ℕ) (t : Bool) → eqb b 10 ≡ t → GoesOn (b ∷ []) rest
-single b rest true e = record { front = []; last = b ∷ []; more = []; others = lines_of rest; short = feed b [] e; long = feed b rest e }
-single b rest false e =
-    let h = headed b (lines_of rest) in
-    record { front = []; last = b ∷ []; more = h.0; others = h.1; short = no_feed b [] e; long = no_feed b rest e ∙ h.2 }
+single b rest true e = goes (b ∷ []) rest [] (b ∷ []) [] (lines_of rest) (feed b [] e) (feed b rest e)
+single b rest false e = let h = headed b (lines_of rest) in goes (b ∷ []) rest [] (b ∷ []) h.0 h.1 (no_feed b [] e) (no_feed b rest e ∙ h.2)
 
 longer : (b : ℕ) (bytes rest : List ℕ) (t : Bool) → eqb b 10 ≡ t → GoesOn bytes rest → GoesOn (b ∷ bytes) rest
-longer b bytes rest true e g = record {
-  front = (b ∷ []) ∷ g.front;
-  last = g.last;
-  more = g.more;
-  others = g.others;
-  short = feed b bytes e ∙ ap (λ l. (b ∷ []) ∷ l) g.short;
-  long = feed b (bytes ++ rest) e ∙ ap (λ l. (b ∷ []) ∷ l) g.long;
-}
-longer b bytes rest false e g = onto g.front g.last g.more g.others g.short g.long where
-  onto : (front : List (List ℕ)) (last more : List ℕ) (others : List (List ℕ)) → lines_of bytes ≡ front ++ last ∷ [] → lines_of (bytes ++ rest) ≡ front ++ (last ++ more) ∷ others → GoesOn (b ∷ bytes) rest
-  onto [] last more others short long = record {
-    front = [];
-    last = b ∷ last;
-    more = more;
-    others = others;
-    short = no_feed b bytes e ∙ ap (before_lines b) short;
-    long = no_feed b (bytes ++ rest) e ∙ ap (before_lines b) long;
-  }
-  onto (f ∷ front) last more others short long = record {
-    front = (b ∷ f) ∷ front;
-    last = last;
-    more = more;
-    others = others;
-    short = no_feed b bytes e ∙ ap (before_lines b) short;
-    long = no_feed b (bytes ++ rest) e ∙ ap (before_lines b) long;
-  }
+longer b bytes rest true e g =
+    goes (b ∷ bytes) rest ((b ∷ []) ∷ g.front) g.last g.more g.others (feed b bytes e ∙ ap (λ l. (b ∷ []) ∷ l) g.short)
+    (feed b (bytes ++ rest) e ∙ ap (λ l. (b ∷ []) ∷ l) g.long)
+longer b bytes rest false e g = onto g.front g.short g.long
+  where
+    onto : (front : List (List ℕ)) → lines_of bytes ≡ front ++ g.last ∷ [] → lines_of (bytes ++ rest) ≡ front ++ (g.last ++ g.more) ∷ g.others → GoesOn (b ∷ bytes) rest
+    onto [] short long =
+        goes (b ∷ bytes) rest [] (b ∷ g.last) g.more g.others (no_feed b bytes e ∙ ap (before_lines b) short) (no_feed b (bytes ++ rest) e ∙ ap (before_lines b) long)
+    onto (f ∷ front) short long =
+        goes (b ∷ bytes) rest ((b ∷ f) ∷ front) g.last g.more g.others (no_feed b bytes e ∙ ap (before_lines b) short) (no_feed b (bytes ++ rest) e ∙ ap (before_lines b) long)
 
 pub goes_on : (b : ℕ) (bytes rest : List ℕ) → GoesOn (b ∷ bytes) rest
 goes_on b [] rest = single b rest (eqb b 10) refl

@@ -1,13 +1,13 @@
 -- Names that differ, found by a set of those before.
 use Rattle.std.proofs.Common.{◌≡◌, ℕ, zero, suc, ◌+◌, ◌<◌, Bool, true, false, List, [], ◌∷◌, length, get_or, take, Some, cond, true≢false, inl, inr, refl, sym, ap, ◌∙◌, arith}
-use Rattle.std.specs.Prelude.{nat_eq, slice_get, not, ◌||◌}
+use Rattle.std.specs.Prelude.{nat_eq, slice_get, ◌||◌}
 use Rattle.std.specs.List.{IsDistinct, list_any}
 use Rattle.std.specs.Cmp.{IsEquivalence}
 use Rattle.std.specs.Cmp.Lexicographic.{bytes_decides, nat_list_eq_equiv, pointwise}
 use Rattle.std.proofs.lemmas.Bool.{cases_lt}
-use Rattle.std.proofs.lemmas.Option.{slice_get_within, get_or_from_slice_get}
+use Rattle.std.proofs.lemmas.Option.{slice_get_within, slice_get-get_or, get_or_from_slice_get}
 use Rattle.std.proofs.lemmas.Map.Keys.{apart_from_distinct, IsDistinct-push}
-use Rattle.std.proofs.lemmas.List.Folds.{list_any_more}
+use Rattle.std.proofs.lemmas.List.Folds.{list_any_more, Any-from_list_any}
 use Rattle.tsdb_map.specs.Commands.{AreDifferent}
 use Rattle.tsdb_script.proofs.WordLists.{next}
 
@@ -39,14 +39,6 @@ different names distinct = λ i j name ei ej.
 pub distinct_next : (names : List (List ℕ)) (i : ℕ) (x : List ℕ) → i < length names → x ≡ get_or names i x → IsDistinct same (take i names) → list_any (same x) (take i names) ≡ false → IsDistinct same (take (i + 1) names)
 distinct_next names i x lt e distinct none = rw (next names i x lt e) (IsDistinct-push laws (take i names) x distinct none)
 
-found_at : (p : List ℕ → Bool) (xs : List (List ℕ)) → list_any p xs ≡ true → (k : ℕ) × (y : List ℕ) × (slice_get xs k ≡ Some y) × (p y ≡ true)
-found_at p [] e = absurd (true≢false (sym e))
-found_at p (x ∷ xs) e =
-    elim (p x) as (λ t. p x ≡ t → (t || list_any p xs) ≡ true → (k : ℕ) × (y : List ℕ) × (slice_get (x ∷ xs) k ≡ Some y) × (p y ≡ true)) [
-      | true ↦ λ is f. (0, x, refl, is)
-      | false ↦ λ is f. let more = found_at p xs f in (suc more.0, more.1, more.2, more.3)
-    ] refl e
-
 before : (xs : List (List ℕ)) (i k : ℕ) (y : List ℕ) → slice_get (take i xs) k ≡ Some y → (slice_get xs k ≡ Some y) × (k < i)
 before [] zero k y e = absurd cc
 before [] (suc i) k y e = absurd cc
@@ -57,17 +49,15 @@ before (x ∷ xs) (suc i) (suc k) y e = let more = before xs i k y e in let lt :
 -- a name that is equal to one before it
 pub repeated : (names : List (List ℕ)) (i : ℕ) (x : List ℕ) → slice_get names i ≡ Some x → list_any (same x) (take i names) ≡ true → AreDifferent names → ⊥
 repeated names i x stands e all =
-    let found = found_at (same x) (take i names) e in
-    let there = before names i found.0 found.1 found.2 in
-    let name : x ≡ found.1 = (bytes_decides x found.1).0 found.3 in
+    let found = Any-from_list_any (same x) (take i names) e in
+    let there = before names i found.0 found.1 (slice_get-get_or (take i names) found.0 found.1 found.2 ∙ ap Some found.3) in
+    let name : x ≡ found.1 = (bytes_decides x found.1).0 found.4 in
     let place : found.0 ≡ i = all found.0 i x (there.0 ∙ ap Some (sym name)) stands in
     omega (arith, there.1, place)
 
 -- the name at a place
 pub stands_at : (names : List (List ℕ)) (i : ℕ) (x : List ℕ) → i < length names → x ≡ get_or names i x → slice_get names i ≡ Some x
-stands_at [] i x lt e = absurd (omega arith)
-stands_at (y ∷ names) zero x lt e = ap Some (sym e)
-stands_at (y ∷ names) (suc i) x lt e = let less : i < length names = omega arith in stands_at names i x less e
+stands_at names i x lt e = slice_get-get_or names i x lt ∙ ap Some (sym e)
 
 either : (a b : Bool) → cond b true a ≡ (a || b)
 either true true = refl
@@ -84,13 +74,3 @@ seen_next names i x q old new lt e grown seen =
 pub none_distinct : IsDistinct same []
 unfolding IsDistinct
 none_distinct = tt
-
--- a name that is new was not seen before
-pub not_seen : (added seen : Bool) → added ≡ not seen → added ≡ true → seen ≡ false
-not_seen added true e f = absurd (true≢false (sym f ∙ e))
-not_seen added false e f = refl
-
--- a name that is not new was seen before
-pub was_seen : (added seen : Bool) → added ≡ not seen → added ≡ false → seen ≡ true
-was_seen added true e f = refl
-was_seen added false e f = absurd (true≢false (sym e ∙ f))

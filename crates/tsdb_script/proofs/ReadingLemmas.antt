@@ -2,6 +2,7 @@
 use Rattle.std.proofs.Common.{◌≡◌, ℕ, ◌+◌, ◌<◌, ◌≤◌, true≢false, List, [], ◌∷◌, ◌++◌, length, refl, sym, ap, ◌∙◌, arith, subst, append_assoc, length-append}
 use Rattle.std.specs.Prelude.{◌↔◌, All}
 use Rattle.std.specs.List.{concat}
+use Rattle.std.proofs.lemmas.List.{same_from_push}
 use Rattle.std.proofs.lemmas.List.Elements.{All-nil, All-push}
 use Rattle.std.proofs.lemmas.List.Folds.{concat-append}
 use Rattle.tsdb_map.specs.Commands.{IsWellFormed}
@@ -14,16 +15,6 @@ use Rattle.tsdb_script.proofs.StatementLemmas.{has_parts}
 use Rattle.tsdb_script.proofs.SessionLemmas.{as_many, session_number, sessions-push}
 
 -- ---- lines give one list of commands
-
-same_last : {X : Type 0} (xs ys : List X) (x y : X) → xs ++ x ∷ [] ≡ ys ++ y ∷ [] → (xs ≡ ys) × (x ≡ y)
-same_last [] [] x y e = (refl, cc)
-same_last [] (z ∷ ys) x y e = absurd (omega (arith, ap length e, length-append ys (y ∷ [])))
-same_last (z ∷ xs) [] x y e = absurd (omega (arith, ap length e, length-append xs (x ∷ [])))
-same_last {X} (z ∷ xs) (w ∷ ys) x y e =
-    let first : z ≡ w = cc in
-    let rest : xs ++ x ∷ [] ≡ ys ++ y ∷ [] = cc in
-    let more = same_last xs ys x y rest in
-    (ap (λ (a : X). a ∷ xs) first ∙ ap (λ l. w ∷ l) more.0, more.1)
 
 no_last : (front : List (List ℕ)) (line : List ℕ) → ◌≡◌ {A = List (List ℕ)} [] (front ++ line ∷ []) → ⊥
 no_last front line e = omega (arith, ap length e, length-append front (line ∷ []))
@@ -44,16 +35,16 @@ same_commands lines others script other no_line (skipped_line front said line gi
 same_commands lines others script other no_line (command_line front said line numbered gives is) e = absurd (no_last front line e)
 same_commands lines others script other (skipped_line front said line gives is) no_line e = absurd (no_last front line (sym e))
 same_commands lines others script other (command_line front said line numbered gives is) no_line e = absurd (no_last front line (sym e))
-same_commands lines others script other (skipped_line f s l gives is) (skipped_line g t m again skipped) e = same_commands f g s t gives again (same_last f g l m e).0
+same_commands lines others script other (skipped_line f s l gives is) (skipped_line g t m again skipped) e = same_commands f g s t gives again (same_from_push f g l m e).0
 same_commands lines others script other (skipped_line f s l gives skipped) (command_line g t m numbered again is) e =
-    let same = same_last f g l m e in
+    let same = same_from_push f g l m e in
     absurd (skips (line_behind g t m) numbered (moved IsSkipped f g s t l m same.0 (same_commands f g s t gives again same.0) same.1 skipped) is)
 same_commands lines others script other (command_line f s l numbered gives is) (skipped_line g t m again skipped) e =
-    let same = same_last f g l m e in
+    let same = same_from_push f g l m e in
     absurd (skips (line_behind g t m) numbered skipped
     (moved (λ line. IsCommand line numbered) f g s t l m same.0 (same_commands f g s t gives again same.0) same.1 is))
 same_commands lines others script other (command_line f s l one gives is) (command_line g t m two again also) e =
-    let same = same_last f g l m e in
+    let same = same_from_push f g l m e in
     let first = same_commands f g s t gives again same.0 in
     let second = one_line_command (line_behind g t m) one two (moved (λ line. IsCommand line one) f g s t l m same.0 first same.1 is) also in
     ap (λ s. s ++ one ∷ []) first ∙ ap (λ (n : Numbered). t ++ n ∷ []) second

@@ -3,6 +3,7 @@ use Rattle.std.proofs.Common.{◌≡◌, ◌<◌, ℕ, ◌||◌, Bool, true, fal
 use Rattle.std.specs.Prelude.{◌⊎◌, ◌&&◌, not, IsTrue, IfOk, IfErr}
 use Rattle.std.specs.List.{AllByRecursion, list_any}
 use Rattle.std.specs.Str.{bytes_eq, str_to_ascii_lowercase}
+use Rattle.std.proofs.lemmas.Bool.{and_parts, not-true, or_parts}
 use Rattle.std.proofs.lemmas.Slice.Eq.{bytes_eq-Decides}
 use Rattle.tsdb_script.specs.Types.{Form, LineFault, Part, Place, Syntax, Token}
 use Rattle.tsdb_script.specs.declared.form.Form.TheVariants as form
@@ -24,18 +25,6 @@ use Rattle.tsdb_script.proofs.FormLemmas.{some_is, step, leads, mapped, fixed_fo
 other_keyword : (w name other : List ℕ) → is_keyword w name ≡ true → is_keyword name other ≡ false → is_keyword w other ≡ false
 other_keyword w name other is apart =
     ap (λ l. bytes_eq l (str_to_ascii_lowercase other)) ((bytes_eq-Decides (str_to_ascii_lowercase w) (str_to_ascii_lowercase name)).0 is) ∙ apart
-
-both : (a b : Bool) → (a && b) ≡ true → (a ≡ true) × (b ≡ true)
-both true b e = (refl, e)
-both false b e = absurd (true≢false (sym e))
-
-neither : (a b : Bool) → (a || b) ≡ false → (a ≡ false) × (b ≡ false)
-neither true b e = absurd (true≢false e)
-neither false b e = (refl, e)
-
-is_not : (b : Bool) → not b ≡ true → b ≡ false
-is_not true e = absurd (true≢false (sym e))
-is_not false e = refl
 
 -- two forms begin with other keywords
 abbrev pub differ : List Place → List Place → Bool
@@ -94,8 +83,8 @@ has_all form.ShowFiles = inr (inr (inr (inr (inr (inr (inr (inr (inl refl)))))))
 apart : (p q : List Place) (tokens : Tokens) → differ p q ≡ true → begins_at p tokens ≡ true → ¬ (begins_at q tokens ≡ true)
 apart (place.Keyword a ∷ p) (place.Keyword b ∷ q) [] d h k = true≢false (sym h)
 apart (place.Keyword a ∷ p) (place.Keyword b ∷ q) (Word w ∷ rest) d h k =
-    let one = both (is_keyword w (keyword_text a)) (begins_at p rest) h in
-    let other = both (is_keyword w (keyword_text b)) (begins_at q rest) k in
+    let one = and_parts (is_keyword w (keyword_text a)) (begins_at p rest) h in
+    let other = and_parts (is_keyword w (keyword_text b)) (begins_at q rest) k in
     elim (is_keyword (keyword_text a) (keyword_text b)) as (λ t. is_keyword (keyword_text a) (keyword_text b) ≡ t → (not t || differ p q) ≡ true → ⊥) [
       | true ↦ λ same d. apart p q rest d one.1 other.1
       | false ↦ λ not_same d. true≢false (sym other.0 ∙ other_keyword w (keyword_text a) (keyword_text b) one.0 not_same)
@@ -178,7 +167,7 @@ ends_at (place.Keyword k ∷ behind) rest parts e h = subst Ends (sym h.2.1) (wo
   where
     worded : (t : Token) (more : Tokens) → IsTrue (is_at (place.Keyword k) t) → Ends (t ∷ more)
     worded (Word w) more is =
-        let other = neither (is_keyword (keyword_text k) (codes "where")) (is_keyword (keyword_text k) (codes "and")) (is_not _ e) in
+        let other = or_parts (is_keyword (keyword_text k) (codes "where")) (is_keyword (keyword_text k) (codes "and")) (not-true _ e) in
         record { no_comma = refl; no_open = refl; no_where = other_keyword w (keyword_text k) (codes "where") is other.0; no_and = other_keyword w (keyword_text k) (codes "and") is other.1 }
     worded _ more is = absurd (true≢false (sym is))
 ends_at (_ ∷ behind) rest parts e h = absurd (true≢false (sym e))
@@ -204,7 +193,7 @@ read_found (at ∷ row) tokens parts e =
 read_again : (row : List Place) (tokens : Tokens) (parts : List Part) → are_ended row ≡ true → Stand row tokens parts → read_at row tokens ≡ Some parts
 read_again [] tokens parts ended h = leads {A = Unit {0}} (end_at tokens) tt (λ _. Some []) _ (end_again tokens h.0) (ap (λ (l : List Part). Some l) (sym h.1))
 read_again (at ∷ row) tokens parts ended h =
-    let two = both (cond (is_list at) (ends_list row) true) (are_ended row) ended in
+    let two = and_parts (cond (is_list at) (ends_list row) true) (are_ended row) ended in
     let ends : is_list at ≡ true → ends_list row ≡ true = λ is. sym (ap (λ t. cond t (ends_list row) true) is) ∙ two.0 in
     let a = place_again at tokens h.0 parts h.1 (λ is. ends_at row h.0 h.1 (ends is) h.3) h.2 in
     leads (place_at at tokens) (a.0, h.0) _ _ a.1 (ap (option_map (before a.0)) (read_again row h.0 h.1 two.1 h.3) ∙ ap (λ (l : List Part). Some l) (sym a.2))
@@ -237,7 +226,7 @@ row_begins : (row : List Place) (tokens : Tokens) → keyword_first row ≡ true
 row_begins [] tokens first begins = absurd (true≢false (sym first))
 row_begins (at ∷ row) [] first begins = absurd (true≢false (sym begins ∙ ap (λ t. cond t false true) first))
 row_begins (at ∷ row) (t ∷ rest) first begins =
-    (t, rest, refl, (both (is_at at t) (begins_at row rest) (sym (ap (λ b. cond b (is_at at t && begins_at row rest) true) first) ∙ begins)).0)
+    (t, rest, refl, (and_parts (is_at at t) (begins_at row rest) (sym (ap (λ b. cond b (is_at at t && begins_at row rest) true) first) ∙ begins)).0)
 
 -- a statement begins with a word that a form begins with
 pub form_begins : (tokens : Tokens) (syntax : Syntax) → Fits tokens syntax → (t : Token) × (rest : Tokens) × (tokens ≡ t ∷ rest) × (list_any (λ f. asks_first t (places f)) FORMS.now ≡ true)

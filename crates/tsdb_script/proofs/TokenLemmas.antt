@@ -6,7 +6,7 @@ use Rattle.tsdb_script.specs.Types.{Token}
 use Rattle.tsdb_script.specs.declared.token.Token.TheVariants.{Word}
 use Rattle.tsdb_script.specs.Steps.{after_blanks, content_parts, token_at, mark_at, text_at, word_parts}
 use Rattle.tsdb_script.specs.Tokens.{is_blank, is_word_byte, is_quote, is_mark, starts, AreTokensAnd, AreTokens, AreTextAnd, IsStray, IsBadText, HasNoTokens}
-use Rattle.tsdb_script.proofs.LexLemmas.{blanks_unique, content_found, quote_cases, text_found, token_again}
+use Rattle.tsdb_script.proofs.LexLemmas.{blanks_unique, content_found, quote_cases, some_is, text_found, token_again}
 
 -- a blank begins no token
 token_solid : (bytes : List ℕ) (r : Token × List ℕ) → token_at bytes ≡ Some r → starts is_blank bytes ≡ false
@@ -62,9 +62,6 @@ final_bad bytes h = record { solid = quote_solid bytes h.begins; none = no_text_
 final_stuck : (rest : List ℕ) (kind : ℕ) → (IsStray rest × (kind ≡ 3)) ⊎ (IsBadText rest × (kind ≡ 6)) → IsFinal rest
 final_stuck rest kind (inl h) = final_stray rest h.0
 final_stuck rest kind (inr h) = final_bad rest h.0
-
-some_is : {A : Type 0} (x y : A) → Some x ≡ Some y → x ≡ y
-some_is x y e = cc
 
 -- what the reader finds in a line without tokens, and in one that begins with a token
 none_left : (line rest : List ℕ) → IsFinal rest → AreTokensAnd [] line rest → (rest ≡ after_blanks line) × (token_at (after_blanks line) ≡ None)
