@@ -53,7 +53,7 @@ fn is_blank(byte: u8) -> bool
     byte == b' ' || byte == b'\t'
 }
 
-/// A byte may stand in a word. A table is three times as fast as the comparisons that it stands for.
+/// Whether the byte may stand in a word.
 fn is_word_byte(byte: u8) -> bool
     ensures { result ≡ is_word_byte byte }
 {
