@@ -1,0 +1,19 @@
+use Rattle.steps_tests.proofs.Out.{begins_and_ends, begun_has, none_begun, some_begun}
+use Rattle.steps_tests.proofs.compacting.compact.Goals as goal
+
+pub rewrite-requires-after_bounds : goal.rewrite-requires-after_bounds
+rewrite-requires-after_bounds g c κs within = begun_has g.F.Right.ReadRight.file (g.F.Port.Port.store c.args.port.now) c.args.core.now
+    c.begin.new.core c.in-Some.job
+    (some_begun g.F.Right.ReadRight.file c.args.core.now c.begin.new.core c.begin.result c.in-Some.job c.in-Some.is c.begin.ensures) c.requires
+
+pub returns-in-Some-clause-hands : goal.returns-in-Some-clause-hands
+returns-in-Some-clause-hands g c = begins_and_ends g.F.Right.ReadRight.file (g.F.Port.Port.store c.args.port.now) c.args.core.now c.begin.new.core
+    c.rewrite.new.core
+    c.in-Some.job
+    (some_begun g.F.Right.ReadRight.file c.args.core.now c.begin.new.core c.begin.result c.in-Some.job c.in-Some.is c.begin.ensures)
+    c.rewrite.ensures.ends
+
+pub returns-in-None-clause-hands : goal.returns-in-None-clause-hands
+returns-in-None-clause-hands g c =
+    none_begun g.F.Right.ReadRight.file c.args.core.now c.begin.new.core c.begin.result c.in-None.is c.begin.ensures
+    (g.F.Port.Port.store c.args.port.now)
