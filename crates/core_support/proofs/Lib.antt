@@ -1,0 +1,2 @@
+pub mod OneJob
+pub mod Ready

@@ -1,0 +1,22 @@
+use Rattle.std.proofs.Common.{[], Ok, ap, ◌∙◌}
+use Rattle.core_support.proofs.Ready.{is_out, with_job, without_at_fault, without_job}
+use Rattle.core_support.proofs.led.take_oldest.Goals as goal
+
+pub returns-in-Ok-Some-clause-ready : goal.returns-in-Ok-Some-clause-ready
+returns-in-Ok-Some-clause-ready g c = with_job c.take.new.core c.take.result c.in-Ok-Some.job
+    (c.in-Ok-Some.is ∙ ap Ok c.in-Ok-Some.field-0-is) (g.F.Port.Port.store c.args.port.now) []
+    (c.take.ensures.ready (g.F.Port.Port.store c.args.port.now) [] c.requires.ready)
+
+pub returns-in-Ok-Some-clause-held : goal.returns-in-Ok-Some-clause-held
+returns-in-Ok-Some-clause-held g c = (is_out c.take.new.core c.take.result c.in-Ok-Some.job
+    (c.in-Ok-Some.is ∙ ap Ok c.in-Ok-Some.field-0-is)
+    (c.take.ensures.out (g.F.Port.Port.store c.args.port.now) [] c.requires.ready)).0
+
+pub returns-in-Ok-None-clause-ready : goal.returns-in-Ok-None-clause-ready
+returns-in-Ok-None-clause-ready g c = without_job c.take.new.core (g.F.Port.Port.store c.args.port.now) [] c.take.result
+    (c.in-Ok-None.is ∙ ap Ok c.in-Ok-None.field-0-is)
+    (c.take.ensures.ready (g.F.Port.Port.store c.args.port.now) [] c.requires.ready)
+
+pub returns-in-Err-clause-ready : goal.returns-in-Err-clause-ready
+returns-in-Err-clause-ready g c = without_at_fault c.take.new.core (g.F.Port.Port.store c.args.port.now) [] c.take.result
+    c.in-Err.fault c.in-Err.is (c.take.ensures.ready (g.F.Port.Port.store c.args.port.now) [] c.requires.ready)
