@@ -1,5 +1,5 @@
 //! What a core that flushes is asked for, and what it stays ready for then. Depends on nothing here.
-ghost use Rattle.std.specs.Prelude.{◌≡◌, [], ◌≤◌, List};
+ghost use Rattle.std.specs.Prelude.{[], List};
 ghost use Rattle.core_support.specs.Ready.{IsReady, IsReadyWith, IsTakenOut};
 ghost use Rattle.tsdb_committing.specs.Files.{AreDone, new_files};
 ghost use Rattle.tsdb_core.specs.Flushes.{EndsFlush, IsOut};
