@@ -14,8 +14,8 @@ use tsdb_outside::Disk;
 /// first's, with the one change in doubt or without.
 pub fn runs_join()
     ensures { (files : Files) (bytes : List ℕ) (start middle last : plain.State) (first second : List Entry)
-        → StandsAfterPrefix (StandsFor files bytes) start first → StandsFor files bytes middle → IsLegal middle second last
-        → IsJoined start first second last }
+        → StandsAfterPrefix (StandsFor files bytes) start first → StandsFor files bytes middle
+        → IsLegal middle second last → IsJoined start first second last }
 {}
 
 /// A new store is sound, and in the state without series: its slot is one closed gate, whatever a stop leaves.
