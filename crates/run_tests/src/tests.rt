@@ -1,5 +1,6 @@
 //! What no clause says: that runs succeed with ample memory, and worked examples.
 mod examples;
+mod pages;
 mod plain_program;
 mod stores;
 mod types;
