@@ -36,10 +36,11 @@ const STEPS: [Step; 10] = [
 
 const LIMIT: u64 = 2;
 
-/// In these states each write is at any of the times 1 to 4, and the last one at that of the second.
-const FIRST: u64 = 4_096;
+/// In these states the first write is at 2, each other one at any of the times 1 to 4, and the last one at that of the
+/// second.
+const FIRST: u64 = 1_024;
 
-const BEHIND: u64 = 8_192;
+const BEHIND: u64 = 2_048;
 
 /// Before which step the times from the first to the second are deleted: in one state after another the next of these.
 const DELETIONS: [(usize, Time, Time); 13] = [
