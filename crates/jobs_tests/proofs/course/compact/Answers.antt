@@ -1,0 +1,21 @@
+use Rattle.jobs_tests.proofs.Out.{begins_and_ends, begun_has, none_begun, some_begun}
+use Rattle.jobs_tests.proofs.course.compact.Goals as goal
+
+pub rewrite-requires-after_bounds : goal.rewrite-requires-after_bounds
+rewrite-requires-after_bounds g c κs within = begun_has g.F.Right.ReadRight.file (g.F.Port.Port.store c.args.port.now) c.args.core.now
+    c.begin-began.new.core c.in-Some.job
+    (some_begun g.F.Right.ReadRight.file c.args.core.now c.begin-began.new.core c.begin-began.result.1 c.in-Some.job c.in-Some.is
+    c.begin-began.ensures) c.requires
+
+pub returns-in-Some-clause-hands : goal.returns-in-Some-clause-hands
+returns-in-Some-clause-hands g c = begins_and_ends g.F.Right.ReadRight.file (g.F.Port.Port.store c.args.port.now) c.args.core.now
+    c.begin-began.new.core c.rewrite.new.core
+    c.in-Some.job
+    (some_begun g.F.Right.ReadRight.file c.args.core.now c.begin-began.new.core c.begin-began.result.1 c.in-Some.job c.in-Some.is
+    c.begin-began.ensures)
+    c.rewrite.ensures.ends
+
+pub returns-in-None-clause-hands : goal.returns-in-None-clause-hands
+returns-in-None-clause-hands g c = none_begun g.F.Right.ReadRight.file c.args.core.now c.begin-began.new.core c.begin-began.result.1 c.in-None.is
+    c.begin-began.ensures
+    (g.F.Port.Port.store c.args.port.now)
