@@ -7,7 +7,7 @@ use Rattle.std.specs.List.{AllByRecursion as Each, list_any}
 use Rattle.std.specs.Option.{option_or}
 use Rattle.std.proofs.lemmas.Bool.Decides.{nat_tests}
 use Rattle.tsdb_layers.proofs.Lists.{any_among}
-use Rattle.tsdb_layers.proofs.Tests.{clear_alike, clear_either, clear_filter}
+use Rattle.tsdb_layers.proofs.Tests.{absorbed, clear_alike, clear_either, clear_filter, second_true}
 use Rattle.tsdb_layers.proofs.Values.{value_of_survivors}
 use Rattle.tsdb_layers.specs.Layers.{Layer, survivor, value_in}
 use Rattle.tsdb_layers.specs.Lists.{Among}
@@ -26,8 +26,8 @@ survives_up_to marks place old born h =
     clear_alike (nat_lt old) (λ version. (nat_le version born && nat_lt old version) || nat_lt born version) marks place
     (λ version. split_test old born version h)
     ∙ clear_either (λ version. nat_le version born && nat_lt old version) (nat_lt born) marks place
-    ∙ ap (λ b. b && survives marks place born)
-    (sym (clear_filter (nat_lt old) (λ version. nat_le version born) marks place))
+    ∙ ap (λ b. b && survives marks place born) (sym (clear_filter (nat_lt old) (λ version. nat_le version born) marks
+    place))
 
 cond_both : {X : Type 0} (a b : Bool) (o : Option X) → cond (a && b) o None ≡ cond b (cond a o None) None
 cond_both true true o = refl
@@ -48,7 +48,7 @@ cond_or : {X : Type 0} (b : Bool) (o p : Option X)
 cond_or true o p = refl
 cond_or false o p = refl
 
-none_by : {X : Type 0} (b : Bool) → ◌≡◌ {A = Option X} None (cond b None None)
+pub none_by : {X : Type 0} (b : Bool) → ◌≡◌ {A = Option X} None (cond b None None)
 none_by true = refl
 none_by false = refl
 
@@ -85,40 +85,25 @@ pub output_value : (marks at_beginning : List Mark) (place : Place) (born : ℕ)
     → value_in marks place output ≡ value_in marks place inputs
 output_value marks at_beginning place born inputs output older same kept is =
     value_of_born marks place born output same
-    ∙ ap (λ o. cond (survives marks place born) o None)
-    (is ∙ value_of_survivors at_beginning (marks_up_to born marks) place inputs inputs kept)
+    ∙ ap (λ o. cond (survives marks place born) o None) (is ∙ value_of_survivors at_beginning (marks_up_to born marks)
+    place inputs inputs kept)
     ∙ sym (value_up_to marks place born inputs older)
 
 -- a purge leaves the survivors up to a stamp of what is as old as one of its borns
 purge_up_to : (borns : List ℕ) (born old version : ℕ) → Among old borns
     → (list_any (λ b. nat_lt b version) borns && (nat_le version born && nat_lt old version))
     ≡ (nat_le version born && nat_lt old version)
-purge_up_to borns born old version among = by (nat_lt old version) refl
-  where
-    whole : (a : Bool) → (a && true) ≡ a
-    whole true = refl
-    whole false = refl
-
-    none : (a b : Bool) → (a && (b && false)) ≡ (b && false)
-    none true b = refl
-    none false true = refl
-    none false false = refl
-
-    by : (b : Bool) → nat_lt old version ≡ b
-        → (list_any (λ b. nat_lt b version) borns && (nat_le version born && b)) ≡ (nat_le version born && b)
-    by true e = ap (λ c. c && (nat_le version born && true)) (any_among (λ b. nat_lt b version) borns old among e)
-    by false e = none (list_any (λ b. nat_lt b version) borns) (nat_le version born)
+purge_up_to borns born old version among =
+    absorbed (list_any (λ b. nat_lt b version) borns) (nat_le version born && nat_lt old version)
+    (λ e. any_among (λ b. nat_lt b version) borns old among (second_true (nat_le version born) (nat_lt old version) e))
 
 pub survivor_purged_up_to : (borns : List ℕ) (marks : List Mark) (born : ℕ) (place : Place) (layer : Layer)
     → Among layer.born borns
     → survivor (marks_up_to born (purge borns marks)) place layer ≡ survivor (marks_up_to born marks) place layer
-survivor_purged_up_to borns marks born place layer among =
-    ap (λ b. cond b (get layer.content place) None)
-    (clear_filter (nat_lt layer.born) (λ version. nat_le version born) (purge borns marks) place
-    ∙ clear_filter (λ version. nat_le version born && nat_lt layer.born version)
-    (λ version. list_any (λ b. nat_lt b version) borns) marks place
-    ∙ clear_alike
-    (λ version. list_any (λ b. nat_lt b version) borns && (nat_le version born && nat_lt layer.born version))
-    (λ version. nat_le version born && nat_lt layer.born version) marks place
-    (λ version. purge_up_to borns born layer.born version among)
+survivor_purged_up_to borns marks born place layer among = ap (λ b. cond b (get layer.content place) None)
+    (clear_filter (nat_lt layer.born) (λ version. nat_le version born) (purge borns marks) place ∙ clear_filter
+    (λ version. nat_le version born && nat_lt layer.born version) (λ version. list_any (λ b. nat_lt b version) borns)
+    marks place ∙ clear_alike (λ version. list_any (λ b. nat_lt b version) borns &&
+    (nat_le version born && nat_lt layer.born version)) (λ version. nat_le version born && nat_lt layer.born version)
+    marks place (λ version. purge_up_to borns born layer.born version among)
     ∙ sym (clear_filter (nat_lt layer.born) (λ version. nat_le version born) marks place))

@@ -3,7 +3,7 @@ use Rattle.std.proofs.Common.{◌≡◌, ℕ, ◌+◌, Bool, true, false, cond, 
 use Rattle.std.proofs.Common.{refl, sym, ap, ◌∙◌, subst, arith}
 use Rattle.std.specs.Prelude.{◌⊎◌, ◌||◌}
 use Rattle.std.specs.List.{AllByRecursion as Each, filter, list_any}
-use Rattle.tsdb_layers.specs.Lists.{Among, EachPair, IsWithOne, count}
+use Rattle.tsdb_layers.specs.Lists.{Among, EachPair, IsRun, IsWithOne, count}
 
 pub each_append : {X : Type 0} (P : X → Type 0) (xs ys : List X) → Each P xs → Each P ys → Each P (xs ++ ys)
 each_append P [] ys first second = second
@@ -61,16 +61,13 @@ pairs_filter R test [] all = tt
 pairs_filter R test (x ∷ xs) all = by (test x) (pairs_filter R test xs all.1)
   where
     by : (b : Bool) → EachPair R (filter test xs) → EachPair R (cond b (x ∷ filter test xs) (filter test xs))
-    by true rest = (each_filter (R x) test xs all.0, rest)
+    by true rest = (each_filter _ _ _ all.0, rest)
     by false rest = rest
 
 pub pairs_push : {X : Type 0} (R : X → X → Type 0) (xs : List X) (y : X) → EachPair R xs → Each (λ x. R x y) xs
     → EachPair R (xs ++ y ∷ [])
 pairs_push R [] y pairs last = (tt, tt)
-pairs_push R (x ∷ xs) y pairs last = (
-  each_append (R x) xs (y ∷ []) pairs.0 (last.0, tt),
-  pairs_push R xs y pairs.1 last.1,
-)
+pairs_push R (x ∷ xs) y pairs last = (each_append _ _ _ pairs.0 (last.0, tt), pairs_push R xs y pairs.1 last.1)
 
 -- an element between others
 pub each_middle : {X : Type 0} (P : X → Type 0) (xs : List X) (y : X) (ys : List X) → Each P (xs ++ y ∷ ys) → P y
@@ -78,12 +75,11 @@ each_middle P xs y ys all = (each_right P xs (y ∷ ys) all).0
 
 pub each_without : {X : Type 0} (P : X → Type 0) (xs : List X) (y : X) (ys : List X) → Each P (xs ++ y ∷ ys)
     → Each P (xs ++ ys)
-each_without P xs y ys all =
-    each_append P xs ys (each_left P xs (y ∷ ys) all) (each_right P xs (y ∷ ys) all).1
+each_without P xs y ys all = each_append P _ _ (each_left P _ _ all) (each_right P xs (y ∷ ys) all).1
 
 pub pairs_left : {X : Type 0} (R : X → X → Type 0) (xs ys : List X) → EachPair R (xs ++ ys) → EachPair R xs
 pairs_left R [] ys pairs = tt
-pairs_left R (x ∷ xs) ys pairs = (each_left (R x) xs ys pairs.0, pairs_left R xs ys pairs.1)
+pairs_left R (x ∷ xs) ys pairs = (each_left _ _ _ pairs.0, pairs_left R xs ys pairs.1)
 
 pub pairs_right : {X : Type 0} (R : X → X → Type 0) (xs ys : List X) → EachPair R (xs ++ ys) → EachPair R ys
 pairs_right R [] ys pairs = pairs
@@ -92,36 +88,32 @@ pairs_right R (x ∷ xs) ys pairs = pairs_right R xs ys pairs.1
 pub pairs_without : {X : Type 0} (R : X → X → Type 0) (xs : List X) (y : X) (ys : List X) → EachPair R (xs ++ y ∷ ys)
     → EachPair R (xs ++ ys)
 pairs_without R [] y ys pairs = pairs.1
-pairs_without R (x ∷ xs) y ys pairs = (each_without (R x) xs y ys pairs.0, pairs_without R xs y ys pairs.1)
+pairs_without R (x ∷ xs) y ys pairs = (each_without _ _ y _ pairs.0, pairs_without R xs y ys pairs.1)
 
 -- an element is related to all others, where the relation has no direction
 pub pairs_of_one : {X : Type 0} (R : X → X → Type 0) → ((a b : X) → R a b → R b a) → (xs : List X) (y : X) (ys : List X)
     → EachPair R (xs ++ y ∷ ys) → Each (R y) (xs ++ ys)
 pairs_of_one R turn [] y ys pairs = pairs.0
-pairs_of_one R turn (x ∷ xs) y ys pairs =
-    (turn x y (each_middle (R x) xs y ys pairs.0), pairs_of_one R turn xs y ys pairs.1)
+pairs_of_one R turn (x ∷ xs) y ys pairs = (turn x y (each_middle _ _ y _ pairs.0), pairs_of_one R turn xs y ys pairs.1)
 
 pub with_one_each : {X : Type 0} (P : X → Type 0) (x : X) (others all : List X) → IsWithOne x others all → Each P all
     → Each P others
 with_one_each P x others all out each =
-    subst (Each P) (sym out.without)
-    (each_without P out.before x out.behind (subst (Each P) out.with_it each))
+    subst (Each P) (sym out.without) (each_without P _ x _ (subst (Each P) out.with_it each))
 
 pub with_one_is : {X : Type 0} (P : X → Type 0) (x : X) (others all : List X) → IsWithOne x others all → Each P all
     → P x
-with_one_is P x others all out each = each_middle P out.before x out.behind (subst (Each P) out.with_it each)
+with_one_is P x others all out each = each_middle P _ x _ (subst (Each P) out.with_it each)
 
 pub with_one_pairs : {X : Type 0} (R : X → X → Type 0) (x : X) (others all : List X) → IsWithOne x others all
     → EachPair R all → EachPair R others
 with_one_pairs R x others all out pairs =
-    subst (EachPair R) (sym out.without)
-    (pairs_without R out.before x out.behind (subst (EachPair R) out.with_it pairs))
+    subst (EachPair R) (sym out.without) (pairs_without R _ x _ (subst (EachPair R) out.with_it pairs))
 
 pub with_one_apart : {X : Type 0} (R : X → X → Type 0) → ((a b : X) → R a b → R b a) → (x : X) (others all : List X)
     → IsWithOne x others all → EachPair R all → Each (R x) others
 with_one_apart R turn x others all out pairs =
-    subst (Each (R x)) (sym out.without)
-    (pairs_of_one R turn out.before x out.behind (subst (EachPair R) out.with_it pairs))
+    subst (Each (R x)) (sym out.without) (pairs_of_one R turn _ x _ (subst (EachPair R) out.with_it pairs))
 
 -- membership
 
@@ -150,8 +142,7 @@ pub any_among : {X : Type 0} (test : X → Bool) (xs : List X) (x : X) → Among
     → list_any test xs ≡ true
 any_among test [] x among pass = absurd among
 any_among test (y ∷ xs) x (inl is) pass = ap (λ b. b || list_any test xs) (ap test is ∙ pass)
-any_among test (y ∷ xs) x (inr among) pass =
-    ap (λ b. test y || b) (any_among test xs x among pass) ∙ by (test y)
+any_among test (y ∷ xs) x (inr among) pass = ap (λ b. test y || b) (any_among test xs x among pass) ∙ by (test y)
   where
     by : (b : Bool) → (b || true) ≡ true
     by true = refl
@@ -159,64 +150,39 @@ any_among test (y ∷ xs) x (inr among) pass =
 
 -- two runs of one list that share nothing: the one stands before the other or behind it
 
-pub record Holds {X : Type 0} (run whole : List X) : Type 0 where
-  pub before : List X
-  pub behind : List X
-  pub is : whole ≡ before ++ (run ++ behind)
-
-head_same : {X : Type 0} (x y : X) (xs ys : List X) → x ∷ xs ≡ y ∷ ys → x ≡ y
-head_same x y xs ys e = cc
-
-tail_same : {X : Type 0} (x y : X) (xs ys : List X) → x ∷ xs ≡ y ∷ ys → xs ≡ ys
-tail_same x y xs ys e = cc
-
 -- a run that begins a list, beside one that begins later
 pub first_apart : {X : Type 0} (run rest before other behind : List X) (o : X)
     → ((x : X) → Among x run → Among x (o ∷ other) → ⊥)
-    → run ++ rest ≡ before ++ (o ∷ other ++ behind) → Holds (o ∷ other) rest
+    → run ++ rest ≡ before ++ (o ∷ other ++ behind) → IsRun (o ∷ other) rest
 first_apart [] rest before other behind o share is = record { before = before; behind = behind; is = is }
-first_apart (r ∷ run) rest [] other behind o share is =
-    absurd (share r (inl refl) (inl (sym (head_same r o (run ++ rest) (other ++ behind) is))))
-first_apart (r ∷ run) rest (b ∷ before) other behind o share is =
-    first_apart run rest before other behind o (λ x h k. share x (inr h) k)
-    (tail_same r b (run ++ rest) (before ++ (o ∷ other ++ behind)) is)
+first_apart (r ∷ run) rest [] other behind o share is = absurd (share r (inl refl) (inl (cc)))
+first_apart (r ∷ run) rest (b ∷ before) other behind o share is = first_apart run rest before other behind o
+    (λ x h k. share x (inr h) k) (cc)
 
 -- and it ends before that one
 pub ends_before : {X : Type 0} (run rest before : List X) (o : X) (other behind : List X)
     → ((x : X) → Among x run → Among x (o ∷ other) → ⊥)
     → run ++ rest ≡ before ++ (o ∷ other ++ behind) → (more : List X) × (before ≡ run ++ more)
 ends_before [] rest before o other behind share is = (before, refl)
-ends_before (r ∷ run) rest [] o other behind share is =
-    absurd (share r (inl refl) (inl (sym (head_same r o (run ++ rest) (other ++ behind) is))))
+ends_before (r ∷ run) rest [] o other behind share is = absurd (share r (inl refl) (inl (cc)))
 ends_before (r ∷ run) rest (b ∷ before) o other behind share is =
-    let ends = ends_before run rest before o other behind (λ x h k. share x (inr h) k)
-    (tail_same r b (run ++ rest) (before ++ (o ∷ other ++ behind)) is) in
-    (ends.0, λ i. head_same b r (before ++ (o ∷ other ++ behind)) (run ++ rest) (sym is) i ∷ ends.1 i)
+    let ends = ends_before run rest before o other behind (λ x h k. share x (inr h) k) (cc) in
+    let first : b ≡ r = cc in
+    (ends.0, λ i. first i ∷ ends.1 i)
 
 pub runs_apart : {X : Type 0} (r : X) (run : List X) (o : X) (other a b c d : List X)
     → ((x : X) → Among x (r ∷ run) → Among x (o ∷ other) → ⊥)
-    → a ++ (r ∷ run ++ b) ≡ c ++ (o ∷ other ++ d) → Holds (o ∷ other) a ⊎ Holds (o ∷ other) b
-runs_apart r run o other [] b [] d share is =
-    absurd (share r (inl refl) (inl (sym (head_same r o (run ++ b) (other ++ d) is))))
-runs_apart r run o other [] b (c ∷ cs) d share is =
-    inr (first_apart run b cs other d o (λ x h k. share x (inr h) k)
-    (tail_same r c (run ++ b) (cs ++ (o ∷ other ++ d)) is))
+    → a ++ (r ∷ run ++ b) ≡ c ++ (o ∷ other ++ d) → IsRun (o ∷ other) a ⊎ IsRun (o ∷ other) b
+runs_apart r run o other [] b [] d share is = absurd (share r (inl refl) (inl (cc)))
+runs_apart r run o other [] b (c ∷ cs) d share is = inr (first_apart run b cs other d o (λ x h k. share x (inr h) k)
+    (cc))
 runs_apart r run o other (a ∷ front) b [] d share is =
-    let ends = ends_before other d front r run b (λ x h k. share x k (inr h))
-    (tail_same o a (other ++ d) (front ++ (r ∷ run ++ b)) (sym is)) in
-    inl (record {
-      before = [];
-      behind = ends.0;
-      is = λ i. head_same a o (front ++ (r ∷ run ++ b)) (other ++ d) is i ∷ ends.1 i;
-    })
-runs_apart r run o other (a ∷ front) b (c ∷ cs) d share is =
-    ⊎_elim (λ h. inl (record {
-      before = a ∷ h.before;
-      behind = h.behind;
-      is = ap (λ xs. a ∷ xs) h.is;
-    })) (λ h. inr h)
-    (runs_apart r run o other front b cs d share
-    (tail_same a c (front ++ (r ∷ run ++ b)) (cs ++ (o ∷ other ++ d)) is))
+    let ends = ends_before other d front r run b (λ x h k. share x k (inr h)) (cc) in
+    let first : a ≡ o = cc in
+    inl (record { before = []; behind = ends.0; is = λ i. first i ∷ ends.1 i })
+runs_apart r run o other (a ∷ front) b (c ∷ cs) d share is = ⊎_elim
+    (λ h. inl (record { before = a ∷ h.before; behind = h.behind; is = ap (λ xs. a ∷ xs) h.is })) (λ h. inr h)
+    (runs_apart r run o other front b cs d share (cc))
 
 pub filter_append : {X : Type 0} (test : X → Bool) (xs ys : List X)
     → filter test (xs ++ ys) ≡ filter test xs ++ filter test ys

@@ -1,5 +1,5 @@
 -- Points that are put, ranges that are cut, marks that join, and marks that are purged.
-use Rattle.std.proofs.Common.{◌≡◌, ℕ, ℤ, ◌<ℤ◌, Bool, true, false, cond, List, [], ◌∷◌, ◌++◌, inl, inr, refl, sym, ap}
+use Rattle.std.proofs.Common.{◌≡◌, ℕ, ℤ, ◌<ℤ◌, Bool, true, false, cond, List, [], ◌∷◌, ◌++◌, inl, inr, refl, ap}
 use Rattle.std.proofs.Common.{◌∙◌, arith}
 use Rattle.std.specs.Prelude.{◌≢◌, ◌⊎◌, ◌&&◌, nat_lt, Option, Some, None}
 use Rattle.std.specs.FinMap.{get}
@@ -10,7 +10,7 @@ use Rattle.std.proofs.lemmas.Int.{ints}
 use Rattle.tsdb_base.specs.declared.value.Value.{Value}
 use Rattle.tsdb_layers.proofs.Lists.{any_among}
 use Rattle.tsdb_layers.proofs.Places.{get_put, is_place, place_itself}
-use Rattle.tsdb_layers.proofs.Tests.{clear_alike, clear_filter}
+use Rattle.tsdb_layers.proofs.Tests.{absorbed, clear_alike, clear_filter}
 use Rattle.tsdb_layers.proofs.Values.{no_survivor, or_none, value_append, value_is_point}
 use Rattle.tsdb_layers.specs.Layers.{Layer, survivor, value_in}
 use Rattle.tsdb_layers.specs.Lists.{Among}
@@ -22,28 +22,19 @@ use Rattle.tsdb_marks.specs.declared.marks.Mark.{Mark}
 -- a purge leaves the survivors of what is as old as one of its borns
 purge_test : (borns : List ℕ) (born version : ℕ) → Among born borns
     → (list_any (λ old. nat_lt old version) borns && nat_lt born version) ≡ nat_lt born version
-purge_test borns born version among = by (nat_lt born version) refl
-  where
-    by : (b : Bool) → nat_lt born version ≡ b → (list_any (λ old. nat_lt old version) borns && b) ≡ b
-    by true e = ap (λ c. c && true) (any_among (λ old. nat_lt old version) borns born among e)
-    by false e = both (list_any (λ old. nat_lt old version) borns)
-      where
-        both : (c : Bool) → (c && false) ≡ false
-        both true = refl
-        both false = refl
+purge_test borns born version among =
+    absorbed (list_any (λ old. nat_lt old version) borns) (nat_lt born version) (any_among _ _ _ among)
 
 pub survives_purge : (borns : List ℕ) (marks : List Mark) (place : Place) (born : ℕ) → Among born borns
     → survives (purge borns marks) place born ≡ survives marks place born
 survives_purge borns marks place born among =
     clear_filter (nat_lt born) (λ version. list_any (λ old. nat_lt old version) borns) marks place
-    ∙ clear_alike (λ version. list_any
-    (λ old. nat_lt old version) borns && nat_lt born version) (nat_lt born) marks place
-    (λ version. purge_test borns born version among)
+    ∙ clear_alike _ _ marks place (λ version. purge_test _ _ version among)
 
 pub survivor_purge : (borns : List ℕ) (marks : List Mark) (place : Place) (layer : Layer) → Among layer.born borns
     → survivor (purge borns marks) place layer ≡ survivor marks place layer
 survivor_purge borns marks place layer among =
-    ap (λ b. cond b (get layer.content place) None) (survives_purge borns marks place layer.born among)
+    ap (λ b. cond b (get layer.content place) None) (survives_purge _ _ _ _ among)
 
 pub value_purge : (borns : List ℕ) (marks : List Mark) (place : Place) (layers : List Layer)
     → Each (λ layer. Among layer.born borns) layers
@@ -51,7 +42,7 @@ pub value_purge : (borns : List ℕ) (marks : List Mark) (place : Place) (layers
 value_purge borns marks place [] among = refl
 value_purge borns marks place (layer ∷ layers) among =
     let rest = value_purge borns marks place layers among.1 in
-    let first = survivor_purge borns marks place layer among.0 in
+    let first = survivor_purge _ _ _ _ among.0 in
     λ i. option_or (rest i) (first i)
 
 -- a layer without a point at the place
@@ -59,48 +50,38 @@ pub value_without : (marks : List Mark) (place : Place) (below : List Layer) (la
     → get layer.content place ≡ None
     → value_in marks place (below ++ layer ∷ above) ≡ value_in marks place (below ++ above)
 value_without marks place below layer above none =
-    value_append marks place below (layer ∷ above)
-    ∙ ap (λ o. option_or (option_or (value_in marks place above) o) (value_in marks place below))
-    (no_survivor marks place layer none)
-    ∙ ap (λ o. option_or o (value_in marks place below)) (or_none (value_in marks place above))
-    ∙ sym (value_append marks place below above)
+    simp (value_append, no_survivor marks place layer none, or_none {X = Value})
 
 -- a layer in place of another with the same survivor
 pub value_layer : (marks : List Mark) (place : Place) (below : List Layer) (layer other : Layer) (above : List Layer)
     → survivor marks place layer ≡ survivor marks place other
     → value_in marks place (below ++ layer ∷ above) ≡ value_in marks place (below ++ other ∷ above)
-value_layer marks place below layer other above same =
-    value_append marks place below (layer ∷ above)
-    ∙ ap (λ o. option_or (option_or (value_in marks place above) o) (value_in marks place below)) same
-    ∙ sym (value_append marks place below (other ∷ above))
+value_layer marks place below layer other above same = simp (value_append, same)
 
 -- the highest survivor is the value
 pub value_top : (marks : List Mark) (place : Place) (value : Value) (below : List Layer) (layer : Layer)
     (above : List Layer)
     → survivor marks place layer ≡ Some value → value_in marks place above ≡ None
     → value_in marks place (below ++ layer ∷ above) ≡ Some value
-value_top marks place value below layer above is none =
-    value_append marks place below (layer ∷ above)
-    ∙ (λ i. option_or (option_or (none i) (is i)) (value_in marks place below))
+value_top marks place value below layer above is none = simp (value_append, none, is)
 
 pub put_survives : (marks : List Mark) (place : Place) (value : Value) (born : ℕ) (content : Content)
     → survives marks place born ≡ true
     → survivor marks place (record { born = born; content = put place value content }) ≡ Some value
 put_survives marks place value born content lives =
     (λ i. cond (lives i) (get (put place value content) place) None)
-    ∙ get_put content place value place
-    ∙ ap (λ b. cond b (Some value) (get content place)) (place_itself place)
+    ∙ get_put _ _ _ _
+    ∙ ap (λ b. cond b (Some value) (get content place)) (place_itself _)
 
 pub put_elsewhere : (marks : List Mark) (place other : Place) (value : Value) (born : ℕ) (content : Content)
     → other ≢ place
     → survivor marks other (record { born = born; content = put place value content })
     ≡ survivor marks other (record { born = born; content = content })
 put_elsewhere marks place other value born content apart =
-    ap (λ o. cond (survives marks other born) o None)
-    (get_put content place value other ∙ by (eq_by_cmp place_cmp other place) refl)
+    ap (λ o. cond (survives marks other born) o None) (get_put _ _ _ _ ∙ by (eq_by_cmp place_cmp other place) refl)
   where
     by : (b : Bool) → eq_by_cmp place_cmp other place ≡ b → cond b (Some value) (get content other) ≡ get content other
-    by true e = absurd (apart (is_place other place e))
+    by true e = absurd (apart (is_place _ _ e))
     by false e = refl
 
 -- a run before another in time has no place with it
@@ -110,13 +91,11 @@ shares_none time h = grind (arith, ints)
 
 pub before_none : (marks : List Mark) (place : Place) (earlier later : List Layer) → IsBefore earlier later
     → (value_in marks place earlier ≡ None) ⊎ (value_in marks place later ≡ None)
-before_none marks place earlier later before =
-    by (value_in marks place earlier) (value_in marks place later) refl refl
+before_none marks place earlier later before = by (value_in marks place earlier) (value_in marks place later) refl refl
   where
     by : (a b : Option Value) → value_in marks place earlier ≡ a → value_in marks place later ≡ b
         → (a ≡ None) ⊎ (b ≡ None)
     by None b first second = inl refl
     by (Some v) None first second = inr refl
-    by (Some v) (Some w) first second =
-        absurd (shares_none place.time (before place place v w (value_is_point marks place earlier v first)
-        (value_is_point marks place later w second) refl))
+    by (Some v) (Some w) first second = absurd (shares_none _
+        (before place place v w (value_is_point _ _ _ v first) (value_is_point _ _ _ w second) refl))

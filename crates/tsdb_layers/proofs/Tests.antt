@@ -1,12 +1,24 @@
 -- Marks under several tests of versions.
 use Rattle.std.proofs.Common.{◌≡◌, ℕ, ◌≤◌, Bool, true, false, cond, List, [], ◌∷◌, ◌++◌, refl, sym, ap, ◌∙◌, arith}
 use Rattle.std.specs.Prelude.{◌&&◌, ◌||◌, not, nat_lt, None}
-use Rattle.std.specs.List.{AllByRecursion as Each, filter, list_any}
+use Rattle.std.specs.List.{AllByRecursion as Each, filter}
+use Rattle.std.proofs.lemmas.Bool.{false≢true}
 use Rattle.std.proofs.lemmas.Bool.Decides.{nat_tests}
+use Rattle.tsdb_layers.proofs.Lists.{each_all, each_weaker}
 use Rattle.tsdb_layers.specs.Layers.{Layer, survivor}
 use Rattle.tsdb_layers.specs.Marks.{is_clear, is_over, survives}
 use Rattle.tsdb_layers.specs.Places.{Place}
 use Rattle.tsdb_marks.specs.declared.marks.Mark.{Mark}
+
+-- a test that holds wherever another does adds nothing to it
+pub absorbed : (a b : Bool) → (b ≡ true → a ≡ true) → (a && b) ≡ b
+absorbed true b follows = refl
+absorbed false true follows = absurd (false≢true (follows refl))
+absorbed false false follows = refl
+
+pub second_true : (a b : Bool) → (a && b) ≡ true → b ≡ true
+second_true true b e = e
+second_true false b e = absurd (false≢true e)
 
 -- tests that agree at the versions of the marks
 pub clear_same : (test other : ℕ → Bool) (marks : List Mark) (place : Place)
@@ -17,23 +29,18 @@ clear_same test other (mark ∷ marks) place same =
     let rest = clear_same test other marks place same.1 in
     λ i. not (is_over mark place && same.0 i) && rest i
 
-pub each_of_all : {X : Type 0} (P : X → Type 0) (xs : List X) → ((x : X) → P x) → Each P xs
-each_of_all P [] all = tt
-each_of_all P (x ∷ xs) all = (all x, each_of_all P xs all)
-
 pub clear_alike : (test other : ℕ → Bool) (marks : List Mark) (place : Place) → ((version : ℕ)
     → test version ≡ other version)
     → is_clear test marks place ≡ is_clear other marks place
 clear_alike test other marks place same =
-    clear_same test other marks place (each_of_all _ marks (λ mark. same mark.version.0))
+    clear_same test other marks place (each_all _ (λ mark. same mark.version.0) marks)
 
 -- the marks that a filter drops count no longer
 pub clear_filter : (test kept : ℕ → Bool) (marks : List Mark) (place : Place)
     → is_clear test (filter (λ mark. kept mark.version.0) marks) place
     ≡ is_clear (λ version. kept version && test version) marks place
 clear_filter test kept [] place = refl
-clear_filter test kept (mark ∷ marks) place =
-    by (kept mark.version.0) (filter (λ mark. kept mark.version.0) marks)
+clear_filter test kept (mark ∷ marks) place = by (kept mark.version.0) (filter (λ mark. kept mark.version.0) marks)
     (is_clear (λ version. kept version && test version) marks place) (clear_filter test kept marks place)
   where
     none : (a : Bool) → not (a && false) ≡ true
@@ -81,7 +88,8 @@ pub clear_none : (test : ℕ → Bool) (marks : List Mark) (place : Place)
     → is_clear test marks place ≡ true
 clear_none test [] place fail = refl
 clear_none test (mark ∷ marks) place fail =
-    (λ i. not (is_over mark place && fail.0 i) && clear_none test marks place fail.1 i) ∙ by (is_over mark place)
+    (λ i. not (is_over mark place && fail.0 i) && clear_none test marks place fail.1 i)
+    ∙ by (is_over mark place)
   where
     by : (a : Bool) → (not (a && false) && true) ≡ true
     by true = refl
@@ -90,19 +98,14 @@ clear_none test (mark ∷ marks) place fail =
 -- what is as new as all marks survives
 pub newest_survives : (marks : List Mark) (place : Place) (born : ℕ) → Each (λ mark. mark.version.0 ≤ born) marks
     → survives marks place born ≡ true
-newest_survives marks place born old = clear_none (nat_lt born) marks place (each_weaker marks old)
+newest_survives marks place born old = clear_none _ _ _ (each_weaker _ _ (λ mark h. low mark.version.0 born h) _ old)
   where
     low : (a b : ℕ) → a ≤ b → nat_lt b a ≡ false
     low a b h = grind (arith, nat_tests)
-
-    each_weaker : (marks : List Mark) → Each (λ mark. mark.version.0 ≤ born) marks
-        → Each (λ mark. nat_lt born mark.version.0 ≡ false) marks
-    each_weaker [] h = tt
-    each_weaker (mark ∷ marks) h = (low mark.version.0 born h.0, each_weaker marks h.1)
 
 -- the survivor is the layer's value where no mark is newer
 pub newest_survivor : (marks : List Mark) (place : Place) (layer : Layer)
     → Each (λ mark. mark.version.0 ≤ layer.born) marks
     → survivor marks place layer ≡ Rattle.std.specs.FinMap.get layer.content place
 newest_survivor marks place layer old =
-    ap (λ b. cond b (Rattle.std.specs.FinMap.get layer.content place) None) (newest_survives marks place layer.born old)
+    ap (λ b. cond b (Rattle.std.specs.FinMap.get layer.content place) None) (newest_survives _ _ _ old)

@@ -20,8 +20,9 @@ or_assoc (Some x) b c = refl
 
 pub value_append : (marks : List Mark) (place : Place) (xs ys : List Layer)
     → value_in marks place (xs ++ ys) ≡ option_or (value_in marks place ys) (value_in marks place xs)
-value_append marks place [] ys = sym (or_none (value_in marks place ys))
-value_append marks place (x ∷ xs) ys = ap (λ o. option_or o (survivor marks place x)) (value_append marks place xs ys)
+value_append marks place [] ys = sym (or_none _)
+value_append marks place (x ∷ xs) ys =
+    ap (λ o. option_or o (survivor marks place x)) (value_append marks place xs ys)
     ∙ or_assoc (value_in marks place ys) (value_in marks place xs) (survivor marks place x)
 
 -- the last of some values
@@ -44,26 +45,14 @@ pub value_middle : (marks others : List Mark) (place : Place) (a b xs ys : List 
     → value_in marks place a ≡ value_in others place a → value_in marks place b ≡ value_in others place b
     → value_in marks place xs ≡ value_in others place ys
     → value_in marks place (a ++ (xs ++ b)) ≡ value_in others place (a ++ (ys ++ b))
-value_middle marks others place a b xs ys first last middle =
-    value_append marks place a (xs ++ b)
-    ∙ (λ i. option_or (whole i) (first i))
-    ∙ sym (value_append others place a (ys ++ b))
-  where
-    whole : value_in marks place (xs ++ b) ≡ value_in others place (ys ++ b)
-    whole = value_append marks place xs b ∙ (λ i. option_or (last i) (middle i)) ∙ sym (value_append others place ys b)
+value_middle marks others place a b xs ys first last middle = simp (value_append, first, last, middle)
 
 -- runs side by side, of which one has no value, change places
 pub value_swap : (marks : List Mark) (place : Place) (xs ys : List Layer)
     → (value_in marks place xs ≡ None) ⊎ (value_in marks place ys ≡ None)
     → value_in marks place (xs ++ ys) ≡ value_in marks place (ys ++ xs)
-value_swap marks place xs ys none =
-    value_append marks place xs ys
-    ∙ either (value_in marks place xs) (value_in marks place ys) none
-    ∙ sym (value_append marks place ys xs)
-  where
-    either : (a b : Option Value) → (a ≡ None) ⊎ (b ≡ None) → option_or b a ≡ option_or a b
-    either a b (inl e) = ap (option_or b) e ∙ or_none b ∙ ap (λ o. option_or o b) (sym e)
-    either a b (inr e) = ap (λ o. option_or o a) e ∙ sym (or_none a) ∙ ap (option_or a) (sym e)
+value_swap marks place xs ys (inl none) = simp (value_append, none, or_none {X = Value})
+value_swap marks place xs ys (inr none) = simp (value_append, none, or_none {X = Value})
 
 -- a layer without a point at the place has no value there
 pub no_survivor : (marks : List Mark) (place : Place) (layer : Layer) → get layer.content place ≡ None
@@ -89,12 +78,12 @@ value_is_point marks place [] value is = absurd (none is)
   where
     none : None ≡ Some value → ⊥
     none e = cc
-value_is_point marks place (layer ∷ layers) value is =
-    by (value_in marks place layers) (λ e. value_is_point marks place layers value e) is
+value_is_point marks place (layer ∷ layers) value is = by (value_in marks place layers)
+    (λ e. value_is_point marks place layers value e) is
   where
     by : (o : Option Value) → (o ≡ Some value → HasPoint layers place value)
         → option_or o (survivor marks place layer) ≡ Some value → HasPoint (layer ∷ layers) place value
-    by None rest e = inl (survivor_is marks place layer value e)
+    by None rest e = inl (survivor_is _ _ _ _ e)
     by (Some v) rest e = inr (rest e)
 
 -- no point at the place, no value
@@ -104,7 +93,7 @@ value_none marks place layers none = by (value_in marks place layers) refl
   where
     by : (o : Option Value) → value_in marks place layers ≡ o → o ≡ None
     by None e = refl
-    by (Some value) e = absurd (none value (value_is_point marks place layers value e))
+    by (Some value) e = absurd (none value (value_is_point _ _ _ _ e))
 
 pub has_left : (xs ys : List Layer) (place : Place) (value : Value) → HasPoint xs place value
     → HasPoint (xs ++ ys) place value

@@ -11,7 +11,7 @@ use Rattle.tsdb_state.specs.State.{Compaction, Entries, EngineState, File, Flush
 use Rattle.tsdb_state.specs.Steps.{CommitsFlush, committed, committed_flush, compaction_record, flush_record}
 use Rattle.tsdb_state.specs.Steps.{number_or_none, output_number}
 use Rattle.tsdb_state.proofs.Counting.{numbers_named}
-use Rattle.tsdb_state.proofs.Numbering.{HasNumbers, count_drawn, count_files, count_map_one, count_with_one}
+use Rattle.tsdb_state.proofs.Numbering.{HasNumbers, count_files, count_out, drawn_by_flush, drawn_by_job}
 
 -- a new file has the number that its record names, or there is none
 pub count_new_file : (n m born : ℕ) → count n (numbers_of (new_file m born)) ≡ count n (new_numbers (m ∷ []))
@@ -52,25 +52,12 @@ pub flushed_unsequence : (s u : ℕ) (state : StoreState) (oldest : FrozenPair) 
     → state.frozen ≡ oldest ∷ newer → (flushed s u state).unsequence ≡ state.unsequence ++ new_file u oldest.born
 flushed_unsequence s u state oldest newer are = ap (λ (f : List FrozenPair). (flush_oldest s u f state).unsequence) are
 
-count_listed : (n : ℕ) (sequence unsequence outgoing : List File)
-    → count n (numbers_of ((sequence ++ unsequence) ++ outgoing))
-    ≡ count n (numbers_of sequence) + count n (numbers_of unsequence) + count n (numbers_of outgoing)
-count_listed n sequence unsequence outgoing = omega (
-  arith,
-  count_files n (sequence ++ unsequence) outgoing,
-  count_files n sequence unsequence,
-)
-
 pub committed_flush_numbers : (told : Told) (known : Entries) (named : List ℕ) (flush : FlushJob)
     (others : List FlushJob) (state : EngineState) → CommitsFlush told known flush others state
     → HasNumbers named state
     → HasNumbers (names (flush_record flush) ++ named) (committed_flush flush others state)
 committed_flush_numbers told known named flush others state commits order =
-    numbers_named named (names (flush_record flush)) state.next_file (files_of state)
-    (files_of (committed_flush flush others state)) (drawn_numbers state.flushes state.compactions)
-    (drawn_numbers others state.compactions) order
-    (λ n. omega (arith, drawn n, named_of n))
-    (λ n. omega (arith, drawn n, files n))
+    numbers_named _ _ _ _ _ _ _ order (λ n. omega (arith, drawn n, named_of n)) (λ n. omega (arith, drawn n, files n))
   where
     s : ℕ
     s = (number_or_none flush.sequence).0
@@ -80,12 +67,7 @@ committed_flush_numbers told known named flush others state commits order =
 
     drawn : (n : ℕ) → count n (drawn_numbers state.flushes state.compactions)
         ≡ count n (drawn_by flush) + count n (drawn_numbers others state.compactions)
-    drawn n = omega (
-      arith,
-      count_drawn n state.flushes state.compactions,
-      count_drawn n others state.compactions,
-      count_with_one drawn_by n flush others state.flushes commits.out,
-    )
+    drawn n = drawn_by_flush n flush others state.flushes state.compactions commits.out
 
     named_of : (n : ℕ) → count n (names (flush_record flush)) ≤ count n (drawn_by flush)
     named_of n = omega (
@@ -100,20 +82,16 @@ committed_flush_numbers told known named flush others state commits order =
         ≤ count n (numbers_of (files_of state)) + count n (drawn_by flush)
     files n = omega (
       arith,
-      count_listed n (flushed s u state.store).sequence (flushed s u state.store).unsequence (state.outgoing ++ []),
-      count_files n state.outgoing [],
-      ap (λ (l : List File). count n (numbers_of l))
-          (flushed_sequence s u state.store commits.oldest commits.newer commits.are),
-      ap (λ (l : List File). count n (numbers_of l))
-          (flushed_unsequence s u state.store commits.oldest commits.newer commits.are),
-      count_files n state.store.sequence (new_file s commits.oldest.born),
-      count_files n state.store.unsequence (new_file u commits.oldest.born),
+      count_files,
+      ap (λ (l : List File). count n (numbers_of l)) (flushed_sequence s u state.store commits.oldest commits.newer
+          commits.are),
+      ap (λ (l : List File). count n (numbers_of l)) (flushed_unsequence s u state.store commits.oldest commits.newer
+          commits.are),
       count_new_file n s commits.oldest.born,
       count_new_file n u commits.oldest.born,
       count_number n flush.sequence,
       count_number n flush.unsequence,
       count_append n (if_some flush.sequence) (if_some flush.unsequence),
-      count_listed n state.store.sequence state.store.unsequence state.outgoing,
     )
 
 -- the output of a job is a file of its number, or none
@@ -128,11 +106,7 @@ count_output n job output (inl none) = (
   omega (arith, ap (λ (l : List File). count n (numbers_of l)) none),
 )
 count_output n job output (inr file) = (
-  omega (
-    arith,
-    ap (λ (l : List File). count n (new_numbers (output_number l ∷ []))) file,
-    count_new_one n job.output,
-  ),
+  omega (arith, ap (λ (l : List File). count n (new_numbers (output_number l ∷ []))) file, count_new_one n job.output),
   omega (arith, ap (λ (l : List File). count n (numbers_of l)) file),
 )
 
@@ -145,10 +119,7 @@ pub committed_numbers : (named : List ℕ) (job : Compaction) (others : List Com
     → HasNumbers named state
     → HasNumbers (names (compaction_record job output place) ++ named) (committed job others output place state)
 committed_numbers named job others output place state out file lists order =
-    numbers_named named (names (compaction_record job output place)) state.next_file (files_of state)
-    (files_of (committed job others output place state)) (drawn_numbers state.flushes state.compactions)
-    (drawn_numbers state.flushes others) order
-    (λ n. omega (arith, drawn n, (count_output n job output file).0))
+    numbers_named _ _ _ _ _ _ _ order (λ n. omega (arith, drawn n, (count_output n job output file).0))
     (λ n. omega (arith, drawn n, files n, (count_output n job output file).1))
   where
     store : StoreState
@@ -156,19 +127,14 @@ committed_numbers named job others output place state out file lists order =
 
     drawn : (n : ℕ) → count n (drawn_numbers state.flushes state.compactions)
         ≡ count n (job.output ∷ []) + count n (drawn_numbers state.flushes others)
-    drawn n = omega (
-      arith,
-      count_drawn n state.flushes state.compactions,
-      count_drawn n state.flushes others,
-      count_map_one (λ (job : Compaction). job.output) n job others state.compactions out,
-    )
+    drawn n = drawn_by_job n job others state.compactions state.flushes out
 
     files : (n : ℕ) → count n (numbers_of (files_of (committed job others output place state)))
         ≤ count n (numbers_of (files_of state)) + count n (numbers_of output)
     files n = omega (
       arith,
       lists n,
-      count_files n (store.sequence ++ store.unsequence) (state.outgoing ++ job_inputs job),
-      count_files n state.outgoing (job_inputs job),
+      count_out n (store.sequence ++ store.unsequence) state.outgoing (job_inputs job),
+      count_files n (store.sequence ++ store.unsequence) state.outgoing,
       count_files n (state.store.sequence ++ state.store.unsequence) state.outgoing,
     )

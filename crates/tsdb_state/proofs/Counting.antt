@@ -1,7 +1,8 @@
 -- What counts alone say: numbers of files, rights, and room, over each step.
 use Rattle.std.proofs.Common.{◌≡◌, ℕ, zero, suc, ◌+◌, ◌≤◌, ◌<◌, ◌==◌, Bool, true, false, cond, List}
 use Rattle.std.proofs.Common.{◌++◌}
-use Rattle.std.proofs.Common.{refl, arith}
+use Rattle.std.proofs.Common.{refl, arith, inl, inr}
+use Rattle.std.specs.Prelude.{◌⊎◌}
 use Rattle.std.specs.List.{range_with_len}
 use Rattle.tsdb_layers.specs.Lists.{count}
 use Rattle.tsdb_layers.proofs.Lists.{count_append}
@@ -20,7 +21,7 @@ is_or_not {X} a n is not = by (a == n) refl
     by true e = is (same_number a n e)
     by false e = not e
 
-rest_some : (b : Bool) (m : ℕ) → b ≡ false → 1 ≤ cond b 1 0 + m → 1 ≤ m
+pub rest_some : (b : Bool) (m : ℕ) → b ≡ false → 1 ≤ cond b 1 0 + m → 1 ≤ m
 rest_some true m e some = absurd cc
 rest_some false m e some = omega (arith, some)
 
@@ -31,6 +32,10 @@ rest_few false m e few = omega (arith, few)
 one_more : (b : Bool) (m : ℕ) → m ≡ 0 → cond b 1 0 + m ≤ 1
 one_more true m e = omega (arith, e)
 one_more false m e = omega (arith, e)
+
+pub some_of_sum : (a b : ℕ) → 1 ≤ a + b → (1 ≤ a) ⊎ (1 ≤ b)
+some_of_sum zero b some = inr (omega arith)
+some_of_sum (suc a) b some = inl (omega arith)
 
 pub is_none : (m : ℕ) → (1 ≤ m → ⊥) → m ≡ 0
 is_none zero not = refl
@@ -49,10 +54,8 @@ range_to n a (suc k) some = is_or_not a n (λ e. omega (arith, e))
 
 range_once : (n a k : ℕ) → count n (range_with_len a k) ≤ 1
 range_once n a zero = omega arith
-range_once n a (suc k) = is_or_not a n
-    (λ e. one_more (a == n) (count n (range_with_len (a + 1) k))
-    (is_none (count n (range_with_len (a + 1) k)) (λ some. omega (arith, e, range_from n (a + 1) k some))))
-    (λ e. rest_few (a == n) (count n (range_with_len (a + 1) k)) e (range_once n (a + 1) k))
+range_once n a (suc k) = is_or_not a n (λ e. one_more _ _ (is_none _
+    (λ some. omega (arith, e, range_from n (a + 1) k some)))) (λ e. rest_few _ _ e (range_once n (a + 1) k))
 
 -- counts that do not grow keep the numbers in order
 pub numbers_less : (named : List ℕ) (next later : ℕ) (files more : List File) (drawn left : List ℕ)
@@ -65,11 +68,7 @@ numbers_less named next later files more drawn left order after end fewer few = 
   differ = λ n. omega (arith, order.differ n, fewer n);
   range = λ n some. let range = order.range n (omega (arith, some, fewer n)) in (
     range.0,
-    omega (
-      arith,
-      range.1,
-      after,
-    ),
+    omega (arith, range.1, after),
   );
   named_below = λ n some. omega (arith, order.named_below n some, after);
   unnamed = λ n some. order.unnamed n (omega (arith, some, few n));
@@ -93,8 +92,7 @@ numbers_drawn named next k files drawn left order end is = record {
     differ n zero none = omega (arith, is n, none, order.differ n)
     differ n (suc m) some =
         let above = range_from n next k (omega (arith, some)) in
-        let old = is_none (count n (numbers_of files) + count n drawn)
-        (λ some. absurd (omega (arith, above, (order.range n some).1))) in
+        let old = is_none _ (λ some. absurd (omega (arith, above, (order.range n some).1))) in
         omega (arith, is n, old, range_once n next k)
 
     range : (n : ℕ) → 1 ≤ count n (numbers_of files) + count n left → (m : ℕ) → count n (range_with_len next k) ≡ m
@@ -110,7 +108,7 @@ numbers_drawn named next k files drawn left order end is = record {
     unnamed n some zero none = order.unnamed n (omega (arith, is n, none, some))
     unnamed n some (suc m) new =
         let above = range_from n next k (omega (arith, new)) in
-        is_none (count n named) (λ some. absurd (omega (arith, above, order.named_below n some)))
+        is_none _ (λ some. absurd (omega (arith, above, order.named_below n some)))
 
 -- numbers that were drawn are named by a record, and become those of files
 pub numbers_named : (named names : List ℕ) (next : ℕ) (files more : List File) (drawn left : List ℕ)

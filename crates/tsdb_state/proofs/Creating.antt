@@ -1,28 +1,27 @@
 -- A series that joins: the order stays, and the state stands for the plain map's world after it.
-use Rattle.std.proofs.Common.{◌≡◌, ℕ, Bool, true, false, cond, List, [], ◌∷◌, refl, sym, ap, ◌∙◌}
+use Rattle.std.proofs.Common.{◌≡◌, ℕ, Bool, true, false, cond, List, refl, sym, ap, ◌∙◌}
 use Rattle.std.specs.Prelude.{Option, Some, None, is_some}
 use Rattle.std.specs.Cmp.Lexicographic.{nat_list_cmp_total}
 use Rattle.std.specs.FinMap.{get, get-empty, get-insert}
-use Rattle.std.specs.Option.{option_map, option_or}
+use Rattle.std.specs.Option.{option_or}
 use Rattle.std.specs.Ordering.{int_cmp}
 use Rattle.tsdb_base.specs.declared.answers.Answer.TheVariants.{Done, Exists}
-use Rattle.tsdb_base.specs.declared.value.DataType.{DataType}
 use Rattle.tsdb_layers.proofs.Lists.{each_append, pairs_push}
 use Rattle.tsdb_layers.proofs.Places.{is_path_same}
+use Rattle.tsdb_layers.proofs.Values.{or_none}
 use Rattle.tsdb_layers.specs.Places.{Place, is_path}
 use Rattle.tsdb_map.specs.Apply.{accepted, reply_of}
-use Rattle.tsdb_map.specs.Commands.{IsSchema}
 use Rattle.tsdb_map.specs.World.{Series, World, new_series, points_of, value_at}
 use Rattle.tsdb_map.specs.declared.command.Command.TheVariants.{Create}
 use Rattle.tsdb_map.specs.declared.command.Schema.{Schema}
 use Rattle.tsdb_map.specs.declared.reply.Reply.TheVariants.{Plain}
-use Rattle.tsdb_state.proofs.Series.{ArePathsApart, free_apart, series_kept, type_kept, type_push}
+use Rattle.tsdb_state.proofs.Series.{free_apart, series_kept, type_kept, type_push}
 use Rattle.tsdb_state.proofs.Stamps.{stamps_up, value_stamp}
+use Rattle.tsdb_state.proofs.Worlds.{type_in}
 use Rattle.tsdb_state.specs.Records.{CanCreate, created}
 use Rattle.tsdb_state.specs.State.{SeriesEntry, StoreState, Told}
 use Rattle.tsdb_state.specs.StoreOrder.{StoreInOrder}
 use Rattle.tsdb_state.specs.Worlds.{StandsFor, type_at, value_of}
-use Rattle.tsdb_base.specs.Values.{type_of}
 
 module _ (told : Told) (schema : Schema) (state : StoreState) (order : StoreInOrder told state)
     (can : CanCreate schema state) where
@@ -35,30 +34,24 @@ module _ (told : Told) (schema : Schema) (state : StoreState) (order : StoreInOr
   pub created_in_order : StoreInOrder told (created schema state)
   created_in_order = record {
     layers = order.layers;
-    stamps = stamps_up state.stamp state.marks state.sequence state.unsequence state.frozen state.working state.working
-        order.stamps;
+    stamps = stamps_up _ _ _ _ _ _ _ order.stamps;
     series = record {
-      formed = each_append (λ (series : SeriesEntry). IsSchema series.schema) state.schemas (entry ∷ [])
-          order.series.formed (can.formed, tt);
-      once = pairs_push ArePathsApart state.schemas entry order.series.once (free_apart state.schemas entry can.free);
-      typed = λ place value has. series_kept state.schemas (entry ∷ []) place.path (type_of value)
-          (order.series.typed place value has);
+      formed = each_append _ _ _ order.series.formed (can.formed, tt);
+      once = pairs_push _ _ _ order.series.once (free_apart _ entry can.free);
+      typed = λ place value has. series_kept _ _ _ _ (order.series.typed place value has);
     };
-    live = λ place value is. type_kept state.schemas entry place.path (type_of value)
-        (order.live place value (sym (created_value place) ∙ is));
+    live = λ place value is. type_kept state.schemas entry place.path _
+        (order.live place value (sym (created_value _) ∙ is));
     limit = order.limit;
   }
 
   module _ (world : World) (stands : StandsFor told state world) where
-    abbrev type_in : Option Series → Option DataType
-    type_in found = option_map (λ (s : Series). s.data_type) found
-
     none_there : (found : Option Series) → type_in found ≡ None → found ≡ None
     none_there None e = refl
     none_there (Some s) e = absurd (cc)
 
     not_there : get world schema.path ≡ None
-    not_there = none_there (get world schema.path) (stands.types schema.path ∙ can.free)
+    not_there = none_there _ (stands.types schema.path ∙ can.free)
 
     pub created_reply : reply_of world (Create schema) ≡ Plain Done
     created_reply = ap (λ o. Plain (cond (is_some o) Exists Done)) not_there
@@ -69,27 +62,29 @@ module _ (told : Told) (schema : Schema) (state : StoreState) (order : StoreInOr
 
     pub created_stands : StandsFor told (created schema state) (accepted world (Create schema))
     created_stands = record {
-      types = λ path. ap type_in (found path) ∙ by_type path (is_path path schema.path) refl
+      types =
+          λ path. ap type_in (found _)
+          ∙ by_type path (is_path path schema.path) refl
           ∙ sym (type_push state.schemas entry path);
-      values = λ place. ap (λ o. get (points_of o) place.time) (found place.path)
-          ∙ by_value place (is_path place.path schema.path) refl ∙ stands.values place ∙ sym (created_value place);
+      values =
+          λ place. ap (λ o. get (points_of o) place.time) (found _)
+          ∙ by_value place (is_path place.path schema.path) refl
+          ∙ stands.values place
+          ∙ sym (created_value _);
     }
       where
         by_type : (path : List ℕ) (b : Bool) → is_path path schema.path ≡ b
             → type_in (cond b (Some (new_series schema.data_type)) (get world path))
             ≡ option_or (type_at state.schemas path) (cond b (Some schema.data_type) None)
         by_type path true e = ap (λ o. option_or o (Some schema.data_type))
-            (sym (ap (type_at state.schemas) (is_path_same path schema.path e) ∙ can.free))
+            (sym (ap (type_at state.schemas) (is_path_same _ _ e) ∙ can.free))
         by_type path false e = stands.types path ∙ sym (or_none (type_at state.schemas path))
-          where
-            or_none : (o : Option DataType) → option_or o None ≡ o
-            or_none None = refl
-            or_none (Some t) = refl
 
         by_value : (place : Place) (b : Bool) → is_path place.path schema.path ≡ b
             → get (points_of (cond b (Some (new_series schema.data_type)) (get world place.path))) place.time
             ≡ value_at world place.path place.time
-        by_value place true e = get-empty int_cmp place.time
-            ∙ sym (ap (λ o. get (points_of o) place.time)
-            (ap (get world) (is_path_same place.path schema.path e) ∙ not_there) ∙ get-empty int_cmp place.time)
+        by_value place true e =
+            get-empty int_cmp place.time
+            ∙ sym (ap (λ o. get (points_of o) place.time) (ap (get world) (is_path_same _ _ e) ∙ not_there) ∙ get-empty
+            int_cmp place.time)
         by_value place false e = refl

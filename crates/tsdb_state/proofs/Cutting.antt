@@ -3,7 +3,7 @@ use Rattle.std.proofs.Common.{◌≡◌, ℕ, ◌+◌, ◌<◌, ◌≤◌, ℤ, 
 use Rattle.std.proofs.Common.{inr, refl}
 use Rattle.std.proofs.Common.{sym, ap, ◌∙◌, subst, arith}
 use Rattle.std.specs.Prelude.{◌&&◌, not, int_le, int_lt, nat_lt, Option, Some, None, sum_by}
-use Rattle.std.specs.FinMap.{empty, entries, entries-from_sorted, entries_sorted, from_sorted, get, get-empty}
+use Rattle.std.specs.FinMap.{empty, entries, entries-from_sorted, entries_sorted, get, get-empty}
 use Rattle.std.specs.FinMap.{get-entries}
 use Rattle.std.specs.FinMap.{get-from_sorted, get-retain_keys, is_sorted, len, len-entries, retain_keys}
 use Rattle.std.specs.FinMap.Entries.{find-where_key, is_sorted-where_key}
@@ -15,6 +15,7 @@ use Rattle.std.proofs.lemmas.Int.{ints}
 use Rattle.std.proofs.lemmas.List.Sums.{sum_by-cons}
 use Rattle.tsdb_base.specs.declared.point.Range.{Range}
 use Rattle.tsdb_base.specs.declared.value.Value.{Value}
+use Rattle.tsdb_layers.proofs.JobMarks.{none_by}
 use Rattle.tsdb_layers.proofs.Places.{get_cut, place_cmp-IsAntisymmetric, same_content}
 use Rattle.tsdb_layers.proofs.Tests.{clear_append}
 use Rattle.tsdb_layers.specs.Layers.{HasPoint, Layer, value_in}
@@ -40,10 +41,10 @@ module _ (content : Content) (test : Place → Bool) where
 
   -- the entries of a content whose places pass a test
   pub entries_kept : entries (retain_keys content test) ≡ kept
-  entries_kept = ap entries (same_content (retain_keys content test) (from_sorted kept)
-      (λ q. get-retain_keys content test q (alike q)
-      ∙ ap (λ o. cond (test q) o None) (get-entries content q)
-      ∙ sym (get-from_sorted place_cmp kept q sorted ∙ find-where_key place_cmp test q (alike q) (entries content))))
+  entries_kept =
+      ap entries (same_content _ _ (λ q. get-retain_keys content test q (alike q) ∙ ap (λ o. cond (test q) o None)
+      (get-entries content q) ∙ sym (get-from_sorted place_cmp kept q sorted ∙ find-where_key place_cmp test q (alike q)
+      (entries content))))
       ∙ entries-from_sorted place_cmp kept sorted
 
 fewer_in : (test : Place × Value → Bool) (points : List (Place × Value)) → length (filter test points) ≤ length points
@@ -69,18 +70,13 @@ abbrev weight : Place × Value → ℕ
 weight entry = 8 + value_bytes entry.1
 
 pub cut_fewer : (path : List ℕ) (range : Range) (content : Content) → len (cut path range content) ≤ len content
-cut_fewer path range content =
-    subst (λ n. n ≤ len content)
-    (sym (len-entries (cut path range content)
-    ∙ ap length (entries_kept content (λ place. not (is_within path range place)))))
-    (subst (λ n. length (kept content (λ place. not (is_within path range place))) ≤ n) (sym (len-entries content))
-    (fewer_in (λ entry. not (is_within path range entry.0)) (entries content)))
+cut_fewer path range content = subst (λ n. n ≤ len content) (sym (len-entries (cut path range content) ∙ ap length
+    (entries_kept _ _))) (subst (λ n. length (kept content (λ place. not (is_within path range place))) ≤ n)
+    (sym (len-entries content)) (fewer_in _ _))
 
 pub cut_lighter : (path : List ℕ) (range : Range) (content : Content)
     → content_bytes (cut path range content) ≤ content_bytes content
-cut_lighter path range content =
-    subst (λ points. sum_by weight points ≤ content_bytes content)
-    (sym (entries_kept content (λ place. not (is_within path range place))))
+cut_lighter path range content = subst (λ points. sum_by weight points ≤ content_bytes content) (sym (entries_kept _ _))
     (lighter_in weight (λ entry. not (is_within path range entry.0)) (entries content))
 
 -- the points of a cut are points
@@ -91,49 +87,36 @@ was_there false o value e = e
 
 pub cut_point : (path : List ℕ) (range : Range) (content : Content) (place : Place) (value : Value)
     → get (cut path range content) place ≡ Some value → get content place ≡ Some value
-cut_point path range content place value is =
-    was_there (is_within path range place) (get content place) value (sym (get_cut content path range place) ∙ is)
+cut_point path range content place value is = was_there _ _ _ (sym (get_cut _ _ _ _) ∙ is)
 
 pub cut_points : (path : List ℕ) (range : Range) (pair : Pair) (place : Place) (value : Value)
     → HasPoint (pair_layers (cut_pair path range pair)) place value → HasPoint (pair_layers pair) place value
-cut_points path range pair place value (inl h) = inl (cut_point path range pair.sequence place value h)
-cut_points path range pair place value (inr (inl h)) = inr (inl (cut_point path range pair.unsequence place value h))
+cut_points path range pair place value (inl h) = inl (cut_point _ _ _ _ _ h)
+cut_points path range pair place value (inr (inl h)) = inr (inl (cut_point _ _ _ _ _ h))
 cut_points path range pair place value (inr (inr h)) = absurd h
 
 empty_cut : (path : List ℕ) (range : Range) (content : Content) → content ≡ empty → cut path range content ≡ empty
-empty_cut path range content none = same_content (cut path range content) empty
-    (λ q. get_cut content path range q
-    ∙ ap (λ c. cond (not (is_within path range q)) (get c q) None) none
+empty_cut path range content none =
+    same_content _ _ (λ q. get_cut _ _ _ q ∙ ap (λ c. cond (not (is_within path range q)) (get c q) None) none
     ∙ ap (λ o. cond (not (is_within path range q)) o None) (get-empty place_cmp q)
-    ∙ nothing (not (is_within path range q)) ∙ sym (get-empty place_cmp q))
-  where
-    nothing : (b : Bool) → ◌≡◌ {A = Option Value} (cond b None None) None
-    nothing true = refl
-    nothing false = refl
-
-both_fewer : (a b c d n : ℕ) → a ≤ c → b ≤ d → c + d ≤ n → a + b ≤ n
-both_fewer a b c d n h k within = omega arith
+    ∙ sym (none_by (not (is_within path range q))) ∙ sym (get-empty place_cmp q))
 
 pub cut_limit : (path : List ℕ) (range : Range) (pair : Pair) → IsWithinPairLimit pair
     → IsWithinPairLimit (cut_pair path range pair)
-cut_limit path range pair (inl none) =
-    inl (empty_cut path range pair.sequence none.0, empty_cut path range pair.unsequence none.1)
+cut_limit path range pair (inl none) = inl (empty_cut _ _ _ none.0, empty_cut _ _ _ none.1)
 cut_limit path range pair (inr (inl row)) = inr (inl (record {
   device = row.device;
   time = row.time;
-  points = λ place value has. row.points place value (cut_points path range pair place value has);
+  points = λ place value has. row.points place value (cut_points _ _ _ _ _ has);
 }))
 cut_limit path range pair (inr (inr few)) = inr (inr (record {
-  points = both_fewer (len (cut path range pair.sequence)) (len (cut path range pair.unsequence)) (len pair.sequence)
-      (len pair.unsequence) _ (cut_fewer path range pair.sequence) (cut_fewer path range pair.unsequence) few.points;
-  bytes = both_fewer (content_bytes (cut path range pair.sequence)) (content_bytes (cut path range pair.unsequence))
-      (content_bytes pair.sequence) (content_bytes pair.unsequence) _ (cut_lighter path range pair.sequence)
-      (cut_lighter path range pair.unsequence) few.bytes;
+  points = omega (arith, few.points, cut_fewer path range pair.sequence, cut_fewer path range pair.unsequence);
+  bytes = omega (arith, few.bytes, cut_lighter path range pair.sequence, cut_lighter path range pair.unsequence);
 }))
 
 -- the mark covers what is within the range and older
 
-abbrev mark_of : List ℕ → Range → ℕ → Mark
+abbrev pub mark_of : List ℕ → Range → ℕ → Mark
 mark_of path range version = record { path = path; from = range.from; to = range.to; version = record { 0 = version } }
 
 reversed : (from to time : ℤ) → int_lt to from ≡ true → (int_le from time && int_le time to) ≡ false
@@ -166,7 +149,7 @@ marked_survives path range version marks place born old = by (int_lt range.to ra
     by false e =
         clear_append (nat_lt born) marks (mark_of path range version ∷ []) place
         ∙ ap (λ b. survives marks place born && (not (is_over (mark_of path range version) place && b) && true))
-        (newer born version old)
+        (newer _ _ old)
         ∙ whole (survives marks place born) (is_within path range place)
 
 -- values of layers older than the mark
@@ -174,15 +157,10 @@ pub marked_value : (path : List ℕ) (range : Range) (version : ℕ) (marks : Li
     (layers : List Layer) → Each (λ layer. layer.born < version) layers
     → value_in (add_mark path range version marks) place layers
     ≡ cond (is_within path range place) None (value_in marks place layers)
-marked_value path range version marks place [] older = nothing (is_within path range place)
-  where
-    nothing : (b : Bool) → ◌≡◌ {A = Option Value} None (cond b None None)
-    nothing true = refl
-    nothing false = refl
+marked_value path range version marks place [] older = none_by (is_within path range place)
 marked_value path range version marks place (layer ∷ layers) older =
     let rest = marked_value path range version marks place layers older.1 in
-    let first = ap (λ b. cond b (get layer.content place) None)
-    (marked_survives path range version marks place layer.born older.0) in
+    let first = ap (λ b. cond b (get layer.content place) None) (marked_survives path range _ marks place _ older.0) in
     (λ i. option_or (rest i) (first i))
     ∙ join (is_within path range place) (survives marks place layer.born) (value_in marks place layers)
     (get layer.content place)

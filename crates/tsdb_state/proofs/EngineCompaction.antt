@@ -1,41 +1,39 @@
 -- Compactions keep an engine in order: one begins, ends without its record, or is committed.
-use Rattle.std.proofs.Common.{length-append, ◌≡◌, ℕ, ◌+◌, ◌≤◌, Bool, true, false, cond, List, [], ◌∷◌, ◌++◌, drop}
-use Rattle.std.proofs.Common.{length}
-use Rattle.std.proofs.Common.{take, inl, inr, ⊎_elim, refl, sym, ap, ◌∙◌, subst, arith}
-use Rattle.std.specs.Prelude.{◌==◌, nat_le}
+use Rattle.std.proofs.Common.{length-append, ◌≡◌, ℕ, ◌+◌, ◌≤◌, true, cond, List, ◌∷◌, ◌++◌, drop, length, take, inl}
+use Rattle.std.proofs.Common.{inr, ⊎_elim, refl, sym, ap, ◌∙◌, subst, arith, []}
+use Rattle.std.specs.Prelude.{nat_le}
 use Rattle.std.specs.List.{AllByRecursion as Each}
 use Rattle.std.proofs.Math.Seq.{drop-append_seam, take-append_seam}
 use Rattle.std.proofs.lemmas.Bool.Decides.{nat_tests}
 use Rattle.tsdb_base.specs.declared.ids.Space.{Space}
 use Rattle.tsdb_base.specs.declared.ids.Space.TheVariants.{Sequence, Unsequence}
-use Rattle.tsdb_layers.proofs.Lists.{each_among, each_append, each_left, each_right}
-use Rattle.tsdb_layers.proofs.Lists.{each_weaker, with_one_apart, with_one_each, with_one_is, with_one_pairs}
+use Rattle.tsdb_layers.proofs.Lists.{each_among, each_append, each_left, each_right, each_weaker, with_one_apart}
+use Rattle.tsdb_layers.proofs.Lists.{with_one_each, with_one_is, with_one_pairs}
 use Rattle.tsdb_layers.specs.Layers.{survivor}
 use Rattle.tsdb_layers.specs.Lists.{Among, IsRun, IsWithOne, count}
 use Rattle.tsdb_layers.specs.Marks.{marks_up_to, purge}
 use Rattle.tsdb_marks.specs.declared.marks.Mark.{Mark}
 use Rattle.tsdb_state.proofs.CommitNumbers.{IsFileOrNone, committed_numbers, count_output}
 use Rattle.tsdb_state.proofs.Committing.{committed_in_order, committed_keeps, crossed_is, merged_is}
-use Rattle.tsdb_state.proofs.EngineRecords.{purge_kept}
-use Rattle.tsdb_state.proofs.Fresh.{are_new, doubt_more}
+use Rattle.tsdb_state.proofs.EngineRecords.{jobs_moved, purge_kept}
+use Rattle.tsdb_state.proofs.Fresh.{are_new, count_here, doubt_more}
 use Rattle.tsdb_state.proofs.Holding.{held_by_job, held_with_job, rights_returned, rights_taken, room_with_compaction}
 use Rattle.tsdb_state.proofs.Holding.{room_without_compaction}
-use Rattle.tsdb_state.proofs.Numbering.{began_numbers, count_drawn, count_files, count_map_one, count_out}
-use Rattle.tsdb_state.proofs.Numbering.{ended_numbers}
+use Rattle.tsdb_state.proofs.Numbering.{began_numbers, count_files, count_out, drawn_by_job, ended_numbers}
 use Rattle.tsdb_state.proofs.OtherJobs.{apart_turned, inputs_listed, stands_crossed, stands_merged}
 use Rattle.tsdb_state.proofs.Runs.{length_numbers}
 use Rattle.tsdb_state.specs.Jobs.{AreApart, CompactionsInOrder, Describes, EntriesMatch, HasGap, HasKind, IsFlushOut}
 use Rattle.tsdb_state.specs.Jobs.{KeepsItsMarks, Stands, drawn_numbers, held_numbers, job_inputs}
 use Rattle.tsdb_state.specs.Order.{DoubtInOrder, IsInOrder, files_of}
 use Rattle.tsdb_state.specs.Records.{CanFollow, CanReplace, HasInputs, Replacement, StandAt, after, files_at, inputs_of}
-use Rattle.tsdb_state.specs.Records.{names}
-use Rattle.tsdb_state.specs.Records.{new_numbers, number_list, numbers_of, purged, replace_in, replaced}
+use Rattle.tsdb_state.specs.Records.{names, number_list, numbers_of, purged, replace_in, replaced}
 use Rattle.tsdb_state.specs.State.{Compaction, EngineState, Entries, File, StoreState, Told}
 use Rattle.tsdb_state.specs.Steps.{Begins, CommitsCompaction, EndsCompaction, IsOutputPlace, began, committed}
 use Rattle.tsdb_state.specs.Steps.{compaction_record, ended, file_numbers, output_number, replacement}
 use Rattle.tsdb_state.specs.StoreOrder.{StoreInOrder}
 use Rattle.tsdb_state.specs.Views.{borns_of, file_layer}
 use Rattle.tsdb_state.specs.Worlds.{KeepsWorld}
+use Rattle.tsdb_state.proofs.Counting.{is_or_not, rest_some}
 
 -- all marks are up to the newest version
 up_to_all : (born : ℕ) (marks : List Mark) → Each (λ (mark : Mark). mark.version.0 ≤ born) marks
@@ -48,50 +46,20 @@ up_to_all born (mark ∷ marks) old =
     low : (a b : ℕ) → a ≤ b → nat_le a b ≡ true
     low a b h = grind (arith, nat_tests)
 
-itself : (a b : ℕ) → a ≡ b → a ≤ b
-itself a b e = omega arith
-
 -- what is among a list is counted there
-
-is_itself : (n : ℕ) → (n == n) ≡ true
-is_itself n = grind (arith, nat_tests)
-
-is_same : (a n : ℕ) → (a == n) ≡ true → a ≡ n
-is_same a n e = grind (arith, nat_tests)
-
-one_more : (b : Bool) (m : ℕ) → b ≡ true → 1 ≤ cond b 1 0 + m
-one_more b m e = subst (λ c. 1 ≤ cond c 1 0 + m) (sym e) (least m)
-  where
-    least : (m : ℕ) → 1 ≤ 1 + m
-    least m = omega arith
-
-later : (b : Bool) (m : ℕ) → 1 ≤ m → 1 ≤ cond b 1 0 + m
-later true m h = omega arith
-later false m h = omega arith
 
 among_counted : (file : File) (files : List File) → Among file files → 1 ≤ count file.number (numbers_of files)
 among_counted file [] among = absurd among
-among_counted file (first ∷ files) (inl is) = one_more (first.number == file.number)
-    (count file.number (numbers_of files))
-    (ap (λ (f : File). f.number == file.number) is ∙ is_itself file.number)
-among_counted file (first ∷ files) (inr among) = later (first.number == file.number)
-    (count file.number (numbers_of files)) (among_counted file files among)
+among_counted file (first ∷ files) (inl is) = subst (λ (f : File). 1 ≤ count f.number (numbers_of (first ∷ files))) is
+    (omega (arith, count_here first.number (numbers_of files)))
+among_counted file (first ∷ files) (inr among) = omega (arith, among_counted file files among)
 
 all_counted : (inputs files : List File) (n : ℕ) → Each (λ file. Among file files) inputs
     → 1 ≤ count n (numbers_of inputs) → 1 ≤ count n (numbers_of files)
 all_counted [] files n all h = absurd (omega arith)
-all_counted (file ∷ inputs) files n all h =
-    by (file.number == n) refl (λ k. all_counted inputs files n all.1 k) h
-  where
-    by : (b : Bool) → (file.number == n) ≡ b
-        → (1 ≤ count n (numbers_of inputs) → 1 ≤ count n (numbers_of files))
-        → 1 ≤ cond b 1 0 + count n (numbers_of inputs) → 1 ≤ count n (numbers_of files)
-    by true e rest h = subst (λ m. 1 ≤ count m (numbers_of files)) (is_same file.number n e)
-        (among_counted file files all.0)
-    by false e rest h = rest (less (count n (numbers_of inputs)) h)
-      where
-        less : (m : ℕ) → 1 ≤ 0 + m → 1 ≤ m
-        less m h = omega arith
+all_counted (file ∷ inputs) files n all h = is_or_not file.number n
+    (λ e. subst (λ m. 1 ≤ count m (numbers_of files)) e (among_counted _ _ all.0))
+    (λ e. all_counted inputs files n all.1 (rest_some _ _ e h))
 
 -- a record's numbers
 number_list_is : (files : List File) → number_list (file_numbers files) ≡ numbers_of files
@@ -103,20 +71,22 @@ files_at_is : (before run behind all : List File) (place : ℕ) → all ≡ befo
     → files_at place (numbers_of run) all ≡ run
 files_at_is before run behind all place is at =
     (λ i. take (length_numbers run i) (drop (at i) (is i)))
-    ∙ ap (take (length run)) (drop-append_seam before (run ++ behind)) ∙ take-append_seam run behind
+    ∙ ap (take (length run)) (drop-append_seam before _)
+    ∙ take-append_seam _ behind
 
 stand_at : (before run behind all : List File) (place : ℕ) → all ≡ before ++ (run ++ behind) → place ≡ length before
     → StandAt place (numbers_of run) all
 stand_at before run behind all place is at = record {
-  within = fits place (length (numbers_of run)) (length all) (length before) (length run) (length behind) at
-      (length_numbers run)
-      (ap length is ∙ length-append before (run ++ behind)
-      ∙ ap (λ n. length before + n) (length-append run behind));
-  are = ap numbers_of (files_at_is before run behind all place is at);
+  within = omega (
+    arith,
+    at,
+    length_numbers run,
+    ap length is,
+    length-append before (run ++ behind),
+    length-append run behind,
+  );
+  are = ap numbers_of (files_at_is _ _ _ _ _ is at);
 }
-  where
-    fits : (place count all a b c : ℕ) → place ≡ a → count ≡ b → all ≡ a + (b + c) → place + count ≤ all
-    fits place count all a b c e f g = omega arith
 
 module _ (told : Told) (known : Entries) (named : List ℕ) (state : EngineState)
     (order : IsInOrder told known named state) where
@@ -124,59 +94,47 @@ module _ (told : Told) (known : Entries) (named : List ℕ) (state : EngineState
   old = state.store
 
   listed_born : (file : File) → Among file (old.sequence ++ old.unsequence) → file.born ≤ old.stamp
-  listed_born file among = each_among (λ (f : File). f.born ≤ old.stamp) (old.sequence ++ old.unsequence) file
-      (each_append (λ (f : File). f.born ≤ old.stamp) old.sequence old.unsequence order.store.stamps.sequence_born
-      order.store.stamps.unsequence_born) among
+  listed_born file among =
+      each_among _ _ _ (each_append _ _ _ order.store.stamps.sequence_born order.store.stamps.unsequence_born) among
 
   pub begin_step : (job : Compaction) → Begins told job state → IsInOrder told known named (began job state)
   begin_step job begins =
       let listed = inputs_listed told old.sequence old.unsequence job job.space begins.kind begins.stand in
-      record {
-        store = order.store;
-        flushes = order.flushes;
-        compactions = record {
-          kinds = (begins.kind, order.compactions.kinds);
-          stand = (begins.stand, order.compactions.stand);
-          apart = (begins.apart, order.compactions.apart);
-          marked = (
-            record {
-              reached = itself job.born old.stamp begins.born;
-              older = each_weaker (λ file. Among file (old.sequence ++ old.unsequence)) (λ file. file.born ≤ job.born)
-                  (λ file among. subst (λ n. file.born ≤ n) (sym begins.born) (listed_born file among)) (job_inputs job)
-                  listed;
-              same = λ place. subst (λ marks. Each (λ (file : File). survivor job.marks place (file_layer told file)
-                  ≡ survivor marks place (file_layer told file)) (job_inputs job))
-                  (sym (ap (λ n. marks_up_to n old.marks) begins.born
-                  ∙ up_to_all old.stamp old.marks order.store.stamps.versions)) (begins.marks place);
-            },
-            order.compactions.marked,
-          );
-        };
-        numbers = began_numbers told named job state begins order.numbers;
-        entries = order.entries;
-        rights = rights_taken state.rights (files_of state) (held_numbers state.compactions state.pins)
-            (numbers_of (job_inputs job)) (held_numbers (job ∷ state.compactions) state.pins) order.rights
-            (λ n. held_with_job n job state.compactions state.pins)
-            (λ n h. there n (all_counted (job_inputs job) (old.sequence ++ old.unsequence) n listed h));
-        room = room_with_compaction job state.room state.flushes state.compactions order.room;
-        doubt = order.doubt;
-      }
-    where
-      there : (n : ℕ) → 1 ≤ count n (numbers_of (old.sequence ++ old.unsequence))
-          → 1 ≤ count n (numbers_of (files_of state))
-      there n h = omega (arith, count_files n (old.sequence ++ old.unsequence) state.outgoing)
+      let marked : KeepsItsMarks told old.stamp old.marks job = record {
+        reached = omega (arith, begins.born);
+        older = each_weaker _ _ (λ file among. subst (λ n. file.born ≤ n) (sym begins.born) (listed_born file among)) _
+            listed;
+        same = λ place. subst (λ marks. Each (λ (file : File). survivor job.marks place (file_layer told file) ≡
+            survivor marks place (file_layer told file)) (job_inputs job))
+            (sym (ap (λ n. marks_up_to n old.marks) begins.born ∙ up_to_all old.stamp old.marks
+            order.store.stamps.versions)) (begins.marks place);
+      } in
+      let compactions : CompactionsInOrder told old.stamp old.marks old.sequence old.unsequence
+      (job ∷ state.compactions) = record {
+        kinds = (begins.kind, order.compactions.kinds);
+        stand = (begins.stand, order.compactions.stand);
+        apart = (begins.apart, order.compactions.apart);
+        marked = (marked, order.compactions.marked);
+      } in
+      let numbers = began_numbers told named job state begins order.numbers in
+      let rights = rights_taken state.rights (files_of state) _ (numbers_of (job_inputs job))
+      (held_numbers (job ∷ state.compactions) state.pins) order.rights
+      (λ n. held_with_job n job state.compactions state.pins) (λ n h. omega (
+        arith,
+        count_files n (old.sequence ++ old.unsequence) state.outgoing,
+        all_counted (job_inputs job) (old.sequence ++ old.unsequence) n listed h,
+      )) in
+      let room = room_with_compaction job state.room state.flushes state.compactions order.room in
+      search
 
   -- the jobs without one
   others_in_order : (job : Compaction) (others : List Compaction) → IsWithOne job others state.compactions
       → CompactionsInOrder told old.stamp old.marks old.sequence old.unsequence others
   others_in_order job others out = record {
-    kinds = with_one_each (λ job. HasKind job.space job) job others state.compactions out order.compactions.kinds;
-    stand = with_one_each
-        (λ job. Stands job.space told old.sequence old.unsequence job) job others state.compactions out
-        order.compactions.stand;
-    apart = with_one_pairs AreApart job others state.compactions out order.compactions.apart;
-    marked = with_one_each (KeepsItsMarks told old.stamp old.marks) job others state.compactions out
-        order.compactions.marked;
+    kinds = with_one_each _ _ _ _ out order.compactions.kinds;
+    stand = with_one_each _ _ _ _ out order.compactions.stand;
+    apart = with_one_pairs _ _ _ _ out order.compactions.apart;
+    marked = with_one_each _ _ _ _ out order.compactions.marked;
   }
 
   more_files : (built : List File) (n : ℕ) → count n (numbers_of (files_of state))
@@ -185,51 +143,38 @@ module _ (told : Told) (known : Entries) (named : List ℕ) (state : EngineState
 
   pub end_step : (job : Compaction) (others : List Compaction) (built : List File)
       → EndsCompaction job others built state → IsInOrder told known named (ended job others built state)
-  end_step job others built ends = record {
-    store = order.store;
-    flushes = order.flushes;
-    compactions = others_in_order job others ends.out;
-    numbers = ended_numbers named job others built state ends order.numbers;
-    entries = order.entries;
-    rights = rights_returned state.rights (files_of state) (files_of (ended job others built state))
-        (held_numbers state.compactions state.pins) (numbers_of (job_inputs job)) (held_numbers others state.pins)
-        order.rights (λ n. held_by_job n job others state.compactions state.pins ends.out) (more_files built);
-    room = room_without_compaction job others state.room state.flushes state.compactions ends.out order.room;
-    doubt = doubt_more told named old state.outgoing built state.doubt order.doubt;
-  }
+  end_step job others built ends =
+      let compactions = others_in_order job others ends.out in
+      let numbers = ended_numbers named job others built state ends order.numbers in
+      let rights = rights_returned state.rights (files_of state) (files_of (ended job others built state)) _
+      (numbers_of (job_inputs job)) (held_numbers others state.pins) order.rights
+      (λ n. held_by_job n job others state.compactions state.pins ends.out) (more_files built) in
+      let room = room_without_compaction job others state.room state.flushes state.compactions ends.out order.room in
+      let doubt = doubt_more told named old state.outgoing built state.doubt order.doubt in
+      search
 
   module _ (job : Compaction) (others : List Compaction) (output : List File) (place : ℕ)
       (commits : CommitsCompaction told known job others output place state) where
     kind : HasKind job.space job
-    kind = with_one_is (λ job. HasKind job.space job) job others state.compactions commits.out order.compactions.kinds
+    kind = with_one_is _ _ _ _ commits.out order.compactions.kinds
 
     stands : Stands job.space told old.sequence old.unsequence job
-    stands = with_one_is (λ job. Stands job.space told old.sequence old.unsequence job) job others state.compactions
-        commits.out order.compactions.stand
+    stands = with_one_is _ _ _ _ commits.out order.compactions.stand
 
     marked : KeepsItsMarks told old.stamp old.marks job
-    marked = with_one_is (KeepsItsMarks told old.stamp old.marks) job others state.compactions commits.out
-        order.compactions.marked
+    marked = with_one_is _ _ _ _ commits.out order.compactions.marked
 
     apart : Each (AreApart job) others
-    apart = with_one_apart AreApart apart_turned job others state.compactions commits.out order.compactions.apart
+    apart = with_one_apart _ apart_turned _ _ _ commits.out order.compactions.apart
 
     pub file : IsFileOrNone job output
     file = ⊎_elim (λ none. inl none) (λ there. inr there.0) commits.file
 
     drawn : (n : ℕ) → count n (job.output ∷ []) ≤ count n (drawn_numbers state.flushes state.compactions)
-    drawn n = omega (
-      arith,
-      count_drawn n state.flushes state.compactions,
-      count_map_one (λ (job : Compaction). job.output) n job others state.compactions commits.out,
-    )
+    drawn n = omega (arith, drawn_by_job n job others state.compactions state.flushes commits.out)
 
     some : 1 ≤ job.output
-    some = (order.numbers.range job.output (counted job.output (drawn job.output))).0
-      where
-        counted : (n : ℕ) → count n (n ∷ []) ≤ count n (drawn_numbers state.flushes state.compactions)
-            → 1 ≤ count n (numbers_of (files_of state)) + count n (drawn_numbers state.flushes state.compactions)
-        counted n h = omega (arith, one_more (n == n) 0 (is_itself n))
+    some = (order.numbers.range job.output (omega (arith, drawn job.output, count_here job.output []))).0
 
     abbrev item : Replacement
     item = replacement job output place
@@ -254,13 +199,11 @@ module _ (told : Told) (known : Entries) (named : List ℕ) (state : EngineState
 
     pub commit_in_order : StoreInOrder told (after (compaction_record job output place) old)
     commit_in_order = logged (λ item. StoreInOrder told (replaced item old))
-        (committed_in_order told old job output place order.store marked commits.gives some file kind stands
-        commits.stands)
+        (committed_in_order _ _ _ _ _ order.store marked commits.gives some file kind stands commits.stands)
 
     pub commit_keeps : KeepsWorld told old (after (compaction_record job output place) old)
     commit_keeps = logged (λ item. KeepsWorld told old (replaced item old))
-        (committed_keeps told old job output place order.store marked commits.gives some file kind stands
-        commits.stands)
+        (committed_keeps _ _ _ _ _ order.store marked commits.gives some file kind stands commits.stands)
 
     abbrev Is : File → Type 0
     Is file = Describes (known file.number) (told file.number)
@@ -270,7 +213,7 @@ module _ (told : Told) (known : Entries) (named : List ℕ) (state : EngineState
         commits.file
 
     others_now : CompactionsInOrder told old.stamp old.marks old.sequence old.unsequence others
-    others_now = others_in_order job others commits.out
+    others_now = others_in_order _ _ commits.out
 
     -- what a store after the commit has
     record IsGood (store : StoreState) : Type 0 where
@@ -283,49 +226,26 @@ module _ (told : Told) (known : Entries) (named : List ℕ) (state : EngineState
 
     -- the other jobs, where they stand in the new lists
     jobs_in : (sequence unsequence : List File)
-        → Each (λ job. Stands job.space told sequence unsequence job) others
+        → ((other : Compaction) → AreApart job other → HasKind other.space other
+        → Stands other.space told old.sequence old.unsequence other → Stands other.space told sequence unsequence other)
         → CompactionsInOrder told old.stamp
         (purge (borns_of (record old { sequence = sequence; unsequence = unsequence })) old.marks) sequence unsequence
         others
-    jobs_in sequence unsequence stand = record {
-      kinds = others_now.kinds;
-      stand = stand;
-      apart = others_now.apart;
-      marked = all others others_now.kinds stand others_now.marked;
-    }
-      where
-        new : StoreState
-        new = record old { sequence = sequence; unsequence = unsequence }
-
-        all : (jobs : List Compaction) → Each (λ job. HasKind job.space job) jobs
-            → Each (λ job. Stands job.space told sequence unsequence job) jobs
-            → Each (KeepsItsMarks told old.stamp old.marks) jobs
-            → Each (KeepsItsMarks told old.stamp
-            (purge (borns_of (record old { sequence = sequence; unsequence = unsequence })) old.marks)) jobs
-        all [] kinds stand keeps = tt
-        all (job ∷ jobs) kinds stand keeps = (
-          purge_kept told old.stamp old.marks (record old { sequence = sequence; unsequence = unsequence }) job kinds.0
-              stand.0
-              keeps.0,
-          all jobs kinds.1 stand.1 keeps.1,
-        )
+    jobs_in sequence unsequence change = jobs_moved _ apart (λ other apart kind stands marked.
+        let new = change other apart kind stands in
+        (new, purge_kept _ _ _ (record old { sequence = sequence; unsequence = unsequence }) _ kind new marked))
+        others_now
 
     middle : (P : File → Type 0) (before run behind : List File) → Each P (before ++ (run ++ behind)) → Each P output
         → Each P (before ++ (output ++ behind))
-    middle P before run behind all new = each_append P before (output ++ behind) (each_left P before (run ++ behind)
-        all)
-        (each_append P output behind new (each_right P run behind (each_right P before (run ++ behind) all)))
+    middle P before run behind all new =
+        each_append _ _ _ (each_left _ _ _ all) (each_append _ _ _ new (each_right _ run _ (each_right _ before _ all)))
 
     old_sequence : Each Is old.sequence
-    old_sequence = each_left Is old.sequence old.unsequence order.entries
+    old_sequence = each_left _ _ _ order.entries
 
     old_unsequence : Each Is old.unsequence
-    old_unsequence = each_right Is old.sequence old.unsequence order.entries
-
-    count_three : (n : ℕ) (before run behind : List File) → count n (numbers_of (before ++ (run ++ behind)))
-        ≡ count n (numbers_of before) + (count n (numbers_of run) + count n (numbers_of behind))
-    count_three n before run behind =
-        count_files n before (run ++ behind) ∙ ap (λ m. count n (numbers_of before) + m) (count_files n run behind)
+    old_unsequence = each_right _ _ _ order.entries
 
     of_list : (n : ℕ) (a b : List File) → a ≡ b → count n (numbers_of a) ≡ count n (numbers_of b)
     of_list n a b e = ap (λ files. count n (numbers_of files)) e
@@ -336,79 +256,38 @@ module _ (told : Told) (known : Entries) (named : List ℕ) (state : EngineState
           unsequence = gap.later;
         }))
     crossed_good here gap = record {
-      jobs = jobs_in (gap.run.before ++ (output ++ gap.run.behind)) gap.later
-          (stand others apart others_now.kinds others_now.stand);
-      entries = each_append Is (gap.run.before ++ (output ++ gap.run.behind)) gap.later
-          (middle Is gap.run.before job.sequence gap.run.behind (subst (Each Is) gap.run.is old_sequence) described)
-          (each_right Is job.unsequence gap.later (subst (Each Is) gap.first old_unsequence));
-      lists = λ n. omega (
-        arith,
-        count_files n (gap.run.before ++ (output ++ gap.run.behind)) gap.later,
-        count_three n gap.run.before output gap.run.behind,
-        count_files n job.sequence job.unsequence,
-        count_files n old.sequence old.unsequence,
-        of_list n old.sequence (gap.run.before ++ (job.sequence ++ gap.run.behind)) gap.run.is,
-        count_three n gap.run.before job.sequence gap.run.behind,
-        of_list n old.unsequence (job.unsequence ++ gap.later) gap.first,
-        count_files n job.unsequence gap.later,
-      );
+      jobs = jobs_in _ _ (λ other. stands_crossed _ _ _ _ _ _ _ _ gap.first here refl);
+      entries = each_append _ _ _ (middle Is gap.run.before job.sequence gap.run.behind
+          (subst (Each Is) gap.run.is old_sequence) described)
+          (each_right _ _ _ (subst (Each Is) gap.first old_unsequence));
+      lists = λ n. omega (arith, count_files, of_list n _ _ gap.run.is, of_list n _ _ gap.first);
       flushes = order.flushes;
     }
-      where
-        stand : (jobs : List Compaction) → Each (AreApart job) jobs → Each (λ job. HasKind job.space job) jobs
-            → Each (λ job. Stands job.space told old.sequence old.unsequence job) jobs
-            → Each (λ job. Stands job.space told (gap.run.before ++ (output ++ gap.run.behind)) gap.later job) jobs
-        stand [] apart kinds stands = tt
-        stand (other ∷ jobs) apart kinds stands = (
-          stands_crossed told old.sequence (gap.run.before ++ (output ++ gap.run.behind)) old.unsequence gap.later job
-              other
-              other.space gap.first here refl apart.0 kinds.0 stands.0,
-          stand jobs apart.1 kinds.1 stands.1,
-        )
 
     merged_good : (two : 2 ≤ length job.unsequence) → job.sequence ≡ [] → (run : IsRun job.unsequence old.unsequence)
         → IsGood (purged (record old { unsequence = run.before ++ (output ++ run.behind) }))
     merged_good two none run = record {
-      jobs = jobs_in old.sequence (run.before ++ (output ++ run.behind))
-          (stand others apart others_now.kinds others_now.stand);
-      entries = each_append Is old.sequence (run.before ++ (output ++ run.behind)) old_sequence
-          (middle Is run.before job.unsequence run.behind (subst (Each Is) run.is old_unsequence) described);
-      lists = λ n. omega (
-        arith,
-        count_files n old.sequence (run.before ++ (output ++ run.behind)),
-        count_three n run.before output run.behind,
-        count_files n job.sequence job.unsequence,
-        of_list n job.sequence [] none,
-        count_files n old.sequence old.unsequence,
-        of_list n old.unsequence (run.before ++ (job.unsequence ++ run.behind)) run.is,
-        count_three n run.before job.unsequence run.behind,
-      );
+      jobs = jobs_in _ _ (λ other. stands_merged _ _ _ _ _ _ _ _ _ run.is two);
+      entries = each_append _ _ _ old_sequence (middle Is run.before job.unsequence run.behind
+          (subst (Each Is) run.is old_unsequence) described);
+      lists = λ n. omega (arith, count_files, of_list n _ _ none, of_list n _ _ run.is);
       flushes = order.flushes;
     }
-      where
-        stand : (jobs : List Compaction) → Each (AreApart job) jobs → Each (λ job. HasKind job.space job) jobs
-            → Each (λ job. Stands job.space told old.sequence old.unsequence job) jobs
-            → Each (λ job. Stands job.space told old.sequence (run.before ++ (output ++ run.behind)) job) jobs
-        stand [] apart kinds stands = tt
-        stand (other ∷ jobs) apart kinds stands = (
-          stands_merged told old.sequence old.unsequence run.before run.behind output job other other.space run.is two
-              apart.0
-              kinds.0 stands.0,
-          stand jobs apart.1 kinds.1 stands.1,
-        )
 
     by_space : (space : Space) → job.space ≡ space → HasKind space job
         → Stands space told old.sequence old.unsequence job
         → IsOutputPlace space job old place → IsGood (purged (replace_in space item old))
     by_space Sequence here of_kind gap at = subst (λ store. IsGood (purged store))
-        (sym (crossed_is told old job output place order.store marked commits.gives some file gap at))
-        (crossed_good here gap)
-    by_space Unsequence here of_kind run at = subst (λ store. IsGood (purged store))
-        (sym (merged_is told old job output place order.store marked commits.gives some file at.0 at.1))
-        (merged_good of_kind.1 of_kind.0 at.0)
+        (sym (crossed_is _ _ _ _ _ order.store marked commits.gives some file gap at)) (crossed_good here gap)
+    by_space Unsequence here of_kind run at =
+        subst (λ store. IsGood (purged store)) (sym (merged_is _ _ _ _ _ order.store marked commits.gives some file at.0
+        at.1)) (merged_good of_kind.1 of_kind.0 at.0)
 
     good : IsGood (after (compaction_record job output place) old)
-    good = logged (λ item. IsGood (replaced item old)) (by_space job.space refl kind stands commits.stands)
+    good = logged (λ item. IsGood (replaced item old)) (by_space _ refl kind stands commits.stands)
+
+    abbrev after_commit : StoreState
+    after_commit = after (compaction_record job output place) old
 
     pub commit_step : IsInOrder told known (names (compaction_record job output place) ++ named)
         (committed job others output place state)
@@ -431,10 +310,8 @@ module _ (told : Told) (known : Entries) (named : List ℕ) (state : EngineState
           arith,
           good.lists n,
           count_files n (old.sequence ++ old.unsequence) state.outgoing,
-          count_out n ((after (compaction_record job output place) old).sequence
-              ++ (after (compaction_record job output place) old).unsequence) state.outgoing (job_inputs job),
-          count_files n ((after (compaction_record job output place) old).sequence
-              ++ (after (compaction_record job output place) old).unsequence) state.outgoing,
+          count_out n (after_commit.sequence ++ after_commit.unsequence) state.outgoing (job_inputs job),
+          count_files n (after_commit.sequence ++ after_commit.unsequence) state.outgoing,
         )
 
     -- the record can follow
@@ -442,40 +319,36 @@ module _ (told : Told) (known : Entries) (named : List ℕ) (state : EngineState
     has_inputs : (space : Space) → HasKind space job → Stands space told old.sequence old.unsequence job
         → IsOutputPlace space job old place → HasInputs space item old
     has_inputs Sequence of_kind gap at = (
-      ⊎_elim (λ k. inl (ap numbers_of k.0, subst (λ n. 2 ≤ n) (sym (length_numbers job.sequence)) k.1))
-          (λ k. inr (subst (λ n. 1 ≤ n) (sym (length_numbers job.unsequence)) k)) of_kind,
-      stand_at gap.run.before job.sequence gap.run.behind old.sequence place gap.run.is (at ∙ sym gap.place),
-      stand_at [] job.unsequence gap.later old.unsequence 0 gap.first refl,
+      ⊎_elim (λ k. inl (ap numbers_of k.0, subst (λ n. 2 ≤ n) (sym (length_numbers _)) k.1))
+          (λ k. inr (subst (λ n. 1 ≤ n) (sym (length_numbers _)) k)) of_kind,
+      stand_at _ _ _ _ _ gap.run.is (at ∙ sym gap.place),
+      stand_at [] _ gap.later _ 0 gap.first refl,
     )
     has_inputs Unsequence of_kind run at = (
       ap numbers_of of_kind.0,
-      subst (λ n. 2 ≤ n) (sym (length_numbers job.unsequence)) of_kind.1,
-      stand_at at.0.before job.unsequence at.0.behind old.unsequence place at.0.is at.1,
+      subst (λ n. 2 ≤ n) (sym (length_numbers _)) of_kind.1,
+      stand_at _ _ _ _ _ at.0.is at.1,
     )
 
     inputs_are : (space : Space) → HasKind space job → Stands space told old.sequence old.unsequence job
         → IsOutputPlace space job old place → inputs_of space item old ≡ job_inputs job
-    inputs_are Sequence of_kind gap at = λ i.
-        files_at_is gap.run.before job.sequence gap.run.behind old.sequence place gap.run.is (at ∙ sym gap.place) i
-        ++ files_at_is [] job.unsequence gap.later old.unsequence 0 gap.first refl i
+    inputs_are Sequence of_kind gap at = λ i. files_at_is _ job.sequence gap.run.behind _ _ gap.run.is
+        (at ∙ sym gap.place) i ++ files_at_is [] job.unsequence gap.later _ 0 gap.first refl i
     inputs_are Unsequence of_kind run at =
-        files_at_is at.0.before job.unsequence at.0.behind old.unsequence place at.0.is at.1
+        files_at_is _ _ _ _ _ at.0.is at.1
         ∙ ap (λ files. files ++ job.unsequence) (sym of_kind.0)
 
     pub commit_can : CanFollow named (compaction_record job output place) old
     commit_can = logged (λ item. CanReplace named item old) (record {
-      inputs = has_inputs job.space kind stands commits.stands;
-      older = subst (Each (λ (f : File). f.born ≤ job.born)) (sym (inputs_are job.space kind stands commits.stands))
-          marked.older;
+      inputs = has_inputs _ kind stands commits.stands;
+      older =
+          subst (Each (λ (f : File). f.born ≤ job.born)) (sym (inputs_are _ kind stands commits.stands)) marked.older;
       reached = marked.reached;
-      fresh = are_new named state.next_file (files_of state) (drawn_numbers state.flushes state.compactions)
-          (new_numbers (output_number output ∷ [])) order.numbers
-          (λ n. omega (arith, (count_output n job output file).0, drawn n));
+      fresh = are_new _ _ _ _ _ order.numbers (λ n. omega (arith, (count_output n job output file).0, drawn n));
     })
 
     -- the record in doubt, where its output is on its way out
     pub commit_doubt : (outgoing : List File)
         → Each (λ number. Among number (numbers_of outgoing)) (names (compaction_record job output place))
         → DoubtInOrder told named old outgoing (compaction_record job output place)
-    commit_doubt outgoing kept =
-        record { can = commit_can; order = commit_in_order; world = commit_keeps; kept = kept }
+    commit_doubt outgoing kept = record { can = commit_can; order = commit_in_order; world = commit_keeps; kept = kept }

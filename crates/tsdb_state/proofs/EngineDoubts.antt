@@ -21,18 +21,16 @@ use Rattle.tsdb_state.specs.StoreOrder.{StoreInOrder}
 
 out_too : (outgoing built : List File) (numbers : List ℕ) → Each (λ n. Among n (numbers_of built)) numbers
     → Each (λ n. Among n (numbers_of (outgoing ++ built))) numbers
-out_too outgoing built = each_weaker (λ n. Among n (numbers_of built)) (λ n. Among n (numbers_of (outgoing ++ built)))
-    (λ n among. subst (Among n) (sym (map-append (λ (f : File). f.number) outgoing built))
-    (among_right (numbers_of outgoing) (numbers_of built) n among))
+out_too outgoing built = each_weaker _ _ (λ n among. subst (Among n)
+    (sym (map-append (λ (f : File). f.number) outgoing built)) (among_right (numbers_of outgoing) _ n among))
 
 -- the number of an output is that of its file
 output_named : (job : Compaction) (output : List File) → IsFileOrNone job output
     → Each (λ n. Among n (numbers_of output)) (new_numbers (output_number output ∷ []))
-output_named job output (inl none) =
-    subst (λ files. Each (λ n. Among n (numbers_of files)) (new_numbers (output_number files ∷ []))) (sym none) tt
-output_named job output (inr one) =
-    subst (λ files. Each (λ n. Among n (numbers_of files)) (new_numbers (output_number files ∷ []))) (sym one)
-    (by (job.output == 0))
+output_named job output (inl none) = subst (λ files. Each (λ n. Among n (numbers_of files))
+    (new_numbers (output_number files ∷ []))) (sym none) tt
+output_named job output (inr one) = subst (λ files. Each (λ n. Among n (numbers_of files))
+    (new_numbers (output_number files ∷ []))) (sym one) (by (job.output == 0))
   where
     by : (b : Bool) → Each (λ n. Among n (job.output ∷ [])) (cond b [] (job.output ∷ []))
     by true = tt
@@ -44,24 +42,17 @@ module _ (told : Told) (known : Entries) (named : List ℕ) (state : EngineState
       → CommitsFlush told known flush others state → EndsFlush flush others built state
       → Each (λ n. Among n (numbers_of built)) (names (flush_record flush))
       → IsInOrder told known named (failed (flush_record flush) (ended_flush flush others built state))
-  failed_flush_step flush others built commits ends built_all =
-      fail_step told known named (ended_flush flush others built state)
-      (end_flush_step told known named state order flush others built ends) (flush_record flush)
-      (flush_doubt told known named state order flush others commits (state.outgoing ++ built)
-      (out_too state.outgoing built (names (flush_record flush)) built_all))
+  failed_flush_step flush others built commits ends built_all = fail_step _ _ _ _
+      (end_flush_step _ _ _ _ order _ _ _ ends) _ (flush_doubt _ _ _ _ order _ _ commits _ (out_too _ _ _ built_all))
 
   pub failed_commit_step : (job : Compaction) (others : List Compaction) (output : List File) (place : ℕ)
       → CommitsCompaction told known job others output place state
       → IsInOrder told known named (failed (compaction_record job output place) (ended job others output state))
   failed_commit_step job others output place commits =
-      let of_job = file told known named state order job others output place commits in
-      fail_step told known named (ended job others output state)
-      (end_step told known named state order job others output (record {
-        out = commits.out;
-        files = λ n. (count_output n job output of_job).1;
-      })) (compaction_record job output place)
-      (commit_doubt told known named state order job others output place commits (state.outgoing ++ output)
-      (out_too state.outgoing output (names (compaction_record job output place)) (output_named job output of_job)))
+      let of_job = file _ _ _ _ order _ _ _ _ commits in
+      fail_step _ _ _ _ (end_step _ _ _ _ order _ _ _ (record
+      { out = commits.out; files = λ n. (count_output n job output of_job).1 })) _
+      (commit_doubt _ _ _ _ order _ _ _ _ commits _ (out_too _ _ _ (output_named job _ of_job)))
 
   -- what a record in doubt leads to
   pub doubt_is : (item : LogRecord) → state.doubt ≡ Some item
@@ -74,11 +65,9 @@ module _ (told : Told) (known : Entries) (named : List ℕ) (state : EngineState
   -- what a commit appends can follow: it could be in doubt, with its files out
   pub flush_follows : (flush : FlushJob) (others : List FlushJob) → CommitsFlush told known flush others state
       → CanFollow named (flush_record flush) state.store
-  flush_follows flush others commits = flush_can told known named state order flush others
-      commits
+  flush_follows flush others commits = flush_can _ _ _ _ order _ _ commits
 
   pub commit_follows : (job : Compaction) (others : List Compaction) (output : List File) (place : ℕ)
       → CommitsCompaction told known job others output place state
       → CanFollow named (compaction_record job output place) state.store
-  commit_follows job others output place commits = commit_can told known named state
-      order job others output place commits
+  commit_follows job others output place commits = commit_can _ _ _ _ order _ _ _ _ commits

@@ -1,8 +1,6 @@
 -- Flushes keep an engine in order: one is taken, ends without its record, or is committed.
-use Rattle.std.proofs.Common.{◌≡◌, ℕ, ◌+◌, ◌<◌, ◌≤◌, Bool, true, false, cond, List, [], ◌∷◌, ◌++◌}
-use Rattle.std.proofs.Common.{refl}
-use Rattle.std.proofs.Common.{sym, ap, ◌∙◌, subst, arith}
-use Rattle.std.specs.Prelude.{◌≢◌, ◌==◌, Option, Some, None}
+use Rattle.std.proofs.Common.{◌≡◌, ℕ, ◌+◌, ◌<◌, ◌≤◌, List, ◌∷◌, ◌++◌, refl, sym, ap, subst, arith, []}
+use Rattle.std.specs.Prelude.{◌≢◌, Option, Some, None}
 use Rattle.std.specs.List.{AllByRecursion as Each}
 use Rattle.tsdb_layers.proofs.Lists.{count_append, each_append, each_left, each_right, each_weaker, with_one_each}
 use Rattle.tsdb_layers.proofs.Lists.{with_one_is}
@@ -11,33 +9,25 @@ use Rattle.tsdb_layers.specs.Lists.{Among, EachPair, count, if_some}
 use Rattle.tsdb_layers.specs.Order.{IsBefore}
 use Rattle.tsdb_layers.specs.Places.{Content}
 use Rattle.tsdb_state.proofs.CommitNumbers.{committed_flush_numbers, count_new_two, count_number}
-use Rattle.tsdb_state.proofs.EngineRecords.{purge_kept}
-use Rattle.tsdb_state.proofs.Flushing.{first_points, flushed_in_order, flushed_is, flushed_keeps}
+use Rattle.tsdb_state.proofs.EngineRecords.{jobs_moved, purge_kept}
+use Rattle.tsdb_state.proofs.Flushing.{first_points, flushed_in_order, flushed_keeps, for_new_file}
 use Rattle.tsdb_state.proofs.Fresh.{are_new, count_here, doubt_more, rights_more}
 use Rattle.tsdb_state.proofs.Holding.{room_with_flush, room_without_flush}
-use Rattle.tsdb_state.proofs.Numbering.{count_drawn, count_files, count_out, count_with_one, ended_flush_numbers}
+use Rattle.tsdb_state.proofs.Numbering.{count_files, count_out, drawn_by_flush, ended_flush_numbers}
 use Rattle.tsdb_state.proofs.Numbering.{took_flush_numbers}
 use Rattle.tsdb_state.proofs.OtherJobs.{stands_more}
-use Rattle.tsdb_state.specs.Jobs.{CompactionsInOrder, Describes, HasKind, IsDrawnFor, IsFlushOut, KeepsItsMarks}
-use Rattle.tsdb_state.specs.Jobs.{RightsMatch, Stands, drawn_by, drawn_numbers, held_numbers}
+use Rattle.tsdb_state.specs.Jobs.{CompactionsInOrder, Describes, IsDrawnFor, IsFlushOut, RightsMatch}
+use Rattle.tsdb_state.specs.Jobs.{drawn_numbers, held_numbers}
 use Rattle.tsdb_state.specs.Limit.{IsEmptyPair}
 use Rattle.tsdb_state.specs.Order.{DoubtInOrder, IsInOrder, files_of}
-use Rattle.tsdb_state.specs.Records.{CanFlush, IsNumberOf, flushed, names, new_file, new_numbers, numbers_of, purged}
-use Rattle.tsdb_state.specs.State.{Compaction, EngineState, Entries, File, FlushJob, FrozenPair, Pair, StoreState, Told}
+use Rattle.tsdb_state.specs.Records.{CanFlush, IsNumberOf, flush_oldest, flushed, names, new_file}
+use Rattle.tsdb_state.specs.Records.{numbers_of, purged}
+use Rattle.tsdb_state.specs.State.{EngineState, Entries, File, FlushJob, FrozenPair, Pair, StoreState, Told}
 use Rattle.tsdb_state.specs.Steps.{CommitsFlush, EndsFlush, IsBuilt, TakesFlush, committed_flush, ended_flush}
 use Rattle.tsdb_state.specs.Steps.{flush_record, number_or_none, took_flush}
 use Rattle.tsdb_state.specs.StoreOrder.{LateIsBelow, StoreInOrder}
-use Rattle.tsdb_state.specs.Views.{file_layers, sequence_layer, unsequence_layer}
+use Rattle.tsdb_state.specs.Views.{file_layers, sequence_layer}
 use Rattle.tsdb_state.specs.Worlds.{KeepsWorld}
-
-up_to : (a b c : ℕ) → a ≡ b → b < c → a ≤ c
-up_to a b c e h = omega arith
-
-equal_le : (a b : ℕ) → a ≡ b → a ≤ b
-equal_le a b e = omega arith
-
-not_later : (a b c : ℕ) → a ≡ b → b < c → c ≡ a → ⊥
-not_later a b c e h k = omega arith
 
 -- the flush of the oldest pair
 new_flush : (stamp : ℕ) (frozen : List FrozenPair) (working : Pair) (oldest : FrozenPair) (newer : List FrozenPair)
@@ -46,23 +36,15 @@ new_flush : (stamp : ℕ) (frozen : List FrozenPair) (working : Pair) (oldest : 
     → (¬ IsEmptyPair working → Each (λ pair. pair.born < stamp) frozen)
     → IsDrawnFor flush.sequence flush.pair.sequence → IsDrawnFor flush.unsequence flush.pair.unsequence
     → IsFlushOut stamp frozen working flush
-new_flush stamp frozen working oldest newer flush are born pair reached rise before sequence unsequence = record {
-  reached = subst (λ n. n ≤ stamp) (sym born) (subst (Each (λ pair. pair.born ≤ stamp)) are reached).0;
-  before = λ some. subst (λ n. n < stamp) (sym born) (subst (Each (λ pair. pair.born < stamp)) are (before some)).0;
-  oldest = subst (Each (λ pair. flush.born ≤ pair.born)) (sym are) (
-    equal_le flush.born oldest.born born,
-    each_weaker (λ (later : FrozenPair). oldest.born < later.born) (λ later. flush.born ≤ later.born)
-        (λ later h. up_to flush.born oldest.born later.born born h) newer rises.0,
-  );
-  pair = subst (Each (λ pair. pair.born ≡ flush.born → pair.pair ≡ flush.pair)) (sym are) (
-    (λ e. sym pair),
-    each_weaker (λ (later : FrozenPair). oldest.born < later.born)
-        (λ later. later.born ≡ flush.born → later.pair ≡ flush.pair)
-        (λ later h e. absurd (not_later flush.born oldest.born later.born born h e)) newer rises.0,
-  );
-  sequence = sequence;
-  unsequence = unsequence;
-}
+new_flush stamp frozen working oldest newer flush are born pair reached rise before sequence unsequence =
+    subst (λ frozen. IsFlushOut stamp frozen working flush) (sym are) (record {
+      reached = subst (λ n. n ≤ stamp) (sym born) (subst (Each (λ pair. pair.born ≤ stamp)) are reached).0;
+      before = λ some. subst (λ n. n < stamp) (sym born) (subst (Each (λ pair. pair.born < stamp)) are (before some)).0;
+      oldest = (omega (arith, born), each_weaker _ _ (λ later h. omega (arith, born, h)) _ rises.0);
+      pair = ((λ e. sym pair), each_weaker _ _ (λ later h e. absurd (omega (arith, born, h, e))) _ rises.0);
+      sequence = sequence;
+      unsequence = unsequence;
+    })
   where
     rises : EachPair (λ (pair later : FrozenPair). pair.born < later.born) (oldest ∷ newer)
     rises = subst (EachPair (λ (pair later : FrozenPair). pair.born < later.born)) are rise
@@ -71,24 +53,18 @@ new_flush stamp frozen working oldest newer flush are born pair reached rise bef
 tail_flush : (stamp : ℕ) (frozen : List FrozenPair) (working : Pair) (oldest : FrozenPair) (newer : List FrozenPair)
     (flush : FlushJob) → frozen ≡ oldest ∷ newer → IsFlushOut stamp frozen working flush
     → IsFlushOut stamp newer working flush
-tail_flush stamp frozen working oldest newer flush are out = record {
-  reached = out.reached;
-  before = out.before;
-  oldest = (subst (Each (λ pair. flush.born ≤ pair.born)) are out.oldest).1;
-  pair = (subst (Each (λ pair. pair.born ≡ flush.born → pair.pair ≡ flush.pair)) are out.pair).1;
-  sequence = out.sequence;
-  unsequence = out.unsequence;
-}
+tail_flush stamp frozen working oldest newer flush are out =
+    let here = subst (λ frozen. IsFlushOut stamp frozen working flush) are out in
+    let older = here.oldest.1 in
+    let pairs = here.pair.1 in
+    search
 
 -- the numbers of a record
 
 number_is : (o : Option ℕ) (content : Content) → IsDrawnFor o content → ((n : ℕ) → o ≡ Some n → 1 ≤ n)
     → IsNumberOf (number_or_none o).0 content
 number_is None content drawn some = ((λ e. drawn), λ ne. absurd (ne refl))
-number_is (Some n) content drawn some = ((λ e. absurd (zero n e (some n refl))), λ ne. drawn)
-  where
-    zero : (n : ℕ) → n ≡ 0 → 1 ≤ n → ⊥
-    zero n e h = omega arith
+number_is (Some n) content drawn some = ((λ e. absurd (omega (arith, e, some n refl))), λ ne. drawn)
 
 number_has : (told : Told) (known : Entries) (o : Option ℕ) (content : Content) → IsBuilt told known o content
     → (number_or_none o).0 ≢ 0 → told (number_or_none o).0 ≡ content
@@ -99,25 +75,15 @@ new_entry : (told : Told) (known : Entries) (o : Option ℕ) (born : ℕ) (conte
     → IsBuilt told known o content
     → Each (λ (file : File). Describes (known file.number) (told file.number)) (new_file (number_or_none o).0 born)
 new_entry told known None born content built = tt
-new_entry told known (Some n) born content built = by (n == 0)
-  where
-    by : (b : Bool) → Each (λ (file : File). Describes (known file.number) (told file.number))
-        (cond b [] (record { number = n; born = born } ∷ []))
-    by true = tt
-    by false = (subst (Describes (known n)) (sym built.0) built.1, tt)
+new_entry told known (Some n) born content built = for_new_file
+    (Each (λ (file : File). Describes (known file.number) (told file.number))) n born (λ e. tt)
+    (λ some. (subst (Describes (known n)) (sym built.0) built.1, tt))
 
 counted_some : (o : Option ℕ) (n : ℕ) → o ≡ Some n → 1 ≤ count n (if_some o)
 counted_some None n e = absurd (cc)
-counted_some (Some m) n e = subst (λ k. 1 ≤ count n (k ∷ [])) (sym same) (here n)
-  where
-    same : m ≡ n
-    same = cc
-
-    here : (n : ℕ) → 1 ≤ count n (n ∷ [])
-    here n = at_least (count n (n ∷ [])) 0 (count_here n [])
-      where
-        at_least : (a b : ℕ) → a ≡ 1 + b → 1 ≤ a
-        at_least a b e = omega arith
+counted_some (Some m) n e =
+    let same : m ≡ n = cc in
+    subst (λ k. 1 ≤ count n (k ∷ [])) (sym same) (omega (arith, count_here n []))
 
 module _ (told : Told) (known : Entries) (named : List ℕ) (state : EngineState)
     (order : IsInOrder told known named state) where
@@ -126,21 +92,13 @@ module _ (told : Told) (known : Entries) (named : List ℕ) (state : EngineState
 
   pub take_flush_step : (flush : FlushJob) → TakesFlush flush state
       → IsInOrder told known named (took_flush flush state)
-  take_flush_step flush takes = record {
-    store = order.store;
-    flushes = (
-      new_flush old.stamp old.frozen old.working takes.oldest takes.newer flush takes.are takes.born takes.pair
-          order.store.stamps.frozen_born order.store.stamps.frozen_rise order.store.stamps.working_born takes.sequence
-          takes.unsequence,
-      order.flushes,
-    );
-    compactions = order.compactions;
-    numbers = took_flush_numbers named flush state takes order.numbers;
-    entries = order.entries;
-    rights = order.rights;
-    room = room_with_flush flush state.room state.flushes state.compactions order.room;
-    doubt = order.doubt;
-  }
+  take_flush_step flush takes =
+      let out = new_flush old.stamp old.frozen old.working takes.oldest takes.newer flush takes.are takes.born
+      takes.pair order.store.stamps.frozen_born order.store.stamps.frozen_rise order.store.stamps.working_born
+      takes.sequence takes.unsequence in
+      let numbers = took_flush_numbers named flush state takes order.numbers in
+      let room = room_with_flush flush state.room state.flushes state.compactions order.room in
+      search
 
   more_files : (built : List File) (n : ℕ) → count n (numbers_of (files_of state))
       ≤ count n (numbers_of ((old.sequence ++ old.unsequence) ++ (state.outgoing ++ built)))
@@ -148,44 +106,33 @@ module _ (told : Told) (known : Entries) (named : List ℕ) (state : EngineState
 
   pub end_flush_step : (flush : FlushJob) (others : List FlushJob) (built : List File)
       → EndsFlush flush others built state → IsInOrder told known named (ended_flush flush others built state)
-  end_flush_step flush others built ends = record {
-    store = order.store;
-    flushes = with_one_each (IsFlushOut old.stamp old.frozen old.working) flush others state.flushes ends.out
-        order.flushes;
-    compactions = order.compactions;
-    numbers = ended_flush_numbers named flush others built state ends order.numbers;
-    entries = order.entries;
-    rights = rights_more state.rights (files_of state) (files_of (ended_flush flush others built state))
-        (held_numbers state.compactions state.pins) order.rights (more_files built);
-    room = room_without_flush flush others state.room state.flushes state.compactions ends.out order.room;
-    doubt = doubt_more told named old state.outgoing built state.doubt order.doubt;
-  }
+  end_flush_step flush others built ends =
+      let flushes = with_one_each _ flush others state.flushes ends.out order.flushes in
+      let numbers = ended_flush_numbers named flush others built state ends order.numbers in
+      let rights = rights_more _ _ (files_of (ended_flush flush others built state)) _ order.rights (more_files built)
+      in
+      let room = room_without_flush flush others state.room state.flushes state.compactions ends.out order.room in
+      let doubt = doubt_more told named old state.outgoing built state.doubt order.doubt in
+      search
 
   module _ (flush : FlushJob) (others : List FlushJob) (commits : CommitsFlush told known flush others state) where
     out : IsFlushOut old.stamp old.frozen old.working flush
-    out = with_one_is (IsFlushOut old.stamp old.frozen old.working) flush others state.flushes commits.out order.flushes
+    out = with_one_is _ _ _ _ commits.out order.flushes
 
     pair_is : commits.oldest.pair ≡ flush.pair
-    pair_is = (subst (Each (λ pair. pair.born ≡ flush.born
-        → pair.pair ≡ flush.pair)) commits.are out.pair).0 commits.born
+    pair_is =
+        (subst (Each (λ pair. pair.born ≡ flush.born → pair.pair ≡ flush.pair)) commits.are out.pair).0 commits.born
 
     drawn : (n : ℕ) → count n (if_some flush.sequence) + count n (if_some flush.unsequence)
         ≤ count n (drawn_numbers state.flushes state.compactions)
     drawn n = omega (
       arith,
-      count_drawn n state.flushes state.compactions,
-      count_with_one drawn_by n flush others state.flushes commits.out,
+      drawn_by_flush n flush others state.flushes state.compactions commits.out,
       count_append n (if_some flush.sequence) (if_some flush.unsequence),
     )
 
     positive : (n : ℕ) → 1 ≤ count n (if_some flush.sequence) + count n (if_some flush.unsequence) → 1 ≤ n
     positive n h = (order.numbers.range n (omega (arith, drawn n))).0
-
-    first_some : (n : ℕ) → flush.sequence ≡ Some n → 1 ≤ n
-    first_some n e = positive n (omega (arith, counted_some flush.sequence n e))
-
-    second_some : (n : ℕ) → flush.unsequence ≡ Some n → 1 ≤ n
-    second_some n e = positive n (omega (arith, counted_some flush.unsequence n e))
 
     abbrev first : ℕ
     first = (number_or_none flush.sequence).0
@@ -194,20 +141,18 @@ module _ (told : Told) (known : Entries) (named : List ℕ) (state : EngineState
     second = (number_or_none flush.unsequence).0
 
     first_is : IsNumberOf first commits.oldest.pair.sequence
-    first_is = subst (λ (pair : Pair). IsNumberOf first pair.sequence) (sym pair_is)
-        (number_is flush.sequence flush.pair.sequence out.sequence first_some)
+    first_is = rw pair_is (number_is flush.sequence flush.pair.sequence out.sequence
+        (λ n e. positive n (omega (arith, counted_some flush.sequence n e))))
 
     second_is : IsNumberOf second commits.oldest.pair.unsequence
-    second_is = subst (λ (pair : Pair). IsNumberOf second pair.unsequence) (sym pair_is)
-        (number_is flush.unsequence flush.pair.unsequence out.unsequence second_some)
+    second_is = rw pair_is (number_is flush.unsequence flush.pair.unsequence out.unsequence
+        (λ n e. positive n (omega (arith, counted_some flush.unsequence n e))))
 
     first_has : first ≢ 0 → told first ≡ commits.oldest.pair.sequence
-    first_has ne = number_has told known flush.sequence flush.pair.sequence commits.sequence ne
-        ∙ ap (λ (pair : Pair). pair.sequence) (sym pair_is)
+    first_has ne = rw pair_is (number_has _ _ _ _ commits.sequence ne)
 
     second_has : second ≢ 0 → told second ≡ commits.oldest.pair.unsequence
-    second_has ne = number_has told known flush.unsequence flush.pair.unsequence commits.unsequence ne
-        ∙ ap (λ (pair : Pair). pair.unsequence) (sym pair_is)
+    second_has ne = rw pair_is (number_has _ _ _ _ commits.unsequence ne)
 
     abbrev more_sequence : List File
     more_sequence = new_file first commits.oldest.born
@@ -224,63 +169,33 @@ module _ (told : Told) (known : Entries) (named : List ℕ) (state : EngineState
     }
 
     is_put : flushed first second old ≡ purged put
-    is_put = flushed_is told old commits.oldest commits.newer first second commits.are first_is second_is first_has
-        second_has order.store
+    is_put = ap (λ frozen. flush_oldest first second frozen old) commits.are
 
     pub flush_in_order : StoreInOrder told (flushed first second old)
-    flush_in_order = flushed_in_order told old commits.oldest commits.newer first second commits.are first_is second_is
-        first_has second_has order.store
+    flush_in_order = flushed_in_order _ _ _ _ _ _ commits.are first_is second_is first_has second_has order.store
 
     pub flush_keeps : KeepsWorld told old (flushed first second old)
-    flush_keeps = flushed_keeps told old commits.oldest commits.newer first second commits.are first_is second_is
-        first_has
-        second_has order.store
+    flush_keeps = flushed_keeps _ _ _ _ _ _ commits.are first_is second_is first_has second_has order.store
 
     late_before : IsBefore (file_layers told old.unsequence) (file_layers told more_sequence)
-    late_before = before_part (file_layers told old.unsequence) (file_layers told more_sequence)
-        (file_layers told old.unsequence ++ unsequence_layer commits.oldest ∷ []) (sequence_layer commits.oldest ∷ [])
-        (part_left (file_layers told old.unsequence) (unsequence_layer commits.oldest ∷ []))
-        (first_points told old commits.oldest commits.newer first second commits.are first_is second_is first_has
-        second_has
-        order.store)
+    late_before = before_part _ _ _ (sequence_layer commits.oldest ∷ []) (part_left _ _)
+        (first_points _ old _ commits.newer _ _ first_is second_is first_has second_has)
         (subst (LateIsBelow (file_layers told old.unsequence)) commits.are order.store.layers.late).0
 
     jobs : CompactionsInOrder told old.stamp (purged put).marks put.sequence put.unsequence state.compactions
-    jobs = record {
-      kinds = order.compactions.kinds;
-      stand = stand state.compactions order.compactions.stand;
-      apart = order.compactions.apart;
-      marked = all state.compactions order.compactions.kinds order.compactions.stand order.compactions.marked;
-    }
-      where
-        stands : (job : Compaction) → Stands job.space told old.sequence old.unsequence job
-            → Stands job.space told put.sequence put.unsequence job
-        stands job = stands_more told old.sequence old.unsequence more_sequence more_unsequence job job.space
-            late_before
-
-        stand : (jobs : List Compaction) → Each (λ job. Stands job.space told old.sequence old.unsequence job) jobs
-            → Each (λ job. Stands job.space told put.sequence put.unsequence job) jobs
-        stand = each_weaker (λ job. Stands job.space told old.sequence old.unsequence job)
-            (λ job. Stands job.space told put.sequence put.unsequence job) stands
-
-        all : (jobs : List Compaction) → Each (λ job. HasKind job.space job) jobs
-            → Each (λ job. Stands job.space told old.sequence old.unsequence job) jobs
-            → Each (KeepsItsMarks told old.stamp old.marks) jobs
-            → Each (KeepsItsMarks told old.stamp (purged put).marks) jobs
-        all [] kinds stand marked = tt
-        all (job ∷ jobs) kinds stand marked = (
-          purge_kept told old.stamp old.marks put job kinds.0 (stands job stand.0) marked.0,
-          all jobs kinds.1 stand.1 marked.1,
-        )
+    jobs = jobs_moved _ order.compactions.kinds (λ job k kind stands marked.
+        let new = stands_more _ _ _ _ _ _ _ late_before
+        stands in
+        (new, purge_kept _ _ _ put _ kind new marked)) order.compactions
 
     entries : Each (λ (file : File). Describes (known file.number) (told file.number)) (put.sequence ++ put.unsequence)
     entries =
         let P = λ (file : File). Describes (known file.number) (told file.number) in
-        each_append P put.sequence put.unsequence
-        (each_append P old.sequence more_sequence (each_left P old.sequence old.unsequence order.entries)
-        (new_entry told known flush.sequence commits.oldest.born flush.pair.sequence commits.sequence))
-        (each_append P old.unsequence more_unsequence (each_right P old.sequence old.unsequence order.entries)
-        (new_entry told known flush.unsequence commits.oldest.born flush.pair.unsequence commits.unsequence))
+        each_append P put.sequence put.unsequence (each_append P old.sequence _
+        (each_left P old.sequence old.unsequence order.entries)
+        (new_entry _ _ _ commits.oldest.born _ commits.sequence))
+        (each_append P old.unsequence _ (each_right P old.sequence old.unsequence order.entries)
+        (new_entry _ _ _ commits.oldest.born _ commits.unsequence))
 
     -- the store of the flush, seen as that before its purge
     as_put : (P : StoreState → Type 0) → P (purged put) → P (flushed first second old)
@@ -288,36 +203,24 @@ module _ (told : Told) (known : Entries) (named : List ℕ) (state : EngineState
 
     files_more : (n : ℕ) → count n (numbers_of (files_of state))
         ≤ count n (numbers_of ((put.sequence ++ put.unsequence) ++ (state.outgoing ++ [])))
-    files_more n = omega (
-      arith,
-      count_files n (old.sequence ++ old.unsequence) state.outgoing,
-      count_files n old.sequence old.unsequence,
-      count_files n (put.sequence ++ put.unsequence) (state.outgoing ++ []),
-      count_files n put.sequence put.unsequence,
-      count_files n old.sequence more_sequence,
-      count_files n old.unsequence more_unsequence,
-      count_files n state.outgoing [],
-    )
+    files_more n = omega (arith, count_files)
 
     pub commit_flush_step : IsInOrder told known (names (flush_record flush) ++ named)
         (committed_flush flush others state)
     commit_flush_step = record {
       store = flush_in_order;
       flushes = as_put (λ store. Each (IsFlushOut store.stamp store.frozen store.working) others)
-          (each_weaker (IsFlushOut old.stamp old.frozen old.working) (IsFlushOut old.stamp commits.newer old.working)
-          (λ other. tail_flush old.stamp old.frozen old.working commits.oldest commits.newer other commits.are) others
-          (with_one_each (IsFlushOut old.stamp old.frozen old.working) flush others state.flushes commits.out
-          order.flushes));
+          (each_weaker _ _ (λ other. tail_flush _ _ _ _ _ _ commits.are) _
+          (with_one_each _ _ _ _ commits.out order.flushes));
       compactions = as_put (λ store. CompactionsInOrder told store.stamp store.marks store.sequence store.unsequence
           state.compactions) jobs;
-      numbers = committed_flush_numbers told known named flush others state commits order.numbers;
+      numbers = committed_flush_numbers _ _ _ _ _ _ commits order.numbers;
       entries = as_put (λ store. Each (λ (file : File). Describes (known file.number) (told file.number))
           (store.sequence ++ store.unsequence)) entries;
-      rights = as_put (λ store. RightsMatch state.rights
-          ((store.sequence ++ store.unsequence) ++ (state.outgoing ++ [])) (held_numbers state.compactions state.pins))
-          (rights_more state.rights (files_of state) ((put.sequence ++ put.unsequence) ++ (state.outgoing ++ []))
-          (held_numbers state.compactions state.pins) order.rights files_more);
-      room = room_without_flush flush others state.room state.flushes state.compactions commits.out order.room;
+      rights =
+          as_put (λ store. RightsMatch state.rights ((store.sequence ++ store.unsequence) ++ (state.outgoing ++ []))
+          (held_numbers state.compactions state.pins)) (rights_more _ _ _ _ order.rights files_more);
+      room = room_without_flush _ _ _ _ _ commits.out order.room;
       doubt = tt;
     }
 
@@ -328,20 +231,17 @@ module _ (told : Told) (known : Entries) (named : List ℕ) (state : EngineState
       are = commits.are;
       sequence_part = first_is;
       unsequence_part = second_is;
-      fresh = are_new named state.next_file (files_of state) (drawn_numbers state.flushes state.compactions)
-          (new_numbers (first ∷ second ∷ [])) order.numbers
-          (λ n. omega (
-            arith,
-            count_new_two n first second,
-            count_number n flush.sequence,
-            count_number n flush.unsequence,
-            drawn n,
-          ));
+      fresh = are_new _ _ _ _ _ order.numbers (λ n. omega (
+        arith,
+        count_new_two n first second,
+        count_number n flush.sequence,
+        count_number n flush.unsequence,
+        drawn n,
+      ));
     }
 
     -- the record in doubt, where its files are on their way out
     pub flush_doubt : (outgoing : List File)
         → Each (λ number. Among number (numbers_of outgoing)) (names (flush_record flush))
         → DoubtInOrder told named old outgoing (flush_record flush)
-    flush_doubt outgoing kept =
-        record { can = flush_can; order = flush_in_order; world = flush_keeps; kept = kept }
+    flush_doubt outgoing kept = record { can = flush_can; order = flush_in_order; world = flush_keeps; kept = kept }

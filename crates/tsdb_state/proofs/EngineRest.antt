@@ -1,9 +1,8 @@
 -- Pins and sweeps keep an engine in order.
-use Rattle.std.proofs.Common.{◌≡◌, ℕ, ◌+◌, ◌≤◌, Bool, true, false, cond, List, [], ◌∷◌, ◌++◌, map, inl, inr}
-use Rattle.std.proofs.Common.{refl}
-use Rattle.std.proofs.Common.{suc, zero, sym, ap, ◌∙◌, subst, arith}
+use Rattle.std.proofs.Common.{◌≡◌, ℕ, ◌≤◌, Bool, true, false, cond, List, ◌∷◌, ◌++◌, map, inl, inr, refl}
+use Rattle.std.proofs.Common.{sym, ap, ◌∙◌, subst, arith, [], ⊎_elim}
 use Rattle.std.specs.FinMap.{len, retain_keys}
-use Rattle.std.specs.Prelude.{◌==◌, ◌||◌, nat_eq, nat_lt, not, Option, Some, None, IfSome}
+use Rattle.std.specs.Prelude.{◌||◌, nat_eq, nat_lt, not, Option, Some, None, IfSome}
 use Rattle.std.specs.List.{AllByRecursion as Each, filter, flat_map, list_any}
 use Rattle.std.proofs.lemmas.Bool.Decides.{nat_tests}
 use Rattle.tsdb_base.specs.declared.point.Range.{Range}
@@ -12,16 +11,16 @@ use Rattle.tsdb_layers.specs.Layers.{Layer}
 use Rattle.tsdb_layers.specs.Places.{is_within}
 use Rattle.tsdb_layers.specs.Lists.{Among, IsWithOne, count}
 use Rattle.tsdb_log.specs.declared.record.LogRecord.{LogRecord}
+use Rattle.tsdb_state.proofs.Counting.{some_of_sum}
 use Rattle.tsdb_state.proofs.Holding.{held_by_pin, held_with_pin, rights_returned, rights_taken, swept_rights}
-use Rattle.tsdb_state.proofs.Numbering.{count_files, count_flat, count_filter, swept_numbers}
+use Rattle.tsdb_state.proofs.Numbering.{count_files, count_filter, count_flat, swept_numbers}
 use Rattle.tsdb_state.specs.Jobs.{held_numbers, pin_numbers, source_numbers}
 use Rattle.tsdb_state.specs.Order.{DoubtInOrder, IsInOrder, files_of}
 use Rattle.tsdb_state.specs.Records.{names, numbers_of}
 use Rattle.tsdb_state.specs.State.{Column, EngineState, Entries, File, FromFile, FromPart, FrozenPair, Pin, Source}
 use Rattle.tsdb_state.specs.State.{StoreState, Told}
-use Rattle.tsdb_state.specs.Steps.{Sweeps, TakesPin, file_sources, has_series, part_sources, part_within, pinned}
-use Rattle.tsdb_state.specs.Steps.{sources_of, swept}
-use Rattle.tsdb_state.specs.Steps.{unpinned}
+use Rattle.tsdb_state.specs.Steps.{Sweeps, TakesPin, file_sources, part_sources, part_within, pinned}
+use Rattle.tsdb_state.specs.Steps.{sources_of, swept, unpinned}
 use Rattle.tsdb_state.specs.Views.{sequence_layer, unsequence_layer, working_pair}
 
 files_only : (files : List File) → flat_map source_numbers (map FromFile files) ≡ numbers_of files
@@ -36,14 +35,12 @@ parts_only f (layer ∷ layers) = parts_only f layers
 module _ (known : Entries) (state : StoreState) (path : List ℕ) (range : Range) where
   of_files : (n : ℕ) (files : List File) → count n (flat_map source_numbers (file_sources known path files))
       ≤ count n (numbers_of files)
-  of_files n files = subst (λ numbers. count n numbers ≤ count n (numbers_of files))
-      (sym (files_only (filter (has_series known path) files))) (count_filter n (has_series known path) files)
+  of_files n files =
+      subst (λ numbers. count n numbers ≤ count n (numbers_of files)) (sym (files_only _)) (count_filter n _ _)
 
   of_parts : (n : ℕ) (layers : List Layer) → count n (flat_map source_numbers (part_sources path range layers)) ≡ 0
-  of_parts n layers = ap (count n)
-      (parts_only (part_within path range) (filter
-      (λ layer. nat_lt 0 (len (retain_keys layer.content
-      (is_within path range)))) layers))
+  of_parts n layers = ap (count n) (parts_only (part_within path range)
+      (filter (λ layer. nat_lt 0 (len (retain_keys layer.content (is_within path range)))) layers))
 
   abbrev parts : (FrozenPair → Layer) → List Source
   parts f = part_sources path range (map f (state.frozen ++ working_pair state ∷ []))
@@ -69,28 +66,14 @@ columns_listed : (known : Entries) (state : StoreState) (range : Range) (n : ℕ
     → 1 ≤ count n (numbers_of (state.sequence ++ state.unsequence))
 columns_listed known state range n [] are h = absurd (omega arith)
 columns_listed known state range n (column ∷ columns) are h =
-    either (count n (flat_map source_numbers column.sources))
-    (count n (flat_map (λ column. flat_map source_numbers column.sources) columns))
-    (count n (numbers_of (state.sequence ++ state.unsequence)))
-    (subst
-    (λ sources. count n (flat_map source_numbers sources) ≤ count n (numbers_of (state.sequence ++
-    state.unsequence)))
-    (sym are.0) (sources_listed known state column.path range n))
-    (λ k. columns_listed known state range n columns are.1 k)
+    let here : count n (flat_map source_numbers column.sources)
+    ≤ count n (numbers_of (state.sequence ++ state.unsequence)) =
+    rw are.0 (sources_listed known state column.path range n) in
+    ⊎_elim (λ some. omega (arith, here, some)) (columns_listed known state range n columns are.1) (some_of_sum _ _
     (subst (λ m. 1 ≤ m) (count_append n (flat_map source_numbers column.sources)
-    (flat_map (λ column. flat_map source_numbers column.sources) columns)) h)
-  where
-    either : (a b c : ℕ) → a ≤ c → (1 ≤ b → 1 ≤ c) → 1 ≤ a + b → 1 ≤ c
-    either a b c h rest some = by b rest some
-      where
-        by : (b : ℕ) → (1 ≤ b → 1 ≤ c) → 1 ≤ a + b → 1 ≤ c
-        by zero rest some = omega arith
-        by (suc b) rest some = rest (omega arith)
+    (flat_map (λ (column : Column). flat_map source_numbers column.sources) columns)) h))
 
 -- what is not swept stays
-
-same_number : (a n : ℕ) → (a == n) ≡ true → a ≡ n
-same_number a n e = grind (arith, nat_tests)
 
 pub not_among : (n : ℕ) (numbers : List ℕ) → (Among n numbers → ⊥) → list_any (nat_eq n) numbers ≡ false
 not_among n [] never = refl
@@ -104,95 +87,66 @@ not_among n (m ∷ numbers) never = by (nat_eq n m) refl (not_among n numbers (�
     by true e rest = absurd (never (inl (turned n m e)))
     by false e rest = ap (λ b. b || list_any (nat_eq n) numbers) e ∙ rest
 
+abbrev left : List ℕ → List File → List File
+left numbers outgoing = filter (λ file. not (list_any (nat_eq file.number) numbers)) outgoing
+
 stays : (n : ℕ) (numbers : List ℕ) (outgoing : List File) → (Among n numbers → ⊥) → Among n (numbers_of outgoing)
-    → Among n (numbers_of (filter (λ file. not (list_any (nat_eq file.number) numbers)) outgoing))
+    → Among n (numbers_of (left numbers outgoing))
 stays n numbers [] never among = absurd among
 stays n numbers (file ∷ outgoing) never (inl is) =
-    subst (λ b. Among n (numbers_of (cond (not b) (file ∷ rest) rest)))
-    (sym (ap (λ m. list_any (nat_eq m) numbers) is ∙ not_among n numbers never)) (inl is)
+    let out : list_any (nat_eq file.number) numbers ≡ false = subst (λ m. list_any (nat_eq m) numbers ≡ false) (sym is)
+    (not_among n _ never) in
+    rw out (inl is)
+stays n numbers (file ∷ outgoing) never (inr among) = by (list_any (nat_eq file.number) numbers)
+    (stays n numbers outgoing never among)
   where
-    rest : List File
-    rest = filter (λ file. not (list_any (nat_eq file.number) numbers)) outgoing
-stays n numbers (file ∷ outgoing) never (inr among) =
-    by (list_any (nat_eq file.number) numbers) (stays n numbers outgoing never among)
-  where
-    by : (b : Bool) → Among n (numbers_of (filter (λ file. not (list_any (nat_eq file.number) numbers)) outgoing))
-        → Among n (numbers_of (cond (not b) (file ∷ filter
-        (λ file. not (list_any (nat_eq file.number) numbers)) outgoing)
-        (filter (λ file. not (list_any (nat_eq file.number) numbers)) outgoing)))
+    by : (b : Bool) → Among n (numbers_of (left numbers outgoing))
+        → Among n (numbers_of (cond (not b) (file ∷ left numbers outgoing) (left numbers outgoing)))
     by true h = h
     by false h = inr h
 
 doubt_stays : (told : Told) (named : List ℕ) (state : StoreState) (outgoing : List File) (numbers : List ℕ)
     (doubt : Option LogRecord) → Each (λ number. IfSome doubt (λ item. Among number (names item) → ⊥)) numbers
     → IfSome doubt (DoubtInOrder told named state outgoing)
-    → IfSome doubt (DoubtInOrder told named state
-    (filter (λ file. not (list_any (nat_eq file.number) numbers)) outgoing))
+    → IfSome doubt (DoubtInOrder told named state (left numbers outgoing))
 doubt_stays told named state outgoing numbers None settled order = order
 doubt_stays told named state outgoing numbers (Some item) settled order = record {
   can = order.can;
   order = order.order;
   world = order.world;
-  kept = each_from_among _ (names item) (λ n among. stays n numbers outgoing
-      (λ h. each_among (λ number. Among number (names item) → ⊥) numbers n settled h among)
-      (each_among (λ n. Among n (numbers_of outgoing)) (names item) n order.kept among));
+  kept = each_from_among _ _ (λ n among. stays n numbers outgoing (λ h. each_among _ _ n settled h among)
+      (each_among _ _ n order.kept among));
 }
 
 module _ (told : Told) (known : Entries) (named : List ℕ) (state : EngineState)
     (order : IsInOrder told known named state) where
   pub pin_step : (pin : Pin) → TakesPin known pin state → IsInOrder told known named (pinned pin state)
-  pin_step pin takes = record {
-    store = order.store;
-    flushes = order.flushes;
-    compactions = order.compactions;
-    numbers = order.numbers;
-    entries = order.entries;
-    rights = rights_taken state.rights (files_of state) (held_numbers state.compactions state.pins) (pin_numbers pin)
-        (held_numbers state.compactions (pin ∷ state.pins)) order.rights
-        (λ n. held_with_pin n pin state.compactions state.pins)
-        (λ n h. there n (columns_listed known state.store pin.range n pin.columns takes.columns h));
-    room = order.room;
-    doubt = order.doubt;
-  }
-    where
-      there : (n : ℕ) → 1 ≤ count n (numbers_of (state.store.sequence ++ state.store.unsequence))
-          → 1 ≤ count n (numbers_of (files_of state))
-      there n h = omega (arith, count_files n (state.store.sequence ++ state.store.unsequence) state.outgoing)
+  pin_step pin takes =
+      let rights = rights_taken state.rights (files_of state) _ (pin_numbers pin)
+      (held_numbers state.compactions (pin ∷ state.pins)) order.rights
+      (λ n. held_with_pin n pin state.compactions state.pins) (λ n h. omega (
+        arith,
+        count_files n (state.store.sequence ++ state.store.unsequence) state.outgoing,
+        columns_listed known state.store pin.range n pin.columns takes.columns h,
+      )) in
+      search
 
   pub unpin_step : (pin : Pin) (others : List Pin) → IsWithOne pin others state.pins
       → IsInOrder told known named (unpinned pin others state)
-  unpin_step pin others out = record {
-    store = order.store;
-    flushes = order.flushes;
-    compactions = order.compactions;
-    numbers = order.numbers;
-    entries = order.entries;
-    rights = rights_returned state.rights (files_of state) (files_of state) (held_numbers state.compactions state.pins)
-        (pin_numbers pin) (held_numbers state.compactions others) order.rights
-        (λ n. held_by_pin n pin others state.pins state.compactions out)
-        (λ n. same (count n (numbers_of (files_of state))));
-    room = order.room;
-    doubt = order.doubt;
-  }
-    where
-      same : (m : ℕ) → m ≤ m
-      same m = omega arith
+  unpin_step pin others out =
+      let rights = rights_returned state.rights (files_of state) (files_of state) _ (pin_numbers pin)
+      (held_numbers state.compactions others) order.rights (λ n. held_by_pin n pin others state.pins state.compactions
+      out) (λ n. omega arith) in
+      search
 
   pub sweep_step : (numbers : List ℕ) → Sweeps numbers state → IsInOrder told known named (swept numbers state)
-  sweep_step numbers sweeps = record {
-    store = order.store;
-    flushes = order.flushes;
-    compactions = order.compactions;
-    numbers = swept_numbers named numbers state order.numbers;
-    entries = order.entries;
-    rights = swept_rights numbers state sweeps.free order.rights;
-    room = order.room;
-    doubt = doubt_stays told named state.store state.outgoing numbers state.doubt sweeps.settled order.doubt;
-  }
+  sweep_step numbers sweeps =
+      let numbers_left = swept_numbers named numbers state order.numbers in
+      let rights = swept_rights numbers state sweeps.free order.rights in
+      let doubt = doubt_stays told named state.store state.outgoing numbers state.doubt sweeps.settled order.doubt in
+      search
 
   -- no job and no pin has a right on a file that is swept
   pub swept_free : (numbers : List ℕ) → Sweeps numbers state
       → Each (λ number. count number (held_numbers state.compactions state.pins) ≡ 0) numbers
-  swept_free numbers sweeps = each_weaker (λ number. state.rights number ≡ 0)
-      (λ number. count number (held_numbers state.compactions state.pins) ≡ 0)
-      (λ number free. sym (order.rights.counts number) ∙ free) numbers sweeps.free
+  swept_free numbers sweeps = each_weaker _ _ (λ number free. sym (order.rights.counts number) ∙ free) _ sweeps.free

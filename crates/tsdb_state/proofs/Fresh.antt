@@ -13,7 +13,7 @@ use Rattle.tsdb_state.proofs.Counting.{rights_match}
 use Rattle.tsdb_state.specs.Jobs.{NumbersInOrder, RightsMatch}
 use Rattle.tsdb_state.specs.Limits.{end_of_numbers}
 use Rattle.tsdb_state.specs.Order.{DoubtInOrder}
-use Rattle.tsdb_state.specs.Records.{AreNew, names, numbers_of}
+use Rattle.tsdb_state.specs.Records.{AreNew, numbers_of}
 use Rattle.tsdb_state.specs.State.{File, StoreState, Told}
 
 is_itself : (n : ℕ) → (n == n) ≡ true
@@ -31,10 +31,7 @@ behind false m h = omega arith
 
 pub each_counted : (P : ℕ → Type 0) (xs : List ℕ) → ((n : ℕ) → 1 ≤ count n xs → P n) → Each P xs
 each_counted P [] all = tt
-each_counted P (x ∷ xs) all = (
-  all x (at_least (count x (x ∷ xs)) (count x xs) (count_here x xs)),
-  each_counted P xs (λ n h. all n (behind (x == n) (count n xs) h)),
-)
+each_counted P (x ∷ xs) all = (all x (at_least _ _ (count_here x _)), each_counted P xs (λ n h. all n (behind _ _ h)))
 
 twice : (a b : ℕ) → a ≡ 1 + b → a ≤ 1 → 1 ≤ b → ⊥
 twice a b e h k = omega arith
@@ -46,19 +43,17 @@ less false m h = omega arith
 pub pairs_counted : (xs : List ℕ) → ((n : ℕ) → count n xs ≤ 1) → EachPair (λ a b. a ≢ b) xs
 pairs_counted [] few = tt
 pairs_counted (x ∷ xs) few = (
-  each_counted (λ y. x ≢ y) xs (λ n h e. twice (count x (x ∷ xs)) (count x xs) (count_here x xs) (few x)
-      (subst (λ m. 1 ≤ count m xs) (sym e) h)),
-  pairs_counted xs (λ n. less (x == n) (count n xs) (few n)),
+  each_counted _ _ (λ n h e. twice _ _ (count_here x _) (few x) (subst (λ m. 1 ≤ count m xs) (sym e) h)),
+  pairs_counted xs (λ n. less _ _ (few n)),
 )
 
 -- numbers among those that are drawn
 pub are_new : (named : List ℕ) (next : ℕ) (files : List File) (drawn xs : List ℕ)
     → NumbersInOrder named next files drawn → ((n : ℕ) → count n xs ≤ count n drawn) → AreNew named xs
 are_new named next files drawn xs order few = record {
-  within = each_counted (λ n. n < end_of_numbers) xs
-      (λ n h. below n (order.range n (among n h)).1 order.end);
-  unnamed = each_counted (λ n. count n named ≡ 0) xs (λ n h. order.unnamed n (drawn_too n h));
-  differ = pairs_counted xs (λ n. fewer n (few n) (order.differ n));
+  within = each_counted _ _ (λ n h. below n (order.range n (among n h)).1 order.end);
+  unnamed = each_counted _ _ (λ n h. order.unnamed n (drawn_too n h));
+  differ = pairs_counted _ (λ n. fewer n (few n) (order.differ n));
 }
   where
     drawn_too : (n : ℕ) → 1 ≤ count n xs → 1 ≤ count n drawn
@@ -83,13 +78,11 @@ doubt_more told named state outgoing built (Some item) order = record {
   can = order.can;
   order = order.order;
   world = order.world;
-  kept = each_weaker (λ n. Among n (numbers_of outgoing)) (λ n. Among n (numbers_of (outgoing ++ built)))
-      (λ n among. subst (Among n) (sym (map-append (λ (f : File). f.number) outgoing built))
-      (among_left (numbers_of outgoing) (numbers_of built) n among)) (names item) order.kept;
+  kept = each_weaker _ _ (λ n among. subst (Among n) (sym (map-append _ _ _)) (among_left _ _ n among)) _ order.kept;
 }
 
 -- rights where more files are there
 pub rights_more : (rights : ℕ → ℕ) (files new : List File) (held : List ℕ) → RightsMatch rights files held
     → ((n : ℕ) → count n (numbers_of files) ≤ count n (numbers_of new)) → RightsMatch rights new held
-rights_more rights files new held match more = rights_match rights rights files new held held match match.counts
-    (λ n some. some) (λ n some. more n)
+rights_more rights files new held match more =
+    rights_match _ _ _ _ _ _ match match.counts (λ n some. some) (λ n some. more n)

@@ -1,16 +1,16 @@
 -- Over each step the rights that are out are those of the jobs and pins, and the room kept is enough for the jobs.
-use Rattle.std.proofs.Common.{◌≡◌, ℕ, zero, suc, ◌+◌, ◌-◌, ◌≤◌, Bool, true, false, cond, not, max, List, [], ◌∷◌, ◌++◌}
+use Rattle.std.proofs.Common.{◌≡◌, ℕ, zero, suc, ◌+◌, ◌-◌, ◌≤◌, Bool, true, false, cond, not, List, [], ◌∷◌, ◌++◌}
 use Rattle.std.proofs.Common.{length}
 use Rattle.std.proofs.Common.{refl, sym, ap, ◌∙◌, subst, arith}
-use Rattle.std.specs.Prelude.{◌==◌, ◌||◌, nat_eq, sum_by}
+use Rattle.std.specs.Prelude.{◌||◌, nat_eq, sum_by}
 use Rattle.std.specs.List.{AllByRecursion as Each, filter, flat_map, list_any}
 use Rattle.std.proofs.lemmas.Bool.{false≢true}
 use Rattle.std.proofs.lemmas.List.Sums.{sum_by-append, sum_by-cons}
 use Rattle.tsdb_base.specs.declared.ids.Space.TheVariants.{Sequence, Unsequence}
 use Rattle.tsdb_layers.specs.Lists.{IsWithOne, count, if_some}
 use Rattle.tsdb_layers.proofs.Lists.{count_append, each_weaker, with_one_each}
-use Rattle.tsdb_state.specs.Jobs.{KeepsRoom, RightsMatch, drawn_by, flushed_bytes, held_numbers, job_inputs}
-use Rattle.tsdb_state.specs.Jobs.{outgoing_places, output_places, pin_numbers, replaced_bytes}
+use Rattle.tsdb_state.specs.Jobs.{KeepsRoom, RightsMatch, drawn_by, held_numbers, job_inputs}
+use Rattle.tsdb_state.specs.Jobs.{outgoing_places, output_places, pin_numbers}
 use Rattle.tsdb_state.specs.Order.{files_of}
 use Rattle.tsdb_state.specs.Records.{numbers_of}
 use Rattle.tsdb_state.specs.State.{Compaction, EngineState, File, FlushJob, Pin, Room}
@@ -23,9 +23,7 @@ use Rattle.tsdb_state.proofs.Numbering.{count_files, count_with_one}
 count_held : (n : ℕ) (compactions : List Compaction) (pins : List Pin)
     → count n (held_numbers compactions pins)
     ≡ count n (flat_map (λ job. numbers_of (job_inputs job)) compactions) + count n (flat_map pin_numbers pins)
-count_held n compactions pins =
-    count_append n (flat_map
-    (λ (job : Compaction). numbers_of (job_inputs job)) compactions) (flat_map pin_numbers pins)
+count_held n compactions pins = count_append n _ _
 
 -- the rights of a state match
 abbrev pub HasRights : EngineState → Type 0
@@ -50,9 +48,11 @@ pub rights_returned : (rights : ℕ → ℕ) (files more : List File) (held take
     → RightsMatch rights files held → ((n : ℕ) → count n held ≡ count n taken + count n left)
     → ((n : ℕ) → count n (numbers_of files) ≤ count n (numbers_of more))
     → RightsMatch (without_rights taken rights) more left
-rights_returned rights files more held taken left match is kept =
-    rights_match rights (without_rights taken rights) files more held left match
+rights_returned rights files more held taken left match is kept = rights_match _ _ _ _ _ _ match
     (λ n. omega (arith, match.counts n, is n)) (λ n some. omega (arith, is n, some)) (λ n some. kept n)
+
+one_more : {X : Type 0} (x : X) (xs : List X) → IsWithOne x xs (x ∷ xs)
+one_more x xs = record { before = []; behind = xs; with_it = refl; without = refl }
 
 pub held_by_job : (n : ℕ) (job : Compaction) (others all : List Compaction) (pins : List Pin) → IsWithOne job others all
     → count n (held_numbers all pins) ≡ count n (numbers_of (job_inputs job)) + count n (held_numbers others pins)
@@ -75,56 +75,28 @@ held_by_pin n pin others all compactions out = omega (
 pub held_with_job : (n : ℕ) (job : Compaction) (compactions : List Compaction) (pins : List Pin)
     → count n (held_numbers (job ∷ compactions) pins)
     ≡ count n (numbers_of (job_inputs job)) + count n (held_numbers compactions pins)
-held_with_job n job compactions pins = omega (
-  arith,
-  count_held n (job ∷ compactions) pins,
-  count_held n compactions pins,
-  count_append n (numbers_of (job_inputs job)) (flat_map
-      (λ (job : Compaction). numbers_of (job_inputs job)) compactions),
-)
+held_with_job n job compactions pins = held_by_job n job compactions _ pins (one_more _ _)
 
 pub held_with_pin : (n : ℕ) (pin : Pin) (compactions : List Compaction) (pins : List Pin)
     → count n (held_numbers compactions (pin ∷ pins))
     ≡ count n (pin_numbers pin) + count n (held_numbers compactions pins)
-held_with_pin n pin compactions pins = omega (
-  arith,
-  count_held n compactions (pin ∷ pins),
-  count_held n compactions pins,
-  count_append n (pin_numbers pin) (flat_map pin_numbers pins),
-)
-
--- a number that is not swept is another than one that is
-is_other : (a n : ℕ) (numbers : List ℕ) → list_any (nat_eq n) numbers ≡ false → list_any (nat_eq a) numbers ≡ true
-    → (a ≡ n → ⊥)
-is_other a n numbers out found same =
-    let left : list_any (nat_eq n) numbers ≡ true = subst (λ m. list_any (nat_eq m) numbers ≡ true) same found in
-    false≢true (sym out ∙ left)
-
-none_of_other : (a n m : ℕ) → (a ≡ n → ⊥) → cond (a == n) 1 0 + m ≡ m
-none_of_other a n m other = is_or_not a n (λ e. absurd (other e)) (λ e. omega (arith, zero_of (a == n) e))
-  where
-    zero_of : (b : Bool) → b ≡ false → cond b 1 0 ≡ zero
-    zero_of true e = absurd cc
-    zero_of false e = refl
+held_with_pin n pin compactions pins = held_by_pin n pin pins _ compactions (one_more _ _)
 
 -- a sweep leaves each file on which a right is out
 count_kept : (n : ℕ) (numbers : List ℕ) (files : List File) → list_any (nat_eq n) numbers ≡ false
     → count n (numbers_of files)
     ≤ count n (numbers_of (filter (λ file. not (list_any (nat_eq file.number) numbers)) files))
 count_kept n numbers [] out = omega arith
-count_kept n numbers (file ∷ files) out =
-    by (list_any (nat_eq file.number) numbers) refl (count_kept n numbers files out)
+count_kept n numbers (file ∷ files) out = by (list_any (nat_eq file.number) numbers) refl
+    (count_kept n numbers files out)
   where
     left : List File
     left = filter (λ file. not (list_any (nat_eq file.number) numbers)) files
 
     by : (b : Bool) → list_any (nat_eq file.number) numbers ≡ b → count n (numbers_of files) ≤ count n (numbers_of left)
         → count n (numbers_of (file ∷ files)) ≤ count n (numbers_of (cond (not b) (file ∷ left) left))
-    by true e rest = omega (
-      arith,
-      rest,
-      none_of_other file.number n (count n (numbers_of files)) (is_other file.number n numbers out e),
-    )
+    by true e rest = is_or_not file.number n (λ same. absurd (false≢true
+        (sym out ∙ subst (λ m. list_any (nat_eq m) numbers ≡ true) same e))) (λ other. rw other (omega (arith, rest)))
     by false e rest = omega (arith, rest)
 
 not_swept : (rights : ℕ → ℕ) (numbers : List ℕ) → Each (λ number. rights number ≡ 0) numbers → (n : ℕ) → 1 ≤ rights n
@@ -139,17 +111,12 @@ not_swept rights (m ∷ numbers) free n some = by (nat_eq n m) refl (not_swept r
 
 pub swept_rights : (numbers : List ℕ) (state : EngineState) → Each (λ number. state.rights number ≡ 0) numbers
     → HasRights state → HasRights (swept numbers state)
-swept_rights numbers state free match =
-    rights_match state.rights state.rights (files_of state) (files_of (swept numbers state))
-    (held_numbers state.compactions state.pins) (held_numbers state.compactions state.pins) match match.counts
-    (λ n some. some)
-    (λ n some. omega (
-      arith,
-      count_files n (state.store.sequence ++ state.store.unsequence) state.outgoing,
-      count_files n (state.store.sequence ++ state.store.unsequence) (swept numbers state).outgoing,
-      count_kept n numbers state.outgoing
-          (not_swept state.rights numbers free n (omega (arith, match.counts n, some))),
-    ))
+swept_rights numbers state free match = rights_match _ _ _ _ _ _ match match.counts (λ n some. some) (λ n some. omega (
+  arith,
+  count_files n (state.store.sequence ++ state.store.unsequence) state.outgoing,
+  count_files n (state.store.sequence ++ state.store.unsequence) (swept numbers state).outgoing,
+  count_kept n numbers state.outgoing (not_swept state.rights numbers free n (omega (arith, match.counts n, some))),
+))
 
 -- room
 
@@ -164,98 +131,85 @@ sum_with_one f x others all out = omega (
   sum_by-cons f x out.behind,
 )
 
+-- a flush or a compaction more, or one less, with the room for its end
+record FlushSums (flush : FlushJob) (others all : List FlushJob) : Type 0 where
+  sequence : sum_by (λ f. length (if_some f.sequence)) all
+      ≡ length (if_some flush.sequence) + sum_by (λ f. length (if_some f.sequence)) others
+  unsequence : sum_by (λ f. length (if_some f.unsequence)) all
+      ≡ length (if_some flush.unsequence) + sum_by (λ f. length (if_some f.unsequence)) others
+  outgoing : sum_by (λ f. length (drawn_by f)) all
+      ≡ length (drawn_by flush) + sum_by (λ f. length (drawn_by f)) others
+
+flush_sums : (flush : FlushJob) (others all : List FlushJob) → IsWithOne flush others all → FlushSums flush others all
+flush_sums flush others all out = record {
+  sequence = sum_with_one _ _ _ _ out;
+  unsequence = sum_with_one _ _ _ _ out;
+  outgoing = sum_with_one _ _ _ _ out;
+}
+
 pub room_with_flush : (flush : FlushJob) (room : Room) (flushes : List FlushJob) (compactions : List Compaction)
     → KeepsRoom room flushes compactions
     → KeepsRoom (flush_room (λ a b. a + b) flush room) (flush ∷ flushes) compactions
-room_with_flush flush room flushes compactions keeps = record {
-  sequence = omega (arith, keeps.sequence, sum_by-cons (λ (f : FlushJob). length (if_some f.sequence)) flush flushes);
-  unsequence =
-      omega (arith, keeps.unsequence, sum_by-cons (λ (f : FlushJob). length (if_some f.unsequence)) flush flushes);
-  outgoing = omega (arith, keeps.outgoing, sum_by-cons (λ (f : FlushJob). length (drawn_by f)) flush flushes);
-  flushed = (
-    omega arith,
-    each_weaker (λ (f : FlushJob). flushed_bytes ≤ room.record_bytes)
-        (λ f. flushed_bytes ≤ max flushed_bytes room.record_bytes)
-        (λ f fits. omega (arith, fits)) flushes keeps.flushed,
-  );
-  replaced = each_weaker (λ (job : Compaction). replaced_bytes job ≤ room.record_bytes)
-      (λ job. replaced_bytes job ≤ max flushed_bytes room.record_bytes) (λ job fits. omega (arith, fits)) compactions
-      keeps.replaced;
-}
+room_with_flush flush room flushes compactions keeps =
+    let sums = flush_sums flush flushes (flush ∷ flushes) (one_more flush flushes) in
+    record {
+      sequence = omega (arith, sums.sequence, keeps.sequence);
+      unsequence = omega (arith, sums.unsequence, keeps.unsequence);
+      outgoing = omega (arith, sums.outgoing, keeps.outgoing);
+      flushed = (omega arith, each_weaker _ _ (λ f fits. omega (arith, fits)) flushes keeps.flushed);
+      replaced = each_weaker _ _ (λ job fits. omega (arith, fits)) compactions keeps.replaced;
+    }
 
 pub room_without_flush : (flush : FlushJob) (others : List FlushJob) (room : Room) (flushes : List FlushJob)
     (compactions : List Compaction) → IsWithOne flush others flushes → KeepsRoom room flushes compactions
     → KeepsRoom (flush_room (λ a b. a - b) flush room) others compactions
-room_without_flush flush others room flushes compactions out keeps = record {
-  sequence = omega (
-    arith,
-    keeps.sequence,
-    sum_with_one (λ (f : FlushJob). length (if_some f.sequence)) flush others flushes out,
-  );
-  unsequence = omega (
-    arith,
-    keeps.unsequence,
-    sum_with_one (λ (f : FlushJob). length (if_some f.unsequence)) flush others flushes out,
-  );
-  outgoing = omega (
-    arith,
-    keeps.outgoing,
-    sum_with_one (λ (f : FlushJob). length (drawn_by f)) flush others flushes out,
-  );
-  flushed = each_weaker (λ (f : FlushJob). flushed_bytes ≤ room.record_bytes)
-      (λ f. flushed_bytes ≤ max flushed_bytes room.record_bytes) (λ f fits. omega (arith, fits)) others
-      (with_one_each (λ (f : FlushJob). flushed_bytes ≤ room.record_bytes) flush others flushes out keeps.flushed);
-  replaced = each_weaker (λ (job : Compaction). replaced_bytes job ≤ room.record_bytes)
-      (λ job. replaced_bytes job ≤ max flushed_bytes room.record_bytes) (λ job fits. omega (arith, fits)) compactions
-      keeps.replaced;
+room_without_flush flush others room flushes compactions out keeps =
+    let sums = flush_sums _ _ _ out in
+    record {
+      sequence = omega (arith, sums.sequence, keeps.sequence);
+      unsequence = omega (arith, sums.unsequence, keeps.unsequence);
+      outgoing = omega (arith, sums.outgoing, keeps.outgoing);
+      flushed = each_weaker _ _ (λ f fits. omega (arith, fits)) _ (with_one_each _ _ _ _ out keeps.flushed);
+      replaced = each_weaker _ _ (λ job fits. omega (arith, fits)) _ keeps.replaced;
+    }
+
+record CompactionSums (job : Compaction) (others all : List Compaction) : Type 0 where
+  sequence : sum_by (λ job. output_places Sequence job.space) all
+      ≡ output_places Sequence job.space + sum_by (λ job. output_places Sequence job.space) others
+  unsequence : sum_by (λ job. output_places Unsequence job.space) all
+      ≡ output_places Unsequence job.space + sum_by (λ job. output_places Unsequence job.space) others
+  outgoing : sum_by outgoing_places all ≡ outgoing_places job + sum_by outgoing_places others
+
+compaction_sums : (job : Compaction) (others all : List Compaction) → IsWithOne job others all
+    → CompactionSums job others all
+compaction_sums job others all out = record {
+  sequence = sum_with_one _ _ _ _ out;
+  unsequence = sum_with_one _ _ _ _ out;
+  outgoing = sum_with_one _ _ _ _ out;
 }
 
 pub room_with_compaction : (job : Compaction) (room : Room) (flushes : List FlushJob) (compactions : List Compaction)
     → KeepsRoom room flushes compactions
     → KeepsRoom (compaction_room (λ a b. a + b) job room) flushes (job ∷ compactions)
-room_with_compaction job room flushes compactions keeps = record {
-  sequence = omega (
-    arith,
-    keeps.sequence,
-    sum_by-cons (λ (c : Compaction). output_places Sequence c.space) job compactions,
-  );
-  unsequence = omega (
-    arith,
-    keeps.unsequence,
-    sum_by-cons (λ (c : Compaction). output_places Unsequence c.space) job compactions,
-  );
-  outgoing = omega (arith, keeps.outgoing, sum_by-cons outgoing_places job compactions);
-  flushed = each_weaker (λ (f : FlushJob). flushed_bytes ≤ room.record_bytes)
-      (λ f. flushed_bytes ≤ max (replaced_bytes job) room.record_bytes) (λ f fits. omega (arith, fits)) flushes
-      keeps.flushed;
-  replaced = (
-    omega arith,
-    each_weaker (λ (c : Compaction). replaced_bytes c ≤ room.record_bytes)
-        (λ c. replaced_bytes c ≤ max (replaced_bytes job) room.record_bytes) (λ c fits. omega (arith, fits)) compactions
-        keeps.replaced,
-  );
-}
+room_with_compaction job room flushes compactions keeps =
+    let sums = compaction_sums job compactions (job ∷ compactions) (one_more job compactions) in
+    record {
+      sequence = omega (arith, sums.sequence, keeps.sequence);
+      unsequence = omega (arith, sums.unsequence, keeps.unsequence);
+      outgoing = omega (arith, sums.outgoing, keeps.outgoing);
+      flushed = each_weaker _ _ (λ f fits. omega (arith, fits)) flushes keeps.flushed;
+      replaced = (omega arith, each_weaker _ _ (λ job fits. omega (arith, fits)) compactions keeps.replaced);
+    }
 
 pub room_without_compaction : (job : Compaction) (others : List Compaction) (room : Room) (flushes : List FlushJob)
     (compactions : List Compaction) → IsWithOne job others compactions → KeepsRoom room flushes compactions
     → KeepsRoom (compaction_room (λ a b. a - b) job room) flushes others
-room_without_compaction job others room flushes compactions out keeps = record {
-  sequence = omega (
-    arith,
-    keeps.sequence,
-    sum_with_one (λ (c : Compaction). output_places Sequence c.space) job others compactions out,
-  );
-  unsequence = omega (
-    arith,
-    keeps.unsequence,
-    sum_with_one (λ (c : Compaction). output_places Unsequence c.space) job others compactions out,
-  );
-  outgoing = omega (arith, keeps.outgoing, sum_with_one outgoing_places job others compactions out);
-  flushed = each_weaker (λ (f : FlushJob). flushed_bytes ≤ room.record_bytes)
-      (λ f. flushed_bytes ≤ max (replaced_bytes job) room.record_bytes) (λ f fits. omega (arith, fits)) flushes
-      keeps.flushed;
-  replaced = each_weaker (λ (c : Compaction). replaced_bytes c ≤ room.record_bytes)
-      (λ c. replaced_bytes c ≤ max (replaced_bytes job) room.record_bytes) (λ c fits. omega (arith, fits)) others
-      (with_one_each (λ (c : Compaction). replaced_bytes c ≤ room.record_bytes) job others compactions out
-      keeps.replaced);
-}
+room_without_compaction job others room flushes compactions out keeps =
+    let sums = compaction_sums _ _ _ out in
+    record {
+      sequence = omega (arith, sums.sequence, keeps.sequence);
+      unsequence = omega (arith, sums.unsequence, keeps.unsequence);
+      outgoing = omega (arith, sums.outgoing, keeps.outgoing);
+      flushed = each_weaker _ _ (λ f fits. omega (arith, fits)) _ keeps.flushed;
+      replaced = each_weaker _ _ (λ job fits. omega (arith, fits)) _ (with_one_each _ _ _ _ out keeps.replaced);
+    }

@@ -1,8 +1,9 @@
 -- A row: the order stays, its places have its values, and the state stands for the plain map's world after it.
-use Rattle.std.proofs.Common.{◌≡◌, ℕ, ℤ, ◌≤◌, Bool, true, false, cond, List, [], ◌∷◌, map, inl, inr}
-use Rattle.std.proofs.Common.{refl, sym, ap, ◌∙◌, subst}
+use Rattle.std.proofs.Common.{◌≡◌, ℕ, ℤ, ◌≤◌, Bool, true, false, cond, List, [], ◌∷◌, ◌++◌, map, inl, inr, refl, sym}
+use Rattle.std.proofs.Common.{ap}
+use Rattle.std.proofs.Common.{◌∙◌, subst}
 use Rattle.std.specs.Prelude.{◌⊎◌, ◌&&◌, Option, Some, None, is_some, slice_get}
-use Rattle.std.specs.FinMap.{get, get-empty, insert}
+use Rattle.std.specs.FinMap.{get, insert}
 use Rattle.std.specs.List.{AllByRecursion as Each}
 use Rattle.std.specs.Option.{IsSomeAnd}
 use Rattle.std.specs.Ordering.{eq_by_cmp}
@@ -27,17 +28,17 @@ use Rattle.tsdb_path.specs.Nodes.{child_of, device_of}
 use Rattle.tsdb_state.proofs.Putting.{pair_holds, put_in_order, put_value}
 use Rattle.tsdb_state.proofs.Series.{ArePathsApart, among_at, path_at, series_at, type_of_live}
 use Rattle.tsdb_state.proofs.Stamps.{stamps_up, value_stamp}
-use Rattle.tsdb_state.proofs.Typed.{PartsTyped, all_typed, parts_typed}
-use Rattle.tsdb_state.proofs.Values.{AreReached}
+use Rattle.tsdb_state.proofs.Values.{AreReached, none_in_pair}
 use Rattle.tsdb_state.proofs.Worlds.{change_type, put_at, type_in}
 use Rattle.tsdb_state.specs.Commands.{AreCells, IsCell, KeepsBytes}
-use Rattle.tsdb_state.specs.Limit.{IsEmptyPair, IsOneRow, IsWithinPairLimit, point_count}
+use Rattle.tsdb_state.specs.Limit.{IsEmptyPair, IsOneRow, IsWithinPairLimit, empty_pair, point_count}
 use Rattle.tsdb_state.specs.Limits.{max_pair_points}
 use Rattle.tsdb_state.specs.Records.{CanInsert, IsOfDevice, inserted, path_of, place_of, put_cells, put_in_pair}
 use Rattle.tsdb_state.specs.State.{Pair, SeriesEntry, StoreState, Told}
-use Rattle.tsdb_state.specs.StoreOrder.{HasLiveValues, IsOfSeries, LayersInOrder, StoreInOrder}
-use Rattle.tsdb_state.specs.Views.{pair_layers}
+use Rattle.tsdb_state.specs.StoreOrder.{HasLiveValues, IsOfSeries, LayersInOrder, StoreInOrder, points_of}
+use Rattle.tsdb_state.specs.Views.{file_layers, pair_layers, sequence_layer, unsequence_layer}
 use Rattle.tsdb_state.specs.Worlds.{StandsFor, type_at, value_of}
+use Rattle.tsdb_state.proofs.Typed.{AreTyped, typed_append, typed_left, typed_right}
 
 -- what holds of the points of a pair, and of the cells of a row
 pub cells_hold : (P : Place → Value → Type 0) (schemas : List SeriesEntry) (state : StoreState) (time : ℤ)
@@ -46,9 +47,8 @@ pub cells_hold : (P : Place → Value → Type 0) (schemas : List SeriesEntry) (
     → Each (λ cell. P (place_of schemas time cell) cell.value) cells
     → (q : Place) (w : Value) → HasPoint (pair_layers (put_cells schemas state.watermarks time cells pair)) q w → P q w
 cells_hold P schemas state time [] pair all each = all
-cells_hold P schemas state time (cell ∷ cells) pair all each =
-    cells_hold P schemas state time cells (put_in_pair state.watermarks (place_of schemas time cell) cell.value pair)
-    (pair_holds P state.watermarks (place_of schemas time cell) cell.value pair all each.0) each.1
+cells_hold P schemas state time (cell ∷ cells) pair all each = cells_hold P schemas state time cells
+    (put_in_pair state.watermarks (place_of schemas time cell) cell.value pair) (pair_holds P _ _ _ _ all each.0) each.1
 
 -- a series with the number, which is there
 pub record Found (device : List ℕ) (schemas : List SeriesEntry) (cell : CellRecord) : Type 0 where
@@ -73,66 +73,54 @@ pub record IsReady (told : Told) (state : StoreState) : Type 0 where
   pub live : HasLiveValues told state
 
 abbrev pub Theres : List ℕ → StoreState → List CellRecord → Type 0
-Theres device state cells = Each
-    (λ cell. IsSomeAnd (slice_get state.schemas cell.series.0) (IsOfDevice device cell)) cells
+Theres device state cells =
+    Each (λ cell. IsSomeAnd (slice_get state.schemas cell.series.0) (IsOfDevice device cell)) cells
 
 -- the state with one value more, and with those of a row
 abbrev pub with_value : Place → Value → StoreState → StoreState
 with_value place value state = record state { working = put_in_pair state.watermarks place value state.working }
 
 abbrev pub with_row : ℤ → List CellRecord → StoreState → StoreState
-with_row time cells state =
-    record state { working = put_cells state.schemas state.watermarks time cells state.working }
+with_row time cells state = record state { working = put_cells state.schemas state.watermarks time cells state.working }
 
 pub cell_type : (device : List ℕ) (state : StoreState) (cell : CellRecord)
     → EachPair ArePathsApart state.schemas → Found device state.schemas cell
     → type_at state.schemas (path_of state.schemas cell.series.0) ≡ Some (type_of cell.value)
 cell_type device state cell once found =
-    ap (type_at state.schemas) (path_at state.schemas cell.series.0 found.series found.at)
-    ∙ type_of_live state.schemas found.series once (among_at state.schemas cell.series.0 found.series found.at)
-    found.of.live
+    ap (type_at state.schemas) (path_at state.schemas cell.series.0 _ found.at)
+    ∙ type_of_live _ _ once (among_at state.schemas cell.series.0 _ found.at) found.of.live
     ∙ ap Some (sym found.of.type)
 
 pub value_ready : (told : Told) (state : StoreState) (place : Place) (value : Value) → IsReady told state
     → type_at state.schemas place.path ≡ Some (type_of value) → IsReady told (with_value place value state)
 value_ready told state place value ready typed = record {
-  layers = put_in_order told state.watermarks state.sequence state.unsequence state.frozen state.working place value
-      ready.layers;
+  layers = put_in_order told state.watermarks _ _ _ _ place value ready.layers;
   reached = ready.reached;
   once = ready.once;
   live = λ q w is. by q w (eq_by_cmp place_cmp q place) refl
       (sym (put_value told state place value ready.layers ready.reached q) ∙ is);
 }
   where
-    same : (v w : Value) → Some v ≡ Some w → v ≡ w
-    same v w e = cc
-
     by : (q : Place) (w : Value) (b : Bool) → eq_by_cmp place_cmp q place ≡ b
         → cond b (Some value) (value_of told state q) ≡ Some w → type_at state.schemas q.path ≡ Some (type_of w)
     by q w true e is =
-        ap (λ (p : Place). type_at state.schemas p.path) (is_place q place e) ∙ typed
-        ∙ ap (λ v. Some (type_of v)) (same value w is)
+        let same : value ≡ w = cc in
+        ap (λ (p : Place). type_at state.schemas p.path) (is_place q place e) ∙ typed ∙ ap (λ v. Some (type_of v)) same
     by q w false e is = ready.live q w is
 
 pub row_ready : (told : Told) (device : List ℕ) (time : ℤ) (cells : List CellRecord) (state : StoreState)
     → IsReady told state → Theres device state cells → IsReady told (with_row time cells state)
 row_ready told device time [] state ready there = ready
-row_ready told device time (cell ∷ cells) state ready there =
-    row_ready told device time cells (with_value (place_of state.schemas time cell) cell.value state)
-    (value_ready told state (place_of state.schemas time cell) cell.value ready
-    (cell_type device state cell ready.once (found_in device state.schemas cell there.0))) there.1
+row_ready told device time (cell ∷ cells) state ready there = row_ready told device time cells
+    (with_value (place_of state.schemas time cell) cell.value state)
+    (value_ready told state _ _ ready (cell_type device state _ ready.once (found_in _ _ _ there.0))) there.1
 
 empty_holds : (P : Place → Value → Type 0) (pair : Pair) → IsEmptyPair pair
     → (q : Place) (w : Value) → HasPoint (pair_layers pair) q w → P q w
-empty_holds P pair none q w has = absurd (by has)
+empty_holds P pair none q w has = absurd (none_in_pair q w (subst (λ pair. HasPoint (pair_layers pair) q w) same has))
   where
-    no_point : (o : Option Value) → o ≡ None → o ≡ Some w → ⊥
-    no_point o e f = cc
-
-    by : HasPoint (pair_layers pair) q w → ⊥
-    by (inl h) = no_point (get pair.sequence q) (ap (λ content. get content q) none.0 ∙ get-empty place_cmp q) h
-    by (inr (inl h)) = no_point (get pair.unsequence q) (ap (λ content. get content q) none.1 ∙ get-empty place_cmp q) h
-    by (inr (inr h)) = h
+    same : pair ≡ empty_pair
+    same = λ i. record { sequence = none.0 i; unsequence = none.1 i }
 
 module _ (told : Told) (time : ℤ) (cells : List CellRecord) (state : StoreState) (order : StoreInOrder told state)
     (can : CanInsert time cells state) where
@@ -150,19 +138,21 @@ module _ (told : Told) (time : ℤ) (cells : List CellRecord) (state : StoreStat
   pub inserted_value : (place : Place) → value_of told (inserted time cells state) place ≡ value_of told row_state place
   inserted_value place = value_stamp told row_state place order.stamps.versions
 
+  abbrev IsOfRow : Place → Value → Type 0
+  IsOfRow place value = (device_of place.path ≡ can.device) × (place.time ≡ time)
+
+  of_row : (cell : CellRecord) → IsSomeAnd (slice_get state.schemas cell.series.0) (IsOfDevice can.device cell)
+      → IsOfRow (place_of state.schemas time cell) cell.value
+  of_row cell there =
+      let f = found_in can.device state.schemas cell there in
+      (ap device_of (path_at state.schemas cell.series.0 f.series f.at) ∙ f.of.of_device, refl)
+
   row_of : IsEmptyPair state.working → IsOneRow row_state.working
   row_of none = record {
     device = can.device;
     time = time;
-    points = λ place value has. cells_hold (λ q w. (device_of q.path ≡ can.device) × (q.time
-        ≡ time)) state.schemas state
-        time cells state.working (empty_holds (λ q w. (device_of q.path ≡ can.device) × (q.time
-        ≡ time)) state.working none)
-        (each_weaker (λ cell. IsSomeAnd (slice_get state.schemas cell.series.0) (IsOfDevice can.device cell))
-        (λ cell. (device_of (path_of state.schemas cell.series.0) ≡ can.device) × (time ≡ time))
-        (λ cell there. let f = found_in can.device state.schemas cell there in
-        (ap device_of (path_at state.schemas cell.series.0 f.series f.at) ∙ f.of.of_device, refl)) cells can.there)
-        place value has;
+    points = cells_hold IsOfRow state.schemas state time cells state.working (empty_holds IsOfRow state.working none)
+        (each_weaker _ _ of_row cells can.there);
   }
 
   limit : KeepsBytes time cells state → IsWithinPairLimit row_state.working
@@ -182,37 +172,28 @@ module _ (told : Told) (time : ℤ) (cells : List CellRecord) (state : StoreStat
   cell_typed cell there =
       let f = found_in can.device state.schemas cell there in
       subst (λ (p : List ℕ). IsOfSeries state.schemas p (type_of cell.value))
-      (sym (path_at state.schemas cell.series.0 f.series f.at))
-      (subst (IsOfSeries state.schemas f.series.schema.path) (sym f.of.type)
-      (series_at state.schemas cell.series.0 f.series f.at))
+      (sym (path_at state.schemas cell.series.0 _ f.at)) (subst (IsOfSeries state.schemas f.series.schema.path)
+      (sym f.of.type) (series_at _ cell.series.0 _ f.at))
 
-  typed : PartsTyped told state.schemas state.sequence state.unsequence state.frozen row_state.working
+  typed : AreTyped state.schemas
+      (points_of told state.sequence state.unsequence state.frozen row_state.working)
   typed =
-      let old = parts_typed told state.schemas state.sequence state.unsequence state.frozen state.working
-      order.series.typed in
-      record {
-        files = old.files;
-        late = old.late;
-        sequences = old.sequences;
-        unsequences = old.unsequences;
-        pair = cells_hold IsTyped state.schemas state time cells state.working old.pair
-            (each_weaker (λ cell. IsSomeAnd (slice_get state.schemas cell.series.0) (IsOfDevice can.device cell))
-            (λ cell. IsTyped (place_of state.schemas time cell) cell.value) cell_typed cells can.there);
-      }
+      let files = file_layers told state.sequence ++ file_layers told state.unsequence in
+      let pairs = map sequence_layer state.frozen ++ map unsequence_layer state.frozen in
+      let all = order.series.typed in
+      let behind = typed_right state.schemas files (pairs ++ pair_layers state.working) all in
+      typed_append _ files _ (typed_left _ files _ all) (typed_append _ pairs _ (typed_left _ pairs _ behind)
+      (cells_hold IsTyped state.schemas state time cells state.working (typed_right _ pairs _ behind)
+      (each_weaker _ _ cell_typed cells can.there)))
 
   pub inserted_in_order : KeepsBytes time cells state → StoreInOrder told (inserted time cells state)
   inserted_in_order bytes =
-      let row = row_ready told can.device time cells state ready_state can.there in
+      let row = row_ready _ _ _ _ _ ready_state can.there in
       record {
         layers = row.layers;
-        stamps = stamps_up state.stamp state.marks state.sequence state.unsequence state.frozen state.working
-            row_state.working order.stamps;
-        series = record {
-          formed = order.series.formed;
-          once = order.series.once;
-          typed = all_typed told state.schemas state.sequence state.unsequence state.frozen row_state.working typed;
-        };
-        live = λ place value is. row.live place value (sym (inserted_value place) ∙ is);
+        stamps = stamps_up _ _ _ _ _ _ _ order.stamps;
+        series = record { formed = order.series.formed; once = order.series.once; typed = typed };
+        live = λ place value is. row.live place value (sym (inserted_value _) ∙ is);
         limit = limit bytes;
       }
 
@@ -247,16 +228,19 @@ matched : (told : Told) (state : StoreState) (world : World) (device other : Lis
 matched told state world device other cell item once stands is there =
     let found = found_in other state.schemas item there in
     let same : is.series ≡ found.series = one is.series found.series (sym is.at ∙ found.at) in
-    let path : path_of state.schemas item.series.0 ≡ child_of device cell.measurement =
-    path_at state.schemas item.series.0 is.series is.at ∙ is.of_path in
+    let path : path_of state.schemas item.series.0 ≡ child_of device cell.measurement = path_at state.schemas
+    item.series.0 _ is.at
+    ∙ is.of_path in
     let typed = map_series world (child_of device cell.measurement) (type_of item.value)
-    (stands.types (child_of device cell.measurement)
-    ∙ ap (type_at state.schemas) (sym path) ∙ cell_type other state item once found) in
+    (stands.types (child_of device cell.measurement) ∙ ap (type_at state.schemas) (sym path) ∙ cell_type other state
+    item once found) in
     record {
       path = path;
       there = typed;
-      value = ap (literal_value cell.value) (typed.type_is ∙ found.of.type
-          ∙ ap (λ (s : SeriesEntry). s.schema.data_type) (sym same)) ∙ is.value;
+      value =
+          ap (literal_value cell.value) (typed.type_is ∙ found.of.type ∙ ap (λ (s : SeriesEntry). s.schema.data_type)
+          (sym same))
+          ∙ is.value;
     }
   where
     one : (a b : SeriesEntry) → Some a ≡ Some b → a ≡ b
@@ -272,11 +256,10 @@ cell_stands : (told : Told) (state : StoreState) (world : World) (device : List 
     → StandsFor told (with_value (place_of state.schemas time item) item.value state)
     (change world (child_of device cell.measurement) (put_literal time cell.value))
 cell_stands told state world device time cell item ready stands m = record {
-  types = λ path. change_type world (child_of device cell.measurement) path (put_literal time cell.value)
-      (λ s. keeps_type time (literal_value cell.value s.data_type) s) ∙ stands.types path;
-  values = λ q. ap (λ w. value_at w q.path q.time) changed
-      ∙ put_at world (record { path = child_of device cell.measurement; time = time }) q item.value m.there.series
-      m.there.is
+  types = λ path. change_type _ _ _ _ (λ s. keeps_type _ _ s) ∙ stands.types path;
+  values =
+      λ q. ap (λ w. value_at w q.path q.time) changed
+      ∙ put_at _ _ q _ _ m.there.is
       ∙ (λ i. cond (eq_by_cmp place_cmp q (record { path = sym m.path i; time = time })) (Some item.value)
       (stands.values q i))
       ∙ sym (put_value told state (place_of state.schemas time item) item.value ready.layers ready.reached q);
@@ -284,7 +267,8 @@ cell_stands told state world device time cell item ready stands m = record {
   where
     changed : change world (child_of device cell.measurement) (put_literal time cell.value)
         ≡ insert world (child_of device cell.measurement) (put time item.value m.there.series)
-    changed = ap (change_series world (child_of device cell.measurement) (put_literal time cell.value)) m.there.is
+    changed =
+        ap (change_series world (child_of device cell.measurement) (put_literal time cell.value)) m.there.is
         ∙ ap (λ v. insert world (child_of device cell.measurement) (put_in time v m.there.series)) m.value
 
 row_stands : (told : Told) (device other : List ℕ) (time : ℤ) (cells : List Cell) (items : List CellRecord)
@@ -299,9 +283,8 @@ row_stands told device other time (cell ∷ cells) (item ∷ items) state world 
     let m = matched told state world device other cell item ready.once stands are.0 there.0 in
     row_stands told device other time cells items (with_value (place_of state.schemas time item) item.value state)
     (change world (child_of device cell.measurement) (put_literal time cell.value))
-    (value_ready told state (place_of state.schemas time item) item.value ready
-    (cell_type other state item ready.once (found_in other state.schemas item there.0)))
-    (cell_stands told state world device time cell item ready stands m) are.1 there.1
+    (value_ready told state _ _ ready (cell_type other state item ready.once (found_in _ _ _ there.0)))
+    (cell_stands _ _ _ _ _ _ _ ready stands m) are.1 there.1
 
 -- the map accepts the row
 
@@ -314,7 +297,7 @@ row_fits told device other [] [] state world once stands are there = (refl, refl
 row_fits told device other [] (item ∷ items) state world once stands are there = absurd are
 row_fits told device other (cell ∷ cells) [] state world once stands are there = absurd are
 row_fits told device other (cell ∷ cells) (item ∷ items) state world once stands are there =
-    let m = matched told state world device other cell item once stands are.0 there.0 in
+    let m = matched _ _ _ _ _ _ _ once stands are.0 there.0 in
     let rest = row_fits told device other cells items state world once stands are.1 there.1 in (
       (λ i. is_some (m.there.is i) && rest.0 i),
       (λ i. fits_series cell.value (m.there.is i) && rest.1 i) ∙ ap (λ o. is_some o && true) m.value,
@@ -325,14 +308,10 @@ module _ (told : Told) (device : List ℕ) (row : Row) (items : List CellRecord)
     (stands : StandsFor told state world) (are : AreCells state.schemas device row.cells items) where
   pub inserted_reply : reply_of world (Insert device row) ≡ Plain Done
   inserted_reply =
-      let fits = row_fits told device can.device row.cells items state world order.series.once stands are can.there in
+      let fits = row_fits _ _ _ _ _ _ _ order.series.once stands are can.there in
       λ i. Plain (cond (fits.0 i) (cond (fits.1 i) Done WrongType) NoPath)
 
   pub inserted_stands : StandsFor told (inserted row.time items state) (accepted world (Insert device row))
   inserted_stands =
-      let after = row_stands told device can.device row.time row.cells items state world
-      (ready_state told row.time items state order can) stands are can.there in
-      record {
-        types = after.types;
-        values = λ place. after.values place ∙ sym (inserted_value told row.time items state order can place);
-      }
+      let after = row_stands _ _ _ _ _ _ _ _ (ready_state _ _ _ _ order can) stands are can.there in
+      record { types = after.types; values = λ place. after.values place ∙ sym (inserted_value _ _ _ _ order can _) }

@@ -1,5 +1,6 @@
 pub mod Values
 pub mod Purges
+pub mod Arranged
 pub mod Putting
 pub mod Series
 pub mod Stamps

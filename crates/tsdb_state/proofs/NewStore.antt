@@ -1,32 +1,21 @@
 -- A new store is in order, and stands for the world without series.
-use Rattle.std.proofs.Common.{◌≡◌, ℕ, List, [], refl, sym, ◌∙◌, inl, inr, arith}
-use Rattle.std.proofs.Common.{None, Some}
-use Rattle.std.specs.Prelude.{◌⊎◌}
+use Rattle.std.proofs.Common.{◌≡◌, ℕ, List, [], refl, sym, ◌∙◌, inl, arith, None}
 use Rattle.std.specs.Cmp.Lexicographic.{slice_cmp}
 use Rattle.std.specs.FinMap.{empty, get, get-empty}
-use Rattle.std.specs.Ordering.{int_cmp, nat_cmp}
-use Rattle.tsdb_base.specs.declared.value.Value.{Value}
-use Rattle.tsdb_layers.proofs.Values.{value_none}
-use Rattle.tsdb_layers.specs.Layers.{HasPoint}
-use Rattle.tsdb_layers.specs.Places.{Place, place_cmp}
 use Rattle.std.specs.Option.{option_map}
+use Rattle.std.specs.Ordering.{int_cmp, nat_cmp}
+use Rattle.tsdb_layers.proofs.Values.{value_none}
+use Rattle.tsdb_layers.specs.Places.{Place}
 use Rattle.tsdb_map.specs.World.{Series, points_of}
+use Rattle.tsdb_state.proofs.Values.{none_in, none_in_pair}
 use Rattle.tsdb_state.specs.NewStore.{new_store}
 use Rattle.tsdb_state.specs.State.{Told}
 use Rattle.tsdb_state.specs.StoreOrder.{StoreInOrder}
 use Rattle.tsdb_state.specs.Views.{all_layers}
 use Rattle.tsdb_state.specs.Worlds.{StandsFor, value_of}
 
-nothing : (place : Place) (value : Value) → get (empty {X = Value} {R = place_cmp}) place ≡ Some value → ⊥
-nothing place value has = let none = get-empty {X = Value} place_cmp place in absurd (cc)
-
-no_point : (told : Told) (place : Place) (value : Value) → HasPoint (all_layers told new_store) place value → ⊥
-no_point told place value (inl has) = nothing place value has
-no_point told place value (inr (inl has)) = nothing place value has
-no_point told place value (inr (inr none)) = none
-
 no_value : (told : Told) (place : Place) → value_of told new_store place ≡ None
-no_value told place = value_none [] place (all_layers told new_store) (no_point told place)
+no_value told place = value_none [] place (all_layers told new_store) (none_in_pair place)
 
 pub new_store_in_order : (told : Told) → StoreInOrder told new_store
 new_store_in_order told = record {
@@ -35,8 +24,8 @@ new_store_in_order told = record {
     late = tt;
     below = λ place value has. absurd has;
     late_below = λ place value has. absurd has;
-    working_below = λ place value has. absurd (in_empty place value has);
-    above = λ place value has. absurd (in_empty place value has);
+    working_below = λ place value has. absurd (none_in place value has);
+    above = λ place value has. absurd (none_in place value has);
   };
   stamps = record {
     sequence_born = tt;
@@ -49,36 +38,25 @@ new_store_in_order told = record {
     versions = tt;
     versions_rise = tt;
   };
-  series = record { formed = tt; once = tt; typed = λ place value has. absurd (in_pair place value has) };
+  series = record { formed = tt; once = tt; typed = λ place value has. absurd (none_in_pair place value has) };
   live = λ place value is. absurd (let none = no_value told place in cc);
   limit = inl (refl, refl);
 }
-  where
-    in_empty : (place : Place) (value : Value)
-        → (get (empty {X = Value} {R = place_cmp}) place ≡ Some value) ⊎ ⊥ → ⊥
-    in_empty place value (inl has) = nothing place value has
-    in_empty place value (inr none) = none
-
-    in_pair : (place : Place) (value : Value)
-        → (get (empty {X = Value} {R = place_cmp}) place ≡ Some value)
-        ⊎ ((get (empty {X = Value} {R = place_cmp}) place ≡ Some value) ⊎ ⊥) → ⊥
-    in_pair place value (inl has) = nothing place value has
-    in_pair place value (inr has) = in_empty place value has
 
 pub new_store_stands : (told : Told) → StandsFor told new_store empty
 new_store_stands told = record {
   types = λ path. type_in_empty path;
-  values = λ place. value_in_empty place ∙ sym (no_value told place);
+  values = λ place. value_in_empty place ∙ sym (no_value told _);
 }
   where
     type_in_empty : (path : List ℕ)
         → option_map (λ (s : Series). s.data_type)
         (get (empty {X = Series} {R = slice_cmp nat_cmp}) path) ≡ None
-    type_in_empty path = λ i. option_map
-        (λ (s : Series). s.data_type) (get-empty (slice_cmp nat_cmp) path i)
+    type_in_empty path = λ i. option_map (λ (s : Series). s.data_type) (get-empty (slice_cmp nat_cmp) path i)
 
     value_in_empty : (place : Place)
         → get (points_of (get (empty {X = Series} {R = slice_cmp nat_cmp}) place.path))
         place.time ≡ None
-    value_in_empty place = (λ i. get (points_of (get-empty (slice_cmp nat_cmp) place.path i)) place.time)
+    value_in_empty place =
+        (λ i. get (points_of (get-empty (slice_cmp nat_cmp) place.path i)) place.time)
         ∙ get-empty int_cmp place.time

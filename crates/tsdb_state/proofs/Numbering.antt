@@ -2,7 +2,7 @@
 use Rattle.std.proofs.Common.{◌≡◌, ℕ, ◌+◌, ◌≤◌, Bool, true, false, cond, not, List, [], ◌∷◌, ◌++◌, length}
 use Rattle.std.proofs.Common.{map}
 use Rattle.std.proofs.Common.{Option, None, Some, ap, ◌∙◌, arith, length-append}
-use Rattle.std.specs.List.{filter, flat_map, list_any, range_with_len}
+use Rattle.std.specs.List.{filter, flat_map, list_any}
 use Rattle.std.proofs.lemmas.List.{map-append}
 use Rattle.tsdb_layers.specs.Lists.{IsWithOne, count, if_some}
 use Rattle.tsdb_layers.proofs.Lists.{count_append}
@@ -52,24 +52,38 @@ count_map_one f n x others all out = omega (
 pub count_drawn : (n : ℕ) (flushes : List FlushJob) (compactions : List Compaction)
     → count n (drawn_numbers flushes compactions)
     ≡ count n (flat_map drawn_by flushes) + count n (map (λ job. job.output) compactions)
-count_drawn n flushes compactions =
-    count_append n (flat_map drawn_by flushes) (map (λ (job : Compaction). job.output) compactions)
+count_drawn n flushes compactions = count_append n _ _
 
 -- files that go out stand behind the others
 pub count_files : (n : ℕ) (files more : List File)
     → count n (numbers_of (files ++ more)) ≡ count n (numbers_of files) + count n (numbers_of more)
-count_files n files more =
-    ap (count n) (map-append (λ (file : File). file.number) files more)
-    ∙ count_append n (numbers_of files) (numbers_of more)
+count_files n files more = ap (count n) (map-append _ _ _) ∙ count_append n _ _
 
 pub count_out : (n : ℕ) (listed outgoing built : List File)
     → count n (numbers_of (listed ++ (outgoing ++ built)))
     ≡ count n (numbers_of (listed ++ outgoing)) + count n (numbers_of built)
-count_out n listed outgoing built = omega (
+count_out n listed outgoing built = omega (arith, count_files)
+
+-- the numbers of one job, and those of the others
+
+pub drawn_by_flush : (n : ℕ) (flush : FlushJob) (others all : List FlushJob) (compactions : List Compaction)
+    → IsWithOne flush others all
+    → count n (drawn_numbers all compactions) ≡ count n (drawn_by flush) + count n (drawn_numbers others compactions)
+drawn_by_flush n flush others all compactions out = omega (
   arith,
-  count_files n listed (outgoing ++ built),
-  count_files n outgoing built,
-  count_files n listed outgoing,
+  count_drawn n all compactions,
+  count_drawn n others compactions,
+  count_with_one drawn_by n flush others all out,
+)
+
+pub drawn_by_job : (n : ℕ) (job : Compaction) (others all : List Compaction) (flushes : List FlushJob)
+    → IsWithOne job others all
+    → count n (drawn_numbers flushes all) ≡ count n (job.output ∷ []) + count n (drawn_numbers flushes others)
+drawn_by_job n job others all flushes out = omega (
+  arith,
+  count_drawn n flushes all,
+  count_drawn n flushes others,
+  count_map_one (λ (job : Compaction). job.output) n job others all out,
 )
 
 length_some : {X : Type 0} (o : Option X) → length (if_some o) ≤ 1
@@ -77,12 +91,7 @@ length_some None = omega arith
 length_some (Some x) = omega arith
 
 pub drawn_two : (flush : FlushJob) → length (drawn_by flush) ≤ 2
-drawn_two flush = omega (
-  arith,
-  length-append (if_some flush.sequence) (if_some flush.unsequence),
-  length_some flush.sequence,
-  length_some flush.unsequence,
-)
+drawn_two flush = omega (arith, length-append {A = ℕ}, length_some flush.sequence, length_some flush.unsequence)
 
 -- the numbers of a state are in order
 abbrev pub HasNumbers : List ℕ → EngineState → Type 0
@@ -92,10 +101,7 @@ HasNumbers named state =
 pub took_flush_numbers : (named : List ℕ) (flush : FlushJob) (state : EngineState) → TakesFlush flush state
     → HasNumbers named state → HasNumbers named (took_flush flush state)
 took_flush_numbers named flush state takes order =
-    numbers_drawn named state.next_file (length (drawn_by flush)) (files_of state)
-    (drawn_numbers state.flushes state.compactions) (drawn_numbers (flush ∷ state.flushes) state.compactions) order
-    (omega (arith, takes.left, drawn_two flush))
-    (λ n. omega (
+    numbers_drawn _ _ _ _ _ _ order (omega (arith, takes.left, drawn_two flush)) (λ n. omega (
       arith,
       count_drawn n (flush ∷ state.flushes) state.compactions,
       count_drawn n state.flushes state.compactions,
@@ -107,33 +113,19 @@ pub ended_flush_numbers : (named : List ℕ) (flush : FlushJob) (others : List F
     (state : EngineState) → EndsFlush flush others built state → HasNumbers named state
     → HasNumbers named (ended_flush flush others built state)
 ended_flush_numbers named flush others built state ends order =
-    numbers_less named state.next_file state.next_file (files_of state)
-    (files_of (ended_flush flush others built state)) (drawn_numbers state.flushes state.compactions)
-    (drawn_numbers others state.compactions) order (omega arith) order.end
-    (λ n. omega (
+    numbers_less _ _ _ _ _ _ _ order (omega arith) order.end (λ n. omega (
       arith,
-      drawn n,
+      drawn_by_flush n flush others state.flushes state.compactions ends.out,
       ends.files n,
       count_out n (state.store.sequence ++ state.store.unsequence) state.outgoing built,
     ))
-    (λ n. omega (arith, drawn n))
-  where
-    drawn : (n : ℕ) → count n (drawn_numbers state.flushes state.compactions)
-        ≡ count n (drawn_by flush) + count n (drawn_numbers others state.compactions)
-    drawn n = omega (
-      arith,
-      count_drawn n state.flushes state.compactions,
-      count_drawn n others state.compactions,
-      count_with_one drawn_by n flush others state.flushes ends.out,
-    )
+    (λ n. omega (arith, drawn_by_flush n flush others state.flushes state.compactions ends.out))
 
 pub began_numbers : (told : Rattle.tsdb_state.specs.State.Told) (named : List ℕ) (job : Compaction) (state :
     EngineState) → Begins told job state
     → HasNumbers named state → HasNumbers named (began job state)
 began_numbers told named job state begins order =
-    numbers_drawn named state.next_file 1 (files_of state) (drawn_numbers state.flushes state.compactions)
-    (drawn_numbers state.flushes (job ∷ state.compactions)) order (omega (arith, begins.left))
-    (λ n. omega (
+    numbers_drawn _ _ 1 _ _ _ order (omega (arith, begins.left)) (λ n. omega (
       arith,
       count_drawn n state.flushes (job ∷ state.compactions),
       count_drawn n state.flushes state.compactions,
@@ -144,25 +136,13 @@ pub ended_numbers : (named : List ℕ) (job : Compaction) (others : List Compact
     (state : EngineState) → EndsCompaction job others built state → HasNumbers named state
     → HasNumbers named (ended job others built state)
 ended_numbers named job others built state ends order =
-    numbers_less named state.next_file state.next_file (files_of state)
-    (files_of (ended job others built state)) (drawn_numbers state.flushes state.compactions)
-    (drawn_numbers state.flushes others) order (omega arith) order.end
-    (λ n. omega (
+    numbers_less _ _ _ _ _ _ _ order (omega arith) order.end (λ n. omega (
       arith,
-      drawn n,
+      drawn_by_job n job others state.compactions state.flushes ends.out,
       ends.files n,
       count_out n (state.store.sequence ++ state.store.unsequence) state.outgoing built,
     ))
-    (λ n. omega (arith, drawn n))
-  where
-    drawn : (n : ℕ) → count n (drawn_numbers state.flushes state.compactions)
-        ≡ count n (job.output ∷ []) + count n (drawn_numbers state.flushes others)
-    drawn n = omega (
-      arith,
-      count_drawn n state.flushes state.compactions,
-      count_drawn n state.flushes others,
-      count_map_one (λ (job : Compaction). job.output) n job others state.compactions ends.out,
-    )
+    (λ n. omega (arith, drawn_by_job n job others state.compactions state.flushes ends.out))
 
 -- fewer files of a number are left by a filter
 pub count_filter : (n : ℕ) (test : File → Bool) (files : List File)
@@ -178,17 +158,9 @@ count_filter n test (file ∷ files) = by (test file) (count_filter n test files
 
 pub swept_numbers : (named numbers : List ℕ) (state : EngineState) → HasNumbers named state
     → HasNumbers named (swept numbers state)
-swept_numbers named numbers state order =
-    numbers_less named state.next_file state.next_file (files_of state) (files_of (swept numbers state))
-    (drawn_numbers state.flushes state.compactions) (drawn_numbers state.flushes state.compactions) order
-    (omega arith) order.end
-    (λ n. omega (
-      arith,
-      count_files n listed state.outgoing,
-      count_files n listed (swept numbers state).outgoing,
-      count_filter n (λ file. not (list_any (Rattle.std.specs.Prelude.nat_eq file.number) numbers)) state.outgoing,
-    ))
+swept_numbers named numbers state order = numbers_less _ _ _ _ _ _ _ order (omega arith) order.end (λ n. omega (
+  arith,
+  count_files,
+  count_filter n (λ file. not (list_any (Rattle.std.specs.Prelude.nat_eq file.number) numbers)) state.outgoing,
+))
     (λ n. omega arith)
-  where
-    listed : List File
-    listed = state.store.sequence ++ state.store.unsequence

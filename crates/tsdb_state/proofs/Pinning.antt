@@ -16,7 +16,7 @@ use Rattle.tsdb_layers.proofs.Places.{path_itself, place_cmp-IsAntisymmetric}
 use Rattle.tsdb_layers.proofs.Values.{no_survivor, or_none, value_append}
 use Rattle.tsdb_layers.specs.Layers.{Layer, survivor, value_in}
 use Rattle.tsdb_layers.specs.Marks.{survives}
-use Rattle.tsdb_layers.specs.Places.{Content, Place, is_path, is_within, place_cmp}
+use Rattle.tsdb_layers.specs.Places.{Content, Place, is_within, place_cmp}
 use Rattle.tsdb_map.specs.World.{World, is_in, value_at}
 use Rattle.tsdb_marks.specs.declared.marks.Mark.{Mark}
 use Rattle.tsdb_state.specs.Jobs.{Describes, EntriesMatch}
@@ -41,8 +41,8 @@ marks_alike marks others place (layer ∷ layers) alike =
 without_first : (marks : List Mark) (place : Place) (layer : Layer) (layers : List Layer)
     → get layer.content place ≡ None → value_in marks place (layer ∷ layers) ≡ value_in marks place layers
 without_first marks place layer layers none =
-    ap (option_or (value_in marks place layers)) (no_survivor marks place layer none)
-    ∙ or_none (value_in marks place layers)
+    ap (option_or (value_in marks place layers)) (no_survivor _ _ _ none)
+    ∙ or_none _
 
 zero_is : (n : ℕ) → nat_lt 0 n ≡ false → n ≡ 0
 zero_is n e = grind (arith, nat_tests)
@@ -60,8 +60,8 @@ module _ (told : Told) (known : Entries) (marks : List Mark) (path : List ℕ) (
     where
       by : (o : Option Value) → get (told file.number) here ≡ o → o ≡ None
       by None e = refl
-      by (Some v) e = absurd (false≢true (sym none ∙ any_among (is_path path) (known file.number).series path
-          ((describes.series path).1 (here, v, refl, e)) (path_itself path)))
+      by (Some v) e = absurd (false≢true (sym none ∙ any_among _ _ _ ((describes.series path).1 (here, v, refl, e))
+          (path_itself path)))
 
   files_value : (files : List File) → EntriesMatch told known files
       → value_in marks here (map (source_layer told) (file_sources known path files))
@@ -76,7 +76,8 @@ module _ (told : Told) (known : Entries) (marks : List Mark) (path : List ℕ) (
           (cond b (file ∷ filter (has_series known path) files) (filter (has_series known path) files))))
           ≡ value_in marks here (file_layer told file ∷ file_layers told files)
       by true e rest = ap (λ o. option_or o (survivor marks here (file_layer told file))) rest
-      by false e rest = rest
+      by false e rest =
+          rest
           ∙ sym (without_first marks here (file_layer told file) (file_layers told files) (no_point file match.0 e))
 
   -- parts cut to the range
@@ -85,17 +86,19 @@ module _ (told : Told) (known : Entries) (marks : List Mark) (path : List ℕ) (
   is_inside = λ i. path_itself path i && within i
 
   inside : (content : Content) → get (retain_keys content (is_within path range)) here ≡ get content here
-  inside content = get-retain_keys content (is_within path range) here
-      (λ x e. ap (is_within path range) (sym (place_cmp-IsAntisymmetric here x e)))
+  inside content =
+      get-retain_keys content (is_within path range) here (λ x e. ap (is_within path range)
+      (sym (place_cmp-IsAntisymmetric here x e)))
       ∙ ap (λ b. cond b (get content here) None) is_inside
 
   abbrev has_some : Layer → Bool
   has_some layer = nat_lt 0 (len (retain_keys layer.content (is_within path range)))
 
   no_part : (layer : Layer) → has_some layer ≡ false → get layer.content here ≡ None
-  no_part layer none = sym (inside layer.content)
-      ∙ ap (λ content. get content here)
-      (empty_of_len (retain_keys layer.content (is_within path range)) (zero_is _ none))
+  no_part layer none =
+      sym (inside _)
+      ∙ ap (λ content. get content here) (empty_of_len (retain_keys layer.content (is_within path range))
+      (zero_is _ none))
       ∙ get-empty place_cmp here
 
   parts_value : (layers : List Layer)
@@ -122,29 +125,25 @@ module _ (told : Told) (known : Entries) (marks : List Mark) (path : List ℕ) (
       (part_sources path range (map f (frozen ++ working ∷ []))))
       ∙ value_append marks here (map (source_layer told) (file_sources known path files))
       (map (source_layer told) (part_sources path range (map f (frozen ++ working ∷ []))))
-      ∙ (λ i. option_or (parts_value (map f (frozen ++ working ∷ [])) i) (files_value files match i))
+      ∙ (λ i. option_or (parts_value (map f (frozen ++ working ∷ [])) i) (files_value _ match i))
       ∙ sym (value_append marks here (file_layers told files) (map f (frozen ++ working ∷ [])))
-      ∙ ap (λ layers. value_in marks here (file_layers told files ++ layers)) (map-append f frozen (working ∷ []))
+      ∙ ap (λ layers. value_in marks here (file_layers told files ++ layers)) (map-append f _ (working ∷ []))
 
   sources_are : (state : StoreState) → EntriesMatch told known (state.sequence ++ state.unsequence)
       → value_in marks here (map (source_layer told) (sources_of known state path range))
       ≡ value_in marks here (all_layers told state)
   sources_are state match =
-      let low = file_sources known path state.sequence
-      ++ part_sources path range (map sequence_layer (state.frozen ++ working_pair state ∷ [])) in
-      let high = file_sources known path state.unsequence
-      ++ part_sources path range (map unsequence_layer (state.frozen ++ working_pair state ∷ [])) in
+      let low = file_sources known path state.sequence ++ part_sources path range
+      (map sequence_layer (state.frozen ++ working_pair state ∷ [])) in
+      let high = file_sources known path state.unsequence ++ part_sources path range
+      (map unsequence_layer (state.frozen ++ working_pair state ∷ [])) in
       ap (value_in marks here) (map-append (source_layer told) low high)
       ∙ value_append marks here (map (source_layer told) low) (map (source_layer told) high)
-      ∙ (λ i. option_or
-      (row_is unsequence_layer state.unsequence state.frozen (working_pair state)
-      (each_right
-      (λ (file : File). Describes (known file.number) (told file.number)) state.sequence state.unsequence match)
-      i)
-      (row_is sequence_layer state.sequence state.frozen (working_pair state)
-      (each_left
-      (λ (file : File). Describes (known file.number) (told file.number)) state.sequence state.unsequence match)
-      i))
+      ∙ (λ i. option_or (row_is unsequence_layer state.unsequence state.frozen (working_pair state)
+      (each_right (λ (file : File). Describes (known file.number) (told file.number)) state.sequence state.unsequence
+      match) i) (row_is sequence_layer state.sequence state.frozen (working_pair state)
+      (each_left (λ (file : File). Describes (known file.number) (told file.number)) state.sequence state.unsequence
+      match) i))
       ∙ sym (value_append marks here (sequence_layers told state) (unsequence_layers told state))
 
 module _ (told : Told) (known : Entries) (state : EngineState)
@@ -164,14 +163,12 @@ module _ (told : Told) (known : Entries) (state : EngineState)
       ≡ value_in marks (At column.path time) (map (source_layer told) column.sources)) columns
   columns_stand marks range [] alike are = tt
   columns_stand marks range (column ∷ columns) alike are = (
-    λ time within.
-        stands.values (At column.path time)
-        ∙ sym (marks_alike marks store.marks (At column.path time) (map (source_layer told) column.sources) (alike.0
-        time)
-        ∙ ap (λ sources. value_in store.marks (At column.path time) (map (source_layer told) sources)) are.0
-        ∙ sources_are told known store.marks column.path range time within store match),
+    λ time within. stands.values (At column.path time)
+        ∙ sym (marks_alike marks store.marks (At column.path time) (map (source_layer told) column.sources)
+        (alike.0 time) ∙ ap (λ sources. value_in store.marks (At column.path time) (map (source_layer told) sources))
+        are.0 ∙ sources_are told known store.marks column.path range time within store match),
     columns_stand marks range columns alike.1 are.1,
   )
 
   pub pin_stands : (pin : Pin) → TakesPin known pin state → PinStandsFor told pin world
-  pin_stands pin takes = columns_stand pin.marks pin.range pin.columns takes.marks takes.columns
+  pin_stands pin takes = columns_stand _ _ _ takes.marks takes.columns

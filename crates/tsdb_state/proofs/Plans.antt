@@ -1,7 +1,7 @@
 -- What a plan names stands as a job of its kind asks: its runs are side by side, and a cross plan has its gap.
 use Rattle.std.proofs.Common.{◌≡◌, ℕ, zero, suc, ◌+◌, ◌-◌, ◌≤◌, ℤ, ◌<ℤ◌, ◌≤ℤ◌, Bool, true, false, List, [], ◌∷◌}
 use Rattle.std.proofs.Common.{◌++◌}
-use Rattle.std.proofs.Common.{drop, inl, inr, length, max, min, refl, sym, ap, ◌∙◌, subst, take, arith}
+use Rattle.std.proofs.Common.{drop, inl, inr, length, refl, sym, ap, ◌∙◌, subst, take, arith}
 use Rattle.std.specs.FinMap.{get}
 use Rattle.std.specs.Prelude.{All, Any, Some, int_lt, slice_range}
 use Rattle.std.specs.List.{AllByRecursion as Each, AllWithin, drop-map, take-map}
@@ -67,15 +67,16 @@ drop_none (suc n) = refl
 three_parts : (first end : ℕ) (files : List File) → first ≤ end
     → files ≡ take first files ++ (slice_range files first end ++ drop end files)
 three_parts zero end files h =
-    sym (take-append-drop end files) ∙ ap (λ n. take n files ++ drop end files) (minus_none end)
+    sym (take-append-drop end files)
+    ∙ ap (λ n. take n files ++ drop end files) (minus_none end)
   where
     minus_none : (n : ℕ) → n ≡ n - 0
     minus_none n = omega arith
 three_parts (suc first) end [] h = λ i. sym (take_none (end - suc first)) i ++ sym (drop_none end) i
 three_parts (suc first) zero (file ∷ files) h = absurd (omega arith)
-three_parts (suc first) (suc end) (file ∷ files) h =
-    ap (λ xs. file ∷ xs) (three_parts first end files (omega arith)
-    ∙ ap (λ n. take first files ++ (take n (drop first files) ++ drop end files)) (less first end))
+three_parts (suc first) (suc end) (file ∷ files) h = ap (λ xs. file ∷ xs)
+    (three_parts first end files (omega arith) ∙ ap (λ n. take first files ++
+    (take n (drop first files) ++ drop end files)) (less first end))
   where
     less : (a b : ℕ) → b - a ≡ suc b - suc a
     less a b = omega arith
@@ -104,13 +105,11 @@ any_hull : (P : Hull → Type 0) (known : Entries) (claimed : File → Bool) (fi
     → Among file files → Among hull (known file.number).hulls → P hull
     → Any P (hulls_of (file_entries known claimed files))
 any_hull P known claimed [] file hull among of holds = absurd among
-any_hull P known claimed (first ∷ files) file hull (inl is) of holds =
-    Any-left P (known first.number).hulls (hulls_of (file_entries known claimed files))
-    (any_of P (known first.number).hulls hull
+any_hull P known claimed (first ∷ files) file hull (inl is) of holds = Any-left P (known first.number).hulls
+    (hulls_of (file_entries known claimed files)) (any_of P _ _
     (subst (λ (f : File). Among hull (known f.number).hulls) (sym is) of) holds)
-any_hull P known claimed (first ∷ files) file hull (inr among) of holds =
-    Any-right P (known first.number).hulls (hulls_of (file_entries known claimed files))
-    (any_hull P known claimed files file hull among of holds)
+any_hull P known claimed (first ∷ files) file hull (inr among) of holds = Any-right P (known first.number).hulls
+    (hulls_of (file_entries known claimed files)) (any_hull P known claimed files file hull among of holds)
 
 earlier : (a b : ℤ) → (b ≤ℤ a → ⊥) → a <ℤ b
 earlier a b not_later = by (int_lt a b) refl
@@ -130,10 +129,9 @@ chain a b c d h k l = grind (arith, ints)
 
 module _ (told : Told) (known : Entries) (early_claimed late_claimed : File → Bool) where
   -- the hulls over two points of one device, the first at or above the second, reach each other
-  reach : (high low : File) (p q : Place) → (h : Hull) → IsHullOver h p → (l : Hull) → IsHullOver l q
-      → device_of p.path ≡ device_of q.path → q.time ≤ℤ p.time
-      → (h.device ≡ l.device) × (l.from ≤ℤ h.to)
-  reach high low p q h over_p l over_q same later = (
+  reach : (p q : Place) → (h : Hull) → IsHullOver h p → (l : Hull) → IsHullOver l q
+      → device_of p.path ≡ device_of q.path → q.time ≤ℤ p.time → (h.device ≡ l.device) × (l.from ≤ℤ h.to)
+  reach p q h over_p l over_q same later = (
     over_p.device ∙ same ∙ sym over_q.device,
     chain l.from q.time p.time h.to over_q.from later over_p.to,
   )
@@ -141,43 +139,43 @@ module _ (told : Told) (known : Entries) (early_claimed late_claimed : File → 
   abbrev Is : File → Type 0
   Is file = Describes (known file.number) (told file.number)
 
-  -- files that have no time at or above the start of a hull of the late files are before them
-  before_late : (early late : List File) → EntriesMatch told known early → EntriesMatch told known late
-      → Each (λ file. HasTimeFromStart (file_entries known late_claimed late) (file_entry known early_claimed file) → ⊥)
-      early → IsBefore (file_layers told early) (file_layers told late)
-  before_late early late of_early of_late none p q v w a b same =
+  -- files are before others where no hull of the first reaches one of the others
+  hulls_before : (early late : List File) → EntriesMatch told known early → EntriesMatch told known late
+      → ((f g : File) → Among f early → Among g late → (h l : Hull) → Among h (known f.number).hulls
+      → Among l (known g.number).hulls → (h.device ≡ l.device) × (l.from ≤ℤ h.to) → ⊥)
+      → IsBefore (file_layers told early) (file_layers told late)
+  hulls_before early late of_early of_late never p q v w a b same =
       let f = in_file told early p v a in
       let g = in_file told late q w b in
       let h = (each_among Is early f.file of_early f.among).over p v f.has in
       let l = (each_among Is late g.file of_late g.among).over q w g.has in
-      earlier p.time q.time (λ later. each_among
-      (λ (file : File). HasTimeFromStart (file_entries known late_claimed late) (file_entry known early_claimed file) →
-      ⊥)
-      early f.file none f.among
-      (to_start (file_entries known late_claimed late) (file_entry known early_claimed f.file)
+      earlier p.time q.time (λ later. never f.file g.file f.among g.among h.0 l.0 h.1 l.1
+      (reach p q h.0 h.2 l.0 l.2 same later))
+
+  -- files that have no time at or above the start of a hull of the late files are before them
+  before_late : (early late : List File) → EntriesMatch told known early → EntriesMatch told known late
+      → Each (λ file. HasTimeFromStart (file_entries known late_claimed late) (file_entry known early_claimed file) → ⊥)
+      early → IsBefore (file_layers told early) (file_layers told late)
+  before_late early late of_early of_late none =
+      hulls_before early late of_early of_late (λ f g in_early in_late h l of_f of_g met.
+      let never = each_among _ early f none in_early in
+      never (to_start (file_entries known late_claimed late) (file_entry known early_claimed f)
       (any_of (λ (x : Hull). Any (λ (y : Hull). (x.device ≡ y.device) × (y.from ≤ℤ x.to))
-      (hulls_of (file_entries known late_claimed late))) (known f.file.number).hulls h.0 h.1
-      (any_hull (λ (y : Hull). (h.0.device
-      ≡ y.device) × (y.from ≤ℤ h.0.to)) known late_claimed late g.file l.0 g.among l.1
-      (reach f.file g.file p q h.0 h.2 l.0 l.2 same later)))))
+      (hulls_of (file_entries known late_claimed late))) _ h of_f
+      (any_hull (λ (y : Hull). (h.device ≡ y.device) × (y.from ≤ℤ h.to)) known late_claimed late g l in_late of_g
+      met))))
 
   -- files that have no time at or below the end of a hull of the late files are behind them
   late_before : (late behind : List File) → EntriesMatch told known late → EntriesMatch told known behind
       → Each (λ file. HasTimeUpToEnd (file_entries known late_claimed late) (file_entry known early_claimed file) → ⊥)
       behind → IsBefore (file_layers told late) (file_layers told behind)
-  late_before late behind of_late of_behind none p q v w a b same =
-      let f = in_file told late p v a in
-      let g = in_file told behind q w b in
-      let h = (each_among Is late f.file of_late f.among).over p v f.has in
-      let l = (each_among Is behind g.file of_behind g.among).over q w g.has in
-      earlier p.time q.time (λ later. each_among
-      (λ (file : File). HasTimeUpToEnd (file_entries known late_claimed late) (file_entry known early_claimed file) → ⊥)
-      behind g.file none g.among
-      (to_end (file_entries known late_claimed late) (file_entry known early_claimed g.file)
-      (any_hull (λ (x : Hull). Any (λ (y : Hull). (x.device ≡ y.device) × (y.from ≤ℤ x.to)) (known g.file.number).hulls)
-      known late_claimed late f.file h.0 f.among h.1
-      (any_of (λ (y : Hull). (h.0.device ≡ y.device) × (y.from ≤ℤ h.0.to)) (known g.file.number).hulls l.0 l.1
-      (reach f.file g.file p q h.0 h.2 l.0 l.2 same later)))))
+  late_before late behind of_late of_behind none =
+      hulls_before late behind of_late of_behind (λ f g in_late in_behind h l of_f of_g met.
+      let never = each_among _ behind g none in_behind in
+      never (to_end (file_entries known late_claimed late) (file_entry known early_claimed g)
+      (any_hull (λ (x : Hull). Any (λ (y : Hull). (x.device ≡ y.device) × (y.from ≤ℤ x.to)) (known g.number).hulls)
+      known late_claimed late f h in_late of_f (any_of (λ (y : Hull). (h.device ≡ y.device) × (y.from ≤ℤ h.to)) _ l of_g
+      met))))
 
 length_entries : (known : Entries) (claimed : File → Bool) (files : List File)
     → length (file_entries known claimed files) ≡ length files
@@ -187,22 +185,14 @@ length_entries known claimed (file ∷ files) = ap suc (length_entries known cla
 each_drop_entries : (P : FileEntry → Type 0) (known : Entries) (claimed : File → Bool) (n : ℕ) (files : List File)
     → AllWithin P (file_entries known claimed files) n (length (file_entries known claimed files))
     → Each (λ file. P (file_entry known claimed file)) (drop n files)
-each_drop_entries P known claimed n files all = each_of_map P (file_entry known claimed) (drop n files)
-    (subst (Each P) (drop-map (file_entry known claimed) n files) (each_drop P (file_entries known claimed files) n
-    all))
+each_drop_entries P known claimed n files all =
+    each_of_map P _ _ (subst (Each P) (drop-map (file_entry known claimed) n files) (each_drop P _ n all))
 
 each_take_entries : (P : FileEntry → Type 0) (known : Entries) (claimed : File → Bool) (n : ℕ) (files : List File)
     → AllWithin P (file_entries known claimed files) 0 n → n ≤ length (file_entries known claimed files)
     → Each (λ file. P (file_entry known claimed file)) (take n files)
-each_take_entries P known claimed n files all within = each_of_map P (file_entry known claimed) (take n files)
-    (subst (Each P) (take-map (file_entry known claimed) n files)
-    (each_take P (file_entries known claimed files) n all within))
-
-below_max : (a b c : ℕ) → c ≡ max a b → (a ≤ c) × (b ≤ c)
-below_max a b c e = (omega arith, omega arith)
-
-cut_to : (a b : ℕ) → a ≤ b → a ≡ min a b
-cut_to a b h = omega arith
+each_take_entries P known claimed n files all within =
+    each_of_map P _ _ (subst (Each P) (take-map (file_entry known claimed) n files) (each_take P _ n all within))
 
 module _ (told : Told) (known : Entries) (early_claimed late_claimed : File → Bool) (sequence unsequence : List File)
     (match : EntriesMatch told known (sequence ++ unsequence)) where
@@ -216,38 +206,30 @@ module _ (told : Told) (known : Entries) (early_claimed late_claimed : File → 
     inr some,
     record {
       run = record { before = before; behind = behind; is = parts };
-      place = length-take run.first sequence
-          ∙ sym (cut_to run.first (length sequence) (subst
-          (λ n. run.first ≤ n) (length_entries known early_claimed sequence)
-          plan.eligible.first.within)) ∙ sym is.place;
+      place = omega (
+        arith,
+        length-take run.first sequence,
+        length_entries known early_claimed sequence,
+        plan.eligible.first.within,
+        is.place,
+      );
       later = drop run.prefix unsequence;
-      first = sym (take-append-drop run.prefix unsequence)
-          ∙ ap (λ files. files ++ drop run.prefix unsequence) (sym is.first_late);
-      below = subst (λ files. IsBefore (file_layers told before) (file_layers told files)) (sym is.first_late)
-          (before_late told known early_claimed late_claimed before late (each_left Has before rest old)
-          (each_left Has late (drop run.prefix unsequence) young)
-          (each_take_entries (λ file. HasTimeFromStart (file_entries known late_claimed late) file
-          → ⊥) known early_claimed
-          run.first sequence (subst (λ prefix. AllWithin (λ file. HasTimeFromStart prefix file → ⊥)
-          (file_entries known early_claimed sequence) 0 run.first) entries_are plan.eligible.first.none_before)
+      first = rw is.first_late (sym (take-append-drop run.prefix unsequence));
+      below = rw is.first_late (before_late told known early_claimed late_claimed before late (each_left _ _ _ old)
+          (each_left _ _ _ young) (each_take_entries (λ file. HasTimeFromStart (file_entries known late_claimed late)
+          file → ⊥) known early_claimed run.first sequence (rw entries_are at plan.eligible.first.none_before)
           plan.eligible.first.within));
-      above = subst (λ files. IsBefore (file_layers told files) (file_layers told behind)) (sym is.first_late)
-          (late_before told known early_claimed late_claimed late behind
-          (each_left Has late (drop run.prefix unsequence) young)
-          (each_right Has (slice_range sequence run.first run.end) behind (each_right Has before rest old))
-          (each_drop_entries (λ file. HasTimeUpToEnd (file_entries known late_claimed late) file
-          → ⊥) known early_claimed
-          run.end sequence (subst (λ prefix. AllWithin (λ file. HasTimeUpToEnd prefix file → ⊥)
-          (file_entries known early_claimed sequence) run.end (length (file_entries known early_claimed sequence)))
-          entries_are
-          (from_later (λ file. HasTimeUpToEnd (take run.prefix (file_entries known late_claimed unsequence)) file → ⊥)
-          (file_entries known early_claimed sequence) plan.eligible.end.0 run.end ends.1
+      above = rw is.first_late (late_before told known early_claimed late_claimed late behind (each_left _ _ _ young)
+          (each_right _ _ _ (each_right _ before _ old)) (each_drop_entries
+          (λ file. HasTimeUpToEnd (file_entries known late_claimed late) file → ⊥) known early_claimed run.end sequence
+          (rw entries_are at (from_later (λ file. HasTimeUpToEnd
+          (take run.prefix (file_entries known late_claimed unsequence)) file → ⊥) _ _ _ ends.1
           plan.eligible.end.1.none_behind))));
     },
   )
     where
       ends : (run.first ≤ run.end) × (plan.eligible.end.0 ≤ run.end)
-      ends = below_max run.first plan.eligible.end.0 run.end plan.eligible.end.2
+      ends = (omega (arith, plan.eligible.end.2), omega (arith, plan.eligible.end.2))
 
       before : List File
       before = take run.first sequence
@@ -262,13 +244,13 @@ module _ (told : Told) (known : Entries) (early_claimed late_claimed : File → 
       rest = slice_range sequence run.first run.end ++ behind
 
       split : sequence ≡ before ++ rest
-      split = three_parts run.first run.end sequence ends.0
+      split = three_parts _ _ _ ends.0
 
       parts : sequence ≡ before ++ (job.sequence ++ behind)
       parts = split ∙ ap (λ files. before ++ (files ++ behind)) (sym is.sequence_run)
 
       old : Each Has (before ++ rest)
-      old = subst (Each Has) split (each_left Has sequence unsequence match)
+      old = subst (Each Has) split (each_left _ _ _ match)
 
       young : Each Has (late ++ drop run.prefix unsequence)
       young = subst (Each Has) (sym (take-append-drop run.prefix unsequence)) (each_right Has sequence unsequence match)
@@ -276,34 +258,33 @@ module _ (told : Told) (known : Entries) (early_claimed late_claimed : File → 
       entries_are : take run.prefix (file_entries known late_claimed unsequence) ≡ file_entries known late_claimed late
       entries_are = take-map (file_entry known late_claimed) run.prefix unsequence
 
-      fits : (a n m k : ℕ) → 1 ≤ a → a ≤ n → n ≡ m → k ≡ min a m → 1 ≤ k
-      fits a n m k h g e f = omega arith
-
       some : 1 ≤ length job.unsequence
-      some = subst (λ files. 1 ≤ length files) (sym is.first_late)
-          (fits run.prefix (length (file_entries known late_claimed unsequence)) (length unsequence) (length late)
-          plan.eligible.some plan.eligible.within (length_entries known late_claimed unsequence)
-          (length-take run.prefix unsequence))
+      some = rw is.first_late (omega (
+        arith,
+        plan.eligible.some,
+        plan.eligible.within,
+        length_entries known late_claimed unsequence,
+        length-take run.prefix unsequence,
+      ))
 
 -- the run of an inner plan
 inner_run : (known : Entries) (claimed : File → Bool) (files : List File) (run : Run)
     → IsInnerPlan (file_entries known claimed files) run
     → (files ≡ take run.first files ++ (slice_range files run.first run.end ++ drop run.end files))
     × (length (take run.first files) ≡ run.first) × (2 ≤ length (slice_range files run.first run.end))
-inner_run known claimed files run plan = (
-  three_parts run.first run.end files plan.row.order,
-  length-take run.first files ∙ front run.first run.end (length (file_entries known claimed files)) (length files)
-      plan.row.order plan.row.within (length_entries known claimed files),
-  two run.first run.end (length (file_entries known claimed files)) (length files) (length (drop run.first files))
-      (length (slice_range files run.first run.end)) plan.two plan.row.within (length_entries known claimed files)
-      (length-drop run.first files) (length-take (run.end - run.first) (drop run.first files)),
-)
-  where
-    front : (a b n m : ℕ) → a ≤ b → b ≤ n → n ≡ m → min a m ≡ a
-    front a b n m h k e = omega arith
-
-    two : (a b n m d k : ℕ) → a + 2 ≤ b → b ≤ n → n ≡ m → d ≡ m - a → k ≡ min (b - a) d → 2 ≤ k
-    two a b n m d k h g e f i = omega arith
+inner_run known claimed files run plan =
+    let length_is = length_entries known claimed files in (
+      three_parts run.first run.end files plan.row.order,
+      omega (arith, plan.row.order, plan.row.within, length_is, length-take run.first files),
+      omega (
+        arith,
+        plan.two,
+        plan.row.within,
+        length_is,
+        length-drop run.first files,
+        length-take (run.end - run.first) (drop run.first files),
+      ),
+    )
 
 pub inner_sequence : (told : Told) (known : Entries) (claimed : File
     → Bool) (sequence unsequence : List File) (run : Run)
@@ -311,21 +292,18 @@ pub inner_sequence : (told : Told) (known : Entries) (claimed : File
     → HasKind Sequence job × HasGap told sequence unsequence job
 inner_sequence told known claimed sequence unsequence run job plan is =
     let found = inner_run known claimed sequence run plan in (
-      inl (is.no_late, subst (λ files. 2 ≤ length files) (sym is.sequence_run) found.2),
+      inl (is.no_late, rw is.sequence_run found.2),
       record {
         run = record {
           before = take run.first sequence;
           behind = drop run.end sequence;
-          is = found.0
-              ∙ ap (λ files. take run.first sequence ++ (files ++ drop run.end sequence)) (sym is.sequence_run);
+          is = rw is.sequence_run found.0;
         };
         place = found.1 ∙ sym is.place;
         later = unsequence;
-        first = ap (λ files. files ++ unsequence) (sym is.no_late);
-        below = subst (λ files. IsBefore (file_layers told (take run.first sequence)) (file_layers told files))
-            (sym is.no_late) (λ p q v w a b same. absurd b);
-        above = subst (λ files. IsBefore (file_layers told files) (file_layers told (drop run.end sequence)))
-            (sym is.no_late) (λ p q v w a b same. absurd a);
+        first = rw is.no_late refl;
+        below = rw is.no_late (λ p q v w a b same. absurd b);
+        above = rw is.no_late (λ p q v w a b same. absurd a);
       },
     )
 
@@ -334,12 +312,8 @@ pub inner_unsequence : (known : Entries) (claimed : File → Bool) (unsequence :
     → HasKind Unsequence job × IsRun job.unsequence unsequence
 inner_unsequence known claimed unsequence run job plan is =
     let found = inner_run known claimed unsequence run plan in (
-      (is.no_sequence, subst (λ files. 2 ≤ length files) (sym is.late_run) found.2),
-      record {
-        before = take run.first unsequence;
-        behind = drop run.end unsequence;
-        is = found.0 ∙ ap (λ files. take run.first unsequence ++ (files ++ drop run.end unsequence)) (sym is.late_run);
-      },
+      (is.no_sequence, rw is.late_run found.2),
+      record { before = take run.first unsequence; behind = drop run.end unsequence; is = rw is.late_run found.0 },
     )
 
 pub other_space : Unsequence ≡ Sequence → ⊥
@@ -350,9 +324,8 @@ other_space e = cc
 free_entries : (known : Entries) (claimed : File → Bool) (files : List File)
     → All (λ (entry : FileEntry). entry.claimed ≡ false) (file_entries known claimed files)
     → Each (λ file. claimed file ≡ false) files
-free_entries known claimed files free = each_of_map (λ (entry : FileEntry). entry.claimed ≡ false)
-    (file_entry known claimed) files
-    (recursion_from_All (λ (entry : FileEntry). entry.claimed ≡ false) (file_entries known claimed files) free)
+free_entries known claimed files free = each_of_map _ _ _ (recursion_from_All
+    (λ (entry : FileEntry). entry.claimed ≡ false) (file_entries known claimed files) free)
 
 pub apart_of_free : (claimed : File → Bool) (jobs : List Compaction) (job : Compaction) → ClaimLate claimed jobs
     → Each (λ file. claimed file ≡ false) job.unsequence
@@ -361,8 +334,7 @@ apart_of_free claimed [] job claims free one = tt
 apart_of_free claimed (other ∷ jobs) job claims free one = (
   record {
     one = one.0;
-    late = λ file mine theirs. false≢true
-        (sym (each_among (λ file. claimed file ≡ false) job.unsequence file free mine) ∙ claims.0 file theirs);
+    late = λ file mine theirs. false≢true (sym (each_among _ _ _ free mine) ∙ claims.0 file theirs);
   },
   apart_of_free claimed jobs job claims.1 free one.1,
 )
@@ -374,19 +346,14 @@ pub cross_free : (known : Entries) (early_claimed claimed : File
     (job : Compaction)
     → IsCrossPlan (file_entries known early_claimed sequence) (file_entries known claimed unsequence) run
     → IsCrossJob run sequence unsequence job → Each (λ file. claimed file ≡ false) job.unsequence
-cross_free known early_claimed claimed sequence unsequence run job plan is =
-    subst (Each (λ file. claimed file ≡ false)) (sym is.first_late)
-    (free_entries known claimed (take run.prefix unsequence)
-    (subst (All (λ (entry : FileEntry). entry.claimed
-    ≡ false)) (take-map (file_entry known claimed) run.prefix unsequence)
-    plan.eligible.free))
+cross_free known early_claimed claimed sequence unsequence run job plan is = subst (Each (λ file. claimed file ≡ false))
+    (sym is.first_late) (free_entries known _ _ (subst (All (λ (entry : FileEntry). entry.claimed ≡ false))
+    (take-map (file_entry known claimed) run.prefix unsequence) plan.eligible.free))
 
 pub inner_free : (known : Entries) (claimed : File → Bool) (unsequence : List File) (run : Run) (job : Compaction)
     → IsInnerPlan (file_entries known claimed unsequence) run → IsInnerUnsequenceJob run unsequence job
     → Each (λ file. claimed file ≡ false) job.unsequence
-inner_free known claimed unsequence run job plan is =
-    subst (Each (λ file. claimed file ≡ false)) (sym is.late_run)
-    (free_entries known claimed (slice_range unsequence run.first run.end)
-    (subst (All (λ (entry : FileEntry). entry.claimed ≡ false))
-    (ap (take (run.end - run.first)) (drop-map (file_entry known claimed) run.first unsequence)
-    ∙ take-map (file_entry known claimed) (run.end - run.first) (drop run.first unsequence)) plan.row.row.free))
+inner_free known claimed unsequence run job plan is = subst (Each (λ file. claimed file ≡ false)) (sym is.late_run)
+    (free_entries known _ _ (subst (All (λ (entry : FileEntry). entry.claimed ≡ false))
+    (ap (take (run.end - run.first)) (drop-map (file_entry known claimed) run.first unsequence) ∙ take-map
+    (file_entry known claimed) (run.end - run.first) (drop run.first unsequence)) plan.row.row.free))

@@ -11,7 +11,7 @@ use Rattle.tsdb_base.specs.declared.value.Value.{Value}
 use Rattle.tsdb_layers.proofs.Places.{get_put, is_place}
 use Rattle.tsdb_layers.proofs.Values.{value_none}
 use Rattle.tsdb_layers.specs.Layers.{HasPoint, Layer, value_in}
-use Rattle.tsdb_layers.specs.Order.{IsBelow, Watermarks}
+use Rattle.tsdb_layers.specs.Order.{IsAbove, IsBelow, Watermarks}
 use Rattle.tsdb_layers.specs.Places.{Content, Place, place_cmp, put}
 use Rattle.tsdb_memtable.specs.Watermarks.{space_by}
 use Rattle.tsdb_path.specs.Nodes.{device_of}
@@ -27,14 +27,13 @@ pub put_holds : (P : Place → Value → Type 0) (content : Content) (place : Pl
     → ((q : Place) (w : Value) → HasPoint (layer_of content) q w → P q w) → P place value
     → (q : Place) (w : Value) → HasPoint (layer_of (put place value content)) q w → P q w
 put_holds P content place value all one q w (inr none) = absurd none
-put_holds P content place value all one q w (inl is) =
-    by (eq_by_cmp place_cmp q place) refl (sym (get_put content place value q) ∙ is)
+put_holds P content place value all one q w (inl is) = by (eq_by_cmp place_cmp q place) refl
+    (sym (get_put _ _ _ q) ∙ is)
   where
-    same_value : (v w : Value) → Some v ≡ Some w → v ≡ w
-    same_value v w e = cc
-
     by : (b : Bool) → eq_by_cmp place_cmp q place ≡ b → cond b (Some value) (get content q) ≡ Some w → P q w
-    by true e is = subst (λ p. P p w) (sym (is_place q place e)) (subst (P place) (same_value value w is) one)
+    by true e is =
+        let same : value ≡ w = cc in
+        subst (λ p. P p w) (sym (is_place q place e)) (subst (P place) same one)
     by false e is = all q w (inl is)
 
 -- the two cases of the watermark rule
@@ -66,9 +65,9 @@ goes watermarks place value pair = by (get watermarks (device_of place.path)) re
 
     tested : (last : ℤ) (b : Bool) → get watermarks (device_of place.path) ≡ Some last → int_lt last place.time ≡ b
         → Goes watermarks place value pair (put_in_space (cond b Sequence Unsequence) place value pair)
-    tested last true e t = Early (if_early (Some last) e (above_watermark last place.time t)) refl
-    tested last false e t = Late
-        (subst (λ o. IsSomeAnd o (λ last. place.time ≤ℤ last)) (sym e) (at_most_watermark last place.time t)) refl
+    tested last true e t = Early (if_early (Some last) e (above_watermark _ _ t)) refl
+    tested last false e t =
+        Late (subst (λ o. IsSomeAnd o (λ last. place.time ≤ℤ last)) (sym e) (at_most_watermark _ _ t)) refl
 
     by : (o : Option ℤ) → get watermarks (device_of place.path) ≡ o
         → Goes watermarks place value pair (put_in_space (space_by o place.time) place value pair)
@@ -81,40 +80,32 @@ module _ (told : Told) (watermarks : Watermarks) (sequence unsequence : List Fil
   In pair = LayersInOrder told watermarks sequence unsequence frozen pair
 
   pub put_in_order : In pair → In (put_in_pair watermarks place value pair)
-  put_in_order order = by (put_in_pair watermarks place value pair) (goes watermarks place value pair)
+  put_in_order order = by (put_in_pair watermarks place value pair) (goes _ _ _ _)
     where
       by : (new : Pair) → Goes watermarks place value pair new → In new
-      by new (Early above is) = subst In (sym is) (record {
-        rises = order.rises;
-        late = order.late;
-        below = order.below;
-        late_below = order.late_below;
-        working_below = order.working_below;
-        above = put_holds (λ q w. IfSome (get watermarks (device_of q.path))
-            (λ last. last <ℤ q.time)) pair.sequence place
-            value order.above above;
-      })
-      by new (Late below is) = subst In (sym is) (record {
-        rises = order.rises;
-        late = order.late;
-        below = order.below;
-        late_below = order.late_below;
-        above = order.above;
-        working_below = put_holds (λ q w. IsSomeAnd (get watermarks (device_of q.path)) (λ last. q.time ≤ℤ last))
-            pair.unsequence place value order.working_below below;
-      })
+      by new (Early above is) =
+          let held : IsAbove watermarks (layer_of (put place value pair.sequence)) = put_holds
+          (λ q w. IfSome (get watermarks (device_of q.path)) (λ last. last <ℤ q.time)) pair.sequence place value
+          order.above above in
+          let new_order : In (record pair { sequence = put place value pair.sequence }) = search in
+          subst In (sym is) new_order
+      by new (Late below is) =
+          let held : IsBelow watermarks (layer_of (put place value pair.unsequence)) = put_holds
+          (λ q w. IsSomeAnd (get watermarks (device_of q.path)) (λ last. q.time ≤ℤ last)) pair.unsequence place value
+          order.working_below below in
+          let new_order : In (record pair { unsequence = put place value pair.unsequence }) = search in
+          subst In (sym is) new_order
 
 -- what is above the watermark has no late point
 
 contradiction : (o : Option ℤ) (time : ℤ) → IfSome o (λ last. last <ℤ time) → IsSomeAnd o (λ last. time ≤ℤ last) → ⊥
 contradiction None time above below = below
-contradiction (Some last) time above below = not_both last time above below
+contradiction (Some last) time above below = not_both _ _ above below
 
 no_late : (watermarks : Watermarks) (layers : List Layer) (place : Place)
     → IfSome (get watermarks (device_of place.path)) (λ last. last <ℤ place.time) → IsBelow watermarks layers
     → (value : Value) → HasPoint layers place value → ⊥
-no_late watermarks layers place above below value has =
-    contradiction (get watermarks (device_of place.path)) place.time above (below place value has)
+no_late watermarks layers place above below value has = contradiction _ _ above (below place value has)
 
 none_is : (o : Option Value) → ((value : Value) → o ≡ Some value → ⊥) → o ≡ None
 none_is None never = refl
@@ -137,8 +128,8 @@ module _ (told : Told) (state : StoreState) (place : Place) (value : Value)
   late_at q = value_in state.marks q (stored_late told state.unsequence state.frozen)
 
   abbrev Is : Pair → Place → Type 0
-  Is new q = value_of told (with_working new) q
-      ≡ cond (eq_by_cmp place_cmp q place) (Some value) (value_of told state q)
+  Is new q =
+      value_of told (with_working new) q ≡ cond (eq_by_cmp place_cmp q place) (Some value) (value_of told state q)
 
   here_or : (b : Bool) (w s l u : Option Value) → (b ≡ true → l ≡ None) → (b ≡ true → u ≡ None)
       → joined (cond b (Some value) w) l s u ≡ cond b (Some value) (joined w l s u)
@@ -151,35 +142,27 @@ module _ (told : Told) (state : StoreState) (place : Place) (value : Value)
   here_late false w s l u = refl
 
   pub put_value : (q : Place) → Is new_pair q
-  put_value q = by new_pair (goes state.watermarks place value state.working)
+  put_value q = by new_pair (goes _ _ _ _)
     where
       at_place : (layers : List Layer) → IsBelow state.watermarks layers
           → IfSome (get state.watermarks (device_of place.path)) (λ last. last <ℤ place.time)
           → eq_by_cmp place_cmp q place ≡ true → (value : Value) → HasPoint layers q value → ⊥
       at_place layers below above e value has =
-          no_late state.watermarks layers place above below value
-          (subst (λ (p : Place). HasPoint layers p value) (is_place q place e) has)
+          no_late _ _ _ above below _ (subst (λ (p : Place). HasPoint layers p value) (is_place q _ e) has)
 
       by : (new : Pair) → Goes state.watermarks place value state.working new → Is new q
       by new (Early above is) = subst (λ new. Is new q) (sym is)
           (value_is told (with_working (record state.working { sequence = put place value state.working.sequence })) q
-          reached
-          ∙ ap (λ o. joined o (get state.working.unsequence q) (below_at q) (late_at q))
-          (get_put state.working.sequence place value q)
-          ∙ here_or (eq_by_cmp place_cmp q place) (get state.working.sequence q) (below_at q)
-          (get state.working.unsequence q) (late_at q)
-          (λ e. none_is (get state.working.unsequence q)
-          (λ v has. at_place (layer_of state.working.unsequence) order.working_below above e v (inl has)))
-          (λ e. value_none state.marks q (stored_late told state.unsequence state.frozen)
-          (λ v has. at_place (stored_late told state.unsequence state.frozen) order.late_below above e v has))
+          reached ∙ ap (λ o. joined o (get state.working.unsequence q) (below_at q) (late_at q)) (get_put _ _ _ q)
+          ∙ here_or _ _ _ _ _ (λ e. none_is _ (λ v has. at_place (layer_of state.working.unsequence) order.working_below
+          above e v (inl has))) (λ e. value_none _ q _ (λ v has. at_place
+          (stored_late told state.unsequence state.frozen) order.late_below above e v has))
           ∙ ap (cond (eq_by_cmp place_cmp q place) (Some value)) (sym (value_is told state q reached)))
       by new (Late below is) = subst (λ new. Is new q) (sym is)
           (value_is told (with_working (record state.working { unsequence = put place value state.working.unsequence }))
-          q reached
-          ∙ ap (λ o. joined (get state.working.sequence q) o (below_at q) (late_at q))
-          (get_put state.working.unsequence place value q)
-          ∙ here_late (eq_by_cmp place_cmp q place) (get state.working.sequence q) (below_at q)
-          (get state.working.unsequence q) (late_at q)
+          q reached ∙ ap (λ o. joined (get state.working.sequence q) o (below_at q) (late_at q))
+          (get_put state.working.unsequence place value q) ∙ here_late (eq_by_cmp place_cmp q place)
+          (get state.working.sequence q) (below_at q) (get state.working.unsequence q) (late_at q)
           ∙ ap (cond (eq_by_cmp place_cmp q place) (Some value)) (sym (value_is told state q reached)))
 
 -- what holds of the points of a pair, and of one more, in whichever space it goes
@@ -187,7 +170,7 @@ pub pair_holds : (P : Place → Value → Type 0) (watermarks : Watermarks) (pla
     → ((q : Place) (w : Value) → HasPoint (pair_layers pair) q w → P q w) → P place value
     → (q : Place) (w : Value) → HasPoint (pair_layers (put_in_pair watermarks place value pair)) q w → P q w
 pair_holds P watermarks place value pair all one q w has =
-    by (put_in_pair watermarks place value pair) (goes watermarks place value pair) has
+    by (put_in_pair watermarks place value pair) (goes _ _ _ _) has
   where
     split : (new : Pair) → HasPoint (pair_layers new) q w
         → HasPoint (layer_of new.sequence) q w ⊎ HasPoint (layer_of new.unsequence) q w
@@ -204,9 +187,9 @@ pair_holds P watermarks place value pair all one q w has =
     second q w (inr h) = absurd h
 
     by : (new : Pair) → Goes watermarks place value pair new → HasPoint (pair_layers new) q w → P q w
-    by new (Early above is) h = ⊎_elim (put_holds P pair.sequence place value first one q w) (second q w)
+    by new (Early above is) h = ⊎_elim (put_holds P _ _ _ first one q w) (second q w)
         (split (record pair { sequence = put place value pair.sequence })
         (subst (λ (p : Pair). HasPoint (pair_layers p) q w) is h))
-    by new (Late below is) h = ⊎_elim (first q w) (put_holds P pair.unsequence place value second one q w)
+    by new (Late below is) h = ⊎_elim (first q w) (put_holds P _ _ _ second one q w)
         (split (record pair { unsequence = put place value pair.unsequence })
         (subst (λ (p : Pair). HasPoint (pair_layers p) q w) is h))

@@ -17,16 +17,17 @@ length_numbers (file ∷ files) = ap suc (length_numbers files)
 pub replaced_run : (before run behind output : List File)
     → replace (length before) (length (numbers_of run)) output (before ++ (run ++ behind))
     ≡ before ++ (output ++ behind)
-replaced_run before run behind output =
-    λ i. take-append_seam before (run ++ behind) i ++ (output ++ rest i)
+replaced_run before run behind output = λ i. take-append_seam before (run ++ behind) i ++ (output ++ rest i)
   where
     rest : drop (length before + length (numbers_of run)) (before ++ (run ++ behind)) ≡ behind
-    rest = drop-append-add before (run ++ behind) (length (numbers_of run))
-        ∙ ap (λ n. drop n (run ++ behind)) (length_numbers run) ∙ drop-append_seam run behind
+    rest =
+        drop-append-add before (run ++ behind) (length (numbers_of run))
+        ∙ ap (λ n. drop n (run ++ behind)) (length_numbers run)
+        ∙ drop-append_seam run behind
 
 -- the list without the first files
 pub dropped_first : (first later : List File) → drop (length (numbers_of first)) (first ++ later) ≡ later
-dropped_first first later = ap (λ n. drop n (first ++ later)) (length_numbers first) ∙ drop-append_seam first later
+dropped_first first later = ap (λ n. drop n (first ++ later)) (length_numbers _) ∙ drop-append_seam first _
 
 -- the file of an output
 pub output_is : (job : Compaction) (output : List File) → 1 ≤ job.output

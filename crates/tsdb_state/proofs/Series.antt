@@ -1,6 +1,6 @@
 -- The series that are there: their types, by paths and by numbers.
 use Rattle.std.proofs.Common.{◌≡◌, ℕ, zero, suc, Bool, true, false, cond, List, [], ◌∷◌, ◌++◌, inl, inr, refl}
-use Rattle.std.proofs.Common.{sym, ap, ◌∙◌}
+use Rattle.std.proofs.Common.{sym, ap, ◌∙◌, subst}
 use Rattle.std.specs.Prelude.{◌≢◌, ◌&&◌, Some, None, find, slice_get}
 use Rattle.std.specs.List.{AllByRecursion as Each}
 use Rattle.std.specs.Option.{option_map, option_or, unwrap_or}
@@ -20,8 +20,7 @@ ArePathsApart series other = series.live ≡ true → other.live ≡ true → se
 
 pub live_at : (path : List ℕ) (series : SeriesEntry) → series.live ≡ true → series.schema.path ≡ path
     → is_live_at path series ≡ true
-live_at path series live same =
-    (λ i. live i && is_path path (same i)) ∙ path_itself path
+live_at path series live same = (λ i. live i && is_path path (same i)) ∙ path_itself path
 
 both_parts : (a b : Bool) → (a && b) ≡ true → (a ≡ true) × (b ≡ true)
 both_parts true b e = (refl, e)
@@ -30,15 +29,15 @@ both_parts false b e = absurd (false≢true e)
 pub is_live : (path : List ℕ) (series : SeriesEntry) → is_live_at path series ≡ true
     → (series.live ≡ true) × (series.schema.path ≡ path)
 is_live path series e =
-    let parts = both_parts series.live (is_path path series.schema.path) e in
-    (parts.0, sym (is_path_same path series.schema.path parts.1))
+    let parts = both_parts _ _ e in
+    (parts.0, sym (is_path_same _ _ parts.1))
 
 -- no series that is there has a path without a type
 pub free_apart : (schemas : List SeriesEntry) (new : SeriesEntry) → type_at schemas new.schema.path ≡ None
     → Each (λ series. ArePathsApart series new) schemas
 free_apart [] new free = tt
-free_apart (series ∷ schemas) new free =
-    by (is_live_at new.schema.path series) refl (λ e. free_apart schemas new e) free
+free_apart (series ∷ schemas) new free = by (is_live_at new.schema.path series) refl (λ e. free_apart schemas new e)
+    free
   where
     by : (b : Bool) → is_live_at new.schema.path series ≡ b
         → (type_at schemas new.schema.path ≡ None → Each (λ series. ArePathsApart series new) schemas)
@@ -47,10 +46,7 @@ free_apart (series ∷ schemas) new free =
         None
         → Each (λ series. ArePathsApart series new) (series ∷ schemas)
     by true t rest e = absurd (cc)
-    by false t rest e = (
-      λ live other same. false≢true (sym t ∙ live_at new.schema.path series live same),
-      rest e,
-    )
+    by false t rest e = (λ live other same. false≢true (sym t ∙ live_at new.schema.path series live same), rest e)
 
 -- the types with one series more
 pub type_push : (schemas : List SeriesEntry) (new : SeriesEntry) (path : List ℕ)
@@ -76,7 +72,8 @@ type_push (series ∷ schemas) new path = by (is_live_at path series) (type_push
 
 pub type_kept : (schemas : List SeriesEntry) (new : SeriesEntry) (path : List ℕ) (type : DataType)
     → type_at schemas path ≡ Some type → type_at (schemas ++ new ∷ []) path ≡ Some type
-type_kept schemas new path type is = type_push schemas new path
+type_kept schemas new path type is =
+    type_push schemas new path
     ∙ ap (λ o. option_or o (cond (is_live_at path new) (Some new.schema.data_type) None)) is
 
 pub series_kept : (schemas others : List SeriesEntry) (path : List ℕ) (type : DataType)
@@ -101,12 +98,8 @@ pub series_at : (schemas : List SeriesEntry) (number : ℕ) (series : SeriesEntr
     → slice_get schemas number ≡ Some series → IsOfSeries schemas series.schema.path series.schema.data_type
 series_at [] number series is = absurd (cc)
 series_at (first ∷ schemas) zero series is =
-    let same : first
-    ≡ series = cc in inl (
-      ap (λ (s : SeriesEntry). s.schema.path) same,
-      ap
-          (λ (s : SeriesEntry). s.schema.data_type) same,
-    )
+    let same : first ≡ series = cc in
+    subst (λ (s : SeriesEntry). IsOfSeries (first ∷ schemas) s.schema.path s.schema.data_type) same (inl (refl, refl))
 series_at (first ∷ schemas) (suc number) series is = inr (series_at schemas number series is)
 
 pub type_of_live : (schemas : List SeriesEntry) (series : SeriesEntry) → EachPair ArePathsApart schemas
@@ -114,19 +107,13 @@ pub type_of_live : (schemas : List SeriesEntry) (series : SeriesEntry) → EachP
     → type_at schemas series.schema.path ≡ Some series.schema.data_type
 type_of_live [] series once among live = absurd among
 type_of_live (first ∷ schemas) series once (inl same) live =
-    ap (λ b. option_map (λ (s : SeriesEntry). s.schema.data_type)
-    (cond b (Some first) (find (is_live_at series.schema.path) schemas)))
-    (live_at series.schema.path first (ap (λ (s : SeriesEntry). s.live) same
-    ∙ live) (ap (λ (s : SeriesEntry). s.schema.path) same))
-    ∙ ap (λ (s : SeriesEntry). Some s.schema.data_type) same
-type_of_live (first ∷ schemas) series once (inr among) live =
-    ap (λ b. option_map (λ (s : SeriesEntry). s.schema.data_type)
-    (cond b (Some first) (find (is_live_at series.schema.path) schemas)))
-    (hidden (is_live_at series.schema.path first) refl)
-    ∙ type_of_live schemas series once.1 among live
+    subst (λ (s : SeriesEntry). s.live ≡ true → type_at (first ∷ schemas) s.schema.path ≡ Some s.schema.data_type) same
+    (λ there. rw (live_at first.schema.path first there refl)) live
+type_of_live (first ∷ schemas) series once (inr among) live = rw (hidden (is_live_at series.schema.path first) refl)
+    (type_of_live schemas series once.1 among live)
   where
     hidden : (b : Bool) → is_live_at series.schema.path first ≡ b → is_live_at series.schema.path first ≡ false
     hidden true t =
         let first_is = is_live series.schema.path first t in
-        absurd (each_among (ArePathsApart first) schemas series once.0 among first_is.0 live first_is.1)
+        absurd (each_among _ _ _ once.0 among first_is.0 live first_is.1)
     hidden false t = t

@@ -1,19 +1,12 @@
 -- Borns and versions where the stamp rises.
-use Rattle.std.proofs.Common.{◌≡◌, ℕ, ◌+◌, ◌<◌, ◌≤◌, List, refl, arith}
+use Rattle.std.proofs.Common.{◌≡◌, ℕ, ◌+◌, List, refl, arith}
 use Rattle.tsdb_layers.proofs.Lists.{each_weaker}
 use Rattle.tsdb_marks.specs.declared.marks.Mark.{Mark}
-use Rattle.tsdb_state.proofs.Values.{reached_more, value_by_parts}
+use Rattle.tsdb_state.proofs.Values.{AreReached, reached_more, value_by_parts}
 use Rattle.tsdb_layers.specs.Places.{Place}
-use Rattle.tsdb_state.proofs.Values.{AreReached}
 use Rattle.tsdb_state.specs.State.{File, FrozenPair, Pair, StoreState, Told}
 use Rattle.tsdb_state.specs.StoreOrder.{StampsInOrder}
 use Rattle.tsdb_state.specs.Worlds.{value_of}
-
-more : (a b : ℕ) → a ≤ b → a ≤ b + 1
-more a b h = omega arith
-
-less : (a b : ℕ) → a ≤ b → a < b + 1
-less a b h = omega arith
 
 -- with a raised stamp, whatever the working pair has
 pub stamps_up : (stamp : ℕ) (marks : List Mark) (sequence unsequence : List File) (frozen : List FrozenPair)
@@ -21,18 +14,13 @@ pub stamps_up : (stamp : ℕ) (marks : List Mark) (sequence unsequence : List Fi
     → StampsInOrder stamp marks sequence unsequence frozen working
     → StampsInOrder (stamp + 1) marks sequence unsequence frozen new
 stamps_up stamp marks sequence unsequence frozen working new stamps = record {
-  sequence_born = each_weaker (λ (f : File). f.born ≤ stamp) (λ (f : File). f.born ≤ stamp + 1)
-      (λ f h. more f.born stamp h)
-      sequence stamps.sequence_born;
-  unsequence_born = each_weaker (λ (f : File). f.born ≤ stamp) (λ (f : File). f.born ≤ stamp + 1)
-      (λ f h. more f.born stamp h) unsequence stamps.unsequence_born;
-  frozen_born = each_weaker (λ (p : FrozenPair). p.born ≤ stamp) (λ (p : FrozenPair). p.born ≤ stamp + 1)
-      (λ p h. more p.born stamp h) frozen stamps.frozen_born;
+  sequence_born = each_weaker _ _ (λ file h. omega (arith, h)) sequence stamps.sequence_born;
+  unsequence_born = each_weaker _ _ (λ file h. omega (arith, h)) unsequence stamps.unsequence_born;
+  frozen_born = each_weaker _ _ (λ pair h. omega (arith, h)) frozen stamps.frozen_born;
   frozen_rise = stamps.frozen_rise;
   two = stamps.two;
   filled = stamps.filled;
-  working_born = λ some. each_weaker (λ (p : FrozenPair). p.born ≤ stamp) (λ (p : FrozenPair). p.born < stamp + 1)
-      (λ p h. less p.born stamp h) frozen stamps.frozen_born;
+  working_born = λ some. each_weaker _ _ (λ pair h. omega (arith, h)) frozen stamps.frozen_born;
   versions = reached_more marks stamp stamps.versions;
   versions_rise = stamps.versions_rise;
 }

@@ -1,19 +1,30 @@
 -- The value of a state from its four parts: what is stored in each space, and the working pair over it.
-use Rattle.std.proofs.Common.{◌≡◌, ℕ, ◌+◌, ◌≤◌, List, [], ◌∷◌, ◌++◌, map, sym, ap, ◌∙◌, append_assoc, arith}
+use Rattle.std.proofs.Common.{◌≡◌, ℕ, ◌+◌, ◌≤◌, List, [], ◌∷◌, ◌++◌, map, sym, ap, ◌∙◌, append_assoc, arith, inl, inr}
+use Rattle.std.proofs.Common.{⊎_elim}
 use Rattle.std.specs.Prelude.{Option}
-use Rattle.std.specs.FinMap.{get}
+use Rattle.std.specs.FinMap.{empty, get, get-empty}
 use Rattle.std.specs.List.{AllByRecursion as Each}
 use Rattle.std.specs.Option.{option_or}
 use Rattle.tsdb_base.specs.declared.value.Value.{Value}
 use Rattle.tsdb_layers.proofs.Tests.{newest_survivor}
 use Rattle.tsdb_layers.proofs.Values.{value_append}
-use Rattle.tsdb_layers.specs.Layers.{Layer, value_in}
-use Rattle.tsdb_layers.specs.Places.{Place}
+use Rattle.tsdb_layers.specs.Layers.{HasPoint, Layer, value_in}
+use Rattle.tsdb_layers.specs.Places.{Place, place_cmp}
 use Rattle.tsdb_marks.specs.declared.marks.Mark.{Mark}
+use Rattle.tsdb_state.specs.Limit.{empty_pair}
 use Rattle.tsdb_state.specs.State.{File, FrozenPair, StoreState, Told}
-use Rattle.tsdb_state.specs.Views.{file_layers, sequence_layer, sequence_layers, unsequence_layer}
-use Rattle.tsdb_state.specs.Views.{unsequence_layers, working_pair}
+use Rattle.tsdb_state.specs.Views.{file_layers, layer_of, pair_layers, sequence_layer, sequence_layers}
+use Rattle.tsdb_state.specs.Views.{unsequence_layer, unsequence_layers, working_pair}
 use Rattle.tsdb_state.specs.Worlds.{value_of}
+
+-- an empty content, and an empty pair, have no point
+
+pub none_in : (place : Place) (value : Value) → HasPoint (layer_of empty) place value → ⊥
+none_in place value (inl has) = let none = get-empty {X = Value} place_cmp place in absurd (cc)
+none_in place value (inr has) = has
+
+pub none_in_pair : (place : Place) (value : Value) → HasPoint (pair_layers empty_pair) place value → ⊥
+none_in_pair place value has = ⊎_elim (λ h. none_in place value (inl h)) (none_in place value) has
 
 -- what is stored in each space: files, and the parts of frozen pairs
 abbrev pub stored : Told → List File → List FrozenPair → List Layer
@@ -36,7 +47,7 @@ pub row_value : (marks : List Mark) (place : Place) (files pairs : List Layer) (
 row_value marks place files pairs last reached =
     ap (value_in marks place) (sym (append_assoc files pairs (last ∷ [])))
     ∙ value_append marks place (files ++ pairs) (last ∷ [])
-    ∙ ap (λ o. option_or o (value_in marks place (files ++ pairs))) (newest_survivor marks place last reached)
+    ∙ ap (λ o. option_or o (value_in marks place (files ++ pairs))) (newest_survivor _ _ _ reached)
 
 pub value_is : (told : Told) (state : StoreState) (place : Place) → AreReached state.marks state.stamp
     → value_of told state place
@@ -45,11 +56,9 @@ pub value_is : (told : Told) (state : StoreState) (place : Place) → AreReached
     (value_in state.marks place (stored_late told state.unsequence state.frozen))
 value_is told state place reached =
     value_append state.marks place (sequence_layers told state) (unsequence_layers told state)
-    ∙ (λ i. option_or
-    (row_value state.marks place (file_layers told state.unsequence) (map unsequence_layer state.frozen)
-    (unsequence_layer (working_pair state)) reached i)
-    (row_value state.marks place (file_layers told state.sequence) (map sequence_layer state.frozen)
-    (sequence_layer (working_pair state)) reached i))
+    ∙ (λ i. option_or (row_value _ place (file_layers told state.unsequence) (map unsequence_layer state.frozen)
+    (unsequence_layer (working_pair state)) reached i) (row_value _ place (file_layers told state.sequence)
+    (map sequence_layer state.frozen) (sequence_layer (working_pair state)) reached i))
 
 -- states with equal parts have equal values
 pub value_by_parts : (told other : Told) (state new : StoreState) (place : Place)
@@ -62,14 +71,13 @@ pub value_by_parts : (told other : Told) (state new : StoreState) (place : Place
     ≡ value_in state.marks place (stored_late told state.unsequence state.frozen)
     → value_of other new place ≡ value_of told state place
 value_by_parts told other state new place reached new_reached sw uw s u =
-    value_is other new place new_reached
+    value_is other new _ new_reached
     ∙ (λ i. joined (sw i) (uw i) (s i) (u i))
-    ∙ sym (value_is told state place reached)
+    ∙ sym (value_is told state _ reached)
 
 up_one : (a b : ℕ) → a ≤ b → a ≤ b + 1
 up_one a b h = omega arith
 
 pub reached_more : (marks : List Mark) (stamp : ℕ) → AreReached marks stamp → AreReached marks (stamp + 1)
 reached_more [] stamp reached = tt
-reached_more (mark ∷ marks) stamp reached =
-    (up_one mark.version.0 stamp reached.0, reached_more marks stamp reached.1)
+reached_more (mark ∷ marks) stamp reached = (up_one _ _ reached.0, reached_more marks stamp reached.1)

@@ -30,47 +30,44 @@ one_number [] n m a b once at bt al bl same = absurd (cc)
 one_number (first ∷ schemas) zero zero a b once at bt al bl same = refl
 one_number (first ∷ schemas) zero (suc m) a b once at bt al bl same =
     let is : first ≡ a = cc in
-    absurd (each_among (ArePathsApart first) schemas b once.0 (among_at schemas m b bt)
-    (ap (λ (s : SeriesEntry). s.live) is ∙ al) bl (ap (λ (s : SeriesEntry). s.schema.path) is ∙ same))
+    absurd (each_among _ _ b once.0 (among_at _ m b bt) (ap (λ (s : SeriesEntry). s.live) is ∙ al) bl
+    (ap (λ (s : SeriesEntry). s.schema.path) is ∙ same))
 one_number (first ∷ schemas) (suc n) zero a b once at bt al bl same =
     let is : first ≡ b = cc in
-    absurd (each_among (ArePathsApart first) schemas a once.0 (among_at schemas n a at)
-    (ap (λ (s : SeriesEntry). s.live) is ∙ bl) al (ap (λ (s : SeriesEntry). s.schema.path) is ∙ sym same))
-one_number (first ∷ schemas) (suc n) (suc m) a b once at bt al bl same =
-    ap suc (one_number schemas n m a b once.1 at bt al bl same)
+    absurd (each_among _ _ a once.0 (among_at _ n a at) (ap (λ (s : SeriesEntry). s.live) is ∙ bl) al
+    (ap (λ (s : SeriesEntry). s.schema.path) is ∙ sym same))
+one_number (first ∷ schemas) (suc n) (suc m) a b once at bt al bl same = ap suc
+    (one_number schemas n m a b once.1 at bt al bl same)
 
 -- cells of different series have different places
 places_apart : (device : List ℕ) (schemas : List SeriesEntry) (time : ℤ) (cell other : CellRecord)
     → EachPair ArePathsApart schemas → Found device schemas cell → Found device schemas other
     → cell.series.0 ≢ other.series.0 → place_of schemas time other ≢ place_of schemas time cell
-places_apart device schemas time cell other once a b apart same = apart
-    (one_number schemas cell.series.0 other.series.0 a.series b.series once a.at b.at a.of.live b.of.live
-    (sym (path_at schemas cell.series.0 a.series a.at) ∙ ap (λ (p : Place). p.path) (sym same)
-    ∙ path_at schemas other.series.0 b.series b.at))
+places_apart device schemas time cell other once a b apart same =
+    apart (one_number _ _ _ _ _ once a.at b.at a.of.live b.of.live
+    (sym (path_at schemas cell.series.0 _ a.at) ∙ ap (λ (p : Place). p.path) (sym same) ∙ path_at schemas other.series.0
+    _ b.at))
 
 not_there : (q place : Place) → place ≢ q → eq_by_cmp place_cmp q place ≡ false
 not_there q place apart = by (eq_by_cmp place_cmp q place) refl
   where
     by : (b : Bool) → eq_by_cmp place_cmp q place ≡ b → eq_by_cmp place_cmp q place ≡ false
-    by true e = absurd (apart (sym (is_place q place e)))
+    by true e = absurd (apart (sym (is_place q _ e)))
     by false e = e
 
 abbrev value_after : Told → StoreState → Place → CellRecord → ℤ → Option Value
-value_after told state q cell time =
-    value_of told (with_value (place_of state.schemas time cell) cell.value state) q
+value_after told state q cell time = value_of told (with_value (place_of state.schemas time cell) cell.value state) q
 
 one_step : (told : Told) (state : StoreState) (time : ℤ) (cell : CellRecord) (q : Place) → IsReady told state
     → value_after told state q cell time
     ≡ cond (eq_by_cmp place_cmp q (place_of state.schemas time cell)) (Some cell.value) (value_of told state q)
-one_step told state time cell q is_ready =
-    put_value told state (place_of state.schemas time cell) cell.value is_ready.layers is_ready.reached q
+one_step told state time cell q is_ready = put_value _ state _ _ is_ready.layers is_ready.reached q
 
 next_ready : (told : Told) (device : List ℕ) (state : StoreState) (time : ℤ) (cell : CellRecord) → IsReady told state
     → IsSomeAnd (slice_get state.schemas cell.series.0) (IsOfDevice device cell)
     → IsReady told (with_value (place_of state.schemas time cell) cell.value state)
 next_ready told device state time cell is_ready there =
-    value_ready told state (place_of state.schemas time cell) cell.value is_ready
-    (cell_type device state cell is_ready.once (found_in device state.schemas cell there))
+    value_ready _ _ _ _ is_ready (cell_type _ state _ is_ready.once (found_in _ _ _ there))
 
 pub others_stay : (told : Told) (device : List ℕ) (time : ℤ) (cells : List CellRecord) (state : StoreState) (q : Place)
     → IsReady told state → Theres device state cells → Each (λ cell. place_of state.schemas time cell ≢ q) cells
@@ -78,10 +75,9 @@ pub others_stay : (told : Told) (device : List ℕ) (time : ℤ) (cells : List C
 others_stay told device time [] state q is_ready there apart = refl
 others_stay told device time (cell ∷ cells) state q is_ready there apart =
     others_stay told device time cells (with_value (place_of state.schemas time cell) cell.value state) q
-    (next_ready told device state time cell is_ready there.0) there.1 apart.1
-    ∙ one_step told state time cell q is_ready
-    ∙ ap (λ b. cond b (Some cell.value) (value_of told state q))
-    (not_there q (place_of state.schemas time cell) apart.0)
+    (next_ready _ _ _ _ _ is_ready there.0) there.1 apart.1
+    ∙ one_step _ _ _ _ q is_ready
+    ∙ ap (λ b. cond b (Some cell.value) (value_of told state q)) (not_there q _ apart.0)
 
 pub cells_win : (told : Told) (device : List ℕ) (time : ℤ) (cells : List CellRecord) (state : StoreState)
     (cell : CellRecord)
@@ -90,32 +86,25 @@ pub cells_win : (told : Told) (device : List ℕ) (time : ℤ) (cells : List Cel
     → value_of told (with_row time cells state) (place_of state.schemas time cell) ≡ Some cell.value
 cells_win told device time [] state cell is_ready there differ among = absurd among
 cells_win told device time (first ∷ cells) state cell is_ready there differ (inl is) =
-    subst (λ (c : CellRecord). value_of told (with_row time (first ∷ cells) state) (place_of state.schemas time c)
-    ≡ Some c.value) is
-    (others_stay told device time cells (with_value (place_of state.schemas time first) first.value state)
-    (place_of state.schemas time first) (next_ready told device state time first is_ready there.0) there.1
-    (each_both (λ other. IsSomeAnd (slice_get state.schemas other.series.0) (IsOfDevice device other))
-    (λ other. first.series.0 ≢ other.series.0)
-    (λ other. place_of state.schemas time other ≢ place_of state.schemas time first)
-    (λ other t apart. places_apart device state.schemas time first other is_ready.once
-    (found_in device state.schemas first there.0) (found_in device state.schemas other t) apart) cells there.1 differ.0)
-    ∙ one_step told state time first (place_of state.schemas time first) is_ready
-    ∙ ap (λ b. cond b (Some first.value) (value_of told state (place_of state.schemas time first)))
-    (place_itself (place_of state.schemas time first)))
-cells_win told device time (first ∷ cells) state cell is_ready there differ (inr among) =
-    cells_win told device time cells (with_value (place_of state.schemas time first) first.value state) cell
-    (next_ready told device state time first is_ready there.0) there.1 differ.1 among
+    subst (λ (c : CellRecord). value_of told (with_row time (first ∷ cells) state) (place_of state.schemas time c) ≡
+    Some c.value) is (others_stay _ _ _ _ _ _ (next_ready _ _ _ _ _ is_ready there.0) there.1
+    (each_both _ _ _ (λ other t apart. places_apart _ _ _ _ _ is_ready.once (found_in _ _ _ there.0) (found_in _ _ _ t)
+    apart) _ there.1 differ.0) ∙ one_step _ _ _ _ _ is_ready
+    ∙ ap (λ b. cond b (Some first.value) (value_of told state (place_of state.schemas time first))) (place_itself _))
+cells_win told device time (first ∷ cells) state cell is_ready there differ (inr among) = cells_win told device time
+    cells (with_value (place_of state.schemas time first) first.value state) cell
+    (next_ready _ _ _ _ _ is_ready there.0) there.1 differ.1 among
 
 module _ (told : Told) (time : ℤ) (cells : List CellRecord) (state : StoreState) (order : StoreInOrder told state)
     (can : CanInsert time cells state) where
   pub last_wins : (cell : CellRecord) → Among cell cells
       → value_of told (inserted time cells state) (place_of state.schemas time cell) ≡ Some cell.value
-  last_wins cell among = inserted_value told time cells state order can (place_of state.schemas time cell)
-      ∙ cells_win told can.device time cells state cell (ready_state told time cells state order can) can.there
-      can.differ
-      among
+  last_wins cell among =
+      inserted_value _ _ _ _ order can _
+      ∙ cells_win _ _ _ _ _ _ (ready_state _ _ _ _ order can) can.there can.differ among
 
   pub rest_stays : (place : Place) → Each (λ cell. place_of state.schemas time cell ≢ place) cells
       → value_of told (inserted time cells state) place ≡ value_of told state place
-  rest_stays place apart = inserted_value told time cells state order can place
-      ∙ others_stay told can.device time cells state place (ready_state told time cells state order can) can.there apart
+  rest_stays place apart =
+      inserted_value _ _ _ _ order can _
+      ∙ others_stay _ _ _ _ _ _ (ready_state _ _ _ _ order can) can.there apart

@@ -11,6 +11,7 @@ use Rattle.std.specs.declared.cmp.Ordering.TheVariants.{Less, Equal, Greater}
 use Rattle.tsdb_base.specs.declared.point.Range.{Range}
 use Rattle.tsdb_base.specs.declared.value.DataType.{DataType}
 use Rattle.tsdb_base.specs.declared.value.Value.{Value}
+use Rattle.tsdb_layers.proofs.JobMarks.{none_by}
 use Rattle.tsdb_layers.proofs.Places.{is_path_same}
 use Rattle.tsdb_layers.specs.Places.{Place, is_path, is_within, place_cmp}
 use Rattle.tsdb_map.specs.World.{Series, World, change, change_series, cut, is_in, points_of, put, value_at}
@@ -26,14 +27,13 @@ change_type world path q f same = by (get world path) refl
   where
     at : (s : Series) (b : Bool) → get world path ≡ Some s → is_path q path ≡ b
         → type_in (cond b (Some (f s)) (get world q)) ≡ type_in (get world q)
-    at s true found e = ap Some (same s) ∙ ap type_in (sym found ∙ ap (get world) (sym (is_path_same q path e)))
+    at s true found e = ap Some (same s) ∙ ap type_in (sym found ∙ ap (get world) (sym (is_path_same q _ e)))
     at s false found e = refl
 
     by : (o : Option Series) → get world path ≡ o
         → type_in (get (change_series world path f o) q) ≡ type_in (get world q)
     by None found = refl
-    by (Some s) found = ap type_in (get-insert nat_list_cmp_total world path (f s) q)
-        ∙ at s (is_path q path) found refl
+    by (Some s) found = ap type_in (get-insert nat_list_cmp_total world path (f s) q) ∙ at s (is_path q path) found refl
 
 -- whether two places are one, by path and time
 pub place_test : (q place : Place) → eq_by_cmp place_cmp q place
@@ -53,14 +53,15 @@ pub put_at : (world : World) (place q : Place) (value : Value) (s : Series) → 
 put_at world place q value s found =
     ap (λ o. get (points_of o) q.time) (get-insert nat_list_cmp_total world place.path (put place.time value s) q.path)
     ∙ by (is_path q.path place.path) refl
-    ∙ ap (λ b. cond b (Some value) (value_at world q.path q.time)) (sym (place_test q place))
+    ∙ ap (λ b. cond b (Some value) (value_at world q.path q.time)) (sym (place_test q _))
   where
     by : (b : Bool) → is_path q.path place.path ≡ b
         → get (points_of (cond b (Some (put place.time value s)) (get world q.path))) q.time
         ≡ cond (b && eq_by_cmp int_cmp q.time place.time) (Some value) (value_at world q.path q.time)
-    by true e = get-insert int_cmp_total s.points place.time value q.time
+    by true e =
+        get-insert int_cmp_total s.points place.time value q.time
         ∙ ap (λ o. cond (eq_by_cmp int_cmp q.time place.time) (Some value) (get (points_of o) q.time))
-        (sym found ∙ ap (get world) (sym (is_path_same q.path place.path e)))
+        (sym found ∙ ap (get world) (sym (is_path_same _ _ e)))
     by false e = refl
 
 -- a range that is cut
@@ -73,20 +74,16 @@ cut_at world path range q = by (get world path) refl
     turned true o = refl
     turned false o = refl
 
-    nothing : (b : Bool) → ◌≡◌ {A = Option Value} None (cond b None None)
-    nothing true = refl
-    nothing false = refl
-
     turn_path : (a b : List ℕ) → is_path a b ≡ is_path b a
     turn_path a b = (eq_by_cmp_equiv nat_list_cmp_total).symm a b
 
     absent : (b : Bool) → get world path ≡ None → is_path path q.path ≡ b
         → value_at world q.path q.time ≡ cond (b && is_in range q.time) None (value_at world q.path q.time)
     absent true found e =
-        let none : value_at world q.path q.time ≡ None =
-        ap (λ o. get (points_of o) q.time) (ap (get world) (sym (is_path_same path q.path e)) ∙ found)
+        let none : value_at world q.path q.time ≡ None = ap (λ o. get (points_of o) q.time)
+        (ap (get world) (sym (is_path_same _ _ e)) ∙ found)
         ∙ get-empty int_cmp q.time in
-        none ∙ nothing (is_in range q.time) ∙ ap (cond (is_in range q.time) None) (sym none)
+        none ∙ none_by (is_in range q.time) ∙ ap (cond (is_in range q.time) None) (sym none)
     absent false found e = refl
 
     there : (s : Series) (b : Bool) → get world path ≡ Some s → is_path path q.path ≡ b
@@ -97,7 +94,7 @@ cut_at world path range q = by (get world path) refl
         (λ x t. ap (λ time. not (is_in range time)) (sym (int_cmp-IsAntisymmetric q.time x t)))
         ∙ turned (is_in range q.time) (get s.points q.time)
         ∙ ap (λ o. cond (is_in range q.time) None (get (points_of o) q.time))
-        (sym found ∙ ap (get world) (is_path_same path q.path e))
+        (sym found ∙ ap (get world) (is_path_same _ _ e))
     there s false found e = refl
 
     by : (o : Option Series) → get world path ≡ o

@@ -11,7 +11,6 @@ returns-clause-stands c told known early_claimed late_claimed sequence unsequenc
 
 pub returns-clause-apart : goal.returns-clause-apart
 returns-clause-apart c known early_claimed late_claimed sequence unsequence run job jobs plan is claims free =
-    apart_of_free late_claimed jobs job claims
-    (cross_free known early_claimed late_claimed sequence unsequence run job plan is)
-    (each_weaker (λ (other : Compaction). other.space ≡ Sequence → ⊥)
+    apart_of_free late_claimed jobs job claims (cross_free known early_claimed late_claimed sequence unsequence run job
+    plan is) (each_weaker (λ (other : Compaction). other.space ≡ Sequence → ⊥)
     (λ other. job.space ≡ Sequence → other.space ≡ Sequence → ⊥) (λ other never mine. never) jobs free)

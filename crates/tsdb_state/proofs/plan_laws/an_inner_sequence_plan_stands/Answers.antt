@@ -12,7 +12,6 @@ returns-clause-stands c told known claimed sequence unsequence run job =
 
 pub returns-clause-apart : goal.returns-clause-apart
 returns-clause-apart c claimed sequence run job jobs is claims free =
-    apart_of_free claimed jobs job claims
-    (subst (Each (λ file. claimed file ≡ false)) (sym is.no_late) tt)
+    apart_of_free claimed jobs job claims (subst (Each (λ file. claimed file ≡ false)) (sym is.no_late) tt)
     (each_weaker (λ (other : Compaction). other.space ≡ Sequence → ⊥)
     (λ other. job.space ≡ Sequence → other.space ≡ Sequence → ⊥) (λ other never mine. never) jobs free)

@@ -5,9 +5,9 @@ pub returns-clause-create : goal.returns-clause-create
 returns-clause-create c told known named state schema order can = create_step told known named state order schema can
 
 pub returns-clause-insert : goal.returns-clause-insert
-returns-clause-insert c told known named state time cells order can bytes = insert_step told known named state order
-    time cells can bytes
+returns-clause-insert c told known named state time cells order can bytes =
+    insert_step told known named state order time cells can bytes
 
 pub returns-clause-delete : goal.returns-clause-delete
-returns-clause-delete c told known named state path range order can = delete_step told known named state order path
-    range can
+returns-clause-delete c told known named state path range order can =
+    delete_step told known named state order path range can

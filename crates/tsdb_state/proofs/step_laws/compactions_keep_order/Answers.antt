@@ -5,8 +5,8 @@ pub returns-clause-begin : goal.returns-clause-begin
 returns-clause-begin c told known named state job order begins = begin_step told known named state order job begins
 
 pub returns-clause-end : goal.returns-clause-end
-returns-clause-end c told known named state job others built order ends = end_step told known named state order job
-    others built ends
+returns-clause-end c told known named state job others built order ends =
+    end_step told known named state order job others built ends
 
 pub returns-clause-commit : goal.returns-clause-commit
 returns-clause-commit c told known named state job others output place order commits =
