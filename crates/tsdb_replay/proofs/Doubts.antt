@@ -1,5 +1,5 @@
 -- One record more, and what a slot stands for whose last record may be in doubt.
-use Rattle.std.proofs.Common.{◌≡◌, ◌⊎◌, inl, inr, ℕ, List, [], ◌∷◌, ◌++◌, map, Option, None, Some, refl, sym, ◌∙◌, subst}
+use Rattle.std.proofs.Common.{inl, inr, ℕ, List, [], ◌∷◌, ◌++◌, map, Option, None, Some, refl, sym, subst}
 use Rattle.std.specs.List.{All}
 use Rattle.std.specs.Option.{option_map}
 use Rattle.std.specs.Prelude.{IfSome}
@@ -47,8 +47,4 @@ module _ {S : Type 0} (steps : Steps S) where
   one_or_more items (Some item) state bytes good replayed follows (inl has) =
       inl (record { items = items; good = good; records = has; replayed = replayed })
   one_or_more items (Some item) state bytes good replayed follows (inr has) =
-      inr (
-        follows.1.0,
-        follows.1.1,
-        is_more items item state follows.1.0 bytes good follows.0 replayed follows.1.1 has,
-      )
+      inr (follows.1.0, follows.1.1, is_more items item state follows.1.0 bytes good follows.0 replayed follows.1.1 has)

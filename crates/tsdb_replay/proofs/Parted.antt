@@ -1,6 +1,7 @@
 -- A log is parted in one way into records that are replayed and what stops the replay. So it is replayed to one state
 -- at most, it is damaged at one place at most, and a damaged log has no replay.
-use Rattle.std.proofs.Common.{◌≡◌, ◌≢◌, ◌⊎◌, inl, inr, ℕ, ◌≤◌, List, [], ◌∷◌, ◌++◌, length, map, refl, sym, ◌∙◌, ap, subst, arith, append_assoc, length-append}
+use Rattle.std.proofs.Common.{◌≡◌, ◌≢◌, ◌⊎◌, inl, inr, ℕ, ◌≤◌, List, [], ◌∷◌, ◌++◌, length, map, refl, sym, ◌∙◌, ap}
+use Rattle.std.proofs.Common.{subst, arith, append_assoc, length-append}
 use Rattle.std.specs.List.{All}
 use Rattle.std.proofs.lemmas.List.Elements.{All-head, All-tail}
 use Rattle.tsdb_base.specs.Fields.{number32}
@@ -22,7 +23,9 @@ same_payload : (p q x y : List ℕ) → IsPayload p → IsPayload q → with_len
     → (p ≡ q) × (x ≡ y)
 same_payload p q x y fits_p fits_q same =
     let numbers : number32 (length p) ++ (p ++ x) ≡ number32 (length q) ++ (q ++ y) =
-    sym (append_assoc (number32 (length p)) p x) ∙ same ∙ append_assoc (number32 (length q)) q y in
+    sym (append_assoc (number32 (length p)) p x)
+    ∙ same
+    ∙ append_assoc (number32 (length q)) q y in
     let lengths = number32-prefix_free (length p) (length q) (p ++ x) (q ++ y) fits_p.1 fits_q.1 numbers in
     same_front p q x y lengths.0 lengths.1
 
@@ -43,19 +46,18 @@ no_gate_in_none ps rest some same = absurd (omega (arith, ap length same, long_r
 module _ {S : Type 0} (steps : Steps S) where
   -- no record that has a replay begins here
   abbrev Stops : S → List ℕ → Type 0
-  Stops state rest = (item : LogRecord) (next : S) (after : List ℕ) → IsRecord item → IsPayload (spelling item)
-      → 1 ≤ length after → rest ≡ 1 ∷ (with_length (spelling item) ++ after) → ¬ steps.Leads item state next
+  Stops state rest = (item : LogRecord) (next : S) (after : List ℕ) → IsRecord item → IsPayload (spelling item) → 1 ≤
+      length after → rest ≡ 1 ∷ (with_length (spelling item) ++ after) → ¬ steps.Leads item state next
 
   stops_closed : (state : S) (gate : ℕ) (rest : List ℕ) → gate ≢ 1 → Stops state (gate ∷ rest)
   stops_closed state gate rest closed item next after is fits some same leads = closed cc
 
   stops_torn : (state : S) (rest : List ℕ) → IsTornRest rest → Stops state rest
-  stops_torn state rest torn item next after is fits some same leads =
-      torn.broken (spelling item) after (record {
-        fits = fits;
-        split = behind_same rest torn.behind (with_length (spelling item) ++ after) torn.gate same;
-        gate = some;
-      })
+  stops_torn state rest torn item next after is fits some same leads = torn.broken (spelling item) after (record {
+    fits = fits;
+    split = behind_same rest torn.behind (with_length (spelling item) ++ after) torn.gate same;
+    gate = some;
+  })
 
   stops_unreplayable : (state : S) (rest : List ℕ) → IsUnreplayable steps state rest → Stops state rest
   stops_unreplayable state rest bad item next after is fits some same leads =
@@ -97,27 +99,25 @@ module _ {S : Type 0} (steps : Steps S) where
   module _ (determinate : IsDeterminate steps) where
     parted_once : (from : S) (bytes : List ℕ) (xs ys : List LogRecord) (s t : S) (r q : List ℕ)
         → IsParted from bytes xs s r → IsParted from bytes ys t q → (xs ≡ ys) × (s ≡ t) × (r ≡ q)
-    parted_once from bytes [] [] s t r q one two =
-        (refl, one.replayed ∙ sym two.replayed, sym one.split ∙ two.split)
+    parted_once from bytes [] [] s t r q one two = (refl, one.replayed ∙ sym two.replayed, sym one.split ∙ two.split)
     parted_once from bytes [] (y ∷ ys) s t r q one two = absurd (stops_first from bytes y ys s t r q one two)
     parted_once from bytes (x ∷ xs) [] s t r q one two = absurd (stops_first from bytes x xs t s q r two one)
     parted_once from bytes (x ∷ xs) (y ∷ ys) s t r q one two =
         let a = open_records (map spelling xs) ++ r in
         let b = open_records (map spelling ys) ++ q in
         let gates : 1 ∷ (with_length (spelling x) ++ a) ≡ 1 ∷ (with_length (spelling y) ++ b) =
-        sym (record_first (spelling x) (map spelling xs) r) ∙ sym one.split ∙ two.split
+        sym (record_first (spelling x) (map spelling xs) r)
+        ∙ sym one.split
+        ∙ two.split
         ∙ record_first (spelling y) (map spelling ys) q in
         let tails : with_length (spelling x) ++ a ≡ with_length (spelling y) ++ b = cc in
         let parts = same_payload (spelling x) (spelling y) a b
         (All-head IsPayload (spelling x) (map spelling xs) one.fit)
         (All-head IsPayload (spelling y) (map spelling ys) two.fit) tails in
-        let item : x ≡ y =
-        same_item x y (All-head IsRecord x xs one.good) (All-head IsRecord y ys two.good) parts.0 in
-        let next : two.replayed.0 ≡ one.replayed.0 =
-        determinate x from two.replayed.0 one.replayed.0
+        let item : x ≡ y = same_item x y (All-head IsRecord x xs one.good) (All-head IsRecord y ys two.good) parts.0 in
+        let next : two.replayed.0 ≡ one.replayed.0 = determinate x from two.replayed.0 one.replayed.0
         (subst (λ i. steps.Leads i from two.replayed.0) (sym item) two.replayed.1) one.replayed.1 in
-        let rest = parted_once one.replayed.0 a xs ys s t r q
-        (record {
+        let rest = parted_once one.replayed.0 a xs ys s t r q (record {
           good = All-tail IsRecord x xs one.good;
           fit = All-tail IsPayload (spelling x) (map spelling xs) one.fit;
           replayed = one.replayed.2;
@@ -170,12 +170,10 @@ module _ {S : Type 0} (steps : Steps S) where
         let same = parted_once steps.new_store bytes one.items two.items one.state two.state one.rest two.rest
         (parted_damage at bytes one) (parted_damage place bytes two) in
         one.place ∙ ap (λ (l : List LogRecord). length (open_records (map spelling l))) same.0 ∙ sym two.place
-    damaged_once at place bytes (inl one) (inr two) =
-        absurd (no_gate_in_none (map spelling one.items) one.rest (broken_some one.state one.rest one.broken)
-        (sym two.1 ∙ one.split))
-    damaged_once at place bytes (inr one) (inl two) =
-        absurd (no_gate_in_none (map spelling two.items) two.rest (broken_some two.state two.rest two.broken)
-        (sym one.1 ∙ two.split))
+    damaged_once at place bytes (inl one) (inr two) = absurd (no_gate_in_none (map spelling one.items) one.rest
+        (broken_some one.state one.rest one.broken) (sym two.1 ∙ one.split))
+    damaged_once at place bytes (inr one) (inl two) = absurd (no_gate_in_none (map spelling two.items) two.rest
+        (broken_some two.state two.rest two.broken) (sym one.1 ∙ two.split))
     damaged_once at place bytes (inr one) (inr two) = one.0 ∙ sym two.0
 
     -- a log that is damaged has no replay
@@ -187,6 +185,5 @@ module _ {S : Type 0} (steps : Steps S) where
         let rests : damaged.rest ≡ is.records.gate ∷ is.records.rest = same.2 in
         is.records.closed (broken_open damaged.state is.records.gate is.records.rest
         (subst (λ l. IsTornRest l ⊎ IsUnreplayable steps damaged.state l) rests damaged.broken))
-    damaged_none at bytes state (inr empty) is =
-        no_gate_in_none (map spelling is.items) (is.records.gate ∷ is.records.rest) (omega arith)
-        (sym empty.1 ∙ is.records.split)
+    damaged_none at bytes state (inr empty) is = no_gate_in_none (map spelling is.items)
+        (is.records.gate ∷ is.records.rest) (omega arith) (sym empty.1 ∙ is.records.split)

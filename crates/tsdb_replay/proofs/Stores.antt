@@ -1,5 +1,5 @@
 -- A store stands for one state; strays say nothing; whatever a stop leaves of a sound store stands for its state.
-use Rattle.std.proofs.Common.{◌≡◌, ◌⊎◌, inl, inr, ℕ, List, [], ◌∷◌, ◌++◌, map, Option, None, Some, refl, sym, ◌∙◌, ap, subst}
+use Rattle.std.proofs.Common.{◌≡◌, inl, inr, ℕ, List, [], ◌∷◌, ◌++◌, map, Option, None, Some, refl, sym, ◌∙◌, subst}
 use Rattle.std.specs.Prelude.{IsSome}
 use Rattle.std.specs.FinMap.{empty, get}
 use Rattle.std.specs.List.{All, AllByRecursion as Each}
@@ -8,8 +8,7 @@ use Rattle.std.proofs.lemmas.Bool.{false≢true}
 use Rattle.std.proofs.lemmas.List.Elements.{All-nil}
 use Rattle.tsdb_frames.specs.Log.{HasRecordsOrOneMore}
 use Rattle.tsdb_frames.specs.Slots.{IsPayload}
-use Rattle.tsdb_layers.specs.Places.{Content, Place}
-use Rattle.tsdb_layers.specs.Layers.{Layer, value_in}
+use Rattle.tsdb_layers.specs.Places.{Content}
 use Rattle.tsdb_layers.proofs.Lists.{each_both, each_left, each_right, each_weaker}
 use Rattle.tsdb_layers.proofs.Places.{same_content}
 use Rattle.tsdb_log.specs.Spelling.{IsRecord, spelling}
@@ -22,21 +21,21 @@ use Rattle.tsdb_pages.specs.File.{IsFile}
 use Rattle.tsdb_pages.specs.declared.tree.Tree.{Tree}
 use Rattle.tsdb_pages.proofs.Files.{one_tree}
 use Rattle.tsdb_replay.specs.Replays.{IsReplayOfOneOf, Replays}
-use Rattle.tsdb_replay.specs.Stores.{Files, IsContentOf, IsSound, IsStateOf, IsStoreOf, IsWhole, LeadsToState}
-use Rattle.tsdb_replay.specs.Stores.{Recorded, StandsFor, StandsForOneOf, no_changes, store_steps, store_steps_determinate}
+use Rattle.tsdb_replay.specs.Stores.{Files, IsContentOf, IsSound, IsStoreOf, IsWhole, LeadsToState}
+use Rattle.tsdb_replay.specs.Stores.{Recorded, StandsFor, StandsForOneOf, no_changes, store_steps}
+use Rattle.tsdb_replay.specs.Stores.{store_steps_determinate}
 use Rattle.tsdb_replay.proofs.Doubts.{one_or_more}
 use Rattle.tsdb_replay.proofs.Parted.{replay_once}
+use Rattle.tsdb_state.proofs.Told.{value_same}
 use Rattle.tsdb_state.proofs.NewStore.{new_store_in_order, new_store_stands}
 use Rattle.tsdb_state.proofs.OneWorld.{stands_once as one_world}
 use Rattle.tsdb_state.specs.Records.{after, names}
 use Rattle.tsdb_state.specs.State.{File, StoreState, Told}
-use Rattle.tsdb_state.specs.Views.{all_layers, file_layer, file_layers}
 use Rattle.tsdb_state.specs.Worlds as state
 
 -- the store after a record
 abbrev store_steps_after : LogRecord → Recorded → Recorded
-store_steps_after item recorded =
-    record { named = names item ++ recorded.named; store = after item recorded.store }
+store_steps_after item recorded = record { named = names item ++ recorded.named; store = after item recorded.store }
 
 -- two options that have the same values are one
 alike : {X : Type 0} (a b : Option X) → ((x : X) → a ≡ Some x → b ≡ Some x) → ((x : X) → b ≡ Some x → a ≡ Some x) → a ≡ b
@@ -46,40 +45,20 @@ alike (Some x) b to from = sym (to x refl)
 
 -- a tree has one content
 one_content : (tree : Tree) (a b : Content) → IsContentOf tree a → IsContentOf tree b → a ≡ b
-one_content tree a b is_a is_b =
-    same_content a b (λ place. alike (get a place) (get b place)
+one_content tree a b is_a is_b = same_content a b (λ place. alike (get a place) (get b place)
     (λ value has. (is_b place value).1 ((is_a place value).0 has))
     (λ value has. (is_a place value).1 ((is_b place value).0 has)))
-
-same_bytes : (found : Option (List ℕ)) (a b : List ℕ) → found ≡ Some a → found ≡ Some b → a ≡ b
-same_bytes found a b x y = let e : Some a ≡ Some b = sym x ∙ y in cc
 
 -- the points of a file that is there are told by its bytes
 one_told : (files : Files) (a b : Told) (file : File) → IsWhole files a file → IsWhole files b file
     → a file.number ≡ b file.number
 one_told files a b file one other =
-    let bytes = same_bytes (files file.number) one.bytes other.bytes one.there other.there in
-    let tree : one.tree ≡ other.tree =
-    one_tree one.tree other.tree one.bytes one.is_tree one.is_made other.is_tree other.is_made one.is_file
-    (subst (λ l. IsFile other.tree l) (sym bytes) other.is_file) in
-    one_content other.tree (a file.number) (b file.number)
-    (subst (λ t. IsContentOf t (a file.number)) tree one.content) other.content
-
--- what is told of the listed files alone makes the layers of a store
-same_file_layers : (a b : Told) (files : List File) → Each (λ (file : File). a file.number ≡ b file.number) files
-    → file_layers a files ≡ file_layers b files
-same_file_layers a b [] same = refl
-same_file_layers a b (file ∷ files) same = let rest = same_file_layers a b files same.1 in
-    ap (λ (content : Content). record { born = file.born; content = content } ∷ file_layers a files) same.0
-    ∙ ap (λ (layers : List Layer). file_layer b file ∷ layers) rest
-
-same_layers : (a b : Told) (store : StoreState)
-    → Each (λ (file : File). a file.number ≡ b file.number) (store.sequence ++ store.unsequence)
-    → all_layers a store ≡ all_layers b store
-same_layers a b store same =
-    let first = same_file_layers a b store.sequence (each_left _ store.sequence store.unsequence same) in
-    let late = same_file_layers a b store.unsequence (each_right _ store.sequence store.unsequence same) in
-    simp (first, late)
+    let there : Some one.bytes ≡ Some other.bytes = sym one.there ∙ other.there in
+    let bytes : one.bytes ≡ other.bytes = cc in
+    let tree : one.tree ≡ other.tree = one_tree one.tree other.tree one.bytes one.is_tree one.is_made other.is_tree
+    other.is_made one.is_file (subst (λ l. IsFile other.tree l) (sym bytes) other.is_file) in
+    one_content other.tree (a file.number) (b file.number) (subst (λ t. IsContentOf t (a file.number)) tree one.content)
+    other.content
 
 -- the state stands for the same world by whatever else is told of other files
 stands_by : (a b : Told) (store : StoreState) (world : World)
@@ -87,8 +66,9 @@ stands_by : (a b : Told) (store : StoreState) (world : World)
     → state.StandsFor a store world → state.StandsFor b store world
 stands_by a b store world same stands = record {
   types = stands.types;
-  values = λ place. stands.values place
-      ∙ ap (λ (layers : List Layer). value_in store.marks place layers) (same_layers a b store same);
+  values =
+      λ place. stands.values place
+      ∙ value_same a b store (each_left _ store.sequence _ same) (each_right _ store.sequence _ same) place;
 }
 
 -- a state of the plain model is a world and a stamp
@@ -105,19 +85,18 @@ store_stands_once files store a b one other =
     let told = each_both (IsWhole files one.told) (IsWhole files other.told)
     (λ (file : File). one.told file.number ≡ other.told file.number) (one_told files one.told other.told)
     (store.sequence ++ store.unsequence) one.whole other.whole in
-    one_state a b
-    (one_world other.told store a.world b.world (stands_by one.told other.told store a.world told one.stands.world)
-    other.stands.world)
+    one_state a b (one_world other.told store a.world b.world
+    (stands_by one.told other.told store a.world told one.stands.world) other.stands.world)
     (sym one.stands.stamp ∙ other.stands.stamp)
 
 -- a log with the files that are there stands for one state
 pub stands_once : (files : Files) (bytes : List ℕ) (a b : plain.State) → StandsFor files bytes a
     → StandsFor files bytes b → a ≡ b
 stands_once files bytes a b one other =
-    let recorded : one.recorded ≡ other.recorded =
-    replay_once store_steps store_steps_determinate bytes one.recorded other.recorded one.replayed other.replayed in
-    store_stands_once files other.recorded.store a b
-    (subst (λ (r : Recorded). IsStoreOf files r.store a) recorded one.store) other.store
+    let recorded : one.recorded ≡ other.recorded = replay_once store_steps store_steps_determinate bytes one.recorded
+    other.recorded one.replayed other.replayed in
+    store_stands_once files other.recorded.store a b (subst (λ (r : Recorded). IsStoreOf files r.store a) recorded
+    one.store) other.store
 
 -- files that are there besides say nothing
 pub stands_with_more : (files more : Files) (bytes : List ℕ) (at : plain.State)
@@ -128,16 +107,15 @@ stands_with_more files more bytes at there stands = record {
   replayed = stands.replayed;
   store = record {
     told = stands.store.told;
-    whole = each_weaker (IsWhole files stands.store.told) (IsWhole more stands.store.told)
-        (λ file whole. record {
-          bytes = whole.bytes;
-          tree = whole.tree;
-          there = there file.number whole.bytes whole.there;
-          is_tree = whole.is_tree;
-          is_made = whole.is_made;
-          is_file = whole.is_file;
-          content = whole.content;
-        })
+    whole = each_weaker (IsWhole files stands.store.told) (IsWhole more stands.store.told) (λ file whole. record {
+      bytes = whole.bytes;
+      tree = whole.tree;
+      there = there file.number whole.bytes whole.there;
+      is_tree = whole.is_tree;
+      is_made = whole.is_made;
+      is_file = whole.is_file;
+      content = whole.content;
+    })
         (stands.recorded.store.sequence ++ stands.recorded.store.unsequence) stands.store.whole;
     order = stands.store.order;
     stands = stands.store.stands;
@@ -158,8 +136,8 @@ stands_for_one_of files items None recorded at None bytes good replayed store le
 }
 stands_for_one_of files items None recorded at (Some next) bytes good replayed store leads has = absurd leads
 stands_for_one_of files items (Some item) recorded at None bytes good replayed store leads has = absurd leads
-stands_for_one_of files items (Some item) recorded at (Some next) bytes good replayed store leads has =
-    by (one_or_more store_steps items (Some item) recorded bytes good replayed
+stands_for_one_of files items (Some item) recorded at (Some next) bytes good replayed store leads has = by
+    (one_or_more store_steps items (Some item) recorded bytes good replayed
     (leads.0, (store_steps_after item recorded, (leads.1, refl))) has)
   where
     by : IsReplayOfOneOf store_steps (Some item) bytes recorded → StandsForOneOf files bytes at (Some next)
@@ -196,8 +174,8 @@ pub sound_kept : (slot : Slot) (old new : State) (files : Files) (at : plain.Sta
     → IsSound slot old files at → IsSound slot new files at
 sound_kept slot old new files at keeps sound = record {
   told = subst (λ (s : Option Image). IsSome s) (sym keeps.seen) sound.told;
-  settled = λ payloads seen image told has left.
-      sound.settled payloads seen image (sym keeps.seen ∙ told) has (keeps.crash image left);
+  settled = λ payloads seen image told has left. sound.settled payloads seen image (sym keeps.seen ∙ told) has
+      (keeps.crash image left);
   stands = λ image told. sound.stands image (sym keeps.seen ∙ told);
 }
 
