@@ -6,7 +6,7 @@ ghost use Rattle.tsdb_core.specs.Flushes.{EndsFlush, IsOut};
 ghost use Rattle.tsdb_core.specs.Limits.{IsPairLimit};
 ghost use Rattle.tsdb_core.specs.declared.commit.Commit.{Commit as HowEnded};
 ghost use Rattle.tsdb_jobs.specs.declared.flush.FlushJob.{FlushJob as JobOf};
-ghost use Rattle.tsdb_map.specs.Commands.{IsWellFormed};
+ghost use Rattle.tsdb_model.specs.Commands.{IsWellFormed};
 ghost use Rattle.tsdb_outside.specs.Files.{Store};
 
 use std::alloc::Global;
@@ -15,7 +15,7 @@ use tsdb_core::{Commit, Core, CoreFault, Options};
 use tsdb_jobs::{FlushJob, Flushed};
 use tsdb_kept::KeptFiles;
 use tsdb_logged::Logged;
-use tsdb_map::Command;
+use tsdb_model::Command;
 use tsdb_outside::{Files, Journal};
 
 /// The job of the oldest pair.

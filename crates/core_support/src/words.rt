@@ -2,13 +2,13 @@
 //! at time 1 into `s` and `t`, `D13s` deletes the times from 1 to 3 from `s`. Any other word, as `F`, is a freeze,
 //! which is no command. Depends on `tests_support` alone.
 ghost use Rattle.std.specs.Prelude.{IfOk, IfSome};
-ghost use Rattle.tsdb_map.specs.Commands.{IsWellFormed};
+ghost use Rattle.tsdb_model.specs.Commands.{IsWellFormed};
 
 use std::alloc::Global;
 use std::test::Fail;
 use tests_support as lines;
 use tsdb_base::Time;
-use tsdb_map::Command;
+use tsdb_model::Command;
 
 /// The time that a digit is.
 pub fn time_of(digit: u8) -> Time {

@@ -6,7 +6,7 @@ use Rattle.std.proofs.lemmas.List.Elements.{All-weaker}
 use Rattle.tsdb_base.specs.Values.{type_of}
 use Rattle.tsdb_base.specs.declared.value.DataType.TheVariants.{Int64}
 use Rattle.tsdb_log.specs.declared.record.CellRecord.{CellRecord}
-use Rattle.tsdb_map.specs.declared.command.Schema.{Schema}
+use Rattle.tsdb_model.specs.declared.command.Schema.{Schema}
 use Rattle.tsdb_memory.specs.Model.{IsFitting}
 use Rattle.tsdb_path.specs.Nodes.{device_of}
 

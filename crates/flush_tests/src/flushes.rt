@@ -2,7 +2,7 @@
 ghost use Rattle.std.specs.Prelude.{◌≡◌, ◌<◌, ◌≤◌, [], None, length, All, IsTrue, IfOk, IfSome};
 ghost use Rattle.tsdb_base.specs.Values.{type_of};
 ghost use Rattle.tsdb_jobs.specs.Jobs.{IsJob};
-ghost use Rattle.tsdb_map.specs.Commands.{IsSchema};
+ghost use Rattle.tsdb_model.specs.Commands.{IsSchema};
 ghost use Rattle.tsdb_path.specs.Nodes.{node_count};
 
 use mem_outside::{SteadyFiles, SteadyPlace};
@@ -12,7 +12,7 @@ use std::test::Fail;
 use tsdb_base::{DataType, Encoding, FileNumber, List, Point, SeriesId, Space, Stamp, Time, Value};
 use tsdb_engine::{FlushRefused, run_flush};
 use tsdb_jobs::{Built, FlushJob, Flushed};
-use tsdb_map::Schema;
+use tsdb_model::Schema;
 use tsdb_memtable::{Pair, Watermarks};
 use tsdb_outside::{Files, Place};
 use tsdb_path::Path;

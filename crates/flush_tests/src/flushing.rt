@@ -1,6 +1,6 @@
 //! The job of a flush, taken from memory: its series beside a plain slow order, its numbers, and its pair.
 ghost use Rattle.std.specs.Prelude.{◌<◌, IfOk};
-ghost use Rattle.tsdb_map.specs.Commands.{IsSchema};
+ghost use Rattle.tsdb_model.specs.Commands.{IsSchema};
 
 use std::alloc::Global;
 use std::test::Fail;
@@ -8,7 +8,7 @@ use tsdb_base::{DataType, Encoding, FileNumber, List, Time, Value};
 use tsdb_flushing::take;
 use tsdb_jobs::FlushJob;
 use tsdb_log::CellRecord;
-use tsdb_map::Schema;
+use tsdb_model::Schema;
 use tsdb_memory::MemoryStore;
 use tsdb_path::Path;
 

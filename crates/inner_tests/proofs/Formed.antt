@@ -9,8 +9,8 @@ use Rattle.tsdb_compactions.specs.declared.job.Job.{Job}
 use Rattle.tsdb_index.specs.Entries.{IsBefore}
 use Rattle.tsdb_jobs.specs.Parts.{names_of}
 use Rattle.tsdb_layers.specs.Lists.{EachPair}
-use Rattle.tsdb_map.specs.Commands.{IsSchema}
-use Rattle.tsdb_map.specs.declared.command.Schema.{Schema}
+use Rattle.tsdb_model.specs.Commands.{IsSchema}
+use Rattle.tsdb_model.specs.declared.command.Schema.{Schema}
 use Rattle.tsdb_state.specs.Records.{numbers_of}
 
 module _ {F S R P : Type 0} where

@@ -6,8 +6,8 @@ use Rattle.tsdb_compactions.specs.Jobs.{plain_numbers}
 use Rattle.tsdb_index.specs.Entries.{IsBefore}
 use Rattle.tsdb_jobs.specs.Parts.{names_of}
 use Rattle.tsdb_layers.specs.Lists.{EachPair}
-use Rattle.tsdb_map.specs.Commands.{IsSchema}
-use Rattle.tsdb_map.specs.declared.command.Schema.{Schema}
+use Rattle.tsdb_model.specs.Commands.{IsSchema}
+use Rattle.tsdb_model.specs.declared.command.Schema.{Schema}
 
 -- the schemas are well-formed and in the order of a tree, and the inputs are the files 1 and 2
 pub record AreAsked (schemas : List Schema) (sequence unsequence : List FileNumber) : Type 0 where

@@ -14,7 +14,7 @@ use tsdb_base::{DataType, FileNumber, List, Space, Stamp, Time};
 use tsdb_compactions::{Input, Job};
 use tsdb_inner::{run_cross, run_inner};
 use tsdb_jobs::Built;
-use tsdb_map::Schema;
+use tsdb_model::Schema;
 use tsdb_marks::Marks;
 use tsdb_outside::{Files, Place, Port, StoreFault};
 

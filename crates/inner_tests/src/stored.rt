@@ -4,14 +4,14 @@ ghost use Rattle.std.specs.Prelude.{◌≡◌, ◌≤◌, IfOk, IsTrue};
 ghost use Rattle.tsdb_index.specs.Entries.{IsBefore};
 ghost use Rattle.tsdb_jobs.specs.Parts.{names_of};
 ghost use Rattle.tsdb_layers.specs.Lists.{EachPair};
-ghost use Rattle.tsdb_map.specs.Commands.{IsSchema};
+ghost use Rattle.tsdb_model.specs.Commands.{IsSchema};
 ghost use Rattle.tsdb_path.specs.Nodes.{node_count};
 
 use std::alloc::Global;
 use std::cmp::Ordering;
 use std::test::Fail;
 use tsdb_base::{DataType, Encoding, List, Point, Stamp, Time, Value, suits};
-use tsdb_map::Schema;
+use tsdb_model::Schema;
 use tsdb_marks::{Mark, Marks};
 use tsdb_pages::{Chunk, Group, Page, Tree, is_tree};
 use tsdb_path::{Name, Path};

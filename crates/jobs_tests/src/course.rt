@@ -7,7 +7,7 @@ ghost use Rattle.tsdb_core.specs.Compactions.{IsJobOut};
 ghost use Rattle.tsdb_core.specs.Core.{files_of};
 ghost use Rattle.tsdb_core.specs.Loans.{KeepsLoans};
 ghost use Rattle.tsdb_kept.specs.Places.{AreOfStore};
-ghost use Rattle.tsdb_map.specs.Commands.{IsWellFormed};
+ghost use Rattle.tsdb_model.specs.Commands.{IsWellFormed};
 ghost use Rattle.tsdb_outside.specs.Files.{Store};
 
 use crate::calls::{command_of, delete_command, flush, is_done, put_command, sweep};
@@ -24,7 +24,7 @@ use tsdb_frames::Frames;
 use tsdb_jobs::Built;
 use tsdb_kept::KeptFiles;
 use tsdb_logged::Logged;
-use tsdb_map::{Command, Reply};
+use tsdb_model::{Command, Reply};
 use tsdb_memory::MemoryStore;
 use tsdb_outside::{Failed, Files, Journal, Place, Slot};
 use tsdb_pinning::Pin;

@@ -18,7 +18,7 @@ use tsdb_compactions::Job;
 use tsdb_core::{Core, CoreFault};
 use tsdb_inner::{run_cross, run_inner};
 use tsdb_jobs::Built;
-use tsdb_map::{Command, Item, Line};
+use tsdb_model::{Command, Item, Line};
 use tsdb_outside::{Failed, Files, Journal, StoreFault};
 use tsdb_path::Path;
 use tsdb_pinning::Pin;

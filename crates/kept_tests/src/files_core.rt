@@ -3,7 +3,7 @@ ghost use Rattle.std.specs.Prelude.{◌≡◌, IfOk};
 ghost use Rattle.kept_tests.specs.Ready.{AreReady};
 ghost use Rattle.tsdb_core.specs.Core.{files_of};
 ghost use Rattle.tsdb_kept.specs.Files.{none_kept};
-ghost use Rattle.tsdb_map.specs.Commands.{IsSchema};
+ghost use Rattle.tsdb_model.specs.Commands.{IsSchema};
 
 use mem_outside::{Fails, MemFiles, MemJournal, MemPlace};
 use std::alloc::Global;
@@ -13,7 +13,7 @@ use tsdb_core::{Core, Options};
 use tsdb_frames::Frames;
 use tsdb_kept::KeptFiles;
 use tsdb_logged::Logged;
-use tsdb_map::Schema;
+use tsdb_model::Schema;
 use tsdb_memory::MemoryStore;
 use tsdb_outside::{Files, Journal, Place, Slot};
 use tsdb_path::Path;

@@ -1,11 +1,12 @@
 //! Worked examples of the plain map: what commands return one after another with ample memory, in one phase and in two,
 //! and aggregates of each type over no, one and many points.
-ghost use Rattle.tsdb_map.specs.Commands.{IsWellFormed};
+ghost use Rattle.tsdb_model.specs.Commands.{IsWellFormed};
 
 use std::alloc::Global;
 use std::test::Fail;
 use tests_support::{command_of, words_of};
-use tsdb_map::{Command, Plain, Prepared, Reply};
+use tsdb_map::{Plain, Prepared};
+use tsdb_model::{Command, Reply};
 
 /// What the command of a line returns.
 fn reply_to(alloc: Global, plain: &mut Plain, line: &str) -> Result<Reply, Fail> {

@@ -14,7 +14,7 @@ use std::sync::ledger::{Blank, Ledger};
 use std::test::Fail;
 use tsdb_aggregate::Steps;
 use tsdb_base::{FileNumber, List, Point, Range, Stamp, Time, Value};
-use tsdb_map::Line;
+use tsdb_model::Line;
 use tsdb_marks::Marks;
 use tsdb_outside::{Files, Place, Port, StoreFault};
 use tsdb_pinning::{Column, Pin, PinnedSource};

@@ -5,7 +5,7 @@ ghost use Rattle.tsdb_path.specs.Nodes.{node_count};
 use std::alloc::Global;
 use std::test::Fail;
 use tsdb_base::{Aggregate, DataType, Encoding, List, Point, Range, Stamp, Time, Value};
-use tsdb_map::Schema;
+use tsdb_model::Schema;
 use tsdb_marks::{Mark, Marks};
 use tsdb_pages::{Chunk, Group, Page, Tree, is_tree};
 use tsdb_path::{Name, Path};

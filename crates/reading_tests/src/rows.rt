@@ -4,7 +4,7 @@ use std::alloc::Global;
 use std::test::Fail;
 use tsdb_base::{Point, Value};
 use tsdb_lines::rows_of;
-use tsdb_map::Line;
+use tsdb_model::Line;
 
 /// The times of the lines, and the numbers of the columns at each of them.
 const ROWS: [(i64, [Option<i64>; 3]); 4] = [

@@ -4,7 +4,7 @@
 use std::alloc::Global;
 use std::test::Fail;
 use tsdb_base::{Aggregate, Answer, FileNumber, List, Range, Space, Stamp, Text, Value};
-use tsdb_map::{Command, FileLine, Item, Line, Listing, Reply};
+use tsdb_model::{Command, FileLine, Item, Line, Listing, Reply};
 use tsdb_path::{Name, Path};
 use tsdb_print::{print_order, print_reply, print_session};
 

@@ -2,7 +2,7 @@
 ghost use Rattle.std.specs.Prelude.{◌≡◌, ◌≤◌};
 ghost use Rattle.std.proofs.Props.{props};
 ghost use Rattle.tsdb_core.specs.Limits.{IsPairLimit};
-ghost use Rattle.tsdb_map.specs.Commands.{IsWellFormed};
+ghost use Rattle.tsdb_model.specs.Commands.{IsWellFormed};
 ghost use Rattle.tsdb_outside.specs.Files.{Store};
 ghost use Rattle.tsdb_serving.specs.Flushing.{IsReady};
 
@@ -15,7 +15,7 @@ use tsdb_frames::Frames;
 use tsdb_history::serve;
 use tsdb_kept::KeptFiles;
 use tsdb_logged::Logged;
-use tsdb_map::{Command, Reply};
+use tsdb_model::{Command, Reply};
 use tsdb_memory::MemoryStore;
 use tsdb_outside::{Files, Journal, Place, Slot};
 

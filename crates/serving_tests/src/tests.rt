@@ -4,7 +4,7 @@ use mem_outside::{MemFiles, MemJournal};
 use std::alloc::Global;
 use std::test::Fail;
 use tests_support::command_of;
-use tsdb_map::{Command, Reply};
+use tsdb_model::{Command, Reply};
 use tsdb_print::print_reply;
 
 /// A core with this pair limit, whose next file has this number, and commands with the text of each reply.

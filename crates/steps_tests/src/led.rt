@@ -5,7 +5,7 @@ ghost use Rattle.tsdb_core.specs.Core.{files_of};
 ghost use Rattle.tsdb_core.specs.Limits.{IsPairLimit};
 ghost use Rattle.tsdb_core.specs.Loans.{KeepsLoans};
 ghost use Rattle.tsdb_kept.specs.Places.{AreOfStore};
-ghost use Rattle.tsdb_map.specs.Commands.{IsWellFormed};
+ghost use Rattle.tsdb_model.specs.Commands.{IsWellFormed};
 ghost use Rattle.tsdb_outside.specs.Files.{Store};
 
 use crate::compacting::{Kind, compact};
@@ -20,7 +20,7 @@ use tsdb_core::{Core, Options};
 use tsdb_frames::Frames;
 use tsdb_kept::KeptFiles;
 use tsdb_logged::Logged;
-use tsdb_map::Command;
+use tsdb_model::Command;
 use tsdb_memory::MemoryStore;
 use tsdb_outside::{Files, Journal, Place, Slot};
 use tsdb_pinning::Pin;

@@ -10,7 +10,7 @@ use std::sync::ledger::{Blank, Ledger};
 use tsdb_aggregate::Steps;
 use tsdb_base::{Range, Time, Value};
 use tsdb_core::Core;
-use tsdb_map::{Command, Item, Line};
+use tsdb_model::{Command, Item, Line};
 use tsdb_outside::{Files, Journal, StoreFault};
 use tsdb_path::Path;
 use tsdb_pinning::Pin;

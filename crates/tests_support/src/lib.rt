@@ -22,11 +22,11 @@
 #![tactic(auto)]
 
 ghost use Rattle.std.specs.Prelude.{IfOk};
-ghost use Rattle.tsdb_map.specs.Commands.{IsWellFormed};
+ghost use Rattle.tsdb_model.specs.Commands.{IsWellFormed};
 
 use std::alloc::Global;
 use std::test::Fail;
-use tsdb_map::{Command, Line, Reply};
+use tsdb_model::{Command, Line, Reply};
 use tsdb_script::read_script;
 
 /// The command of a line of a script that lacks its session.

@@ -15,7 +15,7 @@ use Rattle.tsdb_layers.proofs.Lists.{each_among, each_from_among}
 use Rattle.tsdb_layers.specs.Layers.{HasPoint, Layer}
 use Rattle.tsdb_layers.specs.Lists.{Among}
 use Rattle.tsdb_layers.specs.Places.{Content, Place}
-use Rattle.tsdb_map.specs.declared.command.Schema.{Schema}
+use Rattle.tsdb_model.specs.declared.command.Schema.{Schema}
 use Rattle.tsdb_built.specs.Parts.{IsSeries}
 use Rattle.tsdb_memory.specs.Model.{IsFormed, IsSound}
 use Rattle.tsdb_memory.specs.Shown.{IsMemoryOf, entry_of}

@@ -5,7 +5,7 @@ use Rattle.std.proofs.lemmas.List.{append-nil, append_assoc}
 use Rattle.tsdb_base.specs.declared.answers.Aggregate.{Aggregate}
 use Rattle.tsdb_base.specs.declared.point.Point.{Point}
 use Rattle.tsdb_base.specs.declared.point.Range.{Range}
-use Rattle.tsdb_map.specs.World.{is_in}
+use Rattle.tsdb_model.specs.World.{is_in}
 use Rattle.tsdb_merge.specs.Winners.{TakesTold}
 use Rattle.tsdb_aggregate.specs.Steps.{AddsPoint, AddsWithin, IsSettled, IsTally}
 use Rattle.tsdb_aggregate.specs.declared.tally.Tally.{Tally}

@@ -12,7 +12,7 @@ use Rattle.std.proofs.lemmas.List.Elements.{All-contains, All-more, All-push, Al
 use Rattle.std.proofs.lemmas.List.Sorted.{ranks_by, sorted_far, IsPermutation-map}
 use Rattle.std.proofs.Math.Seq.{drop-cons}
 use Rattle.tsdb_base.specs.declared.point.Range.{Range}
-use Rattle.tsdb_map.proofs.PointLemmas.{lt-cmp}
+use Rattle.tsdb_model.proofs.TimeTests.{lt-cmp}
 use Rattle.tsdb_merge.proofs.MergeLemmas.{AllPairs-head, Contains-cases}
 use Rattle.tsdb_aggregate.specs.Loads.{Held, held_at}
 use Rattle.tsdb_aggregate.specs.Pieces.{AreApart, Part, hull, overlap}

@@ -13,7 +13,7 @@ use Rattle.tsdb_base.specs.declared.answers.Aggregate.{Aggregate}
 use Rattle.tsdb_base.specs.declared.point.Point.{Point}
 use Rattle.tsdb_base.specs.declared.point.Range.{Range}
 use Rattle.tsdb_base.specs.declared.value.Value.{Value}
-use Rattle.tsdb_map.specs.World.{is_in}
+use Rattle.tsdb_model.specs.World.{is_in}
 use Rattle.tsdb_merge.specs.Winners.{HasNoneAt, IsMergeOf}
 use Rattle.tsdb_merge.proofs.MergeLemmas.{All-from_contains, All-left, All-right, Contains-head}
 use Rattle.tsdb_aggregate.specs.Loads.{Held}

@@ -6,7 +6,7 @@ use Rattle.std.proofs.lemmas.List.Sorted.{All-permutation, IsPermutation-map}
 use Rattle.tsdb_base.specs.declared.answers.Aggregate.{Aggregate}
 use Rattle.tsdb_base.specs.declared.point.Point.{Point}
 use Rattle.tsdb_base.specs.declared.point.Range.{Range}
-use Rattle.tsdb_map.specs.World.{is_in}
+use Rattle.tsdb_model.specs.World.{is_in}
 use Rattle.tsdb_merge.specs.Causes.{HasPullCause, HasRisen, HasSomeCause, SomeHasRisen}
 use Rattle.tsdb_merge.specs.Winners.{IsRising, IsToldMergeOf}
 use Rattle.tsdb_merge.specs.declared.points.PullFault.{PullFault}

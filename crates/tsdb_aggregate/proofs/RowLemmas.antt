@@ -11,7 +11,7 @@ use Rattle.std.proofs.lemmas.List.Sorted.{All-permutation, IsPermutation-map, su
 use Rattle.std.proofs.lemmas.List.Sums.{sum_by-append, sum_by-cons}
 use Rattle.tsdb_base.specs.declared.point.Point.{Point}
 use Rattle.tsdb_base.specs.declared.point.Range.{Range}
-use Rattle.tsdb_map.specs.World.{is_in}
+use Rattle.tsdb_model.specs.World.{is_in}
 use Rattle.tsdb_merge.specs.Winners.{HasNoneAt, IsMergeOf, IsRising}
 use Rattle.tsdb_merge.proofs.Joined.{joined_merge}
 use Rattle.tsdb_merge.proofs.MergeLemmas.{AllPairs-head, AllPairs-nil, AllPairs-tail, All-from_contains, All-left, All-right, Contains-head, Contains-nil, Contains-tail}

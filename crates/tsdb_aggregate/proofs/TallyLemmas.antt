@@ -10,7 +10,7 @@ use Rattle.tsdb_base.specs.declared.point.Point.{Point}
 use Rattle.tsdb_base.specs.declared.point.Stats.{Stats}
 use Rattle.tsdb_base.specs.declared.value.Value.{Value}
 use Rattle.tsdb_base.specs.declared.value.Value.TheVariants as value
-use Rattle.tsdb_map.specs.Folds.{aggregate_of, greater, is_less, lesser, numbers}
+use Rattle.tsdb_model.specs.Folds.{aggregate_of, greater, is_less, lesser, numbers}
 use Rattle.tsdb_stats.specs.Statistics.{AreStatsOf}
 use Rattle.tsdb_stats.specs.Steps.{join_options, number_in}
 use Rattle.tsdb_stats.proofs.Joining.{stats-append}

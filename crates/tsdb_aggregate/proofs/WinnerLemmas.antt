@@ -8,7 +8,7 @@ use Rattle.std.proofs.lemmas.List.Elements.{All-head, All-tail, All-contains, fi
 use Rattle.std.proofs.lemmas.List.Sorted.{Contains-permutation, IsPermutation-sym}
 use Rattle.tsdb_base.specs.declared.point.Point.{Point}
 use Rattle.tsdb_base.specs.declared.point.Range.{Range}
-use Rattle.tsdb_map.specs.World.{is_in}
+use Rattle.tsdb_model.specs.World.{is_in}
 use Rattle.tsdb_merge.specs.Winners.{HasNoneAt, IsWinner as IsWinnerOfLists, IsMergeOf}
 use Rattle.tsdb_merge.proofs.MergeLemmas.{AllPairs-head, AllPairs-tail, All-from_contains, Contains-head, Contains-tail, Contains-nil, Contains-cases, winner_at, same_points}
 use Rattle.tsdb_aggregate.specs.Pieces.{Part, hull, overlap, points_of, HasOrder, IsCleanIn}

@@ -3,7 +3,7 @@ use Rattle.std.specs.Prelude.{◌≡◌, ℕ, Bool, false, not, ◌&&◌, ◌||�
 use Rattle.std.specs.Prelude.{Option, None, Some, sum_by}
 use Rattle.tsdb_base.specs.declared.point.Point.{Point}
 use Rattle.tsdb_base.specs.declared.point.Range.{Range}
-use Rattle.tsdb_map.specs.World.{is_in}
+use Rattle.tsdb_model.specs.World.{is_in}
 use Rattle.tsdb_merge.specs.Winners.{HasNoneAt, IsRising}
 use Rattle.tsdb_stats.specs.Statistics.{AreStatsOf}
 use Rattle.tsdb_aggregate.specs.Loads.{Held}

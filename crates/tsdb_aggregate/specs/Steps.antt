@@ -11,8 +11,8 @@ use Rattle.tsdb_base.specs.declared.point.Point.{Point}
 use Rattle.tsdb_base.specs.declared.point.Range.{Range}
 use Rattle.tsdb_base.specs.declared.value.Value.{Value}
 use Rattle.tsdb_base.specs.declared.value.Value.TheVariants as value
-use Rattle.tsdb_map.specs.Folds.{aggregate_of, greater, lesser}
-use Rattle.tsdb_map.specs.World.{is_in}
+use Rattle.tsdb_model.specs.Folds.{aggregate_of, greater, lesser}
+use Rattle.tsdb_model.specs.World.{is_in}
 use Rattle.tsdb_merge.specs.Winners.{IsMergeOf}
 use Rattle.tsdb_stats.specs.Steps.{join_options}
 use Rattle.tsdb_aggregate.specs.Loads.{Held, LoaderState, Spends, held_at}

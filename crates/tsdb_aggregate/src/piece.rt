@@ -1,7 +1,7 @@
 //! A piece of one source: a page, or a part in memory. It depends on `tsdb_base`.
 ghost use Rattle.std.specs.Prelude.{◌≡◌};
 ghost use Rattle.tsdb_aggregate.specs.Pieces as pieces;
-ghost use Rattle.tsdb_map.specs.World as world;
+ghost use Rattle.tsdb_model.specs.World as world;
 
 use tsdb_base::{Range, Stats, Time};
 

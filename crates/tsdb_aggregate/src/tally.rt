@@ -1,7 +1,7 @@
 //! What an aggregate has come to: a count, and the one value that is asked for. It depends on `tsdb_base`.
 ghost use Rattle.std.specs.Prelude.{◌≡◌, ◌∷◌, ◌++◌, [], List, IfOk, IsTrue, option_copied};
 ghost use Rattle.tsdb_base.specs.declared.point.Point.{Point};
-ghost use Rattle.tsdb_map.specs.Folds as folds;
+ghost use Rattle.tsdb_model.specs.Folds as folds;
 ghost use Rattle.tsdb_stats.specs.Statistics.{AreStatsOf};
 ghost use Rattle.tsdb_stats.specs.Steps.{number_in};
 ghost use Rattle.tsdb_base.specs.declared.answers.Aggregate.{Aggregate};

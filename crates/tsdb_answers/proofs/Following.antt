@@ -13,13 +13,13 @@ use Rattle.tsdb_logged.proofs.Series.{can_create, can_delete}
 use Rattle.tsdb_memory.proofs.Types.{no_type_at, some_type_at}
 use Rattle.tsdb_logged.specs.Answers.{IsCreateAnswer, IsDeleteAnswer}
 use Rattle.tsdb_logged.specs.Commands.{create_record}
-use Rattle.tsdb_map.specs.Apply.{accepted, reply_of}
-use Rattle.tsdb_map.specs.Commands.{IsSchema}
-use Rattle.tsdb_map.specs.World.{Series, World}
-use Rattle.tsdb_map.specs.declared.command.Command.TheVariants as command
-use Rattle.tsdb_map.specs.declared.command.Row.{Row}
-use Rattle.tsdb_map.specs.declared.command.Schema.{Schema}
-use Rattle.tsdb_map.specs.declared.reply.Reply.TheVariants.{Plain}
+use Rattle.tsdb_model.specs.Apply.{accepted, reply_of}
+use Rattle.tsdb_model.specs.Commands.{IsSchema}
+use Rattle.tsdb_model.specs.World.{Series, World}
+use Rattle.tsdb_model.specs.declared.command.Command.TheVariants as command
+use Rattle.tsdb_model.specs.declared.command.Row.{Row}
+use Rattle.tsdb_model.specs.declared.command.Schema.{Schema}
+use Rattle.tsdb_model.specs.declared.reply.Reply.TheVariants.{Plain}
 use Rattle.tsdb_memory.specs.Shown.{IsMemoryOf, entry_of, number_of}
 use Rattle.tsdb_memory.specs.Store.{Store}
 use Rattle.tsdb_rows.proofs.MapAnswers.{follows}

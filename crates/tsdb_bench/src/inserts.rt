@@ -3,7 +3,7 @@
 ghost use Rattle.std.specs.Prelude.{◌≡◌, All, IfOk};
 ghost use Rattle.tsdb_core.specs.Core.{files_of};
 ghost use Rattle.tsdb_kept.specs.Files.{none_kept};
-ghost use Rattle.tsdb_map.specs.Commands.{IsRow, IsSchema, IsWellFormed};
+ghost use Rattle.tsdb_model.specs.Commands.{IsRow, IsSchema, IsWellFormed};
 
 use crate::fault::Fault;
 use crate::journal::BareJournal;
@@ -16,7 +16,7 @@ use tsdb_core::{Core, Options};
 use tsdb_frames::Frames;
 use tsdb_kept::KeptFiles;
 use tsdb_logged::Logged;
-use tsdb_map::{Command, Row, Schema};
+use tsdb_model::{Command, Row, Schema};
 use tsdb_memory::MemoryStore;
 use tsdb_outside::{Place, Slot};
 use tsdb_path::Path;

@@ -15,7 +15,7 @@ use Rattle.tsdb_jobs.specs.Parts.{Filled, if_any, part_of}
 use Rattle.tsdb_layers.proofs.Lists.{among_left, among_right}
 use Rattle.tsdb_layers.specs.Lists.{Among}
 use Rattle.tsdb_layers.specs.Places.{Content, Place}
-use Rattle.tsdb_map.specs.declared.command.Schema.{Schema}
+use Rattle.tsdb_model.specs.declared.command.Schema.{Schema}
 use Rattle.tsdb_memory.proofs.Counts.{among_either}
 use Rattle.tsdb_memory.proofs.Frozen.{point_at}
 use Rattle.tsdb_memory.proofs.Numbers.{schema_at, some_same}

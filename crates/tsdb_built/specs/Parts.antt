@@ -9,7 +9,7 @@ use Rattle.tsdb_base.specs.declared.value.Value.{Value}
 use Rattle.tsdb_jobs.specs.Parts.{Filled}
 use Rattle.tsdb_layers.specs.Lists.{Among, EachPair}
 use Rattle.tsdb_layers.specs.Places.{Content, Place}
-use Rattle.tsdb_map.specs.declared.command.Schema.{Schema}
+use Rattle.tsdb_model.specs.declared.command.Schema.{Schema}
 use Rattle.tsdb_memory.specs.Shown.{number_of}
 use Rattle.tsdb_memtable.specs.Pairs.{Pair, points_of}
 use Rattle.tsdb_memtable.specs.Points.{IsRising}

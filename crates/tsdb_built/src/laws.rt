@@ -6,7 +6,7 @@ ghost use Rattle.tsdb_built.specs.Parts.{IsContentOfPart, IsJobOf, IsPart, entry
 ghost use Rattle.tsdb_jobs.specs.Built.{IsEntryOf, IsFileOf, paths_of};
 ghost use Rattle.tsdb_jobs.specs.Parts.{Filled, part_of};
 ghost use Rattle.tsdb_layers.specs.Places.{Content};
-ghost use Rattle.tsdb_map.specs.declared.command.Schema.{Schema};
+ghost use Rattle.tsdb_model.specs.declared.command.Schema.{Schema};
 ghost use Rattle.tsdb_memory.specs.Shown.{IsContentOf as IsShownAs};
 ghost use Rattle.tsdb_memtable.specs.Pairs.{Pair};
 ghost use Rattle.tsdb_pages.specs.File.{IsFile};

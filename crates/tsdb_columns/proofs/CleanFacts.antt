@@ -25,7 +25,7 @@ use Rattle.tsdb_columns.specs.Lanes.{is_passed}
 use Rattle.tsdb_index.specs.declared.index.PageEntry.{PageEntry}
 use Rattle.tsdb_layers.proofs.Places.{is_path_same, path_itself}
 use Rattle.tsdb_layers.specs.Places.{is_path}
-use Rattle.tsdb_map.specs.World.{is_in}
+use Rattle.tsdb_model.specs.World.{is_in}
 use Rattle.tsdb_marks.specs.Survival.{Covers, Meets, Survives}
 use Rattle.tsdb_marks.specs.declared.marks.Mark.{Mark}
 

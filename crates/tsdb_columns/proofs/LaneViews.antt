@@ -26,8 +26,8 @@ use Rattle.tsdb_index.specs.declared.index.PageEntry.{PageEntry}
 use Rattle.tsdb_layers.specs.Lists.{EachPair, if_some}
 use Rattle.tsdb_layers.specs.Marks.{is_over, survives}
 use Rattle.tsdb_layers.specs.Places.{is_path}
-use Rattle.tsdb_map.specs.Folds.{aggregate_of}
-use Rattle.tsdb_map.specs.World.{is_in}
+use Rattle.tsdb_model.specs.Folds.{aggregate_of}
+use Rattle.tsdb_model.specs.World.{is_in}
 use Rattle.tsdb_marks.specs.declared.marks.Mark.{Mark}
 use Rattle.tsdb_merge.specs.Winners.{IsRising}
 use Rattle.tsdb_merge.proofs.MergeLemmas.{Contains-head, Contains-tail}

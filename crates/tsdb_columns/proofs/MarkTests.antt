@@ -10,7 +10,7 @@ use Rattle.tsdb_columns.specs.Kept.{at, is_kept}
 use Rattle.tsdb_layers.proofs.Places.{is_path_same, path_itself}
 use Rattle.tsdb_layers.specs.Marks.{is_over, survives}
 use Rattle.tsdb_layers.specs.Places.{is_path}
-use Rattle.tsdb_map.specs.World.{is_in}
+use Rattle.tsdb_model.specs.World.{is_in}
 use Rattle.tsdb_marks.specs.Survival.{Covers, Survives}
 use Rattle.tsdb_marks.specs.declared.marks.Mark.{Mark}
 

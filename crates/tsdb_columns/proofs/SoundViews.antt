@@ -24,7 +24,7 @@ use Rattle.tsdb_columns.specs.declared.lane.Lane.TheVariants.{Pages, Part}
 use Rattle.tsdb_index.specs.declared.index.PageEntry.{PageEntry}
 use Rattle.tsdb_layers.specs.Lists.{Among, EachPair, if_some}
 use Rattle.tsdb_layers.proofs.Lists.{each_among}
-use Rattle.tsdb_map.specs.World.{is_in}
+use Rattle.tsdb_model.specs.World.{is_in}
 use Rattle.tsdb_merge.specs.Winners.{IsRising}
 use Rattle.tsdb_sources.specs.Pieces.{joined}
 

@@ -10,7 +10,7 @@ use Rattle.tsdb_columns.specs.Files.{FilePages}
 use Rattle.tsdb_columns.specs.declared.source.Source.{Source}
 use Rattle.tsdb_columns.specs.declared.source.Source.TheVariants as source
 use Rattle.tsdb_layers.specs.Places.{is_path}
-use Rattle.tsdb_map.specs.World.{is_in}
+use Rattle.tsdb_model.specs.World.{is_in}
 use Rattle.tsdb_marks.specs.declared.marks.Mark.{Mark}
 use Rattle.tsdb_outside.specs.Files.{NamedFile}
 

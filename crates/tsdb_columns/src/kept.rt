@@ -1,6 +1,6 @@
 //! Which points of a series a stream keeps. It depends on `tsdb_base`, `tsdb_path`, `tsdb_marks` and `tsdb_layers`.
 ghost use Rattle.std.specs.Prelude.{◌≡◌, ◌++◌, OnOk};
-ghost use Rattle.tsdb_map.specs.World.{is_in};
+ghost use Rattle.tsdb_model.specs.World.{is_in};
 ghost use Rattle.tsdb_columns.specs.Kept.{is_kept, kept, times_of as times};
 
 use tsdb_base::{Memory, Point, Range, Stamp, Stats, Time};

@@ -17,7 +17,7 @@ use Rattle.tsdb_jobs.specs.Jobs.{IsJob, job_part}
 use Rattle.tsdb_jobs.specs.Parts.{Filled, IsDrawnFor}
 use Rattle.tsdb_jobs.specs.declared.flush.FlushJob.{FlushJob}
 use Rattle.tsdb_layers.specs.Places.{Content}
-use Rattle.tsdb_map.specs.declared.command.Schema.{Schema}
+use Rattle.tsdb_model.specs.declared.command.Schema.{Schema}
 use Rattle.tsdb_memory.specs.Shown.{IsContentOf as IsShownAs}
 use Rattle.tsdb_outside.specs.Files.{Store}
 use Rattle.tsdb_pages.specs.File.{IsFile}

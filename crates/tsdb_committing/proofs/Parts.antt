@@ -10,8 +10,8 @@ use Rattle.tsdb_index.specs.Entries.{IsBefore}
 use Rattle.tsdb_jobs.specs.Parts.{Filled, if_any, names_of, part_of}
 use Rattle.tsdb_layers.proofs.Lists.{each_among, each_append, each_from_among, each_weaker}
 use Rattle.tsdb_layers.specs.Lists.{Among, EachPair}
-use Rattle.tsdb_map.specs.Commands.{IsSchema}
-use Rattle.tsdb_map.specs.declared.command.Schema.{Schema}
+use Rattle.tsdb_model.specs.Commands.{IsSchema}
+use Rattle.tsdb_model.specs.declared.command.Schema.{Schema}
 use Rattle.tsdb_memory.proofs.Counts.{pairs_append}
 use Rattle.tsdb_memtable.specs.Pairs.{Pair, points_of}
 use Rattle.tsdb_memtable.specs.Points.{IsRising}

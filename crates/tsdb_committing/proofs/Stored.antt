@@ -28,7 +28,7 @@ use Rattle.tsdb_layers.proofs.Lists.{each_from_among, each_left, each_map, each_
 use Rattle.tsdb_layers.specs.Lists.{Among, EachPair, count, if_some}
 use Rattle.tsdb_layers.specs.Places.{Place}
 use Rattle.tsdb_logged.specs.Logged.{IsStoredIn, Outside}
-use Rattle.tsdb_map.specs.World.{World}
+use Rattle.tsdb_model.specs.World.{World}
 use Rattle.tsdb_memory.proofs.Frozen.{image_of}
 use Rattle.tsdb_outside.specs.Files.{Store}
 use Rattle.tsdb_state.proofs.Fresh.{count_here}

@@ -14,7 +14,7 @@ ghost use Rattle.tsdb_kept.specs.Places.{AreOfStore};
 ghost use Rattle.tsdb_layers.specs.Lists.{Among, IsWithOne};
 ghost use Rattle.tsdb_logged.specs.Flushes.{CanCommit};
 ghost use Rattle.tsdb_logged.specs.Logged.{IsStoredIn, Outside};
-ghost use Rattle.tsdb_map.specs.World.{World};
+ghost use Rattle.tsdb_model.specs.World.{World};
 ghost use Rattle.tsdb_memory.specs.Least.{IsLeastOf};
 ghost use Rattle.tsdb_memory.specs.Shown.{file_borns};
 ghost use Rattle.tsdb_outside.specs.Files.{Store};

@@ -17,7 +17,7 @@ use Rattle.tsdb_kept.specs.Files.{KeptFiles, kept_file}
 use Rattle.tsdb_kept.specs.Places.{KeptFile}
 use Rattle.tsdb_layers.proofs.Lists.{each_append}
 use Rattle.tsdb_layers.specs.Lists.{if_some}
-use Rattle.tsdb_map.specs.declared.command.Schema.{Schema}
+use Rattle.tsdb_model.specs.declared.command.Schema.{Schema}
 use Rattle.tsdb_memory.proofs.Numbers.{some_same}
 use Rattle.tsdb_memory.specs.Shown.{number_of}
 use Rattle.tsdb_path.specs.Nodes.{IsName, child_of, device_of}

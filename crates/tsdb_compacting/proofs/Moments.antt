@@ -29,7 +29,7 @@ use Rattle.tsdb_layers.specs.Layers.{HasPoint, Layer, value_in}
 use Rattle.tsdb_layers.specs.Lists.{Among, if_some}
 use Rattle.tsdb_layers.specs.Marks.{survives}
 use Rattle.tsdb_layers.specs.Places.{Place}
-use Rattle.tsdb_map.specs.declared.command.Schema.{Schema}
+use Rattle.tsdb_model.specs.declared.command.Schema.{Schema}
 use Rattle.tsdb_marks.specs.Lists.{is_of}
 use Rattle.tsdb_marks.specs.declared.marks.Mark.{Mark}
 use Rattle.tsdb_memory.proofs.Counts.{among_either}

@@ -15,8 +15,8 @@ use Rattle.tsdb_jobs.specs.Parts.{names_of}
 use Rattle.tsdb_layers.proofs.Lists.{among_left, among_map, among_right, any_among, each_among, each_from_among}
 use Rattle.tsdb_layers.proofs.Places.{path_itself}
 use Rattle.tsdb_layers.specs.Lists.{Among, EachPair, if_some}
-use Rattle.tsdb_map.specs.Commands.{IsSchema}
-use Rattle.tsdb_map.specs.declared.command.Schema.{Schema}
+use Rattle.tsdb_model.specs.Commands.{IsSchema}
+use Rattle.tsdb_model.specs.declared.command.Schema.{Schema}
 use Rattle.tsdb_marks.specs.Lists.{is_of}
 use Rattle.tsdb_marks.specs.declared.marks.Mark.{Mark}
 use Rattle.tsdb_memory.proofs.Counts.{among_either}

@@ -10,8 +10,8 @@ use Rattle.tsdb_index.specs.Entries.{IsBefore}
 use Rattle.tsdb_jobs.specs.Parts.{names_of}
 use Rattle.tsdb_kept.specs.Files.{KeptFiles, kept_file}
 use Rattle.tsdb_layers.specs.Lists.{Among, EachPair, if_some}
-use Rattle.tsdb_map.specs.Commands.{IsSchema}
-use Rattle.tsdb_map.specs.declared.command.Schema.{Schema}
+use Rattle.tsdb_model.specs.Commands.{IsSchema}
+use Rattle.tsdb_model.specs.declared.command.Schema.{Schema}
 use Rattle.tsdb_marks.specs.Lists.{is_of}
 use Rattle.tsdb_memory.specs.Shown.{number_of}
 use Rattle.tsdb_memory.specs.Store.{Store}

@@ -12,7 +12,7 @@ use crate::finishing::InputRuns;
 use std::alloc::Global;
 use tsdb_base::{List, Memory, Space};
 use tsdb_kept::KeptFiles;
-use tsdb_map::Schema;
+use tsdb_model::Schema;
 use tsdb_marks::Marks;
 use tsdb_memory::MemoryStore;
 use tsdb_outside::Files;

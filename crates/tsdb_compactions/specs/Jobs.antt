@@ -7,7 +7,7 @@ use Rattle.tsdb_compactions.specs.declared.job.Job.{Job}
 use Rattle.tsdb_index.specs.Entries.{IsBefore}
 use Rattle.tsdb_jobs.specs.Parts.{names_of}
 use Rattle.tsdb_layers.specs.Lists.{EachPair}
-use Rattle.tsdb_map.specs.Commands.{IsSchema}
+use Rattle.tsdb_model.specs.Commands.{IsSchema}
 use Rattle.tsdb_state.specs.Jobs.{job_inputs}
 use Rattle.tsdb_state.specs.Records.{numbers_of}
 use Rattle.tsdb_state.specs.State.{Compaction, File}

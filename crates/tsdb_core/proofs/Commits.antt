@@ -43,8 +43,8 @@ use Rattle.tsdb_kept.specs.Room.{HasRoom}
 use Rattle.tsdb_kept.specs.declared.room.Spare.{Spare}
 use Rattle.tsdb_layers.proofs.Lists.{among_left, among_right, with_one_is}
 use Rattle.tsdb_layers.specs.Lists.{Among, if_some}
-use Rattle.tsdb_map.specs.World.{World}
-use Rattle.tsdb_map.specs.declared.command.Schema.{Schema}
+use Rattle.tsdb_model.specs.World.{World}
+use Rattle.tsdb_model.specs.declared.command.Schema.{Schema}
 use Rattle.tsdb_log.specs.declared.record.LogRecord.{LogRecord}
 use Rattle.tsdb_log.specs.declared.record.LogRecord.TheVariants.{Freeze}
 use Rattle.tsdb_logged.proofs.Steps.{no_memory, refuses}

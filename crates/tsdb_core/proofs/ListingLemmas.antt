@@ -12,7 +12,7 @@ use Rattle.tsdb_listing.proofs.Telling.{lines_tell_files}
 use Rattle.tsdb_listing.specs.Lines.{lines_of}
 use Rattle.tsdb_listing.specs.Listings.{TellFiles}
 use Rattle.tsdb_logged.specs.Logged.{Outside, memory_of}
-use Rattle.tsdb_map.specs.declared.reply.FileLine.{FileLine}
+use Rattle.tsdb_model.specs.declared.reply.FileLine.{FileLine}
 use Rattle.tsdb_marks.specs.declared.marks.Mark.{Mark}
 use Rattle.tsdb_memory.specs.Model.{frozen_in}
 use Rattle.tsdb_memory.specs.Shown.{IsFrozenOf, IsMemoryOf, part_of}

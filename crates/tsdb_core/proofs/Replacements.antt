@@ -41,7 +41,7 @@ use Rattle.tsdb_log.specs.declared.record.LogRecord.TheVariants.{Replaced}
 use Rattle.tsdb_logged.specs.Logged.{HasLog, IsSound, Outside, room_of, with_record}
 use Rattle.tsdb_logged.specs.Replacing.{CanReplace, IsReplaced, IsReplacement}
 use Rattle.tsdb_logged.specs.declared.logged.Logged.{Logged}
-use Rattle.tsdb_map.specs.World.{World}
+use Rattle.tsdb_model.specs.World.{World}
 use Rattle.tsdb_memory.specs.Least.{IsLeastOf}
 use Rattle.tsdb_outside.specs.Files.{NamedFile}
 use Rattle.tsdb_outside.specs.declared.disk.Disk as disk

@@ -41,7 +41,7 @@ use Rattle.tsdb_layers.specs.Places.{Content}
 use Rattle.tsdb_log.specs.declared.record.LogRecord.TheVariants.{Replaced}
 use Rattle.tsdb_logged.specs.Logged.{IsStoredIn, Outside}
 use Rattle.tsdb_logged.specs.Replacing.{CanReplace}
-use Rattle.tsdb_map.specs.World.{World}
+use Rattle.tsdb_model.specs.World.{World}
 use Rattle.tsdb_memory.specs.Least.{IsLeastOf}
 use Rattle.tsdb_memory.specs.Shown.{file_borns}
 use Rattle.tsdb_pinning.specs.Changes.{fewer_rights}

@@ -24,12 +24,12 @@ use Rattle.tsdb_logged.specs.Answers.{IsAccepted, IsFreezeAnswer}
 use Rattle.tsdb_logged.specs.Commands.{CanPut, CanStop, IsAny, IsCommand}
 use Rattle.tsdb_logged.specs.Logged.{Outside, log_of, memory_of}
 use Rattle.tsdb_logged.specs.declared.logged.Logged.{Logged}
-use Rattle.tsdb_map.specs.Apply.{after_reply}
-use Rattle.tsdb_map.specs.World.{World}
-use Rattle.tsdb_map.specs.declared.command.Command.TheVariants as command
-use Rattle.tsdb_map.specs.declared.command.Row.{Row}
-use Rattle.tsdb_map.specs.declared.command.Schema.{Schema}
-use Rattle.tsdb_map.specs.declared.reply.Reply.TheVariants.{Plain}
+use Rattle.tsdb_model.specs.Apply.{after_reply}
+use Rattle.tsdb_model.specs.World.{World}
+use Rattle.tsdb_model.specs.declared.command.Command.TheVariants as command
+use Rattle.tsdb_model.specs.declared.command.Row.{Row}
+use Rattle.tsdb_model.specs.declared.command.Schema.{Schema}
+use Rattle.tsdb_model.specs.declared.reply.Reply.TheVariants.{Plain}
 use Rattle.tsdb_memory.specs.Shown.{IsFrozenOf, IsMemoryOf}
 use Rattle.tsdb_memory.specs.Store.{Store}
 use Rattle.tsdb_outside.specs.Causes.{Rose}

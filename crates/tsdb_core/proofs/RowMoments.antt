@@ -14,11 +14,11 @@ use Rattle.tsdb_images.proofs.Leaving.{image_stands}
 use Rattle.tsdb_images.specs.Stored.{LeadsTo, LeavesOneOf}
 use Rattle.tsdb_log.specs.declared.record.LogRecord.TheVariants.{Freeze}
 use Rattle.tsdb_logged.specs.Logged.{Outside, log_of, with_record}
-use Rattle.tsdb_map.specs.History.{state_after}
-use Rattle.tsdb_map.specs.State as plain
-use Rattle.tsdb_map.specs.declared.command.Command.TheVariants as command
-use Rattle.tsdb_map.specs.declared.command.Row.{Row}
-use Rattle.tsdb_map.specs.declared.reply.Reply.TheVariants.{Plain}
+use Rattle.tsdb_model.specs.History.{state_after}
+use Rattle.tsdb_model.specs.State as plain
+use Rattle.tsdb_model.specs.declared.command.Command.TheVariants as command
+use Rattle.tsdb_model.specs.declared.command.Row.{Row}
+use Rattle.tsdb_model.specs.declared.reply.Reply.TheVariants.{Plain}
 use Rattle.tsdb_outside.proofs.DiskLemmas.{Elapses-same}
 use Rattle.tsdb_outside.specs.Disk.{Image, State}
 use Rattle.tsdb_outside.specs.Files.{StoredFile}

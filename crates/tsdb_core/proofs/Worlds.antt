@@ -16,12 +16,12 @@ use Rattle.tsdb_log.specs.declared.record.LogRecord.{LogRecord}
 use Rattle.tsdb_log.specs.declared.record.LogRecord.TheVariants.{Freeze, Insert}
 use Rattle.tsdb_logged.specs.Commands.{CanPut, IsAny}
 use Rattle.tsdb_logged.specs.Logged.{Outside, memory_of, with_record}
-use Rattle.tsdb_map.specs.Apply.{accepted, after_reply}
-use Rattle.tsdb_map.specs.World.{World}
-use Rattle.tsdb_map.specs.declared.command.Command.{Command}
-use Rattle.tsdb_map.specs.declared.command.Command.TheVariants as command
-use Rattle.tsdb_map.specs.declared.command.Row.{Row}
-use Rattle.tsdb_map.specs.declared.reply.Reply.TheVariants.{Plain}
+use Rattle.tsdb_model.specs.Apply.{accepted, after_reply}
+use Rattle.tsdb_model.specs.World.{World}
+use Rattle.tsdb_model.specs.declared.command.Command.{Command}
+use Rattle.tsdb_model.specs.declared.command.Command.TheVariants as command
+use Rattle.tsdb_model.specs.declared.command.Row.{Row}
+use Rattle.tsdb_model.specs.declared.reply.Reply.TheVariants.{Plain}
 use Rattle.tsdb_memory.specs.Shown.{IsMemoryOf, entry_of}
 use Rattle.tsdb_outside.specs.declared.disk.Disk as disk
 use Rattle.tsdb_outside.specs.declared.faults.Counted as counted

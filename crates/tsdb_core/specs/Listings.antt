@@ -7,7 +7,7 @@ use Rattle.tsdb_core.specs.declared.engine.Core.{Core}
 use Rattle.tsdb_listing.specs.Lines.{lines_of}
 use Rattle.tsdb_listing.specs.Listings.{TellFiles}
 use Rattle.tsdb_logged.specs.Logged.{Outside, memory_of}
-use Rattle.tsdb_map.specs.declared.reply.Listing.{Listing}
+use Rattle.tsdb_model.specs.declared.reply.Listing.{Listing}
 use Rattle.tsdb_outside.specs.declared.disk.Disk as disk
 use Rattle.tsdb_outside.specs.declared.faults.Counted as counted
 use Rattle.tsdb_state.specs.State.{EngineState, StoreState, Told}

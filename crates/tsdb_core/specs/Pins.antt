@@ -7,7 +7,7 @@ use Rattle.tsdb_core.specs.declared.engine.Core.{Core}
 use Rattle.tsdb_kept.specs.Places.{AreOfStore}
 use Rattle.tsdb_layers.specs.Lists.{IsWithOne}
 use Rattle.tsdb_logged.specs.Logged.{Outside}
-use Rattle.tsdb_map.specs.World.{World}
+use Rattle.tsdb_model.specs.World.{World}
 use Rattle.tsdb_outside.specs.Files as outside
 use Rattle.tsdb_outside.specs.Files.{NamedFile}
 use Rattle.tsdb_outside.specs.declared.disk.Disk as disk

@@ -31,7 +31,7 @@ use Rattle.tsdb_log.specs.declared.record.LogRecord.TheVariants.{Create, Delete,
 use Rattle.tsdb_log.specs.declared.record.LogRecord.TheVariants.{Snapshot}
 use Rattle.tsdb_logged.specs.Logged.{LeavesStates, Outside, log_of, memory_of, with_record}
 use Rattle.tsdb_logged.specs.Replacing.{IsReplaced}
-use Rattle.tsdb_map.specs.World.{World}
+use Rattle.tsdb_model.specs.World.{World}
 use Rattle.tsdb_memory.specs.Least.{IsLeastOf}
 use Rattle.tsdb_outside.specs.Causes.{HasCause}
 use Rattle.tsdb_outside.specs.Files as outside

@@ -4,8 +4,8 @@ ghost use Rattle.tsdb_kept.specs.Closing.{ArePutBack, AreRising, names_at};
 ghost use Rattle.tsdb_kept.specs.Places.{AreOfStore, AreUnread};
 ghost use Rattle.tsdb_log.specs.declared.record.LogRecord.{LogRecord};
 ghost use Rattle.tsdb_logged.specs.Answers.{IsCreateAnswer, IsDeleteAnswer, IsFreezeAnswer};
-ghost use Rattle.tsdb_map.specs.Commands.{IsSchema};
-ghost use Rattle.tsdb_map.specs.declared.command.Command.{Command};
+ghost use Rattle.tsdb_model.specs.Commands.{IsSchema};
+ghost use Rattle.tsdb_model.specs.declared.command.Command.{Command};
 ghost use Rattle.tsdb_outside.specs.Causes.{HasCause};
 ghost use Rattle.tsdb_outside.specs.Disk.{WhereTold};
 ghost use Rattle.tsdb_rows.specs.Fits.{HasNoPoint};
@@ -13,7 +13,7 @@ ghost use Rattle.tsdb_state.specs.Limits.{max_frozen};
 
 use crate::engine::Core;
 use tsdb_base::{Answer, Range, Space};
-use tsdb_map::Schema;
+use tsdb_model::Schema;
 use tsdb_outside::{Failed, Files, Journal};
 use tsdb_path::Path;
 

@@ -4,7 +4,7 @@ ghost use Rattle.std.specs.Prelude.{IfOk};
 use crate::engine::Core;
 use tsdb_base::{Memory, Space};
 use tsdb_listing::file_lines;
-use tsdb_map::Listing;
+use tsdb_model::Listing;
 use tsdb_outside::{Files, Journal};
 
 impl<J: Journal, F: Files> Core<J, F> {

@@ -3,7 +3,7 @@ ghost use Rattle.std.specs.Prelude.{IfOk, OnErr};
 
 use crate::engine::Core;
 use tsdb_base::Range;
-use tsdb_map::Item;
+use tsdb_model::Item;
 use tsdb_outside::{Files, Journal};
 use tsdb_path::Path;
 use tsdb_pinning::{Pin, PinFault, give_back, take_pin};

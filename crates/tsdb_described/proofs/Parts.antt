@@ -16,7 +16,7 @@ use Rattle.tsdb_jobs.specs.Parts.{Filled, names_of}
 use Rattle.tsdb_layers.proofs.Lists.{each_among, each_from_among, each_weaker}
 use Rattle.tsdb_layers.specs.Lists.{Among, EachPair}
 use Rattle.tsdb_layers.specs.Places.{Content, Place}
-use Rattle.tsdb_map.specs.declared.command.Schema.{Schema}
+use Rattle.tsdb_model.specs.declared.command.Schema.{Schema}
 use Rattle.tsdb_pages.specs.Pages.{ArePoints}
 use Rattle.tsdb_pages.specs.Trees.{HasParts, IsChunk, IsGroup, IsMade, IsTree, chunks_of, points_of}
 use Rattle.tsdb_pages.specs.declared.tree.Chunk.{Chunk}

@@ -7,7 +7,7 @@ use Rattle.std.proofs.lemmas.List.Sums.{sum_by-append}
 use Rattle.tsdb_base.specs.Values.{type_of}
 use Rattle.tsdb_engine.specs.Steps.{IsSound}
 use Rattle.tsdb_jobs.specs.Built.{AreHullsOf, paths_of}
-use Rattle.tsdb_map.specs.Commands.{IsSchema}
+use Rattle.tsdb_model.specs.Commands.{IsSchema}
 use Rattle.tsfile_writer.specs.Building.{WasGiven}
 use Rattle.tsdb_base.specs.declared.ids.SeriesId.{SeriesId}
 use Rattle.tsdb_base.specs.declared.ids.Space.{Space}
@@ -22,7 +22,7 @@ use Rattle.tsdb_layers.specs.Lists.{Among, EachPair}
 use Rattle.tsdb_path.specs.Nodes.{IsName, IsPath, device_of, measurement_of}
 use Rattle.tsfile_writer.specs.declared.builder.Builder.{Builder}
 use Rattle.std.specs.Prelude.{ℤ}
-use Rattle.tsdb_map.specs.declared.command.Schema.{Schema}
+use Rattle.tsdb_model.specs.declared.command.Schema.{Schema}
 use Rattle.tsdb_memtable.specs.Pairs.{Pair, points_of}
 
 abbrev pub RiseSoFar : Filled → Filled → Type 0

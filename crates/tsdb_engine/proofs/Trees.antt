@@ -8,7 +8,7 @@ use Rattle.tsdb_index.specs.Entries.{IsBefore}
 use Rattle.tsdb_jobs.specs.Built.{IsFileOf}
 use Rattle.tsdb_jobs.specs.Parts.{Filled, names_of, series_of}
 use Rattle.tsdb_layers.proofs.Lists.{each_append, each_left, each_middle, each_of_map, each_right, each_weaker}
-use Rattle.tsdb_map.specs.declared.command.Schema.{Schema}
+use Rattle.tsdb_model.specs.declared.command.Schema.{Schema}
 use Rattle.tsdb_pages.specs.File.{IsFile}
 use Rattle.tsdb_pages.specs.Pages.{IsInRange}
 use Rattle.tsdb_pages.specs.Trees.{HasParts, IsGroup, chunks_of}

@@ -20,7 +20,7 @@ use Rattle.tsdb_jobs.specs.Built.{AreHullsOf, HasHullOver, HasTime}
 use Rattle.tsdb_jobs.specs.Parts.{Filled, names_of}
 use Rattle.tsdb_layers.proofs.Lists.{among_left, among_right, each_among, each_append, each_from_among, each_left, each_right, each_weaker}
 use Rattle.tsdb_layers.specs.Lists.{Among}
-use Rattle.tsdb_map.specs.declared.command.Schema.{Schema}
+use Rattle.tsdb_model.specs.declared.command.Schema.{Schema}
 use Rattle.tsdb_pages.proofs.Order.{pairs_across, pairs_push}
 use Rattle.tsdb_path.specs.Nodes.{device_of}
 use Rattle.tsdb_plan.specs.declared.entry.Hull.{Hull}

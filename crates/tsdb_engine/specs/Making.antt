@@ -6,7 +6,7 @@ use Rattle.tsdb_engine.specs.Steps.{ComeBefore, IsSound, filled_with}
 use Rattle.tsdb_engine.specs.declared.part.Part.{Part}
 use Rattle.tsdb_jobs.specs.Built.{AreHullsOf, paths_of}
 use Rattle.tsdb_jobs.specs.Parts.{Filled, series_of}
-use Rattle.tsdb_map.specs.declared.command.Schema.{Schema}
+use Rattle.tsdb_model.specs.declared.command.Schema.{Schema}
 use Rattle.tsdb_pages.specs.Pages.{IsInRange}
 use Rattle.tsfile_writer.specs.Building.{WasGiven}
 use Rattle.tsfile_writer.specs.Given.{MayTake}

@@ -7,7 +7,7 @@ use Rattle.tsdb_index.specs.Entries.{IsBefore}
 use Rattle.tsdb_jobs.specs.Built.{AreHullsOf}
 use Rattle.tsdb_jobs.specs.Parts.{Filled, names_of, series_of}
 use Rattle.tsdb_layers.specs.Lists.{Among}
-use Rattle.tsdb_map.specs.declared.command.Schema.{Schema}
+use Rattle.tsdb_model.specs.declared.command.Schema.{Schema}
 use Rattle.tsdb_pages.specs.Pages.{IsInRange}
 use Rattle.tsdb_path.specs.Nodes.{IsName, IsPath, device_of, measurement_of}
 use Rattle.tsdb_plan.specs.declared.entry.Hull.{Hull}

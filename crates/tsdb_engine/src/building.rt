@@ -5,7 +5,7 @@ ghost use Rattle.tsdb_base.specs.Values.{is_suitable};
 ghost use Rattle.tsdb_engine.specs.Steps.{ComeBefore, HaveBegun, IsSound, filled_with};
 ghost use Rattle.tsdb_jobs.specs.Built.{IsFileOf};
 ghost use Rattle.tsdb_jobs.specs.Parts.{Filled, series_of};
-ghost use Rattle.tsdb_map.specs.declared.command.Schema.{Schema as SchemaOf};
+ghost use Rattle.tsdb_model.specs.declared.command.Schema.{Schema as SchemaOf};
 ghost use Rattle.tsdb_memtable.specs.Points.{IsRising};
 ghost use Rattle.tsdb_pages.specs.Pages.{IsInRange};
 ghost use Rattle.tsdb_path.specs.Nodes.{node_count};
@@ -13,7 +13,7 @@ ghost use Rattle.tsfile_writer.specs.Building.{WasGiven};
 ghost use Rattle.tsfile_writer.specs.Given.{MayTake, Series, with_point};
 
 use tsdb_base::{Memory, Point};
-use tsdb_map::Schema;
+use tsdb_model::Schema;
 use tsfile_writer::{BuildFault, Builder};
 
 /// Begins a series without points, which comes behind those before.

@@ -20,8 +20,8 @@ use Rattle.tsdb_jobs.specs.Parts.{HasPointsOf, IsDrawnFor, IsFlushOf, names_of, 
 use Rattle.tsdb_jobs.specs.declared.flush.FlushJob.{FlushJob}
 use Rattle.tsdb_layers.proofs.Lists.{among_map, each_among}
 use Rattle.tsdb_layers.specs.Lists.{EachPair, if_some}
-use Rattle.tsdb_map.specs.Commands.{IsSchema}
-use Rattle.tsdb_map.specs.declared.command.Schema.{Schema}
+use Rattle.tsdb_model.specs.Commands.{IsSchema}
+use Rattle.tsdb_model.specs.declared.command.Schema.{Schema}
 use Rattle.tsdb_memory.proofs.Frozen.{image_of}
 use Rattle.tsdb_memory.proofs.Raises.{all_at}
 use Rattle.tsdb_memory.specs.Model.{HasTypedPoints, IsFormed, IsSound}

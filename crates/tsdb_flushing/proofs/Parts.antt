@@ -10,7 +10,7 @@ use Rattle.tsdb_flushing.specs.Steps.{IsSeriesOf, has_points, points_in, schema_
 use Rattle.tsdb_flushing.specs.declared.series.PairSeries.{PairSeries}
 use Rattle.tsdb_jobs.specs.Parts.{Filled, if_any, part_of}
 use Rattle.tsdb_layers.specs.Lists.{Among}
-use Rattle.tsdb_map.specs.declared.command.Schema.{Schema}
+use Rattle.tsdb_model.specs.declared.command.Schema.{Schema}
 use Rattle.tsdb_memtable.specs.Pairs.{Pair, points_of}
 
 neither : (a b : Bool) → (a || b) ≡ false → (a ≡ false) × (b ≡ false)

@@ -20,7 +20,7 @@ use Rattle.tsdb_index.specs.Entries.{IsBefore}
 use Rattle.tsdb_layers.proofs.Lists.{among_map, each_among, each_from_among}
 use Rattle.tsdb_layers.proofs.Places.{paths_same}
 use Rattle.tsdb_layers.specs.Lists.{Among}
-use Rattle.tsdb_map.specs.declared.command.Schema.{Schema}
+use Rattle.tsdb_model.specs.declared.command.Schema.{Schema}
 use Rattle.tsdb_memory.proofs.Frozen.{image_of}
 use Rattle.tsdb_memory.proofs.Numbers.{some_same}
 use Rattle.tsdb_memory.proofs.Raises.{all_at}

@@ -20,7 +20,7 @@ use Rattle.tsdb_jobs.specs.declared.flush.FlushJob.{FlushJob}
 use Rattle.tsdb_layers.proofs.Places.{same_content}
 use Rattle.tsdb_layers.specs.Lists.{Among, if_some}
 use Rattle.tsdb_layers.specs.Places.{Content, Place, place_cmp}
-use Rattle.tsdb_map.specs.declared.command.Schema.{Schema}
+use Rattle.tsdb_model.specs.declared.command.Schema.{Schema}
 use Rattle.tsdb_memory.specs.Shown.{IsContentOf, IsFrozenOf, IsMemoryOf, IsPairOf}
 use Rattle.tsdb_memory.specs.Store as memory
 use Rattle.tsdb_memtable.specs.Pairs.{Pair}

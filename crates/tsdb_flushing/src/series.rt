@@ -8,7 +8,7 @@ ghost use Rattle.tsdb_path.specs.Nodes.{device_of, measurement_of, node_count};
 
 use std::alloc::Global;
 use tsdb_base::{DataType, Encoding, List, Memory, Point, SeriesId, Space};
-use tsdb_map::Schema;
+use tsdb_model::Schema;
 use tsdb_memory::MemoryStore;
 use tsdb_memtable::Pair;
 use tsdb_path::Path;

@@ -25,8 +25,8 @@ use Rattle.tsdb_layers.specs.Lists.{Among, count, if_some}
 use Rattle.tsdb_log.specs.declared.record.LogRecord.{LogRecord}
 use Rattle.tsdb_logged.specs.Closing as logged
 use Rattle.tsdb_logged.specs.Logged.{IsSound, Outside}
-use Rattle.tsdb_map.specs.State as plain
-use Rattle.tsdb_map.specs.declared.reply.Listing.{Listing}
+use Rattle.tsdb_model.specs.State as plain
+use Rattle.tsdb_model.specs.declared.reply.Listing.{Listing}
 use Rattle.tsdb_outside.specs.Causes.{Rose}
 use Rattle.tsdb_outside.specs.Disk.{Image, IsLawful, State, WhereTold, in_slot}
 use Rattle.tsdb_outside.specs.Files.{IsFileNumber, StoredFile}

@@ -6,12 +6,12 @@ use Rattle.std.specs.List.{AllByRecursion as Each}
 use Rattle.tsdb_history.proofs.Entries.{heads}
 use Rattle.tsdb_history.specs.Prefixes.{EndsDone, EndsListed, IsDone, IsQuery}
 use Rattle.tsdb_layers.proofs.Lists.{each_left, each_right}
-use Rattle.tsdb_map.specs.History.{Entry}
-use Rattle.tsdb_map.specs.declared.command.Command.{Command}
-use Rattle.tsdb_map.specs.declared.command.Command.TheVariants.{ShowFiles}
-use Rattle.tsdb_map.specs.declared.reply.Listing.{Listing}
-use Rattle.tsdb_map.specs.declared.reply.Reply.{Reply}
-use Rattle.tsdb_map.specs.declared.reply.Reply.TheVariants.{Files}
+use Rattle.tsdb_model.specs.History.{Entry}
+use Rattle.tsdb_model.specs.declared.command.Command.{Command}
+use Rattle.tsdb_model.specs.declared.command.Command.TheVariants.{ShowFiles}
+use Rattle.tsdb_model.specs.declared.reply.Listing.{Listing}
+use Rattle.tsdb_model.specs.declared.reply.Reply.{Reply}
+use Rattle.tsdb_model.specs.declared.reply.Reply.TheVariants.{Files}
 
 -- two lists with the same last element and the same ones before it
 same_end : {X : Type 0} (xs ys : List X) (x y : X) → xs ++ x ∷ [] ≡ ys ++ y ∷ [] → (xs ≡ ys) × (x ≡ y)

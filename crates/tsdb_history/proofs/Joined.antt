@@ -5,9 +5,9 @@ use Rattle.tsdb_base.specs.declared.answers.Answer.TheVariants as answer
 use Rattle.tsdb_frames.specs.Slots.{HasRecords}
 use Rattle.tsdb_history.specs.Joining.{IsFollowed, IsJoined}
 use Rattle.tsdb_history.specs.Prefixes.{StandsAfter, StandsAfterPrefix}
-use Rattle.tsdb_map.specs.History.{Entry, IsLegal, state_after}
-use Rattle.tsdb_map.specs.State as plain
-use Rattle.tsdb_map.specs.declared.reply.Reply.TheVariants.{Plain}
+use Rattle.tsdb_model.specs.History.{Entry, IsLegal, state_after}
+use Rattle.tsdb_model.specs.State as plain
+use Rattle.tsdb_model.specs.declared.reply.Reply.TheVariants.{Plain}
 use Rattle.tsdb_outside.specs.Disk.{Image, State, in_slot}
 use Rattle.tsdb_outside.specs.declared.disk.Slot.{Slot}
 use Rattle.tsdb_replay.proofs.Stores.{new_log_stands, stands_once}

@@ -6,15 +6,15 @@ use Rattle.std.proofs.lemmas.Option.{same_Some}
 use Rattle.tsdb_base.specs.declared.answers.Answer.TheVariants as answer
 use Rattle.tsdb_history.specs.Prefixes.{IsDone, IsInDoubt, StandsAfter, StandsAfterPrefix}
 use Rattle.tsdb_history.specs.Serves.{MayDoubt}
-use Rattle.tsdb_map.specs.Apply.{reply_of}
-use Rattle.tsdb_map.specs.History.{Entry, IsAllowed, IsChange, IsLegal, state_after}
-use Rattle.tsdb_map.specs.State as plain
-use Rattle.tsdb_map.specs.World.{World}
-use Rattle.tsdb_map.specs.declared.command.Command.{Command}
-use Rattle.tsdb_map.specs.declared.command.Command.TheVariants.{Create, Insert, Delete, Select, Flush, CompactInner}
-use Rattle.tsdb_map.specs.declared.command.Command.TheVariants.{CompactCross, ShowFiles}
-use Rattle.tsdb_map.specs.declared.reply.Reply.{Reply}
-use Rattle.tsdb_map.specs.declared.reply.Reply.TheVariants.{Plain, Lines, Values, Files}
+use Rattle.tsdb_model.specs.Apply.{reply_of}
+use Rattle.tsdb_model.specs.History.{Entry, IsAllowed, IsChange, IsLegal, state_after}
+use Rattle.tsdb_model.specs.State as plain
+use Rattle.tsdb_model.specs.World.{World}
+use Rattle.tsdb_model.specs.declared.command.Command.{Command}
+use Rattle.tsdb_model.specs.declared.command.Command.TheVariants.{Create, Insert, Delete, Select, Flush, CompactInner}
+use Rattle.tsdb_model.specs.declared.command.Command.TheVariants.{CompactCross, ShowFiles}
+use Rattle.tsdb_model.specs.declared.reply.Reply.{Reply}
+use Rattle.tsdb_model.specs.declared.reply.Reply.TheVariants.{Plain, Lines, Values, Files}
 use Rattle.tsdb_replay.specs.Stores.{StandsFor, StandsForOneOf}
 use Rattle.tsdb_replay.specs.Stores as stores
 

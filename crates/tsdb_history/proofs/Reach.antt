@@ -2,10 +2,10 @@
 use Rattle.std.proofs.Common.{◌≡◌, ◌⊎◌, ℕ, ◌≤◌, List, [], ◌∷◌, ◌++◌, inl, inr, ⊎_elim, arith, subst}
 use Rattle.tsdb_history.proofs.Prefixes.{entry_of}
 use Rattle.tsdb_history.specs.Reach.{AreFullWithin, IsFullWithin}
-use Rattle.tsdb_map.specs.History.{Entry, IsLegal, state_after}
-use Rattle.tsdb_map.specs.State as plain
-use Rattle.tsdb_map.specs.declared.command.Command.{Command}
-use Rattle.tsdb_map.specs.declared.reply.Reply.{Reply}
+use Rattle.tsdb_model.specs.History.{Entry, IsLegal, state_after}
+use Rattle.tsdb_model.specs.State as plain
+use Rattle.tsdb_model.specs.declared.command.Command.{Command}
+use Rattle.tsdb_model.specs.declared.reply.Reply.{Reply}
 
 further : (low high : ℕ) (at : plain.State) (reply : Reply) → low ≤ high → IsFullWithin low at reply
     → IsFullWithin high at reply

@@ -12,9 +12,9 @@ use Rattle.tsdb_history.proofs.Entries.{AreEntries-push, IsComplete-push, comman
 use Rattle.tsdb_history.specs.History.{IsHistory, IsInLineOrder, commands_of, is_device, is_device_reply}
 use Rattle.tsdb_history.specs.History.{session_numbers}
 use Rattle.tsdb_history.specs.declared.told.Told.{Told}
-use Rattle.tsdb_map.specs.History.{Entry}
-use Rattle.tsdb_map.specs.declared.reply.Reply.{Reply}
-use Rattle.tsdb_map.specs.declared.reply.Reply.TheVariants.{Plain, Lines, Values, Files}
+use Rattle.tsdb_model.specs.History.{Entry}
+use Rattle.tsdb_model.specs.declared.reply.Reply.{Reply}
+use Rattle.tsdb_model.specs.declared.reply.Reply.TheVariants.{Plain, Lines, Values, Files}
 use Rattle.tsdb_outside.specs.Causes.{Rose}
 use Rattle.tsdb_script.specs.declared.numbered.Numbered.{Numbered}
 

@@ -15,14 +15,14 @@ use Rattle.tsdb_history.specs.Reach.{AreFullWithin, IsFullWithin}
 use Rattle.tsdb_history.specs.Serves.{HasServed, LeavesPrefix, MayDoubt}
 use Rattle.tsdb_layers.proofs.Lists.{each_append, each_left, each_weaker}
 use Rattle.tsdb_logged.specs.Logged.{memory_of}
-use Rattle.tsdb_map.specs.Apply.{reply_of}
-use Rattle.tsdb_map.specs.History.{Entry, IsChange, IsLegal, state_after}
-use Rattle.tsdb_map.specs.State as plain
-use Rattle.tsdb_map.specs.declared.command.Command.{Command}
-use Rattle.tsdb_map.specs.declared.command.Command.TheVariants.{ShowFiles}
-use Rattle.tsdb_map.specs.declared.reply.Listing.{Listing}
-use Rattle.tsdb_map.specs.declared.reply.Reply.{Reply}
-use Rattle.tsdb_map.specs.declared.reply.Reply.TheVariants.{Plain, Files}
+use Rattle.tsdb_model.specs.Apply.{reply_of}
+use Rattle.tsdb_model.specs.History.{Entry, IsChange, IsLegal, state_after}
+use Rattle.tsdb_model.specs.State as plain
+use Rattle.tsdb_model.specs.declared.command.Command.{Command}
+use Rattle.tsdb_model.specs.declared.command.Command.TheVariants.{ShowFiles}
+use Rattle.tsdb_model.specs.declared.reply.Listing.{Listing}
+use Rattle.tsdb_model.specs.declared.reply.Reply.{Reply}
+use Rattle.tsdb_model.specs.declared.reply.Reply.TheVariants.{Plain, Files}
 use Rattle.tsdb_outside.specs.Disk.{Image, IsLawful, in_slot}
 use Rattle.tsdb_outside.specs.Files.{StoredFile}
 use Rattle.tsdb_outside.specs.declared.disk.Disk as disk

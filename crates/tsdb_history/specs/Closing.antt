@@ -6,8 +6,8 @@ use Rattle.tsdb_core.specs.declared.engine.Core.{Core}
 use Rattle.tsdb_history.specs.Listings.{IsListingOf}
 use Rattle.tsdb_images.specs.Stored.{LeavesOneOf, kept_bytes}
 use Rattle.tsdb_layers.specs.Lists.{EachPair}
-use Rattle.tsdb_map.specs.State as plain
-use Rattle.tsdb_map.specs.declared.reply.Listing.{Listing}
+use Rattle.tsdb_model.specs.State as plain
+use Rattle.tsdb_model.specs.declared.reply.Listing.{Listing}
 use Rattle.tsdb_outside.specs.Disk.{Image, State, in_slot}
 use Rattle.tsdb_outside.specs.Files.{IsFileNumber, StoredFile}
 use Rattle.tsdb_outside.specs.Moments.{LeavesOnly}

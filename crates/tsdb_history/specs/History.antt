@@ -4,11 +4,11 @@ use Rattle.std.specs.Prelude.{slice_get}
 use Rattle.std.specs.Option.{option_map}
 use Rattle.tsdb_base.specs.declared.answers.Answer.TheVariants as answer
 use Rattle.tsdb_history.specs.declared.told.Told.{Told}
-use Rattle.tsdb_map.specs.Commands.{IsWellFormed}
-use Rattle.tsdb_map.specs.History.{Entry}
-use Rattle.tsdb_map.specs.declared.command.Command.{Command}
-use Rattle.tsdb_map.specs.declared.reply.Reply.{Reply}
-use Rattle.tsdb_map.specs.declared.reply.Reply.TheVariants.{Plain}
+use Rattle.tsdb_model.specs.Commands.{IsWellFormed}
+use Rattle.tsdb_model.specs.History.{Entry}
+use Rattle.tsdb_model.specs.declared.command.Command.{Command}
+use Rattle.tsdb_model.specs.declared.reply.Reply.{Reply}
+use Rattle.tsdb_model.specs.declared.reply.Reply.TheVariants.{Plain}
 use Rattle.tsdb_script.specs.Limits.{max_commands}
 use Rattle.tsdb_script.specs.declared.numbered.Numbered.{Numbered}
 

@@ -2,10 +2,10 @@
 use Rattle.std.specs.Prelude.{◌≡◌, List, ◌++◌, Option, None, Some, IfSome}
 use Rattle.tsdb_base.specs.declared.answers.Answer.TheVariants as answer
 use Rattle.tsdb_history.specs.Prefixes.{IsInDoubt}
-use Rattle.tsdb_map.specs.History.{Entry, IsLegal, state_after}
-use Rattle.tsdb_map.specs.State as plain
-use Rattle.tsdb_map.specs.declared.command.Command.{Command}
-use Rattle.tsdb_map.specs.declared.reply.Reply.TheVariants.{Plain}
+use Rattle.tsdb_model.specs.History.{Entry, IsLegal, state_after}
+use Rattle.tsdb_model.specs.State as plain
+use Rattle.tsdb_model.specs.declared.command.Command.{Command}
+use Rattle.tsdb_model.specs.declared.reply.Reply.TheVariants.{Plain}
 
 -- the state, or the one after the change in doubt that took effect
 abbrev pub with_doubt : plain.State → Option Command → plain.State

@@ -2,13 +2,13 @@
 -- with the one change in doubt. `Stands` says for which states it stands.
 use Rattle.std.specs.Prelude.{◌≡◌, ◌⊎◌, List, [], ◌∷◌, ◌++◌, All}
 use Rattle.tsdb_base.specs.declared.answers.Answer.TheVariants as answer
-use Rattle.tsdb_map.specs.Apply.{reply_of}
-use Rattle.tsdb_map.specs.History.{DrawsNumbers, Entry, IsChange, IsLegal, state_after}
-use Rattle.tsdb_map.specs.State as plain
-use Rattle.tsdb_map.specs.declared.command.Command.{Command}
-use Rattle.tsdb_map.specs.declared.command.Command.TheVariants.{ShowFiles}
-use Rattle.tsdb_map.specs.declared.reply.Listing.{Listing}
-use Rattle.tsdb_map.specs.declared.reply.Reply.TheVariants.{Plain, Files}
+use Rattle.tsdb_model.specs.Apply.{reply_of}
+use Rattle.tsdb_model.specs.History.{DrawsNumbers, Entry, IsChange, IsLegal, state_after}
+use Rattle.tsdb_model.specs.State as plain
+use Rattle.tsdb_model.specs.declared.command.Command.{Command}
+use Rattle.tsdb_model.specs.declared.command.Command.TheVariants.{ShowFiles}
+use Rattle.tsdb_model.specs.declared.reply.Listing.{Listing}
+use Rattle.tsdb_model.specs.declared.reply.Reply.TheVariants.{Plain, Files}
 
 -- a change that was done
 abbrev pub IsDone : Entry → Type 0

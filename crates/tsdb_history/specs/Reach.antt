@@ -1,11 +1,11 @@
 -- How far the numbers of files can have come, and what is answered `full` for it.
 use Rattle.std.specs.Prelude.{◌≡◌, ◌⊎◌, ℕ, ◌≤◌, List, [], ◌∷◌, ⊤}
 use Rattle.tsdb_base.specs.declared.answers.Answer.TheVariants.{Full}
-use Rattle.tsdb_map.specs.History.{Entry, state_after}
-use Rattle.tsdb_map.specs.Limits.{max_number}
-use Rattle.tsdb_map.specs.State as plain
-use Rattle.tsdb_map.specs.declared.reply.Reply.{Reply}
-use Rattle.tsdb_map.specs.declared.reply.Reply.TheVariants.{Plain}
+use Rattle.tsdb_model.specs.History.{Entry, state_after}
+use Rattle.tsdb_model.specs.Limits.{max_number}
+use Rattle.tsdb_model.specs.State as plain
+use Rattle.tsdb_model.specs.declared.reply.Reply.{Reply}
+use Rattle.tsdb_model.specs.declared.reply.Reply.TheVariants.{Plain}
 
 -- a command draws at most this many numbers for files
 abbrev pub max_drawn : ℕ

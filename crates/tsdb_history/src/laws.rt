@@ -2,8 +2,8 @@
 ghost use Rattle.std.specs.Prelude.{◌≡◌, ℕ, List, [], ◌∷◌, Some};
 ghost use Rattle.tsdb_history.specs.Joining.{IsJoined};
 ghost use Rattle.tsdb_history.specs.Prefixes.{StandsAfterPrefix};
-ghost use Rattle.tsdb_map.specs.History.{Entry, IsLegal};
-ghost use Rattle.tsdb_map.specs.State as plain;
+ghost use Rattle.tsdb_model.specs.History.{Entry, IsLegal};
+ghost use Rattle.tsdb_model.specs.State as plain;
 ghost use Rattle.tsdb_outside.specs.Disk.{Image, in_slot};
 ghost use Rattle.tsdb_outside.specs.declared.disk.Slot.{Slot};
 ghost use Rattle.tsdb_replay.specs.Stores.{Files, IsSound, StandsFor, no_changes};

@@ -1,5 +1,5 @@
 //! A reply of a history. Depends on tsdb_map.
-use tsdb_map::Reply;
+use tsdb_model::Reply;
 
 /// A reply, with the session of its command and the command's place in that session, counted from 0.
 #[derive(Drop)]

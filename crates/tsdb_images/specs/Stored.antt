@@ -5,7 +5,7 @@ use Rattle.std.specs.Option.{option_map}
 use Rattle.tsdb_layers.specs.Lists.{Among}
 use Rattle.tsdb_log.specs.Spelling.{IsRecord}
 use Rattle.tsdb_log.specs.declared.record.LogRecord.{LogRecord}
-use Rattle.tsdb_map.specs.State as plain
+use Rattle.tsdb_model.specs.State as plain
 use Rattle.tsdb_outside.specs.Disk.{Image, in_slot}
 use Rattle.tsdb_outside.specs.Files.{StoredFile}
 use Rattle.tsdb_outside.specs.declared.disk.Slot.{Slot}

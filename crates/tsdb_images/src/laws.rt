@@ -9,7 +9,7 @@ ghost use Rattle.tsdb_images.specs.Stored.{IsKept, IsStored, LeadsTo, LeavesOneO
 ghost use Rattle.tsdb_layers.specs.Lists.{count};
 ghost use Rattle.tsdb_log.specs.Spelling.{IsRecord, spelling};
 ghost use Rattle.tsdb_log.specs.declared.record.LogRecord.{LogRecord};
-ghost use Rattle.tsdb_map.specs.State as plain;
+ghost use Rattle.tsdb_model.specs.State as plain;
 ghost use Rattle.tsdb_outside.specs.Disk.{Image, in_slot};
 ghost use Rattle.tsdb_outside.specs.Files.{StoredFile};
 ghost use Rattle.tsdb_outside.specs.declared.disk.Slot.{Slot};

@@ -8,7 +8,7 @@ ghost use Rattle.tsdb_layers.specs.Lists.{IsWithOne};
 ghost use Rattle.tsdb_log.specs.Spelling.{IsRecord};
 ghost use Rattle.tsdb_log.specs.declared.record.CellRecord.{CellRecord};
 ghost use Rattle.tsdb_log.specs.declared.record.LogRecord.{LogRecord};
-ghost use Rattle.tsdb_map.specs.declared.command.Schema.{Schema};
+ghost use Rattle.tsdb_model.specs.declared.command.Schema.{Schema};
 ghost use Rattle.tsdb_outside.specs.Files.{StoredFile};
 ghost use Rattle.tsdb_state.specs.Commands.{KeepsBytes};
 ghost use Rattle.tsdb_state.specs.Records.{CanCreate, CanDelete, CanFreeze, CanInsert};

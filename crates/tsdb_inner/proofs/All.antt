@@ -20,7 +20,7 @@ use Rattle.tsdb_jobs.specs.Parts.{Filled, if_any, names_of}
 use Rattle.tsdb_layers.proofs.Lists.{among_left, among_right, each_among, each_append, each_from_among, each_weaker, pairs_left}
 use Rattle.tsdb_layers.specs.Lists.{Among, EachPair}
 use Rattle.tsdb_layers.specs.Places.{Place}
-use Rattle.tsdb_map.specs.declared.command.Schema.{Schema}
+use Rattle.tsdb_model.specs.declared.command.Schema.{Schema}
 use Rattle.tsdb_memory.proofs.Counts.{among_either, pairs_append}
 use Rattle.tsdb_merge.specs.Winners.{IsRising}
 use Rattle.tsdb_outside.specs.Files.{NamedFile}

@@ -16,7 +16,7 @@ use Rattle.tsdb_inner.proofs.Putting.{all_taken, drains_none, none_rise, takes_o
 use Rattle.tsdb_inner.specs.Copies.{Adds, Copies, AreDamaged, IsLeft, all_times}
 use Rattle.tsdb_inner.specs.Steps.{HasBegun, HaveBrokenOrder, Puts}
 use Rattle.tsdb_jobs.specs.Parts.{Filled}
-use Rattle.tsdb_map.specs.declared.command.Schema.{Schema}
+use Rattle.tsdb_model.specs.declared.command.Schema.{Schema}
 use Rattle.tsdb_marks.specs.declared.marks.Mark.{Mark}
 use Rattle.tsdb_merge.specs.Winners.{IsMergeOf, IsRising, IsToldMergeOf, TakesTold}
 use Rattle.tsdb_outside.specs.Files.{NamedFile}

@@ -26,7 +26,7 @@ use Rattle.tsdb_inner.specs.Winners.{AreWinners, CopiesSeries}
 use Rattle.tsdb_jobs.specs.Parts.{names_of}
 use Rattle.tsdb_layers.proofs.Lists.{each_weaker}
 use Rattle.tsdb_layers.specs.Lists.{Among, EachPair}
-use Rattle.tsdb_map.specs.declared.command.Schema.{Schema}
+use Rattle.tsdb_model.specs.declared.command.Schema.{Schema}
 use Rattle.tsdb_merge.specs.Winners.{IsMergeOf}
 use Rattle.tsdb_outside.specs.Causes.{HasStoreCause, Rose}
 use Rattle.tsdb_outside.specs.Files.{NamedFile, Store}

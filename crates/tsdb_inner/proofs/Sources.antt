@@ -25,7 +25,7 @@ use Rattle.tsdb_inner.specs.Inputs.{IsLentAs, TellsBytes}
 use Rattle.tsdb_layers.proofs.Lists.{each_both}
 use Rattle.tsdb_layers.specs.Lists.{Among, EachPair}
 use Rattle.tsdb_layers.specs.Marks.{survives}
-use Rattle.tsdb_map.specs.World.{is_in}
+use Rattle.tsdb_model.specs.World.{is_in}
 use Rattle.tsdb_marks.specs.declared.marks.Mark.{Mark}
 use Rattle.tsdb_merge.specs.Winners.{IsRising}
 use Rattle.tsdb_outside.specs.Files.{NamedFile}

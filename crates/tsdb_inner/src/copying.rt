@@ -8,14 +8,14 @@ ghost use Rattle.tsdb_columns.specs.Streams.{IsTrueStream, stream_left};
 ghost use Rattle.tsdb_engine.specs.Making.{MayAdd};
 ghost use Rattle.tsdb_inner.specs.Copies.{Copies, AreDamaged, IsLeft};
 ghost use Rattle.tsdb_inner.specs.Steps.{HasBegun, HaveBrokenOrder, MayFollow, Puts};
-ghost use Rattle.tsdb_map.specs.Commands.{IsSchema};
+ghost use Rattle.tsdb_model.specs.Commands.{IsSchema};
 ghost use Rattle.tsdb_path.specs.Nodes.{node_count};
 
 use std::alloc::Global;
 use tsdb_base::{Point, Range, Time};
 use tsdb_columns::{Source, Stream, open_column, pull};
 use tsdb_engine::Part;
-use tsdb_map::Schema;
+use tsdb_model::Schema;
 use tsdb_marks::Marks;
 use tsdb_outside::{Port, StoreFault};
 

@@ -17,7 +17,7 @@ use std::alloc::Global;
 use tsdb_compactions::Job;
 use tsdb_engine::{Part, Whole};
 use tsdb_jobs::Built;
-use tsdb_map::Schema;
+use tsdb_model::Schema;
 use tsdb_outside::{Files, Port, StoreFault};
 
 /// Adds a series of the job with its surviving winners.

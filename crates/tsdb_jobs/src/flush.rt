@@ -4,7 +4,7 @@
 use std::alloc::Global;
 use std::sync::Arc;
 use tsdb_base::{FileNumber, List, SeriesId, Stamp};
-use tsdb_map::Schema;
+use tsdb_model::Schema;
 use tsdb_memtable::Pair;
 use tsdb_outside::Files;
 use tsdb_path::Path;

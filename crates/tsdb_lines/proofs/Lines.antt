@@ -21,10 +21,10 @@ use Rattle.std.proofs.lemmas.Int.{ints}
 use Rattle.tsdb_base.specs.declared.point.Point.{Point}
 use Rattle.tsdb_base.specs.declared.value.Value.{Value}
 use Rattle.tsdb_layers.specs.Lists.{Among}
-use Rattle.tsdb_map.proofs.TimeLemmas.{Entries, has-append, keys-set}
-use Rattle.tsdb_map.specs.Folds.{in_order, line_at, rows}
-use Rattle.tsdb_map.specs.World.{Points}
-use Rattle.tsdb_map.specs.declared.reply.Line.{Line}
+use Rattle.tsdb_model.proofs.TimeLemmas.{Entries, has-append, keys-set}
+use Rattle.tsdb_model.specs.Folds.{in_order, line_at, rows}
+use Rattle.tsdb_model.specs.World.{Points}
+use Rattle.tsdb_model.specs.declared.reply.Line.{Line}
 use Rattle.tsdb_lines.proofs.Columns.{AreLinesOf, IsLineOf, Rise, has_some, row_at, times_in, value_at}
 
 same_time : (a b : ℤ) → int_eq a b ≡ true → a ≡ b

@@ -13,9 +13,9 @@ use Rattle.tsdb_base.specs.declared.value.Value.{Value}
 use Rattle.tsdb_layers.proofs.Lists.{each_append, each_weaker}
 use Rattle.tsdb_lines.specs.Rows.{AreTakenAt, BeginsAt, BeginsFrom, IsFirstTime, IsTakenAt, IsTimeOfFirst, OneBeginsAt, TakesLine, earlier_of, lists_of, vec_lists}
 use Rattle.std.specs.declared.vec.Vec.{Vec}
-use Rattle.tsdb_map.specs.Folds.{in_order, rows}
-use Rattle.tsdb_map.specs.World.{Points}
-use Rattle.tsdb_map.specs.declared.reply.Line.{Line}
+use Rattle.tsdb_model.specs.Folds.{in_order, rows}
+use Rattle.tsdb_model.specs.World.{Points}
+use Rattle.tsdb_model.specs.declared.reply.Line.{Line}
 use Rattle.tsdb_merge.specs.Winners.{IsRising}
 use Rattle.tsdb_lines.proofs.Columns.{AreLinesOf, line_first, no_lines, one_taken, points_in, rising_after}
 use Rattle.tsdb_lines.proofs.Lines.{are_rows, in_order_rise}

@@ -6,7 +6,7 @@ use Rattle.std.specs.declared.collections.VecDeque.{VecDeque}
 use Rattle.std.specs.declared.vec.Vec.{Vec}
 use Rattle.tsdb_base.specs.declared.point.Point.{Point}
 use Rattle.tsdb_base.specs.declared.value.Value.{Value}
-use Rattle.tsdb_map.specs.declared.reply.Line.{Line}
+use Rattle.tsdb_model.specs.declared.reply.Line.{Line}
 
 -- the points of each column
 abbrev pub vec_lists : List (Vec Point Global) → List (List Point)

@@ -1,15 +1,15 @@
 //! Columns of points, merged by time into rows.
 ghost use Rattle.std.specs.Prelude as std;
 ghost use Rattle.std.specs.Prelude.{◌≡◌, ◌↔◌, IfOk, IsTrue, map};
-ghost use Rattle.tsdb_map.specs.Folds as folds;
-ghost use Rattle.tsdb_map.specs.World.{Points};
+ghost use Rattle.tsdb_model.specs.Folds as folds;
+ghost use Rattle.tsdb_model.specs.World.{Points};
 ghost use Rattle.tsdb_lines.specs.Rows.{BeginsAt, IsFirstTime, IsTakenAt, IsTimeOfFirst, TakesLine, earlier_of};
 ghost use Rattle.tsdb_lines.specs.Rows.{lists_of, vec_lists};
 
 use std::alloc::Global;
 use std::collections::VecDeque;
 use tsdb_base::{List, Memory, Point, Time, Value};
-use tsdb_map::Line;
+use tsdb_model::Line;
 
 /// The points of a column that are left.
 type Column = VecDeque<Point>;

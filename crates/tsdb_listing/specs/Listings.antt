@@ -6,7 +6,7 @@ use Rattle.tsdb_base.specs.declared.ids.Space.{Space}
 use Rattle.tsdb_base.specs.declared.ids.Space.TheVariants.{Sequence, Unsequence}
 use Rattle.tsdb_base.specs.declared.value.Value.{Value}
 use Rattle.tsdb_layers.specs.Places.{Content, Place}
-use Rattle.tsdb_map.specs.declared.reply.FileLine.{FileLine}
+use Rattle.tsdb_model.specs.declared.reply.FileLine.{FileLine}
 use Rattle.tsdb_state.specs.State.{File, StoreState, Told}
 
 -- the content has a point at the time

@@ -6,7 +6,7 @@ ghost use Rattle.tsdb_listing.specs.Lines.{line_of as line_of_entry, lines_of};
 
 use std::alloc::Global;
 use tsdb_base::{List, Memory, Space, Time};
-use tsdb_map::FileLine;
+use tsdb_model::FileLine;
 use tsdb_plan::{FileEntry, Hull};
 
 /// The least time of the hulls and a first one.

@@ -15,8 +15,8 @@ use Rattle.tsdb_logged.specs.Appends.{IsAppended}
 use Rattle.tsdb_logged.specs.Commands.{CanPut, CanStop, IsCommand, IsPrepared, create_record}
 use Rattle.tsdb_logged.specs.Logged.{HasLog, IsSound, IsStoredIn, Outside, memory_of, room_of, with_record}
 use Rattle.tsdb_logged.specs.declared.logged.Logged.{Logged}
-use Rattle.tsdb_map.specs.Commands.{IsSchema}
-use Rattle.tsdb_map.specs.declared.command.Schema.{Schema}
+use Rattle.tsdb_model.specs.Commands.{IsSchema}
+use Rattle.tsdb_model.specs.declared.command.Schema.{Schema}
 use Rattle.tsdb_memory.specs.Shown.{IsMemoryOf, number_of}
 use Rattle.tsdb_memory.specs.Store.{Store}
 use Rattle.tsdb_outside.specs.declared.disk.Disk as disk

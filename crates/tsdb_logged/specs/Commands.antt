@@ -15,7 +15,7 @@ use Rattle.tsdb_logged.specs.Answers.{IsRefusal}
 use Rattle.tsdb_logged.specs.Appends.{IsLogKept}
 use Rattle.tsdb_logged.specs.Logged.{IsFaulted, IsSound, LeavesStates, Outside, log_of, memory_of, room_of, with_record}
 use Rattle.tsdb_logged.specs.declared.logged.Logged.{Logged}
-use Rattle.tsdb_map.specs.declared.command.Schema.{Schema}
+use Rattle.tsdb_model.specs.declared.command.Schema.{Schema}
 use Rattle.tsdb_memory.specs.Rows.{ChangesRoom}
 use Rattle.tsdb_memory.specs.Shown.{IsMemoryOf, file_borns}
 use Rattle.tsdb_outside.specs.Causes.{Rose}

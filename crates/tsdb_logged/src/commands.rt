@@ -6,7 +6,7 @@ ghost use Rattle.tsdb_logged.specs.Answers.{IsAccepted, IsCreateAnswer, IsDelete
 ghost use Rattle.tsdb_base.specs.declared.point.Range.{Range as RangeOf};
 ghost use Rattle.tsdb_log.specs.declared.record.CellRecord.{CellRecord as CellOf};
 ghost use Rattle.tsdb_logged.specs.Commands.{IsCreation, IsDeletion, IsInsertion, create_record as record_of};
-ghost use Rattle.tsdb_map.specs.Commands.{IsSchema};
+ghost use Rattle.tsdb_model.specs.Commands.{IsSchema};
 ghost use Rattle.tsdb_memory.specs.Model.{IsFitting};
 ghost use Rattle.tsdb_memory.specs.Shown.{number_of};
 ghost use Rattle.tsdb_memtable.specs.Pairs.{spare_of};
@@ -15,7 +15,7 @@ ghost use Rattle.tsdb_state.specs.Limits.{end_of_numbers};
 use crate::logged::{Logged, answer_of};
 use tsdb_base::{Answer, List, Memory, Range, Stamp, Time};
 use tsdb_log::{CellRecord, LogRecord};
-use tsdb_map::Schema;
+use tsdb_model::Schema;
 use tsdb_outside::{Failed, Journal};
 use tsdb_path::Path;
 

@@ -9,8 +9,8 @@ use denote.Bor.{Bor}
 use Rattle.tsdb_base.specs.declared.answers.Aggregate.{Aggregate}
 use Rattle.tsdb_base.specs.declared.point.Point.{Point}
 use Rattle.tsdb_base.specs.declared.value.Value.{Value}
-use Rattle.tsdb_map.specs.World.{Points}
-use Rattle.tsdb_map.specs.Folds.{aggregate_of, if_number, in_order, number_of, numbers}
+use Rattle.tsdb_model.specs.World.{Points}
+use Rattle.tsdb_model.specs.Folds.{aggregate_of, if_number, in_order, number_of, numbers}
 use Rattle.tsdb_map.specs.Model.{better, points_of_entries}
 
 abbrev Seen : Type 0

@@ -12,14 +12,14 @@ use Rattle.tsdb_base.specs.declared.answers.Answer.{Answer}
 use Rattle.tsdb_base.specs.declared.answers.Answer.TheVariants.{Done, NoPath, WrongType, Exists, Device, Memory, Full}
 use Rattle.tsdb_base.specs.declared.point.Range.{Range}
 use Rattle.tsdb_base.specs.declared.value.Value.{Value}
-use Rattle.tsdb_map.specs.declared.command.Cell.{Cell}
-use Rattle.tsdb_map.specs.declared.command.Command.TheVariants.{Delete, Insert}
-use Rattle.tsdb_map.specs.declared.command.Literal.{Literal}
-use Rattle.tsdb_map.specs.declared.command.Row.{Row}
-use Rattle.tsdb_map.specs.declared.reply.Reply.TheVariants.{Plain}
-use Rattle.tsdb_map.specs.World.{change, change_series, cut, is_in, points_of, put, value_at, Series, World}
-use Rattle.tsdb_map.specs.Apply.{after_reply, all_fit, fits_series, insert_answer, put_cells, put_literal, put_value, reply_of, series_of, value_of, world_after}
-use Rattle.tsdb_map.specs.Commands.{AreDifferent, IsRow}
+use Rattle.tsdb_model.specs.declared.command.Cell.{Cell}
+use Rattle.tsdb_model.specs.declared.command.Command.TheVariants.{Delete, Insert}
+use Rattle.tsdb_model.specs.declared.command.Literal.{Literal}
+use Rattle.tsdb_model.specs.declared.command.Row.{Row}
+use Rattle.tsdb_model.specs.declared.reply.Reply.TheVariants.{Plain}
+use Rattle.tsdb_model.specs.World.{change, change_series, cut, is_in, points_of, put, value_at, Series, World}
+use Rattle.tsdb_model.specs.Apply.{after_reply, all_fit, fits_series, insert_answer, put_cells, put_literal, put_value, reply_of, series_of, value_of, world_after}
+use Rattle.tsdb_model.specs.Commands.{AreDifferent, IsRow}
 use Rattle.tsdb_map.specs.Laws.{IsNamed}
 use Rattle.tsdb_map.proofs.PlainLemmas.{cell-put, done_fits, fits, here, here_at, not_done, rest_fits}
 use Rattle.tsdb_map.proofs.WorldLemmas.{behind, behind-child}

@@ -4,5 +4,4 @@ pub mod PendingLemmas
 pub mod PlainLemmas
 pub mod PointLemmas
 pub mod RowLemmas
-pub mod TimeLemmas
 pub mod WorldLemmas

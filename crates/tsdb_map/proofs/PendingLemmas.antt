@@ -1,13 +1,13 @@
 -- Commands in two phases: what is prepared, finished and cancelled.
 use Rattle.std.proofs.Common.{◌≡◌, ℕ, List, true, refl, ap, ◌∙◌}
 use Rattle.std.specs.FinMap.{insert, remove}
-use Rattle.tsdb_map.specs.declared.command.Command.{Command}
-use Rattle.tsdb_map.specs.declared.command.Command.TheVariants.{Create, Insert, Delete, Select, Flush, CompactInner, CompactCross, ShowFiles}
+use Rattle.tsdb_model.specs.declared.command.Command.{Command}
+use Rattle.tsdb_model.specs.declared.command.Command.TheVariants.{Create, Insert, Delete, Select, Flush, CompactInner, CompactCross, ShowFiles}
 use Rattle.tsdb_map.specs.declared.pending.Pending.{Pending}
 use Rattle.tsdb_map.specs.declared.pending.Pending.TheVariants as pending
-use Rattle.tsdb_map.specs.Apply.{accepted}
+use Rattle.tsdb_model.specs.Apply.{accepted}
 use Rattle.tsdb_map.specs.Pending.{IsPending}
-use Rattle.tsdb_map.specs.World.{World, new_series}
+use Rattle.tsdb_model.specs.World.{World, new_series}
 use Rattle.tsdb_map.proofs.WorldLemmas.{remove-insert}
 use Rattle.tsdb_path.specs.Nodes.{child_of}
 

@@ -13,12 +13,12 @@ use Rattle.std.proofs.lemmas.Map.Lookups.{exact_bytes, exact_signed}
 use Rattle.tsdb_base.specs.declared.answers.Answer.{Answer}
 use Rattle.tsdb_base.specs.declared.answers.Answer.TheVariants.{Done, NoPath, WrongType, Exists, Device, Memory, Full}
 use Rattle.tsdb_base.specs.declared.value.Value.{Value}
-use Rattle.tsdb_map.specs.declared.command.Cell.{Cell}
-use Rattle.tsdb_map.specs.declared.command.Command.{Command}
-use Rattle.tsdb_map.specs.declared.command.Literal.{Literal}
-use Rattle.tsdb_map.specs.declared.reply.Reply.TheVariants.{Plain}
-use Rattle.tsdb_map.specs.World.{change, change_series, points_of, put, value_at, Points, Series, World}
-use Rattle.tsdb_map.specs.Apply.{after_reply, all_fit, are_there, fits_series, insert_answer, put_cells, put_literal, put_value, series_of, value_of}
+use Rattle.tsdb_model.specs.declared.command.Cell.{Cell}
+use Rattle.tsdb_model.specs.declared.command.Command.{Command}
+use Rattle.tsdb_model.specs.declared.command.Literal.{Literal}
+use Rattle.tsdb_model.specs.declared.reply.Reply.TheVariants.{Plain}
+use Rattle.tsdb_model.specs.World.{change, change_series, points_of, put, value_at, Points, Series, World}
+use Rattle.tsdb_model.specs.Apply.{after_reply, all_fit, are_there, fits_series, insert_answer, put_cells, put_literal, put_value, series_of, value_of}
 use Rattle.tsdb_map.specs.Model.{set_at}
 use Rattle.tsdb_map.specs.Pending.{old_values}
 use Rattle.tsdb_map.proofs.WorldLemmas.{change-there, insert-same}

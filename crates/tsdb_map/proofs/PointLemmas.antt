@@ -11,7 +11,7 @@ use Rattle.std.specs.BTreeMap.Range.{entries_between, range_contains}
 use Rattle.std.specs.declared.ops.Bound.TheVariants.{Included, Excluded}
 use Rattle.tsdb_base.specs.declared.point.Range.{Range}
 use Rattle.tsdb_base.specs.declared.value.DataType.{DataType}
-use Rattle.tsdb_map.specs.Folds.{within}
+use Rattle.tsdb_model.specs.Folds.{within}
 use Rattle.tsdb_map.specs.Model.{series_view, set_at}
 use Rattle.std.specs.Cmp.{eq_by_cmp_equiv, int_cmp_total}
 use Rattle.std.specs.FinMap.{len, len-entries, get, insert, remove, entries, from_entries, from_sorted, get-from_entries, get-from_sorted, entries-from_sorted, retain_keys, get-entries, entries_sorted, get-retain_keys, get-insert, get-remove, same_map, int_cmp-IsAntisymmetric}
@@ -23,7 +23,8 @@ use Rattle.std.specs.BTreeMap.{BTreeMap, is_at}
 use Rattle.std.specs.BTreeMap as tree
 use Rattle.std.specs.declared.cmp.Ordering.TheVariants.{Less, Equal, Greater}
 use Rattle.tsdb_base.specs.declared.value.Value.{Value}
-use Rattle.tsdb_map.specs.World.{Points, Series, cut, is_in}
+use Rattle.tsdb_model.specs.World.{Points, Series, cut, is_in}
+use Rattle.tsdb_model.proofs.TimeTests.{of_true, le-lt, le-cmp, lt-cmp}
 
 abbrev pub points_of : BTreeMap ℤ Value → Points
 points_of kept = from_entries kept.entries
@@ -99,53 +100,6 @@ get-series kind m s t u is same = sym (get-points_of m u) ∙ ap (get (points_of
 pub no_room : {A : Type 0} (o : Option Value) (v : Value) (found : Option Value) → o ≡ Some v → found ≡ None → IsNone o ⊎ IsSome found → A
 no_room o v found some none (inl n) = absurd (false≢true (sym n ∙ ap is_some some))
 no_room o v found some none (inr h) = absurd (false≢true (sym (ap is_some none) ∙ h))
-
--- the tests of an ordered map's range are those of a range of time
-below : (a b : ℤ) → a <ℤ b → b <ℤ a → ⊥
-below a b h k = omega (arith, ints)
-
-true_of : (b : Bool) → T b → b ≡ true
-true_of true h = refl
-true_of false h = absurd h
-
-of_true : (b : Bool) → b ≡ true → T b
-of_true true e = tt
-of_true false e = cc
-
-le-lt : (a b : ℤ) → int_le b a ≡ not (int_lt a b)
-le-lt a b = elim (int_lt a b) as (λ t. int_lt a b ≡ t → int_le b a ≡ not t) [
-  | true ↦ λ e. elim (int_le b a) as (λ u. int_le b a ≡ u → u ≡ false) [
-    | true ↦ λ f. absurd (clash_ℤ {a = a} {b = b} (record { lt = of_true _ e }) (record { le = of_true _ f }))
-    | false ↦ λ f. refl
-  ] refl
-  | false ↦ λ e. true_of _ (lt_z_no {a = a} {b = b} (subst (λ t. T (not t)) (sym e) tt)).le
-] refl
-
-one_way : (a b : ℤ) → int_lt a b ≡ true → int_lt b a ≡ false
-one_way a b e = elim (int_lt b a) as (λ t. int_lt b a ≡ t → t ≡ false) [
-  | true ↦ λ f. absurd (below a b (record { lt = of_true _ e }) (record { lt = of_true _ f }))
-  | false ↦ λ f. refl
-] refl
-
-le-cond : (b : Bool) → is_le (cond b Greater Equal) ≡ not b
-le-cond true = refl
-le-cond false = refl
-
-lt-cond : (b : Bool) → is_lt (cond b Greater Equal) ≡ false
-lt-cond true = refl
-lt-cond false = refl
-
-pub le-cmp : (a b : ℤ) → is_le (int_cmp a b) ≡ int_le a b
-le-cmp a b = elim (int_lt a b) as (λ t. int_lt a b ≡ t → is_le (cond t Less (cond (int_lt b a) Greater Equal)) ≡ not (int_lt b a)) [
-  | true ↦ λ e. sym (ap not (one_way a b e))
-  | false ↦ λ e. le-cond (int_lt b a)
-] refl ∙ sym (le-lt b a)
-
-pub lt-cmp : (a b : ℤ) → not (is_lt (int_cmp a b)) ≡ int_le b a
-lt-cmp a b = ap not (elim (int_lt a b) as (λ t. is_lt (cond t Less (cond (int_lt b a) Greater Equal)) ≡ t) [
-  | true ↦ refl
-  | false ↦ lt-cond (int_lt b a)
-]) ∙ sym (le-lt a b)
 
 both-and : (a b c d : Bool) → a ≡ c → b ≡ d → (a && b) ≡ (c && d)
 both-and a b c d e f = ap (λ x. x && b) e ∙ ap (λ x. c && x) f

@@ -12,15 +12,15 @@ use Rattle.std.proofs.lemmas.List.Folds.{list_all_at, list_all-map}
 use denote.Bor.{Bor}
 use Rattle.tsdb_base.specs.declared.point.Range.{Range}
 use Rattle.tsdb_base.specs.declared.value.Value.{Value}
-use Rattle.tsdb_map.specs.declared.command.Item.{Item}
+use Rattle.tsdb_model.specs.declared.command.Item.{Item}
 use Rattle.tsdb_base.specs.declared.answers.Answer.TheVariants.{NoPath, WrongType}
-use Rattle.tsdb_map.specs.declared.reply.Line.{Line}
-use Rattle.tsdb_map.specs.declared.reply.Reply.TheVariants.{Lines, Plain, Values}
-use Rattle.tsdb_map.specs.World.{points_of, Points, Series, World}
-use Rattle.tsdb_map.specs.Folds.{line_at, rows, within}
-use Rattle.tsdb_map.specs.Apply.{any_unfit, are_there, ask_aggregates, columns_of, item_values, select_reply, series_of}
+use Rattle.tsdb_model.specs.declared.reply.Line.{Line}
+use Rattle.tsdb_model.specs.declared.reply.Reply.TheVariants.{Lines, Plain, Values}
+use Rattle.tsdb_model.specs.World.{points_of, Points, Series, World}
+use Rattle.tsdb_model.specs.Folds.{line_at, rows, within}
+use Rattle.tsdb_model.specs.Apply.{any_unfit, are_there, ask_aggregates, columns_of, item_values, select_reply, series_of}
 use Rattle.tsdb_map.proofs.PlainLemmas.{whole}
-use Rattle.tsdb_map.proofs.TimeLemmas.{Entries, has-append, keys-set}
+use Rattle.tsdb_model.proofs.TimeLemmas.{Entries, has-append, keys-set}
 
 fused : {A B C : Type 0} (g : B → C) (f : A → B) (xs : List A) → map g (map f xs) ≡ map (λ x. g (f x)) xs
 fused g f [] = refl

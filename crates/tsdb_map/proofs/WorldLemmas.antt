@@ -16,7 +16,7 @@ use Rattle.std.proofs.lemmas.Bool.{false≢true}
 use Rattle.std.proofs.lemmas.List.Elements.{recursion_from_All, All-from_recursion}
 use Rattle.std.proofs.lemmas.Map.Views.{tells_apart, All-values-set_value, All-values-insert_entry, All-keys-insert_entry, All-map-remove_entry, IfSome-lookup_from_All}
 use Rattle.std.proofs.lemmas.Map.Lookups.{exact_bytes}
-use Rattle.tsdb_map.specs.World.{change, change_series, Series, World}
+use Rattle.tsdb_model.specs.World.{change, change_series, Series, World}
 use Rattle.tsdb_map.specs.Model.{AreKept, IsDotless, device_entries, world_of}
 use Rattle.tsdb_path.specs.Nodes.{child_of, device_of, dot, IsName}
 use Rattle.tsdb_path.proofs.Bytes.{IsNode-dotless}

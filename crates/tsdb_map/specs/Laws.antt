@@ -1,6 +1,6 @@
 -- What the laws of the plain model speak of.
 use Rattle.std.specs.Prelude.{◌≡◌, ◌⊎◌, ℕ, List, [], ◌∷◌}
-use Rattle.tsdb_map.specs.declared.command.Cell.{Cell}
+use Rattle.tsdb_model.specs.declared.command.Cell.{Cell}
 use Rattle.tsdb_path.specs.Nodes.{child_of}
 
 -- a path is that of one of the cells

@@ -1,10 +1,3 @@
-pub mod Apply
-pub mod Commands
-pub mod Folds
-pub mod History
 pub mod Model
 pub mod Laws
-pub mod Limits
 pub mod Pending
-pub mod State
-pub mod World

@@ -13,7 +13,7 @@ use Rattle.tsdb_base.specs.declared.answers.Aggregate.{Aggregate}
 use Rattle.tsdb_base.specs.declared.answers.Aggregate.TheVariants.{Count, FirstValue, LastValue, MinValue, MaxValue}
 use Rattle.tsdb_base.specs.declared.answers.Aggregate.TheVariants.{MinTime, MaxTime}
 use Rattle.tsdb_base.specs.declared.point.Point.{Point}
-use Rattle.tsdb_map.specs.World.{Points, Series, World, put}
+use Rattle.tsdb_model.specs.World.{Points, Series, World, put}
 use Rattle.tsdb_path.specs.Nodes.{child_of, dot}
 use base.Stored.{Coded, coded×, coded_via}
 

@@ -3,18 +3,18 @@ use Rattle.std.specs.Prelude.{◌≡◌, ◌≢◌, ℕ, ℤ, true, List, [], �
 use Rattle.std.specs.FinMap.{get}
 use Rattle.tsdb_base.specs.declared.answers.Answer.TheVariants.{Done}
 use Rattle.tsdb_base.specs.declared.value.Value.{Value}
-use Rattle.tsdb_map.specs.declared.command.Cell.{Cell}
-use Rattle.tsdb_map.specs.declared.command.Command.{Command}
-use Rattle.tsdb_map.specs.declared.command.Command.TheVariants.{Create, Insert, Delete}
+use Rattle.tsdb_model.specs.declared.command.Cell.{Cell}
+use Rattle.tsdb_model.specs.declared.command.Command.{Command}
+use Rattle.tsdb_model.specs.declared.command.Command.TheVariants.{Create, Insert, Delete}
 use Rattle.tsdb_map.specs.declared.pending.Pending.{Pending}
 use Rattle.tsdb_map.specs.declared.pending.Pending.TheVariants as pending
 use Rattle.tsdb_map.specs.declared.pending.Prepared.{Prepared}
 use Rattle.tsdb_map.specs.declared.pending.Prepared.TheVariants.{Reply, Change}
-use Rattle.tsdb_map.specs.declared.reply.Reply as reply
-use Rattle.tsdb_map.specs.declared.reply.Reply.TheVariants.{Plain}
-use Rattle.tsdb_map.specs.Apply.{accepted, all_fit, put_literal, reply_of}
-use Rattle.tsdb_map.specs.History.{IsChange}
-use Rattle.tsdb_map.specs.World.{World, change, value_at}
+use Rattle.tsdb_model.specs.declared.reply.Reply as reply
+use Rattle.tsdb_model.specs.declared.reply.Reply.TheVariants.{Plain}
+use Rattle.tsdb_model.specs.Apply.{accepted, all_fit, put_literal, reply_of}
+use Rattle.tsdb_model.specs.History.{IsChange}
+use Rattle.tsdb_model.specs.World.{World, change, value_at}
 use Rattle.tsdb_path.specs.Nodes.{child_of}
 
 -- what stood at the row's time as each cell was written in turn, the last cell first

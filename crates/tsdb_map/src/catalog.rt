@@ -2,8 +2,8 @@
 ghost use Rattle.std.specs.Prelude.{◌≡◌, ◌⊎◌, IsSome, IsNone, IsOk, IfOk, OnOk, OnErr, None};
 ghost use Rattle.std.specs.FinMap as map;
 ghost use Rattle.std.specs.Option.{option_copied};
-ghost use Rattle.tsdb_map.specs.World.{change, cut, new_series, value_at};
-ghost use Rattle.tsdb_map.specs.Apply.{series_of};
+ghost use Rattle.tsdb_model.specs.World.{change, cut, new_series, value_at};
+ghost use Rattle.tsdb_model.specs.Apply.{series_of};
 ghost use Rattle.tsdb_map.specs.Model.{set_at};
 ghost use Rattle.tsdb_path.specs.Nodes.{child_of};
 
@@ -21,7 +21,7 @@ pub struct Catalog {
 }
 
 impl Model for Catalog {
-    ghost use Rattle.tsdb_map.specs.World.{World};
+    ghost use Rattle.tsdb_model.specs.World.{World};
     ghost use Rattle.tsdb_map.specs.Model.{world_code, world_of, AreKept};
     ghost use Rattle.tsdb_map.specs.contracts.series.Series as series;
 

@@ -3,7 +3,7 @@
 ghost use Rattle.std.specs.Prelude.{◌≡◌, ◌<◌, ◌^◌, IfOk, length, option_map};
 ghost use Rattle.std.specs.Option.{option_copied};
 ghost use Rattle.std.specs.List.{reduce};
-ghost use Rattle.tsdb_map.specs.Folds as folds;
+ghost use Rattle.tsdb_model.specs.Folds as folds;
 ghost use Rattle.tsdb_map.specs.Model.{better, points_of_entries};
 
 use std::collections::btree_map;

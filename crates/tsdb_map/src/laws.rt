@@ -2,14 +2,14 @@
 ghost use Rattle.std.specs.Prelude.{◌≡◌, ◌≢◌, ◌⊎◌, ℤ, ℕ, List, None, Some, false, true, slice_get};
 ghost use Rattle.tsdb_base.specs.declared.answers.Answer.{Answer};
 ghost use Rattle.tsdb_base.specs.declared.point.Range.{Range};
-ghost use Rattle.tsdb_map.specs.declared.command.Cell.{Cell};
-ghost use Rattle.tsdb_map.specs.declared.command.Command.{Command};
-ghost use Rattle.tsdb_map.specs.declared.command.Row.{Row};
-ghost use Rattle.tsdb_map.specs.declared.reply.Reply.{Reply};
-ghost use Rattle.tsdb_map.specs.Apply.{reply_of, series_of, value_of, world_after};
-ghost use Rattle.tsdb_map.specs.World.{is_in, Series, value_at, World};
+ghost use Rattle.tsdb_model.specs.declared.command.Cell.{Cell};
+ghost use Rattle.tsdb_model.specs.declared.command.Command.{Command};
+ghost use Rattle.tsdb_model.specs.declared.command.Row.{Row};
+ghost use Rattle.tsdb_model.specs.declared.reply.Reply.{Reply};
+ghost use Rattle.tsdb_model.specs.Apply.{reply_of, series_of, value_of, world_after};
+ghost use Rattle.tsdb_model.specs.World.{is_in, Series, value_at, World};
 ghost use Rattle.tsdb_map.specs.Laws.{IsNamed};
-ghost use Rattle.tsdb_map.specs.Commands.{IsRow};
+ghost use Rattle.tsdb_model.specs.Commands.{IsRow};
 ghost use Rattle.tsdb_path.specs.Nodes.{child_of};
 
 /// Each value of a row that is accepted is what its series has at the row's time from then on, whatever it had there.

@@ -1,6 +1,6 @@
 //! A change between its two phases. Depends on `reply`.
 
-use crate::reply::Reply;
+use tsdb_model::Reply;
 use tsdb_base::Value;
 use tsdb_path::{Name, Path};
 

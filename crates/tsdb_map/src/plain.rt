@@ -1,17 +1,17 @@
 //! The plain map in executable form. Depends on `catalog`, `pending`, `row` and `select`.
 ghost use Rattle.std.specs.Prelude.{◌≡◌, ℕ, List, None, IfOk, OnOk, OnErr};
 ghost use Rattle.std.specs.FinMap as map;
-ghost use Rattle.tsdb_map.specs.Commands.{IsSchema, IsWellFormed, IsSeries};
-ghost use Rattle.tsdb_map.specs.Apply.{accepted, reply_of, world_after};
+ghost use Rattle.tsdb_model.specs.Commands.{IsSchema, IsWellFormed, IsSeries};
+ghost use Rattle.tsdb_model.specs.Apply.{accepted, reply_of, world_after};
 ghost use Rattle.tsdb_map.specs.Pending.{IsPending, IsPrepared};
-ghost use Rattle.tsdb_map.specs.World.{World, new_series};
+ghost use Rattle.tsdb_model.specs.World.{World, new_series};
 ghost use Rattle.tsdb_path.specs.Nodes.{child_of};
-ghost use Rattle.tsdb_map.specs.declared.command.Command.{Command};
+ghost use Rattle.tsdb_model.specs.declared.command.Command.{Command};
 
 use crate::catalog::Catalog;
-use crate::command::{Command, Item, Row, Schema};
+use tsdb_model::{Command, Item, Row, Schema};
 use crate::pending::{Pending, Prepared};
-use crate::reply::Reply;
+use tsdb_model::Reply;
 use crate::row::{insert_answer, put_cells, take_back_cells};
 use crate::select::select;
 use std::alloc::Global;
@@ -27,7 +27,7 @@ pub struct Plain {
 }
 
 impl Model for Plain {
-    ghost use Rattle.tsdb_map.specs.World.{World};
+    ghost use Rattle.tsdb_model.specs.World.{World};
     ghost use Rattle.tsdb_map.specs.contracts.catalog.Catalog as kept;
 
     ghost Value = { World };

@@ -2,15 +2,15 @@
 //! `literal`.
 ghost use Rattle.std.specs.Prelude.{◌≡◌, ◌+◌, ◌≤◌, ◌++◌, length, IfOk, OnOk, OnErr, IsSome, true};
 ghost use Rattle.std.specs.Vec.{vec_len, vec_capacity};
-ghost use Rattle.tsdb_map.specs.Apply as apply;
+ghost use Rattle.tsdb_model.specs.Apply as apply;
 ghost use Rattle.tsdb_map.specs.Pending.{old_values};
-ghost use Rattle.tsdb_map.specs.World.{World, change, value_at};
+ghost use Rattle.tsdb_model.specs.World.{World, change, value_at};
 ghost use Rattle.tsdb_map.specs.Model.{set_at};
 ghost use Rattle.tsdb_path.specs.Nodes.{child_of};
 
 use crate::catalog::Catalog;
-use crate::command::Cell;
-use crate::literal::{fits, value_of};
+use tsdb_model::Cell;
+use tsdb_model::{fits, value_of};
 use tsdb_base::{Answer, Memory, Time, Value};
 use tsdb_path::Path;
 

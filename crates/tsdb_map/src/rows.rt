@@ -1,8 +1,8 @@
 //! The rows of several series, merged by time. Depends on `series`.
 ghost use Rattle.std.specs.Prelude.{◌≡◌, IfOk, map};
-ghost use Rattle.tsdb_map.specs.Folds as folds;
+ghost use Rattle.tsdb_model.specs.Folds as folds;
 
-use crate::reply::Line;
+use tsdb_model::Line;
 use crate::series::Series;
 use std::alloc::Global;
 use std::collections::BTreeSet;

@@ -1,15 +1,15 @@
 //! What a select returns: rows, or aggregates. Depends on `catalog` and `rows`.
 ghost use Rattle.std.specs.Prelude.{◌≡◌, IfOk, IfSome, IfNone, map, if◌then◌else◌, true, false};
-ghost use Rattle.tsdb_map.specs.declared.reply.Reply.{Reply};
+ghost use Rattle.tsdb_model.specs.declared.reply.Reply.{Reply};
 ghost use Rattle.tsdb_base.specs.declared.answers.Answer.{Answer};
-ghost use Rattle.tsdb_map.specs.Apply as apply;
-ghost use Rattle.tsdb_map.specs.World.{points_of};
-ghost use Rattle.tsdb_map.specs.Folds.{within};
+ghost use Rattle.tsdb_model.specs.Apply as apply;
+ghost use Rattle.tsdb_model.specs.World.{points_of};
+ghost use Rattle.tsdb_model.specs.Folds.{within};
 ghost use Rattle.tsdb_map.specs.Model.{is_number_aggregate};
 
 use crate::catalog::Catalog;
-use crate::command::Item;
-use crate::reply::Reply;
+use tsdb_model::Item;
+use tsdb_model::Reply;
 use crate::rows::rows;
 use crate::series::Series;
 use std::alloc::Global;
@@ -34,18 +34,6 @@ pub fn select(
     }
     let lines = rows(alloc, columns.as_slice(), range)?;
     Ok(Reply::Lines(List::of(lines)))
-}
-
-/// Whether an item asks for an aggregate, so that the reply is one line of aggregates.
-pub fn ask_aggregates(items: &[Item]) -> bool
-    ensures { result ≡ apply.ask_aggregates items.now }
-{
-    for item in items {
-        if item.aggregate.is_some() {
-            return true;
-        }
-    }
-    false
 }
 
 /// The series of the items, where all of them are there.

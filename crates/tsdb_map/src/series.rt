@@ -4,8 +4,8 @@ ghost use Rattle.std.specs.Prelude.{length, true, false};
 ghost use Rattle.std.specs.Ordering.{int_cmp};
 ghost use Rattle.std.specs.FinMap as map;
 ghost use Rattle.std.specs.BTreeSet as set;
-ghost use Rattle.tsdb_map.specs.World.{cut, new_series};
-ghost use Rattle.tsdb_map.specs.Folds.{aggregate_of, in_order, within};
+ghost use Rattle.tsdb_model.specs.World.{cut, new_series};
+ghost use Rattle.tsdb_model.specs.Folds.{aggregate_of, in_order, within};
 ghost use Rattle.tsdb_map.specs.Model.{set_at};
 
 use crate::fold;
@@ -22,7 +22,7 @@ pub struct Series {
 }
 
 impl Model for Series {
-    ghost use Rattle.tsdb_map.specs.World as world;
+    ghost use Rattle.tsdb_model.specs.World as world;
     ghost use Rattle.tsdb_map.specs.Model.{series_code, series_view};
     ghost use Rattle.std.specs.Ordering.{int_cmp};
     ghost use Rattle.std.specs.BTreeMap.{IsOrdered};

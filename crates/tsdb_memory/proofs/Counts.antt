@@ -20,7 +20,7 @@ use Rattle.tsdb_layers.proofs.Lists.{among_left, among_map, among_right, each_am
 use Rattle.tsdb_layers.proofs.Places.{is_place, place_cmp_total, place_itself, same_content}
 use Rattle.tsdb_layers.specs.Lists.{Among, EachPair}
 use Rattle.tsdb_layers.specs.Places.{Content, Place, place_cmp}
-use Rattle.tsdb_map.specs.declared.command.Schema.{Schema}
+use Rattle.tsdb_model.specs.declared.command.Schema.{Schema}
 use Rattle.tsdb_memory.proofs.Emptiness.{not_less, parted, total}
 use Rattle.tsdb_memory.proofs.Frozen.{image_of, point_at, value_there}
 use Rattle.tsdb_memory.proofs.Numbers.{schema_at, some_same}

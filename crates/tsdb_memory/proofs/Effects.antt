@@ -16,7 +16,7 @@ use Rattle.tsdb_base.specs.declared.ids.Stamp.{Stamp}
 use Rattle.tsdb_base.specs.declared.point.Range.{Range}
 use Rattle.tsdb_layers.specs.Marks.{purge}
 use Rattle.tsdb_layers.specs.Places.{Place, place_cmp}
-use Rattle.tsdb_map.specs.declared.command.Schema.{Schema}
+use Rattle.tsdb_model.specs.declared.command.Schema.{Schema}
 use Rattle.tsdb_marks.specs.Lists.{Marks, is_newer_than, purge_list}
 use Rattle.tsdb_marks.specs.declared.marks.Mark.{Mark}
 use Rattle.tsdb_memory.proofs.Borns.{frozen_borns, least_all, purge_least}

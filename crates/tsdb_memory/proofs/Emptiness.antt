@@ -20,7 +20,7 @@ use Rattle.tsdb_layers.proofs.Lists.{each_among}
 use Rattle.tsdb_layers.proofs.Places.{same_content}
 use Rattle.tsdb_layers.specs.Lists.{Among}
 use Rattle.tsdb_layers.specs.Places.{Content, Place, place_cmp}
-use Rattle.tsdb_map.specs.declared.command.Schema.{Schema}
+use Rattle.tsdb_model.specs.declared.command.Schema.{Schema}
 use Rattle.tsdb_memory.proofs.Frozen.{value_there}
 use Rattle.tsdb_memory.proofs.Raises.{beyond}
 use Rattle.tsdb_memory.proofs.Series.{itself, one_number}

@@ -15,8 +15,8 @@ use Rattle.tsdb_base.specs.declared.point.Range.{Range}
 use Rattle.tsdb_base.specs.declared.value.Value.{Value}
 use Rattle.tsdb_layers.proofs.Places.{get_cut, is_path_same, path_itself}
 use Rattle.tsdb_layers.specs.Places.{Place, is_path, is_within}
-use Rattle.tsdb_map.specs.World.{is_in}
-use Rattle.tsdb_map.specs.declared.command.Schema.{Schema}
+use Rattle.tsdb_model.specs.World.{is_in}
+use Rattle.tsdb_model.specs.declared.command.Schema.{Schema}
 use Rattle.tsdb_memory.proofs.Numbers.{number_push, one_path, some_same}
 use Rattle.std.specs.Ordering.{eq_by_cmp, int_eq, nat_cmp}
 use Rattle.tsdb_memory.proofs.Series.{erased_here, erased_there, itself, one_number}

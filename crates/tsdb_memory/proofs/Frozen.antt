@@ -19,7 +19,7 @@ use Rattle.tsdb_layers.proofs.Lists.{among_map}
 use Rattle.tsdb_layers.proofs.Places.{is_place, place_itself}
 use Rattle.tsdb_layers.specs.Lists.{Among}
 use Rattle.tsdb_layers.specs.Places.{Content, Place, place_cmp}
-use Rattle.tsdb_map.specs.declared.command.Schema.{Schema}
+use Rattle.tsdb_model.specs.declared.command.Schema.{Schema}
 use Rattle.tsdb_memory.proofs.Effects.{nothing_rises}
 use Rattle.tsdb_memory.proofs.Numbers.{length_push, schema_at}
 use Rattle.tsdb_memory.proofs.Raising.{IsRaisedTo, Rise, code_risen, one_raised, rise_in, rise_of, risen}

@@ -14,7 +14,7 @@ use Rattle.tsdb_base.specs.declared.point.Point.{Point}
 use Rattle.tsdb_base.specs.declared.value.Value.{Value}
 use Rattle.tsdb_layers.proofs.Places.{get_put, is_place, place_itself}
 use Rattle.tsdb_layers.specs.Places.{Place, place_cmp}
-use Rattle.tsdb_map.specs.declared.command.Schema.{Schema}
+use Rattle.tsdb_model.specs.declared.command.Schema.{Schema}
 use Rattle.tsdb_memory.proofs.Numbers.{one_path, some_same}
 use Rattle.tsdb_memory.proofs.Series.{changed_here, changed_there, itself, one_number}
 use Rattle.tsdb_memory.specs.Model.{HasRisingPoints}

@@ -18,7 +18,7 @@ use Rattle.tsdb_layers.proofs.Lists.{among_left, among_right}
 use Rattle.tsdb_layers.proofs.Places.{is_path_same, path_itself}
 use Rattle.tsdb_layers.specs.Lists.{Among}
 use Rattle.tsdb_layers.specs.Places.{is_path}
-use Rattle.tsdb_map.specs.declared.command.Schema.{Schema}
+use Rattle.tsdb_model.specs.declared.command.Schema.{Schema}
 use Rattle.tsdb_memory.proofs.Frozen.{image_of}
 use Rattle.tsdb_memory.proofs.Numbers.{some_same}
 use Rattle.tsdb_memory.proofs.Series.{one_number}

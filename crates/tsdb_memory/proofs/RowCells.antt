@@ -9,7 +9,7 @@ use Rattle.tsdb_base.specs.declared.ids.Space.{Space}
 use Rattle.tsdb_base.specs.declared.point.Point.{Point}
 use Rattle.tsdb_layers.specs.Order.{Watermarks}
 use Rattle.tsdb_log.specs.declared.record.CellRecord.{CellRecord}
-use Rattle.tsdb_map.specs.declared.command.Schema.{Schema}
+use Rattle.tsdb_model.specs.declared.command.Schema.{Schema}
 use Rattle.tsdb_memory.proofs.Putting.{in_pair, pair_put, rising_put}
 use Rattle.tsdb_memory.proofs.Series.{changed_there}
 use Rattle.tsdb_memory.specs.Model.{HasKnownSeries, HasRisingPoints, HasTypedPoints, IsFitting, IsSound}

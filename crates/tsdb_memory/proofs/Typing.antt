@@ -12,7 +12,7 @@ use Rattle.tsdb_base.specs.declared.point.Point.{Point}
 use Rattle.tsdb_base.specs.declared.point.Range.{Range}
 use Rattle.tsdb_layers.proofs.Lists.{each_append, each_filter}
 use Rattle.tsdb_log.specs.declared.record.CellRecord.{CellRecord}
-use Rattle.tsdb_map.specs.declared.command.Schema.{Schema}
+use Rattle.tsdb_model.specs.declared.command.Schema.{Schema}
 use Rattle.tsdb_memory.proofs.Numbers.{get_push, some_same}
 use Rattle.tsdb_memory.proofs.Putting.{is_space, put_here, put_there}
 use Rattle.tsdb_memory.proofs.RowCells.{Differs, HasRoom, IsThere, at_number, pairs_first, pairs_rest, room_left}

@@ -1,6 +1,6 @@
 -- What is in memory, as contracts see it.
 use Rattle.std.specs.Prelude.{ℕ, List, [], ◌∷◌, ◌++◌}
-use Rattle.tsdb_map.specs.declared.command.Schema.{Schema}
+use Rattle.tsdb_model.specs.declared.command.Schema.{Schema}
 use Rattle.tsdb_marks.specs.Lists.{Marks}
 use Rattle.tsdb_memtable.specs.Pairs.{Pair}
 use Rattle.tsdb_memtable.specs.Watermarks.{Watermarks}

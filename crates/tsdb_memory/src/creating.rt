@@ -1,6 +1,6 @@
 //! The effect of a creation. Depends on the store's fields.
 ghost use Rattle.std.specs.Prelude.{◌≡◌, ◌<◌, None, OnOk};
-ghost use Rattle.tsdb_map.specs.Commands.{IsSchema};
+ghost use Rattle.tsdb_model.specs.Commands.{IsSchema};
 ghost use Rattle.tsdb_memory.specs.Rows.{ChangesRoom};
 ghost use Rattle.tsdb_memory.specs.Shown.{IsMemoryOf, number_of};
 ghost use Rattle.tsdb_state.specs.Limits.{end_of_numbers};
@@ -9,7 +9,7 @@ ghost use Rattle.tsdb_state.specs.State.{StoreState};
 
 use crate::store::MemoryStore;
 use tsdb_base::Memory;
-use tsdb_map::Schema;
+use tsdb_model::Schema;
 
 impl MemoryStore {
     /// Takes the memory of a creation, where there is no room for one.

@@ -16,7 +16,7 @@ use Rattle.tsdb_base.specs.declared.ids.Space.TheVariants.{Sequence, Unsequence}
 use Rattle.tsdb_layers.proofs.Lists.{each_weaker}
 use Rattle.tsdb_layers.specs.Lists.{EachPair}
 use Rattle.tsdb_log.specs.declared.record.CellRecord.{CellRecord}
-use Rattle.tsdb_map.specs.declared.command.Schema.{Schema}
+use Rattle.tsdb_model.specs.declared.command.Schema.{Schema}
 use Rattle.tsdb_memory.proofs.Numbers.{at_map, some_same}
 use Rattle.tsdb_memory.proofs.RowCells.{at_number, path_at}
 use Rattle.tsdb_memory.specs.Model.{IsFitting, IsSound}

@@ -1,7 +1,7 @@
 -- When a record has a replay, as it is decided over what is in memory.
 use Rattle.std.specs.Prelude.{◌≡◌, ◌↔◌, ℕ, ◌<◌, Bool, true, IsTrue, IsSome, List, None, length}
-use Rattle.tsdb_map.specs.Commands.{IsSchema}
-use Rattle.tsdb_map.specs.declared.command.Schema.{Schema}
+use Rattle.tsdb_model.specs.Commands.{IsSchema}
+use Rattle.tsdb_model.specs.declared.command.Schema.{Schema}
 use Rattle.tsdb_memory.specs.Shown.{IsMemoryOf, number_of}
 use Rattle.tsdb_memory.specs.Store.{Store}
 use Rattle.tsdb_state.specs.Limits.{end_of_numbers, max_frozen}

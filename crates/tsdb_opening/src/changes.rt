@@ -8,7 +8,7 @@ ghost use Rattle.tsdb_state.specs.Limits.{end_of_numbers};
 use crate::RedoFault;
 use crate::opening::Opening;
 use tsdb_base::{Range, suits};
-use tsdb_map::Schema;
+use tsdb_model::Schema;
 use tsdb_path::Path;
 
 /// The greatest stamp, at which no change has a replay.

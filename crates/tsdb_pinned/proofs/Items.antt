@@ -3,10 +3,10 @@ use Rattle.std.proofs.Common.{◌≡◌, ℕ, List, [], ◌∷◌, refl, ap, ◌
 use Rattle.std.specs.List.{AllZip}
 use Rattle.tsdb_base.specs.declared.point.Range.{Range}
 use Rattle.tsdb_kept.specs.Files.{KeptFiles}
-use Rattle.tsdb_map.specs.Apply.{columns_of, item_value, item_values, series_of}
-use Rattle.tsdb_map.specs.Folds.{within}
-use Rattle.tsdb_map.specs.World.{World, points_of}
-use Rattle.tsdb_map.specs.declared.command.Item.{Item}
+use Rattle.tsdb_model.specs.Apply.{columns_of, item_value, item_values, series_of}
+use Rattle.tsdb_model.specs.Folds.{within}
+use Rattle.tsdb_model.specs.World.{World, points_of}
+use Rattle.tsdb_model.specs.declared.command.Item.{Item}
 use Rattle.tsdb_memory.specs.Store.{Store}
 use Rattle.tsdb_outside.specs.Files.{NamedFile}
 use Rattle.tsdb_pinned.specs.Worlds.{columns_in, series_points, values_in}

@@ -19,9 +19,9 @@ use Rattle.tsdb_layers.specs.Layers.{Layer, survivor, value_in}
 use Rattle.tsdb_layers.specs.Marks.{survives}
 use Rattle.tsdb_layers.specs.Places.{Place}
 use Rattle.tsdb_lines.proofs.Lines as lines
-use Rattle.tsdb_map.specs.Folds.{in_order, within}
-use Rattle.tsdb_map.specs.World as world
-use Rattle.tsdb_map.specs.World.{Points, World, is_in}
+use Rattle.tsdb_model.specs.Folds.{in_order, within}
+use Rattle.tsdb_model.specs.World as world
+use Rattle.tsdb_model.specs.World.{Points, World, is_in}
 use Rattle.tsdb_marks.specs.declared.marks.Mark.{Mark}
 use Rattle.tsdb_memory.specs.Shown.{value_at}
 use Rattle.tsdb_merge.proofs.MergeLemmas.{AllPairs-head, AllPairs-tail, Contains-cases, Contains-head, Contains-nil, Contains-tail, same_points}

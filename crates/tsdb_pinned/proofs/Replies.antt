@@ -10,12 +10,12 @@ use Rattle.tsdb_base.specs.declared.answers.Aggregate.TheVariants.{Count, FirstV
 use Rattle.tsdb_base.specs.declared.answers.Answer.TheVariants.{NoPath, WrongType}
 use Rattle.tsdb_base.specs.declared.point.Range.{Range}
 use Rattle.tsdb_base.specs.declared.value.DataType.{DataType}
-use Rattle.tsdb_map.specs.Apply.{any_unfit, are_there, ask_aggregates, columns_of, is_unfit, item_values, select_reply, series_of}
-use Rattle.tsdb_map.specs.Folds.{rows}
-use Rattle.tsdb_map.specs.World.{Series, World}
-use Rattle.tsdb_map.specs.declared.command.Item.{Item}
-use Rattle.tsdb_map.specs.declared.reply.Reply.{Reply}
-use Rattle.tsdb_map.specs.declared.reply.Reply.TheVariants.{Lines, Plain, Values}
+use Rattle.tsdb_model.specs.Apply.{any_unfit, are_there, ask_aggregates, columns_of, is_unfit, item_values, select_reply, series_of}
+use Rattle.tsdb_model.specs.Folds.{rows}
+use Rattle.tsdb_model.specs.World.{Series, World}
+use Rattle.tsdb_model.specs.declared.command.Item.{Item}
+use Rattle.tsdb_model.specs.declared.reply.Reply.{Reply}
+use Rattle.tsdb_model.specs.declared.reply.Reply.TheVariants.{Lines, Plain, Values}
 use Rattle.tsdb_path.specs.Nodes.{child_of}
 use Rattle.tsdb_pinning.specs.Items.{AreFit, IsRefused, IsThere, IsUnfit, OneOf, is_unfit_for, item_type}
 use Rattle.tsdb_memory.specs.Shown.{IsMemoryOf, entry_of}

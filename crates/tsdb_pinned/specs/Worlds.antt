@@ -6,9 +6,9 @@ use Rattle.tsdb_base.specs.declared.point.Point.{Point}
 use Rattle.tsdb_base.specs.declared.point.Range.{Range}
 use Rattle.tsdb_base.specs.declared.value.Value.{Value}
 use Rattle.tsdb_layers.specs.Marks.{survives}
-use Rattle.tsdb_map.specs.Apply.{item_value}
-use Rattle.tsdb_map.specs.Folds.{in_order, within}
-use Rattle.tsdb_map.specs.World.{Points, World, is_in, points_of}
+use Rattle.tsdb_model.specs.Apply.{item_value}
+use Rattle.tsdb_model.specs.Folds.{in_order, within}
+use Rattle.tsdb_model.specs.World.{Points, World, is_in, points_of}
 use Rattle.tsdb_marks.specs.declared.marks.Mark.{Mark}
 use Rattle.tsdb_merge.specs.Winners.{IsMergeOf}
 use Rattle.tsdb_pinning.specs.Shown.{ArePointsOf}

@@ -15,8 +15,8 @@ use Rattle.tsdb_layers.proofs.Places.{is_path_same}
 use Rattle.tsdb_layers.specs.Lists.{Among, count}
 use Rattle.tsdb_layers.specs.Marks.{is_over, survives}
 use Rattle.tsdb_layers.specs.Places.{Place, is_path}
-use Rattle.tsdb_map.specs.declared.command.Item.{Item}
-use Rattle.tsdb_map.specs.declared.command.Schema.{Schema}
+use Rattle.tsdb_model.specs.declared.command.Item.{Item}
+use Rattle.tsdb_model.specs.declared.command.Schema.{Schema}
 use Rattle.tsdb_marks.specs.Lists.{is_of}
 use Rattle.tsdb_marks.specs.declared.marks.Mark.{Mark}
 use Rattle.tsdb_memory.specs.Shown.{IsMemoryOf, number_of}

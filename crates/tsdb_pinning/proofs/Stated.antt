@@ -24,8 +24,8 @@ use Rattle.tsdb_layers.proofs.Places.{is_path_same, path_itself, place_cmp-IsAnt
 use Rattle.tsdb_layers.specs.Layers.{Layer}
 use Rattle.tsdb_layers.specs.Lists.{Among, count, if_some}
 use Rattle.tsdb_layers.specs.Places.{Content, Place, is_path, is_within as is_within_place, place_cmp}
-use Rattle.tsdb_map.specs.World.{is_in}
-use Rattle.tsdb_map.specs.declared.command.Schema.{Schema}
+use Rattle.tsdb_model.specs.World.{is_in}
+use Rattle.tsdb_model.specs.declared.command.Schema.{Schema}
 use Rattle.tsdb_memory.proofs.Emptiness.{part_is}
 use Rattle.tsdb_memory.specs.Shown.{IsFrozenOf, IsMemoryOf, number_of, part_of, value_at}
 use Rattle.tsdb_memory.specs.Store as memory

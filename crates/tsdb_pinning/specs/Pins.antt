@@ -4,7 +4,7 @@ use Rattle.std.specs.List.{AllByRecursion as Each, AllZip, filter}
 use Rattle.std.specs.declared.result.Result.TheVariants.{Ok, Err}
 use Rattle.tsdb_base.specs.declared.point.Range.{Range}
 use Rattle.tsdb_kept.specs.Files.{KeptFiles}
-use Rattle.tsdb_map.specs.declared.command.Item.{Item}
+use Rattle.tsdb_model.specs.declared.command.Item.{Item}
 use Rattle.tsdb_marks.specs.Lists.{is_of}
 use Rattle.tsdb_memory.specs.Shown.{entry_of, number_of}
 use Rattle.tsdb_memory.specs.Store.{Store}

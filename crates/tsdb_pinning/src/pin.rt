@@ -1,7 +1,7 @@
 //! A pin that is out. Depends on tsdb_base, tsdb_map, tsdb_marks and tsdb_outside.
 
 use tsdb_base::{Aggregate, FileNumber, List, Point, Range, Stamp};
-use tsdb_map::Schema;
+use tsdb_model::Schema;
 use tsdb_marks::Marks;
 use tsdb_outside::Files;
 

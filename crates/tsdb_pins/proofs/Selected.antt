@@ -9,9 +9,9 @@ use Rattle.tsdb_base.specs.declared.point.Point.{Point}
 use Rattle.tsdb_base.specs.declared.point.Range.{Range}
 use Rattle.tsdb_base.specs.declared.value.Value.{Value}
 use Rattle.tsdb_lines.specs.Rows.{vec_lists}
-use Rattle.tsdb_map.specs.Apply.{item_value}
-use Rattle.tsdb_map.specs.Folds.{aggregate_of, in_order}
-use Rattle.tsdb_map.specs.World.{Points, World}
+use Rattle.tsdb_model.specs.Apply.{item_value}
+use Rattle.tsdb_model.specs.Folds.{aggregate_of, in_order}
+use Rattle.tsdb_model.specs.World.{Points, World}
 use Rattle.tsdb_marks.specs.declared.marks.Mark.{Mark}
 use Rattle.tsdb_columns.specs.Streams.{stream_left}
 use Rattle.tsdb_columns.specs.declared.stream.Stream.{Stream}

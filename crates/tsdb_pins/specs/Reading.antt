@@ -10,7 +10,7 @@ use Rattle.tsdb_base.specs.declared.value.Value.{Value}
 use Rattle.tsdb_columns.specs.Files.{FilePages, IsTold, IsTruth}
 use Rattle.tsdb_columns.specs.declared.source.Source.{Source}
 use Rattle.tsdb_columns.specs.declared.source.Source.TheVariants as lent
-use Rattle.tsdb_map.specs.Folds.{aggregate_of}
+use Rattle.tsdb_model.specs.Folds.{aggregate_of}
 use Rattle.tsdb_marks.specs.declared.marks.Mark.{Mark}
 use Rattle.tsdb_merge.specs.Winners.{IsMergeOf, IsRising}
 use Rattle.tsdb_outside.specs.Files.{NamedFile, Store}

@@ -5,8 +5,8 @@ use Rattle.tsdb_base.specs.declared.point.Point.{Point}
 use Rattle.tsdb_base.specs.declared.point.Range.{Range}
 use Rattle.tsdb_columns.specs.Streams.{IsToldStream, IsTrueStream, stream_left}
 use Rattle.tsdb_columns.specs.declared.stream.Stream.{Stream}
-use Rattle.tsdb_map.specs.Folds.{in_order}
-use Rattle.tsdb_map.specs.World.{World}
+use Rattle.tsdb_model.specs.Folds.{in_order}
+use Rattle.tsdb_model.specs.World.{World}
 use Rattle.tsdb_marks.specs.declared.marks.Mark.{Mark}
 use Rattle.tsdb_merge.specs.Winners.{IsRising, IsToldMergeOf}
 use Rattle.tsdb_outside.specs.Files.{NamedFile}

@@ -1,7 +1,7 @@
 //! The aggregates of a pin. Depends on `folding` and tsdb_aggregate.
 ghost use Rattle.std.specs.Prelude.{◌≡◌, ◌+◌, ◌≤◌, IfOk};
 ghost use Rattle.tsdb_columns.specs.Files.{HasReason};
-ghost use Rattle.tsdb_map.specs.World.{World};
+ghost use Rattle.tsdb_model.specs.World.{World};
 ghost use Rattle.tsdb_pinned.specs.Worlds.{values_in};
 ghost use Rattle.tsdb_pinning.specs.Shown.{IsPinOf};
 ghost use Rattle.tsdb_pins.specs.Clean.{TellPages, columns_read};

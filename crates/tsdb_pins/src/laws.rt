@@ -5,7 +5,7 @@ ghost use Rattle.tsdb_base.specs.declared.point.Range.{Range as RangeSeen};
 ghost use Rattle.tsdb_columns.specs.Files.{HasPages};
 ghost use Rattle.tsdb_kept.specs.Files.{KeptFiles};
 ghost use Rattle.tsdb_kept.specs.Places.{AreOfStore};
-ghost use Rattle.tsdb_map.specs.declared.command.Item.{Item};
+ghost use Rattle.tsdb_model.specs.declared.command.Item.{Item};
 ghost use Rattle.tsdb_memory.specs.Store.{Store as MemorySeen};
 ghost use Rattle.tsdb_outside.specs.Files.{NamedFile, Store};
 ghost use Rattle.tsdb_path.specs.Nodes.{device_of, measurement_of, node_count};

@@ -2,8 +2,8 @@
 ghost use Rattle.std.specs.List.{AllZip};
 ghost use Rattle.std.specs.Prelude.{◌≡◌, ◌≤◌, IfOk};
 ghost use Rattle.tsdb_columns.specs.Files.{HasReason};
-ghost use Rattle.tsdb_map.specs.Folds.{rows};
-ghost use Rattle.tsdb_map.specs.World.{World};
+ghost use Rattle.tsdb_model.specs.Folds.{rows};
+ghost use Rattle.tsdb_model.specs.World.{World};
 ghost use Rattle.tsdb_pinned.specs.Worlds.{columns_in};
 ghost use Rattle.tsdb_pinning.specs.Shown.{IsPinOf};
 ghost use Rattle.tsdb_pins.specs.Reading.{AreColumnsOf, AreColumnsTold, AreColumnsTrue, HaveNodes, IsColumnRead};
@@ -15,7 +15,7 @@ use crate::column::read_column;
 use std::alloc::Global;
 use tsdb_base::Point;
 use tsdb_lines::rows_of;
-use tsdb_map::Line;
+use tsdb_model::Line;
 use tsdb_outside::{Files, StoreFault};
 use tsdb_pinning::Pin;
 

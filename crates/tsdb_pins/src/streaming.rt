@@ -3,7 +3,7 @@ ghost use Rattle.std.specs.List.{AllByRecursion as Each};
 ghost use Rattle.std.specs.Prelude.{◌≡◌, ◌<◌, ◌≤◌, IfOk, None, length};
 ghost use Rattle.tsdb_columns.specs.Files.{HasReason};
 ghost use Rattle.tsdb_columns.specs.Streams.{IsStreamOfStore, IsToldStream, IsTrueStream, stream_held};
-ghost use Rattle.tsdb_map.specs.World.{World};
+ghost use Rattle.tsdb_model.specs.World.{World};
 ghost use Rattle.tsdb_path.specs.Nodes.{node_count};
 ghost use Rattle.tsdb_pinning.specs.Shown.{IsPinOf};
 ghost use Rattle.tsdb_pins.specs.Reading.{AreColumnsOf, AreColumnsTold, AreColumnsTrue, HaveNodes, IsOfStore};

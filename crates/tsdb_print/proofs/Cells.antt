@@ -7,7 +7,7 @@ use Rattle.std.specs.Int.{w64}
 use Rattle.std.proofs.lemmas.Bool.{cases_eq, eq-eqb, ne_eqb}
 use Rattle.tsdb_base.specs.declared.value.Value.{Value}
 use Rattle.tsdb_base.specs.declared.value.Value.TheVariants as value
-use Rattle.tsdb_map.specs.declared.reply.Line.{Line}
+use Rattle.tsdb_model.specs.declared.reply.Line.{Line}
 use Rattle.tsdb_print.specs.Text.{cell_text, escape, join_with_commas, line, quote, row_text}
 use Rattle.tsdb_print.specs.Alike.{shown_row, shown_value, shown_values, IsCellInRange, IsRowInRange}
 use Rattle.tsdb_print.proofs.Words.{head_of, tail_of, Stops, IsWord, same_word, signed_word, signed_number, same_signed, after_signed, no_letter, not_empty}

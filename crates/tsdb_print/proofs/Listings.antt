@@ -10,8 +10,8 @@ use Rattle.std.proofs.lemmas.List.{append_cancel_left}
 use Rattle.std.proofs.lemmas.List.Elements.{filter-append}
 use Rattle.tsdb_base.specs.declared.ids.Space.{Space}
 use Rattle.tsdb_base.specs.declared.ids.Space.TheVariants.{Sequence, Unsequence}
-use Rattle.tsdb_map.specs.declared.reply.FileLine.{FileLine}
-use Rattle.tsdb_map.specs.declared.reply.Listing.{Listing}
+use Rattle.tsdb_model.specs.declared.reply.FileLine.{FileLine}
+use Rattle.tsdb_model.specs.declared.reply.Listing.{Listing}
 use Rattle.tsdb_print.specs.Text.{file_text, files_of, files_text, line, listing_text, same_space, space_name, working_text}
 use Rattle.tsdb_print.specs.Alike.{IsFileInRange, IsListingInRange, shown_listing}
 use Rattle.tsdb_print.proofs.Words.{Begins, tail_of, Stops, IsWord, same_word, after_decimal, after_signed}

@@ -12,17 +12,17 @@ use Rattle.tsdb_base.specs.declared.answers.Answer.{Answer}
 use Rattle.tsdb_base.specs.declared.answers.Answer.TheVariants.{Done, NoPath, WrongType, Exists, Device, Memory, Full}
 use Rattle.tsdb_base.specs.declared.value.Value.{Value}
 use Rattle.tsdb_base.specs.declared.value.Value.TheVariants as value
-use Rattle.tsdb_map.specs.declared.command.Command.{Command}
-use Rattle.tsdb_map.specs.declared.command.Command.TheVariants.{Create, Insert, Delete, Select, Flush, CompactInner, CompactCross, ShowFiles}
-use Rattle.tsdb_map.specs.declared.command.Item.{Item}
-use Rattle.tsdb_map.specs.declared.reply.Line.{Line}
-use Rattle.tsdb_map.specs.declared.reply.Reply.{Reply}
-use Rattle.tsdb_map.specs.declared.reply.Reply.TheVariants.{Plain, Lines, Values, Files}
-use Rattle.tsdb_map.specs.Apply.{ask_aggregates, reply_of}
-use Rattle.tsdb_map.specs.Commands.{AreItems, IsWellFormed}
-use Rattle.tsdb_map.specs.History.{IsAllowed}
-use Rattle.tsdb_map.specs.State.{State}
-use Rattle.tsdb_map.specs.World.{World}
+use Rattle.tsdb_model.specs.declared.command.Command.{Command}
+use Rattle.tsdb_model.specs.declared.command.Command.TheVariants.{Create, Insert, Delete, Select, Flush, CompactInner, CompactCross, ShowFiles}
+use Rattle.tsdb_model.specs.declared.command.Item.{Item}
+use Rattle.tsdb_model.specs.declared.reply.Line.{Line}
+use Rattle.tsdb_model.specs.declared.reply.Reply.{Reply}
+use Rattle.tsdb_model.specs.declared.reply.Reply.TheVariants.{Plain, Lines, Values, Files}
+use Rattle.tsdb_model.specs.Apply.{ask_aggregates, reply_of}
+use Rattle.tsdb_model.specs.Commands.{AreItems, IsWellFormed}
+use Rattle.tsdb_model.specs.History.{IsAllowed}
+use Rattle.tsdb_model.specs.State.{State}
+use Rattle.tsdb_model.specs.World.{World}
 use Rattle.tsdb_print.specs.Alike.{IsInRange, IsRowInRange, IsCellInRange, as_printed, shown_answer, shown_value, shown_values, shown_row}
 use Rattle.tsdb_print.specs.Text.{aggregate_name, answer_text, cell_text, column_text, item_text, items_of, join_with_commas, line, reply_text, row_text, rows_text, values_text}
 use Rattle.tsdb_print.proofs.Words.{Begins, IsWord, Stops, apart_by_stop}

@@ -7,11 +7,11 @@ use Rattle.tsdb_base.specs.declared.answers.Answer.TheVariants as answer
 use Rattle.tsdb_base.specs.declared.ids.Space.TheVariants.{Sequence, Unsequence}
 use Rattle.tsdb_base.specs.declared.value.Value.{Value}
 use Rattle.tsdb_base.specs.declared.value.Value.TheVariants as value
-use Rattle.tsdb_map.specs.declared.reply.FileLine.{FileLine}
-use Rattle.tsdb_map.specs.declared.reply.Line.{Line}
-use Rattle.tsdb_map.specs.declared.reply.Listing.{Listing}
-use Rattle.tsdb_map.specs.declared.reply.Reply.{Reply}
-use Rattle.tsdb_map.specs.declared.reply.Reply.TheVariants.{Plain, Lines, Values, Files}
+use Rattle.tsdb_model.specs.declared.reply.FileLine.{FileLine}
+use Rattle.tsdb_model.specs.declared.reply.Line.{Line}
+use Rattle.tsdb_model.specs.declared.reply.Listing.{Listing}
+use Rattle.tsdb_model.specs.declared.reply.Reply.{Reply}
+use Rattle.tsdb_model.specs.declared.reply.Reply.TheVariants.{Plain, Lines, Values, Files}
 use Rattle.tsdb_print.specs.Text.{files_of}
 
 -- the counter of `full` is not printed

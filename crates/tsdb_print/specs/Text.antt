@@ -12,15 +12,15 @@ use Rattle.tsdb_base.specs.declared.ids.Space.{Space}
 use Rattle.tsdb_base.specs.declared.ids.Space.TheVariants.{Sequence, Unsequence}
 use Rattle.tsdb_base.specs.declared.value.Value.{Value}
 use Rattle.tsdb_base.specs.declared.value.Value.TheVariants as value
-use Rattle.tsdb_map.specs.declared.command.Command.{Command}
-use Rattle.tsdb_map.specs.declared.command.Command.TheVariants.{Create, Insert, Delete, Select, Flush, CompactInner}
-use Rattle.tsdb_map.specs.declared.command.Command.TheVariants.{CompactCross, ShowFiles}
-use Rattle.tsdb_map.specs.declared.command.Item.{Item}
-use Rattle.tsdb_map.specs.declared.reply.FileLine.{FileLine}
-use Rattle.tsdb_map.specs.declared.reply.Line.{Line}
-use Rattle.tsdb_map.specs.declared.reply.Listing.{Listing}
-use Rattle.tsdb_map.specs.declared.reply.Reply.{Reply}
-use Rattle.tsdb_map.specs.declared.reply.Reply.TheVariants.{Plain, Lines, Values, Files}
+use Rattle.tsdb_model.specs.declared.command.Command.{Command}
+use Rattle.tsdb_model.specs.declared.command.Command.TheVariants.{Create, Insert, Delete, Select, Flush, CompactInner}
+use Rattle.tsdb_model.specs.declared.command.Command.TheVariants.{CompactCross, ShowFiles}
+use Rattle.tsdb_model.specs.declared.command.Item.{Item}
+use Rattle.tsdb_model.specs.declared.reply.FileLine.{FileLine}
+use Rattle.tsdb_model.specs.declared.reply.Line.{Line}
+use Rattle.tsdb_model.specs.declared.reply.Listing.{Listing}
+use Rattle.tsdb_model.specs.declared.reply.Reply.{Reply}
+use Rattle.tsdb_model.specs.declared.reply.Reply.TheVariants.{Plain, Lines, Values, Files}
 
 -- a line of the output
 abbrev pub line : List ℕ → List ℕ

@@ -7,7 +7,7 @@ ghost use Rattle.tsdb_print.specs.Text.{truth_text, value_text};
 
 use std::alloc::AllocError;
 use tsdb_base::{Aggregate, Value};
-use tsdb_map::Item;
+use tsdb_model::Item;
 
 /// What has a text of its own.
 pub trait Printed {

@@ -1,10 +1,10 @@
 //! Laws of the definitions that printing rests on. The functions do nothing; their contracts are the laws.
 ghost use Rattle.std.specs.Prelude.{◌≡◌};
-ghost use Rattle.tsdb_map.specs.Commands.{IsWellFormed};
-ghost use Rattle.tsdb_map.specs.History.{IsAllowed};
-ghost use Rattle.tsdb_map.specs.State.{State};
-ghost use Rattle.tsdb_map.specs.declared.command.Command.{Command};
-ghost use Rattle.tsdb_map.specs.declared.reply.Reply.{Reply};
+ghost use Rattle.tsdb_model.specs.Commands.{IsWellFormed};
+ghost use Rattle.tsdb_model.specs.History.{IsAllowed};
+ghost use Rattle.tsdb_model.specs.State.{State};
+ghost use Rattle.tsdb_model.specs.declared.command.Command.{Command};
+ghost use Rattle.tsdb_model.specs.declared.reply.Reply.{Reply};
 ghost use Rattle.tsdb_print.specs.Alike.{IsInRange, as_printed};
 ghost use Rattle.tsdb_print.specs.Text.{reply_text};
 

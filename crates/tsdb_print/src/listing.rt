@@ -7,7 +7,7 @@ ghost use Rattle.tsdb_print.specs.Text.{working_text};
 use crate::append::{append_signed, append_unsigned};
 use std::alloc::AllocError;
 use tsdb_base::Space;
-use tsdb_map::{FileLine, Listing};
+use tsdb_model::{FileLine, Listing};
 
 /// Appends the lines of a listing.
 pub fn append_listing(listing: &Listing, into: &mut Vec<u8>) -> Result<(), AllocError>

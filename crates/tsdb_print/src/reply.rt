@@ -6,7 +6,7 @@ use crate::append::{append_after_commas, append_list, append_signed, append_unsi
 use crate::listing::append_listing;
 use std::alloc::{AllocError, Global};
 use tsdb_base::{Answer, Memory, Value};
-use tsdb_map::{Command, Item, Line, Reply};
+use tsdb_model::{Command, Item, Line, Reply};
 
 /// The lines of a reply to a command. Its time is linear in what it prints.
 pub fn print_reply(alloc: Global, command: &Command, reply: &Reply) -> Result<Vec<u8>, Memory>

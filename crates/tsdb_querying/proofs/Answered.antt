@@ -15,17 +15,17 @@ use Rattle.tsdb_frames.specs.declared.frames.Frames.{Frames}
 use Rattle.tsdb_images.specs.Stored.{IsKept}
 use Rattle.tsdb_layers.proofs.Lists.{among_left}
 use Rattle.tsdb_logged.specs.Logged.{log_of, memory_of}
-use Rattle.tsdb_map.specs.Apply.{ask_aggregates, reply_of}
-use Rattle.tsdb_map.specs.Folds.{rows}
-use Rattle.tsdb_map.specs.History.{IsAllowed, IsChange, IsMapReply, state_after}
-use Rattle.tsdb_map.specs.State as plain
-use Rattle.tsdb_map.specs.World.{World}
-use Rattle.tsdb_map.specs.declared.command.Command.{Command}
-use Rattle.tsdb_map.specs.declared.command.Command.TheVariants.{Select}
-use Rattle.tsdb_map.specs.declared.command.Item.{Item}
-use Rattle.tsdb_map.specs.declared.reply.Line.{Line}
-use Rattle.tsdb_map.specs.declared.reply.Reply.{Reply}
-use Rattle.tsdb_map.specs.declared.reply.Reply.TheVariants.{Lines, Plain, Values}
+use Rattle.tsdb_model.specs.Apply.{ask_aggregates, reply_of}
+use Rattle.tsdb_model.specs.Folds.{rows}
+use Rattle.tsdb_model.specs.History.{IsAllowed, IsChange, IsMapReply, state_after}
+use Rattle.tsdb_model.specs.State as plain
+use Rattle.tsdb_model.specs.World.{World}
+use Rattle.tsdb_model.specs.declared.command.Command.{Command}
+use Rattle.tsdb_model.specs.declared.command.Command.TheVariants.{Select}
+use Rattle.tsdb_model.specs.declared.command.Item.{Item}
+use Rattle.tsdb_model.specs.declared.reply.Line.{Line}
+use Rattle.tsdb_model.specs.declared.reply.Reply.{Reply}
+use Rattle.tsdb_model.specs.declared.reply.Reply.TheVariants.{Lines, Plain, Values}
 use Rattle.tsdb_outside.specs.Disk.{IsLawful}
 use Rattle.tsdb_outside.specs.Files.{NamedFile, StoredFile}
 use Rattle.tsdb_outside.specs.Moments.{LeavesOnly}

@@ -2,7 +2,7 @@
 use Rattle.std.proofs.Common.{◌≡◌, ◌≢◌, ℕ, ◌∙◌, sym}
 use Rattle.tsdb_base.specs.declared.answers.Answer.{Answer}
 use Rattle.tsdb_base.specs.declared.answers.Answer.TheVariants as answer
-use Rattle.tsdb_map.specs.declared.reply.Reply.TheVariants.{Plain}
+use Rattle.tsdb_model.specs.declared.reply.Reply.TheVariants.{Plain}
 use Rattle.tsdb_outside.specs.declared.faults.StoreFault.{StoreFault}
 use Rattle.tsdb_outside.specs.declared.faults.StoreFault.TheVariants as fault
 use Rattle.tsdb_querying.specs.Answers.{answer_to}

@@ -9,7 +9,7 @@ use Rattle.tsdb_frames.specs.Frames.{slot_of}
 use Rattle.tsdb_kept.specs.Places.{KeptFile, file_at, place_at}
 use Rattle.tsdb_layers.specs.Lists.{count}
 use Rattle.tsdb_logged.specs.Logged.{log_of}
-use Rattle.tsdb_map.specs.State as plain
+use Rattle.tsdb_model.specs.State as plain
 use Rattle.tsdb_outside.specs.Files.{NamedFile, Store, StoredFile}
 use Rattle.tsdb_outside.specs.declared.disk.Disk as disk
 use Rattle.tsdb_outside.specs.declared.faults.Counted as counted

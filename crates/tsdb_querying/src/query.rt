@@ -2,10 +2,10 @@
 ghost use Rattle.std.specs.Prelude.{◌≡◌, ◌≢◌, ℕ, ◌≤◌, false, List, Option};
 ghost use Rattle.tsdb_base.specs.declared.answers.Answer.{Answer as AnswerOf};
 ghost use Rattle.tsdb_core.specs.Core.{next_of};
-ghost use Rattle.tsdb_map.specs.Apply.{ask_aggregates};
-ghost use Rattle.tsdb_map.specs.State as plain;
-ghost use Rattle.tsdb_map.specs.declared.command.Command.{Command};
-ghost use Rattle.tsdb_map.specs.declared.reply.Reply.{Reply as ReplyOf};
+ghost use Rattle.tsdb_model.specs.Apply.{ask_aggregates};
+ghost use Rattle.tsdb_model.specs.State as plain;
+ghost use Rattle.tsdb_model.specs.declared.command.Command.{Command};
+ghost use Rattle.tsdb_model.specs.declared.reply.Reply.{Reply as ReplyOf};
 ghost use Rattle.tsdb_outside.specs.Causes.{Rose};
 ghost use Rattle.tsdb_outside.specs.Files.{StoredFile};
 ghost use Rattle.tsdb_querying.specs.Answers;
@@ -15,7 +15,7 @@ ghost use Rattle.tsdb_serving.specs.Serving.{Answers as AreAnswered, IsServing, 
 use std::alloc::Global;
 use tsdb_base::{Answer, List, Range};
 use tsdb_core::Core;
-use tsdb_map::{Item, Reply};
+use tsdb_model::{Item, Reply};
 use tsdb_outside::{Files, Journal, StoreFault};
 use tsdb_path::Path;
 use tsdb_pinning::PinFault;

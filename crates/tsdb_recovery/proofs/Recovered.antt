@@ -20,7 +20,7 @@ use Rattle.tsdb_held.specs.Held.{TellTheirBytes}
 use Rattle.tsdb_images.specs.Stored.{IsKept, kept_bytes}
 use Rattle.tsdb_log.specs.Spelling.{IsRecord, spelling}
 use Rattle.tsdb_log.specs.declared.record.LogRecord.{LogRecord}
-use Rattle.tsdb_map.specs.State as plain
+use Rattle.tsdb_model.specs.State as plain
 use Rattle.tsdb_opening.specs.Opening.{IsOpeningOf, next_number}
 use Rattle.tsdb_opening.specs.declared.opening.Opening.{Opening}
 use Rattle.tsdb_outside.specs.Disk.{Image, State}

@@ -1,6 +1,6 @@
 //! The law. The function does nothing; its contract says it. Depends on tsdb_core and tsdb_serving.
 ghost use Rattle.std.specs.Prelude.{ℕ, List, None};
-ghost use Rattle.tsdb_map.specs.State as plain;
+ghost use Rattle.tsdb_model.specs.State as plain;
 ghost use Rattle.tsdb_outside.specs.Files.{StoredFile};
 ghost use Rattle.tsdb_recovery.specs.Opened.{IsRecovered};
 ghost use Rattle.tsdb_serving.specs.Serving.{IsServing};

@@ -12,7 +12,7 @@ use Rattle.tsdb_layers.proofs.Lists.{among_left, among_map, among_right, each_am
 use Rattle.tsdb_layers.specs.Lists.{Among, IsWithOne, count}
 use Rattle.tsdb_layers.specs.Places.{Content, Place}
 use Rattle.tsdb_logged.specs.Logged.{IsStoredIn, Outside}
-use Rattle.tsdb_map.specs.World.{World}
+use Rattle.tsdb_model.specs.World.{World}
 use Rattle.tsdb_replacing.specs.Outputs.{IsNewOutput, only_output, output_file, with_output}
 use Rattle.tsdb_replay.specs.Stores.{IsContentOf}
 use Rattle.tsdb_state.proofs.Fresh.{count_here}

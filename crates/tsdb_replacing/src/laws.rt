@@ -11,7 +11,7 @@ ghost use Rattle.tsdb_layers.specs.Lists.{IsWithOne};
 ghost use Rattle.tsdb_layers.specs.Places.{Content};
 ghost use Rattle.tsdb_logged.specs.Logged.{IsStoredIn, Outside};
 ghost use Rattle.tsdb_logged.specs.Replacing.{CanReplace};
-ghost use Rattle.tsdb_map.specs.World.{World};
+ghost use Rattle.tsdb_model.specs.World.{World};
 ghost use Rattle.tsdb_memory.specs.Least.{IsLeastOf};
 ghost use Rattle.tsdb_memory.specs.Shown.{file_borns};
 ghost use Rattle.tsdb_replacing.specs.Outputs.{IsNewOutput, output_file, with_output};

@@ -13,8 +13,8 @@ use Rattle.tsdb_layers.proofs.Lists.{each_both, each_left, each_right, each_weak
 use Rattle.tsdb_layers.proofs.Places.{same_content}
 use Rattle.tsdb_log.specs.Spelling.{IsRecord, spelling}
 use Rattle.tsdb_log.specs.declared.record.LogRecord.{LogRecord}
-use Rattle.tsdb_map.specs.State as plain
-use Rattle.tsdb_map.specs.World.{World}
+use Rattle.tsdb_model.specs.State as plain
+use Rattle.tsdb_model.specs.World.{World}
 use Rattle.tsdb_outside.specs.Disk.{Image, Keeps, State, in_slot}
 use Rattle.tsdb_outside.specs.declared.disk.Slot.{Slot}
 use Rattle.tsdb_pages.specs.File.{IsFile}

@@ -10,7 +10,7 @@ use Rattle.tsdb_layers.specs.Lists.{Among}
 use Rattle.tsdb_layers.specs.Places.{Content, Place}
 use Rattle.tsdb_log.specs.Spelling.{IsRecord}
 use Rattle.tsdb_log.specs.declared.record.LogRecord.{LogRecord}
-use Rattle.tsdb_map.specs.State as plain
+use Rattle.tsdb_model.specs.State as plain
 use Rattle.tsdb_outside.specs.Disk.{Image, State, in_slot}
 use Rattle.tsdb_outside.specs.Files.{StoredFile}
 use Rattle.tsdb_outside.specs.declared.disk.Slot.{Slot}

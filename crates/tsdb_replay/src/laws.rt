@@ -7,7 +7,7 @@ ghost use Rattle.std.specs.Option.{option_map};
 ghost use Rattle.tsdb_frames.specs.Log.{HasRecordsOrOneMore};
 ghost use Rattle.tsdb_log.specs.Spelling.{IsRecord, spelling};
 ghost use Rattle.tsdb_log.specs.declared.record.LogRecord.{LogRecord};
-ghost use Rattle.tsdb_map.specs.State as plain;
+ghost use Rattle.tsdb_model.specs.State as plain;
 ghost use Rattle.tsdb_outside.specs.Disk.{Image, in_slot};
 ghost use Rattle.tsdb_outside.specs.declared.disk.Slot.{Slot};
 ghost use Rattle.tsdb_replay.specs.Damage.{IsDamaged};

@@ -15,7 +15,7 @@ use Rattle.tsdb_kept.specs.Files.{KeptFiles}
 use Rattle.tsdb_layers.specs.Places.{Content}
 use Rattle.tsdb_logged.specs.Logged.{log_of}
 use Rattle.tsdb_logged.specs.declared.logged.Logged.{Logged}
-use Rattle.tsdb_map.specs.State as plain
+use Rattle.tsdb_model.specs.State as plain
 use Rattle.tsdb_outside.specs.Causes.{HasCause, Rose}
 use Rattle.tsdb_outside.specs.Disk.{IsLawful}
 use Rattle.tsdb_outside.specs.Files.{NamedFile, Store, StoredFile}

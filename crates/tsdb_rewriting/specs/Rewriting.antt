@@ -17,7 +17,7 @@ use Rattle.tsdb_kept.specs.Places.{AreOfStore}
 use Rattle.tsdb_kept.specs.Replacing.{output_in, replace_run}
 use Rattle.tsdb_layers.specs.Lists.{IsWithOne, count, if_some}
 use Rattle.tsdb_logged.specs.Logged.{Outside}
-use Rattle.tsdb_map.specs.State as plain
+use Rattle.tsdb_model.specs.State as plain
 use Rattle.tsdb_outside.specs.Files.{NamedFile, Store, StoredFile}
 use Rattle.tsdb_outside.specs.declared.disk.Disk as disk
 use Rattle.tsdb_outside.specs.declared.faults.Counted as counted

@@ -11,12 +11,12 @@ use Rattle.tsdb_base.specs.declared.value.DataType.TheVariants.{Boolean, Int32, 
 use Rattle.tsdb_base.specs.declared.value.Value.{Value}
 use Rattle.tsdb_base.specs.declared.value.Value.TheVariants as value
 use Rattle.tsdb_log.specs.declared.record.CellRecord.{CellRecord}
-use Rattle.tsdb_map.specs.Apply.{is_int32, value_of}
-use Rattle.tsdb_map.specs.Commands.{AreDifferent}
-use Rattle.tsdb_map.specs.declared.command.Cell.{Cell}
-use Rattle.tsdb_map.specs.declared.command.Literal.{Literal}
-use Rattle.tsdb_map.specs.declared.command.Literal.TheVariants as literal
-use Rattle.tsdb_map.specs.declared.command.Schema.{Schema}
+use Rattle.tsdb_model.specs.Apply.{is_int32, value_of}
+use Rattle.tsdb_model.specs.Commands.{AreDifferent}
+use Rattle.tsdb_model.specs.declared.command.Cell.{Cell}
+use Rattle.tsdb_model.specs.declared.command.Literal.{Literal}
+use Rattle.tsdb_model.specs.declared.command.Literal.TheVariants as literal
+use Rattle.tsdb_model.specs.declared.command.Schema.{Schema}
 use Rattle.tsdb_memory.proofs.Numbers.{at_map, some_same}
 use Rattle.tsdb_memory.specs.Model.{IsFitting}
 use Rattle.tsdb_memory.specs.Shown.{entry_of}

@@ -12,7 +12,7 @@ use Rattle.tsdb_base.specs.declared.point.Point.{Point}
 use Rattle.tsdb_base.specs.declared.value.Value.{Value}
 use Rattle.tsdb_layers.specs.Lists.{Among}
 use Rattle.tsdb_layers.specs.Places.{Content, Place, place_cmp}
-use Rattle.tsdb_map.specs.declared.command.Schema.{Schema}
+use Rattle.tsdb_model.specs.declared.command.Schema.{Schema}
 use Rattle.tsdb_memory.proofs.Counts.{are_keys, counted_points, path_in, placed, places_apart, places_in, value_placed}
 use Rattle.tsdb_memory.specs.Model.{IsSound}
 use Rattle.tsdb_memory.specs.Shown.{IsContentOf, IsMemoryOf}

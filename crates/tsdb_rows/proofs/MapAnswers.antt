@@ -10,13 +10,13 @@ use Rattle.tsdb_base.specs.declared.value.DataType.{DataType}
 use Rattle.tsdb_base.specs.declared.value.Value.{Value}
 use Rattle.tsdb_layers.specs.Lists.{Among, EachPair}
 use Rattle.tsdb_log.specs.declared.record.CellRecord.{CellRecord}
-use Rattle.tsdb_map.specs.Apply.{all_fit, are_there, fits_series, reply_of, series_of, value_of}
-use Rattle.tsdb_map.specs.World.{Series, World}
-use Rattle.tsdb_map.specs.declared.command.Cell.{Cell}
-use Rattle.tsdb_map.specs.declared.command.Command.TheVariants.{Insert}
-use Rattle.tsdb_map.specs.declared.command.Row.{Row}
-use Rattle.tsdb_map.specs.declared.command.Schema.{Schema}
-use Rattle.tsdb_map.specs.declared.reply.Reply.TheVariants.{Plain}
+use Rattle.tsdb_model.specs.Apply.{all_fit, are_there, fits_series, reply_of, series_of, value_of}
+use Rattle.tsdb_model.specs.World.{Series, World}
+use Rattle.tsdb_model.specs.declared.command.Cell.{Cell}
+use Rattle.tsdb_model.specs.declared.command.Command.TheVariants.{Insert}
+use Rattle.tsdb_model.specs.declared.command.Row.{Row}
+use Rattle.tsdb_model.specs.declared.command.Schema.{Schema}
+use Rattle.tsdb_model.specs.declared.reply.Reply.TheVariants.{Plain}
 use Rattle.tsdb_memory.specs.Shown.{IsMemoryOf, entry_of}
 use Rattle.tsdb_memory.specs.Store.{Store}
 use Rattle.tsdb_path.specs.Nodes.{child_of}

@@ -15,9 +15,9 @@ use Rattle.tsdb_layers.specs.Lists.{EachPair}
 use Rattle.tsdb_layers.specs.Order.{Watermarks}
 use Rattle.tsdb_layers.specs.Places.{Content, Place}
 use Rattle.tsdb_log.specs.declared.record.CellRecord.{CellRecord}
-use Rattle.tsdb_map.specs.declared.command.Cell.{Cell}
-use Rattle.tsdb_map.specs.declared.command.Row.{Row}
-use Rattle.tsdb_map.specs.declared.command.Schema.{Schema}
+use Rattle.tsdb_model.specs.declared.command.Cell.{Cell}
+use Rattle.tsdb_model.specs.declared.command.Row.{Row}
+use Rattle.tsdb_model.specs.declared.command.Schema.{Schema}
 use Rattle.tsdb_memory.proofs.Numbers.{at_map, some_same}
 use Rattle.tsdb_memory.proofs.RowCells.{pairs_first, pairs_rest}
 use Rattle.tsdb_memory.specs.Model.{IsFitting}

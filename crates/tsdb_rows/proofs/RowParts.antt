@@ -11,12 +11,12 @@ use Rattle.tsdb_base.specs.declared.value.Value.{Value}
 use Rattle.tsdb_layers.proofs.Lists.{among_left, among_right}
 use Rattle.tsdb_layers.specs.Lists.{Among}
 use Rattle.tsdb_log.specs.declared.record.CellRecord.{CellRecord}
-use Rattle.tsdb_map.specs.Apply.{value_of}
-use Rattle.tsdb_map.specs.Commands.{IsRow}
-use Rattle.tsdb_map.specs.Limits.{max_names}
-use Rattle.tsdb_map.specs.declared.command.Cell.{Cell}
-use Rattle.tsdb_map.specs.declared.command.Row.{Row}
-use Rattle.tsdb_map.specs.declared.command.Schema.{Schema}
+use Rattle.tsdb_model.specs.Apply.{value_of}
+use Rattle.tsdb_model.specs.Commands.{IsRow}
+use Rattle.tsdb_model.specs.Limits.{max_names}
+use Rattle.tsdb_model.specs.declared.command.Cell.{Cell}
+use Rattle.tsdb_model.specs.declared.command.Row.{Row}
+use Rattle.tsdb_model.specs.declared.command.Schema.{Schema}
 use Rattle.tsdb_memory.proofs.Types.{type_found, type_of_number}
 use Rattle.tsdb_memory.specs.Shown.{entry_of, number_of}
 use Rattle.tsdb_path.specs.Nodes.{IsName, child_of}

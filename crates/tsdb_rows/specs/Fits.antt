@@ -1,10 +1,10 @@
 -- When a row fits the working pair, and what its counts say of a state.
 use Rattle.std.specs.Prelude.{◌≡◌, ◌⊎◌, ℕ, ◌+◌, ◌≤◌, List, length, sum_by}
 use Rattle.tsdb_base.specs.declared.ids.Space.TheVariants.{Sequence, Unsequence}
-use Rattle.tsdb_map.specs.declared.command.Cell.{Cell}
-use Rattle.tsdb_map.specs.declared.command.Literal.{Literal}
-use Rattle.tsdb_map.specs.declared.command.Literal.TheVariants as literal
-use Rattle.tsdb_map.specs.declared.command.Row.{Row}
+use Rattle.tsdb_model.specs.declared.command.Cell.{Cell}
+use Rattle.tsdb_model.specs.declared.command.Literal.{Literal}
+use Rattle.tsdb_model.specs.declared.command.Literal.TheVariants as literal
+use Rattle.tsdb_model.specs.declared.command.Row.{Row}
 use Rattle.tsdb_memtable.specs.Pairs.{Pair, byte_count, count}
 use Rattle.tsdb_state.specs.Limit as limits
 use Rattle.tsdb_state.specs.Limits.{max_pair_bytes}

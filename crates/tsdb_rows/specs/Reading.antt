@@ -6,9 +6,9 @@ use Rattle.tsdb_base.specs.declared.answers.Answer.{Answer}
 use Rattle.tsdb_base.specs.declared.answers.Answer.TheVariants.{Done, NoPath, WrongType, Exists, Device, Memory, Full}
 use Rattle.tsdb_base.specs.declared.fault.Memory as fault
 use Rattle.tsdb_log.specs.declared.record.CellRecord.{CellRecord}
-use Rattle.tsdb_map.specs.Apply.{value_of}
-use Rattle.tsdb_map.specs.declared.command.Cell.{Cell}
-use Rattle.tsdb_map.specs.declared.command.Schema.{Schema}
+use Rattle.tsdb_model.specs.Apply.{value_of}
+use Rattle.tsdb_model.specs.declared.command.Cell.{Cell}
+use Rattle.tsdb_model.specs.declared.command.Schema.{Schema}
 use Rattle.tsdb_memory.specs.Model.{IsFitting}
 use Rattle.tsdb_path.specs.Nodes.{child_of}
 use Rattle.tsdb_state.specs.Commands.{AreCells}

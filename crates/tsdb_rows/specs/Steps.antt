@@ -1,9 +1,9 @@
 -- What the steps of reading a row and of counting it promise.
 use Rattle.std.specs.Prelude.{◌≡◌, ℕ, List, [], ◌∷◌, map, Some, slice_get, ⊤}
 use Rattle.tsdb_log.specs.declared.record.CellRecord.{CellRecord}
-use Rattle.tsdb_map.specs.Apply.{value_of}
-use Rattle.tsdb_map.specs.declared.command.Cell.{Cell}
-use Rattle.tsdb_map.specs.declared.command.Schema.{Schema}
+use Rattle.tsdb_model.specs.Apply.{value_of}
+use Rattle.tsdb_model.specs.declared.command.Cell.{Cell}
+use Rattle.tsdb_model.specs.declared.command.Schema.{Schema}
 use Rattle.tsdb_memory.specs.Shown.{entry_of}
 use Rattle.tsdb_path.specs.Nodes.{IsName, child_of}
 use Rattle.tsdb_rows.specs.Reading.{IsMissing, IsUnfit}

@@ -1,6 +1,6 @@
 //! When a row fits the working pair. Depends on nothing here.
 ghost use Rattle.std.specs.Prelude.{◌≡◌, ◌⊎◌, ◌+◌, ◌≤◌, ◌↔◌, IsTrue, length};
-ghost use Rattle.tsdb_map.specs.Commands.{IsRow};
+ghost use Rattle.tsdb_model.specs.Commands.{IsRow};
 ghost use Rattle.tsdb_memory.specs.Shown.{IsMemoryOf};
 ghost use Rattle.tsdb_memtable.specs.Pairs.{HasRisingSeries, byte_count};
 ghost use Rattle.tsdb_rows.specs.Fits.{FitsPair, HasCounts, HasNoPoint, point_count};
@@ -9,7 +9,7 @@ ghost use Rattle.tsdb_state.specs.Limits.{max_pair_bytes};
 ghost use Rattle.tsdb_state.specs.State.{StoreState};
 
 use tsdb_base::Space;
-use tsdb_map::{Cell, Literal, Row};
+use tsdb_model::{Cell, Literal, Row};
 use tsdb_memory::MemoryStore;
 use tsdb_memtable::Pair;
 

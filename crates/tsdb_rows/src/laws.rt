@@ -3,11 +3,11 @@
 ghost use Rattle.std.specs.Prelude.{◌≡◌, ◌<◌, ◌≤◌, ◌↔◌, ℕ, List, Result, map};
 ghost use Rattle.tsdb_base.specs.declared.answers.Answer.{Answer};
 ghost use Rattle.tsdb_log.specs.declared.record.CellRecord.{CellRecord};
-ghost use Rattle.tsdb_map.specs.Apply.{reply_of};
-ghost use Rattle.tsdb_map.specs.World.{World};
-ghost use Rattle.tsdb_map.specs.declared.command.Command.{Command};
-ghost use Rattle.tsdb_map.specs.declared.command.Row.{Row};
-ghost use Rattle.tsdb_map.specs.declared.reply.Reply.{Reply};
+ghost use Rattle.tsdb_model.specs.Apply.{reply_of};
+ghost use Rattle.tsdb_model.specs.World.{World};
+ghost use Rattle.tsdb_model.specs.declared.command.Command.{Command};
+ghost use Rattle.tsdb_model.specs.declared.command.Row.{Row};
+ghost use Rattle.tsdb_model.specs.declared.reply.Reply.{Reply};
 ghost use Rattle.tsdb_memory.specs.Model.{IsSound};
 ghost use Rattle.tsdb_memory.specs.Shown.{IsMemoryOf, entry_of};
 ghost use Rattle.tsdb_memory.specs.Store.{Store};

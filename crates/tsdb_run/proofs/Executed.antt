@@ -15,8 +15,8 @@ use Rattle.tsdb_history.specs.Prefixes.{EndsDone, StandsAfter, StandsAfterPrefix
 use Rattle.tsdb_history.specs.Serves.{HasServed, LeavesPrefix}
 use Rattle.tsdb_images.specs.Stored.{LeavesOneOf, kept_bytes}
 use Rattle.tsdb_layers.proofs.Lists.{each_weaker}
-use Rattle.tsdb_map.specs.History.{Entry}
-use Rattle.tsdb_map.specs.State as plain
+use Rattle.tsdb_model.specs.History.{Entry}
+use Rattle.tsdb_model.specs.State as plain
 use Rattle.tsdb_opening.specs.Opening.{greatest}
 use Rattle.tsdb_outside.specs.Causes.{Rose}
 use Rattle.tsdb_outside.specs.Disk.{Image, IsLawful, Keeps, State, in_slot}

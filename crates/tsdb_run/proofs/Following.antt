@@ -5,8 +5,8 @@ use Rattle.tsdb_history.proofs.Joined.{followed}
 use Rattle.tsdb_history.proofs.Prefixes.{after_wider}
 use Rattle.tsdb_history.specs.Joining.{IsFollowed}
 use Rattle.tsdb_images.specs.Stored.{kept_bytes}
-use Rattle.tsdb_map.specs.History.{Entry, IsLegal}
-use Rattle.tsdb_map.specs.State as plain
+use Rattle.tsdb_model.specs.History.{Entry, IsLegal}
+use Rattle.tsdb_model.specs.State as plain
 use Rattle.tsdb_outside.specs.Disk.{IsLawful, State}
 use Rattle.tsdb_outside.specs.Files.{StoredFile}
 use Rattle.tsdb_recovery.proofs.Rest.{holds_itself}

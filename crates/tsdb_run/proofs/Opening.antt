@@ -1,6 +1,6 @@
 -- The status of a run whose store was not opened.
 use Rattle.std.proofs.Common.{◌≡◌, List, Option, inl, inr, refl}
-use Rattle.tsdb_map.specs.State as plain
+use Rattle.tsdb_model.specs.State as plain
 use Rattle.tsdb_outside.specs.Disk.{State}
 use Rattle.tsdb_outside.specs.Files.{StoredFile}
 use Rattle.tsdb_run.proofs.Whole.{not_damaged}

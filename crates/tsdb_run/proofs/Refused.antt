@@ -10,7 +10,7 @@ use Rattle.tsdb_images.specs.Stored.{kept_bytes}
 use Rattle.tsdb_layers.proofs.Lists.{among_map, each_among, each_from_among}
 use Rattle.tsdb_layers.specs.Lists.{Among}
 use Rattle.tsdb_history.specs.declared.told.Told.{Told as Answered}
-use Rattle.tsdb_map.specs.State as plain
+use Rattle.tsdb_model.specs.State as plain
 use Rattle.tsdb_outside.proofs.DiskLemmas.{Keeps-same}
 use Rattle.tsdb_frames.proofs.FirstLemmas.{keeps_on}
 use Rattle.tsdb_outside.specs.Disk.{Image, IsLawful, Keeps, State}

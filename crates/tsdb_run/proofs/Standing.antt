@@ -9,8 +9,8 @@ use Rattle.tsdb_history.proofs.Prefixes.{after_wider, no_prefix, prefix_wider}
 use Rattle.tsdb_history.specs.Prefixes.{StandsAfter, StandsAfterPrefix}
 use Rattle.tsdb_images.proofs.Kept.{found_bytes, found_with_more, has_number, holds_found}
 use Rattle.tsdb_images.specs.Stored.{kept_bytes}
-use Rattle.tsdb_map.specs.History.{Entry}
-use Rattle.tsdb_map.specs.State as plain
+use Rattle.tsdb_model.specs.History.{Entry}
+use Rattle.tsdb_model.specs.State as plain
 use Rattle.tsdb_outside.specs.Disk.{Image}
 use Rattle.tsdb_outside.specs.Files.{StoredFile}
 use Rattle.tsdb_recovery.proofs.Rest.{holds_itself}

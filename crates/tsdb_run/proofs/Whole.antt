@@ -10,7 +10,7 @@ use Rattle.tsdb_outside.specs.declared.faults.Counted as counted
 use Rattle.tsdb_recovery.specs.Opened.{IsNextNumber, IsRecovered}
 use Rattle.tsdb_replay.specs.Replays.{IsReplayOf}
 use Rattle.tsdb_replay.specs.Stores as replay
-use Rattle.tsdb_map.specs.State as plain
+use Rattle.tsdb_model.specs.State as plain
 use Rattle.tsdb_outside.specs.Disk.{Image, Keeps, State}
 use Rattle.tsdb_outside.specs.Files.{StoredFile}
 use Rattle.tsdb_outside.specs.declared.disk.Slot.TheVariants.{A}

@@ -8,9 +8,9 @@ use Rattle.tsdb_history.specs.History.{IsHistory, IsInLineOrder}
 use Rattle.tsdb_history.specs.Prefixes.{EndsDone, EndsListed, StandsAfter, StandsAfterPrefix}
 use Rattle.tsdb_history.specs.Reach.{AreFullWithin, max_drawn}
 use Rattle.tsdb_history.specs.declared.told.Told.{Told}
-use Rattle.tsdb_map.specs.History.{Entry, IsLegal}
-use Rattle.tsdb_map.specs.State as plain
-use Rattle.tsdb_map.specs.declared.reply.Listing.{Listing}
+use Rattle.tsdb_model.specs.History.{Entry, IsLegal}
+use Rattle.tsdb_model.specs.State as plain
+use Rattle.tsdb_model.specs.declared.reply.Listing.{Listing}
 use Rattle.tsdb_outside.specs.Disk.{Image, State}
 use Rattle.tsdb_outside.specs.Files.{StoredFile}
 use Rattle.tsdb_outside.specs.Moments.{LeavesOnly}

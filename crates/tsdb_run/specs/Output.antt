@@ -2,7 +2,7 @@
 use Rattle.std.specs.Prelude.{◌≡◌, ℕ, ◌==◌, not, List, [], ◌∷◌, ◌++◌, Option, None, Some, map, filter}
 use Rattle.std.specs.List.{flat_map}
 use Rattle.std.specs.Io.KnownBytes.{Appends}
-use Rattle.tsdb_map.specs.declared.command.Command.{Command}
+use Rattle.tsdb_model.specs.declared.command.Command.{Command}
 use Rattle.tsdb_print.specs.Text.{order_text, reply_text, session_text}
 use Rattle.tsdb_script.specs.declared.numbered.Numbered.{Numbered}
 use Rattle.tsdb_history.specs.History.{command_of, replies_to}

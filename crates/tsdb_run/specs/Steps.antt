@@ -8,8 +8,8 @@ use Rattle.tsdb_core.specs.declared.engine.Core.{Core}
 use Rattle.tsdb_history.specs.History.{IsHistory, IsInLineOrder}
 use Rattle.tsdb_history.specs.Reach.{AreFullWithin, max_drawn}
 use Rattle.tsdb_history.specs.declared.told.Told.{Told}
-use Rattle.tsdb_map.specs.History.{Entry}
-use Rattle.tsdb_map.specs.State as plain
+use Rattle.tsdb_model.specs.History.{Entry}
+use Rattle.tsdb_model.specs.State as plain
 use Rattle.tsdb_outside.specs.Causes.{HasStoreCause, RisesOnlyByFailed}
 use Rattle.tsdb_outside.specs.Files.{StoredFile}
 use Rattle.tsdb_outside.specs.declared.disk.Disk as disk

@@ -5,8 +5,8 @@ use Rattle.std.specs.Prelude.{◌≡◌, ◌⊎◌, ℕ, List, Option, None, Som
 use Rattle.std.specs.Option.{IsSomeAnd}
 use Rattle.tsdb_history.specs.Listings.{IsListingOf}
 use Rattle.tsdb_images.specs.Stored.{kept_bytes}
-use Rattle.tsdb_map.specs.State as plain
-use Rattle.tsdb_map.specs.declared.reply.Listing.{Listing}
+use Rattle.tsdb_model.specs.State as plain
+use Rattle.tsdb_model.specs.declared.reply.Listing.{Listing}
 use Rattle.tsdb_outside.specs.Disk.{Image, Keeps, State}
 use Rattle.tsdb_outside.specs.Files.{StoredFile}
 use Rattle.tsdb_outside.specs.declared.disk.Slot.TheVariants.{A}

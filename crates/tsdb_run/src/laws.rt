@@ -1,8 +1,8 @@
 //! The law of runs that follow one another. The function does nothing; its contract is the law. Depends on tsdb_outside.
 ghost use Rattle.std.specs.Prelude.{ℕ, List};
 ghost use Rattle.tsdb_history.specs.Joining.{IsFollowed};
-ghost use Rattle.tsdb_map.specs.History.{Entry, IsLegal};
-ghost use Rattle.tsdb_map.specs.State as plain;
+ghost use Rattle.tsdb_model.specs.History.{Entry, IsLegal};
+ghost use Rattle.tsdb_model.specs.State as plain;
 ghost use Rattle.tsdb_outside.specs.Causes.{Rose};
 ghost use Rattle.tsdb_outside.specs.Files.{StoredFile};
 ghost use Rattle.tsdb_run.specs.Headline.{HasRun};

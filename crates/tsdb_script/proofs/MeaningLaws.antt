@@ -9,12 +9,12 @@ use Rattle.std.proofs.lemmas.List.{length-map}
 use Rattle.std.proofs.lemmas.List.Elements.{All-head, All-tail, All-cons, All-nil}
 use Rattle.std.proofs.lemmas.Slice.Zip.{AllZip-long}
 use Rattle.tsdb_script.specs.Types.{Aggregate, Cell, Column, Command, Condition, DataType, Encoding, Item, LineFault, Operand, Range, Syntax}
-use Rattle.tsdb_map.specs.declared.command.Command.TheVariants as command
+use Rattle.tsdb_model.specs.declared.command.Command.TheVariants as command
 use Rattle.tsdb_base.specs.Values.{is_suitable}
-use Rattle.tsdb_map.specs.declared.command.Row.{Row}
-use Rattle.tsdb_map.specs.declared.command.Schema.{Schema}
-use Rattle.tsdb_map.specs.Commands.{AreDifferent, AreItems, IsDevice, IsRow, IsSeries, IsSchema, IsWellFormed}
-use Rattle.tsdb_map.specs.World.{is_in}
+use Rattle.tsdb_model.specs.declared.command.Row.{Row}
+use Rattle.tsdb_model.specs.declared.command.Schema.{Schema}
+use Rattle.tsdb_model.specs.Commands.{AreDifferent, AreItems, IsDevice, IsRow, IsSeries, IsSchema, IsWellFormed}
+use Rattle.tsdb_model.specs.World.{is_in}
 use Rattle.tsdb_script.specs.declared.syntax.Syntax.TheVariants.{Create, Insert, Delete, Select, Flush, CompactInner, CompactCross, ShowFiles}
 use Rattle.tsdb_script.specs.Forms.{HasParts}
 use Rattle.tsdb_script.specs.Meaning.{HasBadWord, AreAlike, ArePaired, IsGood, IsItem, IsLiteral, IsNamed, IsRangeOf, Means, Objects, Role, DeviceOf, Says, column_roles, condition_roles, measurements_of, roles}

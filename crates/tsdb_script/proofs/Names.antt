@@ -8,7 +8,7 @@ use Rattle.std.proofs.lemmas.Bool.{cases_lt}
 use Rattle.std.proofs.lemmas.Option.{slice_get_within, slice_get-get_or, get_or_from_slice_get}
 use Rattle.std.proofs.lemmas.Map.Keys.{apart_from_distinct, IsDistinct-push}
 use Rattle.std.proofs.lemmas.List.Folds.{list_any_more, Any-from_list_any}
-use Rattle.tsdb_map.specs.Commands.{AreDifferent}
+use Rattle.tsdb_model.specs.Commands.{AreDifferent}
 use Rattle.tsdb_script.proofs.WordLists.{next}
 
 -- two names are equal

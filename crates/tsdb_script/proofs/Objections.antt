@@ -3,7 +3,7 @@ use Rattle.std.proofs.Common.{◌≡◌, ℕ, ℤ, List, [], ◌∷◌, length, 
 use Rattle.std.specs.List.{AllByRecursion, AllZip}
 use Rattle.std.proofs.lemmas.Slice.Zip.{AllZip-long}
 use Rattle.tsdb_script.specs.Types.{Cell, Column, Condition, Literal, Operand}
-use Rattle.tsdb_map.specs.declared.command.Command.TheVariants as command
+use Rattle.tsdb_model.specs.declared.command.Command.TheVariants as command
 use Rattle.tsdb_script.specs.declared.syntax.Syntax.TheVariants.{Insert, Select}
 use Rattle.tsdb_script.specs.Meaning.{ArePaired, IsGood, IsInteger, IsLiteral, Means, Objects, column_roles, condition_roles, measurements_of, roles}
 use Rattle.tsdb_script.specs.Meaning.{DevicePath, Measurement, DeviceOf, Number, Scalar}

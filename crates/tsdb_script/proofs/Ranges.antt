@@ -4,7 +4,7 @@ use Rattle.std.specs.Prelude.{ℤ, ◌≤ℤ◌, ◌↔◌, ◌&&◌, int_le, Fi
 use Rattle.std.specs.Int.{w64}
 use Rattle.std.proofs.lemmas.Int.{ints}
 use Rattle.tsdb_script.specs.Types.{Condition, Range}
-use Rattle.tsdb_map.specs.World.{is_in}
+use Rattle.tsdb_model.specs.World.{is_in}
 use Rattle.tsdb_script.specs.Meaning.{Compares, HasRangeForm, IsInteger, IsRangeOf, Meets}
 use Rattle.tsdb_script.proofs.WordLists.{AllByRecursion-append, AllByRecursion-split, next}
 

@@ -5,7 +5,7 @@ use Rattle.std.specs.List.{concat}
 use Rattle.std.proofs.lemmas.List.{same_from_push}
 use Rattle.std.proofs.lemmas.List.Elements.{All-nil, All-push}
 use Rattle.std.proofs.lemmas.List.Folds.{concat-append}
-use Rattle.tsdb_map.specs.Commands.{IsWellFormed}
+use Rattle.tsdb_model.specs.Commands.{IsWellFormed}
 use Rattle.tsdb_script.specs.Types.{Numbered}
 use Rattle.tsdb_script.specs.Reading.{Line, line_behind, lines_of, sessions_of, session_count, Give, no_line, skipped_line, command_line, IsBad, IsCommand, IsFirstBad, IsScript, IsSkipped, IsWithinLimits}
 use Rattle.tsdb_script.proofs.LineLemmas.{one_line_command, one_line_fault, command_not_bad, skipped_not_bad, past_limit}

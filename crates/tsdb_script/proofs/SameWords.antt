@@ -9,7 +9,7 @@ use Rattle.tsdb_script.specs.Types.{Aggregate, DataType, Encoding, Literal, Oper
 use Rattle.tsdb_base.specs.declared.answers.Aggregate.TheVariants as aggregate
 use Rattle.tsdb_base.specs.declared.value.DataType.TheVariants as type
 use Rattle.tsdb_base.specs.declared.value.Encoding.TheVariants as encoding
-use Rattle.tsdb_map.specs.declared.command.Literal.TheVariants as literal
+use Rattle.tsdb_model.specs.declared.command.Literal.TheVariants as literal
 use Rattle.tsdb_script.specs.declared.syntax.Operand.TheVariants as operand
 use Rattle.tsdb_script.specs.Meaning.{IsInteger, IsLiteral, IsNamed, Names, aggregate_name, encoding_name, type_name}
 use Rattle.tsdb_script.specs.Tokens.{is_keyword}

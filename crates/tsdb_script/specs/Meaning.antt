@@ -9,13 +9,13 @@ use Rattle.tsdb_script.specs.Types.{Aggregate, Column, Command, Comparison, Cond
 use Rattle.tsdb_base.specs.declared.answers.Aggregate.TheVariants as aggregate
 use Rattle.tsdb_base.specs.declared.value.DataType.TheVariants as type
 use Rattle.tsdb_base.specs.declared.value.Encoding.TheVariants as encoding
-use Rattle.tsdb_map.specs.declared.command.Command.TheVariants as command
-use Rattle.tsdb_map.specs.declared.command.Literal.TheVariants as literal
+use Rattle.tsdb_model.specs.declared.command.Command.TheVariants as command
+use Rattle.tsdb_model.specs.declared.command.Literal.TheVariants as literal
 use Rattle.tsdb_script.specs.declared.syntax.Operand.TheVariants as operand
 use Rattle.tsdb_base.specs.Values.{is_suitable}
-use Rattle.tsdb_map.specs.Commands.{AreDifferent, IsDevice, IsSeries}
-use Rattle.tsdb_map.specs.Limits.{max_names}
-use Rattle.tsdb_map.specs.World.{is_in}
+use Rattle.tsdb_model.specs.Commands.{AreDifferent, IsDevice, IsSeries}
+use Rattle.tsdb_model.specs.Limits.{max_names}
+use Rattle.tsdb_model.specs.World.{is_in}
 use Rattle.tsdb_path.specs.Nodes.{IsName, IsPath, child_of}
 use Rattle.tsdb_script.specs.declared.syntax.Comparison.TheVariants.{Less, LessEqual, Greater, GreaterEqual, Equal}
 use Rattle.tsdb_script.specs.declared.syntax.Syntax.TheVariants.{Create, Insert, Delete, Select, Flush, CompactInner}

@@ -3,10 +3,10 @@ pub use Rattle.tsdb_base.specs.declared.answers.Aggregate.{Aggregate}
 pub use Rattle.tsdb_base.specs.declared.point.Range.{Range}
 pub use Rattle.tsdb_base.specs.declared.value.DataType.{DataType}
 pub use Rattle.tsdb_base.specs.declared.value.Encoding.{Encoding}
-pub use Rattle.tsdb_map.specs.declared.command.Cell.{Cell}
-pub use Rattle.tsdb_map.specs.declared.command.Command.{Command}
-pub use Rattle.tsdb_map.specs.declared.command.Item.{Item}
-pub use Rattle.tsdb_map.specs.declared.command.Literal.{Literal}
+pub use Rattle.tsdb_model.specs.declared.command.Cell.{Cell}
+pub use Rattle.tsdb_model.specs.declared.command.Command.{Command}
+pub use Rattle.tsdb_model.specs.declared.command.Item.{Item}
+pub use Rattle.tsdb_model.specs.declared.command.Literal.{Literal}
 pub use Rattle.tsdb_script.specs.declared.fault.LineFault.{LineFault}
 pub use Rattle.tsdb_script.specs.declared.fault.ScriptFault.{ScriptFault}
 pub use Rattle.tsdb_script.specs.declared.form.Form.{Form}

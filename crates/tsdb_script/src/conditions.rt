@@ -2,7 +2,7 @@
 ghost use Rattle.std.specs.Prelude.{◌≡◌, ◌≤ℤ◌, ◌↔◌, ℤ, FitsSigned, IfOk, IfErr, true};
 ghost use Rattle.std.specs.Int.{w64};
 ghost use Rattle.std.specs.List.{AllByRecursion};
-ghost use Rattle.tsdb_map.specs.World.{is_in};
+ghost use Rattle.tsdb_model.specs.World.{is_in};
 ghost use Rattle.tsdb_script.specs.Meaning.{Compares, HasBadWord, HasRangeForm, IsGood, IsRangeOf, condition_roles};
 ghost use Rattle.tsdb_script.specs.Steps.{FaultsWith};
 

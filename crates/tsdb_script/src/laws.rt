@@ -1,6 +1,6 @@
 //! Laws of scripts, each a call that does nothing.
 ghost use Rattle.std.specs.Prelude.{◌≡◌, ◌↔◌, ℕ, ◌<◌, All, List, ◌++◌, length};
-ghost use Rattle.tsdb_map.specs.Commands.{IsWellFormed};
+ghost use Rattle.tsdb_model.specs.Commands.{IsWellFormed};
 ghost use Rattle.tsdb_script.specs.declared.numbered.Numbered.{Numbered};
 ghost use Rattle.tsdb_script.specs.declared.syntax.Syntax.{Syntax};
 ghost use Rattle.tsdb_script.specs.declared.token.Token.{Token};

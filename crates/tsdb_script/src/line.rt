@@ -1,7 +1,7 @@
 //! Reads a line as a command of a session: the passes over it, in their order. Depends on `lines`, `lexer`, `parser`,
 //! `meaning`, `numbered` and `fault`.
 ghost use Rattle.std.specs.Prelude.{◌≡◌, ◌↔◌, ◌≤◌, ℕ, length, false, IsTrue, IfOk, IfErr, IfSome, IfNone};
-ghost use Rattle.tsdb_map.specs.Commands.{IsWellFormed};
+ghost use Rattle.tsdb_model.specs.Commands.{IsWellFormed};
 ghost use Rattle.tsdb_script.specs.Limits.{max_commands, max_line_bytes, max_script_bytes};
 ghost use Rattle.tsdb_script.specs.Reading.{content_of, is_skipped, sessions_of, BeginsStatement, IsBad, IsCommand};
 ghost use Rattle.tsdb_script.specs.Reading.{IsSession, IsSkipped};

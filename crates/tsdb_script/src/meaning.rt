@@ -3,7 +3,7 @@
 ghost use Rattle.std.specs.Prelude.{◌≡◌, ◌≤◌, ◌↔◌, ◌∷◌, [], All, None, IsTrue, IfOk, IfErr, map, length};
 ghost use Rattle.std.specs.List.{AllByRecursion, AllZip};
 ghost use Rattle.std.specs.Option.{IsSome};
-ghost use Rattle.tsdb_map.specs.Commands.{AreDifferent, IsWellFormed};
+ghost use Rattle.tsdb_model.specs.Commands.{AreDifferent, IsWellFormed};
 ghost use Rattle.tsdb_path.specs.Nodes.{IsPath, child_of};
 ghost use Rattle.tsdb_script.specs.Forms.{HasParts};
 ghost use Rattle.tsdb_script.specs.Meaning.{HasBadWord, AreAlike, IsBad, ArePaired, IsGood, IsItem, IsLiteral, IsNamed};
@@ -22,7 +22,7 @@ use crate::words::{
 use std::alloc::Global;
 use std::collections::HashSet;
 use tsdb_base::{Aggregate, List, Memory};
-use tsdb_map::{Cell, Command, Item, Literal, Row, Schema};
+use tsdb_model::{Cell, Command, Item, Literal, Row, Schema};
 use tsdb_path::{Name, Path};
 
 /// The statement as a whole is bad.

@@ -1,5 +1,5 @@
 //! A command with the number of its session. Depends on tsdb_map.
-use tsdb_map::Command;
+use tsdb_model::Command;
 
 /// A command of a session.
 #[derive(Drop)]

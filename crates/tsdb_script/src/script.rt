@@ -1,6 +1,6 @@
 //! Reads a script, line by line, as the commands of its sessions. Depends on `lines`, `line`, `numbered` and `fault`.
 ghost use Rattle.std.specs.Prelude.{◌≡◌, ◌++◌, ◌∷◌, [], All, IfOk, IfErr};
-ghost use Rattle.tsdb_map.specs.Commands.{IsWellFormed};
+ghost use Rattle.tsdb_model.specs.Commands.{IsWellFormed};
 ghost use Rattle.tsdb_script.specs.LineSteps.{fault_at, AreDifferentOf, HasRoom};
 ghost use Rattle.tsdb_script.specs.Reading.{sessions_of, IsScript, RefusesScript};
 

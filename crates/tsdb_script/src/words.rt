@@ -12,7 +12,7 @@ use crate::syntax::Operand;
 use crate::token::Word;
 use std::alloc::Global;
 use tsdb_base::{Aggregate, DataType, Encoding, suits};
-use tsdb_map::Literal;
+use tsdb_model::Literal;
 use tsdb_path::{Name, Path, PathFault};
 
 /// The most nodes of a path.

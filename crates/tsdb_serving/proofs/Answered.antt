@@ -15,15 +15,15 @@ use Rattle.tsdb_log.specs.declared.record.LogRecord.TheVariants as item
 use Rattle.tsdb_logged.specs.Answers.{IsCreateAnswer, IsDeleteAnswer}
 use Rattle.tsdb_logged.specs.Commands.{IsAny}
 use Rattle.tsdb_logged.specs.Logged.{Outside, log_of, memory_of, with_record}
-use Rattle.tsdb_map.specs.Apply.{accepted, reply_of}
-use Rattle.tsdb_map.specs.History.{IsAllowed, IsChange, raise, state_after}
-use Rattle.tsdb_map.specs.State as plain
-use Rattle.tsdb_map.specs.World.{World}
-use Rattle.tsdb_map.specs.declared.command.Command.{Command}
-use Rattle.tsdb_map.specs.declared.command.Command.TheVariants as command
-use Rattle.tsdb_map.specs.declared.command.Row.{Row}
-use Rattle.tsdb_map.specs.declared.reply.Reply.{Reply}
-use Rattle.tsdb_map.specs.declared.reply.Reply.TheVariants.{Plain}
+use Rattle.tsdb_model.specs.Apply.{accepted, reply_of}
+use Rattle.tsdb_model.specs.History.{IsAllowed, IsChange, raise, state_after}
+use Rattle.tsdb_model.specs.State as plain
+use Rattle.tsdb_model.specs.World.{World}
+use Rattle.tsdb_model.specs.declared.command.Command.{Command}
+use Rattle.tsdb_model.specs.declared.command.Command.TheVariants as command
+use Rattle.tsdb_model.specs.declared.command.Row.{Row}
+use Rattle.tsdb_model.specs.declared.reply.Reply.{Reply}
+use Rattle.tsdb_model.specs.declared.reply.Reply.TheVariants.{Plain}
 use Rattle.tsdb_memory.specs.Store.{Store}
 use Rattle.tsdb_outside.specs.Disk.{Image, IsLawful}
 use Rattle.tsdb_outside.specs.Files.{StoredFile}

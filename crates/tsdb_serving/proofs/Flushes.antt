@@ -28,7 +28,7 @@ use Rattle.tsdb_log.specs.declared.record.LogRecord.TheVariants.{Freeze}
 use Rattle.tsdb_logged.specs.Commands.{IsAny}
 use Rattle.tsdb_logged.specs.Logged.{log_of, memory_of}
 use Rattle.tsdb_logged.specs.declared.logged.Logged.{Logged}
-use Rattle.tsdb_map.specs.State as plain
+use Rattle.tsdb_model.specs.State as plain
 use Rattle.tsdb_outside.specs.Causes.{Rose}
 use Rattle.tsdb_outside.specs.Disk.{IsLawful}
 use Rattle.tsdb_outside.specs.Files.{Store, StoredFile}
@@ -39,7 +39,7 @@ use Rattle.tsdb_outside.specs.declared.faults.Failed.{Failed}
 use Rattle.tsdb_serving.proofs.Jobs.{put_numbers, ready_again, ready_swept, still_ready, within}
 use Rattle.tsdb_serving.proofs.Parts as parts
 use Rattle.tsdb_serving.proofs.Steps.{then}
-use Rattle.tsdb_map.specs.declared.command.Row.{Row}
+use Rattle.tsdb_model.specs.declared.command.Row.{Row}
 use Rattle.tsdb_memory.specs.Store.{FrozenPair, Store as MemoryStore}
 use Rattle.tsdb_rows.specs.Fits.{HasNoPoint}
 use Rattle.tsdb_serving.specs.Flushing.{EndsJob, GoesOn, IsBusy, IsOfJob, IsReady, faults_under, frozen_in}

@@ -5,7 +5,7 @@ use Rattle.tsdb_committing.specs.Files.{NewFiles, all_of, kept_with, numbers_of,
 use Rattle.tsdb_images.proofs.Kept.{each_passed}
 use Rattle.tsdb_images.specs.Stored.{LeavesOneOf, without_numbers}
 use Rattle.tsdb_layers.proofs.Lists.{each_append, each_left, each_right}
-use Rattle.tsdb_map.specs.State as plain
+use Rattle.tsdb_model.specs.State as plain
 use Rattle.tsdb_outside.specs.Disk.{Image, in_slot}
 use Rattle.tsdb_outside.specs.Files.{StoredFile}
 use Rattle.tsdb_outside.specs.declared.disk.Slot.{Slot}

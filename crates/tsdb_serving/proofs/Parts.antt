@@ -30,8 +30,8 @@ use Rattle.tsdb_log.specs.declared.record.LogRecord.{LogRecord}
 use Rattle.tsdb_log.specs.declared.record.LogRecord.TheVariants.{Freeze}
 use Rattle.tsdb_logged.specs.Commands.{IsAny}
 use Rattle.tsdb_logged.specs.Logged.{IsStoredIn, Outside, log_of, memory_of, with_record}
-use Rattle.tsdb_map.specs.State as plain
-use Rattle.tsdb_map.specs.World.{World}
+use Rattle.tsdb_model.specs.State as plain
+use Rattle.tsdb_model.specs.World.{World}
 use Rattle.tsdb_outside.specs.Disk.{IsLawful}
 use Rattle.tsdb_outside.specs.Files.{Store, StoredFile}
 use Rattle.tsdb_outside.specs.declared.disk.Disk as disk

@@ -19,11 +19,11 @@ use Rattle.tsdb_layers.specs.Lists.{count}
 use Rattle.tsdb_layers.specs.Marks.{survives}
 use Rattle.tsdb_layers.specs.Places.{Content, Place}
 use Rattle.tsdb_listing.specs.Listings.{TellsFile}
-use Rattle.tsdb_map.specs.State as plain
-use Rattle.tsdb_map.specs.State.{HaveDifferentNumbers, IsFileLine, IsPossible, ListsNothing}
-use Rattle.tsdb_map.specs.World.{HasNoPoint}
-use Rattle.tsdb_map.specs.declared.reply.FileLine.{FileLine}
-use Rattle.tsdb_map.specs.declared.reply.Listing.{Listing}
+use Rattle.tsdb_model.specs.State as plain
+use Rattle.tsdb_model.specs.State.{HaveDifferentNumbers, IsFileLine, IsPossible, ListsNothing}
+use Rattle.tsdb_model.specs.World.{HasNoPoint}
+use Rattle.tsdb_model.specs.declared.reply.FileLine.{FileLine}
+use Rattle.tsdb_model.specs.declared.reply.Listing.{Listing}
 use Rattle.tsdb_marks.specs.declared.marks.Mark.{Mark}
 use Rattle.tsdb_memory.proofs.Counts.{put_back, removed_none}
 use Rattle.tsdb_state.specs.Jobs.{Describes, EntriesMatch}

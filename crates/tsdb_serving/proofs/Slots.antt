@@ -4,7 +4,7 @@ use Rattle.tsdb_base.specs.declared.answers.Answer.{Answer}
 use Rattle.tsdb_base.specs.declared.answers.Answer.TheVariants as answer
 use Rattle.tsdb_core.specs.Rows.{HasPlace, IsFrozenFor, IsPut, IsRowCommand}
 use Rattle.tsdb_core.specs.declared.engine.Core.{Core}
-use Rattle.tsdb_map.specs.declared.command.Row.{Row}
+use Rattle.tsdb_model.specs.declared.command.Row.{Row}
 use Rattle.tsdb_outside.specs.declared.disk.Disk as disk
 use Rattle.tsdb_outside.specs.declared.faults.Counted as counted
 use Rattle.tsdb_serving.specs.Serving.{slot_under}

@@ -11,7 +11,7 @@ use Rattle.tsdb_images.proofs.Leaving.{image_stands}
 use Rattle.tsdb_images.specs.Stored.{LeavesOneOf}
 use Rattle.tsdb_layers.proofs.Lists.{each_append, each_weaker}
 use Rattle.tsdb_logged.specs.Logged.{log_of}
-use Rattle.tsdb_map.specs.State as plain
+use Rattle.tsdb_model.specs.State as plain
 use Rattle.tsdb_outside.specs.Disk.{Image, IsLawful, State}
 use Rattle.tsdb_outside.specs.Files.{StoredFile}
 use Rattle.tsdb_outside.specs.Moments.{LeavesOnly}

@@ -11,7 +11,7 @@ use Rattle.tsdb_jobs.specs.declared.flush.FlushJob.{FlushJob}
 use Rattle.tsdb_kept.specs.Places.{AreOfStore, AreUnread}
 use Rattle.tsdb_layers.specs.Lists.{Among}
 use Rattle.tsdb_logged.specs.Logged.{Outside, log_of, memory_of}
-use Rattle.tsdb_map.specs.State as plain
+use Rattle.tsdb_model.specs.State as plain
 use Rattle.tsdb_memory.specs.Store.{FrozenPair}
 use Rattle.tsdb_outside.specs.Files.{Store, StoredFile}
 use Rattle.tsdb_outside.specs.declared.disk.Disk as disk

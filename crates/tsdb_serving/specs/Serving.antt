@@ -8,12 +8,12 @@ use Rattle.tsdb_frames.specs.Frames.{disk_of, slot_of}
 use Rattle.tsdb_images.specs.Stored.{LeadsTo, LeavesOneOf}
 use Rattle.tsdb_logged.specs.Logged.{Outside, log_of, memory_of}
 use Rattle.tsdb_base.specs.declared.answers.Answer.TheVariants.{Done, Device, Full}
-use Rattle.tsdb_map.specs.Apply.{reply_of}
-use Rattle.tsdb_map.specs.History.{DrawsNumbers, IsAllowed, IsChange, state_after}
-use Rattle.tsdb_map.specs.State as plain
-use Rattle.tsdb_map.specs.declared.command.Command.{Command}
-use Rattle.tsdb_map.specs.declared.reply.Reply.{Reply}
-use Rattle.tsdb_map.specs.declared.reply.Reply.TheVariants.{Plain}
+use Rattle.tsdb_model.specs.Apply.{reply_of}
+use Rattle.tsdb_model.specs.History.{DrawsNumbers, IsAllowed, IsChange, state_after}
+use Rattle.tsdb_model.specs.State as plain
+use Rattle.tsdb_model.specs.declared.command.Command.{Command}
+use Rattle.tsdb_model.specs.declared.reply.Reply.{Reply}
+use Rattle.tsdb_model.specs.declared.reply.Reply.TheVariants.{Plain}
 use Rattle.tsdb_outside.specs.Disk.{Image, State}
 use Rattle.tsdb_outside.specs.Files.{Store, StoredFile}
 use Rattle.tsdb_outside.specs.Moments.{LeavesOnly}

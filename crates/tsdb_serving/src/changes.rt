@@ -3,9 +3,9 @@ ghost use Rattle.std.specs.Prelude.{◌≡◌, ◌⊎◌, ◌+◌, ◌≤◌, If
 ghost use Rattle.tsdb_core.specs.Core.{next_of};
 ghost use Rattle.tsdb_core.specs.Rows.{NeedsFlush};
 ghost use Rattle.tsdb_base.specs.declared.answers.Answer.{Answer as AnswerOf};
-ghost use Rattle.tsdb_map.specs.Commands.{IsRow, IsSchema};
-ghost use Rattle.tsdb_map.specs.declared.command.Command.{Command};
-ghost use Rattle.tsdb_map.specs.declared.reply.Reply.{Reply};
+ghost use Rattle.tsdb_model.specs.Commands.{IsRow, IsSchema};
+ghost use Rattle.tsdb_model.specs.declared.command.Command.{Command};
+ghost use Rattle.tsdb_model.specs.declared.reply.Reply.{Reply};
 ghost use Rattle.tsdb_outside.specs.Causes.{Rose};
 ghost use Rattle.tsdb_outside.specs.Files.{Store};
 ghost use Rattle.tsdb_serving.specs.Faults.{HasFlushCause};
@@ -17,7 +17,7 @@ use crate::flushing::flush_oldest;
 use std::alloc::Global;
 use tsdb_base::{Answer, Range};
 use tsdb_core::Core;
-use tsdb_map::{Row, Schema};
+use tsdb_model::{Row, Schema};
 use tsdb_outside::{Files, Journal};
 use tsdb_path::Path;
 

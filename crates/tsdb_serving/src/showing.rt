@@ -1,13 +1,13 @@
 //! The listing of a store. Depends on tsdb_core.
 ghost use Rattle.std.specs.Prelude.{IfOk};
 ghost use Rattle.tsdb_core.specs.Listings.{TellsStore};
-ghost use Rattle.tsdb_map.specs.declared.command.Command.{Command};
-ghost use Rattle.tsdb_map.specs.declared.reply.Reply.{Reply};
+ghost use Rattle.tsdb_model.specs.declared.command.Command.{Command};
+ghost use Rattle.tsdb_model.specs.declared.reply.Reply.{Reply};
 ghost use Rattle.tsdb_serving.specs.Serving.{Answers};
 
 use tsdb_base::Memory;
 use tsdb_core::Core;
-use tsdb_map::Listing;
+use tsdb_model::Listing;
 use tsdb_outside::{Files, Journal};
 
 /// What the store holds.

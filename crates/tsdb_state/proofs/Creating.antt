@@ -10,11 +10,11 @@ use Rattle.tsdb_layers.proofs.Lists.{each_append, pairs_push}
 use Rattle.tsdb_layers.proofs.Places.{is_path_same}
 use Rattle.tsdb_layers.proofs.Values.{or_none}
 use Rattle.tsdb_layers.specs.Places.{Place, is_path}
-use Rattle.tsdb_map.specs.Apply.{accepted, reply_of}
-use Rattle.tsdb_map.specs.World.{Series, World, new_series, points_of, value_at}
-use Rattle.tsdb_map.specs.declared.command.Command.TheVariants.{Create}
-use Rattle.tsdb_map.specs.declared.command.Schema.{Schema}
-use Rattle.tsdb_map.specs.declared.reply.Reply.TheVariants.{Plain}
+use Rattle.tsdb_model.specs.Apply.{accepted, reply_of}
+use Rattle.tsdb_model.specs.World.{Series, World, new_series, points_of, value_at}
+use Rattle.tsdb_model.specs.declared.command.Command.TheVariants.{Create}
+use Rattle.tsdb_model.specs.declared.command.Schema.{Schema}
+use Rattle.tsdb_model.specs.declared.reply.Reply.TheVariants.{Plain}
 use Rattle.tsdb_state.proofs.Series.{free_apart, series_kept, type_kept, type_push}
 use Rattle.tsdb_state.proofs.Stamps.{stamps_up, value_stamp}
 use Rattle.tsdb_state.proofs.Worlds.{type_in}

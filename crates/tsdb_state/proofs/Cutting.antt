@@ -21,7 +21,7 @@ use Rattle.tsdb_layers.proofs.Tests.{clear_append}
 use Rattle.tsdb_layers.specs.Layers.{HasPoint, Layer, value_in}
 use Rattle.tsdb_layers.specs.Marks.{is_over, survives}
 use Rattle.tsdb_layers.specs.Places.{Content, Place, cut, is_path, is_within, place_cmp}
-use Rattle.tsdb_map.specs.World.{is_in}
+use Rattle.tsdb_model.specs.World.{is_in}
 use Rattle.tsdb_marks.specs.declared.marks.Mark.{Mark}
 use Rattle.tsdb_memtable.specs.Points.{value_bytes}
 use Rattle.tsdb_state.specs.Limit.{IsWithinPairLimit, content_bytes}

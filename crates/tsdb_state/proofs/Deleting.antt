@@ -15,10 +15,10 @@ use Rattle.tsdb_layers.proofs.Places.{get_cut}
 use Rattle.tsdb_layers.specs.Layers.{HasPoint, Layer, value_in}
 use Rattle.tsdb_layers.specs.Lists.{EachPair}
 use Rattle.tsdb_layers.specs.Places.{Content, Place, cut as cut_content, is_within}
-use Rattle.tsdb_map.specs.Apply.{accepted, reply_of}
-use Rattle.tsdb_map.specs.World.{Series, World}
-use Rattle.tsdb_map.specs.declared.command.Command.TheVariants.{Delete}
-use Rattle.tsdb_map.specs.declared.reply.Reply.TheVariants.{Plain}
+use Rattle.tsdb_model.specs.Apply.{accepted, reply_of}
+use Rattle.tsdb_model.specs.World.{Series, World}
+use Rattle.tsdb_model.specs.declared.command.Command.TheVariants.{Delete}
+use Rattle.tsdb_model.specs.declared.reply.Reply.TheVariants.{Plain}
 use Rattle.tsdb_marks.specs.declared.marks.Mark.{Mark}
 use Rattle.tsdb_state.proofs.Cutting.{mark_of, cut_limit, cut_point, cut_points, marked_value}
 use Rattle.tsdb_state.proofs.Purges.{stamps_purged, value_purged}

@@ -17,13 +17,13 @@ use Rattle.tsdb_layers.specs.Layers.{HasPoint}
 use Rattle.tsdb_layers.specs.Lists.{EachPair}
 use Rattle.tsdb_layers.specs.Places.{Place, place_cmp}
 use Rattle.tsdb_log.specs.declared.record.CellRecord.{CellRecord}
-use Rattle.tsdb_map.specs.Apply.{accepted, all_fit, are_there, fits_series, put_cells as map_cells, put_literal}
-use Rattle.tsdb_map.specs.Apply.{put_value as put_in, reply_of, value_of as literal_value}
-use Rattle.tsdb_map.specs.World.{Series, World, change, change_series, put, value_at}
-use Rattle.tsdb_map.specs.declared.command.Cell.{Cell}
-use Rattle.tsdb_map.specs.declared.command.Command.TheVariants.{Insert}
-use Rattle.tsdb_map.specs.declared.command.Row.{Row}
-use Rattle.tsdb_map.specs.declared.reply.Reply.TheVariants.{Plain}
+use Rattle.tsdb_model.specs.Apply.{accepted, all_fit, are_there, fits_series, put_cells as map_cells, put_literal}
+use Rattle.tsdb_model.specs.Apply.{put_value as put_in, reply_of, value_of as literal_value}
+use Rattle.tsdb_model.specs.World.{Series, World, change, change_series, put, value_at}
+use Rattle.tsdb_model.specs.declared.command.Cell.{Cell}
+use Rattle.tsdb_model.specs.declared.command.Command.TheVariants.{Insert}
+use Rattle.tsdb_model.specs.declared.command.Row.{Row}
+use Rattle.tsdb_model.specs.declared.reply.Reply.TheVariants.{Plain}
 use Rattle.tsdb_path.specs.Nodes.{child_of, device_of}
 use Rattle.tsdb_state.proofs.Putting.{pair_holds, put_in_order, put_value}
 use Rattle.tsdb_state.proofs.Series.{ArePathsApart, among_at, path_at, series_at, type_of_live}

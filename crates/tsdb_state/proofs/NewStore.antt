@@ -6,7 +6,7 @@ use Rattle.std.specs.Option.{option_map}
 use Rattle.std.specs.Ordering.{int_cmp, nat_cmp}
 use Rattle.tsdb_layers.proofs.Values.{value_none}
 use Rattle.tsdb_layers.specs.Places.{Place}
-use Rattle.tsdb_map.specs.World.{Series, points_of}
+use Rattle.tsdb_model.specs.World.{Series, points_of}
 use Rattle.tsdb_state.proofs.Values.{none_in, none_in_pair}
 use Rattle.tsdb_state.specs.NewStore.{new_store}
 use Rattle.tsdb_state.specs.State.{Told}

@@ -18,8 +18,8 @@ use Rattle.tsdb_layers.proofs.Values.{value_is_point}
 use Rattle.tsdb_layers.specs.Layers.{HasPoint, Layer}
 use Rattle.tsdb_layers.specs.Lists.{Among}
 use Rattle.tsdb_layers.specs.Places.{Place, is_path, place_cmp}
-use Rattle.tsdb_map.specs.World.{Series, World, points_of, value_at}
-use Rattle.tsdb_map.specs.declared.command.Schema.{Schema}
+use Rattle.tsdb_model.specs.World.{Series, World, points_of, value_at}
+use Rattle.tsdb_model.specs.declared.command.Schema.{Schema}
 use Rattle.tsdb_state.proofs.Freezing.{find_among}
 use Rattle.tsdb_state.proofs.Worlds.{place_test, type_in}
 use Rattle.tsdb_state.specs.State.{SeriesEntry, StoreState, Told}

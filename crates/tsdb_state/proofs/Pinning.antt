@@ -17,7 +17,7 @@ use Rattle.tsdb_layers.proofs.Values.{no_survivor, or_none, value_append}
 use Rattle.tsdb_layers.specs.Layers.{Layer, survivor, value_in}
 use Rattle.tsdb_layers.specs.Marks.{survives}
 use Rattle.tsdb_layers.specs.Places.{Content, Place, is_within, place_cmp}
-use Rattle.tsdb_map.specs.World.{World, is_in, value_at}
+use Rattle.tsdb_model.specs.World.{World, is_in, value_at}
 use Rattle.tsdb_marks.specs.declared.marks.Mark.{Mark}
 use Rattle.tsdb_state.specs.Jobs.{Describes, EntriesMatch}
 use Rattle.tsdb_state.specs.State.{Column, EngineState, Entries, File, FromFile, FromPart, FrozenPair, Pin}

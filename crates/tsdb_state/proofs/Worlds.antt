@@ -14,7 +14,7 @@ use Rattle.tsdb_base.specs.declared.value.Value.{Value}
 use Rattle.tsdb_layers.proofs.JobMarks.{none_by}
 use Rattle.tsdb_layers.proofs.Places.{is_path_same}
 use Rattle.tsdb_layers.specs.Places.{Place, is_path, is_within, place_cmp}
-use Rattle.tsdb_map.specs.World.{Series, World, change, change_series, cut, is_in, points_of, put, value_at}
+use Rattle.tsdb_model.specs.World.{Series, World, change, change_series, cut, is_in, points_of, put, value_at}
 
 abbrev pub type_in : Option Series → Option DataType
 type_in found = option_map (λ (s : Series). s.data_type) found

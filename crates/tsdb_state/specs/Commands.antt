@@ -1,8 +1,8 @@
 -- The command that a record is written for.
 use Rattle.std.specs.Prelude.{◌≡◌, ◌⊎◌, ℕ, ◌≤◌, ℤ, List, [], ◌∷◌, Some, slice_get, ⊤}
 use Rattle.tsdb_log.specs.declared.record.CellRecord.{CellRecord}
-use Rattle.tsdb_map.specs.Apply.{value_of}
-use Rattle.tsdb_map.specs.declared.command.Cell.{Cell}
+use Rattle.tsdb_model.specs.Apply.{value_of}
+use Rattle.tsdb_model.specs.declared.command.Cell.{Cell}
 use Rattle.tsdb_path.specs.Nodes.{child_of}
 use Rattle.tsdb_state.specs.Limit.{IsEmptyPair, byte_count}
 use Rattle.tsdb_state.specs.Limits.{max_pair_bytes}

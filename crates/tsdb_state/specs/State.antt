@@ -7,7 +7,7 @@ use Rattle.tsdb_layers.specs.Layers.{Layer}
 use Rattle.tsdb_layers.specs.Order.{Watermarks}
 use Rattle.tsdb_layers.specs.Places.{Content}
 use Rattle.tsdb_log.specs.declared.record.LogRecord.{LogRecord}
-use Rattle.tsdb_map.specs.declared.command.Schema.{Schema}
+use Rattle.tsdb_model.specs.declared.command.Schema.{Schema}
 use Rattle.tsdb_marks.specs.declared.marks.Mark.{Mark}
 use Rattle.tsdb_plan.specs.declared.entry.Hull.{Hull}
 

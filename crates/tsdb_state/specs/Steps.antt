@@ -19,7 +19,7 @@ use Rattle.tsdb_layers.specs.Layers.{survivor, value_in}
 use Rattle.tsdb_layers.specs.Places.{Content, Place}
 use Rattle.tsdb_log.specs.declared.record.LogRecord.{LogRecord}
 use Rattle.tsdb_log.specs.declared.record.LogRecord.TheVariants.{Flushed, Replaced}
-use Rattle.tsdb_map.specs.World.{World, is_in, value_at}
+use Rattle.tsdb_model.specs.World.{World, is_in, value_at}
 use Rattle.tsdb_state.specs.Jobs.{AreApart, Describes, HasKind, IsDrawnFor, Stands, drawn_by, flushed_bytes, job_inputs}
 use Rattle.tsdb_state.specs.Jobs.{outgoing_places, output_places, pin_numbers, replaced_bytes}
 use Rattle.tsdb_state.specs.Limits.{end_of_numbers}

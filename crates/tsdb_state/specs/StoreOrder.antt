@@ -8,7 +8,7 @@ use Rattle.tsdb_base.specs.declared.value.Value.{Value}
 use Rattle.tsdb_layers.specs.Layers.{HasPoint, Layer}
 use Rattle.tsdb_layers.specs.Order.{IsAbove, IsBefore, IsBelow, Rises, Watermarks}
 use Rattle.tsdb_layers.specs.Places.{Place}
-use Rattle.tsdb_map.specs.Commands.{IsSchema}
+use Rattle.tsdb_model.specs.Commands.{IsSchema}
 use Rattle.tsdb_marks.specs.declared.marks.Mark.{Mark}
 use Rattle.tsdb_state.specs.Limit.{IsEmptyPair, IsWithinPairLimit}
 use Rattle.tsdb_state.specs.Limits.{max_frozen}

@@ -6,7 +6,7 @@ use Rattle.tsdb_base.specs.declared.value.DataType.{DataType}
 use Rattle.tsdb_base.specs.declared.value.Value.{Value}
 use Rattle.tsdb_layers.specs.Layers.{value_in}
 use Rattle.tsdb_layers.specs.Places.{Place, is_path}
-use Rattle.tsdb_map.specs.World.{World, value_at}
+use Rattle.tsdb_model.specs.World.{World, value_at}
 use Rattle.tsdb_state.specs.State.{SeriesEntry, StoreState, Told}
 use Rattle.tsdb_state.specs.Views.{all_layers}
 

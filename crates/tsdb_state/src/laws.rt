@@ -4,12 +4,12 @@ ghost use Rattle.std.specs.Prelude.{◌≡◌, ◌≢◌, ◌⊎◌, ◌≤◌, 
 ghost use Rattle.tsdb_base.specs.declared.answers.Answer.{Answer};
 ghost use Rattle.tsdb_base.specs.declared.point.Range.{Range};
 ghost use Rattle.tsdb_log.specs.declared.record.CellRecord.{CellRecord};
-ghost use Rattle.tsdb_map.specs.Apply.{accepted, reply_of};
-ghost use Rattle.tsdb_map.specs.World.{World};
-ghost use Rattle.tsdb_map.specs.declared.command.Command.{Command};
-ghost use Rattle.tsdb_map.specs.declared.command.Row.{Row};
-ghost use Rattle.tsdb_map.specs.declared.command.Schema.{Schema};
-ghost use Rattle.tsdb_map.specs.declared.reply.Reply.{Reply};
+ghost use Rattle.tsdb_model.specs.Apply.{accepted, reply_of};
+ghost use Rattle.tsdb_model.specs.World.{World};
+ghost use Rattle.tsdb_model.specs.declared.command.Command.{Command};
+ghost use Rattle.tsdb_model.specs.declared.command.Row.{Row};
+ghost use Rattle.tsdb_model.specs.declared.command.Schema.{Schema};
+ghost use Rattle.tsdb_model.specs.declared.reply.Reply.{Reply};
 ghost use Rattle.tsdb_state.specs.Commands.{AreCells, KeepsBytes};
 ghost use Rattle.tsdb_state.specs.Records.{CanCreate, CanDelete, CanFreeze, CanInsert, IsNumberOf, created, deleted};
 ghost use Rattle.tsdb_layers.specs.Layers.{value_in};

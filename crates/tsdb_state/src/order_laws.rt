@@ -10,7 +10,7 @@ ghost use Rattle.tsdb_layers.specs.Marks.{marks_up_to};
 ghost use Rattle.tsdb_layers.specs.Order.{IsAbove, IsBefore, IsBelow, Rises};
 ghost use Rattle.tsdb_layers.specs.Places.{Place};
 ghost use Rattle.tsdb_log.specs.declared.record.CellRecord.{CellRecord};
-ghost use Rattle.tsdb_map.specs.World.{World};
+ghost use Rattle.tsdb_model.specs.World.{World};
 ghost use Rattle.tsdb_state.specs.Jobs.{AreApart, EntriesMatch, HasKind, IsFlushOut, KeepsItsMarks, KeepsRoom};
 ghost use Rattle.tsdb_state.specs.Jobs.{RightsMatch, Stands, drawn_numbers, held_numbers};
 ghost use Rattle.tsdb_state.specs.Limit.{IsWithinPairLimit};

@@ -6,7 +6,7 @@ ghost use Rattle.tsdb_base.specs.declared.point.Range.{Range};
 ghost use Rattle.tsdb_layers.specs.Lists.{Among, IsWithOne, count};
 ghost use Rattle.tsdb_log.specs.declared.record.CellRecord.{CellRecord};
 ghost use Rattle.tsdb_log.specs.declared.record.LogRecord.{LogRecord};
-ghost use Rattle.tsdb_map.specs.declared.command.Schema.{Schema};
+ghost use Rattle.tsdb_model.specs.declared.command.Schema.{Schema};
 ghost use Rattle.tsdb_state.specs.Commands.{KeepsBytes};
 ghost use Rattle.tsdb_state.specs.Jobs.{held_numbers};
 ghost use Rattle.tsdb_state.specs.Order.{DoubtInOrder, FollowsWorld, IsInOrder};

@@ -7,7 +7,7 @@ use Rattle.std.proofs.lemmas.List.Elements.{filter_map-append}
 use Rattle.tsdb_base.specs.declared.point.Point.{Point}
 use Rattle.tsdb_base.specs.declared.value.Value.{Value}
 use Rattle.tsdb_base.specs.declared.value.Value.TheVariants as value
-use Rattle.tsdb_map.specs.Folds.{numbers}
+use Rattle.tsdb_model.specs.Folds.{numbers}
 use Rattle.tsdb_stats.specs.Steps.{join_options, number_in}
 
 -- one more

@@ -5,7 +5,7 @@ use Rattle.tsdb_base.specs.declared.answers.Aggregate.TheVariants.{MinTime, MaxT
 use Rattle.tsdb_base.specs.declared.point.Point.{Point}
 use Rattle.tsdb_base.specs.declared.point.Stats.{Stats}
 use Rattle.tsdb_base.specs.declared.value.Value.TheVariants.{I64}
-use Rattle.tsdb_map.specs.Folds.{aggregate_of}
+use Rattle.tsdb_model.specs.Folds.{aggregate_of}
 
 -- these are the statistics of these points, which stand in order of time
 pub record AreStatsOf (points : List Point) (stats : Stats) : Type 0 where

@@ -2,7 +2,7 @@
 use Rattle.std.specs.Prelude.{Option, None, Some}
 use Rattle.tsdb_base.specs.declared.value.Value.{Value}
 use Rattle.tsdb_base.specs.declared.value.Value.TheVariants as value
-use Rattle.tsdb_map.specs.Folds.{if_number, number_of}
+use Rattle.tsdb_model.specs.Folds.{if_number, number_of}
 use Rattle.tsdb_stats.specs.declared.extreme.Number.{Number}
 use Rattle.tsdb_stats.specs.declared.extreme.Number.TheVariants as number
 

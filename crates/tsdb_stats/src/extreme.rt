@@ -1,7 +1,7 @@
 //! The least and the greatest of the values that are numbers.
 ghost use Rattle.std.specs.Prelude.{◌≡◌, option_map};
 ghost use Rattle.std.specs.List.{reduce};
-ghost use Rattle.tsdb_map.specs.Folds.{is_less, lesser, greater, numbers};
+ghost use Rattle.tsdb_model.specs.Folds.{is_less, lesser, greater, numbers};
 ghost use Rattle.tsdb_stats.specs.Steps.{as_value, join_options, number_in};
 
 use tsdb_base::{Point, Value};

@@ -1,6 +1,6 @@
 //! What stands beside a core: the plain slow state, the plain map, and what they know of the job that is out. Depends
 //! on core_support.
-ghost use Rattle.tsdb_map.specs.Commands.{IsWellFormed};
+ghost use Rattle.tsdb_model.specs.Commands.{IsWellFormed};
 
 use core_support::{Outcome, SlowJob, SlowState, command_of, time_of};
 use std::alloc::Global;
@@ -8,7 +8,8 @@ use std::test::Fail;
 use tests_support as lines;
 use tsdb_base::{Answer, Space, Value};
 use tsdb_core::Commit;
-use tsdb_map::{Command, FileLine, Listing, Plain, Reply};
+use tsdb_map::Plain;
+use tsdb_model::{Command, FileLine, Listing, Reply};
 
 /// What the core has after a step, where a step that failed may have done a part.
 #[derive(Clone, Copy)]

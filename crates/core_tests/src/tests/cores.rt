@@ -1,6 +1,6 @@
 //! Cores over places in memory, and what they are asked, where they may be. Depends on `words`.
 ghost use Rattle.core_tests.specs.Bare.{IsBare};
-ghost use Rattle.tsdb_map.specs.Commands.{IsRow, IsSchema, IsWellFormed};
+ghost use Rattle.tsdb_model.specs.Commands.{IsRow, IsSchema, IsWellFormed};
 
 use super::words::command_of;
 use mem_outside::{Fails, MemFiles, MemJournal, MemPlace};
@@ -11,7 +11,7 @@ use tsdb_core::{Core, Options};
 use tsdb_frames::Frames;
 use tsdb_kept::KeptFiles;
 use tsdb_logged::Logged;
-use tsdb_map::{Command, Row, Schema};
+use tsdb_model::{Command, Row, Schema};
 use tsdb_memory::MemoryStore;
 use tsdb_outside::{Files, Journal, Place, Slot};
 use tsdb_path::Path;

@@ -9,7 +9,7 @@ ghost use Rattle.tsdb_core.specs.declared.commit.Commit.{Commit as HowEnded};
 ghost use Rattle.tsdb_jobs.specs.Jobs.{IsJob};
 ghost use Rattle.tsdb_jobs.specs.declared.flush.FlushJob.{FlushJob as JobOf};
 ghost use Rattle.tsdb_layers.specs.Lists.{IsWithOne};
-ghost use Rattle.tsdb_map.specs.Commands.{IsWellFormed};
+ghost use Rattle.tsdb_model.specs.Commands.{IsWellFormed};
 ghost use Rattle.tsdb_outside.specs.Files.{Store};
 
 use super::words::command_of;
@@ -24,7 +24,7 @@ use tsdb_frames::Frames;
 use tsdb_jobs::{FlushJob, Flushed};
 use tsdb_kept::KeptFiles;
 use tsdb_logged::Logged;
-use tsdb_map::{Command, Reply};
+use tsdb_model::{Command, Reply};
 use tsdb_memory::MemoryStore;
 use tsdb_outside::{Failed, Files, Journal, Place, Slot};
 use tsdb_print::print_reply;

@@ -1,6 +1,6 @@
 //! All lists of up to five commands over two series and three times, with a pair limit of two points: the core, the
 //! plain slow state and the plain map execute each. Depends on `cores`, `slow_state` and `words`.
-ghost use Rattle.tsdb_map.specs.Commands.{IsWellFormed};
+ghost use Rattle.tsdb_model.specs.Commands.{IsWellFormed};
 
 use super::cores::{Served, ask, ask_freeze, close_core, counts, open_core, place_of};
 use super::slow_state::SlowState;
@@ -10,7 +10,8 @@ use std::alloc::Global;
 use std::test::Fail;
 use tests_support as lines;
 use tsdb_base::{Answer, Space, Value};
-use tsdb_map::{Command, Plain, Reply};
+use tsdb_map::Plain;
+use tsdb_model::{Command, Reply};
 use tsdb_outside::{Files, Journal};
 
 /// The words that the lists are made of.

@@ -1,6 +1,6 @@
 //! Rows of lines of a script against what is in memory: how they are read, and which fit. Depends on `effects` for a
 //! new log.
-ghost use Rattle.tsdb_map.specs.Commands.{IsWellFormed};
+ghost use Rattle.tsdb_model.specs.Commands.{IsWellFormed};
 
 use super::effects::new_log;
 use mem_outside::MemJournal;
@@ -10,7 +10,7 @@ use tests_support::command_of;
 use tsdb_base::{Answer, List, Time};
 use tsdb_log::CellRecord;
 use tsdb_logged::Logged;
-use tsdb_map::Command;
+use tsdb_model::Command;
 use tsdb_path::Path;
 use tsdb_rows::{cells_of, fits};
 

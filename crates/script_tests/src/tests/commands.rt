@@ -2,7 +2,7 @@
 use super::fault::Fault;
 use std::alloc::Global;
 use tsdb_base::{Aggregate, DataType, Encoding, Range, Space};
-use tsdb_map::{Command, Item, Literal, Row, Schema};
+use tsdb_model::{Command, Item, Literal, Row, Schema};
 use tsdb_script::{Numbered, read_script};
 
 fn type_name(data_type: DataType) -> &'static [u8] {

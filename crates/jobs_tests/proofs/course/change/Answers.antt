@@ -1,6 +1,6 @@
 use Rattle.std.proofs.Common.{subst}
 use Rattle.std.specs.Prelude.{IfSome}
-use Rattle.tsdb_map.specs.Commands.{IsWellFormed}
+use Rattle.tsdb_model.specs.Commands.{IsWellFormed}
 use Rattle.jobs_tests.proofs.Out.{same_core}
 use Rattle.jobs_tests.proofs.course.change.Goals as goal
 

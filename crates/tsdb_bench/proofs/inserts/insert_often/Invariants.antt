@@ -1,4 +1,4 @@
-use Rattle.tsdb_map.specs.Commands.{IsRow}
+use Rattle.tsdb_model.specs.Commands.{IsRow}
 use Rattle.tsdb_bench.proofs.inserts.insert_often.Given as goal
 
 abbrev pub invariant-loop-time : goal.invariant-loop-time

@@ -5,7 +5,7 @@ use Rattle.tsdb_compacting.proofs.Gathering.{nothing_added, schema_added}
 use Rattle.tsdb_compacting.specs.Series.{path_in, schemas_at}
 use Rattle.tsdb_compacting.specs.declared.series.InputSeries.{InputSeries}
 use Rattle.tsdb_layers.specs.Lists.{if_some}
-use Rattle.tsdb_map.specs.declared.command.Schema.{Schema}
+use Rattle.tsdb_model.specs.declared.command.Schema.{Schema}
 use Rattle.tsdb_compacting.proofs.series.schemas_of.Goals.{in-Some+in_ok-push, in_default}
 use Rattle.tsdb_compacting.proofs.series.schemas_of.Goals as goal
 

@@ -6,8 +6,8 @@ use Rattle.tsdb_history.specs.History.{is_device, session_numbers}
 use Rattle.tsdb_core.specs.Core.{next_of}
 use Rattle.tsdb_history.specs.Reach.{max_drawn}
 use Rattle.tsdb_history.specs.Serves.{HasServed}
-use Rattle.tsdb_map.specs.History.{Entry}
-use Rattle.tsdb_map.specs.State as plain
+use Rattle.tsdb_model.specs.History.{Entry}
+use Rattle.tsdb_model.specs.State as plain
 use Rattle.tsdb_outside.specs.Files.{StoredFile}
 use Rattle.tsdb_serving.specs.Flushing.{IsReady, faults_under}
 use Rattle.tsdb_serving.specs.Serving.{IsServing, IsSure, StaysInPlace}

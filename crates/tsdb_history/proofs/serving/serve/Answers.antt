@@ -1,6 +1,6 @@
 use Rattle.std.proofs.Common.{◌∙◌, subst, sym}
-use Rattle.tsdb_map.specs.declared.command.Command.TheVariants.{Select}
-use Rattle.tsdb_map.specs.declared.reply.Reply.TheVariants.{Plain}
+use Rattle.tsdb_model.specs.declared.command.Command.TheVariants.{Select}
+use Rattle.tsdb_model.specs.declared.reply.Reply.TheVariants.{Plain}
 use Rattle.tsdb_serving.specs.Serving.{Answers}
 use Rattle.tsdb_serving.proofs.Full.{no_full}
 use Rattle.tsdb_history.proofs.serving.serve.Goals as goal

@@ -6,7 +6,7 @@ use Rattle.tsdb_inner.proofs.All.{HasCopied, copied_all, copied_more, copied_non
 use Rattle.tsdb_inner.proofs.Series.{cause_ok, cause_then, same_cause}
 use Rattle.tsdb_inner.specs.Inputs.{IsInputOf}
 use Rattle.tsdb_layers.proofs.Lists.{each_among}
-use Rattle.tsdb_map.specs.Commands.{IsSchema}
+use Rattle.tsdb_model.specs.Commands.{IsSchema}
 use Rattle.tsdb_inner.proofs.running.copy_all.Goals as goal
 
 pub loop-schema-init : goal.loop-schema-init

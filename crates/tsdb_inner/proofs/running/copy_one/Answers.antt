@@ -4,7 +4,7 @@ use Rattle.std.proofs.lemmas.Result.{err_from_is_err_and}
 use Rattle.tsdb_inner.proofs.Series.{cause_memory, cause_ok, copies_winners, damage_cause, inputs_of_store, told_cause}
 use Rattle.tsdb_inner.specs.Inputs.{IsLentAs, TellsBytes}
 use Rattle.tsdb_layers.proofs.Lists.{each_among}
-use Rattle.tsdb_map.specs.Commands.{IsSchema}
+use Rattle.tsdb_model.specs.Commands.{IsSchema}
 use Rattle.tsdb_outside.specs.Causes.{Rose}
 use Rattle.tsdb_inner.proofs.running.copy_one.Goals as goal
 

@@ -2,7 +2,7 @@ use Rattle.std.proofs.Common.{◌≡◌, map}
 use Rattle.std.specs.List.{reduce}
 use Rattle.std.specs.Map.Iter.{deref_pair}
 use Rattle.std.specs.Option.{option_copied}
-use Rattle.tsdb_map.specs.Folds.{greater, numbers}
+use Rattle.tsdb_model.specs.Folds.{greater, numbers}
 use Rattle.tsdb_map.specs.Model.{points_of_entries}
 use Rattle.tsdb_map.proofs.fold.greatest.Given as goal
 

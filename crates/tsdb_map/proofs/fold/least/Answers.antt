@@ -3,7 +3,7 @@ use Rattle.std.specs.Prelude.{IfOk}
 use Rattle.std.specs.List.{reduce}
 use Rattle.std.specs.Map.Iter.{deref_pair}
 use Rattle.std.proofs.lemmas.Map.Iter.{iter_end}
-use Rattle.tsdb_map.specs.Folds.{lesser, number_of, numbers}
+use Rattle.tsdb_model.specs.Folds.{lesser, number_of, numbers}
 use Rattle.tsdb_map.specs.Model.{better, points_of_entries}
 use Rattle.tsdb_map.proofs.FoldLemmas.{reduce-more}
 use Rattle.tsdb_map.proofs.fold.least.Goals as goal

@@ -1,6 +1,6 @@
 use Rattle.std.proofs.lemmas.Grind.{common_steps}
 use Rattle.std.proofs.Common.{◌≡◌, ◌∷◌, ◌-◌, ap, ◌∙◌, true, take, drop, length, rules, arith}
-use Rattle.tsdb_map.specs.Apply.{all_fit}
+use Rattle.tsdb_model.specs.Apply.{all_fit}
 use Rattle.tsdb_map.proofs.PlainLemmas.{first_fits, on_err, put_there, rest_fits, split_first, taken_back}
 use Rattle.tsdb_map.proofs.row.+put_cells.Goals as goal
 use Rattle.tsdb_path.specs.Nodes.{child_of}

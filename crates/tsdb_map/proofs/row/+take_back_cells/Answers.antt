@@ -1,7 +1,7 @@
 use Rattle.std.proofs.Common.{◌≡◌, ◌∷◌, ◌++◌, ◌-◌, ap, sym, ◌∙◌, w64, to_z, of_z, take, drop, length}
 use Rattle.std.proofs.lemmas.Int.{to_z-of_z}
 use Rattle.std.specs.Option.{option_to_list}
-use Rattle.tsdb_map.specs.Apply.{all_fit, put_cells}
+use Rattle.tsdb_model.specs.Apply.{all_fit, put_cells}
 use Rattle.tsdb_map.specs.Pending.{old_values}
 use Rattle.tsdb_map.proofs.PlainLemmas.{cells_back, split_first}
 use Rattle.tsdb_map.proofs.row.+take_back_cells.Goals as goal

@@ -1,6 +1,6 @@
 use Rattle.std.proofs.Common.{◌≡◌, true, is_some, take}
 use Rattle.std.specs.List.{list_all}
-use Rattle.tsdb_map.specs.Apply.{all_fit, series_of}
+use Rattle.tsdb_model.specs.Apply.{all_fit, series_of}
 use Rattle.tsdb_map.proofs.row.insert_answer.Given as goal
 
 abbrev pub invariant-loop-cell : goal.invariant-loop-cell

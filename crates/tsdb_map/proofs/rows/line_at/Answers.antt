@@ -2,7 +2,7 @@ use Rattle.std.proofs.lemmas.Grind.{common_steps}
 use Rattle.std.proofs.Common.{◌≡◌, w64, to_z, of_z, ap, ◌∙◌, map, take, arith}
 use Rattle.std.proofs.lemmas.Int.{to_z-of_z}
 use Rattle.std.specs.FinMap.{get}
-use Rattle.tsdb_map.specs.Folds.{within}
+use Rattle.tsdb_model.specs.Folds.{within}
 use Rattle.tsdb_map.proofs.RowLemmas.{line-is}
 use Rattle.tsdb_map.proofs.rows.line_at.Goals as goal
 

@@ -1,6 +1,6 @@
 use Rattle.std.proofs.Common.{◌≡◌, map, take}
 use Rattle.std.specs.FinMap.{get}
-use Rattle.tsdb_map.specs.Folds.{within}
+use Rattle.tsdb_model.specs.Folds.{within}
 use Rattle.tsdb_map.proofs.rows.line_at.Given as goal
 
 abbrev pub invariant-loop-column : goal.invariant-loop-column

@@ -3,7 +3,7 @@ use Rattle.std.proofs.Common.{◌≡◌, ap, sym, map, is_some, arith}
 use Rattle.std.specs.FinMap.{get-entries}
 use Rattle.std.specs.Map.Iter.{deref}
 use Rattle.std.proofs.lemmas.Map.Iter.{iter_end}
-use Rattle.tsdb_map.specs.Folds.{within}
+use Rattle.tsdb_model.specs.Folds.{within}
 use Rattle.tsdb_map.proofs.RowLemmas.{rows-are, times-more}
 use Rattle.tsdb_map.proofs.rows.rows.Goals as goal
 

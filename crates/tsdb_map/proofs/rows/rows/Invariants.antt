@@ -5,7 +5,7 @@ use Rattle.std.specs.FinMap.{entries}
 use Rattle.std.specs.FinMap.Entries.{find}
 use Rattle.std.specs.BTreeSet as set
 use Rattle.std.specs.Map.Iter.{deref}
-use Rattle.tsdb_map.specs.Folds.{line_at, within}
+use Rattle.tsdb_model.specs.Folds.{line_at, within}
 use Rattle.tsdb_map.proofs.rows.rows.Given as goal
 
 abbrev pub invariant-loop-column : goal.invariant-loop-column

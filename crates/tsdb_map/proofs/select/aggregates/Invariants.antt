@@ -1,5 +1,5 @@
 use Rattle.std.proofs.Common.{◌≡◌, false, take}
-use Rattle.tsdb_map.specs.Apply.{any_unfit, item_values}
+use Rattle.tsdb_model.specs.Apply.{any_unfit, item_values}
 use Rattle.tsdb_map.proofs.select.aggregates.Given as goal
 
 abbrev pub invariant-loop-item : goal.invariant-loop-item

@@ -1,7 +1,7 @@
 use Rattle.std.proofs.Common.{◌≡◌, true, is_some, map, take}
 use Rattle.std.specs.List.{list_all}
-use Rattle.tsdb_map.specs.Apply.{series_of}
-use Rattle.tsdb_map.specs.World.{points_of}
+use Rattle.tsdb_model.specs.Apply.{series_of}
+use Rattle.tsdb_model.specs.World.{points_of}
 use Rattle.tsdb_map.proofs.select.find_columns.Given as goal
 
 abbrev pub invariant-loop-item : goal.invariant-loop-item

@@ -1,7 +1,7 @@
 use Rattle.std.proofs.Common.{◌≡◌, ap, sym, ◌∙◌, map, true}
-use Rattle.tsdb_map.specs.Apply.{are_there, series_of}
-use Rattle.tsdb_map.specs.Folds.{rows}
-use Rattle.tsdb_map.specs.World.{points_of}
+use Rattle.tsdb_model.specs.Apply.{are_there, series_of}
+use Rattle.tsdb_model.specs.Folds.{rows}
+use Rattle.tsdb_model.specs.World.{points_of}
 use Rattle.tsdb_map.proofs.PlainLemmas.{at_some}
 use Rattle.tsdb_map.proofs.RowLemmas.{columns-are, columns_in, lines_reply}
 use Rattle.tsdb_map.proofs.select.select.Goals as goal

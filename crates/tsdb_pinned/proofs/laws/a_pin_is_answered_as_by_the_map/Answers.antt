@@ -1,6 +1,6 @@
 use Rattle.std.proofs.Common.{◌∙◌, ap, map, sym}
-use Rattle.tsdb_map.specs.Folds.{rows}
-use Rattle.tsdb_map.specs.declared.reply.Reply.TheVariants.{Lines, Values}
+use Rattle.tsdb_model.specs.Folds.{rows}
+use Rattle.tsdb_model.specs.declared.reply.Reply.TheVariants.{Lines, Values}
 use Rattle.tsdb_memory.specs.Shown.{entry_of}
 use Rattle.tsdb_pinned.proofs.Items.{pin_columns, pin_values}
 use Rattle.tsdb_pinned.proofs.Replies.{rows_replied, types_of, values_replied}

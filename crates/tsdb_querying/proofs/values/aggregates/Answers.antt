@@ -3,7 +3,7 @@ use Rattle.tsdb_base.specs.declared.answers.Answer.TheVariants as answer
 use Rattle.tsdb_core.specs.Core.{files_of, logged_of}
 use Rattle.tsdb_frames.specs.Frames.{faults_of}
 use Rattle.tsdb_logged.specs.Logged.{log_of, memory_of}
-use Rattle.tsdb_map.specs.declared.reply.Reply.TheVariants.{Plain, Values}
+use Rattle.tsdb_model.specs.declared.reply.Reply.TheVariants.{Plain, Values}
 use Rattle.tsdb_memory.specs.Shown.{entry_of}
 use Rattle.tsdb_pinning.specs.Items.{IsRefused}
 use Rattle.tsdb_pinning.specs.declared.pin.PinFault.TheVariants as fault
@@ -15,7 +15,7 @@ use Rattle.tsdb_querying.proofs.Pinned.{next_still, same_log, stays_still, stays
 use Rattle.tsdb_querying.proofs.Untold.{rose_untold}
 use Rattle.tsdb_querying.specs.Answers.{answer_to}
 use Rattle.tsdb_serving.specs.Serving.{IsAnsweredBy, IsDrawn}
-use Rattle.tsdb_map.specs.declared.command.Command.TheVariants.{Select}
+use Rattle.tsdb_model.specs.declared.command.Command.TheVariants.{Select}
 use Rattle.tsdb_querying.proofs.values.aggregates.Goals as goal
 
 pub returns-in-Err-NoPath-clause-answers : goal.returns-in-Err-NoPath-clause-answers

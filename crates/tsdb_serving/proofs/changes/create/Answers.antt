@@ -3,7 +3,7 @@ use Rattle.tsdb_answers.proofs.Following.{creation_follows}
 use Rattle.tsdb_core.specs.Core.{logged_of}
 use Rattle.tsdb_logged.specs.Commands.{create_record}
 use Rattle.tsdb_logged.specs.Logged.{memory_of}
-use Rattle.tsdb_map.specs.declared.command.Command.TheVariants.{Create}
+use Rattle.tsdb_model.specs.declared.command.Command.TheVariants.{Create}
 use Rattle.tsdb_serving.proofs.Answered.{HasStamp, allowed, answered, create_stamp, stamp_is, world_is}
 use Rattle.tsdb_serving.proofs.Jobs.{kept_ready}
 use Rattle.tsdb_serving.specs.Serving.{IsDrawn}

@@ -1,5 +1,5 @@
 use Rattle.std.proofs.Common.{sym, ◌∙◌}
-use Rattle.tsdb_map.specs.Folds.{greater}
+use Rattle.tsdb_model.specs.Folds.{greater}
 use Rattle.tsdb_stats.proofs.Extremes.{next}
 use Rattle.tsdb_stats.proofs.extreme.greatest_of.Goals as goal
 

@@ -1,7 +1,7 @@
 use Rattle.std.proofs.Common.{◌≡◌, take}
 use Rattle.std.specs.Prelude.{option_map}
 use Rattle.std.specs.List.{reduce}
-use Rattle.tsdb_map.specs.Folds.{lesser, numbers}
+use Rattle.tsdb_model.specs.Folds.{lesser, numbers}
 use Rattle.tsdb_stats.specs.Steps.{as_value}
 use Rattle.tsdb_stats.proofs.extreme.least_of.Given as goal
 

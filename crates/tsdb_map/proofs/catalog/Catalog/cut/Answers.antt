@@ -1,7 +1,7 @@
 use Rattle.std.proofs.Common.{◌≡◌, ap, sym, ◌∙◌, is_some, Some}
 use Rattle.std.specs.FinMap.{get}
 use Rattle.std.specs.Option.{option_copied_mut}
-use Rattle.tsdb_map.specs.World.{cut}
+use Rattle.tsdb_model.specs.World.{cut}
 use Rattle.tsdb_map.proofs.WorldLemmas.{change-there, dotless-same, get-world, in_names, IsDotless-name, kept-found, kept-set, nothing, world-set}
 use Rattle.tsdb_path.specs.Nodes.{child_of}
 use Rattle.tsdb_map.proofs.catalog.Catalog.cut.Goals as goal

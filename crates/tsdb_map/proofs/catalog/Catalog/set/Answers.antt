@@ -4,7 +4,7 @@ use Rattle.std.proofs.lemmas.Result.{IfOk-weaker, on_err_weaker, on_ok_weaker}
 use Rattle.std.specs.Prelude.{IsNone, IsSome}
 use Rattle.std.specs.FinMap.{get, insert}
 use Rattle.std.specs.Option.{option_copied_mut}
-use Rattle.tsdb_map.specs.World.{points_of}
+use Rattle.tsdb_model.specs.World.{points_of}
 use Rattle.tsdb_map.specs.Model.{set_at}
 use Rattle.tsdb_map.proofs.WorldLemmas.{change-there, dotless-same, get-world, in_names, insert-same, IsDotless-name, kept-found, kept-set, nothing, world-set}
 use Rattle.tsdb_path.specs.Nodes.{child_of}

@@ -6,8 +6,8 @@ use Rattle.std.specs.FinMap.Entries.{find}
 use Rattle.std.specs.Map.Iter.{deref_pair}
 use Rattle.std.specs.BTreeSet as set
 use Rattle.std.proofs.lemmas.Map.Iter.{iter_end}
-use Rattle.tsdb_map.specs.Folds.{within}
-use Rattle.tsdb_map.proofs.TimeLemmas.{seen-more}
+use Rattle.tsdb_model.specs.Folds.{within}
+use Rattle.tsdb_model.proofs.TimeLemmas.{seen-more}
 use Rattle.tsdb_map.proofs.series.Series.add_times.Goals as goal
 
 pub returns : goal.returns

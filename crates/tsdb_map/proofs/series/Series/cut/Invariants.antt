@@ -1,6 +1,6 @@
 use Rattle.std.proofs.Common.{◌≡◌}
 use Rattle.std.specs.FinMap.{len}
-use Rattle.tsdb_map.specs.World.{cut}
+use Rattle.tsdb_model.specs.World.{cut}
 use Rattle.tsdb_map.proofs.series.Series.cut.Given as goal
 
 abbrev pub invariant-loop : goal.invariant-loop

@@ -1,6 +1,6 @@
 use Rattle.std.proofs.Common.{◌≡◌, w64, rules, arith, ap, sym, ◌∙◌, refl, is_some, true, None, to_z, of_z}
 use Rattle.std.proofs.lemmas.Int.{to_z-of_z}
-use Rattle.tsdb_map.specs.World.{cut}
+use Rattle.tsdb_model.specs.World.{cut}
 use Rattle.tsdb_map.proofs.PointLemmas.{cut-none, cut-removed, first-in, get-series, len-view, one_less, set-removed}
 use Rattle.tsdb_map.proofs.series.Series.cut_first.Goals as goal
 

@@ -12,17 +12,17 @@ use Rattle.tsdb_base.specs.declared.value.DataType.{DataType}
 use Rattle.tsdb_base.specs.declared.value.DataType.TheVariants.{Boolean, Int32, Int64, Text}
 use Rattle.tsdb_base.specs.declared.value.Value.{Value}
 use Rattle.tsdb_base.specs.declared.value.Value.TheVariants as value
-use Rattle.tsdb_map.specs.declared.command.Cell.{Cell}
-use Rattle.tsdb_map.specs.declared.command.Command.{Command}
-use Rattle.tsdb_map.specs.declared.command.Command.TheVariants.{Create, Insert, Delete, Select, Flush, CompactInner}
-use Rattle.tsdb_map.specs.declared.command.Command.TheVariants.{CompactCross, ShowFiles}
-use Rattle.tsdb_map.specs.declared.command.Item.{Item}
-use Rattle.tsdb_map.specs.declared.command.Literal.{Literal}
-use Rattle.tsdb_map.specs.declared.command.Literal.TheVariants as literal
-use Rattle.tsdb_map.specs.declared.reply.Reply.{Reply}
-use Rattle.tsdb_map.specs.declared.reply.Reply.TheVariants.{Plain, Lines, Values}
-use Rattle.tsdb_map.specs.Folds.{aggregate_of, in_order, rows, within}
-use Rattle.tsdb_map.specs.World.{World, Series, Points, change, cut, new_series, points_of, put}
+use Rattle.tsdb_model.specs.declared.command.Cell.{Cell}
+use Rattle.tsdb_model.specs.declared.command.Command.{Command}
+use Rattle.tsdb_model.specs.declared.command.Command.TheVariants.{Create, Insert, Delete, Select, Flush, CompactInner}
+use Rattle.tsdb_model.specs.declared.command.Command.TheVariants.{CompactCross, ShowFiles}
+use Rattle.tsdb_model.specs.declared.command.Item.{Item}
+use Rattle.tsdb_model.specs.declared.command.Literal.{Literal}
+use Rattle.tsdb_model.specs.declared.command.Literal.TheVariants as literal
+use Rattle.tsdb_model.specs.declared.reply.Reply.{Reply}
+use Rattle.tsdb_model.specs.declared.reply.Reply.TheVariants.{Plain, Lines, Values}
+use Rattle.tsdb_model.specs.Folds.{aggregate_of, in_order, rows, within}
+use Rattle.tsdb_model.specs.World.{World, Series, Points, change, cut, new_series, points_of, put}
 use Rattle.tsdb_path.specs.Nodes.{child_of}
 
 -- a number of 32 bits

@@ -11,8 +11,8 @@ use Rattle.tsdb_base.specs.declared.point.Point.{Point}
 use Rattle.tsdb_base.specs.declared.point.Range.{Range}
 use Rattle.tsdb_base.specs.declared.value.Value.{Value}
 use Rattle.tsdb_base.specs.declared.value.Value.TheVariants as value
-use Rattle.tsdb_map.specs.declared.reply.Line.{Line}
-use Rattle.tsdb_map.specs.World.{Points, is_in}
+use Rattle.tsdb_model.specs.declared.reply.Line.{Line}
+use Rattle.tsdb_model.specs.World.{Points, is_in}
 
 -- the points in a range
 abbrev pub within : Range → Points → Points

@@ -2,14 +2,14 @@
 -- first world is built in.
 use Rattle.std.specs.Prelude.{◌≡◌, ◌≢◌, ◌⊎◌, ℕ, ◌+◌, ◌<◌, List, [], ◌∷◌}
 use Rattle.tsdb_base.specs.declared.answers.Answer.TheVariants.{Done, Device, Memory, Full}
-use Rattle.tsdb_map.specs.declared.command.Command.{Command}
-use Rattle.tsdb_map.specs.declared.command.Command.TheVariants.{Create, Insert, Delete, Select, Flush, CompactInner}
-use Rattle.tsdb_map.specs.declared.command.Command.TheVariants.{CompactCross, ShowFiles}
-use Rattle.tsdb_map.specs.declared.reply.Reply.{Reply}
-use Rattle.tsdb_map.specs.declared.reply.Reply.TheVariants.{Plain, Files}
-use Rattle.tsdb_map.specs.Apply.{accepted, reply_of}
-use Rattle.tsdb_map.specs.Limits.{max_number}
-use Rattle.tsdb_map.specs.State.{State, IsPossible}
+use Rattle.tsdb_model.specs.declared.command.Command.{Command}
+use Rattle.tsdb_model.specs.declared.command.Command.TheVariants.{Create, Insert, Delete, Select, Flush, CompactInner}
+use Rattle.tsdb_model.specs.declared.command.Command.TheVariants.{CompactCross, ShowFiles}
+use Rattle.tsdb_model.specs.declared.reply.Reply.{Reply}
+use Rattle.tsdb_model.specs.declared.reply.Reply.TheVariants.{Plain, Files}
+use Rattle.tsdb_model.specs.Apply.{accepted, reply_of}
+use Rattle.tsdb_model.specs.Limits.{max_number}
+use Rattle.tsdb_model.specs.State.{State, IsPossible}
 
 -- a command and its reply
 pub record Entry : Type 0 where

@@ -1,6 +1,6 @@
 //! Literals as values of a type. Depends on `command`.
 ghost use Rattle.std.specs.Prelude.{◌≡◌, IfOk, is_some};
-ghost use Rattle.tsdb_map.specs.Apply as apply;
+ghost use Rattle.tsdb_model.specs.Apply as apply;
 
 use crate::command::Literal;
 use tsdb_base::{DataType, Memory, Text, Value};

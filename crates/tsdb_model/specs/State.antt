@@ -1,8 +1,8 @@
 -- A state of the plain model: a world, and how many commands have changed it. And the listings that it may have.
 use Rattle.std.specs.Prelude.{◌≡◌, ℕ, ◌≤◌, ◌≤ℤ◌, List, [], All, slice_get, Some}
-use Rattle.tsdb_map.specs.declared.reply.FileLine.{FileLine}
-use Rattle.tsdb_map.specs.declared.reply.Listing.{Listing}
-use Rattle.tsdb_map.specs.World.{World, HasNoPoint}
+use Rattle.tsdb_model.specs.declared.reply.FileLine.{FileLine}
+use Rattle.tsdb_model.specs.declared.reply.Listing.{Listing}
+use Rattle.tsdb_model.specs.World.{World, HasNoPoint}
 
 -- a world, and the number of creates, inserts and deletes that were accepted since the store began
 pub record State : Type 0 where
