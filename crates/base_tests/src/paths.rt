@@ -4,7 +4,8 @@ use std::alloc::{AllocError, Global};
 use std::collections::{BTreeMap, HashMap};
 use std::hash::Hash;
 use std::test::Fail;
-use tsdb_path::{Memory, Name, Path, PathFault};
+use tsdb_base::Memory;
+use tsdb_path::{Name, Path, PathFault};
 
 /// The text, and a tail so many times behind it.
 fn repeated(alloc: Global, text: &str, tail: &str, count: usize) -> Result<Vec<u8>, AllocError> {
@@ -259,7 +260,7 @@ const PRINTED: [(PathFault, &str); 5] = [
         PathFault::TooLong { at: 255 },
         "the path is too long at 255",
     ),
-    (PathFault::Memory, "no memory is left"),
+    (PathFault::Memory, "memory"),
 ];
 
 fn is_printed(alloc: Global, fault: PathFault, want: &str) -> Result<bool, Fail> {
@@ -282,7 +283,7 @@ fn first_misprinted(
 
 fn memory_is_printed(alloc: Global) -> Result<bool, Fail> {
     let text = format!(in alloc; "{Memory}")?;
-    Ok(text.as_str() == "no memory is left" && PathFault::from(Memory) == PathFault::Memory)
+    Ok(text.as_str() == "memory" && PathFault::from(Memory) == PathFault::Memory)
 }
 
 #[test]

@@ -1,5 +1,5 @@
 //! The hulls of devices, entry by entry. Depends on tsdb_base, tsdb_path, tsdb_index and tsdb_plan.
-ghost use Rattle.std.specs.Prelude.{◌≡◌, IfOk, OnOk};
+ghost use Rattle.std.specs.Prelude.{◌≡◌, OnOk};
 ghost use Rattle.tsdb_described.specs.Steps.{AddsHull};
 ghost use Rattle.tsdb_engine.specs.Steps.{EndsIn, IsWidened};
 
@@ -26,16 +26,6 @@ fn ends_in(hulls: &[Hull], device: &Path) -> bool
     }
 }
 
-/// The same path once more.
-fn copy_path(path: &Path) -> Result<Path, Memory>
-    ensures { IfOk result (λ copy. copy ≡ path.now) }
-{
-    match path.copy() {
-        Ok(copy) => Ok(copy),
-        Err(_memory) => Err(Memory),
-    }
-}
-
 /// Adds the times of an entry, which comes behind those before: to the last hull, where that is of its device, or in a
 /// hull of its own.
 pub(crate) fn add_hull(hulls: &mut Vec<Hull>, entry: &IndexEntry) -> Result<(), Memory>
@@ -46,7 +36,7 @@ pub(crate) fn add_hull(hulls: &mut Vec<Hull>, entry: &IndexEntry) -> Result<(), 
         let last = hulls.len() - 1;
         widen(&mut hulls[last], from, to);
     } else {
-        let device = copy_path(&entry.device)?;
+        let device = entry.device.copy()?;
         hulls.push(Hull { device, from, to })?;
     }
     Ok(())

@@ -1,20 +1,10 @@
-//! Paths once more, and the devices of series. Depends on tsdb_path and tsdb_base.
+//! The devices of series. Depends on tsdb_path and tsdb_base.
 ghost use Rattle.std.specs.Prelude.{◌≡◌, ◌≤◌, IfOk, OnOk};
 ghost use Rattle.tsdb_path.specs.Nodes.{IsName, IsPath, device_of as device_in, measurement_of as measurement_in};
 ghost use Rattle.tsdb_path.specs.Nodes.{node_count};
 
 use tsdb_base::Memory;
 use tsdb_path::Path;
-
-/// The same path once more.
-pub(crate) fn copy_path(path: &Path) -> Result<Path, Memory>
-    ensures { IfOk result (λ copy. copy ≡ path.now) }
-{
-    match path.copy() {
-        Ok(copy) => Ok(copy),
-        Err(_memory) => Err(Memory),
-    }
-}
 
 /// The device of a series, which is a path; its measurement is a name.
 pub(crate) fn device_of(path: &Path) -> Result<Path, Memory>
@@ -24,11 +14,7 @@ pub(crate) fn device_of(path: &Path) -> Result<Path, Memory>
     ensures measurement { OnOk result (IsName (measurement_in path.now)) }
 {
     let _name = path.measurement();
-    match path.device() {
-        Ok(device) => {
-            let _bytes = device.bytes();
-            Ok(device)
-        }
-        Err(_memory) => Err(Memory),
-    }
+    let device = path.device()?;
+    let _bytes = device.bytes();
+    Ok(device)
 }

@@ -14,7 +14,7 @@ ghost use Rattle.tsdb_path.specs.Nodes.{node_count};
 
 use crate::building::{begin, finish, put_point, put_points};
 use crate::hulls::{add_span, add_times};
-use crate::names::{copy_path, device_of};
+use crate::names::device_of;
 use std::alloc::Global;
 use tsdb_base::{FileNumber, List, Memory, Point, Stamp, Time};
 use tsdb_model::Schema;
@@ -70,7 +70,7 @@ impl Part {
         begin(&mut self.builder, schema)?;
         put_points(&mut self.builder, points)?;
         add_times(&mut self.hulls, device_of(&schema.path)?, points)?;
-        self.series.push(copy_path(&schema.path)?)?;
+        self.series.push(schema.path.copy()?)?;
         self.points = total;
         Ok(())
     }
@@ -117,7 +117,7 @@ impl Part {
             return Err(Memory);
         };
         add_span(&mut self.hulls, device_of(&schema.path)?, from, to)?;
-        self.series.push(copy_path(&schema.path)?)?;
+        self.series.push(schema.path.copy()?)?;
         self.points = total;
         Ok(())
     }

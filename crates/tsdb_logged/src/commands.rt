@@ -64,7 +64,7 @@ impl<J: Journal> Logged<J> {
     {
         self.memory.prepare_create()?;
         Ok(LogRecord::Create {
-            path: copy_path(&schema.path)?,
+            path: schema.path.copy()?,
             data_type: schema.data_type,
             encoding: schema.encoding,
         })
@@ -117,7 +117,7 @@ impl<J: Journal> Logged<J> {
     {
         self.memory.prepare_delete(range)?;
         Ok(LogRecord::Delete {
-            path: copy_path(series)?,
+            path: series.copy()?,
             range: *range,
         })
     }
@@ -213,15 +213,5 @@ fn inserted_by(item: LogRecord) -> List<CellRecord>
     match item {
         LogRecord::Insert { time: _, cells } => cells,
         _ => unreachable!(),
-    }
-}
-
-/// A copy of a path.
-fn copy_path(path: &Path) -> Result<Path, Memory>
-    ensures { IfOk result (λ copy. copy ≡ path.now) }
-{
-    match path.copy() {
-        Ok(copy) => Ok(copy),
-        Err(_memory) => Err(Memory),
     }
 }

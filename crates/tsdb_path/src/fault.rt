@@ -1,11 +1,8 @@
-//! Why bytes are no path or name, and out of memory alone. It depends on std alone.
+//! Why bytes are no path or name. It depends on tsdb_base.
 use std::alloc::AllocError;
 use std::error::Error;
 use std::fmt;
-
-/// There is no memory left for the answer.
-#[derive(Clone, Copy, Debug, PartialEq, Eq)]
-pub struct Memory;
+use tsdb_base::Memory;
 
 /// Why bytes are no path or no name: the first reason that holds, in this order but that a length of more than
 /// 255 bytes comes before `NotRoot`. `at` is an index into the bytes, from 0.
@@ -21,12 +18,6 @@ pub enum PathFault {
     TooLong { at: u64 },
     /// The bytes are good, and there is no memory left for them.
     Memory,
-}
-
-impl From<AllocError> for Memory {
-    fn from(_error: AllocError) -> Memory {
-        Memory
-    }
 }
 
 impl From<AllocError> for PathFault {
@@ -51,12 +42,6 @@ impl From<Memory> for PathFault {
     }
 }
 
-impl fmt::Display for Memory {
-    fn fmt<W: fmt::Write>(&self, f: &mut fmt::Formatter<W>) -> fmt::Result {
-        f.write_str("no memory is left")
-    }
-}
-
 impl fmt::Display for PathFault {
     fn fmt<W: fmt::Write>(&self, f: &mut fmt::Formatter<W>) -> fmt::Result {
         match self {
@@ -64,11 +49,9 @@ impl fmt::Display for PathFault {
             PathFault::NotRoot => f.write_str("the first node is not `root`"),
             PathFault::BadNode { at } => write!(f, "there is no node at {at}"),
             PathFault::TooLong { at } => write!(f, "the path is too long at {at}"),
-            PathFault::Memory => f.write_str("no memory is left"),
+            PathFault::Memory => f.write_str("memory"),
         }
     }
 }
-
-impl Error for Memory {}
 
 impl Error for PathFault {}

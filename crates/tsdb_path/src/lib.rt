@@ -1,5 +1,5 @@
 //! Paths of series and the names of their nodes: nodes joined by dots, as `root.plant.pump.speed`. It depends on
-//! std alone.
+//! tsdb_base.
 //!
 //! A node is one or more ASCII letters, digits and `_`, not all of them digits. A path has 1 to 16 nodes, the
 //! first of them `root`, and at most 255 bytes. Contracts see a [`Path`] and a [`Name`] as the list of its bytes.
@@ -11,6 +11,6 @@ mod name;
 mod path;
 mod scan;
 
-pub use fault::{Memory, PathFault};
+pub use fault::PathFault;
 pub use name::Name;
 pub use path::Path;

@@ -5,9 +5,10 @@ ghost use Rattle.tsdb_path.specs.Nodes.{child_of};
 ghost use Rattle.tsdb_path.specs.Refusals.{RefusesPath, RefusesChild, AnswersEach, AnswersMemoryAlone};
 
 use crate::scan::{DOT, check_child, check_path, count_nodes, last_dot};
-use crate::{Memory, Name, PathFault};
+use crate::{Name, PathFault};
 use std::alloc::{AllocError, Global};
 use std::marker::Model;
+use tsdb_base::Memory;
 
 /// The path of a series or a device: 1 to 16 nodes joined by dots, the first of them `root`, in at most 255 bytes.
 /// The last node of a series is its measurement, and the nodes before it are its device.

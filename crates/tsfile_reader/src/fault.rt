@@ -77,14 +77,6 @@ impl From<Memory> for ReadFault {
     }
 }
 
-impl From<tsdb_path::Memory> for ReadFault {
-    ghost from_gives = { λ _ e. e ≡ fault.Memory };
-
-    fn from(_error: tsdb_path::Memory) -> ReadFault {
-        ReadFault::Memory
-    }
-}
-
 impl fmt::Display for ReadFault {
     fn fmt<W: fmt::Write>(&self, f: &mut fmt::Formatter<W>) -> fmt::Result {
         match self {
