@@ -4,11 +4,12 @@ ghost use Rattle.tsdb_base.specs.Limits.{max_values};
 ghost use Rattle.tsdb_base.specs.Plain.{BeginsWithNone};
 ghost use Rattle.tsdb_bits.specs.Leb.{leb};
 
+use tsdb_base::limits;
 use tsdb_base::DecodeFault;
 use tsdb_bits::get_leb;
 
 /// The most values of a list.
-pub const MAX_VALUES: u64 = 1000;
+pub const MAX_VALUES: u64 = limits::MAX_VALUES as u64;
 
 /// The LEB128 number that the bytes begin with, and the bytes behind it. It is `Bad` exactly where
 /// they begin with no number of 64 bits.

@@ -12,10 +12,11 @@ use crate::locked_directory::LockedDirectory;
 use crate::slot_file::SlotFile;
 use std::fs::File;
 use std::sync::Arc;
+use tsdb_base::limits::END_OF_SLOT;
 use tsdb_outside::{Counted, Disk, Failed, Journal, Slot};
 
 /// A slot, or a stored file, has at most this many bytes.
-pub(crate) const MAX_LENGTH: u64 = 0x7fff_ffff_ffff_ffff;
+pub(crate) const MAX_LENGTH: u64 = END_OF_SLOT - 1;
 
 fn is_within_limit(at: u64, length: usize) -> bool
     ensures { IsTrue result ↔ FitsSlot (at + length) }

@@ -13,10 +13,11 @@ use crate::record::{Outcome, Pair, RecordedDisk, StopKind};
 use crate::row::Row;
 use std::alloc::{AllocError, Global};
 use std::sync::Arc;
+use tsdb_base::limits::END_OF_SLOT;
 use tsdb_outside::{Counted, Disk, Failed, Journal, Slot};
 
 // A slot has at most this many bytes.
-const MAX_LENGTH: u64 = 0x7fff_ffff_ffff_ffff;
+const MAX_LENGTH: u64 = END_OF_SLOT - 1;
 
 fn is_within_limit(at: u64, length: usize) -> bool
     ensures { IsTrue result ↔ FitsSlot (at + length) }

@@ -10,7 +10,7 @@ use Rattle.tsdb_replay.specs.Replays.{Replays}
 use Rattle.tsdb_replay.specs.Stores.{Recorded, store_steps}
 use Rattle.tsdb_state.proofs.Counting.{is_or_not}
 use Rattle.tsdb_state.specs.Jobs.{NumbersInOrder}
-use Rattle.tsdb_state.specs.Limits.{end_of_numbers}
+use Rattle.tsdb_base.specs.Limits.{end_of_numbers}
 use Rattle.tsdb_state.specs.Records.{CanFollow, names}
 use Rattle.tsdb_state.specs.State.{StoreState}
 

@@ -26,7 +26,7 @@ use Rattle.tsdb_replay.specs.Replays.{Replays}
 use Rattle.tsdb_replay.specs.Stores.{Recorded, store_steps}
 use Rattle.tsdb_state.proofs.Counting.{is_or_not}
 use Rattle.tsdb_state.specs.Jobs.{Describes, EntriesMatch, NumbersInOrder}
-use Rattle.tsdb_state.specs.Limits.{end_of_numbers}
+use Rattle.tsdb_base.specs.Limits.{end_of_numbers}
 use Rattle.tsdb_state.specs.NewStore.{opened}
 use Rattle.tsdb_state.specs.State.{Entries, File, StoreState, Told}
 use Rattle.tsdb_state.specs.StoreOrder.{StoreInOrder}

@@ -22,7 +22,7 @@ ghost use Rattle.tsdb_outside.specs.Disk.{WhereTold};
 ghost use Rattle.tsdb_outside.specs.Files.{StoredFile};
 ghost use Rattle.tsdb_replay.specs.Replays.{Replays};
 ghost use Rattle.tsdb_replay.specs.Stores.{Recorded, store_steps};
-ghost use Rattle.tsdb_state.specs.Limits.{end_of_numbers};
+ghost use Rattle.tsdb_base.specs.Limits.{end_of_numbers};
 ghost use Rattle.tsdb_state.specs.NewStore.{opened};
 ghost use Rattle.tsdb_state.specs.Records.{numbers_of};
 ghost use Rattle.tsdb_state.specs.State.{Told};

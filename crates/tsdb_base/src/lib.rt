@@ -6,6 +6,7 @@ mod answers;
 mod fault;
 mod field;
 mod ids;
+pub mod limits;
 mod list;
 mod plain;
 mod point;

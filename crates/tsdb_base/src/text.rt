@@ -14,9 +14,7 @@ use std::error::Error;
 use std::fmt;
 use std::hash::{Hash, Hasher};
 use std::marker::Model;
-
-/// The most bytes that a text has.
-pub const MAX_TEXT_BYTES: usize = 65535;
+use crate::limits::MAX_TEXT_BYTES;
 
 /// The most bytes of a text that is kept without memory of its own.
 const MAX_SHORT: usize = 22;

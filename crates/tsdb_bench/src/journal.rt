@@ -5,11 +5,12 @@ ghost use Rattle.tsdb_outside.specs.Causes.{Rose};
 ghost use Rattle.tsdb_outside.specs.Limits.{FitsSlot};
 
 use std::alloc::Global;
+use tsdb_base::limits::END_OF_SLOT;
 use tsdb_base::Memory;
 use tsdb_outside::{Counted, Disk, Failed, Journal, Slot};
 
 /// The most bytes of a slot.
-const MAX_LENGTH: u64 = 0x7fff_ffff_ffff_ffff;
+const MAX_LENGTH: u64 = END_OF_SLOT - 1;
 
 /// Two slots in memory.
 #[derive(Drop)]

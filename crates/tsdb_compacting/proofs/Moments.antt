@@ -40,7 +40,7 @@ use Rattle.tsdb_memory.specs.Store.{Store}
 use Rattle.tsdb_plan.specs.declared.entry.FileEntry.{FileEntry}
 use Rattle.tsdb_plan.specs.declared.entry.Run.{Run}
 use Rattle.tsdb_state.specs.Jobs.{Describes, job_inputs}
-use Rattle.tsdb_state.specs.Limits.{end_of_numbers}
+use Rattle.tsdb_base.specs.Limits.{end_of_numbers}
 use Rattle.tsdb_state.specs.Order.{IsInOrder}
 use Rattle.tsdb_state.specs.State.{Compaction, EngineState, Entries, File, SeriesEntry, Told}
 use Rattle.tsdb_state.specs.StoreOrder.{IsOfSeries}

@@ -24,7 +24,7 @@ ghost use Rattle.tsdb_memory.specs.Shown.{IsMemoryOf};
 ghost use Rattle.tsdb_memory.specs.Store.{Store};
 ghost use Rattle.tsdb_outside.specs.Files.{StoredFile};
 ghost use Rattle.tsdb_state.specs.Jobs.{HasKind, Stands, job_inputs};
-ghost use Rattle.tsdb_state.specs.Limits.{end_of_numbers};
+ghost use Rattle.tsdb_base.specs.Limits.{end_of_numbers};
 ghost use Rattle.tsdb_state.specs.Order.{IsInOrder};
 ghost use Rattle.tsdb_state.specs.State.{Compaction, EngineState, Entries, Told};
 ghost use Rattle.tsdb_state.specs.Steps.{IsOutputPlace, began, committed, ended};

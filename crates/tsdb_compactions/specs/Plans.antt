@@ -8,7 +8,7 @@ use Rattle.tsdb_plan.specs.InnerPlan.{IsInnerPlan}
 use Rattle.tsdb_plan.specs.declared.entry.CrossRun.{CrossRun}
 use Rattle.tsdb_plan.specs.declared.entry.Run.{Run}
 use Rattle.tsdb_state.specs.Jobs.{job_inputs}
-use Rattle.tsdb_state.specs.Limits.{end_of_numbers}
+use Rattle.tsdb_base.specs.Limits.{end_of_numbers}
 use Rattle.tsdb_state.specs.Plans.{IsCrossJob, IsInnerSequenceJob, IsInnerUnsequenceJob, IsSequenceFree, file_entries}
 use Rattle.tsdb_state.specs.State.{Compaction, EngineState, Entries, File}
 

@@ -53,7 +53,7 @@ use Rattle.tsdb_plan.specs.CrossPlan.{IsCrossPlan}
 use Rattle.tsdb_plan.specs.InnerPlan.{IsInnerPlan}
 use Rattle.tsdb_plan.specs.declared.entry.FileEntry.{FileEntry}
 use Rattle.tsdb_plan.specs.declared.entry.Run.{Run}
-use Rattle.tsdb_state.specs.Limits.{end_of_numbers}
+use Rattle.tsdb_base.specs.Limits.{end_of_numbers}
 use Rattle.tsdb_state.specs.Plans.{file_entries}
 use Rattle.tsdb_state.specs.State as state
 use Rattle.tsdb_state.specs.State.{Compaction, EngineState, Entries, File}

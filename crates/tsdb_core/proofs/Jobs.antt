@@ -35,7 +35,7 @@ use Rattle.tsdb_state.proofs.Counting.{numbers_drawn}
 use Rattle.tsdb_state.proofs.Holding.{room_with_flush, room_without_flush}
 use Rattle.tsdb_state.proofs.Numbering.{count_drawn, count_with_one}
 use Rattle.tsdb_state.specs.Jobs.{KeepsRoom, NumbersInOrder, drawn_by, drawn_numbers, flushed_bytes, replaced_bytes}
-use Rattle.tsdb_state.specs.Limits.{end_of_numbers}
+use Rattle.tsdb_base.specs.Limits.{end_of_numbers}
 use Rattle.tsdb_state.specs.Steps.{flush_room as job_room}
 use Rattle.tsdb_state.specs.State as state
 use Rattle.tsdb_state.specs.State.{Compaction}

@@ -40,7 +40,7 @@ use Rattle.tsdb_memtable.specs.Pairs.{HasRisingSeries}
 use Rattle.tsdb_rows.proofs.Counts.{empty_pair, has_counts}
 use Rattle.tsdb_rows.proofs.Putting.{put_within}
 use Rattle.tsdb_rows.specs.Fits.{FitsPair, HasCounts, HasNoPoint}
-use Rattle.tsdb_state.specs.Limits.{end_of_numbers, max_frozen, max_pair_points}
+use Rattle.tsdb_base.specs.Limits.{end_of_numbers, max_frozen, max_pair_points}
 use Rattle.tsdb_state.specs.Records.{CanFreeze}
 use Rattle.tsdb_state.specs.State.{EngineState, StoreState}
 

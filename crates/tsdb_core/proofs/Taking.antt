@@ -35,7 +35,7 @@ use Rattle.tsdb_memory.specs.Store.{FrozenPair}
 use Rattle.tsdb_outside.specs.declared.disk.Disk as disk
 use Rattle.tsdb_outside.specs.declared.faults.Counted as counted
 use Rattle.tsdb_state.specs.Jobs.{drawn_by, flushed_bytes}
-use Rattle.tsdb_state.specs.Limits.{end_of_numbers}
+use Rattle.tsdb_base.specs.Limits.{end_of_numbers}
 use Rattle.tsdb_state.specs.State as state
 use Rattle.tsdb_state.specs.State.{EngineState}
 use Rattle.tsdb_state.specs.Steps.{TakesFlush, took_flush}

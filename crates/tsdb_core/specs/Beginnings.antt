@@ -38,7 +38,7 @@ use Rattle.tsdb_plan.specs.InnerPlan.{IsInnerPlan}
 use Rattle.tsdb_plan.specs.declared.entry.CrossRun.{CrossRun}
 use Rattle.tsdb_plan.specs.declared.entry.FileEntry.{FileEntry}
 use Rattle.tsdb_plan.specs.declared.entry.Run.{Run}
-use Rattle.tsdb_state.specs.Limits.{end_of_numbers}
+use Rattle.tsdb_base.specs.Limits.{end_of_numbers}
 use Rattle.tsdb_state.specs.State.{Compaction, EngineState, FlushJob}
 use Rattle.tsdb_state.specs.Steps.{Begins, began}
 

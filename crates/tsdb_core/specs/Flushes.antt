@@ -37,7 +37,7 @@ use Rattle.tsdb_outside.specs.Files as outside
 use Rattle.tsdb_outside.specs.declared.disk.Disk as disk
 use Rattle.tsdb_outside.specs.declared.faults.Counted as counted
 use Rattle.tsdb_outside.specs.declared.faults.Failed.{Failed}
-use Rattle.tsdb_state.specs.Limits.{end_of_numbers}
+use Rattle.tsdb_base.specs.Limits.{end_of_numbers}
 use Rattle.tsdb_state.specs.State as state
 use Rattle.tsdb_state.specs.State.{Compaction, EngineState}
 use Rattle.tsdb_state.specs.Steps.{TakesFlush, committed_flush, ended_flush, failed, flush_record, settled, took_flush}

@@ -7,7 +7,7 @@ use Rattle.tsdb_core.specs.Rows.{Fits}
 use Rattle.tsdb_core.specs.declared.engine.Core.{Core}
 use Rattle.tsdb_log.specs.declared.record.CellRecord.{CellRecord}
 use Rattle.tsdb_logged.specs.Logged.{Outside, memory_of}
-use Rattle.tsdb_model.specs.Limits.{max_names}
+use Rattle.tsdb_base.specs.Limits.{max_names}
 use Rattle.tsdb_model.specs.declared.command.Cell.{Cell}
 use Rattle.tsdb_model.specs.declared.command.Row.{Row}
 use Rattle.tsdb_model.specs.declared.command.Schema.{Schema}

@@ -23,7 +23,7 @@ use Rattle.tsdb_outside.specs.declared.faults.Counted as counted
 use Rattle.tsdb_replay.specs.Stores.{IsStateOf}
 use Rattle.tsdb_rows.specs.Fits.{FitsPair}
 use Rattle.tsdb_state.specs.Commands.{AreCells}
-use Rattle.tsdb_state.specs.Limits.{max_frozen}
+use Rattle.tsdb_base.specs.Limits.{max_frozen}
 use Rattle.tsdb_state.specs.Records.{CanFreeze}
 use Rattle.tsdb_state.specs.State.{EngineState}
 

@@ -6,7 +6,7 @@ ghost use Rattle.tsdb_compacting.specs.declared.finishing.InputRuns.{InputRuns a
 ghost use Rattle.tsdb_core.specs.Beginnings.{IsBeginAnswer, claimed_by};
 ghost use Rattle.tsdb_core.specs.declared.commit.CoreFault.TheVariants.{Memory as NoMemory};
 ghost use Rattle.tsdb_kept.specs.Replacing.{run_length};
-ghost use Rattle.tsdb_state.specs.Limits.{end_of_numbers};
+ghost use Rattle.tsdb_base.specs.Limits.{end_of_numbers};
 
 use crate::commit::CoreFault;
 use crate::engine::Core;

@@ -9,7 +9,7 @@ ghost use Rattle.tsdb_model.specs.declared.command.Command.{Command};
 ghost use Rattle.tsdb_outside.specs.Causes.{HasCause};
 ghost use Rattle.tsdb_outside.specs.Disk.{WhereTold};
 ghost use Rattle.tsdb_rows.specs.Fits.{HasNoPoint};
-ghost use Rattle.tsdb_state.specs.Limits.{max_frozen};
+ghost use Rattle.tsdb_base.specs.Limits.{max_frozen};
 
 use crate::engine::Core;
 use tsdb_base::{Answer, Range, Space};

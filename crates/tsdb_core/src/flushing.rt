@@ -5,19 +5,17 @@ ghost use Rattle.tsdb_core.specs.Flushes.{IsDue};
 ghost use Rattle.tsdb_layers.specs.Lists.{if_some};
 ghost use Rattle.tsdb_memory.specs.Least.{IsLeastOf};
 ghost use Rattle.tsdb_memory.specs.Model.{frozen_in};
-ghost use Rattle.tsdb_state.specs.Limits.{end_of_numbers};
+ghost use Rattle.tsdb_base.specs.Limits.{end_of_numbers};
 
 use crate::commit::{Commit, CoreFault};
 use crate::ending::end_part;
 use crate::engine::Core;
+use tsdb_base::limits::END_OF_NUMBERS;
 use tsdb_base::{FileNumber, Memory, Space, Stamp};
 use tsdb_flushing::take;
 use tsdb_jobs::{FlushJob, Flushed};
 use tsdb_memory::{FrozenPair, lesser};
 use tsdb_outside::{Failed, Files, Journal};
-
-/// The numbers of files lie below this one.
-pub(crate) const END_OF_NUMBERS: u64 = 0x8000_0000_0000_0000;
 
 impl<J: Journal, F: Files> Core<J, F> {
     ghost use Rattle.tsdb_committing.specs.Files.{AreDone, AreDoneSoFar, new_files};

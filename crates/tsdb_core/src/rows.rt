@@ -11,9 +11,10 @@ ghost use Rattle.tsdb_model.specs.World.{World};
 ghost use Rattle.tsdb_model.specs.declared.command.Command.{Command};
 ghost use Rattle.tsdb_model.specs.declared.reply.Reply.{Reply};
 ghost use Rattle.tsdb_outside.specs.Causes.{Rose};
-ghost use Rattle.tsdb_state.specs.Limits.{end_of_numbers, max_pair_points};
+ghost use Rattle.tsdb_base.specs.Limits.{end_of_numbers, max_pair_points};
 
 use crate::engine::Core;
+use tsdb_base::limits::{END_OF_NUMBERS, MAX_FROZEN};
 use tsdb_base::{Answer, List};
 use tsdb_log::CellRecord;
 use tsdb_model::Row;
@@ -21,11 +22,8 @@ use tsdb_outside::{Files, Journal};
 use tsdb_path::Path;
 use tsdb_rows::{cells_of, fits};
 
-/// How many pairs can be frozen.
-const MAX_FROZEN: usize = 2;
-
 /// The last stamp.
-const LAST_STAMP: u64 = 0x8000_0000_0000_0000;
+const LAST_STAMP: u64 = END_OF_NUMBERS;
 
 impl<J: Journal, F: Files> Core<J, F> {
     ghost use Rattle.tsdb_core.specs.Commands.{KeepsFiles};

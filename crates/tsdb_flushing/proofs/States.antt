@@ -25,7 +25,7 @@ use Rattle.tsdb_memory.specs.Shown.{IsContentOf, IsFrozenOf, IsMemoryOf, IsPairO
 use Rattle.tsdb_memory.specs.Store as memory
 use Rattle.tsdb_memtable.specs.Pairs.{Pair}
 use Rattle.tsdb_state.specs.Jobs.{IsDrawnFor, drawn_by}
-use Rattle.tsdb_state.specs.Limits.{end_of_numbers}
+use Rattle.tsdb_base.specs.Limits.{end_of_numbers}
 use Rattle.tsdb_state.specs.State as state
 use Rattle.tsdb_state.specs.Steps.{TakesFlush}
 

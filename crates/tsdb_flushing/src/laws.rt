@@ -7,7 +7,7 @@ ghost use Rattle.tsdb_jobs.specs.declared.flush.FlushJob.{FlushJob as JobOf};
 ghost use Rattle.tsdb_memory.specs.Shown.{IsMemoryOf};
 ghost use Rattle.tsdb_memory.specs.Store.{Store};
 ghost use Rattle.tsdb_state.specs.Jobs.{drawn_by};
-ghost use Rattle.tsdb_state.specs.Limits.{end_of_numbers};
+ghost use Rattle.tsdb_base.specs.Limits.{end_of_numbers};
 ghost use Rattle.tsdb_state.specs.State.{EngineState, FlushJob};
 ghost use Rattle.tsdb_state.specs.Steps.{TakesFlush};
 

@@ -3,7 +3,7 @@ ghost use Rattle.std.specs.Prelude.{◌<◌, ◌+◌, ◌≤◌, IfOk, length};
 ghost use Rattle.tsdb_flushing.specs.Steps.{IsDraw, IsOldest};
 ghost use Rattle.tsdb_flushing.specs.Taking.{IsTaken};
 ghost use Rattle.tsdb_jobs.specs.Jobs.{IsJob};
-ghost use Rattle.tsdb_state.specs.Limits.{end_of_numbers};
+ghost use Rattle.tsdb_base.specs.Limits.{end_of_numbers};
 
 use crate::series::{PairSeries, has_point, numbers_of, schemas_of, series_in_order};
 use tsdb_base::{FileNumber, Memory, Space};

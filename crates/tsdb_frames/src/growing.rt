@@ -2,6 +2,8 @@
 ghost use Rattle.std.specs.Prelude.{◌≡◌, ◌+◌, ◌-◌, ◌^◌, ◌<◌, ◌≤◌, ◌↔◌, IsTrue, length, min};
 
 // The bytes from which on a slot is long.
+use tsdb_base::limits::END_OF_SLOT;
+
 const LONG_SLOT: u64 = 65_536;
 
 // A long slot grows by this many pieces of zeros at once.
@@ -11,7 +13,7 @@ pub(crate) const BLOCK_PIECES: u64 = 16;
 static ZEROS: [u8; 65_536] = [0; 65_536];
 
 // The most bytes that a slot may have.
-const MAX_SLOT: u64 = i64::MAX as u64;
+const MAX_SLOT: u64 = END_OF_SLOT - 1;
 
 // Whether a slot with this end is long, and a frame of this many bytes behind the gate would pass its end.
 pub(crate) fn passes_end(end: u64, gate: u64, bytes: u64) -> bool

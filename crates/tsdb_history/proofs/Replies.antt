@@ -25,7 +25,7 @@ use Rattle.tsdb_serving.specs.Serving.{Answers, IsAnsweredBy, IsDrawn, IsServedB
 use Rattle.tsdb_serving.specs.Serving.{LeavesDoubt, LeavesEither, MayDoubt, disk_under, slot_under}
 use Rattle.tsdb_serving.specs.declared.fault.FlushFault.{FlushFault}
 use Rattle.tsdb_serving.specs.declared.fault.FlushFault.TheVariants as fault
-use Rattle.tsdb_state.specs.Limits.{end_of_numbers}
+use Rattle.tsdb_base.specs.Limits.{end_of_numbers}
 
 -- A command that writes files, and changes no state.
 pub record WritesFiles (command : Command) : Type 0 where

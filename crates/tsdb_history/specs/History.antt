@@ -9,7 +9,7 @@ use Rattle.tsdb_model.specs.History.{Entry}
 use Rattle.tsdb_model.specs.declared.command.Command.{Command}
 use Rattle.tsdb_model.specs.declared.reply.Reply.{Reply}
 use Rattle.tsdb_model.specs.declared.reply.Reply.TheVariants.{Plain}
-use Rattle.tsdb_script.specs.Limits.{max_commands}
+use Rattle.tsdb_base.specs.Limits.{max_commands}
 use Rattle.tsdb_script.specs.declared.numbered.Numbered.{Numbered}
 
 -- every number of a session is below this

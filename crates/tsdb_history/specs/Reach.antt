@@ -2,7 +2,7 @@
 use Rattle.std.specs.Prelude.{◌≡◌, ◌⊎◌, ℕ, ◌≤◌, List, [], ◌∷◌, ⊤}
 use Rattle.tsdb_base.specs.declared.answers.Answer.TheVariants.{Full}
 use Rattle.tsdb_model.specs.History.{Entry, state_after}
-use Rattle.tsdb_model.specs.Limits.{max_number}
+use Rattle.tsdb_base.specs.Limits.{end_of_numbers}
 use Rattle.tsdb_model.specs.State as plain
 use Rattle.tsdb_model.specs.declared.reply.Reply.{Reply}
 use Rattle.tsdb_model.specs.declared.reply.Reply.TheVariants.{Plain}
@@ -14,7 +14,7 @@ max_drawn = 6
 -- a reply is `full` only where the stamp of its state can rise no further, or with a counter up to this number
 abbrev pub IsFullWithin : ℕ → plain.State → Reply → Type 0
 IsFullWithin reach at reply =
-    (counter : ℕ) → reply ≡ Plain (Full counter) → (at.stamp ≡ max_number) ⊎ (counter ≤ reach)
+    (counter : ℕ) → reply ≡ Plain (Full counter) → (at.stamp ≡ end_of_numbers) ⊎ (counter ≤ reach)
 
 -- so is each reply, in the state at its place
 abbrev pub AreFullWithin : ℕ → plain.State → List Entry → Type 0

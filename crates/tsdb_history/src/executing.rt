@@ -5,7 +5,7 @@ ghost use Rattle.tsdb_core.specs.Core.{next_of};
 ghost use Rattle.tsdb_history.specs.Reach.{max_drawn};
 ghost use Rattle.tsdb_history.specs.Rooms.{IsRoomFor};
 ghost use Rattle.tsdb_history.specs.Serves.{HasExecuted};
-ghost use Rattle.tsdb_script.specs.Limits.{max_commands};
+ghost use Rattle.tsdb_base.specs.Limits.{max_commands};
 ghost use Rattle.tsdb_serving.specs.Flushing.{IsReady, faults_under};
 ghost use Rattle.tsdb_serving.specs.Serving.{IsSure, StaysInPlace};
 

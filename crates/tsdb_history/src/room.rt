@@ -4,10 +4,11 @@ ghost use Rattle.tsdb_history.specs.Rooms.{IsRoomFor};
 
 use crate::told::Told;
 use std::alloc::Global;
+use tsdb_base::limits::SESSION_NUMBERS;
 use tsdb_base::Memory;
 
 /// Every number of a session is below this.
-const SESSIONS: usize = 1000;
+const SESSIONS: usize = SESSION_NUMBERS;
 
 /// The memory that the execution of a script takes for its history, so that no reply is lost once a command is executed:
 /// how many commands each session has had, and places for the replies.

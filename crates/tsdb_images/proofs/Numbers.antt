@@ -15,7 +15,7 @@ use Rattle.tsdb_state.proofs.CommitNumbers.{count_new_file, count_new_two}
 use Rattle.tsdb_state.proofs.Counting.{is_none, is_or_not}
 use Rattle.tsdb_state.proofs.Numbering.{count_files}
 use Rattle.tsdb_state.specs.Jobs.{NumbersInOrder}
-use Rattle.tsdb_state.specs.Limits.{end_of_numbers}
+use Rattle.tsdb_base.specs.Limits.{end_of_numbers}
 use Rattle.tsdb_state.specs.Records.{AreNew, CanFollow, Replacement, after, flush_oldest, names, new_file, new_numbers}
 use Rattle.tsdb_state.specs.Records.{number_list, numbers_of, replace, replace_in}
 use Rattle.tsdb_state.specs.State.{File, FrozenPair, StoreState}

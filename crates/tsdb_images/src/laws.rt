@@ -16,7 +16,7 @@ ghost use Rattle.tsdb_outside.specs.declared.disk.Slot.{Slot};
 ghost use Rattle.tsdb_replay.specs.Replays.{Replays};
 ghost use Rattle.tsdb_replay.specs.Stores.{Files, HoldsKept, IsSound, IsStateOf, Recorded, store_steps};
 ghost use Rattle.tsdb_state.specs.Jobs.{EntriesMatch, NumbersInOrder};
-ghost use Rattle.tsdb_state.specs.Limits.{end_of_numbers};
+ghost use Rattle.tsdb_base.specs.Limits.{end_of_numbers};
 ghost use Rattle.tsdb_state.specs.NewStore.{opened};
 ghost use Rattle.tsdb_state.specs.Order.{files_of};
 ghost use Rattle.tsdb_state.specs.State.{EngineState, Entries, Told};

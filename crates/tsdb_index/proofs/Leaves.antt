@@ -6,7 +6,7 @@ use Rattle.std.proofs.lemmas.Grind.{flat_map-append}
 use Rattle.std.proofs.lemmas.List.{append-nil, length-append, take_more}
 use Rattle.tsdb_index.specs.declared.index.IndexEntry.{IndexEntry}
 use Rattle.tsdb_index.specs.declared.writing.Leaves.{Leaves}
-use Rattle.tsdb_index.specs.Limits.{max_leaf_entries}
+use Rattle.tsdb_base.specs.Limits.{max_leaf_entries}
 use Rattle.tsdb_index.specs.Spelling.{leaf_field, pointer_field, pointers, AreLeaves}
 use Rattle.tsdb_index.specs.Steps.{AreFull, IsAppended, IsWrittenTo}
 

@@ -9,7 +9,7 @@ use Rattle.tsdb_path.specs.Nodes.{IsName, IsPath}
 use Rattle.tsdb_base.specs.declared.value.DataType.{DataType}
 use Rattle.tsdb_index.specs.declared.index.IndexEntry.{IndexEntry}
 use Rattle.tsdb_index.specs.declared.index.PageEntry.{PageEntry}
-use Rattle.tsdb_index.specs.Limits.{max_entries, max_pages}
+use Rattle.tsdb_base.specs.Limits.{max_entries, max_pages}
 
 -- a page of values of this type
 pub record IsPageOf (data_type : DataType) (page : PageEntry) : Type 0 where

@@ -6,7 +6,7 @@ use Rattle.tsdb_base.specs.Plain.{plain_text}
 use Rattle.tsdb_fields.specs.Statistics.{stats_field}
 use Rattle.tsdb_index.specs.declared.index.IndexEntry.{IndexEntry}
 use Rattle.tsdb_index.specs.declared.index.PageEntry.{PageEntry}
-use Rattle.tsdb_index.specs.Limits.{max_leaf_entries}
+use Rattle.tsdb_base.specs.Limits.{max_leaf_entries}
 
 -- a page: its place and its statistics
 abbrev pub page_field : PageEntry → List ℕ

@@ -11,7 +11,7 @@ use Rattle.tsdb_index.specs.declared.fault.IndexFault.TheVariants as fault
 use Rattle.tsdb_index.specs.declared.pointer.Pointer.{Pointer}
 use Rattle.tsdb_index.specs.Entries.{IsBefore}
 use Rattle.tsdb_index.specs.Parts.{AreLeavesAt, IsFirstBadLeaf, end_of, pointer_names}
-use Rattle.tsdb_index.specs.Limits.{max_leaf_entries}
+use Rattle.tsdb_base.specs.Limits.{max_leaf_entries}
 use Rattle.tsdb_index.specs.Spelling.{leaf_field, pointer_field, pointers, AreLeaves, StandIn}
 
 -- a leaf was appended, and the pointer at it

@@ -3,9 +3,6 @@
 use tsdb_base::{DataType, Encoding, List, Stats};
 use tsdb_path::{Name, Path};
 
-/// The most entries of a leaf. Each leaf but the last has so many.
-pub const MAX_LEAF_ENTRIES: usize = 256;
-
 /// What the index says of a page.
 #[derive(PartialEq, Eq, Drop)]
 pub struct PageEntry {

@@ -3,9 +3,10 @@ ghost use Rattle.std.specs.Prelude.{◌<◌, ◌-◌, ◌↔◌, ◌++◌, All, 
 ghost use Rattle.tsdb_index.specs.Entries.{AreInOrder, IsBefore, names_of};
 ghost use Rattle.tsdb_index.specs.Parts.{BeginAt, BeginWith, IsLeafSize, IsPointerBefore, next_names};
 
-use crate::index::{IndexEntry, MAX_LEAF_ENTRIES};
+use crate::index::IndexEntry;
 use crate::pointer::Pointer;
 use std::cmp::Ordering;
+use tsdb_base::limits::MAX_LEAF_ENTRIES;
 use tsdb_path::{Name, Path};
 
 /// Whether the first names come before the second.

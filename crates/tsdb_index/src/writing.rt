@@ -1,12 +1,13 @@
 //! Writing an index. Depends on `index`.
 ghost use Rattle.std.specs.Prelude.{◌≡◌, ℕ, ◌<◌, ◌≤◌, ◌++◌, length, IfOk, OnOk};
 ghost use Rattle.std.specs.List.{flat_map};
-ghost use Rattle.tsdb_index.specs.Limits.{max_leaf_entries};
+ghost use Rattle.tsdb_base.specs.Limits.{max_leaf_entries};
 ghost use Rattle.tsdb_index.specs.Spelling.{page_field, entry_field, leaf_field, pointer_field, IsSpelling};
 ghost use Rattle.tsdb_index.specs.Steps.{IsAppended, AreWritten};
 
-use crate::index::{Index, IndexEntry, MAX_LEAF_ENTRIES, PageEntry};
+use crate::index::{Index, IndexEntry, PageEntry};
 use std::alloc::Global;
+use tsdb_base::limits::MAX_LEAF_ENTRIES;
 use tsdb_base::{Memory, PlainValue};
 use tsdb_fields::{write_name, write_path, write_stats};
 

@@ -9,7 +9,7 @@ use Rattle.tsdb_memory.specs.Shown.{number_of}
 use Rattle.tsdb_memory.specs.Store.{FrozenPair, Store, frozen_with_working}
 use Rattle.tsdb_memtable.specs.Pairs.{Pair}
 use Rattle.tsdb_outside.specs.declared.faults.Failed.{Failed}
-use Rattle.tsdb_state.specs.Limits.{end_of_numbers}
+use Rattle.tsdb_base.specs.Limits.{end_of_numbers}
 
 pub create_answered : (store : Store) (path : List ℕ) (result : Result (Result (Unit {0}) Failed) fault.Memory)
     → number_of store.series path ≡ None → store.stamp < end_of_numbers → IsCreateAnswer store path (answer_by result)

@@ -22,7 +22,7 @@ use Rattle.tsdb_memory.specs.Store.{Store}
 use Rattle.tsdb_outside.specs.declared.disk.Disk as disk
 use Rattle.tsdb_outside.specs.declared.faults.Counted as counted
 use Rattle.tsdb_outside.specs.declared.faults.Failed.{Failed}
-use Rattle.tsdb_state.specs.Limits.{end_of_numbers}
+use Rattle.tsdb_base.specs.Limits.{end_of_numbers}
 use Rattle.tsdb_state.specs.Records.{after}
 use Rattle.tsdb_state.specs.State.{EngineState, StoreState}
 use Rattle.tsdb_state.specs.Steps.{failed, wrote}

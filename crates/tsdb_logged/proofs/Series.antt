@@ -6,7 +6,7 @@ use Rattle.tsdb_model.specs.declared.command.Schema.{Schema}
 use Rattle.tsdb_memory.proofs.Types.{no_type_at, some_type_at}
 use Rattle.tsdb_memory.specs.Shown.{IsMemoryOf, number_of}
 use Rattle.tsdb_memory.specs.Store.{Store}
-use Rattle.tsdb_state.specs.Limits.{end_of_numbers}
+use Rattle.tsdb_base.specs.Limits.{end_of_numbers}
 use Rattle.tsdb_state.specs.Records.{CanCreate, CanDelete}
 use Rattle.tsdb_state.specs.State.{StoreState}
 

@@ -10,9 +10,10 @@ ghost use Rattle.tsdb_model.specs.Commands.{IsSchema};
 ghost use Rattle.tsdb_memory.specs.Model.{IsFitting};
 ghost use Rattle.tsdb_memory.specs.Shown.{number_of};
 ghost use Rattle.tsdb_memtable.specs.Pairs.{spare_of};
-ghost use Rattle.tsdb_state.specs.Limits.{end_of_numbers};
+ghost use Rattle.tsdb_base.specs.Limits.{end_of_numbers};
 
 use crate::logged::{Logged, answer_of};
+use tsdb_base::limits::END_OF_NUMBERS;
 use tsdb_base::{Answer, List, Memory, Range, Stamp, Time};
 use tsdb_log::{CellRecord, LogRecord};
 use tsdb_model::Schema;
@@ -20,7 +21,7 @@ use tsdb_outside::{Failed, Journal};
 use tsdb_path::Path;
 
 /// The last stamp.
-const LAST_STAMP: u64 = 0x8000_0000_0000_0000;
+const LAST_STAMP: u64 = END_OF_NUMBERS;
 
 impl<J: Journal> Logged<J> {
     ghost use Rattle.tsdb_logged.specs.Commands.{IsAny, IsCommand, IsPrepared, create_record};

@@ -4,7 +4,7 @@ ghost use Rattle.tsdb_logged.specs.Answers.{IsFreezeAnswer, answer_by};
 ghost use Rattle.tsdb_log.specs.declared.record.LogRecord.{LogRecord};
 ghost use Rattle.tsdb_memory.specs.Store.{frozen_with_working};
 ghost use Rattle.tsdb_state.specs.Jobs.{flushed_bytes};
-ghost use Rattle.tsdb_state.specs.Limits.{max_frozen};
+ghost use Rattle.tsdb_base.specs.Limits.{max_frozen};
 
 use crate::logged::{Logged, answer_of};
 use tsdb_base::{Answer, FileNumber, Memory, Stamp};

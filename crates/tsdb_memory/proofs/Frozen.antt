@@ -35,7 +35,7 @@ use Rattle.tsdb_memory.specs.declared.store.FrozenPair.{FrozenPair as Kept}
 use Rattle.tsdb_memtable.specs.Pairs.{Pair, points_of}
 use Rattle.tsdb_memtable.specs.Watermarks.{Watermarks, watermark}
 use Rattle.tsdb_path.specs.Nodes.{device_of}
-use Rattle.tsdb_state.specs.Limits.{max_frozen}
+use Rattle.tsdb_base.specs.Limits.{max_frozen}
 use Rattle.tsdb_state.specs.Records.{froze}
 use Rattle.tsdb_state.specs.Views.{working_pair}
 use Rattle.tsdb_state.specs.State.{StoreState}

@@ -15,7 +15,7 @@ use Rattle.tsdb_memory.specs.Shown.{IsMemoryOf, file_borns, number_of}
 use Rattle.tsdb_memory.specs.Store as value
 use Rattle.tsdb_memory.specs.declared.store.FrozenPair.{FrozenPair}
 use Rattle.tsdb_memtable.specs.Pairs.{Pair, change_points, without_range}
-use Rattle.tsdb_state.specs.Limits.{end_of_numbers}
+use Rattle.tsdb_base.specs.Limits.{end_of_numbers}
 use Rattle.tsdb_state.specs.Records.{add_mark, cut_pair, deleted}
 use Rattle.tsdb_state.specs.State.{StoreState}
 

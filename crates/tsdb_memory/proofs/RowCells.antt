@@ -19,7 +19,7 @@ use Rattle.tsdb_memory.specs.Store.{Store}
 use Rattle.tsdb_memtable.specs.Pairs.{Pair, SeriesPoints, UsesSpareRoom, change_points, points_in, put_in, spare_of}
 use Rattle.tsdb_memtable.specs.Watermarks.{space_by, watermark}
 use Rattle.tsdb_path.specs.Nodes.{device_of}
-use Rattle.tsdb_state.specs.Limits.{end_of_numbers}
+use Rattle.tsdb_base.specs.Limits.{end_of_numbers}
 use Rattle.tsdb_state.specs.Records.{inserted, path_of, put_cells, put_in_space}
 use Rattle.tsdb_state.specs.State as state
 

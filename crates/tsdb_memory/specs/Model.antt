@@ -18,7 +18,7 @@ use Rattle.tsdb_memory.specs.declared.store.MemoryStore.TheInside.{Inside}
 use Rattle.tsdb_memtable.specs.Pairs.{Pair, points_of}
 use Rattle.tsdb_memtable.specs.Points.{IsRising}
 use Rattle.tsdb_path.specs.Nodes.{IsPath, device_of}
-use Rattle.tsdb_state.specs.Limits.{end_of_numbers, max_frozen}
+use Rattle.tsdb_base.specs.Limits.{end_of_numbers, max_frozen}
 
 abbrev pub schema_of : List ℕ × (DataType × Encoding) → Schema
 schema_of entry = record { path = entry.0; data_type = entry.1.0; encoding = entry.1.1 }

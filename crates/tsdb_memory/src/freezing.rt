@@ -10,7 +10,7 @@ ghost use Rattle.tsdb_memory.specs.Store.{frozen_with_working};
 ghost use Rattle.tsdb_memtable.specs.Pairs.{points_of};
 ghost use Rattle.tsdb_memtable.specs.Watermarks.{watermark};
 ghost use Rattle.tsdb_path.specs.Nodes.{device_of, node_count};
-ghost use Rattle.tsdb_state.specs.Limits.{max_frozen};
+ghost use Rattle.tsdb_base.specs.Limits.{max_frozen};
 ghost use Rattle.tsdb_state.specs.Records.{froze};
 ghost use Rattle.tsdb_state.specs.State.{StoreState};
 

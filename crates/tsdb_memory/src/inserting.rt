@@ -6,7 +6,7 @@ ghost use Rattle.tsdb_memory.specs.Model.{IsFitting};
 ghost use Rattle.tsdb_memory.specs.Shown.{IsMemoryOf};
 ghost use Rattle.tsdb_memory.specs.Rows.{ChangesRoom, put_all};
 ghost use Rattle.tsdb_memtable.specs.Pairs.{UsesSpareRoom, points_of, spare_of};
-ghost use Rattle.tsdb_state.specs.Limits.{end_of_numbers};
+ghost use Rattle.tsdb_base.specs.Limits.{end_of_numbers};
 ghost use Rattle.tsdb_state.specs.Records.{inserted};
 ghost use Rattle.tsdb_state.specs.State.{StoreState};
 

@@ -6,7 +6,7 @@ ghost use Rattle.std.specs.Option.{option_map};
 ghost use Rattle.tsdb_memory.specs.Model.{IsSound, frozen_in};
 ghost use Rattle.tsdb_memory.specs.Shown.{IsFilled, IsMemoryOf, number_of, part_of};
 ghost use Rattle.tsdb_state.specs.Limit.{IsEmptyPair};
-ghost use Rattle.tsdb_state.specs.Limits.{max_frozen};
+ghost use Rattle.tsdb_base.specs.Limits.{max_frozen};
 ghost use Rattle.tsdb_state.specs.State.{FrozenPair as FrozenState, StoreState};
 
 use crate::store::{FrozenPair, MemoryStore};

@@ -2,7 +2,7 @@
 //! working pair. Depends on `shared`, `tsdb_memtable` and `tsdb_marks`.
 ghost use Rattle.std.specs.Prelude.{◌≡◌, ◌≤◌};
 ghost use Rattle.tsdb_memory.specs.Shown.{IsMemoryOf};
-ghost use Rattle.tsdb_state.specs.Limits.{end_of_numbers};
+ghost use Rattle.tsdb_base.specs.Limits.{end_of_numbers};
 ghost use Rattle.tsdb_state.specs.NewStore.{new_store};
 
 use crate::shared::SharedPair;

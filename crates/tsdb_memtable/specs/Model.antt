@@ -2,7 +2,8 @@
 use Rattle.std.specs.Prelude.{◌≡◌, ℕ, ◌+◌, ◌*◌, ◌≤◌, length, vec_len, vec_capacity}
 use Rattle.tsdb_memtable.specs.declared.series.SeriesPoints.TheInside.{Inside}
 use Rattle.tsdb_memtable.specs.declared.series.Totals.{Totals}
-use Rattle.tsdb_memtable.specs.Limits.{max_point_bytes, max_bytes}
+use Rattle.tsdb_base.specs.Limits.{max_point_bytes}
+use Rattle.tsdb_memtable.specs.Limits.{max_bytes}
 use Rattle.tsdb_memtable.specs.Points.{IsRising}
 use Rattle.tsdb_memtable.specs.Pairs.{SeriesPoints, series_bytes}
 

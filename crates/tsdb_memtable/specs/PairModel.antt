@@ -5,7 +5,8 @@ use Rattle.std.specs.Map.{values_of}
 use Rattle.tsdb_base.specs.declared.ids.Space.TheVariants.{Sequence, Unsequence}
 use Rattle.tsdb_memtable.specs.declared.pair.Pair.TheInside.{Inside}
 use Rattle.tsdb_memtable.specs.declared.series.Totals.{Totals}
-use Rattle.tsdb_memtable.specs.Limits.{max_point_bytes, max_bytes}
+use Rattle.tsdb_base.specs.Limits.{max_point_bytes}
+use Rattle.tsdb_memtable.specs.Limits.{max_bytes}
 use Rattle.tsdb_memtable.specs.Pairs.{Pair, byte_count, count}
 
 -- for how many points there is room in all

@@ -13,11 +13,9 @@ use crate::watermarks::{Watermarks, space_of};
 use std::alloc::Global;
 use std::collections::BTreeMap;
 use std::marker::Model;
+use tsdb_base::limits::MAX_POINT_BYTES;
 use tsdb_base::{Memory, Point, Range, SeriesId, Space};
 use tsdb_path::Path;
-
-/// The most bytes that a point counts: 8 for its time, and those of the longest text.
-const MAX_POINT_BYTES: u64 = 65543;
 
 /// The points of each series in the sequence space and in the unsequence space, in order of time, with room for more.
 /// A contract sees the series that have points or room, in order of their numbers, each with its points in both spaces

@@ -1,7 +1,8 @@
 //! The points of one series in both spaces, with room for more. It depends on `points`.
 ghost use Rattle.std.specs.Prelude.{◌≡◌, ◌==◌, ◌+◌, ◌*◌, ◌<◌, ◌≤◌, length, OnOk, OnErr};
 ghost use Rattle.std.specs.List.{filter};
-ghost use Rattle.tsdb_memtable.specs.Limits.{max_point_bytes, max_bytes};
+ghost use Rattle.tsdb_base.specs.Limits.{max_point_bytes};
+ghost use Rattle.tsdb_memtable.specs.Limits.{max_bytes};
 ghost use Rattle.tsdb_memtable.specs.Points.{IsRising, is_within};
 ghost use Rattle.tsdb_base.specs.declared.ids.Space.{Space as SpaceOf};
 ghost use Rattle.tsdb_memtable.specs.Pairs.{IsProvided, blank, without_range, points_in, put_in, series_bytes};

@@ -8,7 +8,7 @@ use Rattle.tsdb_model.specs.declared.command.Command.TheVariants.{CompactCross, 
 use Rattle.tsdb_model.specs.declared.command.Item.{Item}
 use Rattle.tsdb_model.specs.declared.command.Row.{Row}
 use Rattle.tsdb_model.specs.declared.command.Schema.{Schema}
-use Rattle.tsdb_model.specs.Limits.{max_names}
+use Rattle.tsdb_base.specs.Limits.{max_names}
 use Rattle.tsdb_path.specs.Nodes.{node_count}
 
 -- a path of a device: at least 2 nodes

@@ -8,7 +8,7 @@ use Rattle.tsdb_model.specs.declared.command.Command.TheVariants.{CompactCross, 
 use Rattle.tsdb_model.specs.declared.reply.Reply.{Reply}
 use Rattle.tsdb_model.specs.declared.reply.Reply.TheVariants.{Plain, Files}
 use Rattle.tsdb_model.specs.Apply.{accepted, reply_of}
-use Rattle.tsdb_model.specs.Limits.{max_number}
+use Rattle.tsdb_base.specs.Limits.{end_of_numbers}
 use Rattle.tsdb_model.specs.State.{State, IsPossible}
 
 -- a command and its reply
@@ -46,19 +46,19 @@ DrawsNumbers ShowFiles = ⊥
 pub record IsStampFull (state : State) (command : Command) (counter : ℕ) : Type 0 where
   pub change : IsChange command
   pub accepted : reply_of state.world command ≡ Plain Done
-  pub stands : state.stamp ≡ max_number
+  pub stands : state.stamp ≡ end_of_numbers
   pub number : counter ≡ state.stamp
 
 -- the command may need two numbers for files, and they are not left
 pub record AreNumbersFull (command : Command) (counter : ℕ) : Type 0 where
   pub draws : DrawsNumbers command
-  pub end : max_number < counter + 2
+  pub end : end_of_numbers < counter + 2
 
 -- the reply is the map's, and the stamp can rise where it must
 pub record IsMapReply (state : State) (command : Command) (reply : Reply) : Type 0 where
   pub not_listing : command ≢ ShowFiles
   pub same : reply ≡ reply_of state.world command
-  pub rises : IsChange command → reply ≡ Plain Done → state.stamp ≢ max_number
+  pub rises : IsChange command → reply ≡ Plain Done → state.stamp ≢ end_of_numbers
 
 -- the replies that a command may have in a state
 abbrev pub IsAllowed : State → Command → Reply → Type 0

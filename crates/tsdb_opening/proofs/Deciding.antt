@@ -12,7 +12,7 @@ use Rattle.tsdb_memory.specs.Shown.{IsFrozenOf, IsMemoryOf, entry_of, number_of}
 use Rattle.tsdb_memory.specs.Store as value
 use Rattle.tsdb_opening.specs.Changes.{IsCreation, IsDeletion, IsFreezing}
 use Rattle.tsdb_state.specs.Limit.{IsEmptyPair}
-use Rattle.tsdb_state.specs.Limits.{end_of_numbers}
+use Rattle.tsdb_base.specs.Limits.{end_of_numbers}
 use Rattle.tsdb_state.specs.Records.{CanCreate, CanDelete, CanFreeze}
 use Rattle.tsdb_state.specs.State.{SeriesEntry, StoreState}
 use Rattle.tsdb_state.specs.Worlds.{is_live_at, type_at}

@@ -28,7 +28,7 @@ use Rattle.tsdb_opening.proofs.Counting.{count_cells, few_fresh, fresh}
 use Rattle.tsdb_opening.specs.Rows.{DifferInSeries, HasNoInsert, HasRoomFor, IsCellOf, IsDeviceOf, IsRowOf, LacksItsSeries, new_points}
 use Rattle.tsdb_path.specs.Nodes.{child_of, device_of, dot}
 use Rattle.tsdb_state.specs.Limit.{IsEmptyPair, point_count}
-use Rattle.tsdb_state.specs.Limits.{end_of_numbers, max_pair_points}
+use Rattle.tsdb_base.specs.Limits.{end_of_numbers, max_pair_points}
 use Rattle.tsdb_state.specs.Records.{CanInsert, IsOfDevice, inserted, path_of, place_of}
 use Rattle.tsdb_state.specs.State.{StoreState}
 

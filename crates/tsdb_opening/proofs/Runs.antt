@@ -4,7 +4,7 @@ use Rattle.std.proofs.Common.{Option, Some, None, sym, ap, subst, ◌∙◌, ari
 use Rattle.std.proofs.lemmas.Bool.{cases_eq, cases_lt}
 use Rattle.tsdb_opening.specs.Named.{IsInRun, run_from}
 use Rattle.tsdb_opening.specs.Runs.{AreRuns, BeginsWith, EndsWith, HasOneMore, IsLastUpTo}
-use Rattle.tsdb_state.specs.Limits.{end_of_numbers}
+use Rattle.tsdb_base.specs.Limits.{end_of_numbers}
 
 -- one run that begins with a number has one end
 pub one_end : (o : Option ℕ) (a b : ℕ) → o ≡ Some a → o ≡ Some b → a ≡ b

@@ -4,7 +4,7 @@ use Rattle.tsdb_model.specs.Commands.{IsSchema}
 use Rattle.tsdb_model.specs.declared.command.Schema.{Schema}
 use Rattle.tsdb_memory.specs.Shown.{IsMemoryOf, number_of}
 use Rattle.tsdb_memory.specs.Store.{Store}
-use Rattle.tsdb_state.specs.Limits.{end_of_numbers, max_frozen}
+use Rattle.tsdb_base.specs.Limits.{end_of_numbers, max_frozen}
 use Rattle.tsdb_state.specs.Records.{CanFreeze}
 use Rattle.tsdb_state.specs.State.{StoreState}
 

@@ -13,7 +13,7 @@ use Rattle.tsdb_memory.specs.Store.{Store}
 use Rattle.tsdb_memtable.specs.Pairs.{Pair, points_of}
 use Rattle.tsdb_path.specs.Nodes.{device_of}
 use Rattle.tsdb_state.specs.Limit.{IsEmptyPair, point_count}
-use Rattle.tsdb_state.specs.Limits.{end_of_numbers, max_pair_points}
+use Rattle.tsdb_base.specs.Limits.{end_of_numbers, max_pair_points}
 use Rattle.tsdb_state.specs.Records.{CanInsert, inserted}
 use Rattle.tsdb_state.specs.State.{StoreState}
 

@@ -3,19 +3,17 @@ ghost use Rattle.std.specs.Prelude.{◌<◌, ◌↔◌, IsTrue};
 ghost use Rattle.tsdb_log.specs.declared.record.LogRecord.{LogRecord};
 ghost use Rattle.tsdb_opening.specs.Changes.{IsCreation, IsDeletion, IsFreezing};
 ghost use Rattle.tsdb_opening.specs.Redone.{IsRedone};
-ghost use Rattle.tsdb_state.specs.Limits.{end_of_numbers};
+ghost use Rattle.tsdb_base.specs.Limits.{end_of_numbers};
 
 use crate::RedoFault;
 use crate::opening::Opening;
+use tsdb_base::limits::{END_OF_NUMBERS, MAX_FROZEN};
 use tsdb_base::{Range, suits};
 use tsdb_model::Schema;
 use tsdb_path::Path;
 
 /// The greatest stamp, at which no change has a replay.
-const LAST_STAMP: u64 = 1 << 63;
-
-/// The most frozen pairs.
-const MAX_FROZEN: usize = 2;
+const LAST_STAMP: u64 = END_OF_NUMBERS;
 
 impl Opening {
     /// Whether one more command can be counted.

@@ -7,16 +7,14 @@ ghost use Rattle.std.specs.BTreeMap.{IsUnchanged};
 ghost use Rattle.std.specs.Option.{option_map};
 ghost use Rattle.tsdb_opening.specs.Named.{CanName, IsGreatest, IsInRun, IsNamed, NamesMore, none_named, run_from};
 ghost use Rattle.tsdb_opening.specs.Runs.{AreRuns, BeginsWith, EndsWith, HasOneMore, IsLastOf, IsLastUpTo};
-ghost use Rattle.tsdb_state.specs.Limits.{end_of_numbers};
+ghost use Rattle.tsdb_base.specs.Limits.{end_of_numbers};
 ghost use Rattle.tsdb_state.specs.Records.{new_numbers};
 
 use std::alloc::Global;
 use std::collections::BTreeMap;
 use std::marker::Model;
+use tsdb_base::limits::END_OF_NUMBERS;
 use tsdb_base::{FileNumber, Memory};
-
-/// Where the numbers of files end.
-const END_OF_NUMBERS: u64 = 1 << 63;
 
 /// The runs of numbers, each from its first number to its last.
 type Runs = BTreeMap<u64, u64>;

@@ -7,7 +7,7 @@ ghost use Rattle.tsdb_opening.specs.Lists.{files_of};
 ghost use Rattle.tsdb_opening.specs.Opening.{IsOpeningOf, greatest, list_of, next_number, with_stored};
 ghost use Rattle.tsdb_opening.specs.Redone.{IsReplayed, IsWithoutReplay, ShowsTheSame};
 ghost use Rattle.tsdb_replay.specs.Stores.{Recorded, store_steps};
-ghost use Rattle.tsdb_state.specs.Limits.{end_of_numbers};
+ghost use Rattle.tsdb_base.specs.Limits.{end_of_numbers};
 
 use crate::RedoFault;
 use crate::lists::{FileLists, ListedFile};

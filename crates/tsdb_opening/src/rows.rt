@@ -17,6 +17,7 @@ use crate::RedoFault;
 use crate::opening::Opening;
 use std::alloc::Global;
 use std::collections::HashSet;
+use tsdb_base::limits;
 use tsdb_base::{List, Memory, Range, SeriesId, Space, Time};
 use tsdb_log::CellRecord;
 use tsdb_memory::MemoryStore;
@@ -24,7 +25,7 @@ use tsdb_memtable::{Pair, space_of};
 use tsdb_path::Path;
 
 /// The most points of a working pair of more than one row, whatever an engine's options say.
-const MAX_PAIR_POINTS: u128 = 1_000_000;
+const MAX_PAIR_POINTS: u128 = limits::MAX_PAIR_POINTS as u128;
 
 impl Opening {
     /// A row is inserted.

@@ -1,4 +1,3 @@
-pub mod Limits
 pub mod Pages
 pub mod Reading
 pub mod Trees

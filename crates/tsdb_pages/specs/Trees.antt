@@ -11,7 +11,7 @@ use Rattle.tsdb_pages.specs.declared.tree.Page.{Page}
 use Rattle.tsdb_pages.specs.declared.tree.Chunk.{Chunk}
 use Rattle.tsdb_pages.specs.declared.tree.Group.{Group}
 use Rattle.tsdb_pages.specs.declared.tree.Tree.{Tree}
-use Rattle.tsdb_pages.specs.Limits.{max_pages, max_chunks}
+use Rattle.tsdb_base.specs.Limits.{max_entries, max_pages}
 use Rattle.tsdb_pages.specs.Pages.{ArePoints, IsInRange, IsRising}
 
 -- all points of the pages, in their order
@@ -43,7 +43,7 @@ pub record IsGroup (group : Group) : Type 0 where
 -- one group or more, in rising order of their devices
 pub record IsTree (tree : Tree) : Type 0 where
   pub some : 0 < length tree.groups
-  pub few : length (chunks_of tree.groups) ≤ max_chunks
+  pub few : length (chunks_of tree.groups) ≤ max_entries
   pub groups : All IsGroup tree.groups
   pub rising : AllPairs (λ a b. IsBefore a.device b.device) tree.groups
 

@@ -1,21 +1,19 @@
 //! The conditions on a tree. Depends on `tree` and `rising`.
 ghost use Rattle.std.specs.Prelude.{◌<◌, ◌≤◌, ◌↔◌, All, AllPairs, IsTrue, length};
-ghost use Rattle.tsdb_pages.specs.Limits.{max_chunks};
+ghost use Rattle.tsdb_base.specs.Limits.{max_entries};
 ghost use Rattle.tsdb_pages.specs.Pages.{ArePoints, IsRising};
 ghost use Rattle.tsdb_pages.specs.Trees.{IsBefore, IsChunk, IsGroup, IsTree, chunks_of, points_of};
 
 use crate::rising::is_rising;
 use crate::tree::{Chunk, Group, Page, Tree};
+use tsdb_base::limits::{MAX_ENTRIES, MAX_PAGES, MAX_VALUES};
 use tsdb_base::{DataType, Point, suits};
 
 /// The most points of a page.
-const MAX_POINTS: usize = 1_000;
-
-/// The most pages of a chunk.
-const MAX_PAGES: usize = 4_294_967_295;
+const MAX_POINTS: usize = MAX_VALUES;
 
 /// The most chunks of a tree.
-const MAX_CHUNKS: usize = 1_099_511_627_520;
+const MAX_CHUNKS: usize = MAX_ENTRIES;
 
 /// Whether these may be the points of a page of this type: 1 to 1,000, in order of time.
 pub fn are_points(points: &[Point], data_type: DataType) -> bool
@@ -112,7 +110,7 @@ fn devices_rise(groups: &[Group]) -> bool
 
 /// Whether the groups have no more chunks than a tree may have.
 fn have_few_chunks(groups: &[Group]) -> bool
-    ensures { IsTrue result ↔ length (chunks_of groups.now) ≤ max_chunks }
+    ensures { IsTrue result ↔ length (chunks_of groups.now) ≤ max_entries }
 {
     let mut room = MAX_CHUNKS;
     for group in groups {

@@ -9,12 +9,11 @@ ghost use Rattle.tsdb_path.specs.Refusals.{HasFittingLength, RefusesPath, Refuse
 ghost use Rattle.tsdb_path.specs.Steps.{RefusesLength, IsFirstSplit, TakesNode, BeginsBadly};
 
 use crate::PathFault;
+use tsdb_base::limits::{MAX_NODES, MAX_PATH_BYTES};
 
 pub(crate) const DOT: u8 = b'.';
 
-const MAX_BYTES: usize = 255;
-
-const MAX_NODES: usize = 16;
+const MAX_BYTES: usize = MAX_PATH_BYTES;
 
 /// Whether all bytes are ASCII letters, digits and `_`.
 fn has_node_bytes(bytes: &[u8]) -> bool

@@ -6,7 +6,7 @@ use Rattle.std.proofs.lemmas.List.Sums.{sum_by_more, sum_by-take-le}
 use Rattle.tsdb_plan.specs.declared.entry.FileEntry.{FileEntry}
 use Rattle.tsdb_plan.specs.Files.{AreFree, bytes_of}
 use Rattle.tsdb_plan.specs.InnerPlan.{IsRow}
-use Rattle.tsdb_plan.specs.Limits.{max_bytes, max_files}
+use Rattle.tsdb_base.specs.Limits.{max_inputs, max_plan_bytes}
 
 -- the bytes of a prefix, and of one file more
 pub bytes_more : (files : List FileEntry) (count : ℕ) (file : FileEntry) → count < length files → file ≡ get_or files count file → bytes_of (take (count + 1) files) ≡ bytes_of (take count files) + file.bytes
@@ -35,8 +35,8 @@ stops_at_bytes files count n room limit file l e sum big fits =
     (λ (h : n ≤ count). h)
     (cases_lt count n)
 
-pub stops_at_ten : (files : List FileEntry) (count n : ℕ) → count ≡ max_files → n ≤ length files → length (take n files) ≤ max_files → n ≤ count
+pub stops_at_ten : (files : List FileEntry) (count n : ℕ) → count ≡ max_inputs → n ≤ length files → length (take n files) ≤ max_inputs → n ≤ count
 stops_at_ten files count n e within few = omega (arith, length-take-le n files within)
 
-pub row_so_far : (files : List FileEntry) (count room : ℕ) → count ≤ length files → AreFree (take count files) → count ≤ max_files → room + bytes_of (take count files) ≡ max_bytes → IsRow (take count files)
+pub row_so_far : (files : List FileEntry) (count room : ℕ) → count ≤ length files → AreFree (take count files) → count ≤ max_inputs → room + bytes_of (take count files) ≡ max_plan_bytes → IsRow (take count files)
 row_so_far files count room within free few sum = record { free = free; few = omega (arith, length-take-le count files within); fits = omega arith }

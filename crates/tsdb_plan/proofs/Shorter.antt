@@ -8,7 +8,7 @@ use Rattle.tsdb_plan.specs.declared.entry.CrossRun.{CrossRun}
 use Rattle.tsdb_plan.specs.declared.entry.FileEntry.{FileEntry}
 use Rattle.tsdb_plan.specs.CrossPlan.{IsFirstOf, IsPastOf, IsEligible, HasTimeFromStart, HasTimeUpToEnd}
 use Rattle.tsdb_plan.specs.Files.{bytes_of}
-use Rattle.tsdb_plan.specs.Limits.{max_bytes}
+use Rattle.tsdb_base.specs.Limits.{max_plan_bytes}
 use Rattle.tsdb_plan.specs.Places.{IsFirstPlace, IsPastLast}
 use Rattle.tsdb_plan.proofs.Hulls.{start_left, end_left}
 use Rattle.tsdb_plan.proofs.Rows.{bytes_of-take-le}
@@ -90,7 +90,7 @@ module _ (sequence unsequence : List FileEntry) (d : FileEntry) (run : CrossRun)
       }
 
 -- where a prefix does not fit, no eligible one is longer
-pub ends_at_span : (sequence unsequence : List FileEntry) (d : FileEntry) (place first past end room : ℕ) → room + bytes_of (take (place + 1) unsequence) ≡ max_bytes → IsFirstOf (take (place + 1) unsequence) sequence first → IsPastOf (take (place + 1) unsequence) sequence past
+pub ends_at_span : (sequence unsequence : List FileEntry) (d : FileEntry) (place first past end room : ℕ) → room + bytes_of (take (place + 1) unsequence) ≡ max_plan_bytes → IsFirstOf (take (place + 1) unsequence) sequence first → IsPastOf (take (place + 1) unsequence) sequence past
     → end ≡ max first past → (bytes_of (take (end - first) (drop first sequence)) ≤ room → ⊥) → (other : CrossRun) → IsEligible sequence unsequence other → other.prefix ≤ place
 ends_at_span sequence unsequence d place first past end room sum f p e big other eligible =
     ⊎_elim

@@ -3,13 +3,13 @@ use Rattle.std.specs.Prelude.{ℕ, ◌+◌, ◌≤◌, List, length, slice_range
 use Rattle.tsdb_plan.specs.declared.entry.FileEntry.{FileEntry}
 use Rattle.tsdb_plan.specs.declared.entry.Run.{Run}
 use Rattle.tsdb_plan.specs.Files.{AreFree, bytes_of}
-use Rattle.tsdb_plan.specs.Limits.{max_bytes, max_files}
+use Rattle.tsdb_base.specs.Limits.{max_inputs, max_plan_bytes}
 
 -- files that one job may rewrite: none is claimed, there are at most 10 of them, and their bytes are within the limit
 pub record IsRow (files : List FileEntry) : Type 0 where
   pub free : AreFree files
-  pub few : length files ≤ max_files
-  pub fits : bytes_of files ≤ max_bytes
+  pub few : length files ≤ max_inputs
+  pub fits : bytes_of files ≤ max_plan_bytes
 
 -- the files from place `first` to place `end`, without `end`, are such a row
 pub record IsRowAt (files : List FileEntry) (first end : ℕ) : Type 0 where

@@ -2,6 +2,5 @@ pub mod CrossPlan
 pub mod Files
 pub mod InnerPlan
 pub mod Laws
-pub mod Limits
 pub mod Places
 pub mod Steps

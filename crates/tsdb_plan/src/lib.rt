@@ -5,6 +5,8 @@
 //! of its devices. No plan takes memory.
 #![tactic(auto)]
 
+use tsdb_base::limits::{MAX_INPUTS, MAX_PLAN_BYTES};
+
 mod cross_plan;
 mod entry;
 mod inner_plan;
@@ -18,7 +20,7 @@ pub use laws::{ends_are_greatest, firsts_are_least, shorter_are_eligible};
 pub use overlap::have_rising_hulls;
 
 /// The most files that an inner run has.
-pub const MAX_FILES: usize = 10;
+pub const MAX_FILES: usize = MAX_INPUTS;
 
 /// The most bytes that the files of a plan have together.
-pub const MAX_BYTES: u64 = 268_435_456;
+pub const MAX_BYTES: u64 = MAX_PLAN_BYTES;

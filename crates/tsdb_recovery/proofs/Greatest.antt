@@ -13,7 +13,7 @@ use Rattle.tsdb_outside.specs.Files.{IsFileNumber, StoredFile, numbers_of, plain
 use Rattle.tsdb_recovery.specs.Opened.{IsNextNumber}
 use Rattle.tsdb_recovery.specs.Taking.{IsGreatest}
 use Rattle.tsdb_recovery.specs.Stored.{AreStored, IsNumbered}
-use Rattle.tsdb_state.specs.Limits.{end_of_numbers}
+use Rattle.tsdb_base.specs.Limits.{end_of_numbers}
 
 pub only : (m n : ℕ) → Contains (m ∷ []) n → m ≡ n
 only m n there = by (Contains-push_cases [] m n there)

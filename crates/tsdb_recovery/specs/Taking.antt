@@ -21,7 +21,7 @@ use Rattle.tsdb_recover.specs.declared.fault.Part.{Part}
 use Rattle.tsdb_recovery.specs.Damage.{IsFileDamaged, IsTreeFile}
 use Rattle.tsdb_replay.specs.Stores.{Recorded}
 use Rattle.tsdb_recovery.specs.Stored.{AreStored}
-use Rattle.tsdb_state.specs.Limits.{end_of_numbers}
+use Rattle.tsdb_base.specs.Limits.{end_of_numbers}
 use Rattle.tsdb_state.specs.State.{StoreState, Told}
 use Rattle.tsdb_state.specs.StoreOrder.{StoreInOrder}
 

@@ -30,7 +30,7 @@ use Rattle.tsdb_serving.specs.declared.fault.FlushFault.{FlushFault}
 use Rattle.tsdb_serving.specs.declared.fault.FlushFault.TheVariants as fault
 use Rattle.tsdb_outside.specs.declared.faults.StoreFault.{StoreFault}
 use Rattle.tsdb_outside.specs.declared.faults.StoreFault.TheVariants as file_fault
-use Rattle.tsdb_state.specs.Limits.{end_of_numbers}
+use Rattle.tsdb_base.specs.Limits.{end_of_numbers}
 
 pub told_bytes : (bytes : Option (List ℕ)) → is_some bytes ≡ true → IsSome bytes
 told_bytes None is = absurd (false≢true is)

@@ -17,7 +17,7 @@ use Rattle.tsdb_rewriting.proofs.Listed.{replaced_by}
 use Rattle.tsdb_rewriting.specs.Rewriting.{IsCompacted, IsFinished, KeepsBoth}
 use Rattle.tsdb_serving.specs.declared.fault.FlushFault.{FlushFault}
 use Rattle.tsdb_serving.specs.declared.fault.FlushFault.TheVariants as fault
-use Rattle.tsdb_state.specs.Limits.{end_of_numbers}
+use Rattle.tsdb_base.specs.Limits.{end_of_numbers}
 
 module _ {J F S R P : Type 0} {means : disk.Ghosts J} {counts : counted.Ghosts J} (name : R → NamedFile) where
   pub compacted : (IsPlan : InputRuns → Type 0) (space : Space) (runs : InputRuns) (old mid new : Core J F S R P means counts)

@@ -17,7 +17,7 @@ ghost use Rattle.tsdb_rewriting.specs.Rewriting.{EndsRewrite, IsCompacted, IsFin
 ghost use Rattle.tsdb_serving.specs.Flushing.{GoesOn, IsReady, faults_under};
 ghost use Rattle.tsdb_serving.specs.Serving.{IsSure};
 ghost use Rattle.tsdb_serving.specs.declared.fault.FlushFault.{FlushFault as FaultOf};
-ghost use Rattle.tsdb_state.specs.Limits.{end_of_numbers};
+ghost use Rattle.tsdb_base.specs.Limits.{end_of_numbers};
 ghost use Rattle.tsdb_state.specs.State.{Told};
 
 use std::alloc::Global;

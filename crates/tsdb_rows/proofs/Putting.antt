@@ -32,7 +32,7 @@ use Rattle.tsdb_memtable.specs.Watermarks.{space_by}
 use Rattle.tsdb_path.specs.Nodes.{device_of}
 use Rattle.tsdb_state.specs.Commands.{AreCells, KeepsBytes}
 use Rattle.tsdb_state.specs.Limit.{IsEmptyPair, byte_count, point_count}
-use Rattle.tsdb_state.specs.Limits.{end_of_numbers, max_pair_bytes, max_pair_points}
+use Rattle.tsdb_base.specs.Limits.{end_of_numbers, max_pair_bytes, max_pair_points}
 use Rattle.tsdb_state.specs.Records.{CanInsert, IsOfDevice, inserted, place_of, put_cells, put_in_pair, put_in_space}
 use Rattle.tsdb_state.specs.State.{Pair, SeriesEntry, StoreState}
 

@@ -13,7 +13,7 @@ use Rattle.tsdb_layers.specs.Lists.{Among}
 use Rattle.tsdb_log.specs.declared.record.CellRecord.{CellRecord}
 use Rattle.tsdb_model.specs.Apply.{value_of}
 use Rattle.tsdb_model.specs.Commands.{IsRow}
-use Rattle.tsdb_model.specs.Limits.{max_names}
+use Rattle.tsdb_base.specs.Limits.{max_names}
 use Rattle.tsdb_model.specs.declared.command.Cell.{Cell}
 use Rattle.tsdb_model.specs.declared.command.Row.{Row}
 use Rattle.tsdb_model.specs.declared.command.Schema.{Schema}

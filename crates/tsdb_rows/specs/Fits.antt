@@ -7,7 +7,7 @@ use Rattle.tsdb_model.specs.declared.command.Literal.TheVariants as literal
 use Rattle.tsdb_model.specs.declared.command.Row.{Row}
 use Rattle.tsdb_memtable.specs.Pairs.{Pair, byte_count, count}
 use Rattle.tsdb_state.specs.Limit as limits
-use Rattle.tsdb_state.specs.Limits.{max_pair_bytes}
+use Rattle.tsdb_base.specs.Limits.{max_pair_bytes}
 use Rattle.tsdb_state.specs.State as state
 
 -- how many bytes a literal counts, whatever the type of its series

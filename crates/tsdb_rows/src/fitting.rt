@@ -5,16 +5,14 @@ ghost use Rattle.tsdb_memory.specs.Shown.{IsMemoryOf};
 ghost use Rattle.tsdb_memtable.specs.Pairs.{HasRisingSeries, byte_count};
 ghost use Rattle.tsdb_rows.specs.Fits.{FitsPair, HasCounts, HasNoPoint, point_count};
 ghost use Rattle.tsdb_rows.specs.Fits as bytes;
-ghost use Rattle.tsdb_state.specs.Limits.{max_pair_bytes};
+ghost use Rattle.tsdb_base.specs.Limits.{max_pair_bytes};
 ghost use Rattle.tsdb_state.specs.State.{StoreState};
 
+use tsdb_base::limits::MAX_PAIR_BYTES;
 use tsdb_base::Space;
 use tsdb_model::{Cell, Literal, Row};
 use tsdb_memory::MemoryStore;
 use tsdb_memtable::Pair;
-
-/// The most bytes of a working pair of several rows.
-const MAX_PAIR_BYTES: u64 = 67_108_864;
 
 /// Whether the row fits the working pair, with this limit of points: the pair has no point, or its points and the row's
 /// cells are at most the limit, and their bytes at most 67,108,864. A row that does not fit waits for a freeze.

@@ -1,7 +1,7 @@
 //! The cells of a row as its record has them. Depends on nothing here.
 ghost use Rattle.std.specs.Prelude.{◌≤◌, IfOk, length, map};
 ghost use Rattle.tsdb_model.specs.Commands.{IsRow};
-ghost use Rattle.tsdb_model.specs.Limits.{max_names};
+ghost use Rattle.tsdb_base.specs.Limits.{max_names};
 ghost use Rattle.tsdb_memory.specs.Shown.{entry_of};
 ghost use Rattle.tsdb_memory.specs.Model.{IsSound};
 ghost use Rattle.tsdb_rows.specs.Reading.{AreApart, AreOfDevice, IfRead, IsRead};

@@ -6,7 +6,7 @@ use Rattle.std.specs.Prelude.{IfSome}
 use Rattle.std.specs.Io.KnownBytes.{Consumes, IsAtEnd}
 use Rattle.std.proofs.lemmas.Bool.{cases_lt}
 use Rattle.tsdb_run.specs.Input.{TakesScript}
-use Rattle.tsdb_script.specs.Limits.{max_script_bytes}
+use Rattle.tsdb_base.specs.Limits.{max_script_bytes}
 use Rattle.tsdb_script.specs.Reading.{IsFirstBad, IsScript}
 use Rattle.tsdb_script.specs.declared.numbered.Numbered.{Numbered}
 use Rattle.tsdb_script.proofs.ReadingLemmas.{cut_bad, within_limits}

@@ -1,7 +1,7 @@
 -- What is taken from a source.
 use Rattle.std.specs.Prelude.{ℕ, ◌+◌, ◌≤◌, List, Option, length}
 use Rattle.std.specs.Io.KnownBytes.{Consumes, IsAtEnd}
-use Rattle.tsdb_script.specs.Limits.{max_script_bytes}
+use Rattle.tsdb_base.specs.Limits.{max_script_bytes}
 
 -- a prefix of what was left, of at most one byte more than a script may have
 abbrev pub TakesPrefix : Option (List ℕ) → Option (List ℕ) → Type 0

@@ -10,12 +10,10 @@ ghost use Rattle.tsdb_words.specs.Words.{AreWords};
 
 use crate::status::Status;
 use std::alloc::Global;
+use tsdb_base::limits::MAX_SCRIPT_BYTES;
 use tsdb_outside::{Source, StoreFault};
 use tsdb_script::{Numbered, ScriptFault, read_script};
 use tsdb_words::{Asked, Word, read_words};
-
-/// The most bytes that a script has.
-const MAX_SCRIPT_BYTES: usize = 67_108_864;
 
 /// The bytes that are asked for at a time.
 const PIECE_BYTES: usize = 65_536;

@@ -1,6 +1,5 @@
 pub mod Forms
 pub mod LineSteps
-pub mod Limits
 pub mod Meaning
 pub mod Parse
 pub mod Reading

@@ -6,7 +6,7 @@ use Rattle.tsdb_script.specs.Types.{LineFault, Numbered, ScriptFault, Token}
 use Rattle.tsdb_script.specs.declared.fault.LineFault.TheVariants.{Bad, Memory}
 use Rattle.tsdb_script.specs.declared.fault.ScriptFault.TheVariants as script
 use Rattle.tsdb_script.specs.declared.token.Token.TheVariants.{Word}
-use Rattle.tsdb_script.specs.Limits.{max_commands, max_sessions}
+use Rattle.tsdb_base.specs.Limits.{max_commands, max_sessions}
 use Rattle.tsdb_script.specs.Reading.{sessions_of, session_count, IsSession, Line}
 
 -- a line of these bytes behind these commands, which ends at this place of the script

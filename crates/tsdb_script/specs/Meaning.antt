@@ -14,7 +14,7 @@ use Rattle.tsdb_model.specs.declared.command.Literal.TheVariants as literal
 use Rattle.tsdb_script.specs.declared.syntax.Operand.TheVariants as operand
 use Rattle.tsdb_base.specs.Values.{is_suitable}
 use Rattle.tsdb_model.specs.Commands.{AreDifferent, IsDevice, IsSeries}
-use Rattle.tsdb_model.specs.Limits.{max_names}
+use Rattle.tsdb_base.specs.Limits.{max_names}
 use Rattle.tsdb_model.specs.World.{is_in}
 use Rattle.tsdb_path.specs.Nodes.{IsName, IsPath, child_of}
 use Rattle.tsdb_script.specs.declared.syntax.Comparison.TheVariants.{Less, LessEqual, Greater, GreaterEqual, Equal}

@@ -9,7 +9,7 @@ use Rattle.tsdb_script.specs.declared.fault.ScriptFault.TheVariants as fault
 use Rattle.tsdb_script.specs.declared.token.Token.TheVariants.{Word}
 use Rattle.tsdb_script.specs.declared.form.TheConstants.{FORMS}
 use Rattle.tsdb_script.specs.Forms.{asks_first, places, Fits, HasNoForm}
-use Rattle.tsdb_script.specs.Limits.{max_commands, max_line_bytes, max_script_bytes, max_sessions}
+use Rattle.tsdb_base.specs.Limits.{max_commands, max_line_bytes, max_script_bytes, max_sessions}
 use Rattle.tsdb_script.specs.Meaning.{Means, Objects}
 use Rattle.tsdb_script.specs.Tokens.{is_blank, starts, AreTokens, HasNoTokens}
 

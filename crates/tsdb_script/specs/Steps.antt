@@ -6,7 +6,7 @@ use Rattle.tsdb_script.specs.declared.fault.LineFault.TheVariants.{Bad, Memory}
 use Rattle.tsdb_script.specs.declared.token.Token.TheVariants.{Word, Text, Open, Close, Comma, Semicolon, Equal, Less}
 use Rattle.tsdb_script.specs.declared.token.Token.TheVariants.{LessEqual, Greater, GreaterEqual}
 use Rattle.tsdb_script.specs.Tokens.{is_blank, is_word_byte, is_quote, is_mark}
-use Rattle.tsdb_script.specs.Limits.{max_text_bytes}
+use Rattle.tsdb_base.specs.Limits.{max_text_bytes}
 
 -- what stands behind the first byte
 abbrev pub behind_first : List ℕ → List ℕ

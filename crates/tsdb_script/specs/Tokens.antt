@@ -7,7 +7,7 @@ use Rattle.std.specs.Str.{str_eq_ignore_ascii_case}
 use Rattle.tsdb_script.specs.Types.{Token}
 use Rattle.tsdb_script.specs.declared.token.Token.TheVariants.{Word, Text, Open, Close, Comma, Semicolon, Equal, Less}
 use Rattle.tsdb_script.specs.declared.token.Token.TheVariants.{LessEqual, Greater, GreaterEqual}
-use Rattle.tsdb_script.specs.Limits.{max_text_bytes}
+use Rattle.tsdb_base.specs.Limits.{max_text_bytes}
 
 -- a space or a tab
 abbrev pub is_blank : ℕ → Bool

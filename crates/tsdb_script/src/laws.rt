@@ -5,7 +5,7 @@ ghost use Rattle.tsdb_script.specs.declared.numbered.Numbered.{Numbered};
 ghost use Rattle.tsdb_script.specs.declared.syntax.Syntax.{Syntax};
 ghost use Rattle.tsdb_script.specs.declared.token.Token.{Token};
 ghost use Rattle.tsdb_script.specs.Forms.{Fits};
-ghost use Rattle.tsdb_script.specs.Limits.{max_script_bytes};
+ghost use Rattle.tsdb_base.specs.Limits.{max_script_bytes};
 ghost use Rattle.tsdb_script.specs.Reading.{IsFirstBad, IsScript, IsWithinLimits};
 ghost use Rattle.tsdb_script.specs.Tokens.{AreTokens, HasNoTokens};
 

@@ -9,9 +9,7 @@ use crate::fault::LineFault;
 use crate::token::{Quoted, Token, Word};
 use std::alloc::Global;
 use std::collections::VecDeque;
-
-/// The most bytes of a text's content.
-const MAX_TEXT_BYTES: usize = 65_535;
+use tsdb_base::limits::MAX_TEXT_BYTES;
 
 /// A byte that begins no token.
 const STRAY_BYTE: LineFault = LineFault::Bad { kind: 3 };

@@ -19,6 +19,5 @@ mod words;
 
 pub use fault::ScriptFault;
 pub use laws::{cut_script, good_script, one_reading, one_script, one_statement};
-pub use line::MAX_SCRIPT_BYTES;
 pub use numbered::Numbered;
 pub use script::read_script;

@@ -2,7 +2,7 @@
 //! `meaning`, `numbered` and `fault`.
 ghost use Rattle.std.specs.Prelude.{◌≡◌, ◌↔◌, ◌≤◌, ℕ, length, false, IsTrue, IfOk, IfErr, IfSome, IfNone};
 ghost use Rattle.tsdb_model.specs.Commands.{IsWellFormed};
-ghost use Rattle.tsdb_script.specs.Limits.{max_commands, max_line_bytes, max_script_bytes};
+ghost use Rattle.tsdb_base.specs.Limits.{max_commands, max_line_bytes, max_script_bytes};
 ghost use Rattle.tsdb_script.specs.Reading.{content_of, is_skipped, sessions_of, BeginsStatement, IsBad, IsCommand};
 ghost use Rattle.tsdb_script.specs.Reading.{IsSession, IsSkipped};
 ghost use Rattle.tsdb_script.specs.LineSteps.{line_at, AreDifferentOf, HasNoSession, HasRoom, HasSession};
@@ -17,18 +17,7 @@ use crate::parser::{Tokens, begins_form, statement};
 use crate::token::{Token, Word};
 use std::alloc::Global;
 use std::str;
-
-/// The most bytes of a script.
-pub const MAX_SCRIPT_BYTES: usize = 67_108_864;
-
-/// The most bytes of a line, with its end.
-const MAX_LINE_BYTES: usize = 1_048_576;
-
-/// The most commands of a script.
-const MAX_COMMANDS: usize = 1_000_000;
-
-/// The most different sessions of a script.
-const MAX_SESSIONS: usize = 8;
+use tsdb_base::limits::{MAX_COMMANDS, MAX_LINE_BYTES, MAX_SCRIPT_BYTES, MAX_SESSIONS};
 
 /// A limit is passed.
 const PAST_LIMIT: LineFault = LineFault::Bad { kind: 9 };

@@ -21,15 +21,13 @@ use crate::words::{
 };
 use std::alloc::Global;
 use std::collections::HashSet;
+use tsdb_base::limits::MAX_NAMES;
 use tsdb_base::{Aggregate, List, Memory};
 use tsdb_model::{Cell, Command, Item, Literal, Row, Schema};
 use tsdb_path::{Name, Path};
 
 /// The statement as a whole is bad.
 const UNBALANCED: LineFault = LineFault::Bad { kind: 7 };
-
-/// The most cells of a row, and the most items of a select.
-const MAX_NAMES: usize = 1000;
 
 /// The names of the measurements of a device.
 fn measurements(alloc: Global, device: &Path, words: &[Word]) -> Result<Vec<Name>, LineFault>

@@ -1,6 +1,6 @@
 //! Tokens: words and texts, lent from the line, and marks. Depends on tsdb_base.
 ghost use Rattle.std.specs.Prelude.{◌≡◌, ◌≤◌, length, IfOk};
-ghost use Rattle.tsdb_script.specs.Limits.{max_text_bytes};
+ghost use Rattle.tsdb_base.specs.Limits.{max_text_bytes};
 ghost use Rattle.tsdb_script.specs.Steps.{unescape, behind_first};
 ghost use Rattle.tsdb_script.specs.Tokens.{is_keyword};
 

@@ -11,15 +11,14 @@ use crate::fault::LineFault;
 use crate::syntax::Operand;
 use crate::token::Word;
 use std::alloc::Global;
+use tsdb_base::limits;
+use tsdb_base::limits::MAX_PATH_BYTES;
 use tsdb_base::{Aggregate, DataType, Encoding, suits};
 use tsdb_model::Literal;
 use tsdb_path::{Name, Path, PathFault};
 
 /// The most nodes of a path.
-const MAX_NODES: u64 = 16;
-
-/// The most bytes of a path.
-const MAX_PATH_BYTES: usize = 255;
+const MAX_NODES: u64 = limits::MAX_NODES as u64;
 
 /// A word is no path or no node.
 pub const NO_PATH: LineFault = LineFault::Bad { kind: 4 };

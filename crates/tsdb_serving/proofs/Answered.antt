@@ -40,7 +40,7 @@ use Rattle.tsdb_serving.specs.declared.fault.FlushFault.{FlushFault}
 use Rattle.tsdb_serving.specs.declared.fault.FlushFault.TheVariants as fault
 use Rattle.tsdb_state.proofs.Inserting.{inserted_stands}
 use Rattle.tsdb_state.specs.Commands.{AreCells}
-use Rattle.tsdb_state.specs.Limits.{end_of_numbers}
+use Rattle.tsdb_base.specs.Limits.{end_of_numbers}
 use Rattle.tsdb_state.specs.Records.{after}
 use Rattle.tsdb_state.specs.State.{EngineState, StoreState}
 use Rattle.tsdb_state.specs.Steps.{failed, settled, wrote}

@@ -17,7 +17,7 @@ use Rattle.tsdb_serving.specs.Faults.{HasFlushCause, answer_of}
 use Rattle.tsdb_serving.specs.Serving.{HasFullCause}
 use Rattle.tsdb_serving.specs.declared.fault.FlushFault.{FlushFault}
 use Rattle.tsdb_serving.specs.declared.fault.FlushFault.TheVariants as fault
-use Rattle.tsdb_state.specs.Limits.{end_of_numbers}
+use Rattle.tsdb_base.specs.Limits.{end_of_numbers}
 
 one_number : (number : Option FileNumber) → length (numbers_if number) ≤ 1
 one_number None = omega arith

@@ -13,10 +13,11 @@ ghost use Rattle.tsdb_serving.specs.declared.fault.FlushFault.{FlushFault as Fau
 ghost use Rattle.tsdb_serving.specs.Faults.{HasFlushCause};
 ghost use Rattle.tsdb_serving.specs.Files.{AreDone, AreDoneSoFar};
 ghost use Rattle.tsdb_serving.specs.Flushing.{EndsJob, GoesOn, IsBusy, IsReady, faults_under, frozen_in};
-ghost use Rattle.tsdb_state.specs.Limits.{max_frozen};
+ghost use Rattle.tsdb_base.specs.Limits.{max_frozen};
 
 use crate::fault::FlushFault;
 use std::alloc::Global;
+use tsdb_base::limits;
 use tsdb_base::{Answer, Space, Stamp};
 use tsdb_core::{Commit, Core};
 use tsdb_engine::{FlushRefused, run_flush};
@@ -24,7 +25,7 @@ use tsdb_jobs::{FlushJob, Flushed};
 use tsdb_outside::{Files, Journal, Port};
 
 /// How many pairs can be frozen.
-const MAX_FROZEN: u64 = 2;
+const MAX_FROZEN: u64 = limits::MAX_FROZEN as u64;
 
 /// Freezes the working pair, where it has a point, and writes the files of all frozen pairs, from the oldest on.
 ///

@@ -7,7 +7,7 @@ use Rattle.std.specs.List.{range_with_len}
 use Rattle.tsdb_layers.specs.Lists.{count}
 use Rattle.tsdb_layers.proofs.Lists.{count_append}
 use Rattle.tsdb_state.specs.Jobs.{NumbersInOrder, RightsMatch}
-use Rattle.tsdb_state.specs.Limits.{end_of_numbers}
+use Rattle.tsdb_base.specs.Limits.{end_of_numbers}
 use Rattle.tsdb_state.specs.Records.{numbers_of}
 use Rattle.tsdb_state.specs.State.{File}
 

@@ -11,7 +11,7 @@ use Rattle.tsdb_layers.specs.Lists.{Among, EachPair, count}
 use Rattle.tsdb_log.specs.declared.record.LogRecord.{LogRecord}
 use Rattle.tsdb_state.proofs.Counting.{rights_match}
 use Rattle.tsdb_state.specs.Jobs.{NumbersInOrder, RightsMatch}
-use Rattle.tsdb_state.specs.Limits.{end_of_numbers}
+use Rattle.tsdb_base.specs.Limits.{end_of_numbers}
 use Rattle.tsdb_state.specs.Order.{DoubtInOrder}
 use Rattle.tsdb_state.specs.Records.{AreNew, numbers_of}
 use Rattle.tsdb_state.specs.State.{File, StoreState, Told}

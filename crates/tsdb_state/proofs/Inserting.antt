@@ -32,7 +32,7 @@ use Rattle.tsdb_state.proofs.Values.{AreReached, none_in_pair}
 use Rattle.tsdb_state.proofs.Worlds.{change_type, put_at, type_in}
 use Rattle.tsdb_state.specs.Commands.{AreCells, IsCell, KeepsBytes}
 use Rattle.tsdb_state.specs.Limit.{IsEmptyPair, IsOneRow, IsWithinPairLimit, empty_pair, point_count}
-use Rattle.tsdb_state.specs.Limits.{max_pair_points}
+use Rattle.tsdb_base.specs.Limits.{max_pair_points}
 use Rattle.tsdb_state.specs.Records.{CanInsert, IsOfDevice, inserted, path_of, place_of, put_cells, put_in_pair}
 use Rattle.tsdb_state.specs.State.{Pair, SeriesEntry, StoreState, Told}
 use Rattle.tsdb_state.specs.StoreOrder.{HasLiveValues, IsOfSeries, LayersInOrder, StoreInOrder, points_of}

@@ -5,7 +5,7 @@ use Rattle.tsdb_model.specs.Apply.{value_of}
 use Rattle.tsdb_model.specs.declared.command.Cell.{Cell}
 use Rattle.tsdb_path.specs.Nodes.{child_of}
 use Rattle.tsdb_state.specs.Limit.{IsEmptyPair, byte_count}
-use Rattle.tsdb_state.specs.Limits.{max_pair_bytes}
+use Rattle.tsdb_base.specs.Limits.{max_pair_bytes}
 use Rattle.tsdb_state.specs.Records.{inserted}
 use Rattle.tsdb_state.specs.State.{SeriesEntry, StoreState}
 

@@ -17,7 +17,7 @@ use Rattle.tsdb_path.specs.Nodes.{device_of}
 use Rattle.tsdb_plan.specs.Files.{AreRising}
 use Rattle.tsdb_plan.specs.declared.entry.Hull.{Hull}
 use Rattle.tsdb_state.specs.Limit.{IsEmptyPair}
-use Rattle.tsdb_state.specs.Limits.{end_of_numbers}
+use Rattle.tsdb_base.specs.Limits.{end_of_numbers}
 use Rattle.tsdb_layers.specs.Lists.{Among, EachPair, IsRun, count, if_some}
 use Rattle.tsdb_state.specs.Records.{numbers_of}
 use Rattle.tsdb_state.specs.State.{Compaction, Entries, Entry, File, FlushJob, FrozenPair, Pair, Pin, Room, Source}

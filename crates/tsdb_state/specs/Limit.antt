@@ -6,7 +6,7 @@ use Rattle.tsdb_layers.specs.Layers.{HasPoint}
 use Rattle.tsdb_layers.specs.Places.{Content, Place}
 use Rattle.tsdb_memtable.specs.Points.{value_bytes}
 use Rattle.tsdb_path.specs.Nodes.{device_of}
-use Rattle.tsdb_state.specs.Limits.{max_pair_bytes, max_pair_points}
+use Rattle.tsdb_base.specs.Limits.{max_pair_bytes, max_pair_points}
 use Rattle.tsdb_state.specs.State.{Pair}
 use Rattle.tsdb_state.specs.Views.{pair_layers}
 

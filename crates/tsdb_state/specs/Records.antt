@@ -22,7 +22,7 @@ use Rattle.tsdb_marks.specs.declared.marks.Mark.{Mark}
 use Rattle.tsdb_memtable.specs.Watermarks.{later_time, space_by}
 use Rattle.tsdb_path.specs.Nodes.{device_of}
 use Rattle.tsdb_state.specs.Limit.{IsEmptyPair, empty_pair, point_count}
-use Rattle.tsdb_state.specs.Limits.{end_of_numbers, max_frozen, max_pair_points}
+use Rattle.tsdb_base.specs.Limits.{end_of_numbers, max_frozen, max_pair_points}
 use Rattle.tsdb_layers.specs.Lists.{EachPair, count}
 use Rattle.tsdb_state.specs.State.{File, FrozenPair, Pair, SeriesEntry, StoreState}
 use Rattle.tsdb_state.specs.Views.{borns_of, working_pair}

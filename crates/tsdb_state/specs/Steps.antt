@@ -22,7 +22,7 @@ use Rattle.tsdb_log.specs.declared.record.LogRecord.TheVariants.{Flushed, Replac
 use Rattle.tsdb_model.specs.World.{World, is_in, value_at}
 use Rattle.tsdb_state.specs.Jobs.{AreApart, Describes, HasKind, IsDrawnFor, Stands, drawn_by, flushed_bytes, job_inputs}
 use Rattle.tsdb_state.specs.Jobs.{outgoing_places, output_places, pin_numbers, replaced_bytes}
-use Rattle.tsdb_state.specs.Limits.{end_of_numbers}
+use Rattle.tsdb_base.specs.Limits.{end_of_numbers}
 use Rattle.tsdb_layers.specs.Lists.{Among, IsWithOne, count, if_some}
 use Rattle.tsdb_state.specs.Records.{after, names, numbers_of}
 use Rattle.tsdb_state.specs.State.{Compaction, EngineState, Entries, File, FlushJob, FrozenPair, Pin, Room}

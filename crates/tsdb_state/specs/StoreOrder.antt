@@ -11,7 +11,7 @@ use Rattle.tsdb_layers.specs.Places.{Place}
 use Rattle.tsdb_model.specs.Commands.{IsSchema}
 use Rattle.tsdb_marks.specs.declared.marks.Mark.{Mark}
 use Rattle.tsdb_state.specs.Limit.{IsEmptyPair, IsWithinPairLimit}
-use Rattle.tsdb_state.specs.Limits.{max_frozen}
+use Rattle.tsdb_base.specs.Limits.{max_frozen}
 use Rattle.tsdb_layers.specs.Lists.{EachPair}
 use Rattle.tsdb_state.specs.State.{File, FrozenPair, Pair, SeriesEntry, StoreState, Told}
 use Rattle.tsdb_state.specs.Views.{file_layers, layer_of, pair_layers, sequence_layer, unsequence_layer}

@@ -5,7 +5,8 @@ use Rattle.std.specs.List.{AllByRecursion}
 use Rattle.tsdb_words.specs.declared.part.Part.TheVariants as declared
 use Rattle.tsdb_words.specs.declared.part.Part.{Part as DeclaredPart}
 use Rattle.tsdb_words.specs.declared.seen.Seen.{Seen}
-use Rattle.tsdb_words.specs.Limits.{default_pair_points, default_workers}
+use Rattle.tsdb_base.specs.Limits.{default_pair_points}
+use Rattle.tsdb_words.specs.Limits.{default_workers}
 use Rattle.tsdb_words.specs.Words.{Asked, Part, Directory, Pair, Workers, End, AreParts, HasNoOptionBehindEnd}
 use Rattle.tsdb_words.specs.Words.{IsGiven, IsOfDirectory, directories, pairs, workers}
 

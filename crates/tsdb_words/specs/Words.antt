@@ -2,7 +2,8 @@
 use Rattle.std.specs.Prelude.{◌≡◌, ◌≢◌, ◌⊎◌, ℕ, ◌<◌, ◌≤◌, List, [], ◌∷◌, ◌++◌, length, slice_index, codes}
 use Rattle.std.specs.List.{AllByRecursion}
 use Rattle.std.specs.Str.Parse.{IsNumeral, digits_value}
-use Rattle.tsdb_words.specs.Limits.{default_pair_points, default_workers, max_digits, max_pair_points, max_workers}
+use Rattle.tsdb_base.specs.Limits.{default_pair_points, max_pair_points, max_workers}
+use Rattle.tsdb_words.specs.Limits.{default_workers, max_digits}
 
 -- what a list of words asks for
 pub record Asked : Type 0 where

@@ -7,12 +7,7 @@ ghost use Rattle.tsdb_words.specs.Words.{HasDigits, IsDirectory, IsOption, IsPar
 
 use crate::number::number_of;
 use crate::word::Word;
-
-/// The most points of a pair.
-const MAX_PAIR_POINTS: u64 = 1_000_000;
-
-/// The most workers of a kind.
-const MAX_WORKERS: u64 = 4;
+use tsdb_base::limits::{MAX_PAIR_POINTS, MAX_WORKERS};
 
 /// A part of the command line.
 #[derive(Drop)]

@@ -7,7 +7,7 @@ use Rattle.std.proofs.lemmas.List.Elements.{recursion_from_All}
 use Rattle.tsdb_base.specs.Fields.{number64}
 use Rattle.tsdb_index.specs.declared.index.IndexEntry.{IndexEntry}
 use Rattle.tsdb_index.specs.declared.pointer.Pointer.{Pointer}
-use Rattle.tsdb_index.specs.Limits.{max_leaf_entries}
+use Rattle.tsdb_base.specs.Limits.{max_leaf_entries}
 use Rattle.tsdb_index.specs.Parts.{IsFirstBadLeaf, end_of}
 use Rattle.tsdb_index.specs.Spelling.{IsSpelling}
 use Rattle.tsdb_index.proofs.OneSpelling.{one_index}

@@ -18,7 +18,7 @@ use Rattle.tsdb_index.specs.declared.index.PageEntry.{PageEntry}
 use Rattle.tsdb_path.specs.Nodes.{IsPath}
 use Rattle.tsdb_pages.specs.declared.tree.Page.{Page}
 use Rattle.tsdb_pages.specs.File.{ArePageEntries, page_bytes, page_field}
-use Rattle.tsdb_pages.specs.Limits.{max_pages}
+use Rattle.tsdb_base.specs.Limits.{max_pages}
 use Rattle.tsdb_pages.specs.Pages.{ArePoints, IsInRange, IsRising, body}
 use Rattle.tsdb_pages.specs.Trees.{IsBefore, points_of}
 use Rattle.tsdb_pages.proofs.Bodies.{body_is_short, one_body, parts_same}

@@ -5,7 +5,7 @@ use Rattle.std.specs.List.{flat_map}
 use Rattle.tsdb_index.specs.declared.index.FileMeta.{FileMeta}
 use Rattle.tsdb_index.specs.declared.index.IndexEntry.{IndexEntry}
 use Rattle.tsdb_index.specs.declared.pointer.Pointer.{Pointer}
-use Rattle.tsdb_index.specs.Limits.{max_leaf_entries}
+use Rattle.tsdb_base.specs.Limits.{max_leaf_entries}
 use Rattle.tsdb_pages.specs.declared.tree.Group.{Group}
 use Rattle.tsdb_pages.specs.declared.tree.Tree.{Tree}
 use Rattle.tsdb_pages.specs.File.{AreEntriesIn, IsFile, group_field, head}

@@ -7,7 +7,7 @@ use Rattle.tsdb_base.specs.Fields.{type_field, encoding_field}
 use Rattle.tsdb_base.specs.Plain.{plain_text}
 use Rattle.tsdb_base.specs.Values.{is_suitable}
 use Rattle.tsdb_path.specs.Nodes.{IsName, IsPath}
-use Rattle.tsdb_pages.specs.Limits.{max_pages}
+use Rattle.tsdb_base.specs.Limits.{max_pages}
 use Rattle.tsdb_pages.specs.Pages.{IsRising}
 use Rattle.tsdb_pages.specs.Trees.{IsBefore}
 use Rattle.tsdb_pages.specs.File.{page_bytes}

@@ -12,12 +12,11 @@ use Rattle.tsdb_fields.specs.Reading.{Takes}
 use Rattle.tsdb_index.specs.declared.index.Index.{Index}
 use Rattle.tsdb_index.specs.declared.index.IndexEntry.{IndexEntry}
 use Rattle.tsdb_index.specs.declared.pointer.Pointer.{Pointer}
-use Rattle.tsdb_index.specs.Limits.{max_leaf_entries}
+use Rattle.tsdb_base.specs.Limits.{max_leaf_entries, max_pages}
 use Rattle.tsdb_index.specs.Parts.{IsRoot}
 use Rattle.tsdb_pages.specs.declared.tree.Chunk.{Chunk}
 use Rattle.tsdb_pages.specs.declared.tree.Page.{Page}
 use Rattle.tsdb_pages.specs.File.{ArePageEntries, AreEntries, IsEntry, chunk_field, head, page_field}
-use Rattle.tsdb_pages.specs.Limits.{max_pages}
 use Rattle.tsdb_pages.specs.Pages.{ArePoints, IsInRange, IsRising}
 use Rattle.tsdb_pages.specs.Trees.{HasParts, IsBefore, IsChunk, points_of}
 use Rattle.tsdb_path.specs.Nodes.{IsName}

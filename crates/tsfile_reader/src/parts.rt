@@ -22,14 +22,12 @@ use crate::page::{
     CHUNK, ChunkHead, PAGE, begins_with, read_chunk_head, read_group_head, read_page,
 };
 use std::alloc::Global;
+use tsdb_base::limits::MAX_PAGES;
 use tsdb_base::{DataType, Encoding, List, Memory, Point, Stats};
 use tsdb_fields::{FieldFault, Rest};
 use tsdb_index::{IndexEntry, PageEntry};
 use tsdb_path::{Name, Path};
 use tsdb_stats::{join, stats_of};
-
-/// The most pages of a chunk.
-const MAX_PAGES: usize = 4_294_967_295;
 
 /// What an index says of pages that stand one behind another, and the statistics of all their points.
 #[derive(Drop)]

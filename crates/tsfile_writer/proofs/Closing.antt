@@ -11,7 +11,7 @@ use Rattle.tsdb_base.specs.declared.point.Point.{Point}
 use Rattle.tsdb_base.specs.declared.value.DataType.{DataType}
 use Rattle.tsdb_base.specs.declared.value.Encoding.{Encoding}
 use Rattle.tsdb_base.specs.Fields.{number64}
-use Rattle.tsdb_base.specs.Limits.{max_values}
+use Rattle.tsdb_base.specs.Limits.{max_entries, max_pages, max_values}
 use Rattle.tsdb_base.specs.Values.{is_suitable, type_of}
 use Rattle.tsdb_path.specs.Nodes.{IsPath, device_of, measurement_of, node_count}
 use Rattle.tsdb_path.proofs.Parts.{IsName-measurement_of, IsPath-device_of}
@@ -23,7 +23,6 @@ use Rattle.tsdb_pages.specs.declared.tree.Chunk.{Chunk}
 use Rattle.tsdb_pages.specs.declared.tree.Group.{Group}
 use Rattle.tsdb_pages.specs.declared.tree.Tree.{Tree}
 use Rattle.tsdb_pages.specs.File.{IsFile, group_start, head, magic}
-use Rattle.tsdb_pages.specs.Limits.{max_chunks, max_pages}
 use Rattle.tsdb_pages.specs.Pages.{ArePoints, IsInRange, IsRising}
 use Rattle.tsdb_pages.specs.Trees.{IsBefore, IsChunk, IsGroup, IsMade, chunks_of, points_of}
 use Rattle.tsfile_writer.specs.declared.layout.OpenChunk.{OpenChunk}
@@ -72,7 +71,7 @@ is_chunk_of series pages page path data_type encoding points is some same = reco
 
 pub series_closed : (given : List Series) (page : Page) (old new : List ℕ) (before after : List IndexEntry) (path : List ℕ) (data_type : DataType) (encoding : Encoding) (chunk : Option OpenChunk) (whole : OpenChunk) (points : List Point) (entry : IndexEntry)
     → BuildState given old before path data_type encoding chunk points → 0 < length points → page.points ≡ points → PutsIn path data_type encoding points before old new chunk (Some whole)
-    → IsEntryOf (device_of path) (measurement_of path) data_type encoding whole entry → after ≡ before ++ entry ∷ [] → length before < max_chunks → AreClosed given (device_of path) (measurement_of path) new after
+    → IsEntryOf (device_of path) (measurement_of path) data_type encoding whole entry → after ≡ before ++ entry ∷ [] → length before < max_entries → AreClosed given (device_of path) (measurement_of path) new after
 series_closed given page old new before after path data_type encoding chunk whole points entry state some same puts is added room =
     let few_pages = put_few state.groups state.chunks state.pages page path data_type encoding points old new before chunk (Some whole) same state.stand puts in
     let stand = put_stands state.groups state.chunks state.pages page path data_type encoding points old new before chunk (Some whole) same state.stand puts in
@@ -280,7 +279,7 @@ file_whole given device measurement bytes file index-bytes root entries closed i
     let all = all_groups given device measurement bytes entries closed in
     let groups = closed.groups ++ group_of device closed.chunks ∷ [] in
     let n : length entries ≡ length (chunks_of (closed.groups ++ group_of device closed.chunks ∷ [])) = count_entries groups bytes entries all.layout in
-    let few = subst (λ k. k ≤ max_chunks) n closed.few in
+    let few = subst (λ k. k ≤ max_entries) n closed.few in
     let tree : Tree = record { groups = groups } in
     let of : IsTreeOf given tree = record { is-tree = record { some = all.some; few = few; groups = all.good; rising = all.rising }; chunks = all.of } in
     (tree, of, file_made tree bytes file index-bytes root entries all.layout index_is is, tree_made given tree closed.made of)

@@ -7,7 +7,7 @@ use Rattle.std.proofs.lemmas.List.Elements.{All-append, All-head, All-nil, All-p
 use Rattle.tsdb_base.specs.declared.point.Point.{Point}
 use Rattle.tsdb_base.specs.declared.value.DataType.{DataType}
 use Rattle.tsdb_base.specs.declared.value.Encoding.{Encoding}
-use Rattle.tsdb_base.specs.Limits.{max_values}
+use Rattle.tsdb_base.specs.Limits.{max_pages, max_values}
 use Rattle.tsdb_base.specs.Values.{type_of}
 use Rattle.tsdb_path.specs.Nodes.{device_of, measurement_of}
 use Rattle.tsdb_index.specs.declared.index.IndexEntry.{IndexEntry}
@@ -15,7 +15,6 @@ use Rattle.tsdb_pages.specs.declared.tree.Page.{Page}
 use Rattle.tsdb_pages.specs.declared.tree.Chunk.{Chunk}
 use Rattle.tsdb_pages.specs.declared.tree.Group.{Group}
 use Rattle.tsdb_pages.specs.File.{chunk_start, page_bytes}
-use Rattle.tsdb_pages.specs.Limits.{max_pages}
 use Rattle.tsdb_pages.specs.Pages.{ArePoints, IsInRange, IsRising}
 use Rattle.tsdb_pages.specs.Trees.{points_of}
 use Rattle.tsdb_pages.proofs.Order.{pairs_across, pairs_behind, pairs_push, rises}

@@ -4,7 +4,7 @@ use Rattle.std.specs.Prelude.{length, map, All, AllPairs}
 use Rattle.tsdb_base.specs.declared.point.Point.{Point}
 use Rattle.tsdb_base.specs.declared.value.DataType.{DataType}
 use Rattle.tsdb_base.specs.declared.value.Encoding.{Encoding}
-use Rattle.tsdb_base.specs.Limits.{max_values}
+use Rattle.tsdb_base.specs.Limits.{max_entries, max_pages, max_values}
 use Rattle.tsdb_base.specs.Values.{is_suitable, type_of}
 use Rattle.tsdb_path.specs.Nodes.{device_of, measurement_of, node_count}
 use Rattle.tsdb_index.specs.declared.index.IndexEntry.{IndexEntry}
@@ -12,7 +12,6 @@ use Rattle.tsdb_pages.specs.declared.tree.Page.{Page}
 use Rattle.tsdb_pages.specs.declared.tree.Chunk.{Chunk}
 use Rattle.tsdb_pages.specs.declared.tree.Group.{Group}
 use Rattle.tsdb_pages.specs.File.{chunk_start, page_bytes}
-use Rattle.tsdb_pages.specs.Limits.{max_chunks, max_pages}
 use Rattle.tsdb_pages.specs.Pages.{ArePoints, IsRising}
 use Rattle.tsdb_pages.specs.Trees.{IsBefore, IsChunk, IsGroup, points_of}
 use Rattle.tsfile_writer.specs.declared.builder.Builder.{Builder}
@@ -78,7 +77,7 @@ pub record BuildState (given : List Series) (bytes : List ℕ) (entries : List I
   pub chunks : List Chunk
   pub grouped : AreGrouped front groups (device_of path) chunks
   pub chunks-before : All (λ chunk. IsBefore chunk.measurement (measurement_of path)) chunks
-  pub few : length entries ≤ max_chunks
+  pub few : length entries ≤ max_entries
   pub stand : StandIn groups chunks pages bytes entries path data_type encoding chunk
   pub made : All IsMadeSeries given
 
@@ -112,7 +111,7 @@ pub record AreClosed (given : List Series) (device measurement : List ℕ) (byte
   pub some : 0 < length chunks
   pub before : (next : List ℕ) → IsBefore measurement next → All (λ chunk. IsBefore chunk.measurement next) chunks
   pub layout : AreChunks groups device chunks bytes entries
-  pub few : length entries ≤ max_chunks
+  pub few : length entries ≤ max_entries
   pub front : List IndexEntry
   pub entry : IndexEntry
   pub last : entries ≡ front ++ entry ∷ []

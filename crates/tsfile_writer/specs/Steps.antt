@@ -12,7 +12,7 @@ use Rattle.tsdb_pages.specs.declared.tree.Chunk.{Chunk}
 use Rattle.tsdb_pages.specs.declared.tree.Group.{Group}
 use Rattle.tsdb_pages.specs.File.{AreEntries, AreEntriesOf, ArePageEntries, chunk_field, chunk_start, group_field}
 use Rattle.tsdb_pages.specs.File.{group_start, head, page_field}
-use Rattle.tsdb_pages.specs.Limits.{max_pages}
+use Rattle.tsdb_base.specs.Limits.{max_pages}
 use Rattle.tsdb_pages.specs.Trees.{points_of}
 use Rattle.tsdb_stats.specs.Statistics.{AreStatsOf}
 use Rattle.tsfile_writer.specs.declared.layout.OpenChunk.{OpenChunk}

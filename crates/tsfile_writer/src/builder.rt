@@ -21,15 +21,16 @@ use crate::fault::BuildFault;
 use crate::layout::{HEAD, OpenChunk, append_chunk, append_end, append_group_start};
 use crate::names::{copy_path, device_of, measurement_of};
 use std::alloc::Global;
+use tsdb_base::limits::{MAX_ENTRIES, MAX_VALUES};
 use tsdb_base::{DataType, Encoding, Memory, Point};
 use tsdb_index::IndexEntry;
 use tsdb_path::Path;
 
 /// The most points of a page.
-const MAX_POINTS: usize = 1_000;
+const MAX_POINTS: usize = MAX_VALUES;
 
 /// The most chunks of a file.
-const MAX_CHUNKS: usize = 1_099_511_627_520;
+const MAX_CHUNKS: usize = MAX_ENTRIES;
 
 /// The series that gets the next point.
 #[derive(Drop)]

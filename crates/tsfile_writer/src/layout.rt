@@ -12,6 +12,7 @@ ghost use Rattle.tsdb_stats.specs.Statistics.{AreStatsOf};
 ghost use Rattle.tsfile_writer.specs.Steps.{AreStatsOfBoth, IsBegun, IsLonger, SameChunk};
 
 use std::alloc::Global;
+use tsdb_base::limits::MAX_PAGES;
 use tsdb_base::{DataType, Encoding, List, Memory, PlainValue, Point, Stats, Value};
 use tsdb_fields::{write_name, write_path};
 use tsdb_index::{Index, IndexEntry, PageEntry, write_leaves_and_root};
@@ -33,9 +34,6 @@ const CHUNK: u8 = 0x43;
 
 /// The first byte of a page.
 const PAGE: u8 = 0x50;
-
-/// The most pages of a chunk.
-const MAX_PAGES: usize = 4_294_967_295;
 
 /// What the index says so far of a chunk that may get more pages.
 #[derive(Drop)]

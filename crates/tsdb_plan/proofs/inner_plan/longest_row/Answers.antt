@@ -1,7 +1,7 @@
 use Rattle.std.proofs.Common.{◌≡◌, ◌≤◌, false, length, take, rules, ⊎_elim, subst, arith}
 use Rattle.std.proofs.lemmas.List.Elements.{All-more}
 use Rattle.tsdb_plan.specs.InnerPlan.{IsRow}
-use Rattle.tsdb_plan.specs.Limits.{max_bytes}
+use Rattle.tsdb_base.specs.Limits.{max_plan_bytes}
 use Rattle.tsdb_plan.proofs.Rows.{row_so_far, stops_at_claimed, stops_at_bytes, stops_at_ten, bytes_more}
 use Rattle.tsdb_plan.proofs.inner_plan.longest_row.Goals as goal
 
@@ -41,7 +41,7 @@ returns-in_default c =
     record {
       within = omega arith;
       row = row_so_far files count c.loop-count.room (omega arith) inv.free inv.few inv.room;
-      longest = λ n within row. stops_at_bytes files count n c.loop-count.room max_bytes file (omega arith) c.index-files-count.is inv.room (omega arith) row.fits;
+      longest = λ n within row. stops_at_bytes files count n c.loop-count.room max_plan_bytes file (omega arith) c.index-files-count.is inv.room (omega arith) row.fits;
     }
 
 pub returns : goal.returns

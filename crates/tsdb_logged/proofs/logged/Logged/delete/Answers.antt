@@ -9,7 +9,7 @@ use Rattle.tsdb_logged.proofs.Steps.{refuses}
 use Rattle.tsdb_logged.specs.Commands.{IsCommand}
 use Rattle.tsdb_logged.specs.Logged.{memory_of}
 use Rattle.tsdb_memory.specs.Shown.{number_of}
-use Rattle.tsdb_state.specs.Limits.{end_of_numbers}
+use Rattle.tsdb_base.specs.Limits.{end_of_numbers}
 use Rattle.tsdb_logged.proofs.logged.Logged.delete.Goals as goal
 
 pub returns-clause-command : goal.returns-clause-command

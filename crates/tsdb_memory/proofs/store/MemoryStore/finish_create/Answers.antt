@@ -4,7 +4,7 @@ use Rattle.tsdb_memory.proofs.Numbers.{joined}
 use Rattle.tsdb_memory.specs.Model.{schema_of, store_in}
 use Rattle.tsdb_memory.specs.Shown.{IsMemoryOf, number_of}
 use Rattle.tsdb_memory.specs.Store.{Store}
-use Rattle.tsdb_state.specs.Limits.{end_of_numbers}
+use Rattle.tsdb_base.specs.Limits.{end_of_numbers}
 use Rattle.tsdb_memory.proofs.store.MemoryStore.finish_create.Goals as goal
 
 pub returns : goal.returns

@@ -10,7 +10,7 @@ use Rattle.tsdb_memory.specs.Model.{schema_of, store_in}
 use Rattle.tsdb_memory.specs.Shown.{IsMemoryOf, number_of}
 use Rattle.tsdb_memory.specs.Store as value
 use Rattle.tsdb_memory.specs.declared.store.FrozenPair.{FrozenPair}
-use Rattle.tsdb_state.specs.Limits.{end_of_numbers}
+use Rattle.tsdb_base.specs.Limits.{end_of_numbers}
 use Rattle.tsdb_memory.proofs.store.MemoryStore.finish_delete.Goals as goal
 
 pub unreachable-requires : goal.unreachable-requires

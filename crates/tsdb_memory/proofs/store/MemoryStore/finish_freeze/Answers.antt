@@ -7,7 +7,7 @@ use Rattle.tsdb_memory.specs.Store as value
 use Rattle.tsdb_memory.specs.declared.freezing.Raise.{Raise}
 use Rattle.tsdb_memtable.specs.Pairs.{Pair}
 use Rattle.tsdb_memtable.specs.Watermarks.{watermark}
-use Rattle.tsdb_state.specs.Limits.{max_frozen}
+use Rattle.tsdb_base.specs.Limits.{max_frozen}
 use Rattle.tsdb_state.specs.Records.{froze}
 use Rattle.tsdb_memory.proofs.store.MemoryStore.finish_freeze.Goals as goal
 

@@ -9,7 +9,7 @@ use Rattle.tsdb_memory.specs.Shown.{IsMemoryOf}
 use Rattle.tsdb_memory.specs.Store as value
 use Rattle.tsdb_memtable.specs.Pairs.{Pair}
 use Rattle.tsdb_memtable.specs.Watermarks.{space_by}
-use Rattle.tsdb_state.specs.Limits.{end_of_numbers}
+use Rattle.tsdb_base.specs.Limits.{end_of_numbers}
 use Rattle.tsdb_state.specs.Records.{inserted}
 use Rattle.tsdb_memory.proofs.store.MemoryStore.finish_insert.Goals as goal
 

@@ -1,7 +1,7 @@
 use Rattle.std.proofs.Common.{◌≡◌, ◌<◌, List, [], ◌∷◌, ◌++◌, Some, length, refl, sym, ◌∙◌, ap, subst, arith, rules}
 use Rattle.std.specs.Prelude.{Option}
 use Rattle.tsdb_index.specs.declared.index.IndexEntry.{IndexEntry}
-use Rattle.tsdb_pages.specs.Limits.{max_chunks}
+use Rattle.tsdb_base.specs.Limits.{max_entries}
 use Rattle.tsfile_writer.specs.declared.layout.OpenChunk.{OpenChunk}
 use Rattle.tsfile_writer.specs.Building.{BuildState, PutsIn}
 use Rattle.tsfile_writer.proofs.Appending.{always_on_err}
@@ -36,7 +36,7 @@ returns-clause-ok c = λ given state.
     let puts = subst (λ (chunk : Option OpenChunk). PutsIn self.path self.data_type self.encoding self.points.items entries c.args.into.now.items c.put_page.new.into.items self.chunk chunk) there
     (subst (λ (entries : List IndexEntry). PutsIn self.path self.data_type self.encoding self.points.items entries c.args.into.now.items c.put_page.new.into.items self.chunk c.put_page.new.self.chunk)
     (c.deref.ensures.value ∙ c.in_ok-reserve.ensures.items) put.ok) in
-    let room : length c.args.entries.now.items < max_chunks = grind (arith, c.if-len-ge-MAX_CHUNKS.false) in
+    let room : length c.args.entries.now.items < max_entries = grind (arith, c.if-len-ge-MAX_CHUNKS.false) in
     let some = some_wait c.requires.0 c.requires.1 c.args.into.now.items entries self.path self.data_type self.encoding self.chunk self.points.items c.requires.2 c.requires.3 in
     series_closed given (record { points = self.points.items }) c.args.into.now.items c.put_page.new.into.items entries c.push.new.self.items self.path self.data_type self.encoding self.chunk whole self.points.items c.into_entry-entry.result
     state some refl puts
