@@ -4,6 +4,7 @@ use Rattle.std.specs.List.{flat_map}
 use Rattle.tsdb_base.specs.Fields.{number32, number64}
 use Rattle.tsdb_base.specs.Plain.{plain_text}
 use Rattle.tsdb_path.specs.Nodes.{IsName, IsPath}
+use Rattle.tsdb_index.specs.declared.marks.TheConstants.{ROOT}
 use Rattle.tsdb_index.specs.declared.index.IndexEntry.{IndexEntry}
 use Rattle.tsdb_index.specs.declared.pointer.Pointer.{Pointer}
 use Rattle.tsdb_index.specs.Entries.{AreInOrder, IsBefore, IsEntry, names_of}
@@ -39,7 +40,7 @@ pub record IsRoot (place root : ℕ) (bytes : List ℕ) (pointers : List Pointer
   pub good : All IsPointer pointers
   pub rising : AreInOrder IsPointerBefore pointers
   pub inside : All (λ pointer. pointer.place < root) pointers
-  pub bytes-are : bytes ≡ 82 ∷ number32 (length pointers) ++ flat_map pointer_bytes pointers
+  pub bytes-are : bytes ≡ ROOT ∷ number32 (length pointers) ++ flat_map pointer_bytes pointers
 
 -- the names of the next leaf's first entry, where there is a next leaf
 abbrev pub next_names : List Pointer → List (List ℕ × List ℕ)

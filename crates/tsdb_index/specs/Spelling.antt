@@ -4,6 +4,7 @@ use Rattle.std.specs.List.{flat_map}
 use Rattle.tsdb_base.specs.Fields.{number16, number32, number64, type_field, encoding_field}
 use Rattle.tsdb_base.specs.Plain.{plain_text}
 use Rattle.tsdb_fields.specs.Statistics.{stats_field}
+use Rattle.tsdb_index.specs.declared.marks.TheConstants.{LEAF, ROOT}
 use Rattle.tsdb_index.specs.declared.index.IndexEntry.{IndexEntry}
 use Rattle.tsdb_index.specs.declared.index.PageEntry.{PageEntry}
 use Rattle.tsdb_base.specs.Limits.{max_leaf_entries}
@@ -20,7 +21,7 @@ entry_field entry = plain_text entry.device ++ plain_text entry.measurement
 
 -- a leaf: 49, the number of its entries, and the entries
 abbrev pub leaf_field : List IndexEntry → List ℕ
-leaf_field leaf = 73 ∷ number16 (length leaf) ++ flat_map entry_field leaf
+leaf_field leaf = LEAF ∷ number16 (length leaf) ++ flat_map entry_field leaf
 
 -- a pointer at a leaf: the names of the leaf's first entry, and the leaf's place
 abbrev pub pointer_field : IndexEntry → ℕ → List ℕ
@@ -35,7 +36,7 @@ pointers place ((first ∷ others) ∷ leaves) =
 
 -- the root: 52, the number of leaves, and a pointer for each
 abbrev pub root_field : ℕ → List (List IndexEntry) → List ℕ
-root_field place leaves = 82 ∷ number32 (length leaves) ++ pointers place leaves
+root_field place leaves = ROOT ∷ number32 (length leaves) ++ pointers place leaves
 
 -- each leaf has 256 entries, and the last one 1 to 256
 abbrev pub AreLeaves : List (List IndexEntry) → Type 0
@@ -64,4 +65,4 @@ pub record RootBegins (place root : ℕ) (entries : List IndexEntry) (bytes : Li
   pub inside : root < place + length bytes
   pub number : ℕ
   pub behind : List ℕ
-  pub bytes-are : drop (root - place) bytes ≡ 82 ∷ (number32 number ++ (pointer_field first place ++ behind))
+  pub bytes-are : drop (root - place) bytes ≡ ROOT ∷ (number32 number ++ (pointer_field first place ++ behind))

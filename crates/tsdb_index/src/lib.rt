@@ -16,6 +16,7 @@ mod fault;
 mod finding;
 mod index;
 mod laws;
+pub mod marks;
 mod order;
 mod pointer;
 mod reading;

@@ -2,6 +2,7 @@
 //! and `fault`.
 ghost use Rattle.std.specs.Prelude.{◌≡◌, ℕ, ◌+◌, ◌<◌, ◌≤◌, ◌^◌, ◌∷◌, List, length, IfOk, IfErr, MatchOption};
 ghost use Rattle.std.specs.List.{flat_map};
+ghost use Rattle.tsdb_index.specs.declared.marks.TheConstants.{LEAF, ROOT};
 ghost use Rattle.tsdb_base.specs.Fields.{number16, number32};
 ghost use Rattle.tsdb_base.specs.Plain.{AreValues};
 ghost use Rattle.tsdb_fields.specs.Reading.{ReadsParts};
@@ -15,7 +16,7 @@ use crate::fault::IndexFault;
 use crate::index::{Index, IndexEntry, PageEntry};
 use crate::order::{are_leaf, are_root};
 use crate::pointer::Pointer;
-use crate::writing::{LEAF, ROOT};
+use crate::marks::{LEAF, ROOT};
 use std::alloc::Global;
 use tsdb_base::{DataType, List, suits};
 use tsdb_fields::{FieldFault, Rest, read_field, read_name, read_path, read_stats};
@@ -149,7 +150,7 @@ fn fields_behind(mark: u8, bytes: &[u8]) -> Option<Rest<'_>>
 
 /// The entries of the leaf that all of these bytes are, of any number. A fault has no place of its own.
 fn entries_in(alloc: Global, bytes: &[u8]) -> Result<Vec<IndexEntry>, FieldFault>
-    ensures { ReadsWhole (IsCounted 73 number16 (2 ^ 16) entry_field IsEntry bytes.now)
+    ensures { ReadsWhole (IsCounted LEAF number16 (2 ^ 16) entry_field IsEntry bytes.now)
         (λ entries. entries.items) result }
 {
     let bad = FieldFault::Bad { at: 0 };
@@ -166,7 +167,7 @@ fn entries_in(alloc: Global, bytes: &[u8]) -> Result<Vec<IndexEntry>, FieldFault
 
 /// The pointers of the root that all of these bytes are, of any number and order. A fault has no place of its own.
 pub fn pointers_in(alloc: Global, bytes: &[u8]) -> Result<Vec<Pointer>, FieldFault>
-    ensures { ReadsWhole (IsCounted 82 number32 (2 ^ 32) pointer_bytes IsPointer bytes.now)
+    ensures { ReadsWhole (IsCounted ROOT number32 (2 ^ 32) pointer_bytes IsPointer bytes.now)
         (λ pointers. pointers.items) result }
 {
     let bad = FieldFault::Bad { at: 0 };

@@ -6,16 +6,11 @@ ghost use Rattle.tsdb_index.specs.Spelling.{page_field, entry_field, leaf_field,
 ghost use Rattle.tsdb_index.specs.Steps.{IsAppended, AreWritten};
 
 use crate::index::{Index, IndexEntry, PageEntry};
+use crate::marks::{LEAF, ROOT};
 use std::alloc::Global;
 use tsdb_base::limits::MAX_LEAF_ENTRIES;
 use tsdb_base::{Memory, PlainValue};
 use tsdb_fields::{write_name, write_path, write_stats};
-
-/// The first byte of a leaf.
-pub const LEAF: u8 = 0x49;
-
-/// The first byte of the root.
-pub const ROOT: u8 = 0x52;
 
 fn write_page(page: &PageEntry, into: &mut Vec<u8>) -> Result<(), Memory>
     ensures ok { OnOk result (into.new.items ≡ into.old.items ++ page_field page.now) }

@@ -8,6 +8,7 @@ use Rattle.tsdb_base.specs.Fields.{number32, number64, type_field, encoding_fiel
 use Rattle.tsdb_base.specs.Plain.{plain_text}
 use Rattle.tsdb_index.specs.declared.index.IndexEntry.{IndexEntry}
 use Rattle.tsdb_index.specs.declared.index.PageEntry.{PageEntry}
+use Rattle.tsdb_index.specs.declared.marks.TheConstants.{VERSION, GROUP, CHUNK, PAGE}
 use Rattle.tsdb_index.specs.Spelling as index
 use Rattle.tsdb_stats.specs.Statistics.{AreStatsOf}
 use Rattle.tsdb_pages.specs.declared.tree.Page.{Page}
@@ -21,22 +22,22 @@ use Rattle.tsdb_pages.specs.Trees.{points_of}
 abbrev pub magic : List ℕ
 magic = codes "TsFile"
 
--- the head of a file: `TsFile` and 51
+-- the head of a file: `TsFile` and the version, 0x51
 abbrev pub head : List ℕ
-head = magic ++ 81 ∷ []
+head = magic ++ VERSION ∷ []
 
--- a page of these points: 50, and its body behind the body's length
+-- a page of these points: its mark 0x50, and its body behind the body's length
 abbrev pub page_bytes : Encoding → List Point → List ℕ
-page_bytes encoding points = 80 ∷ number32 (length (body encoding points)) ++ body encoding points
+page_bytes encoding points = PAGE ∷ number32 (length (body encoding points)) ++ body encoding points
 
 -- a page
 abbrev pub page_field : Encoding → Page → List ℕ
 page_field encoding page = page_bytes encoding page.points
 
--- a chunk of this measurement, type and encoding up to its pages: 43, and the three
+-- a chunk of this measurement, type and encoding up to its pages: its mark 0x43, and the three
 abbrev pub chunk_start : List ℕ → DataType → Encoding → List ℕ
 chunk_start measurement data_type encoding =
-    67 ∷ plain_text measurement ++ type_field data_type ++ encoding_field encoding
+    CHUNK ∷ plain_text measurement ++ type_field data_type ++ encoding_field encoding
 
 -- a chunk up to its pages
 abbrev pub chunk_head : Chunk → List ℕ
@@ -46,9 +47,9 @@ chunk_head chunk = chunk_start chunk.measurement chunk.data_type chunk.encoding
 abbrev pub chunk_field : Chunk → List ℕ
 chunk_field chunk = chunk_head chunk ++ flat_map (page_field chunk.encoding) chunk.pages
 
--- a group of this device up to its chunks: 47 and the device
+-- a group of this device up to its chunks: its mark 0x47, and the device
 abbrev pub group_start : List ℕ → List ℕ
-group_start device = 71 ∷ plain_text device
+group_start device = GROUP ∷ plain_text device
 
 -- a group up to its chunks
 abbrev pub group_head : Group → List ℕ

@@ -11,6 +11,7 @@ use Rattle.tsdb_base.specs.Limits.{max_pages}
 use Rattle.tsdb_pages.specs.Pages.{IsRising}
 use Rattle.tsdb_pages.specs.Trees.{IsBefore}
 use Rattle.tsdb_pages.specs.File.{page_bytes}
+use Rattle.tsdb_index.specs.declared.marks.TheConstants.{GROUP, CHUNK}
 use Rattle.tsfile_reader.specs.Page.{AreGood}
 
 -- A group or a chunk up to what stands in it, or a page of a chunk of this type and encoding.
@@ -21,9 +22,9 @@ pub data Part : Type 0 where
 
 -- the bytes of a part
 abbrev pub part_field : Part → List ℕ
-part_field (Part.Group device) = 71 ∷ plain_text device
+part_field (Part.Group device) = GROUP ∷ plain_text device
 part_field (Part.Chunk measurement data_type encoding) =
-    67 ∷ plain_text measurement ++ type_field data_type ++ encoding_field encoding
+    CHUNK ∷ plain_text measurement ++ type_field data_type ++ encoding_field encoding
 part_field (Part.Page data_type encoding points) = page_bytes encoding points
 
 -- In what follows the parts before another one stand the nearest first.

@@ -14,6 +14,7 @@ use Rattle.tsdb_index.specs.declared.index.IndexEntry.{IndexEntry}
 use Rattle.tsdb_index.specs.declared.pointer.Pointer.{Pointer}
 use Rattle.tsdb_base.specs.Limits.{max_leaf_entries, max_pages}
 use Rattle.tsdb_index.specs.Parts.{IsRoot}
+use Rattle.tsdb_index.specs.declared.marks.TheConstants.{PAGE}
 use Rattle.tsdb_pages.specs.declared.tree.Chunk.{Chunk}
 use Rattle.tsdb_pages.specs.declared.tree.Page.{Page}
 use Rattle.tsdb_pages.specs.File.{ArePageEntries, AreEntries, IsEntry, chunk_field, head, page_field}
@@ -101,7 +102,7 @@ pub record ReadsPages (data_type : DataType) (encoding : Encoding) (left behind 
   pub pages : List Page
   pub read : ArePagesRead data_type encoding left.at pages found
   pub takes : Takes left (flat_map (page_field encoding) pages) behind
-  pub ends : BeginsWithMark 80 behind.bytes.now → ⊥
+  pub ends : BeginsWithMark PAGE behind.bytes.now → ⊥
 
 -- all pages of a chunk with this head are read, which stands at this place
 pub record ReadsChunk (device : List ℕ) (head : ChunkHead) (place : ℕ) (left behind : Rest) (entry : IndexEntry)
@@ -114,7 +115,7 @@ pub record ReadsChunk (device : List ℕ) (head : ChunkHead) (place : ℕ) (left
   pub parts : HasParts chunk
   pub say : IsEntry device place chunk entry
   pub takes : Takes left (flat_map (page_field chunk.encoding) chunk.pages) behind
-  pub ends : BeginsWithMark 80 behind.bytes.now → ⊥
+  pub ends : BeginsWithMark PAGE behind.bytes.now → ⊥
 
 -- this is read of chunks of one group, of which the first stands at this place
 pub record AreChunksRead (device : List ℕ) (place : ℕ) (chunks : List Chunk) (entries : List IndexEntry) : Type 0 where
@@ -129,7 +130,7 @@ pub record ReadsChunks (device : List ℕ) (left behind : Rest) (entries : List 
   pub chunks : List Chunk
   pub read : AreChunksRead device left.at chunks entries
   pub takes : Takes left (flat_map chunk_field chunks) behind
-  pub no_page : BeginsWithMark 80 behind.bytes.now → ⊥
+  pub no_page : BeginsWithMark PAGE behind.bytes.now → ⊥
   pub no_chunk : BeginsWithMark 67 behind.bytes.now → ⊥
 
 -- the file has this length, tail and head

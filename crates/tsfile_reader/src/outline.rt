@@ -10,13 +10,8 @@ ghost use Rattle.tsfile_reader.specs.Outline.{IsTail};
 use crate::ends::Root;
 use std::alloc::Global;
 use tsdb_fields::{FieldFault, Rest, read_field};
+use tsdb_index::marks::{HEAD, MAGIC};
 use tsdb_index::{Pointer, are_root, pointers_in};
-
-/// The first bytes of a file.
-pub const HEAD: [u8; 7] = *b"TsFile\x51";
-
-/// The last bytes of a file.
-const MAGIC: [u8; 6] = *b"TsFile";
 
 /// How many bytes the head has.
 pub const HEAD_BYTES: u64 = 7;

@@ -12,17 +12,9 @@ ghost use Rattle.tsfile_reader.specs.Steps.{BeginsWithMark, IsBodySize, IsChunkH
 use std::alloc::Global;
 use tsdb_base::{DataType, Encoding, Point, suits};
 use tsdb_fields::{FieldFault, Rest, read_field, read_name, read_path};
+use tsdb_index::marks::{CHUNK, GROUP, PAGE};
 use tsdb_pages::PageFault;
 use tsdb_path::{Name, Path};
-
-/// The first byte of a group.
-const GROUP: u8 = 0x47;
-
-/// The first byte of a chunk.
-pub const CHUNK: u8 = 0x43;
-
-/// The first byte of a page.
-pub const PAGE: u8 = 0x50;
 
 /// What stands in a chunk before its pages.
 #[derive(Drop)]

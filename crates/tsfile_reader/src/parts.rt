@@ -19,12 +19,13 @@ ghost use Rattle.tsfile_reader.specs.Steps.{ReadsChunk, ReadsChunks, ReadsOrStop
 
 use crate::fault::ReadFault;
 use crate::page::{
-    CHUNK, ChunkHead, PAGE, begins_with, read_chunk_head, read_group_head, read_page,
+    ChunkHead, begins_with, read_chunk_head, read_group_head, read_page,
 };
 use std::alloc::Global;
 use tsdb_base::limits::MAX_PAGES;
 use tsdb_base::{DataType, Encoding, List, Memory, Point, Stats};
 use tsdb_fields::{FieldFault, Rest};
+use tsdb_index::marks::{CHUNK, PAGE};
 use tsdb_index::{IndexEntry, PageEntry};
 use tsdb_path::{Name, Path};
 use tsdb_stats::{join, stats_of};

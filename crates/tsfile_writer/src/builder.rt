@@ -18,11 +18,12 @@ ghost use Rattle.tsfile_writer.specs.Building.{SameSeries, WasGiven};
 ghost use Rattle.tsfile_writer.specs.Given.{IsTreeOf, MayBeFollowedBy, MayTake, Series, series_at, with_point};
 
 use crate::fault::BuildFault;
-use crate::layout::{HEAD, OpenChunk, append_chunk, append_end, append_group_start};
+use crate::layout::{OpenChunk, append_chunk, append_end, append_group_start};
 use crate::names::{copy_path, device_of, measurement_of};
 use std::alloc::Global;
 use tsdb_base::limits::{MAX_ENTRIES, MAX_VALUES};
 use tsdb_base::{DataType, Encoding, Memory, Point};
+use tsdb_index::marks::HEAD;
 use tsdb_index::IndexEntry;
 use tsdb_path::Path;
 

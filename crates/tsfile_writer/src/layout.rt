@@ -15,25 +15,11 @@ use std::alloc::Global;
 use tsdb_base::limits::MAX_PAGES;
 use tsdb_base::{DataType, Encoding, List, Memory, PlainValue, Point, Stats, Value};
 use tsdb_fields::{write_name, write_path};
+use tsdb_index::marks::{CHUNK, GROUP, MAGIC, PAGE};
 use tsdb_index::{Index, IndexEntry, PageEntry, write_leaves_and_root};
 use tsdb_pages::write_page;
 use tsdb_path::{Name, Path};
 use tsdb_stats::{join, stats_of};
-
-/// The first bytes of a file: `TsFile` and 51.
-pub(crate) const HEAD: [u8; 7] = *b"TsFile\x51";
-
-/// The last bytes of a file.
-const MAGIC: [u8; 6] = *b"TsFile";
-
-/// The first byte of a group.
-const GROUP: u8 = 0x47;
-
-/// The first byte of a chunk.
-const CHUNK: u8 = 0x43;
-
-/// The first byte of a page.
-const PAGE: u8 = 0x50;
 
 /// What the index says so far of a chunk that may get more pages.
 #[derive(Drop)]

@@ -6,11 +6,12 @@ ghost use Rattle.tsdb_pages.specs.File.{IsFile};
 ghost use Rattle.tsdb_pages.specs.Trees.{IsChunk, IsGroup, IsMade, IsTree};
 ghost use Rattle.tsfile_writer.specs.Steps.{AreChunks, AreGroups};
 
-use crate::layout::{HEAD, append_chunk, append_end, append_group_start};
+use crate::layout::{append_chunk, append_end, append_group_start};
 use crate::names::{copy_name, copy_path};
 use crate::told::tell_tree;
 use std::alloc::Global;
 use tsdb_base::Memory;
+use tsdb_index::marks::HEAD;
 use tsdb_index::IndexEntry;
 use tsdb_pages::{Chunk, Group, Tree};
 use tsdb_path::Path;
