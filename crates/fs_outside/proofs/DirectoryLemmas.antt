@@ -5,7 +5,8 @@ use Rattle.std.proofs.Common.{subst, arith, inl, inr, ⊎_elim}
 use Rattle.std.proofs.lemmas.Bool.{false≢true}
 use Rattle.tsdb_outside.specs.Files.{IsFileNumber}
 use Rattle.std.specs.Prelude.{◌↔◌, Contains, Some, None, IfSome, Result, Ok, Err, OnOk, OnErr, length}
-use Rattle.tsdb_outside.specs.Causes.{HasCause, Rose}
+use Rattle.tsdb_base.specs.Causes.{Rose}
+use Rattle.tsdb_outside.specs.Causes.{HasCause}
 use Rattle.tsdb_outside.specs.Limits.{FitsSlot}
 use Rattle.std.specs.Option.{IsSomeAnd}
 use Rattle.std.specs.declared.option.Option.{Option}

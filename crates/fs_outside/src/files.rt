@@ -6,7 +6,8 @@ ghost use Rattle.std.specs.Prelude.{IsErr, IsErrOf, IsTrue, MatchOption, OnErr, 
 ghost use Rattle.std.specs.Arc.{arc_value};
 ghost use Rattle.std.specs.String.{string_bytes};
 ghost use Rattle.std.specs.List.Sorted.{IsStrictlyIncreasing};
-ghost use Rattle.tsdb_outside.specs.Causes.{HasCause, HasStoreCause, Rose};
+ghost use Rattle.tsdb_base.specs.Causes.{Rose};
+ghost use Rattle.tsdb_outside.specs.Causes.{HasCause, HasStoreCause};
 ghost use Rattle.tsdb_outside.specs.Files.{IsFileNumber, Names, plain_numbers};
 ghost use Rattle.tsdb_outside.specs.Limits.{FitsSlot};
 ghost use Rattle.tsdb_outside.specs.declared.faults.StoreFault.TheVariants as fault;

@@ -3,7 +3,8 @@
 //! succeeds would prove nothing. Depends on `slot_file`.
 ghost use Rattle.std.specs.Prelude.{◌≡◌, ◌↔◌, ◌+◌, ◌-◌, ◌^◌, ◌≤◌, min, length, false, is_err, IfOk, IsErr, IsTrue};
 ghost use Rattle.std.specs.Prelude.{OnErr, OnOk};
-ghost use Rattle.tsdb_outside.specs.Causes.{HasCause, Rose};
+ghost use Rattle.tsdb_base.specs.Causes.{Rose};
+ghost use Rattle.tsdb_outside.specs.Causes.{HasCause};
 ghost use Rattle.tsdb_outside.specs.Limits.{FitsSlot};
 ghost use Rattle.fs_outside.specs.FileState.{FileFails, HasLength, HasBytes, KeepsFile, OverwritesFile, MayWriteFile};
 ghost use Rattle.fs_outside.specs.FileState.{IsFileDurable};

@@ -14,7 +14,8 @@
 //!
 //! Depends on `slot_directory`.
 ghost use Rattle.std.specs.Prelude.{◌≡◌, ◌≢◌, ◌⊎◌, ◌↔◌, ◌≤◌, [], ◌∷◌, None, true, IfOk, IfSome, IsTrue, OnErr, OnOk};
-ghost use Rattle.tsdb_outside.specs.Causes.{HasCause, Rose};
+ghost use Rattle.tsdb_base.specs.Causes.{Rose};
+ghost use Rattle.tsdb_outside.specs.Causes.{HasCause};
 ghost use Rattle.tsdb_outside.specs.declared.disk.Slot.TheVariants.{A, B};
 ghost use Rattle.fs_outside.specs.Directory.{Becomes};
 ghost use Rattle.fs_outside.specs.SlotDirectory.{AreNamesDurable, ElapsesBy, HasSlots, IsUnfinished};

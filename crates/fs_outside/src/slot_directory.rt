@@ -3,7 +3,8 @@
 //! durable after a sync of the directory, the bytes of a slot after a sync of its file. The making and the opening are
 //! proved over directories that tell. A directory of the system tells nothing.
 ghost use Rattle.std.specs.Prelude.{◌≡◌, ◌≢◌, ◌↔◌, ◌⊎◌, ◌≤◌, [], None, false, IfOk, IfSome, IsTrue, OnErr, OnOk};
-ghost use Rattle.tsdb_outside.specs.Causes.{HasCause, Rose};
+ghost use Rattle.tsdb_base.specs.Causes.{Rose};
+ghost use Rattle.tsdb_outside.specs.Causes.{HasCause};
 ghost use Rattle.tsdb_outside.specs.declared.disk.Slot.{Slot};
 ghost use Rattle.fs_outside.specs.Directory.{Becomes};
 ghost use Rattle.fs_outside.specs.SlotDirectory.{DirectoryState, IsLawfulDirectory, silent_directory, slot_in};

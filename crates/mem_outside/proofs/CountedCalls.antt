@@ -2,7 +2,8 @@
 use Rattle.std.proofs.Common.{◌≡◌, ℕ, ◌≤◌, Bool, refl, ap, ◌∙◌, inl, inr, arith, subst}
 use Rattle.std.specs.Prelude.{◌↔◌, Result, Ok, Err, IsErr, OnOk, OnErr, is_ok}
 use Rattle.std.proofs.lemmas.Bool.{false≢true}
-use Rattle.tsdb_outside.specs.Causes.{HasCause, Rose}
+use Rattle.tsdb_base.specs.Causes.{Rose}
+use Rattle.tsdb_outside.specs.Causes.{HasCause}
 use Rattle.tsdb_outside.specs.declared.disk.Slot.{Slot}
 use Rattle.tsdb_outside.specs.declared.faults.Failed.{Failed}
 use Rattle.mem_outside.specs.declared.calls.Calls.{Calls}

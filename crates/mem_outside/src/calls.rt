@@ -1,6 +1,7 @@
 //! Calls that fail by their number. Depends on `tsdb_outside`.
 ghost use Rattle.std.specs.Prelude.{◌≡◌, ◌↔◌, ◌≤◌, IsErr, OnOk, OnErr};
-ghost use Rattle.tsdb_outside.specs.Causes.{HasCause, Rose};
+ghost use Rattle.tsdb_base.specs.Causes.{Rose};
+ghost use Rattle.tsdb_outside.specs.Causes.{HasCause};
 
 use tsdb_outside::Failed;
 

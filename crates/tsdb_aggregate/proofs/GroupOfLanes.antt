@@ -8,7 +8,8 @@ use Rattle.tsdb_base.specs.declared.point.Point.{Point}
 use Rattle.tsdb_base.specs.declared.point.Range.{Range}
 use Rattle.tsdb_model.specs.World.{is_in}
 use Rattle.tsdb_merge.specs.Causes.{HasPullCause, HasRisen, HasSomeCause, SomeHasRisen}
-use Rattle.tsdb_merge.specs.Winners.{IsRising, IsToldMergeOf}
+use Rattle.tsdb_base.specs.Points.{IsRising}
+use Rattle.tsdb_merge.specs.Winners.{IsToldMergeOf}
 use Rattle.tsdb_merge.specs.declared.points.PullFault.{PullFault}
 use Rattle.tsdb_merge.specs.declared.points.PullFault.TheVariants.{Failed, Damaged, Memory}
 use Rattle.tsdb_aggregate.specs.Lanes.{AreLanesOf, SpendsDown, rows_joined, lefts}

@@ -12,7 +12,8 @@ use Rattle.std.proofs.lemmas.List.Sums.{sum_by-append, sum_by-cons}
 use Rattle.tsdb_base.specs.declared.point.Point.{Point}
 use Rattle.tsdb_base.specs.declared.point.Range.{Range}
 use Rattle.tsdb_model.specs.World.{is_in}
-use Rattle.tsdb_merge.specs.Winners.{HasNoneAt, IsMergeOf, IsRising}
+use Rattle.tsdb_base.specs.Points.{IsRising}
+use Rattle.tsdb_merge.specs.Winners.{HasNoneAt, IsMergeOf}
 use Rattle.tsdb_merge.proofs.Joined.{joined_merge}
 use Rattle.tsdb_merge.proofs.MergeLemmas.{AllPairs-head, AllPairs-nil, AllPairs-tail, All-from_contains, All-left, All-right, Contains-head, Contains-nil, Contains-tail}
 use Rattle.tsdb_aggregate.specs.Lanes.{AreLanesOf, HasPlaces, IsLaneOf, IsRow, append_told, rows_joined, lane_cost, lane_left, lefts, told_behind}

@@ -4,7 +4,8 @@ use Rattle.std.specs.Prelude.{Option, None, Some, sum_by}
 use Rattle.tsdb_base.specs.declared.point.Point.{Point}
 use Rattle.tsdb_base.specs.declared.point.Range.{Range}
 use Rattle.tsdb_model.specs.World.{is_in}
-use Rattle.tsdb_merge.specs.Winners.{HasNoneAt, IsRising}
+use Rattle.tsdb_base.specs.Points.{IsRising}
+use Rattle.tsdb_merge.specs.Winners.{HasNoneAt}
 use Rattle.tsdb_stats.specs.Statistics.{AreStatsOf}
 use Rattle.tsdb_aggregate.specs.Loads.{Held}
 use Rattle.tsdb_aggregate.specs.declared.piece.Piece.{Piece}

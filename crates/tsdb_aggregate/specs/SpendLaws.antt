@@ -3,7 +3,8 @@ use Rattle.std.proofs.Common.{◌≡◌, ℕ, ◌+◌, ◌≤◌, Result, Ok, Er
 use Rattle.std.specs.Prelude.{⊤, IfErr}
 use Rattle.tsdb_merge.specs.declared.points.PullFault.{PullFault}
 use Rattle.tsdb_merge.specs.declared.points.PullFault.TheVariants.{Failed, Damaged, Memory}
-use Rattle.tsdb_merge.specs.Causes.{Rose, HasRisen, HasPullCause}
+use Rattle.tsdb_base.specs.Causes.{Rose}
+use Rattle.tsdb_merge.specs.Causes.{HasRisen, HasPullCause}
 use Rattle.tsdb_aggregate.specs.Lanes.{SpendsDown}
 use Rattle.tsdb_aggregate.specs.Loads.{LoaderState, Spends}
 

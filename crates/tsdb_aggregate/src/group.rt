@@ -4,7 +4,7 @@ ghost use Rattle.std.specs.Prelude.{length, map, sum_by, take};
 ghost use Rattle.std.specs.List.Sorted.{IsPermutation};
 ghost use Rattle.tsdb_merge.specs.Causes.{HasSomeCause};
 ghost use Rattle.tsdb_merge.specs.Merging.{lazy_left};
-ghost use Rattle.tsdb_merge.specs.Winners.{IsRising};
+ghost use Rattle.tsdb_base.specs.Points.{IsRising};
 ghost use Rattle.tsdb_base.specs.declared.point.Point.{Point};
 ghost use Rattle.tsdb_aggregate.specs.Lanes.{AreLanesOf, IsLaneOf, IsRow, lane_cost, lefts};
 ghost use Rattle.tsdb_aggregate.specs.Loads.{Spends};

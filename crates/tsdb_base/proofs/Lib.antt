@@ -1,2 +1,3 @@
-pub mod PlainLists
 pub mod GrowthLemmas
+pub mod PlainLists
+pub mod RisingLemmas

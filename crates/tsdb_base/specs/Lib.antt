@@ -1,8 +1,10 @@
+pub mod Causes
+pub mod FieldLaws
+pub mod Fields
+pub mod Growth
 pub mod Limits
-pub mod Values
 pub mod Plain
 pub mod PlainLaws
+pub mod Points
 pub mod Texts
-pub mod Growth
-pub mod Fields
-pub mod FieldLaws
+pub mod Values

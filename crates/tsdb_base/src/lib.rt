@@ -10,6 +10,7 @@ pub mod limits;
 mod list;
 mod plain;
 mod point;
+mod rising;
 mod text;
 mod value;
 
@@ -19,5 +20,6 @@ pub use ids::{FileNumber, SeriesId, Space, Stamp};
 pub use list::List;
 pub use plain::{PlainValue, put_all, take_all};
 pub use point::{Point, Range, Stats, Time};
+pub use rising::is_rising;
 pub use text::{Text, TextFault};
 pub use value::{DataType, Encoding, Value, suits};

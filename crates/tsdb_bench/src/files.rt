@@ -2,7 +2,7 @@
 //! `tsfile_writer` and `tsfile_reader`, and on `mem_outside` and `fs_outside` for the ports.
 ghost use Rattle.std.specs.Prelude.{◌≡◌, ◌<◌, ◌↔◌, All, IsTrue, OnOk, length};
 ghost use Rattle.tsdb_base.specs.Values.{type_of};
-ghost use Rattle.tsdb_pages.specs.Pages.{IsRising};
+ghost use Rattle.tsdb_base.specs.Points.{IsRising};
 ghost use Rattle.tsfile_writer.specs.Driving.{HasLast, IsBare};
 
 use crate::fault::Fault;
@@ -12,9 +12,9 @@ use fs_outside::FsPlace;
 use mem_outside::SteadyPlace;
 use std::fs;
 use std::time::Instant;
-use tsdb_base::{DataType, Encoding, FileNumber, List, Point, Value};
+use tsdb_base::{DataType, Encoding, FileNumber, List, Point, Value, is_rising};
 use tsdb_outside::{Files, Place, Port};
-use tsdb_pages::{Chunk, Group, Page, Tree, is_rising, is_tree};
+use tsdb_pages::{Chunk, Group, Page, Tree, is_tree};
 use tsdb_path::{Name, Path};
 use tsfile_reader::{check_file, read_meta};
 use tsfile_writer::{Builder, write_tree};

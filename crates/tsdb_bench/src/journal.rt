@@ -1,7 +1,7 @@
 //! A journal in memory that keeps no record of its calls. It promises nothing of what it holds. It depends on
 //! `tsdb_outside`.
 ghost use Rattle.std.specs.Prelude.{◌≡◌, ◌+◌, ◌-◌, ◌^◌, ◌≤◌, IsTrue, ◌↔◌, length, min};
-ghost use Rattle.tsdb_outside.specs.Causes.{Rose};
+ghost use Rattle.tsdb_base.specs.Causes.{Rose};
 ghost use Rattle.tsdb_outside.specs.Limits.{FitsSlot};
 
 use std::alloc::Global;

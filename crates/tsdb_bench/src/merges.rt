@@ -3,8 +3,8 @@
 use crate::fault::Fault;
 use crate::table::{Rounds, row};
 use std::time::Instant;
-use tsdb_base::{Point, Value};
-use tsdb_merge::{ListPoints, Merge, is_rising};
+use tsdb_base::{Point, Value, is_rising};
+use tsdb_merge::{ListPoints, Merge};
 
 /// Lists whose times take turns: list k has the times k, k + count, k + 2 * count and on.
 fn lists(rt: &HostRuntime, count: u64, length: u64) -> Result<Vec<ListPoints>, Fault> {

@@ -21,7 +21,7 @@ use Rattle.tsdb_memory.proofs.Frozen.{point_at}
 use Rattle.tsdb_memory.proofs.Numbers.{schema_at, some_same}
 use Rattle.tsdb_memory.specs.Shown.{IsContentOf, number_of, value_at}
 use Rattle.tsdb_memtable.specs.Pairs.{Pair, points_of}
-use Rattle.tsdb_memtable.specs.Points.{IsRising}
+use Rattle.tsdb_base.specs.Points.{IsRising}
 
 -- ---- the value at a point's time
 

@@ -12,7 +12,7 @@ use Rattle.tsdb_layers.specs.Places.{Content, Place}
 use Rattle.tsdb_model.specs.declared.command.Schema.{Schema}
 use Rattle.tsdb_memory.specs.Shown.{number_of}
 use Rattle.tsdb_memtable.specs.Pairs.{Pair, points_of}
-use Rattle.tsdb_memtable.specs.Points.{IsRising}
+use Rattle.tsdb_base.specs.Points.{IsRising}
 use Rattle.tsdb_path.specs.Nodes.{node_count}
 use Rattle.tsdb_plan.specs.declared.entry.FileEntry.{FileEntry}
 use Rattle.tsdb_state.specs.State.{Entry}

@@ -29,7 +29,7 @@ use Rattle.tsdb_layers.specs.Places.{is_path}
 use Rattle.tsdb_model.specs.Folds.{aggregate_of}
 use Rattle.tsdb_model.specs.World.{is_in}
 use Rattle.tsdb_marks.specs.declared.marks.Mark.{Mark}
-use Rattle.tsdb_merge.specs.Winners.{IsRising}
+use Rattle.tsdb_base.specs.Points.{IsRising}
 use Rattle.tsdb_merge.proofs.MergeLemmas.{Contains-head, Contains-tail}
 use Rattle.tsdb_sources.specs.Pieces.{joined}
 use Rattle.tsdb_stats.specs.Statistics.{AreStatsOf}

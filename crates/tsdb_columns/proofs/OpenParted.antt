@@ -34,7 +34,8 @@ use Rattle.tsdb_index.specs.declared.index.IndexEntry.{IndexEntry}
 use Rattle.tsdb_layers.proofs.Lists.{each_among}
 use Rattle.tsdb_layers.specs.Lists.{Among}
 use Rattle.tsdb_merge.proofs.MergeLemmas.{AllPairs-nil}
-use Rattle.tsdb_merge.specs.Winners.{IsMergeOf, IsRising, IsToldMergeOf}
+use Rattle.tsdb_base.specs.Points.{IsRising}
+use Rattle.tsdb_merge.specs.Winners.{IsMergeOf, IsToldMergeOf}
 use Rattle.tsdb_outside.specs.Files.{NamedFile, Store}
 use Rattle.tsdb_sources.specs.Pieces.{joined}
 

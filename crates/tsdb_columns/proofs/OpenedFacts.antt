@@ -11,7 +11,8 @@ use Rattle.tsdb_columns.specs.declared.lane.Lane.{Lane}
 use Rattle.tsdb_columns.specs.declared.source.Source.{Source}
 use Rattle.tsdb_merge.specs.Steps.{root_left}
 use Rattle.tsdb_merge.specs.declared.tree.Node.{Node}
-use Rattle.tsdb_merge.specs.Winners.{IsRising, IsToldMergeOf}
+use Rattle.tsdb_base.specs.Points.{IsRising}
+use Rattle.tsdb_merge.specs.Winners.{IsToldMergeOf}
 use Rattle.tsdb_outside.specs.Files.{NamedFile}
 
 -- where each pair of elements is related so, and the first of each is so, the second is

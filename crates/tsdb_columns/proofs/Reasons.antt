@@ -2,7 +2,7 @@
 use Rattle.std.proofs.Common.{◌≡◌, ℕ, ◌≤◌, List, Result, Ok, Err, refl, arith}
 use Rattle.std.specs.Prelude.{IfErr, Option, None, Some}
 use Rattle.tsdb_columns.specs.Files.{HasReason, IsCounted}
-use Rattle.tsdb_outside.specs.Causes.{Rose}
+use Rattle.tsdb_base.specs.Causes.{Rose}
 use Rattle.tsdb_outside.specs.declared.faults.StoreFault.{StoreFault}
 use Rattle.tsdb_outside.specs.declared.faults.StoreFault.TheVariants as store
 use Rattle.tsfile_reader.specs.Answers.{HasReadCause, IsNotDamaged}

@@ -25,7 +25,7 @@ use Rattle.tsdb_index.specs.declared.index.PageEntry.{PageEntry}
 use Rattle.tsdb_layers.specs.Lists.{Among, EachPair, if_some}
 use Rattle.tsdb_layers.proofs.Lists.{each_among}
 use Rattle.tsdb_model.specs.World.{is_in}
-use Rattle.tsdb_merge.specs.Winners.{IsRising}
+use Rattle.tsdb_base.specs.Points.{IsRising}
 use Rattle.tsdb_sources.specs.Pieces.{joined}
 
 -- ---- a part in memory

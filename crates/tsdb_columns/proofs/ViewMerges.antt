@@ -25,7 +25,8 @@ use Rattle.tsdb_layers.specs.Lists.{Among, EachPair, if_some}
 use Rattle.tsdb_layers.proofs.Lists.{each_among}
 use Rattle.tsdb_model.specs.Folds.{aggregate_of}
 use Rattle.tsdb_model.specs.World.{is_in}
-use Rattle.tsdb_merge.specs.Winners.{HasNoneAt, IsMergeOf, IsRising, IsWinner}
+use Rattle.tsdb_base.specs.Points.{IsRising}
+use Rattle.tsdb_merge.specs.Winners.{HasNoneAt, IsMergeOf, IsWinner}
 use Rattle.tsdb_merge.proofs.MergeLemmas.{AllPairs-head, AllPairs-nil, AllPairs-tail, Contains-cases, Contains-head, Contains-nil, Contains-tail, same_points}
 use Rattle.tsdb_stats.specs.Statistics.{AreStatsOf}
 

@@ -14,7 +14,7 @@ use Rattle.tsdb_columns.specs.Kept.{times_of}
 use Rattle.tsdb_layers.specs.Lists.{Among, EachPair, if_some}
 use Rattle.tsdb_layers.proofs.Lists.{each_among}
 use Rattle.tsdb_model.specs.World.{is_in}
-use Rattle.tsdb_merge.specs.Winners.{IsRising}
+use Rattle.tsdb_base.specs.Points.{IsRising}
 use Rattle.tsdb_merge.proofs.MergeLemmas.{Contains-head, Contains-tail}
 use Rattle.tsdb_stats.specs.Statistics.{AreStatsOf}
 

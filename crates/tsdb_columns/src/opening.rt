@@ -2,7 +2,8 @@
 ghost use Rattle.std.specs.List.{AllZip};
 ghost use Rattle.std.specs.Prelude.{◌≡◌, ◌≤◌, All, IfOk, List, None, Some, map};
 ghost use Rattle.tsdb_base.specs.declared.point.Point.{Point as PointModel};
-ghost use Rattle.tsdb_merge.specs.Winners.{IsRising, IsToldMergeOf};
+ghost use Rattle.tsdb_base.specs.Points.{IsRising};
+ghost use Rattle.tsdb_merge.specs.Winners.{IsToldMergeOf};
 ghost use Rattle.tsdb_path.specs.Nodes.{device_of, measurement_of, node_count};
 ghost use Rattle.tsdb_columns.specs.Clean.{sources_read};
 ghost use Rattle.tsdb_columns.specs.Files.{FilePages, HasReason, IsTold, IsTruth};

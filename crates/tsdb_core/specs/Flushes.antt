@@ -32,7 +32,7 @@ use Rattle.tsdb_logged.specs.Flushes.{IsFlushed}
 use Rattle.tsdb_logged.specs.Logged.{LeavesStates, Outside, log_of, memory_of, with_record}
 use Rattle.tsdb_model.specs.World.{World}
 use Rattle.tsdb_memory.specs.Store.{FrozenPair, Store}
-use Rattle.tsdb_outside.specs.Causes.{Rose}
+use Rattle.tsdb_base.specs.Causes.{Rose}
 use Rattle.tsdb_outside.specs.Files as outside
 use Rattle.tsdb_outside.specs.declared.disk.Disk as disk
 use Rattle.tsdb_outside.specs.declared.faults.Counted as counted

@@ -10,7 +10,7 @@ ghost use Rattle.tsdb_model.specs.Apply.{after_reply};
 ghost use Rattle.tsdb_model.specs.World.{World};
 ghost use Rattle.tsdb_model.specs.declared.command.Command.{Command};
 ghost use Rattle.tsdb_model.specs.declared.reply.Reply.{Reply};
-ghost use Rattle.tsdb_outside.specs.Causes.{Rose};
+ghost use Rattle.tsdb_base.specs.Causes.{Rose};
 ghost use Rattle.tsdb_base.specs.Limits.{end_of_numbers, max_pair_points};
 
 use crate::engine::Core;

@@ -22,7 +22,7 @@ use Rattle.tsdb_jobs.specs.Built.{paths_of}
 use Rattle.tsdb_jobs.specs.Parts.{Filled}
 use Rattle.tsdb_layers.proofs.Lists.{each_left, each_right, pairs_left}
 use Rattle.tsdb_layers.specs.Lists.{EachPair}
-use Rattle.tsdb_memtable.specs.Points.{IsRising}
+use Rattle.tsdb_base.specs.Points.{IsRising}
 use Rattle.tsdb_pages.specs.File.{AreEntriesIn}
 use Rattle.tsdb_pages.specs.Trees.{IsMade, IsTree}
 use Rattle.tsdb_pages.specs.declared.tree.Tree.{Tree}

@@ -7,7 +7,7 @@ use Rattle.tsdb_engine.specs.Steps.{AddsTimes}
 use Rattle.tsdb_index.specs.declared.index.IndexEntry.{IndexEntry}
 use Rattle.tsdb_jobs.specs.Built.{AreHullsOf, paths_of}
 use Rattle.tsdb_jobs.specs.Parts.{Filled}
-use Rattle.tsdb_memtable.specs.Points.{IsRising}
+use Rattle.tsdb_base.specs.Points.{IsRising}
 use Rattle.tsdb_path.specs.Nodes.{IsPath, child_of, device_of}
 use Rattle.tsdb_plan.specs.declared.entry.Hull.{Hull}
 use Rattle.tsdb_stats.specs.Statistics.{AreStatsOf}

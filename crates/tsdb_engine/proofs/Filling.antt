@@ -11,7 +11,7 @@ use Rattle.tsdb_engine.proofs.Trees.{given_last, given_more}
 use Rattle.tsdb_jobs.specs.Parts.{Filled, series_of}
 use Rattle.tsdb_layers.proofs.Lists.{each_append}
 use Rattle.tsdb_model.specs.declared.command.Schema.{Schema}
-use Rattle.tsdb_memtable.specs.Points.{IsRising}
+use Rattle.tsdb_base.specs.Points.{IsRising}
 use Rattle.tsdb_pages.specs.Pages.{IsInRange}
 use Rattle.tsfile_writer.specs.Building.{WasGiven}
 use Rattle.tsfile_writer.specs.Given.{MayTake, Series, with_point}

@@ -12,7 +12,7 @@ use Rattle.std.specs.declared.cmp.Ordering.TheVariants.{Less}
 use Rattle.std.proofs.lemmas.Cmp.{nat_list_cmp_total}
 use Rattle.std.proofs.lemmas.List.Elements.{All-from_recursion, recursion_from_All}
 use Rattle.std.proofs.lemmas.List.{get_or_append_left, get_or_default, get_or_push, length-append}
-use Rattle.tsdb_memtable.specs.Points.{IsRising}
+use Rattle.tsdb_base.specs.Points.{IsRising}
 use Rattle.tsdb_base.specs.declared.point.Point.{Point}
 use Rattle.tsdb_engine.specs.Steps.{AddsTimes, AreFrom, ComeBefore, EndsIn, IsWidened, filled_with}
 use Rattle.tsdb_index.specs.Entries.{IsBefore}

@@ -6,7 +6,7 @@ ghost use Rattle.tsdb_engine.specs.Steps.{ComeBefore, HaveBegun, IsSound, filled
 ghost use Rattle.tsdb_jobs.specs.Built.{IsFileOf};
 ghost use Rattle.tsdb_jobs.specs.Parts.{Filled, series_of};
 ghost use Rattle.tsdb_model.specs.declared.command.Schema.{Schema as SchemaOf};
-ghost use Rattle.tsdb_memtable.specs.Points.{IsRising};
+ghost use Rattle.tsdb_base.specs.Points.{IsRising};
 ghost use Rattle.tsdb_pages.specs.Pages.{IsInRange};
 ghost use Rattle.tsdb_path.specs.Nodes.{node_count};
 ghost use Rattle.tsfile_writer.specs.Building.{WasGiven};

@@ -5,7 +5,8 @@ ghost use Rattle.tsdb_engine.specs.Making.{IsPart};
 ghost use Rattle.tsdb_jobs.specs.Built.{IsBuiltOf, IsDone, IsEntryOf, IsFileOf, paths_of};
 ghost use Rattle.tsdb_jobs.specs.Jobs.{IsJob, job_part};
 ghost use Rattle.tsdb_jobs.specs.Parts.{IsDrawnFor};
-ghost use Rattle.tsdb_outside.specs.Causes.{HasStoreCause, Rose};
+ghost use Rattle.tsdb_base.specs.Causes.{Rose};
+ghost use Rattle.tsdb_outside.specs.Causes.{HasStoreCause};
 ghost use Rattle.tsdb_outside.specs.declared.faults.StoreFault.TheVariants.{Failed};
 
 use crate::part::{Part, Whole};

@@ -2,7 +2,7 @@
 ghost use Rattle.std.specs.Prelude.{◌<◌, List, length, OnOk};
 ghost use Rattle.tsdb_base.specs.declared.point.Point.{Point as PointOf};
 ghost use Rattle.tsdb_engine.specs.Steps.{AddsTimes, AreFrom, EndsIn, IsWidened};
-ghost use Rattle.tsdb_memtable.specs.Points.{IsRising};
+ghost use Rattle.tsdb_base.specs.Points.{IsRising};
 ghost use Rattle.tsdb_path.specs.Nodes.{device_of as device_in};
 ghost use Rattle.std.specs.Prelude.{◌≡◌};
 

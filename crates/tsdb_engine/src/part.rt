@@ -9,7 +9,7 @@ ghost use Rattle.tsdb_engine.specs.Steps.{AreFrom, ComeBefore, filled_with};
 ghost use Rattle.tsdb_model.specs.declared.command.Schema.{Schema as SchemaOf};
 ghost use Rattle.tsdb_jobs.specs.Built.{IsEntryOf, IsFileOf, paths_of};
 ghost use Rattle.tsdb_jobs.specs.Parts.{Filled};
-ghost use Rattle.tsdb_memtable.specs.Points.{IsRising};
+ghost use Rattle.tsdb_base.specs.Points.{IsRising};
 ghost use Rattle.tsdb_path.specs.Nodes.{node_count};
 
 use crate::building::{begin, finish, put_point, put_points};

@@ -28,7 +28,7 @@ use Rattle.tsdb_memory.specs.Model.{HasTypedPoints, IsFormed, IsSound}
 use Rattle.tsdb_memory.specs.Shown.{number_of}
 use Rattle.tsdb_memory.specs.Store as memory
 use Rattle.tsdb_memtable.specs.Pairs.{Pair, points_of}
-use Rattle.tsdb_memtable.specs.Points.{IsRising}
+use Rattle.tsdb_base.specs.Points.{IsRising}
 
 abbrev id_of : PairSeries → SeriesId
 id_of one = one.id

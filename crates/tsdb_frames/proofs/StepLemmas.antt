@@ -4,7 +4,8 @@ use Rattle.std.proofs.lemmas.Bool.{false≢true}
 use Rattle.std.specs.Prelude.{Result, Ok, Err, None, Some, IfSome, IsSome, OnOk}
 use Rattle.std.specs.declared.option.Option.{Option}
 use Rattle.std.specs.Option.{ForSome}
-use Rattle.tsdb_outside.specs.Causes.{HasCause, Rose}
+use Rattle.tsdb_base.specs.Causes.{Rose}
+use Rattle.tsdb_outside.specs.Causes.{HasCause}
 use Rattle.tsdb_outside.specs.Disk.{Image, State, IsLawful, Durable, Elapses, Keeps, MayWrite, Overwrites, TornIn, WhereTold, in_slot, overwrite, with_slot}
 use Rattle.tsdb_outside.specs.declared.disk.Slot.{Slot}
 use Rattle.tsdb_outside.specs.declared.disk.Slot.TheVariants.{A, B}

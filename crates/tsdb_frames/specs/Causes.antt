@@ -1,6 +1,6 @@
 -- When a scan may answer that the journal failed.
 use Rattle.std.specs.Prelude.{◌≡◌, ℕ, ◌≤◌, Result, IsErrOf}
-use Rattle.tsdb_outside.specs.Causes.{Rose}
+use Rattle.tsdb_base.specs.Causes.{Rose}
 use Rattle.tsdb_frames.specs.declared.fault.ScanFault.{ScanFault}
 use Rattle.tsdb_frames.specs.declared.fault.ScanFault.TheVariants.{Failed, Torn, Memory}
 

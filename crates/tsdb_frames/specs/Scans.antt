@@ -1,6 +1,6 @@
 -- What a scan of a slot leaves: a log of its records, or the journal that it could not read.
 use Rattle.std.specs.Prelude.{◌≡◌, ◌≤◌, ℕ, false, List, None, Some, IfSome}
-use Rattle.tsdb_outside.specs.Causes.{Rose}
+use Rattle.tsdb_base.specs.Causes.{Rose}
 use Rattle.tsdb_outside.specs.Disk.{State, in_slot, Keeps}
 use Rattle.tsdb_outside.specs.Moments.{other}
 use Rattle.tsdb_outside.specs.declared.disk.Disk as disk

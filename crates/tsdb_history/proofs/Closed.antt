@@ -27,7 +27,7 @@ use Rattle.tsdb_logged.specs.Closing as logged
 use Rattle.tsdb_logged.specs.Logged.{IsSound, Outside}
 use Rattle.tsdb_model.specs.State as plain
 use Rattle.tsdb_model.specs.declared.reply.Listing.{Listing}
-use Rattle.tsdb_outside.specs.Causes.{Rose}
+use Rattle.tsdb_base.specs.Causes.{Rose}
 use Rattle.tsdb_outside.specs.Disk.{Image, IsLawful, State, WhereTold, in_slot}
 use Rattle.tsdb_outside.specs.Files.{IsFileNumber, StoredFile}
 use Rattle.tsdb_outside.specs.Moments.{LeavesOnly}

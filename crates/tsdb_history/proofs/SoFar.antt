@@ -15,7 +15,7 @@ use Rattle.tsdb_history.specs.declared.told.Told.{Told}
 use Rattle.tsdb_model.specs.History.{Entry}
 use Rattle.tsdb_model.specs.declared.reply.Reply.{Reply}
 use Rattle.tsdb_model.specs.declared.reply.Reply.TheVariants.{Plain, Lines, Values, Files}
-use Rattle.tsdb_outside.specs.Causes.{Rose}
+use Rattle.tsdb_base.specs.Causes.{Rose}
 use Rattle.tsdb_script.specs.declared.numbered.Numbered.{Numbered}
 
 -- the numbers of commands of the sessions

@@ -3,7 +3,7 @@ ghost use Rattle.std.specs.Prelude.{◌≡◌, ◌≤◌, [], List, Option, Some
 ghost use Rattle.std.specs.Option.{IsSomeAnd};
 ghost use Rattle.tsdb_history.specs.Closing.{IsClosed};
 ghost use Rattle.tsdb_model.specs.State as plain;
-ghost use Rattle.tsdb_outside.specs.Causes.{Rose};
+ghost use Rattle.tsdb_base.specs.Causes.{Rose};
 ghost use Rattle.tsdb_outside.specs.Files.{StoredFile};
 ghost use Rattle.tsdb_serving.specs.Flushing.{IsReady, faults_under};
 ghost use Rattle.tsdb_serving.specs.Serving.{IsServing};

@@ -11,7 +11,7 @@ ghost use Rattle.tsdb_model.specs.Commands.{IsWellFormed};
 ghost use Rattle.tsdb_model.specs.declared.command.Command.{Command as CommandOf};
 ghost use Rattle.tsdb_model.specs.declared.reply.Listing.{Listing};
 ghost use Rattle.tsdb_model.specs.declared.reply.Reply.{Reply as ReplyOf};
-ghost use Rattle.tsdb_outside.specs.Causes.{Rose};
+ghost use Rattle.tsdb_base.specs.Causes.{Rose};
 ghost use Rattle.tsdb_rewriting.specs.Rewriting.{IsCompacted};
 ghost use Rattle.tsdb_serving.specs.Flushing.{IsReady, faults_under};
 ghost use Rattle.tsdb_serving.specs.Serving.{Answers, HasFullCause, IsSure, StaysInPlace};

@@ -22,7 +22,7 @@ use Rattle.tsdb_layers.specs.Lists.{Among, EachPair}
 use Rattle.tsdb_layers.specs.Places.{Place}
 use Rattle.tsdb_model.specs.declared.command.Schema.{Schema}
 use Rattle.tsdb_memory.proofs.Counts.{among_either, pairs_append}
-use Rattle.tsdb_merge.specs.Winners.{IsRising}
+use Rattle.tsdb_base.specs.Points.{IsRising}
 use Rattle.tsdb_outside.specs.Files.{NamedFile}
 use Rattle.tsdb_path.specs.Nodes.{device_of, measurement_of, node_count}
 use Rattle.tsdb_sources.specs.Survivors.{place_at}

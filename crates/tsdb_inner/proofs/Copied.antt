@@ -18,7 +18,8 @@ use Rattle.tsdb_inner.specs.Steps.{HasBegun, HaveBrokenOrder, Puts}
 use Rattle.tsdb_jobs.specs.Parts.{Filled}
 use Rattle.tsdb_model.specs.declared.command.Schema.{Schema}
 use Rattle.tsdb_marks.specs.declared.marks.Mark.{Mark}
-use Rattle.tsdb_merge.specs.Winners.{IsMergeOf, IsRising, IsToldMergeOf, TakesTold}
+use Rattle.tsdb_base.specs.Points.{IsRising}
+use Rattle.tsdb_merge.specs.Winners.{IsMergeOf, IsToldMergeOf, TakesTold}
 use Rattle.tsdb_outside.specs.Files.{NamedFile}
 
 pub ok_then : {T E : Type 0} (P Q : T → Type 0) → ((x : T) → P x → Q x) → (result : Result T E) → IfOk result P

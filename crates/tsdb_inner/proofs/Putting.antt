@@ -18,7 +18,8 @@ use Rattle.tsdb_jobs.specs.Parts.{Filled}
 use Rattle.tsdb_layers.proofs.Lists.{among_left, among_right, each_append, each_middle, each_weaker}
 use Rattle.tsdb_layers.specs.Lists.{Among}
 use Rattle.tsdb_model.specs.declared.command.Schema.{Schema}
-use Rattle.tsdb_merge.specs.Winners.{IsRising, TakesTold}
+use Rattle.tsdb_base.specs.Points.{IsRising}
+use Rattle.tsdb_merge.specs.Winners.{TakesTold}
 
 -- ---- what is taken of a stream
 

@@ -15,7 +15,8 @@ use Rattle.tsdb_engine.specs.declared.part.Part.{Part}
 use Rattle.tsdb_jobs.specs.Parts.{Filled, if_any}
 use Rattle.tsdb_model.specs.declared.command.Schema.{Schema}
 use Rattle.tsdb_marks.specs.declared.marks.Mark.{Mark}
-use Rattle.tsdb_merge.specs.Winners.{IsMergeOf, IsRising}
+use Rattle.tsdb_base.specs.Points.{IsRising}
+use Rattle.tsdb_merge.specs.Winners.{IsMergeOf}
 use Rattle.tsdb_outside.specs.Files.{NamedFile}
 
 -- all times

@@ -8,7 +8,7 @@ use Rattle.tsdb_engine.specs.declared.part.Part.{Part}
 use Rattle.tsdb_inner.specs.Copies.{AreOfType}
 use Rattle.tsdb_jobs.specs.Parts.{Filled}
 use Rattle.tsdb_model.specs.declared.command.Schema.{Schema}
-use Rattle.tsdb_merge.specs.Winners.{IsRising}
+use Rattle.tsdb_base.specs.Points.{IsRising}
 
 -- the point is later than the time, and of the series' type
 abbrev pub MayFollow : ℤ → Schema → Point → Type 0

@@ -11,7 +11,7 @@ use Rattle.tsdb_inner.specs.Copies.{Adds}
 use Rattle.tsdb_jobs.specs.Parts.{Filled}
 use Rattle.tsdb_layers.specs.Lists.{Among, EachPair}
 use Rattle.tsdb_model.specs.declared.command.Schema.{Schema}
-use Rattle.tsdb_merge.specs.Winners.{IsRising}
+use Rattle.tsdb_base.specs.Points.{IsRising}
 use Rattle.tsdb_outside.specs.Files.{NamedFile}
 use Rattle.tsdb_sources.specs.Survivors.{place_at}
 use Rattle.tsdb_state.specs.State.{Told}

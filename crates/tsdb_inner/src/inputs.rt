@@ -2,7 +2,7 @@
 ghost use Rattle.std.specs.List.{AllByRecursion as Each, AllZip};
 ghost use Rattle.std.specs.Prelude.{◌≡◌, ◌≤◌, ◌⊎◌, IfOk};
 ghost use Rattle.tsdb_inner.specs.Inputs.{IsLentAs, TellsBytes};
-ghost use Rattle.tsdb_outside.specs.Causes.{Rose};
+ghost use Rattle.tsdb_base.specs.Causes.{Rose};
 
 use std::alloc::Global;
 use tsdb_base::Memory;

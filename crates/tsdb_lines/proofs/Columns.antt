@@ -14,7 +14,7 @@ use Rattle.tsdb_layers.proofs.Lists.{each_weaker}
 use Rattle.tsdb_layers.specs.Lists.{Among}
 use Rattle.tsdb_model.specs.declared.reply.Line.{Line}
 use Rattle.tsdb_merge.proofs.MergeLemmas.{AllPairs-head, AllPairs-tail}
-use Rattle.tsdb_merge.specs.Winners.{IsRising}
+use Rattle.tsdb_base.specs.Points.{IsRising}
 use Rattle.tsdb_lines.specs.Rows.{AreTakenAt, BeginsAt, BeginsFrom, IsFirstTime, IsTakenAt, OneBeginsAt, TakesLine}
 
 -- the value that the points have at the time, where they have one

@@ -5,7 +5,7 @@ use Rattle.std.specs.Prelude.{T, ℤ, ◌<ℤ◌, int_lt, find, All}
 use Rattle.std.proofs.lemmas.List.Elements.{All-cons, All-nil}
 use Rattle.std.proofs.lemmas.List.Kept.{AllPairs-cons}
 use Rattle.tsdb_merge.proofs.MergeLemmas.{AllPairs-nil}
-use Rattle.tsdb_merge.specs.Winners.{IsRising}
+use Rattle.tsdb_base.specs.Points.{IsRising}
 use Rattle.std.specs.FinMap.{entries, get, keys, from_entries, get-entries, entries_sorted}
 use Rattle.std.specs.FinMap.Entries.{find as find_key, below_all, is_sorted}
 use Rattle.std.specs.BTreeMap.{is_at}

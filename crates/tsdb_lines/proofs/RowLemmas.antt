@@ -16,7 +16,7 @@ use Rattle.std.specs.declared.vec.Vec.{Vec}
 use Rattle.tsdb_model.specs.Folds.{in_order, rows}
 use Rattle.tsdb_model.specs.World.{Points}
 use Rattle.tsdb_model.specs.declared.reply.Line.{Line}
-use Rattle.tsdb_merge.specs.Winners.{IsRising}
+use Rattle.tsdb_base.specs.Points.{IsRising}
 use Rattle.tsdb_lines.proofs.Columns.{AreLinesOf, line_first, no_lines, one_taken, points_in, rising_after}
 use Rattle.tsdb_lines.proofs.Lines.{are_rows, in_order_rise}
 

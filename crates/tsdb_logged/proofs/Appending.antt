@@ -14,7 +14,8 @@ use Rattle.tsdb_log.specs.declared.record.LogRecord.{LogRecord}
 use Rattle.tsdb_logged.specs.Appends.{HasItems, IsAppended}
 use Rattle.tsdb_logged.specs.Logged.{HasLog, log_of, two_numbers}
 use Rattle.tsdb_logged.specs.declared.logged.Logged.{Logged}
-use Rattle.tsdb_outside.specs.Causes.{HasCause, Rose}
+use Rattle.tsdb_base.specs.Causes.{Rose}
+use Rattle.tsdb_outside.specs.Causes.{HasCause}
 use Rattle.tsdb_outside.specs.Disk.{Image, IsLawful, State, in_slot}
 use Rattle.tsdb_outside.specs.Moments.{LeavesFirstThen, LeavesOnly}
 use Rattle.tsdb_outside.specs.declared.disk.Disk as disk

@@ -14,7 +14,8 @@ use Rattle.tsdb_logged.specs.Closing.{IsClosed, LeavesRecords}
 use Rattle.tsdb_logged.specs.Logged.{IsSound, Outside, log_of}
 use Rattle.tsdb_logged.specs.declared.logged.Logged.{Logged}
 use Rattle.tsdb_model.specs.State as plain
-use Rattle.tsdb_outside.specs.Causes.{HasCause, Rose}
+use Rattle.tsdb_base.specs.Causes.{Rose}
+use Rattle.tsdb_outside.specs.Causes.{HasCause}
 use Rattle.tsdb_outside.specs.Disk.{State, in_slot}
 use Rattle.tsdb_outside.specs.Moments.{LeavesOnly}
 use Rattle.tsdb_outside.specs.declared.disk.Disk as disk

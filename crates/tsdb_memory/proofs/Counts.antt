@@ -29,7 +29,7 @@ use Rattle.tsdb_memory.proofs.Series.{itself, one_number}
 use Rattle.tsdb_memory.specs.Model.{HasKnownSeries}
 use Rattle.tsdb_memory.specs.Shown.{IsContentOf, number_of, value_at, value_found}
 use Rattle.tsdb_memtable.specs.Pairs.{HasRisingSeries, Pair, SeriesPoints, blank, count, is_series, points_in, points_of}
-use Rattle.tsdb_memtable.specs.Points.{IsRising}
+use Rattle.tsdb_base.specs.Points.{IsRising}
 
 -- how many values a content has
 

@@ -29,7 +29,7 @@ use Rattle.tsdb_memory.specs.Rows.{ChangesRoom}
 use Rattle.tsdb_memory.specs.Shown.{IsFrozenOf, IsMemoryOf, IsPairOf, entry_of, file_borns, number_of, value_at}
 use Rattle.tsdb_memory.specs.Store.{FrozenPair, Places, Store}
 use Rattle.tsdb_memtable.specs.Pairs.{change_points, points_of, without_range}
-use Rattle.tsdb_memtable.specs.Points.{IsRising}
+use Rattle.tsdb_base.specs.Points.{IsRising}
 use Rattle.tsdb_base.specs.Limits.{end_of_numbers, max_frozen}
 use Rattle.tsdb_state.specs.NewStore.{new_store}
 use Rattle.tsdb_state.specs.Records.{Replacement, add_mark, created, cut_pair, flush_oldest, flushed, new_file}

@@ -22,7 +22,8 @@ use Rattle.tsdb_memory.specs.Shown.{IsPairOf, number_of, value_at, value_found}
 use Rattle.tsdb_memtable.specs.Pairs.{Pair, SeriesPoints, blank, change_points, is_series, points_in, points_of, put_in}
 use Rattle.tsdb_memtable.specs.Pairs.{spare_of}
 use Rattle.tsdb_memtable.proofs.PointLemmas.{with_point-rising}
-use Rattle.tsdb_memtable.specs.Points.{IsRising, is_after, is_before, with_point}
+use Rattle.tsdb_base.specs.Points.{IsRising}
+use Rattle.tsdb_memtable.specs.Points.{is_after, is_before, with_point}
 use Rattle.tsdb_state.specs.Records.{put_in_space}
 use Rattle.tsdb_state.specs.State as state
 

@@ -25,7 +25,7 @@ use Rattle.tsdb_memory.proofs.Series.{one_number}
 use Rattle.tsdb_memory.specs.Freezing.{AreRaises, HasPlaces, HasTime, IsRaiseOf, IsReached, raised_by}
 use Rattle.tsdb_memory.specs.declared.freezing.Raise.{Raise}
 use Rattle.tsdb_memtable.specs.Pairs.{Pair, SeriesPoints, blank, is_series, points_in, points_of, table}
-use Rattle.tsdb_memtable.specs.Points.{IsRising}
+use Rattle.tsdb_base.specs.Points.{IsRising}
 use Rattle.tsdb_memtable.specs.Watermarks.{HasPlace, Watermarks, later_time, watermark}
 use Rattle.tsdb_path.specs.Nodes.{device_of}
 

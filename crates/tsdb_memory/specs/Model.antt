@@ -16,7 +16,7 @@ use Rattle.tsdb_memory.specs.Store as value
 use Rattle.tsdb_memory.specs.declared.store.FrozenPair.{FrozenPair}
 use Rattle.tsdb_memory.specs.declared.store.MemoryStore.TheInside.{Inside}
 use Rattle.tsdb_memtable.specs.Pairs.{Pair, points_of}
-use Rattle.tsdb_memtable.specs.Points.{IsRising}
+use Rattle.tsdb_base.specs.Points.{IsRising}
 use Rattle.tsdb_path.specs.Nodes.{IsPath, device_of}
 use Rattle.tsdb_base.specs.Limits.{end_of_numbers, max_frozen}
 

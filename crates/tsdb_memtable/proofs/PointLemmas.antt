@@ -10,7 +10,8 @@ use Rattle.std.proofs.lemmas.List.Elements.{All-head, All-tail, All-cons, All-ap
 use Rattle.std.proofs.lemmas.List.Kept.{AllPairs-filter, AllPairs-cons}
 use Rattle.tsdb_base.specs.declared.point.Point.{Point}
 use Rattle.tsdb_base.specs.declared.point.Range.{Range}
-use Rattle.tsdb_memtable.specs.Points.{IsRising, is_before, is_after, is_within, is_outside, with_point}
+use Rattle.tsdb_base.specs.Points.{IsRising}
+use Rattle.tsdb_memtable.specs.Points.{is_before, is_after, is_within, is_outside, with_point}
 use Rattle.tsdb_memtable.specs.Steps.{is_from, is_until}
 
 -- times

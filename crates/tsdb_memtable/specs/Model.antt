@@ -4,7 +4,7 @@ use Rattle.tsdb_memtable.specs.declared.series.SeriesPoints.TheInside.{Inside}
 use Rattle.tsdb_memtable.specs.declared.series.Totals.{Totals}
 use Rattle.tsdb_base.specs.Limits.{max_point_bytes}
 use Rattle.tsdb_memtable.specs.Limits.{max_bytes}
-use Rattle.tsdb_memtable.specs.Points.{IsRising}
+use Rattle.tsdb_base.specs.Points.{IsRising}
 use Rattle.tsdb_memtable.specs.Pairs.{SeriesPoints, series_bytes}
 
 abbrev pub points_view : Inside → SeriesPoints

@@ -6,10 +6,6 @@ use Rattle.tsdb_base.specs.declared.point.Range.{Range}
 use Rattle.tsdb_base.specs.declared.value.Value.{Value}
 use Rattle.tsdb_base.specs.declared.value.Value.TheVariants as value
 
--- each time is less than those after it
-abbrev pub IsRising : List Point → Type 0
-IsRising points = AllPairs (λ a b. a.time <ℤ b.time) points
-
 -- before the time
 abbrev pub is_before : ℤ → Point → Bool
 is_before time point = int_lt point.time time

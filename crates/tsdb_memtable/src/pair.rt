@@ -2,7 +2,8 @@
 ghost use Rattle.std.specs.Prelude.{◌≡◌, ◌≢◌, ℕ, ◌+◌, ◌<◌, true, [], map, IfOk, OnOk, OnErr};
 ghost use Rattle.std.specs.List.{filter};
 ghost use Rattle.tsdb_base.specs.declared.ids.Space.{Space as SpaceOf};
-ghost use Rattle.tsdb_memtable.specs.Points.{IsRising, is_within};
+ghost use Rattle.tsdb_base.specs.Points.{IsRising};
+ghost use Rattle.tsdb_memtable.specs.Points.{is_within};
 ghost use Rattle.tsdb_memtable.specs.Watermarks.{watermark, space_by};
 ghost use Rattle.tsdb_memtable.specs.Pairs.{byte_count, change_points, count, HasRisingSeries, without_range};
 ghost use Rattle.tsdb_memtable.specs.Pairs.{UsesSpareRoom, points_of, put_in, spare_of, table};

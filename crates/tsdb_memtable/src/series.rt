@@ -3,7 +3,8 @@ ghost use Rattle.std.specs.Prelude.{◌≡◌, ◌==◌, ◌+◌, ◌*◌, ◌<�
 ghost use Rattle.std.specs.List.{filter};
 ghost use Rattle.tsdb_base.specs.Limits.{max_point_bytes};
 ghost use Rattle.tsdb_memtable.specs.Limits.{max_bytes};
-ghost use Rattle.tsdb_memtable.specs.Points.{IsRising, is_within};
+ghost use Rattle.tsdb_base.specs.Points.{IsRising};
+ghost use Rattle.tsdb_memtable.specs.Points.{is_within};
 ghost use Rattle.tsdb_base.specs.declared.ids.Space.{Space as SpaceOf};
 ghost use Rattle.tsdb_memtable.specs.Pairs.{IsProvided, blank, without_range, points_in, put_in, series_bytes};
 ghost use Rattle.tsdb_memtable.specs.Model.{most_bytes, totals_of, with_room};

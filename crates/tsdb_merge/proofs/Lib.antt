@@ -2,6 +2,5 @@ pub mod Joined
 pub mod MergeLemmas
 pub mod Pulls
 pub mod ReadLemmas
-pub mod RisingLemmas
 pub mod SourceLemmas
 pub mod TreeLemmas

@@ -6,7 +6,8 @@ use Rattle.std.proofs.lemmas.List.{get_or_default}
 use Rattle.std.proofs.lemmas.List.Kept.{AllPairs-cons}
 use Rattle.std.proofs.lemmas.List.Elements.{All-nil, All-cons, All-head, All-tail, All-append, All-weaker, All-contains, Contains-append_left, Contains-append_right}
 use Rattle.tsdb_base.specs.declared.point.Point.{Point}
-use Rattle.tsdb_merge.specs.Winners.{IsRising, HasNoneAt, IsWinner, IsMergeOf}
+use Rattle.tsdb_base.specs.Points.{IsRising}
+use Rattle.tsdb_merge.specs.Winners.{HasNoneAt, IsWinner, IsMergeOf}
 use Rattle.tsdb_merge.specs.Steps.{merge_two, merge_from}
 
 abbrev IsBefore : Point → Point → Type 0

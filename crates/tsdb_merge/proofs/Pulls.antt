@@ -3,7 +3,8 @@ use Rattle.std.proofs.Common.{◌≡◌, ℕ, List, [], ◌∷◌, ◌++◌, Res
 use Rattle.tsdb_base.specs.declared.point.Point.{Point}
 use Rattle.tsdb_merge.specs.declared.points.PullFault.{PullFault}
 use Rattle.tsdb_merge.specs.declared.points.PullFault.TheVariants.{Failed, Damaged, Memory}
-use Rattle.tsdb_merge.specs.Causes.{Rose, SomeRose, NoneFell, SomeHasRisen}
+use Rattle.tsdb_base.specs.Causes.{Rose}
+use Rattle.tsdb_merge.specs.Causes.{SomeRose, NoneFell, SomeHasRisen}
 use Rattle.tsdb_merge.specs.Causes.{HasSomeCause}
 use Rattle.tsdb_merge.specs.Steps.{merge_two}
 

@@ -8,10 +8,12 @@ use Rattle.std.proofs.lemmas.List.{get_or-map, get_or-set_other, get_or-set_same
 use Rattle.std.proofs.lemmas.List.Elements.{All-cons, All-nil}
 use Rattle.std.proofs.lemmas.List.Sums.{sum_by-set}
 use Rattle.tsdb_base.specs.declared.point.Point.{Point}
-use Rattle.tsdb_merge.specs.Causes.{HasPullCause, HasRisen, HasSomeCause, NoneFell, Rose, SomeHasRisen, SomeRose}
+use Rattle.tsdb_base.specs.Causes.{Rose}
+use Rattle.tsdb_merge.specs.Causes.{HasPullCause, HasRisen, HasSomeCause, NoneFell, SomeHasRisen, SomeRose}
 use Rattle.tsdb_merge.specs.Steps.{IsPut}
 use Rattle.tsdb_merge.specs.Supplies.{IsFilled, KeepsOthers, Moves, left_at}
-use Rattle.tsdb_merge.specs.Winners.{IsRising, TakesTold}
+use Rattle.tsdb_base.specs.Points.{IsRising}
+use Rattle.tsdb_merge.specs.Winners.{TakesTold}
 use Rattle.tsdb_merge.specs.declared.points.PullFault.{PullFault}
 use Rattle.tsdb_merge.specs.declared.points.PullFault.TheVariants.{Failed, Damaged, Memory}
 use Rattle.tsdb_merge.proofs.Pulls.{none_fell}

@@ -6,7 +6,8 @@ use Rattle.std.specs.Option.{option_to_list}
 use Rattle.std.proofs.lemmas.List.{get_or-drop, get_or-take, get_or-map, length-drop, length-take-le, take-append-drop}
 use Rattle.std.proofs.lemmas.List.Elements.{All-drop, All-head, All-nil, All-take}
 use Rattle.tsdb_base.specs.declared.point.Point.{Point}
-use Rattle.tsdb_merge.specs.Winners.{HasNoneAt, IsMergeOf, IsRising, IsToldMergeOf, IsWinner, TakesTold}
+use Rattle.tsdb_base.specs.Points.{IsRising}
+use Rattle.tsdb_merge.specs.Winners.{HasNoneAt, IsMergeOf, IsToldMergeOf, IsWinner, TakesTold}
 use Rattle.tsdb_merge.proofs.MergeLemmas.{All-from_contains, AllPairs-nil, merge_of_both}
 use Rattle.tsdb_merge.specs.Steps.{IsFresh, IsHeadOf, IsNextOf, IsPulled, IsRoot, IsAhead, left_behind, root_left, IsTree, IsWithin, KeepsOutside, behind, count_of, first_of, head_held, merge_told, merge_two, node_left, told_with, with_head}
 use Rattle.tsdb_merge.specs.Supplies.{left_at}

@@ -1,12 +1,9 @@
 -- When a pull may answer a fault: only where the count of that fault rose in the call.
 use Rattle.std.specs.Prelude.{ℕ, ◌⊎◌, ◌+◌, ◌-◌, ◌^◌, ◌≤◌, min, List, [], ◌∷◌, Result, IfErr}
 use Rattle.std.specs.List.{AllZip}
+use Rattle.tsdb_base.specs.Causes.{Rose}
 use Rattle.tsdb_merge.specs.declared.points.PullFault.{PullFault}
 use Rattle.tsdb_merge.specs.declared.points.PullFault.TheVariants.{Failed, Damaged, Memory}
-
--- the count has risen; one that stands at the end of its type stays there
-abbrev pub Rose : ℕ → ℕ → Type 0
-Rose before now = min (before + 1) (2 ^ 64 - 1) ≤ now
 
 -- the count of that fault has risen; out of memory needs no cause
 abbrev pub HasRisen : PullFault → ℕ → ℕ → ℕ → ℕ → Type 0

@@ -1,10 +1,7 @@
 -- Lists of points in order of time, and which points win where several lists have one at the same time.
 use Rattle.std.specs.Prelude.{◌≡◌, ◌≢◌, ◌⊎◌, ℤ, ◌<ℤ◌, List, [], ◌∷◌, Option, Some, None, All, AllPairs, Contains}
+use Rattle.tsdb_base.specs.Points.{IsRising}
 use Rattle.tsdb_base.specs.declared.point.Point.{Point}
-
--- times rise from point to point
-abbrev pub IsRising : List Point → Type 0
-IsRising points = AllPairs (λ a b. a.time <ℤ b.time) points
 
 -- the list has no point at the time
 abbrev pub HasNoneAt : ℤ → List Point → Type 0

@@ -6,7 +6,8 @@ ghost use Rattle.tsdb_base.specs.declared.point.Point.{Point};
 ghost use Rattle.tsdb_merge.specs.Causes.{HasSomeCause, NoneFell, SomeHasRisen};
 ghost use Rattle.tsdb_merge.specs.Merging.{lazy_held, lazy_left};
 ghost use Rattle.tsdb_merge.specs.Steps.{IsPulled, IsRoot, IsTree, count_of, first_of, node_held};
-ghost use Rattle.tsdb_merge.specs.Winners.{IsRising, IsToldMergeOf, TakesTold};
+ghost use Rattle.tsdb_base.specs.Points.{IsRising};
+ghost use Rattle.tsdb_merge.specs.Winners.{IsToldMergeOf, TakesTold};
 ghost use Rattle.tsdb_merge.specs.declared.points.PullFault.{PullFault};
 
 use crate::head::{Head, into_point};

@@ -18,6 +18,6 @@ mod tree;
 pub use head::{Head, into_point, take_next};
 pub use lazy::LazyMerge;
 pub use merge::{Merge, merge_is_one, pieces_merge_as_joined};
-pub use points::{ListPoints, Points, PullFault, is_rising};
+pub use points::{ListPoints, Points, PullFault};
 pub use supply::Supply;
 pub use tree::{Node, count_held, pop};

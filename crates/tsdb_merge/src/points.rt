@@ -2,7 +2,8 @@
 ghost use Rattle.std.specs.Prelude.{◌≡◌, ◌↔◌, ◌+◌, ◌≤◌, ℕ, List, IfOk, IfSome, IsTrue, Option, Some, length};
 ghost use Rattle.std.specs.Option.{option_to_list};
 ghost use Rattle.std.specs.Vec.Iter.{into_iter_items};
-ghost use Rattle.tsdb_merge.specs.Winners.{IsRising, TakesTold};
+ghost use Rattle.tsdb_base.specs.Points.{IsRising};
+ghost use Rattle.tsdb_merge.specs.Winners.{TakesTold};
 ghost use Rattle.tsdb_merge.specs.Causes.{HasPullCause};
 ghost use Rattle.tsdb_base.specs.declared.point.Point.{Point};
 
@@ -101,18 +102,6 @@ pub struct ListPoints {
     /// move of the others, and no memory is taken.
     pub left: IntoIter<Point>,
     ghost rising: { IsRising (into_iter_items left) },
-}
-
-/// Whether times rise from point to point.
-pub fn is_rising(points: &[Point]) -> bool
-    ensures { IsTrue result ↔ IsRising points.now }
-{
-    for i in 1..points.len() {
-        if points[i].time <= points[i - 1].time {
-            return false;
-        }
-    }
-    true
 }
 
 impl ListPoints {

@@ -1,11 +1,8 @@
 -- When a call may return that something outside failed: only where the count of faults of an object rose in that call.
 use Rattle.std.specs.Prelude.{◌≡◌, ℕ, ◌+◌, ◌-◌, ◌^◌, ◌≤◌, min, Result, OnErr, IsErrOf}
+use Rattle.tsdb_base.specs.Causes.{Rose}
 use Rattle.tsdb_outside.specs.declared.faults.StoreFault.{StoreFault}
 use Rattle.tsdb_outside.specs.declared.faults.StoreFault.TheVariants.{Failed}
-
--- the count has risen; one that is at the end of its type stays there
-abbrev pub Rose : ℕ → ℕ → Type 0
-Rose before now = min (before + 1) (2 ^ 64 - 1) ≤ now
 
 -- the count never falls, and the call returns its error only where the count has risen; for a call with no other error
 pub record HasCause {T E : Type 0} (before now : ℕ) (result : Result T E) : Type 0 where

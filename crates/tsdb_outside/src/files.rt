@@ -23,7 +23,8 @@ ghost use Rattle.std.specs.Prelude.{Contains, None, IfOk, IfSome, IsTrue, MatchO
 ghost use Rattle.std.specs.declared.option.Option.{Option};
 ghost use Rattle.std.specs.Option.{ForSome};
 ghost use Rattle.std.specs.List.Sorted.{IsStrictlyIncreasing};
-ghost use Rattle.tsdb_outside.specs.Causes.{HasCause, HasStoreCause, Rose};
+ghost use Rattle.tsdb_base.specs.Causes.{Rose};
+ghost use Rattle.tsdb_outside.specs.Causes.{HasCause, HasStoreCause};
 ghost use Rattle.tsdb_outside.specs.Disk.{WhereTold};
 ghost use Rattle.tsdb_outside.specs.Files.{Store, NamedFile, StoredFile, IsFileNumber, is_number, Names, numbers_of};
 ghost use Rattle.tsdb_outside.specs.Files.{plain_numbers, TakesOut, PutsBack, Tells};

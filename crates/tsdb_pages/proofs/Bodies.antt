@@ -23,7 +23,8 @@ use Rattle.enc_values.specs.Spelling.{IsValueOf, spelling}
 use Rattle.enc_values.proofs.SuitablePairs.{laws_of}
 use Rattle.tsdb_pages.specs.declared.fault.PageFault.{PageFault}
 use Rattle.tsdb_pages.specs.declared.fault.PageFault.TheVariants as page
-use Rattle.tsdb_pages.specs.Pages.{ArePoints, IsInRange, IsRising, body, times_field, times_of, values_of}
+use Rattle.tsdb_base.specs.Points.{IsRising}
+use Rattle.tsdb_pages.specs.Pages.{ArePoints, IsInRange, body, times_field, times_of, values_of}
 use Rattle.tsdb_pages.specs.Reading.{IsBody, IsNoBody, as_page_fault}
 
 All-of_map : {X Y : Type 0} (P : Y → Type 0) (f : X → Y) (xs : List X) → All P (map f xs) → All (λ x. P (f x)) xs

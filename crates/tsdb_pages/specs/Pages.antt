@@ -1,6 +1,7 @@
 -- The points of a page, and the bytes of its body.
 use Rattle.std.specs.Prelude.{◌≡◌, ℕ, ℤ, ◌<◌, ◌≤◌, ◌<ℤ◌, List, ◌++◌, length, map, All, AllPairs, FitsSigned}
 use Rattle.std.specs.Int.{w64}
+use Rattle.tsdb_base.specs.Points.{IsRising}
 use Rattle.tsdb_base.specs.declared.point.Point.{Point}
 use Rattle.tsdb_base.specs.declared.value.DataType.{DataType}
 use Rattle.tsdb_base.specs.declared.value.Encoding.{Encoding}
@@ -10,10 +11,6 @@ use Rattle.tsdb_base.specs.Limits.{max_values}
 use Rattle.tsdb_base.specs.Values.{type_of}
 use Rattle.enc_ts2diff.specs.Spelling as ts2diff
 use Rattle.enc_values.specs.Spelling.{Fits, spelling}
-
--- times rise from point to point
-abbrev pub IsRising : List Point → Type 0
-IsRising points = AllPairs (λ a b. a.time <ℤ b.time) points
 
 -- the points of one page of this type: 1 to 1,000, in order of time
 pub record ArePoints (data_type : DataType) (points : List Point) : Type 0 where

@@ -12,7 +12,8 @@ use Rattle.tsdb_pages.specs.declared.tree.Chunk.{Chunk}
 use Rattle.tsdb_pages.specs.declared.tree.Group.{Group}
 use Rattle.tsdb_pages.specs.declared.tree.Tree.{Tree}
 use Rattle.tsdb_base.specs.Limits.{max_entries, max_pages}
-use Rattle.tsdb_pages.specs.Pages.{ArePoints, IsInRange, IsRising}
+use Rattle.tsdb_base.specs.Points.{IsRising}
+use Rattle.tsdb_pages.specs.Pages.{ArePoints, IsInRange}
 
 -- all points of the pages, in their order
 abbrev pub points_of : List Page → List Point

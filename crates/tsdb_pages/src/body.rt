@@ -8,10 +8,9 @@ ghost use Rattle.tsdb_pages.specs.Pages.{ArePoints, body as body_field, times_of
 ghost use Rattle.tsdb_pages.specs.Reading.{IsBody, IsNoBody};
 
 use crate::fault::PageFault;
-use crate::rising::is_rising;
 use enc_values::{decode, encode_into};
 use std::alloc::Global;
-use tsdb_base::{DataType, Encoding, Memory, Point, Time, Value, suits};
+use tsdb_base::{DataType, Encoding, Memory, Point, Time, Value, is_rising, suits};
 
 /// How many bytes the length of the times has.
 const LENGTH_BYTES: usize = 4;

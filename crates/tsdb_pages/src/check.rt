@@ -1,13 +1,13 @@
 //! The conditions on a tree. Depends on `tree` and `rising`.
 ghost use Rattle.std.specs.Prelude.{◌<◌, ◌≤◌, ◌↔◌, All, AllPairs, IsTrue, length};
 ghost use Rattle.tsdb_base.specs.Limits.{max_entries};
-ghost use Rattle.tsdb_pages.specs.Pages.{ArePoints, IsRising};
+ghost use Rattle.tsdb_base.specs.Points.{IsRising};
+ghost use Rattle.tsdb_pages.specs.Pages.{ArePoints};
 ghost use Rattle.tsdb_pages.specs.Trees.{IsBefore, IsChunk, IsGroup, IsTree, chunks_of, points_of};
 
-use crate::rising::is_rising;
 use crate::tree::{Chunk, Group, Page, Tree};
 use tsdb_base::limits::{MAX_ENTRIES, MAX_PAGES, MAX_VALUES};
-use tsdb_base::{DataType, Point, suits};
+use tsdb_base::{DataType, Point, is_rising, suits};
 
 /// The most points of a page.
 const MAX_POINTS: usize = MAX_VALUES;

@@ -18,7 +18,6 @@ mod body;
 mod check;
 mod fault;
 mod laws;
-mod rising;
 mod tree;
 
 pub use body::{read_page, write_page};
@@ -28,5 +27,4 @@ pub use laws::{
     body_is_short, entries_are_index, entries_stand, file_ends, one_file, one_page, one_tree,
     read_entries,
 };
-pub use rising::is_rising;
 pub use tree::{Chunk, Group, Page, Tree};

@@ -25,7 +25,8 @@ use Rattle.tsdb_model.specs.World.{Points, World, is_in}
 use Rattle.tsdb_marks.specs.declared.marks.Mark.{Mark}
 use Rattle.tsdb_memory.specs.Shown.{value_at}
 use Rattle.tsdb_merge.proofs.MergeLemmas.{AllPairs-head, AllPairs-tail, Contains-cases, Contains-head, Contains-nil, Contains-tail, same_points}
-use Rattle.tsdb_merge.specs.Winners.{IsMergeOf, IsRising}
+use Rattle.tsdb_base.specs.Points.{IsRising}
+use Rattle.tsdb_merge.specs.Winners.{IsMergeOf}
 use Rattle.tsdb_pinned.specs.Worlds.{HasPointsOf, IsSourceOf, born_of, is_kept, kept_of, series_points}
 use Rattle.tsdb_pinning.specs.Shown.{ArePointsOf, IsColumnOf, IsPinOf, IsShownAs}
 use Rattle.tsdb_pinning.specs.declared.pin.Column.{Column}

@@ -13,7 +13,7 @@ use Rattle.tsdb_memory.specs.Store as memory
 use Rattle.tsdb_memory.specs.Store.{Store}
 use Rattle.tsdb_memory.specs.declared.store.FrozenPair.{FrozenPair}
 use Rattle.tsdb_memtable.specs.Pairs.{Pair, points_of}
-use Rattle.tsdb_memtable.specs.Points.{IsRising}
+use Rattle.tsdb_base.specs.Points.{IsRising}
 use Rattle.tsdb_outside.specs.Files.{NamedFile}
 use Rattle.tsdb_pinning.specs.Sources.{AddsParts, AreHeldIn, AreRisingIn, has_slice, numbers_in, pairs_in, part_in, parts_in, slice_of}
 use Rattle.tsdb_kept.specs.Files.{KeptFiles}

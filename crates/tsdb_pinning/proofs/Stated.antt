@@ -31,7 +31,8 @@ use Rattle.tsdb_memory.specs.Shown.{IsFrozenOf, IsMemoryOf, number_of, part_of, 
 use Rattle.tsdb_memory.specs.Store as memory
 use Rattle.tsdb_memory.specs.Store.{Store}
 use Rattle.tsdb_memtable.specs.Pairs.{points_of}
-use Rattle.tsdb_memtable.specs.Points.{IsRising, is_within}
+use Rattle.tsdb_base.specs.Points.{IsRising}
+use Rattle.tsdb_memtable.specs.Points.{is_within}
 use Rattle.tsdb_outside.specs.Files.{NamedFile}
 use Rattle.tsdb_pinning.proofs.Listed.{zip_append}
 use Rattle.tsdb_pinning.specs.Shown.{ArePointsOf, IsShownAs}

@@ -8,7 +8,7 @@ use Rattle.tsdb_kept.specs.Files.{KeptFiles}
 use Rattle.tsdb_layers.specs.Places.{Content}
 use Rattle.tsdb_memory.specs.Shown.{IsMemoryOf, value_at}
 use Rattle.tsdb_memory.specs.Store.{Store}
-use Rattle.tsdb_memtable.specs.Points.{IsRising}
+use Rattle.tsdb_base.specs.Points.{IsRising}
 use Rattle.tsdb_pinning.specs.declared.pin.Column.{Column}
 use Rattle.tsdb_pinning.specs.declared.pin.Pin.{Pin}
 use Rattle.tsdb_pinning.specs.declared.pin.PinnedSource.{PinnedSource}

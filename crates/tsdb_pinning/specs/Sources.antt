@@ -11,7 +11,8 @@ use Rattle.tsdb_kept.specs.Files.{KeptFiles, entries_in, has_path, kept_file}
 use Rattle.tsdb_kept.specs.Rights.{IsRightTo}
 use Rattle.tsdb_memory.specs.Store.{FrozenPair, Store}
 use Rattle.tsdb_memtable.specs.Pairs.{points_of}
-use Rattle.tsdb_memtable.specs.Points.{IsRising, is_within}
+use Rattle.tsdb_base.specs.Points.{IsRising}
+use Rattle.tsdb_memtable.specs.Points.{is_within}
 use Rattle.tsdb_outside.specs.Files.{NamedFile}
 use Rattle.tsdb_pinning.specs.declared.pin.PinnedSource.{PinnedSource}
 use Rattle.tsdb_pinning.specs.declared.pin.PinnedSource.TheVariants.{File, Part}

@@ -1,7 +1,7 @@
 //! Copies of the points of a series in memory. Depends on `pin` and `sources`.
 ghost use Rattle.std.specs.Prelude.{◌≡◌, ◌∷◌, ◌++◌, [], IfOk, OnErr, OnOk};
 ghost use Rattle.tsdb_memtable.specs.Pairs.{points_of};
-ghost use Rattle.tsdb_memtable.specs.Points.{IsRising};
+ghost use Rattle.tsdb_base.specs.Points.{IsRising};
 ghost use Rattle.tsdb_pinning.specs.Sources.{AreRisingIn, AddsParts, pairs_in, parts_in};
 
 use crate::pin::PinnedSource;

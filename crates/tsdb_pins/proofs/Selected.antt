@@ -15,7 +15,8 @@ use Rattle.tsdb_model.specs.World.{Points, World}
 use Rattle.tsdb_marks.specs.declared.marks.Mark.{Mark}
 use Rattle.tsdb_columns.specs.Streams.{stream_left}
 use Rattle.tsdb_columns.specs.declared.stream.Stream.{Stream}
-use Rattle.tsdb_merge.specs.Winners.{IsMergeOf, IsRising, IsToldMergeOf}
+use Rattle.tsdb_base.specs.Points.{IsRising}
+use Rattle.tsdb_merge.specs.Winners.{IsMergeOf, IsToldMergeOf}
 use Rattle.tsdb_outside.specs.Files.{NamedFile}
 use Rattle.tsdb_pinned.proofs.Points.{pin_has}
 use Rattle.tsdb_pinned.specs.Worlds.{HasPointsOf, IsSourceOf, columns_in, kept_of, series_points, values_in}

@@ -25,7 +25,7 @@ use Rattle.tsdb_path.proofs.Parts.{child_of-device_of, device_of-child, measurem
 use Rattle.tsdb_path.specs.Nodes.{child_of, device_of, measurement_of, node_count}
 use Rattle.tsdb_pinned.proofs.Points.{has_value, of_value}
 use Rattle.tsdb_pinning.specs.Shown.{ArePointsOf}
-use Rattle.tsdb_merge.specs.Winners.{IsRising}
+use Rattle.tsdb_base.specs.Points.{IsRising}
 use Rattle.tsdb_replay.specs.Stores.{Files, HasTreePoint, IsContentOf, IsWhole}
 use Rattle.tsdb_sources.specs.Pieces.{joined}
 use Rattle.tsdb_state.specs.State.{File, Told}

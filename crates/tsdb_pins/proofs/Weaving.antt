@@ -23,7 +23,8 @@ use Rattle.tsdb_columns.specs.Kept.{times_of}
 use Rattle.tsdb_columns.specs.Parted.{AreTaken, IsParted, is_between, within}
 use Rattle.tsdb_model.specs.Folds.{aggregate_of}
 use Rattle.tsdb_model.specs.World.{is_in}
-use Rattle.tsdb_merge.specs.Winners.{IsRising, TakesTold}
+use Rattle.tsdb_base.specs.Points.{IsRising}
+use Rattle.tsdb_merge.specs.Winners.{TakesTold}
 use Rattle.tsdb_merge.proofs.MergeLemmas.{AllPairs-head, AllPairs-tail, Contains-cases, Contains-head, Contains-nil, Contains-tail}
 use Rattle.tsdb_stats.specs.Statistics.{AreStatsOf}
 

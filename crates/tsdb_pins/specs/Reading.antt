@@ -12,7 +12,8 @@ use Rattle.tsdb_columns.specs.declared.source.Source.{Source}
 use Rattle.tsdb_columns.specs.declared.source.Source.TheVariants as lent
 use Rattle.tsdb_model.specs.Folds.{aggregate_of}
 use Rattle.tsdb_marks.specs.declared.marks.Mark.{Mark}
-use Rattle.tsdb_merge.specs.Winners.{IsMergeOf, IsRising}
+use Rattle.tsdb_base.specs.Points.{IsRising}
+use Rattle.tsdb_merge.specs.Winners.{IsMergeOf}
 use Rattle.tsdb_outside.specs.Files.{NamedFile, Store}
 use Rattle.tsdb_path.specs.Nodes.{device_of, measurement_of, node_count}
 use Rattle.tsdb_pinned.specs.Worlds.{kept_of}

@@ -8,7 +8,8 @@ use Rattle.tsdb_columns.specs.declared.stream.Stream.{Stream}
 use Rattle.tsdb_model.specs.Folds.{in_order}
 use Rattle.tsdb_model.specs.World.{World}
 use Rattle.tsdb_marks.specs.declared.marks.Mark.{Mark}
-use Rattle.tsdb_merge.specs.Winners.{IsRising, IsToldMergeOf}
+use Rattle.tsdb_base.specs.Points.{IsRising}
+use Rattle.tsdb_merge.specs.Winners.{IsToldMergeOf}
 use Rattle.tsdb_outside.specs.Files.{NamedFile}
 use Rattle.tsdb_pinned.specs.Worlds.{kept_of, series_points}
 use Rattle.tsdb_pinning.specs.declared.pin.Column.{Column}

@@ -6,7 +6,7 @@ use Rattle.tsdb_base.specs.declared.answers.Aggregate.{Aggregate}
 use Rattle.tsdb_base.specs.declared.point.Point.{Point}
 use Rattle.tsdb_base.specs.declared.point.Stats.{Stats}
 use Rattle.tsdb_columns.specs.Parted.{AreTaken, is_between}
-use Rattle.tsdb_merge.specs.Winners.{IsRising}
+use Rattle.tsdb_base.specs.Points.{IsRising}
 
 -- the tally is that of the first points, and of the rest the statistics and what is between them are still to be added
 pub record Weaves (name : Aggregate) (all : List Point) (clean : List Stats) (left : List Point) (tally : Tally)

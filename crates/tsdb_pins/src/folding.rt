@@ -10,7 +10,7 @@ ghost use Rattle.tsdb_columns.specs.Parted.{AreTaken, is_between};
 ghost use Rattle.tsdb_columns.specs.Streams.{AreToldSources, AreTrueSources, IsStreamOfStore, IsToldStream};
 ghost use Rattle.tsdb_columns.specs.Streams.{IsTrueStream, stream_due, stream_left};
 ghost use Rattle.tsdb_model.specs.Folds.{aggregate_of};
-ghost use Rattle.tsdb_merge.specs.Winners.{IsRising};
+ghost use Rattle.tsdb_base.specs.Points.{IsRising};
 ghost use Rattle.tsdb_path.specs.Nodes.{node_count};
 ghost use Rattle.tsdb_pins.specs.Clean.{TellsPages, column_read};
 ghost use Rattle.tsdb_pins.specs.Reading.{IsFoldOf, IsOfStore, IsToldIn, IsTrueIn, IsValueRead, SeriesPages};

@@ -33,7 +33,7 @@ use Rattle.tsdb_outside.specs.declared.disk.Disk as disk
 use Rattle.tsdb_outside.specs.declared.faults.Counted as counted
 use Rattle.tsdb_outside.specs.declared.faults.StoreFault.{StoreFault}
 use Rattle.tsdb_outside.specs.declared.faults.StoreFault.TheVariants as store
-use Rattle.tsdb_outside.specs.Causes.{Rose}
+use Rattle.tsdb_base.specs.Causes.{Rose}
 use Rattle.tsdb_memory.specs.Shown.{entry_of}
 use Rattle.tsdb_pinned.proofs.Items.{pin_columns, pin_values}
 use Rattle.tsdb_pinned.proofs.Replies.{fault_replied, rows_replied, types_of, values_replied}

@@ -6,7 +6,7 @@ ghost use Rattle.tsdb_model.specs.Apply.{ask_aggregates};
 ghost use Rattle.tsdb_model.specs.State as plain;
 ghost use Rattle.tsdb_model.specs.declared.command.Command.{Command};
 ghost use Rattle.tsdb_model.specs.declared.reply.Reply.{Reply as ReplyOf};
-ghost use Rattle.tsdb_outside.specs.Causes.{Rose};
+ghost use Rattle.tsdb_base.specs.Causes.{Rose};
 ghost use Rattle.tsdb_outside.specs.Files.{StoredFile};
 ghost use Rattle.tsdb_querying.specs.Answers;
 ghost use Rattle.tsdb_serving.specs.Flushing.{IsReady, faults_under};

@@ -8,7 +8,7 @@ ghost use Rattle.tsdb_model.specs.State as plain;
 ghost use Rattle.tsdb_model.specs.World.{World};
 ghost use Rattle.tsdb_model.specs.declared.command.Command.{Command};
 ghost use Rattle.tsdb_model.specs.declared.reply.Reply.{Reply as ReplyOf};
-ghost use Rattle.tsdb_outside.specs.Causes.{Rose};
+ghost use Rattle.tsdb_base.specs.Causes.{Rose};
 ghost use Rattle.tsdb_outside.specs.Files.{StoredFile};
 ghost use Rattle.tsdb_pinned.specs.Worlds.{values_in};
 ghost use Rattle.tsdb_pinning.specs.Shown.{IsPinOf};

@@ -1,6 +1,6 @@
 //! One listed file, fetched and read whole. Depends on `fault`, tsdb_outside and tsfile_reader.
 ghost use Rattle.std.specs.Prelude.{◌≡◌, ◌≤◌, ℕ, IfOk, IfSome, IsErrOf, OnErr};
-ghost use Rattle.tsdb_outside.specs.Causes.{Rose};
+ghost use Rattle.tsdb_base.specs.Causes.{Rose};
 ghost use Rattle.tsdb_outside.specs.Disk.{WhereTold};
 ghost use Rattle.tsdb_outside.specs.Files.{PutsBack, TakesOut};
 ghost use Rattle.tsdb_pages.specs.File.{IsFile};

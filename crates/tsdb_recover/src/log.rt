@@ -1,7 +1,7 @@
 //! The log of a store, read and replayed. Depends on `fault`.
 ghost use Rattle.std.specs.Prelude.{◌≡◌, ◌≤◌, ℕ, IfErr, IfOk, IfSome, IsErrAnd, IsErrOf, OnErr, OnOk};
 ghost use Rattle.tsdb_frames.specs.Readers.{HasEnded, disk_read, faults_read};
-ghost use Rattle.tsdb_outside.specs.Causes.{Rose};
+ghost use Rattle.tsdb_base.specs.Causes.{Rose};
 ghost use Rattle.tsdb_outside.specs.Disk.{Keeps};
 ghost use Rattle.tsdb_recover.specs.Causes.{AnswersDamage};
 ghost use Rattle.tsdb_recover.specs.Log.{IsLogRead};

@@ -1,7 +1,7 @@
 -- Causes of faults, over the parts of an opening.
 use Rattle.std.proofs.Common.{◌≡◌, ◌⊎◌, ℕ, ◌≤◌, Err, Ok, Result, inl, inr, refl, arith}
 use Rattle.std.specs.Prelude.{IsErrOf, ⊤}
-use Rattle.tsdb_outside.specs.Causes.{Rose}
+use Rattle.tsdb_base.specs.Causes.{Rose}
 use Rattle.tsdb_recover.specs.Files.{HasFilesCause}
 use Rattle.tsdb_recover.specs.declared.fault.OpenFault.{OpenFault}
 use Rattle.tsdb_recover.specs.declared.fault.OpenFault.TheVariants as fault

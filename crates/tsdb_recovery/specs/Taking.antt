@@ -12,7 +12,7 @@ use Rattle.tsdb_held.specs.Held.{TellTheirBytes, listed}
 use Rattle.tsdb_images.specs.Stored.{IsKept, kept_bytes}
 use Rattle.tsdb_kept.specs.Files.{KeptFiles, kept_file}
 use Rattle.tsdb_kept.specs.Places.{AreOfStore, KeptFile}
-use Rattle.tsdb_outside.specs.Causes.{Rose}
+use Rattle.tsdb_base.specs.Causes.{Rose}
 use Rattle.tsdb_outside.specs.Files.{Store, StoredFile, numbers_of}
 use Rattle.tsdb_outside.specs.Limits.{FitsSlot}
 use Rattle.tsdb_recover.specs.declared.fault.OpenFault.{OpenFault}

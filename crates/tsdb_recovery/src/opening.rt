@@ -14,7 +14,7 @@ ghost use Rattle.tsdb_kept.specs.Places.{AreOfStore, AreUnread};
 ghost use Rattle.tsdb_log.specs.declared.record.LogRecord.{LogRecord};
 ghost use Rattle.tsdb_logged.specs.Logged.{log_of};
 ghost use Rattle.tsdb_model.specs.State as plain;
-ghost use Rattle.tsdb_outside.specs.Causes.{Rose};
+ghost use Rattle.tsdb_base.specs.Causes.{Rose};
 ghost use Rattle.tsdb_outside.specs.Disk.{Keeps};
 ghost use Rattle.tsdb_outside.specs.Files.{StoredFile, plain_numbers};
 ghost use Rattle.tsdb_outside.specs.declared.disk.Slot.TheVariants as slots;

@@ -22,7 +22,7 @@ use Rattle.tsdb_kept.specs.Rights.{IsRightTo}
 use Rattle.tsdb_layers.proofs.Lists.{each_weaker}
 use Rattle.tsdb_logged.specs.Logged.{log_of}
 use Rattle.tsdb_model.specs.State as plain
-use Rattle.tsdb_outside.specs.Causes.{Rose}
+use Rattle.tsdb_base.specs.Causes.{Rose}
 use Rattle.tsdb_outside.specs.Disk.{IsLawful}
 use Rattle.tsdb_outside.specs.Files.{NamedFile, Store, StoredFile, Tells}
 use Rattle.tsdb_outside.specs.Moments.{LeavesOnly}

@@ -4,7 +4,7 @@ use Rattle.std.proofs.Common.{Result, Ok, Err, ap, arith, subst}
 use Rattle.std.specs.Prelude.{◌↔◌, ◌-◌, ◌^◌, min, IfErr, IfSome}
 use Rattle.tsdb_history.specs.History.{IsInLineOrder}
 use Rattle.tsdb_history.specs.declared.told.Told.{Told}
-use Rattle.tsdb_outside.specs.Causes.{Rose}
+use Rattle.tsdb_base.specs.Causes.{Rose}
 use Rattle.tsdb_run.proofs.Refused.{idle, without_any}
 use Rattle.tsdb_run.specs.Causes.{AreGoodWords, IsBeforeStore, IsDoneOrMemory, IsGoodScript, IsRefusedStore}
 use Rattle.tsdb_run.specs.Causes.{ReportsBad, ReportsDamageOf, TellsDevice, TellsFaults}

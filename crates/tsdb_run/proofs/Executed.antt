@@ -18,7 +18,7 @@ use Rattle.tsdb_layers.proofs.Lists.{each_weaker}
 use Rattle.tsdb_model.specs.History.{Entry}
 use Rattle.tsdb_model.specs.State as plain
 use Rattle.tsdb_opening.specs.Opening.{greatest}
-use Rattle.tsdb_outside.specs.Causes.{Rose}
+use Rattle.tsdb_base.specs.Causes.{Rose}
 use Rattle.tsdb_outside.specs.Disk.{Image, IsLawful, Keeps, State, in_slot}
 use Rattle.tsdb_outside.specs.Files.{StoredFile, numbers_of}
 use Rattle.tsdb_outside.specs.Moments.{LeavesOnly}

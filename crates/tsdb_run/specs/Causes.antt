@@ -1,6 +1,6 @@
 -- When each status may come.
 use Rattle.std.specs.Prelude.{◌≡◌, ◌≢◌, ◌⊎◌, ℕ, ◌≤◌, List}
-use Rattle.tsdb_outside.specs.Causes.{Rose}
+use Rattle.tsdb_base.specs.Causes.{Rose}
 use Rattle.tsdb_recover.specs.declared.fault.Part.{Part}
 use Rattle.tsdb_run.specs.Store.{Contents, HasDamage}
 use Rattle.tsdb_run.specs.declared.status.Status.{Status}

@@ -3,7 +3,7 @@ ghost use Rattle.std.specs.Prelude.{ℕ, List};
 ghost use Rattle.tsdb_history.specs.Joining.{IsFollowed};
 ghost use Rattle.tsdb_model.specs.History.{Entry, IsLegal};
 ghost use Rattle.tsdb_model.specs.State as plain;
-ghost use Rattle.tsdb_outside.specs.Causes.{Rose};
+ghost use Rattle.tsdb_base.specs.Causes.{Rose};
 ghost use Rattle.tsdb_outside.specs.Files.{StoredFile};
 ghost use Rattle.tsdb_run.specs.Headline.{HasRun};
 ghost use Rattle.tsdb_run.specs.Store.{IsSound, contents};

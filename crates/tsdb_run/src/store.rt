@@ -4,7 +4,7 @@ ghost use Rattle.std.specs.Prelude.{count_by, length};
 ghost use Rattle.tsdb_core.specs.Limits.{IsPairLimit};
 ghost use Rattle.tsdb_history.specs.History.{CanExecute, is_device};
 ghost use Rattle.tsdb_history.specs.Rooms.{IsRoomFor};
-ghost use Rattle.tsdb_outside.specs.Causes.{Rose};
+ghost use Rattle.tsdb_base.specs.Causes.{Rose};
 ghost use Rattle.tsdb_outside.specs.declared.disk.Slot.TheVariants as slots;
 ghost use Rattle.tsdb_recover.specs.declared.fault.Part as store_part;
 ghost use Rattle.tsdb_run.specs.Causes.{ReportsDamage, TellsDevice};

@@ -5,7 +5,7 @@ ghost use Rattle.std.specs.Io.KnownBytes.{IsAtEnd};
 ghost use Rattle.tsdb_core.specs.Limits.{IsPairLimit};
 ghost use Rattle.tsdb_history.specs.History.{IsInLineOrder, is_device};
 ghost use Rattle.tsdb_model.specs.State as plain;
-ghost use Rattle.tsdb_outside.specs.Causes.{Rose};
+ghost use Rattle.tsdb_base.specs.Causes.{Rose};
 ghost use Rattle.tsdb_run.specs.Causes.{AreGoodWords, IsBeforeStore, IsDoneOrMemory, IsGoodScript, IsRefusedStore};
 ghost use Rattle.tsdb_run.specs.Causes.{ReportsBad, ReportsDamageOf, TellsDevice, TellsFaults};
 ghost use Rattle.tsdb_run.specs.Headline.{Headline, IsTakenUp, KeepsLineOrder};

@@ -5,7 +5,7 @@ use Rattle.tsdb_core.specs.Flushes.{IsTakeAnswer}
 use Rattle.tsdb_core.specs.declared.commit.CoreFault.{CoreFault}
 use Rattle.tsdb_core.specs.declared.commit.CoreFault.TheVariants as job
 use Rattle.tsdb_memory.specs.Store.{Store}
-use Rattle.tsdb_outside.specs.Causes.{Rose}
+use Rattle.tsdb_base.specs.Causes.{Rose}
 use Rattle.tsdb_outside.specs.declared.faults.StoreFault.{StoreFault}
 use Rattle.tsdb_outside.specs.declared.faults.StoreFault.TheVariants as file
 use Rattle.tsdb_base.specs.declared.answers.Answer.TheVariants as answer

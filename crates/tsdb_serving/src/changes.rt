@@ -6,7 +6,7 @@ ghost use Rattle.tsdb_base.specs.declared.answers.Answer.{Answer as AnswerOf};
 ghost use Rattle.tsdb_model.specs.Commands.{IsRow, IsSchema};
 ghost use Rattle.tsdb_model.specs.declared.command.Command.{Command};
 ghost use Rattle.tsdb_model.specs.declared.reply.Reply.{Reply};
-ghost use Rattle.tsdb_outside.specs.Causes.{Rose};
+ghost use Rattle.tsdb_base.specs.Causes.{Rose};
 ghost use Rattle.tsdb_outside.specs.Files.{Store};
 ghost use Rattle.tsdb_serving.specs.Faults.{HasFlushCause};
 ghost use Rattle.tsdb_serving.specs.Flushing.{GoesOn, IsReady, faults_under};

@@ -7,7 +7,7 @@ ghost use Rattle.tsdb_core.specs.Flushes.{IsDue, IsOldest};
 ghost use Rattle.tsdb_jobs.specs.Jobs.{IsJob};
 ghost use Rattle.tsdb_logged.specs.Logged.{memory_of};
 ghost use Rattle.tsdb_outside.specs.Files.{Store};
-ghost use Rattle.tsdb_outside.specs.Causes.{Rose};
+ghost use Rattle.tsdb_base.specs.Causes.{Rose};
 ghost use Rattle.tsdb_rows.specs.Fits.{HasNoPoint};
 ghost use Rattle.tsdb_serving.specs.declared.fault.FlushFault.{FlushFault as FaultOf};
 ghost use Rattle.tsdb_serving.specs.Faults.{HasFlushCause};

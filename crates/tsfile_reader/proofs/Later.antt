@@ -19,7 +19,8 @@ use Rattle.tsdb_path.specs.Nodes.{IsPath}
 use Rattle.tsdb_pages.specs.declared.tree.Page.{Page}
 use Rattle.tsdb_pages.specs.File.{ArePageEntries, page_bytes, page_field}
 use Rattle.tsdb_base.specs.Limits.{max_pages}
-use Rattle.tsdb_pages.specs.Pages.{ArePoints, IsInRange, IsRising, body}
+use Rattle.tsdb_base.specs.Points.{IsRising}
+use Rattle.tsdb_pages.specs.Pages.{ArePoints, IsInRange, body}
 use Rattle.tsdb_pages.specs.Trees.{IsBefore, points_of}
 use Rattle.tsdb_pages.proofs.Bodies.{body_is_short, one_body, parts_same}
 use Rattle.tsdb_pages.proofs.Order.{at_least_first, at_most_last, pairs_append}

@@ -16,7 +16,8 @@ use Rattle.tsdb_index.proofs.Fields.{takes_both, takes_same}
 use Rattle.tsdb_pages.specs.declared.tree.Page.{Page}
 use Rattle.tsdb_pages.specs.File.{page_bytes, page_field}
 use Rattle.tsdb_base.specs.Limits.{max_pages}
-use Rattle.tsdb_pages.specs.Pages.{ArePoints, IsInRange, IsRising}
+use Rattle.tsdb_base.specs.Points.{IsRising}
+use Rattle.tsdb_pages.specs.Pages.{ArePoints, IsInRange}
 use Rattle.tsdb_pages.specs.Trees.{points_of}
 use Rattle.tsdb_pages.proofs.Files.{IsPageOf, of_each_page}
 use Rattle.tsdb_pages.proofs.Order.{pairs_across}

@@ -12,7 +12,7 @@ use Rattle.tsdb_pages.specs.declared.tree.Chunk.{Chunk}
 use Rattle.tsdb_pages.specs.declared.tree.Group.{Group}
 use Rattle.tsdb_pages.specs.File.{chunk_field, group_field, page_field}
 use Rattle.tsdb_base.specs.Limits.{max_pages}
-use Rattle.tsdb_pages.specs.Pages.{IsRising}
+use Rattle.tsdb_base.specs.Points.{IsRising}
 use Rattle.tsdb_pages.specs.Trees.{IsBefore, IsGroup, points_of}
 use Rattle.tsdb_pages.proofs.Files.{IsPageOf, IsWholeChunk, pages_of_chunk}
 use Rattle.tsdb_pages.proofs.Order.{pairs_behind}

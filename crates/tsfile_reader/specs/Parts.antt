@@ -8,7 +8,7 @@ use Rattle.tsdb_base.specs.Plain.{plain_text}
 use Rattle.tsdb_base.specs.Values.{is_suitable}
 use Rattle.tsdb_path.specs.Nodes.{IsName, IsPath}
 use Rattle.tsdb_base.specs.Limits.{max_pages}
-use Rattle.tsdb_pages.specs.Pages.{IsRising}
+use Rattle.tsdb_base.specs.Points.{IsRising}
 use Rattle.tsdb_pages.specs.Trees.{IsBefore}
 use Rattle.tsdb_pages.specs.File.{page_bytes}
 use Rattle.tsdb_index.specs.declared.marks.TheConstants.{GROUP, CHUNK}

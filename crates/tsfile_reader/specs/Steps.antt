@@ -18,7 +18,8 @@ use Rattle.tsdb_index.specs.declared.marks.TheConstants.{PAGE}
 use Rattle.tsdb_pages.specs.declared.tree.Chunk.{Chunk}
 use Rattle.tsdb_pages.specs.declared.tree.Page.{Page}
 use Rattle.tsdb_pages.specs.File.{ArePageEntries, AreEntries, IsEntry, chunk_field, head, page_field}
-use Rattle.tsdb_pages.specs.Pages.{ArePoints, IsInRange, IsRising}
+use Rattle.tsdb_base.specs.Points.{IsRising}
+use Rattle.tsdb_pages.specs.Pages.{ArePoints, IsInRange}
 use Rattle.tsdb_pages.specs.Trees.{HasParts, IsBefore, IsChunk, points_of}
 use Rattle.tsdb_path.specs.Nodes.{IsName}
 use Rattle.tsdb_stats.specs.Statistics.{AreStatsOf}

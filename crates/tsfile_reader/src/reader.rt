@@ -5,7 +5,7 @@ ghost use Rattle.tsdb_index.specs.declared.index.PageEntry.{PageEntry as Said};
 ghost use Rattle.tsdb_index.specs.declared.pointer.Pointer.{Pointer as Pointed};
 ghost use Rattle.tsdb_pages.specs.declared.tree.Tree.{Tree as TreeIn};
 ghost use Rattle.tsdb_pages.specs.File.{IsFile};
-ghost use Rattle.tsdb_pages.specs.Pages.{IsRising};
+ghost use Rattle.tsdb_base.specs.Points.{IsRising};
 ghost use Rattle.tsdb_pages.specs.Trees.{IsMade, IsTree};
 ghost use Rattle.tsfile_reader.specs.Answers.{Answers, HasReadCause, IfDamaged, IsNotDamaged};
 ghost use Rattle.tsfile_reader.specs.Blame.{AreAlike, IsBlamed, IsMetaOfTree, IsNoFile};

@@ -1,7 +1,7 @@
 //! Tests of `Builder` of tsfile_writer: files that it makes, beside those of `write_tree` and of the plain writer.
 ghost use Rattle.std.specs.Prelude.{◌≡◌, ◌<◌, ◌≤◌, ◌↔◌, All, IsTrue, IfOk, OnOk, length};
 ghost use Rattle.tsdb_base.specs.Values.{type_of};
-ghost use Rattle.tsdb_pages.specs.Pages.{IsRising};
+ghost use Rattle.tsdb_base.specs.Points.{IsRising};
 ghost use Rattle.tsdb_index.specs.Entries as index;
 ghost use Rattle.tsdb_path.specs.Nodes.{device_of as device_in, measurement_of as measurement_in, node_count};
 ghost use Rattle.tsfile_writer.specs.Driving.{HasLast, IsBare};

@@ -23,7 +23,8 @@ use Rattle.tsdb_pages.specs.declared.tree.Chunk.{Chunk}
 use Rattle.tsdb_pages.specs.declared.tree.Group.{Group}
 use Rattle.tsdb_pages.specs.declared.tree.Tree.{Tree}
 use Rattle.tsdb_pages.specs.File.{IsFile, group_start, head, magic}
-use Rattle.tsdb_pages.specs.Pages.{ArePoints, IsInRange, IsRising}
+use Rattle.tsdb_base.specs.Points.{IsRising}
+use Rattle.tsdb_pages.specs.Pages.{ArePoints, IsInRange}
 use Rattle.tsdb_pages.specs.Trees.{IsBefore, IsChunk, IsGroup, IsMade, chunks_of, points_of}
 use Rattle.tsfile_writer.specs.declared.layout.OpenChunk.{OpenChunk}
 use Rattle.tsfile_writer.specs.Given.{AreChunksOf, IsChunkOf, IsMadeSeries, IsTreeOf, MayBeFollowedBy, Series, placed, series_at}

@@ -7,7 +7,7 @@ use Rattle.tsdb_base.specs.declared.value.DataType.{DataType}
 use Rattle.tsdb_base.specs.declared.value.Encoding.{Encoding}
 use Rattle.tsdb_base.specs.Values.{type_of}
 use Rattle.tsdb_path.specs.Nodes.{device_of, measurement_of, node_count}
-use Rattle.tsdb_pages.specs.Pages.{IsRising}
+use Rattle.tsdb_base.specs.Points.{IsRising}
 use Rattle.tsdb_pages.proofs.Order.{pairs_across}
 use Rattle.tsfile_writer.specs.declared.builder.Builder.{Builder}
 use Rattle.tsfile_writer.specs.Building.{WasGiven}

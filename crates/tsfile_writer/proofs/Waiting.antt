@@ -15,7 +15,8 @@ use Rattle.tsdb_pages.specs.declared.tree.Page.{Page}
 use Rattle.tsdb_pages.specs.declared.tree.Chunk.{Chunk}
 use Rattle.tsdb_pages.specs.declared.tree.Group.{Group}
 use Rattle.tsdb_pages.specs.File.{chunk_start, page_bytes}
-use Rattle.tsdb_pages.specs.Pages.{ArePoints, IsInRange, IsRising}
+use Rattle.tsdb_base.specs.Points.{IsRising}
+use Rattle.tsdb_pages.specs.Pages.{ArePoints, IsInRange}
 use Rattle.tsdb_pages.specs.Trees.{points_of}
 use Rattle.tsdb_pages.proofs.Order.{pairs_across, pairs_behind, pairs_push, rises}
 use Rattle.tsfile_writer.specs.declared.layout.OpenChunk.{OpenChunk}

@@ -12,7 +12,8 @@ use Rattle.tsdb_pages.specs.declared.tree.Page.{Page}
 use Rattle.tsdb_pages.specs.declared.tree.Chunk.{Chunk}
 use Rattle.tsdb_pages.specs.declared.tree.Group.{Group}
 use Rattle.tsdb_pages.specs.File.{chunk_start, page_bytes}
-use Rattle.tsdb_pages.specs.Pages.{ArePoints, IsRising}
+use Rattle.tsdb_base.specs.Points.{IsRising}
+use Rattle.tsdb_pages.specs.Pages.{ArePoints}
 use Rattle.tsdb_pages.specs.Trees.{IsBefore, IsChunk, IsGroup, points_of}
 use Rattle.tsfile_writer.specs.declared.builder.Builder.{Builder}
 use Rattle.tsfile_writer.specs.declared.builder.OpenSeries.{OpenSeries}

@@ -4,7 +4,7 @@ use Rattle.std.specs.Vec.Iter.{into_iter_items}
 use Rattle.tsdb_base.specs.declared.point.Point.{Point}
 use Rattle.tsdb_base.specs.declared.value.DataType.TheVariants.{Int64}
 use Rattle.tsdb_base.specs.Values.{type_of}
-use Rattle.tsdb_pages.specs.Pages.{IsRising}
+use Rattle.tsdb_base.specs.Points.{IsRising}
 use Rattle.tsfile_writer.proofs.Driving.{filled_more, takes}
 use Rattle.tsdb_bench.proofs.files.fill.Goals as goal
 

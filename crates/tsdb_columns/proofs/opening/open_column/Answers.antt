@@ -9,7 +9,8 @@ use Rattle.tsdb_columns.specs.Lanes.{IsToldLane, IsToldSource, IsTrueLane, IsTru
 use Rattle.tsdb_columns.proofs.Reasons.{reason_memory, reason_ok, same_reason}
 use Rattle.tsdb_path.specs.Nodes.{device_of, measurement_of}
 use Rattle.tsdb_merge.specs.Steps.{root_left}
-use Rattle.tsdb_merge.specs.Winners.{IsRising, IsToldMergeOf}
+use Rattle.tsdb_base.specs.Points.{IsRising}
+use Rattle.tsdb_merge.specs.Winners.{IsToldMergeOf}
 use Rattle.tsdb_columns.proofs.opening.open_column.Goals as goal
 
 pub returns-clause-merged : goal.returns-clause-merged

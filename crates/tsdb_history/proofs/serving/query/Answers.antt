@@ -1,5 +1,5 @@
 use Rattle.tsdb_history.proofs.Replies.{sure_cause}
-use Rattle.tsdb_outside.specs.Causes.{Rose}
+use Rattle.tsdb_base.specs.Causes.{Rose}
 use Rattle.tsdb_history.proofs.serving.query.Goals as goal
 
 pub returns-then-ask_aggregates-clause-cause : goal.returns-then-ask_aggregates-clause-cause

@@ -3,7 +3,7 @@ use Rattle.std.specs.List.{AllByRecursion as Each}
 use Rattle.std.proofs.lemmas.List.{take_all}
 use Rattle.tsdb_inner.proofs.Lists.{damage_more}
 use Rattle.tsdb_inner.specs.Inputs.{TellsBytes}
-use Rattle.tsdb_outside.specs.Causes.{Rose}
+use Rattle.tsdb_base.specs.Causes.{Rose}
 use Rattle.tsdb_inner.proofs.inputs.count_damage.Goals as goal
 
 pub loop-input-init : goal.loop-input-init

@@ -1,7 +1,7 @@
 use Rattle.std.proofs.Common.{◌≡◌, ◌≤◌, ◌⊎◌, take}
 use Rattle.std.specs.List.{AllByRecursion as Each}
 use Rattle.tsdb_inner.specs.Inputs.{TellsBytes}
-use Rattle.tsdb_outside.specs.Causes.{Rose}
+use Rattle.tsdb_base.specs.Causes.{Rose}
 use Rattle.tsdb_inner.proofs.inputs.count_damage.Given as goal
 
 abbrev pub invariant-loop-input : goal.invariant-loop-input

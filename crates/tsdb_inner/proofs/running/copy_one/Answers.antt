@@ -5,7 +5,7 @@ use Rattle.tsdb_inner.proofs.Series.{cause_memory, cause_ok, copies_winners, dam
 use Rattle.tsdb_inner.specs.Inputs.{IsLentAs, TellsBytes}
 use Rattle.tsdb_layers.proofs.Lists.{each_among}
 use Rattle.tsdb_model.specs.Commands.{IsSchema}
-use Rattle.tsdb_outside.specs.Causes.{Rose}
+use Rattle.tsdb_base.specs.Causes.{Rose}
 use Rattle.tsdb_inner.proofs.running.copy_one.Goals as goal
 
 pub copy_series-requires-clause-schema : goal.copy_series-requires-clause-schema

@@ -5,7 +5,8 @@ use Rattle.std.proofs.lemmas.Fn.{filter_same}
 use Rattle.std.proofs.lemmas.List.Filters.{sum_by-filter_both}
 use Rattle.std.proofs.lemmas.List.Kept.{AllPairs-filter}
 use Rattle.tsdb_base.specs.declared.point.Point.{Point}
-use Rattle.tsdb_memtable.specs.Points.{IsRising, is_outside, is_within, point_bytes, bytes_of}
+use Rattle.tsdb_base.specs.Points.{IsRising}
+use Rattle.tsdb_memtable.specs.Points.{is_outside, is_within, point_bytes, bytes_of}
 use Rattle.tsdb_memtable.proofs.PointLemmas.{none-within}
 use Rattle.tsdb_memtable.proofs.points.erase.Goals as goal
 

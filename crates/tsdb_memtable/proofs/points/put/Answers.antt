@@ -6,7 +6,8 @@ use Rattle.std.specs.Prelude.{FitsSigned}
 use Rattle.std.specs.Int.{w64}
 use Rattle.std.specs.List.{filter}
 use Rattle.tsdb_base.specs.declared.point.Point.{Point}
-use Rattle.tsdb_memtable.specs.Points.{IsRising, is_before, with_point}
+use Rattle.tsdb_base.specs.Points.{IsRising}
+use Rattle.tsdb_memtable.specs.Points.{is_before, with_point}
 use Rattle.tsdb_memtable.specs.Steps.{is_from}
 use Rattle.tsdb_memtable.proofs.PointLemmas.{with_point-inserted, with_point-replaced, with_point-rising}
 use Rattle.tsdb_memtable.proofs.points.put.Goals as goal

@@ -3,7 +3,7 @@ use Rattle.std.proofs.lemmas.Bool.{false≢true}
 use Rattle.std.proofs.lemmas.Int.{ints}
 use Rattle.std.proofs.lemmas.List.{take_all}
 use Rattle.tsdb_pages.specs.declared.tree.Page.{Page}
-use Rattle.tsdb_pages.specs.Pages.{IsRising}
+use Rattle.tsdb_base.specs.Points.{IsRising}
 use Rattle.tsdb_pages.specs.Trees.{points_of}
 use Rattle.tsdb_pages.proofs.Order.{first_page, meets, page_more, pages_fall}
 use Rattle.tsdb_pages.proofs.check.rise_through.Goals as goal

@@ -1,5 +1,5 @@
 use Rattle.std.proofs.Common.{take}
-use Rattle.tsdb_pages.specs.Pages.{IsRising}
+use Rattle.tsdb_base.specs.Points.{IsRising}
 use Rattle.tsdb_pages.specs.Trees.{points_of}
 use Rattle.tsdb_pages.proofs.check.rise_through.Given as goal
 

@@ -4,7 +4,7 @@ use Rattle.tsdb_base.specs.declared.point.Point.{Point}
 use Rattle.tsdb_columns.specs.Files.{FilePages}
 use Rattle.tsdb_columns.specs.Parted.{AreTaken, is_between}
 use Rattle.tsdb_columns.specs.Streams.{IsStreamOfStore, IsToldStream, IsTrueStream, stream_due, stream_left}
-use Rattle.tsdb_merge.specs.Winners.{IsRising}
+use Rattle.tsdb_base.specs.Points.{IsRising}
 use Rattle.tsdb_pins.proofs.Weaving.{Woven}
 use Rattle.tsdb_pins.proofs.folding.fold_stream.Given as goal
 

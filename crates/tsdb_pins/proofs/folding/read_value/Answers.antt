@@ -1,7 +1,7 @@
 use Rattle.std.proofs.Common.{rules, subst, arith}
 use Rattle.std.specs.List.{AllZip}
 use Rattle.std.proofs.lemmas.List.Elements.{All-from_recursion}
-use Rattle.tsdb_merge.specs.Winners.{IsRising}
+use Rattle.tsdb_base.specs.Points.{IsRising}
 use Rattle.std.proofs.lemmas.Result.{err_from_is_err_and}
 use Rattle.tsdb_columns.proofs.Reasons.{reason_memory, reason_ok, reason_then}
 use Rattle.tsdb_pins.proofs.Counted.{lent_read, most_then, told_lists}

@@ -1,4 +1,4 @@
-use Rattle.tsdb_outside.specs.Causes.{Rose}
+use Rattle.tsdb_base.specs.Causes.{Rose}
 use Rattle.tsdb_run.proofs.Following.{follows}
 use Rattle.tsdb_run.proofs.laws.a_run_follows_another.Goals as goal
 

@@ -1,7 +1,7 @@
 use Rattle.std.proofs.Common.{◌∙◌, Err, Some, ap, inl, inr, refl, sym}
 use Rattle.std.specs.Prelude.{count_by}
 use Rattle.tsdb_history.specs.History.{is_device}
-use Rattle.tsdb_outside.specs.Causes.{Rose}
+use Rattle.tsdb_base.specs.Causes.{Rose}
 use Rattle.tsdb_run.proofs.Executed.{counted_down, if_ok, placed, rose_down, sure_before}
 use Rattle.tsdb_run.proofs.Ends.{device_down, device_failed, device_memory}
 use Rattle.tsdb_run.proofs.PutLemmas.{memory_is_no_failure, same_error}

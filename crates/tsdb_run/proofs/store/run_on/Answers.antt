@@ -6,7 +6,7 @@ use Rattle.tsdb_core.specs.declared.engine.Core.{Core}
 use Rattle.tsdb_frames.specs.Frames.{journal_of}
 use Rattle.tsdb_logged.specs.Logged.{log_of}
 use Rattle.tsdb_core.specs.Core.{logged_of}
-use Rattle.tsdb_outside.specs.Causes.{Rose}
+use Rattle.tsdb_base.specs.Causes.{Rose}
 use Rattle.tsdb_outside.specs.Files.{Store}
 use Rattle.tsdb_run.proofs.Executed.{above_stored, rose_before, run_before}
 use Rattle.tsdb_run.proofs.Whole.{gone, image, next_is, next_same, opened, sound_left}

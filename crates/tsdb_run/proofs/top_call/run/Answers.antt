@@ -1,6 +1,6 @@
 use Rattle.std.proofs.Common.{◌∙◌, Err, ap, arith, inl, inr, ⊎_elim, refl, subst, sym}
 use Rattle.std.specs.Prelude.{IfSome}
-use Rattle.tsdb_outside.specs.Causes.{Rose}
+use Rattle.tsdb_base.specs.Causes.{Rose}
 use Rattle.tsdb_run.proofs.Ends.{calm, ends_complete, ends_damaged, ends_first_bad, ends_good_words, ends_headline}
 use Rattle.tsdb_run.proofs.Ends.{ends_unrefused, ends_words, read_first_bad, read_good, read_in_order, served_complete}
 use Rattle.tsdb_run.proofs.Ends.{served_untouched, shows_faults, some_always, some_more}

@@ -1,6 +1,6 @@
 use Rattle.std.proofs.Common.{◌∙◌, inl, inr, refl, subst, sym}
 use Rattle.std.proofs.KnownBytes.{Keeps-refl}
-use Rattle.tsdb_outside.specs.Causes.{Rose}
+use Rattle.tsdb_base.specs.Causes.{Rose}
 use Rattle.tsdb_run.proofs.Ends.{calm, shows_device, taken_device, written_unrefused}
 use Rattle.tsdb_run.proofs.Opening.{refused_rose}
 use Rattle.tsdb_run.proofs.Refused.{says, says_refused, without}

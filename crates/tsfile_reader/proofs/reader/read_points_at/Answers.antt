@@ -3,7 +3,7 @@ use Rattle.std.proofs.lemmas.Bool.{true≢false}
 use Rattle.tsdb_base.specs.declared.point.Point.{Point}
 use Rattle.tsdb_fields.specs.declared.rest.Rest.{Rest}
 use Rattle.tsfile_reader.specs.Page.{HasPage, LieIn}
-use Rattle.tsdb_pages.specs.Pages.{IsRising}
+use Rattle.tsdb_base.specs.Points.{IsRising}
 use Rattle.tsfile_reader.proofs.OfTree.{page_outside, page_within}
 use Rattle.tsfile_reader.proofs.PageBytes.{page_found, page_missing}
 use Rattle.tsfile_reader.proofs.reader.read_points_at.Goals as goal

@@ -3,7 +3,7 @@ use Rattle.std.specs.Prelude.{All, IsTrue}
 use Rattle.std.specs.Vec.Iter.{into_iter_items}
 use Rattle.tsdb_base.specs.declared.point.Point.{Point}
 use Rattle.tsdb_base.specs.Values.{type_of}
-use Rattle.tsdb_pages.specs.Pages.{IsRising}
+use Rattle.tsdb_base.specs.Points.{IsRising}
 use Rattle.tsfile_writer.proofs.Driving.{filled_more, takes}
 use Rattle.tsfile_tests.proofs.built.put_points.Goals as goal
 

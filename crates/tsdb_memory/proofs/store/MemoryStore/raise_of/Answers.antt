@@ -12,7 +12,7 @@ use Rattle.tsdb_memory.specs.Model.{IsFormed, schema_of}
 use Rattle.tsdb_memory.specs.Store.{Store}
 use Rattle.tsdb_memory.specs.declared.freezing.Raise.{Raise}
 use Rattle.tsdb_memtable.specs.Pairs.{points_of}
-use Rattle.tsdb_memtable.specs.Points.{IsRising}
+use Rattle.tsdb_base.specs.Points.{IsRising}
 use Rattle.tsdb_memory.proofs.store.MemoryStore.raise_of.Goals as goal
 
 pub returns-in_default-clause-none : goal.returns-in_default-clause-none

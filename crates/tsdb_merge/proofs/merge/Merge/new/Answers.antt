@@ -1,6 +1,6 @@
 use Rattle.std.proofs.Common.{rules, ◌≡◌, length, sym, ◌∙◌}
 use Rattle.std.specs.Prelude.{IfSome}
-use Rattle.tsdb_merge.specs.Winners.{IsRising}
+use Rattle.tsdb_base.specs.Points.{IsRising}
 use Rattle.tsdb_merge.proofs.SourceLemmas.{count_is, lists_rising}
 use Rattle.tsdb_merge.proofs.merge.Merge.new.Goals as goal
 

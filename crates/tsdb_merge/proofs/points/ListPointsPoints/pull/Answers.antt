@@ -3,7 +3,7 @@ use Rattle.std.specs.Option.{option_to_list}
 use Rattle.std.specs.Prelude.{◌<ℤ◌}
 use Rattle.std.specs.Vec.Iter.{into_iter_items}
 use Rattle.tsdb_base.specs.declared.point.Point.{Point}
-use Rattle.tsdb_merge.specs.Winners.{IsRising}
+use Rattle.tsdb_base.specs.Points.{IsRising}
 use Rattle.tsdb_merge.proofs.MergeLemmas.{AllPairs-tail}
 use Rattle.tsdb_merge.proofs.points.ListPointsPoints.pull.Goals as goal
 

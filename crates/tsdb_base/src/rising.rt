@@ -1,8 +1,8 @@
-//! Whether points stand in order of time. Depends on tsdb_base.
+//! Whether points stand in order of time. Depends on `point`.
 ghost use Rattle.std.specs.Prelude.{IsTrue, ◌↔◌};
-ghost use Rattle.tsdb_pages.specs.Pages.{IsRising};
+ghost use Rattle.tsdb_base.specs.Points.{IsRising};
 
-use tsdb_base::Point;
+use crate::Point;
 
 /// Whether times rise from point to point.
 pub fn is_rising(points: &[Point]) -> bool

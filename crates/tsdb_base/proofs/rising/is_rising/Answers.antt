@@ -1,8 +1,8 @@
 use Rattle.std.proofs.Common.{refl, arith}
 use Rattle.std.proofs.lemmas.Bool.{false≢true}
 use Rattle.std.proofs.lemmas.Int.{ints}
-use Rattle.tsdb_merge.proofs.RisingLemmas.{rising_from_adjacent, not_rising}
-use Rattle.tsdb_merge.proofs.points.is_rising.Goals as goal
+use Rattle.tsdb_base.proofs.RisingLemmas.{rising_from_adjacent, not_rising}
+use Rattle.tsdb_base.proofs.rising.is_rising.Goals as goal
 
 pub returns-then-points-i : goal.returns-then-points-i
 returns-then-points-i c =
