@@ -8,6 +8,7 @@ ghost use Rattle.tsdb_model.specs.Folds.{within};
 ghost use Rattle.tsdb_map.specs.Model.{is_number_aggregate};
 
 use crate::catalog::Catalog;
+use tsdb_model::ask_aggregates;
 use tsdb_model::Item;
 use tsdb_model::Reply;
 use crate::rows::rows;
