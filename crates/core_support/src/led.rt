@@ -19,8 +19,8 @@ use tsdb_engine::{FlushRefused, run_flush};
 use tsdb_frames::Frames;
 use tsdb_jobs::{FlushJob, Flushed};
 use tsdb_logged::Logged;
-use tsdb_model::Listing;
 use tsdb_memory::MemoryStore;
+use tsdb_model::Listing;
 use tsdb_outside::{Failed, Files, Journal, Place, Slot};
 
 /// What came of a step.

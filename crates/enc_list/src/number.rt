@@ -4,8 +4,7 @@ ghost use Rattle.tsdb_base.specs.Limits.{max_values};
 ghost use Rattle.tsdb_base.specs.Plain.{BeginsWithNone};
 ghost use Rattle.tsdb_bits.specs.Leb.{leb};
 
-use tsdb_base::limits;
-use tsdb_base::DecodeFault;
+use tsdb_base::{DecodeFault, limits};
 use tsdb_bits::get_leb;
 
 /// The most values of a list.

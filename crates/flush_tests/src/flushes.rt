@@ -12,8 +12,8 @@ use std::test::Fail;
 use tsdb_base::{DataType, Encoding, FileNumber, List, Point, SeriesId, Space, Stamp, Time, Value};
 use tsdb_engine::{FlushRefused, run_flush};
 use tsdb_jobs::{Built, FlushJob, Flushed};
-use tsdb_model::Schema;
 use tsdb_memtable::{Pair, Watermarks};
+use tsdb_model::Schema;
 use tsdb_outside::{Files, Place};
 use tsdb_path::Path;
 

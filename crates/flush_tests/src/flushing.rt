@@ -8,8 +8,8 @@ use tsdb_base::{DataType, Encoding, FileNumber, List, Time, Value};
 use tsdb_flushing::take;
 use tsdb_jobs::FlushJob;
 use tsdb_log::CellRecord;
-use tsdb_model::Schema;
 use tsdb_memory::MemoryStore;
+use tsdb_model::Schema;
 use tsdb_path::Path;
 
 /// The number that the next file gets.

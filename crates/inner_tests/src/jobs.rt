@@ -14,8 +14,8 @@ use tsdb_base::{DataType, FileNumber, List, Space, Stamp, Time};
 use tsdb_compactions::{Input, Job};
 use tsdb_inner::{run_cross, run_inner};
 use tsdb_jobs::Built;
-use tsdb_model::Schema;
 use tsdb_marks::Marks;
+use tsdb_model::Schema;
 use tsdb_outside::{Files, Place, Port, StoreFault};
 
 /// The compaction of two files, the first of the lower priority. The second of a cross compaction is a late one.

@@ -15,8 +15,8 @@ use tsdb_frames::Frames;
 use tsdb_history::serve;
 use tsdb_kept::KeptFiles;
 use tsdb_logged::Logged;
-use tsdb_model::{Command, Reply};
 use tsdb_memory::MemoryStore;
+use tsdb_model::{Command, Reply};
 use tsdb_outside::{Files, Journal, Place, Slot};
 
 /// A place with a new log, where these calls on files fail.

@@ -20,8 +20,8 @@ use tsdb_core::{Core, Options};
 use tsdb_frames::Frames;
 use tsdb_kept::KeptFiles;
 use tsdb_logged::Logged;
-use tsdb_model::Command;
 use tsdb_memory::MemoryStore;
+use tsdb_model::Command;
 use tsdb_outside::{Files, Journal, Place, Slot};
 use tsdb_pinning::Pin;
 

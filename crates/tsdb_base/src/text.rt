@@ -8,13 +8,13 @@ ghost use Rattle.std.specs.Cmp.Rules.{comparing, hashing};
 ghost use Rattle.std.proofs.Common.{rules};
 ghost use Rattle.tsdb_base.specs.Limits.{max_text_bytes};
 
+use crate::limits::MAX_TEXT_BYTES;
 use std::alloc::{AllocError, Global};
 use std::cmp::Ordering;
 use std::error::Error;
 use std::fmt;
 use std::hash::{Hash, Hasher};
 use std::marker::Model;
-use crate::limits::MAX_TEXT_BYTES;
 
 /// The most bytes of a text that is kept without memory of its own.
 const MAX_SHORT: usize = 22;

@@ -5,8 +5,8 @@ ghost use Rattle.tsdb_base.specs.Causes.{Rose};
 ghost use Rattle.tsdb_outside.specs.Limits.{FitsSlot};
 
 use std::alloc::Global;
-use tsdb_base::limits::END_OF_SLOT;
 use tsdb_base::Memory;
+use tsdb_base::limits::END_OF_SLOT;
 use tsdb_outside::{Counted, Disk, Failed, Journal, Slot};
 
 /// The most bytes of a slot.

@@ -1,8 +1,8 @@
 //! A compaction that is out. Depends on tsdb_base, tsdb_map, tsdb_marks and tsdb_outside.
 
 use tsdb_base::{FileNumber, List, Space, Stamp};
-use tsdb_model::Schema;
 use tsdb_marks::Marks;
+use tsdb_model::Schema;
 use tsdb_outside::Files;
 
 /// A listed file that a job reads, with a right to read it.

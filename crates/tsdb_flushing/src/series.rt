@@ -8,9 +8,9 @@ ghost use Rattle.tsdb_path.specs.Nodes.{device_of, measurement_of, node_count};
 
 use std::alloc::Global;
 use tsdb_base::{DataType, Encoding, List, Memory, Point, SeriesId, Space};
-use tsdb_model::Schema;
 use tsdb_memory::MemoryStore;
 use tsdb_memtable::Pair;
+use tsdb_model::Schema;
 use tsdb_path::Path;
 
 /// A series that has a point in a pair: its number, its schema, its names, by which a tree is ordered (the bytes of the

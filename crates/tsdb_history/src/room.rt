@@ -4,8 +4,8 @@ ghost use Rattle.tsdb_history.specs.Rooms.{IsRoomFor};
 
 use crate::told::Told;
 use std::alloc::Global;
-use tsdb_base::limits::SESSION_NUMBERS;
 use tsdb_base::Memory;
+use tsdb_base::limits::SESSION_NUMBERS;
 
 /// Every number of a session is below this.
 const SESSIONS: usize = SESSION_NUMBERS;

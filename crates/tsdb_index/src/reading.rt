@@ -14,9 +14,9 @@ ghost use Rattle.tsdb_index.specs.Steps.{AreSpread, IsCounted, ReadsLeaves};
 
 use crate::fault::IndexFault;
 use crate::index::{Index, IndexEntry, PageEntry};
+use crate::marks::{LEAF, ROOT};
 use crate::order::{are_leaf, are_root};
 use crate::pointer::Pointer;
-use crate::marks::{LEAF, ROOT};
 use std::alloc::Global;
 use tsdb_base::{DataType, List, suits};
 use tsdb_fields::{FieldFault, Rest, read_field, read_name, read_path, read_stats};

@@ -15,8 +15,8 @@ use std::alloc::Global;
 use tsdb_base::{Point, Range, Time};
 use tsdb_columns::{Source, Stream, open_column, pull};
 use tsdb_engine::Part;
-use tsdb_model::Schema;
 use tsdb_marks::Marks;
+use tsdb_model::Schema;
 use tsdb_outside::{Port, StoreFault};
 
 /// All times.

@@ -4,8 +4,8 @@
 use std::alloc::Global;
 use std::sync::Arc;
 use tsdb_base::{FileNumber, List, SeriesId, Stamp};
-use tsdb_model::Schema;
 use tsdb_memtable::Pair;
+use tsdb_model::Schema;
 use tsdb_outside::Files;
 use tsdb_path::Path;
 use tsdb_plan::FileEntry;

@@ -1,7 +1,7 @@
 //! A change between its two phases. Depends on `reply`.
 
-use tsdb_model::Reply;
 use tsdb_base::Value;
+use tsdb_model::Reply;
 use tsdb_path::{Name, Path};
 
 /// What a command comes to before its record is logged.

@@ -9,14 +9,13 @@ ghost use Rattle.tsdb_path.specs.Nodes.{child_of};
 ghost use Rattle.tsdb_model.specs.declared.command.Command.{Command};
 
 use crate::catalog::Catalog;
-use tsdb_model::{Command, Item, Row, Schema};
 use crate::pending::{Pending, Prepared};
-use tsdb_model::Reply;
 use crate::row::{insert_answer, put_cells, take_back_cells};
 use crate::select::select;
 use std::alloc::Global;
 use std::marker::Model;
 use tsdb_base::{Answer, List, Memory, Range};
+use tsdb_model::{Command, Item, Reply, Row, Schema};
 use tsdb_path::{Name, Path};
 
 /// The plain map: for each series its type, and a value at each time that has one. A contract sees the world.

@@ -9,9 +9,8 @@ ghost use Rattle.tsdb_map.specs.Model.{set_at};
 ghost use Rattle.tsdb_path.specs.Nodes.{child_of};
 
 use crate::catalog::Catalog;
-use tsdb_model::Cell;
-use tsdb_model::{fits, value_of};
 use tsdb_base::{Answer, Memory, Time, Value};
+use tsdb_model::{Cell, fits, value_of};
 use tsdb_path::Path;
 
 /// What an insert answers: all names are looked up before any literal is judged.

@@ -2,11 +2,11 @@
 ghost use Rattle.std.specs.Prelude.{◌≡◌, IfOk, map};
 ghost use Rattle.tsdb_model.specs.Folds as folds;
 
-use tsdb_model::Line;
 use crate::series::Series;
 use std::alloc::Global;
 use std::collections::BTreeSet;
 use tsdb_base::{List, Memory, Range, Time};
+use tsdb_model::Line;
 
 /// The rows of the columns: a line for each time in the range at which one has a value.
 pub fn rows(alloc: Global, columns: &[&Series], range: &Range) -> Result<Vec<Line>, Memory>

@@ -8,13 +8,11 @@ ghost use Rattle.tsdb_model.specs.Folds.{within};
 ghost use Rattle.tsdb_map.specs.Model.{is_number_aggregate};
 
 use crate::catalog::Catalog;
-use tsdb_model::ask_aggregates;
-use tsdb_model::Item;
-use tsdb_model::Reply;
 use crate::rows::rows;
 use crate::series::Series;
 use std::alloc::Global;
 use tsdb_base::{Aggregate, Answer, DataType, List, Memory, Range, Value};
+use tsdb_model::{Item, Reply, ask_aggregates};
 use tsdb_path::Path;
 
 /// The rows, or the aggregates, of items over the range.

@@ -16,8 +16,8 @@ use crate::replacing::Replacing;
 use std::alloc::Global;
 use tsdb_base::{FileNumber, Space};
 use tsdb_log::LogRecord;
-use tsdb_model::Schema;
 use tsdb_memory::MemoryStore;
+use tsdb_model::Schema;
 
 /// What the records of a log give: what is in memory, the two lists of files, and the numbers of files that were named.
 #[derive(Drop)]

@@ -6,8 +6,8 @@ ghost use Rattle.tsdb_pinning.specs.Items.{AreRead, IsItemFound, are_fit_with, i
 use crate::pin::PinFault;
 use std::alloc::Global;
 use tsdb_base::{Aggregate, DataType, Memory, SeriesId};
-use tsdb_model::{Item, Schema};
 use tsdb_memory::MemoryStore;
+use tsdb_model::{Item, Schema};
 use tsdb_path::{Path, PathFault};
 
 /// The series that an item asks for: its number, its schema, and the aggregate.

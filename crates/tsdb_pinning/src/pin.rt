@@ -1,8 +1,8 @@
 //! A pin that is out. Depends on tsdb_base, tsdb_map, tsdb_marks and tsdb_outside.
 
 use tsdb_base::{Aggregate, FileNumber, List, Point, Range, Stamp};
-use tsdb_model::Schema;
 use tsdb_marks::Marks;
+use tsdb_model::Schema;
 use tsdb_outside::Files;
 
 /// What a column reads: a listed file, by a right to read it, or copies of points of a part in memory, in order of

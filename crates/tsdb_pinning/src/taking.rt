@@ -13,9 +13,9 @@ use crate::returning::give_back_columns;
 use std::alloc::Global;
 use tsdb_base::{List, Memory, Range, Space, Stamp};
 use tsdb_kept::KeptFiles;
-use tsdb_model::Item;
 use tsdb_marks::Marks;
 use tsdb_memory::MemoryStore;
+use tsdb_model::Item;
 use tsdb_outside::Files;
 use tsdb_path::Path;
 

@@ -8,11 +8,11 @@ ghost use Rattle.tsdb_rows.specs.Fits as bytes;
 ghost use Rattle.tsdb_base.specs.Limits.{max_pair_bytes};
 ghost use Rattle.tsdb_state.specs.State.{StoreState};
 
-use tsdb_base::limits::MAX_PAIR_BYTES;
 use tsdb_base::Space;
-use tsdb_model::{Cell, Literal, Row};
+use tsdb_base::limits::MAX_PAIR_BYTES;
 use tsdb_memory::MemoryStore;
 use tsdb_memtable::Pair;
+use tsdb_model::{Cell, Literal, Row};
 
 /// Whether the row fits the working pair, with this limit of points: the pair has no point, or its points and the row's
 /// cells are at most the limit, and their bytes at most 67,108,864. A row that does not fit waits for a freeze.

@@ -10,8 +10,8 @@ ghost use Rattle.tsdb_rows.specs.Steps.{IsCellFound};
 use std::alloc::Global;
 use tsdb_base::{Answer, List, Memory};
 use tsdb_log::CellRecord;
-use tsdb_model::{Cell, Row, value_of};
 use tsdb_memory::MemoryStore;
+use tsdb_model::{Cell, Row, value_of};
 use tsdb_path::{Path, PathFault};
 
 /// What a cell is in a store.

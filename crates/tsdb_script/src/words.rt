@@ -11,9 +11,8 @@ use crate::fault::LineFault;
 use crate::syntax::Operand;
 use crate::token::Word;
 use std::alloc::Global;
-use tsdb_base::limits;
 use tsdb_base::limits::MAX_PATH_BYTES;
-use tsdb_base::{Aggregate, DataType, Encoding, suits};
+use tsdb_base::{Aggregate, DataType, Encoding, limits, suits};
 use tsdb_model::Literal;
 use tsdb_path::{Name, Path, PathFault};
 

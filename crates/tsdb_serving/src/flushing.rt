@@ -17,8 +17,7 @@ ghost use Rattle.tsdb_base.specs.Limits.{max_frozen};
 
 use crate::fault::FlushFault;
 use std::alloc::Global;
-use tsdb_base::limits;
-use tsdb_base::{Answer, Space, Stamp};
+use tsdb_base::{Answer, Space, Stamp, limits};
 use tsdb_core::{Commit, Core};
 use tsdb_engine::{FlushRefused, run_flush};
 use tsdb_jobs::{FlushJob, Flushed};

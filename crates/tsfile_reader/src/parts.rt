@@ -18,9 +18,7 @@ ghost use Rattle.tsfile_reader.specs.Steps.{AreLaterPoints, ArePagesRead, IsChun
 ghost use Rattle.tsfile_reader.specs.Steps.{ReadsChunk, ReadsChunks, ReadsOrStops, ReadsPages, StopsBehind};
 
 use crate::fault::ReadFault;
-use crate::page::{
-    ChunkHead, begins_with, read_chunk_head, read_group_head, read_page,
-};
+use crate::page::{ChunkHead, begins_with, read_chunk_head, read_group_head, read_page};
 use std::alloc::Global;
 use tsdb_base::limits::MAX_PAGES;
 use tsdb_base::{DataType, Encoding, List, Memory, Point, Stats};

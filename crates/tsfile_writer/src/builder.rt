@@ -23,8 +23,8 @@ use crate::names::{copy_path, device_of, measurement_of};
 use std::alloc::Global;
 use tsdb_base::limits::{MAX_ENTRIES, MAX_VALUES};
 use tsdb_base::{DataType, Encoding, Memory, Point};
-use tsdb_index::marks::HEAD;
 use tsdb_index::IndexEntry;
+use tsdb_index::marks::HEAD;
 use tsdb_path::Path;
 
 /// The most points of a page.

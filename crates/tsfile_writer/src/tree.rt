@@ -11,8 +11,8 @@ use crate::names::{copy_name, copy_path};
 use crate::told::tell_tree;
 use std::alloc::Global;
 use tsdb_base::Memory;
-use tsdb_index::marks::HEAD;
 use tsdb_index::IndexEntry;
+use tsdb_index::marks::HEAD;
 use tsdb_pages::{Chunk, Group, Tree};
 use tsdb_path::Path;
 

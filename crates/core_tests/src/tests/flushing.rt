@@ -24,8 +24,8 @@ use tsdb_frames::Frames;
 use tsdb_jobs::{FlushJob, Flushed};
 use tsdb_kept::KeptFiles;
 use tsdb_logged::Logged;
-use tsdb_model::{Command, Reply};
 use tsdb_memory::MemoryStore;
+use tsdb_model::{Command, Reply};
 use tsdb_outside::{Failed, Files, Journal, Place, Slot};
 use tsdb_print::print_reply;
 
