@@ -178,7 +178,12 @@ const SEQUENCE_CLAIMED: Case<'static> = Case {
             count: 4,
         }),
     },
-    listing: "sequence 1 born 2 points 1 from 10 to 10\nsequence 2 born 3 points 1 from 20 to 20\nunsequence 6 born 5 points 2 from 5 to 6\nfrozen 0\nworking 0 0\nmarks 0\n",
+    listing: "sequence 1 born 2 points 1 from 10 to 10\n\
+        sequence 2 born 3 points 1 from 20 to 20\n\
+        unsequence 6 born 5 points 2 from 5 to 6\n\
+        frozen 0\n\
+        working 0 0\n\
+        marks 0\n",
 };
 
 /// Late files that a job has claimed are in no other plan, and end one. A file that is flushed meanwhile stands behind
@@ -228,7 +233,12 @@ const LATE_CLAIMED: Case<'static> = Case {
             count: 4,
         }),
     },
-    listing: "sequence 1 born 2 points 1 from 10 to 10\nunsequence 4 born 4 points 2 from 5 to 6\nunsequence 5 born 5 points 1 from 7 to 7\nfrozen 0\nworking 0 0\nmarks 0\n",
+    listing: "sequence 1 born 2 points 1 from 10 to 10\n\
+        unsequence 4 born 4 points 2 from 5 to 6\n\
+        unsequence 5 born 5 points 1 from 7 to 7\n\
+        frozen 0\n\
+        working 0 0\n\
+        marks 0\n",
 };
 
 /// Deletions before the output is written and behind that are in no output, and are not undone by the commit.
@@ -397,7 +407,11 @@ fn compactions_under_pins(rt: HostRuntime) -> Result<(), Fail> {
 const LAST_NUMBER: u64 = 0x7fff_ffff_ffff_ffff;
 
 const LAST_FILES: &str =
-    "sequence 9223372036854775805 born 2 points 1 from 1 to 1\nsequence 9223372036854775806 born 3 points 1 from 2 to 2\nfrozen 0\nworking 0 0\nmarks 0\n";
+    "sequence 9223372036854775805 born 2 points 1 from 1 to 1\n\
+        sequence 9223372036854775806 born 3 points 1 from 2 to 2\n\
+        frozen 0\n\
+        working 0 0\n\
+        marks 0\n";
 
 /// No two numbers are left. A list without a plan is not full.
 const FULL: [Case<'static>; 2] = [

@@ -115,8 +115,6 @@ abbrev with_reply : Told → Command → Entry
 with_reply told command = record { command = command; reply = told.reply }
 
 -- an entry has the command that its reply answers
-pub command_of-entry : (script : List Numbered) (told : Told) (entry : Entry) → entry_of script told ≡ Some entry → command_of script told ≡ Some entry.command
-command_of-entry script told entry is = (let m = made (with_reply told) (command_of script told) entry is in m.1 ∙ ap (λ (e : Entry). Some e.command) m.2)
 
 entry_of-longer : (script : List Numbered) (numbered : Numbered) (told : Told) (entry : Entry)
     → entry_of script told ≡ Some entry → entry_of (script ++ numbered ∷ []) told ≡ Some entry

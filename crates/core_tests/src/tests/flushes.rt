@@ -177,7 +177,12 @@ const CASES: &[Case] = &[
             (FREEZE, OK),
             (FLUSH, DONE),
         ],
-        listing: "sequence 2 born 2 points 1 from 5 to 5\nsequence 3 born 4 points 1 from 7 to 7\nunsequence 4 born 4 points 1 from 3 to 3\nfrozen 0\nworking 0 0\nmarks 0\n",
+        listing: "sequence 2 born 2 points 1 from 5 to 5\n\
+            sequence 3 born 4 points 1 from 7 to 7\n\
+            unsequence 4 born 4 points 1 from 3 to 3\n\
+            frozen 0\n\
+            working 0 0\n\
+            marks 0\n",
     },
 ];
 
