@@ -19,7 +19,7 @@ pub use fault::{DecodeFault, Memory};
 pub use ids::{FileNumber, SeriesId, Space, Stamp};
 pub use list::List;
 pub use plain::{PlainValue, put_all, take_all};
-pub use point::{Point, Range, Stats, Time};
+pub use point::{Point, Range, Stats, Time, copy_points};
 pub use rising::is_rising;
 pub use text::{Text, TextFault};
 pub use value::{DataType, Encoding, Value, suits};

@@ -1,5 +1,5 @@
 //! Values, their types, and the encodings that suit each type.
-ghost use Rattle.std.specs.Prelude.{◌≡◌, IfOk};
+ghost use Rattle.std.specs.Prelude.{◌≡◌, ◌≢◌, IfOk, IsOk};
 ghost use Rattle.tsdb_base.specs.Values.{is_suitable, type_of};
 
 use crate::fault::Memory;
@@ -37,11 +37,17 @@ pub enum Value {
 }
 
 impl Value {
-    /// The same value once more.
+    /// The same value once more. A number and a boolean take no memory.
     pub fn copy(&self) -> Result<Value, Memory>
-        ensures { IfOk result (λ copy. copy ≡ self.now) }
+        ensures same { IfOk result (λ copy. copy ≡ self.now) }
+        ensures fixed { type_of self.now ≢ DataType.Text → IsOk result }
     {
-        Ok(self.clone()?)
+        match self {
+            Value::Bool(truth) => Ok(Value::Bool(*truth)),
+            Value::I32(number) => Ok(Value::I32(*number)),
+            Value::I64(number) => Ok(Value::I64(*number)),
+            Value::Text(text) => Ok(Value::Text(text.clone()?)),
+        }
     }
 
     /// The type of the value.

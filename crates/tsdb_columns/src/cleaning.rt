@@ -12,7 +12,7 @@ use crate::lane::Lane;
 use crate::ordering::page_meets;
 use std::alloc::Global;
 use tsdb_aggregate::overlap;
-use tsdb_base::{Memory, Point, Range, Stamp, Stats, Value};
+use tsdb_base::{Memory, Point, Range, Stamp, Stats};
 use tsdb_index::PageEntry;
 
 /// Whether the times from the first of these points to the last one meet the times.
@@ -122,38 +122,13 @@ pub(crate) fn pass_clean<R>(
     Ok(())
 }
 
-/// The same value once more, if there is one.
-fn copy_value(value: &Option<Value>) -> Result<Option<Value>, Memory>
-    ensures { IfOk result (λ copy. copy ≡ value.now) }
-{
-    match value {
-        Some(value) => Ok(Some(value.copy()?)),
-        None => Ok(None),
-    }
-}
-
-/// The same statistics once more.
-fn copy_of(stats: &Stats) -> Result<Stats, Memory>
-    ensures { IfOk result (λ copy. copy ≡ stats.now) }
-{
-    Ok(Stats {
-        count: stats.count,
-        start: stats.start,
-        end: stats.end,
-        first: stats.first.copy()?,
-        last: stats.last.copy()?,
-        least: copy_value(&stats.least)?,
-        greatest: copy_value(&stats.greatest)?,
-    })
-}
-
 /// Adds the statistics of the pages that are passed over.
 fn add_passed(flags: &[bool], pages: &[PageEntry], into: &mut Vec<Stats>) -> Result<(), Memory>
     ensures { OnOk result (into.new.items ≡ into.old.items ++ picked flags.now pages.now) }
 {
     for place in 0..pages.len() {
         if is_passed(flags, place) {
-            into.push(copy_of(&pages[place].stats)?)?;
+            into.push(pages[place].stats.copy()?)?;
         }
     }
     Ok(())

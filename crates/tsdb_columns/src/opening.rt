@@ -111,17 +111,11 @@ fn open_sources<'a, P: Port>(
 }
 
 /// The device and the measurement of a series.
-fn names_of(alloc: Global, series: &Path) -> Result<(Path, Name), Memory>
+fn names_of(series: &Path) -> Result<(Path, Name), Memory>
     requires nodes { 2 ≤ node_count series.now }
     ensures { IfOk result (λ names. names ≡ (device_of series.now, measurement_of series.now)) }
 {
-    let Ok(device) = series.device() else {
-        return Err(Memory);
-    };
-    let Ok(measurement) = Name::read(alloc, series.measurement()) else {
-        return Err(Memory);
-    };
-    Ok((device, measurement))
+    Ok((series.device()?, series.measurement_name()?))
 }
 
 /// Opens the stream of a series over these sources, from the lowest priority to the highest. It reads the index of
@@ -153,7 +147,7 @@ pub fn open_column<'a, P: Port>(
     ensures later { P.faults port.old ≤ P.faults port.new }
     ensures same_store { P.store port.new ≡ P.store port.old }
 {
-    let (device, measurement) = names_of(alloc, series)?;
+    let (device, measurement) = names_of(series)?;
     let lanes = open_sources(alloc, &device, &measurement, sources, port)?;
     let merge = LazyMerge::new(alloc, lanes.len())?;
     Ok(Stream {
@@ -202,7 +196,7 @@ pub fn open_parted<'a, P: Port>(
     ensures later { P.faults port.old ≤ P.faults port.new }
     ensures same_store { P.store port.new ≡ P.store port.old }
 {
-    let (device, measurement) = names_of(alloc, series)?;
+    let (device, measurement) = names_of(series)?;
     let mut lanes = open_sources(alloc, &device, &measurement, sources, port)?;
     let kept = Kept {
         series,

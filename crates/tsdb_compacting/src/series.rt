@@ -110,10 +110,7 @@ fn paths_of(alloc: Global, series: &[InputSeries<'_>]) -> Result<Vec<Path>, Memo
 {
     let mut paths = Vec::with_capacity(alloc, series.len())?;
     for one in series {
-        let Ok(path) = one.path.copy() else {
-            return Err(Memory);
-        };
-        paths.push(path)?;
+        paths.push(one.path.copy()?)?;
     }
     Ok(paths)
 }
@@ -125,11 +122,8 @@ fn schema_of(memory: &MemoryStore, path: &Path) -> Result<Option<Schema>, Memory
     let Some(series) = memory.series(path) else {
         return Ok(None);
     };
-    let Ok(path) = path.copy() else {
-        return Err(Memory);
-    };
     Ok(Some(Schema {
-        path,
+        path: path.copy()?,
         data_type: series.data_type,
         encoding: series.encoding,
     }))

@@ -1,5 +1,5 @@
 //! The hulls of devices, entry by entry. Depends on tsdb_base, tsdb_path, tsdb_index and tsdb_plan.
-ghost use Rattle.std.specs.Prelude.{◌≡◌, OnOk};
+ghost use Rattle.std.specs.Prelude.{OnOk};
 ghost use Rattle.tsdb_described.specs.Steps.{AddsHull};
 ghost use Rattle.tsdb_engine.specs.Steps.{EndsIn, IsWidened};
 

@@ -136,11 +136,8 @@ pub(crate) fn numbers_of(alloc: Global, series: &[PairSeries<'_>]) -> Result<Lis
 fn schema_of(series: &PairSeries<'_>) -> Result<Schema, Memory>
     ensures { IfOk result (λ schema. schema ≡ schema_in series.now) }
 {
-    let Ok(path) = series.path.copy() else {
-        return Err(Memory);
-    };
     Ok(Schema {
-        path,
+        path: series.path.copy()?,
         data_type: series.data_type,
         encoding: series.encoding,
     })

@@ -131,7 +131,7 @@ impl Plain {
         ensures prepared { IfOk result (λ prepared. IsPrepared self.old self.new (Command.Create schema.now) prepared) }
         ensures memory { OnErr result (self.new ≡ self.old) }
     {
-        let (device, name) = split(self.alloc, &schema.path)?;
+        let (device, name) = split(&schema.path)?;
         if self.catalog.get(&device, &name).is_some() {
             return Ok(Prepared::Reply(Reply::Plain(Answer::Exists)));
         }
@@ -147,7 +147,7 @@ impl Plain {
             ≡ map.insert self.old schema.now.path (new_series schema.now.data_type)) }
         ensures memory { OnErr result (self.new ≡ self.old) }
     {
-        let (device, name) = split(self.alloc, &schema.path)?;
+        let (device, name) = split(&schema.path)?;
         self.catalog
             .create(self.alloc, device, name, schema.data_type)
     }
@@ -176,7 +176,7 @@ impl Plain {
             prepared) }
         ensures memory { self.new ≡ self.old }
     {
-        let (device, name) = split(self.alloc, series)?;
+        let (device, name) = split(series)?;
         if self.catalog.get(&device, &name).is_none() {
             return Ok(Prepared::Reply(Reply::Plain(Answer::NoPath)));
         }
@@ -211,15 +211,9 @@ impl Plain {
 }
 
 /// The device and the measurement of a series.
-fn split(alloc: Global, series: &Path) -> Result<(Path, Name), Memory>
+fn split(series: &Path) -> Result<(Path, Name), Memory>
     requires { IsSeries series.now }
     ensures { IfOk result (λ parts. child_of parts.0 parts.1 ≡ series.now) }
 {
-    let Ok(device) = series.device() else {
-        return Err(Memory);
-    };
-    let Ok(name) = Name::read(alloc, series.measurement()) else {
-        return Err(Memory);
-    };
-    Ok((device, name))
+    Ok((series.device()?, series.measurement_name()?))
 }

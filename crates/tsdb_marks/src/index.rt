@@ -47,10 +47,7 @@ impl Index {
         }
         let mut series = Series::new(alloc);
         series.add(from, to, version)?;
-        let Ok(path) = path.copy() else {
-            return Err(Memory);
-        };
-        self.series.insert(path, series)?;
+        self.series.insert(path.copy()?, series)?;
         Ok(())
     }
 

@@ -34,11 +34,8 @@ impl Mark {
     pub fn copy(&self) -> Result<Mark, Memory>
         ensures { IfOk result (λ copy. copy ≡ self.now) }
     {
-        let Ok(path) = self.path.copy() else {
-            return Err(Memory);
-        };
         Ok(Mark {
-            path,
+            path: self.path.copy()?,
             from: self.from,
             to: self.to,
             version: self.version,

@@ -73,10 +73,7 @@ impl Watermarks {
         if self.times.contains_key(device) {
             return Ok(());
         }
-        let Ok(device) = device.copy() else {
-            return Err(Memory);
-        };
-        self.times.insert(device, None)?;
+        self.times.insert(device.copy()?, None)?;
         Ok(())
     }
 

@@ -7,6 +7,7 @@ use crate::PathFault;
 use crate::scan::check_name;
 use std::alloc::Global;
 use std::marker::Model;
+use tsdb_base::Memory;
 
 /// The name of a node: 1 to 255 ASCII letters, digits and `_`, not all of them digits.
 #[derive(Drop)]
@@ -38,6 +39,14 @@ impl Name {
     {
         check_name(bytes)?;
         let bytes = Vec::from_slice(alloc, bytes)?;
+        Ok(Name { bytes })
+    }
+
+    /// The same name once more.
+    pub fn copy(&self) -> Result<Name, Memory>
+        ensures { IfOk result (λ copy. copy ≡ self.now) }
+    {
+        let bytes = Vec::from_slice(*self.bytes.allocator(), self.bytes.as_slice())?;
         Ok(Name { bytes })
     }
 

@@ -100,6 +100,18 @@ impl Path {
         &self.bytes[end + 1..]
     }
 
+    /// The measurement of a series, as a name of its own.
+    pub fn measurement_name(&self) -> Result<Name, Memory>
+        requires { 2 ≤ node_count self.now }
+        ensures value { IfOk result (λ name. name ≡ measurement_of self.now) }
+        ensures again { IfOk result (λ name. child_of (device_of self.now) name ≡ self.now) }
+    {
+        let Ok(name) = Name::read(*self.bytes.allocator(), self.measurement()) else {
+            return Err(Memory);
+        };
+        Ok(name)
+    }
+
     /// The path with one node more.
     ///
     /// Refuses, as `read` of the joined bytes does, more than 255 bytes as `TooLong` at 255, and a 17th node as

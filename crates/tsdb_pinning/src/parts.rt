@@ -1,5 +1,5 @@
 //! Copies of the points of a series in memory. Depends on `pin` and `sources`.
-ghost use Rattle.std.specs.Prelude.{◌≡◌, ◌∷◌, ◌++◌, [], IfOk, OnErr, OnOk};
+ghost use Rattle.std.specs.Prelude.{◌≡◌, ◌∷◌, ◌++◌, [], OnErr, OnOk};
 ghost use Rattle.tsdb_memtable.specs.Pairs.{points_of};
 ghost use Rattle.tsdb_base.specs.Points.{IsRising};
 ghost use Rattle.tsdb_pinning.specs.Sources.{AreRisingIn, AddsParts, pairs_in, parts_in};
@@ -7,25 +7,10 @@ ghost use Rattle.tsdb_pinning.specs.Sources.{AreRisingIn, AddsParts, pairs_in, p
 use crate::pin::PinnedSource;
 use crate::sources::push;
 use std::alloc::Global;
-use tsdb_base::{List, Memory, Point, Range, SeriesId, Space, Stamp};
+use tsdb_base::{List, Memory, Range, SeriesId, Space, Stamp};
 use tsdb_memory::MemoryStore;
 use tsdb_memtable::Pair;
 use tsdb_outside::Files;
-
-/// The same points once more.
-fn copy_points(alloc: Global, points: &[Point]) -> Result<Vec<Point>, Memory>
-    ensures { IfOk result (λ copy. copy.items ≡ points.now) }
-{
-    let mut copy = Vec::with_capacity(alloc, points.len())?;
-    for place in 0..points.len() {
-        let point = &points[place];
-        copy.push(Point {
-            time: point.time,
-            value: point.value.copy()?,
-        })?;
-    }
-    Ok(copy)
-}
 
 /// Adds the points of the series in the range and the space of a pair as a source, where there are some.
 fn take_part<F: Files>(

@@ -26,10 +26,7 @@ fn marks_of(alloc: Global, memory: &MemoryStore, all: &[Asked]) -> Result<Marks,
 {
     let mut paths = Vec::with_capacity(alloc, all.len())?;
     for asked in all {
-        let Ok(path) = asked.schema.path.copy() else {
-            return Err(Memory);
-        };
-        paths.push(path)?;
+        paths.push(asked.schema.path.copy()?)?;
     }
     memory.marks().only(&paths)
 }

@@ -58,7 +58,7 @@ impl<'a> Model for Quoted<'a> {
     ghost Value = { List ℕ };
 
     ghost use Rattle.std.specs.Prelude.{◌≤◌, length};
-    ghost use Rattle.tsdb_script.specs.Limits.{max_text_bytes};
+    ghost use Rattle.tsdb_base.specs.Limits.{max_text_bytes};
     ghost use Rattle.tsdb_script.specs.Steps.{unescape};
 
     ghost view = { λ text. unescape text.quote text.inside.now };

@@ -9,19 +9,6 @@ ghost use Rattle.tsdb_stats.specs.Steps.{as_value, number_in};
 use crate::extreme::{Number, greater_of, greatest_of, least_of, lesser_of};
 use tsdb_base::{DataType, Memory, Point, Stats, Value};
 
-/// The same value once more. A number and a boolean take no memory.
-fn copy_value(value: &Value) -> Result<Value, Memory>
-    ensures same { IfOk result (λ copy. copy ≡ value.now) }
-    ensures fixed { type_of value.now ≢ DataType.Text → IsOk result }
-{
-    match value {
-        Value::Bool(truth) => Ok(Value::Bool(*truth)),
-        Value::I32(number) => Ok(Value::I32(*number)),
-        Value::I64(number) => Ok(Value::I64(*number)),
-        Value::Text(text) => Ok(Value::Text(text.clone()?)),
-    }
-}
-
 /// The number as a value, if there is one.
 fn value_of(number: Option<Number>) -> Option<Value>
     ensures { result ≡ option_map as_value number }
@@ -42,8 +29,8 @@ pub fn stats_of(points: &[Point]) -> Result<Stats, Memory>
         count: points.len() as u64,
         start: first.time,
         end: last.time,
-        first: copy_value(&first.value)?,
-        last: copy_value(&last.value)?,
+        first: first.value.copy()?,
+        last: last.value.copy()?,
         least: value_of(least_of(points)),
         greatest: value_of(greatest_of(points)),
     })
@@ -70,8 +57,8 @@ pub fn join(left: &Stats, right: &Stats) -> Result<Stats, Memory>
         count: left.count + right.count,
         start: left.start,
         end: right.end,
-        first: copy_value(&left.first)?,
-        last: copy_value(&right.last)?,
+        first: left.first.copy()?,
+        last: right.last.copy()?,
         least: value_of(least),
         greatest: value_of(greatest),
     })

@@ -1,4 +1,4 @@
-//! Building a file series by series and point by point, with pages filled in turn. Depends on `layout`, `names` and
+//! Building a file series by series and point by point, with pages filled in turn. Depends on `layout` and
 //! `fault`.
 //!
 //! What stands in the file are the chunks of the series before the last, and of the last series the pages that are
@@ -19,7 +19,6 @@ ghost use Rattle.tsfile_writer.specs.Given.{IsTreeOf, MayBeFollowedBy, MayTake, 
 
 use crate::fault::BuildFault;
 use crate::layout::{OpenChunk, append_chunk, append_end, append_group_start};
-use crate::names::{copy_path, device_of, measurement_of};
 use std::alloc::Global;
 use tsdb_base::limits::{MAX_ENTRIES, MAX_VALUES};
 use tsdb_base::{DataType, Encoding, Memory, Point};
@@ -81,7 +80,7 @@ impl OpenSeries {
     {
         let _path = path.bytes();
         Ok(OpenSeries {
-            path: copy_path(path)?,
+            path: path.copy()?,
             data_type,
             encoding,
             chunk: None,
@@ -104,8 +103,8 @@ impl OpenSeries {
             self.now.points.items entries.now into.old.items into.new.items) }
         ensures kept { take (vec_len into.old) into.new.items ≡ into.old.items }
     {
-        let device = device_of(&self.path)?;
-        let measurement = measurement_of(alloc, &self.path)?;
+        let device = self.path.device()?;
+        let measurement = self.path.measurement_name()?;
         if begins_group(entries, &device) {
             append_group_start(&device, into)?;
         }
@@ -211,8 +210,8 @@ impl OpenSeries {
         if entries.len() >= MAX_CHUNKS {
             return Err(Memory);
         }
-        let device = device_of(&self.path)?;
-        let measurement = measurement_of(alloc, &self.path)?;
+        let device = self.path.device()?;
+        let measurement = self.path.measurement_name()?;
         entries.reserve(1)?;
         self.put_page(alloc, entries, into)?;
         let Some(chunk) = self.chunk.take() else {

@@ -2,18 +2,16 @@
 //! tsdb_stats, tsdb_pages and tsdb_index.
 ghost use Rattle.std.specs.Prelude.{◌≡◌, ◌+◌, ◌<◌, ◌≤◌, ◌++◌, [], ◌∷◌, List, ℕ, length, take, true, vec_len, IfOk};
 ghost use Rattle.std.specs.Prelude.{OnOk, OnErr};
-ghost use Rattle.tsdb_base.specs.declared.point.Point.{Point as PointOf};
 ghost use Rattle.tsdb_base.specs.Fields.{number64};
 ghost use Rattle.tsdb_base.specs.Values.{is_suitable};
 ghost use Rattle.tsdb_index.specs.Spelling.{IsSpelling};
 ghost use Rattle.tsdb_pages.specs.File.{chunk_start, group_start, magic, page_bytes};
 ghost use Rattle.tsdb_pages.specs.Pages.{ArePoints};
-ghost use Rattle.tsdb_stats.specs.Statistics.{AreStatsOf};
 ghost use Rattle.tsfile_writer.specs.Steps.{AreStatsOfBoth, IsBegun, IsLonger, SameChunk};
 
 use std::alloc::Global;
 use tsdb_base::limits::MAX_PAGES;
-use tsdb_base::{DataType, Encoding, List, Memory, PlainValue, Point, Stats, Value};
+use tsdb_base::{DataType, Encoding, List, Memory, PlainValue, Point, Stats};
 use tsdb_fields::{write_name, write_path};
 use tsdb_index::marks::{CHUNK, GROUP, MAGIC, PAGE};
 use tsdb_index::{Index, IndexEntry, PageEntry, write_leaves_and_root};
@@ -100,31 +98,6 @@ fn put_page(
     outcome
 }
 
-/// The same value once more, if there is one.
-fn copy_option(value: &Option<Value>) -> Result<Option<Value>, Memory>
-    ensures { IfOk result (λ copy. copy ≡ value.now) }
-{
-    match value {
-        Some(value) => Ok(Some(value.copy()?)),
-        None => Ok(None),
-    }
-}
-
-/// The same statistics once more.
-fn copy_stats(stats: &Stats) -> Result<Stats, Memory>
-    ensures { (points : List PointOf) → AreStatsOf points stats.now → IfOk result (AreStatsOf points) }
-{
-    Ok(Stats {
-        count: stats.count,
-        start: stats.start,
-        end: stats.end,
-        first: stats.first.copy()?,
-        last: stats.last.copy()?,
-        least: copy_option(&stats.least)?,
-        greatest: copy_option(&stats.greatest)?,
-    })
-}
-
 /// The statistics of the points of the first and of those behind them. A count of 2^64 points is a shortage of memory.
 fn join_stats(before: &Stats, behind: &Stats) -> Result<Stats, Memory>
     ensures { IfOk result (AreStatsOfBoth before.now behind.now) }
@@ -157,7 +130,7 @@ pub(crate) fn append_chunk(
     append_chunk_start(measurement, data_type, encoding, into)?;
     let first = PageEntry {
         place: into.len() as u64,
-        stats: copy_stats(&stats)?,
+        stats: stats.copy()?,
     };
     append_page(alloc, points, data_type, encoding, into)?;
     let pages = vec![in alloc; first]?;

@@ -7,7 +7,6 @@ mod builder;
 mod fault;
 mod laws;
 mod layout;
-mod names;
 mod told;
 mod tree;
 

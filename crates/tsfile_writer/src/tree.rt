@@ -1,4 +1,4 @@
-//! Writing the file of a tree. Depends on `layout`, `names` and `told`.
+//! Writing the file of a tree. Depends on `layout` and `told`.
 ghost use Rattle.std.specs.Prelude.{◌≡◌, List, [], ◌∷◌, ◌++◌, true, IfOk, OnOk};
 ghost use Rattle.tsdb_pages.specs.declared.tree.Chunk.{Chunk as ChunkOf};
 ghost use Rattle.tsdb_pages.specs.declared.tree.Group.{Group as GroupOf};
@@ -7,7 +7,6 @@ ghost use Rattle.tsdb_pages.specs.Trees.{IsChunk, IsGroup, IsMade, IsTree};
 ghost use Rattle.tsfile_writer.specs.Steps.{AreChunks, AreGroups};
 
 use crate::layout::{append_chunk, append_end, append_group_start};
-use crate::names::{copy_name, copy_path};
 use crate::told::tell_tree;
 use std::alloc::Global;
 use tsdb_base::Memory;
@@ -47,12 +46,7 @@ fn write_chunk(
     for page in &pages[1..] {
         open.put_page(alloc, page.points.items(), *data_type, *encoding, into)?;
     }
-    let entry = open.into_entry(
-        copy_path(device)?,
-        copy_name(alloc, measurement)?,
-        *data_type,
-        *encoding,
-    );
+    let entry = open.into_entry(device.copy()?, measurement.copy()?, *data_type, *encoding);
     entries.push(entry)?;
     Ok(())
 }

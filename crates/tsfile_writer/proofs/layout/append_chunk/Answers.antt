@@ -10,7 +10,7 @@ returns-clause-chunk c =
     record {
       place-is = search rules;
       stats = c.in_ok-stats.ensures.found;
-      entry = record { place = c.len.result; stats = c.in_ok-copy_stats.field-0 };
-      is = record { place-is = place; stats = c.in_ok-copy_stats.ensures c.args.points.now c.in_ok-stats.ensures.found };
+      entry = record { place = c.len.result; stats = c.in_ok-copy.field-0 };
+      is = record { place-is = place; stats = subst (AreStatsOf c.args.points.now) (sym c.in_ok-copy.ensures) c.in_ok-stats.ensures.found };
       pages-are = search rules;
     }

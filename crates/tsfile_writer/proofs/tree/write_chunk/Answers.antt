@@ -33,8 +33,8 @@ returns c = record {
       (all_taken chunk.pages c.items-pages.result.now c.loop-page.page-index c.items-pages.ensures (search rules))
       (c.loop-page.invariant groups chunks layout))
       (record {
-        device-is = said.device ∙ c.in_ok-copy_path.ensures;
-        measurement-is = said.measurement ∙ c.in_ok-copy_name.ensures;
+        device-is = said.device ∙ c.in_ok-copy.ensures;
+        measurement-is = said.measurement ∙ c.in_ok-copy-2.ensures;
         type-is = said.data_type;
         encoding-is = said.encoding;
         place-is = said.place;
