@@ -1,4 +1,5 @@
-//! The compactions of a core that begin. Depends on `engine` and `commit`, and on `flushing` for the limit of numbers.
+//! The compactions of a core that begin. Depends on `engine` and `commit`, and on `tsdb_base` for the limit of
+//! numbers.
 ghost use Rattle.std.specs.Prelude.{◌≡◌, ◌+◌, ◌≤◌, ◌↔◌, IfNone, IfOk, IfSome, IsTrue, OnErr};
 ghost use Rattle.std.specs.declared.result.Result.TheVariants.{Err};
 ghost use Rattle.tsdb_base.specs.declared.ids.Space.TheVariants.{Sequence, Unsequence};
@@ -10,7 +11,7 @@ ghost use Rattle.tsdb_base.specs.Limits.{end_of_numbers};
 
 use crate::commit::CoreFault;
 use crate::engine::Core;
-use crate::flushing::END_OF_NUMBERS;
+use tsdb_base::limits::END_OF_NUMBERS;
 use tsdb_base::{FileNumber, Memory, Space, Stamp};
 use tsdb_compacting::{InputRuns, JobSeries, TakenInputs, job_series, take_job_inputs};
 use tsdb_compactions::Job;
