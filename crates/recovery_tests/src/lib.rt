@@ -7,4 +7,6 @@ mod kept;
 #[cfg(test)]
 mod numbers;
 #[cfg(test)]
+mod reads;
+#[cfg(test)]
 mod stores;

@@ -80,7 +80,7 @@ pub(crate) type Stored = (u64, usize, usize, u8);
 /// What came of a store: its stamp, and how many frozen pairs, sequence files and unsequence files the core has; or where
 /// it is damaged.
 #[derive(Clone, Copy, Debug, PartialEq, Eq)]
-enum Outcome {
+pub(crate) enum Outcome {
     Opened(u64, u64, usize, usize),
     Log(u64),
     File(u64, u64),
@@ -146,7 +146,7 @@ fn refused(fault: OpenFault) -> Outcome {
 }
 
 /// How many files are at rest, where that is answered.
-fn count_files<F: Files>(files: &mut F) -> Option<usize> {
+pub(crate) fn count_files<F: Files>(files: &mut F) -> Option<usize> {
     match files.list() {
         Ok(numbers) => Some(numbers.len()),
         Err(_) => None,
@@ -154,7 +154,11 @@ fn count_files<F: Files>(files: &mut F) -> Option<usize> {
 }
 
 /// Opens the store of a journal and its files, and closes it.
-fn open_and_close<J: Journal, F: Files>(alloc: Global, journal: J, files: &mut F) -> (J, Outcome) {
+pub(crate) fn open_and_close<J: Journal, F: Files>(
+    alloc: Global,
+    journal: J,
+    files: &mut F,
+) -> (J, Outcome) {
     match recover(alloc, journal, files, Options { pair_points: 10 }) {
         Ok(core) => {
             let outcome = shown(&core);
@@ -290,7 +294,7 @@ fn damage_is_answered_with_its_part_and_place(rt: HostRuntime) -> Result<(), Fai
 }
 
 /// A file and a file that no list has.
-const WITH_STRAY: [Stored; 2] = [(1, 234, 234, 0), (2, 234, 234, 0)];
+pub(crate) const WITH_STRAY: [Stored; 2] = [(1, 234, 234, 0), (2, 234, 234, 0)];
 
 /// What comes of the store while this call on its files fails, and after that.
 fn with_failing(alloc: Global, call: u64) -> Result<(Outcome, Outcome, Option<usize>), Fail> {
@@ -332,9 +336,13 @@ fn stopped_at(
     open(alloc, &mut stopped)
 }
 
-/// The first moment at which a stop of an opening leaves a store that is not opened whole.
-fn first_lost(alloc: Global, place: &MemPlace, kind: StopKind) -> Result<Option<u64>, Fail> {
-    let whole = (Outcome::Opened(2, 0, 1, 0), Some(1));
+/// The first moment at which a stop of an opening leaves a store of which something else comes.
+fn first_lost(
+    alloc: Global,
+    place: &MemPlace,
+    kind: StopKind,
+    whole: (Outcome, Option<usize>),
+) -> Result<Option<u64>, Fail> {
     for moment in 0..place.moments() {
         if stopped_at(alloc, place, moment, kind)? != whole {
             return Ok(Some(moment));
@@ -343,15 +351,42 @@ fn first_lost(alloc: Global, place: &MemPlace, kind: StopKind) -> Result<Option<
     Ok(None)
 }
 
-// The last call that changes something removes the file that no list has.
+/// How a log ends, the stored files, what comes of the store, and at how many moments its opening can be stopped. Each has
+/// one file then.
+type Stopped = (&'static [u8], &'static [Stored], Outcome, u64);
+
+/// The last call that changes something removes the last file that no list has. Files that were replaced go one by one.
+const STOPPED: [Stopped; 2] = [
+    (&FLUSHED, &WITH_STRAY, Outcome::Opened(2, 0, 1, 0), 11),
+    (
+        &REPLACED,
+        &[(3, 234, 234, 0), (5, 234, 234, 0), (6, 234, 234, 0)],
+        Outcome::Opened(3, 0, 1, 0),
+        13,
+    ),
+];
+
+/// Whether an opening of the store can be stopped at so many moments, and what a stop at any of them leaves is opened as
+/// the store itself.
+fn is_done_again(alloc: Global, stopped: &Stopped) -> Result<bool, Fail> {
+    let (ending, stored, outcome, moments) = stopped;
+    let whole = (*outcome, Some(1));
+    let mut place = place_of(alloc, ending, stored, &[])?;
+    if open(alloc, &mut place)? != whole || place.moments() != *moments {
+        return Ok(false);
+    }
+    for kind in [StopKind::Written, StopKind::Unwritten, StopKind::Scrambled] {
+        if first_lost(alloc, &place, kind, whole)?.is_some() {
+            return Ok(false);
+        }
+    }
+    Ok(true)
+}
+
 #[test]
 fn stopped_opening_is_done_again(rt: HostRuntime) -> Result<(), Fail> {
-    let mut place = place_of(rt.alloc(), &FLUSHED, &WITH_STRAY, &[])?;
-    let (outcome, _) = open(rt.alloc(), &mut place)?;
-    assert_eq!(rt; outcome, Outcome::Opened(2, 0, 1, 0));
-    assert_eq!(rt; place.moments(), 11);
-    for kind in [StopKind::Written, StopKind::Unwritten, StopKind::Scrambled] {
-        assert_eq!(rt; first_lost(rt.alloc(), &place, kind)?, None);
+    for stopped in &STOPPED {
+        assert!(rt; is_done_again(rt.alloc(), stopped)?);
     }
     Ok(())
 }

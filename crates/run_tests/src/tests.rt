@@ -1,4 +1,5 @@
 //! What no clause says: that runs succeed with ample memory, and worked examples.
+mod cut;
 mod examples;
 mod pages;
 mod plain_program;

@@ -8,7 +8,7 @@ use tsdb_run::{Part, Status, run};
 
 /// A run on a store: its options, its commands with `; ` between them, and its replies with ` / ` between their lines.
 /// `C` creates `root.g.d.s`, `I t v` inserts a value at a time, `S` selects all points.
-type Row = (&'static [&'static str], &'static str, &'static str);
+pub type Row = (&'static [&'static str], &'static str, &'static str);
 
 const RUN: &[&str] = &["run", "d"];
 
@@ -134,7 +134,7 @@ fn script_of(alloc: Global, row: &Row) -> Result<(String, String), Fail> {
 }
 
 /// Whether a run on the place ends well and prints what the row says.
-fn prints(alloc: Global, place: &mut MemPlace, row: &Row) -> Result<bool, Fail> {
+pub fn prints(alloc: Global, place: &mut MemPlace, row: &Row) -> Result<bool, Fail> {
     let (script, printed) = script_of(alloc, row)?;
     let words = words(alloc, row.0)?;
     let mut source = SteadySource::new(Vec::from_slice(alloc, script.as_bytes())?);
@@ -144,7 +144,7 @@ fn prints(alloc: Global, place: &mut MemPlace, row: &Row) -> Result<bool, Fail> 
 }
 
 /// How a run of the commands on the place ends.
-fn status_on(alloc: Global, place: &mut MemPlace, commands: &str) -> Result<Status, Fail> {
+pub fn status_on(alloc: Global, place: &mut MemPlace, commands: &str) -> Result<Status, Fail> {
     let words = words(alloc, RUN)?;
     let mut source = SteadySource::new(Vec::from_slice(alloc, commands.as_bytes())?);
     let mut sink = SteadySink::new(alloc);
@@ -165,7 +165,7 @@ fn place_with(
     Ok(MemPlace::new(alloc, slots, files, fails)?)
 }
 
-fn new_place(alloc: Global, fails: &[u64]) -> Result<MemPlace, Fail> {
+pub fn new_place(alloc: Global, fails: &[u64]) -> Result<MemPlace, Fail> {
     let slots = [vec![in alloc; 0]?, vec![in alloc; 0]?];
     place_with(alloc, slots, Vec::new(alloc), fails)
 }

@@ -10,7 +10,7 @@ use tsdb_run::{Part, Status, run};
 const SELECT: &str = "1 select s from root.g.d\n";
 
 /// Slot A behind the create of `root.g.d.s` and an insert of 5 at time 1.
-const SLOT: [u8; 54] = [
+pub const SLOT: [u8; 54] = [
     1, 0, 0, 0, 15, 1, 0, 10, 114, 111, 111, 116, 46, 103, 46, 100, 46, 115, 2, 0, 1, 0, 0, 0, 28,
     2, 0, 0, 0, 0, 0, 0, 0, 1, 0, 1, 0, 0, 0, 0, 0, 0, 0, 0, 2, 0, 0, 0, 0, 0, 0, 0, 5, 0,
 ];
@@ -53,7 +53,7 @@ fn expected(accepted: usize) -> &'static str {
     }
 }
 
-fn place_of(alloc: Global, slot: &[u8], fails: &[u64]) -> Result<MemPlace, Fail> {
+pub fn place_of(alloc: Global, slot: &[u8], fails: &[u64]) -> Result<MemPlace, Fail> {
     let slots = [Vec::from_slice(alloc, slot)?, vec![in alloc; 0]?];
     let fails = Fails {
         journal: Vec::from_slice(alloc, fails)?,
