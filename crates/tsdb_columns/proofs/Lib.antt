@@ -21,3 +21,4 @@ pub mod OpenParted
 pub mod CountFacts
 pub mod DueFacts
 pub mod Trees
+pub mod IndexedFacts

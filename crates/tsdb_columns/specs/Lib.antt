@@ -8,3 +8,4 @@ pub mod Props
 pub mod Walking
 pub mod Streams
 pub mod Parted
+pub mod Indexed

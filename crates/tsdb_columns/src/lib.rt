@@ -4,13 +4,15 @@
 //!
 //! A source is a file or a part in memory. Sources stand from the lowest to the highest priority, and at each time the
 //! last source with a point that no mark deletes wins. A page is read when the merge comes to it, and only where its
-//! times meet the range. So at most one page of each source is held.
+//! times meet the range. So at most one page of each source is held. The index of a file is read when a stream is opened
+//! over it, or once for the streams of many series.
 #![tactic(auto)]
 
 mod cleaning;
 mod counting;
 mod file;
 mod filling;
+mod indexed;
 mod kept;
 mod lane;
 mod lanes;
@@ -21,7 +23,8 @@ mod source;
 mod stream;
 mod walking;
 
+pub use indexed::{open_index, open_indexed};
 pub use opening::{open_column, open_parted};
 pub use pulling::pull;
-pub use source::Source;
+pub use source::{IndexedFile, Source};
 pub use stream::Stream;

@@ -1,12 +1,13 @@
 //! Opening a stream. Depends on `stream`, `file` and tsfile_reader.
 ghost use Rattle.std.specs.List.{AllZip};
-ghost use Rattle.std.specs.Prelude.{◌≡◌, ◌≤◌, All, IfOk, List, None, Some, map};
+ghost use Rattle.std.specs.Prelude.{◌≡◌, ℕ, ◌≤◌, All, IfOk, List, None, Some, map};
 ghost use Rattle.tsdb_base.specs.declared.point.Point.{Point as PointModel};
 ghost use Rattle.tsdb_base.specs.Points.{IsRising};
 ghost use Rattle.tsdb_merge.specs.Winners.{IsToldMergeOf};
 ghost use Rattle.tsdb_path.specs.Nodes.{device_of, measurement_of, node_count};
 ghost use Rattle.tsdb_columns.specs.Clean.{sources_read};
 ghost use Rattle.tsdb_columns.specs.Files.{FilePages, HasReason, IsTold, IsTruth};
+ghost use Rattle.tsdb_columns.specs.Indexed.{IsFoundIn};
 ghost use Rattle.tsdb_columns.specs.Kept.{is_kept};
 ghost use Rattle.tsdb_columns.specs.Lanes.{IsLaneOf, IsSourceOf, IsToldSource, IsTrueSource, OpensAs, source_all};
 ghost use Rattle.tsdb_columns.specs.Lanes.{source_left};
@@ -23,11 +24,35 @@ use crate::source::Source;
 use crate::stream::Stream;
 use std::alloc::Global;
 use tsdb_base::{Memory, Range, Stamp, Stats};
+use tsdb_index::IndexEntry;
 use tsdb_marks::Marks;
 use tsdb_merge::LazyMerge;
-use tsdb_outside::{Port, StoreFault};
+use tsdb_outside::{Port, ReadRight, StoreFault};
 use tsdb_path::{Name, Path};
 use tsfile_reader::find_entry;
+
+/// Begins with a file in which this was found of the series.
+pub(crate) fn lane_of<'a, R: ReadRight>(
+    alloc: Global,
+    right: &'a R,
+    born: Stamp,
+    found: Option<IndexEntry>,
+) -> Lane<'a, R>
+    ensures { (names : List ℕ × List ℕ) → IsFoundIn (R.file right.now) names found
+        → OpensAs R.file names (Source.File right.entry born) result }
+{
+    match found {
+        Some(entry) => Lane::Pages(PageLane {
+            right,
+            born,
+            in_order: are_in_order(entry.pages.items()),
+            entry,
+            passed: Vec::new(alloc),
+            next: 0,
+        }),
+        None => Lane::Part(PartLane { born, rest: &[] }),
+    }
+}
 
 /// Looks the series up in a file.
 fn open_file<'a, P: Port>(
@@ -48,15 +73,7 @@ fn open_file<'a, P: Port>(
     ensures same_store { P.store port.new ≡ P.store port.old }
 {
     match find_entry(alloc, port, right, device, measurement) {
-        Ok(Some(entry)) => Ok(Lane::Pages(PageLane {
-            right,
-            born,
-            in_order: are_in_order(entry.pages.items()),
-            entry,
-            passed: Vec::new(alloc),
-            next: 0,
-        })),
-        Ok(None) => Ok(Lane::Part(PartLane { born, rest: &[] })),
+        Ok(found) => Ok(lane_of(alloc, right, born, found)),
         Err(fault) => Err(fault_of(port, right, fault)),
     }
 }
@@ -111,7 +128,7 @@ fn open_sources<'a, P: Port>(
 }
 
 /// The device and the measurement of a series.
-fn names_of(series: &Path) -> Result<(Path, Name), Memory>
+pub(crate) fn names_of(series: &Path) -> Result<(Path, Name), Memory>
     requires nodes { 2 ≤ node_count series.now }
     ensures { IfOk result (λ names. names ≡ (device_of series.now, measurement_of series.now)) }
 {
