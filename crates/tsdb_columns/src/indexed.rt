@@ -1,5 +1,5 @@
 //! Streams over files whose indexes were read: a series is looked up in what was read of each. Depends on `opening`,
-//! `file`, `cleaning`, tsdb_index and tsfile_reader.
+//! `file`, tsdb_index and tsfile_reader.
 ghost use Rattle.std.specs.List.{AllZip};
 ghost use Rattle.std.specs.Prelude.{◌≡◌, ◌≤◌, All, IfOk, List, MatchOption, None, Some, map};
 ghost use Rattle.tsdb_base.specs.declared.point.Point.{Point as PointModel};
