@@ -14,8 +14,7 @@ use Rattle.tsdb_base.specs.declared.value.Value.{Value}
 use Rattle.tsdb_base.specs.declared.value.Value.TheVariants as value
 use Rattle.tsdb_model.specs.declared.command.Cell.{Cell}
 use Rattle.tsdb_model.specs.declared.command.Command.{Command}
-use Rattle.tsdb_model.specs.declared.command.Command.TheVariants.{Create, Insert, Delete, Select, Flush, CompactInner}
-use Rattle.tsdb_model.specs.declared.command.Command.TheVariants.{CompactCross, ShowFiles}
+use Rattle.tsdb_model.specs.declared.command.Command.TheVariants.{Create, Insert, Delete, Select}
 use Rattle.tsdb_model.specs.declared.command.Item.{Item}
 use Rattle.tsdb_model.specs.declared.command.Literal.{Literal}
 use Rattle.tsdb_model.specs.declared.command.Literal.TheVariants as literal
@@ -45,10 +44,6 @@ series_of world device measurement = get world (child_of device measurement)
 abbrev pub are_there : World → List ℕ → List (List ℕ) → Bool
 are_there world device names = list_all (λ name. is_some (series_of world device name)) names
 
--- CREATE: a series without points, where none is there
-abbrev pub create_answer : World → List ℕ → Answer
-create_answer world path = if contains_key world path then Exists else Done
-
 -- INSERT: a literal fits the type of its series
 abbrev pub fits_series : Literal → Option Series → Bool
 fits_series literal None = false
@@ -77,10 +72,6 @@ put_cells world device time [] = world
 put_cells world device time (cell ∷ cells) =
     put_cells (change world (child_of device cell.measurement) (put_literal time cell.value)) device time cells
 
--- DELETE: the times in the range are gone
-abbrev pub delete_answer : World → List ℕ → Answer
-delete_answer world path = if contains_key world path then Done else NoPath
-
 -- SELECT: the points in the range of the items' series, in the order of the items
 abbrev pub columns_of : World → List ℕ → List Item → Range → List Points
 columns_of world device items range =
@@ -98,9 +89,8 @@ item_values world device items range =
 -- values of this type are not in the order of numbers
 abbrev pub is_unordered : DataType → Bool
 is_unordered Boolean = true
-is_unordered Int32 = false
-is_unordered Int64 = false
 is_unordered Text = true
+is_unordered data_type = false
 
 -- the least or the greatest value is asked of a series that has no numbers
 abbrev pub is_unfit : Option Aggregate → Option Series → Bool
@@ -123,27 +113,21 @@ select_reply world device items range =
     else Lines (rows (columns_of world device items range)))
     else Plain NoPath
 
--- what the map answers to a command
+-- what the map answers to a command: it creates a series where none is there, and deletes points where one is
 abbrev pub reply_of : World → Command → Reply
-reply_of world (Create schema) = Plain (create_answer world schema.path)
+reply_of world (Create schema) = Plain (if contains_key world schema.path then Exists else Done)
 reply_of world (Insert device row) = Plain (insert_answer world device row.cells)
-reply_of world (Delete series range) = Plain (delete_answer world series)
+reply_of world (Delete series range) = Plain (if contains_key world series then Done else NoPath)
 reply_of world (Select device items range) = select_reply world device items range
-reply_of world Flush = Plain Done
-reply_of world (CompactInner space) = Plain Done
-reply_of world CompactCross = Plain Done
-reply_of world ShowFiles = Plain Done
+reply_of world command = Plain Done
 
--- the world after a command that is accepted
+-- the world after a command that is accepted: a new series without points, a row's cells, the range's times gone, or
+-- the same world
 abbrev pub accepted : World → Command → World
 accepted world (Create schema) = insert world schema.path (new_series schema.data_type)
 accepted world (Insert device row) = put_cells world device row.time row.cells
 accepted world (Delete series range) = change world series (cut range)
-accepted world (Select device items range) = world
-accepted world Flush = world
-accepted world (CompactInner space) = world
-accepted world CompactCross = world
-accepted world ShowFiles = world
+accepted world command = world
 
 -- the world after a command that is answered so: only an accepted one changes it
 abbrev pub after_reply : World → Command → Reply → World

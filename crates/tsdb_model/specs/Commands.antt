@@ -24,9 +24,9 @@ pub record IsSchema (schema : Schema) : Type 0 where
   pub series : IsSeries schema.path
   pub suits : IsTrue (is_suitable schema.data_type schema.encoding)
 
--- no name stands at two places
-abbrev pub AreDifferent : List (List ℕ) → Type 0
-AreDifferent names = (i j : ℕ) (name : List ℕ) → slice_get names i ≡ Some name → slice_get names j ≡ Some name → i ≡ j
+-- nothing stands at two places
+abbrev pub AreDifferent : {A : Type 0} → List A → Type 0
+AreDifferent {A} list = (i j : ℕ) (x : A) → slice_get list i ≡ Some x → slice_get list j ≡ Some x → i ≡ j
 
 -- 1 to 1,000 cells of different measurements
 pub record IsRow (row : Row) : Type 0 where

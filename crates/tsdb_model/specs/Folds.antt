@@ -36,15 +36,13 @@ rows columns = map (line_at columns) (times_of columns)
 
 -- the number that a value is; a boolean and a text are none
 abbrev pub number_of : Value → Option ℤ
-number_of (value.Bool b) = None
 number_of (value.I32 number) = Some number
 number_of (value.I64 number) = Some number
-number_of (value.Text bytes) = None
+number_of value = None
 
 abbrev pub is_number_below : Option ℤ → Option ℤ → Bool
-is_number_below None b = false
-is_number_below (Some a) None = false
 is_number_below (Some a) (Some b) = int_lt a b
+is_number_below a b = false
 
 -- both are numbers, and the first is less than the second
 abbrev pub is_less : Value → Value → Bool

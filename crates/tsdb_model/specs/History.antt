@@ -3,7 +3,7 @@
 use Rattle.std.specs.Prelude.{◌≡◌, ◌≢◌, ◌⊎◌, ℕ, ◌+◌, ◌<◌, List, [], ◌∷◌}
 use Rattle.tsdb_base.specs.declared.answers.Answer.TheVariants.{Done, Device, Memory, Full}
 use Rattle.tsdb_model.specs.declared.command.Command.{Command}
-use Rattle.tsdb_model.specs.declared.command.Command.TheVariants.{Create, Insert, Delete, Select, Flush, CompactInner}
+use Rattle.tsdb_model.specs.declared.command.Command.TheVariants.{Create, Insert, Delete, Flush, CompactInner}
 use Rattle.tsdb_model.specs.declared.command.Command.TheVariants.{CompactCross, ShowFiles}
 use Rattle.tsdb_model.specs.declared.reply.Reply.{Reply}
 use Rattle.tsdb_model.specs.declared.reply.Reply.TheVariants.{Plain, Files}
@@ -21,11 +21,7 @@ abbrev pub raise : Command → ℕ
 raise (Create schema) = 1
 raise (Insert device row) = 1
 raise (Delete series range) = 1
-raise (Select device items range) = 0
-raise Flush = 0
-raise (CompactInner space) = 0
-raise CompactCross = 0
-raise ShowFiles = 0
+raise command = 0
 
 -- a create, an insert or a delete
 abbrev pub IsChange : Command → Type 0
@@ -33,14 +29,11 @@ IsChange command = raise command ≡ 1
 
 -- a command that may draw numbers for files
 abbrev pub DrawsNumbers : Command → Type 0
-DrawsNumbers (Create schema) = ⊥
 DrawsNumbers (Insert device row) = Unit {0}
-DrawsNumbers (Delete series range) = ⊥
-DrawsNumbers (Select device items range) = ⊥
 DrawsNumbers Flush = Unit {0}
 DrawsNumbers (CompactInner space) = Unit {0}
 DrawsNumbers CompactCross = Unit {0}
-DrawsNumbers ShowFiles = ⊥
+DrawsNumbers command = ⊥
 
 -- the map accepts the command, and its stamp can rise no further
 pub record IsStampFull (state : State) (command : Command) (counter : ℕ) : Type 0 where

@@ -1,5 +1,6 @@
 -- A state of the plain model: a world, and how many commands have changed it. And the listings that it may have.
-use Rattle.std.specs.Prelude.{◌≡◌, ℕ, ◌≤◌, ◌≤ℤ◌, List, [], All, slice_get, Some}
+use Rattle.std.specs.Prelude.{◌≡◌, ℕ, ◌≤◌, ◌≤ℤ◌, [], All, map}
+use Rattle.tsdb_model.specs.Commands.{AreDifferent}
 use Rattle.tsdb_model.specs.declared.reply.FileLine.{FileLine}
 use Rattle.tsdb_model.specs.declared.reply.Listing.{Listing}
 use Rattle.tsdb_model.specs.World.{World, HasNoPoint}
@@ -21,14 +22,9 @@ pub record ListsNothing (listing : Listing) : Type 0 where
   pub frozen : listing.frozen ≡ 0
   pub working : All (λ points. points ≡ 0) listing.working
 
--- no number stands at two places
-abbrev pub HaveDifferentNumbers : List FileLine → Type 0
-HaveDifferentNumbers files = (i j : ℕ) (a b : FileLine)
-    → slice_get files i ≡ Some a → slice_get files j ≡ Some b → a.number ≡ b.number → i ≡ j
-
 -- a listing that a store with this world and this stamp may have
 pub record IsPossible (state : State) (listing : Listing) : Type 0 where
-  pub numbers : HaveDifferentNumbers listing.files
+  pub numbers : AreDifferent (map (λ file. file.number.0) listing.files)
   pub files : All (IsFileLine state.stamp) listing.files
   pub frozen : listing.frozen ≤ 2
   pub nothing : ListsNothing listing → HasNoPoint state.world

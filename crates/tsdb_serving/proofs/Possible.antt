@@ -7,7 +7,6 @@ use Rattle.std.specs.FinMap.{get, len, len-insert, remove}
 use Rattle.std.specs.List.{AllByRecursion as Each, AllZip}
 use Rattle.std.specs.Option.{option_or}
 use Rattle.std.specs.Prelude.{◌==◌, is_some, slice_get}
-use Rattle.tsdb_base.specs.declared.ids.FileNumber.{FileNumber}
 use Rattle.tsdb_base.specs.declared.ids.Space.{Space}
 use Rattle.tsdb_base.specs.declared.ids.Space.TheVariants.{Sequence, Unsequence}
 use Rattle.tsdb_base.specs.declared.value.Value.{Value}
@@ -19,8 +18,9 @@ use Rattle.tsdb_layers.specs.Lists.{count}
 use Rattle.tsdb_layers.specs.Marks.{survives}
 use Rattle.tsdb_layers.specs.Places.{Content, Place}
 use Rattle.tsdb_listing.specs.Listings.{TellsFile}
+use Rattle.tsdb_model.specs.Commands.{AreDifferent}
 use Rattle.tsdb_model.specs.State as plain
-use Rattle.tsdb_model.specs.State.{HaveDifferentNumbers, IsFileLine, IsPossible, ListsNothing}
+use Rattle.tsdb_model.specs.State.{IsFileLine, IsPossible, ListsNothing}
 use Rattle.tsdb_model.specs.World.{HasNoPoint}
 use Rattle.tsdb_model.specs.declared.reply.FileLine.{FileLine}
 use Rattle.tsdb_model.specs.declared.reply.Listing.{Listing}
@@ -116,15 +116,6 @@ one_place (x ∷ numbers) once (suc i) (suc j) n m at other same =
 abbrev line_number : FileLine → ℕ
 line_number line = line.number.0
 
-number_at : (lines : List FileLine) (i : ℕ) (line : FileLine) → slice_get lines i ≡ Some line
-    → slice_get (map line_number lines) i ≡ Some (line_number line)
-number_at [] i line at = absurd cc
-number_at (x ∷ lines) zero line at = by at
-  where
-    by : Some x ≡ Some line → Some (line_number x) ≡ Some (line_number line)
-    by is = cc
-number_at (x ∷ lines) (suc i) line at = number_at lines i line at
-
 module _ (told : Told) (known : Entries) (named : List ℕ) (state : EngineState) (order : IsInOrder told known named state)
     (at : plain.State) (stands : StandsFor told state.store at.world) (stamp : state.store.stamp ≡ at.stamp)
     (listing : Listing) (lists : ListsStore told state.store listing) where
@@ -153,9 +144,8 @@ module _ (told : Told) (known : Entries) (named : List ℕ) (state : EngineState
       let same = ap (count n) all_numbers in
       omega (arith, few, parts, joined, same)
 
-  differ : HaveDifferentNumbers listing.files
-  differ i j a b is other same = one_place (map line_number listing.files) once i j (line_number a) (line_number b)
-      (number_at listing.files i a is) (number_at listing.files j b other) (ap (λ (number : FileNumber). number.0) same)
+  differ : AreDifferent (map line_number listing.files)
+  differ i j n is other = one_place (map line_number listing.files) once i j n n is other refl
 
   -- each line is of a file with a point
   line_of : (space : Space) (file : File) (line : FileLine) → TellsFile told space file line → file.born ≤ state.store.stamp

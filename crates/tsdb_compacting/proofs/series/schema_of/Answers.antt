@@ -15,4 +15,4 @@ returns c =
       path = path;
       data_type = series.data_type;
       encoding = series.encoding;
-    })) (sym c.in-Ok.ensures))
+    })) (sym c.in_ok-copy.ensures))

@@ -9,9 +9,9 @@ pub loop-asked-init : goal.loop-asked-init
 loop-asked-init c = c.in_ok-paths.ensures.items
 
 pub loop-asked-preserved : goal.loop-asked-preserved
-loop-asked-preserved c = path_added c.args.all.now c.loop-asked.asked-index c.asked-item.result c.in-Ok.path
+loop-asked-preserved c = path_added c.args.all.now c.loop-asked.asked-index c.asked-item.result c.in_ok-copy.field-0
     c.loop-asked.paths.items c.push.new.self.items c.loop-asked-test.true c.asked-item.is c.loop-asked.invariant
-    c.in-Ok.ensures c.in_ok-push.ensures.items
+    c.in_ok-copy.ensures c.in_ok-push.ensures.items
 
 pub returns : goal.returns
 returns c = subst (λ l. IfOk c.only.result (λ marks. marks.marks ≡ filter (is_of l) c.args.memory.now.marks.marks))

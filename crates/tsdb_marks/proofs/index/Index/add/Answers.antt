@@ -25,5 +25,5 @@ returns-in-Some-clause-err c = on_err_weaker c.add.result (λ kept. λ other.
 
 pub returns-clause-others : goal.returns-clause-others
 returns-clause-others c = λ other ne.
-    at_other c.in-Ok.path other (is_path c.in-Ok.path other) _ _ _ refl (λ e. ne (sym c.in-Ok.ensures ∙ e)) (c.in_ok-insert.ensures.updates.0 other)
+    at_other c.in_ok-copy.field-0 other (is_path c.in_ok-copy.field-0 other) _ _ _ refl (λ e. ne (sym c.in_ok-copy.ensures ∙ e)) (c.in_ok-insert.ensures.updates.0 other)
     ∙ ap (λ m. at m.entries other) c.get_mut.follows.holds-at-none
