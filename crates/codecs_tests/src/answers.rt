@@ -5,6 +5,18 @@ use tsdb_base::{DecodeFault, Memory};
 /// The most values of a list.
 pub const MAX_VALUES: usize = 1000;
 
+/// The bytes that a call appends to none.
+pub fn appended<F: FnOnce(&mut Vec<u8>) -> Result<(), Memory>>(
+    alloc: Global,
+    append: F,
+) -> Result<Vec<u8>, Memory>
+    requires { (into : _) → F.pre append into }
+{
+    let mut bytes = Vec::new(alloc);
+    append(&mut bytes)?;
+    Ok(bytes)
+}
+
 /// Whether these bytes were written.
 pub fn is_written(written: Result<Vec<u8>, Memory>, bytes: &[u8]) -> bool {
     match written {

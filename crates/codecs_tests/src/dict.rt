@@ -1,11 +1,13 @@
 //! The DICTIONARY encoding. It depends on `enc_dict`.
 ghost use Rattle.std.specs.Prelude.{◌<◌};
 
-use crate::answers::{Agrees, MAX_VALUES, first_wrong_string, is_bad, is_read, is_written};
-use enc_dict::{decode_text, encode_text};
+use crate::answers::{
+    Agrees, MAX_VALUES, appended, first_wrong_string, is_bad, is_read, is_written,
+};
+use enc_dict::{decode_text, encode_text_into};
 use std::alloc::Global;
 use std::test::Fail;
-use tsdb_base::Text;
+use tsdb_base::{Memory, Text};
 
 /// Lists of texts of one byte, and their bytes.
 const EXAMPLES: [(&[u8], &[u8]); 4] = [
@@ -24,11 +26,21 @@ fn texts(alloc: Global, bytes: &[u8]) -> Result<Vec<Text>, Fail> {
     Ok(texts)
 }
 
+/// The bytes of at most 1,000 values. For more there is no room.
+fn written(alloc: Global, values: &[Text]) -> Result<Vec<u8>, Memory> {
+    let mut lent = Vec::with_capacity(alloc, values.len())?;
+    for text in values {
+        lent.push(text)?;
+    }
+    if lent.len() > MAX_VALUES {
+        return Err(Memory);
+    }
+    appended(alloc, |into| encode_text_into(alloc, &lent, into))
+}
+
 /// Whether the values are written as these bytes, and read from them.
 fn is_pair(alloc: Global, values: &[Text], bytes: &[u8]) -> bool {
-    values.len() <= MAX_VALUES
-        && is_written(encode_text(alloc, values), bytes)
-        && is_read(decode_text(alloc, bytes), values)
+    is_written(written(alloc, values), bytes) && is_read(decode_text(alloc, bytes), values)
 }
 
 /// The place of the first list that is not written or read so.
@@ -94,10 +106,7 @@ fn many(alloc: Global, count: u16, different: u16) -> Result<Vec<Text>, Fail>
 
 /// Whether the values are read from their bytes, which are so many.
 fn comes_back(alloc: Global, values: &[Text], bytes: Option<usize>) -> bool {
-    if values.len() > MAX_VALUES {
-        return false;
-    }
-    match encode_text(alloc, values) {
+    match written(alloc, values) {
         Ok(written) => {
             bytes.is_none_or(|len| len == written.len())
                 && is_read(decode_text(alloc, &written), values)
@@ -160,10 +169,7 @@ fn texts_with_one_hint(alloc: Global) -> Result<Vec<Text>, Fail> {
 
 /// How the bytes of a list of texts begin.
 fn first_bytes(alloc: Global, values: &[Text]) -> Option<[u8; 4]> {
-    if values.len() > MAX_VALUES {
-        return None;
-    }
-    match encode_text(alloc, values) {
+    match written(alloc, values) {
         Ok(written) => match written.as_slice() {
             [a, b, c, d, ..] => Some([*a, *b, *c, *d]),
             _ => None,

@@ -1,10 +1,10 @@
 //! The PLAIN encoding. It depends on `enc_plain`.
 use crate::answers::{
-    Agrees, MAX_VALUES, first_wrong_string, is_bad, is_read, is_written, too_many,
+    Agrees, MAX_VALUES, appended, first_wrong_string, is_bad, is_read, is_written, too_many,
 };
 use enc_plain::{
-    decode_bool, decode_i32, decode_i64, decode_text, encode_bool, encode_i32, encode_i64,
-    encode_text,
+    decode_bool, decode_i32, decode_i64, decode_text, encode_bool_into, encode_i32_into,
+    encode_i64_into, encode_text_into,
 };
 use std::alloc::{AllocError, Global};
 use std::test::Fail;
@@ -13,28 +13,34 @@ use tsdb_base::{DecodeFault, Text};
 /// Whether the values are written as these bytes, and read from them.
 fn is_truth_pair(alloc: Global, values: &[bool], bytes: &[u8]) -> bool {
     values.len() <= MAX_VALUES
-        && is_written(encode_bool(alloc, values), bytes)
+        && is_written(
+            appended(alloc, |into| encode_bool_into(values, into)),
+            bytes,
+        )
         && is_read(decode_bool(alloc, bytes), values)
 }
 
 /// The same for INT32 values.
 fn is_narrow_pair(alloc: Global, values: &[i32], bytes: &[u8]) -> bool {
     values.len() <= MAX_VALUES
-        && is_written(encode_i32(alloc, values), bytes)
+        && is_written(appended(alloc, |into| encode_i32_into(values, into)), bytes)
         && is_read(decode_i32(alloc, bytes), values)
 }
 
 /// The same for INT64 values.
 fn is_pair(alloc: Global, values: &[i64], bytes: &[u8]) -> bool {
     values.len() <= MAX_VALUES
-        && is_written(encode_i64(alloc, values), bytes)
+        && is_written(appended(alloc, |into| encode_i64_into(values, into)), bytes)
         && is_read(decode_i64(alloc, bytes), values)
 }
 
 /// The same for TEXT values.
 fn is_text_pair(alloc: Global, values: &[Text], bytes: &[u8]) -> bool {
     values.len() <= MAX_VALUES
-        && is_written(encode_text(alloc, values), bytes)
+        && is_written(
+            appended(alloc, |into| encode_text_into(values, into)),
+            bytes,
+        )
         && is_read(decode_text(alloc, bytes), values)
 }
 
@@ -135,7 +141,7 @@ fn truths_come_back(alloc: Global, values: &[bool]) -> bool {
     if values.len() > MAX_VALUES {
         return false;
     }
-    match encode_bool(alloc, values) {
+    match appended(alloc, |into| encode_bool_into(values, into)) {
         Ok(bytes) => is_read(decode_bool(alloc, &bytes), values),
         Err(_) => false,
     }
@@ -145,7 +151,7 @@ fn narrow_comes_back(alloc: Global, values: &[i32]) -> bool {
     if values.len() > MAX_VALUES {
         return false;
     }
-    match encode_i32(alloc, values) {
+    match appended(alloc, |into| encode_i32_into(values, into)) {
         Ok(bytes) => is_read(decode_i32(alloc, &bytes), values),
         Err(_) => false,
     }
@@ -155,7 +161,7 @@ fn comes_back(alloc: Global, values: &[i64]) -> bool {
     if values.len() > MAX_VALUES {
         return false;
     }
-    match encode_i64(alloc, values) {
+    match appended(alloc, |into| encode_i64_into(values, into)) {
         Ok(bytes) => is_read(decode_i64(alloc, &bytes), values),
         Err(_) => false,
     }
@@ -165,7 +171,7 @@ fn texts_come_back(alloc: Global, values: &[Text]) -> bool {
     if values.len() > MAX_VALUES {
         return false;
     }
-    match encode_text(alloc, values) {
+    match appended(alloc, |into| encode_text_into(values, into)) {
         Ok(bytes) => is_read(decode_text(alloc, &bytes), values),
         Err(_) => false,
     }

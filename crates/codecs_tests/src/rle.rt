@@ -1,29 +1,34 @@
 //! Run-length encoding. It depends on `enc_rle`.
 use crate::answers::{
-    Agrees, MAX_VALUES, first_wrong_string, is_bad, is_read, is_short, is_written,
+    Agrees, MAX_VALUES, appended, first_wrong_string, is_bad, is_read, is_short, is_written,
 };
-use enc_rle::{decode_bool, decode_i32, decode_i64, encode_bool, encode_i32, encode_i64};
+use enc_rle::{
+    decode_bool, decode_i32, decode_i64, encode_bool_into, encode_i32_into, encode_i64_into,
+};
 use std::alloc::{AllocError, Global};
 use std::test::Fail;
 
 /// Whether the values are written as these bytes, and read from them.
 fn is_pair(alloc: Global, values: &[i64], bytes: &[u8]) -> bool {
     values.len() <= MAX_VALUES
-        && is_written(encode_i64(alloc, values), bytes)
+        && is_written(appended(alloc, |into| encode_i64_into(values, into)), bytes)
         && is_read(decode_i64(alloc, bytes), values)
 }
 
 /// The same for INT32 values.
 fn is_narrow_pair(alloc: Global, values: &[i32], bytes: &[u8]) -> bool {
     values.len() <= MAX_VALUES
-        && is_written(encode_i32(alloc, values), bytes)
+        && is_written(appended(alloc, |into| encode_i32_into(values, into)), bytes)
         && is_read(decode_i32(alloc, bytes), values)
 }
 
 /// The same for BOOLEAN values.
 fn is_truth_pair(alloc: Global, values: &[bool], bytes: &[u8]) -> bool {
     values.len() <= MAX_VALUES
-        && is_written(encode_bool(alloc, values), bytes)
+        && is_written(
+            appended(alloc, |into| encode_bool_into(values, into)),
+            bytes,
+        )
         && is_read(decode_bool(alloc, bytes), values)
 }
 
@@ -92,7 +97,7 @@ fn comes_back(alloc: Global, values: &[i64]) -> bool {
     if values.len() > MAX_VALUES {
         return false;
     }
-    match encode_i64(alloc, values) {
+    match appended(alloc, |into| encode_i64_into(values, into)) {
         Ok(bytes) => is_read(decode_i64(alloc, &bytes), values),
         Err(_) => false,
     }
@@ -102,7 +107,7 @@ fn narrow_comes_back(alloc: Global, values: &[i32]) -> bool {
     if values.len() > MAX_VALUES {
         return false;
     }
-    match encode_i32(alloc, values) {
+    match appended(alloc, |into| encode_i32_into(values, into)) {
         Ok(bytes) => is_read(decode_i32(alloc, &bytes), values),
         Err(_) => false,
     }
@@ -112,7 +117,7 @@ fn truths_come_back(alloc: Global, values: &[bool]) -> bool {
     if values.len() > MAX_VALUES {
         return false;
     }
-    match encode_bool(alloc, values) {
+    match appended(alloc, |into| encode_bool_into(values, into)) {
         Ok(bytes) => is_read(decode_bool(alloc, &bytes), values),
         Err(_) => false,
     }

@@ -1,8 +1,8 @@
 //! TS_2DIFF. It depends on `enc_ts2diff`.
 use crate::answers::{
-    Agrees, MAX_VALUES, first_wrong_string, is_bad, is_read, is_short, is_written,
+    Agrees, MAX_VALUES, appended, first_wrong_string, is_bad, is_read, is_short, is_written,
 };
-use enc_ts2diff::{decode_i32, decode_i64, encode_i32, encode_i64};
+use enc_ts2diff::{decode_i32, decode_i64, encode_i32_into, encode_i64_into};
 use std::alloc::{AllocError, Global};
 use std::test::Fail;
 
@@ -32,14 +32,20 @@ const EXAMPLES: [(&[i64], &[u8]); 6] = [
 /// Whether the values are written as these bytes, and read from them.
 fn is_pair(alloc: Global, values: &[i64], bytes: &[u8]) -> bool {
     values.len() <= MAX_VALUES
-        && is_written(encode_i64(alloc, values), bytes)
+        && is_written(
+            appended(alloc, |into| encode_i64_into(alloc, values, into)),
+            bytes,
+        )
         && is_read(decode_i64(alloc, bytes), values)
 }
 
 /// The same for INT32 values.
 fn is_narrow_pair(alloc: Global, values: &[i32], bytes: &[u8]) -> bool {
     values.len() <= MAX_VALUES
-        && is_written(encode_i32(alloc, values), bytes)
+        && is_written(
+            appended(alloc, |into| encode_i32_into(alloc, values, into)),
+            bytes,
+        )
         && is_read(decode_i32(alloc, bytes), values)
 }
 
@@ -127,7 +133,7 @@ fn comes_back(alloc: Global, values: &[i64]) -> bool {
     if values.len() > MAX_VALUES {
         return false;
     }
-    match encode_i64(alloc, values) {
+    match appended(alloc, |into| encode_i64_into(alloc, values, into)) {
         Ok(bytes) => is_read(decode_i64(alloc, &bytes), values),
         Err(_) => false,
     }
@@ -137,7 +143,7 @@ fn narrow_comes_back(alloc: Global, values: &[i32]) -> bool {
     if values.len() > MAX_VALUES {
         return false;
     }
-    match encode_i32(alloc, values) {
+    match appended(alloc, |into| encode_i32_into(alloc, values, into)) {
         Ok(bytes) => is_read(decode_i32(alloc, &bytes), values),
         Err(_) => false,
     }

@@ -74,17 +74,6 @@ pub fn encode_text_into(alloc: Global, values: &[&Text], into: &mut Vec<u8>) -> 
     outcome
 }
 
-/// The bytes of at most 1,000 TEXT values.
-pub fn encode_text(alloc: Global, values: &[Text]) -> Result<Vec<u8>, Memory>
-    requires { length values.now ≤ max_values }
-    ensures { IfOk result (λ bytes. bytes.items ≡ spelling values.now) }
-{
-    let texts = lend(alloc, values)?;
-    let mut bytes = Vec::new(alloc);
-    encode_text_into(alloc, &texts, &mut bytes)?;
-    Ok(bytes)
-}
-
 /// Lends each text.
 pub fn lend(alloc: Global, texts: &[Text]) -> Result<Vec<&Text>, Memory>
     ensures { IfOk result (λ list. lent list.items ≡ texts.now) }

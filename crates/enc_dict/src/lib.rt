@@ -8,6 +8,6 @@ mod encode;
 mod laws;
 
 pub use decode::decode_text;
-pub use encode::{encode_text, encode_text_into};
+pub use encode::encode_text_into;
 pub use laws::{one_spelling, spelling_is_short};
 pub use tsdb_base::{DecodeFault, Memory};

@@ -1,10 +1,9 @@
 //! From lists to bytes. It depends on `tsdb_base` and `tsdb_bits`.
-ghost use Rattle.std.specs.Prelude.{◌≡◌, ◌≤◌, ◌++◌, length, take, vec_len, IfOk, OnOk, OnErr};
+ghost use Rattle.std.specs.Prelude.{◌≡◌, ◌≤◌, ◌++◌, length, take, vec_len, OnOk, OnErr};
 ghost use Rattle.tsdb_base.specs.Limits.{max_values};
 ghost use Rattle.tsdb_base.specs.Plain.{plain_bool, plain_i32, plain_i64, plain_text};
 ghost use Rattle.enc_plain.specs.Spelling.{spelling};
 
-use std::alloc::Global;
 use tsdb_base::{Memory, PlainValue, Text, put_all};
 use tsdb_bits::put_leb;
 
@@ -42,46 +41,6 @@ pub fn encode_text_into(values: &[Text], into: &mut Vec<u8>) -> Result<(), Memor
     ensures memory { OnErr result (into.new.items ≡ into.old.items) }
 {
     encode_into(values, into)
-}
-
-/// The bytes of at most 1,000 BOOLEAN values.
-pub fn encode_bool(alloc: Global, values: &[bool]) -> Result<Vec<u8>, Memory>
-    requires { length values.now ≤ max_values }
-    ensures { IfOk result (λ bytes. bytes.items ≡ spelling plain_bool values.now) }
-{
-    let mut bytes = Vec::new(alloc);
-    encode_bool_into(values, &mut bytes)?;
-    Ok(bytes)
-}
-
-/// The bytes of at most 1,000 INT32 values.
-pub fn encode_i32(alloc: Global, values: &[i32]) -> Result<Vec<u8>, Memory>
-    requires { length values.now ≤ max_values }
-    ensures { IfOk result (λ bytes. bytes.items ≡ spelling plain_i32 values.now) }
-{
-    let mut bytes = Vec::new(alloc);
-    encode_i32_into(values, &mut bytes)?;
-    Ok(bytes)
-}
-
-/// The bytes of at most 1,000 INT64 values.
-pub fn encode_i64(alloc: Global, values: &[i64]) -> Result<Vec<u8>, Memory>
-    requires { length values.now ≤ max_values }
-    ensures { IfOk result (λ bytes. bytes.items ≡ spelling plain_i64 values.now) }
-{
-    let mut bytes = Vec::new(alloc);
-    encode_i64_into(values, &mut bytes)?;
-    Ok(bytes)
-}
-
-/// The bytes of at most 1,000 TEXT values.
-pub fn encode_text(alloc: Global, values: &[Text]) -> Result<Vec<u8>, Memory>
-    requires { length values.now ≤ max_values }
-    ensures { IfOk result (λ bytes. bytes.items ≡ spelling plain_text values.now) }
-{
-    let mut bytes = Vec::new(alloc);
-    encode_text_into(values, &mut bytes)?;
-    Ok(bytes)
 }
 
 fn encode_into<T: PlainValue>(values: &[T], into: &mut Vec<u8>) -> Result<(), Memory>

@@ -7,9 +7,6 @@ mod encode;
 mod laws;
 
 pub use decode::{decode_bool, decode_i32, decode_i64, decode_text};
-pub use encode::{
-    encode_bool, encode_bool_into, encode_i32, encode_i32_into, encode_i64, encode_i64_into,
-    encode_text, encode_text_into,
-};
+pub use encode::{encode_bool_into, encode_i32_into, encode_i64_into, encode_text_into};
 pub use laws::{one_spelling, spelling_is_short};
 pub use tsdb_base::{DecodeFault, Memory};

@@ -1,13 +1,12 @@
 //! From lists to bytes. It depends on `tsdb_bits` and on the codes.
 
-ghost use Rattle.std.specs.Prelude.{◌≡◌, ◌≤◌, ◌++◌, length, map, take, vec_len, IfOk, OnOk, OnErr};
+ghost use Rattle.std.specs.Prelude.{◌≡◌, ◌≤◌, ◌++◌, length, map, take, vec_len, OnOk, OnErr};
 ghost use Rattle.tsdb_base.specs.Limits.{max_values};
 ghost use Rattle.tsdb_bits.specs.Leb.{leb};
 ghost use Rattle.tsdb_bits.specs.Zigzag.{zigzag};
 ghost use Rattle.enc_rle.specs.Spelling.{bool_code, spelling};
 
 use crate::coded::Coded;
-use std::alloc::Global;
 use tsdb_base::Memory;
 use tsdb_bits::put_leb;
 
@@ -36,36 +35,6 @@ pub fn encode_i64_into(values: &[i64], into: &mut Vec<u8>) -> Result<(), Memory>
     ensures memory { OnErr result (into.new.items ≡ into.old.items) }
 {
     encode_into(values, into)
-}
-
-/// The bytes of at most 1,000 BOOLEAN values.
-pub fn encode_bool(alloc: Global, values: &[bool]) -> Result<Vec<u8>, Memory>
-    requires { length values.now ≤ max_values }
-    ensures { IfOk result (λ bytes. bytes.items ≡ spelling bool_code values.now) }
-{
-    let mut bytes = Vec::new(alloc);
-    encode_bool_into(values, &mut bytes)?;
-    Ok(bytes)
-}
-
-/// The bytes of at most 1,000 INT32 values.
-pub fn encode_i32(alloc: Global, values: &[i32]) -> Result<Vec<u8>, Memory>
-    requires { length values.now ≤ max_values }
-    ensures { IfOk result (λ bytes. bytes.items ≡ spelling zigzag values.now) }
-{
-    let mut bytes = Vec::new(alloc);
-    encode_i32_into(values, &mut bytes)?;
-    Ok(bytes)
-}
-
-/// The bytes of at most 1,000 INT64 values.
-pub fn encode_i64(alloc: Global, values: &[i64]) -> Result<Vec<u8>, Memory>
-    requires { length values.now ≤ max_values }
-    ensures { IfOk result (λ bytes. bytes.items ≡ spelling zigzag values.now) }
-{
-    let mut bytes = Vec::new(alloc);
-    encode_i64_into(values, &mut bytes)?;
-    Ok(bytes)
 }
 
 fn encode_into<T: Coded>(values: &[T], into: &mut Vec<u8>) -> Result<(), Memory>

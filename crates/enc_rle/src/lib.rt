@@ -8,8 +8,6 @@ mod encode;
 mod laws;
 
 pub use decode::{decode_bool, decode_i32, decode_i64};
-pub use encode::{
-    encode_bool, encode_bool_into, encode_i32, encode_i32_into, encode_i64, encode_i64_into,
-};
+pub use encode::{encode_bool_into, encode_i32_into, encode_i64_into};
 pub use laws::{one_spelling, runs_are_joined, spelling_is_short};
 pub use tsdb_base::{DecodeFault, Memory};

@@ -38,26 +38,6 @@ pub fn encode_i32_into(alloc: Global, values: &[i32], into: &mut Vec<u8>) -> Res
     encode_i64_into(alloc, &wide, into)
 }
 
-/// The bytes of at most 1,000 INT64 values.
-pub fn encode_i64(alloc: Global, values: &[i64]) -> Result<Vec<u8>, Memory>
-    requires { length values.now ≤ max_values }
-    ensures { IfOk result (λ bytes. bytes.items ≡ spelling values.now) }
-{
-    let mut bytes = Vec::new(alloc);
-    encode_i64_into(alloc, values, &mut bytes)?;
-    Ok(bytes)
-}
-
-/// The bytes of at most 1,000 INT32 values: those of the same numbers as INT64 values.
-pub fn encode_i32(alloc: Global, values: &[i32]) -> Result<Vec<u8>, Memory>
-    requires { length values.now ≤ max_values }
-    ensures { IfOk result (λ bytes. bytes.items ≡ spelling values.now) }
-{
-    let mut bytes = Vec::new(alloc);
-    encode_i32_into(alloc, values, &mut bytes)?;
-    Ok(bytes)
-}
-
 /// Appends the bytes. After `Memory` some of them may stand behind what was there.
 fn append(alloc: Global, values: &[i64], into: &mut Vec<u8>) -> Result<(), Memory>
     ensures ok { OnOk result (into.new.items ≡ into.old.items ++ spelling values.now) }

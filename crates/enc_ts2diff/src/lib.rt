@@ -7,6 +7,6 @@ mod encode;
 mod laws;
 
 pub use decode::{decode_i32, decode_i64};
-pub use encode::{encode_i32, encode_i32_into, encode_i64, encode_i64_into};
+pub use encode::{encode_i32_into, encode_i64_into};
 pub use laws::{one_spelling, spelling_is_short};
 pub use tsdb_base::{DecodeFault, Memory};

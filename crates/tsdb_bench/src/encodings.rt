@@ -6,7 +6,7 @@ use crate::fault::Fault;
 use crate::numbers::next;
 use crate::table::{Rounds, row};
 use std::time::Instant;
-use tsdb_base::Text;
+use tsdb_base::{Memory, Text};
 
 /// The values of a page.
 const PAGE: u64 = 1000;
@@ -63,6 +63,18 @@ pub fn encodings(rt: &HostRuntime, rounds: Rounds) -> Result<u64, Fault> {
     Ok(check.max(1))
 }
 
+/// The bytes that an encoder appends to none.
+fn appended<F: FnOnce(&mut Vec<u8>) -> Result<(), Memory>>(
+    rt: &HostRuntime,
+    append: F,
+) -> Result<Vec<u8>, Memory>
+    requires { (into : _) → F.pre append into }
+{
+    let mut bytes = Vec::new(rt.alloc());
+    append(&mut bytes)?;
+    Ok(bytes)
+}
+
 /// PLAIN, of numbers.
 fn plain_i64(rt: &HostRuntime, rounds: Rounds, what: &str, values: &[i64]) -> Result<u64, Fault>
     requires { length values.now ≤ 1000 }
@@ -71,11 +83,11 @@ fn plain_i64(rt: &HostRuntime, rounds: Rounds, what: &str, values: &[i64]) -> Re
     let mut check = 0u64;
     let start = Instant::now(rt)?;
     for _ in 0..many {
-        let bytes = enc_plain::encode_i64(rt.alloc(), values)?;
+        let bytes = appended(rt, |into| enc_plain::encode_i64_into(values, into))?;
         check = check.wrapping_add(bytes.len() as u64);
     }
     row(rt, rounds, what, "encode", many * PAGE, start)?;
-    let bytes = enc_plain::encode_i64(rt.alloc(), values)?;
+    let bytes = appended(rt, |into| enc_plain::encode_i64_into(values, into))?;
     let start = Instant::now(rt)?;
     for _ in 0..many {
         let read = enc_plain::decode_i64(rt.alloc(), &bytes)?;
@@ -93,11 +105,11 @@ fn plain_text(rt: &HostRuntime, rounds: Rounds, what: &str, values: &[Text]) -> 
     let mut check = 0u64;
     let start = Instant::now(rt)?;
     for _ in 0..many {
-        let bytes = enc_plain::encode_text(rt.alloc(), values)?;
+        let bytes = appended(rt, |into| enc_plain::encode_text_into(values, into))?;
         check = check.wrapping_add(bytes.len() as u64);
     }
     row(rt, rounds, what, "encode", many * PAGE, start)?;
-    let bytes = enc_plain::encode_text(rt.alloc(), values)?;
+    let bytes = appended(rt, |into| enc_plain::encode_text_into(values, into))?;
     let start = Instant::now(rt)?;
     for _ in 0..many {
         let read = enc_plain::decode_text(rt.alloc(), &bytes)?;
@@ -115,11 +127,11 @@ fn rle(rt: &HostRuntime, rounds: Rounds, what: &str, values: &[i64]) -> Result<u
     let mut check = 0u64;
     let start = Instant::now(rt)?;
     for _ in 0..many {
-        let bytes = enc_rle::encode_i64(rt.alloc(), values)?;
+        let bytes = appended(rt, |into| enc_rle::encode_i64_into(values, into))?;
         check = check.wrapping_add(bytes.len() as u64);
     }
     row(rt, rounds, what, "encode", many * PAGE, start)?;
-    let bytes = enc_rle::encode_i64(rt.alloc(), values)?;
+    let bytes = appended(rt, |into| enc_rle::encode_i64_into(values, into))?;
     let start = Instant::now(rt)?;
     for _ in 0..many {
         let read = enc_rle::decode_i64(rt.alloc(), &bytes)?;
@@ -137,11 +149,17 @@ fn ts2diff(rt: &HostRuntime, rounds: Rounds, what: &str, values: &[i64]) -> Resu
     let mut check = 0u64;
     let start = Instant::now(rt)?;
     for _ in 0..many {
-        let bytes = enc_ts2diff::encode_i64(rt.alloc(), values)?;
+        let bytes = appended(
+            rt,
+            |into| enc_ts2diff::encode_i64_into(rt.alloc(), values, into),
+        )?;
         check = check.wrapping_add(bytes.len() as u64);
     }
     row(rt, rounds, what, "encode", many * PAGE, start)?;
-    let bytes = enc_ts2diff::encode_i64(rt.alloc(), values)?;
+    let bytes = appended(
+        rt,
+        |into| enc_ts2diff::encode_i64_into(rt.alloc(), values, into),
+    )?;
     let start = Instant::now(rt)?;
     for _ in 0..many {
         let read = enc_ts2diff::decode_i64(rt.alloc(), &bytes)?;
@@ -151,19 +169,30 @@ fn ts2diff(rt: &HostRuntime, rounds: Rounds, what: &str, values: &[i64]) -> Resu
     Ok(check)
 }
 
+/// The bytes of a page of texts, which are lent first.
+fn dictionary_bytes(rt: &HostRuntime, values: &[Text]) -> Result<Vec<u8>, Memory> {
+    let mut texts = Vec::with_capacity(rt.alloc(), values.len())?;
+    for text in values {
+        texts.push(text)?;
+    }
+    texts.truncate(1000);
+    appended(
+        rt,
+        |into| enc_dict::encode_text_into(rt.alloc(), &texts, into),
+    )
+}
+
 /// A dictionary.
-fn dictionary(rt: &HostRuntime, rounds: Rounds, what: &str, values: &[Text]) -> Result<u64, Fault>
-    requires { length values.now ≤ 1000 }
-{
+fn dictionary(rt: &HostRuntime, rounds: Rounds, what: &str, values: &[Text]) -> Result<u64, Fault> {
     let many = rounds.of(2000);
     let mut check = 0u64;
     let start = Instant::now(rt)?;
     for _ in 0..many {
-        let bytes = enc_dict::encode_text(rt.alloc(), values)?;
+        let bytes = dictionary_bytes(rt, values)?;
         check = check.wrapping_add(bytes.len() as u64);
     }
     row(rt, rounds, what, "encode", many * PAGE, start)?;
-    let bytes = enc_dict::encode_text(rt.alloc(), values)?;
+    let bytes = dictionary_bytes(rt, values)?;
     let start = Instant::now(rt)?;
     for _ in 0..many {
         let read = enc_dict::decode_text(rt.alloc(), &bytes)?;
