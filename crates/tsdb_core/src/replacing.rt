@@ -87,39 +87,22 @@ impl<J: Journal, F: Files> Core<J, F> {
         let listed = self
             .files
             .least_replaced(job.space, runs.sequence, runs.unsequence, born);
-        let Job {
-            space,
-            born,
-            place,
-            inputs,
-            sequence,
-            unsequence,
-            marks,
-            schemas,
-            output: number,
-        } = job;
         let item = LogRecord::Replaced {
-            born,
-            space,
-            place: place_of(space, runs),
+            born: job.born,
+            space: job.space,
+            place: place_of(job.space, runs),
             output: number_of(output),
-            sequence,
-            unsequence,
+            sequence: job.sequence,
+            unsequence: job.unsequence,
         };
         let outcome = self.logged.replaced(&item, listed);
         let Some((sequence, unsequence)) = inputs_in(item) else {
             unreachable!()
         };
         let job = Job {
-            space,
-            born,
-            place,
-            inputs,
             sequence,
             unsequence,
-            marks,
-            schemas,
-            output: number,
+            ..job
         };
         (job, outcome)
     }
