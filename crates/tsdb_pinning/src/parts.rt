@@ -7,7 +7,7 @@ ghost use Rattle.tsdb_pinning.specs.Sources.{AreRisingIn, AddsParts, pairs_in, p
 use crate::pin::PinnedSource;
 use crate::sources::push;
 use std::alloc::Global;
-use tsdb_base::{List, Memory, Range, SeriesId, Space, Stamp};
+use tsdb_base::{List, Memory, Range, SeriesId, Space, Stamp, copy_points};
 use tsdb_memory::MemoryStore;
 use tsdb_memtable::Pair;
 use tsdb_outside::Files;
