@@ -54,9 +54,9 @@ pub enters_new : (texts : List (List ℕ)) (text : List ℕ) (place : ℕ) (old 
 enters_new texts text place old new is absent place_e size updates =
     let last : place ≡ length texts = place_e ∙ is.size in
     record {
-      place-is = last ∙ sym (place_behind texts text absent);
-      new-is = rw absent refl;
-      dictionary-is = rw absent (record {
+      place_is = last ∙ sym (place_behind texts text absent);
+      new_is = rw absent refl;
+      dictionary_is = rw absent (record {
         size = size ∙ ap (λ (n : ℕ). n + 1) is.size ∙ sym (length-append texts (text ∷ []));
         places = λ u. btree_map_updates_str text old new (Some place) updates u ∙ ap (λ o. cond (bytes_eq text u) (Some place) o) (is.places u) ∙ ap (λ (n : ℕ). cond (bytes_eq text u) (Some n) (place_among texts u)) last
             ∙ sym (place_among_push texts text u absent);
@@ -68,9 +68,9 @@ pub enters_again : (texts : List (List ℕ)) (text : List ℕ) (other place : �
     → UpdatesBy (λ x y. slice_cmp nat_cmp x.now y.now) (λ key. slice_cmp nat_cmp text key.now) old middle (Some other) → UpdatesBy (λ x y. slice_cmp nat_cmp x.now y.now) (λ key. slice_cmp nat_cmp text key.now) middle new (Some place)
     → Enters texts text place false new
 enters_again texts text other place old middle new is at size away back = record {
-  place-is = at.place-is;
-  new-is = rw at.among refl;
-  dictionary-is = rw at.among (record {
+  place_is = at.place_is;
+  new_is = rw at.among refl;
+  dictionary_is = rw at.among (record {
     size = size ∙ is.size;
     places = λ u.
         let last = btree_map_updates_str text middle new (Some place) back u in
@@ -78,7 +78,7 @@ enters_again texts text other place old middle new is at size away back = record
         elim (cases (bytes_eq text u)) [
           | inl same ↦
               let u_is : text ≡ u = same_text text u same in
-              let has : place_among texts u ≡ Some place = rw (sym u_is, at.among) (ap Some (sym at.place-is)) in
+              let has : place_among texts u ≡ Some place = rw (sym u_is, at.among) (ap Some (sym at.place_is)) in
               let now = rw same at last in
               now ∙ sym has
           | inr apart ↦
@@ -94,7 +94,7 @@ pub some_place : (texts : List (List ℕ)) (text : List ℕ) (place : ℕ) → p
 some_place texts text place e = elim (cases (list_any (bytes_eq text) texts)) [
   | inl among ↦
       let found : Some (place_in texts text) ≡ Some place = rw among at e in
-      record { among = among; place-is = cc }
+      record { among = among; place_is = cc }
   | inr absent ↦ let none : None ≡ Some place = rw absent at e in absurd cc
 ]
 
@@ -116,9 +116,9 @@ known_is_place values i places text place le are known =
     let xs = take i values in
     let among_xs : known.index < length xs = omega (arith, known.within, length-map xs (place_in (first_uses xs)), ap length are) in
     let before : known.index < i = omega (arith, among_xs, length-take i values) in
-    let is : get_or xs known.index text ≡ text = get_or-take i values known.index text before ∙ known.value-is in
+    let is : get_or xs known.index text ≡ text = get_or-take i values known.index text before ∙ known.value_is in
     let used = All-from_recursion (λ u. list_any (bytes_eq u) (first_uses xs) ≡ true) xs (all_used xs) known.index text among_xs in
     record {
       among = ap (λ u. list_any (bytes_eq u) (first_uses xs)) (sym is) ∙ used;
-      place-is = known.place-is ∙ ap (λ ps. get_or ps known.index place) are ∙ get_or-map (place_in (first_uses xs)) xs known.index text place among_xs ∙ ap (place_in (first_uses xs)) is;
+      place_is = known.place_is ∙ ap (λ ps. get_or ps known.index place) are ∙ get_or-map (place_in (first_uses xs)) xs known.index text place among_xs ∙ ap (place_in (first_uses xs)) is;
     }

@@ -137,13 +137,13 @@ insert_new ks t h = rw h refl
 -- the values so far use the first texts, at these places
 pub record Using (texts : List (List ℕ)) (places : List ℕ) (used : ℕ) (values : List (List ℕ)) : Type 0 where
   pub uses : first_uses values ≡ take used texts
-  pub places-are : map (place_in (first_uses values)) values ≡ places
+  pub places_are : map (place_in (first_uses values)) values ≡ places
   pub within : used ≤ length texts
   pub back : values ≡ map (λ place. get_or texts place []) places
 
 pub using_none : (texts values : List (List ℕ)) → values ≡ [] → Using texts [] 0 values
 unfolding first_uses
-using_none texts values none = rw none (record { uses = refl; places-are = refl; within = omega arith; back = refl })
+using_none texts values none = rw none (record { uses = refl; places_are = refl; within = omega arith; back = refl })
 
 go_on : (texts : List (List ℕ)) (places : List ℕ) (used next place : ℕ) (values now : List (List ℕ)) (t : List ℕ) (more : List ℕ) → Using texts places used values → t ≡ get_or texts place [] → now ≡ values ++ t ∷ [] → more ≡ places ++ place ∷ []
     → with_text (take used texts) t ≡ take next texts → place_in (take used texts) t ≡ place → next ≤ length texts → Using texts more next now
@@ -152,7 +152,7 @@ go_on texts places used next place values now t more u at n m ins pl within =
     let one : place_in (first_uses values) t ≡ place = ap (λ (ks : List (List ℕ)). place_in ks t) u.uses ∙ pl in
     record {
       uses = pushed;
-      places-are = ap (λ (vs : List (List ℕ)). map (place_in (first_uses vs)) vs) n ∙ places_push values t ∙ ap (λ (ps : List ℕ). ps ++ place_in (first_uses values) t ∷ []) u.places-are
+      places_are = ap (λ (vs : List (List ℕ)). map (place_in (first_uses vs)) vs) n ∙ places_push values t ∙ ap (λ (ps : List ℕ). ps ++ place_in (first_uses values) t ∷ []) u.places_are
           ∙ ap (λ (p : ℕ). places ++ p ∷ []) one ∙ sym m;
       within = within;
       back = n ∙ ap (λ (vs : List (List ℕ)). vs ++ t ∷ []) u.back ∙ ap (λ (x : List ℕ). map (λ place. get_or texts place []) places ++ x ∷ []) at
@@ -187,7 +187,7 @@ first_values : (texts : List (List ℕ)) (places : List ℕ) (i used : ℕ) (val
 first_values texts places i used values list is u =
     let get : ℕ → List ℕ = λ place. get_or texts place [] in
     let whole : map get places ≡ list =
-    ap (map get) (sym is.places-are) ∙ ap (λ (ts : List (List ℕ)). map (λ place. get_or ts place []) (map (place_in (first_uses list)) list)) (sym is.texts-are) ∙ texts_back list [] in
+    ap (map get) (sym is.places_are) ∙ ap (λ (ts : List (List ℕ)). map (λ place. get_or ts place []) (map (place_in (first_uses list)) list)) (sym is.texts_are) ∙ texts_back list [] in
     u.back ∙ sym (take-map get i places) ∙ ap (take i) whole
 
 used_is : (texts : List (List ℕ)) (places : List ℕ) (used : ℕ) (values : List (List ℕ)) → Using texts places used values → length (first_uses values) ≡ used
@@ -219,24 +219,24 @@ place_bound xs ys w =
 pub no_skip : (texts : List (List ℕ)) (places : List ℕ) (i used place : ℕ) (values list : List (List ℕ)) → AreUses texts places list → Using texts (take i places) used values → i < length places → place ≡ get_or places i 0
     → (place ≤ used) × (place < length texts)
 no_skip texts places i used place values list is u lt at =
-    let size : length places ≡ length list = sym (ap length is.places-are) ∙ length-map list (place_in (first_uses list)) in
+    let size : length places ≡ length list = sym (ap length is.places_are) ∙ length-map list (place_in (first_uses list)) in
     let within : i < length list = omega arith in
     let w = get_or list i [] in
     let parted : list ≡ take i list ++ w ∷ drop (i + 1) list = sym (take-append-drop i list) ∙ ap (λ (l : List (List ℕ)). take i list ++ l) (drop_more list i [] within) in
-    let here : place ≡ place_in (first_uses list) w = at ∙ ap (λ (ps : List ℕ). get_or ps i 0) (sym is.places-are) ∙ get_or-map (place_in (first_uses list)) list i [] 0 within in
+    let here : place ≡ place_in (first_uses list) w = at ∙ ap (λ (ps : List ℕ). get_or ps i 0) (sym is.places_are) ∙ get_or-map (place_in (first_uses list)) list i [] 0 within in
     let bound = place_bound (take i list) (drop (i + 1) list) w in
     let same : place_in (first_uses (take i list ++ w ∷ drop (i + 1) list)) w ≡ place = ap (λ (l : List (List ℕ)). place_in (first_uses l) w) (sym parted) ∙ sym here in
     let number : length (first_uses (take i list)) ≡ used = ap (λ (l : List (List ℕ)). length (first_uses l)) (sym (first_values texts places i used values list is u)) ∙ used_is texts (take i places) used values u in
-    let inside : place < length (first_uses list) = subst (λ (p : ℕ). p < length (first_uses list)) (sym at ∙ refl) (subst (λ (ps : List ℕ). get_or ps i 0 < length (first_uses list)) is.places-are (places_within list i 0 (omega (arith, length-map list (place_in (first_uses list)))))) in
-    (omega (arith, bound, same, number), omega (arith, inside, ap length is.texts-are))
+    let inside : place < length (first_uses list) = subst (λ (p : ℕ). p < length (first_uses list)) (sym at ∙ refl) (subst (λ (ps : List ℕ). get_or ps i 0 < length (first_uses list)) is.places_are (places_within list i 0 (omega (arith, length-map list (place_in (first_uses list)))))) in
+    (omega (arith, bound, same, number), omega (arith, inside, ap length is.texts_are))
 
 -- and at the end all texts were used
 pub used_all : (texts : List (List ℕ)) (places : List ℕ) (i used : ℕ) (values list : List (List ℕ)) → AreUses texts places list → Using texts (take i places) used values → length places ≤ i → used ≡ length texts
 used_all texts places i used values list is u done =
-    let size : length places ≡ length list = sym (ap length is.places-are) ∙ length-map list (place_in (first_uses list)) in
+    let size : length places ≡ length list = sym (ap length is.places_are) ∙ length-map list (place_in (first_uses list)) in
     let all : values ≡ list = first_values texts places i used values list is u ∙ take_all i list (omega arith) in
-    sym (used_is texts (take i places) used values u) ∙ ap (λ (l : List (List ℕ)). length (first_uses l)) all ∙ ap length is.texts-are
+    sym (used_is texts (take i places) used values u) ∙ ap (λ (l : List (List ℕ)). length (first_uses l)) all ∙ ap length is.texts_are
 
 -- texts of a list all differ
 pub texts_differ : (texts : List (List ℕ)) (places : List ℕ) (list : List (List ℕ)) → AreUses texts places list → length (first_uses texts) ≡ length texts
-texts_differ texts places list is = ap (λ (l : List (List ℕ)). length (first_uses l)) (sym is.texts-are) ∙ number_of_uses list ∙ ap length is.texts-are
+texts_differ texts places list is = ap (λ (l : List (List ℕ)). length (first_uses l)) (sym is.texts_are) ∙ number_of_uses list ∙ ap length is.texts_are

@@ -123,21 +123,21 @@ values_back values texts places same = rw (same.0, same.1) (sym (texts_back valu
 -- the texts and places that were read are those of a list with the bytes
 pub uses_back : (values texts : List (List ℕ)) (places : List ℕ) (count : ℕ) (bytes rest : List ℕ) → 0 < count → bytes ≡ leb count ++ rest → rest ≡ parts texts places → AreParts count texts places → IsSpelling spelling IsText bytes values → AreUses texts places values
 uses_back values texts places count bytes rest some e read are is =
-    let same = read_back values texts places count bytes rest some e read are.size are.typed are.fit is.list.typed is.bytes-are in
-    record { texts-are = sym same.0; places-are = sym same.1 }
+    let same = read_back values texts places count bytes rest some e read are.size are.typed are.fit is.list.typed is.bytes_are in
+    record { texts_are = sym same.0; places_are = sym same.1 }
 
 -- where no parts were read, no list is spelled
 pub no_parts : (values : List (List ℕ)) (count : ℕ) (bytes rest : List ℕ) → IsSpelling spelling IsText bytes values → 0 < count → bytes ≡ leb count ++ rest
     → ((texts : List (List ℕ)) (places : List ℕ) → AreParts count texts places → rest ≡ parts texts places → ⊥) → ⊥
 no_parts values count bytes rest is some e none =
-    let number = count_is_length values count bytes rest e is.bytes-are in
+    let number = count_is_length values count bytes rest e is.bytes_are in
     let are : AreParts count (first_uses values) (map (place_in (first_uses values)) values) = record {
       few = omega (arith, number, length-first_uses values);
       size = length-places values ∙ number;
       typed = uses_are_texts values is.list.typed;
       fit = places_fit values;
     } in
-    none (first_uses values) (map (place_in (first_uses values)) values) are (parts_behind values count bytes rest some e is.bytes-are)
+    none (first_uses values) (map (place_in (first_uses values)) values) are (parts_behind values count bytes rest some e is.bytes_are)
 
 -- behind texts that were read stands what is packed
 pub packed_behind : (texts read : List (List ℕ)) (places : List ℕ) (different : ℕ) (bytes middle rest : List ℕ) → bytes ≡ leb different ++ middle → middle ≡ flat_map plain_text read ++ rest → length read ≡ different → All IsText read → All IsText texts → bytes ≡ parts texts places
@@ -178,12 +178,12 @@ typed_by_recursion ks (u ∷ us) typed h =
 pub is_spelling : (values texts : List (List ℕ)) (places : List ℕ) (count : ℕ) (bytes rest : List ℕ) → 0 < count → count ≤ 1000 → bytes ≡ leb count ++ rest → rest ≡ parts texts places → AreParts count texts places → AreUses texts places values
     → IsSpelling spelling IsText bytes values
 is_spelling values texts places count bytes rest some few e read are is =
-    let number : length values ≡ count = sym (length-places values) ∙ ap length is.places-are ∙ are.size in
-    let typed : All IsText (first_uses values) = subst (λ (l : List (List ℕ)). All IsText l) (sym is.texts-are) are.typed in
+    let number : length values ≡ count = sym (length-places values) ∙ ap length is.places_are ∙ are.size in
+    let typed : All IsText (first_uses values) = subst (λ (l : List (List ℕ)). All IsText l) (sym is.texts_are) are.typed in
     record {
       list = record { few = omega (arith, number, few); typed = All-from_recursion IsText values (typed_by_recursion (first_uses values) values typed (all_used values)) };
-      bytes-are = e ∙ ap (λ (n : ℕ). leb n ++ rest) (sym number)
-          ∙ ap (λ (t : List ℕ). leb (length values) ++ t) (read ∙ ap (λ (ts : List (List ℕ)). parts ts places) (sym is.texts-are) ∙ ap (parts (first_uses values)) (sym is.places-are))
+      bytes_are = e ∙ ap (λ (n : ℕ). leb n ++ rest) (sym number)
+          ∙ ap (λ (t : List ℕ). leb (length values) ++ t) (read ∙ ap (λ (ts : List (List ℕ)). parts ts places) (sym is.texts_are) ∙ ap (parts (first_uses values)) (sym is.places_are))
           ∙ sym (spelling-some values (omega (arith, number, some)));
     }
 

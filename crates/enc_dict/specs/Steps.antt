@@ -19,8 +19,8 @@ pub record AreParts (count : ℕ) (texts : List (List ℕ)) (places : List ℕ) 
 
 -- these are the different texts of the values, and the places of the values among them
 pub record AreUses (texts : List (List ℕ)) (places : List ℕ) (values : List (List ℕ)) : Type 0 where
-  pub texts-are : first_uses values ≡ texts
-  pub places-are : map (place_in (first_uses values)) values ≡ places
+  pub texts_are : first_uses values ≡ texts
+  pub places_are : map (place_in (first_uses values)) values ≡ places
 
 -- the bytes are the parts of no list of so many values
 abbrev pub HaveNoParts : ℕ → List ℕ → Type 0
@@ -43,18 +43,18 @@ pub record IsDictionary (texts : List (List ℕ)) (dictionary : BTreeMap (Bor (L
 -- the text is one of the texts, at this place
 pub record IsPlaceOf (texts : List (List ℕ)) (text : List ℕ) (place : ℕ) : Type 0 where
   pub among : list_any (bytes_eq text) texts ≡ true
-  pub place-is : place ≡ place_in texts text
+  pub place_is : place ≡ place_in texts text
 
 -- some value is the text, and its place is this one
 pub record IsKnown (values : List (List ℕ)) (places : List ℕ) (text : List ℕ) (place : ℕ) : Type 0 where
   pub index : ℕ
   pub within : index < length places
-  pub value-is : get_or values index text ≡ text
-  pub place-is : place ≡ get_or places index place
+  pub value_is : get_or values index text ≡ text
+  pub place_is : place ≡ get_or places index place
 
 -- what the texts, with this one, make of a dictionary of the texts
 pub record Enters (texts : List (List ℕ)) (text : List ℕ) (place : ℕ) (is_new : Bool)
     (new : BTreeMap (Bor (List ℕ)) ℕ) : Type 0 where
-  pub place-is : place ≡ place_in texts text
-  pub new-is : is_new ≡ not (list_any (bytes_eq text) texts)
-  pub dictionary-is : IsDictionary (with_text texts text) new
+  pub place_is : place ≡ place_in texts text
+  pub new_is : is_new ≡ not (list_any (bytes_eq text) texts)
+  pub dictionary_is : IsDictionary (with_text texts text) new

@@ -12,7 +12,7 @@ pub record IsSpelling {A : Type 0} (spelling : List A → List ℕ) (IsValue : A
     (values : List A)
     : Type 0 where
   pub list : IsListOf IsValue values
-  pub bytes-are : bytes ≡ spelling values
+  pub bytes_are : bytes ≡ spelling values
 
 -- the list has the bytes, and no other list has
 abbrev pub IsOnly : {A : Type 0} → (List A → List ℕ) → (A → Type 0) → List ℕ → List A → Type 0

@@ -120,7 +120,7 @@ all_read code IsValue bytes start rest count last values p e z done few =
     let runs : runs_of (map code values) ≡ p.runs = ap runs_of p.whole ∙ runs_of-expand_runs p.runs p.neighbours in
     record {
       list = record { few = omega (arith, p.few); typed = p.typed };
-      bytes-are = e ∙ ap (λ (n : ℕ). leb n ++ start) number
+      bytes_are = e ∙ ap (λ (n : ℕ). leb n ++ start) number
           ∙ ap (λ (t : List ℕ). leb (length (map code values)) ++ t) (p.read ∙ ap (λ (t : List ℕ). flat_map run_bytes p.runs ++ t) z ∙ append-nil (flat_map run_bytes p.runs) ∙ ap (flat_map run_bytes) (sym runs));
     }
 
@@ -166,7 +166,7 @@ whole : {A : Type 0} (code : A → ℕ) (IsValue : A → Type 0) (bytes start re
     → bytes ≡ leb count ++ start → IsSpelling (spelling code) IsValue bytes found → Whole code p.runs rest count found
 whole code IsValue bytes start rest count last values found p e is =
     let codes = map code found in
-    let parts = spelling_parts codes bytes start count (sym is.bytes-are) e in
+    let parts = spelling_parts codes bytes start count (sym is.bytes_are) e in
     let b = behind_runs p.runs (runs_of codes) rest (sym parts.1 ∙ p.read) in
     record {
       more = b.0;
@@ -234,7 +234,7 @@ nothing_left code IsValue bytes start rest count last values found p e is done =
 pub no_count : {A : Type 0} (code : A → ℕ) (IsValue : A → Type 0) (bytes : List ℕ) (found : List A) → IsSpelling (spelling code) IsValue bytes found → BeginsWithNone leb (λ count. count ≤ max_values) bytes → ⊥
 unfolding codes_spelling
 no_count code IsValue bytes found is none =
-    none (length (map code found)) (flat_map run_bytes (runs_of (map code found))) (omega (arith, length-map found code, is.list.few)) is.bytes-are
+    none (length (map code found)) (flat_map run_bytes (runs_of (map code found))) (omega (arith, length-map found code, is.list.few)) is.bytes_are
 
 -- the flag for the first run
 pub first_or_not : (is_first : Bool) (len number : ℕ) → is_first ≡ (len == 0) → number ≡ len → (0 < number → is_first ≡ false) × (is_first ≡ false → 0 < number)

@@ -103,7 +103,7 @@ block_back n (o ∷ os) digits count rest are packing =
     let zero : m +ℤ pos (fold min o os) ≡ m = ap (λ (t : ℕ). m +ℤ pos t) are.0 ∙ plus_zero m in
     let low : least (m +ℤ pos o) (steps_of m os) ≡ m = least_shift m o os ∙ zero in
     let numbers : offsets m (steps_of m (o ∷ os)) ≡ o ∷ os = offsets_back m (o ∷ os) in
-    let tail : at_width (o ∷ os) ≡ digits ∷ rest = ap (λ (t : ℕ). t ∷ pack_bytes t (o ∷ os)) are.1 ∙ ap (λ (t : List ℕ). digits ∷ t) (sym packing.bytes-are) in
+    let tail : at_width (o ∷ os) ≡ digits ∷ rest = ap (λ (t : ℕ). t ∷ pack_bytes t (o ∷ os)) are.1 ∙ ap (λ (t : List ℕ). digits ∷ t) (sym packing.bytes_are) in
     sym (ap (λ (t : ℤ). leb (zigzag t) ++ at_width (offsets t (steps_of m (o ∷ os)))) low
     ∙ ap (λ (t : List ℕ). leb (zigzag m) ++ at_width t) numbers
     ∙ ap (λ (t : ℕ). leb t ++ at_width (o ∷ os)) (zigzag-unzigzag n)

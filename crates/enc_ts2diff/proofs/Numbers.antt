@@ -108,7 +108,7 @@ pub record Next (base previous : ℤ) (offset : ℕ) (more : List ℕ) (values :
   pub value : ℤ
   pub rest : List ℤ
   pub fits : FitsSigned w64 (base +ℤ pos offset)
-  pub value-is : value ≡ int_wrap w64 (previous +ℤ (base +ℤ pos offset))
+  pub value_is : value ≡ int_wrap w64 (previous +ℤ (base +ℤ pos offset))
   pub values-are : values ≡ value ∷ rest
   pub goes_on : Continues base value more rest
 
@@ -126,7 +126,7 @@ next_value base previous offset more (y ∷ ys) k =
       value = y;
       rest = ys;
       fits = rw s (SFits-int_wrap w64 (y -ℤ previous));
-      value-is = sym (ap (λ (t : ℤ). int_wrap w64 (previous +ℤ t)) s ∙ value_from_step previous y (All-head (FitsSigned w64) y ys k.fits));
+      value_is = sym (ap (λ (t : ℤ). int_wrap w64 (previous +ℤ t)) s ∙ value_from_step previous y (All-head (FitsSigned w64) y ys k.fits));
       values-are = refl;
       goes_on = record { fits = All-tail (FitsSigned w64) y ys k.fits; lowest = All-tail (λ (x : ℤ). base ≤ℤ x) d (differences y ys) k.lowest; differ = m };
     }
@@ -142,7 +142,7 @@ same_values base previous [] xs ys j k = no_value base previous xs j ∙ sym (no
 same_values base previous (offset ∷ more) xs ys j k =
     let p = next_value base previous offset more xs j in
     let q = next_value base previous offset more ys k in
-    let v : q.value ≡ p.value = q.value-is ∙ sym p.value-is in
+    let v : q.value ≡ p.value = q.value_is ∙ sym p.value_is in
     let r = same_values base p.value more p.rest q.rest p.goes_on (subst (λ (t : ℤ). Continues base t more q.rest) v q.goes_on) in
     p.values-are ∙ ap (λ (t : List ℤ). p.value ∷ t) r ∙ ap (λ (t : ℤ). t ∷ q.rest) (sym v) ∙ sym q.values-are
 

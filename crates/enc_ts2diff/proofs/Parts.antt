@@ -39,7 +39,7 @@ numbers_packed above digits rest e =
     record {
       size = refl;
       below = subst (λ (t : ℕ). All (λ x. x < 2 ^ t) above) w (fits_width above);
-      bytes-are = sym (ap (λ (t : ℕ). pack_bytes t above) (sym w) ∙ r);
+      bytes_are = sym (ap (λ (t : ℕ). pack_bytes t above) (sym w) ∙ r);
     }
 
 pub digits_within_64 : (d : ℤ) (ds : List ℤ) (digits : ℕ) (rest : List ℕ) → All (FitsSigned w64) (d ∷ ds) → at_width (offsets (least d ds) (d ∷ ds)) ≡ digits ∷ rest → digits ≤ 64
@@ -49,7 +49,7 @@ digits_within_64 d ds digits rest h e =
 
 -- one packing, one list
 pub same_packing : (width count : ℕ) (bytes xs ys : List ℕ) → IsPacking width count bytes xs → IsPacking width count bytes ys → xs ≡ ys
-same_packing width count bytes xs ys p q = same_from_packed width xs ys (p.size ∙ sym q.size) p.below q.below (sym p.bytes-are ∙ q.bytes-are)
+same_packing width count bytes xs ys p q = same_from_packed width xs ys (p.size ∙ sym q.size) p.below q.below (sym p.bytes_are ∙ q.bytes_are)
 
 -- ---- the list behind its first value and its block
 

@@ -53,7 +53,7 @@ values_spell data_type as_value IsValue makes encoding bytes list values made is
     few = rw (ap length made ∙ length-map list as_value) is.list.few;
     typed = rw made (All-map (IsValueOf data_type) as_value list (λ k d lt. makes.typed (get_or list k d) (is.list.typed k d lt)));
   };
-  bytes-are = is.bytes-are ∙ ap (spelling encoding) (sym made);
+  bytes_are = is.bytes_are ∙ ap (spelling encoding) (sym made);
 }
 
 -- where no list spells the bytes, no values do
@@ -61,7 +61,7 @@ pub no_values_spell : {A : Type 0} (data_type : DataType) (as_value : A → Valu
     → SpellNone (spelling_of as_value encoding) IsValue bytes → SpellNone (spelling encoding) (IsValueOf data_type) bytes
 no_values_spell data_type as_value IsValue makes encoding bytes none = λ values is.
     let m = made_list data_type as_value IsValue makes values is.list in
-    none m.list (record { list = m.is; bytes-are = is.bytes-are ∙ ap (spelling encoding) m.made })
+    none m.list (record { list = m.is; bytes_are = is.bytes_are ∙ ap (spelling encoding) m.made })
 
 -- where two lists with the same bytes are equal, two lists of the values are
 pub values_have_one_spelling : {A : Type 0} (data_type : DataType) (as_value : A → Value) (IsValue : A → Type 0) (makes : MakesValues data_type as_value IsValue) (encoding : Encoding)

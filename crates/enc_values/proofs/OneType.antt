@@ -36,11 +36,11 @@ pub found_by : {A X E : Type 0} (items : X → List A) (as_value : A → Value) 
     → IfOk r (λ x. IsSpelling right IsValue bytes (items x)) → IfOk r (λ x. IsSpelling (spelling_of as_value encoding) IsValue bytes (items x))
 found_by items as_value right IsValue encoding suitable is same bytes r found =
     IfOk-weaker r (λ x. IsSpelling right IsValue bytes (items x)) (λ x. IsSpelling (spelling_of as_value encoding) IsValue bytes (items x))
-    (λ x spelt. record { list = spelt.list; bytes-are = spelt.bytes-are ∙ sym (same (items x)) ∙ ap (λ e. spelling_of as_value e (items x)) (sym is) }) found
+    (λ x spelt. record { list = spelt.list; bytes_are = spelt.bytes_are ∙ sym (same (items x)) ∙ ap (λ e. spelling_of as_value e (items x)) (sym is) }) found
 
 pub none_by : {A : Type 0} (as_value : A → Value) (right : List A → List ℕ) (IsValue : A → Type 0) (encoding suitable : Encoding) (is : encoding ≡ suitable) (same : AreSame (spelling_of as_value suitable) right) (bytes : List ℕ)
     → SpellNone right IsValue bytes → SpellNone (spelling_of as_value encoding) IsValue bytes
-none_by as_value right IsValue encoding suitable is same bytes none = λ list spelt. none list (record { list = spelt.list; bytes-are = spelt.bytes-are ∙ ap (λ e. spelling_of as_value e list) is ∙ same list })
+none_by as_value right IsValue encoding suitable is same bytes none = λ list spelt. none list (record { list = spelt.list; bytes_are = spelt.bytes_are ∙ ap (λ e. spelling_of as_value e list) is ∙ same list })
 
 pub one_by : {A : Type 0} (left right : List A → List ℕ) (IsValue : A → Type 0) (same : AreSame left right) → HasOneSpelling right IsValue → HasOneSpelling left IsValue
 one_by left right IsValue same one = λ xs ys is_x is_y e. one xs ys is_x is_y (sym (same xs) ∙ e ∙ same ys)

@@ -23,7 +23,7 @@ Fits (value.Text bytes) = IsText bytes
 
 -- a value of the type
 pub record IsValueOf (data_type : DataType) (v : Value) : Type 0 where
-  pub type-is : type_of v ≡ data_type
+  pub type_is : type_of v ≡ data_type
   pub fits : Fits v
 
 -- the bytes of one value by itself

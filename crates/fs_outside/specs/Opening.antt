@@ -33,8 +33,8 @@ abbrev pub HasOwnName : DirectoryState → Type 0
 HasOwnName directory = IsSomeAnd directory.seen (λ view. IsTrue view.is_named)
 
 -- a new store was made, and a stop leaves its directory
-abbrev pub IsMade : DirectoryState → Type 0
-IsMade directory = IsSomeAnd directory.seen (λ view. view.image ≡ new_store × IsTrue view.is_named)
+abbrev pub IsMadeNew : DirectoryState → Type 0
+IsMadeNew directory = IsSomeAnd directory.seen (λ view. view.image ≡ new_store × IsTrue view.is_named)
 
 -- the calls see this, and a stop leaves nothing else
 abbrev pub IsDurableAs : DirectoryImage → DirectoryState → Type 0

@@ -20,7 +20,7 @@ ghost use Rattle.tsdb_outside.specs.declared.disk.Slot.TheVariants.{A, B};
 ghost use Rattle.fs_outside.specs.Directory.{Becomes};
 ghost use Rattle.fs_outside.specs.SlotDirectory.{AreNamesDurable, ElapsesBy, HasSlots, IsUnfinished};
 ghost use Rattle.fs_outside.specs.SlotDirectory.{KeepsDirectory, StaysDurable, with_unfinished};
-ghost use Rattle.fs_outside.specs.Opening.{HasLostSlot, HasNewSlot, HasOwnName, IsDurableAs, IsMade, KeepsStore};
+ghost use Rattle.fs_outside.specs.Opening.{HasLostSlot, HasNewSlot, HasOwnName, IsDurableAs, IsMadeNew, KeepsStore};
 ghost use Rattle.fs_outside.specs.Opening.{MakesStore, OpensStore, with_new_slot};
 
 use crate::locked_directory::{LockedDirectory, lock_directory};
@@ -59,7 +59,7 @@ fn make_slot<D: SlotDirectory>(directory: &mut D, slot: Slot) -> io::Result<()>
 // Makes a new store, `slot0` last: while it is missing the store is not finished, and is made again.
 fn make_store<D: SlotDirectory>(directory: &mut D) -> io::Result<()>
     ensures made { OnOk result (IfSome (D.state directory.old).seen (λ view. IsUnfinished view.image
-        → IsMade (D.state directory.new))) }
+        → IsMadeNew (D.state directory.new))) }
     ensures moments { MakesStore (D.state directory.old) (D.state directory.new) }
     ensures cause { HasCause (D.state directory.old).faults (D.state directory.new).faults result }
 {
@@ -87,7 +87,7 @@ fn is_unfinished<D: SlotDirectory>(directory: &mut D) -> io::Result<bool>
 // Makes a new store where the store is not finished.
 fn finish_store<D: SlotDirectory>(directory: &mut D) -> io::Result<()>
     ensures finished { OnOk result (IfSome (D.state directory.old).seen (λ view.
-        IsUnfinished view.image × IsMade (D.state directory.new)
+        IsUnfinished view.image × IsMadeNew (D.state directory.new)
         ⊎ view.image.a ≢ None × (D.state directory.new).seen ≡ (D.state directory.old).seen)) }
     ensures moments { MakesStore (D.state directory.old) (D.state directory.new) }
     ensures kept { KeepsStore (D.state directory.old) (D.state directory.new) }

@@ -6,7 +6,7 @@ use Rattle.tsdb_base.specs.declared.ids.FileNumber.{FileNumber}
 use Rattle.tsdb_compactions.specs.Jobs.{IsFormed, input_file, plain_numbers}
 use Rattle.tsdb_compactions.specs.declared.job.Input.{Input}
 use Rattle.tsdb_compactions.specs.declared.job.Job.{Job}
-use Rattle.tsdb_index.specs.Entries.{IsBefore}
+use Rattle.tsdb_index.specs.Entries.{AreNamesBefore}
 use Rattle.tsdb_jobs.specs.Parts.{names_of}
 use Rattle.tsdb_layers.specs.Lists.{EachPair}
 use Rattle.tsdb_model.specs.Commands.{IsSchema}
@@ -30,5 +30,5 @@ module _ {F S R P : Type 0} where
         ∙ ap (λ l. plain_numbers l ++ plain_numbers unsequence) (sym same_sequence)
         ∙ ap (λ l. plain_numbers job.sequence ++ plain_numbers l) (sym same_unsequence);
     schemas = subst (Each IsSchema) (sym same_schemas) is.each;
-    rising = subst (EachPair (λ (a b : Schema). IsBefore (names_of a) (names_of b))) (sym same_schemas) is.rising;
+    rising = subst (EachPair (λ (a b : Schema). AreNamesBefore (names_of a) (names_of b))) (sym same_schemas) is.rising;
   }

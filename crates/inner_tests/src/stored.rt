@@ -1,7 +1,7 @@
 //! Files of two series, and the jobs that compact them.
 ghost use Rattle.std.specs.List.{AllByRecursion as Each};
 ghost use Rattle.std.specs.Prelude.{◌≡◌, ◌≤◌, IfOk, IsTrue};
-ghost use Rattle.tsdb_index.specs.Entries.{IsBefore};
+ghost use Rattle.tsdb_index.specs.Entries.{AreNamesBefore};
 ghost use Rattle.tsdb_jobs.specs.Parts.{names_of};
 ghost use Rattle.tsdb_layers.specs.Lists.{EachPair};
 ghost use Rattle.tsdb_model.specs.Commands.{IsSchema};
@@ -148,7 +148,7 @@ fn schema_at(alloc: Global, path: &str, data_type: DataType) -> Result<Schema, F
 fn comes_before(first: &Schema, second: &Schema) -> Result<bool, Fail>
     requires first { 2 ≤ node_count first.now.path }
     requires second { 2 ≤ node_count second.now.path }
-    ensures { IfOk result (λ before. IsTrue before → IsBefore (names_of first.now) (names_of second.now)) }
+    ensures { IfOk result (λ before. IsTrue before → AreNamesBefore (names_of first.now) (names_of second.now)) }
 {
     let device = first.path.device()?;
     let other = second.path.device()?;
@@ -164,7 +164,7 @@ fn comes_before(first: &Schema, second: &Schema) -> Result<bool, Fail>
 /// The schemas of `root.g.d.a` and `root.g.d.b`, each of its type.
 pub fn schemas_of(alloc: Global, types: (DataType, DataType)) -> Result<List<Schema>, Fail>
     ensures schemas { IfOk result (Each IsSchema) }
-    ensures rising { IfOk result (EachPair (λ a b. IsBefore (names_of a) (names_of b))) }
+    ensures rising { IfOk result (EachPair (λ a b. AreNamesBefore (names_of a) (names_of b))) }
 {
     let first = schema_at(alloc, "root.g.d.a", types.0)?;
     let second = schema_at(alloc, "root.g.d.b", types.1)?;

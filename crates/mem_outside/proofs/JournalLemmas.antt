@@ -6,7 +6,7 @@ use Rattle.std.proofs.lemmas.List.{take-append-le, take_all}
 use Rattle.std.proofs.lemmas.Bool.{cases_lt}
 use Rattle.std.proofs.lemmas.List.Sums.{fold-append}
 use Rattle.std.proofs.lemmas.Grind.{common_steps}
-use Rattle.tsdb_outside.specs.Disk.{Image, State, in_slot, with_slot, overwrite, Overwrites, Torn, TornIn, WhereTold, Follows, NothingNew, Elapses, Keeps, MayWrite}
+use Rattle.tsdb_outside.specs.Disk.{Image, DiskState, in_slot, with_slot, overwrite, Overwrites, Torn, TornIn, WhereTold, Follows, NothingNew, Elapses, Keeps, MayWrite}
 use Rattle.tsdb_outside.specs.declared.disk.Slot.{Slot}
 use Rattle.tsdb_outside.specs.declared.disk.Slot.TheVariants.{A, B}
 use Rattle.tsdb_outside.proofs.DiskLemmas.{Elapses-same, Keeps-same, Torn-same, TornIn-same, Torn-overwrite}
@@ -148,7 +148,7 @@ module _ (first : Image) (calls : List Call) (call : Call) (succeeded : Bool)
     same B false = refl
 
 -- what holds of the state after these calls holds of a disk with this record
-of_disk : (P : State → Type 0) (disk : RecordedDisk) (first : Image) (calls : List Call) → disk_first disk ≡ first → disk_calls disk ≡ calls
+of_disk : (P : DiskState → Type 0) (disk : RecordedDisk) (first : Image) (calls : List Call) → disk_first disk ≡ first → disk_calls disk ≡ calls
     → P (state_after first calls) → P (disk_state disk)
 of_disk P disk first calls same_first same_calls holds =
     subst (λ (f : Image). P (state_after f (disk_calls disk))) (sym same_first)
@@ -174,7 +174,7 @@ pub write_bytes : (slot : Slot) (at : ℕ) (bytes : List ℕ) (old new : Recorde
     → RecordsCall slot (after_write at bytes true) old new → at ≤ length (in_slot slot (disk_seen old))
     → WhereTold (Overwrites slot at bytes) (disk_state old).seen (disk_state new).seen
 write_bytes slot at bytes old new made within =
-    of_disk (λ (s : State). WhereTold (Overwrites slot at bytes) (disk_state old).seen s.seen) new (disk_first old) (disk_calls old ++ made.call ∷ [])
+    of_disk (λ (s : DiskState). WhereTold (Overwrites slot at bytes) (disk_state old).seen s.seen) new (disk_first old) (disk_calls old ++ made.call ∷ [])
     made.first made.calls (write_seen (disk_first old) (disk_calls old) made.call at bytes true made.does slot made.own within)
 
 pub sync_keeps : (slot : Slot) (succeeded : Bool) (old new : RecordedDisk) → Ends slot (after_sync succeeded) old new

@@ -1,6 +1,6 @@
 -- What the journal in memory means, and what its counted calls do.
 use Rattle.std.specs.Prelude.{◌≡◌, ◌⊎◌, ℕ, Bool, true, false, List}
-use Rattle.tsdb_outside.specs.Disk.{Image, State}
+use Rattle.tsdb_outside.specs.Disk.{Image, DiskState}
 use Rattle.tsdb_outside.specs.declared.disk.Slot.{Slot}
 use Rattle.mem_outside.specs.declared.record.Call.{Call}
 use Rattle.mem_outside.specs.declared.record.RecordedDisk.{RecordedDisk}
@@ -23,7 +23,7 @@ abbrev pub journal_calls : MemJournal → List Call
 journal_calls j = disk_calls j.disk
 
 -- what it means
-abbrev pub journal_state : MemJournal → State
+abbrev pub journal_state : MemJournal → DiskState
 journal_state j = disk_state j.disk
 
 -- the numbers of the calls that fail, and how many were made

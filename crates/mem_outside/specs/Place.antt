@@ -6,7 +6,7 @@ use Rattle.std.specs.Option.{option_map}
 use Rattle.std.specs.declared.option.Option.{Option}
 use Rattle.std.specs.declared.alloc.Global.{Global}
 use Rattle.std.specs.List.{take_while}
-use Rattle.tsdb_outside.specs.Disk.{Image, State, silent_state}
+use Rattle.tsdb_outside.specs.Disk.{Image, DiskState, silent_state}
 use Rattle.tsdb_outside.specs.Files.{StoredFile}
 use Rattle.mem_outside.specs.declared.files.MemFiles.{MemFiles}
 use Rattle.mem_outside.specs.declared.journal.MemJournal.{MemJournal}
@@ -45,11 +45,11 @@ abbrev pub place_faults : MemPlace → ℕ
 place_faults place = place.faults
 
 -- what a place with this journal in it means; while the journal is out it tells nothing
-abbrev pub state_of : Option MemJournal → State
+abbrev pub state_of : Option MemJournal → DiskState
 state_of None = silent_state
 state_of (Some j) = journal_state j
 
-abbrev pub place_state : MemPlace → State
+abbrev pub place_state : MemPlace → DiskState
 place_state place = state_of (journal_of place)
 
 -- the files of a place with these files in it
@@ -96,7 +96,7 @@ stop_files kind k None = None
 stop_files kind k (Some f) = Some (files_left kind k (files_at_rest f) ++ files_left kind k (files_gone f))
 
 -- whatever a stop now leaves is this
-abbrev pub IsDurable : Image → State → Type 0
+abbrev pub IsDurable : Image → DiskState → Type 0
 IsDurable bytes disk = (image : Image) → disk.may_leave image → image ≡ bytes
 
 -- the bytes of two slots

@@ -2,7 +2,7 @@
 use Rattle.std.specs.Prelude.{◌≡◌, ℕ, ◌-◌, ◌≤◌, min, Bool, true, false, List, [], ◌∷◌, length, take, map, Some}
 use Rattle.std.specs.Prelude.{if◌then◌else◌}
 use Rattle.std.specs.List.{fold}
-use Rattle.tsdb_outside.specs.Disk.{Image, State, overwrite, Torn}
+use Rattle.tsdb_outside.specs.Disk.{Image, DiskState, overwrite, Torn}
 use Rattle.tsdb_outside.specs.declared.disk.Slot.{Slot}
 use Rattle.tsdb_outside.specs.declared.disk.Slot.TheVariants.{A, B}
 use Rattle.mem_outside.specs.declared.record.Call.{Call}
@@ -88,7 +88,7 @@ abbrev pub LeftSince : Image → List Call → ℕ → Image → Type 0
 LeftSince first calls t image = (k : ℕ) × (t ≤ k) × (k ≤ length calls) × LeavesOf first (take k calls) image
 
 -- what the disk means after these calls
-abbrev pub state_after : Image → List Call → State
+abbrev pub state_after : Image → List Call → DiskState
 state_after first calls = record {
   seen = Some (seen_after first calls);
   may_leave = LeavesOf first calls;

@@ -1,7 +1,7 @@
 -- Two slots with the record of their calls.
 use Rattle.std.specs.Prelude.{◌≡◌, ℕ, Bool, max, nat_le, List, [], ◌∷◌, ◌++◌}
 use Rattle.std.specs.List.{fold}
-use Rattle.tsdb_outside.specs.Disk.{Image, State}
+use Rattle.tsdb_outside.specs.Disk.{Image, DiskState}
 use Rattle.tsdb_outside.specs.declared.disk.Slot.{Slot}
 use Rattle.mem_outside.specs.declared.record.Call.{Call}
 use Rattle.mem_outside.specs.declared.record.RecordedDisk.{RecordedDisk}
@@ -29,7 +29,7 @@ abbrev pub disk_seen : RecordedDisk → Image
 disk_seen disk = seen_after (disk_first disk) (disk_calls disk)
 
 -- what the disk means
-abbrev pub disk_state : RecordedDisk → State
+abbrev pub disk_state : RecordedDisk → DiskState
 disk_state disk = state_after (disk_first disk) (disk_calls disk)
 
 -- there is one call more, which does this to its slot

@@ -11,7 +11,7 @@ use Rattle.tsdb_core.specs.Core.{IsAbove}
 use Rattle.tsdb_held.specs.Held.{AreFilesOf, entry_of, leaving, listed}
 use Rattle.tsdb_images.proofs.Numbers.{opened_numbers}
 use Rattle.tsdb_images.proofs.Storing.{opened_stored}
-use Rattle.tsdb_images.specs.Stored.{IsKept, IsStored}
+use Rattle.tsdb_images.specs.Stored.{IsKeptWhole, IsStored}
 use Rattle.tsdb_kept.specs.Files.{AreKept, KeptFiles, kept_file}
 use Rattle.tsdb_kept.specs.Places.{KeptFile}
 use Rattle.tsdb_layers.proofs.Lists.{among_left, among_right, each_append}
@@ -144,7 +144,7 @@ entries_match told files store kept first none says =
 pub stored_opened : (items : List LogRecord) (kept : List StoredFile) (told : Told) (files : KeptFiles) (recorded : Recorded)
     (stored : Option FileNumber) (next : ℕ) → All IsRecord items
     → Replays store_steps store_steps.new_store items recorded → StoreInOrder told recorded.store
-    → Each (IsKept kept told) (recorded.store.sequence ++ recorded.store.unsequence)
+    → Each (IsKeptWhole kept told) (recorded.store.sequence ++ recorded.store.unsequence)
     → next ≡ next_number stored recorded.named → next ≤ end_of_numbers → AreKept files → AreFirstOf files recorded.store
     → wanted_file files recorded.store ≡ None → AreDescribed told files
     → IsStored items kept told (known_of files) (opened next recorded.store)

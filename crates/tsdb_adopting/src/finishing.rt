@@ -8,7 +8,7 @@ ghost use Rattle.tsdb_core.specs.Core.{IsSeen, KeepsJobs, files_of as core_files
 ghost use Rattle.tsdb_core.specs.Limits.{IsPairLimit};
 ghost use Rattle.tsdb_frames.specs.Frames.{IsLog};
 ghost use Rattle.tsdb_held.specs.Held.{TellTheirBytes};
-ghost use Rattle.tsdb_images.specs.Stored.{IsKept};
+ghost use Rattle.tsdb_images.specs.Stored.{IsKeptWhole};
 ghost use Rattle.tsdb_kept.specs.Closing.{ArePutBack, AreRising, names_at};
 ghost use Rattle.tsdb_kept.specs.Files.{AreKept, kept_file};
 ghost use Rattle.tsdb_kept.specs.Places.{AreOfStore, AreUnread};
@@ -72,7 +72,7 @@ impl<F: Files> Adopting<F> {
             → IsLog frames (map spelling items) None → All IsRecord items
             → Replays store_steps store_steps.new_store items recorded → IsAdoptingOf self recorded
             → StoreInOrder told recorded.store
-            → Each (IsKept kept told) (recorded.store.sequence ++ recorded.store.unsequence)
+            → Each (IsKeptWhole kept told) (recorded.store.sequence ++ recorded.store.unsequence)
             → AreDescribed told (files_of self) → TellTheirBytes (files_of self) kept
             → IsSeen result (record { items = items; kept = kept; told = told; known = known_of (files_of self) })
             (opened (next_of result) recorded.store) }

@@ -15,23 +15,23 @@ use Rattle.tsdb_base.specs.declared.point.Range.{Range}
 use Rattle.tsdb_model.proofs.TimeTests.{lt-cmp}
 use Rattle.tsdb_merge.proofs.MergeLemmas.{AllPairs-head, Contains-cases}
 use Rattle.tsdb_aggregate.specs.Loads.{Held, held_at}
-use Rattle.tsdb_aggregate.specs.Pieces.{AreApart, Part, hull, overlap}
-use Rattle.tsdb_aggregate.specs.Steps.{End, IsBefore, IsCut, part_of, parts_of}
+use Rattle.tsdb_aggregate.specs.Pieces.{AreApart, HeldPiece, hull, overlap}
+use Rattle.tsdb_aggregate.specs.Steps.{End, ComesBefore, IsCut, part_of, held_parts}
 use Rattle.tsdb_aggregate.specs.declared.piece.Piece.{Piece}
 use Rattle.tsdb_aggregate.specs.declared.entry.Entry.{Entry}
 use Rattle.tsdb_aggregate.proofs.ListFacts.{AllPairs-across, AllPairs-of_map, AllPairs-right, All-of_map}
 
 -- where an entry begins behind all of the first ones, or is clean, the first ones end before it
-ends_before : (front : List Entry) (x : Entry) (rest : List Entry) (e : ℤ) → AllPairs IsBefore (front ++ x ∷ rest) → All (λ a. a.piece.now.stats.end ≤ℤ e) front
+ends_before : (front : List Entry) (x : Entry) (rest : List Entry) (e : ℤ) → AllPairs ComesBefore (front ++ x ∷ rest) → All (λ a. a.piece.now.stats.end ≤ℤ e) front
     → IsTrue x.piece.now.clean ⊎ (e <ℤ x.piece.now.stats.start) → End front (x ∷ rest)
 ends_before front x rest e order ends stop a b ha hb =
     let low : a.piece.now.stats.end ≤ℤ e = All-contains (λ a. a.piece.now.stats.end ≤ℤ e) front a ends ha in
-    let own : IsBefore a x = AllPairs-across IsBefore front (x ∷ rest) order a x ha (0, omega arith, refl) in
+    let own : ComesBefore a x = AllPairs-across ComesBefore front (x ∷ rest) order a x ha (0, omega arith, refl) in
     let first : a.piece.now.stats.end <ℤ x.piece.now.stats.start = ⊎_elim (λ clean. own.clean (either (a.piece.now.clean) (x.piece.now.clean) clean)) (λ l. omega (arith, ints)) stop in
     ⊎_elim
     (λ (here : x ≡ b). subst (λ (y : Entry). a.piece.now.stats.end <ℤ y.piece.now.stats.start) here first)
     (λ there.
-    let later : IsBefore x b = All-contains (IsBefore x) rest b (AllPairs-head IsBefore x rest (AllPairs-right IsBefore front (x ∷ rest) order)) there in
+    let later : ComesBefore x b = All-contains (ComesBefore x) rest b (AllPairs-head ComesBefore x rest (AllPairs-right ComesBefore front (x ∷ rest) order)) there in
     let step : x.piece.now.stats.start ≤ℤ b.piece.now.stats.start = later.start in
     omega (arith, ints))
     (Contains-cases x b rest hb)
@@ -40,13 +40,13 @@ ends_before front x rest e order ends stop a b ha hb =
     either true q e = refl
     either false q e = e
 
-pub cut_at : (entries : List Entry) (n : ℕ) (x : Entry) (e : ℤ) → n < length entries → x ≡ get_or entries n x → AllPairs IsBefore entries → All (λ a. a.piece.now.stats.end ≤ℤ e) (take n entries)
+pub cut_at : (entries : List Entry) (n : ℕ) (x : Entry) (e : ℤ) → n < length entries → x ≡ get_or entries n x → AllPairs ComesBefore entries → All (λ a. a.piece.now.stats.end ≤ℤ e) (take n entries)
     → IsTrue (get_or entries n x).piece.now.clean ⊎ (e <ℤ (get_or entries n x).piece.now.stats.start) → IsCut n entries
 cut_at entries n x e l is order ends known =
     let stop : IsTrue x.piece.now.clean ⊎ (e <ℤ x.piece.now.stats.start) = subst (λ (y : Entry). IsTrue y.piece.now.clean ⊎ (e <ℤ y.piece.now.stats.start)) (sym is) known in
     let tail : drop n entries ≡ x ∷ drop (suc n) entries = drop-cons entries n x l ∙ ap (λ y. y ∷ drop (suc n) entries) (sym is) in
     let whole : take n entries ++ x ∷ drop (suc n) entries ≡ entries = ap (λ ys. take n entries ++ ys) (sym tail) ∙ take-append-drop n entries in
-    rw tail (ends_before (take n entries) x (drop (suc n) entries) e (subst (λ ys. AllPairs IsBefore ys) (sym whole) order) ends stop)
+    rw tail (ends_before (take n entries) x (drop (suc n) entries) e (subst (λ ys. AllPairs ComesBefore ys) (sym whole) order) ends stop)
 
 -- ---- after a sort by start
 
@@ -71,7 +71,7 @@ ends_first : (a b : Range) → a.from ≤ℤ a.to → b.from ≤ℤ b.to → a.f
 ends_first a b na nb l e = grind (arith, ints)
 
 pub in_order : (range : Range) (held : List Held) (entries : List Entry) → AllPairs (λ a b. a.piece.now.stats.start ≤ℤ b.piece.now.stats.start) entries
-    → AllPairs AreApart (parts_of held entries) → All (λ part. overlap range (hull part.0) ≡ true) (parts_of held entries) → AllPairs IsBefore entries
+    → AllPairs AreApart (held_parts held entries) → All (λ part. overlap range (hull part.0) ≡ true) (held_parts held entries) → AllPairs ComesBefore entries
 in_order range held entries starts apart meet i j d l m =
     let a = get_or entries i d in
     let b = get_or entries j d in
@@ -96,17 +96,17 @@ all_later entries n x e low high out l is el eo both all =
 pub first_one : (P : Entry → Type 0) (entries : List Entry) (x : Entry) → 0 < length entries → x ≡ get_or entries 0 x → P x → All P (take 1 entries)
 first_one P entries x l is p = one_more P entries 0 x l is (λ k d m. absurd (omega (arith, length-take-le 0 entries (omega arith)))) (subst P is p)
 
-pub cut_first : (entries : List Entry) (x : Entry) → 0 < length entries → x ≡ get_or entries 0 x → AllPairs IsBefore entries → IsTrue (get_or entries 0 x).piece.now.clean → IsCut 1 entries
+pub cut_first : (entries : List Entry) (x : Entry) → 0 < length entries → x ≡ get_or entries 0 x → AllPairs ComesBefore entries → IsTrue (get_or entries 0 x).piece.now.clean → IsCut 1 entries
 cut_first entries x l is order known a b ha hb =
     let clean : IsTrue x.piece.now.clean = subst (λ (y : Entry). IsTrue y.piece.now.clean) (sym is) known in
-    let own : IsBefore a b = AllPairs-across IsBefore (take 1 entries) (drop 1 entries) (subst (λ ys. AllPairs IsBefore ys) (sym (take-append-drop 1 entries)) order) a b ha hb in
+    let own : ComesBefore a b = AllPairs-across ComesBefore (take 1 entries) (drop 1 entries) (subst (λ ys. AllPairs ComesBefore ys) (sym (take-append-drop 1 entries)) order) a b ha hb in
     let one : IsTrue a.piece.now.clean = All-contains (λ e. IsTrue e.piece.now.clean) (take 1 entries) a (first_one (λ e. IsTrue e.piece.now.clean) entries x l is clean) ha in
     own.clean (ap (λ c. c || b.piece.now.clean) one)
 
 -- ---- the pieces that meet a range
 
 module _ (range : Range) (pieces : List Piece) (held : List Held) (place : ℕ) (entries : List Entry) (piece : Piece) (below : place < length pieces) (same : length held ≡ length pieces) (is : piece ≡ get_or pieces place piece)
-    (so_far : parts_of held entries ≡ filter (λ part. overlap range (hull part.0)) (take place (zip pieces held))) where
+    (so_far : held_parts held entries ≡ filter (λ part. overlap range (hull part.0)) (take place (zip pieces held))) where
   abbrev none : Held
   none = record { points = None; cost = 0 }
 
@@ -116,32 +116,32 @@ module _ (range : Range) (pieces : List Piece) (held : List Held) (place : ℕ) 
   within : place < length (zip pieces held)
   within = let long = length-zip pieces held in omega (arith, long, below, same)
 
-  more : filter (λ part. overlap range (hull part.0)) (take (place + 1) (zip pieces held)) ≡ parts_of held entries ++ cond (overlap range (hull piece)) ((piece, held_at held place) ∷ []) []
+  more : filter (λ part. overlap range (hull part.0)) (take (place + 1) (zip pieces held)) ≡ held_parts held entries ++ cond (overlap range (hull piece)) ((piece, held_at held place) ∷ []) []
   more = filter_more (λ part. overlap range (hull part.0)) (zip pieces held) place (piece, none) within
       ∙ ap (λ xs. xs ++ cond (overlap range (hull (get_or (zip pieces held) place (piece, none)).0)) (get_or (zip pieces held) place (piece, none) ∷ []) []) (sym so_far)
-      ∙ ap (λ (x : Part). parts_of held entries ++ cond (overlap range (hull x.0)) (x ∷ []) []) at
+      ∙ ap (λ (x : HeldPiece). held_parts held entries ++ cond (overlap range (hull x.0)) (x ∷ []) []) at
 
   pub pushed : (entry : Entry) → entry.place ≡ place → entry.piece.now ≡ piece → overlap range (hull piece) ≡ true
-      → parts_of held (entries ++ entry ∷ []) ≡ filter (λ part. overlap range (hull part.0)) (take (place + 1) (zip pieces held))
+      → held_parts held (entries ++ entry ∷ []) ≡ filter (λ part. overlap range (hull part.0)) (take (place + 1) (zip pieces held))
   pushed entry ep en meet =
       let own : part_of held entry ≡ (piece, held_at held place) = ap (λ k. (entry.piece.now, held_at held k)) ep ∙ ap (λ p. (p, held_at held place)) en in
-      map-append (part_of held) entries (entry ∷ []) ∙ ap (λ x. parts_of held entries ++ x ∷ []) own
-      ∙ sym (more ∙ ap (λ b. parts_of held entries ++ cond b ((piece, held_at held place) ∷ []) []) meet)
+      map-append (part_of held) entries (entry ∷ []) ∙ ap (λ x. held_parts held entries ++ x ∷ []) own
+      ∙ sym (more ∙ ap (λ b. held_parts held entries ++ cond b ((piece, held_at held place) ∷ []) []) meet)
 
-  pub passed : overlap range (hull piece) ≡ false → parts_of held entries ≡ filter (λ part. overlap range (hull part.0)) (take (place + 1) (zip pieces held))
-  passed miss = sym (more ∙ ap (λ b. parts_of held entries ++ cond b ((piece, held_at held place) ∷ []) []) miss ∙ append-nil (parts_of held entries))
+  pub passed : overlap range (hull piece) ≡ false → held_parts held entries ≡ filter (λ part. overlap range (hull part.0)) (take (place + 1) (zip pieces held))
+  passed miss = sym (more ∙ ap (λ b. held_parts held entries ++ cond b ((piece, held_at held place) ∷ []) []) miss ∙ append-nil (held_parts held entries))
 
 pub all_sorted : (range : Range) (pieces : List Piece) (held : List Held) (n : ℕ) (before after : List Entry) → length held ≡ length pieces → length pieces ≤ n → IsPermutation before after
-    → parts_of held before ≡ filter (λ part. overlap range (hull part.0)) (take n (zip pieces held)) → IsPermutation (filter (λ part. overlap range (hull part.0)) (zip pieces held)) (parts_of held after)
+    → held_parts held before ≡ filter (λ part. overlap range (hull part.0)) (take n (zip pieces held)) → IsPermutation (filter (λ part. overlap range (hull part.0)) (zip pieces held)) (held_parts held after)
 all_sorted range pieces held n before after same done perm is =
     let long = length-zip pieces held in
     let whole : take n (zip pieces held) ≡ zip pieces held = take_all n (zip pieces held) (omega (arith, long, same, done)) in
-    let test : List Part → List Part = filter (λ part. overlap range (hull part.0)) in
-    subst (λ xs. IsPermutation xs (parts_of held after)) (is ∙ ap test whole) (IsPermutation-map (part_of held) before after perm)
+    let test : List HeldPiece → List HeldPiece = filter (λ part. overlap range (hull part.0)) in
+    subst (λ xs. IsPermutation xs (held_parts held after)) (is ∙ ap test whole) (IsPermutation-map (part_of held) before after perm)
 
 abbrev IsSoFar : Range → List Piece → ℕ → List Entry → Type 0
 IsSoFar range pieces place entries = All (λ entry. entry.place < length pieces) entries
-    × ((held : List Held) → length held ≡ length pieces → parts_of held entries ≡ filter (λ part. overlap range (hull part.0)) (take place (zip pieces held)))
+    × ((held : List Held) → length held ≡ length pieces → held_parts held entries ≡ filter (λ part. overlap range (hull part.0)) (take place (zip pieces held)))
 
 pub with_entry : (range : Range) (pieces : List Piece) (place : ℕ) (entries items : List Entry) (entry : Entry) (piece : Piece) → place < length pieces → piece ≡ get_or pieces place piece → items ≡ entries ++ entry ∷ []
     → entry.place ≡ place → entry.piece.now ≡ piece → overlap range (hull piece) ≡ true → IsSoFar range pieces place entries → IsSoFar range pieces (place + 1) items

@@ -17,8 +17,8 @@ use Rattle.tsdb_model.specs.World.{is_in}
 use Rattle.tsdb_merge.specs.Winners.{HasNoneAt, IsMergeOf}
 use Rattle.tsdb_merge.proofs.MergeLemmas.{All-from_contains, All-left, All-right, Contains-head}
 use Rattle.tsdb_aggregate.specs.Loads.{Held}
-use Rattle.tsdb_aggregate.specs.Pieces.{AreApart, AreSound, HasOrder, IsCleanIn, Part, cost_in, hull, overlap, most_loads, points_of}
-use Rattle.tsdb_aggregate.specs.Steps.{AddsWinners, End, HasTally, IsCut, IsGroup, IsTally, answer_of, cost_of, part_of, parts_of}
+use Rattle.tsdb_aggregate.specs.Pieces.{AreApart, AreSound, HasOrder, IsCleanIn, HeldPiece, cost_in, hull, overlap, most_loads, points_of}
+use Rattle.tsdb_aggregate.specs.Steps.{AddsWinners, End, HasTally, IsCut, IsGroup, IsTally, answer_of, cost_of, part_of, held_parts}
 use Rattle.tsdb_aggregate.specs.Winners.{AreWinners, IsAggregate}
 use Rattle.tsdb_aggregate.specs.declared.entry.Entry.{Entry}
 use Rattle.tsdb_aggregate.specs.declared.tally.Tally.{Tally}
@@ -28,7 +28,7 @@ use Rattle.tsdb_aggregate.proofs.WinnerLemmas.{Before, IsBelow, same_filtered, s
 
 -- ---- one group
 
-apart_both : (a b : Part) → AreApart a b → AreApart b a
+apart_both : (a b : HeldPiece) → AreApart a b → AreApart b a
 apart_both a b h = record {
   times = λ same. All-from_contains (λ p. HasNoneAt p.time (points_of a)) (points_of b) (λ p hp.
       All-from_contains (λ q. q.time ≢ p.time) (points_of a) (λ q hq e.
@@ -47,23 +47,23 @@ apart_both a b h = record {
     other_true false true e = refl
     other_true false false e = e
 
-pub apart_permuted : (xs ys : List Part) → IsPermutation xs ys → AllPairs AreApart xs → AllPairs AreApart ys
+pub apart_permuted : (xs ys : List HeldPiece) → IsPermutation xs ys → AllPairs AreApart xs → AllPairs AreApart ys
 apart_permuted xs ys perm h = AllPairs-permutation AreApart apart_both xs ys perm h
 
 pub winners_of_group : (held : List Held) (range : Range) (group entries : List Entry) (all : List Point)
-    → IsPermutation group entries → AllPairs (λ a b. a.piece.now.source ≤ b.piece.now.source) entries → AllPairs AreApart (parts_of held group)
-    → IsMergeOf (map points_of (parts_of held entries)) all → AreWinners (parts_of held group) range (filter (λ point. is_in range point.time) all)
+    → IsPermutation group entries → AllPairs (λ a b. a.piece.now.source ≤ b.piece.now.source) entries → AllPairs AreApart (held_parts held group)
+    → IsMergeOf (map points_of (held_parts held entries)) all → AreWinners (held_parts held group) range (filter (λ point. is_in range point.time) all)
 winners_of_group held range group entries all perm sources apart merge =
-    let moved : IsPermutation (parts_of held group) (parts_of held entries) = IsPermutation-map (part_of held) group entries perm in
-    let pairs = AllPairs-of_map AreApart (part_of held) entries (apart_permuted (parts_of held group) (parts_of held entries) moved apart) in
-    let below : AllPairs IsBelow (parts_of held entries) = AllPairs-map IsBelow (part_of held) entries (λ i j d l m. record { source = sources i j d l m; times = (pairs i j d l m).times }) in
+    let moved : IsPermutation (held_parts held group) (held_parts held entries) = IsPermutation-map (part_of held) group entries perm in
+    let pairs = AllPairs-of_map AreApart (part_of held) entries (apart_permuted (held_parts held group) (held_parts held entries) moved apart) in
+    let below : AllPairs IsBelow (held_parts held entries) = AllPairs-map IsBelow (part_of held) entries (λ i j d l m. record { source = sources i j d l m; times = (pairs i j d l m).times }) in
     let points = filter (λ point. is_in range point.time) all in
-    winners_of_same range (parts_of held entries) (parts_of held group) points (same_permuted range (parts_of held entries) (parts_of held group) (IsPermutation-sym (parts_of held group) (parts_of held entries) moved))
-    (winners_of_merge range (parts_of held entries) all below merge)
+    winners_of_same range (held_parts held entries) (held_parts held group) points (same_permuted range (held_parts held entries) (held_parts held group) (IsPermutation-sym (held_parts held group) (held_parts held entries) moved))
+    (winners_of_merge range (held_parts held entries) all below merge)
 
 -- ---- a clean piece alone
 
-pub adds_clean : (held : List Held) (range : Range) (name : Aggregate) (group : List Entry) (x : Entry) (before now next : Tally) → IsGroup group → AreSound range (parts_of held group)
+pub adds_clean : (held : List Held) (range : Range) (name : Aggregate) (group : List Entry) (x : Entry) (before now next : Tally) → IsGroup group → AreSound range (held_parts held group)
     → IsTrue (get_or group 0 x).piece.now.clean → ((points : List Point) → AreStatsOf points (get_or group 0 x).piece.now.stats → IsTally name points next)
     → ((xs ys : List Point) → IsTally name xs before → IsTally name ys next → IsTally name (xs ++ ys) now) → AddsWinners held range name group before now
 adds_clean held range name [] x before now next some sound clean of_stats join = absurd (omega (arith, some.0))
@@ -78,14 +78,14 @@ adds_clean held range name (y ∷ []) x before now next some sound clean of_stat
 adds_clean held range name (y ∷ z ∷ zs) x before now next (some, inl one) sound clean of_stats join = absurd (omega (arith, one))
 adds_clean held range name (y ∷ z ∷ zs) x before now next (some, inr unclean) sound clean of_stats join = absurd (false≢true (sym (All-head (λ (e : Entry). e.piece.now.clean ≡ false) y (z ∷ zs) unclean) ∙ clean))
 
-cost_unclean : (held : List Held) (group : List Entry) → All (λ entry. entry.piece.now.clean ≡ false) group → sum_by (λ part. part.1.cost) (parts_of held group) ≡ sum_by cost_of (parts_of held group)
+cost_unclean : (held : List Held) (group : List Entry) → All (λ entry. entry.piece.now.clean ≡ false) group → sum_by (λ part. part.1.cost) (held_parts held group) ≡ sum_by cost_of (held_parts held group)
 cost_unclean held [] all = refl
 cost_unclean held (y ∷ ys) all =
     let own : cost_of (part_of held y) ≡ (part_of held y).1.cost = ap (λ b. cond b 0 (part_of held y).1.cost) (All-head (λ (e : Entry). e.piece.now.clean ≡ false) y ys all) in
     let rest = cost_unclean held ys (All-tail (λ (e : Entry). e.piece.now.clean ≡ false) y ys all) in
-    sum_by-cons (λ part. part.1.cost) (part_of held y) (parts_of held ys) ∙ ap (λ n. (part_of held y).1.cost + n) rest ∙ ap (λ n. n + sum_by cost_of (parts_of held ys)) (sym own) ∙ sym (sum_by-cons cost_of (part_of held y) (parts_of held ys))
+    sum_by-cons (λ part. part.1.cost) (part_of held y) (held_parts held ys) ∙ ap (λ n. (part_of held y).1.cost + n) rest ∙ ap (λ n. n + sum_by cost_of (held_parts held ys)) (sym own) ∙ sym (sum_by-cons cost_of (part_of held y) (held_parts held ys))
 
-pub cost_of_group : (held : List Held) (group : List Entry) (x : Entry) → IsGroup group → (get_or group 0 x).piece.now.clean ≡ false → sum_by (λ part. part.1.cost) (parts_of held group) ≡ sum_by cost_of (parts_of held group)
+pub cost_of_group : (held : List Held) (group : List Entry) (x : Entry) → IsGroup group → (get_or group 0 x).piece.now.clean ≡ false → sum_by (λ part. part.1.cost) (held_parts held group) ≡ sum_by cost_of (held_parts held group)
 cost_of_group held [] x some e = refl
 cost_of_group held (y ∷ []) x some e = cost_unclean held (y ∷ []) (λ k d l. first k d l)
   where
@@ -97,57 +97,57 @@ cost_of_group held (y ∷ z ∷ zs) x (some, inr unclean) e = cost_unclean held 
 
 -- ---- a group behind others
 
-before_from_end : (held : List Held) (xs ys : List Entry) → All HasOrder (parts_of held xs) → All HasOrder (parts_of held ys) → End xs ys → Before (parts_of held xs) (parts_of held ys)
+before_from_end : (held : List Held) (xs ys : List Entry) → All HasOrder (held_parts held xs) → All HasOrder (held_parts held ys) → End xs ys → Before (held_parts held xs) (held_parts held ys)
 before_from_end held xs ys ox oy end s t p q hp hq =
     let a = Contains-of_map (part_of held) xs hp.part hp.among in
     let b = Contains-of_map (part_of held) ys hq.part hq.among in
-    let inside : IsTrue (is_in (hull hp.part.0) p.time) = All-contains (λ r. IsTrue (is_in (hull hp.part.0) r.time)) (points_of hp.part) p (All-contains HasOrder (parts_of held xs) hp.part ox hp.among).within hp.has in
-    let within : IsTrue (is_in (hull hq.part.0) q.time) = All-contains (λ r. IsTrue (is_in (hull hq.part.0) r.time)) (points_of hq.part) q (All-contains HasOrder (parts_of held ys) hq.part oy hq.among).within hq.has in
-    let first : IsTrue (is_in (hull a.0.piece.now) p.time) = subst (λ (x : Part). IsTrue (is_in (hull x.0) p.time)) (sym a.2) inside in
-    let second : IsTrue (is_in (hull b.0.piece.now) q.time) = subst (λ (x : Part). IsTrue (is_in (hull x.0) q.time)) (sym b.2) within in
+    let inside : IsTrue (is_in (hull hp.part.0) p.time) = All-contains (λ r. IsTrue (is_in (hull hp.part.0) r.time)) (points_of hp.part) p (All-contains HasOrder (held_parts held xs) hp.part ox hp.among).within hp.has in
+    let within : IsTrue (is_in (hull hq.part.0) q.time) = All-contains (λ r. IsTrue (is_in (hull hq.part.0) r.time)) (points_of hq.part) q (All-contains HasOrder (held_parts held ys) hq.part oy hq.among).within hq.has in
+    let first : IsTrue (is_in (hull a.0.piece.now) p.time) = subst (λ (x : HeldPiece). IsTrue (is_in (hull x.0) p.time)) (sym a.2) inside in
+    let second : IsTrue (is_in (hull b.0.piece.now) q.time) = subst (λ (x : HeldPiece). IsTrue (is_in (hull x.0) q.time)) (sym b.2) within in
     between (hull a.0.piece.now) (hull b.0.piece.now) p.time q.time first second (end a.0 b.0 a.1 b.1)
   where
     between : (a b : Range) (t u : ℤ) → IsTrue (is_in a t) → IsTrue (is_in b u) → a.to <ℤ b.from → t <ℤ u
     between a b t u x y l = grind (arith, ints)
 
-parts_two : (held : List Held) (m n : ℕ) (entries : List Entry) → parts_of held (take (m + n) entries) ≡ parts_of held (take m entries) ++ parts_of held (take n (drop m entries))
-parts_two held m n entries = ap (parts_of held) (take_two m n entries) ∙ map-append (part_of held) (take m entries) (take n (drop m entries))
+parts_two : (held : List Held) (m n : ℕ) (entries : List Entry) → held_parts held (take (m + n) entries) ≡ held_parts held (take m entries) ++ held_parts held (take n (drop m entries))
+parts_two held m n entries = ap (held_parts held) (take_two m n entries) ∙ map-append (part_of held) (take m entries) (take n (drop m entries))
 
-parts_split : (held : List Held) (m : ℕ) (entries : List Entry) → parts_of held (take m entries) ++ parts_of held (drop m entries) ≡ parts_of held entries
-parts_split held m entries = sym (map-append (part_of held) (take m entries) (drop m entries)) ∙ ap (parts_of held) (take-append-drop m entries)
+parts_split : (held : List Held) (m : ℕ) (entries : List Entry) → held_parts held (take m entries) ++ held_parts held (drop m entries) ≡ held_parts held entries
+parts_split held m entries = sym (map-append (part_of held) (take m entries) (drop m entries)) ∙ ap (held_parts held) (take-append-drop m entries)
 
 -- what is so of all entries is so of those of a group
-pub order_of_first : (held : List Held) (m : ℕ) (entries : List Entry) → All HasOrder (parts_of held entries) → All HasOrder (parts_of held (take m entries))
-order_of_first held m entries all = All-left HasOrder (parts_of held (take m entries)) (parts_of held (drop m entries)) (subst (λ ps. All HasOrder ps) (sym (parts_split held m entries)) all)
+pub order_of_first : (held : List Held) (m : ℕ) (entries : List Entry) → All HasOrder (held_parts held entries) → All HasOrder (held_parts held (take m entries))
+order_of_first held m entries all = All-left HasOrder (held_parts held (take m entries)) (held_parts held (drop m entries)) (subst (λ ps. All HasOrder ps) (sym (parts_split held m entries)) all)
 
-pub sound_first : (range : Range) (held : List Held) (m : ℕ) (entries : List Entry) → AreSound range (parts_of held entries) → AreSound range (parts_of held (take m entries))
+pub sound_first : (range : Range) (held : List Held) (m : ℕ) (entries : List Entry) → AreSound range (held_parts held entries) → AreSound range (held_parts held (take m entries))
 sound_first range held m entries sound =
     let e = sym (parts_split held m entries) in
     record {
       order = order_of_first held m entries sound.order;
-      clean = All-left (λ part. IsTrue part.0.clean → IsCleanIn range part) (parts_of held (take m entries)) (parts_of held (drop m entries)) (subst (λ ps. All (λ part. IsTrue part.0.clean → IsCleanIn range part) ps) e sound.clean);
-      apart = AllPairs-left AreApart (parts_of held (take m entries)) (parts_of held (drop m entries)) (subst (λ ps. AllPairs AreApart ps) e sound.apart);
+      clean = All-left (λ part. IsTrue part.0.clean → IsCleanIn range part) (held_parts held (take m entries)) (held_parts held (drop m entries)) (subst (λ ps. All (λ part. IsTrue part.0.clean → IsCleanIn range part) ps) e sound.clean);
+      apart = AllPairs-left AreApart (held_parts held (take m entries)) (held_parts held (drop m entries)) (subst (λ ps. AllPairs AreApart ps) e sound.apart);
     }
 
-pub sound_rest : (range : Range) (held : List Held) (m : ℕ) (entries : List Entry) → AreSound range (parts_of held entries) → AreSound range (parts_of held (drop m entries))
+pub sound_rest : (range : Range) (held : List Held) (m : ℕ) (entries : List Entry) → AreSound range (held_parts held entries) → AreSound range (held_parts held (drop m entries))
 sound_rest range held m entries sound =
     let e = sym (parts_split held m entries) in
     record {
-      order = All-right HasOrder (parts_of held (take m entries)) (parts_of held (drop m entries)) (subst (λ ps. All HasOrder ps) e sound.order);
-      clean = All-right (λ part. IsTrue part.0.clean → IsCleanIn range part) (parts_of held (take m entries)) (parts_of held (drop m entries)) (subst (λ ps. All (λ part. IsTrue part.0.clean → IsCleanIn range part) ps) e sound.clean);
-      apart = AllPairs-right AreApart (parts_of held (take m entries)) (parts_of held (drop m entries)) (subst (λ ps. AllPairs AreApart ps) e sound.apart);
+      order = All-right HasOrder (held_parts held (take m entries)) (held_parts held (drop m entries)) (subst (λ ps. All HasOrder ps) e sound.order);
+      clean = All-right (λ part. IsTrue part.0.clean → IsCleanIn range part) (held_parts held (take m entries)) (held_parts held (drop m entries)) (subst (λ ps. All (λ part. IsTrue part.0.clean → IsCleanIn range part) ps) e sound.clean);
+      apart = AllPairs-right AreApart (held_parts held (take m entries)) (held_parts held (drop m entries)) (subst (λ ps. AllPairs AreApart ps) e sound.apart);
     }
 
-pub tally_more : (held : List Held) (range : Range) (name : Aggregate) (m n : ℕ) (entries : List Entry) (before now : Tally) → AreSound range (parts_of held entries) → IsCut m entries
+pub tally_more : (held : List Held) (range : Range) (name : Aggregate) (m n : ℕ) (entries : List Entry) (before now : Tally) → AreSound range (held_parts held entries) → IsCut m entries
     → HasTally held range name (take m entries) before → AddsWinners held range name (take n (drop m entries)) before now → HasTally held range name (take (m + n) entries) now
 tally_more held range name m n entries before now sound cut first second =
-    let apart : Before (parts_of held (take m entries)) (parts_of held (take n (drop m entries))) =
+    let apart : Before (held_parts held (take m entries)) (held_parts held (take n (drop m entries))) =
     before_from_end held (take m entries) (take n (drop m entries)) (sound_first range held m entries sound).order (sound_first range held n (drop m entries) (sound_rest range held m entries sound)).order
     (λ a b ha hb. cut a b ha (Contains-from_take n (drop m entries) b hb)) in
     record {
       points = first.points ++ second.points;
       winners = subst (λ ps. AreWinners ps range (first.points ++ second.points)) (sym (parts_two held m n entries))
-          (winners_append (parts_of held (take m entries)) (parts_of held (take n (drop m entries))) range first.points second.points apart first.winners second.winners);
+          (winners_append (held_parts held (take m entries)) (held_parts held (take n (drop m entries))) range first.points second.points apart first.winners second.winners);
       tally_is = second.adds first.points first.tally_is;
     }
 
@@ -159,8 +159,8 @@ cut_more m n entries first second a b ha hb =
     (λ own. second a b own late)
     (Contains-append_cases (take m entries) (take n (drop m entries)) a (subst (λ es. Contains es a) (take_two m n entries) ha))
 
-pub cost_more : (held : List Held) (m n : ℕ) (entries : List Entry) → sum_by cost_of (parts_of held (take (m + n) entries)) ≡ sum_by cost_of (parts_of held (take m entries)) + sum_by cost_of (parts_of held (take n (drop m entries)))
-cost_more held m n entries = ap (λ ps. sum_by cost_of ps) (parts_two held m n entries) ∙ sum_by-append cost_of (parts_of held (take m entries)) (parts_of held (take n (drop m entries)))
+pub cost_more : (held : List Held) (m n : ℕ) (entries : List Entry) → sum_by cost_of (held_parts held (take (m + n) entries)) ≡ sum_by cost_of (held_parts held (take m entries)) + sum_by cost_of (held_parts held (take n (drop m entries)))
+cost_more held m n entries = ap (λ ps. sum_by cost_of ps) (parts_two held m n entries) ∙ sum_by-append cost_of (held_parts held (take m entries)) (held_parts held (take n (drop m entries)))
 
 -- ---- all pieces
 
@@ -170,46 +170,46 @@ cost_each true false n = refl
 cost_each false true n = refl
 cost_each false false n = refl
 
-cost_kept : (b : Bool) (part : Part) (rest : List Part) → sum_by cost_of (cond b (part ∷ rest) rest) ≡ cond b (cost_of part) 0 + sum_by cost_of rest
+cost_kept : (b : Bool) (part : HeldPiece) (rest : List HeldPiece) → sum_by cost_of (cond b (part ∷ rest) rest) ≡ cond b (cost_of part) 0 + sum_by cost_of rest
 cost_kept true part rest = sum_by-cons cost_of part rest
 cost_kept false part rest = omega arith
 
-cost_filtered : (range : Range) (parts : List Part) → sum_by cost_of (filter (λ part. overlap range (hull part.0)) parts) ≡ most_loads range parts
+cost_filtered : (range : Range) (parts : List HeldPiece) → sum_by cost_of (filter (λ part. overlap range (hull part.0)) parts) ≡ most_loads range parts
 cost_filtered range [] = refl
 cost_filtered range (part ∷ parts) =
     let b = overlap range (hull part.0) in
-    let rest = filter (λ (x : Part). overlap range (hull x.0)) parts in
+    let rest = filter (λ (x : HeldPiece). overlap range (hull x.0)) parts in
     cost_kept b part rest
     ∙ ap (λ n. n + sum_by cost_of rest) (cost_each b part.0.clean part.1.cost)
     ∙ ap (λ n. cost_in range part + n) (cost_filtered range parts)
     ∙ sym (sum_by-cons (cost_in range) part parts)
 
-pub cost_of_all : (range : Range) (parts : List Part) (held : List Held) (entries : List Entry) → IsPermutation (filter (λ part. overlap range (hull part.0)) parts) (parts_of held entries)
-    → sum_by cost_of (parts_of held entries) ≡ most_loads range parts
-cost_of_all range parts held entries perm = sum_by-IsPermutation cost_of (filter (λ part. overlap range (hull part.0)) parts) (parts_of held entries) perm ∙ cost_filtered range parts
+pub cost_of_all : (range : Range) (parts : List HeldPiece) (held : List Held) (entries : List Entry) → IsPermutation (filter (λ part. overlap range (hull part.0)) parts) (held_parts held entries)
+    → sum_by cost_of (held_parts held entries) ≡ most_loads range parts
+cost_of_all range parts held entries perm = sum_by-IsPermutation cost_of (filter (λ part. overlap range (hull part.0)) parts) (held_parts held entries) perm ∙ cost_filtered range parts
 
-pub sound_entries : (range : Range) (parts : List Part) (held : List Held) (entries : List Entry) → IsPermutation (filter (λ part. overlap range (hull part.0)) parts) (parts_of held entries)
-    → AreSound range parts → AreSound range (parts_of held entries)
+pub sound_entries : (range : Range) (parts : List HeldPiece) (held : List Held) (entries : List Entry) → IsPermutation (filter (λ part. overlap range (hull part.0)) parts) (held_parts held entries)
+    → AreSound range parts → AreSound range (held_parts held entries)
 sound_entries range parts held entries perm sound =
-    let test : Part → Bool = λ part. overlap range (hull part.0) in
+    let test : HeldPiece → Bool = λ part. overlap range (hull part.0) in
     record {
-      order = All-permutation HasOrder (filter test parts) (parts_of held entries) perm (All-filter test HasOrder parts sound.order);
-      clean = All-permutation (λ part. IsTrue part.0.clean → IsCleanIn range part) (filter test parts) (parts_of held entries) perm (All-filter test (λ part. IsTrue part.0.clean → IsCleanIn range part) parts sound.clean);
-      apart = apart_permuted (filter test parts) (parts_of held entries) perm (AllPairs-filter AreApart test parts sound.apart);
+      order = All-permutation HasOrder (filter test parts) (held_parts held entries) perm (All-filter test HasOrder parts sound.order);
+      clean = All-permutation (λ part. IsTrue part.0.clean → IsCleanIn range part) (filter test parts) (held_parts held entries) perm (All-filter test (λ part. IsTrue part.0.clean → IsCleanIn range part) parts sound.clean);
+      apart = apart_permuted (filter test parts) (held_parts held entries) perm (AllPairs-filter AreApart test parts sound.apart);
     }
 
-pub meet_entries : (range : Range) (parts : List Part) (held : List Held) (entries : List Entry) → IsPermutation (filter (λ part. overlap range (hull part.0)) parts) (parts_of held entries)
-    → All (λ part. overlap range (hull part.0) ≡ true) (parts_of held entries)
+pub meet_entries : (range : Range) (parts : List HeldPiece) (held : List Held) (entries : List Entry) → IsPermutation (filter (λ part. overlap range (hull part.0)) parts) (held_parts held entries)
+    → All (λ part. overlap range (hull part.0) ≡ true) (held_parts held entries)
 meet_entries range parts held entries perm =
-    let test : Part → Bool = λ part. overlap range (hull part.0) in
-    All-permutation (λ part. test part ≡ true) (filter test parts) (parts_of held entries) perm (filter_passes test parts)
+    let test : HeldPiece → Bool = λ part. overlap range (hull part.0) in
+    All-permutation (λ part. test part ≡ true) (filter test parts) (held_parts held entries) perm (filter_passes test parts)
 
-pub aggregate_of_all : (range : Range) (parts : List Part) (held : List Held) (entries : List Entry) (tally : Tally) (name : Aggregate) (answer : Option Value)
-    → IsPermutation (filter (λ part. overlap range (hull part.0)) parts) (parts_of held entries) → AreSound range parts → HasTally held range name entries tally → answer ≡ answer_of name tally → IsAggregate parts range name answer
+pub aggregate_of_all : (range : Range) (parts : List HeldPiece) (held : List Held) (entries : List Entry) (tally : Tally) (name : Aggregate) (answer : Option Value)
+    → IsPermutation (filter (λ part. overlap range (hull part.0)) parts) (held_parts held entries) → AreSound range parts → HasTally held range name entries tally → answer ≡ answer_of name tally → IsAggregate parts range name answer
 aggregate_of_all range parts held entries tally name answer perm sound found is =
-    let test : Part → Bool = λ part. overlap range (hull part.0) in
-    let kept = winners_of_same range (parts_of held entries) (filter test parts) found.points
-    (same_permuted range (parts_of held entries) (filter test parts) (IsPermutation-sym (filter test parts) (parts_of held entries) perm)) found.winners in
+    let test : HeldPiece → Bool = λ part. overlap range (hull part.0) in
+    let kept = winners_of_same range (held_parts held entries) (filter test parts) found.points
+    (same_permuted range (held_parts held entries) (filter test parts) (IsPermutation-sym (filter test parts) (held_parts held entries) perm)) found.winners in
     record {
       points = found.points;
       winners = winners_of_same range (filter test parts) parts found.points (same_filtered range parts sound.order) kept;

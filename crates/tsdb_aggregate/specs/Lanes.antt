@@ -60,7 +60,7 @@ pub record SpendsDown {T : Type 0} (waiting waiting_now : ℕ) (before now : Loa
   pub spends : Spends cost before now pages pages_now result
 
 -- entries of one source, one at least, of which each ends before the next one begins
-pub record IsRow (entries : List Entry) : Type 0 where
+pub record IsRowOfPieces (entries : List Entry) : Type 0 where
   pub some : 0 < length entries
   pub source : AllPairs (λ a b. a.piece.now.source ≡ b.piece.now.source) entries
   pub order : AllPairs (λ a b. a.piece.now.stats.end <ℤ b.piece.now.stats.start) entries
@@ -79,5 +79,5 @@ pub record AreLanesOf (group : List Entry) (lanes : List Lane) : Type 0 where
   pub rows : List (List Entry)
   pub all : IsPermutation group (rows_joined rows)
   pub order : AllPairs (λ a b. a.piece.now.source ≤ b.piece.now.source) (rows_joined rows)
-  pub each : All IsRow rows
+  pub each : All IsRowOfPieces rows
   pub lanes_are : AllZip IsLaneOf rows lanes

@@ -11,8 +11,8 @@ use Rattle.tsdb_aggregate.specs.Loads.{Held}
 use Rattle.tsdb_aggregate.specs.declared.piece.Piece.{Piece}
 
 -- a piece, and what is held of it
-abbrev pub Part : Type 0
-Part = Piece × Held
+abbrev pub HeldPiece : Type 0
+HeldPiece = Piece × Held
 
 -- the times from the start to the end of a piece
 abbrev pub hull : Piece → Range
@@ -23,7 +23,7 @@ abbrev pub told_points : Option (List Point) → List Point
 told_points None = []
 told_points (Some points) = points
 
-abbrev pub points_of : Part → List Point
+abbrev pub points_of : HeldPiece → List Point
 points_of part = told_points part.1.points
 
 -- two ranges have a time in common: the start of one of them is in both
@@ -31,32 +31,32 @@ abbrev pub overlap : Range → Range → Bool
 overlap a b = (is_in a b.from && is_in b b.from) || (is_in b a.from && is_in a a.from)
 
 -- the points of a piece are told, and stand in order of time, within its hull
-pub record HasOrder (part : Part) : Type 0 where
+pub record HasOrder (part : HeldPiece) : Type 0 where
   pub told : part.1.points ≡ Some (points_of part)
   pub rising : IsRising (points_of part)
   pub within : All (λ point. IsTrue (is_in (hull part.0) point.time)) (points_of part)
 
 -- a piece that is clean has the statistics of its points, and its hull is in the range
-pub record IsCleanIn (range : Range) (part : Part) : Type 0 where
+pub record IsCleanIn (range : Range) (part : HeldPiece) : Type 0 where
   pub statistics : AreStatsOf (points_of part) part.0.stats
   pub from : IsTrue (is_in range part.0.stats.start)
   pub to : IsTrue (is_in range part.0.stats.end)
 
 -- two pieces of one source have no time in common, and nothing lies over a clean piece
-pub record AreApart (a b : Part) : Type 0 where
+pub record AreApart (a b : HeldPiece) : Type 0 where
   pub times : a.0.source ≡ b.0.source → All (λ point. HasNoneAt point.time (points_of b)) (points_of a)
   pub hulls : IsTrue (a.0.clean || b.0.clean) → overlap (hull a.0) (hull b.0) ≡ false
 
 -- what has to be so of the pieces, all of which are told, for the answer to be the aggregate of the winners
-pub record AreSound (range : Range) (parts : List Part) : Type 0 where
+pub record AreSound (range : Range) (parts : List HeldPiece) : Type 0 where
   pub order : All HasOrder parts
   pub clean : All (λ part. IsTrue part.0.clean → IsCleanIn range part) parts
   pub apart : AllPairs AreApart parts
 
 -- a piece that meets the range and is not clean may be loaded
-abbrev pub cost_in : Range → Part → ℕ
+abbrev pub cost_in : Range → HeldPiece → ℕ
 cost_in range part = if overlap range (hull part.0) && not part.0.clean then part.1.cost else 0
 
 -- the most that all loads together may cost
-abbrev pub most_loads : Range → List Part → ℕ
+abbrev pub most_loads : Range → List HeldPiece → ℕ
 most_loads range parts = sum_by (cost_in range) parts

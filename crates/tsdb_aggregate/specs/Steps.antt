@@ -16,7 +16,7 @@ use Rattle.tsdb_model.specs.World.{is_in}
 use Rattle.tsdb_merge.specs.Winners.{IsMergeOf}
 use Rattle.tsdb_stats.specs.Steps.{join_options}
 use Rattle.tsdb_aggregate.specs.Loads.{Held, LoaderState, Spends, held_at}
-use Rattle.tsdb_aggregate.specs.Pieces.{AreSound, Part}
+use Rattle.tsdb_aggregate.specs.Pieces.{AreSound, HeldPiece}
 use Rattle.tsdb_aggregate.specs.Winners.{AreWinners}
 use Rattle.tsdb_aggregate.specs.declared.entry.Entry.{Entry}
 use Rattle.tsdb_aggregate.specs.declared.tally.Kept.{Kept}
@@ -24,19 +24,19 @@ use Rattle.tsdb_aggregate.specs.declared.tally.Kept.TheVariants.{Nothing, Lent, 
 use Rattle.tsdb_aggregate.specs.declared.tally.Tally.{Tally}
 
 -- the piece of an entry, and what is held of it
-abbrev pub part_of : List Held → Entry → Part
+abbrev pub part_of : List Held → Entry → HeldPiece
 part_of held entry = (entry.piece.now, held_at held entry.place)
 
-abbrev pub parts_of : List Held → List Entry → List Part
-parts_of held entries = map (part_of held) entries
+abbrev pub held_parts : List Held → List Entry → List HeldPiece
+held_parts held entries = map (part_of held) entries
 
 -- the first entry begins no later than the second, and ends before it where one of them is clean
-pub record IsBefore (a b : Entry) : Type 0 where
+pub record ComesBefore (a b : Entry) : Type 0 where
   pub start : a.piece.now.stats.start ≤ℤ b.piece.now.stats.start
   pub clean : IsTrue (a.piece.now.clean || b.piece.now.clean) → a.piece.now.stats.end <ℤ b.piece.now.stats.start
 
 -- what an entry may cost: nothing where its piece is clean
-abbrev pub cost_of : Part → ℕ
+abbrev pub cost_of : HeldPiece → ℕ
 cost_of part = if part.0.clean then 0 else part.1.cost
 
 -- one clean piece, or pieces that are not clean
@@ -92,14 +92,14 @@ IsChosen name before later false = join_options (choice name) before later ≡ b
 -- the winners of entries in the range have this tally
 pub record HasTally (held : List Held) (range : Range) (name : Aggregate) (entries : List Entry) (tally : Tally) : Type 0 where
   pub points : List Point
-  pub winners : AreWinners (parts_of held entries) range points
+  pub winners : AreWinners (held_parts held entries) range points
   pub tally_is : IsTally name points tally
 
 -- the winners of entries in the range were added to a tally
 pub record AddsWinners (held : List Held) (range : Range) (name : Aggregate) (entries : List Entry) (before now : Tally)
     : Type 0 where
   pub points : List Point
-  pub winners : AreWinners (parts_of held entries) range points
+  pub winners : AreWinners (held_parts held entries) range points
   pub adds : (earlier : List Point) → IsTally name earlier before → IsTally name (earlier ++ points) now
 
 -- a point was added to a tally, if it is in the range
@@ -127,9 +127,9 @@ pub record AddsMerge (range : Range) (name : Aggregate) (lists : List (List Poin
 pub record HasWalked (range : Range) (name : Aggregate) (before now : LoaderState) (pages pages_now : ℕ)
     (entries : List Entry) (m : ℕ) (tally : Tally) : Type 0 where
   pub within : m ≤ length entries
-  pub found : AreSound range (parts_of before.held entries) → AllPairs IsBefore entries
+  pub found : AreSound range (held_parts before.held entries) → AllPairs ComesBefore entries
       → HasTally before.held range name (take m entries) tally × IsCut m entries
-  pub spends : Spends {T = ⊤} (sum_by cost_of (parts_of before.held (take m entries))) before now pages pages_now
+  pub spends : Spends {T = ⊤} (sum_by cost_of (held_parts before.held (take m entries))) before now pages pages_now
       (Ok tt)
 
 -- lists in memory, whose loads cost nothing

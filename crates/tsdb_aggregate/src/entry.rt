@@ -5,7 +5,7 @@ ghost use Rattle.std.specs.List.{zip};
 ghost use Rattle.std.specs.List.Sorted.{IsPermutation};
 ghost use Rattle.tsdb_aggregate.specs.Loads.{Held};
 ghost use Rattle.tsdb_aggregate.specs.Pieces.{hull, overlap as overlaps};
-ghost use Rattle.tsdb_aggregate.specs.Steps.{IsBefore, IsCut, IsGroup, parts_of};
+ghost use Rattle.tsdb_aggregate.specs.Steps.{ComesBefore, IsCut, IsGroup, held_parts};
 
 use crate::piece::{Piece, overlap};
 use std::alloc::Global;
@@ -27,7 +27,7 @@ pub fn entries_in<'a>(
     ensures places { IfOk result (λ entries. All (λ entry. entry.place < length pieces.now) entries.items) }
     ensures all { IfOk result (λ entries. (held : List Held) → length held ≡ length pieces.now →
         IsPermutation (filter (λ part. overlaps range.now (hull part.0)) (zip pieces.now held))
-        (parts_of held entries.items)) }
+        (held_parts held entries.items)) }
     ensures order { IfOk result (λ entries.
         AllPairs (λ a b. a.piece.now.stats.start ≤ℤ b.piece.now.stats.start) entries.items) }
 {
@@ -61,7 +61,7 @@ pub fn group_length(entries: &[Entry<'_>]) -> usize
     requires some { 0 < length entries.now }
     ensures some { 0 < result }
     ensures within { result ≤ length entries.now }
-    ensures cut { AllPairs IsBefore entries.now → IsCut result entries.now }
+    ensures cut { AllPairs ComesBefore entries.now → IsCut result entries.now }
     ensures group { IsGroup (take result entries.now) }
 {
     let first = entries[0].piece;

@@ -4,8 +4,8 @@ ghost use Rattle.std.specs.List.{zip};
 ghost use Rattle.tsdb_base.specs.declared.point.Point.{Point};
 ghost use Rattle.tsdb_base.specs.declared.point.Range.{Range as RangeModel};
 ghost use Rattle.tsdb_aggregate.specs.Loads.{Spends};
-ghost use Rattle.tsdb_aggregate.specs.Pieces.{AreSound, Part, most_loads};
-ghost use Rattle.tsdb_aggregate.specs.Steps.{AddsWinners, HasTally, IsBefore, IsGroup, cost_of, parts_of};
+ghost use Rattle.tsdb_aggregate.specs.Pieces.{AreSound, HeldPiece, most_loads};
+ghost use Rattle.tsdb_aggregate.specs.Steps.{AddsWinners, HasTally, ComesBefore, IsGroup, cost_of, held_parts};
 ghost use Rattle.tsdb_aggregate.specs.Winners.{AreWinners, IsAggregate};
 
 use crate::entry::{Entry, entries_in, group_length};
@@ -31,9 +31,9 @@ fn add_winners<'a, D: Loader, L: Ledger>(
 ) -> Result<(), PullFault>
     requires places { All (λ entry. entry.place < length (D.state loader.old).held) group.now }
     requires group { IsGroup group.now }
-    ensures added { OnOk result (AreSound range.now (parts_of (D.state loader.old).held group.now) →
+    ensures added { OnOk result (AreSound range.now (held_parts (D.state loader.old).held group.now) →
         AddsWinners (D.state loader.old).held range.now name group.now tally.old tally.new) }
-    ensures spends { Spends (sum_by cost_of (parts_of (D.state loader.old).held group.now))
+    ensures spends { Spends (sum_by cost_of (held_parts (D.state loader.old).held group.now))
         (D.state loader.old) (D.state loader.new) pages.old pages.new result }
 {
     let first = group[0].piece;
@@ -53,9 +53,9 @@ fn tally_of<'a, D: Loader, L: Ledger>(
     pages: &mut Steps<L>,
 ) -> Result<Tally<'a>, PullFault>
     requires places { All (λ entry. entry.place < length (D.state loader.old).held) entries.now }
-    ensures found { IfOk result (λ tally. AreSound range.now (parts_of (D.state loader.old).held entries.now) →
-        AllPairs IsBefore entries.now → HasTally (D.state loader.old).held range.now name entries.now tally) }
-    ensures spends { Spends (sum_by cost_of (parts_of (D.state loader.old).held entries.now))
+    ensures found { IfOk result (λ tally. AreSound range.now (held_parts (D.state loader.old).held entries.now) →
+        AllPairs ComesBefore entries.now → HasTally (D.state loader.old).held range.now name entries.now tally) }
+    ensures spends { Spends (sum_by cost_of (held_parts (D.state loader.old).held entries.now))
         (D.state loader.old) (D.state loader.new) pages.old pages.new result }
 {
     let mut tally = Tally::new();
@@ -94,6 +94,6 @@ pub fn aggregate<D: Loader, L: Ledger>(
 
 /// Pieces have one list of winners in a range: the same points in the same order, whoever computes it.
 pub fn winners_are_one()
-    ensures { (parts : List Part) (range : RangeModel) (xs ys : List Point) →
+    ensures { (parts : List HeldPiece) (range : RangeModel) (xs ys : List Point) →
         AreWinners parts range xs → AreWinners parts range ys → xs ≡ ys }
 {}

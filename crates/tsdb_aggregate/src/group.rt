@@ -6,10 +6,10 @@ ghost use Rattle.tsdb_merge.specs.Causes.{HasSomeCause};
 ghost use Rattle.tsdb_merge.specs.Merging.{lazy_left};
 ghost use Rattle.tsdb_base.specs.Points.{IsRising};
 ghost use Rattle.tsdb_base.specs.declared.point.Point.{Point};
-ghost use Rattle.tsdb_aggregate.specs.Lanes.{AreLanesOf, IsLaneOf, IsRow, lane_cost, lefts};
+ghost use Rattle.tsdb_aggregate.specs.Lanes.{AreLanesOf, IsLaneOf, IsRowOfPieces, lane_cost, lefts};
 ghost use Rattle.tsdb_aggregate.specs.Loads.{Spends};
 ghost use Rattle.tsdb_aggregate.specs.Pieces.{AreApart, HasOrder};
-ghost use Rattle.tsdb_aggregate.specs.Steps.{AddsMerge, AddsPoint, AddsWinners, AddsWithin, IsSettled, parts_of};
+ghost use Rattle.tsdb_aggregate.specs.Steps.{AddsMerge, AddsPoint, AddsWinners, AddsWithin, IsSettled, held_parts};
 
 use crate::entry::{Entry, begins_after, later_end};
 use crate::lanes::{Lane, Lanes};
@@ -46,7 +46,7 @@ fn lane_length(entries: &[Entry<'_>]) -> usize
     requires some { 0 < length entries.now }
     ensures some { 0 < result }
     ensures within { result ≤ length entries.now }
-    ensures row { IsRow (take result entries.now) }
+    ensures row { IsRowOfPieces (take result entries.now) }
 {
     let first = entries[0].piece;
     let mut end = first.stats.end;
@@ -184,10 +184,10 @@ pub fn add_group<D: Loader, L: Ledger>(
     tally: &mut Tally<'_>,
 ) -> Result<(), PullFault>
     requires places { All (λ entry. entry.place < length (D.state loader.old).held) group.now }
-    ensures added { OnOk result (All HasOrder (parts_of (D.state loader.old).held group.now) →
-        AllPairs AreApart (parts_of (D.state loader.old).held group.now) →
+    ensures added { OnOk result (All HasOrder (held_parts (D.state loader.old).held group.now) →
+        AllPairs AreApart (held_parts (D.state loader.old).held group.now) →
         AddsWinners (D.state loader.old).held range.now name group.now tally.old tally.new) }
-    ensures spends { Spends (sum_by (λ part. part.1.cost) (parts_of (D.state loader.old).held group.now))
+    ensures spends { Spends (sum_by (λ part. part.1.cost) (held_parts (D.state loader.old).held group.now))
         (D.state loader.old) (D.state loader.new) pages.old pages.new result }
 {
     let mut list = lanes_of(alloc, group)?;

@@ -8,6 +8,6 @@ abbrev pub bytes_kept : Bytes → List ℕ
 bytes_kept (kept.Short len room) = take len room
 bytes_kept (kept.Long bytes) = bytes.items
 
-abbrev pub IsKept : Bytes → Type 0
-IsKept (kept.Short len room) = len ≤ 22
-IsKept (kept.Long bytes) = length bytes.items ≤ max_text_bytes
+abbrev pub IsKeptText : Bytes → Type 0
+IsKeptText (kept.Short len room) = len ≤ 22
+IsKeptText (kept.Long bytes) = length bytes.items ≤ max_text_bytes

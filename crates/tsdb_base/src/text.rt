@@ -35,13 +35,13 @@ pub struct Text {
 
 impl Model for Text {
     ghost use Rattle.std.specs.Prelude.{List, ℕ};
-    ghost use Rattle.tsdb_base.specs.Texts.{bytes_kept, IsKept};
+    ghost use Rattle.tsdb_base.specs.Texts.{bytes_kept, IsKeptText};
 
     ghost Value = { List ℕ };
 
     ghost view = { λ t. bytes_kept t.bytes };
 
-    ghost invariant = { λ t. IsKept t.bytes };
+    ghost invariant = { λ t. IsKeptText t.bytes };
 }
 
 /// Why a text could not be made.

@@ -35,7 +35,7 @@ ExplainsPacking bits bytes unpack_faults.Memory = Unit {0}
 pub record IsPacking (width count : ℕ) (bytes values : List ℕ) : Type 0 where
   pub size : length values ≡ count
   pub below : All (λ value. value < 2 ^ width) values
-  pub bytes-are : bytes ≡ pack_bytes width values
+  pub bytes_are : bytes ≡ pack_bytes width values
 
 -- a fault but out of memory: no list is packed so
 abbrev pub IsNoPacking : ℕ → ℕ → List ℕ → UnpackFault → Type 0

@@ -98,10 +98,10 @@ to_part part tree place value each of has =
       filled = filled;
       in_part = image.among;
       point = has.point;
-      in_series = subst (Among has.point) series.points-are has.in_chunk;
+      in_series = subst (Among has.point) series.points_are has.in_chunk;
       path = sym (child_of-device_of filled.schema.path (each_among IsSeries part filled each image.among).nodes)
           ∙ ap (λ (d : List ℕ). child_of d (measurement_of filled.schema.path)) (sym device)
-          ∙ ap (child_of has.group.device) (sym series.measurement-is) ∙ has.path;
+          ∙ ap (child_of has.group.device) (sym series.measurement_is) ∙ has.path;
       time = has.time;
       has = has.has;
     }
@@ -117,8 +117,8 @@ to_tree part tree place value each of has =
       point = has.point;
       in_tree = at.in_tree;
       in_group = at.in_group;
-      in_chunk = subst (Among has.point) (sym found.is.points-are) has.in_series;
-      path = ap (λ (d : List ℕ). child_of d found.chunk.1.measurement) (at.device ∙ found.device) ∙ ap (child_of (device_of path)) found.is.measurement-is
+      in_chunk = subst (Among has.point) (sym found.is.points_are) has.in_series;
+      path = ap (λ (d : List ℕ). child_of d found.chunk.1.measurement) (at.device ∙ found.device) ∙ ap (child_of (device_of path)) found.is.measurement_is
           ∙ child_of-device_of path (each_among IsSeries part has.filled each has.in_part).nodes ∙ has.path;
       time = has.time;
       has = has.has;
@@ -128,7 +128,7 @@ pub tree_of_part : (part : List Filled) (bytes : List ℕ) (content : Content) �
     → (tree : Tree) × IsTree tree × IsMade tree × IsFile tree bytes × IsContentOf tree content
 tree_of_part part bytes content whole file is = (
   file.tree,
-  file.of.is-tree,
+  file.of.is_tree,
   file.made,
   file.is,
   λ place value. (

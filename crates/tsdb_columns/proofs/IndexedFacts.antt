@@ -10,7 +10,7 @@ use Rattle.tsdb_columns.specs.declared.lane.Lane.{Lane}
 use Rattle.tsdb_columns.specs.declared.lane.Lane.TheVariants.{Pages, Part}
 use Rattle.tsdb_columns.specs.declared.source.Source.{Source}
 use Rattle.tsdb_columns.specs.declared.source.Source.TheVariants as source
-use Rattle.tsdb_index.specs.Entries.{AreInOrder, IsBefore, names_of}
+use Rattle.tsdb_index.specs.Entries.{AreInOrder, AreNamesBefore, names_of}
 use Rattle.tsdb_index.specs.Finding.{IsEntryFor}
 use Rattle.tsdb_index.specs.declared.index.FileMeta.{FileMeta}
 use Rattle.tsdb_index.specs.declared.index.IndexEntry.{IndexEntry}
@@ -35,7 +35,7 @@ Names = List ℕ × List ℕ
 -- what was read of a file is its index
 pub index_of : (o : Option (List ℕ)) (meta : FileMeta) → IfSome o (λ b. IsMetaIn b meta)
     → IfSome o (λ b. (tree : Tree) → IsTree tree → IsMade tree → IsFile tree b → Unit {0} × IsMetaOf tree b meta)
-    → IfSome o (λ b. AreInOrder IsBefore (map names_of meta.index.entries) × ((tree : Tree) → IsTree tree → IsMade tree → IsFile tree b → AreEntriesIn tree meta.index.entries))
+    → IfSome o (λ b. AreInOrder AreNamesBefore (map names_of meta.index.entries) × ((tree : Tree) → IsTree tree → IsMade tree → IsFile tree b → AreEntriesIn tree meta.index.entries))
 index_of None meta has tree = tt
 index_of (Some b) meta has tree = (has.outline.index.index.rising, λ t is made file. (tree t is made file).1.entries)
 
@@ -70,7 +70,7 @@ named_chunk names device place (c ∷ cs) [] chunk say among of measured = absur
 named_chunk names device place (c ∷ cs) (e ∷ es) chunk say (inl same) of measured = record {
   entry = e;
   there = inl refl;
-  named = named_of e names (say.0.device-is ∙ of) (say.0.measurement-is ∙ ap (λ (x : Chunk). x.measurement) same ∙ measured);
+  named = named_of e names (say.0.device_is ∙ of) (say.0.measurement_is ∙ ap (λ (x : Chunk). x.measurement) same ∙ measured);
 }
 named_chunk names device place (c ∷ cs) (e ∷ es) chunk say (inr among) of measured =
     let rest = named_chunk names device (place + length (chunk_field c)) cs es chunk say.1 among of measured in
@@ -100,8 +100,8 @@ found_in_tree tree names entries (Some entry) say has = (record { entries = entr
 
 -- what a search among the entries in their order finds
 pub found_in : (o : Option (List ℕ)) (names : Names) (entries : List IndexEntry) (found : Option IndexEntry)
-    → IfSome o (λ b. AreInOrder IsBefore (map names_of entries) × ((tree : Tree) → IsTree tree → IsMade tree → IsFile tree b → AreEntriesIn tree entries))
-    → (AreInOrder IsBefore (map names_of entries) → IsEntryFor names entries found)
+    → IfSome o (λ b. AreInOrder AreNamesBefore (map names_of entries) × ((tree : Tree) → IsTree tree → IsMade tree → IsFile tree b → AreEntriesIn tree entries))
+    → (AreInOrder AreNamesBefore (map names_of entries) → IsEntryFor names entries found)
     → IfSome o (λ b. (tree : Tree) → IsTree tree → IsMade tree → IsFile tree b → IsEntryInTree tree names found)
 found_in None names entries found index search_is = tt
 found_in (Some b) names entries found index search_is = λ tree is made file.

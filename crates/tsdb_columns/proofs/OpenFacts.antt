@@ -50,22 +50,22 @@ chunk_of : (tree : Tree) (names : List ℕ × List ℕ) (entry : IndexEntry) (gr
     → IsChunkOf tree names chunk
 chunk_of tree names entry group chunk named in_tree in_group says = record {
   group = group;
-  in-tree = in_tree;
-  in-group = in_group;
-  device = sym says.device-is ∙ ap (λ (n : List ℕ × List ℕ). n.0) named;
-  measurement = sym says.measurement-is ∙ ap (λ (n : List ℕ × List ℕ). n.1) named;
+  in_tree = in_tree;
+  in_group = in_group;
+  device = sym says.device_is ∙ ap (λ (n : List ℕ × List ℕ). n.0) named;
+  measurement = sym says.measurement_is ∙ ap (λ (n : List ℕ × List ℕ). n.1) named;
 }
 
 -- a caller tells the pages of the entry that was found
 entry_pages : (names : List ℕ × List ℕ) (name : NamedFile) (entry : IndexEntry) (list : List (List Point)) (h : HasPages names name list) → IsEntryOf h.tree entry → names_of entry ≡ names → HasEntryPages entry name list
 entry_pages names name entry list h of named = (
   rw h.told refl,
-  ap length (h.pages-are.of_chunk place.chunk (chunk_of h.tree names entry place.group place.chunk named place.in-tree place.in-group place.says))
+  ap length (h.pages_are.of_chunk place.chunk (chunk_of h.tree names entry place.group place.chunk named place.in_tree place.in_group place.says))
       ∙ length-map place.chunk.pages (λ (page : Page). page.points) ∙ same_count _ _ place.chunk.pages entry.pages place.says.pages,
   λ number said points says got.
       let st = page_stands h.tree h.bytes entry number said h.is h.made h.file of says in
-      let all = h.pages-are.of_chunk st.chunk (chunk_of h.tree names entry st.group st.chunk named st.in-tree st.in-group st.says) in
-      let here = got_map (λ (page : Page). page.points) st.chunk.pages number st.page st.page-is in
+      let all = h.pages_are.of_chunk st.chunk (chunk_of h.tree names entry st.group st.chunk named st.in_tree st.in_group st.says) in
+      let here = got_map (λ (page : Page). page.points) st.chunk.pages number st.page st.page_is in
       let same : points ≡ st.page.points = some_same (slice_get list number) points st.page.points got (ap (λ l. slice_get l number) all ∙ here) in (
         rw same st.stands.within,
         λ bytes e.
@@ -85,7 +85,7 @@ entry_pages names name entry list h of named = (
         let low = slice_get_within entry.pages number said says in
         let count = place.count in
         let found = there place.chunk.pages number (omega (arith, low, count)) in
-        let all = h.pages-are.of_chunk place.chunk (chunk_of h.tree names entry place.group place.chunk named place.in-tree place.in-group place.says) in
+        let all = h.pages_are.of_chunk place.chunk (chunk_of h.tree names entry place.group place.chunk named place.in_tree place.in_group place.says) in
         let same : points ≡ found.0.points = some_same (slice_get list number) points found.0.points got (ap (λ l. slice_get l number) all ∙ got_map (λ (page : Page). page.points) place.chunk.pages number found.0 found.1) in
         let at_page = get_or_from_slice_get place.chunk.pages number found.0 found.0 found.1 in
         let at_said = get_or_from_slice_get entry.pages number said said says in
@@ -117,7 +117,7 @@ module _ (pages : FilePages) (names : List ℕ × List ℕ) (name : NamedFile) (
   pub found_none : (found : Option IndexEntry) → found ≡ None → Finds (Ok found) (λ tree. IsEntryInTree tree names found) → (list : List (List Point)) → pages name.number ≡ Some list → list ≡ []
   found_none found is finds list e =
       let none : IsEntryInTree (told_truth list e).tree names None = subst (IsEntryInTree (told_truth list e).tree names) is (found_in (Ok found) (λ tree. IsEntryInTree tree names found) list e finds).1 in
-      (told_truth list e).pages-are.none (λ chunk is. none is.group chunk is.in-tree is.in-group is.device is.measurement)
+      (told_truth list e).pages_are.none (λ chunk is. none is.group chunk is.in_tree is.in_group is.device is.measurement)
 
   -- the index of a file of which a caller tells is not damaged
   pub undamaged_index : (T : Type 0) (fault : ReadFault) (P : Tree → Type 0) → Finds {T = T} (Err fault) P → IsTold pages name → (bytes : List ℕ) → name.bytes ≡ Some bytes → IsNotDamaged {T = T} (Err fault)

@@ -144,8 +144,8 @@ pub at_chunk : (tree : Tree) (names : Names) (chunk : Chunk) → IsChunkOf tree 
 at_chunk tree names chunk of = record {
   group = of.group;
   chunk = chunk;
-  in_tree = among_of of.group tree.groups of.in-tree;
-  in_group = among_of chunk of.group.chunks of.in-group;
+  in_tree = among_of of.group tree.groups of.in_tree;
+  in_group = among_of chunk of.group.chunks of.in_group;
   device = of.device;
   measurement = of.measurement;
 }
@@ -153,8 +153,8 @@ at_chunk tree names chunk of = record {
 pub chunk_at : (tree : Tree) (names : Names) (found : At tree.groups names) → IsChunkOf tree names found.chunk
 chunk_at tree names found = record {
   group = found.group;
-  in-tree = contains_of found.group tree.groups found.in_tree;
-  in-group = contains_of found.chunk found.group.chunks found.in_group;
+  in_tree = contains_of found.group tree.groups found.in_tree;
+  in_group = contains_of found.chunk found.group.chunks found.in_group;
   device = found.device;
   measurement = found.measurement;
 }

@@ -22,8 +22,8 @@ use Rattle.tsfile_reader.specs.declared.fault.ReadFault.TheVariants.{Failed, Dam
 -- the chunk is one of the tree, of the series with these names
 pub record IsChunkOf (tree : Tree) (names : List ℕ × List ℕ) (chunk : Chunk) : Type 0 where
   pub group : Group
-  pub in-tree : Contains tree.groups group
-  pub in-group : Contains group.chunks chunk
+  pub in_tree : Contains tree.groups group
+  pub in_group : Contains group.chunks chunk
   pub device : group.device ≡ names.0
   pub measurement : chunk.measurement ≡ names.1
 
@@ -40,7 +40,7 @@ pub record HasPages (names : List ℕ × List ℕ) (name : NamedFile) (pages : L
   pub is : IsTree tree
   pub made : IsMade tree
   pub file : IsFile tree bytes
-  pub pages-are : ArePagesIn tree names pages
+  pub pages_are : ArePagesIn tree names pages
 
 -- the points of each page of a series in the file of a number, where they are told
 abbrev pub FilePages : Type 0

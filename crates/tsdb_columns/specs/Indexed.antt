@@ -3,7 +3,7 @@ use Rattle.std.specs.Prelude.{ℕ, List, IfSome, Option, map}
 use Rattle.tsdb_columns.specs.declared.source.IndexedFile.{IndexedFile}
 use Rattle.tsdb_columns.specs.declared.source.Source.{Source}
 use Rattle.tsdb_columns.specs.declared.source.Source.TheVariants as source
-use Rattle.tsdb_index.specs.Entries.{AreInOrder, IsBefore, names_of}
+use Rattle.tsdb_index.specs.Entries.{AreInOrder, AreNamesBefore, names_of}
 use Rattle.tsdb_index.specs.declared.index.IndexEntry.{IndexEntry}
 use Rattle.tsdb_outside.specs.Files.{NamedFile}
 use Rattle.tsdb_pages.specs.File.{AreEntriesIn, IsFile}
@@ -17,7 +17,7 @@ IsWholeFile name = IfSome name.bytes (λ bytes. (tree : Tree) × IsTree tree × 
 
 -- where the file tells its bytes, these are in the order of names, and the entries of the index of a tree with the bytes
 abbrev pub IsIndexOf : NamedFile → List IndexEntry → Type 0
-IsIndexOf name entries = IfSome name.bytes (λ bytes. AreInOrder IsBefore (map names_of entries)
+IsIndexOf name entries = IfSome name.bytes (λ bytes. AreInOrder AreNamesBefore (map names_of entries)
     × ((tree : Tree) → IsTree tree → IsMade tree → IsFile tree bytes → AreEntriesIn tree entries))
 
 -- where the file tells its bytes, and they are those of a tree, this is the tree's entry of the names

@@ -10,7 +10,7 @@ ghost use Rattle.tsdb_columns.specs.Kept.{is_kept};
 ghost use Rattle.tsdb_columns.specs.Lanes.{IsSourceOf, OpensAs, source_left};
 ghost use Rattle.tsdb_columns.specs.Streams.{AreToldSources, AreTrueSources, IsStreamOfStore, IsToldStream};
 ghost use Rattle.tsdb_columns.specs.Streams.{IsTrueStream, stream_held, stream_left};
-ghost use Rattle.tsdb_index.specs.Entries.{AreInOrder, IsBefore, names_of};
+ghost use Rattle.tsdb_index.specs.Entries.{AreInOrder, AreNamesBefore, names_of};
 ghost use Rattle.tsdb_index.specs.Finding.{IsEntryFor};
 ghost use Rattle.tsdb_index.specs.Steps.{names_cmp};
 ghost use Rattle.tsdb_merge.specs.Winners.{IsToldMergeOf};
@@ -69,7 +69,7 @@ fn entry_in<'a>(
     device: &Path,
     measurement: &Name,
 ) -> Option<&'a IndexEntry>
-    ensures { AreInOrder IsBefore (map names_of entries.now) → MatchOption result
+    ensures { AreInOrder AreNamesBefore (map names_of entries.now) → MatchOption result
         (IsEntryFor (device.now, measurement.now) entries.now None)
         (λ entry. IsEntryFor (device.now, measurement.now) entries.now (Some entry.now)) }
 {
@@ -119,7 +119,7 @@ fn look_up(
     device: &Path,
     measurement: &Name,
 ) -> Result<Option<IndexEntry>, Memory>
-    ensures { AreInOrder IsBefore (map names_of entries.now)
+    ensures { AreInOrder AreNamesBefore (map names_of entries.now)
         → IfOk result (IsEntryFor (device.now, measurement.now) entries.now) }
 {
     match entry_in(entries, device, measurement) {

@@ -17,7 +17,7 @@ use Rattle.tsdb_committing.specs.Files.{known_entry}
 use Rattle.tsdb_committing.specs.Files.{kept_with, known_with, number_of, state_files, told_with, with_files}
 use Rattle.tsdb_held.specs.Held.{listed}
 use Rattle.tsdb_images.proofs.Storing.{end_flush_stored}
-use Rattle.tsdb_images.specs.Stored.{IsKept, built_files}
+use Rattle.tsdb_images.specs.Stored.{IsKeptWhole, built_files}
 use Rattle.tsdb_jobs.specs.declared.flush.FlushJob.{FlushJob}
 use Rattle.tsdb_kept.proofs.Counts.{counted}
 use Rattle.tsdb_layers.proofs.Lists.{among_left, among_right, any_among, count_append, each_among, each_append}
@@ -130,7 +130,7 @@ module _ (store : Store) (job : FlushJob) (files : NewFiles) (flush : state.Flus
           )));
     };
     numbers = refl;
-    kept = subst (Each (IsKept (kept_with files outside.kept) (told_with flush files outside.told))) all_there
+    kept = subst (Each (IsKeptWhole (kept_with files outside.kept) (told_with flush files outside.told))) all_there
         (new_kept job outside engine flush others stored out store files of_job tells);
     least = is_least;
   }

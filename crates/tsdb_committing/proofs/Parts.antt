@@ -6,7 +6,7 @@ use Rattle.tsdb_base.specs.declared.ids.Space.{Space}
 use Rattle.tsdb_base.specs.declared.point.Point.{Point}
 use Rattle.tsdb_built.specs.Parts.{IsPart, IsSeries}
 use Rattle.tsdb_index.proofs.Found.{not_itself}
-use Rattle.tsdb_index.specs.Entries.{IsBefore}
+use Rattle.tsdb_index.specs.Entries.{AreNamesBefore}
 use Rattle.tsdb_jobs.specs.Parts.{Filled, if_any, names_of, part_of}
 use Rattle.tsdb_layers.proofs.Lists.{each_among, each_append, each_from_among, each_weaker}
 use Rattle.tsdb_layers.specs.Lists.{Among, EachPair}
@@ -79,24 +79,24 @@ module _ (space : Space) (pair : Pair) where
   not_empty (filled ∷ part) some = omega arith
 
   pub is_part : (schemas : List Schema) (numbers : List SeriesId) → Each IsSchema schemas
-      → EachPair (λ a b. IsBefore (names_of a) (names_of b)) schemas
+      → EachPair (λ a b. AreNamesBefore (names_of a) (names_of b)) schemas
       → ((number : ℕ) → IsRising (points_of space number pair)) → part_of space pair schemas numbers ≢ []
       → IsPart (part_of space pair schemas numbers)
   is_part schemas numbers formed rise rising some = record {
     some = not_empty (part_of space pair schemas numbers) some;
     each = are_series schemas numbers formed rising;
     differ = apart (part_of space pair schemas numbers)
-        (each_two (λ a b. IsBefore (names_of a) (names_of b)) schemas numbers rise);
+        (each_two (λ a b. AreNamesBefore (names_of a) (names_of b)) schemas numbers rise);
   }
     where
-      apart : (part : List Filled) → EachPair (λ (a b : Filled). IsBefore (names_of a.schema) (names_of b.schema)) part
+      apart : (part : List Filled) → EachPair (λ (a b : Filled). AreNamesBefore (names_of a.schema) (names_of b.schema)) part
           → EachPair (λ (a b : Filled). a.schema.path ≢ b.schema.path) part
       apart [] all = tt
       apart (filled ∷ part) all = (
-        each_weaker (λ (b : Filled). IsBefore (names_of filled.schema) (names_of b.schema))
+        each_weaker (λ (b : Filled). AreNamesBefore (names_of filled.schema) (names_of b.schema))
             (λ b. filled.schema.path ≢ b.schema.path)
             (λ b before same. not_itself (names_of b.schema)
-            (subst (λ (path : List ℕ). IsBefore (device_of path, measurement_of path) (names_of b.schema)) same before))
+            (subst (λ (path : List ℕ). AreNamesBefore (device_of path, measurement_of path) (names_of b.schema)) same before))
             part all.0,
         apart part all.1,
       )

@@ -18,7 +18,7 @@ use Rattle.tsdb_committing.specs.Files.{told_with}
 use Rattle.tsdb_committing.specs.Files.{with_files}
 use Rattle.tsdb_held.specs.Held.{listed}
 use Rattle.tsdb_images.proofs.Kept.{whole_as}
-use Rattle.tsdb_images.specs.Stored.{IsKept, kept_bytes}
+use Rattle.tsdb_images.specs.Stored.{IsKeptWhole, kept_bytes}
 use Rattle.tsdb_jobs.specs.Jobs.{job_part}
 use Rattle.tsdb_jobs.specs.declared.flush.FlushJob.{FlushJob}
 use Rattle.tsdb_kept.proofs.Counts.{counted}
@@ -188,7 +188,7 @@ module _ (job : FlushJob) (outside : Outside) (engine : EngineState) (flush : st
           (kept_bytes (kept_with files outside.kept)) outside.told (told_with flush files outside.told) file file refl
           (told_same file there)
           (λ bytes is. kept_other files outside.kept file.number (not_new file there) ∙ is)
-          (each_among (IsKept outside.kept outside.told) (files_of engine) file stored.whole there));
+          (each_among (IsKeptWhole outside.kept outside.told) (files_of engine) file stored.whole there));
       doubt = stored.doubt;
     }
 
@@ -284,9 +284,9 @@ module _ (job : FlushJob) (outside : Outside) (engine : EngineState) (flush : st
           (sym (told_unsequence file is)) (part_of_unsequence tells file is)))
 
       -- each new file is kept, and has what is told of it
-      pub new_kept : Each (IsKept (kept_with files outside.kept) (told_with flush files outside.told)) (state_files
+      pub new_kept : Each (IsKeptWhole (kept_with files outside.kept) (told_with flush files outside.told)) (state_files
           files)
-      new_kept = each_map (IsKept (kept_with files outside.kept) (told_with flush files outside.told))
+      new_kept = each_map (IsKeptWhole (kept_with files outside.kept) (told_with flush files outside.told))
           (λ (file : NewFile). listed file.entry) (all_of files)
           (each_from_among _ (all_of files) (λ file there. let has = each_among HasTold (all_of files) file each_told
           there in

@@ -7,7 +7,7 @@ ghost use Rattle.tsdb_committing.specs.Coming.{AreSentOut, HaveCome, StandLast};
 ghost use Rattle.tsdb_committing.specs.Files.{AreAllThere, AreOfJob, IsOutAs, NewFiles, TellBytes, all_of, state_files};
 ghost use Rattle.tsdb_committing.specs.Files.{with_files};
 ghost use Rattle.tsdb_held.specs.Held.{AreFilesOf, TellTheirBytes};
-ghost use Rattle.tsdb_images.specs.Stored.{IsKept, built_files};
+ghost use Rattle.tsdb_images.specs.Stored.{IsKeptWhole, built_files};
 ghost use Rattle.tsdb_jobs.specs.declared.flush.FlushJob.{FlushJob};
 ghost use Rattle.tsdb_kept.specs.Files.{KeptFiles};
 ghost use Rattle.tsdb_kept.specs.Places.{AreOfStore};
@@ -34,7 +34,7 @@ pub fn a_built_file_can_be_told()
     ensures kept { (store : Store) (job : FlushJob) (files : NewFiles) (outside : Outside) (engine : EngineState)
         (flush : state.FlushJob) (others : List state.FlushJob) → IsStoredIn outside engine
         → IsOutAs job flush others engine → AreOfJob store job files → TellBytes files
-        → AllByRecursion (IsKept (with_files flush files outside).kept (with_files flush files outside).told)
+        → AllByRecursion (IsKeptWhole (with_files flush files outside).kept (with_files flush files outside).told)
         (state_files files) }
     ensures worlds { (store : Store) (job : FlushJob) (files : NewFiles) (outside : Outside) (engine : EngineState)
         (flush : state.FlushJob) (others : List state.FlushJob) (world : World) → IsStoredIn outside engine

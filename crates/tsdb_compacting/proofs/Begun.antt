@@ -9,7 +9,7 @@ use Rattle.tsdb_base.specs.declared.ids.FileNumber.{FileNumber}
 use Rattle.tsdb_base.specs.declared.ids.Space.{Space}
 use Rattle.tsdb_compacting.proofs.Taken.{held_stays, taken_then}
 use Rattle.tsdb_compacting.specs.Beginning.{AreTaken, HoldsMore, HoldsSome, IsUntouched}
-use Rattle.tsdb_compacting.specs.Inputs.{AreHeld, IsHeld, Takes, TakesEntries, TakesSome, input_numbers}
+use Rattle.tsdb_compacting.specs.Inputs.{AreHeld, IsHeld, TakesInputs, TakesEntries, TakesSome, input_numbers}
 use Rattle.tsdb_compacting.specs.declared.finishing.InputRuns.{InputRuns}
 use Rattle.tsdb_compactions.specs.Jobs.{input_file}
 use Rattle.tsdb_compactions.specs.declared.job.Input.{Input}
@@ -67,15 +67,15 @@ module _ {F S R P : Type 0} (name : R → NamedFile) where
       })
 
   pub then_some : (a b c : KeptFiles) (Is : List (Input F S R P) → Type 0) (before middle after : List (Input F S R P))
-      → before ≡ [] → ((more : List (Input F S R P)) × Takes name a b before middle more × Is more)
+      → before ≡ [] → ((more : List (Input F S R P)) × TakesInputs name a b before middle more × Is more)
       → TakesSome name b c middle after → HoldsSome name a c after
   then_some a b c Is before middle after none first second = some_held a c before after none
       (first.0 ++ second.0, taken_then name a b c before middle after first.0 second.0 first.1 second.1)
 
   pub then_some_all : (a b c : KeptFiles) (Is Other : List (Input F S R P) → Type 0)
       (before middle after : List (Input F S R P)) → before ≡ []
-      → ((more : List (Input F S R P)) × Takes name a b before middle more × Is more)
-      → ((more : List (Input F S R P)) × Takes name b c middle after more × Other more) → HoldsSome name a c after
+      → ((more : List (Input F S R P)) × TakesInputs name a b before middle more × Is more)
+      → ((more : List (Input F S R P)) × TakesInputs name b c middle after more × Other more) → HoldsSome name a c after
   then_some_all a b c Is Other before middle after none first second =
       then_some a b c Is before middle after none first (second.0, second.1)
 

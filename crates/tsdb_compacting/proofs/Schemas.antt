@@ -10,7 +10,7 @@ use Rattle.tsdb_compacting.specs.Series.{AreInTreeOrder, AreOfJob, HavePaths, Is
 use Rattle.tsdb_compacting.specs.declared.series.InputSeries.{InputSeries}
 use Rattle.tsdb_compacting.specs.declared.series.JobSeries.{JobSeries}
 use Rattle.tsdb_flushing.specs.Steps.{HasNumbers}
-use Rattle.tsdb_index.specs.Entries.{IsBefore}
+use Rattle.tsdb_index.specs.Entries.{AreNamesBefore}
 use Rattle.tsdb_jobs.specs.Parts.{names_of}
 use Rattle.tsdb_layers.proofs.Lists.{among_left, among_map, among_right, any_among, each_among, each_from_among}
 use Rattle.tsdb_layers.proofs.Places.{path_itself}
@@ -151,7 +151,7 @@ module _ (all : List Schema) (formed : All IsFormed all) where
       ∙ ap (λ (p : List ℕ). (device_of p, measurement_of p)) (sym is.of_path)
 
   rising : (series : List InputSeries) → Each IsNamed series → AreInTreeOrder series
-      → EachPair (λ a b. IsBefore (names_of a) (names_of b)) (flat_map (λ one. schemas_at all (path_in one)) series)
+      → EachPair (λ a b. AreNamesBefore (names_of a) (names_of b)) (flat_map (λ one. schemas_at all (path_in one)) series)
   rising [] named order = tt
   rising (one ∷ series) named order =
       by (option_and_then (slice_get all) (number_of all (path_in one)))
@@ -161,18 +161,18 @@ module _ (all : List Schema) (formed : All IsFormed all) where
       rest = flat_map (λ other. schemas_at all (path_in other)) series
 
       later : (schema : Schema) → names_in one ≡ names_of schema
-          → Each (λ b. IsBefore (names_of schema) (names_of b)) rest
-      later schema names = each_from_among (λ b. IsBefore (names_of schema) (names_of b)) rest (λ b has.
+          → Each (λ b. AreNamesBefore (names_of schema) (names_of b)) rest
+      later schema names = each_from_among (λ b. AreNamesBefore (names_of schema) (names_of b)) rest (λ b has.
           let part = part_of (λ (other : InputSeries). schemas_at all (path_in other)) series b has in
-          let before = each_among (λ other. IsBefore (names_in one) (names_in other)) series part.element order.0
+          let before = each_among (λ other. AreNamesBefore (names_in one) (names_in other)) series part.element order.0
           part.among in
           let other = same_names_as part.element b (each_among IsNamed series part.element named.1 part.among) part.is in
-          subst (λ (n : List ℕ × List ℕ). IsBefore n (names_of b)) names
-          (subst (λ (n : List ℕ × List ℕ). IsBefore (names_in one) n) other before))
+          subst (λ (n : List ℕ × List ℕ). AreNamesBefore n (names_of b)) names
+          (subst (λ (n : List ℕ × List ℕ). AreNamesBefore (names_in one) n) other before))
 
       by : (o : Option Schema) → ((schema : Schema) → Among schema (if_some o) → names_in one ≡ names_of schema)
-          → EachPair (λ a b. IsBefore (names_of a) (names_of b)) rest
-          → EachPair (λ a b. IsBefore (names_of a) (names_of b)) (if_some o ++ rest)
+          → EachPair (λ a b. AreNamesBefore (names_of a) (names_of b)) rest
+          → EachPair (λ a b. AreNamesBefore (names_of a) (names_of b)) (if_some o ++ rest)
       by None names others = others
       by (Some schema) names others = (later schema (names schema (inl refl)), others)
 
@@ -201,7 +201,7 @@ of_job paths store series job sound have order marks are = record {
       let part = part_of schemas_for series schema (subst (Among schema) are has) in
       (formed_at store.series sound.formed (path_in part.element) schema
       (is_at store.series (path_in part.element) schema part.is)).suits);
-  rising = subst (EachPair (λ a b. IsBefore (names_of a) (names_of b))) (sym are)
+  rising = subst (EachPair (λ a b. AreNamesBefore (names_of a) (names_of b))) (sym are)
       (rising store.series sound.formed series have.named order);
 }
   where

@@ -9,7 +9,7 @@ use Rattle.tsdb_base.specs.declared.ids.FileNumber.{FileNumber}
 use Rattle.tsdb_base.specs.declared.ids.Space.{Space}
 use Rattle.tsdb_base.specs.declared.ids.Space.TheVariants.{Sequence, Unsequence}
 use Rattle.tsdb_base.specs.declared.ids.Stamp.{Stamp}
-use Rattle.tsdb_compacting.specs.Inputs.{AreHeld, IsHeld, IsOneTaken, Takes, TakesEntries, TakesSome}
+use Rattle.tsdb_compacting.specs.Inputs.{AreHeld, IsHeld, IsOneTaken, TakesInputs, TakesEntries, TakesSome}
 use Rattle.tsdb_compacting.specs.Inputs.{input_numbers}
 use Rattle.tsdb_compactions.specs.Jobs.{input_file}
 use Rattle.tsdb_compactions.specs.declared.job.Input.{Input}
@@ -112,7 +112,7 @@ module _ {F S R P : Type 0} (name : R → NamedFile) where
   -- ---- one after another
 
   pub nothing_taken : (a b : KeptFiles) (before after : List (Input F S R P)) → KeepsFiles a b → after ≡ before
-      → Takes name a b before after []
+      → TakesInputs name a b before after []
   nothing_taken a b before after keeps same = record {
     are = same ∙ sym (append-nil before);
     rights = takes_none a b keeps;
@@ -120,8 +120,8 @@ module _ {F S R P : Type 0} (name : R → NamedFile) where
   }
 
   pub taken_then : (a b c : KeptFiles) (before middle after xs ys : List (Input F S R P))
-      → Takes name a b before middle xs
-      → Takes name b c middle after ys → Takes name a c before after (xs ++ ys)
+      → TakesInputs name a b before middle xs
+      → TakesInputs name b c middle after ys → TakesInputs name a c before after (xs ++ ys)
   taken_then a b c before middle after xs ys first second = record {
     are = second.are ∙ ap (λ l. l ++ ys) first.are ∙ append_assoc before xs ys;
     rights = subst (λ numbers. TakesRights numbers a c) (sym (map-append (λ (i : Input F S R P). i.number.0) xs ys))

@@ -20,7 +20,7 @@ use Rattle.tsdb_compactions.specs.Jobs.{input_file}
 use Rattle.tsdb_compactions.specs.Outputs.{IsOneTold, IsRead, TellsTruth}
 use Rattle.tsdb_compactions.specs.declared.job.Input.{Input}
 use Rattle.tsdb_held.specs.Held.{AreFilesOf, TellTheirBytes, listed}
-use Rattle.tsdb_images.specs.Stored.{IsKept, kept_bytes}
+use Rattle.tsdb_images.specs.Stored.{IsKeptWhole, kept_bytes}
 use Rattle.tsdb_kept.specs.Files.{AreKept, KeptFiles, kept_file, numbers_of}
 use Rattle.tsdb_kept.specs.Places.{KeptFile}
 use Rattle.tsdb_kept.specs.Replacing.{IsWithin}
@@ -88,7 +88,7 @@ module _ {F S R P : Type 0} (name : R → NamedFile) where
       }
 
   it_reads : (kept : List StoredFile) (told : Told) (input : Input F S R P) → Tells kept input
-      → IsKept kept told (input_file input) → IsRead name told input
+      → IsKeptWhole kept told (input_file input) → IsRead name told input
   it_reads kept told input tells whole = record {
     bytes = whole.bytes;
     tree = whole.tree;
@@ -125,13 +125,13 @@ module _ {F S R P : Type 0} (name : R → NamedFile) where
       (store : Store) (of : AreOfJob (run_paths runs old) store series) where
     -- in a stored state in order that the files show, the job is told the truth
     pub tells_truth : (told : Told) (known : Entries) (named : List ℕ) (engine : EngineState) (kept : List StoredFile)
-        → IsInOrder told known named engine → Each (IsKept kept told) (files_of engine) → AreFilesOf old known engine
+        → IsInOrder told known named engine → Each (IsKeptWhole kept told) (files_of engine) → AreFilesOf old known engine
         → AreKept old → TellTheirBytes old kept → IsMemoryOf store engine.store
         → TellsTruth name told (job_of space born runs.sequence.first taken series output)
     tells_truth told known named engine kept order whole are all tell memory = record {
       read = each_from_among (λ input. IsSome (name input.right).bytes → IsRead name told input) taken.inputs
           (λ input among some. it_reads kept told input (each_among (Tells kept) taken.inputs input tells among)
-          (each_among (IsKept kept told) (files_of engine) (input_file input) whole (listed_there input among)));
+          (each_among (IsKeptWhole kept told) (files_of engine) (input_file input) whole (listed_there input among)));
       apart = apart kept taken.inputs tells (λ n. subst (λ numbers. count n numbers ≤ 1)
           (ap records.numbers_of (sym begun.all.are) ∙ same_numbers taken.inputs)
           (run_once runs old all sequence unsequence n));

@@ -27,19 +27,19 @@ module _ {F S R P : Type 0} (name : R → NamedFile) where
   AreHeld files inputs = Each (IsHeld files) inputs
 
   -- These inputs came behind the others, with the rights that they have.
-  pub record Takes (old new : KeptFiles) (before after more : List (Input F S R P)) : Type 0 where
+  pub record TakesInputs (old new : KeptFiles) (before after more : List (Input F S R P)) : Type 0 where
     pub are : after ≡ before ++ more
     pub rights : TakesRights (input_numbers more) old new
     pub held : AreHeld old more
 
   -- some inputs came behind the others
   abbrev pub TakesSome : KeptFiles → KeptFiles → List (Input F S R P) → List (Input F S R P) → Type 0
-  TakesSome old new before after = (more : List (Input F S R P)) × Takes old new before after more
+  TakesSome old new before after = (more : List (Input F S R P)) × TakesInputs old new before after more
 
   -- inputs that are these files came behind the others
   abbrev pub TakesFiles : List File → KeptFiles → KeptFiles → List (Input F S R P) → List (Input F S R P) → Type 0
   TakesFiles files old new before after =
-      (more : List (Input F S R P)) × Takes old new before after more × (map input_file more ≡ files)
+      (more : List (Input F S R P)) × TakesInputs old new before after more × (map input_file more ≡ files)
 
   -- inputs that are the listed files of these entries
   abbrev pub TakesEntries : List FileEntry → KeptFiles → KeptFiles → List (Input F S R P) → List (Input F S R P)

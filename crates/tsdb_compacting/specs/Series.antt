@@ -6,7 +6,7 @@ use Rattle.tsdb_compacting.specs.Beginning.{run_files}
 use Rattle.tsdb_compacting.specs.declared.finishing.InputRuns.{InputRuns}
 use Rattle.tsdb_compacting.specs.declared.series.InputSeries.{InputSeries}
 use Rattle.tsdb_compacting.specs.declared.series.JobSeries.{JobSeries}
-use Rattle.tsdb_index.specs.Entries.{IsBefore}
+use Rattle.tsdb_index.specs.Entries.{AreNamesBefore}
 use Rattle.tsdb_jobs.specs.Parts.{names_of}
 use Rattle.tsdb_kept.specs.Files.{KeptFiles, kept_file}
 use Rattle.tsdb_layers.specs.Lists.{Among, EachPair, if_some}
@@ -32,7 +32,7 @@ pub record AreOfJob (paths : List (List ℕ)) (store : Store) (series : JobSerie
   pub schemas : (schema : Schema) → Among schema series.schemas
       ↔ (Among schema store.series × Among schema.path paths)
   pub formed : Each IsSchema series.schemas
-  pub rising : EachPair (λ a b. IsBefore (names_of a) (names_of b)) series.schemas
+  pub rising : EachPair (λ a b. AreNamesBefore (names_of a) (names_of b)) series.schemas
 
 -- the schema of the series with the path, where it is there
 abbrev pub schemas_at : List Schema → List ℕ → List Schema
@@ -68,4 +68,4 @@ pub record HavePaths (paths : List (List ℕ)) (series : List InputSeries) : Typ
 
 -- they stand in the order of a tree
 abbrev pub AreInTreeOrder : List InputSeries → Type 0
-AreInTreeOrder series = EachPair (λ a b. IsBefore (names_in a) (names_in b)) series
+AreInTreeOrder series = EachPair (λ a b. AreNamesBefore (names_in a) (names_in b)) series

@@ -4,7 +4,7 @@ use Rattle.std.specs.List.{AllByRecursion as Each}
 use Rattle.tsdb_base.specs.declared.ids.FileNumber.{FileNumber}
 use Rattle.tsdb_compactions.specs.declared.job.Input.{Input}
 use Rattle.tsdb_compactions.specs.declared.job.Job.{Job}
-use Rattle.tsdb_index.specs.Entries.{IsBefore}
+use Rattle.tsdb_index.specs.Entries.{AreNamesBefore}
 use Rattle.tsdb_jobs.specs.Parts.{names_of}
 use Rattle.tsdb_layers.specs.Lists.{EachPair}
 use Rattle.tsdb_model.specs.Commands.{IsSchema}
@@ -30,7 +30,7 @@ module _ {F S R P : Type 0} where
     pub some : job.inputs ≢ []
     pub numbers : numbers_of (input_files job) ≡ plain_numbers job.sequence ++ plain_numbers job.unsequence
     pub schemas : Each IsSchema job.schemas
-    pub rising : EachPair (λ a b. IsBefore (names_of a) (names_of b)) job.schemas
+    pub rising : EachPair (λ a b. AreNamesBefore (names_of a) (names_of b)) job.schemas
 
   -- the job has the space, the place, the born, the inputs, the marks and the number of the compaction
   pub record IsCompactionOf (job : Job F S R P) (compaction : Compaction) : Type 0 where

@@ -20,7 +20,7 @@ use Rattle.tsdb_model.specs.declared.command.Command.TheVariants as command
 use Rattle.tsdb_model.specs.declared.command.Row.{Row}
 use Rattle.tsdb_model.specs.declared.reply.Reply.TheVariants.{Plain}
 use Rattle.tsdb_outside.proofs.DiskLemmas.{Elapses-same}
-use Rattle.tsdb_outside.specs.Disk.{Image, State}
+use Rattle.tsdb_outside.specs.Disk.{Image, DiskState}
 use Rattle.tsdb_outside.specs.Files.{StoredFile}
 use Rattle.tsdb_outside.specs.Moments.{LeavesOnly}
 use Rattle.tsdb_outside.specs.declared.disk.Disk as disk
@@ -70,7 +70,7 @@ record_leaves kept slot at next after image (inl left) = inl (no_next kept slot 
 record_leaves kept slot at next after image (inr left) = inr left
 
 module _ {J F S R P : Type 0} {means : disk.Ghosts J} {counts : counted.Ghosts J} where
-  abbrev disk_in : Core J F S R P means counts → State
+  abbrev disk_in : Core J F S R P means counts → DiskState
   disk_in core = disk_of (log_of (logged_of core))
 
   abbrev slot_in : Core J F S R P means counts → Slot

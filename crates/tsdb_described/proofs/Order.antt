@@ -5,7 +5,7 @@ use Rattle.std.specs.List.{AllByRecursion as Each, flat_map}
 use Rattle.std.proofs.lemmas.List.Elements.{recursion_from_All}
 use Rattle.tsdb_described.proofs.Says.{device_of_filled}
 use Rattle.tsdb_described.specs.Trees.{filled_of, group_part, tree_part}
-use Rattle.tsdb_index.specs.Entries.{IsBefore}
+use Rattle.tsdb_index.specs.Entries.{AreNamesBefore}
 use Rattle.tsdb_jobs.specs.Parts.{Filled, names_of}
 use Rattle.tsdb_layers.proofs.Lists.{among_left, among_map, among_right, each_among, each_both, each_left, each_map, each_right}
 use Rattle.tsdb_layers.specs.Lists.{Among, EachPair}
@@ -22,7 +22,7 @@ use Rattle.tsdb_path.specs.Nodes.{child_of, device_of, measurement_of}
 
 -- the one series comes before the other
 abbrev pub Comes : Filled → Filled → Type 0
-Comes a b = IsBefore (names_of a.schema) (names_of b.schema)
+Comes a b = AreNamesBefore (names_of a.schema) (names_of b.schema)
 
 pub each_pair : {X : Type 0} (R : X → X → Type 0) (xs : List X) → AllPairs R xs → EachPair R xs
 each_pair R [] pairs = tt

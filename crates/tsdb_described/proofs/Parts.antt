@@ -10,7 +10,7 @@ use Rattle.tsdb_built.specs.Parts.{HasPartPoint, IsContentOfPart, IsPart, IsSeri
 use Rattle.tsdb_described.proofs.Order.{Comes, in_tree, is_in_part, chunk_among, tree_rises}
 use Rattle.tsdb_described.specs.Trees.{filled_of, group_part, tree_part}
 use Rattle.tsdb_index.proofs.Found.{not_itself}
-use Rattle.tsdb_index.specs.Entries.{IsBefore}
+use Rattle.tsdb_index.specs.Entries.{AreNamesBefore}
 use Rattle.tsdb_jobs.specs.Built.{IsEntryOf, paths_of}
 use Rattle.tsdb_jobs.specs.Parts.{Filled, names_of}
 use Rattle.tsdb_layers.proofs.Lists.{each_among, each_from_among, each_weaker}
@@ -68,7 +68,7 @@ series_of device chunk good parts =
 -- two that stand in order have two paths
 paths_differ : (a b : Filled) → Comes a b → a.schema.path ≢ b.schema.path
 paths_differ a b before same = not_itself (names_of b.schema)
-    (subst (λ path. IsBefore (device_of path, measurement_of path)
+    (subst (λ path. AreNamesBefore (device_of path, measurement_of path)
     (names_of b.schema)) same before)
 
 pub tree_is_part : (tree : Tree) → IsTree tree → IsMade tree → IsPart (tree_part tree)

@@ -31,8 +31,8 @@ device_of_filled device chunk parts =
 says_of : (device : List ℕ) (place : ℕ) (chunk : Chunk) (entry : IndexEntry) → IsEntry device place chunk entry
     → IsChunk chunk → HasParts chunk → Says entry (filled_of device chunk)
 says_of device place chunk entry is good parts = record {
-  path = ap (child_of device) (sym is.measurement-is) ∙ ap (λ d. child_of d entry.measurement) (sym is.device-is);
-  device = device_of_filled device chunk parts ∙ sym is.device-is;
+  path = ap (child_of device) (sym is.measurement_is) ∙ ap (λ d. child_of d entry.measurement) (sym is.device_is);
+  device = device_of_filled device chunk parts ∙ sym is.device_is;
   stats = is.stats;
   rising = good.rising;
 }

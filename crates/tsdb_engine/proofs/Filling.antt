@@ -14,7 +14,7 @@ use Rattle.tsdb_model.specs.declared.command.Schema.{Schema}
 use Rattle.tsdb_base.specs.Points.{IsRising}
 use Rattle.tsdb_pages.specs.Pages.{IsInRange}
 use Rattle.tsfile_writer.specs.Building.{WasGiven}
-use Rattle.tsfile_writer.specs.Given.{MayTake, Series, with_point}
+use Rattle.tsfile_writer.specs.Given.{MayTake, Series, with_last_point}
 use Rattle.tsfile_writer.specs.declared.builder.Builder.{Builder}
 
 -- the builder was given the first points of the last series
@@ -26,7 +26,7 @@ pub filling_begins : (builder : Builder) (points : List Point) → IsFilling bui
 filling_begins builder points = record { step = λ part schema was. was; in_range = tt }
 
 pub filling_more : (old builder new : Builder) (points : List Point) (place : ℕ) (point : Point) → place < length points → get_or points place point ≡ point → IsInRange point
-    → ((front : List Series) (last : Series) → WasGiven builder (front ++ last ∷ []) → WasGiven new (front ++ with_point point last ∷ [])) → IsFilling old points place builder → IsFilling old points (place + 1) new
+    → ((front : List Series) (last : Series) → WasGiven builder (front ++ last ∷ []) → WasGiven new (front ++ with_last_point point last ∷ [])) → IsFilling old points place builder → IsFilling old points (place + 1) new
 filling_more old builder new points place point lt at in_range put filling =
     let next : suc place ≡ place + 1 = omega arith in
     let more : take (place + 1) points ≡ take place points ++ point ∷ [] = ap (λ (n : ℕ). take n points) (sym next) ∙ take-suc points place point lt ∙ ap (λ (p : Point). take place points ++ p ∷ []) at in

@@ -15,7 +15,7 @@ use Rattle.tsdb_base.specs.declared.point.Point.{Point}
 use Rattle.tsdb_engine.specs.Making.{IsOpen, IsPart, MayAdd}
 use Rattle.tsdb_engine.specs.Steps.{AreFrom, ComeBefore, filled_with}
 use Rattle.tsdb_engine.specs.declared.part.Part.{Part}
-use Rattle.tsdb_index.specs.Entries.{IsBefore}
+use Rattle.tsdb_index.specs.Entries.{AreNamesBefore}
 use Rattle.tsdb_jobs.specs.Parts.{Filled, HasPointsOf, if_any, names_of, part_of, series_of}
 use Rattle.tsdb_layers.proofs.Lists.{each_append, each_middle}
 use Rattle.tsdb_layers.specs.Lists.{Among, EachPair}
@@ -26,7 +26,7 @@ use Rattle.tsdb_model.specs.declared.command.Schema.{Schema}
 use Rattle.tsdb_memtable.specs.Pairs.{Pair, points_of}
 
 abbrev pub RiseSoFar : Filled → Filled → Type 0
-RiseSoFar a b = IsBefore (names_of a.schema) (names_of b.schema)
+RiseSoFar a b = AreNamesBefore (names_of a.schema) (names_of b.schema)
 
 each_if_any : (P : Schema → Type 0) (schema : Schema) (points : List Point) (rest : List Filled) → P schema → Each (λ f. P f.schema) rest → Each (λ f. P f.schema) (if_any schema points ++ rest)
 each_if_any P schema [] rest here behind = behind
@@ -39,17 +39,17 @@ each_of_part P space pair (schema ∷ schemas) [] all = tt
 each_of_part P space pair (schema ∷ schemas) (number ∷ numbers) all =
     each_if_any P schema (points_of space number.0 pair) (part_of space pair schemas numbers) all.0 (each_of_part P space pair schemas numbers all.1)
 
-pairs_if_any : (schema : Schema) (points : List Point) (rest : List Filled) → Each (λ f. IsBefore (names_of schema) (names_of f.schema)) rest → EachPair RiseSoFar rest → EachPair RiseSoFar (if_any schema points ++ rest)
+pairs_if_any : (schema : Schema) (points : List Point) (rest : List Filled) → Each (λ f. AreNamesBefore (names_of schema) (names_of f.schema)) rest → EachPair RiseSoFar rest → EachPair RiseSoFar (if_any schema points ++ rest)
 pairs_if_any schema [] rest here behind = behind
 pairs_if_any schema (point ∷ points) rest here behind = (here, behind)
 
 -- series rise in a part where schemas rise
-pub part_rises : (space : Space) (pair : Pair) (schemas : List Schema) (numbers : List SeriesId) → EachPair (λ a b. IsBefore (names_of a) (names_of b)) schemas → EachPair RiseSoFar (part_of space pair schemas numbers)
+pub part_rises : (space : Space) (pair : Pair) (schemas : List Schema) (numbers : List SeriesId) → EachPair (λ a b. AreNamesBefore (names_of a) (names_of b)) schemas → EachPair RiseSoFar (part_of space pair schemas numbers)
 part_rises space pair [] numbers pairs = tt
 part_rises space pair (schema ∷ schemas) [] pairs = tt
 part_rises space pair (schema ∷ schemas) (number ∷ numbers) pairs =
     pairs_if_any schema (points_of space number.0 pair) (part_of space pair schemas numbers)
-    (each_of_part (λ other. IsBefore (names_of schema) (names_of other)) space pair schemas numbers pairs.0)
+    (each_of_part (λ other. AreNamesBefore (names_of schema) (names_of other)) space pair schemas numbers pairs.0)
     (part_rises space pair schemas numbers pairs.1)
 
 -- of pairs around an element, those with the elements before it
@@ -146,14 +146,14 @@ split_at_filled space pair schemas numbers place making schema points here some 
 
 -- the series so far come before the next one
 before_next : (space : Space) (pair : Pair) (schemas : List Schema) (numbers : List SeriesId) (place : ℕ) (making : Part) (schema : Schema) (points : List Point) → AtPlace space pair schemas numbers place schema points
-    → 0 < length points → EachPair (λ a b. IsBefore (names_of a) (names_of b)) schemas → (so_far : HasGathered space pair schemas numbers place making) → ComeBefore so_far.done schema
+    → 0 < length points → EachPair (λ a b. AreNamesBefore (names_of a) (names_of b)) schemas → (so_far : HasGathered space pair schemas numbers place making) → ComeBefore so_far.done schema
 before_next space pair schemas numbers place making schema points here some rising so_far =
     before_middle RiseSoFar so_far.done (filled_with schema points) (part_of space pair (drop (place + 1) schemas) (drop (place + 1) numbers))
     (subst (EachPair RiseSoFar) (split_at_filled space pair schemas numbers place making schema points here some so_far) (part_rises space pair schemas numbers rising))
 
 -- the next series that has points may be added
 pub next_may_add : (space : Space) (pair : Pair) (schemas : List Schema) (numbers : List SeriesId) (place : ℕ) (making : Part) (schema : Schema) (points : List Point) → AtPlace space pair schemas numbers place schema points
-    → 0 < length points → EachPair (λ a b. IsBefore (names_of a) (names_of b)) schemas → HasGathered space pair schemas numbers place making → MayAdd making schema
+    → 0 < length points → EachPair (λ a b. AreNamesBefore (names_of a) (names_of b)) schemas → HasGathered space pair schemas numbers place making → MayAdd making schema
 next_may_add space pair schemas numbers place making schema points here some rising so_far = record {
   part = so_far.done;
   is = so_far.is;
@@ -162,7 +162,7 @@ next_may_add space pair schemas numbers place making schema points here some ris
 
 -- a series with points is gathered
 pub one_gathered : (space : Space) (pair : Pair) (schemas : List Schema) (numbers : List SeriesId) (place : ℕ) (making new : Part) (schema : Schema) (points : List Point) → AtPlace space pair schemas numbers place schema points
-    → 0 < length points → EachPair (λ a b. IsBefore (names_of a) (names_of b)) schemas
+    → 0 < length points → EachPair (λ a b. AreNamesBefore (names_of a) (names_of b)) schemas
     → ((part : List Filled) → IsPart part making → ComeBefore part schema → IsPart (part ++ filled_with schema points ∷ []) new) → HasGathered space pair schemas numbers place making
     → HasGathered space pair schemas numbers (place + 1) new
 one_gathered space pair schemas numbers place making new schema points here some rising step so_far =

@@ -4,7 +4,7 @@ use Rattle.std.specs.Prelude.{◌⊎◌, All}
 use Rattle.std.specs.List.{AllByRecursion as Each}
 use Rattle.std.proofs.lemmas.List.Elements.{All-from_recursion, recursion_from_All}
 use Rattle.tsdb_engine.specs.Steps.{ComeBefore, IsSound}
-use Rattle.tsdb_index.specs.Entries.{IsBefore}
+use Rattle.tsdb_index.specs.Entries.{AreNamesBefore}
 use Rattle.tsdb_jobs.specs.Built.{IsFileOf}
 use Rattle.tsdb_jobs.specs.Parts.{Filled, names_of, series_of}
 use Rattle.tsdb_layers.proofs.Lists.{each_append, each_left, each_middle, each_of_map, each_right, each_weaker}
@@ -54,8 +54,8 @@ may_follow builder (first ∷ part) schema given before sound = inr (map series_
     here : IsSound ends.last
     here = each_middle IsSound ends.front ends.last [] (subst (Each IsSound) ends.is sound)
 
-    earlier : IsBefore (names_of ends.last.schema) (names_of schema)
-    earlier = each_middle (λ f. IsBefore (names_of f.schema) (names_of schema)) ends.front ends.last [] (subst (Each (λ f. IsBefore (names_of f.schema) (names_of schema))) ends.is before)
+    earlier : AreNamesBefore (names_of ends.last.schema) (names_of schema)
+    earlier = each_middle (λ f. AreNamesBefore (names_of f.schema) (names_of schema)) ends.front ends.last [] (subst (Each (λ f. AreNamesBefore (names_of f.schema) (names_of schema))) ends.is before)
 
     follows : MayBeFollowedBy (device_of schema.path) (measurement_of schema.path) (series_of ends.last)
     follows = record { some = here.some; before = earlier }
@@ -85,8 +85,8 @@ placed_of : (filled : Filled) (device : List ℕ) (chunk : Chunk) → IsSound fi
 placed_of filled device chunk sound at is = record {
   device = subst IsPath (sym at) sound.device;
   parts = record {
-    measurement = subst IsName (sym is.measurement-is) sound.measurement;
-    points = subst (All IsInRange) (sym is.points-are) (All-from_recursion IsInRange filled.points sound.points);
+    measurement = subst IsName (sym is.measurement_is) sound.measurement;
+    points = subst (All IsInRange) (sym is.points_are) (All-from_recursion IsInRange filled.points sound.points);
   };
 }
 
@@ -122,7 +122,7 @@ file_of_part part bytes tree sound of is = record {
   tree = tree;
   of = of;
   made = record {
-    devices = All-from_recursion (λ (g : Group). IsPath g.device) tree.groups (devices_made tree.groups (recursion_from_All IsGroup tree.groups of.is-tree.groups) all);
+    devices = All-from_recursion (λ (g : Group). IsPath g.device) tree.groups (devices_made tree.groups (recursion_from_All IsGroup tree.groups of.is_tree.groups) all);
     chunks = All-from_recursion HasParts (chunks_of tree.groups) (chunks_made tree.groups all);
   };
   is = is;

@@ -15,7 +15,7 @@ use Rattle.std.proofs.lemmas.List.{get_or_append_left, get_or_default, get_or_pu
 use Rattle.tsdb_base.specs.Points.{IsRising}
 use Rattle.tsdb_base.specs.declared.point.Point.{Point}
 use Rattle.tsdb_engine.specs.Steps.{AddsTimes, AreFrom, ComeBefore, EndsIn, IsWidened, filled_with}
-use Rattle.tsdb_index.specs.Entries.{IsBefore}
+use Rattle.tsdb_index.specs.Entries.{AreNamesBefore}
 use Rattle.tsdb_jobs.specs.Built.{AreHullsOf, HasHullOver, HasTime}
 use Rattle.tsdb_jobs.specs.Parts.{Filled, names_of}
 use Rattle.tsdb_layers.proofs.Lists.{among_left, among_right, each_among, each_append, each_from_among, each_left, each_right, each_weaker}
@@ -85,9 +85,9 @@ over_more hulls more device time has = record {
 -- a hull's device comes before that of the series, where it is not the same
 device_before : (part : List Filled) (schema : Schema) (hull : Hull) (device : List ℕ) → device_of schema.path ≡ device → ComeBefore part schema → HasTime part hull.device hull.from
     → (IsLess hull.device device) ⊎ (hull.device ≡ device)
-device_before part schema hull device of before has = ways (each_among (λ f. IsBefore (names_of f.schema) (names_of schema)) part has.filled before has.among)
+device_before part schema hull device of before has = ways (each_among (λ f. AreNamesBefore (names_of f.schema) (names_of schema)) part has.filled before has.among)
   where
-    ways : IsBefore (names_of has.filled.schema) (names_of schema) → (IsLess hull.device device) ⊎ (hull.device ≡ device)
+    ways : AreNamesBefore (names_of has.filled.schema) (names_of schema) → (IsLess hull.device device) ⊎ (hull.device ≡ device)
     ways (inl less) = inl (subst (λ (a : List ℕ). IsLess a device) has.of_device (subst (λ (b : List ℕ). IsLess (device_of has.filled.schema.path) b) of less))
     ways (inr same) = inr (sym has.of_device ∙ same.0 ∙ of)
 

@@ -3,7 +3,7 @@ use Rattle.std.specs.Prelude.{◌≡◌, ◌≢◌, Bool, true, false, ℕ, ℤ,
 use Rattle.std.specs.List.{AllByRecursion as Each}
 use Rattle.tsdb_base.specs.declared.point.Point.{Point}
 use Rattle.tsdb_base.specs.Values.{type_of}
-use Rattle.tsdb_index.specs.Entries.{IsBefore}
+use Rattle.tsdb_index.specs.Entries.{AreNamesBefore}
 use Rattle.tsdb_jobs.specs.Built.{AreHullsOf}
 use Rattle.tsdb_jobs.specs.Parts.{Filled, names_of, series_of}
 use Rattle.tsdb_layers.specs.Lists.{Among}
@@ -16,7 +16,7 @@ use Rattle.tsfile_writer.specs.declared.builder.Builder.{Builder}
 
 -- each series comes before this one in the order of a tree
 abbrev pub ComeBefore : List Filled → Schema → Type 0
-ComeBefore part schema = Each (λ filled. IsBefore (names_of filled.schema) (names_of schema)) part
+ComeBefore part schema = Each (λ filled. AreNamesBefore (names_of filled.schema) (names_of schema)) part
 
 -- the series of the schema, with these points
 abbrev pub filled_with : Schema → List Point → Filled

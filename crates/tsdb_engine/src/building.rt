@@ -10,7 +10,7 @@ ghost use Rattle.tsdb_base.specs.Points.{IsRising};
 ghost use Rattle.tsdb_pages.specs.Pages.{IsInRange};
 ghost use Rattle.tsdb_path.specs.Nodes.{node_count};
 ghost use Rattle.tsfile_writer.specs.Building.{WasGiven};
-ghost use Rattle.tsfile_writer.specs.Given.{MayTake, Series, with_point};
+ghost use Rattle.tsfile_writer.specs.Given.{MayTake, Series, with_last_point};
 
 use tsdb_base::{Memory, Point};
 use tsdb_model::Schema;
@@ -36,7 +36,7 @@ pub(crate) fn put_point(builder: &mut Builder, point: Point) -> Result<(), Memor
     requires { (front : List Series) × (last : Series)
         × WasGiven builder.old (front ++ last ∷ []) × MayTake point last }
     ensures { OnOk result ((front : List Series) (last : Series) → WasGiven builder.old (front ++ last ∷ [])
-        → WasGiven builder.new (front ++ with_point point last ∷ [])) }
+        → WasGiven builder.new (front ++ with_last_point point last ∷ [])) }
 {
     match builder.point(point) {
         Ok(()) => Ok(()),

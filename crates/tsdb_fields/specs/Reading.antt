@@ -11,7 +11,7 @@ use Rattle.tsdb_fields.specs.declared.fault.FieldFault.TheVariants.{Bad, Memory}
 use Rattle.tsdb_fields.specs.declared.rest.Rest.{Rest}
 
 -- what is left begins with these bytes, and then the other is left
-pub record Takes (old : Rest) (text : List ℕ) (new : Rest) : Type 0 where
+pub record TakesBytes (old : Rest) (text : List ℕ) (new : Rest) : Type 0 where
   pub bytes : old.bytes.now ≡ text ++ new.bytes.now
   pub place : new.at ≡ old.at + length text
 
@@ -22,14 +22,14 @@ pub record Lacks {A : Type 0} (spelling : A → List ℕ) (IsField : A → Type 
 
 -- a field is read exactly where what is left begins with one, unless memory runs out
 abbrev pub Reads : {A B : Type 0} → (A → List ℕ) → (A → Type 0) → Rest → (B → A) → Result (B × Rest) FieldFault → Type 0
-Reads spelling IsField old view (Ok r) = Takes old (spelling (view r.0)) r.1 × IsField (view r.0)
+Reads spelling IsField old view (Ok r) = TakesBytes old (spelling (view r.0)) r.1 × IsField (view r.0)
 Reads spelling IsField old view (Err (Bad at)) = Lacks spelling IsField old at
 Reads spelling IsField old view (Err Memory) = Unit {0}
 
 -- as `Reads`, for a field of several parts: the fault has the place of some part
 abbrev pub ReadsParts : {A B : Type 0} → (A → List ℕ) → (A → Type 0) → Rest → (B → A) → Result (B × Rest) FieldFault
     → Type 0
-ReadsParts spelling IsField old view (Ok r) = Takes old (spelling (view r.0)) r.1 × IsField (view r.0)
+ReadsParts spelling IsField old view (Ok r) = TakesBytes old (spelling (view r.0)) r.1 × IsField (view r.0)
 ReadsParts spelling IsField old view (Err (Bad at)) = BeginsWithNone spelling IsField old.bytes.now
 ReadsParts spelling IsField old view (Err Memory) = Unit {0}
 

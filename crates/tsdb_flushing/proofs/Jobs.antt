@@ -14,7 +14,7 @@ use Rattle.tsdb_flushing.proofs.Parts.{none_part, some_part}
 use Rattle.tsdb_flushing.specs.Steps.{AreInTreeOrder, AreSeriesOf, HasNumbers, IsDraw, IsSeriesOf, names_in, schema_in}
 use Rattle.tsdb_flushing.specs.Taking.{HasPoint, IsTaken}
 use Rattle.tsdb_flushing.specs.declared.series.PairSeries.{PairSeries}
-use Rattle.tsdb_index.specs.Entries.{IsBefore}
+use Rattle.tsdb_index.specs.Entries.{AreNamesBefore}
 use Rattle.tsdb_jobs.specs.Jobs.{IsJob}
 use Rattle.tsdb_jobs.specs.Parts.{HasPointsOf, IsDrawnFor, IsFlushOf, names_of, part_of}
 use Rattle.tsdb_jobs.specs.declared.flush.FlushJob.{FlushJob}
@@ -44,15 +44,15 @@ mapped : (all : List Schema) (pair : Pair) (P : Schema → Type 0) → ((one : P
 mapped all pair P gives [] each = tt
 mapped all pair P gives (one ∷ series) each = (gives one each.0, mapped all pair P gives series each.1)
 
-names_before : (all : List Schema) (pair : Pair) (a : PairSeries) (series : List PairSeries) → IsSeriesOf all pair a → Each (IsSeriesOf all pair) series → Each (λ b. IsBefore (names_in a) (names_in b)) series
-    → Each (λ b. IsBefore (names_of (schema_in a)) (names_of b)) (map schema_in series)
+names_before : (all : List Schema) (pair : Pair) (a : PairSeries) (series : List PairSeries) → IsSeriesOf all pair a → Each (IsSeriesOf all pair) series → Each (λ b. AreNamesBefore (names_in a) (names_in b)) series
+    → Each (λ b. AreNamesBefore (names_of (schema_in a)) (names_of b)) (map schema_in series)
 names_before all pair a [] of each less = tt
 names_before all pair a (b ∷ series) of each less = (
-  subst (λ (n : List ℕ × List ℕ). IsBefore n (names_of (schema_in b))) of.names (subst (λ (n : List ℕ × List ℕ). IsBefore (names_in a) n) each.0.names less.0),
+  subst (λ (n : List ℕ × List ℕ). AreNamesBefore n (names_of (schema_in b))) of.names (subst (λ (n : List ℕ × List ℕ). AreNamesBefore (names_in a) n) each.0.names less.0),
   names_before all pair a series of each.1 less.1,
 )
 
-rises : (all : List Schema) (pair : Pair) (series : List PairSeries) → Each (IsSeriesOf all pair) series → AreInTreeOrder series → EachPair (λ a b. IsBefore (names_of a) (names_of b)) (map schema_in series)
+rises : (all : List Schema) (pair : Pair) (series : List PairSeries) → Each (IsSeriesOf all pair) series → AreInTreeOrder series → EachPair (λ a b. AreNamesBefore (names_of a) (names_of b)) (map schema_in series)
 rises all pair [] each order = tt
 rises all pair (one ∷ series) each order = (names_before all pair one series each.0 each.1 order.0, rises all pair series each.1 order.1)
 

@@ -16,7 +16,7 @@ use Rattle.tsdb_flushing.proofs.Members.{among, among_at, contained}
 use Rattle.tsdb_flushing.specs.Steps.{AreInTreeOrder, AreSeriesOf, HasNumbers, IsSeriesOf, names_in, schema_in}
 use Rattle.tsdb_flushing.specs.Taking.{HasPoint}
 use Rattle.tsdb_flushing.specs.declared.series.PairSeries.{PairSeries}
-use Rattle.tsdb_index.specs.Entries.{IsBefore}
+use Rattle.tsdb_index.specs.Entries.{AreNamesBefore}
 use Rattle.tsdb_layers.proofs.Lists.{among_map, each_among, each_from_among}
 use Rattle.tsdb_layers.proofs.Places.{paths_same}
 use Rattle.tsdb_layers.specs.Lists.{Among}
@@ -53,7 +53,7 @@ names_tie a b = both _ _ (slice_cmp nat_cmp a.names.0.now b.names.0.now) (slice_
 
 -- ---- the order of a tree
 
-before : (a b c d : List ℕ) (x y : Ordering) → slice_cmp nat_cmp a b ≡ x → slice_cmp nat_cmp c d ≡ y → ordering_then x y ≡ Less → IsBefore (a, c) (b, d)
+before : (a b c d : List ℕ) (x y : Ordering) → slice_cmp nat_cmp a b ≡ x → slice_cmp nat_cmp c d ≡ y → ordering_then x y ≡ Less → AreNamesBefore (a, c) (b, d)
 before a b c d Less y ex ey less = inl ex
 before a b c d Equal y ex ey less = inr (paths_same a b ex, ey ∙ less)
 before a b c d Greater y ex ey less = absurd (cc)
@@ -63,7 +63,7 @@ unfolding IsStrictlySortedBy
 tree_order [] sorted = tt
 tree_order (one ∷ series) sorted = (later series sorted.0, tree_order series sorted.1)
   where
-    later : (others : List PairSeries) → Each (λ other. names_cmp one other ≡ Less) others → Each (λ other. IsBefore (names_in one) (names_in other)) others
+    later : (others : List PairSeries) → Each (λ other. names_cmp one other ≡ Less) others → Each (λ other. AreNamesBefore (names_in one) (names_in other)) others
     later [] less = tt
     later (other ∷ others) less = (before one.names.0.now other.names.0.now one.names.1.now other.names.1.now _ _ refl refl less.0, later others less.1)
 

@@ -9,7 +9,7 @@ use Rattle.tsdb_base.specs.declared.ids.Space.TheVariants.{Sequence, Unsequence}
 use Rattle.tsdb_base.specs.declared.point.Point.{Point}
 use Rattle.tsdb_flushing.specs.Taking.{HasPoint}
 use Rattle.tsdb_flushing.specs.declared.series.PairSeries.{PairSeries}
-use Rattle.tsdb_index.specs.Entries.{IsBefore}
+use Rattle.tsdb_index.specs.Entries.{AreNamesBefore}
 use Rattle.tsdb_jobs.specs.Parts.{names_of}
 use Rattle.tsdb_layers.specs.Lists.{Among, EachPair}
 use Rattle.tsdb_model.specs.declared.command.Schema.{Schema}
@@ -64,7 +64,7 @@ pub record AreSeriesOf (all : List Schema) (pair : Pair) (series : List PairSeri
 
 -- they stand in the order of a tree
 abbrev pub AreInTreeOrder : List PairSeries → Type 0
-AreInTreeOrder series = EachPair (λ a b. IsBefore (names_in a) (names_in b)) series
+AreInTreeOrder series = EachPair (λ a b. AreNamesBefore (names_in a) (names_in b)) series
 
 -- a number is drawn exactly where one of the series has a point in the space: the next one, which rises then
 abbrev pub IsDraw : Space → List PairSeries → ℕ → ℕ → Option FileNumber → Type 0

@@ -6,7 +6,7 @@ use Rattle.std.specs.Prelude.{IfSome, IsSome, true, false, not, nat_eq}
 use Rattle.std.specs.declared.option.Option.{Option}
 use Rattle.std.specs.Option.{ForSome}
 use Rattle.std.proofs.lemmas.List.Elements.{All-nil}
-use Rattle.tsdb_outside.specs.Disk.{Image, State, IsLawful, Keeps, Torn, TornIn, WhereTold, in_slot, overwrite}
+use Rattle.tsdb_outside.specs.Disk.{Image, DiskState, IsLawful, Keeps, Torn, TornIn, WhereTold, in_slot, overwrite}
 use Rattle.tsdb_outside.specs.Moments.{LeavesFirstThen, LeavesOnly, IsUntouched, other}
 use Rattle.tsdb_outside.specs.declared.disk.Slot.{Slot}
 use Rattle.tsdb_outside.specs.declared.disk.Slot.TheVariants.{A, B}
@@ -24,7 +24,7 @@ other_other A = refl
 other_other B = refl
 
 -- a disk that tells goes on to tell
-pub tells_on : (slot : Slot) (old new : State) → LeavesSlot slot old new → IsSome old.seen → IsSome new.seen
+pub tells_on : (slot : Slot) (old new : DiskState) → LeavesSlot slot old new → IsSome old.seen → IsSome new.seen
 tells_on slot old new leaves told = by_cases old.seen new.seen leaves.seen told
   where
     by_cases : (before after : Option Image) → WhereTold (λ b a. in_slot slot a ≡ in_slot slot b) before after → IsSome before → IsSome after
@@ -33,7 +33,7 @@ tells_on slot old new leaves told = by_cases old.seen new.seen leaves.seen told
     by_cases (Some image) (Some now) same told = refl
 
 -- a write to one slot leaves the other alone
-torn_as_in : (slot : Slot) (at n : ℕ) (disk : State) (image : Image) → IsTornFrom slot at n disk image → IsAsIn (other slot) disk image
+torn_as_in : (slot : Slot) (at n : ℕ) (disk : DiskState) (image : Image) → IsTornFrom slot at n disk image → IsAsIn (other slot) disk image
 torn_as_in A at n disk image from = record { before = from.before; left = from.left; same = ap (λ (i : Image). i.b) from.torn.elsewhere }
 torn_as_in B at n disk image from = record { before = from.before; left = from.left; same = ap (λ (i : Image). i.a) from.torn.elsewhere }
 
@@ -47,7 +47,7 @@ torn_seen slot at n None after torn = torn
 torn_seen slot at n (Some before) None torn = torn
 torn_seen slot at n (Some before) (Some after) torn = torn_same slot at n before after torn
 
-pub write_leaves : (slot : Slot) (at n : ℕ) (old new : State) → WhereTold (TornIn slot at n) old.seen new.seen
+pub write_leaves : (slot : Slot) (at n : ℕ) (old new : DiskState) → WhereTold (TornIn slot at n) old.seen new.seen
     → LeavesOnly old new (IsTornFrom slot at n old) → LeavesSlot (other slot) old new
 write_leaves slot at n old new torn leaves = record {
   seen = torn_seen slot at n old.seen new.seen torn;
@@ -55,12 +55,12 @@ write_leaves slot at n old new torn leaves = record {
 }
 
 -- a write to the slot aside leaves this one alone
-pub aside_write_leaves : (slot : Slot) (at n : ℕ) (old new : State) → WhereTold (TornIn (other slot) at n) old.seen new.seen
+pub aside_write_leaves : (slot : Slot) (at n : ℕ) (old new : DiskState) → WhereTold (TornIn (other slot) at n) old.seen new.seen
     → LeavesOnly old new (IsTornFrom (other slot) at n old) → LeavesSlot slot old new
 aside_write_leaves slot at n old new torn leaves =
     subst (λ (s : Slot). LeavesSlot s old new) (other_other slot) (write_leaves (other slot) at n old new torn leaves)
 
-pub leaves_untouched : (slot : Slot) (old new : State) → LeavesSlot (other slot) old new → LeavesOnly old new (IsUntouched slot old)
+pub leaves_untouched : (slot : Slot) (old new : DiskState) → LeavesSlot (other slot) old new → LeavesOnly old new (IsUntouched slot old)
 leaves_untouched slot old new leaves =
     weaker old new (IsAsIn (other slot) old) (IsUntouched slot old)
     (λ image from. record { before = from.before; left = from.left; same = from.same }) leaves.moments
@@ -77,7 +77,7 @@ seen_on slot (Some image) (Some now) None one two = two
 seen_on slot (Some image) (Some now) (Some end) one two = two ∙ one
 
 -- one call and then another
-pub leaves_slot_on : (slot : Slot) (old mid new : State) → IsLawful mid → IsLawful new → LeavesSlot slot old mid → LeavesSlot slot mid new
+pub leaves_slot_on : (slot : Slot) (old mid new : DiskState) → IsLawful mid → IsLawful new → LeavesSlot slot old mid → LeavesSlot slot mid new
     → LeavesSlot slot old new
 leaves_slot_on slot old mid new mid_laws laws first second = record {
   seen = seen_on slot old.seen mid.seen new.seen first.seen second.seen;
@@ -95,7 +95,7 @@ same_seen slot None = refl
 same_seen slot (Some image) = refl
 
 -- no call, and a call that writes nothing
-pub idle_leaves : (slot : Slot) (disk : State) → IsLawful disk → LeavesSlot slot disk disk
+pub idle_leaves : (slot : Slot) (disk : DiskState) → IsLawful disk → LeavesSlot slot disk disk
 idle_leaves slot disk laws = record {
   seen = same_seen slot disk.seen;
   moments = record {
@@ -104,7 +104,7 @@ idle_leaves slot disk laws = record {
   };
 }
 
-pub keeps_leaves : (slot : Slot) (old new : State) → IsLawful old → IsLawful new → Keeps old new → LeavesSlot slot old new
+pub keeps_leaves : (slot : Slot) (old new : DiskState) → IsLawful old → IsLawful new → Keeps old new → LeavesSlot slot old new
 keeps_leaves slot old new old_laws laws keeps = record {
   seen = subst (λ (o : Option Image). WhereTold (λ b a. in_slot slot a ≡ in_slot slot b) old.seen o) (sym keeps.seen) (same_seen slot old.seen);
   moments = record {
@@ -121,7 +121,7 @@ keeps_leaves slot old new old_laws laws keeps = record {
   };
 }
 
-module _ (slot : Slot) (old new : State) (laws : IsLawful new) (leaves : LeavesSlot slot old new) where
+module _ (slot : Slot) (old new : DiskState) (laws : IsLawful new) (leaves : LeavesSlot slot old new) where
   as_in_now : (image : Image) → new.may_leave image → IsAsIn slot old image
   as_in_now image left = leaves.moments.each image (laws.counts_now old.moment image leaves.moments.passes.later left)
 
@@ -177,7 +177,7 @@ if_open_or_none payloads bytes has = elim (cases_eq has.gate 1) [
 ]
 
 -- what a stop leaves of the slot aside
-pub left_or_none : (disk : State) (slot : Slot) (aside : Aside) (records : Option (List (List ℕ))) → IsAsideOn disk slot aside records
+pub left_or_none : (disk : DiskState) (slot : Slot) (aside : Aside) (records : Option (List (List ℕ))) → IsAsideOn disk slot aside records
     → LeftInSlot disk slot (HasRecordsOrNone records)
 left_or_none disk slot Settled None stands image left = tt
 left_or_none disk slot Settled (Some payloads) stands image left = inl (stands image left)
@@ -209,7 +209,7 @@ torn_first payloads old new has torn = record {
 written_first : (old new : List ℕ) → new ≡ overwrite 0 (0 ∷ []) old → HasRecords [] new
 written_first old new is = closed_first 0 (drop 1 old) new (omega arith) is
 
-module _ (slot : Slot) (old new : State) where
+module _ (slot : Slot) (old new : DiskState) where
   pub closing_fails : (records : Option (List (List ℕ))) → ((image : Image) → new.may_leave image → IsTornFrom slot 0 1 old image)
       → IsAsideOn old slot Unsettled records → IsAsideOn new slot Unsettled records
   closing_fails None torn stands = tt
@@ -232,7 +232,7 @@ module _ (slot : Slot) (old new : State) where
       written_first (in_slot slot from.before) (in_slot slot image) from.written
 
 -- a doubt at byte 0 is not settled
-pub doubted_is_unsettled : (disk : State) (slot : Slot) (aside : Aside) (records : Option (List (List ℕ))) → aside ≡ Doubted
+pub doubted_is_unsettled : (disk : DiskState) (slot : Slot) (aside : Aside) (records : Option (List (List ℕ))) → aside ≡ Doubted
     → IsAsideOn disk slot aside records → IsAsideOn disk slot Unsettled records
 doubted_is_unsettled disk slot Doubted None is stands = tt
 doubted_is_unsettled disk slot Doubted (Some payloads) is stands = stands
@@ -240,7 +240,7 @@ doubted_is_unsettled disk slot Settled records is stands = absurd cc
 doubted_is_unsettled disk slot Closed records is stands = absurd cc
 doubted_is_unsettled disk slot Unsettled records is stands = absurd cc
 
-pub unsettled_is_doubted : (disk : State) (slot : Slot) (aside : Aside) (records : Option (List (List ℕ))) → aside ≡ Doubted
+pub unsettled_is_doubted : (disk : DiskState) (slot : Slot) (aside : Aside) (records : Option (List (List ℕ))) → aside ≡ Doubted
     → IsAsideOn disk slot Unsettled records → IsAsideOn disk slot aside records
 unsettled_is_doubted disk slot Doubted None is stands = tt
 unsettled_is_doubted disk slot Doubted (Some payloads) is stands = stands
@@ -280,7 +280,7 @@ open_byte byte closed = elim (eqb_tells byte 1) [
   | inr tells ↦ absurd (false≢true (sym closed ∙ ap not tells.0))
 ]
 
-module _ (slot : Slot) (disk : State) (laws : IsLawful disk) (aside : Aside) (byte : ℕ) (is : aside ≡ Settled) where
+module _ (slot : Slot) (disk : DiskState) (laws : IsLawful disk) (aside : Aside) (byte : ℕ) (is : aside ≡ Settled) where
   closed_in_all : (records : Option (List (List ℕ))) (seen : Image) → disk.seen ≡ Some seen → byte ≢ 1 → take 1 (in_slot slot seen) ≡ byte ∷ []
       → IsAsideOn disk slot Settled records → LeftInSlot disk slot (HasRecords [])
   closed_in_all None seen told shut first stands image left =
@@ -312,14 +312,14 @@ module _ (slot : Slot) (disk : State) (laws : IsLawful disk) (aside : Aside) (by
       open_in_all records seen told is_open first (subst (λ (a : Aside). IsAsideOn disk slot a records) is stands)
 
 -- A call leaves this slot alone that writes to the other.
-pub write_at_other : (slot place : Slot) (at n : ℕ) (old new : State) → place ≡ other slot → WhereTold (TornIn place at n) old.seen new.seen
+pub write_at_other : (slot place : Slot) (at n : ℕ) (old new : DiskState) → place ≡ other slot → WhereTold (TornIn place at n) old.seen new.seen
     → LeavesOnly old new (IsTornFrom place at n old) → LeavesSlot slot old new
 write_at_other slot place at n old new is =
     subst (λ (p : Slot). WhereTold (TornIn p at n) old.seen new.seen → LeavesOnly old new (IsTornFrom p at n old) → LeavesSlot slot old new)
     (sym is) (aside_write_leaves slot at n old new)
 
 -- its gate stays in it
-pub inside_on : (slot : Slot) (gate end : ℕ) (old new : State) → LeavesSlot slot old new → HasGateAt old slot gate end → HasGateAt new slot gate end
+pub inside_on : (slot : Slot) (gate end : ℕ) (old new : DiskState) → LeavesSlot slot old new → HasGateAt old slot gate end → HasGateAt new slot gate end
 inside_on slot gate end old new leaves within = record {
   inside = within.inside;
   long = longer old.seen new.seen leaves.seen within.long;
@@ -336,7 +336,7 @@ inside_on slot gate end old new leaves within = record {
         (omega (arith, long before refl, ap (λ (l : List ℕ). length l) same))
 
 -- A closing and a beginning of the slot aside, which the code calls by this name.
-module _ (old new : State) (slot place : Slot) (is : place ≡ other slot) where
+module _ (old new : DiskState) (slot place : Slot) (is : place ≡ other slot) where
   pub closing_fails_at : (records : Option (List (List ℕ))) → ((image : Image) → new.may_leave image → IsTornFrom place 0 1 old image)
       → IsAsideOn old (other slot) Unsettled records → IsAsideOn new (other slot) Unsettled records
   closing_fails_at records =
@@ -357,24 +357,24 @@ module _ (old new : State) (slot place : Slot) (is : place ≡ other slot) where
 
 -- A beginning of the log in the slot aside, which the code calls by this name.
 module _ (slot place : Slot) (is : place ≡ other slot) where
-  pub empty_at : (disk : State) → IsSome disk.seen → LeftInSlot disk (other slot) (HasRecords []) → IsLogOn disk place 0 [] None
+  pub empty_at : (disk : DiskState) → IsSome disk.seen → LeftInSlot disk (other slot) (HasRecords []) → IsLogOn disk place 0 [] None
   empty_at disk told closed = record { told = told; place = refl; left = subst (λ (p : Slot). LeftInSlot disk p (HasRecords [])) (sym is) closed }
 
-  pub log_at : (disk : State) (gate : ℕ) (acknowledged : List (List ℕ)) (in_doubt : Option (List ℕ)) → IsLogOn disk place gate acknowledged in_doubt
+  pub log_at : (disk : DiskState) (gate : ℕ) (acknowledged : List (List ℕ)) (in_doubt : Option (List ℕ)) → IsLogOn disk place gate acknowledged in_doubt
       → IsLogOn disk (other slot) gate acknowledged in_doubt
   log_at disk gate acknowledged in_doubt = subst (λ (p : Slot). IsLogOn disk place gate acknowledged in_doubt → IsLogOn disk p gate acknowledged in_doubt)
       is (λ log. log)
 
-  pub first_then_at : (old new : State) (P Q : List ℕ → Type 0) → LeavesFirstThen old new (λ image. P (in_slot place image)) (λ image. Q (in_slot place image))
+  pub first_then_at : (old new : DiskState) (P Q : List ℕ → Type 0) → LeavesFirstThen old new (λ image. P (in_slot place image)) (λ image. Q (in_slot place image))
       → LeavesFirstThen old new (λ image. P (in_slot (other slot) image)) (λ image. Q (in_slot (other slot) image))
   first_then_at old new P Q = subst (λ (p : Slot). LeavesFirstThen old new (λ image. P (in_slot place image)) (λ image. Q (in_slot place image))
       → LeavesFirstThen old new (λ image. P (in_slot p image)) (λ image. Q (in_slot p image))) is (λ leaves. leaves)
 
-  pub leaves_at : (old new : State) → LeavesSlot (other place) old new → LeavesSlot slot old new
+  pub leaves_at : (old new : DiskState) → LeavesSlot (other place) old new → LeavesSlot slot old new
   leaves_at old new = subst (λ (p : Slot). LeavesSlot (other place) old new → LeavesSlot p old new) (ap other is ∙ other_other slot) (λ leaves. leaves)
 
 -- a record behind a byte 0 in doubt
-pub doubted_on : (disk : State) (slot : Slot) (payload : List ℕ) → IsLogOn disk slot 0 [] (Some payload)
+pub doubted_on : (disk : DiskState) (slot : Slot) (payload : List ℕ) → IsLogOn disk slot 0 [] (Some payload)
     → LeftInSlot disk slot (HasRecordsIfOpen (payload ∷ []))
 doubted_on disk slot payload log image left =
     let behind = log.left image left in
@@ -386,7 +386,7 @@ doubted_on disk slot payload log image left =
     }
 
 -- A look at the slot aside, which the code calls by this name.
-module _ (old new : State) (slot place : Slot) (is : place ≡ other slot) (old_laws : IsLawful old) (laws : IsLawful new) (keeps : Keeps old new) where
+module _ (old new : DiskState) (slot place : Slot) (is : place ≡ other slot) (old_laws : IsLawful old) (laws : IsLawful new) (keeps : Keeps old new) where
   pub looked_on : (aside : Aside) (records : Option (List (List ℕ))) → IsAsideOn old (other slot) aside records → IsAsideOn new (other slot) aside records
   looked_on = aside_on (other slot) old new laws (keeps_leaves (other slot) old new old_laws laws keeps)
 
@@ -407,7 +407,7 @@ module _ (old new : State) (slot place : Slot) (is : place ≡ other slot) (old_
       → IsAsideOn old p aside records → IsAsideOn new p Unsettled records) is (λ same. same)
 
 -- What a scan knows of the slot aside.
-module _ (slot : Slot) (old new : State) (old_laws : IsLawful old) (laws : IsLawful new) (keeps : Keeps old new) (settled : IsSettled slot old) where
+module _ (slot : Slot) (old new : DiskState) (old_laws : IsLawful old) (laws : IsLawful new) (keeps : Keeps old new) (settled : IsSettled slot old) where
   told_now : (seen : Image) → old.seen ≡ Some seen → IsSome new.seen
   told_now seen is = subst (λ (o : Option Image). IsSome o) (sym (keeps.seen ∙ is)) refl
 

@@ -4,7 +4,7 @@ use Rattle.std.proofs.lemmas.Bool.{false≢true}
 use Rattle.std.specs.Prelude.{IsOk, Result, Ok, Err, OnErr, OnOk, Bool, true, false, ◌||◌}
 use Rattle.std.specs.declared.option.Option.{Option}
 use Rattle.tsdb_outside.specs.declared.disk.Disk as disk
-use Rattle.tsdb_outside.specs.Disk.{State, IsLawful, MayWrite, in_slot}
+use Rattle.tsdb_outside.specs.Disk.{DiskState, IsLawful, MayWrite, in_slot}
 use Rattle.tsdb_outside.specs.Moments.{IsUntouched, LeavesOnly, other}
 use Rattle.tsdb_outside.specs.declared.disk.Slot.{Slot}
 use Rattle.tsdb_outside.specs.declared.faults.Counted as counted
@@ -46,7 +46,7 @@ err_is_not_ok (Ok value) error same ok = absurd cc
 err_is_not_ok (Err other_error) error same ok = false≢true ok
 
 -- what holds of a slot holds of it by another name
-pub moved_moments : (old new : State) (slot place : Slot) → slot ≡ place → (P : List ℕ → Type 0)
+pub moved_moments : (old new : DiskState) (slot place : Slot) → slot ≡ place → (P : List ℕ → Type 0)
     → LeavesOnly old new (λ image. P (in_slot slot image)) → LeavesOnly old new (λ image. P (in_slot place image))
 moved_moments old new slot place same P = subst (λ (s : Slot). LeavesOnly old new (λ image. P (in_slot slot image))
     → LeavesOnly old new (λ image. P (in_slot s image))) same (λ leaves. leaves)

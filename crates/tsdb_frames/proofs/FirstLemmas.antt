@@ -4,7 +4,7 @@ use Rattle.std.specs.Prelude.{IfSome}
 use Rattle.std.specs.declared.option.Option.{Option}
 use Rattle.std.specs.Option.{ForSome}
 use Rattle.std.proofs.lemmas.List.{take_all}
-use Rattle.tsdb_outside.specs.Disk.{Image, IsLawful, Keeps, State, in_slot}
+use Rattle.tsdb_outside.specs.Disk.{Image, IsLawful, Keeps, DiskState, in_slot}
 use Rattle.tsdb_outside.specs.declared.disk.Slot.{Slot}
 use Rattle.tsdb_frames.specs.declared.reading.Start.{Start}
 use Rattle.tsdb_frames.specs.declared.reading.Start.TheVariants.{Shut, Whole, Broken}
@@ -80,7 +80,7 @@ empty_seen slot (Some image) bytes none long =
     inr (refl, no_bytes (in_slot slot image) (omega (arith, none, long image refl)))
 
 -- one call that writes nothing and then another
-pub keeps_on : (old mid new : State) → IsLawful old → Keeps old mid → Keeps mid new → Keeps old new
+pub keeps_on : (old mid new : DiskState) → IsLawful old → Keeps old mid → Keeps mid new → Keeps old new
 keeps_on old mid new laws first second = record {
   seen = second.seen ∙ first.seen;
   crash = λ image left. first.crash image (second.crash image left);

@@ -2,7 +2,7 @@
 use Rattle.std.proofs.Common.{◌≡◌, ℕ, ◌+◌, ◌≤◌, Bool, true, List, [], ◌∷◌, ◌++◌, length, refl, sym, ◌∙◌, ap, subst, arith, length-append, None, Some}
 use Rattle.std.specs.Prelude.{IsSome, is_some, Result, Ok, Err, OnErr}
 use Rattle.std.specs.declared.option.Option.{Option}
-use Rattle.tsdb_outside.specs.Disk.{Image, State, in_slot, overwrite, IsLawful, TornIn, WhereTold}
+use Rattle.tsdb_outside.specs.Disk.{Image, DiskState, in_slot, overwrite, IsLawful, TornIn, WhereTold}
 use Rattle.tsdb_outside.specs.declared.disk.Slot.{Slot}
 use Rattle.tsdb_frames.specs.Slots.{with_length, frame_bytes, open_records, HasRecords}
 use Rattle.tsdb_frames.specs.Laws.{records_once}
@@ -19,7 +19,7 @@ always_on_err (Ok value) holds = tt
 always_on_err (Err error) holds = holds
 
 -- a log with no gate in doubt leaves its slot settled
-pub log_is_settled : (disk : State) (slot : Slot) (gate : ℕ) (acknowledged : List (List ℕ)) → IsLawful disk
+pub log_is_settled : (disk : DiskState) (slot : Slot) (gate : ℕ) (acknowledged : List (List ℕ)) → IsLawful disk
     → IsLogOn disk slot gate acknowledged None → IsSettled slot disk
 log_is_settled disk slot gate acknowledged laws log payloads seen image is_seen has left =
     let same = records_once payloads acknowledged (in_slot slot seen) has (log.left seen (laws.seen_may_stay seen is_seen)) in
@@ -31,7 +31,7 @@ told_on relation None new related told = absurd cc
 told_on relation (Some x) None related told = absurd related
 told_on relation (Some x) (Some y) related told = refl
 
-module _ (old new : State) (slot : Slot) (gate : ℕ) (acknowledged : List (List ℕ)) where
+module _ (old new : DiskState) (slot : Slot) (gate : ℕ) (acknowledged : List (List ℕ)) where
   -- a write of the gate leaves a record in doubt in doubt
   pub gate_leaves : (payload : List ℕ) → IsLogOn old slot gate acknowledged (Some payload)
       → (image : Image) → IsTornFrom slot gate 1 old image → IsSlotOf acknowledged (Some payload) (in_slot slot image)
@@ -134,7 +134,7 @@ module _ (old new : State) (slot : Slot) (gate : ℕ) (acknowledged : List (List
       weaker old new (IsTornFrom slot (gate + 1) n old) (λ image. HasRecords acknowledged (in_slot slot image)) (behind_leaves n log) leaves
 
 -- A settling, where a gate is in doubt.
-module _ (old new : State) (slot : Slot) (gate : ℕ) (acknowledged : List (List ℕ)) where
+module _ (old new : DiskState) (slot : Slot) (gate : ℕ) (acknowledged : List (List ℕ)) where
   pub settle_fails : (in_doubt : Option (List ℕ)) (doubt : Bool) → doubt ≡ true → doubt ≡ is_some in_doubt
       → WhereTold (TornIn slot gate 1) old.seen new.seen → IsLogOn old slot gate acknowledged in_doubt
       → ((image : Image) → new.may_leave image → IsTornFrom slot gate 1 old image) → IsLogOn new slot gate acknowledged in_doubt
@@ -155,7 +155,7 @@ module _ (old new : State) (slot : Slot) (gate : ℕ) (acknowledged : List (List
   settle_moments (Some payload) doubt is_set same log leaves = gate_moments old new slot gate acknowledged payload log leaves
 
 -- An addition: the states at its beginning, behind the write of the frame, and behind that of the gate.
-module _ (old staged last : State) (slot : Slot) (gate : ℕ) (framed : List ℕ) (acknowledged : List (List ℕ)) where
+module _ (old staged last : DiskState) (slot : Slot) (gate : ℕ) (framed : List ℕ) (acknowledged : List (List ℕ)) where
   pub added_moments : IsLawful last → IsLogOn old slot gate acknowledged None → IsLogOn staged slot gate acknowledged (Some (payload_of framed))
       → LeavesOnly old staged (IsTornFrom slot (gate + 1) (length framed) old) → LeavesOnly staged last (IsTornFrom slot gate 1 staged)
       → LeavesFirstThen old last (λ image. HasRecords acknowledged (in_slot slot image))
@@ -167,7 +167,7 @@ module _ (old staged last : State) (slot : Slot) (gate : ℕ) (framed : List ℕ
       (gate_moments staged last slot gate acknowledged (payload_of framed) staged_log opening)
 
 -- the gate behind a record is opened
-pub gate_opens_framed : (staged last : State) (slot : Slot) (gate : ℕ) (framed : List ℕ) → IsFrame framed → (acknowledged : List (List ℕ))
+pub gate_opens_framed : (staged last : DiskState) (slot : Slot) (gate : ℕ) (framed : List ℕ) → IsFrame framed → (acknowledged : List (List ℕ))
     → WhereTold (TornIn slot gate 1) staged.seen last.seen → IsLogOn staged slot gate acknowledged (Some (payload_of framed))
     → (IsSome staged.seen → (image : Image) → last.may_leave image → IsWrittenFrom slot gate (1 ∷ []) staged image)
     → IsLogOn last slot (gate + length framed) (acknowledged ++ (payload_of framed ∷ [])) None

@@ -1,14 +1,14 @@
 -- How the moments of calls go together.
 use Rattle.std.proofs.Common.{inl, inr, ⊎_elim, ◌∙◌, arith}
-use Rattle.tsdb_outside.specs.Disk.{Image, State, IsLawful, Elapses}
+use Rattle.tsdb_outside.specs.Disk.{Image, DiskState, IsLawful, Elapses}
 use Rattle.tsdb_outside.specs.declared.disk.Slot.{Slot}
 use Rattle.tsdb_outside.specs.Moments.{LeavesOnly, LeavesFirstThen, IsUntouched}
 use Rattle.tsdb_frames.specs.Turns.{LeavesInTurn}
 
-pub weaker : (old new : State) (P Q : Image → Type 0) → ((image : Image) → P image → Q image) → LeavesOnly old new P → LeavesOnly old new Q
+pub weaker : (old new : DiskState) (P Q : Image → Type 0) → ((image : Image) → P image → Q image) → LeavesOnly old new P → LeavesOnly old new Q
 weaker old new P Q wider leaves = record { passes = leaves.passes; each = λ image left. wider image (leaves.each image left) }
 
-module _ (old mid new : State) (laws : IsLawful new) where
+module _ (old mid new : DiskState) (laws : IsLawful new) where
   passes_on : Elapses old mid (mid.left_since old.moment) → Elapses mid new (new.left_since mid.moment)
       → Elapses old new (new.left_since old.moment)
   passes_on first second = record {
@@ -56,7 +56,7 @@ module _ (old mid new : State) (laws : IsLawful new) where
   })
 
 -- one call and then another
-pub elsewhere_on : (slot : Slot) (old mid new : State) → IsLawful mid → IsLawful new → LeavesOnly old mid (IsUntouched slot old)
+pub elsewhere_on : (slot : Slot) (old mid new : DiskState) → IsLawful mid → IsLawful new → LeavesOnly old mid (IsUntouched slot old)
     → LeavesOnly mid new (IsUntouched slot mid) → LeavesOnly old new (IsUntouched slot old)
 elsewhere_on slot old mid new mid_laws laws first second =
     leaves_on old mid new laws (IsUntouched slot old) first

@@ -6,7 +6,7 @@ use Rattle.std.specs.List.{All}
 use Rattle.std.specs.Option.{ForSome}
 use Rattle.std.proofs.lemmas.List.{drop-drop, drop-take, drop_at, length-drop, map-append, take-take, take_at}
 use Rattle.std.proofs.lemmas.List.Elements.{All-append, All-cons, All-nil}
-use Rattle.tsdb_outside.specs.Disk.{Image, IsLawful, Keeps, State, in_slot}
+use Rattle.tsdb_outside.specs.Disk.{Image, IsLawful, Keeps, DiskState, in_slot}
 use Rattle.tsdb_outside.specs.declared.disk.Disk as disk
 use Rattle.tsdb_outside.specs.declared.disk.Slot.{Slot}
 use Rattle.tsdb_outside.specs.declared.faults.Counted as counted
@@ -52,7 +52,7 @@ module _ (frame : Frame) (left : List ℕ) (f : HasFirst frame left) (n : ℕ) (
   take_front = ap (λ (l : List ℕ). take n l) front_of ∙ take_at (1 ∷ with_length frame.payload) f.after n front_bytes
 
   -- the piece behind the frame
-  pub piece_on : (disk : State) (slot : Slot) (at end : ℕ) → HasPiece disk slot at end left → HasPiece disk slot (at + n) end f.after
+  pub piece_on : (disk : DiskState) (slot : Slot) (at end : ℕ) → HasPiece disk slot at end left → HasPiece disk slot (at + n) end f.after
   piece_on disk slot at end p = record {
     inside = omega (arith, p.inside, long_left);
     gate = λ some. omega (arith, p.inside, long_left, f.whole.gate);

@@ -5,7 +5,7 @@ use Rattle.std.proofs.lemmas.List.Elements.{All-nil}
 use Rattle.std.proofs.lemmas.Grind.{flat_map-append}
 use Rattle.tsdb_base.specs.Fields.{number32}
 use Rattle.tsdb_frames.specs.declared.record.Frame.{Frame}
-use Rattle.tsdb_frames.specs.Slots.{IsPayload, with_length, open_records, BeginsWith, IsTorn, IsTornBehind, payloads_of, ArePlaced}
+use Rattle.tsdb_frames.specs.Slots.{IsPayload, with_length, open_records, BeginsWithPayload, IsTorn, IsTornBehind, payloads_of, ArePlaced}
 
 -- one record more, behind the others
 pub open_records_more : (payloads : List (List ℕ)) (payload : List ℕ)
@@ -40,7 +40,7 @@ places_more frames new placed at before after frame same = elim (split_last fram
 ]
 
 -- where no record stands behind an open first gate, the slot is torn at 0
-pub torn_at_first : (bytes behind : List ℕ) → bytes ≡ 1 ∷ behind → ((payload after : List ℕ) → ¬ BeginsWith behind payload after) → IsTorn 0 bytes
+pub torn_at_first : (bytes behind : List ℕ) → bytes ≡ 1 ∷ behind → ((payload after : List ℕ) → ¬ BeginsWithPayload behind payload after) → IsTorn 0 bytes
 torn_at_first bytes behind is none = inl (record {
   payloads = [];
   fit = All-nil IsPayload;

@@ -2,7 +2,7 @@
 use Rattle.std.proofs.Common.{◌≡◌, ◌∙◌, ℕ, List, length, None, Some, refl, subst, sym}
 use Rattle.std.specs.Prelude.{IfSome, IsSome}
 use Rattle.std.specs.declared.option.Option.{Option}
-use Rattle.tsdb_outside.specs.Disk.{Image, Keeps, State, in_slot}
+use Rattle.tsdb_outside.specs.Disk.{Image, Keeps, DiskState, in_slot}
 use Rattle.tsdb_outside.specs.declared.disk.Slot.{Slot}
 use Rattle.tsdb_frames.specs.Causes.{AnswersTorn}
 use Rattle.tsdb_frames.specs.declared.fault.ScanFault.{ScanFault}
@@ -41,7 +41,7 @@ module _ (slot : Slot) where
   torn_each (Torn place) (Some image) torn = λ at other. torn_once place at (in_slot slot image) (torn place refl) other
 
   -- the log of the records of a settled slot
-  pub whole_log : (payloads : List (List ℕ)) (gate : ℕ) → gate ≡ length (open_records payloads) → (old new : State) → Keeps old new
+  pub whole_log : (payloads : List (List ℕ)) (gate : ℕ) → gate ≡ length (open_records payloads) → (old new : DiskState) → Keeps old new
       → IsSettled slot old → (seen : Option Image) → old.seen ≡ seen → IfSome seen (λ image. HasRecords payloads (in_slot slot image))
       → (Q : Type 0) → (IsLogOn new slot gate payloads None → Q) → IfSome seen (λ image. Q)
   whole_log payloads gate place old new keeps settled None told records Q then = tt

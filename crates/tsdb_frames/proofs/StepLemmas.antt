@@ -6,7 +6,7 @@ use Rattle.std.specs.declared.option.Option.{Option}
 use Rattle.std.specs.Option.{ForSome}
 use Rattle.tsdb_base.specs.Causes.{Rose}
 use Rattle.tsdb_outside.specs.Causes.{HasCause}
-use Rattle.tsdb_outside.specs.Disk.{Image, State, IsLawful, Durable, Elapses, Keeps, MayWrite, Overwrites, TornIn, WhereTold, in_slot, overwrite, with_slot}
+use Rattle.tsdb_outside.specs.Disk.{Image, DiskState, IsLawful, Durable, Elapses, Keeps, MayWrite, Overwrites, TornIn, WhereTold, in_slot, overwrite, with_slot}
 use Rattle.tsdb_outside.specs.declared.disk.Slot.{Slot}
 use Rattle.tsdb_outside.specs.declared.disk.Slot.TheVariants.{A, B}
 use Rattle.tsdb_outside.specs.declared.faults.Failed.{Failed}
@@ -20,7 +20,7 @@ pub always_on_ok : {P : Type 0} (result : Result (Unit {0}) Failed) → P → On
 always_on_ok (Ok value) holds = holds
 always_on_ok (Err error) holds = tt
 
-passes_of : (old new : State) → IsLawful new → Elapses old new new.may_leave → Elapses old new (new.left_since old.moment)
+passes_of : (old new : DiskState) → IsLawful new → Elapses old new new.may_leave → Elapses old new (new.left_since old.moment)
 passes_of old new laws time = record {
   later = time.later;
   nothing_else = λ t image le left. ⊎_elim (λ earlier. inl earlier) (λ now. inr (laws.counts_now old.moment image time.later now))
@@ -33,7 +33,7 @@ in_with A bytes image = refl
 in_with B bytes image = refl
 
 -- the write may be torn
-module _ (slot : Slot) (at n : ℕ) (old mid : State) (old_laws : IsLawful old) (mid_laws : IsLawful mid)
+module _ (slot : Slot) (at n : ℕ) (old mid : DiskState) (old_laws : IsLawful old) (mid_laws : IsLawful mid)
     (writes : MayWrite slot at n old mid) where
   pub torn_left : (image : Image) → mid.may_leave image → IsTornFrom slot at n old image
   torn_left image left =
@@ -49,7 +49,7 @@ module _ (slot : Slot) (at n : ℕ) (old mid : State) (old_laws : IsLawful old) 
   }
 
 -- and it may be behind the sync
-module _ (slot : Slot) (at n : ℕ) (old mid new : State) (old_laws : IsLawful old) (mid_laws : IsLawful mid) (laws : IsLawful new)
+module _ (slot : Slot) (at n : ℕ) (old mid new : DiskState) (old_laws : IsLawful old) (mid_laws : IsLawful mid) (laws : IsLawful new)
     (writes : MayWrite slot at n old mid) (keeps : Keeps mid new) where
   pub still_torn : WhereTold (TornIn slot at n) old.seen new.seen
   still_torn = subst (λ (o : Option Image). WhereTold (TornIn slot at n) old.seen o) (sym keeps.seen) writes.torn
@@ -69,7 +69,7 @@ module _ (slot : Slot) (at n : ℕ) (old mid new : State) (old_laws : IsLawful o
   still_torn_since = leaves_on old mid new laws (IsTornFrom slot at n old) (torn_since slot at n old mid old_laws mid_laws writes) still_since
 
 -- what a sync makes durable is what was written
-written_from : (slot : Slot) (at : ℕ) (bytes : List ℕ) (old new : State) → IsLawful old → (before after : Option Image) → old.seen ≡ before
+written_from : (slot : Slot) (at : ℕ) (bytes : List ℕ) (old new : DiskState) → IsLawful old → (before after : Option Image) → old.seen ≡ before
     → WhereTold (Overwrites slot at bytes) before after → IfSome after (λ image. Durable slot (in_slot slot image) new.may_leave)
     → IsSome before → (image : Image) → new.may_leave image → IsWrittenFrom slot at bytes old image
 written_from slot at bytes old new laws None after told is durable some image left = absurd (false≢true some)
@@ -80,7 +80,7 @@ written_from slot at bytes old new laws (Some before) (Some after) told is durab
   written = durable image left ∙ ap (λ (i : Image). in_slot slot i) is ∙ in_with slot (overwrite at bytes (in_slot slot before)) before;
 }
 
-pub written_if_synced : (slot : Slot) (at : ℕ) (bytes : List ℕ) (old mid new : State) (result : Result (Unit {0}) Failed) → IsLawful old
+pub written_if_synced : (slot : Slot) (at : ℕ) (bytes : List ℕ) (old mid new : DiskState) (result : Result (Unit {0}) Failed) → IsLawful old
     → WhereTold (Overwrites slot at bytes) old.seen mid.seen
     → OnOk result (IfSome mid.seen (λ image. Durable slot (in_slot slot image) new.may_leave))
     → OnOk result (IsSome old.seen → (image : Image) → new.may_leave image → IsWrittenFrom slot at bytes old image)
@@ -101,7 +101,7 @@ reaches slot at bytes (Some before) (Some after) is within = λ image told.
     subst (λ (i : Image). at + length bytes ≤ length (in_slot slot i)) same
     (omega (arith, long, length-overwrite at bytes (in_slot slot before) (within before refl)))
 
-pub reaches_behind_sync : (slot : Slot) (at : ℕ) (bytes : List ℕ) (old mid new : State) → Keeps mid new
+pub reaches_behind_sync : (slot : Slot) (at : ℕ) (bytes : List ℕ) (old mid new : DiskState) → Keeps mid new
     → WhereTold (Overwrites slot at bytes) old.seen mid.seen → ForSome old.seen (λ image. at ≤ length (in_slot slot image))
     → ForSome new.seen (λ image. at + length bytes ≤ length (in_slot slot image))
 reaches_behind_sync slot at bytes old mid new keeps is within =

@@ -1,7 +1,7 @@
 -- The slot aside, that a log is not in: which records a stop leaves there.
 use Rattle.std.specs.Prelude.{◌≡◌, ◌⊎◌, ℕ, Bool, true, false, List, [], ◌∷◌, None, Some}
 use Rattle.std.specs.declared.option.Option.{Option}
-use Rattle.tsdb_outside.specs.Disk.{Image, State, in_slot}
+use Rattle.tsdb_outside.specs.Disk.{Image, DiskState, in_slot}
 use Rattle.tsdb_outside.specs.declared.disk.Slot.{Slot}
 use Rattle.tsdb_frames.specs.declared.aside.Aside.{Aside}
 use Rattle.tsdb_frames.specs.declared.aside.Aside.TheVariants.{Settled, Closed, Unsettled, Doubted}
@@ -16,12 +16,12 @@ pub record HasRecordsIfOpen (payloads : List (List ℕ)) (bytes : List ℕ) : Ty
   pub records : HasRecords payloads (1 ∷ rest)
 
 -- whatever a stop leaves in a slot is such
-abbrev pub LeftInSlot : State → Slot → (List ℕ → Type 0) → Type 0
+abbrev pub LeftInSlot : DiskState → Slot → (List ℕ → Type 0) → Type 0
 LeftInSlot disk slot P = (image : Image) → disk.may_leave image → P (in_slot slot image)
 
 -- What a stop leaves in a slot, by what is known of its byte 0, where its records are these. Where they are not known,
 -- the slot is settled, or its byte 0 is closed, or nothing is said.
-abbrev pub IsAsideOn : State → Slot → Aside → Option (List (List ℕ)) → Type 0
+abbrev pub IsAsideOn : DiskState → Slot → Aside → Option (List (List ℕ)) → Type 0
 IsAsideOn disk slot Settled None = IsSettled slot disk
 IsAsideOn disk slot Settled (Some payloads) = LeftInSlot disk slot (HasRecords payloads)
 IsAsideOn disk slot Closed None = LeftInSlot disk slot (HasRecords [])

@@ -1,7 +1,7 @@
 -- What `Frames` stands for: the log in a slot of its journal.
 use Rattle.std.specs.Prelude.{◌≡◌, ℕ, Bool, ◌||◌, List, is_some, IsSome}
 use Rattle.std.specs.declared.option.Option.{Option}
-use Rattle.tsdb_outside.specs.Disk.{State}
+use Rattle.tsdb_outside.specs.Disk.{DiskState}
 use Rattle.tsdb_outside.specs.declared.disk.Disk as disk
 use Rattle.tsdb_outside.specs.Moments.{other}
 use Rattle.tsdb_outside.specs.declared.disk.Slot.{Slot}
@@ -16,7 +16,7 @@ module _ {J : Type 0} {means : disk.Ghosts J} {counts : counted.Ghosts J} where
   journal_of log = log.journal
 
   -- what its disk means
-  abbrev pub disk_of : Frames J means counts → State
+  abbrev pub disk_of : Frames J means counts → DiskState
   disk_of log = means.state log.journal
 
   -- how often its journal has failed

@@ -6,7 +6,7 @@ use Rattle.std.proofs.lemmas.List.Elements.{All-head, All-tail}
 use Rattle.tsdb_base.specs.Fields.{number32}
 use Rattle.tsdb_base.specs.FieldLaws.{number32-prefix_free}
 use Rattle.tsdb_base.specs.PlainLaws.{same_front}
-use Rattle.tsdb_frames.specs.Slots.{IsPayload, with_length, open_records, HasRecords, BeginsWith, IsTorn}
+use Rattle.tsdb_frames.specs.Slots.{IsPayload, with_length, open_records, HasRecords, BeginsWithPayload, IsTorn}
 
 -- no record begins here: there is no open gate, or no whole record behind it
 abbrev Stops : List ℕ → Type 0
@@ -16,7 +16,7 @@ Stops rest = (payload after : List ℕ) → IsPayload payload → 1 ≤ length a
 stops_closed : (gate : ℕ) (rest : List ℕ) → gate ≢ 1 → Stops (gate ∷ rest)
 stops_closed gate rest closed payload after fits some same = closed cc
 
-stops_torn : (behind : List ℕ) → ((payload after : List ℕ) → ¬ BeginsWith behind payload after) → Stops (1 ∷ behind)
+stops_torn : (behind : List ℕ) → ((payload after : List ℕ) → ¬ BeginsWithPayload behind payload after) → Stops (1 ∷ behind)
 stops_torn behind broken payload after fits some same =
     broken payload after (record { fits = fits; split = cc; gate = some })
 

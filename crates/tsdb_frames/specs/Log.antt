@@ -3,7 +3,7 @@ use Rattle.std.specs.Prelude.{◌≡◌, ◌⊎◌, ℕ, ◌-◌, ◌<◌, ◌�
 use Rattle.std.specs.declared.option.Option.{Option}
 use Rattle.std.specs.List.{All}
 use Rattle.std.specs.Option.{ForSome}
-use Rattle.tsdb_outside.specs.Disk.{Image, State, in_slot}
+use Rattle.tsdb_outside.specs.Disk.{Image, DiskState, in_slot}
 use Rattle.tsdb_outside.specs.Limits.{FitsSlot}
 use Rattle.tsdb_outside.specs.declared.disk.Slot.{Slot}
 use Rattle.tsdb_frames.specs.Slots.{IsPayload, frame_bytes, open_records, HasRecords}
@@ -38,14 +38,14 @@ HasRecordsOrOneMore acknowledged (Some payload) bytes =
 
 -- A disk that tells its content has this log in a slot: the gate behind the acknowledged records stands at this
 -- place, and whatever a stop leaves is such a slot.
-pub record IsLogOn (disk : State) (slot : Slot) (gate : ℕ) (acknowledged : List (List ℕ))
+pub record IsLogOn (disk : DiskState) (slot : Slot) (gate : ℕ) (acknowledged : List (List ℕ))
     (in_doubt : Option (List ℕ)) : Type 0 where
   pub told : IsSome disk.seen
   pub place : gate ≡ length (open_records acknowledged)
   pub left : (image : Image) → disk.may_leave image → IsSlotOf acknowledged in_doubt (in_slot slot image)
 
 -- there is a gate at this place of the slot, which has so many bytes at least
-pub record HasGateAt (disk : State) (slot : Slot) (gate end : ℕ) : Type 0 where
+pub record HasGateAt (disk : DiskState) (slot : Slot) (gate end : ℕ) : Type 0 where
   pub inside : gate < end
   pub long : ForSome disk.seen (λ image. end ≤ length (in_slot slot image))
   pub limit : FitsSlot end
@@ -56,6 +56,6 @@ first_bytes [] = 0
 first_bytes (payload ∷ payloads) = length (frame_bytes payload)
 
 -- A journal is settled in a slot: whatever a stop leaves begins with what a read gives, up to its first closed gate.
-abbrev pub IsSettled : Slot → State → Type 0
+abbrev pub IsSettled : Slot → DiskState → Type 0
 IsSettled slot disk = (payloads : List (List ℕ)) (seen image : Image) → disk.seen ≡ Some seen
     → HasRecords payloads (in_slot slot seen) → disk.may_leave image → HasRecords payloads (in_slot slot image)

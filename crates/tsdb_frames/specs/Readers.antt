@@ -1,6 +1,6 @@
 -- What a reader of a slot has read.
 use Rattle.std.specs.Prelude.{◌≡◌, ℕ, ◌-◌, ◌^◌, ◌<◌, ◌≤◌, List, [], ◌∷◌, ◌++◌, take, drop, IfSome}
-use Rattle.tsdb_outside.specs.Disk.{Keeps, State, in_slot}
+use Rattle.tsdb_outside.specs.Disk.{Keeps, DiskState, in_slot}
 use Rattle.tsdb_outside.specs.declared.disk.Disk as disk
 use Rattle.tsdb_outside.specs.declared.disk.Slot.{Slot}
 use Rattle.tsdb_outside.specs.declared.faults.Counted as counted
@@ -16,7 +16,7 @@ module _ {J : Type 0} {means : disk.Ghosts J} {counts : counted.Ghosts J} where
   read_journal reader = reader.journal
 
   -- what its disk means
-  abbrev pub disk_read : FrameReader J means counts → State
+  abbrev pub disk_read : FrameReader J means counts → DiskState
   disk_read reader = means.state reader.journal
 
   -- how often its journal has failed

@@ -1,7 +1,7 @@
 -- What a scan of a slot leaves: a log of its records, or the journal that it could not read.
 use Rattle.std.specs.Prelude.{◌≡◌, ◌≤◌, ℕ, false, List, None, Some, IfSome}
 use Rattle.tsdb_base.specs.Causes.{Rose}
-use Rattle.tsdb_outside.specs.Disk.{State, in_slot, Keeps}
+use Rattle.tsdb_outside.specs.Disk.{DiskState, in_slot, Keeps}
 use Rattle.tsdb_outside.specs.Moments.{other}
 use Rattle.tsdb_outside.specs.declared.disk.Disk as disk
 use Rattle.tsdb_outside.specs.declared.disk.Slot.{Slot}
@@ -32,7 +32,7 @@ module _ {J : Type 0} {means : disk.Ghosts J} {counts : counted.Ghosts J} where
 
 -- A scan is refused for this fault: the slot is torn at the place that is told, or could not be read. Nothing was written,
 -- and the count of faults rose where the journal failed.
-pub record IsScanRefused (place : Slot) (old new : State) (before now : ℕ) (fault : ScanFault) : Type 0 where
+pub record IsScanRefused (place : Slot) (old new : DiskState) (before now : ℕ) (fault : ScanFault) : Type 0 where
   pub torn : IfSome old.seen (λ image. (at : ℕ) → fault ≡ Torn at → IsTorn at (in_slot place image))
   pub keeps : Keeps old new
   pub later : before ≤ now

@@ -36,7 +36,7 @@ pub record GoesOn (payloads : List (List ℕ)) (bytes : List ℕ) : Type 0 where
   pub gate : 1 ≤ length rest
 
 -- The bytes behind an open gate begin with this record, and go on with the next gate.
-pub record BeginsWith (bytes payload after : List ℕ) : Type 0 where
+pub record BeginsWithPayload (bytes payload after : List ℕ) : Type 0 where
   pub fits : IsPayload payload
   pub split : bytes ≡ with_length payload ++ after
   pub gate : 1 ≤ length after
@@ -48,7 +48,7 @@ pub record IsTornAtGate (at : ℕ) (bytes : List ℕ) : Type 0 where
   pub behind : List ℕ
   pub split : bytes ≡ open_records payloads ++ (1 ∷ behind)
   pub place : at ≡ length (open_records payloads)
-  pub broken : (payload after : List ℕ) → ¬ BeginsWith behind payload after
+  pub broken : (payload after : List ℕ) → ¬ BeginsWithPayload behind payload after
 
 -- a slot is torn at an open gate, or at 0 where it is empty
 abbrev pub IsTorn : ℕ → List ℕ → Type 0

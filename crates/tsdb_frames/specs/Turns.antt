@@ -1,10 +1,10 @@
 -- What a stop leaves at the moments of a call in three stretches.
 use Rattle.std.specs.Prelude.{◌⊎◌, ℕ, ◌≤◌}
-use Rattle.tsdb_outside.specs.Disk.{Image, State, Elapses}
+use Rattle.tsdb_outside.specs.Disk.{Image, DiskState, Elapses}
 use Rattle.tsdb_outside.specs.Moments.{LeavesFirstThen}
 
 -- Until one moment of the call a stop leaves what has P, from then until another what has Q, and from then on what has R.
-pub record TurnsTwice (old new : State) (P Q R : Image → Type 0) : Type 0 where
+pub record TurnsTwice (old new : DiskState) (P Q R : Image → Type 0) : Type 0 where
   pub passes : Elapses old new (new.left_since old.moment)
   pub turn : ℕ
   pub second : ℕ
@@ -16,5 +16,5 @@ pub record TurnsTwice (old new : State) (P Q R : Image → Type 0) : Type 0 wher
   pub at_last : (image : Image) → new.left_since second image → R image
 
 -- the first stretch alone, the first two, or all three
-abbrev pub LeavesInTurn : State → State → (Image → Type 0) → (Image → Type 0) → (Image → Type 0) → Type 0
+abbrev pub LeavesInTurn : DiskState → DiskState → (Image → Type 0) → (Image → Type 0) → (Image → Type 0) → Type 0
 LeavesInTurn old new P Q R = LeavesFirstThen old new P Q ⊎ TurnsTwice old new P Q R

@@ -4,7 +4,7 @@ ghost use Rattle.std.specs.Option.{ForSome};
 ghost use Rattle.tsdb_outside.specs.Disk.{in_slot, Keeps};
 ghost use Rattle.tsdb_frames.specs.Causes.{HasScanCause};
 ghost use Rattle.tsdb_frames.specs.Firsts.{IsFirst};
-ghost use Rattle.tsdb_frames.specs.Slots.{BeginsWith, IsTorn};
+ghost use Rattle.tsdb_frames.specs.Slots.{BeginsWithPayload, IsTorn};
 ghost use Rattle.tsdb_frames.specs.Steps.{BeginsAs};
 
 use crate::{Frame, ScanFault};
@@ -32,8 +32,8 @@ pub(crate) const PIECE_BYTES: u64 = 65_536;
 // The record that stands behind an open gate, and the next gate with all behind it. None where there is no such record
 // or no next gate.
 fn split_record(bytes: &[u8]) -> Option<(&[u8], &[u8])>
-    ensures found { IfSome result (λ r. BeginsWith bytes.now r.0.now r.1.now) }
-    ensures none { result ≡ None → (payload after : List ℕ) → ¬ BeginsWith bytes.now payload after }
+    ensures found { IfSome result (λ r. BeginsWithPayload bytes.now r.0.now r.1.now) }
+    ensures none { result ≡ None → (payload after : List ℕ) → ¬ BeginsWithPayload bytes.now payload after }
 {
     if bytes.len() < LENGTH_BYTES {
         return None;

@@ -28,7 +28,7 @@ use Rattle.tsdb_logged.specs.Logged.{IsSound, Outside}
 use Rattle.tsdb_model.specs.State as plain
 use Rattle.tsdb_model.specs.declared.reply.Listing.{Listing}
 use Rattle.tsdb_base.specs.Causes.{Rose}
-use Rattle.tsdb_outside.specs.Disk.{Image, IsLawful, State, WhereTold, in_slot}
+use Rattle.tsdb_outside.specs.Disk.{Image, IsLawful, DiskState, WhereTold, in_slot}
 use Rattle.tsdb_outside.specs.Files.{IsFileNumber, StoredFile}
 use Rattle.tsdb_outside.specs.Moments.{LeavesOnly}
 use Rattle.tsdb_outside.specs.declared.disk.Disk as disk
@@ -197,7 +197,7 @@ module _ {J F S R P : Type 0} {means : disk.Ghosts J} {counts : counted.Ghosts J
       by None leads = refl
       by (Some item) leads = absurd leads
 
-  is_closed : (new : State) (faults : ℕ) → IsLawful new → logged.IsClosed (logged_of core) new faults
+  is_closed : (new : DiskState) (faults : ℕ) → IsLawful new → logged.IsClosed (logged_of core) new faults
       → IsClosed core new stored (Rose (faults_under core) faults) put at next
   is_closed new faults laws closes = record {
     differ = differing (files_of core).places rising;
@@ -244,7 +244,7 @@ module _ {J F S R P : Type 0} {means : disk.Ghosts J} {counts : counted.Ghosts J
       }
 
   -- all of them are put to rest
-  pub closed : (new : State) (faults : ℕ) → IsLawful new → logged.IsClosed (logged_of core) new faults
+  pub closed : (new : DiskState) (faults : ℕ) → IsLawful new → logged.IsClosed (logged_of core) new faults
       → (old rest : Option (List StoredFile)) → old ≡ Some []
       → WhereTold (ArePutBack (names_at (files_of core).places)) old rest
       → IsSomeAnd rest (λ files. IsClosed core new files (Rose (faults_under core) faults) put at next)

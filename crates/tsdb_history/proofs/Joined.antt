@@ -8,7 +8,7 @@ use Rattle.tsdb_history.specs.Prefixes.{StandsAfter, StandsAfterPrefix}
 use Rattle.tsdb_model.specs.History.{Entry, IsLegal, state_after}
 use Rattle.tsdb_model.specs.State as plain
 use Rattle.tsdb_model.specs.declared.reply.Reply.TheVariants.{Plain}
-use Rattle.tsdb_outside.specs.Disk.{Image, State, in_slot}
+use Rattle.tsdb_outside.specs.Disk.{Image, DiskState, in_slot}
 use Rattle.tsdb_outside.specs.declared.disk.Slot.{Slot}
 use Rattle.tsdb_replay.proofs.Stores.{new_log_stands, stands_once}
 use Rattle.tsdb_replay.specs.Stores.{Files, IsSound, StandsFor, no_changes}
@@ -63,7 +63,7 @@ followed files bytes start between middle last first second leads left stands le
           (stands_once files bytes middle (state_after between command (Plain answer.Done)) stands is) legal;
     }
 
-pub new_is_sound : (slot : Slot) (disk : State) (files : Files) (image : Image) → disk.seen ≡ Some image
+pub new_is_sound : (slot : Slot) (disk : DiskState) (files : Files) (image : Image) → disk.seen ≡ Some image
     → in_slot slot image ≡ 0 ∷ [] → ((left : Image) → disk.may_leave left → in_slot slot left ≡ 0 ∷ [])
     → IsSound slot disk files no_changes
 new_is_sound slot disk files image seen new leaves = record {

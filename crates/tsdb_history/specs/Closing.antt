@@ -8,7 +8,7 @@ use Rattle.tsdb_images.specs.Stored.{LeavesOneOf, kept_bytes}
 use Rattle.tsdb_layers.specs.Lists.{EachPair}
 use Rattle.tsdb_model.specs.State as plain
 use Rattle.tsdb_model.specs.declared.reply.Listing.{Listing}
-use Rattle.tsdb_outside.specs.Disk.{Image, State, in_slot}
+use Rattle.tsdb_outside.specs.Disk.{Image, DiskState, in_slot}
 use Rattle.tsdb_outside.specs.Files.{IsFileNumber, StoredFile}
 use Rattle.tsdb_outside.specs.Moments.{LeavesOnly}
 use Rattle.tsdb_outside.specs.declared.disk.Disk as disk
@@ -22,7 +22,7 @@ module _ {J F S R P : Type 0} {means : disk.Ghosts J} {counts : counted.Ghosts J
   -- A stop at any moment left the state, or the one in doubt. What is left stands with the stored files for the state, or
   -- for the one in doubt. Unless the journal failed, and wherever nothing is in doubt, it is a sound store, and a listing
   -- of the core is the store's.
-  pub record IsClosed (core : Core J F S R P means counts) (new : State) (stored : List StoredFile) (rose : Type 0)
+  pub record IsClosed (core : Core J F S R P means counts) (new : DiskState) (stored : List StoredFile) (rose : Type 0)
       (files : List StoredFile) (at : plain.State) (next : Option plain.State)
       : Type 0 where
     pub differ : EachPair (λ (a b : StoredFile). a.number ≢ b.number) stored

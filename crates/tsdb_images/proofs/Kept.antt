@@ -5,7 +5,7 @@ use Rattle.std.specs.Prelude.{nat_eq, not}
 use Rattle.std.specs.List.{AllByRecursion as Each, filter, find, list_any}
 use Rattle.std.specs.Option.{option_map}
 use Rattle.std.proofs.lemmas.Bool.{eqb-true}
-use Rattle.tsdb_images.specs.Stored.{IsKept, kept_bytes, without_numbers}
+use Rattle.tsdb_images.specs.Stored.{IsKeptWhole, kept_bytes, without_numbers}
 use Rattle.tsdb_layers.specs.Lists.{Among}
 use Rattle.tsdb_outside.specs.Files.{StoredFile}
 use Rattle.tsdb_replay.specs.Stores.{Files, HoldsKept, IsContentOf, IsWhole}
@@ -91,9 +91,9 @@ whole_as files others told other a b same as_told there whole = record {
 }
 
 -- a kept file is kept by whatever born it is named with
-pub kept_by_number : (kept : List StoredFile) (told : Told) (files : List File) → Each (IsKept kept told) files
+pub kept_by_number : (kept : List StoredFile) (told : Told) (files : List File) → Each (IsKeptWhole kept told) files
     → (number : ℕ) → Among number (numbers_of files) → (born : ℕ)
-    → IsKept kept told (record { number = number; born = born })
+    → IsKeptWhole kept told (record { number = number; born = born })
 kept_by_number kept told [] whole number among born = absurd among
 kept_by_number kept told (file ∷ files) whole number (inl is) born =
     whole_as (kept_bytes kept) (kept_bytes kept) told told file (record { number = number; born = born }) is refl

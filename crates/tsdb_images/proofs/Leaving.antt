@@ -8,13 +8,13 @@ use Rattle.tsdb_frames.specs.Log.{HasRecordsOrOneMore, IsLogOn, IsSettled}
 use Rattle.tsdb_outside.specs.Moments.{LeavesFirstThen, LeavesOnly}
 use Rattle.tsdb_images.proofs.After.{listed_after}
 use Rattle.tsdb_images.proofs.Kept.{holds_found, kept_by_number, whole_as}
-use Rattle.tsdb_images.specs.Stored.{IsKept, IsStored, LeadsTo, LeavesOneOf, kept_bytes}
+use Rattle.tsdb_images.specs.Stored.{IsKeptWhole, IsStored, LeadsTo, LeavesOneOf, kept_bytes}
 use Rattle.tsdb_layers.proofs.Lists.{each_among, each_left, each_right, each_weaker}
 use Rattle.tsdb_layers.specs.Lists.{Among}
 use Rattle.tsdb_log.specs.Spelling.{IsRecord, spelling}
 use Rattle.tsdb_log.specs.declared.record.LogRecord.{LogRecord}
 use Rattle.tsdb_model.specs.State as plain
-use Rattle.tsdb_outside.specs.Disk.{Image, IsLawful, State, in_slot}
+use Rattle.tsdb_outside.specs.Disk.{Image, IsLawful, DiskState, in_slot}
 use Rattle.tsdb_outside.specs.Files.{StoredFile}
 use Rattle.tsdb_outside.specs.declared.disk.Slot.{Slot}
 use Rattle.tsdb_replay.proofs.Stores.{stands_for_one_of}
@@ -34,22 +34,22 @@ module _ (items : List LogRecord) (kept : List StoredFile) (told : Told) (known 
   abbrev pub replay : Recorded
   replay = record { named = stored.named; store = state.store }
 
-  pub kept_listed : Each (IsKept kept told) listed
-  kept_listed = each_left (IsKept kept told) listed state.outgoing stored.whole
+  pub kept_listed : Each (IsKeptWhole kept told) listed
+  kept_listed = each_left (IsKeptWhole kept told) listed state.outgoing stored.whole
 
-  pub kept_outgoing : Each (IsKept kept told) state.outgoing
-  kept_outgoing = each_right (IsKept kept told) listed state.outgoing stored.whole
+  pub kept_outgoing : Each (IsKeptWhole kept told) state.outgoing
+  kept_outgoing = each_right (IsKeptWhole kept told) listed state.outgoing stored.whole
 
   -- a record in doubt names files on their way out
   kept_after : (item : LogRecord) → DoubtInOrder told stored.named state.store state.outgoing item
-      → Each (IsKept kept told) ((after item state.store).sequence ++ (after item state.store).unsequence)
-  kept_after item doubt = listed_after (IsKept kept told) item state.store
+      → Each (IsKeptWhole kept told) ((after item state.store).sequence ++ (after item state.store).unsequence)
+  kept_after item doubt = listed_after (IsKeptWhole kept told) item state.store
       (λ number among born. kept_by_number kept told state.outgoing kept_outgoing number
       (each_among (λ n. Among n (numbers_of state.outgoing)) (names item) number doubt.kept among) born) kept_listed
 
   module _ (files : Files) (holds : HoldsKept kept files) where
-    whole : (list : List File) → Each (IsKept kept told) list → Each (IsWhole files told) list
-    whole = each_weaker (IsKept kept told) (IsWhole files told)
+    whole : (list : List File) → Each (IsKeptWhole kept told) list → Each (IsWhole files told) list
+    whole = each_weaker (IsKeptWhole kept told) (IsWhole files told)
         (λ file. whole_as (kept_bytes kept) files told told file file refl refl
         (λ bytes. holds_found kept files holds file.number bytes))
 
@@ -87,7 +87,7 @@ module _ (items : List LogRecord) (kept : List StoredFile) (told : Told) (known 
   module _ (at : plain.State) (next : Option plain.State) (stands : IsStateOf told state.store at)
       (leads : LeadsTo told state.store state.doubt next) (slot : Slot) where
     -- what a stop leaves between two calls
-    pub image_stands : (disk : State) (gate : ℕ) (image : Image)
+    pub image_stands : (disk : DiskState) (gate : ℕ) (image : Image)
         → IsLogOn disk slot gate (map spelling items) (option_map spelling state.doubt) → disk.may_leave image
         → LeavesOneOf kept slot at next image
     image_stands disk gate image log left files holds =
@@ -96,7 +96,7 @@ module _ (items : List LogRecord) (kept : List StoredFile) (told : Told) (known 
         (log.left image left))
 
   -- what a settled engine leaves
-  pub settled_is_sound : (disk : State) (lawful : IsLawful disk) (at : plain.State) (slot : Slot) (gate : ℕ)
+  pub settled_is_sound : (disk : DiskState) (lawful : IsLawful disk) (at : plain.State) (slot : Slot) (gate : ℕ)
       (files : Files)
       → state.doubt ≡ None → IsStateOf told state.store at → IsLogOn disk slot gate (map spelling items) None
       → IsSettled slot disk → HoldsKept kept files → IsSound slot disk files at
@@ -109,7 +109,7 @@ module _ (items : List LogRecord) (kept : List StoredFile) (told : Told) (known 
         (sym none) (log.left image (lawful.seen_may_stay image seen)));
   }
 
-either : (old new : State) (P Q R S : Image → Type 0) → ((image : Image) → P image → R image)
+either : (old new : DiskState) (P Q R S : Image → Type 0) → ((image : Image) → P image → R image)
     → ((image : Image) → Q image → S image)
     → LeavesFirstThen old new P Q → LeavesOnly old new (λ image. R image ⊎ S image)
 either old new P Q R S first then (inl leaves) =
@@ -123,7 +123,7 @@ either old new P Q R S first then (inr turns) = record {
 -- the state of a store is that of an equal one
 pub append_moments : (items : List LogRecord) (kept : List StoredFile) (told : Told) (known : Entries)
     (state doubtful : EngineState) (item : LogRecord) (at after : plain.State) (next : Option plain.State) (slot : Slot)
-    (old new : State) → IsStored items kept told known state → IsStored items kept told known (failed item doubtful)
+    (old new : DiskState) → IsStored items kept told known state → IsStored items kept told known (failed item doubtful)
     → doubtful.store ≡ state.store → IsStateOf told state.store at → LeadsTo told state.store state.doubt next
     → LeadsTo told state.store (Some item) (Some after)
     → LeavesFirstThen old new

@@ -8,7 +8,7 @@ use Rattle.tsdb_base.specs.declared.point.Range.{Range}
 use Rattle.tsdb_images.proofs.After.{listed_after, named_drawn, named_output}
 use Rattle.tsdb_images.proofs.Kept.{each_passed, found_bytes, found_with_more, found_without, kept_by_number, whole_as}
 use Rattle.tsdb_images.proofs.Leaving.{kept_listed, kept_outgoing}
-use Rattle.tsdb_images.specs.Stored.{AreOutgoing, IsKept, IsStored, built_files, kept_bytes, without_numbers}
+use Rattle.tsdb_images.specs.Stored.{AreOutgoing, IsKeptWhole, IsStored, built_files, kept_bytes, without_numbers}
 use Rattle.tsdb_layers.proofs.Lists.{each_among, each_append, each_both, each_from_among, each_left}
 use Rattle.tsdb_layers.proofs.Lists.{each_weaker, with_one_is}
 use Rattle.tsdb_layers.specs.Lists.{Among, IsWithOne, count}
@@ -71,7 +71,7 @@ module _ (items : List LogRecord) (kept : List StoredFile) (told : Told) (known 
 
   -- a step that appends no record
   same_log : (new : EngineState) → new.store ≡ state.store → IsInOrder told known named new
-      → Each (IsKept kept told) (files_of new) → IfSome new.doubt IsRecord → IsStored items kept told known new
+      → Each (IsKeptWhole kept told) (files_of new) → IfSome new.doubt IsRecord → IsStored items kept told known new
   same_log new same order whole doubt = record {
     named = named;
     good = stored.good;
@@ -85,7 +85,7 @@ module _ (items : List LogRecord) (kept : List StoredFile) (told : Told) (known 
   -- a step that appends one
   one_more : (item : LogRecord) (other : EngineState) → other.store ≡ state.store → IsRecord item
       → CanFollow named item state.store → IsInOrder told known (names item ++ named) (wrote item other)
-      → Each (IsKept kept told) (files_of (wrote item other))
+      → Each (IsKeptWhole kept told) (files_of (wrote item other))
       → IsStored (items ++ item ∷ []) kept told known (wrote item other)
   one_more item other same good can order whole = record {
     named = names item ++ named;
@@ -154,23 +154,23 @@ module _ (items : List LogRecord) (kept : List StoredFile) (told : Told) (known 
   settled_stored = same_log (settled state) refl (settle_step told known named state stored.order) stored.whole tt
 
   -- files that are kept go out
-  more_outgoing : (built : List File) → Each (IsKept kept told) built
-      → Each (IsKept kept told) (listed ++ (state.outgoing ++ built))
-  more_outgoing built all = each_append (IsKept kept told) listed (state.outgoing ++ built)
+  more_outgoing : (built : List File) → Each (IsKeptWhole kept told) built
+      → Each (IsKeptWhole kept told) (listed ++ (state.outgoing ++ built))
+  more_outgoing built all = each_append (IsKeptWhole kept told) listed (state.outgoing ++ built)
       (kept_listed items kept told known state stored)
-      (each_append (IsKept kept told) state.outgoing built (kept_outgoing items kept told known state stored) all)
+      (each_append (IsKeptWhole kept told) state.outgoing built (kept_outgoing items kept told known state stored) all)
 
   -- the files after a record, where those that it names and those that go out are kept
   listed_more : (item : LogRecord) (built : List File)
       → ((number : ℕ) → Among number (names item) → (born : ℕ)
-      → IsKept kept told (record { number = number; born = born }))
-      → Each (IsKept kept told) built
-      → Each (IsKept kept told) (((after item state.store).sequence ++ (after item state.store).unsequence)
+      → IsKeptWhole kept told (record { number = number; born = born }))
+      → Each (IsKeptWhole kept told) built
+      → Each (IsKeptWhole kept told) (((after item state.store).sequence ++ (after item state.store).unsequence)
       ++ (state.outgoing ++ built))
-  listed_more item built new all = each_append (IsKept kept told)
+  listed_more item built new all = each_append (IsKeptWhole kept told)
       ((after item state.store).sequence ++ (after item state.store).unsequence) (state.outgoing ++ built)
-      (listed_after (IsKept kept told) item state.store new (kept_listed items kept told known state stored))
-      (each_append (IsKept kept told) state.outgoing built (kept_outgoing items kept told known state stored) all)
+      (listed_after (IsKeptWhole kept told) item state.store new (kept_listed items kept told known state stored))
+      (each_append (IsKeptWhole kept told) state.outgoing built (kept_outgoing items kept told known state stored) all)
 
   -- FLUSHES
   pub take_flush_stored : (flush : FlushJob) → TakesFlush flush state
@@ -179,19 +179,19 @@ module _ (items : List LogRecord) (kept : List StoredFile) (told : Told) (known 
       (take_flush_step told known named state stored.order flush takes) stored.whole stored.doubt
 
   pub end_flush_stored : (flush : FlushJob) (others : List FlushJob) (built : List File)
-      → EndsFlush flush others built state → Each (IsKept kept told) built
+      → EndsFlush flush others built state → Each (IsKeptWhole kept told) built
       → IsStored items kept told known (ended_flush flush others built state)
   end_flush_stored flush others built ends all = same_log (ended_flush flush others built state) refl
       (end_flush_step told known named state stored.order flush others built ends) (more_outgoing built all)
       stored.doubt
 
   module _ (flush : FlushJob) (others : List FlushJob) (commits : CommitsFlush told known flush others state)
-      (good : IsRecord (flush_record flush)) (all : Each (IsKept kept told) (built_files flush)) where
+      (good : IsRecord (flush_record flush)) (all : Each (IsKeptWhole kept told) (built_files flush)) where
     drawn : (number : ℕ) → Among number (names (flush_record flush)) → Among number (drawn_by flush)
     drawn number among = named_drawn flush.sequence flush.unsequence number among
 
     is_kept : (number : ℕ) → Among number (names (flush_record flush)) → (born : ℕ)
-        → IsKept kept told (record { number = number; born = born })
+        → IsKeptWhole kept told (record { number = number; born = born })
     is_kept number among = kept_by_number kept told (built_files flush) all number
         (subst (Among number) (sym (built_numbers flush.born (drawn_by flush))) (drawn number among))
 
@@ -221,17 +221,17 @@ module _ (items : List LogRecord) (kept : List StoredFile) (told : Told) (known 
       (begin_step told known named state stored.order job begins) stored.whole stored.doubt
 
   pub end_stored : (job : Compaction) (others : List Compaction) (built : List File)
-      → EndsCompaction job others built state → Each (IsKept kept told) built
+      → EndsCompaction job others built state → Each (IsKeptWhole kept told) built
       → IsStored items kept told known (ended job others built state)
   end_stored job others built ends all = same_log (ended job others built state) refl
       (end_step told known named state stored.order job others built ends) (more_outgoing built all) stored.doubt
 
   module _ (job : Compaction) (others : List Compaction) (output : List File) (place : ℕ)
       (commits : CommitsCompaction told known job others output place state)
-      (good : IsRecord (compaction_record job output place)) (all : Each (IsKept kept told) output) where
-    inputs_kept : Each (IsKept kept told) (job_inputs job)
-    inputs_kept = each_weaker (λ file. Among file listed) (IsKept kept told)
-        (λ file. each_among (IsKept kept told) listed file (kept_listed items kept told known state stored))
+      (good : IsRecord (compaction_record job output place)) (all : Each (IsKeptWhole kept told) output) where
+    inputs_kept : Each (IsKeptWhole kept told) (job_inputs job)
+    inputs_kept = each_weaker (λ file. Among file listed) (IsKeptWhole kept told)
+        (λ file. each_among (IsKeptWhole kept told) listed file (kept_listed items kept told known state stored))
         (job_inputs job)
         (inputs_listed told state.store.sequence state.store.unsequence job job.space
         (with_one_is _ job others state.compactions commits.out stored.order.compactions.kinds)
@@ -271,8 +271,8 @@ module _ (items : List LogRecord) (kept : List StoredFile) (told : Told) (known 
     good = stored.good;
     replayed = stored.replayed;
     order = stored.order;
-    whole = each_both (λ file. kept_bytes others file.number ≡ kept_bytes kept file.number) (IsKept kept told)
-        (IsKept others told)
+    whole = each_both (λ file. kept_bytes others file.number ≡ kept_bytes kept file.number) (IsKeptWhole kept told)
+        (IsKeptWhole others told)
         (λ file as_kept. whole_as (kept_bytes kept) (kept_bytes others) told told file file refl refl
         (λ bytes there. as_kept ∙ there)) (files_of state) same stored.whole;
     doubt = stored.doubt;
@@ -284,7 +284,7 @@ module _ (items : List LogRecord) (kept : List StoredFile) (told : Told) (known 
     good = stored.good;
     replayed = stored.replayed;
     order = stored.order;
-    whole = each_weaker (IsKept kept told) (IsKept (kept ++ more) told)
+    whole = each_weaker (IsKeptWhole kept told) (IsKeptWhole (kept ++ more) told)
         (λ file. whole_as (kept_bytes kept) (kept_bytes (kept ++ more)) told told file file refl refl
         (λ bytes. found_with_more kept more file.number bytes)) (files_of state) stored.whole;
     doubt = stored.doubt;
@@ -299,7 +299,7 @@ module _ (items : List LogRecord) (kept : List StoredFile) (told : Told) (known 
     replayed = stored.replayed;
     order = order_same told other known entries named state stored.order none
         (each_left (λ file. told file.number ≡ other file.number) listed state.outgoing same) as_known;
-    whole = each_both (λ file. told file.number ≡ other file.number) (IsKept kept told) (IsKept kept other)
+    whole = each_both (λ file. told file.number ≡ other file.number) (IsKeptWhole kept told) (IsKeptWhole kept other)
         (λ file as_told. whole_as (kept_bytes kept) (kept_bytes kept) told other file file refl as_told
         (λ bytes there. there)) (files_of state) same stored.whole;
     doubt = stored.doubt;
@@ -309,8 +309,8 @@ module _ (items : List LogRecord) (kept : List StoredFile) (told : Told) (known 
     abbrev left : List StoredFile
     left = without_numbers numbers kept
 
-    stays : (file : File) → IsKept kept told file → list_any (nat_eq file.number) numbers ≡ false
-        → IsKept left told file
+    stays : (file : File) → IsKeptWhole kept told file → list_any (nat_eq file.number) numbers ≡ false
+        → IsKeptWhole left told file
     stays file whole other = whole_as (kept_bytes kept) (kept_bytes left) told told file file refl refl
         (λ bytes there. ap found_bytes (found_without numbers kept file.number other) ∙ there) whole
 
@@ -338,11 +338,11 @@ module _ (items : List LogRecord) (kept : List StoredFile) (told : Told) (known 
       good = stored.good;
       replayed = stored.replayed;
       order = sweep_step told known named state stored.order numbers sweeps;
-      whole = each_append (IsKept left told) listed (swept numbers state).outgoing
-          (each_from_among (IsKept left told) listed (λ file among. stays file
-          (each_among (IsKept kept told) listed file (kept_listed items kept told known state stored) among)
+      whole = each_append (IsKeptWhole left told) listed (swept numbers state).outgoing
+          (each_from_among (IsKeptWhole left told) listed (λ file among. stays file
+          (each_among (IsKeptWhole kept told) listed file (kept_listed items kept told known state stored) among)
           (not_swept file among)))
-          (each_passed (IsKept kept told) (IsKept left told)
+          (each_passed (IsKeptWhole kept told) (IsKeptWhole left told)
           (λ (file : File). not (list_any (nat_eq file.number) numbers)) state.outgoing
           (λ file whole is. stays file whole (turned (list_any (nat_eq file.number) numbers) is))
           (kept_outgoing items kept told known state stored));
@@ -353,7 +353,7 @@ module _ (items : List LogRecord) (kept : List StoredFile) (told : Told) (known 
 pub opened_stored : (items : List LogRecord) (kept : List StoredFile) (told : Told) (known : Entries)
     (recorded : Recorded) (next : ℕ) → All IsRecord items
     → Replays store_steps store_steps.new_store items recorded → StoreInOrder told recorded.store
-    → Each (IsKept kept told) (recorded.store.sequence ++ recorded.store.unsequence)
+    → Each (IsKeptWhole kept told) (recorded.store.sequence ++ recorded.store.unsequence)
     → NumbersInOrder recorded.named next ((recorded.store.sequence ++ recorded.store.unsequence) ++ []) []
     → EntriesMatch told known (recorded.store.sequence ++ recorded.store.unsequence)
     → IsStored items kept told known (opened next recorded.store)
@@ -362,6 +362,6 @@ opened_stored items kept told known recorded next good replayed order whole numb
   good = good;
   replayed = replayed;
   order = opened_in_order told known recorded.named next recorded.store order numbers entries;
-  whole = each_append (IsKept kept told) (recorded.store.sequence ++ recorded.store.unsequence) [] whole tt;
+  whole = each_append (IsKeptWhole kept told) (recorded.store.sequence ++ recorded.store.unsequence) [] whole tt;
   doubt = tt;
 }

@@ -22,8 +22,8 @@ kept_bytes kept number =
     option_map (λ (file : StoredFile). file.bytes) (find (λ (file : StoredFile). nat_eq file.number number) kept)
 
 -- the file is kept, and its bytes are those of a tree with the points that are told
-abbrev pub IsKept : List StoredFile → Told → File → Type 0
-IsKept kept told file = IsWhole (kept_bytes kept) told file
+abbrev pub IsKeptWhole : List StoredFile → Told → File → Type 0
+IsKeptWhole kept told file = IsWhole (kept_bytes kept) told file
 
 -- The engine is stored: the acknowledged records lead to its store, it is in order, and each of its files is kept, those
 -- on their way out too.
@@ -34,7 +34,7 @@ pub record IsStored (items : List LogRecord) (kept : List StoredFile) (told : To
   pub good : All IsRecord items
   pub replayed : Replays store_steps store_steps.new_store items (record { named = named; store = state.store })
   pub order : IsInOrder told known named state
-  pub whole : Each (IsKept kept told) (files_of state)
+  pub whole : Each (IsKeptWhole kept told) (files_of state)
   pub doubt : IfSome state.doubt IsRecord
 
 -- the store after the record in doubt, if there is one, is in the next state

@@ -5,7 +5,7 @@ ghost use Rattle.std.specs.List.{All, AllByRecursion};
 ghost use Rattle.std.specs.Option.{option_map};
 ghost use Rattle.tsdb_frames.specs.Log.{HasRecordsOrOneMore, IsLogOn, IsSettled};
 ghost use Rattle.tsdb_outside.specs.Moments.{LeavesFirstThen, LeavesOnly};
-ghost use Rattle.tsdb_images.specs.Stored.{IsKept, IsStored, LeadsTo, LeavesOneOf, kept_bytes};
+ghost use Rattle.tsdb_images.specs.Stored.{IsKeptWhole, IsStored, LeadsTo, LeavesOneOf, kept_bytes};
 ghost use Rattle.tsdb_layers.specs.Lists.{count};
 ghost use Rattle.tsdb_log.specs.Spelling.{IsRecord, spelling};
 ghost use Rattle.tsdb_log.specs.declared.record.LogRecord.{LogRecord};
@@ -87,7 +87,7 @@ pub fn an_opened_engine_is_stored()
     ensures { (items : List LogRecord) (kept : List StoredFile) (told : Told) (known : Entries) (recorded : Recorded)
         (next : ℕ) → All IsRecord items → Replays store_steps store_steps.new_store items recorded
         → StoreInOrder told recorded.store
-        → AllByRecursion (IsKept kept told) (recorded.store.sequence ++ recorded.store.unsequence)
+        → AllByRecursion (IsKeptWhole kept told) (recorded.store.sequence ++ recorded.store.unsequence)
         → NumbersInOrder recorded.named next ((recorded.store.sequence ++ recorded.store.unsequence) ++ []) []
         → EntriesMatch told known (recorded.store.sequence ++ recorded.store.unsequence)
         → IsStored items kept told known (opened next recorded.store) }

@@ -3,7 +3,7 @@
 ghost use Rattle.std.specs.Prelude.{◌≡◌, ℕ, ℤ, List, [], ◌∷◌, ◌++◌};
 ghost use Rattle.std.specs.List.{AllByRecursion};
 ghost use Rattle.tsdb_base.specs.declared.point.Range.{Range};
-ghost use Rattle.tsdb_images.specs.Stored.{AreOutgoing, IsKept, IsStored, built_files, without_numbers};
+ghost use Rattle.tsdb_images.specs.Stored.{AreOutgoing, IsKeptWhole, IsStored, built_files, without_numbers};
 ghost use Rattle.tsdb_layers.specs.Lists.{IsWithOne};
 ghost use Rattle.tsdb_log.specs.Spelling.{IsRecord};
 ghost use Rattle.tsdb_log.specs.declared.record.CellRecord.{CellRecord};
@@ -51,17 +51,17 @@ pub fn flushes_are_stored()
     ensures end { (items : List LogRecord) (kept : List StoredFile) (told : Told) (known : Entries)
         (state : EngineState) (flush : FlushJob) (others : List FlushJob) (built : List File)
         → IsStored items kept told known state → EndsFlush flush others built state
-        → AllByRecursion (IsKept kept told) built
+        → AllByRecursion (IsKeptWhole kept told) built
         → IsStored items kept told known (ended_flush flush others built state) }
     ensures commit { (items : List LogRecord) (kept : List StoredFile) (told : Told) (known : Entries)
         (state : EngineState) (flush : FlushJob) (others : List FlushJob)
         → IsStored items kept told known state → CommitsFlush told known flush others state
-        → IsRecord (flush_record flush) → AllByRecursion (IsKept kept told) (built_files flush)
+        → IsRecord (flush_record flush) → AllByRecursion (IsKeptWhole kept told) (built_files flush)
         → IsStored (items ++ flush_record flush ∷ []) kept told known (committed_flush flush others state) }
     ensures fail { (items : List LogRecord) (kept : List StoredFile) (told : Told) (known : Entries)
         (state : EngineState) (flush : FlushJob) (others : List FlushJob)
         → IsStored items kept told known state → CommitsFlush told known flush others state
-        → IsRecord (flush_record flush) → AllByRecursion (IsKept kept told) (built_files flush)
+        → IsRecord (flush_record flush) → AllByRecursion (IsKeptWhole kept told) (built_files flush)
         → IsStored items kept told known
         (failed (flush_record flush) (ended_flush flush others (built_files flush) state)) }
 {}
@@ -74,18 +74,18 @@ pub fn compactions_are_stored()
     ensures end { (items : List LogRecord) (kept : List StoredFile) (told : Told) (known : Entries)
         (state : EngineState) (job : Compaction) (others : List Compaction) (built : List File)
         → IsStored items kept told known state → EndsCompaction job others built state
-        → AllByRecursion (IsKept kept told) built
+        → AllByRecursion (IsKeptWhole kept told) built
         → IsStored items kept told known (ended job others built state) }
     ensures commit { (items : List LogRecord) (kept : List StoredFile) (told : Told) (known : Entries)
         (state : EngineState) (job : Compaction) (others : List Compaction) (output : List File) (place : ℕ)
         → IsStored items kept told known state → CommitsCompaction told known job others output place state
-        → IsRecord (compaction_record job output place) → AllByRecursion (IsKept kept told) output
+        → IsRecord (compaction_record job output place) → AllByRecursion (IsKeptWhole kept told) output
         → IsStored (items ++ compaction_record job output place ∷ []) kept told known
         (committed job others output place state) }
     ensures fail { (items : List LogRecord) (kept : List StoredFile) (told : Told) (known : Entries)
         (state : EngineState) (job : Compaction) (others : List Compaction) (output : List File) (place : ℕ)
         → IsStored items kept told known state → CommitsCompaction told known job others output place state
-        → IsRecord (compaction_record job output place) → AllByRecursion (IsKept kept told) output
+        → IsRecord (compaction_record job output place) → AllByRecursion (IsKeptWhole kept told) output
         → IsStored items kept told known
         (failed (compaction_record job output place) (ended job others output state)) }
 {}

@@ -17,7 +17,7 @@ use Rattle.tsdb_path.specs.Nodes.{IsName, IsPath}
 use Rattle.tsdb_fields.specs.declared.fault.FieldFault.{FieldFault}
 use Rattle.tsdb_fields.specs.declared.fault.FieldFault.TheVariants.{Bad, Memory}
 use Rattle.tsdb_fields.specs.declared.rest.Rest.{Rest}
-use Rattle.tsdb_fields.specs.Reading.{ReadsParts, Takes}
+use Rattle.tsdb_fields.specs.Reading.{ReadsParts, TakesBytes}
 use Rattle.tsdb_fields.specs.Statistics.{optional_field, stats_field, IsExtremeOf, IsStatsOf}
 use Rattle.tsdb_index.specs.Faults.{ReadsWhole}
 use Rattle.tsdb_index.specs.Steps.{IsCounted}
@@ -75,13 +75,13 @@ none_behind whole IsWhole f IsPart part tail split good free a bytes rest is_a f
     none w behind (is, sym same.0) same.1
 
 -- one part and another behind it are taken
-pub takes_both : (old middle new : Rest) (first second : List ℕ) → Takes old first middle → Takes middle second new → Takes old (first ++ second) new
+pub takes_both : (old middle new : Rest) (first second : List ℕ) → TakesBytes old first middle → TakesBytes middle second new → TakesBytes old (first ++ second) new
 takes_both old middle new first second a b = record {
   bytes = a.bytes ∙ ap (λ (l : List ℕ). first ++ l) b.bytes ∙ sym (append_assoc first second new.bytes.now);
   place = let n = length-append first second in omega (arith, a.place, b.place, n);
 }
 
-pub takes_same : (old new : Rest) (text other : List ℕ) → text ≡ other → Takes old text new → Takes old other new
+pub takes_same : (old new : Rest) (text other : List ℕ) → text ≡ other → TakesBytes old text new → TakesBytes old other new
 takes_same old new text other same t = record {
   bytes = t.bytes ∙ ap (λ (l : List ℕ). l ++ new.bytes.now) same;
   place = t.place ∙ ap (λ (l : List ℕ). old.at + length l) same;
@@ -124,14 +124,14 @@ rest_same f IsItem apart xs ys r s len is_a is_b e = rest_by_recursion f IsItem 
 
 -- the items so far are taken
 pub record AreTaken {A : Type 0} (f : A → List ℕ) (IsItem : A → Type 0) (old : Rest) (items : List A) (left : Rest) : Type 0 where
-  pub takes : Takes old (flat_map f items) left
+  pub takes : TakesBytes old (flat_map f items) left
   pub good : All IsItem items
 
 pub none_taken : {A : Type 0} (f : A → List ℕ) (IsItem : A → Type 0) (old : Rest) (items : List A) → items ≡ [] → AreTaken f IsItem old items old
 none_taken f IsItem old [] none = record { takes = record { bytes = refl; place = omega arith }; good = λ k d lt. absurd (omega arith) }
 none_taken f IsItem old (x ∷ xs) none = absurd cc
 
-pub one_taken : {A : Type 0} (f : A → List ℕ) (IsItem : A → Type 0) (old middle new : Rest) (items more : List A) (item : A) → more ≡ items ++ item ∷ [] → AreTaken f IsItem old items middle → Takes middle (f item) new → IsItem item → AreTaken f IsItem old more new
+pub one_taken : {A : Type 0} (f : A → List ℕ) (IsItem : A → Type 0) (old middle new : Rest) (items more : List A) (item : A) → more ≡ items ++ item ∷ [] → AreTaken f IsItem old items middle → TakesBytes middle (f item) new → IsItem item → AreTaken f IsItem old more new
 one_taken f IsItem old middle new items more item is so_far takes good =
     let all : flat_map f items ++ f item ≡ flat_map f more = ap (λ (l : List ℕ). flat_map f items ++ l) (sym (append-nil (f item))) ∙ sym (flat_map-append f items (item ∷ [])) ∙ ap (flat_map f) (sym is) in
     record {
@@ -164,10 +164,10 @@ tail_same n xs ys same = cc
 
 pub no_mark : {A : Type 0} (mark : ℕ) (number : ℕ → List ℕ) (limit : ℕ) (f : A → List ℕ) (IsItem : A → Type 0) (bytes : List ℕ) → ((rest : List ℕ) → bytes ≡ mark ∷ rest → ⊥)
     → (items : List A) → IsCounted mark number limit f IsItem bytes items → ⊥
-no_mark mark number limit f IsItem bytes none items is = none (number (length items) ++ flat_map f items) is.bytes-are
+no_mark mark number limit f IsItem bytes none items is = none (number (length items) ++ flat_map f items) is.bytes_are
 
 fields_of : {A : Type 0} (mark : ℕ) (number : ℕ → List ℕ) (limit : ℕ) (f : A → List ℕ) (IsItem : A → Type 0) (bytes fields : List ℕ) (items : List A) → bytes ≡ mark ∷ fields → IsCounted mark number limit f IsItem bytes items → fields ≡ number (length items) ++ flat_map f items
-fields_of mark number limit f IsItem bytes fields items found is = tail_same mark fields (number (length items) ++ flat_map f items) (sym found ∙ is.bytes-are)
+fields_of mark number limit f IsItem bytes fields items found is = tail_same mark fields (number (length items) ++ flat_map f items) (sym found ∙ is.bytes_are)
 
 pub no_count : {A : Type 0} (mark : ℕ) (number : ℕ → List ℕ) (limit : ℕ) (f : A → List ℕ) (IsItem : A → Type 0) (bytes fields : List ℕ) → bytes ≡ mark ∷ fields → BeginsWithNone number (λ n. n < limit) fields
     → (items : List A) → IsCounted mark number limit f IsItem bytes items → ⊥
@@ -196,7 +196,7 @@ pub is_counted : {A : Type 0} (mark : ℕ) (number : ℕ → List ℕ) (limit : 
 is_counted mark number limit f IsItem bytes fields rest behind n items found number-is small split are none = record {
   few = subst (λ k. k < limit) (sym are.0) small;
   good = are.1;
-  bytes-are =
+  bytes_are =
       let whole : rest ≡ flat_map f items = split ∙ ap (λ (l : List ℕ). flat_map f items ++ l) none ∙ append-nil (flat_map f items) in
       found ∙ ap (λ (l : List ℕ). mark ∷ l) (number-is ∙ ap (λ (k : ℕ). number k ++ rest) (sym are.0) ∙ ap (λ (l : List ℕ). number (length items) ++ l) whole);
 }

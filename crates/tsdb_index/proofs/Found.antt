@@ -13,7 +13,7 @@ use Rattle.std.proofs.lemmas.List.{drop-drop, get_or-drop, map-append, take-appe
 use Rattle.std.proofs.lemmas.List.Elements.{All-contains, All-from_recursion, Contains-append_cases, Contains-append_left, Contains-append_right}
 use Rattle.tsdb_index.specs.declared.index.IndexEntry.{IndexEntry}
 use Rattle.tsdb_index.specs.declared.pointer.Pointer.{Pointer}
-use Rattle.tsdb_index.specs.Entries.{AreInOrder, IsBefore, names_of}
+use Rattle.tsdb_index.specs.Entries.{AreInOrder, AreNamesBefore, names_of}
 use Rattle.tsdb_index.specs.Finding.{AreBehind, IsEntryFor, IsLeafFor}
 use Rattle.tsdb_index.specs.Parts.{AreLeavesAt, BeginAt, BeginWith, IsLeaf, IsPointerBefore, end_of, next_names, pointer_names}
 use Rattle.tsdb_index.specs.Steps.{AreSpread, IsLastFor, names_cmp}
@@ -28,15 +28,15 @@ Leaf = List IndexEntry
 
 -- ---- names by their order
 
-cmp_before : (a b : Names) → names_cmp a b ≡ Less → IsBefore a b
+cmp_before : (a b : Names) → names_cmp a b ≡ Less → AreNamesBefore a b
 cmp_before a b less = by_device (slice_cmp nat_cmp a.0 b.0) refl less
   where
-    by_device : (o : Ordering) → slice_cmp nat_cmp a.0 b.0 ≡ o → ordering_then o (slice_cmp nat_cmp a.1 b.1) ≡ Less → IsBefore a b
+    by_device : (o : Ordering) → slice_cmp nat_cmp a.0 b.0 ≡ o → ordering_then o (slice_cmp nat_cmp a.1 b.1) ≡ Less → AreNamesBefore a b
     by_device Less is h = inl is
     by_device Equal is h = inr (same_list a.0 b.0 is, h)
     by_device Greater is h = absurd cc
 
-before_cmp : (a b : Names) → IsBefore a b → names_cmp a b ≡ Less
+before_cmp : (a b : Names) → AreNamesBefore a b → names_cmp a b ≡ Less
 before_cmp a b (inl less) = ap (λ (o : Ordering). ordering_then o (slice_cmp nat_cmp a.1 b.1)) less
 before_cmp a b (inr less) =
     let tie : slice_cmp nat_cmp a.0 b.0 ≡ Equal = subst (λ (n : List ℕ). slice_cmp nat_cmp a.0 n ≡ Equal) less.0 (tied_itself nat_list_cmp_total a.0) in
@@ -59,17 +59,17 @@ cmp_same a b equal = by_device (slice_cmp nat_cmp a.0 b.0) refl equal
 same_cmp : (a : Names) → names_cmp a a ≡ Equal
 same_cmp a = ap (λ (o : Ordering). ordering_then o (slice_cmp nat_cmp a.1 a.1)) (tied_itself nat_list_cmp_total a.0) ∙ tied_itself nat_list_cmp_total a.1
 
-pub not_itself : (a : Names) → IsBefore a a → ⊥
+pub not_itself : (a : Names) → AreNamesBefore a a → ⊥
 not_itself a less = let both : Less ≡ Equal = sym (before_cmp a a less) ∙ same_cmp a in absurd cc
 
 -- names that come behind have these before them
-behind_before : (a b : Names) → names_cmp a b ≡ Greater → IsBefore b a
+behind_before : (a b : Names) → names_cmp a b ≡ Greater → AreNamesBefore b a
 behind_before a b greater = by_device (slice_cmp nat_cmp a.0 b.0) refl greater
   where
     turned : (x y : List ℕ) → slice_cmp nat_cmp x y ≡ Greater → slice_cmp nat_cmp y x ≡ Less
     turned x y h = nat_list_cmp_total.antisymm y x ∙ ap ordering_reverse h
 
-    by_device : (o : Ordering) → slice_cmp nat_cmp a.0 b.0 ≡ o → ordering_then o (slice_cmp nat_cmp a.1 b.1) ≡ Greater → IsBefore b a
+    by_device : (o : Ordering) → slice_cmp nat_cmp a.0 b.0 ≡ o → ordering_then o (slice_cmp nat_cmp a.1 b.1) ≡ Greater → AreNamesBefore b a
     by_device Less is h = absurd cc
     by_device Equal is h = inr (sym (same_list a.0 b.0 is), turned a.1 b.1 h)
     by_device Greater is h = inl (turned a.0 b.0 is)
@@ -88,17 +88,17 @@ pairs_in_order R trans (x ∷ xs) order (suc i) (suc j) d less inside = pairs_in
 
 module _ {A : Type 0} (view : A → Names) where
   abbrev InOrder : List A → Type 0
-  InOrder xs = AreInOrder (λ a b. IsBefore (view a) (view b)) xs
+  InOrder xs = AreInOrder (λ a b. AreNamesBefore (view a) (view b)) xs
 
   -- the comparisons with names rise along items in order, as a binary search asks
   comparisons_rise : (names : Names) (xs : List A) → InOrder xs → IsNonDecreasingBy (λ x. ordering_index (names_cmp (view x) names)) xs
   comparisons_rise names xs order = λ i j d le inside.
       ⊎_elim
-      (λ (less : i < j). ranked_pair (view (get_or xs i d)) (view (get_or xs j d)) (pairs_in_order (λ a b. IsBefore (view a) (view b)) (λ a b c. before_trans (view a) (view b) (view c)) xs order i j d less inside) (names_cmp (view (get_or xs i d)) names) (names_cmp (view (get_or xs j d)) names) refl refl)
+      (λ (less : i < j). ranked_pair (view (get_or xs i d)) (view (get_or xs j d)) (pairs_in_order (λ a b. AreNamesBefore (view a) (view b)) (λ a b c. before_trans (view a) (view b) (view c)) xs order i j d less inside) (names_cmp (view (get_or xs i d)) names) (names_cmp (view (get_or xs j d)) names) refl refl)
       (λ (more : j ≤ i). let same : i ≡ j = omega arith in subst (λ (k : ℕ). ordering_index (names_cmp (view (get_or xs i d)) names) ≤ ordering_index (names_cmp (view (get_or xs k d)) names)) same (omega arith))
       (cases_lt i j)
     where
-      ranked_pair : (a b : Names) → IsBefore a b → (o p : Ordering) → names_cmp a names ≡ o → names_cmp b names ≡ p → ordering_index o ≤ ordering_index p
+      ranked_pair : (a b : Names) → AreNamesBefore a b → (o p : Ordering) → names_cmp a names ≡ o → names_cmp b names ≡ p → ordering_index o ≤ ordering_index p
       ranked_pair a b less Less p is_a is_b = omega arith
       ranked_pair a b less o Greater is_a is_b = high o
         where
@@ -109,19 +109,19 @@ module _ {A : Type 0} (view : A → Names) where
       ranked_pair a b less Equal Equal is_a is_b = omega arith
       ranked_pair a b less Equal Less is_a is_b =
           let same = cmp_same a names is_a in
-          let turned : IsBefore names b = subst (λ (n : Names). IsBefore n b) same less in
+          let turned : AreNamesBefore names b = subst (λ (n : Names). AreNamesBefore n b) same less in
           absurd (not_itself b (before_trans b names b (cmp_before b names is_b) turned))
       ranked_pair a b less Greater Equal is_a is_b =
           let same = cmp_same b names is_b in
-          let turned : IsBefore a names = subst (λ (n : Names). IsBefore a n) same less in
+          let turned : AreNamesBefore a names = subst (λ (n : Names). AreNamesBefore a n) same less in
           absurd (not_itself a (before_trans a names a turned (behind_before a names is_a)))
       ranked_pair a b less Greater Less is_a is_b =
           absurd (not_itself a (before_trans a names a (before_trans a b names less (cmp_before b names is_b)) (behind_before a names is_a)))
 
   -- what is found by names: an item that has them, or none has, and those from the place on come behind
   pub record IsGap (names : Names) (xs : List A) (at : ℕ) : Type 0 where
-    pub before : (k : ℕ) (d : A) → k < at → k < length xs → IsBefore (view (get_or xs k d)) names
-    pub behind : (k : ℕ) (d : A) → at ≤ k → k < length xs → IsBefore names (view (get_or xs k d))
+    pub before : (k : ℕ) (d : A) → k < at → k < length xs → AreNamesBefore (view (get_or xs k d)) names
+    pub behind : (k : ℕ) (d : A) → at ≤ k → k < length xs → AreNamesBefore names (view (get_or xs k d))
 
   pub gap_found : (names : Names) (xs : List A) (at : ℕ) → InOrder xs → IsBinarySearchResult (λ x. names_cmp (view x) names) xs (Err at) → IsGap names xs at
   gap_found names xs at order found =
@@ -140,20 +140,20 @@ pub entry_there : (d m : List ℕ) (entries slice : List IndexEntry) (at : ℕ) 
 entry_there d m entries slice at found same inside search_is is =
     ((at, subst (λ (l : List IndexEntry). at < length l) same inside, sym is), ap names_of is ∙ ap (λ (l : List IndexEntry). names_of (get_or l at found)) (sym same) ∙ item_found names_of (d, m) slice at found search_is)
 
-pub entry_absent : (d m : List ℕ) (entries slice : List IndexEntry) (at : ℕ) → slice ≡ entries → AreInOrder IsBefore (map names_of entries) → IsBinarySearchResult (λ x. names_cmp (names_of x) (d, m)) slice (Err at) → IsEntryFor (d, m) entries None
+pub entry_absent : (d m : List ℕ) (entries slice : List IndexEntry) (at : ℕ) → slice ≡ entries → AreInOrder AreNamesBefore (map names_of entries) → IsBinarySearchResult (λ x. names_cmp (names_of x) (d, m)) slice (Err at) → IsEntryFor (d, m) entries None
 entry_absent d m entries slice at is order search_is = λ entry there same.
     let names : Names = (d, m) in
     let found : IsBinarySearchResult (λ x. names_cmp (names_of x) (d, m)) entries (Err at) = subst (λ (l : List IndexEntry). IsBinarySearchResult (λ x. names_cmp (names_of x) (d, m)) l (Err at)) is search_is in
-    let gap = gap_found names_of (d, m) entries at (order_of_map IsBefore names_of entries order) found in
+    let gap = gap_found names_of (d, m) entries at (order_of_map AreNamesBefore names_of entries order) found in
     let here : names_of (get_or entries there.0 entry) ≡ names = ap names_of there.2 ∙ same in
     ⊎_elim
-    (λ (low : there.0 < at). not_itself names (subst (λ (n : Names). IsBefore n names) here (gap.before there.0 entry low there.1)))
-    (λ (high : at ≤ there.0). not_itself names (subst (λ (n : Names). IsBefore names n) here (gap.behind there.0 entry high there.1)))
+    (λ (low : there.0 < at). not_itself names (subst (λ (n : Names). AreNamesBefore n names) here (gap.before there.0 entry low there.1)))
+    (λ (high : at ≤ there.0). not_itself names (subst (λ (n : Names). AreNamesBefore names n) here (gap.behind there.0 entry high there.1)))
     (cases_lt there.0 at)
 
 -- ---- the pointer at a leaf
 
-pointers_in_order : (ps : List Pointer) → AreInOrder IsPointerBefore ps → AreInOrder (λ a b. IsBefore (pointer_names a) (pointer_names b)) ps
+pointers_in_order : (ps : List Pointer) → AreInOrder IsPointerBefore ps → AreInOrder (λ a b. AreNamesBefore (pointer_names a) (pointer_names b)) ps
 pointers_in_order [] order = tt
 pointers_in_order (p ∷ []) order = tt
 pointers_in_order (p ∷ q ∷ qs) order = (order.0.0, pointers_in_order (q ∷ qs) order.1)
@@ -161,10 +161,10 @@ pointers_in_order (p ∷ q ∷ qs) order = (order.0.0, pointers_in_order (q ∷ 
 pub last_there : (d m : List ℕ) (ps : List Pointer) (at : ℕ) → at < length ps → AreInOrder IsPointerBefore ps → IsBinarySearchResult (λ p. names_cmp (pointer_names p) (d, m)) ps (Ok at) → IsLastFor (d, m) ps at
 last_there d m ps at inside order search_is = record {
   inside = inside;
-  until = λ p less. not_itself (d, m) (subst (λ (n : Names). IsBefore (d, m) n) (item_found pointer_names (d, m) ps at p search_is) less);
+  until = λ p less. not_itself (d, m) (subst (λ (n : Names). AreNamesBefore (d, m) n) (item_found pointer_names (d, m) ps at p search_is) less);
   later = λ k p more within.
-      subst (λ (n : Names). IsBefore n (pointer_names (get_or ps k p))) (item_found pointer_names (d, m) ps at p search_is)
-      (pairs_in_order (λ a b. IsBefore (pointer_names a) (pointer_names b)) (λ a b c. before_trans (pointer_names a) (pointer_names b) (pointer_names c)) ps (pointers_in_order ps order) at k p more within);
+      subst (λ (n : Names). AreNamesBefore n (pointer_names (get_or ps k p))) (item_found pointer_names (d, m) ps at p search_is)
+      (pairs_in_order (λ a b. AreNamesBefore (pointer_names a) (pointer_names b)) (λ a b c. before_trans (pointer_names a) (pointer_names b) (pointer_names c)) ps (pointers_in_order ps order) at k p more within);
 }
 
 pub last_before : (d m : List ℕ) (ps : List Pointer) (at : ℕ) (o : Option ℕ) → at ≤ length ps → AreInOrder IsPointerBefore ps → IsBinarySearchResult (λ p. names_cmp (pointer_names p) (d, m)) ps (Err at) → SomeIff o (1 ≤ at) (at - 1)
@@ -188,7 +188,7 @@ leaf_at names ps from behind pointer at last from_is is =
     record {
       before = take at ps;
       split = apart;
-      from = λ less. last.until pointer (subst (λ (p : Pointer). IsBefore names (pointer_names p)) (sym (here pointer)) less);
+      from = λ less. last.until pointer (subst (λ (p : Pointer). AreNamesBefore names (pointer_names p)) (sym (here pointer)) less);
       to = next behind (sym from_is ∙ is);
     }
   where
@@ -197,9 +197,9 @@ leaf_at names ps from behind pointer at last from_is is =
         let place : at ≡ at + 0 = omega arith in
         ap (λ (n : ℕ). get_or ps n d) place ∙ sym (get_or-drop at ps 0 d) ∙ ap (λ (l : List Pointer). get_or l 0 d) (sym from_is ∙ is)
 
-    next : (qs : List Pointer) → drop at ps ≡ pointer ∷ qs → All (IsBefore names) (next_names qs)
-    next [] e = All-from_recursion (IsBefore names) [] tt
+    next : (qs : List Pointer) → drop at ps ≡ pointer ∷ qs → All (AreNamesBefore names) (next_names qs)
+    next [] e = All-from_recursion (AreNamesBefore names) [] tt
     next (q ∷ qs) e =
         let size : length ps ≡ at + (2 + length qs) = let n = length-drop at ps in let m = ap length e in omega (arith, n, m) in
         let is_q : get_or ps (at + 1) q ≡ q = sym (get_or-drop at ps 1 q) ∙ ap (λ (l : List Pointer). get_or l 1 q) e in
-        All-from_recursion (IsBefore names) (pointer_names q ∷ []) (subst (λ (p : Pointer). IsBefore names (pointer_names p)) is_q (last.later (at + 1) q (omega arith) (omega (arith, size))), tt)
+        All-from_recursion (AreNamesBefore names) (pointer_names q ∷ []) (subst (λ (p : Pointer). AreNamesBefore names (pointer_names p)) is_q (last.later (at + 1) q (omega arith) (omega (arith, size))), tt)

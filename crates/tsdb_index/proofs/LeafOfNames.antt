@@ -7,7 +7,7 @@ use Rattle.std.proofs.lemmas.List.{drop-drop, map-append}
 use Rattle.std.proofs.lemmas.List.Elements.{All-contains, All-from_recursion, All-head, Contains-append_cases, Contains-append_left, Contains-append_right}
 use Rattle.tsdb_index.specs.declared.index.IndexEntry.{IndexEntry}
 use Rattle.tsdb_index.specs.declared.pointer.Pointer.{Pointer}
-use Rattle.tsdb_index.specs.Entries.{AreInOrder, IsBefore, names_of}
+use Rattle.tsdb_index.specs.Entries.{AreInOrder, AreNamesBefore, names_of}
 use Rattle.tsdb_index.specs.Finding.{AreBehind, IsEntryFor, IsLeafFor}
 use Rattle.tsdb_index.specs.Parts.{AreLeavesAt, BeginAt, BeginWith, IsLeaf, end_of, next_names, pointer_names}
 use Rattle.tsdb_index.specs.Steps.{AreSpread}
@@ -83,20 +83,20 @@ among root base (p ∷ ps) pointer behind bytes (leaf ∷ leaves) begin spread a
 
 -- ---- items before and behind one in order
 
-before_item : (xs : List Names) (y : Names) (ys : List Names) → AreInOrder IsBefore (xs ++ y ∷ ys) → AllByRecursion (λ (x : Names). IsBefore x y) xs
+before_item : (xs : List Names) (y : Names) (ys : List Names) → AreInOrder AreNamesBefore (xs ++ y ∷ ys) → AllByRecursion (λ (x : Names). AreNamesBefore x y) xs
 before_item [] y ys order = tt
 before_item (x ∷ []) y ys order = (order.0, tt)
 before_item (x ∷ z ∷ zs) y ys order =
     let rest = before_item (z ∷ zs) y ys order.1 in
     (before_trans x z y order.0 rest.0, rest)
 
-behind_item : (y : Names) (ys : List Names) → AreInOrder IsBefore (y ∷ ys) → AllByRecursion (λ (x : Names). IsBefore y x) ys
+behind_item : (y : Names) (ys : List Names) → AreInOrder AreNamesBefore (y ∷ ys) → AllByRecursion (λ (x : Names). AreNamesBefore y x) ys
 behind_item y [] order = tt
 behind_item y (x ∷ []) order = (order.0, tt)
 behind_item y (x ∷ z ∷ zs) order =
     (order.0, later (z ∷ zs) (behind_item x (z ∷ zs) order.1))
   where
-    later : (ns : List Names) → AllByRecursion (λ (n : Names). IsBefore x n) ns → AllByRecursion (λ (n : Names). IsBefore y n) ns
+    later : (ns : List Names) → AllByRecursion (λ (n : Names). AreNamesBefore x n) ns → AllByRecursion (λ (n : Names). AreNamesBefore y n) ns
     later [] each = tt
     later (n ∷ ns) each = (before_trans y x n order.0 each.0, later ns each.1)
 
@@ -105,72 +105,72 @@ of_map P [] each = tt
 of_map P (e ∷ es) each = (each.0, of_map P es each.1)
 
 -- entries that begin behind names are all behind them
-pub behind_first : (names : Names) (pointer : Pointer) (first : IndexEntry) (others : List IndexEntry) → names_of first ≡ pointer_names pointer → IsBefore names (pointer_names pointer) → AreInOrder IsBefore (map names_of (first ∷ others)) → All (λ e. IsBefore names (names_of e)) (first ∷ others)
+pub behind_first : (names : Names) (pointer : Pointer) (first : IndexEntry) (others : List IndexEntry) → names_of first ≡ pointer_names pointer → AreNamesBefore names (pointer_names pointer) → AreInOrder AreNamesBefore (map names_of (first ∷ others)) → All (λ e. AreNamesBefore names (names_of e)) (first ∷ others)
 behind_first names pointer first others same less order =
-    let here : IsBefore names (names_of first) = subst (λ (n : Names). IsBefore names n) (sym same) less in
-    All-from_recursion (λ (e : IndexEntry). IsBefore names (names_of e)) (first ∷ others)
-    (here, of_map (λ (n : Names). IsBefore names n) others (later (map names_of others) (behind_item (names_of first) (map names_of others) order)))
+    let here : AreNamesBefore names (names_of first) = subst (λ (n : Names). AreNamesBefore names n) (sym same) less in
+    All-from_recursion (λ (e : IndexEntry). AreNamesBefore names (names_of e)) (first ∷ others)
+    (here, of_map (λ (n : Names). AreNamesBefore names n) others (later (map names_of others) (behind_item (names_of first) (map names_of others) order)))
   where
-    later : (ns : List Names) → AllByRecursion (λ (n : Names). IsBefore (names_of first) n) ns → AllByRecursion (λ (n : Names). IsBefore names n) ns
+    later : (ns : List Names) → AllByRecursion (λ (n : Names). AreNamesBefore (names_of first) n) ns → AllByRecursion (λ (n : Names). AreNamesBefore names n) ns
     later [] each = tt
-    later (n ∷ ns) each = (before_trans names (names_of first) n (subst (λ (m : Names). IsBefore names m) (sym same) less) each.0, later ns each.1)
+    later (n ∷ ns) each = (before_trans names (names_of first) n (subst (λ (m : Names). AreNamesBefore names m) (sym same) less) each.0, later ns each.1)
 
 -- leaves that begin behind names have only entries behind them
-pub leaves_behind : (names : Names) (root : ℕ) (ps : List Pointer) (bytes : List ℕ) (leaves : List Leaf) → All (IsBefore names) (next_names ps) → AreLeavesAt root ps bytes leaves → AreInOrder IsBefore (map names_of (all_of leaves))
-    → All (λ e. IsBefore names (names_of e)) (all_of leaves)
-leaves_behind names root [] bytes [] to are order = All-from_recursion (λ (e : IndexEntry). IsBefore names (names_of e)) [] tt
+pub leaves_behind : (names : Names) (root : ℕ) (ps : List Pointer) (bytes : List ℕ) (leaves : List Leaf) → All (AreNamesBefore names) (next_names ps) → AreLeavesAt root ps bytes leaves → AreInOrder AreNamesBefore (map names_of (all_of leaves))
+    → All (λ e. AreNamesBefore names (names_of e)) (all_of leaves)
+leaves_behind names root [] bytes [] to are order = All-from_recursion (λ (e : IndexEntry). AreNamesBefore names (names_of e)) [] tt
 leaves_behind names root [] bytes (leaf ∷ leaves) to are order = absurd are
 leaves_behind names root (p ∷ ps) bytes [] to are order = absurd are
 leaves_behind names root (p ∷ ps) bytes ([] ∷ leaves) to are order = absurd are.0.begin
 leaves_behind names root (p ∷ ps) bytes ((first ∷ others) ∷ leaves) to are order =
-    behind_first names p first (others ++ all_of leaves) are.0.begin (All-head (IsBefore names) (pointer_names p) [] to) order
+    behind_first names p first (others ++ all_of leaves) are.0.begin (All-head (AreNamesBefore names) (pointer_names p) [] to) order
 
 -- ---- what one leaf has is what all have
 
 -- names with which the leaf begins come behind all entries before it
-front_before : (pointer : Pointer) (front back : List IndexEntry) (leaf : Leaf) → BeginWith pointer leaf → AreInOrder IsBefore (map names_of (front ++ (leaf ++ back))) → All (λ e. IsBefore (names_of e) (pointer_names pointer)) front
+front_before : (pointer : Pointer) (front back : List IndexEntry) (leaf : Leaf) → BeginWith pointer leaf → AreInOrder AreNamesBefore (map names_of (front ++ (leaf ++ back))) → All (λ e. AreNamesBefore (names_of e) (pointer_names pointer)) front
 front_before pointer front back [] begin order = absurd begin
 front_before pointer front back (first ∷ others) begin order =
-    let apart : AreInOrder IsBefore (map names_of front ++ names_of first ∷ map names_of (others ++ back)) = subst (λ (ns : List Names). AreInOrder IsBefore ns) (map-append names_of front ((first ∷ others) ++ back)) order in
+    let apart : AreInOrder AreNamesBefore (map names_of front ++ names_of first ∷ map names_of (others ++ back)) = subst (λ (ns : List Names). AreInOrder AreNamesBefore ns) (map-append names_of front ((first ∷ others) ++ back)) order in
     let each = before_item (map names_of front) (names_of first) (map names_of (others ++ back)) apart in
-    All-from_recursion (λ (e : IndexEntry). IsBefore (names_of e) (pointer_names pointer)) front
-    (subst (λ (m : Names). AllByRecursion (λ (e : IndexEntry). IsBefore (names_of e) m) front) begin (of_map (λ (n : Names). IsBefore n (names_of first)) front each))
+    All-from_recursion (λ (e : IndexEntry). AreNamesBefore (names_of e) (pointer_names pointer)) front
+    (subst (λ (m : Names). AllByRecursion (λ (e : IndexEntry). AreNamesBefore (names_of e) m) front) begin (of_map (λ (n : Names). AreNamesBefore n (names_of first)) front each))
 
-back_order : (front leaf back : List IndexEntry) → AreInOrder IsBefore (map names_of (front ++ (leaf ++ back))) → AreInOrder IsBefore (map names_of back)
+back_order : (front leaf back : List IndexEntry) → AreInOrder AreNamesBefore (map names_of (front ++ (leaf ++ back))) → AreInOrder AreNamesBefore (map names_of back)
 back_order front leaf back order =
-    let whole : AreInOrder IsBefore (map names_of front ++ map names_of (leaf ++ back)) = subst (λ (ns : List Names). AreInOrder IsBefore ns) (map-append names_of front (leaf ++ back)) order in
-    let rest : AreInOrder IsBefore (map names_of leaf ++ map names_of back) = subst (λ (ns : List Names). AreInOrder IsBefore ns) (map-append names_of leaf back) (order_back IsBefore (map names_of front) (map names_of (leaf ++ back)) whole) in
-    order_back IsBefore (map names_of leaf) (map names_of back) rest
+    let whole : AreInOrder AreNamesBefore (map names_of front ++ map names_of (leaf ++ back)) = subst (λ (ns : List Names). AreInOrder AreNamesBefore ns) (map-append names_of front (leaf ++ back)) order in
+    let rest : AreInOrder AreNamesBefore (map names_of leaf ++ map names_of back) = subst (λ (ns : List Names). AreInOrder AreNamesBefore ns) (map-append names_of leaf back) (order_back AreNamesBefore (map names_of front) (map names_of (leaf ++ back)) whole) in
+    order_back AreNamesBefore (map names_of leaf) (map names_of back) rest
 
-pub leaf_decides : (names : Names) (root base : ℕ) (pointer : Pointer) (behind : List Pointer) (bytes : List ℕ) (leaves : List Leaf) (entries leaf : List IndexEntry) (found : Option IndexEntry) → (IsBefore names (pointer_names pointer) → ⊥) → All (IsBefore names) (next_names behind)
-    → IsAmong root base pointer behind bytes leaves → entries ≡ all_of leaves → AreInOrder IsBefore (map names_of entries) → IsLeaf pointer behind (take (end_of root behind - pointer.place) (drop (pointer.place - base) bytes)) leaf → IsEntryFor names leaf found → IsEntryFor names entries found
+pub leaf_decides : (names : Names) (root base : ℕ) (pointer : Pointer) (behind : List Pointer) (bytes : List ℕ) (leaves : List Leaf) (entries leaf : List IndexEntry) (found : Option IndexEntry) → (AreNamesBefore names (pointer_names pointer) → ⊥) → All (AreNamesBefore names) (next_names behind)
+    → IsAmong root base pointer behind bytes leaves → entries ≡ all_of leaves → AreInOrder AreNamesBefore (map names_of entries) → IsLeaf pointer behind (take (end_of root behind - pointer.place) (drop (pointer.place - base) bytes)) leaf → IsEntryFor names leaf found → IsEntryFor names entries found
 leaf_decides names root base pointer behind bytes leaves entries leaf found from to a all order is has =
     let one : leaf ≡ a.leaf = leaf_same pointer behind (take (end_of root behind - pointer.place) (drop (pointer.place - base) bytes)) leaf a.leaf is a.is in
     let parts : entries ≡ all_of a.front ++ (a.leaf ++ all_of a.back) = all ∙ ap all_of a.split ∙ flat_map-append (λ (l : Leaf). l) a.front (a.leaf ∷ a.back) in
-    let ordered : AreInOrder IsBefore (map names_of (all_of a.front ++ (a.leaf ++ all_of a.back))) = subst (λ (es : List IndexEntry). AreInOrder IsBefore (map names_of es)) parts order in
+    let ordered : AreInOrder AreNamesBefore (map names_of (all_of a.front ++ (a.leaf ++ all_of a.back))) = subst (λ (es : List IndexEntry). AreInOrder AreNamesBefore (map names_of es)) parts order in
     subst (λ (es : List IndexEntry). IsEntryFor names es found) (sym parts)
     (decide found (all_of a.front) a.leaf (all_of a.back) (subst (λ (l : Leaf). IsEntryFor names l found) one has)
     (front_before pointer (all_of a.front) (all_of a.back) a.leaf a.is.begin ordered)
     (leaves_behind names root behind a.rest a.back to a.back-are (back_order (all_of a.front) a.leaf (all_of a.back) ordered)))
   where
-    decide : (o : Option IndexEntry) (front here back : List IndexEntry) → IsEntryFor names here o → All (λ e. IsBefore (names_of e) (pointer_names pointer)) front → All (λ e. IsBefore names (names_of e)) back → IsEntryFor names (front ++ (here ++ back)) o
+    decide : (o : Option IndexEntry) (front here back : List IndexEntry) → IsEntryFor names here o → All (λ e. AreNamesBefore (names_of e) (pointer_names pointer)) front → All (λ e. AreNamesBefore names (names_of e)) back → IsEntryFor names (front ++ (here ++ back)) o
     decide (Some e) front here back has before later = (Contains-append_right front (here ++ back) e (Contains-append_left here back e has.0), has.1)
     decide None front here back has before later = λ e there same.
         ⊎_elim
-        (λ (in_front : Contains front e). from (subst (λ (n : Names). IsBefore n (pointer_names pointer)) same (All-contains (λ (x : IndexEntry). IsBefore (names_of x) (pointer_names pointer)) front e before in_front)))
+        (λ (in_front : Contains front e). from (subst (λ (n : Names). AreNamesBefore n (pointer_names pointer)) same (All-contains (λ (x : IndexEntry). AreNamesBefore (names_of x) (pointer_names pointer)) front e before in_front)))
         (λ (in_rest : Contains (here ++ back) e). ⊎_elim
         (λ (in_here : Contains here e). has e in_here same)
-        (λ (in_back : Contains back e). not_itself names (subst (λ (n : Names). IsBefore names n) same (All-contains (λ (x : IndexEntry). IsBefore names (names_of x)) back e later in_back)))
+        (λ (in_back : Contains back e). not_itself names (subst (λ (n : Names). AreNamesBefore names n) same (All-contains (λ (x : IndexEntry). AreNamesBefore names (names_of x)) back e later in_back)))
         (Contains-append_cases here back e in_rest))
         (Contains-append_cases front (here ++ back) e there)
 
 -- where all leaves begin behind the names, no entry has them
-pub none_decides : (names : Names) (root : ℕ) (ps : List Pointer) (bytes : List ℕ) (leaves : List Leaf) (entries : List IndexEntry) → AreBehind names ps → AreLeavesAt root ps bytes leaves → entries ≡ all_of leaves → AreInOrder IsBefore (map names_of entries) → IsEntryFor names entries None
+pub none_decides : (names : Names) (root : ℕ) (ps : List Pointer) (bytes : List ℕ) (leaves : List Leaf) (entries : List IndexEntry) → AreBehind names ps → AreLeavesAt root ps bytes leaves → entries ≡ all_of leaves → AreInOrder AreNamesBefore (map names_of entries) → IsEntryFor names entries None
 none_decides names root ps bytes leaves entries behind are all order = λ e there same.
-    let each = leaves_behind names root ps bytes leaves (next ps behind) are (subst (λ (es : List IndexEntry). AreInOrder IsBefore (map names_of es)) all order) in
-    let less : IsBefore names (names_of e) = All-contains (λ (x : IndexEntry). IsBefore names (names_of x)) (all_of leaves) e each (subst (λ (es : List IndexEntry). Contains es e) all there) in
-    not_itself names (subst (λ (n : Names). IsBefore names n) same less)
+    let each = leaves_behind names root ps bytes leaves (next ps behind) are (subst (λ (es : List IndexEntry). AreInOrder AreNamesBefore (map names_of es)) all order) in
+    let less : AreNamesBefore names (names_of e) = All-contains (λ (x : IndexEntry). AreNamesBefore names (names_of x)) (all_of leaves) e each (subst (λ (es : List IndexEntry). Contains es e) all there) in
+    not_itself names (subst (λ (n : Names). AreNamesBefore names n) same less)
   where
-    next : (qs : List Pointer) → AreBehind names qs → All (IsBefore names) (next_names qs)
-    next [] each = All-from_recursion (IsBefore names) [] tt
-    next (q ∷ qs) each = All-from_recursion (IsBefore names) (pointer_names q ∷ []) (All-head (λ (p : Pointer). IsBefore names (pointer_names p)) q qs each, tt)
+    next : (qs : List Pointer) → AreBehind names qs → All (AreNamesBefore names) (next_names qs)
+    next [] each = All-from_recursion (AreNamesBefore names) [] tt
+    next (q ∷ qs) each = All-from_recursion (AreNamesBefore names) (pointer_names q ∷ []) (All-head (λ (p : Pointer). AreNamesBefore names (pointer_names p)) q qs each, tt)

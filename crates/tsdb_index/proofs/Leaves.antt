@@ -52,8 +52,8 @@ nothing_written place entries written some bytes pointers-none count = record {
   split = refl;
   full = λ more. tt;
   sizes = λ none. let e : length entries ≡ 0 = ap length none in absurd (omega arith);
-  bytes-are = bytes;
-  pointers-are = pointers-none;
+  bytes_are = bytes;
+  pointers_are = pointers-none;
   number_is = count;
 }
 
@@ -70,9 +70,9 @@ leaf_more place entries rest leaf behind old new so_far cut few whole added =
           ∙ ap (λ (l : List IndexEntry). flat_map (λ l. l) so_far.leaves ++ l) (sym cut) ∙ so_far.split;
       full = λ follow. full_push so_far.leaves leaf (so_far.full more) (whole follow);
       sizes = λ none. last_push so_far.leaves leaf (so_far.full more) some few;
-      bytes-are = added.bytes-are ∙ ap (λ (l : List ℕ). l ++ leaf_field leaf) so_far.bytes-are ∙ sym (flat_push leaf_field so_far.leaves leaf);
-      pointers-are = added.pointers-are ∙ ap (λ (l : List ℕ). l ++ pointer_field added.first (place + length old.bytes.items)) so_far.pointers-are
-          ∙ ap (λ (l : List ℕ). pointers place so_far.leaves ++ pointer_field added.first (place + length l)) so_far.bytes-are
+      bytes_are = added.bytes_are ∙ ap (λ (l : List ℕ). l ++ leaf_field leaf) so_far.bytes_are ∙ sym (flat_push leaf_field so_far.leaves leaf);
+      pointers_are = added.pointers_are ∙ ap (λ (l : List ℕ). l ++ pointer_field added.first (place + length old.bytes.items)) so_far.pointers_are
+          ∙ ap (λ (l : List ℕ). pointers place so_far.leaves ++ pointer_field added.first (place + length l)) so_far.bytes_are
           ∙ sym (pointers_push place so_far.leaves added.first added.others)
           ∙ ap (λ (l : List IndexEntry). pointers place (so_far.leaves ++ l ∷ [])) (sym leaf-is);
       number_is = added.number_is ∙ ap (λ (n : ℕ). n + 1) so_far.number_is ∙ sym (length_push so_far.leaves leaf);
@@ -96,8 +96,8 @@ leaf_written (Ok r) (l ∷ ls) place old new first some is pointer count written
   first = l;
   others = ls;
   some = refl;
-  bytes-are = written;
-  pointers-are = pointer ∙ ap (λ (f : IndexEntry). old.pointers.items ++ pointer_field f (place + length old.bytes.items)) is;
+  bytes_are = written;
+  pointers_are = pointer ∙ ap (λ (f : IndexEntry). old.pointers.items ++ pointer_field f (place + length old.bytes.items)) is;
   number_is = count;
 }
 

@@ -52,10 +52,10 @@ pub one_index : (place root : ℕ) (bytes : List ℕ) (xs ys : List IndexEntry) 
 one_index place root bytes xs ys good_x good_y in_x in_y =
     let ls = in_x.leaves in
     let ms = in_y.leaves in
-    let at_x = in_x.root-place in
-    let at_y = in_y.root-place in
+    let at_x = in_x.root_place in
+    let at_y = in_y.root_place in
     let len : length (flat_map leaf_field in_x.leaves) ≡ length (flat_map leaf_field in_y.leaves) = omega (arith, at_x, at_y) in
-    let same = same_front (flat_map leaf_field ls) (flat_map leaf_field ms) (root_field place ls) (root_field place ms) len (sym in_x.bytes-are ∙ in_y.bytes-are) in
+    let same = same_front (flat_map leaf_field ls) (flat_map leaf_field ms) (root_field place ls) (root_field place ms) len (sym in_x.bytes_are ∙ in_y.bytes_are) in
     let all_x = in_x.stand.all in
     let all_y = in_y.stand.all in
     let is_x : AllByRecursion IsEntry (all_of in_x.leaves) = rw all_x (recursion_from_All IsEntry xs good_x) in
@@ -106,8 +106,8 @@ one_leaves (l ∷ k ∷ ls) (m ∷ n ∷ ms) size_l size_m same =
 pub one_spelling : (place root_x root_y : ℕ) (entries : List IndexEntry) (x y : List ℕ) → IsSpelling place root_x entries x → IsSpelling place root_y entries y → (x ≡ y) × (root_x ≡ root_y)
 one_spelling place root_x root_y entries x y in_x in_y =
     let same = one_leaves in_x.leaves in_y.leaves in_x.stand.sizes in_y.stand.sizes (in_x.stand.all ∙ sym in_y.stand.all) in (
-      in_x.bytes-are ∙ ap (λ leaves. flat_map leaf_field leaves ++ root_field place leaves) same ∙ sym in_y.bytes-are,
-      in_x.root-place ∙ ap (λ leaves. place + length (flat_map leaf_field leaves)) same ∙ sym in_y.root-place,
+      in_x.bytes_are ∙ ap (λ leaves. flat_map leaf_field leaves ++ root_field place leaves) same ∙ sym in_y.bytes_are,
+      in_x.root_place ∙ ap (λ leaves. place + length (flat_map leaf_field leaves)) same ∙ sym in_y.root_place,
     )
 
 -- ---- the root and its first pointer
@@ -130,8 +130,8 @@ begins place root entries bytes ((e ∷ es) ∷ leaves) sizes all at is =
       inside = omega (arith, at, whole);
       number = length ((e ∷ es) ∷ leaves);
       behind = pointers (place + length (leaf_field (e ∷ es))) leaves;
-      bytes-are = ap (drop (root - place)) is ∙ drop_at flat (root_field place ((e ∷ es) ∷ leaves)) (root - place) size;
+      bytes_are = ap (drop (root - place)) is ∙ drop_at flat (root_field place ((e ∷ es) ∷ leaves)) (root - place) size;
     }
 
 pub root_begins : (place root : ℕ) (entries : List IndexEntry) (bytes : List ℕ) → IsSpelling place root entries bytes → RootBegins place root entries bytes
-root_begins place root entries bytes is = begins place root entries bytes is.leaves is.stand.sizes is.stand.all is.root-place is.bytes-are
+root_begins place root entries bytes is = begins place root entries bytes is.leaves is.stand.sizes is.stand.all is.root_place is.bytes_are

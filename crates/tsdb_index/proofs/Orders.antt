@@ -8,7 +8,7 @@ use Rattle.std.specs.List.{AllAdjacentBelow}
 use Rattle.std.specs.Ordering.{is_lt, nat_cmp, ordering_then}
 use Rattle.std.proofs.lemmas.Cmp.{nat_list_cmp_total, ranked, tied_itself}
 use Rattle.tsdb_index.specs.declared.pointer.Pointer.{Pointer}
-use Rattle.tsdb_index.specs.Entries.{AreInOrder, IsBefore}
+use Rattle.tsdb_index.specs.Entries.{AreInOrder, AreNamesBefore}
 use Rattle.tsdb_index.specs.Parts.{next_names}
 
 pub same_list : (xs ys : List ℕ) → slice_cmp nat_cmp xs ys ≡ Equal → xs ≡ ys
@@ -31,24 +31,24 @@ less_tested Equal r is = (λ t. absurd cc, λ e. absurd cc)
 less_tested Greater r is = (λ t. absurd cc, λ e. absurd cc)
 
 -- the devices are equal, and the measurements were compared
-pub by_measurement : (a b c d : List ℕ) (o : Ordering) (r : Bool) → Equal ≡ slice_cmp nat_cmp a b → o ≡ slice_cmp nat_cmp c d → r ≡ is_lt o → (IsTrue r → IsBefore (a, c) (b, d)) × (IsBefore (a, c) (b, d) → IsTrue r)
+pub by_measurement : (a b c d : List ℕ) (o : Ordering) (r : Bool) → Equal ≡ slice_cmp nat_cmp a b → o ≡ slice_cmp nat_cmp c d → r ≡ is_lt o → (IsTrue r → AreNamesBefore (a, c) (b, d)) × (AreNamesBefore (a, c) (b, d) → IsTrue r)
 by_measurement a b c d o r same is tested =
     let t = less_tested o r tested in
     (λ yes. inr (same_list a b (sym same), sym is ∙ t.0 yes), λ before. backward before)
   where
-    backward : IsBefore (a, c) (b, d) → IsTrue r
+    backward : AreNamesBefore (a, c) (b, d) → IsTrue r
     backward (inl less) = let no_way : Equal ≡ Less = same ∙ less in absurd cc
     backward (inr less) = (less_tested o r tested).1 (is ∙ less.1)
 
 -- the first device comes last
-pub not_before : (a b c d : List ℕ) → Greater ≡ slice_cmp nat_cmp a b → IsBefore (a, c) (b, d) → ⊥
+pub not_before : (a b c d : List ℕ) → Greater ≡ slice_cmp nat_cmp a b → AreNamesBefore (a, c) (b, d) → ⊥
 not_before a b c d greater (inl less) = let no_way : Greater ≡ Less = greater ∙ less in absurd cc
 not_before a b c d greater (inr less) =
     let tie : slice_cmp nat_cmp a b ≡ Equal = subst (λ (n : List ℕ). slice_cmp nat_cmp a n ≡ Equal) less.0 (tied_itself nat_list_cmp_total a) in
     let no_way : Greater ≡ Equal = greater ∙ tie in
     absurd cc
 
-pub before_trans : (a b c : List ℕ × List ℕ) → IsBefore a b → IsBefore b c → IsBefore a c
+pub before_trans : (a b c : List ℕ × List ℕ) → AreNamesBefore a b → AreNamesBefore b c → AreNamesBefore a c
 before_trans a b c (inl x) (inl y) = inl (nat_list_cmp_total.trans a.0 b.0 c.0 x y)
 before_trans a b c (inl x) (inr y) = inl (subst (λ (n : List ℕ). slice_cmp nat_cmp a.0 n ≡ Less) y.0 x)
 before_trans a b c (inr x) (inl y) = inl (subst (λ (n : List ℕ). slice_cmp nat_cmp n c.0 ≡ Less) (sym x.0) y)

@@ -8,13 +8,13 @@ use Rattle.tsdb_base.specs.Fields.{number32, number64}
 use Rattle.tsdb_base.specs.Plain.{plain_text}
 use Rattle.tsdb_index.specs.declared.index.IndexEntry.{IndexEntry}
 use Rattle.tsdb_index.specs.declared.pointer.Pointer.{Pointer}
-use Rattle.tsdb_index.specs.Entries.{AreInOrder, IsBefore, IsEntry, names_of}
+use Rattle.tsdb_index.specs.Entries.{AreInOrder, AreNamesBefore, IsEntry, names_of}
 use Rattle.tsdb_fields.specs.declared.fault.FieldFault.{FieldFault}
 use Rattle.tsdb_fields.specs.declared.fault.FieldFault.TheVariants as field
 use Rattle.tsdb_index.specs.declared.fault.IndexFault.{IndexFault}
 use Rattle.tsdb_index.specs.declared.fault.IndexFault.TheVariants as fault
 use Rattle.tsdb_index.specs.Faults.{IsFirstBad, IsNone, IsRead, ReadsWhole, as_index_fault}
-use Rattle.tsdb_index.specs.Parts.{AreLeavesAt, BeginAt, BeginWith, IsFirstBadLeaf, IsFirstBadPart, IsPointer, IsPointerBefore, IsRoot, end_of, pointer_bytes, pointer_names}
+use Rattle.tsdb_index.specs.Parts.{AreLeavesAt, BeginAt, BeginWith, IsFirstBadLeaf, IsFirstBadIndexPart, IsPointer, IsPointerBefore, IsRoot, end_of, pointer_bytes, pointer_names}
 use Rattle.tsdb_index.specs.Spelling.{AreLeaves, leaf_field, pointer_field, pointers, root_field}
 use Rattle.tsdb_index.specs.Steps.{AreSpread, ReadsLeaves}
 use Rattle.tsdb_index.proofs.Roots.{pointers_same, root_counted}
@@ -35,9 +35,9 @@ pub record AreWhole (pointer : Pointer) (behind : List Pointer) (bytes : List �
   pub good : All IsEntry (all_of leaves)
   pub names : List (List ℕ × List ℕ)
   pub begin : map names_of (all_of leaves) ≡ pointer_names pointer ∷ names
-  pub order : AreInOrder IsBefore (map names_of (all_of leaves))
-  pub bytes-are : bytes ≡ flat_map leaf_field leaves
-  pub pointers-are : pointers pointer.place leaves ≡ flat_map pointer_bytes (pointer ∷ behind)
+  pub order : AreInOrder AreNamesBefore (map names_of (all_of leaves))
+  pub bytes_are : bytes ≡ flat_map leaf_field leaves
+  pub pointers_are : pointers pointer.place leaves ≡ flat_map pointer_bytes (pointer ∷ behind)
   pub count : length leaves ≡ length (pointer ∷ behind)
   pub most : length (all_of leaves) ≤ 256 * length leaves
 
@@ -67,9 +67,9 @@ leaves_make root pointer [] bytes (leaf ∷ []) spread are =
       good = subst (λ (l : Leaf). All IsEntry l) (sym flat) here.good;
       names = map names_of b.others;
       begin = ap (map names_of) flat ∙ ap (map names_of) b.is ∙ ap (λ (n : List ℕ × List ℕ). n ∷ map names_of b.others) b.same;
-      order = subst (λ (ns : List (List ℕ × List ℕ)). AreInOrder IsBefore ns) (append-nil (map names_of leaf) ∙ ap (map names_of) (sym flat)) here.rising;
-      bytes-are = sym all ∙ here.bytes-are ∙ sym (append-nil (leaf_field leaf));
-      pointers-are = ap (λ (l : Leaf). pointers pointer.place (l ∷ [])) b.is ∙ ap (λ (l : List ℕ). l ++ []) (pointer_same pointer b.first b.same);
+      order = subst (λ (ns : List (List ℕ × List ℕ)). AreInOrder AreNamesBefore ns) (append-nil (map names_of leaf) ∙ ap (map names_of) (sym flat)) here.rising;
+      bytes_are = sym all ∙ here.bytes_are ∙ sym (append-nil (leaf_field leaf));
+      pointers_are = ap (λ (l : Leaf). pointers pointer.place (l ∷ [])) b.is ∙ ap (λ (l : List ℕ). l ++ []) (pointer_same pointer b.first b.same);
       count = refl;
       most = let n = ap length flat in let few = here.size.1 in omega (arith, n, few);
     }
@@ -83,23 +83,23 @@ leaves_make root pointer (next ∷ behind) bytes (leaf ∷ other ∷ others) spr
     (subst (λ (n : ℕ). AreSpread root (next ∷ behind) n) (sym (length-drop (next.place - pointer.place) bytes)) spread.2) are.1 in
     let room : next.place + (length bytes - (next.place - pointer.place)) ≡ root = spread.2.0 in
     let inside : next.place - pointer.place ≤ length bytes = let s = spread.0 in let t = spread.1 in omega (arith, room, s, t) in
-    let len : length (leaf_field leaf) ≡ next.place - pointer.place = ap length (sym here.bytes-are) ∙ length-take-le (next.place - pointer.place) bytes inside in
+    let len : length (leaf_field leaf) ≡ next.place - pointer.place = ap length (sym here.bytes_are) ∙ length-take-le (next.place - pointer.place) bytes inside in
     let place : pointer.place + length (leaf_field leaf) ≡ next.place = let t = spread.1 in omega (arith, len, t) in
-    let front : AreInOrder IsBefore (map names_of leaf ++ pointer_names next ∷ []) = here.rising in
-    let back : AreInOrder IsBefore (pointer_names next ∷ rest.names) = subst (λ (ns : List (List ℕ × List ℕ)). AreInOrder IsBefore ns) rest.begin rest.order in
+    let front : AreInOrder AreNamesBefore (map names_of leaf ++ pointer_names next ∷ []) = here.rising in
+    let back : AreInOrder AreNamesBefore (pointer_names next ∷ rest.names) = subst (λ (ns : List (List ℕ × List ℕ)). AreInOrder AreNamesBefore ns) rest.begin rest.order in
     let names : map names_of (leaf ++ all_of (other ∷ others)) ≡ map names_of leaf ++ pointer_names next ∷ rest.names = map-append names_of leaf (all_of (other ∷ others)) ∙ ap (λ (ns : List (List ℕ × List ℕ)). map names_of leaf ++ ns) rest.begin in
     record {
       sizes = (here.size, rest.sizes);
       good = All-append IsEntry leaf (all_of (other ∷ others)) here.good rest.good;
       names = map names_of b.others ++ pointer_names next ∷ rest.names;
       begin = names ∙ ap (λ (l : Leaf). map names_of l ++ pointer_names next ∷ rest.names) b.is ∙ ap (λ (n : List ℕ × List ℕ). n ∷ (map names_of b.others ++ pointer_names next ∷ rest.names)) b.same;
-      order = subst (λ (ns : List (List ℕ × List ℕ)). AreInOrder IsBefore ns) (sym names) (order_join IsBefore (map names_of leaf) (pointer_names next) rest.names front back);
-      bytes-are = sym (take-append-drop (next.place - pointer.place) bytes) ∙ ap (λ (l : List ℕ). l ++ drop (next.place - pointer.place) bytes) here.bytes-are ∙ ap (λ (l : List ℕ). leaf_field leaf ++ l) rest.bytes-are;
-      pointers-are =
+      order = subst (λ (ns : List (List ℕ × List ℕ)). AreInOrder AreNamesBefore ns) (sym names) (order_join AreNamesBefore (map names_of leaf) (pointer_names next) rest.names front back);
+      bytes_are = sym (take-append-drop (next.place - pointer.place) bytes) ∙ ap (λ (l : List ℕ). l ++ drop (next.place - pointer.place) bytes) here.bytes_are ∙ ap (λ (l : List ℕ). leaf_field leaf ++ l) rest.bytes_are;
+      pointers_are =
           ap (λ (l : Leaf). pointers pointer.place (l ∷ other ∷ others)) b.is
           ∙ ap (λ (l : List ℕ). l ++ pointers (pointer.place + length (leaf_field (b.first ∷ b.others))) (other ∷ others)) (pointer_same pointer b.first b.same)
           ∙ ap (λ (n : ℕ). pointer_bytes pointer ++ pointers n (other ∷ others)) (ap (λ (l : Leaf). pointer.place + length (leaf_field l)) (sym b.is) ∙ place)
-          ∙ ap (λ (l : List ℕ). pointer_bytes pointer ++ l) rest.pointers-are;
+          ∙ ap (λ (l : List ℕ). pointer_bytes pointer ++ l) rest.pointers_are;
       count = ap suc rest.count;
       most = let n = length-append leaf (all_of (other ∷ others)) in let few = here.size in let m = rest.most in omega (arith, n, few, m);
     }
@@ -138,11 +138,11 @@ index_of place root bytes (p ∷ ps) leaves whole is are =
       spelling = record {
         leaves = leaves;
         stand = record { sizes = w.sizes; all = refl };
-        root-place = sym whole ∙ ap (λ (l : List ℕ). place + length l) w.bytes-are;
-        bytes-are =
+        root_place = sym whole ∙ ap (λ (l : List ℕ). place + length l) w.bytes_are;
+        bytes_are =
             let root_is : drop (root - place) bytes ≡ root_field place leaves =
-            is.bytes-are ∙ ap (λ (l : List ℕ). 82 ∷ number32 (length (p ∷ ps)) ++ l) (sym w.pointers-are) ∙ ap (λ (n : ℕ). 82 ∷ number32 n ++ pointers p.place leaves) (sym w.count) ∙ ap (λ (n : ℕ). 82 ∷ number32 (length leaves) ++ pointers n leaves) first in
-            sym (take-append-drop (root - place) bytes) ∙ ap (λ (l : List ℕ). l ++ drop (root - place) bytes) w.bytes-are ∙ ap (λ (l : List ℕ). flat_map leaf_field leaves ++ l) root_is;
+            is.bytes_are ∙ ap (λ (l : List ℕ). 82 ∷ number32 (length (p ∷ ps)) ++ l) (sym w.pointers_are) ∙ ap (λ (n : ℕ). 82 ∷ number32 n ++ pointers p.place leaves) (sym w.count) ∙ ap (λ (n : ℕ). 82 ∷ number32 (length leaves) ++ pointers n leaves) first in
+            sym (take-append-drop (root - place) bytes) ∙ ap (λ (l : List ℕ). l ++ drop (root - place) bytes) w.bytes_are ∙ ap (λ (l : List ℕ). flat_map leaf_field leaves ++ l) root_is;
       };
     }
 
@@ -161,7 +161,7 @@ pub record ArePointers (root place : ℕ) (leaves : List Leaf) (ps : List Pointe
   pub good : AllByRecursion IsPointer ps
   pub rising : AreInOrder IsPointerBefore ps
   pub inside : AllByRecursion (λ (p : Pointer). p.place < root) ps
-  pub pointers-are : pointers place leaves ≡ flat_map pointer_bytes ps
+  pub pointers_are : pointers place leaves ≡ flat_map pointer_bytes ps
   pub leaves-are : AreLeavesAt root ps (flat_map leaf_field leaves) leaves
 
 pub every_left : {A : Type 0} (P : A → Type 0) (xs ys : List A) → AllByRecursion P (xs ++ ys) → AllByRecursion P xs
@@ -175,7 +175,7 @@ every_right P (x ∷ xs) ys every = every_right P xs ys every.1
 leaf_grows : (place : ℕ) (leaf : Leaf) → place < place + length (leaf_field leaf)
 leaf_grows place leaf = omega arith
 
-pub pointers_of : (root place : ℕ) (leaves : List Leaf) → AreLeaves leaves → AllByRecursion IsEntry (all_of leaves) → AreInOrder IsBefore (map names_of (all_of leaves)) → place + length (flat_map leaf_field leaves) ≡ root → root < 2 ^ 64
+pub pointers_of : (root place : ℕ) (leaves : List Leaf) → AreLeaves leaves → AllByRecursion IsEntry (all_of leaves) → AreInOrder AreNamesBefore (map names_of (all_of leaves)) → place + length (flat_map leaf_field leaves) ≡ root → root < 2 ^ 64
     → ArePointers root place leaves (pointer_list place leaves)
 pointers_of root place [] sizes good order whole small = absurd sizes
 pointers_of root place ([] ∷ []) sizes good order whole small = absurd (let some = sizes.0 in omega (arith, some))
@@ -191,14 +191,14 @@ pointers_of root place ((e ∷ es) ∷ []) sizes good order whole small =
       good = (record { device = good.0.device; measurement = good.0.measurement; place = omega (arith, whole, small) }, tt);
       rising = tt;
       inside = (let g = leaf_grows place (e ∷ es) in omega (arith, whole, g, n), tt);
-      pointers-are = refl;
+      pointers_are = refl;
       leaves-are = (
         record {
           size = sizes;
           good = All-from_recursion IsEntry (e ∷ es) (subst (λ (l : Leaf). AllByRecursion IsEntry l) flat good);
           begin = refl;
-          rising = subst (λ (ns : List (List ℕ × List ℕ)). AreInOrder IsBefore ns) (ap (map names_of) flat ∙ sym (append-nil (map names_of (e ∷ es)))) order;
-          bytes-are = all;
+          rising = subst (λ (ns : List (List ℕ × List ℕ)). AreInOrder AreNamesBefore ns) (ap (map names_of) flat ∙ sym (append-nil (map names_of (e ∷ es)))) order;
+          bytes_are = all;
         },
         nil_from_length (drop (root - place) (leaf_field (e ∷ es) ++ [])) (length-drop (root - place) (leaf_field (e ∷ es) ++ []) ∙ omega (arith, whole)),
       );
@@ -209,9 +209,9 @@ pointers_of root place ((e ∷ es) ∷ (f ∷ fs) ∷ leaves) sizes good order w
     let leaf_bytes = leaf_field (e ∷ es) in
     let rest_bytes = flat_map leaf_field ((f ∷ fs) ∷ leaves) in
     let n = length-append leaf_bytes rest_bytes in
-    let ordered : AreInOrder IsBefore (map names_of (e ∷ es) ++ names_of f ∷ map names_of (fs ++ all_of leaves)) = subst (λ (ns : List (List ℕ × List ℕ)). AreInOrder IsBefore ns) (map-append names_of (e ∷ es) (all_of ((f ∷ fs) ∷ leaves))) order in
-    let front : AreInOrder IsBefore (map names_of (e ∷ es) ++ names_of f ∷ []) = order_front IsBefore (map names_of (e ∷ es)) (names_of f) (map names_of (fs ++ all_of leaves)) ordered in
-    let back : AreInOrder IsBefore (map names_of (all_of ((f ∷ fs) ∷ leaves))) = order_back IsBefore (map names_of (e ∷ es)) (names_of f ∷ map names_of (fs ++ all_of leaves)) ordered in
+    let ordered : AreInOrder AreNamesBefore (map names_of (e ∷ es) ++ names_of f ∷ map names_of (fs ++ all_of leaves)) = subst (λ (ns : List (List ℕ × List ℕ)). AreInOrder AreNamesBefore ns) (map-append names_of (e ∷ es) (all_of ((f ∷ fs) ∷ leaves))) order in
+    let front : AreInOrder AreNamesBefore (map names_of (e ∷ es) ++ names_of f ∷ []) = order_front AreNamesBefore (map names_of (e ∷ es)) (names_of f) (map names_of (fs ++ all_of leaves)) ordered in
+    let back : AreInOrder AreNamesBefore (map names_of (all_of ((f ∷ fs) ∷ leaves))) = order_back AreNamesBefore (map names_of (e ∷ es)) (names_of f ∷ map names_of (fs ++ all_of leaves)) ordered in
     let behind : place + length (leaf_field (e ∷ es)) + length (flat_map leaf_field ((f ∷ fs) ∷ leaves)) ≡ root = omega (arith, whole, n) in
     let rest = pointers_of root (place + length (leaf_field (e ∷ es))) ((f ∷ fs) ∷ leaves) sizes.1 (every_right IsEntry (e ∷ es) (all_of ((f ∷ fs) ∷ leaves)) good) back behind small in
     let size : length (leaf_field (e ∷ es)) ≡ place + length (leaf_field (e ∷ es)) - place = omega arith in
@@ -220,16 +220,16 @@ pointers_of root place ((e ∷ es) ∷ (f ∷ fs) ∷ leaves) sizes good order w
       begin = refl;
       count = ap suc rest.count;
       good = (record { device = good.0.device; measurement = good.0.measurement; place = omega (arith, behind, small) }, rest.good);
-      rising = ((first_before IsBefore before_trans (names_of e) (map names_of es) (names_of f) front, grows), rest.rising);
+      rising = ((first_before AreNamesBefore before_trans (names_of e) (map names_of es) (names_of f) front, grows), rest.rising);
       inside = (omega (arith, behind, grows), rest.inside);
-      pointers-are = ap (λ (l : List ℕ). pointer_field e place ++ l) rest.pointers-are;
+      pointers_are = ap (λ (l : List ℕ). pointer_field e place ++ l) rest.pointers_are;
       leaves-are = (
         record {
           size = sizes.0;
           good = All-from_recursion IsEntry (e ∷ es) (every_left IsEntry (e ∷ es) (all_of ((f ∷ fs) ∷ leaves)) good);
           begin = refl;
           rising = front;
-          bytes-are = take_at leaf_bytes rest_bytes (place + length (leaf_field (e ∷ es)) - place) size;
+          bytes_are = take_at leaf_bytes rest_bytes (place + length (leaf_field (e ∷ es)) - place) size;
         },
         subst (λ (b : List ℕ). AreLeavesAt root (pointer_list (place + length (leaf_field (e ∷ es))) ((f ∷ fs) ∷ leaves)) b ((f ∷ fs) ∷ leaves)) (sym (drop_at leaf_bytes rest_bytes (place + length (leaf_field (e ∷ es)) - place) size)) rest.leaves-are,
       );
@@ -254,28 +254,28 @@ leaves_few (leaf ∷ next ∷ leaves) sizes =
 
 -- the root and the leaves of an index
 pub record IndexParts (place root : ℕ) (bytes : List ℕ) (entries : List IndexEntry) : Type 0 where
-  pub pointers-are : List Pointer
+  pub pointers_are : List Pointer
   pub leaves : List Leaf
-  pub is-root : IsRoot place root (drop (root - place) bytes) pointers-are
-  pub leaves-are : AreLeavesAt root pointers-are (take (root - place) bytes) leaves
+  pub is-root : IsRoot place root (drop (root - place) bytes) pointers_are
+  pub leaves-are : AreLeavesAt root pointers_are (take (root - place) bytes) leaves
   pub all : all_of leaves ≡ entries
 
 pub index_parts : (place root : ℕ) (bytes : List ℕ) (entries : List IndexEntry) → place ≤ root → root ≤ place + length bytes → place + length bytes < 2 ^ 64 → IsRead place root bytes entries → IndexParts place root bytes entries
 index_parts place root bytes entries from to room read =
     let leaves = read.spelling.leaves in
     let flat = flat_map leaf_field leaves in
-    let root_is = read.spelling.root-place in
+    let root_is = read.spelling.root_place in
     let size : length (flat_map leaf_field read.spelling.leaves) ≡ root - place = omega (arith, root_is) in
-    let front : take (root - place) bytes ≡ flat_map leaf_field read.spelling.leaves = ap (λ (l : List ℕ). take (root - place) l) read.spelling.bytes-are ∙ take_at flat (root_field place leaves) (root - place) size in
-    let back : drop (root - place) bytes ≡ root_field place read.spelling.leaves = ap (λ (l : List ℕ). drop (root - place) l) read.spelling.bytes-are ∙ drop_at flat (root_field place leaves) (root - place) size in
+    let front : take (root - place) bytes ≡ flat_map leaf_field read.spelling.leaves = ap (λ (l : List ℕ). take (root - place) l) read.spelling.bytes_are ∙ take_at flat (root_field place leaves) (root - place) size in
+    let back : drop (root - place) bytes ≡ root_field place read.spelling.leaves = ap (λ (l : List ℕ). drop (root - place) l) read.spelling.bytes_are ∙ drop_at flat (root_field place leaves) (root - place) size in
     let all = read.spelling.stand.all in
     let made = pointers_of root place leaves read.spelling.stand.sizes (recursion_from_All IsEntry (all_of leaves) (subst (λ (es : List IndexEntry). All IsEntry es) (sym all) read.index.good))
-    (subst (λ (es : List IndexEntry). AreInOrder IsBefore (map names_of es)) (sym all) read.index.rising) (sym root_is) (omega (arith, to, room)) in
+    (subst (λ (es : List IndexEntry). AreInOrder AreNamesBefore (map names_of es)) (sym all) read.index.rising) (sym root_is) (omega (arith, to, room)) in
     let ps = pointer_list place leaves in
     let few : length (pointer_list place read.spelling.leaves) < 2 ^ 32 =
     let count = made.count in let low = leaves_few leaves read.spelling.stand.sizes in let n = ap length all in let most = read.index.few in omega (arith, count, low, n, most) in
     record {
-      pointers-are = ps;
+      pointers_are = ps;
       leaves = leaves;
       is-root = record {
         begin = made.begin;
@@ -283,17 +283,17 @@ index_parts place root bytes entries from to room read =
         good = All-from_recursion IsPointer ps made.good;
         rising = made.rising;
         inside = All-from_recursion (λ (p : Pointer). p.place < root) ps made.inside;
-        bytes-are = back ∙ ap (λ (n : ℕ). 82 ∷ number32 n ++ pointers place leaves) (sym made.count) ∙ ap (λ (l : List ℕ). 82 ∷ number32 (length ps) ++ l) made.pointers-are;
+        bytes_are = back ∙ ap (λ (n : ℕ). 82 ∷ number32 n ++ pointers place leaves) (sym made.count) ∙ ap (λ (l : List ℕ). 82 ∷ number32 (length ps) ++ l) made.pointers_are;
       };
       leaves-are = subst (λ (b : List ℕ). AreLeavesAt root ps b leaves) (sym front) made.leaves-are;
       all = all;
     }
 
 -- a first bad part is in no index
-pub no_index : (place root : ℕ) (bytes : List ℕ) (at : ℕ) → place ≤ root → root ≤ place + length bytes → place + length bytes < 2 ^ 64 → IsFirstBadPart place root bytes at → IsNone place root bytes
+pub no_index : (place root : ℕ) (bytes : List ℕ) (at : ℕ) → place ≤ root → root ≤ place + length bytes → place + length bytes < 2 ^ 64 → IsFirstBadIndexPart place root bytes at → IsNone place root bytes
 no_index place root bytes at from to room part entries read =
     let parts = index_parts place root bytes entries from to room read in
-    let ps = parts.pointers-are in
+    let ps = parts.pointers_are in
     ⊎_elim
     (λ no_root. no_root.1 ps parts.is-root)
     (λ bad.

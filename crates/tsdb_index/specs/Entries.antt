@@ -31,8 +31,8 @@ abbrev pub names_of : IndexEntry → List ℕ × List ℕ
 names_of entry = (entry.device, entry.measurement)
 
 -- the device comes first in the order of bytes, and for one device the measurement does
-abbrev pub IsBefore : List ℕ × List ℕ → List ℕ × List ℕ → Type 0
-IsBefore a b = (slice_cmp nat_cmp a.0 b.0 ≡ Less) ⊎ ((a.0 ≡ b.0) × (slice_cmp nat_cmp a.1 b.1 ≡ Less))
+abbrev pub AreNamesBefore : List ℕ × List ℕ → List ℕ × List ℕ → Type 0
+AreNamesBefore a b = (slice_cmp nat_cmp a.0 b.0 ≡ Less) ⊎ ((a.0 ≡ b.0) × (slice_cmp nat_cmp a.1 b.1 ≡ Less))
 
 -- each item stands so to the next
 abbrev pub AreInOrder : {A : Type 0} → (A → A → Type 0) → List A → Type 0
@@ -45,4 +45,4 @@ pub record IsIndex (entries : List IndexEntry) : Type 0 where
   pub some : 0 < length entries
   pub few : length entries ≤ max_entries
   pub good : All IsEntry entries
-  pub rising : AreInOrder IsBefore (map names_of entries)
+  pub rising : AreInOrder AreNamesBefore (map names_of entries)

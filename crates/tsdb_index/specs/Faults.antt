@@ -6,7 +6,7 @@ use Rattle.tsdb_index.specs.declared.fault.IndexFault.{IndexFault}
 use Rattle.tsdb_index.specs.declared.fault.IndexFault.TheVariants.{Bad, Memory}
 use Rattle.tsdb_index.specs.declared.index.IndexEntry.{IndexEntry}
 use Rattle.tsdb_index.specs.Entries.{IsIndex}
-use Rattle.tsdb_index.specs.Parts.{IsFirstBadPart}
+use Rattle.tsdb_index.specs.Parts.{IsFirstBadIndexPart}
 use Rattle.tsdb_index.specs.Spelling.{IsSpelling}
 
 -- these are the entries of the index that the bytes are
@@ -20,7 +20,7 @@ IsNone place root bytes = (entries : List IndexEntry) → IsRead place root byte
 
 -- no index is written so, and its first bad part begins at this place
 abbrev pub IsFirstBad : ℕ → ℕ → List ℕ → IndexFault → Type 0
-IsFirstBad place root bytes (Bad at) = IsNone place root bytes × IsFirstBadPart place root bytes at
+IsFirstBad place root bytes (Bad at) = IsNone place root bytes × IsFirstBadIndexPart place root bytes at
 IsFirstBad place root bytes Memory = Unit {0}
 
 -- all of the bytes are these things, or they are none, unless memory runs out

@@ -7,7 +7,7 @@ use Rattle.tsdb_path.specs.Nodes.{IsName, IsPath}
 use Rattle.tsdb_index.specs.declared.marks.TheConstants.{ROOT}
 use Rattle.tsdb_index.specs.declared.index.IndexEntry.{IndexEntry}
 use Rattle.tsdb_index.specs.declared.pointer.Pointer.{Pointer}
-use Rattle.tsdb_index.specs.Entries.{AreInOrder, IsBefore, IsEntry, names_of}
+use Rattle.tsdb_index.specs.Entries.{AreInOrder, AreNamesBefore, IsEntry, names_of}
 use Rattle.tsdb_base.specs.Limits.{max_leaf_entries}
 use Rattle.tsdb_index.specs.Spelling.{leaf_field}
 
@@ -26,7 +26,7 @@ pointer_names pointer = (pointer.device, pointer.measurement)
 
 -- both the names and the places rise
 abbrev pub IsPointerBefore : Pointer → Pointer → Type 0
-IsPointerBefore a b = IsBefore (pointer_names a) (pointer_names b) × (a.place < b.place)
+IsPointerBefore a b = AreNamesBefore (pointer_names a) (pointer_names b) × (a.place < b.place)
 
 -- the first pointer points at this place
 abbrev pub BeginAt : ℕ → List Pointer → Type 0
@@ -40,7 +40,7 @@ pub record IsRoot (place root : ℕ) (bytes : List ℕ) (pointers : List Pointer
   pub good : All IsPointer pointers
   pub rising : AreInOrder IsPointerBefore pointers
   pub inside : All (λ pointer. pointer.place < root) pointers
-  pub bytes-are : bytes ≡ ROOT ∷ number32 (length pointers) ++ flat_map pointer_bytes pointers
+  pub bytes_are : bytes ≡ ROOT ∷ number32 (length pointers) ++ flat_map pointer_bytes pointers
 
 -- the names of the next leaf's first entry, where there is a next leaf
 abbrev pub next_names : List Pointer → List (List ℕ × List ℕ)
@@ -63,8 +63,8 @@ pub record IsLeaf (pointer : Pointer) (behind : List Pointer) (bytes : List ℕ)
   pub size : IsLeafSize behind (length entries)
   pub good : All IsEntry entries
   pub begin : BeginWith pointer entries
-  pub rising : AreInOrder IsBefore (map names_of entries ++ next_names behind)
-  pub bytes-are : bytes ≡ leaf_field entries
+  pub rising : AreInOrder AreNamesBefore (map names_of entries ++ next_names behind)
+  pub bytes_are : bytes ≡ leaf_field entries
 
 -- where a leaf ends: at the next leaf, or at the root
 abbrev pub end_of : ℕ → List Pointer → ℕ
@@ -91,8 +91,8 @@ IsFirstBadLeaf root (pointer ∷ behind) bytes at =
     × IsFirstBadLeaf root behind (drop (end_of root behind - pointer.place) bytes) at)
 
 -- no root stands at the root's place, which is this one; or one does, and this is the place of the first bad leaf
-abbrev pub IsFirstBadPart : ℕ → ℕ → List ℕ → ℕ → Type 0
-IsFirstBadPart place root bytes at =
+abbrev pub IsFirstBadIndexPart : ℕ → ℕ → List ℕ → ℕ → Type 0
+IsFirstBadIndexPart place root bytes at =
     ((at ≡ root) × ((pointers : List Pointer) → IsRoot place root (drop (root - place) bytes) pointers → ⊥))
     ⊎ ((pointers : List Pointer) × IsRoot place root (drop (root - place) bytes) pointers
     × IsFirstBadLeaf root pointers (take (root - place) bytes) at)

@@ -53,8 +53,8 @@ pub record StandIn (entries : List IndexEntry) (leaves : List (List IndexEntry))
 pub record IsSpelling (place root : ℕ) (entries : List IndexEntry) (bytes : List ℕ) : Type 0 where
   pub leaves : List (List IndexEntry)
   pub stand : StandIn entries leaves
-  pub root-place : root ≡ place + length (flat_map leaf_field leaves)
-  pub bytes-are : bytes ≡ flat_map leaf_field leaves ++ root_field place leaves
+  pub root_place : root ≡ place + length (flat_map leaf_field leaves)
+  pub bytes_are : bytes ≡ flat_map leaf_field leaves ++ root_field place leaves
 
 -- the root stands behind the leaves, and its first pointer has the names of the first entry and the first leaf's place
 pub record RootBegins (place root : ℕ) (entries : List IndexEntry) (bytes : List ℕ) : Type 0 where
@@ -65,4 +65,4 @@ pub record RootBegins (place root : ℕ) (entries : List IndexEntry) (bytes : Li
   pub inside : root < place + length bytes
   pub number : ℕ
   pub behind : List ℕ
-  pub bytes-are : drop (root - place) bytes ≡ ROOT ∷ (number32 number ++ (pointer_field first place ++ behind))
+  pub bytes_are : drop (root - place) bytes ≡ ROOT ∷ (number32 number ++ (pointer_field first place ++ behind))

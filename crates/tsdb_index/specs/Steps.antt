@@ -9,7 +9,7 @@ use Rattle.tsdb_index.specs.declared.writing.Leaves.{Leaves}
 use Rattle.tsdb_index.specs.declared.fault.IndexFault.{IndexFault}
 use Rattle.tsdb_index.specs.declared.fault.IndexFault.TheVariants as fault
 use Rattle.tsdb_index.specs.declared.pointer.Pointer.{Pointer}
-use Rattle.tsdb_index.specs.Entries.{IsBefore}
+use Rattle.tsdb_index.specs.Entries.{AreNamesBefore}
 use Rattle.tsdb_index.specs.Parts.{AreLeavesAt, IsFirstBadLeaf, end_of, pointer_names}
 use Rattle.tsdb_base.specs.Limits.{max_leaf_entries}
 use Rattle.tsdb_index.specs.Spelling.{leaf_field, pointer_field, pointers, AreLeaves, StandIn}
@@ -19,16 +19,16 @@ pub record IsAppended (leaf : List IndexEntry) (place : ℕ) (old new : Leaves) 
   pub first : IndexEntry
   pub others : List IndexEntry
   pub some : leaf ≡ first ∷ others
-  pub bytes-are : new.bytes.items ≡ old.bytes.items ++ leaf_field leaf
-  pub pointers-are : new.pointers.items ≡ old.pointers.items ++ pointer_field first (place + length old.bytes.items)
+  pub bytes_are : new.bytes.items ≡ old.bytes.items ++ leaf_field leaf
+  pub pointers_are : new.pointers.items ≡ old.pointers.items ++ pointer_field first (place + length old.bytes.items)
   pub number_is : new.count ≡ old.count + 1
 
 -- the leaves of the entries are written, and the pointers at them
 pub record AreWritten (place : ℕ) (entries : List IndexEntry) (written : Leaves) : Type 0 where
   pub leaves : List (List IndexEntry)
   pub stand : StandIn entries leaves
-  pub bytes-are : written.bytes.items ≡ flat_map leaf_field leaves
-  pub pointers-are : written.pointers.items ≡ pointers place leaves
+  pub bytes_are : written.bytes.items ≡ flat_map leaf_field leaves
+  pub pointers_are : written.pointers.items ≡ pointers place leaves
   pub number_is : written.count ≡ length leaves
 
 -- each of these leaves has 256 entries
@@ -42,8 +42,8 @@ pub record IsWrittenTo (place : ℕ) (entries rest : List IndexEntry) (written :
   pub split : flat_map (λ leaf. leaf) leaves ++ rest ≡ entries
   pub full : 0 < length rest → AreFull leaves
   pub sizes : rest ≡ [] → AreLeaves leaves
-  pub bytes-are : written.bytes.items ≡ flat_map leaf_field leaves
-  pub pointers-are : written.pointers.items ≡ pointers place leaves
+  pub bytes_are : written.bytes.items ≡ flat_map leaf_field leaves
+  pub pointers_are : written.pointers.items ≡ pointers place leaves
   pub number_is : written.count ≡ length leaves
 
 -- these bytes are a mark, the number of the items, and the items
@@ -51,7 +51,7 @@ pub record IsCounted {A : Type 0} (mark : ℕ) (number : ℕ → List ℕ) (limi
     (IsItem : A → Type 0) (bytes : List ℕ) (items : List A) : Type 0 where
   pub few : length items < limit
   pub good : All IsItem items
-  pub bytes-are : bytes ≡ mark ∷ number (length items) ++ flat_map item items
+  pub bytes_are : bytes ≡ mark ∷ number (length items) ++ flat_map item items
 
 -- from the first pointer's place so many bytes are left up to the root, and each leaf ends where it begins or later
 abbrev pub AreSpread : ℕ → List Pointer → ℕ → Type 0
@@ -75,5 +75,5 @@ names_cmp a b = ordering_then (slice_cmp nat_cmp a.0 b.0) (slice_cmp nat_cmp a.1
 -- the pointer at this place is the last one whose names do not come behind these
 pub record IsLastFor (names : List ℕ × List ℕ) (pointers : List Pointer) (at : ℕ) : Type 0 where
   pub inside : at < length pointers
-  pub until : (d : Pointer) → IsBefore names (pointer_names (get_or pointers at d)) → ⊥
-  pub later : (k : ℕ) (d : Pointer) → at < k → k < length pointers → IsBefore names (pointer_names (get_or pointers k d))
+  pub until : (d : Pointer) → AreNamesBefore names (pointer_names (get_or pointers at d)) → ⊥
+  pub later : (k : ℕ) (d : Pointer) → at < k → k < length pointers → AreNamesBefore names (pointer_names (get_or pointers k d))

@@ -1,7 +1,7 @@
 //! Finding one series by binary search: its leaf among the pointers of a root, and its entry in the leaf. Depends on
 //! `index` and `pointer`.
 ghost use Rattle.std.specs.Prelude.{◌≡◌, map, MatchOption};
-ghost use Rattle.tsdb_index.specs.Entries.{AreInOrder, IsBefore, names_of};
+ghost use Rattle.tsdb_index.specs.Entries.{AreInOrder, AreNamesBefore, names_of};
 ghost use Rattle.tsdb_index.specs.Finding.{AreBehind, IsEntryFor, IsLeafFor};
 ghost use Rattle.tsdb_index.specs.Parts.{IsPointerBefore};
 ghost use Rattle.tsdb_index.specs.Steps.{IsLastFor, names_cmp};
@@ -61,7 +61,7 @@ pub fn entry_for(
     device: &Path,
     measurement: &Name,
 ) -> Option<IndexEntry>
-    requires { AreInOrder IsBefore (map names_of entries.items) }
+    requires { AreInOrder AreNamesBefore (map names_of entries.items) }
     ensures { IsEntryFor (device.now, measurement.now) entries.items result }
 {
     let found = entries.binary_search_by(|entry| {

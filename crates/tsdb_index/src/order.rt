@@ -1,6 +1,6 @@
 //! The order of entries and of pointers, by their names. Depends on `index` and `pointer`.
 ghost use Rattle.std.specs.Prelude.{◌<◌, ◌-◌, ◌↔◌, ◌++◌, All, IsTrue, drop, length, map};
-ghost use Rattle.tsdb_index.specs.Entries.{AreInOrder, IsBefore, names_of};
+ghost use Rattle.tsdb_index.specs.Entries.{AreInOrder, AreNamesBefore, names_of};
 ghost use Rattle.tsdb_index.specs.Parts.{BeginAt, BeginWith, IsLeafSize, IsPointerBefore, next_names};
 
 use crate::index::IndexEntry;
@@ -11,7 +11,7 @@ use tsdb_path::{Name, Path};
 
 /// Whether the first names come before the second.
 fn is_before(device: &Path, measurement: &Name, next_device: &Path, next: &Name) -> bool
-    ensures { IsTrue result ↔ IsBefore (device.now, measurement.now) (next_device.now, next.now) }
+    ensures { IsTrue result ↔ AreNamesBefore (device.now, measurement.now) (next_device.now, next.now) }
 {
     match device.cmp(next_device) {
         Ordering::Less => true,
@@ -22,7 +22,7 @@ fn is_before(device: &Path, measurement: &Name, next_device: &Path, next: &Name)
 
 /// Whether the names of entries rise.
 fn entries_rise(entries: &[IndexEntry]) -> bool
-    ensures { IsTrue result ↔ AreInOrder IsBefore (map names_of entries.now) }
+    ensures { IsTrue result ↔ AreInOrder AreNamesBefore (map names_of entries.now) }
 {
     for i in 1..entries.len() {
         let (last, next) = (&entries[i - 1], &entries[i]);
@@ -78,7 +78,7 @@ fn begin_with(entries: &[IndexEntry], pointer: &Pointer) -> bool
 fn end_before(entries: &[IndexEntry], behind: &[Pointer]) -> bool
     requires { 0 < length entries.now }
     ensures { IsTrue result ↔
-        AreInOrder IsBefore (map names_of (drop (length entries.now - 1) entries.now) ++ next_names behind.now) }
+        AreInOrder AreNamesBefore (map names_of (drop (length entries.now - 1) entries.now) ++ next_names behind.now) }
 {
     match behind {
         [] => true,
@@ -97,7 +97,7 @@ fn end_before(entries: &[IndexEntry], behind: &[Pointer]) -> bool
 /// Whether the names of entries of a leaf rise, up to the next leaf's if there is one.
 fn rise_to(entries: &[IndexEntry], behind: &[Pointer]) -> bool
     requires { 0 < length entries.now }
-    ensures { IsTrue result ↔ AreInOrder IsBefore (map names_of entries.now ++ next_names behind.now) }
+    ensures { IsTrue result ↔ AreInOrder AreNamesBefore (map names_of entries.now ++ next_names behind.now) }
 {
     entries_rise(entries) && end_before(entries, behind)
 }
@@ -116,7 +116,7 @@ fn is_leaf_size(behind: &[Pointer], count: usize) -> bool
 /// Whether these may be the entries of a leaf, as the pointer at it and the pointers behind it say.
 pub fn are_leaf(entries: &[IndexEntry], pointer: &Pointer, behind: &[Pointer]) -> bool
     ensures { IsTrue result ↔ IsLeafSize behind.now (length entries.now) × BeginWith pointer.now entries.now
-        × AreInOrder IsBefore (map names_of entries.now ++ next_names behind.now) }
+        × AreInOrder AreNamesBefore (map names_of entries.now ++ next_names behind.now) }
 {
     if !begin_with(entries, pointer) {
         return false;

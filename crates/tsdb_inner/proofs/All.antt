@@ -13,7 +13,7 @@ use Rattle.tsdb_engine.specs.Making.{IsPart, MayAdd}
 use Rattle.tsdb_engine.specs.Steps.{ComeBefore, filled_with}
 use Rattle.tsdb_engine.specs.declared.part.Part.{Part}
 use Rattle.tsdb_index.proofs.Found.{not_itself}
-use Rattle.tsdb_index.specs.Entries.{IsBefore}
+use Rattle.tsdb_index.specs.Entries.{AreNamesBefore}
 use Rattle.tsdb_inner.proofs.Lists.{next_taken}
 use Rattle.tsdb_inner.specs.Winners.{AreSeries, CopiesSeries}
 use Rattle.tsdb_jobs.specs.Parts.{Filled, if_any, names_of}
@@ -36,7 +36,7 @@ among_at (y ∷ ys) zero x below at = inl (sym at)
 among_at (y ∷ ys) (suc i) x below at = inr (among_at ys i x (omega (arith, below)) at)
 
 abbrev Rise : Schema → Schema → Type 0
-Rise a b = IsBefore (names_of a) (names_of b)
+Rise a b = AreNamesBefore (names_of a) (names_of b)
 
 -- the schemas so far come before the next
 come_before : (schemas : List Schema) (i : ℕ) (schema : Schema) → EachPair Rise schemas → i < length schemas
@@ -133,7 +133,7 @@ module _ {F S R P : Type 0} (name : R → NamedFile) (job : Job F S R P) where
     apart : (a b : Filled) → Among a was.done → Among b last → a.schema.path ≢ b.schema.path
     apart a b in_a in_b same =
         let is : b.schema ≡ schema = sym (ap (λ (f : Filled). f.schema) (of_end schema copies.points b in_b)) in
-        not_itself (names_of schema) (subst (λ (p : List ℕ). IsBefore (device_of p, measurement_of p) (names_of schema))
+        not_itself (names_of schema) (subst (λ (p : List ℕ). AreNamesBefore (device_of p, measurement_of p) (names_of schema))
         (same ∙ ap (λ (s : Schema). s.path) is)
         (each_among (λ filled. Rise filled.schema schema) was.done a before in_a))
 

@@ -18,7 +18,7 @@ use Rattle.tsdb_compactions.specs.declared.job.Input.{Input}
 use Rattle.tsdb_compactions.specs.declared.job.Job.{Job}
 use Rattle.tsdb_engine.specs.declared.part.Part.{Part}
 use Rattle.tsdb_index.proofs.Found.{not_itself}
-use Rattle.tsdb_index.specs.Entries.{IsBefore}
+use Rattle.tsdb_index.specs.Entries.{AreNamesBefore}
 use Rattle.tsdb_inner.proofs.Sources.{all_survivors, owns, pages_of, told_sources, true_sources}
 use Rattle.tsdb_inner.specs.Copies.{Copies, AreDamaged, Survive}
 use Rattle.tsdb_inner.specs.Inputs.{IsInputOf, IsLentAs, TellsBytes}
@@ -86,11 +86,11 @@ same_cause {S} {T} a b fault cause = record { later = cause.later; failed = λ i
 -- ---- schemas
 
 -- in the order of a tree one schema has a path
-one_schema : (schemas : List Schema) (a b : Schema) → EachPair (λ a b. IsBefore (names_of a) (names_of b)) schemas → Among a schemas → Among b schemas
+one_schema : (schemas : List Schema) (a b : Schema) → EachPair (λ a b. AreNamesBefore (names_of a) (names_of b)) schemas → Among a schemas → Among b schemas
     → a.path ≡ b.path → a ≡ b
-one_schema schemas a b rising in_a in_b same = one_alone (λ a b. IsBefore (names_of a) (names_of b)) schemas rising a b in_a in_b
-    (λ before. not_itself (names_of b) (subst (λ (p : List ℕ). IsBefore (device_of p, measurement_of p) (names_of b)) same before))
-    (λ before. not_itself (names_of b) (subst (λ (p : List ℕ). IsBefore (names_of b) (device_of p, measurement_of p)) same before))
+one_schema schemas a b rising in_a in_b same = one_alone (λ a b. AreNamesBefore (names_of a) (names_of b)) schemas rising a b in_a in_b
+    (λ before. not_itself (names_of b) (subst (λ (p : List ℕ). AreNamesBefore (device_of p, measurement_of p) (names_of b)) same before))
+    (λ before. not_itself (names_of b) (subst (λ (p : List ℕ). AreNamesBefore (names_of b) (device_of p, measurement_of p)) same before))
 
 module _ {F S R P : Type 0} (name : R → NamedFile) (job : Job F S R P) where
   pub inputs_of_store : (store : Store) (sources : List (Source R)) → AllZip IsLentAs job.inputs sources

@@ -169,5 +169,5 @@ has_list path two told name file whole =
       is = whole.is_tree;
       made = whole.is_made;
       file = whole.is_file;
-      pages-are = are;
+      pages_are = are;
     })

@@ -7,7 +7,7 @@ use Rattle.tsdb_base.specs.declared.ids.Space.{Space}
 use Rattle.tsdb_base.specs.declared.ids.Space.TheVariants.{Sequence, Unsequence}
 use Rattle.tsdb_base.specs.declared.point.Point.{Point}
 use Rattle.tsdb_base.specs.Values.{type_of}
-use Rattle.tsdb_index.specs.Entries.{IsBefore}
+use Rattle.tsdb_index.specs.Entries.{AreNamesBefore}
 use Rattle.tsdb_layers.specs.Lists.{EachPair}
 use Rattle.tsdb_model.specs.Commands.{IsSchema}
 use Rattle.tsdb_model.specs.declared.command.Schema.{Schema}
@@ -62,7 +62,7 @@ pub record IsFlushOf (pair : Pair) (schemas : List Schema) (numbers : List Serie
     (sequence unsequence : Option FileNumber)
     : Type 0 where
   pub formed : Each IsSchema schemas
-  pub rising : EachPair (λ a b. IsBefore (names_of a) (names_of b)) schemas
+  pub rising : EachPair (λ a b. AreNamesBefore (names_of a) (names_of b)) schemas
   pub typed : AllZip (HasPointsOf pair) schemas numbers
   pub sequence_drawn : IsDrawnFor sequence (part_of Sequence pair schemas numbers)
   pub unsequence_drawn : IsDrawnFor unsequence (part_of Unsequence pair schemas numbers)

@@ -15,7 +15,7 @@ use Rattle.tsdb_layers.proofs.Values.{no_survivor, or_none, value_append, value_
 use Rattle.tsdb_layers.specs.Layers.{Layer, survivor, value_in}
 use Rattle.tsdb_layers.specs.Lists.{Among}
 use Rattle.tsdb_layers.specs.Marks.{purge, survives}
-use Rattle.tsdb_layers.specs.Order.{IsBefore}
+use Rattle.tsdb_layers.specs.Order.{IsBeforeInTime}
 use Rattle.tsdb_layers.specs.Places.{Content, Place, place_cmp, put}
 use Rattle.tsdb_marks.specs.declared.marks.Mark.{Mark}
 
@@ -89,7 +89,7 @@ put_elsewhere marks place other value born content apart =
 shares_none : (time : ℤ) → time <ℤ time → ⊥
 shares_none time h = grind (arith, ints)
 
-pub before_none : (marks : List Mark) (place : Place) (earlier later : List Layer) → IsBefore earlier later
+pub before_none : (marks : List Mark) (place : Place) (earlier later : List Layer) → IsBeforeInTime earlier later
     → (value_in marks place earlier ≡ None) ⊎ (value_in marks place later ≡ None)
 before_none marks place earlier later before = by (value_in marks place earlier) (value_in marks place later) refl refl
   where

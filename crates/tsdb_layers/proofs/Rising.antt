@@ -3,7 +3,7 @@ use Rattle.std.proofs.Common.{List, [], ◌∷◌, ◌++◌, inl, inr, ⊎_elim}
 use Rattle.tsdb_base.specs.declared.value.Value.{Value}
 use Rattle.tsdb_layers.proofs.Values.{has_cases, has_left, has_right}
 use Rattle.tsdb_layers.specs.Layers.{HasPoint, Layer}
-use Rattle.tsdb_layers.specs.Order.{IsBefore, IsBelow, Rises, Watermarks}
+use Rattle.tsdb_layers.specs.Order.{IsBeforeInTime, IsBelow, Rises, Watermarks}
 use Rattle.tsdb_layers.specs.Places.{Place}
 
 -- each point of the one list is one of the other
@@ -20,14 +20,14 @@ part_left xs ys = has_left _ _
 pub part_right : (xs ys : List Layer) → IsPartOf ys (xs ++ ys)
 part_right xs ys = has_right _ _
 
-pub before_part : (xs ys vs ws : List Layer) → IsPartOf xs vs → IsPartOf ys ws → IsBefore vs ws → IsBefore xs ys
+pub before_part : (xs ys vs ws : List Layer) → IsPartOf xs vs → IsPartOf ys ws → IsBeforeInTime vs ws → IsBeforeInTime xs ys
 before_part xs ys vs ws first second before p q v w a b = before p q v w (first p v a) (second q w b)
 
-pub before_both : (xs ys zs : List Layer) → IsBefore xs zs → IsBefore ys zs → IsBefore (xs ++ ys) zs
+pub before_both : (xs ys zs : List Layer) → IsBeforeInTime xs zs → IsBeforeInTime ys zs → IsBeforeInTime (xs ++ ys) zs
 before_both xs ys zs first second p q v w a b same =
     ⊎_elim (λ h. first p q v w h b same) (λ h. second p q v w h b same) (has_cases _ _ p v a)
 
-pub before_each : (xs ys zs : List Layer) → IsBefore xs ys → IsBefore xs zs → IsBefore xs (ys ++ zs)
+pub before_each : (xs ys zs : List Layer) → IsBeforeInTime xs ys → IsBeforeInTime xs zs → IsBeforeInTime xs (ys ++ zs)
 before_each xs ys zs first second p q v w a b same =
     ⊎_elim (λ h. first p q v w a h same) (λ h. second p q v w a h same) (has_cases _ _ q w b)
 
@@ -42,12 +42,12 @@ pub rises_right : (xs ys : List Layer) → Rises (xs ++ ys) → Rises ys
 rises_right [] ys rises = rises
 rises_right (x ∷ xs) ys rises = rises_right xs ys rises.1
 
-pub rises_across : (xs ys : List Layer) → Rises (xs ++ ys) → IsBefore xs ys
+pub rises_across : (xs ys : List Layer) → Rises (xs ++ ys) → IsBeforeInTime xs ys
 rises_across [] ys rises p q v w a b same = absurd a
 rises_across (x ∷ xs) ys rises p q v w (inl is) b same = rises.0 p q v w (inl is) (has_right _ _ q w b) same
 rises_across (x ∷ xs) ys rises p q v w (inr a) b same = rises_across xs ys rises.1 p q v w a b same
 
-pub rises_append : (xs ys : List Layer) → Rises xs → Rises ys → IsBefore xs ys → Rises (xs ++ ys)
+pub rises_append : (xs ys : List Layer) → Rises xs → Rises ys → IsBeforeInTime xs ys → Rises (xs ++ ys)
 rises_append [] ys first second across = second
 rises_append (x ∷ xs) ys first second across = (
   before_each (x ∷ []) _ _ first.0 (before_part (x ∷ []) _ (x ∷ xs) _ (has_left (x ∷ []) xs) (λ p v h. h) across),

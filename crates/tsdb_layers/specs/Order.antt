@@ -14,14 +14,14 @@ abbrev pub Watermarks : Type 0
 Watermarks = FinMap (slice_cmp nat_cmp) ℤ
 
 -- for each device, each time of the earlier layers is less than each time of the later ones
-abbrev pub IsBefore : List Layer → List Layer → Type 0
-IsBefore earlier later = (p q : Place) (v w : Value)
+abbrev pub IsBeforeInTime : List Layer → List Layer → Type 0
+IsBeforeInTime earlier later = (p q : Place) (v w : Value)
     → HasPoint earlier p v → HasPoint later q w → device_of p.path ≡ device_of q.path → p.time <ℤ q.time
 
 -- each layer is before all that stand behind it
 abbrev pub Rises : List Layer → Type 0
 Rises [] = Unit {0}
-Rises (layer ∷ layers) = IsBefore (layer ∷ []) layers × Rises layers
+Rises (layer ∷ layers) = IsBeforeInTime (layer ∷ []) layers × Rises layers
 
 -- each time is at most the watermark of its device, which is there
 abbrev pub IsBelow : Watermarks → List Layer → Type 0

@@ -7,7 +7,7 @@ ghost use Rattle.tsdb_base.specs.declared.value.Value.{Value};
 ghost use Rattle.tsdb_layers.specs.Layers.{Layer, survivor, value_in};
 ghost use Rattle.tsdb_layers.specs.Lists.{Among};
 ghost use Rattle.tsdb_layers.specs.Marks.{marks_up_to, purge, survives};
-ghost use Rattle.tsdb_layers.specs.Order.{IsBefore};
+ghost use Rattle.tsdb_layers.specs.Order.{IsBeforeInTime};
 ghost use Rattle.tsdb_layers.specs.Places.{Content, Place, cut, is_within, put};
 ghost use Rattle.tsdb_marks.specs.declared.marks.Mark.{Mark};
 
@@ -35,7 +35,7 @@ pub fn neighbours_change_places()
 
 /// Of two runs of which the one is before the other in time, one at most has a value at a place.
 pub fn earlier_layers_share_no_place()
-    ensures { (marks : List Mark) (place : Place) (earlier later : List Layer) → IsBefore earlier later
+    ensures { (marks : List Mark) (place : Place) (earlier later : List Layer) → IsBeforeInTime earlier later
         → (value_in marks place earlier ≡ None) ⊎ (value_in marks place later ≡ None) }
 {}
 

@@ -15,8 +15,8 @@ use Rattle.tsdb_path.specs.Nodes.{IsPath}
 use Rattle.tsdb_log.specs.declared.record.CellRecord.{CellRecord}
 use Rattle.tsdb_log.specs.declared.record.LogRecord.{LogRecord}
 use Rattle.tsdb_log.specs.declared.record.LogRecord.TheVariants.{Create, Insert, Delete, Freeze, Flushed, Replaced, Snapshot}
-use Rattle.tsdb_log.specs.Spelling.{bytes_of, cell_fields, fields, file_fields, files_fields, space_field, spelling, AreFiles, IsCell, IsFile, IsRecord}
-use Rattle.tsdb_log.specs.Rows.{both, field, place_row, space_row, output_row, AreBoth, ArePlace, AreSpace, AreOutput, IsAny, IsNumber64, IsRow}
+use Rattle.tsdb_log.specs.Spelling.{joined_fields, cell_fields, fields, file_fields, files_fields, space_field, spelling, AreFiles, IsCell, IsFile, IsRecord}
+use Rattle.tsdb_log.specs.Rows.{both, field, place_row, space_row, output_row, AreBoth, ArePlace, AreSpace, AreOutput, IsAny, IsNumber64, IsRowForm}
 use Rattle.tsdb_log.specs.RowLaws.{row_of_field, row_of_both}
 use Rattle.tsdb_log.specs.PartLaws.{path_free, space_free, rows_of_values, cell_rows, file_rows}
 use Rattle.tsdb_log.specs.SnapshotLaws.{SnapshotRow, snapshot_row, IsSnapshotRow, snapshot_rows, made_snapshot, row_of_snapshot, is_row_of_snapshot, is_made_snapshot}
@@ -36,7 +36,7 @@ create_row = both (field plain_text) type_row
 abbrev pub IsCreate : List ℕ × (DataType × Encoding) → Type 0
 IsCreate = AreBoth IsPath (λ _. IsTypeRow)
 
-pub create_rows : IsRow create_row IsCreate
+pub create_rows : IsRowForm create_row IsCreate
 create_rows = row_of_both (field plain_text) type_row IsPath (λ _. IsTypeRow) (row_of_field plain_text IsPath path_free)
     (λ path is. row_of_both (field type_field) (field encoding_field) IsAny (λ _. IsAny) (row_of_field type_field IsAny type_field-prefix_free)
     (λ t any. row_of_field encoding_field IsAny encoding_field-prefix_free))
@@ -67,7 +67,7 @@ insert_row = both (field plain_i64) cells_row
 abbrev pub IsInsert : ℤ × (ℕ × List CellRecord) → Type 0
 IsInsert = AreBoth (FitsSigned w64) (λ _. IsCellsRow)
 
-pub insert_rows : IsRow insert_row IsInsert
+pub insert_rows : IsRowForm insert_row IsInsert
 insert_rows = row_of_both (field plain_i64) cells_row (FitsSigned w64) (λ _. IsCellsRow) (row_of_field plain_i64 (FitsSigned w64) plain_i64-prefix_free)
     (λ time is. row_of_both (field number16) (flat_map cell_fields) (λ n. n < 2 ^ 16) (AreValues IsCell) (row_of_field number16 (λ n. n < 2 ^ 16) number16-prefix_free)
     (λ n few. rows_of_values cell_fields IsCell cell_rows n))
@@ -107,7 +107,7 @@ delete_row = both (field plain_text) times
 abbrev pub IsDelete : List ℕ × (ℤ × ℤ) → Type 0
 IsDelete = AreBoth IsPath (λ _. AreTimes)
 
-pub delete_rows : IsRow delete_row IsDelete
+pub delete_rows : IsRowForm delete_row IsDelete
 delete_rows = row_of_both (field plain_text) times IsPath (λ _. AreTimes) (row_of_field plain_text IsPath path_free)
     (λ path is. row_of_both (field plain_i64) (field plain_i64) (FitsSigned w64) (λ _. FitsSigned w64) (row_of_field plain_i64 (FitsSigned w64) plain_i64-prefix_free)
     (λ t fits. row_of_field plain_i64 (FitsSigned w64) plain_i64-prefix_free))
@@ -136,7 +136,7 @@ flushed_row = both (field number64) (field number64)
 abbrev pub IsFlushed : ℕ × ℕ → Type 0
 IsFlushed = AreBoth IsNumber64 (λ _. IsNumber64)
 
-pub flushed_rows : IsRow flushed_row IsFlushed
+pub flushed_rows : IsRowForm flushed_row IsFlushed
 flushed_rows = row_of_both (field number64) (field number64) IsNumber64 (λ _. IsNumber64) (row_of_field number64 IsNumber64 number64-prefix_free)
     (λ n is. row_of_field number64 IsNumber64 number64-prefix_free)
 
@@ -164,7 +164,7 @@ files_row = both (field number32) (flat_map file_fields)
 abbrev pub IsFilesRow : ℕ × List FileNumber → Type 0
 IsFilesRow = AreBoth (λ n. n < 2 ^ 32) (AreValues IsFile)
 
-pub files_row_rows : IsRow files_row IsFilesRow
+pub files_row_rows : IsRowForm files_row IsFilesRow
 files_row_rows = row_of_both (field number32) (flat_map file_fields) (λ n. n < 2 ^ 32) (AreValues IsFile) (row_of_field number32 (λ n. n < 2 ^ 32) number32-prefix_free)
     (λ n few. rows_of_values file_fields IsFile file_rows n)
 
@@ -179,10 +179,10 @@ files_as = record {
       ((omega arith, is.1.1), ap (λ (n : ℕ). number32 n ∷ flat_map file_fields p.1) count);
 }
 
-pub files_rows : IsRow files_fields AreFiles
+pub files_rows : IsRowForm files_fields AreFiles
 files_rows = row_as files_row IsFilesRow files_fields AreFiles files_as files_row_rows
 
-pub output_rows : IsRow output_row AreOutput
+pub output_rows : IsRowForm output_row AreOutput
 output_rows = row_of_both (field number64) space_row IsNumber64 (λ _. AreSpace) (row_of_field number64 IsNumber64 number64-prefix_free)
     (λ n is. row_of_both (field space_field) place_row IsAny (λ _. ArePlace) (row_of_field space_field IsAny space_free)
     (λ s any. flushed_rows))
@@ -199,7 +199,7 @@ replaced_row = both output_row inputs
 abbrev pub IsReplaced : (ℕ × (Space × (ℕ × ℕ))) × (List FileNumber × List FileNumber) → Type 0
 IsReplaced = AreBoth AreOutput (λ _. AreInputs)
 
-pub replaced_rows : IsRow replaced_row IsReplaced
+pub replaced_rows : IsRowForm replaced_row IsReplaced
 replaced_rows = row_of_both output_row inputs AreOutput (λ _. AreInputs) output_rows
     (λ o is. row_of_both files_fields files_fields AreFiles (λ _. AreFiles) files_rows (λ files are. files_rows))
 
@@ -261,17 +261,17 @@ freeze_view item is = (tt, tt, freeze_alone item is.1)
 freeze_as : IsWrittenAs (behind_kind 4 nothing) IsAny fields (IsOfKind 4)
 freeze_as = record { make = λ u. Freeze; view = freeze_view; back = λ u is. ((tt, refl), refl) }
 
-none_first : (first more : List (List ℕ)) → [] ≡ first ++ more → length (bytes_of first) ≡ 0
+none_first : (first more : List (List ℕ)) → [] ≡ first ++ more → length (joined_fields first) ≡ 0
 none_first [] more e = refl
 none_first (f ∷ fs) more e = absurd cc
 
-nothing_rows : IsRow nothing IsAny
+nothing_rows : IsRowForm nothing IsAny
 nothing_rows = record {
   free = λ a b x y is_a is_b e. (refl, e);
   full = λ a behind j is r. let none = none_first r.first r.more r.begins in let place = r.place in omega arith;
 }
 
-rows_of_kind : (item : LogRecord) → IsRow fields (IsOfKind (kind_of item))
+rows_of_kind : (item : LogRecord) → IsRowForm fields (IsOfKind (kind_of item))
 rows_of_kind (Create path data_type encoding) = row_of_kind 1 create_row IsCreate create_as create_rows
 rows_of_kind (Insert time cells) = row_of_kind 2 insert_row IsInsert insert_as insert_rows
 rows_of_kind (Delete path range) = row_of_kind 3 delete_row IsDelete delete_as delete_rows
@@ -281,19 +281,19 @@ rows_of_kind (Replaced born space place output sequence unsequence) = row_of_kin
 rows_of_kind (Snapshot snapshot) = row_of_kind 7 snapshot_row IsSnapshotRow snapshot_as snapshot_rows
 
 -- no record's bytes begin another's, and none goes further than one that stands there
-pub record_rows : IsRow fields IsRecord
+pub record_rows : IsRowForm fields IsRecord
 record_rows = record {
   free = λ a b x y is_a is_b e. (rows_of_kind a).free a b x y (is_a, refl) (is_b, sym (kind_same a b x y e)) e;
   full = λ a behind j is r. far j a behind r.whole r.first r.more r.rest is r.is r.begins r.splits r.place;
 } where
   far : (j : ℕ) (a : LogRecord) (behind : List ℕ) (whole : LogRecord) (first more : List (List ℕ)) (rest : List ℕ) → IsRecord a → IsRecord whole → fields whole ≡ first ++ more
-      → spelling a ++ behind ≡ bytes_of first ++ rest → j ≡ length (bytes_of first) → j ≤ length (spelling a)
+      → spelling a ++ behind ≡ joined_fields first ++ rest → j ≡ length (joined_fields first) → j ≤ length (spelling a)
   far j a behind whole [] more rest is is_whole begins splits place = omega arith
   far j a behind whole (f ∷ fs) more rest is is_whole begins splits place =
       let kind = kind_first whole in
       let own = kind_first a in
       let heads = sym kind.1 ∙ begins in
       let byte : kind_of whole ∷ [] ≡ f = cc in
-      let bytes = sym (ap (λ (l : List (List ℕ)). bytes_of l ++ behind) own.1) ∙ splits ∙ ap (λ (l : List ℕ). (l ++ bytes_of fs) ++ rest) (sym byte) in
+      let bytes = sym (ap (λ (l : List (List ℕ)). joined_fields l ++ behind) own.1) ∙ splits ∙ ap (λ (l : List ℕ). (l ++ joined_fields fs) ++ rest) (sym byte) in
       let same : kind_of whole ≡ kind_of a = cc in
       (rows_of_kind a).full a behind j (is, refl) (record { whole = whole; is = (is_whole, same); first = f ∷ fs; more = more; rest = rest; begins = begins; splits = splits; place = place })

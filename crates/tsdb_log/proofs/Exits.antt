@@ -23,13 +23,13 @@ use Rattle.tsdb_log.specs.declared.fault.LogFault.TheVariants as log
 use Rattle.tsdb_log.specs.Places.{Reaches, IsBad, IsFurthest}
 use Rattle.std.proofs.lemmas.List.{append-nil}
 use Rattle.tsdb_fields.specs.declared.rest.Rest.{Rest}
-use Rattle.tsdb_fields.specs.Reading.{Takes, Reads, IsValueOf}
+use Rattle.tsdb_fields.specs.Reading.{TakesBytes, Reads, IsValueOf}
 use Rattle.tsdb_log.specs.declared.record.CellRecord.{CellRecord}
 use Rattle.tsdb_log.specs.declared.record.LogRecord.{LogRecord}
 use Rattle.tsdb_log.specs.declared.record.LogRecord.TheVariants.{Delete, Freeze, Insert, Replaced}
 use Rattle.tsdb_log.specs.Rows.{field, output_row, AreOutput, IsAny, IsNumber64}
-use Rattle.tsdb_log.specs.Spelling.{bytes_of, cell_fields, fields, file_fields, files_fields, spelling, AreFiles, IsCell, IsFile, IsRecord}
-use Rattle.tsdb_log.specs.Steps.{BeginsWith, IsMissing, Fails, log_fault}
+use Rattle.tsdb_log.specs.Spelling.{joined_fields, cell_fields, fields, file_fields, files_fields, spelling, AreFiles, IsCell, IsFile, IsRecord}
+use Rattle.tsdb_log.specs.Steps.{BeginsWithRecord, IsMissing, Fails, log_fault}
 use Rattle.tsdb_log.specs.RowLaws.{bytes_append}
 use Rattle.tsdb_log.specs.ViewLaws.{kind_of, kind_first, kind_range}
 use Rattle.tsdb_log.specs.ListLaws.{copies, values_of_list}
@@ -70,18 +70,18 @@ typed_type rest fault reads =
     (first_fails (field type_field) (field value_field) IsAny IsValueOf rest.at rest.bytes.now fault (λ t any. some_value t)
     (field_fails type_field IsAny rest (λ (v : DataType). v) fault Boolean tt reads))
 
-pub typed_value : (t : DataType) (rest behind : Rest) (fault : FieldFault) → Takes rest (type_field t) behind
+pub typed_value : (t : DataType) (rest behind : Rest) (fault : FieldFault) → TakesBytes rest (type_field t) behind
     → Reads value_field (IsValueOf t) behind (λ (v : Value). v) (Err fault) → Fails typed_fields IsValue rest.at rest.bytes.now fault
 typed_value t rest behind fault takes reads =
     fails_as value_row IsValueRow typed_fields IsValue rest.at rest.bytes.now fault typed_as
     (behind_field type_field (field value_field) IsAny IsValueOf type_field-prefix_free t rest behind fault tt takes
     (field_fails value_field (IsValueOf t) behind (λ (v : Value). v) fault (some_value t).0 (some_value t).1 reads))
 
-pub takes_typed : (t : DataType) (v : Value) (rest middle behind : Rest) → Takes rest (type_field t) middle → Takes middle (value_field v) behind
-    → IsValueOf t v → Takes rest (bytes_of (typed_fields v)) behind × IsValue v
+pub takes_typed : (t : DataType) (v : Value) (rest middle behind : Rest) → TakesBytes rest (type_field t) middle → TakesBytes middle (value_field v) behind
+    → IsValueOf t v → TakesBytes rest (joined_fields (typed_fields v)) behind × IsValue v
 takes_typed t v rest middle behind takes takes_value is = (
   takes_pair (type_field (type_of v) ∷ []) (value_field v ∷ []) rest middle behind
-      (one rest middle (type_field (type_of v)) (subst (λ (d : DataType). Takes rest (type_field d) middle) (sym is.typed) takes))
+      (one rest middle (type_field (type_of v)) (subst (λ (d : DataType). TakesBytes rest (type_field d) middle) (sym is.typed) takes))
       (one middle behind (value_field v) takes_value),
   is.fits,
 )
@@ -94,7 +94,7 @@ create_path rest fault first reads =
     (first_fails (field plain_text) type_row IsPath (λ _. IsTypeRow) rest.at rest.bytes.now fault (λ path is. ((Boolean, Plain), (tt, tt)))
     (field_fails plain_text IsPath rest (λ (v : List ℕ). v) fault root.0 root.1 reads))
 
-pub create_type : (path : List ℕ) (rest behind : Rest) (fault : FieldFault) → rest.at ≡ 1 → IsPath path → Takes rest (plain_text path) behind
+pub create_type : (path : List ℕ) (rest behind : Rest) (fault : FieldFault) → rest.at ≡ 1 → IsPath path → TakesBytes rest (plain_text path) behind
     → Reads type_field IsAny behind (λ (v : DataType). v) (Err fault) → Fails fields IsRecord 0 (1 ∷ rest.bytes.now) fault
 create_type path rest behind fault first is takes reads =
     kind_fails 1 create_row IsCreate rest fault first create_as
@@ -102,7 +102,7 @@ create_type path rest behind fault first is takes reads =
     (first_fails (field type_field) (field encoding_field) IsAny (λ _. IsAny) behind.at behind.bytes.now fault (λ t any. (Plain, tt))
     (field_fails type_field IsAny behind (λ (v : DataType). v) fault Boolean tt reads)))
 
-pub create_encoding : (path : List ℕ) (t : DataType) (rest middle behind : Rest) (fault : FieldFault) → rest.at ≡ 1 → IsPath path → Takes rest (plain_text path) middle → Takes middle (type_field t) behind
+pub create_encoding : (path : List ℕ) (t : DataType) (rest middle behind : Rest) (fault : FieldFault) → rest.at ≡ 1 → IsPath path → TakesBytes rest (plain_text path) middle → TakesBytes middle (type_field t) behind
     → Reads encoding_field IsAny behind (λ (v : Encoding). v) (Err fault) → Fails fields IsRecord 0 (1 ∷ rest.bytes.now) fault
 create_encoding path t rest middle behind fault first is takes_path takes reads =
     kind_fails 1 create_row IsCreate rest fault first create_as
@@ -118,7 +118,7 @@ insert_time rest fault first reads =
     (first_fails (field plain_i64) cells_row (FitsSigned w64) (λ _. IsCellsRow) rest.at rest.bytes.now fault (λ t is. ((0, (some_cells 0).0), (omega arith, (some_cells 0).1)))
     (field_fails plain_i64 (FitsSigned w64) rest (λ (v : ℤ). v) fault some_time.0 some_time.1 reads))
 
-pub insert_count : (time : ℤ) (rest behind : Rest) (fault : FieldFault) → rest.at ≡ 1 → FitsSigned w64 time → Takes rest (plain_i64 time) behind
+pub insert_count : (time : ℤ) (rest behind : Rest) (fault : FieldFault) → rest.at ≡ 1 → FitsSigned w64 time → TakesBytes rest (plain_i64 time) behind
     → Reads number16 (λ (n : ℕ). n < 2 ^ 16) behind (λ (v : ℕ). v) (Err fault) → Fails fields IsRecord 0 (2 ∷ rest.bytes.now) fault
 insert_count time rest behind fault first is takes reads =
     kind_fails 2 insert_row IsInsert rest fault first insert_as
@@ -126,7 +126,7 @@ insert_count time rest behind fault first is takes reads =
     (first_fails (field number16) (flat_map cell_fields) (λ n. n < 2 ^ 16) (AreValues IsCell) behind.at behind.bytes.now fault (λ n few. some_cells n)
     (field_fails number16 (λ n. n < 2 ^ 16) behind (λ (v : ℕ). v) fault 0 (omega arith) reads)))
 
-pub insert_cells : (time : ℤ) (n : ℕ) (rest middle behind : Rest) (fault : FieldFault) → rest.at ≡ 1 → FitsSigned w64 time → Takes rest (plain_i64 time) middle → n < 2 ^ 16 → Takes middle (number16 n) behind
+pub insert_cells : (time : ℤ) (n : ℕ) (rest middle behind : Rest) (fault : FieldFault) → rest.at ≡ 1 → FitsSigned w64 time → TakesBytes rest (plain_i64 time) middle → n < 2 ^ 16 → TakesBytes middle (number16 n) behind
     → Fails (flat_map cell_fields) (AreValues IsCell n) behind.at behind.bytes.now fault → Fails fields IsRecord 0 (2 ∷ rest.bytes.now) fault
 insert_cells time n rest middle behind fault first is takes_time few takes fails =
     kind_fails 2 insert_row IsInsert rest fault first insert_as
@@ -141,7 +141,7 @@ delete_path rest fault first reads =
     (first_fails (field plain_text) times IsPath (λ _. AreTimes) rest.at rest.bytes.now fault (λ path is. ((some_time.0, some_time.0), (some_time.1, some_time.1)))
     (field_fails plain_text IsPath rest (λ (v : List ℕ). v) fault root.0 root.1 reads))
 
-pub delete_from : (path : List ℕ) (rest behind : Rest) (fault : FieldFault) → rest.at ≡ 1 → IsPath path → Takes rest (plain_text path) behind
+pub delete_from : (path : List ℕ) (rest behind : Rest) (fault : FieldFault) → rest.at ≡ 1 → IsPath path → TakesBytes rest (plain_text path) behind
     → Reads plain_i64 (FitsSigned w64) behind (λ (v : ℤ). v) (Err fault) → Fails fields IsRecord 0 (3 ∷ rest.bytes.now) fault
 delete_from path rest behind fault first is takes reads =
     kind_fails 3 delete_row IsDelete rest fault first delete_as
@@ -149,7 +149,7 @@ delete_from path rest behind fault first is takes reads =
     (first_fails (field plain_i64) (field plain_i64) (FitsSigned w64) (λ _. FitsSigned w64) behind.at behind.bytes.now fault (λ t fits. some_time)
     (field_fails plain_i64 (FitsSigned w64) behind (λ (v : ℤ). v) fault some_time.0 some_time.1 reads)))
 
-pub delete_to : (path : List ℕ) (from : ℤ) (rest middle behind : Rest) (fault : FieldFault) → rest.at ≡ 1 → IsPath path → Takes rest (plain_text path) middle → FitsSigned w64 from → Takes middle (plain_i64 from) behind
+pub delete_to : (path : List ℕ) (from : ℤ) (rest middle behind : Rest) (fault : FieldFault) → rest.at ≡ 1 → IsPath path → TakesBytes rest (plain_text path) middle → FitsSigned w64 from → TakesBytes middle (plain_i64 from) behind
     → Reads plain_i64 (FitsSigned w64) behind (λ (v : ℤ). v) (Err fault) → Fails fields IsRecord 0 (3 ∷ rest.bytes.now) fault
 delete_to path from rest middle behind fault first is takes_path fits takes reads =
     kind_fails 3 delete_row IsDelete rest fault first delete_as
@@ -165,7 +165,7 @@ flushed_sequence rest fault first reads =
     (first_fails (field number64) (field number64) IsNumber64 (λ _. IsNumber64) rest.at rest.bytes.now fault (λ n is. some_number)
     (field_fails number64 IsNumber64 rest (λ (v : ℕ). v) fault some_number.0 some_number.1 reads))
 
-pub flushed_unsequence : (sequence : ℕ) (rest behind : Rest) (fault : FieldFault) → rest.at ≡ 1 → IsNumber64 sequence → Takes rest (number64 sequence) behind
+pub flushed_unsequence : (sequence : ℕ) (rest behind : Rest) (fault : FieldFault) → rest.at ≡ 1 → IsNumber64 sequence → TakesBytes rest (number64 sequence) behind
     → Reads number64 IsNumber64 behind (λ (v : ℕ). v) (Err fault) → Fails fields IsRecord 0 (5 ∷ rest.bytes.now) fault
 flushed_unsequence sequence rest behind fault first is takes reads =
     kind_fails 5 flushed_row IsFlushed rest fault first flushed_as
@@ -180,7 +180,7 @@ files_count rest fault reads =
     (first_fails (field number32) (flat_map file_fields) (λ n. n < 2 ^ 32) (AreValues IsFile) rest.at rest.bytes.now fault (λ n few. some_files n)
     (field_fails number32 (λ n. n < 2 ^ 32) rest (λ (v : ℕ). v) fault 0 (omega arith) reads))
 
-pub files_numbers : (n : ℕ) (rest behind : Rest) (fault : FieldFault) → n < 2 ^ 32 → Takes rest (number32 n) behind
+pub files_numbers : (n : ℕ) (rest behind : Rest) (fault : FieldFault) → n < 2 ^ 32 → TakesBytes rest (number32 n) behind
     → Fails (flat_map file_fields) (AreValues IsFile n) behind.at behind.bytes.now fault → Fails files_fields AreFiles rest.at rest.bytes.now fault
 files_numbers n rest behind fault few takes fails =
     fails_as files_row IsFilesRow files_fields AreFiles rest.at rest.bytes.now fault files_as
@@ -191,7 +191,7 @@ replaced_output bytes fault fails =
     record_fails 6 replaced_row IsReplaced bytes fault replaced_as
     (first_fails output_row inputs AreOutput (λ _. AreInputs) 1 bytes fault (λ o is. ((no_files.0, no_files.0), (no_files.1, no_files.1))) fails)
 
-pub replaced_sequence : (output : ℕ × (Space × (ℕ × ℕ))) (rest behind : Rest) (fault : FieldFault) → rest.at ≡ 1 → AreOutput output → Takes rest (bytes_of (output_row output)) behind
+pub replaced_sequence : (output : ℕ × (Space × (ℕ × ℕ))) (rest behind : Rest) (fault : FieldFault) → rest.at ≡ 1 → AreOutput output → TakesBytes rest (joined_fields (output_row output)) behind
     → Fails files_fields AreFiles behind.at behind.bytes.now fault → Fails fields IsRecord 0 (6 ∷ rest.bytes.now) fault
 replaced_sequence output rest behind fault first is takes fails =
     kind_fails 6 replaced_row IsReplaced rest fault first replaced_as
@@ -199,7 +199,7 @@ replaced_sequence output rest behind fault first is takes fails =
     (first_fails files_fields files_fields AreFiles (λ _. AreFiles) behind.at behind.bytes.now fault (λ files are. no_files) fails))
 
 pub replaced_unsequence : (output : ℕ × (Space × (ℕ × ℕ))) (sequence : List FileNumber) (rest middle behind : Rest) (fault : FieldFault) → rest.at ≡ 1 → AreOutput output
-    → Takes rest (bytes_of (output_row output)) middle → AreFiles sequence → Takes middle (bytes_of (files_fields sequence)) behind
+    → TakesBytes rest (joined_fields (output_row output)) middle → AreFiles sequence → TakesBytes middle (joined_fields (files_fields sequence)) behind
     → Fails files_fields AreFiles behind.at behind.bytes.now fault → Fails fields IsRecord 0 (6 ∷ rest.bytes.now) fault
 replaced_unsequence output sequence rest middle behind fault first is takes_output are takes fails =
     kind_fails 6 replaced_row IsReplaced rest fault first replaced_as
@@ -208,41 +208,41 @@ replaced_unsequence output sequence rest middle behind fault first is takes_outp
 
 -- ---- what was read
 
-pub reads_insert : (time : ℤ) (n : ℕ) (cells : List CellRecord) (rest first middle behind : Rest) → rest.at ≡ 1 → FitsSigned w64 time → Takes rest (plain_i64 time) first
-    → n < 2 ^ 16 → Takes first (number16 n) middle → AreValues IsCell n cells → Takes middle (bytes_of (flat_map cell_fields cells)) behind
-    → BeginsWith (2 ∷ rest.bytes.now) (Insert time cells) behind
+pub reads_insert : (time : ℤ) (n : ℕ) (cells : List CellRecord) (rest first middle behind : Rest) → rest.at ≡ 1 → FitsSigned w64 time → TakesBytes rest (plain_i64 time) first
+    → n < 2 ^ 16 → TakesBytes first (number16 n) middle → AreValues IsCell n cells → TakesBytes middle (joined_fields (flat_map cell_fields cells)) behind
+    → BeginsWithRecord (2 ∷ rest.bytes.now) (Insert time cells) behind
 reads_insert time n cells rest first middle behind start fits takes_time few takes_count are takes_cells =
     let count = are.0 in
-    takes_record 2 (Insert time cells) (plain_i64 time ++ (number16 (length cells) ++ bytes_of (flat_map cell_fields cells))) rest behind (fits, omega arith, are.1) refl start
-    (takes_both rest first behind (plain_i64 time) (number16 (length cells) ++ bytes_of (flat_map cell_fields cells)) takes_time
-    (takes_both first middle behind (number16 (length cells)) (bytes_of (flat_map cell_fields cells))
-    (subst (λ (k : ℕ). Takes first (number16 k) middle) (sym count) takes_count) takes_cells))
+    takes_record 2 (Insert time cells) (plain_i64 time ++ (number16 (length cells) ++ joined_fields (flat_map cell_fields cells))) rest behind (fits, omega arith, are.1) refl start
+    (takes_both rest first behind (plain_i64 time) (number16 (length cells) ++ joined_fields (flat_map cell_fields cells)) takes_time
+    (takes_both first middle behind (number16 (length cells)) (joined_fields (flat_map cell_fields cells))
+    (subst (λ (k : ℕ). TakesBytes first (number16 k) middle) (sym count) takes_count) takes_cells))
 
-pub reads_delete : (path : List ℕ) (from to : ℤ) (rest first middle behind : Rest) → rest.at ≡ 1 → IsPath path → Takes rest (plain_text path) first → FitsSigned w64 from → Takes first (plain_i64 from) middle
-    → FitsSigned w64 to → Takes middle (plain_i64 to) behind → BeginsWith (3 ∷ rest.bytes.now) (Delete path (record { from = from; to = to })) behind
+pub reads_delete : (path : List ℕ) (from to : ℤ) (rest first middle behind : Rest) → rest.at ≡ 1 → IsPath path → TakesBytes rest (plain_text path) first → FitsSigned w64 from → TakesBytes first (plain_i64 from) middle
+    → FitsSigned w64 to → TakesBytes middle (plain_i64 to) behind → BeginsWithRecord (3 ∷ rest.bytes.now) (Delete path (record { from = from; to = to })) behind
 reads_delete path from to rest first middle behind start is takes_path from_fits takes_from to_fits takes_to =
     takes_record 3 (Delete path (record { from = from; to = to })) (plain_text path ++ (plain_i64 from ++ plain_i64 to)) rest behind (is, from_fits, to_fits) refl start
     (takes_both rest first behind (plain_text path) (plain_i64 from ++ plain_i64 to) takes_path (takes_both first middle behind (plain_i64 from) (plain_i64 to) takes_from takes_to))
 
 pub reads_replaced : (born : Stamp) (space : Space) (place : ℕ) (output : FileNumber) (sequence unsequence : List FileNumber) (rest first middle behind : Rest) → rest.at ≡ 1
-    → AreOutput (born.0, (space, (place, output.0))) → Takes rest (bytes_of (output_row (born.0, (space, (place, output.0))))) first
-    → AreFiles sequence → Takes first (bytes_of (files_fields sequence)) middle → AreFiles unsequence → Takes middle (bytes_of (files_fields unsequence)) behind
-    → BeginsWith (6 ∷ rest.bytes.now) (Replaced born space place output sequence unsequence) behind
+    → AreOutput (born.0, (space, (place, output.0))) → TakesBytes rest (joined_fields (output_row (born.0, (space, (place, output.0))))) first
+    → AreFiles sequence → TakesBytes first (joined_fields (files_fields sequence)) middle → AreFiles unsequence → TakesBytes middle (joined_fields (files_fields unsequence)) behind
+    → BeginsWithRecord (6 ∷ rest.bytes.now) (Replaced born space place output sequence unsequence) behind
 reads_replaced born space place output sequence unsequence rest first middle behind start is takes_output are_s takes_s are_u takes_u =
     let row = output_row (born.0, (space, (place, output.0))) in
-    takes_record 6 (Replaced born space place output sequence unsequence) (bytes_of row ++ (bytes_of (files_fields sequence) ++ bytes_of (files_fields unsequence))) rest behind
+    takes_record 6 (Replaced born space place output sequence unsequence) (joined_fields row ++ (joined_fields (files_fields sequence) ++ joined_fields (files_fields unsequence))) rest behind
     (is.0, is.1.1.0, is.1.1.1, are_s, are_u)
-    (ap (λ (l : List ℕ). 6 ∷ l) (bytes_append row (files_fields sequence ++ files_fields unsequence) ∙ ap (λ (l : List ℕ). bytes_of row ++ l) (bytes_append (files_fields sequence) (files_fields unsequence))))
+    (ap (λ (l : List ℕ). 6 ∷ l) (bytes_append row (files_fields sequence ++ files_fields unsequence) ∙ ap (λ (l : List ℕ). joined_fields row ++ l) (bytes_append (files_fields sequence) (files_fields unsequence))))
     start
-    (takes_both rest first behind (bytes_of row) (bytes_of (files_fields sequence) ++ bytes_of (files_fields unsequence)) takes_output
-    (takes_both first middle behind (bytes_of (files_fields sequence)) (bytes_of (files_fields unsequence)) takes_s takes_u))
+    (takes_both rest first behind (joined_fields row) (joined_fields (files_fields sequence) ++ joined_fields (files_fields unsequence)) takes_output
+    (takes_both first middle behind (joined_fields (files_fields sequence)) (joined_fields (files_fields unsequence)) takes_s takes_u))
 
 -- ---- no record's first byte stands there
 
 pub no_kind : (bytes : List ℕ) → ((n : ℕ) (more : List ℕ) → bytes ≡ n ∷ more → 1 ≤ n → n ≤ 7 → ⊥) → IsMissing fields IsRecord 0 bytes 0
 no_kind bytes none = record {
   none = λ item behind is e. let kind = kind_first item in
-      none (kind_of item) _ (e ∙ ap (λ (l : List (List ℕ)). bytes_of l ++ behind) kind.1) (kind_range item).0 (kind_range item).1;
+      none (kind_of item) _ (e ∙ ap (λ (l : List (List ℕ)). joined_fields l ++ behind) kind.1) (kind_range item).0 (kind_range item).1;
   count = 0;
   place = refl;
   furthest = record {
@@ -250,13 +250,13 @@ no_kind bytes none = record {
     none_beyond = λ j r. near j r.whole r.first r.more r.rest r.begins r.splits r.place;
   };
 } where
-  near : (j : ℕ) (item : LogRecord) (first more : List (List ℕ)) (rest : List ℕ) → fields item ≡ first ++ more → bytes ≡ bytes_of first ++ rest → j ≡ length (bytes_of first) → j ≤ 0
+  near : (j : ℕ) (item : LogRecord) (first more : List (List ℕ)) (rest : List ℕ) → fields item ≡ first ++ more → bytes ≡ joined_fields first ++ rest → j ≡ length (joined_fields first) → j ≤ 0
   near j item [] more rest begins splits place = omega arith
   near j item (f ∷ fs) more rest begins splits place =
       let kind = kind_first item in
       let both-are = sym kind.1 ∙ begins in
       let byte : kind_of item ∷ [] ≡ f = cc in
-      absurd (none (kind_of item) (bytes_of fs ++ rest) (splits ∙ ap (λ (l : List ℕ). (l ++ bytes_of fs) ++ rest) (sym byte)) (kind_range item).0 (kind_range item).1)
+      absurd (none (kind_of item) (joined_fields fs ++ rest) (splits ∙ ap (λ (l : List ℕ). (l ++ joined_fields fs) ++ rest) (sym byte)) (kind_range item).0 (kind_range item).1)
 
 -- ---- whole payloads
 
@@ -276,11 +276,11 @@ memory_alone bytes (field.Bad k) item fails is e = absurd (fails.none item [] is
 memory_alone bytes field.Memory item fails is e = refl
 
 -- a record and bytes behind it
-more_behind : (bytes : List ℕ) (item : LogRecord) (rest : Rest) (other : LogRecord) → BeginsWith bytes item rest → IsRecord other → bytes ≡ spelling other → (item ≡ other) × (rest.bytes.now ≡ [])
+more_behind : (bytes : List ℕ) (item : LogRecord) (rest : Rest) (other : LogRecord) → BeginsWithRecord bytes item rest → IsRecord other → bytes ≡ spelling other → (item ≡ other) × (rest.bytes.now ≡ [])
 more_behind bytes item rest other begins is e =
     record_rows.free item other rest.bytes.now [] begins.is is (sym begins.splits ∙ e ∙ sym (append-nil (spelling other)))
 
-pub bytes_behind : (bytes : List ℕ) (item : LogRecord) (rest : Rest) → BeginsWith bytes item rest → 0 < length rest.bytes.now → IsBad bytes rest.at
+pub bytes_behind : (bytes : List ℕ) (item : LogRecord) (rest : Rest) → BeginsWithRecord bytes item rest → 0 < length rest.bytes.now → IsBad bytes rest.at
 bytes_behind bytes item rest begins some = record {
   none = λ other is e.
       let same = more_behind bytes item rest other begins is e in
@@ -305,8 +305,8 @@ bytes_behind bytes item rest begins some = record {
   };
 }
 
-pub bytes_behind_none : (bytes : List ℕ) (item : LogRecord) (rest : Rest) (other : LogRecord) → BeginsWith bytes item rest → 0 < length rest.bytes.now → IsRecord other → bytes ≡ spelling other → ⊥
+pub bytes_behind_none : (bytes : List ℕ) (item : LogRecord) (rest : Rest) (other : LogRecord) → BeginsWithRecord bytes item rest → 0 < length rest.bytes.now → IsRecord other → bytes ≡ spelling other → ⊥
 bytes_behind_none bytes item rest other begins some is e = (bytes_behind bytes item rest begins some).none other is e
 
-pub read_as : (bytes : List ℕ) (item : LogRecord) (rest : Rest) (other : LogRecord) → BeginsWith bytes item rest → IsRecord other → bytes ≡ spelling other → item ≡ other
+pub read_as : (bytes : List ℕ) (item : LogRecord) (rest : Rest) (other : LogRecord) → BeginsWithRecord bytes item rest → IsRecord other → bytes ≡ spelling other → item ≡ other
 read_as bytes item rest other begins is e = (more_behind bytes item rest other begins is e).0

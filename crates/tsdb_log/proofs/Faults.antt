@@ -10,11 +10,11 @@ use Rattle.tsdb_base.proofs.PlainLists.{IsPrefixFree}
 use Rattle.tsdb_fields.specs.declared.fault.FieldFault.{FieldFault}
 use Rattle.tsdb_fields.specs.declared.fault.FieldFault.TheVariants.{Bad, Memory}
 use Rattle.tsdb_fields.specs.declared.rest.Rest.{Rest}
-use Rattle.tsdb_fields.specs.Reading.{Takes, Lacks, Reads}
+use Rattle.tsdb_fields.specs.Reading.{TakesBytes, Lacks, Reads}
 use Rattle.tsdb_log.specs.declared.record.LogRecord.{LogRecord}
-use Rattle.tsdb_log.specs.Spelling.{bytes_of, fields, spelling, IsRecord}
-use Rattle.tsdb_log.specs.Steps.{BeginsWith, IsMissing, Fails}
-use Rattle.tsdb_log.specs.Rows.{both, field, AreBoth, IsRow}
+use Rattle.tsdb_log.specs.Spelling.{joined_fields, fields, spelling, IsRecord}
+use Rattle.tsdb_log.specs.Steps.{BeginsWithRecord, IsMissing, Fails}
+use Rattle.tsdb_log.specs.Rows.{both, field, AreBoth, IsRowForm}
 use Rattle.tsdb_log.specs.RowLaws.{bytes_append, alone, one_field, row_of_field, no_first, no_second}
 use Rattle.tsdb_log.specs.ListLaws.{AreList, no_more_rows}
 use Rattle.tsdb_log.specs.ViewLaws.{IsWrittenAs, IsOfKind, behind_kind, missing_as, no_record, values_as}
@@ -27,8 +27,8 @@ no_field {A} spelling IsA old at some is lacks = record {
   furthest = record {
     reached = record { whole = some; is = is; first = []; more = field spelling some; rest = old.bytes.now; begins = refl; splits = refl; place = refl };
     none_beyond = λ j r. elim (one_field (spelling r.whole) r.first r.more r.begins) [
-      | inl none ↦ let size = ap (λ (l : List (List ℕ)). length (bytes_of l)) none in let place = r.place in omega arith
-      | inr one ↦ absurd (lacks.none r.whole r.rest r.is (r.splits ∙ ap (λ (l : List (List ℕ)). bytes_of l ++ r.rest) one ∙ alone (spelling r.whole) r.rest))
+      | inl none ↦ let size = ap (λ (l : List (List ℕ)). length (joined_fields l)) none in let place = r.place in omega arith
+      | inr one ↦ absurd (lacks.none r.whole r.rest r.is (r.splits ∙ ap (λ (l : List (List ℕ)). joined_fields l ++ r.rest) one ∙ alone (spelling r.whole) r.rest))
     ];
   };
 }
@@ -43,22 +43,22 @@ pub first_fails : {A B : Type 0} (first : A → List (List ℕ)) (second : B →
 first_fails first second IsFirst IsSecond start bytes (Bad at) some fails = no_first first second IsFirst IsSecond start bytes at some fails
 first_fails first second IsFirst IsSecond start bytes Memory some fails = tt
 
-pub second_fails : {A B : Type 0} (first : A → List (List ℕ)) (second : B → List (List ℕ)) (IsFirst : A → Type 0) (IsSecond : A → B → Type 0) (row : IsRow first IsFirst)
-    (a : A) (old new : Rest) (fault : FieldFault) → IsFirst a → Takes old (bytes_of (first a)) new
+pub second_fails : {A B : Type 0} (first : A → List (List ℕ)) (second : B → List (List ℕ)) (IsFirst : A → Type 0) (IsSecond : A → B → Type 0) (row : IsRowForm first IsFirst)
+    (a : A) (old new : Rest) (fault : FieldFault) → IsFirst a → TakesBytes old (joined_fields (first a)) new
     → Fails second (IsSecond a) new.at new.bytes.now fault → Fails (both first second) (AreBoth IsFirst IsSecond) old.at old.bytes.now fault
 second_fails first second IsFirst IsSecond row a old new (Bad at) is takes fails =
     no_second first second IsFirst IsSecond row a old.at new.at old.bytes.now new.bytes.now at is takes.bytes takes.place fails
 second_fails first second IsFirst IsSecond row a old new Memory is takes fails = tt
 
 -- the bytes of one field
-pub one : (old new : Rest) (s : List ℕ) → Takes old s new → Takes old (bytes_of (s ∷ [])) new
+pub one : (old new : Rest) (s : List ℕ) → TakesBytes old s new → TakesBytes old (joined_fields (s ∷ [])) new
 one old new s takes = record {
   bytes = takes.bytes ∙ sym (alone s new.bytes.now);
   place = let size = ap length (append-nil s) in let place = takes.place in omega arith;
 }
 
 pub behind_field : {A B : Type 0} (spelling : A → List ℕ) (second : B → List (List ℕ)) (IsFirst : A → Type 0) (IsSecond : A → B → Type 0) (free : IsPrefixFree spelling IsFirst)
-    (a : A) (old new : Rest) (fault : FieldFault) → IsFirst a → Takes old (spelling a) new
+    (a : A) (old new : Rest) (fault : FieldFault) → IsFirst a → TakesBytes old (spelling a) new
     → Fails second (IsSecond a) new.at new.bytes.now fault → Fails (both (field spelling) second) (AreBoth IsFirst IsSecond) old.at old.bytes.now fault
 behind_field spelling second IsFirst IsSecond free a old new fault is takes fails =
     second_fails (field spelling) second IsFirst IsSecond (row_of_field spelling IsFirst free) a old new fault is (one old new (spelling a) takes) fails
@@ -79,15 +79,15 @@ kind_fails kind row IsA rest (Bad at) first as_row fails = no_record kind row Is
 kind_fails kind row IsA rest Memory first as_row fails = tt
 
 -- behind some rows the next one is missing
-pub rows_fail : {A : Type 0} (row : A → List (List ℕ)) (Is : A → Type 0) (rows : IsRow row Is) (so_far : List A) (n : ℕ) (old new : Rest) (fault : FieldFault)
-    → All Is so_far → length so_far < n → Takes old (bytes_of (flat_map row so_far)) new → Fails row Is new.at new.bytes.now fault → Fails (flat_map row) (AreValues Is n) old.at old.bytes.now fault
+pub rows_fail : {A : Type 0} (row : A → List (List ℕ)) (Is : A → Type 0) (rows : IsRowForm row Is) (so_far : List A) (n : ℕ) (old new : Rest) (fault : FieldFault)
+    → All Is so_far → length so_far < n → TakesBytes old (joined_fields (flat_map row so_far)) new → Fails row Is new.at new.bytes.now fault → Fails (flat_map row) (AreValues Is n) old.at old.bytes.now fault
 rows_fail row Is rows so_far n old new (Bad at) all lt takes fails =
     missing_as (flat_map row) (AreList Is n) (flat_map row) (AreValues Is n) old.at old.bytes.now at (values_as row Is n)
     (no_more_rows row Is rows so_far n old.at new.at old.bytes.now new.bytes.now at (recursion_from_All Is so_far all) lt takes.bytes takes.place fails)
 rows_fail row Is rows so_far n old new Memory all lt takes fails = tt
 
 -- what was taken one behind another
-pub takes_both : (a b c : Rest) (s t : List ℕ) → Takes a s b → Takes b t c → Takes a (s ++ t) c
+pub takes_both : (a b c : Rest) (s t : List ℕ) → TakesBytes a s b → TakesBytes b t c → TakesBytes a (s ++ t) c
 takes_both a b c s t first second = record {
   bytes = first.bytes ∙ ap (λ (l : List ℕ). s ++ l) second.bytes ∙ sym (append_assoc s t c.bytes.now);
   place = let x = first.place in let y = second.place in let size = length-append s t in omega arith;
@@ -95,14 +95,14 @@ takes_both a b c s t first second = record {
 
 -- one row more was taken
 pub takes_more : {A : Type 0} (row : A → List (List ℕ)) (so_far all : List A) (a : A) (old middle new : Rest) → all ≡ so_far ++ a ∷ []
-    → Takes old (bytes_of (flat_map row so_far)) middle → Takes middle (bytes_of (row a)) new → Takes old (bytes_of (flat_map row all)) new
+    → TakesBytes old (joined_fields (flat_map row so_far)) middle → TakesBytes middle (joined_fields (row a)) new → TakesBytes old (joined_fields (flat_map row all)) new
 takes_more {A} row so_far all a old middle new push first second =
     let rows = ap (λ (l : List A). flat_map row l) push ∙ flat_map-append row so_far (a ∷ []) ∙ ap (λ (l : List (List ℕ)). flat_map row so_far ++ l) (append-nil (row a)) in
-    let bytes = ap (λ (l : List (List ℕ)). bytes_of l) rows ∙ bytes_append (flat_map row so_far) (row a) in
-    subst (λ (l : List ℕ). Takes old l new) (sym bytes) (takes_both old middle new (bytes_of (flat_map row so_far)) (bytes_of (row a)) first second)
+    let bytes = ap (λ (l : List (List ℕ)). joined_fields l) rows ∙ bytes_append (flat_map row so_far) (row a) in
+    subst (λ (l : List ℕ). TakesBytes old l new) (sym bytes) (takes_both old middle new (joined_fields (flat_map row so_far)) (joined_fields (row a)) first second)
 
 -- a record was taken behind its first byte
-pub takes_record : (kind : ℕ) (item : LogRecord) (row : List ℕ) (old new : Rest) → IsRecord item → spelling item ≡ kind ∷ row → old.at ≡ 1 → Takes old row new → BeginsWith (kind ∷ old.bytes.now) item new
+pub takes_record : (kind : ℕ) (item : LogRecord) (row : List ℕ) (old new : Rest) → IsRecord item → spelling item ≡ kind ∷ row → old.at ≡ 1 → TakesBytes old row new → BeginsWithRecord (kind ∷ old.bytes.now) item new
 takes_record kind item row old new is same first takes = record {
   is = is;
   splits = ap (λ (l : List ℕ). kind ∷ l) takes.bytes ∙ ap (λ (l : List ℕ). l ++ new.bytes.now) (sym same);

@@ -9,12 +9,12 @@ use Rattle.tsdb_base.specs.FieldLaws.{number64-prefix_free}
 use Rattle.tsdb_base.specs.Plain.{AreValues}
 use Rattle.tsdb_fields.specs.declared.fault.FieldFault.{FieldFault}
 use Rattle.tsdb_fields.specs.declared.rest.Rest.{Rest}
-use Rattle.tsdb_fields.specs.Reading.{Takes, Reads}
+use Rattle.tsdb_fields.specs.Reading.{TakesBytes, Reads}
 use Rattle.tsdb_fields.proofs.Appending.{both_written}
 use Rattle.tsdb_log.specs.PartLaws.{counted_as, counted_row, IsCountedRow}
 use Rattle.tsdb_log.specs.Rows.{field, IsNumber64}
 use Rattle.tsdb_log.specs.Snapshots.{counted_fields, AreCounted}
-use Rattle.tsdb_log.specs.Spelling.{bytes_of}
+use Rattle.tsdb_log.specs.Spelling.{joined_fields}
 use Rattle.tsdb_log.specs.Steps.{Fails, ReadsFields}
 use Rattle.tsdb_log.specs.RowLaws.{bytes_append, bytes_length}
 use Rattle.tsdb_log.specs.ListLaws.{copies, values_of_list}
@@ -31,11 +31,11 @@ reads_one spelling IsA old view (Ok r) some is reads = (one old r.1 (spelling (v
 reads_one spelling IsA old view (Err fault) some is reads = field_fails spelling IsA old view fault some is reads
 
 -- two rows were taken one behind the other
-pub takes_pair : (first second : List (List ℕ)) (old middle new : Rest) → Takes old (bytes_of first) middle
-    → Takes middle (bytes_of second) new → Takes old (bytes_of (first ++ second)) new
+pub takes_pair : (first second : List (List ℕ)) (old middle new : Rest) → TakesBytes old (joined_fields first) middle
+    → TakesBytes middle (joined_fields second) new → TakesBytes old (joined_fields (first ++ second)) new
 takes_pair first second old middle new taken more =
-    subst (λ (l : List ℕ). Takes old l new) (sym (bytes_append first second))
-    (takes_both old middle new (bytes_of first) (bytes_of second) taken more)
+    subst (λ (l : List ℕ). TakesBytes old l new) (sym (bytes_append first second))
+    (takes_both old middle new (joined_fields first) (joined_fields second) taken more)
 
 -- the number of parts does not stand there
 pub counted_count : {A : Type 0} (row : A → List (List ℕ)) (Is : A → Type 0) (some : A) → Is some → (old : Rest) (fault : FieldFault)
@@ -48,7 +48,7 @@ counted_count row Is some is old fault reads =
 
 -- a part is missing behind their number
 pub counted_parts : {A : Type 0} (row : A → List (List ℕ)) (Is : A → Type 0) (n : ℕ) (old middle : Rest) (fault : FieldFault) → IsNumber64 n
-    → Takes old (number64 n) middle → Fails (flat_map row) (AreValues Is n) middle.at middle.bytes.now fault
+    → TakesBytes old (number64 n) middle → Fails (flat_map row) (AreValues Is n) middle.at middle.bytes.now fault
     → Fails (counted_fields row) (AreCounted Is) old.at old.bytes.now fault
 counted_parts row Is n old middle fault few takes fails =
     fails_as (counted_row row) (IsCountedRow Is) (counted_fields row) (AreCounted Is) old.at old.bytes.now fault (counted_as row Is)
@@ -56,21 +56,21 @@ counted_parts row Is n old middle fault few takes fails =
 
 -- parts were taken behind their number
 pub takes_counted : {A : Type 0} (row : A → List (List ℕ)) (n : ℕ) (xs : List A) (old middle new : Rest) → length xs ≡ n
-    → Takes old (number64 n) middle → Takes middle (bytes_of (flat_map row xs)) new → Takes old (bytes_of (counted_fields row xs)) new
+    → TakesBytes old (number64 n) middle → TakesBytes middle (joined_fields (flat_map row xs)) new → TakesBytes old (joined_fields (counted_fields row xs)) new
 takes_counted row n xs old middle new count taken more =
-    let number = subst (λ (k : ℕ). Takes old (number64 k) middle) (sym count) taken in
-    takes_both old middle new (number64 (length xs)) (bytes_of (flat_map row xs)) number more
+    let number = subst (λ (k : ℕ). TakesBytes old (number64 k) middle) (sym count) taken in
+    takes_both old middle new (number64 (length xs)) (joined_fields (flat_map row xs)) number more
 
 -- ---- writing
 
 -- the bytes of some parts are not more than those of all
 pub some_bytes : {A : Type 0} (row : A → List (List ℕ)) (xs : List A) (i : ℕ)
-    → length (bytes_of (flat_map row (take i xs))) ≤ length (bytes_of (flat_map row xs))
+    → length (joined_fields (flat_map row (take i xs))) ≤ length (joined_fields (flat_map row xs))
 some_bytes {A} row xs i =
     let parted = ap (λ (l : List A). flat_map row l) (sym (take-append-drop i xs)) ∙ flat_map-append row (take i xs) (drop i xs) in
     omega (
       arith,
-      ap (λ (l : List (List ℕ)). length (bytes_of l)) parted,
+      ap (λ (l : List (List ℕ)). length (joined_fields l)) parted,
       bytes_length (flat_map row (take i xs)) (flat_map row (drop i xs)),
     )
 
@@ -81,23 +81,23 @@ always_on_err (Err error) holds = holds
 
 -- there was no room for one of many
 pub no_room_part : {A : Type 0} (row : A → List (List ℕ)) (xs : List A) (i : ℕ) (a : A) (capacity wider : ℕ) (old middle : List ℕ) → i < length xs
-    → a ≡ get_or xs i a → capacity ≤ wider → middle ≡ old ++ bytes_of (flat_map row (take i xs)) → wider < length middle + length (bytes_of (row a))
-    → capacity < length old + length (bytes_of (flat_map row xs))
+    → a ≡ get_or xs i a → capacity ≤ wider → middle ≡ old ++ joined_fields (flat_map row (take i xs)) → wider < length middle + length (joined_fields (row a))
+    → capacity < length old + length (joined_fields (flat_map row xs))
 no_room_part row xs i a capacity wider old middle lt is grows begun full =
-    let next = row_more row xs i a old middle (middle ++ bytes_of (row a)) lt is begun refl in
+    let next = row_more row xs i a old middle (middle ++ joined_fields (row a)) lt is begun refl in
     omega (
       arith,
       grows,
       full,
       some_bytes row xs (i + 1),
       ap length next,
-      length-append middle (bytes_of (row a)),
-      length-append old (bytes_of (flat_map row (take (i + 1) xs))),
+      length-append middle (joined_fields (row a)),
+      length-append old (joined_fields (flat_map row (take (i + 1) xs))),
     )
 
 -- one row was written and then another
-pub writes_pair : {T E : Type 0} (result : Result T E) (first second : List (List ℕ)) (old middle new : List ℕ) → middle ≡ old ++ bytes_of first
-    → OnOk result (new ≡ middle ++ bytes_of second) → OnOk result (new ≡ old ++ bytes_of (first ++ second))
+pub writes_pair : {T E : Type 0} (result : Result T E) (first second : List (List ℕ)) (old middle new : List ℕ) → middle ≡ old ++ joined_fields first
+    → OnOk result (new ≡ middle ++ joined_fields second) → OnOk result (new ≡ old ++ joined_fields (first ++ second))
 writes_pair result first second old middle new begun more =
     subst (λ (l : List ℕ). OnOk result (new ≡ old ++ l)) (sym (bytes_append first second))
-    (both_written result old (bytes_of first) (bytes_of second) middle new begun more)
+    (both_written result old (joined_fields first) (joined_fields second) middle new begun more)

@@ -23,12 +23,12 @@ use Rattle.tsdb_fields.specs.Reading.{IsValue}
 use Rattle.tsdb_log.specs.declared.record.CellRecord.{CellRecord}
 use Rattle.tsdb_log.specs.declared.record.LogRecord.{LogRecord}
 use Rattle.tsdb_log.specs.declared.record.LogRecord.TheVariants.{Create, Insert, Delete, Freeze, Flushed, Replaced, Snapshot}
-use Rattle.tsdb_log.specs.Spelling.{bytes_of, cell_fields, file_fields, files_fields, output_fields, space_field, spelling, AreFiles, FitsFrame, IsCell, IsFile, IsRecord}
+use Rattle.tsdb_log.specs.Spelling.{joined_fields, cell_fields, file_fields, files_fields, output_fields, space_field, spelling, AreFiles, FitsFrame, IsCell, IsFile, IsRecord}
 use Rattle.tsdb_log.specs.RowLaws.{bytes_length}
 use Rattle.tsdb_log.proofs.Wholes.{replaced_spelling}
 
-rows_length : {A : Type 0} (row : A → List (List ℕ)) (Is : A → Type 0) (most : ℕ) (short : (a : A) → Is a → length (bytes_of (row a)) ≤ most) (xs : List A) → AllByRecursion Is xs
-    → length (bytes_of (flat_map row xs)) ≤ most * length xs
+rows_length : {A : Type 0} (row : A → List (List ℕ)) (Is : A → Type 0) (most : ℕ) (short : (a : A) → Is a → length (joined_fields (row a)) ≤ most) (xs : List A) → AllByRecursion Is xs
+    → length (joined_fields (flat_map row xs)) ≤ most * length xs
 rows_length row Is most short [] all = omega arith
 rows_length row Is most short (x ∷ xs) all =
     omega (arith, short x all.0, rows_length row Is most short xs all.1, bytes_length (row x) (flat_map row xs), mul-suc most (length xs))
@@ -60,10 +60,10 @@ value_length (value.I64 n) is = omega arith
 value_length (value.Text bytes) is = omega (arith, is)
 
 -- the bytes of two fields and more
-fields_length : (s : List ℕ) (more : List (List ℕ)) → length (bytes_of (s ∷ more)) ≡ length s + length (bytes_of more)
-fields_length s more = length-append s (bytes_of more)
+fields_length : (s : List ℕ) (more : List (List ℕ)) → length (joined_fields (s ∷ more)) ≡ length s + length (joined_fields more)
+fields_length s more = length-append s (joined_fields more)
 
-cell_length : (cell : CellRecord) → IsCell cell → length (bytes_of (cell_fields cell)) ≤ 65546
+cell_length : (cell : CellRecord) → IsCell cell → length (joined_fields (cell_fields cell)) ≤ 65546
 cell_length cell is =
     omega (
       arith,
@@ -74,14 +74,14 @@ cell_length cell is =
       value_length cell.value is.value,
     )
 
-cells_length : (cells : List CellRecord) → length cells ≤ 1000 → All IsCell cells → length (bytes_of (flat_map cell_fields cells)) ≤ 65546000
+cells_length : (cells : List CellRecord) → length cells ≤ 1000 → All IsCell cells → length (joined_fields (flat_map cell_fields cells)) ≤ 65546000
 cells_length cells few all =
     omega (arith, rows_length cell_fields IsCell 65546 cell_length cells (recursion_from_All IsCell cells all), mul-le 65546 (length cells) 65546 1000 (omega arith) few)
 
-file_length : (file : FileNumber) → IsFile file → length (bytes_of (file_fields file)) ≤ 8
+file_length : (file : FileNumber) → IsFile file → length (joined_fields (file_fields file)) ≤ 8
 file_length file is = omega arith
 
-files_length : (files : List FileNumber) → length files ≤ 100000000 → AreFiles files → length (bytes_of (files_fields files)) ≤ 800000004
+files_length : (files : List FileNumber) → length files ≤ 100000000 → AreFiles files → length (joined_fields (files_fields files)) ≤ 800000004
 files_length files few are =
     omega (arith, rows_length file_fields IsFile 8 file_length files (recursion_from_All IsFile files are.1), mul-le 8 (length files) 8 100000000 (omega arith) few)
 
@@ -110,8 +110,8 @@ short_records (Replaced born space place output sequence unsequence) is fits =
     omega (
       arith,
       size,
-      length-append (bytes_of row) (bytes_of (files_fields sequence) ++ bytes_of (files_fields unsequence)),
-      length-append (bytes_of (files_fields sequence)) (bytes_of (files_fields unsequence)),
+      length-append (joined_fields row) (joined_fields (files_fields sequence) ++ joined_fields (files_fields unsequence)),
+      length-append (joined_fields (files_fields sequence)) (joined_fields (files_fields unsequence)),
       fields_length (number64 born.0) rest,
       fields_length (space_field space) (number64 place ∷ number64 output.0 ∷ []),
       space_length space,

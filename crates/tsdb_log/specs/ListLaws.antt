@@ -4,9 +4,9 @@ use Rattle.std.specs.List.{flat_map, AllByRecursion}
 use Rattle.std.proofs.lemmas.List.Elements.{recursion_from_All, All-from_recursion}
 use Rattle.tsdb_base.specs.Plain.{AreValues}
 use Rattle.tsdb_log.specs.Places.{Reaches}
-use Rattle.tsdb_log.specs.Spelling.{bytes_of}
+use Rattle.tsdb_log.specs.Spelling.{joined_fields}
 use Rattle.tsdb_log.specs.Steps.{IsMissing}
-use Rattle.tsdb_log.specs.Rows.{both, AreBoth, IsRow}
+use Rattle.tsdb_log.specs.Rows.{both, AreBoth, IsRowForm}
 use Rattle.tsdb_log.specs.RowLaws.{regroup, bytes_length, row_of_both, no_first, no_second}
 
 -- so many, by recursion
@@ -79,32 +79,32 @@ reaches_of_list fields Is n bytes j r = record {
   place = r.place;
 }
 
-longer : {A : Type 0} (fields : A → List (List ℕ)) (Is : A → Type 0) → IsRow fields Is → (n : ℕ) → IsRow (flat_map fields) (AreList Is n) → IsRow (flat_map fields) (AreList Is (suc n))
+longer : {A : Type 0} (fields : A → List (List ℕ)) (Is : A → Type 0) → IsRowForm fields Is → (n : ℕ) → IsRowForm (flat_map fields) (AreList Is n) → IsRowForm (flat_map fields) (AreList Is (suc n))
 longer {A} fields Is row n shorter = record {
   free = λ xs ys x y is_x is_y e.
       let p = part fields Is n xs is_x in
       let q = part fields Is n ys is_y in
-      let bytes = ap (λ (l : List A). bytes_of (flat_map fields l) ++ x) p.same in
-      let bytes2 = ap (λ (l : List A). bytes_of (flat_map fields l) ++ y) q.same in
+      let bytes = ap (λ (l : List A). joined_fields (flat_map fields l) ++ x) p.same in
+      let bytes2 = ap (λ (l : List A). joined_fields (flat_map fields l) ++ y) q.same in
       let same = rows.free (p.first, p.others) (q.first, q.others) x y p.is q.is (sym bytes ∙ e ∙ bytes2) in
       let whole = ap (λ (w : A × List A). w.0 ∷ w.1) same.0 in
       (p.same ∙ whole ∙ sym q.same, same.1);
   full = λ xs behind j is r.
       let p = part fields Is n xs is in
-      let there = subst (λ (l : List A). Reaches (flat_map fields) (AreList Is (suc n)) (bytes_of (flat_map fields l) ++ behind) j) p.same r in
-      let le = rows.full (p.first, p.others) behind j p.is (reaches_of_both fields Is n (bytes_of (flat_map fields (p.first ∷ p.others)) ++ behind) j there) in
-      let size = ap (λ (l : List A). length (bytes_of (flat_map fields l))) p.same in
+      let there = subst (λ (l : List A). Reaches (flat_map fields) (AreList Is (suc n)) (joined_fields (flat_map fields l) ++ behind) j) p.same r in
+      let le = rows.full (p.first, p.others) behind j p.is (reaches_of_both fields Is n (joined_fields (flat_map fields (p.first ∷ p.others)) ++ behind) j there) in
+      let size = ap (λ (l : List A). length (joined_fields (flat_map fields l))) p.same in
       omega arith;
 } where
-  rows : IsRow (both fields (flat_map fields)) (AreBoth Is (Others Is n))
+  rows : IsRowForm (both fields (flat_map fields)) (AreBoth Is (Others Is n))
   rows = row_of_both fields (flat_map fields) Is (Others Is n) row (λ a is. shorter)
 
-pub row_of_list : {A : Type 0} (fields : A → List (List ℕ)) (Is : A → Type 0) → IsRow fields Is → (n : ℕ) → IsRow (flat_map fields) (AreList Is n)
+pub row_of_list : {A : Type 0} (fields : A → List (List ℕ)) (Is : A → Type 0) → IsRowForm fields Is → (n : ℕ) → IsRowForm (flat_map fields) (AreList Is n)
 row_of_list {A} fields Is row zero = record {
   free = λ xs ys x y is_x is_y e. same_none xs ys x y is_x is_y e;
   full = λ xs behind j is r. none_far j xs behind is r;
 } where
-  same_none : (xs ys : List A) (x y : List ℕ) → AreList Is zero xs → AreList Is zero ys → bytes_of (flat_map fields xs) ++ x ≡ bytes_of (flat_map fields ys) ++ y → (xs ≡ ys) × (x ≡ y)
+  same_none : (xs ys : List A) (x y : List ℕ) → AreList Is zero xs → AreList Is zero ys → joined_fields (flat_map fields xs) ++ x ≡ joined_fields (flat_map fields ys) ++ y → (xs ≡ ys) × (x ≡ y)
   same_none [] [] x y is_x is_y e = (refl, e)
   same_none [] (v ∷ vs) x y is_x is_y e = absurd is_y
   same_none (u ∷ us) ys x y is_x is_y e = absurd is_x
@@ -114,10 +114,10 @@ row_of_list {A} fields Is row zero = record {
   nothing [] (f ∷ fs) more is e = absurd cc
   nothing (x ∷ xs) first more is e = absurd is
 
-  none_far : (j : ℕ) (xs : List A) (behind : List ℕ) → AreList Is zero xs → Reaches (flat_map fields) (AreList Is zero) (bytes_of (flat_map fields xs) ++ behind) j → j ≤ length (bytes_of (flat_map fields xs))
+  none_far : (j : ℕ) (xs : List A) (behind : List ℕ) → AreList Is zero xs → Reaches (flat_map fields) (AreList Is zero) (joined_fields (flat_map fields xs) ++ behind) j → j ≤ length (joined_fields (flat_map fields xs))
   none_far j xs behind is r =
       let none = nothing r.whole r.first r.more r.is r.begins in
-      let size = ap (λ (l : List (List ℕ)). length (bytes_of l)) none in
+      let size = ap (λ (l : List (List ℕ)). length (joined_fields l)) none in
       let place = r.place in
       omega arith
 row_of_list fields Is row (suc n) = longer fields Is row n (row_of_list fields Is row n)
@@ -128,7 +128,7 @@ no_list : {A : Type 0} (fields : A → List (List ℕ)) (Is : A → Type 0) (n s
 no_list {A} fields Is n start bytes at m = record {
   none = λ xs behind is e.
       let p = part fields Is n xs is in
-      m.none (p.first, p.others) behind p.is (e ∙ ap (λ (l : List A). bytes_of (flat_map fields l) ++ behind) p.same);
+      m.none (p.first, p.others) behind p.is (e ∙ ap (λ (l : List A). joined_fields (flat_map fields l) ++ behind) p.same);
   count = m.count;
   place = m.place;
   furthest = record {
@@ -142,8 +142,8 @@ copies Is a is zero = ([], tt)
 copies Is a is (suc n) = let rest = copies Is a is n in (a ∷ rest.0, (is, rest.1))
 
 -- behind some rows the next one is missing
-pub no_more_rows : {A : Type 0} (fields : A → List (List ℕ)) (Is : A → Type 0) (row : IsRow fields Is) (so_far : List A) (n start middle : ℕ) (bytes behind : List ℕ) (at : ℕ)
-    → AllByRecursion Is so_far → length so_far < n → bytes ≡ bytes_of (flat_map fields so_far) ++ behind → middle ≡ start + length (bytes_of (flat_map fields so_far))
+pub no_more_rows : {A : Type 0} (fields : A → List (List ℕ)) (Is : A → Type 0) (row : IsRowForm fields Is) (so_far : List A) (n start middle : ℕ) (bytes behind : List ℕ) (at : ℕ)
+    → AllByRecursion Is so_far → length so_far < n → bytes ≡ joined_fields (flat_map fields so_far) ++ behind → middle ≡ start + length (joined_fields (flat_map fields so_far))
     → IsMissing fields Is middle behind at → IsMissing (flat_map fields) (AreList Is n) start bytes at
 no_more_rows fields Is row so_far zero start middle bytes behind at all lt found there m = absurd (omega arith)
 no_more_rows {A} fields Is row [] (suc n) start middle bytes behind at all lt found there m =
@@ -154,8 +154,8 @@ no_more_rows {A} fields Is row [] (suc n) start middle bytes behind at all lt fo
 no_more_rows {A} fields Is row (c ∷ cs) (suc n) start middle bytes behind at all lt found there m =
     let shorter : length cs < n = omega arith in
     let size = bytes_length (fields c) (flat_map fields cs) in
-    let place : middle ≡ (start + length (bytes_of (fields c))) + length (bytes_of (flat_map fields cs)) = omega arith in
-    let others = no_more_rows fields Is row cs n (start + length (bytes_of (fields c))) middle (bytes_of (flat_map fields cs) ++ behind) behind at all.1 shorter refl place m in
+    let place : middle ≡ (start + length (joined_fields (fields c))) + length (joined_fields (flat_map fields cs)) = omega arith in
+    let others = no_more_rows fields Is row cs n (start + length (joined_fields (fields c))) middle (joined_fields (flat_map fields cs) ++ behind) behind at all.1 shorter refl place m in
     no_list fields Is n start bytes at
-    (no_second fields (flat_map fields) Is (Others Is n) row c start (start + length (bytes_of (fields c))) bytes (bytes_of (flat_map fields cs) ++ behind) at all.0
+    (no_second fields (flat_map fields) Is (Others Is n) row c start (start + length (joined_fields (fields c))) bytes (joined_fields (flat_map fields cs) ++ behind) at all.0
     (found ∙ regroup (fields c) (flat_map fields cs) behind) refl others)

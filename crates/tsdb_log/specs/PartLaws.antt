@@ -23,7 +23,7 @@ use Rattle.tsdb_path.specs.Nodes.{IsPath}
 use Rattle.tsdb_fields.specs.Reading.{IsValue, IsValueOf}
 use Rattle.tsdb_fields.proofs.Laws.{value_field-prefix_free}
 use Rattle.tsdb_log.specs.declared.record.CellRecord.{CellRecord}
-use Rattle.tsdb_log.specs.Rows.{both, field, AreBoth, IsAny, IsNumber64, IsRow}
+use Rattle.tsdb_log.specs.Rows.{both, field, AreBoth, IsAny, IsNumber64, IsRowForm}
 use Rattle.tsdb_log.specs.Snapshots.{counted_fields, typed_fields, AreCounted}
 use Rattle.tsdb_log.specs.Spelling.{cell_fields, file_fields, space_field, IsCell, IsFile}
 use Rattle.tsdb_log.specs.RowLaws.{row_of_field, row_of_both}
@@ -76,19 +76,19 @@ some_encoding = (Plain, tt)
 pub some_space : (s : Space) × IsAny s
 some_space = (Sequence, tt)
 
-pub number_rows : IsRow (field number64) IsNumber64
+pub number_rows : IsRowForm (field number64) IsNumber64
 number_rows = row_of_field number64 IsNumber64 number64-prefix_free
 
-pub time_rows : IsRow (field plain_i64) (FitsSigned w64)
+pub time_rows : IsRowForm (field plain_i64) (FitsSigned w64)
 time_rows = row_of_field plain_i64 (FitsSigned w64) plain_i64-prefix_free
 
-pub path_rows : IsRow (field plain_text) IsPath
+pub path_rows : IsRowForm (field plain_text) IsPath
 path_rows = row_of_field plain_text IsPath path_free
 
-pub type_rows : IsRow (field type_field) IsAny
+pub type_rows : IsRowForm (field type_field) IsAny
 type_rows = row_of_field type_field IsAny type_field-prefix_free
 
-pub encoding_rows : IsRow (field encoding_field) IsAny
+pub encoding_rows : IsRowForm (field encoding_field) IsAny
 encoding_rows = row_of_field encoding_field IsAny encoding_field-prefix_free
 
 pub space_free : IsPrefixFree space_field IsAny
@@ -97,7 +97,7 @@ space_free Sequence Unsequence x y is_a is_b e = absurd cc
 space_free Unsequence Sequence x y is_a is_b e = absurd cc
 space_free Unsequence Unsequence x y is_a is_b e = (refl, cc)
 
-pub space_rows : IsRow (field space_field) IsAny
+pub space_rows : IsRowForm (field space_field) IsAny
 space_rows = row_of_field space_field IsAny space_free
 
 -- ---- a value behind its type
@@ -108,7 +108,7 @@ value_row = both (field type_field) (field value_field)
 abbrev pub IsValueRow : DataType × Value → Type 0
 IsValueRow = AreBoth IsAny IsValueOf
 
-pub value_rows : IsRow value_row IsValueRow
+pub value_rows : IsRowForm value_row IsValueRow
 value_rows = row_of_both (field type_field) (field value_field) IsAny IsValueOf (row_of_field type_field IsAny type_field-prefix_free)
     (λ t any. row_of_field value_field (IsValueOf t) (value_field-prefix_free t))
 
@@ -119,7 +119,7 @@ typed_as = record {
   back = λ p is. (is.1.fits, ap (λ (t : DataType). type_field t ∷ value_field p.1 ∷ []) is.1.typed);
 }
 
-pub typed_rows : IsRow typed_fields IsValue
+pub typed_rows : IsRowForm typed_fields IsValue
 typed_rows = row_as value_row IsValueRow typed_fields IsValue typed_as value_rows
 
 pub some_typed : (v : Value) × IsValue v
@@ -128,8 +128,8 @@ some_typed = (value.Bool false, tt)
 -- ---- two parts
 
 pub pair_rows : {A B : Type 0} (first : A → List (List ℕ)) (second : B → List (List ℕ)) (IsFirst : A → Type 0)
-    (IsSecond : B → Type 0) → IsRow first IsFirst → IsRow second IsSecond
-    → IsRow (both first second) (AreBoth IsFirst (λ _. IsSecond))
+    (IsSecond : B → Type 0) → IsRowForm first IsFirst → IsRowForm second IsSecond
+    → IsRowForm (both first second) (AreBoth IsFirst (λ _. IsSecond))
 pair_rows first second IsFirst IsSecond row rows = row_of_both first second IsFirst (λ _. IsSecond) row (λ a is. rows)
 
 pub some_pair : {A B : Type 0} (IsFirst : A → Type 0) (IsSecond : B → Type 0) → (a : A) × IsFirst a → (b : B) × IsSecond b
@@ -138,7 +138,7 @@ some_pair IsFirst IsSecond a b = ((a.0, b.0), (a.1, b.1))
 
 -- ---- lists of rows
 
-pub rows_of_values : {A : Type 0} (row : A → List (List ℕ)) (Is : A → Type 0) → IsRow row Is → (n : ℕ) → IsRow (flat_map row) (AreValues Is n)
+pub rows_of_values : {A : Type 0} (row : A → List (List ℕ)) (Is : A → Type 0) → IsRowForm row Is → (n : ℕ) → IsRowForm (flat_map row) (AreValues Is n)
 rows_of_values row Is rows n = row_as (flat_map row) (AreList Is n) (flat_map row) (AreValues Is n) (values_as row Is n) (row_of_list row Is rows n)
 
 abbrev pub counted_row : {A : Type 0} → (A → List (List ℕ)) → ℕ × List A → List (List ℕ)
@@ -158,8 +158,8 @@ counted_as row Is = record {
       ((omega arith, is.1.1), ap (λ (n : ℕ). number64 n ∷ flat_map row p.1) count);
 }
 
-pub counted_rows : {A : Type 0} (row : A → List (List ℕ)) (Is : A → Type 0) → IsRow row Is
-    → IsRow (counted_fields row) (AreCounted Is)
+pub counted_rows : {A : Type 0} (row : A → List (List ℕ)) (Is : A → Type 0) → IsRowForm row Is
+    → IsRowForm (counted_fields row) (AreCounted Is)
 counted_rows row Is rows = row_as (counted_row row) (IsCountedRow Is) (counted_fields row) (AreCounted Is) (counted_as row Is)
     (row_of_both (field number64) (flat_map row) IsNumber64 (AreValues Is) number_rows (λ n few. rows_of_values row Is rows n))
 
@@ -184,7 +184,7 @@ cell_as = record {
   back = λ p is. (record { series = is.0; value = is.1 }, refl);
 }
 
-pub cell_rows : IsRow cell_fields IsCell
+pub cell_rows : IsRowForm cell_fields IsCell
 cell_rows = row_as cell_row IsCellRow cell_fields IsCell cell_as
     (pair_rows (field number64) typed_fields IsNumber64 IsValue number_rows typed_rows)
 
@@ -196,7 +196,7 @@ some_cell = (record { series = record { 0 = some_number.0 }; value = some_typed.
 pub file_as : IsWrittenAs (field number64) IsNumber64 file_fields IsFile
 file_as = record { make = λ n. record { 0 = n }; view = λ file is. (file.0, is, refl); back = λ n is. (is, refl) }
 
-pub file_rows : IsRow file_fields IsFile
+pub file_rows : IsRowForm file_fields IsFile
 file_rows = row_as (field number64) IsNumber64 file_fields IsFile file_as number_rows
 
 pub some_file : (f : FileNumber) × IsFile f

@@ -3,7 +3,7 @@ use Rattle.std.specs.Prelude.{◌≡◌, ℕ, ◌≤◌, List, ◌++◌, length,
 use Rattle.tsdb_log.specs.declared.fault.LogFault.{LogFault}
 use Rattle.tsdb_log.specs.declared.fault.LogFault.TheVariants.{Memory}
 use Rattle.tsdb_log.specs.declared.record.LogRecord.{LogRecord}
-use Rattle.tsdb_log.specs.Spelling.{bytes_of, fields, spelling, IsRecord}
+use Rattle.tsdb_log.specs.Spelling.{joined_fields, fields, spelling, IsRecord}
 
 -- the bytes up to this place are the first fields of something that is written in such fields
 pub record Reaches {A : Type 0} (fields : A → List (List ℕ)) (Is : A → Type 0) (bytes : List ℕ) (at : ℕ) : Type 0 where
@@ -13,8 +13,8 @@ pub record Reaches {A : Type 0} (fields : A → List (List ℕ)) (Is : A → Typ
   pub more : List (List ℕ)
   pub rest : List ℕ
   pub begins : fields whole ≡ first ++ more
-  pub splits : bytes ≡ bytes_of first ++ rest
-  pub place : at ≡ length (bytes_of first)
+  pub splits : bytes ≡ joined_fields first ++ rest
+  pub place : at ≡ length (joined_fields first)
 
 -- this is the furthest such place: there stands the first field that is none, or the first byte after the last field
 pub record IsFurthest {A : Type 0} (fields : A → List (List ℕ)) (Is : A → Type 0) (bytes : List ℕ)

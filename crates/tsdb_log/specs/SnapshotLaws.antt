@@ -19,7 +19,7 @@ use Rattle.tsdb_log.specs.declared.snapshot.SchemaRecord.{SchemaRecord}
 use Rattle.tsdb_log.specs.declared.snapshot.Snapshot.{Snapshot}
 use Rattle.tsdb_log.specs.declared.snapshot.TableRecord.{TableRecord}
 use Rattle.tsdb_log.specs.declared.snapshot.WatermarkRecord.{WatermarkRecord}
-use Rattle.tsdb_log.specs.Rows.{both, field, AreBoth, IsAny, IsNumber64, IsRow}
+use Rattle.tsdb_log.specs.Rows.{both, field, AreBoth, IsAny, IsNumber64, IsRowForm}
 use Rattle.tsdb_log.specs.PartLaws.{number_rows, time_rows, path_rows, type_rows, encoding_rows, typed_rows, pair_rows, counted_rows, rows_of_values, some_number, some_time, some_path, some_type, some_encoding, some_typed, none_counted}
 use Rattle.tsdb_log.specs.Snapshots.{counted_fields, typed_fields, schema_fields, watermark_fields, mark_fields, listed_fields, point_fields, table_fields, pair_fields, frozen_fields, AreCounted, AreFrozen, IsSchema, IsWatermark, IsMark, IsListed, IsPoint, IsTable, IsPair, IsSnapshot}
 use Rattle.tsdb_log.specs.RowLaws.{row_of_field, row_of_both}
@@ -40,7 +40,7 @@ schema_as = record {
   back = λ p is. (is.0, refl);
 }
 
-pub schema_rows : IsRow schema_fields IsSchema
+pub schema_rows : IsRowForm schema_fields IsSchema
 schema_rows = row_as schema_row IsSchemaRow schema_fields IsSchema schema_as
     (pair_rows (field plain_text) (both (field type_field) (field encoding_field)) IsPath (AreBoth IsAny (λ _. IsAny)) path_rows
     (pair_rows (field type_field) (field encoding_field) IsAny IsAny type_rows encoding_rows))
@@ -63,7 +63,7 @@ watermark_as = record {
   back = λ p is. (record { device = is.0; time = is.1 }, refl);
 }
 
-pub watermark_rows : IsRow watermark_fields IsWatermark
+pub watermark_rows : IsRowForm watermark_fields IsWatermark
 watermark_rows = row_as watermark_row IsWatermarkRow watermark_fields IsWatermark watermark_as
     (pair_rows (field plain_text) (field plain_i64) IsPath (FitsSigned w64) path_rows time_rows)
 
@@ -85,7 +85,7 @@ mark_as = record {
   back = λ p is. (record { path = is.0; from = is.1.0; to = is.1.1.0; version = is.1.1.1 }, refl);
 }
 
-pub mark_rows : IsRow mark_fields IsMark
+pub mark_rows : IsRowForm mark_fields IsMark
 mark_rows = row_as mark_row IsMarkRow mark_fields IsMark mark_as
     (pair_rows (field plain_text) (both (field plain_i64) (both (field plain_i64) (field number64))) IsPath
     (AreBoth (FitsSigned w64) (λ _. AreBoth (FitsSigned w64) (λ _. IsNumber64))) path_rows
@@ -113,7 +113,7 @@ listed_as = record {
   back = λ p is. (record { number = is.0; born = is.1 }, refl);
 }
 
-pub listed_rows : IsRow listed_fields IsListed
+pub listed_rows : IsRowForm listed_fields IsListed
 listed_rows = row_as listed_row IsListedRow listed_fields IsListed listed_as
     (pair_rows (field number64) (field number64) IsNumber64 IsNumber64 number_rows number_rows)
 
@@ -135,7 +135,7 @@ point_as = record {
   back = λ p is. (record { time = is.0; value = is.1 }, refl);
 }
 
-pub point_rows : IsRow point_fields IsPoint
+pub point_rows : IsRowForm point_fields IsPoint
 point_rows = row_as point_row IsPointRow point_fields IsPoint point_as
     (pair_rows (field plain_i64) typed_fields (FitsSigned w64) IsValue time_rows typed_rows)
 
@@ -157,7 +157,7 @@ table_as = record {
   back = λ p is. (record { series = is.0; points = is.1 }, refl);
 }
 
-pub table_rows : IsRow table_fields IsTable
+pub table_rows : IsRowForm table_fields IsTable
 table_rows = row_as table_row IsTableRow table_fields IsTable table_as
     (pair_rows (field number64) (counted_fields point_fields) IsNumber64 (AreCounted IsPoint) number_rows
     (counted_rows point_fields IsPoint point_rows))
@@ -176,7 +176,7 @@ tables_fields = counted_fields table_fields
 abbrev pub AreTables : List TableRecord → Type 0
 AreTables = AreCounted IsTable
 
-pub tables_rows : IsRow tables_fields AreTables
+pub tables_rows : IsRowForm tables_fields AreTables
 tables_rows = counted_rows table_fields IsTable table_rows
 
 abbrev pub two_tables : List TableRecord × List TableRecord → List (List ℕ)
@@ -185,7 +185,7 @@ two_tables = both tables_fields tables_fields
 abbrev pub AreTwoTables : List TableRecord × List TableRecord → Type 0
 AreTwoTables = AreBoth AreTables (λ _. AreTables)
 
-pub two_tables_rows : IsRow two_tables AreTwoTables
+pub two_tables_rows : IsRowForm two_tables AreTwoTables
 two_tables_rows = pair_rows tables_fields tables_fields AreTables AreTables tables_rows tables_rows
 
 -- ---- a frozen pair
@@ -203,7 +203,7 @@ pair_as = record {
   back = λ p is. (record { born = is.0; sequence = is.1.0; unsequence = is.1.1 }, refl);
 }
 
-pub frozen_pair_rows : IsRow pair_fields IsPair
+pub frozen_pair_rows : IsRowForm pair_fields IsPair
 frozen_pair_rows = row_as pair_row IsPairRow pair_fields IsPair pair_as
     (pair_rows (field number64) two_tables IsNumber64 AreTwoTables number_rows two_tables_rows)
 
@@ -240,7 +240,7 @@ frozen_as = record {
       ((omega arith, is.1.1), ap (λ (n : ℕ). (n ∷ []) ∷ flat_map pair_fields p.1) count);
 }
 
-pub frozen_rows : IsRow frozen_fields AreFrozen
+pub frozen_rows : IsRowForm frozen_fields AreFrozen
 frozen_rows = row_as frozen_row IsFrozenRow frozen_fields AreFrozen frozen_as
     (row_of_both (field byte_field) (flat_map pair_fields) IsByte (AreValues IsPair) (row_of_field byte_field IsByte byte_free)
     (λ n few. rows_of_values pair_fields IsPair frozen_pair_rows n))
@@ -256,7 +256,7 @@ numbers_row = both (field number64) (both (field number64) (field number64))
 abbrev pub AreNumbers : Numbers → Type 0
 AreNumbers = AreBoth IsNumber64 (λ _. AreBoth IsNumber64 (λ _. IsNumber64))
 
-pub numbers_rows : IsRow numbers_row AreNumbers
+pub numbers_rows : IsRowForm numbers_row AreNumbers
 numbers_rows = pair_rows (field number64) (both (field number64) (field number64)) IsNumber64 (AreBoth IsNumber64 (λ _. IsNumber64)) number_rows
     (pair_rows (field number64) (field number64) IsNumber64 IsNumber64 number_rows number_rows)
 
@@ -290,7 +290,7 @@ lists_row = both (counted_fields schema_fields) watermarks_row
 abbrev pub AreLists : Lists → Type 0
 AreLists = AreBoth (AreCounted IsSchema) (λ _. AreWatermarks)
 
-pub lists_rows : IsRow lists_row AreLists
+pub lists_rows : IsRowForm lists_row AreLists
 lists_rows = pair_rows (counted_fields schema_fields) watermarks_row (AreCounted IsSchema) AreWatermarks (counted_rows schema_fields IsSchema schema_rows)
     (pair_rows (counted_fields watermark_fields) marks_row (AreCounted IsWatermark) AreMarks (counted_rows watermark_fields IsWatermark watermark_rows)
     (pair_rows (counted_fields mark_fields) files_row (AreCounted IsMark) AreListed (counted_rows mark_fields IsMark mark_rows)
@@ -303,7 +303,7 @@ front_row = both numbers_row lists_row
 abbrev pub IsFrontRow : Numbers × Lists → Type 0
 IsFrontRow = AreBoth AreNumbers (λ _. AreLists)
 
-pub front_rows : IsRow front_row IsFrontRow
+pub front_rows : IsRowForm front_row IsFrontRow
 front_rows = pair_rows numbers_row lists_row AreNumbers AreLists numbers_rows lists_rows
 
 abbrev pub Back : Type 0
@@ -324,7 +324,7 @@ snapshot_row = both front_row back_row
 abbrev pub IsSnapshotRow : SnapshotRow → Type 0
 IsSnapshotRow = AreBoth IsFrontRow (λ _. IsBackRow)
 
-pub snapshot_rows : IsRow snapshot_row IsSnapshotRow
+pub snapshot_rows : IsRowForm snapshot_row IsSnapshotRow
 snapshot_rows = pair_rows front_row back_row IsFrontRow IsBackRow front_rows
     (pair_rows frozen_fields two_tables AreFrozen AreTwoTables frozen_rows two_tables_rows)
 

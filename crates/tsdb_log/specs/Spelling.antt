@@ -54,12 +54,12 @@ fields (Replaced born space place output sequence unsequence) =
 fields (Snapshot snapshot) = (7 ∷ []) ∷ snapshot_fields snapshot
 
 -- fields one behind another
-abbrev pub bytes_of : List (List ℕ) → List ℕ
-bytes_of parts = flat_map (λ field. field) parts
+abbrev pub joined_fields : List (List ℕ) → List ℕ
+joined_fields parts = flat_map (λ field. field) parts
 
 -- the bytes of a record
 abbrev pub spelling : LogRecord → List ℕ
-spelling item = bytes_of (fields item)
+spelling item = joined_fields (fields item)
 
 -- a value of a series
 pub record IsCell (cell : CellRecord) : Type 0 where
@@ -115,4 +115,4 @@ FitsFrame Freeze = Unit {0}
 FitsFrame (Flushed sequence unsequence) = Unit {0}
 FitsFrame (Replaced born space place output sequence unsequence) =
     (length sequence ≤ 100000000) × (length unsequence ≤ 100000000)
-FitsFrame (Snapshot snapshot) = length (bytes_of (snapshot_fields snapshot)) < 1073741824
+FitsFrame (Snapshot snapshot) = length (joined_fields (snapshot_fields snapshot)) < 1073741824

@@ -3,11 +3,11 @@ use Rattle.std.proofs.Common.{◌≡◌, ℕ, ◌+◌, ◌≤◌, List, [], ◌�
 use Rattle.std.proofs.lemmas.List.{length-append}
 use Rattle.std.specs.List.{flat_map}
 use Rattle.tsdb_base.specs.Plain.{AreValues}
-use Rattle.tsdb_log.specs.Rows.{IsRow}
+use Rattle.tsdb_log.specs.Rows.{IsRowForm}
 use Rattle.tsdb_log.specs.declared.record.LogRecord.{LogRecord}
 use Rattle.tsdb_log.specs.declared.record.LogRecord.TheVariants.{Create, Insert, Delete, Freeze, Flushed, Replaced, Snapshot}
 use Rattle.tsdb_log.specs.Places.{Reaches}
-use Rattle.tsdb_log.specs.Spelling.{bytes_of, fields, spelling, IsRecord}
+use Rattle.tsdb_log.specs.Spelling.{joined_fields, fields, spelling, IsRecord}
 use Rattle.tsdb_log.specs.Steps.{IsMissing}
 use Rattle.tsdb_log.specs.ListLaws.{AreList, list_of_values, values_of_list}
 
@@ -44,7 +44,7 @@ pub missing_as : {A R : Type 0} (row : A → List (List ℕ)) (IsA : A → Type 
 missing_as row IsA whole IsR start bytes at as_row m = record {
   none = λ r behind is e.
       let v = as_row.view r is in
-      m.none v.0 behind v.1 (e ∙ ap (λ (l : List (List ℕ)). bytes_of l ++ behind) (same_fields row IsA whole IsR as_row r is));
+      m.none v.0 behind v.1 (e ∙ ap (λ (l : List (List ℕ)). joined_fields l ++ behind) (same_fields row IsA whole IsR as_row r is));
   count = m.count;
   place = m.place;
   furthest = record {
@@ -57,21 +57,21 @@ missing_as row IsA whole IsR start bytes at as_row m = record {
 }
 
 -- and so its row is one
-pub row_as : {A R : Type 0} (row : A → List (List ℕ)) (IsA : A → Type 0) (whole : R → List (List ℕ)) (IsR : R → Type 0) → IsWrittenAs row IsA whole IsR → IsRow row IsA → IsRow whole IsR
+pub row_as : {A R : Type 0} (row : A → List (List ℕ)) (IsA : A → Type 0) (whole : R → List (List ℕ)) (IsR : R → Type 0) → IsWrittenAs row IsA whole IsR → IsRowForm row IsA → IsRowForm whole IsR
 row_as {A} {R} row IsA whole IsR as_row rows = record {
   free = λ r s x y is_r is_s e.
       let v = as_row.view r is_r in
       let w = as_row.view s is_s in
-      let bytes = ap (λ (l : List (List ℕ)). bytes_of l ++ x) (same_fields row IsA whole IsR as_row r is_r) in
-      let bytes2 = ap (λ (l : List (List ℕ)). bytes_of l ++ y) (same_fields row IsA whole IsR as_row s is_s) in
+      let bytes = ap (λ (l : List (List ℕ)). joined_fields l ++ x) (same_fields row IsA whole IsR as_row r is_r) in
+      let bytes2 = ap (λ (l : List (List ℕ)). joined_fields l ++ y) (same_fields row IsA whole IsR as_row s is_s) in
       let same = rows.free v.0 w.0 x y v.1 w.1 (sym bytes ∙ e ∙ bytes2) in
       (v.2 ∙ ap (λ (a : A). as_row.make a) same.0 ∙ sym w.2, same.1);
   full = λ r behind j is p.
       let v = as_row.view r is in
       let fields-are = same_fields row IsA whole IsR as_row r is in
-      let there = subst (λ (l : List (List ℕ)). Reaches row IsA (bytes_of l ++ behind) j) fields-are (reaches_as row IsA whole IsR (bytes_of (whole r) ++ behind) j as_row p) in
+      let there = subst (λ (l : List (List ℕ)). Reaches row IsA (joined_fields l ++ behind) j) fields-are (reaches_as row IsA whole IsR (joined_fields (whole r) ++ behind) j as_row p) in
       let le = rows.full v.0 behind j v.1 there in
-      let size = ap (λ (l : List (List ℕ)). length (bytes_of l)) fields-are in
+      let size = ap (λ (l : List (List ℕ)). length (joined_fields l)) fields-are in
       omega arith;
 }
 
@@ -117,11 +117,11 @@ pub no_record : {A : Type 0} (kind : ℕ) (row : A → List (List ℕ)) (IsA : A
 no_record {A} kind row IsA bytes at as_row m = record {
   none = λ item behind is e.
       let first = kind_first item in
-      let bytes-begin = e ∙ ap (λ (l : List (List ℕ)). bytes_of l ++ behind) first.1 in
+      let bytes-begin = e ∙ ap (λ (l : List (List ℕ)). joined_fields l ++ behind) first.1 in
       let same : kind_of item ≡ kind = cc in
       let v = as_row.view item (is, same) in
-      let bytes-are = e ∙ ap (λ (l : List (List ℕ)). bytes_of l ++ behind) (same_fields (behind_kind kind row) IsA fields (IsOfKind kind) as_row item (is, same)) in
-      let rest : bytes ≡ bytes_of (row v.0) ++ behind = cc in
+      let bytes_are = e ∙ ap (λ (l : List (List ℕ)). joined_fields l ++ behind) (same_fields (behind_kind kind row) IsA fields (IsOfKind kind) as_row item (is, same)) in
+      let rest : bytes ≡ joined_fields (row v.0) ++ behind = cc in
       m.none v.0 behind v.1 rest;
   count = 1 + m.count;
   place = let place = m.place in omega arith;
@@ -142,43 +142,43 @@ no_record {A} kind row IsA bytes at as_row m = record {
     none_beyond = λ j r. far j r.whole r.first r.more r.rest r.is r.begins r.splits r.place;
   };
 } where
-  far : (j : ℕ) (item : LogRecord) (first more : List (List ℕ)) (rest : List ℕ) → IsRecord item → fields item ≡ first ++ more → kind ∷ bytes ≡ bytes_of first ++ rest → j ≡ length (bytes_of first) → j ≤ 1 + m.count
+  far : (j : ℕ) (item : LogRecord) (first more : List (List ℕ)) (rest : List ℕ) → IsRecord item → fields item ≡ first ++ more → kind ∷ bytes ≡ joined_fields first ++ rest → j ≡ length (joined_fields first) → j ≤ 1 + m.count
   far j item [] more rest is begins splits place = omega arith
   far j item (f ∷ fs) more rest is begins splits place =
       let head = kind_first item in
       let both = sym head.1 ∙ begins in
       let byte : kind_of item ∷ [] ≡ f = cc in
-      let bytes-begin = splits ∙ ap (λ (l : List ℕ). (l ++ bytes_of fs) ++ rest) (sym byte) in
+      let bytes-begin = splits ∙ ap (λ (l : List ℕ). (l ++ joined_fields fs) ++ rest) (sym byte) in
       let same : kind_of item ≡ kind = cc in
       let v = as_row.view item (is, same) in
       let rows = sym (same_fields (behind_kind kind row) IsA fields (IsOfKind kind) as_row item (is, same)) ∙ begins in
       let behind : row v.0 ≡ fs ++ more = cc in
-      let left : bytes ≡ bytes_of fs ++ rest = cc in
-      let there : Reaches row IsA bytes (length (bytes_of fs)) = record { whole = v.0; is = v.1; first = fs; more = more; rest = rest; begins = behind; splits = left; place = refl } in
-      let le = m.furthest.none_beyond (length (bytes_of fs)) there in
+      let left : bytes ≡ joined_fields fs ++ rest = cc in
+      let there : Reaches row IsA bytes (length (joined_fields fs)) = record { whole = v.0; is = v.1; first = fs; more = more; rest = rest; begins = behind; splits = left; place = refl } in
+      let le = m.furthest.none_beyond (length (joined_fields fs)) there in
       let size : 1 ≡ length f = ap length byte in
-      let total : length (f ++ bytes_of fs) ≡ length f + length (bytes_of fs) = length-append f (bytes_of fs) in
+      let total : length (f ++ joined_fields fs) ≡ length f + length (joined_fields fs) = length-append f (joined_fields fs) in
       omega arith
 
 -- behind a first byte a row is one
-pub row_of_kind : {A : Type 0} (kind : ℕ) (row : A → List (List ℕ)) (IsA : A → Type 0) → IsWrittenAs (behind_kind kind row) IsA fields (IsOfKind kind) → IsRow row IsA → IsRow fields (IsOfKind kind)
+pub row_of_kind : {A : Type 0} (kind : ℕ) (row : A → List (List ℕ)) (IsA : A → Type 0) → IsWrittenAs (behind_kind kind row) IsA fields (IsOfKind kind) → IsRowForm row IsA → IsRowForm fields (IsOfKind kind)
 row_of_kind {A} kind row IsA as_row rows = row_as (behind_kind kind row) IsA fields (IsOfKind kind) as_row (record {
   free = λ a b x y is_a is_b e.
-      let rest : bytes_of (row a) ++ x ≡ bytes_of (row b) ++ y = cc in
+      let rest : joined_fields (row a) ++ x ≡ joined_fields (row b) ++ y = cc in
       rows.free a b x y is_a is_b rest;
   full = λ a behind j is r. far j a behind r.whole r.first r.more r.rest is r.is r.begins r.splits r.place;
 }) where
   far : (j : ℕ) (a : A) (behind : List ℕ) (whole : A) (first more : List (List ℕ)) (rest : List ℕ) → IsA a → IsA whole → (kind ∷ []) ∷ row whole ≡ first ++ more
-      → kind ∷ (bytes_of (row a) ++ behind) ≡ bytes_of first ++ rest → j ≡ length (bytes_of first) → j ≤ length (bytes_of ((kind ∷ []) ∷ row a))
+      → kind ∷ (joined_fields (row a) ++ behind) ≡ joined_fields first ++ rest → j ≡ length (joined_fields first) → j ≤ length (joined_fields ((kind ∷ []) ∷ row a))
   far j a behind whole [] more rest is is_whole begins splits place = omega arith
   far j a behind whole (f ∷ fs) more rest is is_whole begins splits place =
       let byte : kind ∷ [] ≡ f = cc in
       let others : row whole ≡ fs ++ more = cc in
-      let bytes = splits ∙ ap (λ (l : List ℕ). (l ++ bytes_of fs) ++ rest) (sym byte) in
-      let left : bytes_of (row a) ++ behind ≡ bytes_of fs ++ rest = cc in
-      let le = rows.full a behind (length (bytes_of fs)) is (record { whole = whole; is = is_whole; first = fs; more = more; rest = rest; begins = others; splits = left; place = refl }) in
+      let bytes = splits ∙ ap (λ (l : List ℕ). (l ++ joined_fields fs) ++ rest) (sym byte) in
+      let left : joined_fields (row a) ++ behind ≡ joined_fields fs ++ rest = cc in
+      let le = rows.full a behind (length (joined_fields fs)) is (record { whole = whole; is = is_whole; first = fs; more = more; rest = rest; begins = others; splits = left; place = refl }) in
       let size : 1 ≡ length f = ap length byte in
-      let total : length (f ++ bytes_of fs) ≡ length f + length (bytes_of fs) = length-append f (bytes_of fs) in
+      let total : length (f ++ joined_fields fs) ≡ length f + length (joined_fields fs) = length-append f (joined_fields fs) in
       omega arith
 
 -- records whose bytes begin alike are of one kind
@@ -186,7 +186,7 @@ pub kind_same : (a b : LogRecord) (x y : List ℕ) → spelling a ++ x ≡ spell
 kind_same a b x y e =
     let first = kind_first a in
     let other = kind_first b in
-    let bytes = sym (ap (λ (l : List (List ℕ)). bytes_of l ++ x) first.1) ∙ e ∙ ap (λ (l : List (List ℕ)). bytes_of l ++ y) other.1 in
+    let bytes = sym (ap (λ (l : List (List ℕ)). joined_fields l ++ x) first.1) ∙ e ∙ ap (λ (l : List (List ℕ)). joined_fields l ++ y) other.1 in
     cc
 
 -- so many rows, by recursion and as contracts have them

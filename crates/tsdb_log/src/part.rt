@@ -13,9 +13,9 @@ ghost use Rattle.tsdb_log.specs.PartLaws.{number_rows, time_rows, path_rows, typ
 ghost use Rattle.tsdb_log.specs.PartLaws.{pair_rows, counted_rows, some_number, some_time, some_path, some_type};
 ghost use Rattle.tsdb_log.specs.PartLaws.{some_encoding, some_space, some_typed, some_pair, none_counted};
 ghost use Rattle.tsdb_log.specs.PartLaws.{cell_rows, file_rows, some_cell, some_file};
-ghost use Rattle.tsdb_log.specs.Rows.{both, field, AreBoth, IsAny, IsNumber64, IsRow};
+ghost use Rattle.tsdb_log.specs.Rows.{both, field, AreBoth, IsAny, IsNumber64, IsRowForm};
 ghost use Rattle.tsdb_log.specs.Snapshots.{counted_fields, typed_fields, AreCounted};
-ghost use Rattle.tsdb_log.specs.Spelling.{bytes_of, cell_fields, file_fields, space_field, IsCell, IsFile};
+ghost use Rattle.tsdb_log.specs.Spelling.{joined_fields, cell_fields, file_fields, space_field, IsCell, IsFile};
 ghost use Rattle.tsdb_log.specs.Steps.{ReadsFields};
 
 use crate::record::CellRecord;
@@ -38,14 +38,14 @@ pub(crate) trait Part: Drop + Sized {
 
     /// Appends the bytes of the part. Where they fit the room that `into` has, it takes no memory.
     fn write(&self, into: &mut Vec<u8>) -> Result<(), Memory>
-        ensures ok { OnOk result (into.new.items ≡ into.old.items ++ bytes_of (fields self.now)) }
+        ensures ok { OnOk result (into.new.items ≡ into.old.items ++ joined_fields (fields self.now)) }
         ensures is { OnOk result (is_part self.now) }
         ensures room { OnErr result
-            (vec_capacity into.old < length into.old.items + length (bytes_of (fields self.now))) }
+            (vec_capacity into.old < length into.old.items + length (joined_fields (fields self.now))) }
         ensures capacity { vec_capacity into.old ≤ vec_capacity into.new };
 
     /// No part begins another, and none goes further than one that stands there.
-    ghost rows: { IsRow fields is_part };
+    ghost rows: { IsRowForm fields is_part };
 
     /// There is a part.
     ghost some: { (part : Self) × is_part part };
@@ -277,10 +277,10 @@ pub(crate) fn write_both<A: Part, B: Part>(
     into: &mut Vec<u8>,
 ) -> Result<(), Memory>
     ensures ok { OnOk result
-        (into.new.items ≡ into.old.items ++ bytes_of (A.fields first.now ++ B.fields second.now)) }
+        (into.new.items ≡ into.old.items ++ joined_fields (A.fields first.now ++ B.fields second.now)) }
     ensures is { OnOk result (A.is_part first.now × B.is_part second.now) }
     ensures room { OnErr result (vec_capacity into.old
-        < length into.old.items + length (bytes_of (A.fields first.now ++ B.fields second.now))) }
+        < length into.old.items + length (joined_fields (A.fields first.now ++ B.fields second.now))) }
     ensures capacity { vec_capacity into.old ≤ vec_capacity into.new }
 {
     first.write(into)?;
@@ -328,10 +328,10 @@ pub(crate) fn read_parts<'a, T: Part>(
 
 /// Appends the bytes of parts, one behind another.
 pub(crate) fn write_parts<T: Part>(parts: &[T], into: &mut Vec<u8>) -> Result<(), Memory>
-    ensures ok { OnOk result (into.new.items ≡ into.old.items ++ bytes_of (flat_map T.fields parts.now)) }
+    ensures ok { OnOk result (into.new.items ≡ into.old.items ++ joined_fields (flat_map T.fields parts.now)) }
     ensures are { OnOk result (All T.is_part parts.now) }
     ensures room { OnErr result
-        (vec_capacity into.old < length into.old.items + length (bytes_of (flat_map T.fields parts.now))) }
+        (vec_capacity into.old < length into.old.items + length (joined_fields (flat_map T.fields parts.now))) }
     ensures capacity { vec_capacity into.old ≤ vec_capacity into.new }
 {
     for part in parts {

@@ -10,7 +10,7 @@ ghost use Rattle.tsdb_log.specs.Snapshots.{frozen_fields, front_fields, listed_f
 ghost use Rattle.tsdb_log.specs.Snapshots.{point_fields, schema_fields, snapshot_fields, table_fields, watermark_fields};
 ghost use Rattle.tsdb_log.specs.Snapshots.{AreFrozen, IsListed, IsMark, IsPair, IsPoint, IsSchema, IsTable, IsWatermark};
 ghost use Rattle.tsdb_log.specs.Snapshots.{IsFront, IsSnapshot, most_pairs};
-ghost use Rattle.tsdb_log.specs.Spelling.{bytes_of};
+ghost use Rattle.tsdb_log.specs.Spelling.{joined_fields};
 ghost use Rattle.tsdb_log.specs.Steps.{ReadsFields, ReadsRecord};
 
 use crate::part::{Part, put_bytes, read_part, read_parts, write_both, write_parts};
@@ -255,10 +255,10 @@ pub(crate) fn read_snapshot<'a>(
 
 /// Appends what stands before the frozen pairs.
 fn write_front(snapshot: &Snapshot, into: &mut Vec<u8>) -> Result<(), Memory>
-    ensures ok { OnOk result (into.new.items ≡ into.old.items ++ bytes_of (front_fields snapshot.now)) }
+    ensures ok { OnOk result (into.new.items ≡ into.old.items ++ joined_fields (front_fields snapshot.now)) }
     ensures is { OnOk result (IsFront snapshot.now) }
     ensures room { OnErr result
-        (vec_capacity into.old < length into.old.items + length (bytes_of (front_fields snapshot.now))) }
+        (vec_capacity into.old < length into.old.items + length (joined_fields (front_fields snapshot.now))) }
     ensures capacity { vec_capacity into.old ≤ vec_capacity into.new }
 {
     let numbers = (snapshot.generation, (snapshot.stamp.0, snapshot.next_file));
@@ -271,10 +271,10 @@ fn write_front(snapshot: &Snapshot, into: &mut Vec<u8>) -> Result<(), Memory>
 /// Appends frozen pairs behind their number in one byte.
 fn write_frozen(pairs: &[PairRecord], into: &mut Vec<u8>) -> Result<(), Memory>
     requires { length pairs.now ≤ most_pairs }
-    ensures ok { OnOk result (into.new.items ≡ into.old.items ++ bytes_of (frozen_fields pairs.now)) }
+    ensures ok { OnOk result (into.new.items ≡ into.old.items ++ joined_fields (frozen_fields pairs.now)) }
     ensures are { OnOk result (AreFrozen pairs.now) }
     ensures room { OnErr result
-        (vec_capacity into.old < length into.old.items + length (bytes_of (frozen_fields pairs.now))) }
+        (vec_capacity into.old < length into.old.items + length (joined_fields (frozen_fields pairs.now))) }
     ensures capacity { vec_capacity into.old ≤ vec_capacity into.new }
 {
     put_bytes(&[pairs.len() as u8], into)?;
@@ -284,10 +284,10 @@ fn write_frozen(pairs: &[PairRecord], into: &mut Vec<u8>) -> Result<(), Memory>
 /// Appends what a snapshot says, behind its kind.
 pub(crate) fn write_snapshot(snapshot: &Snapshot, into: &mut Vec<u8>) -> Result<(), Memory>
     requires { length snapshot.now.frozen ≤ most_pairs }
-    ensures ok { OnOk result (into.new.items ≡ into.old.items ++ bytes_of (snapshot_fields snapshot.now)) }
+    ensures ok { OnOk result (into.new.items ≡ into.old.items ++ joined_fields (snapshot_fields snapshot.now)) }
     ensures is { OnOk result (IsSnapshot snapshot.now) }
     ensures room { OnErr result
-        (vec_capacity into.old < length into.old.items + length (bytes_of (snapshot_fields snapshot.now))) }
+        (vec_capacity into.old < length into.old.items + length (joined_fields (snapshot_fields snapshot.now))) }
     ensures capacity { vec_capacity into.old ≤ vec_capacity into.new }
 {
     write_front(snapshot, into)?;

@@ -1,7 +1,7 @@
 //! Writing a record. Depends on `record`, `part`, `snapshot_parts` and `kind`.
 ghost use Rattle.std.specs.Prelude.{◌≡◌, ◌+◌, ◌<◌, ◌≤◌, ◌∷◌, ◌++◌, length, All, IfOk, OnErr, OnOk};
 ghost use Rattle.std.specs.Vec.{vec_capacity};
-ghost use Rattle.tsdb_log.specs.Spelling.{bytes_of, cells_fields, files_fields, most_cells, most_files, spelling};
+ghost use Rattle.tsdb_log.specs.Spelling.{joined_fields, cells_fields, files_fields, most_cells, most_files, spelling};
 ghost use Rattle.tsdb_log.specs.Spelling.{AreFiles, HasFewParts, IsCell, IsRecord};
 
 use crate::kind::{CREATE, DELETE, FLUSHED, FREEZE, INSERT, REPLACED, SNAPSHOT};
@@ -20,10 +20,10 @@ fn write_of_kind<A: Part, B: Part>(
     into: &mut Vec<u8>,
 ) -> Result<(), Memory>
     ensures ok { OnOk result (into.new.items
-        ≡ into.old.items ++ (kind ∷ bytes_of (A.fields first.now ++ B.fields second.now))) }
+        ≡ into.old.items ++ (kind ∷ joined_fields (A.fields first.now ++ B.fields second.now))) }
     ensures is { OnOk result (A.is_part first.now × B.is_part second.now) }
     ensures room { OnErr result (vec_capacity into.old
-        < length into.old.items + length (kind ∷ bytes_of (A.fields first.now ++ B.fields second.now))) }
+        < length into.old.items + length (kind ∷ joined_fields (A.fields first.now ++ B.fields second.now))) }
     ensures capacity { vec_capacity into.old ≤ vec_capacity into.new }
 {
     put_bytes(&[kind], into)?;
@@ -33,10 +33,10 @@ fn write_of_kind<A: Part, B: Part>(
 /// Appends cells behind their number.
 fn write_cells(cells: &[CellRecord], into: &mut Vec<u8>) -> Result<(), Memory>
     requires { length cells.now ≤ most_cells }
-    ensures ok { OnOk result (into.new.items ≡ into.old.items ++ bytes_of (cells_fields cells.now)) }
+    ensures ok { OnOk result (into.new.items ≡ into.old.items ++ joined_fields (cells_fields cells.now)) }
     ensures are { OnOk result (All IsCell cells.now) }
     ensures room { OnErr result
-        (vec_capacity into.old < length into.old.items + length (bytes_of (cells_fields cells.now))) }
+        (vec_capacity into.old < length into.old.items + length (joined_fields (cells_fields cells.now))) }
     ensures capacity { vec_capacity into.old ≤ vec_capacity into.new }
 {
     put_bytes(&(cells.len() as u16).to_be_bytes(), into)?;
@@ -46,10 +46,10 @@ fn write_cells(cells: &[CellRecord], into: &mut Vec<u8>) -> Result<(), Memory>
 /// Appends files behind their number.
 fn write_files(files: &[FileNumber], into: &mut Vec<u8>) -> Result<(), Memory>
     requires { length files.now ≤ most_files }
-    ensures ok { OnOk result (into.new.items ≡ into.old.items ++ bytes_of (files_fields files.now)) }
+    ensures ok { OnOk result (into.new.items ≡ into.old.items ++ joined_fields (files_fields files.now)) }
     ensures are { OnOk result (AreFiles files.now) }
     ensures room { OnErr result
-        (vec_capacity into.old < length into.old.items + length (bytes_of (files_fields files.now))) }
+        (vec_capacity into.old < length into.old.items + length (joined_fields (files_fields files.now))) }
     ensures capacity { vec_capacity into.old ≤ vec_capacity into.new }
 {
     put_bytes(&(files.len() as u32).to_be_bytes(), into)?;
@@ -92,10 +92,10 @@ fn write_inputs(
     requires sequence { length sequence.now ≤ most_files }
     requires unsequence { length unsequence.now ≤ most_files }
     ensures ok { OnOk result (into.new.items
-        ≡ into.old.items ++ bytes_of (files_fields sequence.now ++ files_fields unsequence.now)) }
+        ≡ into.old.items ++ joined_fields (files_fields sequence.now ++ files_fields unsequence.now)) }
     ensures are { OnOk result (AreFiles sequence.now × AreFiles unsequence.now) }
     ensures room { OnErr result (vec_capacity into.old < length into.old.items
-        + length (bytes_of (files_fields sequence.now ++ files_fields unsequence.now))) }
+        + length (joined_fields (files_fields sequence.now ++ files_fields unsequence.now))) }
     ensures capacity { vec_capacity into.old ≤ vec_capacity into.new }
 {
     write_files(sequence, into)?;

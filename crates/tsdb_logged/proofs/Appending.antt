@@ -16,7 +16,7 @@ use Rattle.tsdb_logged.specs.Logged.{HasLog, log_of, two_numbers}
 use Rattle.tsdb_logged.specs.declared.logged.Logged.{Logged}
 use Rattle.tsdb_base.specs.Causes.{Rose}
 use Rattle.tsdb_outside.specs.Causes.{HasCause}
-use Rattle.tsdb_outside.specs.Disk.{Image, IsLawful, State, in_slot}
+use Rattle.tsdb_outside.specs.Disk.{Image, IsLawful, DiskState, in_slot}
 use Rattle.tsdb_outside.specs.Moments.{LeavesFirstThen, LeavesOnly}
 use Rattle.tsdb_outside.specs.declared.disk.Disk as disk
 use Rattle.tsdb_outside.specs.declared.faults.Counted as counted
@@ -24,7 +24,7 @@ use Rattle.tsdb_outside.specs.declared.faults.Failed.{Failed}
 use Rattle.tsdb_state.specs.Records.{names}
 
 -- first what leaves what has P; then what leaves that, or until some moment that, and what has Q from then on
-pub then_turns : (old mid new : State) → IsLawful new → (P R Q : Image → Type 0) → ((image : Image) → R image → P image)
+pub then_turns : (old mid new : DiskState) → IsLawful new → (P R Q : Image → Type 0) → ((image : Image) → R image → P image)
     → LeavesOnly old mid P → LeavesFirstThen mid new R Q → LeavesFirstThen old new P Q
 then_turns old mid new laws P R Q wider first (inl second) =
     inl (leaves_on old mid new laws P first (weaker mid new R P wider second))

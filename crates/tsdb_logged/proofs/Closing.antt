@@ -16,7 +16,7 @@ use Rattle.tsdb_logged.specs.declared.logged.Logged.{Logged}
 use Rattle.tsdb_model.specs.State as plain
 use Rattle.tsdb_base.specs.Causes.{Rose}
 use Rattle.tsdb_outside.specs.Causes.{HasCause}
-use Rattle.tsdb_outside.specs.Disk.{State, in_slot}
+use Rattle.tsdb_outside.specs.Disk.{DiskState, in_slot}
 use Rattle.tsdb_outside.specs.Moments.{LeavesOnly}
 use Rattle.tsdb_outside.specs.declared.disk.Disk as disk
 use Rattle.tsdb_outside.specs.declared.disk.Slot.{Slot}
@@ -29,7 +29,7 @@ use Rattle.tsdb_state.specs.Steps.{settled}
 module _ {J : Type 0} {means : disk.Ghosts J} {counts : counted.Ghosts J} (logged : Logged J means counts)
     (outside : Outside) (state : EngineState) (at : plain.State) (sound : IsSound logged outside state)
     (stands : store.IsStateOf outside.told state.store at) where
-  pub closing_moments : (next : Option plain.State) (new : State) → LeadsTo outside.told state.store state.doubt next
+  pub closing_moments : (next : Option plain.State) (new : DiskState) → LeadsTo outside.told state.store state.doubt next
       → LeavesOnly (disk_of (log_of logged)) new (λ image. HasRecordsOrOneMore (map spelling outside.items)
       (option_map spelling state.doubt) (in_slot (slot_of (log_of logged)) image))
       → LeavesOnly (disk_of (log_of logged)) new (LeavesOneOf outside.kept (slot_of (log_of logged)) at next)

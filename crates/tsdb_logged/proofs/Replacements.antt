@@ -16,7 +16,7 @@ use Rattle.tsdb_images.proofs.Storing.{commit_failed, commit_stored, end_stored,
 use Rattle.tsdb_layers.specs.Lists.{count}
 use Rattle.tsdb_log.proofs.Wholes.{replaced_spelling}
 use Rattle.tsdb_log.specs.RowLaws.{bytes_length}
-use Rattle.tsdb_log.specs.Spelling.{FitsFrame, HasFewParts, IsRecord, bytes_of, file_fields, files_fields}
+use Rattle.tsdb_log.specs.Spelling.{FitsFrame, HasFewParts, IsRecord, joined_fields, file_fields, files_fields}
 use Rattle.tsdb_log.specs.Spelling.{output_fields}
 use Rattle.tsdb_log.specs.Spelling.{space_field, spelling}
 use Rattle.tsdb_log.specs.declared.record.LogRecord.{LogRecord}
@@ -42,13 +42,13 @@ space_length : (s : Space) → length (space_field s) ≡ 1
 space_length Sequence = omega arith
 space_length Unsequence = omega arith
 
-fields_length : (s : List ℕ) (more : List (List ℕ)) → length (bytes_of (s ∷ more)) ≡ length s + length (bytes_of more)
-fields_length s more = length-append s (bytes_of more)
+fields_length : (s : List ℕ) (more : List (List ℕ)) → length (joined_fields (s ∷ more)) ≡ length s + length (joined_fields more)
+fields_length s more = length-append s (joined_fields more)
 
 eight_more : (n : ℕ) → 8 * (1 + n) ≡ 8 + 8 * n
 eight_more n = omega arith
 
-rows_length : (files : List FileNumber) → length (bytes_of (flat_map file_fields files)) ≡ 8 * length files
+rows_length : (files : List FileNumber) → length (joined_fields (flat_map file_fields files)) ≡ 8 * length files
 rows_length [] = omega arith
 rows_length (file ∷ files) = omega (
   arith,
@@ -58,7 +58,7 @@ rows_length (file ∷ files) = omega (
   eight_more (length files),
 )
 
-files_length : (files : List FileNumber) → length (bytes_of (files_fields files)) ≡ 4 + 8 * length files
+files_length : (files : List FileNumber) → length (joined_fields (files_fields files)) ≡ 4 + 8 * length files
 files_length files = omega (
   arith,
   rows_length files,
@@ -76,9 +76,9 @@ record_length born space place output sequence unsequence =
       length-append (number32 (length (spelling item)) ++ spelling item) (0 ∷ []),
       length-append (number32 (length (spelling item))) (spelling item),
       ap length (replaced_spelling born space place output sequence unsequence),
-      length-append (bytes_of (output_fields born space place output))
-          (bytes_of (files_fields sequence) ++ bytes_of (files_fields unsequence)),
-      length-append (bytes_of (files_fields sequence)) (bytes_of (files_fields unsequence)),
+      length-append (joined_fields (output_fields born space place output))
+          (joined_fields (files_fields sequence) ++ joined_fields (files_fields unsequence)),
+      length-append (joined_fields (files_fields sequence)) (joined_fields (files_fields unsequence)),
       fields_length (number64 born.0) rest,
       fields_length (space_field space) (number64 place ∷ number64 output.0 ∷ []),
       fields_length (number64 place) (number64 output.0 ∷ []),

@@ -9,7 +9,7 @@ use Rattle.tsdb_logged.specs.Logged.{IsSound, Outside, log_of}
 use Rattle.tsdb_logged.specs.declared.logged.Logged.{Logged}
 use Rattle.tsdb_model.specs.State as plain
 use Rattle.tsdb_base.specs.Causes.{Rose}
-use Rattle.tsdb_outside.specs.Disk.{Image, State, in_slot}
+use Rattle.tsdb_outside.specs.Disk.{Image, DiskState, in_slot}
 use Rattle.tsdb_outside.specs.Moments.{LeavesOnly}
 use Rattle.tsdb_outside.specs.declared.disk.Disk as disk
 use Rattle.tsdb_outside.specs.declared.disk.Slot.{Slot}
@@ -18,7 +18,7 @@ use Rattle.tsdb_replay.specs.Stores as store
 use Rattle.tsdb_state.specs.State.{EngineState}
 
 -- whatever a stop leaves, the slot has exactly these records
-abbrev pub LeavesRecords : Slot → State → List LogRecord → Type 0
+abbrev pub LeavesRecords : Slot → DiskState → List LogRecord → Type 0
 LeavesRecords slot disk items =
     (image : Image) → disk.may_leave image → HasRecords (map spelling items) (in_slot slot image)
 
@@ -26,7 +26,7 @@ module _ {J : Type 0} {means : disk.Ghosts J} {counts : counted.Ghosts J} where
   -- A stop at any moment of the closing leaves the state, or that of the record in doubt. Unless the journal
   -- failed, it leaves a sound store, and exactly the acknowledged records; where no record is in doubt it leaves these
   -- even so.
-  pub record IsClosed (logged : Logged J means counts) (disk : State) (faults : ℕ) : Type 0 where
+  pub record IsClosed (logged : Logged J means counts) (disk : DiskState) (faults : ℕ) : Type 0 where
     pub moments : (outside : Outside) (state : EngineState) (at : plain.State) (next : Option plain.State)
         → IsSound logged outside state → store.IsStateOf outside.told state.store at
         → LeadsTo outside.told state.store state.doubt next

@@ -4,7 +4,7 @@ use Rattle.std.specs.List.{AllByRecursion as Each}
 use Rattle.tsdb_base.specs.declared.ids.FileNumber.{FileNumber}
 use Rattle.tsdb_base.specs.declared.ids.Stamp.{Stamp}
 use Rattle.tsdb_frames.specs.Frames.{faults_of, slot_of}
-use Rattle.tsdb_images.specs.Stored.{IsKept, built_files}
+use Rattle.tsdb_images.specs.Stored.{IsKeptWhole, built_files}
 use Rattle.tsdb_log.specs.declared.record.LogRecord.TheVariants.{Flushed}
 use Rattle.tsdb_logged.specs.Logged.{IsFaulted, IsSound, LeavesStates, Outside, log_of, memory_of, room_of, with_record}
 use Rattle.tsdb_logged.specs.declared.logged.Logged.{Logged}
@@ -24,7 +24,7 @@ pub record CanCommit (sequence unsequence : FileNumber) (listed : Option Stamp) 
     : Type 0 where
   pub commits : CommitsFlush outside.told outside.known flush others state
   pub numbers : flush_record flush ≡ Flushed sequence unsequence
-  pub kept : Each (IsKept outside.kept outside.told) (built_files flush)
+  pub kept : Each (IsKeptWhole outside.kept outside.told) (built_files flush)
   pub least : IsLeastOf listed (file_borns (committed_flush flush others state).store)
 
 module _ {J : Type 0} {means : disk.Ghosts J} {counts : counted.Ghosts J} where

@@ -3,7 +3,7 @@ use Rattle.std.specs.Prelude.{◌≡◌, ℕ, ◌+◌, ◌*◌, ◌≤◌, List,
 use Rattle.std.specs.List.{AllByRecursion as Each}
 use Rattle.tsdb_base.specs.declared.ids.Stamp.{Stamp}
 use Rattle.tsdb_frames.specs.Frames.{faults_of, slot_of}
-use Rattle.tsdb_images.specs.Stored.{IsKept}
+use Rattle.tsdb_images.specs.Stored.{IsKeptWhole}
 use Rattle.tsdb_log.specs.declared.record.LogRecord.{LogRecord}
 use Rattle.tsdb_log.specs.declared.record.LogRecord.TheVariants.{Create, Delete, Flushed, Freeze, Insert, Replaced}
 use Rattle.tsdb_log.specs.declared.record.LogRecord.TheVariants.{Snapshot}
@@ -40,7 +40,7 @@ pub record CanReplace (item : LogRecord) (listed : Option Stamp) (outside : Outs
     : Type 0 where
   pub commits : CommitsCompaction outside.told outside.known job others output place state
   pub is_record : compaction_record job output place ≡ item
-  pub kept : Each (IsKept outside.kept outside.told) output
+  pub kept : Each (IsKeptWhole outside.kept outside.told) output
   pub least : IsLeastOf listed (file_borns (committed job others output place state).store)
 
 module _ {J : Type 0} {means : disk.Ghosts J} {counts : counted.Ghosts J} where

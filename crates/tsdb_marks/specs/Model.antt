@@ -57,7 +57,7 @@ abbrev pub marks_view : Inside → Marks
 marks_view inside = record { marks = inside.marks.items; spare = inside.spare }
 
 -- the first marks, as many as are indexed, are in the index; the floor is 0, or less than each version
-pub record IsKept (inside : Inside) : Type 0 where
+pub record AreMarksKept (inside : Inside) : Type 0 where
   pub times : All HasTimes inside.marks.items
   pub rising : AllPairs (λ a b. a.version.0 < b.version.0) inside.marks.items
   pub indexed : inside.indexed ≤ length inside.marks.items

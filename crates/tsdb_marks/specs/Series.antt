@@ -17,7 +17,7 @@ no_marks = record { versions = []; runs = [] }
 abbrev pub series_view : Inside → Series
 series_view inside = record { versions = inside.versions.items; runs = map steps_of inside.runs.items }
 
-pub record IsKept (inside : Inside) : Type 0 where
+pub record IsSeriesKept (inside : Inside) : Type 0 where
   pub runs : All IsRun inside.runs.items
 
 -- the version over the moments of a range, and 0 over others

@@ -59,11 +59,11 @@ impl Model for Marks {
 
     ghost Value = { Marks };
 
-    ghost use Rattle.tsdb_marks.specs.Model.{IsKept, marks_view};
+    ghost use Rattle.tsdb_marks.specs.Model.{AreMarksKept, marks_view};
 
     ghost view = { marks_view };
 
-    ghost invariant = { IsKept };
+    ghost invariant = { AreMarksKept };
 }
 
 /// How far the time is from the least one.

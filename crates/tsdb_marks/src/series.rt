@@ -24,11 +24,11 @@ impl Model for Series {
 
     ghost Value = { Series };
 
-    ghost use Rattle.tsdb_marks.specs.Series.{IsKept, series_view};
+    ghost use Rattle.tsdb_marks.specs.Series.{IsSeriesKept, series_view};
 
     ghost view = { series_view };
 
-    ghost invariant = { IsKept };
+    ghost invariant = { IsSeriesKept };
 }
 
 /// Adds a run, and merges those at the end while the last but one is less than twice as long as the last. Where

@@ -176,12 +176,12 @@ full_content series space pair content once known is some none = by (slice_get s
         false≢true (subst IsSome
         (sym (is place) ∙ ap (λ (c : Content). get c place) none ∙ get-empty place_cmp place) value)
 
-pub part_is : (series : List Schema) (pair : Pair) (shown : state.Pair) (space : Space) → IsPairOf series pair shown
+pub part_is : (series : List Schema) (pair : Pair) (shown : state.PairContent) (space : Space) → IsPairOf series pair shown
     → IsContentOf series space pair (part_of space shown)
 part_is series pair shown Sequence is = is.sequence
 part_is series pair shown Unsequence is = is.unsequence
 
-filled_part : (series : List Schema) (space : Space) (pair : Pair) (shown : state.Pair) (b : Bool) → HasNumbers series
+filled_part : (series : List Schema) (space : Space) (pair : Pair) (shown : state.PairContent) (b : Bool) → HasNumbers series
     → HasKnownSeries series pair → IsPairOf series pair shown → IsFilled b space pair
     → (IsTrue b ↔ (part_of space shown ≢ empty))
 filled_part series space pair shown true once known is filled = (

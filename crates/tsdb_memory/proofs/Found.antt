@@ -24,6 +24,7 @@ use Rattle.tsdb_memory.specs.Model.{HasKnownSeries, HasRisingPoints}
 use Rattle.tsdb_memory.specs.Shown.{IsFrozenOf, IsPairOf, number_of, value_at, value_found}
 use Rattle.tsdb_memory.specs.Store as store
 use Rattle.tsdb_memtable.specs.Pairs.{Pair, change_points, points_of, without_range}
+use Rattle.tsdb_base.specs.Points.{IsRising}
 use Rattle.tsdb_memtable.specs.Points as points
 use Rattle.tsdb_state.specs.Records.{cut_pair}
 use Rattle.tsdb_state.specs.State as state
@@ -49,7 +50,7 @@ found_push series schema space pair place known =
     by None true = ap (value_at place.time) (known space (length series) (upper (length series)))
     by None false = refl
 
-pub pair_push : (series : List Schema) (schema : Schema) (pair : Pair) (shown : state.Pair)
+pub pair_push : (series : List Schema) (schema : Schema) (pair : Pair) (shown : state.PairContent)
     → HasKnownSeries series pair → IsPairOf series pair shown → IsPairOf (series ++ schema ∷ []) pair shown
 pair_push series schema pair shown known is = record {
   sequence = λ place. is.sequence place ∙ sym (found_push series schema Sequence pair place known);
@@ -134,7 +135,7 @@ found_cut series space pair n path range place at =
         (λ e. false≢true (sym eb ∙ ap (is_path path) (sym (one_path series m path place.path (at ∙ ap Some e) eo))
         ∙ path_itself path)))
 
-pub pair_cut : (series : List Schema) (pair : Pair) (shown : state.Pair) (n : ℕ) (path : List ℕ) (range : Range)
+pub pair_cut : (series : List Schema) (pair : Pair) (shown : state.PairContent) (n : ℕ) (path : List ℕ) (range : Range)
     → number_of series path ≡ Some n → IsPairOf series pair shown
     → IsPairOf series (change_points n (without_range range) pair) (cut_pair path range shown)
 pair_cut series pair shown n path range at is = record {
@@ -170,15 +171,15 @@ pub rising_cut : (pair : Pair) (n : ℕ) (range : Range) → HasRisingPoints pai
 rising_cut pair n range rising space number = by (eq_by_cmp nat_cmp n number) refl
   where
     by : (b : Bool) → eq_by_cmp nat_cmp n number ≡ b
-        → points.IsRising (points_of space number (change_points n (without_range range) pair))
+        → IsRising (points_of space number (change_points n (without_range range) pair))
     by true e =
-        subst (λ k. points.IsRising (points_of space k (change_points n (without_range range) pair)))
+        subst (λ k. IsRising (points_of space k (change_points n (without_range range) pair)))
         (one_number n number e)
-        (subst points.IsRising (sym (erased_here space n range pair))
+        (subst IsRising (sym (erased_here space n range pair))
         (AllPairs-filter (λ (a b : Point). a.time <ℤ b.time) (points.is_outside range) (points_of space n pair)
         (rising space n)))
     by false e =
-        subst points.IsRising
+        subst IsRising
         (sym (erased_there space n range pair number
         (λ same. false≢true (sym e ∙ ap (eq_by_cmp nat_cmp n) (sym same) ∙ itself n))))
         (rising space number)

@@ -254,7 +254,7 @@ module _ (series : List Schema) (space other : Space) (pair : Pair) (n : ℕ) (p
               there m (λ e. false≢true (sym ee ∙ ap (eq_by_cmp nat_cmp n) (sym e) ∙ itself n))
               ∙ same (is_space space other) (value_at place.time (points_of other m pair))
 
-pub pair_put : (series : List Schema) (space : Space) (pair : Pair) (shown : state.Pair) (n : ℕ) (path : List ℕ)
+pub pair_put : (series : List Schema) (space : Space) (pair : Pair) (shown : state.PairContent) (n : ℕ) (path : List ℕ)
     (point : Point) → 0 < spare_of n pair → number_of series path ≡ Some n → IsPairOf series pair shown
     → IsPairOf series (change_points n (put_in space point) pair)
     (put_in_space space (record { path = path; time = point.time }) point.value shown)

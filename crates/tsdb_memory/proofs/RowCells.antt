@@ -81,7 +81,7 @@ module _ (series : List Schema) (watermarks : Watermarks) (space : Space) (devic
     (once : (number : ℕ) (schema : Schema) → slice_get series number ≡ Some schema
     → number_of series schema.path ≡ Some number)
     (is_space : space ≡ space_by (get watermarks device) time) where
-  put_first : (cell : CellRecord) (pair : Pair) (shown : state.Pair) → IsThere series device cell
+  put_first : (cell : CellRecord) (pair : Pair) (shown : state.PairContent) → IsThere series device cell
       → HasRoom pair cell → IsPairOf series pair shown
       → IsPairOf series (change_points cell.series.0 (put_in space (record { time = time; value = cell.value })) pair)
       (put_cells (map entry_of series) watermarks time (cell ∷ []) shown)
@@ -97,7 +97,7 @@ module _ (series : List Schema) (watermarks : Watermarks) (space : Space) (devic
       (record { time = time; value = cell.value }) room
       (ap (number_of series) path ∙ once cell.series.0 at.schema at.at) is)
 
-  pub put_row : (cells : List CellRecord) (pair : Pair) (shown : state.Pair) → All (IsThere series device) cells
+  pub put_row : (cells : List CellRecord) (pair : Pair) (shown : state.PairContent) → All (IsThere series device) cells
       → AllPairs Differs cells → All (HasRoom pair) cells → IsPairOf series pair shown
       → IsPairOf series (put_all space time cells pair) (put_cells (map entry_of series) watermarks time cells shown)
   put_row [] pair shown there differ room is = is

@@ -76,5 +76,5 @@ pub record IsSound (store : value.Store) : Type 0 where
   pub versions : All (λ mark. mark.version.0 ≤ store.stamp) store.marks.marks
   pub ends : store.stamp ≤ end_of_numbers
 
-abbrev pub IsKept : Inside → Type 0
-IsKept inside = IsSound (store_in inside)
+abbrev pub IsMemoryKept : Inside → Type 0
+IsMemoryKept inside = IsSound (store_in inside)

@@ -39,7 +39,7 @@ abbrev pub IsContentOf : List Schema → Space → Pair → Content → Type 0
 IsContentOf series space pair content = (place : Place) → get content place ≡ value_found series space pair place
 
 -- the content of both spaces
-pub record IsPairOf (series : List Schema) (pair : Pair) (shown : state.Pair) : Type 0 where
+pub record IsPairOf (series : List Schema) (pair : Pair) (shown : state.PairContent) : Type 0 where
   pub sequence : IsContentOf series Sequence pair shown.sequence
   pub unsequence : IsContentOf series Unsequence pair shown.unsequence
 
@@ -62,7 +62,7 @@ abbrev pub file_borns : state.StoreState → List ℕ
 file_borns shown = map (λ file. file.born) (shown.sequence ++ shown.unsequence)
 
 -- the part of a pair in this space
-abbrev pub part_of : Space → state.Pair → Content
+abbrev pub part_of : Space → state.PairContent → Content
 part_of Sequence pair = pair.sequence
 part_of Unsequence pair = pair.unsequence
 

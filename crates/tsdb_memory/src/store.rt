@@ -39,11 +39,11 @@ impl Model for MemoryStore {
 
     ghost Value = { Store };
 
-    ghost use Rattle.tsdb_memory.specs.Model.{IsKept, store_in};
+    ghost use Rattle.tsdb_memory.specs.Model.{IsMemoryKept, store_in};
 
     ghost view = { store_in };
 
-    ghost invariant = { IsKept };
+    ghost invariant = { IsMemoryKept };
 }
 
 impl MemoryStore {

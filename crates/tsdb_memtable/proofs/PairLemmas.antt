@@ -21,14 +21,14 @@ use Rattle.tsdb_base.specs.declared.point.Point.{Point}
 use Rattle.tsdb_memtable.specs.declared.series.Totals.{Totals}
 use Rattle.tsdb_memtable.specs.Model.{most_bytes, totals_of, with_room}
 use Rattle.tsdb_memtable.specs.Limits.{max_bytes}
-use Rattle.tsdb_memtable.specs.Points.{point_bytes, bytes_of}
+use Rattle.tsdb_memtable.specs.Points.{point_bytes, counted_bytes}
 use Rattle.tsdb_memtable.specs.Pairs.{IsProvided, Pair, SeriesPoints, blank, byte_count, is_series, points_in, series_bytes, spare_of, table}
 use Rattle.tsdb_memtable.proofs.PlaceLemmas.{is_eq-equal}
 use Rattle.tsdb_memtable.specs.PairModel.{AreTotals, CanSwap, IsPart, IsSwap, most_of}
 
 -- a point counts a byte at least
 
-length-bytes : (points : List Point) → length points ≤ bytes_of points
+length-bytes : (points : List Point) → length points ≤ counted_bytes points
 length-bytes [] = omega arith
 length-bytes (x ∷ points) = let others = length-bytes points in omega (arith, sum_by-cons point_bytes x points)
 

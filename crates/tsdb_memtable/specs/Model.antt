@@ -31,7 +31,7 @@ totals_of series = record {
   spare = series.spare;
 }
 
-pub record IsKept (inside : Inside) : Type 0 where
+pub record ArePointsKept (inside : Inside) : Type 0 where
   pub sequence_rising : IsRising inside.sequence.items
   pub unsequence_rising : IsRising inside.unsequence.items
   pub sequence_room : vec_len inside.sequence + inside.spare ≤ vec_capacity inside.sequence

@@ -48,6 +48,6 @@ pub record AreTotals (pair : Pair) (totals : Totals) : Type 0 where
   pub bytes : totals.bytes ≡ byte_count pair
   pub spare : totals.spare ≡ spare_count pair
 
-pub record IsKept (inside : Inside) : Type 0 where
+pub record IsPairKept (inside : Inside) : Type 0 where
   pub totals : AreTotals inside.series.entries inside.totals
   pub most : most_of inside.totals ≤ max_bytes

@@ -9,7 +9,7 @@ use Rattle.tsdb_base.specs.declared.ids.Space.{Space}
 use Rattle.tsdb_base.specs.declared.ids.Space.TheVariants.{Sequence, Unsequence}
 use Rattle.tsdb_base.specs.declared.point.Point.{Point}
 use Rattle.tsdb_base.specs.declared.point.Range.{Range}
-use Rattle.tsdb_memtable.specs.Points.{with_point, is_outside, bytes_of}
+use Rattle.tsdb_memtable.specs.Points.{with_point, is_outside, counted_bytes}
 
 -- the points of a series in each space, in order of time, and for how many more there is room
 pub record SeriesPoints : Type 0 where
@@ -84,7 +84,7 @@ count space pair = sum_by (λ series. length (points_in space series)) (values_o
 
 -- how many bytes a series' points count
 abbrev pub series_bytes : SeriesPoints → ℕ
-series_bytes series = bytes_of series.sequence + bytes_of series.unsequence
+series_bytes series = counted_bytes series.sequence + counted_bytes series.unsequence
 
 -- how many bytes the points of both spaces count
 abbrev pub byte_count : Pair → ℕ

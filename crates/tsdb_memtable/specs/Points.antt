@@ -37,5 +37,5 @@ value_bytes (value.Text bytes) = length bytes
 abbrev pub point_bytes : Point → ℕ
 point_bytes point = 8 + value_bytes point.value
 
-abbrev pub bytes_of : List Point → ℕ
-bytes_of points = sum_by point_bytes points
+abbrev pub counted_bytes : List Point → ℕ
+counted_bytes points = sum_by point_bytes points

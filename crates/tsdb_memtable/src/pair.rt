@@ -33,11 +33,11 @@ impl Model for Pair {
 
     ghost Value = { Pair };
 
-    ghost use Rattle.tsdb_memtable.specs.PairModel.{IsKept};
+    ghost use Rattle.tsdb_memtable.specs.PairModel.{IsPairKept};
 
     ghost view = { λ pair. pair.series.entries };
 
-    ghost invariant = { IsKept };
+    ghost invariant = { IsPairKept };
 }
 
 /// Whether the bytes are counted without passing 64 bits, when all room and so many points more are used.

@@ -5,7 +5,7 @@ ghost use Rattle.tsdb_base.specs.Limits.{max_point_bytes};
 ghost use Rattle.tsdb_memtable.specs.Limits.{max_bytes};
 ghost use Rattle.tsdb_base.specs.Points.{IsRising};
 ghost use Rattle.tsdb_memtable.specs.Points.{is_before, is_after, is_outside, is_within, with_point};
-ghost use Rattle.tsdb_memtable.specs.Points.{point_bytes as bytes_of_point, bytes_of as bytes_of_points};
+ghost use Rattle.tsdb_memtable.specs.Points.{point_bytes as bytes_of_point, counted_bytes as bytes_of_points};
 ghost use Rattle.tsdb_memtable.specs.Steps.{is_from, is_until};
 
 use std::mem;

@@ -38,11 +38,11 @@ impl Model for SeriesPoints {
 
     ghost Value = { SeriesPoints };
 
-    ghost use Rattle.tsdb_memtable.specs.Model.{points_view, IsKept};
+    ghost use Rattle.tsdb_memtable.specs.Model.{points_view, ArePointsKept};
 
     ghost view = { points_view };
 
-    ghost invariant = { IsKept };
+    ghost invariant = { ArePointsKept };
 }
 
 impl SeriesPoints {

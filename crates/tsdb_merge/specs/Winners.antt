@@ -25,12 +25,12 @@ IsToldMergeOf lists None = ⊥
 IsToldMergeOf lists (Some points) = IsMergeOf lists points
 
 -- the first point of a list is taken, or there is none
-abbrev pub Takes : List Point → Option Point → List Point → Type 0
-Takes before None after = (before ≡ []) × (after ≡ [])
-Takes before (Some point) after = before ≡ point ∷ after
+abbrev pub TakesFirst : List Point → Option Point → List Point → Type 0
+TakesFirst before None after = (before ≡ []) × (after ≡ [])
+TakesFirst before (Some point) after = before ≡ point ∷ after
 
 -- where the list is told, its first point is taken, or there is none, and what is left is told
 abbrev pub TakesTold : Option (List Point) → Option Point → Option (List Point) → Type 0
 TakesTold None point after = Unit {0}
 TakesTold (Some before) point None = ⊥
-TakesTold (Some before) point (Some after) = Takes before point after
+TakesTold (Some before) point (Some after) = TakesFirst before point after

@@ -17,7 +17,7 @@ use Rattle.tsdb_memtable.specs.Watermarks.{space_by}
 use Rattle.tsdb_path.specs.Nodes.{device_of}
 use Rattle.tsdb_state.specs.Limit.{point_count}
 use Rattle.tsdb_state.specs.Records.{path_of, place_of, put_cells, put_in_pair, put_in_space}
-use Rattle.tsdb_state.specs.State.{Pair, SeriesEntry}
+use Rattle.tsdb_state.specs.State.{PairContent, SeriesEntry}
 
 -- the cells without a point
 abbrev pub fresh : (CellRecord → Bool) → List CellRecord → ℕ
@@ -42,13 +42,13 @@ len_put content place value b is = len-insert place_cmp_total content place valu
     by true e = ap (λ t. cond t (len content) (len content + 1)) (sym e) ∙ omega arith
     by false e = ap (λ t. cond t (len content) (len content + 1)) (sym e)
 
-count_put : (space : Space) (pair : Pair) (place : Place) (value : Value) (b : Bool)
+count_put : (space : Space) (pair : PairContent) (place : Place) (value : Value) (b : Bool)
     → b ≡ is_some (get (part_of space pair) place)
     → point_count (put_in_space space place value pair) ≡ point_count pair + cond b 0 1
 count_put Sequence pair place value b is = omega (arith, len_put pair.sequence place value b is)
 count_put Unsequence pair place value b is = omega (arith, len_put pair.unsequence place value b is)
 
-part_put : (space : Space) (pair : Pair) (place other : Place) (value : Value) → place ≢ other
+part_put : (space : Space) (pair : PairContent) (place other : Place) (value : Value) → place ≢ other
     → is_some (get (part_of space (put_in_space space place value pair)) other) ≡ is_some (get (part_of space pair) other)
 part_put space pair place other value apart = by space
   where
@@ -69,19 +69,19 @@ module _ (schemas : List SeriesEntry) (watermarks : Watermarks) (space : Space) 
   IsAt : CellRecord → Type 0
   IsAt cell = space_by (get watermarks (device_of (path_of schemas cell.series.0))) time ≡ space
 
-  Holds : Pair → CellRecord → Type 0
+  Holds : PairContent → CellRecord → Type 0
   Holds pair cell = has cell ≡ is_some (get (part_of space pair) (place_of schemas time cell))
 
   Apart : CellRecord → CellRecord → Type 0
   Apart cell other = path_of schemas cell.series.0 ≢ path_of schemas other.series.0
 
-  step : (cell : CellRecord) (pair : Pair) → IsAt cell
+  step : (cell : CellRecord) (pair : PairContent) → IsAt cell
       → put_in_pair watermarks (place_of schemas time cell) cell.value pair
       ≡ put_in_space space (place_of schemas time cell) cell.value pair
   unfolding IsAt
   step cell pair at = ap (λ s. put_in_space s (place_of schemas time cell) cell.value pair) at
 
-  held : (cell : CellRecord) (pair : Pair) (cells : List CellRecord) → Each (Apart cell) cells
+  held : (cell : CellRecord) (pair : PairContent) (cells : List CellRecord) → Each (Apart cell) cells
       → Each (Holds pair) cells
       → Each (Holds (put_in_space space (place_of schemas time cell) cell.value pair)) cells
   unfolding Apart Holds
@@ -93,7 +93,7 @@ module _ (schemas : List SeriesEntry) (watermarks : Watermarks) (space : Space) 
   )
 
   -- each cell without a point is one point more
-  pub count_cells : (cells : List CellRecord) (pair : Pair)
+  pub count_cells : (cells : List CellRecord) (pair : PairContent)
       → Each (λ cell. space_by (get watermarks (device_of (path_of schemas cell.series.0))) time ≡ space) cells
       → EachPair (λ cell other. path_of schemas cell.series.0 ≢ path_of schemas other.series.0) cells
       → Each (λ cell. has cell ≡ is_some (get (part_of space pair) (place_of schemas time cell))) cells

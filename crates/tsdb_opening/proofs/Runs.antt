@@ -3,7 +3,7 @@ use Rattle.std.proofs.Common.{◌≡◌, ◌≢◌, ◌⊎◌, inl, inr, ⊎_eli
 use Rattle.std.proofs.Common.{Option, Some, None, sym, ap, subst, ◌∙◌, arith}
 use Rattle.std.proofs.lemmas.Bool.{cases_eq, cases_lt}
 use Rattle.tsdb_opening.specs.Named.{IsInRun, run_from}
-use Rattle.tsdb_opening.specs.Runs.{AreRuns, BeginsWith, EndsWith, HasOneMore, IsLastUpTo}
+use Rattle.tsdb_opening.specs.Runs.{AreRuns, IsBeginOfRun, EndsWith, HasOneMore, IsLastUpTo}
 use Rattle.tsdb_base.specs.Limits.{end_of_numbers}
 
 -- one run that begins with a number has one end
@@ -17,12 +17,12 @@ pub in_none : (runs : List (ℕ × ℕ)) (number : ℕ) → IsLastUpTo runs numb
 in_none runs number none run = no_end (run_from run.first runs) run.last (none run.first run.from) run.is_run
 
 -- a run that begins with the number begins up to it
-pub first_low : (runs : List (ℕ × ℕ)) (number first : ℕ) → BeginsWith runs number first → first ≤ number
+pub first_low : (runs : List (ℕ × ℕ)) (number first : ℕ) → IsBeginOfRun runs number first → first ≤ number
 first_low runs number first begins = ⊎_elim (λ same. omega (arith, same)) (λ before. omega (arith, before.0)) begins
 
 -- a number joins the runs
 module _ (old new : List (ℕ × ℕ)) (number first last : ℕ) (are : AreRuns old) (within : number < end_of_numbers)
-    (free : ¬ IsInRun old number) (begins : BeginsWith old number first) (ends : EndsWith old number last)
+    (free : ¬ IsInRun old number) (begins : IsBeginOfRun old number first) (ends : EndsWith old number last)
     (gone : run_from (number + 1) new ≡ None) (here : run_from first new ≡ Some last)
     (others : (other : ℕ) → other ≢ first → other ≢ number + 1 → run_from other new ≡ run_from other old) where
   low : first ≤ number
@@ -41,7 +41,7 @@ module _ (old new : List (ℕ × ℕ)) (number first last : ℕ) (are : AreRuns 
   behind_first : (begin end : ℕ) → run_from begin old ≡ Some end → first < begin → number < begin
   behind_first begin end run lt = ⊎_elim (λ gt. gt) (λ le. absurd (by le begins)) (cases_lt number begin)
     where
-      by : begin ≤ number → BeginsWith old number first → ⊥
+      by : begin ≤ number → IsBeginOfRun old number first → ⊥
       by le (inl same) = omega (arith, same, lt, le)
       by le (inr before) = omega (
         arith,
@@ -74,7 +74,7 @@ module _ (old new : List (ℕ × ℕ)) (number first last : ℕ) (are : AreRuns 
           record { first = number + 1; last = last; is_run = behind; from = omega (arith, lt); to = le }
       above lt le (inr none) = absurd (omega (arith, lt, le, none.0))
 
-      below : other < number → first ≤ other → BeginsWith old number first → IsInRun old other
+      below : other < number → first ≤ other → IsBeginOfRun old number first → IsInRun old other
       below lt le (inl same) = absurd (omega (arith, lt, le, same))
       below lt le (inr before) =
           record { first = first; last = before.1; is_run = before.3; from = le; to = omega (arith, lt, before.2) }
@@ -121,7 +121,7 @@ module _ (old new : List (ℕ × ℕ)) (number first last : ℕ) (are : AreRuns 
           }
       behind same (inr none) = no_end (run_from (number + 1) old) run.last none.1 (ap (λ n. run_from n old) (sym same) ∙ run.is_run)
 
-      before : run.first ≡ first → BeginsWith old number first → IsInRun new other
+      before : run.first ≡ first → IsBeginOfRun old number first → IsInRun new other
       before same (inl is) = absurd (omega (
         arith,
         same,
@@ -154,7 +154,7 @@ module _ (old new : List (ℕ × ℕ)) (number first last : ℕ) (are : AreRuns 
   before_next next end apart run lt (inr none) = omega (arith, none.0, behind_first next end run lt)
 
   -- and begins behind those before it
-  behind_former : (begin end : ℕ) → run_from begin old ≡ Some end → begin < first → BeginsWith old number first
+  behind_former : (begin end : ℕ) → run_from begin old ≡ Some end → begin < first → IsBeginOfRun old number first
       → end < first
   behind_former begin end run lt (inl same) = omega (arith, same, passes_by begin end run (omega (arith, lt, same)))
   behind_former begin end run lt (inr before) = are.apart begin end first before.1 run before.3 lt

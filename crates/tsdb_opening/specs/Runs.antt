@@ -22,8 +22,8 @@ pub record IsLastOf (runs : List (ℕ × ℕ)) (number : ℕ) : Type 0 where
   pub has : (number ≡ 0) ⊎ IsInRun runs number
 
 -- where a run begins that ends with this number: where the run before it ends, or at the number itself
-abbrev pub BeginsWith : List (ℕ × ℕ) → ℕ → ℕ → Type 0
-BeginsWith runs number first = (first ≡ number)
+abbrev pub IsBeginOfRun : List (ℕ × ℕ) → ℕ → ℕ → Type 0
+IsBeginOfRun runs number first = (first ≡ number)
     ⊎ ((first < number) × (last : ℕ) × (last + 1 ≡ number) × (run_from first runs ≡ Some last))
 
 -- where a run ends that begins with this number: where the run behind it ends, or at the number itself

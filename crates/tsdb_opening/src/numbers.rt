@@ -6,7 +6,7 @@ ghost use Rattle.std.specs.Prelude.{◌≡◌, ◌↔◌, ◌+◌, ◌<◌, [], 
 ghost use Rattle.std.specs.BTreeMap.{IsUnchanged};
 ghost use Rattle.std.specs.Option.{option_map};
 ghost use Rattle.tsdb_opening.specs.Named.{CanName, IsGreatest, IsInRun, IsNamed, NamesMore, none_named, run_from};
-ghost use Rattle.tsdb_opening.specs.Runs.{AreRuns, BeginsWith, EndsWith, HasOneMore, IsLastOf, IsLastUpTo};
+ghost use Rattle.tsdb_opening.specs.Runs.{AreRuns, IsBeginOfRun, EndsWith, HasOneMore, IsLastOf, IsLastUpTo};
 ghost use Rattle.tsdb_base.specs.Limits.{end_of_numbers};
 ghost use Rattle.tsdb_state.specs.Records.{new_numbers};
 
@@ -183,7 +183,7 @@ fn is_in_run(runs: &Runs, number: u64) -> bool
 fn begin_of(runs: &Runs, number: u64) -> u64
     requires runs { AreRuns runs.now.entries }
     requires number { number < end_of_numbers }
-    ensures { BeginsWith runs.now.entries number result }
+    ensures { IsBeginOfRun runs.now.entries number result }
 {
     let Some((first, last)) = last_up_to(runs, number) else {
         return number;

@@ -1,12 +1,12 @@
 -- What a disk may leave, and how its time goes on.
 use Rattle.std.proofs.Common.{◌≡◌, ℕ, ◌+◌, ◌≤◌, max, List, length, refl, inl, arith}
 use Rattle.std.proofs.lemmas.Grind.{common_steps}
-use Rattle.tsdb_outside.specs.Disk.{Image, State, Elapses, Keeps, MayWrite, silent_state, Torn, TornIn, overwrite}
+use Rattle.tsdb_outside.specs.Disk.{Image, DiskState, Elapses, Keeps, MayWrite, silent_state, Torn, TornIn, overwrite}
 use Rattle.tsdb_outside.specs.declared.disk.Slot.{Slot}
 use Rattle.tsdb_outside.specs.declared.disk.Slot.TheVariants.{A, B}
 
 -- no time goes by
-pub Elapses-same : (state : State) (P : Image → Type 0) → Elapses state state P
+pub Elapses-same : (state : DiskState) (P : Image → Type 0) → Elapses state state P
 Elapses-same state P = record {
   later = omega arith;
   nothing_else = λ t image le left. inl left;
@@ -14,7 +14,7 @@ Elapses-same state P = record {
 }
 
 -- nothing has changed
-pub Keeps-same : (state : State) → Keeps state state
+pub Keeps-same : (state : DiskState) → Keeps state state
 Keeps-same state = record { seen = refl; crash = λ image left. left; time = Elapses-same state state.may_leave }
 
 -- a write that is cut short may leave all as it was

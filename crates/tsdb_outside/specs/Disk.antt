@@ -20,7 +20,7 @@ with_slot A bytes image = record { a = bytes; b = image.b }
 with_slot B bytes image = record { a = image.a; b = bytes }
 
 -- What a disk means at one moment.
-pub record State : Type 1 where
+pub record DiskState : Type 1 where
   -- what reads of both slots give, or none where it does not tell
   pub seen : Option Image
   -- what a stop at this moment may leave
@@ -31,11 +31,11 @@ pub record State : Type 1 where
   pub left_since : ℕ → Image → Type 0
 
 -- a disk that tells nothing: a stop may leave anything
-abbrev pub silent_state : State
+abbrev pub silent_state : DiskState
 silent_state = record { seen = None; may_leave = λ _. Unit {0}; moment = 0; left_since = λ _ _. Unit {0} }
 
 -- The laws of a disk.
-pub record IsLawful (disk : State) : Type 0 where
+pub record IsLawful (disk : DiskState) : Type 0 where
   -- a stop may leave what reads give
   pub seen_may_stay : (image : Image) → disk.seen ≡ Some image → disk.may_leave image
   -- a stop at this moment is one since an earlier one
@@ -84,20 +84,20 @@ abbrev pub Durable : Slot → List ℕ → (Image → Type 0) → Type 0
 Durable slot bytes may_leave = (image : Image) → may_leave image → in_slot slot image ≡ bytes
 
 -- Time goes on: what a stop since t may have left was left before, or it has P.
-pub record Elapses (old new : State) (P : Image → Type 0) : Type 0 where
+pub record Elapses (old new : DiskState) (P : Image → Type 0) : Type 0 where
   pub later : old.moment ≤ new.moment
   pub nothing_else : (t : ℕ) (image : Image) → t ≤ old.moment → new.left_since t image
       → old.left_since t image ⊎ P image
   pub keeps : (t : ℕ) (image : Image) → t ≤ old.moment → old.left_since t image → new.left_since t image
 
 -- What a call that writes nothing leaves as it was. A stop in it leaves what it may leave behind the call, or before.
-pub record Keeps (old new : State) : Type 0 where
+pub record Keeps (old new : DiskState) : Type 0 where
   pub seen : new.seen ≡ old.seen
   pub crash : NothingNew old.may_leave new.may_leave
   pub time : Elapses old new new.may_leave
 
 -- What a write of n bytes may do, whether it succeeds or fails.
-pub record MayWrite (slot : Slot) (at n : ℕ) (old new : State) : Type 0 where
+pub record MayWrite (slot : Slot) (at n : ℕ) (old new : DiskState) : Type 0 where
   pub torn : WhereTold (TornIn slot at n) old.seen new.seen
   pub crash : Follows (TornIn slot at n) old.may_leave new.may_leave
   pub time : Elapses old new new.may_leave

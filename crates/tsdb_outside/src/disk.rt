@@ -31,10 +31,10 @@ pub enum Slot {
 
 /// The meaning of a disk with two slots.
 pub trait Disk: Counted {
-    ghost use Rattle.tsdb_outside.specs.Disk.{State, IsLawful};
+    ghost use Rattle.tsdb_outside.specs.Disk.{DiskState, IsLawful};
 
     /// What reads give, what a stop may leave, and what it may have left at earlier moments.
-    ghost state: { Self → State };
+    ghost state: { Self → DiskState };
 
     /// The laws of its state.
     ghost lawful: { (disk : Self) → IsLawful (state disk) };

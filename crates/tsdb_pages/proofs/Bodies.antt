@@ -42,7 +42,7 @@ are_times data_type points are ranges = record {
 pub are_values : (data_type : DataType) (points : List Point) → ArePoints data_type points → All IsInRange points → IsListOf (IsValueOf data_type) (values_of points)
 are_values data_type points are ranges = record {
   few = subst (λ n. n ≤ max_values) (sym (length-map points (λ (p : Point). p.value))) are.few;
-  typed = All-map (IsValueOf data_type) (λ (p : Point). p.value) points (λ k d lt. record { type-is = are.typed k d lt; fits = (ranges k d lt).1 });
+  typed = All-map (IsValueOf data_type) (λ (p : Point). p.value) points (λ k d lt. record { type_is = are.typed k d lt; fits = (ranges k d lt).1 });
 }
 
 few_times : (data_type : DataType) (points : List Point) → ArePoints data_type points → All IsInRange points → length (times_field points) < 2 ^ 30
@@ -80,15 +80,15 @@ parts_same a b x y short_a short_b e =
 pub parts_of : (data_type : DataType) (encoding : Encoding) (bytes times values : List ℕ) (points : List Point) → length times < 2 ^ 32 → bytes ≡ number32 (length times) ++ times ++ values → IsBody data_type encoding bytes points
     → (times ≡ times_field points) × (values ≡ spelling encoding (values_of points))
 parts_of data_type encoding bytes times values points short found is =
-    parts_same times (times_field points) values (spelling encoding (values_of points)) short (short_times data_type points is.points-are is.ranges) (sym found ∙ is.bytes-are)
+    parts_same times (times_field points) values (spelling encoding (values_of points)) short (short_times data_type points is.points_are is.ranges) (sym found ∙ is.bytes_are)
 
 pub no_times : (data_type : DataType) (encoding : Encoding) (bytes times values : List ℕ) → length times < 2 ^ 32 → bytes ≡ number32 (length times) ++ times ++ values → SpellNone ts2diff.spelling (FitsSigned w64) times → IsNoBody data_type encoding bytes
 no_times data_type encoding bytes times values short found none = λ points is.
-    none (times_of points) (record { list = are_times data_type points is.points-are is.ranges; bytes-are = (parts_of data_type encoding bytes times values points short found is).0 })
+    none (times_of points) (record { list = are_times data_type points is.points_are is.ranges; bytes_are = (parts_of data_type encoding bytes times values points short found is).0 })
 
 pub no_values : (data_type : DataType) (encoding : Encoding) (bytes times values : List ℕ) → length times < 2 ^ 32 → bytes ≡ number32 (length times) ++ times ++ values → SpellNone (spelling encoding) (IsValueOf data_type) values → IsNoBody data_type encoding bytes
 no_values data_type encoding bytes times values short found none = λ points is.
-    none (values_of points) (record { list = are_values data_type points is.points-are is.ranges; bytes-are = (parts_of data_type encoding bytes times values points short found is).1 })
+    none (values_of points) (record { list = are_values data_type points is.points_are is.ranges; bytes_are = (parts_of data_type encoding bytes times values points short found is).1 })
 
 -- the times and values that were found in bytes are those of each page with this body
 pub found_same : (data_type : DataType) (encoding : Encoding) (suits : is_suitable data_type encoding ≡ true) (bytes times values : List ℕ) (ts : List ℤ) (vs : List Value) → length times < 2 ^ 32 → bytes ≡ number32 (length times) ++ times ++ values
@@ -96,8 +96,8 @@ pub found_same : (data_type : DataType) (encoding : Encoding) (suits : is_suitab
     → (points : List Point) → IsBody data_type encoding bytes points → (times_of points ≡ ts) × (values_of points ≡ vs)
 found_same data_type encoding suits bytes times values ts vs short found in_times in_values points is =
     let parts = parts_of data_type encoding bytes times values points short found is in (
-      times_laws.same_from_spelling (times_of points) ts (are_times data_type points is.points-are is.ranges) in_times.list (sym parts.0 ∙ in_times.bytes-are),
-      (laws_of data_type encoding suits).one (values_of points) vs (are_values data_type points is.points-are is.ranges) in_values.list (sym parts.1 ∙ in_values.bytes-are),
+      times_laws.same_from_spelling (times_of points) ts (are_times data_type points is.points_are is.ranges) in_times.list (sym parts.0 ∙ in_times.bytes_are),
+      (laws_of data_type encoding suits).one (values_of points) vs (are_values data_type points is.points_are is.ranges) in_values.list (sym parts.1 ∙ in_values.bytes_are),
     )
 
 -- points with the same times and values are the same
@@ -129,7 +129,7 @@ no_pairing data_type encoding suits bytes times values ts vs short found in_time
     let same = found_same data_type encoding suits bytes times values ts vs short found in_times in_values points is in
     let n : length points ≡ length ts = sym (length-map points (λ (p : Point). p.time)) ∙ ap length same.0 in
     let m : length points ≡ length vs = sym (length-map points (λ (p : Point). p.value)) ∙ ap length same.1 in
-    other (subst (λ k. 0 < k) n is.points-are.some) (sym n ∙ m)
+    other (subst (λ k. 0 < k) n is.points_are.some) (sym n ∙ m)
 
 -- times that do not rise
 pub no_rise : (data_type : DataType) (encoding : Encoding) (suits : is_suitable data_type encoding ≡ true) (bytes times values : List ℕ) (ts : List ℤ) (vs : List Value) → length times < 2 ^ 32 → bytes ≡ number32 (length times) ++ times ++ values
@@ -137,7 +137,7 @@ pub no_rise : (data_type : DataType) (encoding : Encoding) (suits : is_suitable 
     → (pairs : List Point) → times_of pairs ≡ ts → values_of pairs ≡ vs → (IsRising pairs → ⊥) → IsNoBody data_type encoding bytes
 no_rise data_type encoding suits bytes times values ts vs short found in_times in_values pairs of_times of_values none = λ points is.
     let same = found_same data_type encoding suits bytes times values ts vs short found in_times in_values points is in
-    none (subst IsRising (points_same points pairs (same.0 ∙ sym of_times) (same.1 ∙ sym of_values)) is.points-are.rising)
+    none (subst IsRising (points_same points pairs (same.0 ∙ sym of_times) (same.1 ∙ sym of_values)) is.points_are.rising)
 
 -- the points of the times and values that were found are a page with this body
 pub is_body : (data_type : DataType) (encoding : Encoding) → is_suitable data_type encoding ≡ true → (bytes times values : List ℕ) (ts : List ℤ) (vs : List Value) → bytes ≡ number32 (length times) ++ times ++ values
@@ -149,23 +149,23 @@ is_body data_type encoding suits bytes times values ts vs found in_times in_valu
     let typed : All (IsValueOf data_type) (values_of pairs) = subst (λ l. All (IsValueOf data_type) l) (sym of_values) in_values.list.typed in
     record {
       suits = suits;
-      points-are = record {
+      points_are = record {
         some = subst (λ k. 0 < k) (sym n) some;
         few = subst (λ k. k ≤ max_values) (sym n) in_times.list.few;
-        typed = λ k d lt. (All-of_map (IsValueOf data_type) (λ (p : Point). p.value) pairs typed k d lt).type-is;
+        typed = λ k d lt. (All-of_map (IsValueOf data_type) (λ (p : Point). p.value) pairs typed k d lt).type_is;
         rising = rising;
       };
       ranges = λ k d lt. (All-of_map (FitsSigned w64) (λ (p : Point). p.time) pairs fit k d lt, (All-of_map (IsValueOf data_type) (λ (p : Point). p.value) pairs typed k d lt).fits);
-      bytes-are =
-          let times_is : times ≡ times_field pairs = in_times.bytes-are ∙ ap ts2diff.spelling (sym of_times) in
-          let values_is : values ≡ spelling encoding (values_of pairs) = in_values.bytes-are ∙ ap (spelling encoding) (sym of_values) in
+      bytes_are =
+          let times_is : times ≡ times_field pairs = in_times.bytes_are ∙ ap ts2diff.spelling (sym of_times) in
+          let values_is : values ≡ spelling encoding (values_of pairs) = in_values.bytes_are ∙ ap (spelling encoding) (sym of_values) in
           found ∙ ap (λ (l : List ℕ). number32 (length l) ++ l ++ values) times_is ∙ ap (λ (l : List ℕ). number32 (length (times_field pairs)) ++ times_field pairs ++ l) values_is;
     }
 
 pub one_body : (data_type : DataType) (encoding : Encoding) (suits : is_suitable data_type encoding ≡ true) (bytes : List ℕ) (xs ys : List Point) → IsBody data_type encoding bytes xs → IsBody data_type encoding bytes ys → xs ≡ ys
 one_body data_type encoding suits bytes xs ys in_xs in_ys =
-    let same = found_same data_type encoding suits bytes (times_field ys) (spelling encoding (values_of ys)) (times_of ys) (values_of ys) (short_times data_type ys in_ys.points-are in_ys.ranges) in_ys.bytes-are
-    (record { list = are_times data_type ys in_ys.points-are in_ys.ranges; bytes-are = refl }) (record { list = are_values data_type ys in_ys.points-are in_ys.ranges; bytes-are = refl }) xs in_xs in
+    let same = found_same data_type encoding suits bytes (times_field ys) (spelling encoding (values_of ys)) (times_of ys) (values_of ys) (short_times data_type ys in_ys.points_are in_ys.ranges) in_ys.bytes_are
+    (record { list = are_times data_type ys in_ys.points_are in_ys.ranges; bytes_are = refl }) (record { list = are_values data_type ys in_ys.points_are in_ys.ranges; bytes_are = refl }) xs in_xs in
     points_same xs ys same.0 same.1
 
 -- ---- writing

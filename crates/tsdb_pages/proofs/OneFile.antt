@@ -42,7 +42,7 @@ stats_same points a b is_a is_b =
 page_same : (place : ℕ) (page : Page) (a b : PageEntry) → IsPageEntry place page a → IsPageEntry place page b → a ≡ b
 page_same place page a b is_a is_b =
     let made : ℕ → Stats → PageEntry = λ p s. record { place = p; stats = s } in
-    let p : a.place ≡ b.place = is_a.place-is ∙ sym is_b.place-is in
+    let p : a.place ≡ b.place = is_a.place_is ∙ sym is_b.place_is in
     let s : a.stats ≡ b.stats = stats_same page.points a.stats b.stats is_a.stats is_b.stats in
     let same : made a.place a.stats ≡ made b.place b.stats = cc in
     same
@@ -60,11 +60,11 @@ pages_same encoding place (page ∷ pages) (x ∷ xs) (y ∷ ys) is_x is_y =
 
 entry_same : (device : List ℕ) (place : ℕ) (chunk : Chunk) (a b : IndexEntry) → IsEntry device place chunk a → IsEntry device place chunk b → a ≡ b
 entry_same device place chunk a b is_a is_b =
-    let d : a.device ≡ b.device = is_a.device-is ∙ sym is_b.device-is in
-    let m : a.measurement ≡ b.measurement = is_a.measurement-is ∙ sym is_b.measurement-is in
-    let t : a.data_type ≡ b.data_type = is_a.type-is ∙ sym is_b.type-is in
-    let c : a.encoding ≡ b.encoding = is_a.encoding-is ∙ sym is_b.encoding-is in
-    let p : a.place ≡ b.place = is_a.place-is ∙ sym is_b.place-is in
+    let d : a.device ≡ b.device = is_a.device_is ∙ sym is_b.device_is in
+    let m : a.measurement ≡ b.measurement = is_a.measurement_is ∙ sym is_b.measurement_is in
+    let t : a.data_type ≡ b.data_type = is_a.type_is ∙ sym is_b.type_is in
+    let c : a.encoding ≡ b.encoding = is_a.encoding_is ∙ sym is_b.encoding_is in
+    let p : a.place ≡ b.place = is_a.place_is ∙ sym is_b.place_is in
     let s : a.stats ≡ b.stats = stats_same (points_of chunk.pages) a.stats b.stats is_a.stats is_b.stats in
     let g : a.pages ≡ b.pages = pages_same chunk.encoding (place + length (chunk_head chunk)) chunk.pages a.pages b.pages is_a.pages is_b.pages in
     let made : List ℕ → List ℕ → DataType → Encoding → ℕ → Stats → List PageEntry → IndexEntry =
@@ -106,9 +106,9 @@ same_entries tree xs ys is_x is_y =
 pub one_file : (tree : Tree) (x y : List ℕ) → IsFile tree x → IsFile tree y → x ≡ y
 one_file tree x y in_x in_y =
     let entries = same_entries tree in_x.entries in_y.entries in_x.say in_y.say in
-    let same = one_spelling (length (data_field tree)) in_x.root in_y.root in_y.entries in_x.index-bytes in_y.index-bytes
-    (subst (λ (es : List IndexEntry). index.IsSpelling (length (data_field tree)) in_x.root es in_x.index-bytes) entries in_x.index-is) in_y.index-is in
-    in_x.bytes-are
+    let same = one_spelling (length (data_field tree)) in_x.root in_y.root in_y.entries in_x.index_bytes in_y.index_bytes
+    (subst (λ (es : List IndexEntry). index.IsSpelling (length (data_field tree)) in_x.root es in_x.index_bytes) entries in_x.index_is) in_y.index_is in
+    in_x.bytes_are
     ∙ ap (λ (l : List ℕ). data_field tree ++ l ++ number64 in_x.root ++ magic) same.0
-    ∙ ap (λ (n : ℕ). data_field tree ++ in_y.index-bytes ++ number64 n ++ magic) same.1
-    ∙ sym in_y.bytes-are
+    ∙ ap (λ (n : ℕ). data_field tree ++ in_y.index_bytes ++ number64 n ++ magic) same.1
+    ∙ sym in_y.bytes_are

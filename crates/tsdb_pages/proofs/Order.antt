@@ -152,7 +152,7 @@ pub record Meet (pages : List Page) (i : ℕ) (last first : Point) : Type 0 wher
   pub some : 1 ≤ i
   pub here : i < length pages
   pub before-is : before ≡ get_or pages (i - 1) before
-  pub page-is : page ≡ get_or pages i page
+  pub page_is : page ≡ get_or pages i page
   pub last-is : last ≡ get_or before.points (length before.points - 1) last
   pub first-is : first ≡ get_or page.points 0 first
 
@@ -165,7 +165,7 @@ meets pages i before page last first front behind some here before_is page_is fr
   some = some;
   here = here;
   before-is = before_is;
-  page-is = page_is;
+  page_is = page_is;
   last-is = subst (λ (points : List Point). last ≡ get_or points (length points - 1) last) (front_is ∙ ap (λ (q : Page). q.points) (sym before_is)) last_is;
   first-is = subst (λ (points : List Point). first ≡ get_or points 0 first) (behind_is ∙ ap (λ (q : Page). q.points) (sym page_is)) first_is;
 }
@@ -176,11 +176,11 @@ page_more pages i last first m full rising less so_far =
     let b = m.before in
     let p = m.page in
     let many : 0 < length b.points = subst (λ (q : Page). 0 < length q.points) (sym m.before-is) (full (i - 1) b (omega (arith, m.some, m.here))) in
-    let up : IsRising p.points = subst (λ (q : Page). IsRising q.points) (sym m.page-is) (rising i p m.here) in
+    let up : IsRising p.points = subst (λ (q : Page). IsRising q.points) (sym m.page_is) (rising i p m.here) in
     let place : i - 1 + 1 ≡ i = omega (arith, m.some) in
     let parts : points_of (take i pages) ≡ points_of (take (i - 1) pages) ++ b.points = subst (λ (n : ℕ). points_of (take n pages) ≡ points_of (take (i - 1) pages) ++ b.points) place (points_push pages (i - 1) b (omega (arith, m.some, m.here)) m.before-is) in
     let end : last ≡ get_or (points_of (take i pages)) (length (points_of (take i pages)) - 1) last = rw parts (end_of (points_of (take (i - 1) pages)) b.points last many m.last-is) in
-    subst IsRising (sym (points_push pages i p m.here m.page-is))
+    subst IsRising (sym (points_push pages i p m.here m.page_is))
     (pairs_append (λ (x y : Point). x.time <ℤ y.time) (points_of (take i pages)) p.points so_far up
     (λ x y in_x in_y.
     let low : x.time ≤ℤ last.time = at_most_last (points_of (take i pages)) last x end so_far in_x in
@@ -193,10 +193,10 @@ pages_fall pages i last first m full less rising =
     let b = m.before in
     let p = m.page in
     let many : 0 < length b.points = subst (λ (q : Page). 0 < length q.points) (sym m.before-is) (full (i - 1) b (omega (arith, m.some, m.here))) in
-    let more : 0 < length p.points = subst (λ (q : Page). 0 < length q.points) (sym m.page-is) (full i p m.here) in
+    let more : 0 < length p.points = subst (λ (q : Page). 0 < length q.points) (sym m.page_is) (full i p m.here) in
     let place : i - 1 + 1 ≡ i = omega (arith, m.some) in
     let parts : points_of (take i pages) ≡ points_of (take (i - 1) pages) ++ b.points = subst (λ (n : ℕ). points_of (take n pages) ≡ points_of (take (i - 1) pages) ++ b.points) place (points_push pages (i - 1) b (omega (arith, m.some, m.here)) m.before-is) in
-    let front : points_of (take (i + 1) pages) ≡ points_of (take i pages) ++ p.points = points_push pages i p m.here m.page-is in
+    let front : points_of (take (i + 1) pages) ≡ points_of (take i pages) ++ p.points = points_push pages i p m.here m.page_is in
     let whole : points_of pages ≡ points_of (take i pages) ++ (p.points ++ points_of (drop (i + 1) pages)) =
     sym (ap points_of (take-append-drop (i + 1) pages)) ∙ flat_map-append (λ (q : Page). q.points) (take (i + 1) pages) (drop (i + 1) pages)
     ∙ ap (λ (ps : List Point). ps ++ points_of (drop (i + 1) pages)) front ∙ append_assoc (points_of (take i pages)) p.points (points_of (drop (i + 1) pages)) in

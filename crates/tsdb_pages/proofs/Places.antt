@@ -24,7 +24,7 @@ use Rattle.tsdb_pages.proofs.OneFile.{all_of}
 pub stands : (front part behind : List ℕ) → StandsAt (length front) part (front ++ (part ++ behind))
 stands front part behind = record {
   inside = let n = length-append front (part ++ behind) in let m = length-append part behind in omega (arith, n, m);
-  bytes-are = ap (take (length part)) (drop_at front (part ++ behind) (length front) refl) ∙ take_at part behind (length part) refl;
+  bytes_are = ap (take (length part)) (drop_at front (part ++ behind) (length front) refl) ∙ take_at part behind (length part) refl;
 }
 
 pub stands_in : (place : ℕ) (bytes front part behind : List ℕ) → bytes ≡ front ++ (part ++ behind) → length front ≡ place → StandsAt place part bytes
@@ -42,7 +42,7 @@ pub cut : (place : ℕ) (part bytes : List ℕ) → StandsAt place part bytes �
 cut place part bytes s = record {
   front = take place bytes;
   behind = drop (length part) (drop place bytes);
-  is = sym (take-append-drop place bytes) ∙ ap (λ (l : List ℕ). take place bytes ++ l) (sym (take-append-drop (length part) (drop place bytes)) ∙ ap (λ (l : List ℕ). l ++ drop (length part) (drop place bytes)) s.bytes-are);
+  is = sym (take-append-drop place bytes) ∙ ap (λ (l : List ℕ). take place bytes ++ l) (sym (take-append-drop (length part) (drop place bytes)) ∙ ap (λ (l : List ℕ). l ++ drop (length part) (drop place bytes)) s.bytes_are);
   at = length-take-le place bytes (let inside = s.inside in omega (arith, inside));
 }
 
@@ -67,7 +67,7 @@ pages_stand encoding place [] [] bytes say s k page said lt = absurd (omega (ari
 pages_stand encoding place [] (e ∷ es) bytes say s k page said lt = absurd say
 pages_stand encoding place (p ∷ ps) [] bytes say s k page said lt = absurd say
 pages_stand encoding place (p ∷ ps) (e ∷ es) bytes say s zero page said lt = record {
-  stands = subst (λ (n : ℕ). StandsAt n (page_field encoding p) bytes) (sym say.0.place-is) (stands_first place (page_field encoding p) (flat_map (page_field encoding) ps) bytes s);
+  stands = subst (λ (n : ℕ). StandsAt n (page_field encoding p) bytes) (sym say.0.place_is) (stands_first place (page_field encoding p) (flat_map (page_field encoding) ps) bytes s);
   stats = say.0.stats;
 }
 pages_stand encoding place (p ∷ ps) (e ∷ es) bytes say s (suc k) page said lt =
@@ -78,13 +78,13 @@ pages_stand encoding place (p ∷ ps) (e ∷ es) bytes say s (suc k) page said l
 chunk_stands : (tree : Tree) (group : Group) (chunk : Chunk) (place : ℕ) (entry : IndexEntry) (bytes : List ℕ) → Contains tree.groups group → Contains group.chunks chunk
     → IsEntry group.device place chunk entry → StandsAt place (chunk_field chunk) bytes → HasPlaces tree bytes entry
 chunk_stands tree group chunk place entry bytes in_tree in_group say s =
-    let at : place ≡ entry.place = sym say.place-is in
+    let at : place ≡ entry.place = sym say.place_is in
     let head_stands = stands_first place (chunk_head chunk) (flat_map (page_field chunk.encoding) chunk.pages) bytes s in
     record {
       group = group;
       chunk = chunk;
-      in-tree = in_tree;
-      in-group = in_group;
+      in_tree = in_tree;
+      in_group = in_group;
       says = subst (λ (n : ℕ). IsEntry group.device n chunk entry) at say;
       stands = subst (λ (n : ℕ). StandsAt n (chunk_field chunk) bytes) at s;
       head = subst (λ (n : ℕ). StandsAt n (chunk_head chunk) bytes) at head_stands;
@@ -124,12 +124,12 @@ groups_stand tree place (g ∷ gs) (l ∷ ls) bytes has say s =
 -- ---- files
 
 -- a file's bytes: head and groups, index, and the tail
-file_parted : (tree : Tree) (bytes : List ℕ) (file : IsFile tree bytes) → bytes ≡ data_field tree ++ (file.index-bytes ++ (number64 file.root ++ magic))
+file_parted : (tree : Tree) (bytes : List ℕ) (file : IsFile tree bytes) → bytes ≡ data_field tree ++ (file.index_bytes ++ (number64 file.root ++ magic))
 file_parted tree bytes file =
-    file.bytes-are ∙ append_assoc (data_field tree ++ file.index-bytes) (number64 file.root) magic ∙ append_assoc (data_field tree) file.index-bytes (number64 file.root ++ magic)
+    file.bytes_are ∙ append_assoc (data_field tree ++ file.index_bytes) (number64 file.root) magic ∙ append_assoc (data_field tree) file.index_bytes (number64 file.root ++ magic)
 
 data_stands : (tree : Tree) (bytes : List ℕ) (file : IsFile tree bytes) → StandsAt 0 (data_field tree) bytes
-data_stands tree bytes file = stands_in 0 bytes [] (data_field tree) (file.index-bytes ++ (number64 file.root ++ magic)) (file_parted tree bytes file) refl
+data_stands tree bytes file = stands_in 0 bytes [] (data_field tree) (file.index_bytes ++ (number64 file.root ++ magic)) (file_parted tree bytes file) refl
 
 pub entries_stand : (tree : Tree) (bytes : List ℕ) (entries : List IndexEntry) → IsFile tree bytes → AreEntriesIn tree entries → All (HasPlaces tree bytes) entries
 entries_stand tree bytes entries file say =
@@ -137,20 +137,20 @@ entries_stand tree bytes entries file say =
     (groups_stand tree (length head) tree.groups say.by_group bytes (λ g in_tree. in_tree) say.say
     (stands_second 0 head (flat_map group_field tree.groups) bytes (data_stands tree bytes file)))
 
-pub file_ends : (tree : Tree) (bytes : List ℕ) (file : IsFile tree bytes) → HasEnds tree bytes file.entries file.root file.index-bytes
+pub file_ends : (tree : Tree) (bytes : List ℕ) (file : IsFile tree bytes) → HasEnds tree bytes file.entries file.root file.index_bytes
 file_ends tree bytes file =
     let front_bytes = data_field tree in
     let tail = number64 file.root ++ magic in
     let is = file_parted tree bytes file in
-    let whole = ap length is ∙ length-append front_bytes (file.index-bytes ++ tail) in
-    let rest = length-append file.index-bytes (number64 file.root ++ magic) in
-    let front : length (data_field tree ++ file.index-bytes) ≡ length bytes - 14 = let n = length-append front_bytes file.index-bytes in omega (arith, whole, rest, n) in
+    let whole = ap length is ∙ length-append front_bytes (file.index_bytes ++ tail) in
+    let rest = length-append file.index_bytes (number64 file.root ++ magic) in
+    let front : length (data_field tree ++ file.index_bytes) ≡ length bytes - 14 = let n = length-append front_bytes file.index_bytes in omega (arith, whole, rest, n) in
     record {
       size = omega (arith, whole, rest);
       head = stands_first 0 head (flat_map group_field tree.groups) bytes (data_stands tree bytes file);
-      data-stands = data_stands tree bytes file;
-      index-stands = stands_in (length front_bytes) bytes front_bytes file.index-bytes tail is refl;
-      index-is = file.index-is;
-      begins = root_begins (length front_bytes) file.root file.entries file.index-bytes file.index-is;
-      tail = ap (drop (length bytes - 14)) (is ∙ sym (append_assoc front_bytes file.index-bytes tail)) ∙ drop_at (front_bytes ++ file.index-bytes) tail (length bytes - 14) front;
+      data_stands = data_stands tree bytes file;
+      index_stands = stands_in (length front_bytes) bytes front_bytes file.index_bytes tail is refl;
+      index_is = file.index_is;
+      begins = root_begins (length front_bytes) file.root file.entries file.index_bytes file.index_is;
+      tail = ap (drop (length bytes - 14)) (is ∙ sym (append_assoc front_bytes file.index_bytes tail)) ∙ drop_at (front_bytes ++ file.index_bytes) tail (length bytes - 14) front;
     }

@@ -15,7 +15,7 @@ use Rattle.tsdb_path.specs.Nodes.{IsName, IsPath}
 use Rattle.tsdb_fields.specs.Statistics.{IsStatsOf}
 use Rattle.tsdb_index.specs.declared.index.IndexEntry.{IndexEntry}
 use Rattle.tsdb_index.specs.declared.index.PageEntry.{PageEntry}
-use Rattle.tsdb_index.specs.Entries.{AreInOrder, IsBefore, IsIndex, IsPageOf, names_of}
+use Rattle.tsdb_index.specs.Entries.{AreInOrder, AreNamesBefore, IsIndex, IsPageOf, names_of}
 use Rattle.tsdb_index.specs.Entries as entries
 use Rattle.tsdb_index.specs.Faults.{IsRead}
 use Rattle.tsdb_index.proofs.OneSpelling.{one_index}
@@ -42,7 +42,7 @@ pages_good t encoding place [] (s ∷ ss) points ranges small say = absurd say
 pages_good t encoding place (p ∷ ps) [] points ranges small say = absurd say
 pages_good t encoding place (p ∷ ps) (s ∷ ss) points ranges small say =
     let n = length-append (page_field encoding p) (flat_map (page_field encoding) ps) in
-    let at = say.0.place-is in
+    let at = say.0.place_is in
     let few = points.0.few in (
       record {
         place = omega (arith, at, n, small);
@@ -73,17 +73,17 @@ points_typed t (p ∷ ps) are = All-append (λ (point : Point). type_of point.va
 
 entry_good : (device : List ℕ) (place : ℕ) (chunk : Chunk) (entry : IndexEntry) → IsPath device → IsWholeChunk chunk → place + length (chunk_field chunk) < 2 ^ 64 → IsEntry device place chunk entry → entries.IsEntry entry
 entry_good device place chunk entry is_path is small say =
-    let t : chunk.data_type ≡ entry.data_type = sym say.type-is in
+    let t : chunk.data_type ≡ entry.data_type = sym say.type_is in
     let each = recursion_from_All (λ (page : Page). ArePoints chunk.data_type page.points) chunk.pages is.0.pages in
     let count = count_pages chunk.encoding (place + length (chunk_head chunk)) chunk.pages entry.pages say.pages in
     let few = is.0.few in
     let many = points_few chunk.data_type chunk.pages each in
     let n = length-append (chunk_head chunk) (flat_map (page_field chunk.encoding) chunk.pages) in
-    let at = say.place-is in
+    let at = say.place_is in
     record {
-      device = subst IsPath (sym say.device-is) is_path;
-      measurement = subst IsName (sym say.measurement-is) is.1.measurement;
-      suits = ap (λ (x : DataType). is_suitable x entry.encoding) say.type-is ∙ ap (is_suitable chunk.data_type) say.encoding-is ∙ is.0.suits;
+      device = subst IsPath (sym say.device_is) is_path;
+      measurement = subst IsName (sym say.measurement_is) is.1.measurement;
+      suits = ap (λ (x : DataType). is_suitable x entry.encoding) say.type_is ∙ ap (is_suitable chunk.data_type) say.encoding_is ∙ is.0.suits;
       place = omega (arith, at, small);
       stats = subst (λ (x : DataType). IsStatsOf x entry.stats) t
           (stats_of_type chunk.data_type (points_of chunk.pages) entry.stats (points_some chunk.data_type chunk.pages is.0.some each) (omega (arith, many, few)) (points_typed chunk.data_type chunk.pages each) is.1.points say.stats);
@@ -131,8 +131,8 @@ chunk_names device place [] [] say = refl
 chunk_names device place [] (e ∷ es) say = absurd say
 chunk_names device place (c ∷ cs) [] say = absurd say
 chunk_names device place (c ∷ cs) (e ∷ es) say =
-    let d : e.device ≡ device = say.0.device-is in
-    let m : e.measurement ≡ c.measurement = say.0.measurement-is in
+    let d : e.device ≡ device = say.0.device_is in
+    let m : e.measurement ≡ c.measurement = say.0.measurement_is in
     let others : map names_of es ≡ map (λ (c : Chunk). (device, c.measurement)) cs = chunk_names device (place + length (chunk_field c)) cs es say.1 in
     cc
 
@@ -195,12 +195,12 @@ first_to R x xs y pairs (k, lt, at) = subst (λ b. R x b) at (pairs 0 (suc k) y 
 pairs_tail : {A : Type 0} (R : A → A → Type 0) (x : A) (xs : List A) → AllPairs R (x ∷ xs) → AllPairs R xs
 pairs_tail R x xs pairs = λ i j d l m. pairs (suc i) (suc j) d (omega (arith, l)) (omega (arith, m))
 
-names_pair : (groups : List Group) → AllByRecursion IsGroup groups → AllPairs (λ (a b : Group). slice_cmp nat_cmp a.device b.device ≡ Less) groups → AllPairs IsBefore (names_in groups)
+names_pair : (groups : List Group) → AllByRecursion IsGroup groups → AllPairs (λ (a b : Group). slice_cmp nat_cmp a.device b.device ≡ Less) groups → AllPairs AreNamesBefore (names_in groups)
 unfolding names_in
 names_pair [] are rising = λ i j d l m. absurd (omega (arith, m))
 names_pair (g ∷ gs) are rising =
-    pairs_append IsBefore (map (λ (c : Chunk). (g.device, c.measurement)) g.chunks) (names_in gs)
-    (pairs_of_map IsBefore (λ (c : Chunk). (g.device, c.measurement)) g.chunks (λ i j d l m. inr (refl, are.0.rising i j d l m)))
+    pairs_append AreNamesBefore (map (λ (c : Chunk). (g.device, c.measurement)) g.chunks) (names_in gs)
+    (pairs_of_map AreNamesBefore (λ (c : Chunk). (g.device, c.measurement)) g.chunks (λ i j d l m. inr (refl, are.0.rising i j d l m)))
     (names_pair gs are.1 (pairs_tail (λ (a b : Group). slice_cmp nat_cmp a.device b.device ≡ Less) g gs rising))
     (λ x y in_x in_y.
     let o = name_of_group gs y in_y in
@@ -232,13 +232,13 @@ entries_are_index tree es is made say small =
       few = omega (arith, number, few);
       good = subst (λ (l : List IndexEntry). All entries.IsEntry l) say.all
           (All-from_recursion entries.IsEntry (all_of say.by_group) (lists_good (length head) groups say.by_group (groups_of_tree tree is made) (omega (arith, size, small)) say.say));
-      rising = subst (λ (ns : List (List ℕ × List ℕ)). AreInOrder IsBefore ns) (sym named)
-          (in_order IsBefore (names_in groups) (neighbours IsBefore (names_in groups) (names_pair groups each is.rising)));
+      rising = subst (λ (ns : List (List ℕ × List ℕ)). AreInOrder AreNamesBefore ns) (sym named)
+          (in_order AreNamesBefore (names_in groups) (neighbours AreNamesBefore (names_in groups) (names_pair groups each is.rising)));
     }
 
 -- what is read of the index of a tree's file are the entries of the tree
 pub read_entries : (tree : Tree) (bytes : List ℕ) (es : List IndexEntry) → IsTree tree → IsMade tree → (file : IsFile tree bytes) → length (data_field tree) < 2 ^ 64
-    → IsRead (length (data_field tree)) file.root file.index-bytes es → AreEntriesIn tree es
+    → IsRead (length (data_field tree)) file.root file.index_bytes es → AreEntriesIn tree es
 read_entries tree bytes es is made file small read =
     let mine = entries_are_index tree file.entries is made file.say small in
-    subst (AreEntriesIn tree) (one_index (length (data_field tree)) file.root file.index-bytes file.entries es mine.good read.index.good file.index-is read.spelling) file.say
+    subst (AreEntriesIn tree) (one_index (length (data_field tree)) file.root file.index_bytes file.entries es mine.good read.index.good file.index_is read.spelling) file.say

@@ -65,7 +65,7 @@ data_field tree = head ++ flat_map group_field tree.groups
 
 -- what the index says of a page that stands at this place
 pub record IsPageEntry (place : ℕ) (page : Page) (entry : PageEntry) : Type 0 where
-  pub place-is : entry.place ≡ place
+  pub place_is : entry.place ≡ place
   pub stats : AreStatsOf page.points entry.stats
 
 -- what the index says of pages that stand one behind another from this place on
@@ -78,11 +78,11 @@ ArePageEntries encoding place (page ∷ pages) (entry ∷ entries) =
 
 -- what the index says of a chunk of this device that stands at this place
 pub record IsEntry (device : List ℕ) (place : ℕ) (chunk : Chunk) (entry : IndexEntry) : Type 0 where
-  pub device-is : entry.device ≡ device
-  pub measurement-is : entry.measurement ≡ chunk.measurement
-  pub type-is : entry.data_type ≡ chunk.data_type
-  pub encoding-is : entry.encoding ≡ chunk.encoding
-  pub place-is : entry.place ≡ place
+  pub device_is : entry.device ≡ device
+  pub measurement_is : entry.measurement ≡ chunk.measurement
+  pub type_is : entry.data_type ≡ chunk.data_type
+  pub encoding_is : entry.encoding ≡ chunk.encoding
+  pub place_is : entry.place ≡ place
   pub stats : AreStatsOf (points_of chunk.pages) entry.stats
   pub pages : ArePageEntries chunk.encoding (place + length (chunk_head chunk)) chunk.pages entry.pages
 
@@ -113,7 +113,7 @@ pub record AreEntriesIn (tree : Tree) (entries : List IndexEntry) : Type 0 where
 pub record IsFile (tree : Tree) (bytes : List ℕ) : Type 0 where
   pub entries : List IndexEntry
   pub root : ℕ
-  pub index-bytes : List ℕ
+  pub index_bytes : List ℕ
   pub say : AreEntriesIn tree entries
-  pub index-is : index.IsSpelling (length (data_field tree)) root entries index-bytes
-  pub bytes-are : bytes ≡ data_field tree ++ index-bytes ++ number64 root ++ magic
+  pub index_is : index.IsSpelling (length (data_field tree)) root entries index_bytes
+  pub bytes_are : bytes ≡ data_field tree ++ index_bytes ++ number64 root ++ magic

@@ -15,7 +15,7 @@ use Rattle.tsdb_pages.specs.File.{IsEntry, chunk_field, chunk_head, data_field, 
 -- the part stands at this place of the bytes
 pub record StandsAt (place : ℕ) (part bytes : List ℕ) : Type 0 where
   pub inside : place + length part ≤ length bytes
-  pub bytes-are : take (length part) (drop place bytes) ≡ part
+  pub bytes_are : take (length part) (drop place bytes) ≡ part
 
 -- the page stands where the index says, with the statistics that it says
 pub record IsPageAt (encoding : Encoding) (bytes : List ℕ) (page : Page) (said : PageEntry) : Type 0 where
@@ -26,8 +26,8 @@ pub record IsPageAt (encoding : Encoding) (bytes : List ℕ) (page : Page) (said
 pub record HasPlaces (tree : Tree) (bytes : List ℕ) (entry : IndexEntry) : Type 0 where
   pub group : Group
   pub chunk : Chunk
-  pub in-tree : Contains tree.groups group
-  pub in-group : Contains group.chunks chunk
+  pub in_tree : Contains tree.groups group
+  pub in_group : Contains group.chunks chunk
   pub says : IsEntry group.device entry.place chunk entry
   pub stands : StandsAt entry.place (chunk_field chunk) bytes
   pub head : StandsAt entry.place (chunk_head chunk) bytes
@@ -39,8 +39,8 @@ pub record HasPlaces (tree : Tree) (bytes : List ℕ) (entry : IndexEntry) : Typ
 pub record HasEnds (tree : Tree) (bytes : List ℕ) (entries : List IndexEntry) (root : ℕ) (index : List ℕ) : Type 0 where
   pub size : length bytes ≡ length (data_field tree) + length index + 14
   pub head : StandsAt 0 head bytes
-  pub data-stands : StandsAt 0 (data_field tree) bytes
-  pub index-stands : StandsAt (length (data_field tree)) index bytes
-  pub index-is : IsSpelling (length (data_field tree)) root entries index
+  pub data_stands : StandsAt 0 (data_field tree) bytes
+  pub index_stands : StandsAt (length (data_field tree)) index bytes
+  pub index_is : IsSpelling (length (data_field tree)) root entries index
   pub begins : RootBegins (length (data_field tree)) root entries index
   pub tail : drop (length bytes - 14) bytes ≡ number64 root ++ magic

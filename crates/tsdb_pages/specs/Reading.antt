@@ -13,9 +13,9 @@ use Rattle.tsdb_pages.specs.Pages.{ArePoints, IsInRange, body}
 -- these are points of a page of this type, in an encoding that suits it, and the bytes are its body
 pub record IsBody (data_type : DataType) (encoding : Encoding) (bytes : List ℕ) (points : List Point) : Type 0 where
   pub suits : is_suitable data_type encoding ≡ true
-  pub points-are : ArePoints data_type points
+  pub points_are : ArePoints data_type points
   pub ranges : All IsInRange points
-  pub bytes-are : bytes ≡ body encoding points
+  pub bytes_are : bytes ≡ body encoding points
 
 -- no page has this body
 abbrev pub IsNoBody : DataType → Encoding → List ℕ → Type 0

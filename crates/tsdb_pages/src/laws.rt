@@ -48,7 +48,7 @@ pub fn entries_stand()
 /// The tail of a tree's file says where the root stands, and the root where the first leaf does.
 pub fn file_ends()
     ensures { (tree : Tree) (bytes : List ℕ) (file : IsFile tree bytes) →
-        HasEnds tree bytes file.entries file.root file.index-bytes }
+        HasEnds tree bytes file.entries file.root file.index_bytes }
 {}
 
 /// The entries of a tree are those of an index.
@@ -61,5 +61,5 @@ pub fn entries_are_index()
 pub fn read_entries()
     ensures { (tree : Tree) (bytes : List ℕ) (entries : List IndexEntry) → IsTree tree → IsMade tree →
         (file : IsFile tree bytes) → length (data_field tree) < 2 ^ 64 →
-        IsRead (length (data_field tree)) file.root file.index-bytes entries → AreEntriesIn tree entries }
+        IsRead (length (data_field tree)) file.root file.index_bytes entries → AreEntriesIn tree entries }
 {}

@@ -5,7 +5,7 @@ use Rattle.std.proofs.lemmas.List.Elements.{All-nil, All-push}
 use Rattle.std.proofs.lemmas.List.Sums.{sum_by_push}
 use Rattle.tsdb_path.specs.Nodes.{parts, IsNode, IsRooted, IsPath}
 use Rattle.tsdb_path.specs.Refusals.{HasFittingLength, StandsAfterNodes, HasBadNodeAt, HasNodeTooManyAt, IsNotRooted}
-use Rattle.tsdb_path.specs.Steps.{IsFirstSplit, TakesNode, BeginsWith, BeginsBadly, IsBehindNodes}
+use Rattle.tsdb_path.specs.Steps.{IsFirstSplit, TakesNode, BeginsWithPart, BeginsBadly, IsBehindNodes}
 use Rattle.tsdb_path.proofs.Parts.{path_from_parts}
 
 -- one node further
@@ -34,7 +34,7 @@ path_at_end bytes rest count fits rooted behind few takes =
       short = fits.short;
     })
 
-stands : (bytes rest first : List ℕ) (count : ℕ) → HasFittingLength bytes → IsRooted (parts bytes) → (behind : IsBehindNodes bytes rest count) → BeginsWith rest first → StandsAfterNodes behind.prefix first bytes (length bytes - length rest)
+stands : (bytes rest first : List ℕ) (count : ℕ) → HasFittingLength bytes → IsRooted (parts bytes) → (behind : IsBehindNodes bytes rest count) → BeginsWithPart rest first → StandsAfterNodes behind.prefix first bytes (length bytes - length rest)
 stands bytes rest first count fits rooted behind begins =
     record {
       fits = fits;
@@ -45,6 +45,6 @@ stands bytes rest first count fits rooted behind begins =
       place = omega (arith, behind.lengths);
     }
 
-begins_from_split : (rest first : List ℕ) (more : Option (List ℕ)) → IsFirstSplit rest first more → BeginsWith rest first
+begins_from_split : (rest first : List ℕ) (more : Option (List ℕ)) → IsFirstSplit rest first more → BeginsWithPart rest first
 begins_from_split rest first None split = record { others = []; parted = split.parted }
 begins_from_split rest first (Some next) split = record { others = parts next; parted = split.parted }

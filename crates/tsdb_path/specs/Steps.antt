@@ -25,14 +25,14 @@ pub record TakesNode (bytes : List ℕ) (more : Option (List ℕ)) : Type 0 wher
   pub split : IsFirstSplit bytes first more
 
 -- the first part is this one
-pub record BeginsWith (bytes first : List ℕ) : Type 0 where
+pub record BeginsWithPart (bytes first : List ℕ) : Type 0 where
   pub others : List (List ℕ)
   pub parted : parts bytes ≡ first ∷ others
 
 -- the first part is no node
 pub record BeginsBadly (bytes : List ℕ) : Type 0 where
   pub first : List ℕ
-  pub begins : BeginsWith bytes first
+  pub begins : BeginsWithPart bytes first
   pub bad : ¬ IsNode first
 
 -- `rest` is what stands behind the first `count` nodes and their dots

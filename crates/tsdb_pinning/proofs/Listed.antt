@@ -20,7 +20,7 @@ use Rattle.tsdb_layers.specs.Places.{is_path}
 use Rattle.tsdb_outside.specs.Files.{NamedFile}
 use Rattle.tsdb_pinning.proofs.Changing.{LeavesNames, kept_changed, none_shared, right_stays, right_was, takes_names}
 use Rattle.tsdb_pinning.proofs.Changing.{takes_none, takes_one, takes_then, nothing_changed}
-use Rattle.tsdb_pinning.specs.Changes.{ChangesFiles, KeepsFiles, Takes, TakesAll, TakesRights, TakesSome, more_rights}
+use Rattle.tsdb_pinning.specs.Changes.{ChangesFiles, KeepsFiles, TakesSources, TakesAll, TakesRights, TakesSome, more_rights}
 use Rattle.tsdb_pinning.specs.Sources.{AreHeldIn, AreOfFiles, IsFileWithRight, IsHeldIn, IsOfEntry, numbers_in}
 use Rattle.tsdb_pinning.specs.Sources.{source_numbers}
 use Rattle.tsdb_pinning.specs.declared.pin.PinnedSource.{PinnedSource}
@@ -140,7 +140,7 @@ module _ {F S R P : Type 0} (name : R → NamedFile) where
   -- ---- one part after another
 
   pub nothing_taken : (a b : KeptFiles) (before after : List (PinnedSource F S R P)) → KeepsFiles a b → after ≡ before
-      → Takes name a b before after []
+      → TakesSources name a b before after []
   nothing_taken a b before after keeps same = record {
     are = same ∙ sym (append-nil before);
     rights = takes_none a b keeps;
@@ -148,15 +148,15 @@ module _ {F S R P : Type 0} (name : R → NamedFile) where
   }
 
   pub parts_taken : (a : KeptFiles) (before after more : List (PinnedSource F S R P)) → after ≡ before ++ more → numbers_in more ≡ []
-      → AreHeldIn name a more → Takes name a a before after more
+      → AreHeldIn name a more → TakesSources name a a before after more
   parts_taken a before after more are none held = record {
     are = are;
     rights = subst (λ numbers. TakesRights numbers a a) (sym none) (takes_none a a (nothing_changed a));
     held = held;
   }
 
-  pub taken_then : (a b c : KeptFiles) (before middle after xs ys : List (PinnedSource F S R P)) → Takes name a b before middle xs
-      → Takes name b c middle after ys → Takes name a c before after (xs ++ ys)
+  pub taken_then : (a b c : KeptFiles) (before middle after xs ys : List (PinnedSource F S R P)) → TakesSources name a b before middle xs
+      → TakesSources name b c middle after ys → TakesSources name a c before after (xs ++ ys)
   taken_then a b c before middle after xs ys first second = record {
     are = second.are ∙ ap (λ (l : List (PinnedSource F S R P)). l ++ ys) first.are ∙ append_assoc before xs ys;
     rights = subst (λ numbers. TakesRights numbers a c) (sym (numbers_append xs ys))

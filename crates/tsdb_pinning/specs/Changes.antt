@@ -42,16 +42,16 @@ module _ {F S R P : Type 0} where
 
 module _ {F S R P : Type 0} (name : R → NamedFile) where
   -- these sources came behind the others, with the rights that they have
-  pub record Takes (old new : KeptFiles) (before after more : List (PinnedSource F S R P)) : Type 0 where
+  pub record TakesSources (old new : KeptFiles) (before after more : List (PinnedSource F S R P)) : Type 0 where
     pub are : after ≡ before ++ more
     pub rights : TakesRights (numbers_in more) old new
     pub held : AreHeldIn name old more
 
   -- some sources came behind the others
   abbrev pub TakesSome : KeptFiles → KeptFiles → List (PinnedSource F S R P) → List (PinnedSource F S R P) → Type 0
-  TakesSome old new before after = (more : List (PinnedSource F S R P)) × Takes old new before after more
+  TakesSome old new before after = (more : List (PinnedSource F S R P)) × TakesSources old new before after more
 
   -- sources of which this holds came behind the others
   abbrev pub TakesAll : (List (PinnedSource F S R P) → Type 0) → KeptFiles → KeptFiles
       → List (PinnedSource F S R P) → List (PinnedSource F S R P) → Type 0
-  TakesAll Are old new before after = (more : List (PinnedSource F S R P)) × Takes old new before after more × Are more
+  TakesAll Are old new before after = (more : List (PinnedSource F S R P)) × TakesSources old new before after more × Are more

@@ -83,8 +83,8 @@ module _ (path : List ℕ) (two : 2 ≤ node_count path) (tree : Tree) (is : IsT
 
   rising_here : (chunk : Chunk) → Here chunk → IsRising (joined lists)
   rising_here chunk here =
-      let group = All-contains IsGroup tree.groups here.group is.groups here.in-tree in
-      let whole = All-contains IsChunk here.group.chunks chunk group.chunks here.in-group in
+      let group = All-contains IsGroup tree.groups here.group is.groups here.in_tree in
+      let whole = All-contains IsChunk here.group.chunks chunk group.chunks here.in_group in
       subst IsRising (sym (points_are chunk here)) whole.rising
 
   -- what does not depend on whether there is such a chunk
@@ -108,8 +108,8 @@ module _ (path : List ℕ) (two : 2 ≤ node_count path) (tree : Tree) (is : IsT
       let dotless = IsNode-dotless has.chunk.measurement named.measurement.node in
       let here : Here has.chunk = record {
         group = has.group;
-        in-tree = contained tree.groups has.group has.in_tree;
-        in-group = contained has.group.chunks has.chunk has.in_group;
+        in_tree = contained tree.groups has.group has.in_tree;
+        in_group = contained has.group.chunks has.chunk has.in_group;
         device = sym (device_of-child has.group.device has.chunk.measurement dotless) ∙ ap device_of has.path;
         measurement = sym (measurement_of-child has.group.device has.chunk.measurement dotless) ∙ ap measurement_of has.path;
       } in
@@ -129,8 +129,8 @@ module _ (path : List ℕ) (two : 2 ≤ node_count path) (tree : Tree) (is : IsT
         group = here.group;
         chunk = chunk;
         point = record { time = time; value = value };
-        in_tree = among tree.groups here.group here.in-tree;
-        in_group = among here.group.chunks chunk here.in-group;
+        in_tree = among tree.groups here.group here.in_tree;
+        in_group = among here.group.chunks chunk here.in_group;
         in_chunk = among (points_of chunk.pages) (record { time = time; value = value }) (subst (λ l. Contains l (record { time = time; value = value })) (points_are chunk here) has);
         path = ap (λ d. child_of d chunk.measurement) here.device ∙ ap (child_of (device_of path)) here.measurement ∙ child_of-device_of path two;
         time = refl;
@@ -170,4 +170,4 @@ told_points path name lists files told file bytes two has whole named there =
     let second : whole.bytes ≡ bytes = some_same _ _ (sym whole.there ∙ there) in
     let same : whole.tree ≡ has.tree = one_tree whole.tree has.tree bytes whole.is_tree whole.is_made has.is has.made
     (subst (IsFile whole.tree) second whole.is_file) (subst (IsFile has.tree) first has.file) in
-    points_of_content path two has.tree has.is has.made (told file.number) (subst (λ t. IsContentOf t (told file.number)) same whole.content) lists has.pages-are
+    points_of_content path two has.tree has.is has.made (told file.number) (subst (λ t. IsContentOf t (told file.number)) same whole.content) lists has.pages_are

@@ -7,7 +7,7 @@ use Rattle.tsdb_plan.specs.declared.entry.CrossRun.{CrossRun}
 use Rattle.tsdb_plan.specs.declared.entry.FileEntry.{FileEntry}
 use Rattle.tsdb_plan.specs.declared.entry.Hull.{Hull}
 use Rattle.tsdb_plan.specs.CrossPlan.{IsFirstOf, IsPastOf, IsEligible, IsCrossPlan, HasNoCrossPlan, HasTimeFromStart, HasTimeUpToEnd}
-use Rattle.tsdb_plan.specs.Files.{AreFree, bytes_of}
+use Rattle.tsdb_plan.specs.Files.{AreFree, total_bytes}
 use Rattle.tsdb_base.specs.Limits.{max_plan_bytes}
 use Rattle.tsdb_plan.specs.Places.{IsFirstPlace, IsPastLast}
 use Rattle.tsdb_plan.specs.Steps.{Reaches, IsBestUpTo}
@@ -81,7 +81,7 @@ pasts sequence prefix own h = from sequence [] prefix own 0 (past_of_none sequen
         subst (λ p. IsPastOf p sequence (fold max (max past n) ns)) (append_assoc done (file ∷ []) files) (from sequence (done ++ file ∷ []) files ns (max past n) longer g.1)
 
 -- the best plan of one file more
-pub best_more : (sequence unsequence : List FileEntry) (place first past end room : ℕ) → place < length unsequence → AreFree (take (place + 1) unsequence) → room + bytes_of (take (place + 1) unsequence) ≡ max_plan_bytes → IsFirstOf (take (place + 1) unsequence) sequence first → IsPastOf (take (place + 1) unsequence) sequence past → end ≡ max first past → bytes_of (take (end - first) (drop first sequence)) ≤ room → IsBestUpTo sequence unsequence (place + 1) (Some (record { prefix = place + 1; first = first; end = end }))
+pub best_more : (sequence unsequence : List FileEntry) (place first past end room : ℕ) → place < length unsequence → AreFree (take (place + 1) unsequence) → room + total_bytes (take (place + 1) unsequence) ≡ max_plan_bytes → IsFirstOf (take (place + 1) unsequence) sequence first → IsPastOf (take (place + 1) unsequence) sequence past → end ≡ max first past → total_bytes (take (end - first) (drop first sequence)) ≤ room → IsBestUpTo sequence unsequence (place + 1) (Some (record { prefix = place + 1; first = first; end = end }))
 best_more sequence unsequence place first past end room l free sum f p e fits =
     (record { some = omega arith; within = omega arith; free = free; first = f; end = (past, p, e); fits = omega arith }, λ other eligible short. short)
 
@@ -94,5 +94,5 @@ best_is_plan sequence unsequence count (Some run) best all = (record { eligible 
 pub ends_at_claimed : (sequence unsequence : List FileEntry) (place : ℕ) (file : FileEntry) → place < length unsequence → file ≡ get_or unsequence place file → file.claimed ≡ true → (other : CrossRun) → IsEligible sequence unsequence other → other.prefix ≤ place
 ends_at_claimed sequence unsequence place file l e claimed other h = stops_at_claimed unsequence place other.prefix file l e claimed h.within h.free
 
-pub ends_at_bytes : (sequence unsequence : List FileEntry) (place room : ℕ) (file : FileEntry) → place < length unsequence → file ≡ get_or unsequence place file → room + bytes_of (take place unsequence) ≡ max_plan_bytes → room < file.bytes → (other : CrossRun) → IsEligible sequence unsequence other → other.prefix ≤ place
+pub ends_at_bytes : (sequence unsequence : List FileEntry) (place room : ℕ) (file : FileEntry) → place < length unsequence → file ≡ get_or unsequence place file → room + total_bytes (take place unsequence) ≡ max_plan_bytes → room < file.bytes → (other : CrossRun) → IsEligible sequence unsequence other → other.prefix ≤ place
 ends_at_bytes sequence unsequence place room file l e sum big other h = stops_at_bytes unsequence place other.prefix room max_plan_bytes file l e sum big (omega (arith, h.fits))

@@ -7,7 +7,7 @@ use Rattle.std.proofs.lemmas.List.Sums.{sum_by-append}
 use Rattle.tsdb_plan.specs.declared.entry.CrossRun.{CrossRun}
 use Rattle.tsdb_plan.specs.declared.entry.FileEntry.{FileEntry}
 use Rattle.tsdb_plan.specs.CrossPlan.{IsFirstOf, IsPastOf, IsEligible, HasTimeFromStart, HasTimeUpToEnd}
-use Rattle.tsdb_plan.specs.Files.{bytes_of}
+use Rattle.tsdb_plan.specs.Files.{total_bytes}
 use Rattle.tsdb_base.specs.Limits.{max_plan_bytes}
 use Rattle.tsdb_plan.specs.Places.{IsFirstPlace, IsPastLast}
 use Rattle.tsdb_plan.proofs.Hulls.{start_left, end_left}
@@ -33,12 +33,12 @@ longer_is : (files : List FileEntry) (n m : ℕ) → n ≤ m → take n files ++
 longer_is files n m l = ap (λ xs. xs ++ drop n (take m files)) (sym (take-take n m files l)) ∙ take-append-drop n (take m files)
 
 -- the bytes of a part of the list, as those of two prefixes
-span_bytes : (files : List FileEntry) (from to : ℕ) → from ≤ to → bytes_of (take from files) + bytes_of (take (to - from) (drop from files)) ≡ bytes_of (take to files)
+span_bytes : (files : List FileEntry) (from to : ℕ) → from ≤ to → total_bytes (take from files) + total_bytes (take (to - from) (drop from files)) ≡ total_bytes (take to files)
 span_bytes files from to l =
     let e : from + (to - from) ≡ to = omega (arith, l) in
     sym (sum_by-append (λ (f : FileEntry). f.bytes) (take from files) (take (to - from) (drop from files)))
-    ∙ ap bytes_of (sym (take-add from (to - from) files))
-    ∙ ap (λ n. bytes_of (take n files)) e
+    ∙ ap total_bytes (sym (take-add from (to - from) files))
+    ∙ ap (λ n. total_bytes (take n files)) e
 
 module _ (sequence unsequence : List FileEntry) (d : FileEntry) (run : CrossRun) (n first past : ℕ) (eligible : IsEligible sequence unsequence run) (some : 1 ≤ n) (short : n ≤ run.prefix)
     (f : IsFirstOf (take n unsequence) sequence first) (p : IsPastOf (take n unsequence) sequence past) where
@@ -54,7 +54,7 @@ module _ (sequence unsequence : List FileEntry) (d : FileEntry) (run : CrossRun)
       (λ x h. subst (λ files. HasTimeUpToEnd files x) whole (end_left (take n unsequence) (drop n (take run.prefix unsequence)) x h)) sequence d past eligible.end.0 p eligible.end.1
 
   -- the sequence files that it meets have no more bytes
-  span : bytes_of (take (max first past - first) (drop first sequence)) ≤ bytes_of (take (run.end - run.first) (drop run.first sequence))
+  span : total_bytes (take (max first past - first) (drop first sequence)) ≤ total_bytes (take (run.end - run.first) (drop run.first sequence))
   span =
       let last = eligible.end.2 in
       let a = later in
@@ -66,10 +66,10 @@ module _ (sequence unsequence : List FileEntry) (d : FileEntry) (run : CrossRun)
       let own = span_bytes sequence run.first run.end (omega (arith, last)) in
       let low = bytes_of-take-le sequence run.first first a in
       let high = bytes_of-take-le sequence past run.end (omega (arith, last, b)) in
-      subst (λ m. bytes_of (take (m - first) (drop first sequence)) ≤ bytes_of (take (run.end - run.first) (drop run.first sequence))) (sym top) (omega (arith, mine, own, low, high)))
+      subst (λ m. total_bytes (take (m - first) (drop first sequence)) ≤ total_bytes (take (run.end - run.first) (drop run.first sequence))) (sym top) (omega (arith, mine, own, low, high)))
       (λ (l : past ≤ first).
       let none : max first past - first ≡ 0 = omega (arith, l) in
-      subst (λ m. bytes_of (take m (drop first sequence)) ≤ bytes_of (take (run.end - run.first) (drop run.first sequence))) (sym none) (omega arith))
+      subst (λ m. total_bytes (take m (drop first sequence)) ≤ total_bytes (take (run.end - run.first) (drop run.first sequence))) (sym none) (omega arith))
       (cases_lt first past)
 
   pub shorter_is_eligible : IsEligible sequence unsequence (record { prefix = n; first = first; end = max first past })
@@ -90,15 +90,15 @@ module _ (sequence unsequence : List FileEntry) (d : FileEntry) (run : CrossRun)
       }
 
 -- where a prefix does not fit, no eligible one is longer
-pub ends_at_span : (sequence unsequence : List FileEntry) (d : FileEntry) (place first past end room : ℕ) → room + bytes_of (take (place + 1) unsequence) ≡ max_plan_bytes → IsFirstOf (take (place + 1) unsequence) sequence first → IsPastOf (take (place + 1) unsequence) sequence past
-    → end ≡ max first past → (bytes_of (take (end - first) (drop first sequence)) ≤ room → ⊥) → (other : CrossRun) → IsEligible sequence unsequence other → other.prefix ≤ place
+pub ends_at_span : (sequence unsequence : List FileEntry) (d : FileEntry) (place first past end room : ℕ) → room + total_bytes (take (place + 1) unsequence) ≡ max_plan_bytes → IsFirstOf (take (place + 1) unsequence) sequence first → IsPastOf (take (place + 1) unsequence) sequence past
+    → end ≡ max first past → (total_bytes (take (end - first) (drop first sequence)) ≤ room → ⊥) → (other : CrossRun) → IsEligible sequence unsequence other → other.prefix ≤ place
 ends_at_span sequence unsequence d place first past end room sum f p e big other eligible =
     ⊎_elim
     (λ (l : place < other.prefix).
     let own = shorter_is_eligible sequence unsequence d other (place + 1) first past eligible (omega arith) (omega (arith, l)) f p in
     let fits = own.fits in
-    let small : bytes_of (take (max first past - first) (drop first sequence)) ≤ room = omega (arith, fits, sum) in
-    absurd (big (subst (λ m. bytes_of (take (m - first) (drop first sequence)) ≤ room) (sym e) small)))
+    let small : total_bytes (take (max first past - first) (drop first sequence)) ≤ room = omega (arith, fits, sum) in
+    absurd (big (subst (λ m. total_bytes (take (m - first) (drop first sequence)) ≤ room) (sym e) small)))
     (λ (l : other.prefix ≤ place). l)
     (cases_lt place other.prefix)
 

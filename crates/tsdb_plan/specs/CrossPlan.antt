@@ -4,7 +4,7 @@ use Rattle.std.specs.List.{flat_map}
 use Rattle.tsdb_plan.specs.declared.entry.CrossRun.{CrossRun}
 use Rattle.tsdb_plan.specs.declared.entry.FileEntry.{FileEntry}
 use Rattle.tsdb_plan.specs.declared.entry.Hull.{Hull}
-use Rattle.tsdb_plan.specs.Files.{AreFree, bytes_of}
+use Rattle.tsdb_plan.specs.Files.{AreFree, total_bytes}
 use Rattle.tsdb_base.specs.Limits.{max_plan_bytes}
 use Rattle.tsdb_plan.specs.Places.{IsFirstPlace, IsPastLast}
 
@@ -45,7 +45,7 @@ pub record IsEligible (sequence unsequence : List FileEntry) (run : CrossRun) : 
   pub free : AreFree (take run.prefix unsequence)
   pub first : IsFirstOf (take run.prefix unsequence) sequence run.first
   pub end : (past : ℕ) × IsPastOf (take run.prefix unsequence) sequence past × (run.end ≡ max run.first past)
-  pub fits : bytes_of (take run.prefix unsequence) + bytes_of (slice_range sequence run.first run.end) ≤ max_plan_bytes
+  pub fits : total_bytes (take run.prefix unsequence) + total_bytes (slice_range sequence run.first run.end) ≤ max_plan_bytes
 
 -- the run is eligible, and no eligible one has a longer prefix
 pub record IsCrossPlan (sequence unsequence : List FileEntry) (run : CrossRun) : Type 0 where

@@ -19,5 +19,5 @@ abbrev pub AreFree : List FileEntry → Type 0
 AreFree files = All (λ file. file.claimed ≡ false) files
 
 -- the bytes of the files together
-abbrev pub bytes_of : List FileEntry → ℕ
-bytes_of files = sum_by (λ file. file.bytes) files
+abbrev pub total_bytes : List FileEntry → ℕ
+total_bytes files = sum_by (λ file. file.bytes) files

@@ -1,6 +1,6 @@
 //! The cross plan: late files with the files in time order that they meet. It depends on `entry` and `overlap`.
 ghost use Rattle.std.specs.Prelude.{◌≡◌, ◌+◌, ◌-◌, ◌≤◌, IfSome, IfNone, IsTrue, ◌↔◌};
-ghost use Rattle.tsdb_plan.specs.Files.{AreRising, HaveRisingHulls, bytes_of};
+ghost use Rattle.tsdb_plan.specs.Files.{AreRising, HaveRisingHulls, total_bytes};
 ghost use Rattle.tsdb_plan.specs.CrossPlan.{IsCrossPlan, HasNoCrossPlan};
 ghost use Rattle.tsdb_plan.specs.Places.{IsFirstPlace, IsPastLast};
 ghost use Rattle.tsdb_plan.specs.Steps.{Reaches};
@@ -11,7 +11,7 @@ use crate::overlap::{greatest_time, least_time, reaches_from, reaches_up_to};
 
 /// Whether the files have at most so many bytes together.
 fn fits(files: &[FileEntry], room: u64) -> bool
-    ensures { IsTrue result ↔ (bytes_of files.now ≤ room) }
+    ensures { IsTrue result ↔ (total_bytes files.now ≤ room) }
 {
     let mut left = room;
     for file in files {

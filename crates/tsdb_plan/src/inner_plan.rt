@@ -1,6 +1,6 @@
 //! The inner plan: files side by side in one list. It depends on `entry`.
 ghost use Rattle.std.specs.Prelude.{◌≡◌, ◌+◌, ◌-◌, ◌≤◌, length, take, IfSome, IfNone, SomeIff};
-ghost use Rattle.tsdb_plan.specs.Files.{bytes_of};
+ghost use Rattle.tsdb_plan.specs.Files.{total_bytes};
 ghost use Rattle.tsdb_plan.specs.InnerPlan.{IsInnerPlan, HasNoInnerPlan};
 ghost use Rattle.tsdb_plan.specs.Steps.{IsLongestRow};
 

@@ -12,7 +12,7 @@ use Rattle.tsdb_core.specs.Pins.{IsNotPinned, IsPinStep, IsPinned, IsUnpinned}
 use Rattle.tsdb_core.specs.declared.engine.Core.{Core}
 use Rattle.tsdb_frames.specs.Frames.{disk_of}
 use Rattle.tsdb_frames.specs.declared.frames.Frames.{Frames}
-use Rattle.tsdb_images.specs.Stored.{IsKept}
+use Rattle.tsdb_images.specs.Stored.{IsKeptWhole}
 use Rattle.tsdb_layers.proofs.Lists.{among_left}
 use Rattle.tsdb_logged.specs.Logged.{log_of, memory_of}
 use Rattle.tsdb_model.specs.Apply.{ask_aggregates, reply_of}
@@ -140,7 +140,7 @@ module _ {J F S R P : Type 0} {means : disk.Ghosts J} {counts : counted.Ghosts J
   step : IsPinStep mid serving.outside serving.state pin
   step = took.step serving.outside serving.state serving.seen
 
-  whole : Each (IsKept serving.outside.kept serving.outside.told) (state_files_of serving.state)
+  whole : Each (IsKeptWhole serving.outside.kept serving.outside.told) (state_files_of serving.state)
   whole = serving.seen.sound.stored.whole
 
   abbrev pages : SeriesPages

@@ -9,7 +9,7 @@ use Rattle.tsdb_base.specs.declared.point.Range.{Range}
 use Rattle.tsdb_columns.proofs.Trees.{Listed, listed_pages}
 use Rattle.tsdb_columns.specs.Files.{HasPages}
 use Rattle.tsdb_held.specs.Held.{TellTheirBytes}
-use Rattle.tsdb_images.specs.Stored.{IsKept, kept_bytes}
+use Rattle.tsdb_images.specs.Stored.{IsKeptWhole, kept_bytes}
 use Rattle.tsdb_kept.specs.Files.{KeptFiles, kept_file}
 use Rattle.tsdb_kept.specs.Places.{KeptFile}
 use Rattle.tsdb_kept.specs.Rights.{IsRightTo}
@@ -40,13 +40,13 @@ Pages = List ℕ → ℕ → Option (List (List Point))
 
 module _ (kept : List StoredFile) (told : Told) where
   -- the points of each page of a series in the file of a number, if it is one of these
-  abbrev pub pages_told : (files : List File) → Each (IsKept kept told) files → Pages
+  abbrev pub pages_told : (files : List File) → Each (IsKeptWhole kept told) files → Pages
   pages_told [] all path number = None
   pages_told (file ∷ files) all path number = cond (nat_eq file.number number)
       (Some (listed_pages all.0.tree (device_of path, measurement_of path) all.0.is_tree).list)
       (pages_told files all.1 path number)
 
-  pages_true : (files : List File) (all : Each (IsKept kept told) files) (path : List ℕ) (name : NamedFile)
+  pages_true : (files : List File) (all : Each (IsKeptWhole kept told) files) (path : List ℕ) (name : NamedFile)
       → name.bytes ≡ kept_bytes kept name.number
       → IfSome (pages_told files all path name.number) (HasPages (device_of path, measurement_of path) name)
   pages_true [] all path name same = tt
@@ -67,22 +67,22 @@ module _ (kept : List StoredFile) (told : Told) where
         is = all.0.is_tree;
         made = all.0.is_made;
         file = all.0.is_file;
-        pages-are = listed.are;
+        pages_are = listed.are;
       }
       by false is rest = rest
 
   -- of one of the files the pages are told, with the points that are told of the file
-  record TellsFile (files : List File) (all : Each (IsKept kept told) files) (path : List ℕ) (number : ℕ) : Type 0 where
+  record TellsFile (files : List File) (all : Each (IsKeptWhole kept told) files) (path : List ℕ) (number : ℕ) : Type 0 where
     pub lists : List (List Point)
     pub are : pages_told files all path number ≡ Some lists
     pub whole : File
     pub numbered : whole.number ≡ number
-    pub is_kept : IsKept kept told whole
+    pub is_kept : IsKeptWhole kept told whole
 
   itself : (n : ℕ) → nat_eq n n ≡ true
   itself n = grind arith
 
-  tells_file : (files : List File) (all : Each (IsKept kept told) files) (path : List ℕ) (number : ℕ)
+  tells_file : (files : List File) (all : Each (IsKeptWhole kept told) files) (path : List ℕ) (number : ℕ)
       → Among number (numbers_of files) → TellsFile files all path number
   tells_file [] all path number among = absurd among
   tells_file (file ∷ files) all path number among =
@@ -189,7 +189,7 @@ named name kept number right (Some file) is told = record {
 }
 
 module _ {F S R P : Type 0} (name : R → NamedFile) (files : KeptFiles) (kept : List StoredFile) (told : Told)
-    (all : List File) (whole : Each (IsKept kept told) all) (tells : TellTheirBytes files kept) where
+    (all : List File) (whole : Each (IsKeptWhole kept told) all) (tells : TellTheirBytes files kept) where
   record TellsSource (path : List ℕ) (source : PinnedSource F S R P) : Type 0 where
     pub true_is : IsTrueIn name (pages_told kept told all whole) path source
     pub told_is : IsToldIn name (pages_told kept told all whole) path source

@@ -7,7 +7,7 @@ use Rattle.tsdb_adopting.specs.Adopting.{AreDescribed, IsAdopted, IsReadOf}
 use Rattle.tsdb_base.specs.declared.ids.Space.{Space}
 use Rattle.tsdb_base.specs.declared.ids.Space.TheVariants.{Sequence, Unsequence}
 use Rattle.tsdb_held.specs.Held.{TellTheirBytes, listed}
-use Rattle.tsdb_images.specs.Stored.{IsKept, kept_bytes}
+use Rattle.tsdb_images.specs.Stored.{IsKeptWhole, kept_bytes}
 use Rattle.tsdb_index.specs.declared.index.FileMeta.{FileMeta}
 use Rattle.tsdb_kept.specs.Files.{Appends, KeptFiles, kept_file}
 use Rattle.tsdb_kept.specs.Places.{KeptFile}
@@ -67,7 +67,7 @@ module _ (stored : List StoredFile) (number : ℕ) (name : NamedFile) (meta : Fi
 
     -- what was read of it is of the points that are told of it
     read_is : (told : Told) → IfSome name.bytes (λ bytes. (tree : Tree) → IsTree tree → IsMade tree → IsFile tree bytes
-        → IsMetaOf tree bytes meta) → IsKept stored told adopted.file → IsReadOf meta (told name.number)
+        → IsMetaOf tree bytes meta) → IsKeptWhole stored told adopted.file → IsReadOf meta (told name.number)
     read_is told says whole =
         let same = bytes_are ∙ ap (kept_bytes stored) (sym file_is) ∙ whole.there in
         let read = subst (λ o. IfSome o (λ bytes. (tree : Tree) → IsTree tree → IsMade tree → IsFile tree bytes
@@ -110,7 +110,7 @@ module _ (stored : List StoredFile) (number : ℕ) (name : NamedFile) (meta : Fi
             whole = trees.0;
             order = trees.1;
             described = λ told order all.
-                describe told order (read_is told says (each_among (IsKept stored told)
+                describe told order (read_is told says (each_among (IsKeptWhole stored told)
                 (store.sequence ++ store.unsequence) adopted.file all
                 (wanted_listed old store adopted.space adopted.file adopted.wanted)))
                 (kept.described told order all);

@@ -17,13 +17,13 @@ use Rattle.tsdb_frames.specs.Log.{IsSettled}
 use Rattle.tsdb_frames.specs.Slots.{HasRecords}
 use Rattle.tsdb_frames.specs.declared.frames.Frames.{Frames}
 use Rattle.tsdb_held.specs.Held.{TellTheirBytes}
-use Rattle.tsdb_images.specs.Stored.{IsKept, kept_bytes}
+use Rattle.tsdb_images.specs.Stored.{IsKeptWhole, kept_bytes}
 use Rattle.tsdb_log.specs.Spelling.{IsRecord, spelling}
 use Rattle.tsdb_log.specs.declared.record.LogRecord.{LogRecord}
 use Rattle.tsdb_model.specs.State as plain
 use Rattle.tsdb_opening.specs.Opening.{IsOpeningOf, next_number}
 use Rattle.tsdb_opening.specs.declared.opening.Opening.{Opening}
-use Rattle.tsdb_outside.specs.Disk.{Image, State}
+use Rattle.tsdb_outside.specs.Disk.{Image, DiskState}
 use Rattle.tsdb_outside.specs.Files.{Store, StoredFile}
 use Rattle.tsdb_outside.specs.declared.disk.Disk as disk
 use Rattle.tsdb_outside.specs.declared.disk.Slot.TheVariants.{A}
@@ -60,7 +60,7 @@ module _ {F S R P : Type 0} (old : Adopting F S R P) (opening : Opening)
       → IsLog log (map spelling items) None → All IsRecord items
       → Replays store_steps store_steps.new_store items recorded → IsAdoptingOf new recorded
       → StoreInOrder told recorded.store
-      → Each (IsKept kept told) (recorded.store.sequence ++ recorded.store.unsequence)
+      → Each (IsKeptWhole kept told) (recorded.store.sequence ++ recorded.store.unsequence)
       → AreDescribed told (files_of new) → TellTheirBytes (files_of new) kept
       → IsSeen core (record { items = items; kept = kept; told = told; known = known_of (files_of new) })
       (opened (next_of core) recorded.store))
@@ -129,7 +129,7 @@ module _ (opening : Opening) (items : List LogRecord) (recorded : Recorded) (goo
     Opens rest = IfSome rest (λ stored. (items : List LogRecord) (recorded : Recorded) → IsReplay opening items recorded
         → AreStored stored → HasOpened core log stored now items recorded)
 
-    pub is_recovered : (state : State) (rest : Option (List StoredFile)) (seen : Option Image) → state.seen ≡ seen
+    pub is_recovered : (state : DiskState) (rest : Option (List StoredFile)) (seen : Option Image) → state.seen ≡ seen
         → IfSome seen (λ image. HasRecords (map spelling items) image.a)
         → (IsSettled A state → IfSome seen (λ image. IsLog log (map spelling items) None)) → Opens rest
         → IfSome seen (λ image. IfSome rest (λ stored. (at : plain.State) → AreStored stored

@@ -5,7 +5,7 @@ use Rattle.tsdb_core.specs.Core.{IsSeen, next_of}
 use Rattle.tsdb_core.specs.declared.engine.Core.{Core}
 use Rattle.tsdb_frames.specs.Frames.{IsLog}
 use Rattle.tsdb_frames.specs.declared.frames.Frames.{Frames}
-use Rattle.tsdb_images.specs.Stored.{IsKept, kept_bytes}
+use Rattle.tsdb_images.specs.Stored.{IsKeptWhole, kept_bytes}
 use Rattle.tsdb_log.specs.Spelling.{IsRecord, spelling}
 use Rattle.tsdb_log.specs.declared.record.LogRecord.{LogRecord}
 use Rattle.tsdb_logged.specs.Logged.{Outside}
@@ -60,7 +60,7 @@ module _ {J F S R P : Type 0} {means : disk.Ghosts J} {counts : counted.Ghosts J
       : Type 0 where
     pub seen : (told : Told) → IsLog log (map spelling items) None → All IsRecord items
         → StoreInOrder told recorded.store
-        → Each (IsKept stored told) (recorded.store.sequence ++ recorded.store.unsequence)
+        → Each (IsKeptWhole stored told) (recorded.store.sequence ++ recorded.store.unsequence)
         → IsShown core stored told recorded.store
     pub next : IsNextNumber (next_of core) stored recorded.named
     pub none : rest ≡ Some []

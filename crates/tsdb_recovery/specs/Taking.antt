@@ -9,7 +9,7 @@ use Rattle.tsdb_adopting.specs.declared.adopting.Adopting.{Adopting}
 use Rattle.tsdb_base.specs.declared.ids.FileNumber.{FileNumber}
 use Rattle.tsdb_base.specs.declared.ids.Space.TheVariants.{Sequence}
 use Rattle.tsdb_held.specs.Held.{TellTheirBytes, listed}
-use Rattle.tsdb_images.specs.Stored.{IsKept, kept_bytes}
+use Rattle.tsdb_images.specs.Stored.{IsKeptWhole, kept_bytes}
 use Rattle.tsdb_kept.specs.Files.{KeptFiles, kept_file}
 use Rattle.tsdb_kept.specs.Places.{AreOfStore, KeptFile}
 use Rattle.tsdb_base.specs.Causes.{Rose}
@@ -51,7 +51,7 @@ pub record AreTaken (stored : List StoredFile) (store : StoreState) (files : Kep
   pub whole : Each (IsTreeFile (kept_bytes stored)) (map listed files.sequence ++ map listed files.unsequence)
   pub order : (next_in Sequence files store ≡ None) ⊎ (files.unsequence ≡ [])
   pub described : (told : Told) → StoreInOrder told store
-      → Each (IsKept stored told) (store.sequence ++ store.unsequence) → AreDescribed told files
+      → Each (IsKeptWhole stored told) (store.sequence ++ store.unsequence) → AreDescribed told files
 
 -- some of the files are taken up, and all others are at rest
 pub record IsTakingUp (stored : List StoredFile) (store : StoreState) (files : KeptFiles)

@@ -7,7 +7,7 @@ use Rattle.tsdb_committing.proofs.Doubts.{told_elsewhere}
 use Rattle.tsdb_committing.proofs.Numbers.{at_itself, at_other, kept_new, kept_other}
 use Rattle.tsdb_committing.specs.Files.{NewFile, at_file, kept_with, known_entry, number_of}
 use Rattle.tsdb_images.proofs.Kept.{whole_as}
-use Rattle.tsdb_images.specs.Stored.{IsKept, kept_bytes}
+use Rattle.tsdb_images.specs.Stored.{IsKeptWhole, kept_bytes}
 use Rattle.tsdb_layers.proofs.Lists.{among_left, among_map, among_right, each_among, each_from_among}
 use Rattle.tsdb_layers.specs.Lists.{Among, IsWithOne, count}
 use Rattle.tsdb_layers.specs.Places.{Content, Place}
@@ -70,7 +70,7 @@ module _ (outside : Outside) (engine : EngineState) (job : Compaction) (others :
       whole = each_from_among _ (files_of engine) (λ f there. whole_as (kept_bytes outside.kept)
           (kept_bytes (kept_with (only_output file) outside.kept)) outside.told told f f refl (told_same f there)
           (λ bytes as_kept. kept_other (only_output file) outside.kept f.number (not_new f there) ∙ as_kept)
-          (each_among (IsKept outside.kept outside.told) (files_of engine) f stored.whole there));
+          (each_among (IsKeptWhole outside.kept outside.told) (files_of engine) f stored.whole there));
       doubt = stored.doubt;
     }
 
@@ -96,7 +96,7 @@ module _ (outside : Outside) (engine : EngineState) (job : Compaction) (others :
     pub known_output : at_file (Some file) known_entry outside.known (number_of file) ≡ known_entry file
     known_output = at_itself file known_entry outside.known
 
-    pub output_kept : Each (IsKept (kept_with (only_output file) outside.kept) told) (output_file file)
+    pub output_kept : Each (IsKeptWhole (kept_with (only_output file) outside.kept) told) (output_file file)
     output_kept = (
       record {
         bytes = is.bytes;

@@ -6,7 +6,7 @@ ghost use Rattle.tsdb_base.specs.declared.ids.Stamp.{Stamp};
 ghost use Rattle.tsdb_committing.specs.Files.{NewFile, new_file};
 ghost use Rattle.tsdb_compactions.specs.Jobs.{IsCompactionOf};
 ghost use Rattle.tsdb_compactions.specs.Outputs.{IsBuiltFor, TellsInputs};
-ghost use Rattle.tsdb_images.specs.Stored.{IsKept};
+ghost use Rattle.tsdb_images.specs.Stored.{IsKeptWhole};
 ghost use Rattle.tsdb_layers.specs.Lists.{IsWithOne};
 ghost use Rattle.tsdb_layers.specs.Places.{Content};
 ghost use Rattle.tsdb_logged.specs.Logged.{IsStoredIn, Outside};
@@ -32,7 +32,7 @@ pub fn a_built_output_can_be_told()
     ensures kept { (outside : Outside) (engine : EngineState) (job : Compaction) (others : List Compaction)
         (content : Content) (file : NewFile) → IsStoredIn outside engine → IsWithOne job others engine.compactions
         → IsNewOutput outside.told job content file
-        → AllByRecursion (IsKept (with_output content file outside).kept (with_output content file outside).told)
+        → AllByRecursion (IsKeptWhole (with_output content file outside).kept (with_output content file outside).told)
         (output_file file) }
     ensures worlds { (outside : Outside) (engine : EngineState) (job : Compaction) (others : List Compaction)
         (content : Content) (file : NewFile) (world : World) → IsStoredIn outside engine

@@ -15,7 +15,7 @@ use Rattle.tsdb_log.specs.Spelling.{IsRecord, spelling}
 use Rattle.tsdb_log.specs.declared.record.LogRecord.{LogRecord}
 use Rattle.tsdb_model.specs.State as plain
 use Rattle.tsdb_model.specs.World.{World}
-use Rattle.tsdb_outside.specs.Disk.{Image, Keeps, State, in_slot}
+use Rattle.tsdb_outside.specs.Disk.{Image, Keeps, DiskState, in_slot}
 use Rattle.tsdb_outside.specs.declared.disk.Slot.{Slot}
 use Rattle.tsdb_pages.specs.File.{IsFile}
 use Rattle.tsdb_pages.specs.declared.tree.Tree.{Tree}
@@ -153,7 +153,7 @@ seen_some None some = absurd (false≢true some)
 seen_some (Some image) some = (image, refl)
 
 -- whatever a stop leaves of a sound store stands for its state
-pub sound_images : (slot : Slot) (disk : State) (files : Files) (at : plain.State) (image : Image)
+pub sound_images : (slot : Slot) (disk : DiskState) (files : Files) (at : plain.State) (image : Image)
     → IsSound slot disk files at → disk.may_leave image → StandsFor files (in_slot slot image) at
 sound_images slot disk files at image sound left =
     let seen = seen_some disk.seen sound.told in
@@ -170,7 +170,7 @@ sound_images slot disk files at image sound left =
     }
 
 -- a call that writes nothing leaves a store sound
-pub sound_kept : (slot : Slot) (old new : State) (files : Files) (at : plain.State) → Keeps old new
+pub sound_kept : (slot : Slot) (old new : DiskState) (files : Files) (at : plain.State) → Keeps old new
     → IsSound slot old files at → IsSound slot new files at
 sound_kept slot old new files at keeps sound = record {
   told = subst (λ (s : Option Image). IsSome s) (sym keeps.seen) sound.told;

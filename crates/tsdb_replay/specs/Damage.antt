@@ -1,7 +1,7 @@
 -- Where a log is damaged: the first record that is torn, cannot be read, or has no replay.
 use Rattle.std.specs.Prelude.{◌≡◌, ◌⊎◌, ℕ, List, [], ◌∷◌, ◌++◌, length, map}
 use Rattle.std.specs.List.{All}
-use Rattle.tsdb_frames.specs.Slots.{BeginsWith, IsPayload, open_records}
+use Rattle.tsdb_frames.specs.Slots.{BeginsWithPayload, IsPayload, open_records}
 use Rattle.tsdb_log.specs.Spelling.{IsRecord, spelling}
 use Rattle.tsdb_log.specs.declared.record.LogRecord.{LogRecord}
 use Rattle.tsdb_replay.specs.Replays.{HasNoReplay, Replays, Steps}
@@ -10,7 +10,7 @@ use Rattle.tsdb_replay.specs.Replays.{HasNoReplay, Replays, Steps}
 pub record IsTornRest (rest : List ℕ) : Type 0 where
   pub behind : List ℕ
   pub gate : rest ≡ 1 ∷ behind
-  pub broken : (payload after : List ℕ) → ¬ BeginsWith behind payload after
+  pub broken : (payload after : List ℕ) → ¬ BeginsWithPayload behind payload after
 
 -- behind an open gate stands a whole record that cannot be read, or has no replay in this state
 pub record IsUnreplayable {S : Type 0} (steps : Steps S) (state : S) (rest : List ℕ) : Type 0 where
@@ -18,7 +18,7 @@ pub record IsUnreplayable {S : Type 0} (steps : Steps S) (state : S) (rest : Lis
   pub payload : List ℕ
   pub after : List ℕ
   pub gate : rest ≡ 1 ∷ behind
-  pub whole : BeginsWith behind payload after
+  pub whole : BeginsWithPayload behind payload after
   pub none : (item : LogRecord) → IsRecord item → payload ≡ spelling item → HasNoReplay steps item state
 
 -- The log is damaged at the gate of the first record that is torn, cannot be read, or has no replay.

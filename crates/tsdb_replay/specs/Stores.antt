@@ -11,7 +11,7 @@ use Rattle.tsdb_layers.specs.Places.{Content, Place}
 use Rattle.tsdb_log.specs.Spelling.{IsRecord}
 use Rattle.tsdb_log.specs.declared.record.LogRecord.{LogRecord}
 use Rattle.tsdb_model.specs.State as plain
-use Rattle.tsdb_outside.specs.Disk.{Image, State, in_slot}
+use Rattle.tsdb_outside.specs.Disk.{Image, DiskState, in_slot}
 use Rattle.tsdb_outside.specs.Files.{StoredFile}
 use Rattle.tsdb_outside.specs.declared.disk.Slot.{Slot}
 use Rattle.tsdb_pages.specs.File.{IsFile}
@@ -109,7 +109,7 @@ LeadsToState files recorded (Some item) (Some next) =
     IsRecord item × CanFollow recorded.named item recorded.store × IsStoreOf files (after item recorded.store) next
 
 -- A sound store: it tells its content, the slot of its log is settled, and what a read gives stands for this state.
-pub record IsSound (slot : Slot) (disk : State) (files : Files) (at : plain.State) : Type 0 where
+pub record IsSound (slot : Slot) (disk : DiskState) (files : Files) (at : plain.State) : Type 0 where
   pub told : IsSome disk.seen
   pub settled : IsSettled slot disk
   pub stands : (image : Image) → disk.seen ≡ Some image → StandsFor files (in_slot slot image) at

@@ -18,7 +18,7 @@ use Rattle.tsdb_memory.specs.Model.{IsSound}
 use Rattle.tsdb_memory.specs.Shown.{IsContentOf, IsMemoryOf}
 use Rattle.tsdb_memory.specs.Store.{Store}
 use Rattle.tsdb_memtable.specs.Pairs.{HasRisingSeries, Pair, SeriesPoints, byte_count, count, points_in, series_bytes}
-use Rattle.tsdb_memtable.specs.Points.{bytes_of, point_bytes, value_bytes}
+use Rattle.tsdb_memtable.specs.Points.{counted_bytes, point_bytes, value_bytes}
 use Rattle.tsdb_rows.proofs.Weights.{total_of}
 use Rattle.tsdb_rows.specs.Fits.{HasCounts, HasNoPoint}
 use Rattle.tsdb_state.specs.Limit.{IsEmptyPair, content_bytes}
@@ -34,7 +34,7 @@ weight_at content place = unwrap_or (option_map weight (get content place)) 0
 
 -- how many bytes the points of a space count
 abbrev space_bytes : Space → Pair → ℕ
-space_bytes space pair = sum_by (λ (series : SeriesPoints). bytes_of (points_in space series)) (values_of pair)
+space_bytes space pair = sum_by (λ (series : SeriesPoints). counted_bytes (points_in space series)) (values_of pair)
 
 four : (a b c d : ℕ) → (a + b) + (c + d) ≡ (a + c) + (b + d)
 four a b c d = omega arith
@@ -44,15 +44,15 @@ both_spaces [] = refl
 both_spaces (entry ∷ pair) =
     sum_by-cons series_bytes entry.1 (values_of pair)
     ∙ ap (λ n. series_bytes entry.1 + n) (both_spaces pair)
-    ∙ four (bytes_of entry.1.sequence) (bytes_of entry.1.unsequence) (space_bytes Sequence pair)
+    ∙ four (counted_bytes entry.1.sequence) (counted_bytes entry.1.unsequence) (space_bytes Sequence pair)
     (space_bytes Unsequence pair)
-    ∙ (λ i. sym (sum_by-cons (λ (series : SeriesPoints). bytes_of series.sequence) entry.1 (values_of pair)) i
-    + sym (sum_by-cons (λ (series : SeriesPoints). bytes_of series.unsequence) entry.1 (values_of pair)) i)
+    ∙ (λ i. sym (sum_by-cons (λ (series : SeriesPoints). counted_bytes series.sequence) entry.1 (values_of pair)) i
+    + sym (sum_by-cons (λ (series : SeriesPoints). counted_bytes series.unsequence) entry.1 (values_of pair)) i)
 
 -- the weights at the places of points are those of the points
 weights_placed : (at : Place → ℕ) (path : List ℕ) (points : List Point)
     → ((point : Point) → Among point points → at (placed path point) ≡ point_bytes point)
-    → sum_by at (map (placed path) points) ≡ bytes_of points
+    → sum_by at (map (placed path) points) ≡ counted_bytes points
 weights_placed at path [] are = refl
 weights_placed at path (p ∷ points) are =
     sum_by-cons at (placed path p) (map (placed path) points)
@@ -69,7 +69,7 @@ weights_in at series space (entry ∷ pair) are =
     ∙ (λ i. weights_placed at (path_in series entry.0) (points_in space entry.1)
     (λ point among. are entry point (inl refl) among) i
     + weights_in at series space pair (λ other point listed among. are other point (inr listed) among) i)
-    ∙ sym (sum_by-cons (λ (series : SeriesPoints). bytes_of (points_in space series)) entry.1 (values_of pair))
+    ∙ sym (sum_by-cons (λ (series : SeriesPoints). counted_bytes (points_in space series)) entry.1 (values_of pair))
 
 module _ (memory : Store) (sound : IsSound memory) (sorted : HasRisingSeries memory.working) (space : Space)
     (content : Content) (is : IsContentOf memory.series space memory.working content) where
@@ -103,7 +103,7 @@ has_counts memory shown sound sorted is = record {
 none_first : (a b c d : ℕ) → a + b ≡ c + d → c ≡ 0 → d ≡ 0 → (a ≡ 0) × (b ≡ 0)
 none_first a b c d e f g = (omega (arith, e, f, g), omega (arith, e, f, g))
 
-pub empty_pair : (pair : Pair) (shown : state.Pair) → HasCounts pair shown → HasNoPoint pair ↔ IsEmptyPair shown
+pub empty_pair : (pair : Pair) (shown : state.PairContent) → HasCounts pair shown → HasNoPoint pair ↔ IsEmptyPair shown
 empty_pair pair shown counts = (
   λ none. let both = none_first (len shown.sequence) (len shown.unsequence) (count Sequence pair)
       (count Unsequence pair) counts.points none.0 none.1 in

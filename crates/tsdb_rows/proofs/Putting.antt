@@ -34,7 +34,7 @@ use Rattle.tsdb_state.specs.Commands.{AreCells, KeepsBytes}
 use Rattle.tsdb_state.specs.Limit.{IsEmptyPair, byte_count, point_count}
 use Rattle.tsdb_base.specs.Limits.{end_of_numbers, max_pair_bytes, max_pair_points}
 use Rattle.tsdb_state.specs.Records.{CanInsert, IsOfDevice, inserted, place_of, put_cells, put_in_pair, put_in_space}
-use Rattle.tsdb_state.specs.State.{Pair, SeriesEntry, StoreState}
+use Rattle.tsdb_state.specs.State.{PairContent, SeriesEntry, StoreState}
 
 -- the counts after a value
 
@@ -46,12 +46,12 @@ len_put content place value = subst (λ n. n ≤ len content + 1) (sym (len-inse
     by true n = omega arith
     by false n = omega arith
 
-count_put : (space : Space) (place : Place) (value : Value) (pair : Pair)
+count_put : (space : Space) (place : Place) (value : Value) (pair : PairContent)
     → point_count (put_in_space space place value pair) ≤ point_count pair + 1
 count_put Sequence place value pair = omega (arith, len_put pair.sequence place value)
 count_put Unsequence place value pair = omega (arith, len_put pair.unsequence place value)
 
-bytes_put : (space : Space) (place : Place) (value : Value) (pair : Pair)
+bytes_put : (space : Space) (place : Place) (value : Value) (pair : PairContent)
     → byte_count (put_in_space space place value pair) ≤ byte_count pair + weight value
 bytes_put Sequence place value pair = omega (arith, total_put weight pair.sequence place value)
 bytes_put Unsequence place value pair = omega (arith, total_put weight pair.unsequence place value)
@@ -61,7 +61,7 @@ bytes_put Unsequence place value pair = omega (arith, total_put weight pair.unse
 abbrev item_bytes : CellRecord → ℕ
 item_bytes item = weight item.value
 
-count_after : (schemas : List SeriesEntry) (watermarks : Watermarks) (time : ℤ) (items : List CellRecord) (pair : Pair)
+count_after : (schemas : List SeriesEntry) (watermarks : Watermarks) (time : ℤ) (items : List CellRecord) (pair : PairContent)
     → point_count (put_cells schemas watermarks time items pair) ≤ point_count pair + length items
 count_after schemas watermarks time [] pair = omega arith
 count_after schemas watermarks time (item ∷ items) pair =
@@ -72,7 +72,7 @@ count_after schemas watermarks time (item ∷ items) pair =
       count_put (space_by (get watermarks (device_of place.path)) place.time) place item.value pair,
     )
 
-bytes_after : (schemas : List SeriesEntry) (watermarks : Watermarks) (time : ℤ) (items : List CellRecord) (pair : Pair)
+bytes_after : (schemas : List SeriesEntry) (watermarks : Watermarks) (time : ℤ) (items : List CellRecord) (pair : PairContent)
     → byte_count (put_cells schemas watermarks time items pair) ≤ byte_count pair + sum_by item_bytes items
 bytes_after schemas watermarks time [] pair = omega arith
 bytes_after schemas watermarks time (item ∷ items) pair =

@@ -38,6 +38,6 @@ FitsPair limit row pair =
     ⊎ ((point_count pair + length row.cells ≤ limit) × (byte_count pair + row_bytes row.cells ≤ max_pair_bytes))
 
 -- the pair of a state has as many points and bytes as the one in memory
-pub record HasCounts (pair : Pair) (shown : state.Pair) : Type 0 where
+pub record HasCounts (pair : Pair) (shown : state.PairContent) : Type 0 where
   pub points : limits.point_count shown ≡ point_count pair
   pub bytes : limits.byte_count shown ≡ byte_count pair

@@ -18,7 +18,7 @@ ghost use Rattle.tsdb_state.specs.Commands.{AreCells, KeepsBytes};
 ghost use Rattle.tsdb_state.specs.Limit.{IsEmptyPair};
 ghost use Rattle.tsdb_base.specs.Limits.{end_of_numbers, max_pair_points};
 ghost use Rattle.tsdb_state.specs.Records.{CanInsert};
-ghost use Rattle.tsdb_state.specs.State.{Pair as PairState, StoreState, Told};
+ghost use Rattle.tsdb_state.specs.State.{PairContent as PairState, StoreState, Told};
 ghost use Rattle.tsdb_state.specs.StoreOrder.{StoreInOrder};
 ghost use Rattle.tsdb_state.specs.Worlds.{StandsFor};
 

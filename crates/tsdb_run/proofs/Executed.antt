@@ -19,7 +19,7 @@ use Rattle.tsdb_model.specs.History.{Entry}
 use Rattle.tsdb_model.specs.State as plain
 use Rattle.tsdb_opening.specs.Opening.{greatest}
 use Rattle.tsdb_base.specs.Causes.{Rose}
-use Rattle.tsdb_outside.specs.Disk.{Image, IsLawful, Keeps, State, in_slot}
+use Rattle.tsdb_outside.specs.Disk.{Image, IsLawful, Keeps, DiskState, in_slot}
 use Rattle.tsdb_outside.specs.Files.{StoredFile, numbers_of}
 use Rattle.tsdb_outside.specs.Moments.{LeavesOnly}
 use Rattle.tsdb_outside.specs.declared.disk.Disk as disk
@@ -39,7 +39,7 @@ use Rattle.tsdb_script.specs.declared.numbered.Numbered.{Numbered}
 use Rattle.tsdb_serving.specs.Serving.{IsDrawn, disk_under, slot_under}
 
 -- a call that writes nothing leaves what the disk might leave
-keeps_leaves : (old new : State) (P : Image → Type 0) → IsLawful old → IsLawful new → Keeps old new
+keeps_leaves : (old new : DiskState) (P : Image → Type 0) → IsLawful old → IsLawful new → Keeps old new
     → ((image : Image) → old.may_leave image → P image) → LeavesOnly old new P
 keeps_leaves old new P before after keeps each = record {
   passes = record {
@@ -57,7 +57,7 @@ keeps_leaves old new P before after keeps each = record {
 module _ {J F S R P : Type 0} {means : disk.Ghosts J} {counts : counted.Ghosts J}
     (core last : Core J F S R P means counts) (files : List StoredFile) (start : plain.State) (entries : List Entry)
     (served : HasServed core last files start entries) (slot : slot_under core ≡ A)
-    (stays : slot_under last ≡ slot_under core) (new : State) (laws : IsLawful new) (stored : List StoredFile)
+    (stays : slot_under last ≡ slot_under core) (new : DiskState) (laws : IsLawful new) (stored : List StoredFile)
     (rose : Type 0) (closed : IsClosed last new stored rose (files ++ served.put) served.after served.doubt) where
   in_a : slot_under last ≡ A
   in_a = stays ∙ slot
@@ -145,7 +145,7 @@ pub counted_down : (old mid new journal files count : ℕ) → old ≤ mid → m
     → min count (2 ^ 64 - 1) ≤ journal + files → min (old + count) (2 ^ 64 - 1) ≤ new
 counted_down old mid new journal files count later counts answered = omega (arith, later, counts, answered)
 
-pub sure_before : (old new : State) (stored now : Option (List StoredFile)) → Keeps old new → now ≡ stored
+pub sure_before : (old new : DiskState) (stored now : Option (List StoredFile)) → Keeps old new → now ≡ stored
     → IsSoundOrSilent (contents old stored) → IsSoundOrSilent (contents new now)
 sure_before old new stored now keeps same (inl silent) = inl (same ∙ silent)
 sure_before old new stored now keeps same (inr (start, sound)) =
@@ -153,7 +153,7 @@ sure_before old new stored now keeps same (inr (start, sound)) =
 
 -- ---- before and behind it
 
-module _ (files : List StoredFile) (start : plain.State) (entries : List Entry) (old mid new : State)
+module _ (files : List StoredFile) (start : plain.State) (entries : List Entry) (old mid new : DiskState)
     (now : Option (List StoredFile)) (rose : Type 0) (before : IsLawful old) (between : IsLawful mid)
     (behind : IsLawful new) where
   abbrev prefixed : List StoredFile → Image → Type 0
@@ -209,7 +209,7 @@ module _ (files : List StoredFile) (start : plain.State) (entries : List Entry) 
   }
 
 -- the script was executed on the store of a journal, which a place handed out and took back
-pub placed : (script : List Numbered) (history : List Told) (old journal last new : State)
+pub placed : (script : List Numbered) (history : List Told) (old journal last new : DiskState)
     (stored at_rest rest now : Option (List StoredFile)) (rose more : Type 0) → IsLawful old → IsLawful journal
     → IsLawful last → IsLawful new → Keeps old journal → at_rest ≡ stored → Keeps last new → now ≡ rest → (rose → more)
     → IsRunOn script history (contents journal at_rest) (contents last rest) rose

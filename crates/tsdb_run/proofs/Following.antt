@@ -7,7 +7,7 @@ use Rattle.tsdb_history.specs.Joining.{IsFollowed}
 use Rattle.tsdb_images.specs.Stored.{kept_bytes}
 use Rattle.tsdb_model.specs.History.{Entry, IsLegal}
 use Rattle.tsdb_model.specs.State as plain
-use Rattle.tsdb_outside.specs.Disk.{IsLawful, State}
+use Rattle.tsdb_outside.specs.Disk.{IsLawful, DiskState}
 use Rattle.tsdb_outside.specs.Files.{StoredFile}
 use Rattle.tsdb_recovery.proofs.Rest.{holds_itself}
 use Rattle.tsdb_replay.specs.Stores as replay
@@ -15,7 +15,7 @@ use Rattle.tsdb_run.proofs.Whole.{tells_sound}
 use Rattle.tsdb_run.specs.Headline.{HasRun}
 use Rattle.tsdb_run.specs.Store.{IsSound, StandsFor, contents}
 
-pub follows : (old new : State) (now : Option (List StoredFile)) → IsLawful new → (files : List StoredFile)
+pub follows : (old new : DiskState) (now : Option (List StoredFile)) → IsLawful new → (files : List StoredFile)
     (start middle last : plain.State) (first second : List Entry) (rose : Type 0)
     → HasRun files start first old (contents new now) rose → IsSound (contents new now) middle
     → IsLegal middle second last → IsFollowed start first second last

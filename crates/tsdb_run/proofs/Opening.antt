@@ -1,7 +1,7 @@
 -- The status of a run whose store was not opened.
 use Rattle.std.proofs.Common.{◌≡◌, List, Option, inl, inr, refl}
 use Rattle.tsdb_model.specs.State as plain
-use Rattle.tsdb_outside.specs.Disk.{State}
+use Rattle.tsdb_outside.specs.Disk.{DiskState}
 use Rattle.tsdb_outside.specs.Files.{StoredFile}
 use Rattle.tsdb_run.proofs.Whole.{not_damaged}
 use Rattle.tsdb_run.specs.Causes.{IsRefusedStore}
@@ -11,7 +11,7 @@ use Rattle.tsdb_run.specs.declared.status.Status.{Status}
 use Rattle.tsdb_run.specs.declared.status.Status.TheVariants.{Done, Memory, Words, Script, Source, Sink, Device, Damaged}
 
 -- a sound store is refused only where something outside failed
-pub refused_rose : (disk : State) (stored : Option (List StoredFile)) (at : plain.State) (status : Status) (rose : Type 0)
+pub refused_rose : (disk : DiskState) (stored : Option (List StoredFile)) (at : plain.State) (status : Status) (rose : Type 0)
     → IsSound (contents disk stored) at → IsOpeningStatus (contents disk stored) status → (status ≡ Device → rose)
     → IsRefusedStore status → rose
 refused_rose disk stored at Device rose sound is device refused = device refl

@@ -13,7 +13,7 @@ use Rattle.tsdb_history.specs.declared.told.Told.{Told as Answered}
 use Rattle.tsdb_model.specs.State as plain
 use Rattle.tsdb_outside.proofs.DiskLemmas.{Keeps-same}
 use Rattle.tsdb_frames.proofs.FirstLemmas.{keeps_on}
-use Rattle.tsdb_outside.specs.Disk.{Image, IsLawful, Keeps, State}
+use Rattle.tsdb_outside.specs.Disk.{Image, IsLawful, Keeps, DiskState}
 use Rattle.tsdb_outside.specs.Files.{StoredFile}
 use Rattle.tsdb_outside.specs.declared.disk.Slot.TheVariants.{A}
 use Rattle.tsdb_recovery.specs.Left.{AreLeft, IsStray}
@@ -84,7 +84,7 @@ module _ (files now : List StoredFile) (bytes : List ℕ) (left : AreLeft (IsStr
     };
   }
 
-pub still_sound : (old new : State) (stored now : Option (List StoredFile)) (at : plain.State) → Keeps old new
+pub still_sound : (old new : DiskState) (stored now : Option (List StoredFile)) (at : plain.State) → Keeps old new
     → KeepsListed (contents old stored) (contents new now) → IsSound (contents old stored) at
     → IsSound (contents new now) at
 still_sound old new stored now at keeps keeps_files sound =
@@ -118,25 +118,25 @@ without run none sink alone = record {
 -- ---- which files are left
 
 -- where no file comes or goes
-pub same_listed : (old new : State) (stored now : Option (List StoredFile)) → now ≡ stored
+pub same_listed : (old new : DiskState) (stored now : Option (List StoredFile)) → now ≡ stored
     → KeepsListed (contents old stored) (contents new now)
 same_listed old new stored now same = λ image files tells.
     subst (λ o. IsSomeAnd o (AreLeft (IsStray image.a) files)) (sym (same ∙ tells.told))
     (record { are_stored = tells.are_stored; each = λ n. inl refl })
 
-pub same_left : (old new : State) (stored now : Option (List StoredFile)) → Keeps old new → now ≡ stored
+pub same_left : (old new : DiskState) (stored now : Option (List StoredFile)) → Keeps old new → now ≡ stored
     → IsLeftAlone (contents old stored) (contents new now)
 same_left old new stored now keeps same = record { log = keeps; files = same_listed old new stored now same }
 
 -- a store that was not opened, though memory or something of it failed, with no file come or gone
-pub same_refused : (old new : State) (stored now : Option (List StoredFile)) (status : Status) → Keeps old new
+pub same_refused : (old new : DiskState) (stored now : Option (List StoredFile)) (status : Status) → Keeps old new
     → now ≡ stored → IsOpeningStatus (contents old stored) status
     → IsRefused (contents old stored) (contents new now) status
 same_refused old new stored now status keeps same why =
     record { why = why; left_alone = same_left old new stored now keeps same }
 
 -- why a store was not opened, where what is answered of its damage is so
-opening_why : (state : State) (stored start : Option (List StoredFile)) (reason : OpenFault) → start ≡ stored
+opening_why : (state : DiskState) (stored start : Option (List StoredFile)) (reason : OpenFault) → start ≡ stored
     → IfSome state.seen (λ image. IfSome start (λ files. (which : Part) (at : ℕ) → AreStored files
     → reason ≡ fault.Damaged which at → IsDamagedIn (kept_bytes files) image.a which at))
     → IsOpeningStatus (contents state stored) (opening_status reason)
@@ -148,7 +148,7 @@ opening_why state stored start (fault.Damaged part place) begins damaged = λ im
     place tells.are_stored refl
 
 -- what an opening that failed leaves
-pub opening_refused : (state new : State) (stored start mid now : Option (List StoredFile)) (reason : OpenFault)
+pub opening_refused : (state new : DiskState) (stored start mid now : Option (List StoredFile)) (reason : OpenFault)
     → start ≡ stored → now ≡ mid → Keeps state new
     → IfSome state.seen (λ image. IfSome start (λ files. (which : Part) (at : ℕ) → AreStored files
     → reason ≡ fault.Damaged which at → IsDamagedIn (kept_bytes files) image.a which at))
@@ -174,7 +174,7 @@ answers_reports part at (fault.Damaged other place) is = inl (ap (λ p. Damaged 
 answers_reports part at fault.Memory is = inr (inl refl)
 
 -- where the store is damaged, what is said of each damage is said of this one
-damage_of : (state : State) (stored start : Option (List StoredFile)) (part : Part) (at : ℕ)
+damage_of : (state : DiskState) (stored start : Option (List StoredFile)) (part : Part) (at : ℕ)
     (Answered : Part → ℕ → Type 0) → start ≡ stored
     → IfSome state.seen (λ image. IfSome start (λ files. (which : Part) (place : ℕ) → AreStored files
     → HaveLengths files → IsDamagedIn (kept_bytes files) image.a which place → Answered which place))
@@ -185,14 +185,14 @@ damage_of state stored start part at Answered begins each has =
     has.tells.slots (begins ∙ has.tells.told) each part at has.tells.are_stored has.lengths has.damaged
 
 -- a damaged store was opened, which cannot be
-pub never_opened : (state : State) (stored start : Option (List StoredFile)) (part : Part) (at : ℕ) → start ≡ stored
+pub never_opened : (state : DiskState) (stored start : Option (List StoredFile)) (part : Part) (at : ℕ) → start ≡ stored
     → IfSome state.seen (λ image. IfSome start (λ files. (which : Part) (place : ℕ) → AreStored files
     → HaveLengths files → IsDamagedIn (kept_bytes files) image.a which place → ⊥))
     → ¬ HasDamage (contents state stored) part at
 never_opened state stored start part at = damage_of state stored start part at (λ which place. ⊥)
 
 -- it was not opened
-pub reports : (state : State) (stored start : Option (List StoredFile)) (part : Part) (at : ℕ) (reason : OpenFault)
+pub reports : (state : DiskState) (stored start : Option (List StoredFile)) (part : Part) (at : ℕ) (reason : OpenFault)
     → start ≡ stored
     → IfSome state.seen (λ image. IfSome start (λ files. (which : Part) (place : ℕ) → AreStored files
     → HaveLengths files → IsDamagedIn (kept_bytes files) image.a which place → AnswersDamageIn which place reason))
@@ -201,7 +201,7 @@ reports state stored start part at reason begins each has = answers_reports part
     (damage_of state stored start part at (λ which place. AnswersDamageIn which place reason) begins each has)
 
 -- a place that handed the store out, and took it back after it was not opened
-pub placed_refused : (old journal last new : State) (stored at_rest rest now : Option (List StoredFile))
+pub placed_refused : (old journal last new : DiskState) (stored at_rest rest now : Option (List StoredFile))
     (status : Status) → IsLawful old → Keeps old journal → at_rest ≡ stored → Keeps last new → now ≡ rest
     → IsRefused (contents journal at_rest) (contents last rest) status
     → IsRefused (contents old stored) (contents new now) status
@@ -234,7 +234,7 @@ placed_refused old journal last new stored at_rest rest now status laws takes sa
     handed_why Sink is = absurd is
 
 -- its damage is that of the store that it handed out
-pub placed_damage : (old journal : State) (stored at_rest : Option (List StoredFile)) (part : Part) (at : ℕ)
+pub placed_damage : (old journal : DiskState) (stored at_rest : Option (List StoredFile)) (part : Part) (at : ℕ)
     → Keeps old journal → at_rest ≡ stored → HasDamage (contents old stored) part at
     → HasDamage (contents journal at_rest) part at
 placed_damage old journal stored at_rest part at takes same has = record {

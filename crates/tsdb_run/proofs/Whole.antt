@@ -11,7 +11,7 @@ use Rattle.tsdb_recovery.specs.Opened.{IsNextNumber, IsRecovered}
 use Rattle.tsdb_replay.specs.Replays.{IsReplayOf}
 use Rattle.tsdb_replay.specs.Stores as replay
 use Rattle.tsdb_model.specs.State as plain
-use Rattle.tsdb_outside.specs.Disk.{Image, Keeps, State}
+use Rattle.tsdb_outside.specs.Disk.{Image, Keeps, DiskState}
 use Rattle.tsdb_outside.specs.Files.{StoredFile}
 use Rattle.tsdb_outside.specs.declared.disk.Slot.TheVariants.{A}
 use Rattle.tsdb_recover.specs.declared.fault.Part.{Part}
@@ -32,7 +32,7 @@ seen_some None some = absurd (false≢true some)
 seen_some (Some image) some = (image, refl)
 
 -- a sound store tells its slots and its files
-pub tells_sound : (disk : State) (stored : Option (List StoredFile)) (at : plain.State)
+pub tells_sound : (disk : DiskState) (stored : Option (List StoredFile)) (at : plain.State)
     (sound : IsSound (contents disk stored) at)
     → (image : Image) × Tells (contents disk stored) image sound.files
 tells_sound disk stored at sound =
@@ -40,7 +40,7 @@ tells_sound disk stored at sound =
     (seen.0, record { slots = seen.1; told = sound.told; are_stored = sound.are_stored })
 
 -- a call that writes nothing leaves a store sound
-abbrev pub sound_after : (old new : State) (stored now : Option (List StoredFile)) (at : plain.State) → Keeps old new
+abbrev pub sound_after : (old new : DiskState) (stored now : Option (List StoredFile)) (at : plain.State) → Keeps old new
     → now ≡ stored → IsSound (contents old stored) at → IsSound (contents new now) at
 sound_after old new stored now at keeps same sound = record {
   files = sound.files;
@@ -72,7 +72,7 @@ stands_whole files bytes at (part.File number) place stands damaged =
     (stands.recorded.store.sequence ++ stands.recorded.store.unsequence) stands.store.whole)
     (subst (λ (r : Recorded). IsDamagedFile files r.store number.0 place) same damaged.2)
 
-pub not_damaged : (disk : State) (stored : Option (List StoredFile)) (at : plain.State) (which : Part) (place : ℕ)
+pub not_damaged : (disk : DiskState) (stored : Option (List StoredFile)) (at : plain.State) (which : Part) (place : ℕ)
     → IsSound (contents disk stored) at → IsDamaged (contents disk stored) which place → ⊥
 not_damaged disk stored at which place sound damaged =
     let tells = tells_sound disk stored at sound in
@@ -80,7 +80,7 @@ not_damaged disk stored at which place sound damaged =
     (damaged tells.0 sound.files tells.1)
 
 -- whatever a stop leaves of a sound store stands for its state
-pub sound_left : (disk : State) (stored : Option (List StoredFile)) (at : plain.State) (image : Image)
+pub sound_left : (disk : DiskState) (stored : Option (List StoredFile)) (at : plain.State) (image : Image)
     (sound : IsSound (contents disk stored) at) → disk.may_leave image
     → StandsFor (kept_bytes sound.files) image.a at
 sound_left disk stored at image sound left = sound_images A disk (kept_bytes sound.files) at image sound.sound left
@@ -97,7 +97,7 @@ if_some P found x is holds = subst (λ o. IfSome o P) is holds
 
 -- what is read at an opening of a sound store
 module _ {J F S R P : Type 0} {means : disk.Ghosts J} {counts : counted.Ghosts J} (core : Core J F S R P means counts)
-    (state : State) (stored now : Option (List StoredFile)) (start : plain.State) (sound : IsSound (contents state stored) start)
+    (state : DiskState) (stored now : Option (List StoredFile)) (start : plain.State) (sound : IsSound (contents state stored) start)
     (same : now ≡ stored) where
   abbrev pub image : Image
   image = (tells_sound state stored start sound).0

@@ -11,7 +11,7 @@ use Rattle.tsdb_history.specs.declared.told.Told.{Told}
 use Rattle.tsdb_model.specs.History.{Entry, IsLegal}
 use Rattle.tsdb_model.specs.State as plain
 use Rattle.tsdb_model.specs.declared.reply.Listing.{Listing}
-use Rattle.tsdb_outside.specs.Disk.{Image, State}
+use Rattle.tsdb_outside.specs.Disk.{Image, DiskState}
 use Rattle.tsdb_outside.specs.Files.{StoredFile}
 use Rattle.tsdb_outside.specs.Moments.{LeavesOnly}
 use Rattle.tsdb_run.specs.Output.{AppendsPrefix, output_text}
@@ -49,7 +49,7 @@ AreNewer files others =
 
 -- The entries took place on a sound store with these files, from a start. `rose` says that something of the place
 -- failed.
-pub record HasRun (files : List StoredFile) (start : plain.State) (entries : List Entry) (old : State) (new : Contents)
+pub record HasRun (files : List StoredFile) (start : plain.State) (entries : List Entry) (old : DiskState) (new : Contents)
     (rose : Type 0) : Type 0 where
   pub after : plain.State
   -- each reply is allowed in the state at its place

@@ -7,7 +7,7 @@ use Rattle.tsdb_history.specs.Listings.{IsListingOf}
 use Rattle.tsdb_images.specs.Stored.{kept_bytes}
 use Rattle.tsdb_model.specs.State as plain
 use Rattle.tsdb_model.specs.declared.reply.Listing.{Listing}
-use Rattle.tsdb_outside.specs.Disk.{Image, Keeps, State}
+use Rattle.tsdb_outside.specs.Disk.{Image, Keeps, DiskState}
 use Rattle.tsdb_outside.specs.Files.{StoredFile}
 use Rattle.tsdb_outside.specs.declared.disk.Slot.TheVariants.{A}
 use Rattle.tsdb_recover.specs.declared.fault.Part.{Part}
@@ -22,10 +22,10 @@ use Rattle.tsdb_serving.specs.Serving.{AreHeldWith}
 
 -- What a place has: what its disk means, and the files of its store where it tells them.
 pub record Contents : Type 1 where
-  pub disk : State
+  pub disk : DiskState
   pub stored : Option (List StoredFile)
 
-abbrev pub contents : State → Option (List StoredFile) → Contents
+abbrev pub contents : DiskState → Option (List StoredFile) → Contents
 contents disk stored = record { disk = disk; stored = stored }
 
 -- It tells what reads of its slots give, and these files, which are stored as files are.
@@ -41,7 +41,7 @@ abbrev pub StandsFor : List StoredFile → Image → plain.State → Type 0
 StandsFor files image at = (kept : store.Files) → store.HoldsKept files kept → store.StandsFor kept image.a at
 
 -- The log in slot A is sound, and stands with these files for the state.
-abbrev pub IsSoundWith : List StoredFile → State → plain.State → Type 0
+abbrev pub IsSoundWith : List StoredFile → DiskState → plain.State → Type 0
 IsSoundWith files disk at = store.IsSound A disk (kept_bytes files) at
 
 -- The place has a sound store, which stands for the state.

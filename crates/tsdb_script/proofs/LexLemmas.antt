@@ -7,7 +7,7 @@ use Rattle.tsdb_script.specs.Types.{LineFault, Token}
 use Rattle.tsdb_script.specs.declared.token.Token.TheVariants.{Word, Text, Less, LessEqual, Greater, GreaterEqual}
 use Rattle.tsdb_script.specs.declared.fault.LineFault.TheVariants.{Bad}
 use Rattle.tsdb_script.specs.Steps.{FaultsWith, after_blanks, word_parts, onto, content_parts, short_text, text_at, less_at, greater_at, mark_at, token_at}
-use Rattle.tsdb_script.specs.Tokens.{is_blank, is_word_byte, is_quote, is_mark, starts, escape, AreWordAnd, AreTextAnd, BeginsWith, AreBlanksAnd, AreTokensAnd, IsStray, IsBadText, HasNoTokens}
+use Rattle.tsdb_script.specs.Tokens.{is_blank, is_word_byte, is_quote, is_mark, starts, escape, AreWordAnd, AreTextAnd, BeginsWithToken, AreBlanksAnd, AreTokensAnd, IsStray, IsBadText, HasNoTokens}
 use Rattle.tsdb_script.proofs.TextLemmas.{content_parts-other, content_parts-pair, content_parts-end}
 
 pub some_is : {A : Type 0} (x y : A) → Some x ≡ Some y → x ≡ y
@@ -62,7 +62,7 @@ pub quote_cases : (P : ℕ → Type 0) → P 39 → P 34 → (b : ℕ) → is_qu
 quote_cases P a c b = either _ _ (here P b 39 a) (here P b 34 c)
 
 abbrev Begins : Token × List ℕ → List ℕ → Type 0
-Begins r bytes = BeginsWith r.0 bytes r.1
+Begins r bytes = BeginsWithToken r.0 bytes r.1
 
 begins_less : (bytes : List ℕ) → Begins (less_at bytes) (60 ∷ bytes)
 begins_less [] = (refl, refl)
@@ -186,7 +186,7 @@ token_found (b ∷ bytes) r e =
     elim (is_mark b) as (λ t. is_mark b ≡ t → cond t (Some (mark_at b bytes)) (cond (is_quote b) (text_at b bytes) (cond (is_word_byte b) (Some (Word (word_parts (b ∷ bytes)).0, (word_parts (b ∷ bytes)).1)) None)) ≡ Some r → Begins r (b ∷ bytes)) [
       | true ↦ λ is e. subst (λ r. Begins r (b ∷ bytes)) (some_is (mark_at b bytes) r e) (begins_mark bytes b is)
       | false ↦ λ no e. elim (is_quote b) as (λ t. is_quote b ≡ t → cond t (text_at b bytes) (cond (is_word_byte b) (Some (Word (word_parts (b ∷ bytes)).0, (word_parts (b ∷ bytes)).1)) None) ≡ Some r → Begins r (b ∷ bytes)) [
-        | true ↦ λ is e. (let t = text_found b bytes (content_parts b bytes) r is (content_found b bytes) e in subst (λ token. BeginsWith token (b ∷ bytes) r.1) t.1 t.2)
+        | true ↦ λ is e. (let t = text_found b bytes (content_parts b bytes) r is (content_found b bytes) e in subst (λ token. BeginsWithToken token (b ∷ bytes) r.1) t.1 t.2)
         | false ↦ λ no e. elim (is_word_byte b) as (λ t. is_word_byte b ≡ t → cond t (Some (Word (word_parts (b ∷ bytes)).0, (word_parts (b ∷ bytes)).1)) None ≡ Some r → Begins r (b ∷ bytes)) [
           | true ↦ λ is e. subst (λ r. Begins r (b ∷ bytes)) (some_is _ r e) (begins_word b bytes is)
           | false ↦ λ no e. cc
@@ -233,7 +233,7 @@ greater_token [] other = refl
 greater_token (b ∷ rest) other = ap (λ t. cond t (GreaterEqual, rest) (Greater, b ∷ rest)) other
 
 -- and the reader finds each token
-pub token_again : (token : Token) (bytes rest : List ℕ) → BeginsWith token bytes rest → token_at bytes ≡ Some (token, rest)
+pub token_again : (token : Token) (bytes rest : List ℕ) → BeginsWithToken token bytes rest → token_at bytes ≡ Some (token, rest)
 token_again (Word word) bytes rest h = ap token_at h.whole ∙ word_token word rest h.some h.letters h.longest
 token_again (Text content) bytes rest h = ap token_at h.whole ∙ text_token content rest h.short h.quote h.quotes h.longest
 token_again Less bytes rest h = ap token_at h.0 ∙ ap Some (less_token rest h.1)
@@ -241,7 +241,7 @@ token_again Greater bytes rest h = ap token_at h.0 ∙ ap Some (greater_token re
 token_again token bytes rest h = ap token_at h
 
 -- a token has bytes
-pub token_shorter : (token : Token) (bytes rest : List ℕ) → BeginsWith token bytes rest → length rest < length bytes
+pub token_shorter : (token : Token) (bytes rest : List ℕ) → BeginsWithToken token bytes rest → length rest < length bytes
 token_shorter (Word word) bytes rest h = omega (arith, ap length h.whole, length-append word rest, h.some)
 token_shorter (Text content) bytes rest h = omega (arith, ap length h.whole, length-append (escape h.quote content) (h.quote ∷ rest))
 token_shorter Less bytes rest h = omega (arith, ap length h.0)
@@ -252,7 +252,7 @@ pub blanks_shorter : (bytes : List ℕ) → length (after_blanks bytes) ≤ leng
 blanks_shorter bytes = omega (arith, ap length (after_blanks_is bytes).whole, length-append (after_blanks_is bytes).blanks (after_blanks bytes))
 
 -- one more token
-pub one_more_token : (tokens : List Token) (token : Token) (line rest more : List ℕ) → AreTokensAnd tokens line rest → BeginsWith token rest more → AreTokensAnd (tokens ++ token ∷ []) line (after_blanks more)
+pub one_more_token : (tokens : List Token) (token : Token) (line rest more : List ℕ) → AreTokensAnd tokens line rest → BeginsWithToken token rest more → AreTokensAnd (tokens ++ token ∷ []) line (after_blanks more)
 one_more_token [] token line rest more h found = (rest, more, h, found, after_blanks_is more)
 one_more_token (t ∷ tokens) token line rest more h found = (h.0, h.1, h.2, h.3, one_more_token tokens token h.1 rest more h.4 found)
 

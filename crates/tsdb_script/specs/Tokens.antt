@@ -54,18 +54,18 @@ pub record AreTextAnd (content bytes rest : List ℕ) : Type 0 where
   pub short : length content ≤ max_text_bytes
 
 -- the bytes begin with this token, the rest stands behind it, and the token could not be longer
-abbrev pub BeginsWith : Token → List ℕ → List ℕ → Type 0
-BeginsWith (Word word) bytes rest = AreWordAnd word bytes rest
-BeginsWith (Text content) bytes rest = AreTextAnd content bytes rest
-BeginsWith Open bytes rest = bytes ≡ 40 ∷ rest
-BeginsWith Close bytes rest = bytes ≡ 41 ∷ rest
-BeginsWith Comma bytes rest = bytes ≡ 44 ∷ rest
-BeginsWith Semicolon bytes rest = bytes ≡ 59 ∷ rest
-BeginsWith Equal bytes rest = bytes ≡ 61 ∷ rest
-BeginsWith Less bytes rest = (bytes ≡ 60 ∷ rest) × (starts (λ b. b == 61) rest ≡ false)
-BeginsWith LessEqual bytes rest = bytes ≡ 60 ∷ 61 ∷ rest
-BeginsWith Greater bytes rest = (bytes ≡ 62 ∷ rest) × (starts (λ b. b == 61) rest ≡ false)
-BeginsWith GreaterEqual bytes rest = bytes ≡ 62 ∷ 61 ∷ rest
+abbrev pub BeginsWithToken : Token → List ℕ → List ℕ → Type 0
+BeginsWithToken (Word word) bytes rest = AreWordAnd word bytes rest
+BeginsWithToken (Text content) bytes rest = AreTextAnd content bytes rest
+BeginsWithToken Open bytes rest = bytes ≡ 40 ∷ rest
+BeginsWithToken Close bytes rest = bytes ≡ 41 ∷ rest
+BeginsWithToken Comma bytes rest = bytes ≡ 44 ∷ rest
+BeginsWithToken Semicolon bytes rest = bytes ≡ 59 ∷ rest
+BeginsWithToken Equal bytes rest = bytes ≡ 61 ∷ rest
+BeginsWithToken Less bytes rest = (bytes ≡ 60 ∷ rest) × (starts (λ b. b == 61) rest ≡ false)
+BeginsWithToken LessEqual bytes rest = bytes ≡ 60 ∷ 61 ∷ rest
+BeginsWithToken Greater bytes rest = (bytes ≡ 62 ∷ rest) × (starts (λ b. b == 61) rest ≡ false)
+BeginsWithToken GreaterEqual bytes rest = bytes ≡ 62 ∷ 61 ∷ rest
 
 -- the bytes are blanks and the rest
 pub record AreBlanksAnd (bytes rest : List ℕ) : Type 0 where
@@ -76,7 +76,7 @@ pub record AreBlanksAnd (bytes rest : List ℕ) : Type 0 where
 -- the bytes are these tokens, each behind any blanks, then blanks and the rest
 abbrev pub AreTokensAnd : List Token → List ℕ → List ℕ → Type 0
 AreTokensAnd [] bytes rest = AreBlanksAnd bytes rest
-AreTokensAnd (token ∷ tokens) bytes rest = (from more : List ℕ) × AreBlanksAnd bytes from × BeginsWith token from more
+AreTokensAnd (token ∷ tokens) bytes rest = (from more : List ℕ) × AreBlanksAnd bytes from × BeginsWithToken token from more
     × AreTokensAnd tokens more rest
 
 -- the tokens of a line

@@ -12,7 +12,7 @@ use Rattle.tsdb_images.specs.Stored.{LeavesOneOf}
 use Rattle.tsdb_layers.proofs.Lists.{each_append, each_weaker}
 use Rattle.tsdb_logged.specs.Logged.{log_of}
 use Rattle.tsdb_model.specs.State as plain
-use Rattle.tsdb_outside.specs.Disk.{Image, IsLawful, State}
+use Rattle.tsdb_outside.specs.Disk.{Image, IsLawful, DiskState}
 use Rattle.tsdb_outside.specs.Files.{StoredFile}
 use Rattle.tsdb_outside.specs.Moments.{LeavesOnly}
 use Rattle.tsdb_outside.specs.declared.disk.Disk as disk
@@ -23,7 +23,7 @@ use Rattle.tsdb_serving.specs.Serving.{AreHeldWith, IsServedBy, IsServing, Leave
 use Rattle.tsdb_serving.specs.Serving.{slot_under}
 
 -- time passes over nothing
-pub idle : (disk : State) (P : Image → Type 0) → IsLawful disk → ((image : Image) → disk.may_leave image → P image)
+pub idle : (disk : DiskState) (P : Image → Type 0) → IsLawful disk → ((image : Image) → disk.may_leave image → P image)
     → LeavesOnly disk disk P
 idle disk P laws each = record {
   passes = record { later = omega arith; nothing_else = λ t image le left. inl left; keeps = λ t image le left. left };

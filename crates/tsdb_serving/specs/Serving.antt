@@ -14,7 +14,7 @@ use Rattle.tsdb_model.specs.State as plain
 use Rattle.tsdb_model.specs.declared.command.Command.{Command}
 use Rattle.tsdb_model.specs.declared.reply.Reply.{Reply}
 use Rattle.tsdb_model.specs.declared.reply.Reply.TheVariants.{Plain}
-use Rattle.tsdb_outside.specs.Disk.{Image, State}
+use Rattle.tsdb_outside.specs.Disk.{Image, DiskState}
 use Rattle.tsdb_outside.specs.Files.{Store, StoredFile}
 use Rattle.tsdb_outside.specs.Moments.{LeavesOnly}
 use Rattle.tsdb_outside.specs.declared.disk.Disk as disk
@@ -60,7 +60,7 @@ LeavesEither files slot at next after image =
 
 module _ {J F S R P : Type 0} {means : disk.Ghosts J} {counts : counted.Ghosts J} where
   -- what a stop may leave of the log's journal
-  abbrev pub disk_under : Core J F S R P means counts → State
+  abbrev pub disk_under : Core J F S R P means counts → DiskState
   disk_under core = disk_of (log_of (logged_of core))
 
   -- the slot of the log

@@ -26,7 +26,7 @@ use Rattle.tsdb_marks.specs.declared.marks.Mark.{Mark}
 use Rattle.tsdb_memtable.specs.Points.{value_bytes}
 use Rattle.tsdb_state.specs.Limit.{IsWithinPairLimit, content_bytes}
 use Rattle.tsdb_state.specs.Records.{add_mark, cut_pair}
-use Rattle.tsdb_state.specs.State.{Pair}
+use Rattle.tsdb_state.specs.State.{PairContent}
 use Rattle.tsdb_state.specs.Views.{pair_layers}
 
 module _ (content : Content) (test : Place → Bool) where
@@ -89,7 +89,7 @@ pub cut_point : (path : List ℕ) (range : Range) (content : Content) (place : P
     → get (cut path range content) place ≡ Some value → get content place ≡ Some value
 cut_point path range content place value is = was_there _ _ _ (sym (get_cut _ _ _ _) ∙ is)
 
-pub cut_points : (path : List ℕ) (range : Range) (pair : Pair) (place : Place) (value : Value)
+pub cut_points : (path : List ℕ) (range : Range) (pair : PairContent) (place : Place) (value : Value)
     → HasPoint (pair_layers (cut_pair path range pair)) place value → HasPoint (pair_layers pair) place value
 cut_points path range pair place value (inl h) = inl (cut_point _ _ _ _ _ h)
 cut_points path range pair place value (inr (inl h)) = inr (inl (cut_point _ _ _ _ _ h))
@@ -101,7 +101,7 @@ empty_cut path range content none =
     ∙ ap (λ o. cond (not (is_within path range q)) o None) (get-empty place_cmp q)
     ∙ sym (none_by (not (is_within path range q))) ∙ sym (get-empty place_cmp q))
 
-pub cut_limit : (path : List ℕ) (range : Range) (pair : Pair) → IsWithinPairLimit pair
+pub cut_limit : (path : List ℕ) (range : Range) (pair : PairContent) → IsWithinPairLimit pair
     → IsWithinPairLimit (cut_pair path range pair)
 cut_limit path range pair (inl none) = inl (empty_cut _ _ _ none.0, empty_cut _ _ _ none.1)
 cut_limit path range pair (inr (inl row)) = inr (inl (record {

@@ -6,7 +6,7 @@ use Rattle.tsdb_layers.proofs.Lists.{count_append, each_append, each_left, each_
 use Rattle.tsdb_layers.proofs.Lists.{with_one_is}
 use Rattle.tsdb_layers.proofs.Rising.{before_part, part_left}
 use Rattle.tsdb_layers.specs.Lists.{Among, EachPair, count, if_some}
-use Rattle.tsdb_layers.specs.Order.{IsBefore}
+use Rattle.tsdb_layers.specs.Order.{IsBeforeInTime}
 use Rattle.tsdb_layers.specs.Places.{Content}
 use Rattle.tsdb_state.proofs.CommitNumbers.{committed_flush_numbers, count_new_two, count_number}
 use Rattle.tsdb_state.proofs.EngineRecords.{jobs_moved, purge_kept}
@@ -22,7 +22,7 @@ use Rattle.tsdb_state.specs.Limit.{IsEmptyPair}
 use Rattle.tsdb_state.specs.Order.{DoubtInOrder, IsInOrder, files_of}
 use Rattle.tsdb_state.specs.Records.{CanFlush, IsNumberOf, flush_oldest, flushed, names, new_file}
 use Rattle.tsdb_state.specs.Records.{numbers_of, purged}
-use Rattle.tsdb_state.specs.State.{EngineState, Entries, File, FlushJob, FrozenPair, Pair, StoreState, Told}
+use Rattle.tsdb_state.specs.State.{EngineState, Entries, File, FlushJob, FrozenPair, PairContent, StoreState, Told}
 use Rattle.tsdb_state.specs.Steps.{CommitsFlush, EndsFlush, IsBuilt, TakesFlush, committed_flush, ended_flush}
 use Rattle.tsdb_state.specs.Steps.{flush_record, number_or_none, took_flush}
 use Rattle.tsdb_state.specs.StoreOrder.{LateIsBelow, StoreInOrder}
@@ -30,7 +30,7 @@ use Rattle.tsdb_state.specs.Views.{file_layers, sequence_layer}
 use Rattle.tsdb_state.specs.Worlds.{KeepsWorld}
 
 -- the flush of the oldest pair
-new_flush : (stamp : ℕ) (frozen : List FrozenPair) (working : Pair) (oldest : FrozenPair) (newer : List FrozenPair)
+new_flush : (stamp : ℕ) (frozen : List FrozenPair) (working : PairContent) (oldest : FrozenPair) (newer : List FrozenPair)
     (flush : FlushJob) → frozen ≡ oldest ∷ newer → flush.born ≡ oldest.born → flush.pair ≡ oldest.pair
     → Each (λ pair. pair.born ≤ stamp) frozen → EachPair (λ pair later. pair.born < later.born) frozen
     → (¬ IsEmptyPair working → Each (λ pair. pair.born < stamp) frozen)
@@ -50,7 +50,7 @@ new_flush stamp frozen working oldest newer flush are born pair reached rise bef
     rises = subst (EachPair (λ (pair later : FrozenPair). pair.born < later.born)) are rise
 
 -- flushes that are out, without the oldest pair
-tail_flush : (stamp : ℕ) (frozen : List FrozenPair) (working : Pair) (oldest : FrozenPair) (newer : List FrozenPair)
+tail_flush : (stamp : ℕ) (frozen : List FrozenPair) (working : PairContent) (oldest : FrozenPair) (newer : List FrozenPair)
     (flush : FlushJob) → frozen ≡ oldest ∷ newer → IsFlushOut stamp frozen working flush
     → IsFlushOut stamp newer working flush
 tail_flush stamp frozen working oldest newer flush are out =
@@ -177,7 +177,7 @@ module _ (told : Told) (known : Entries) (named : List ℕ) (state : EngineState
     pub flush_keeps : KeepsWorld told old (flushed first second old)
     flush_keeps = flushed_keeps _ _ _ _ _ _ commits.are first_is second_is first_has second_has order.store
 
-    late_before : IsBefore (file_layers told old.unsequence) (file_layers told more_sequence)
+    late_before : IsBeforeInTime (file_layers told old.unsequence) (file_layers told more_sequence)
     late_before = before_part _ _ _ (sequence_layer commits.oldest ∷ []) (part_left _ _)
         (first_points _ old _ commits.newer _ _ first_is second_is first_has second_has)
         (subst (LateIsBelow (file_layers told old.unsequence)) commits.are order.store.layers.late).0

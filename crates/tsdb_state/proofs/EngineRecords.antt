@@ -21,12 +21,12 @@ use Rattle.tsdb_state.specs.Limit.{IsEmptyPair, empty_pair}
 use Rattle.tsdb_state.specs.Order.{DoubtInOrder, IsInOrder}
 use Rattle.tsdb_state.specs.Records.{CanCreate, CanDelete, CanFreeze, CanInsert, add_mark, created, cut_pair, deleted}
 use Rattle.tsdb_state.specs.Records.{froze, inserted}
-use Rattle.tsdb_state.specs.State.{Compaction, EngineState, Entries, File, FlushJob, FrozenPair, Pair, StoreState, Told}
+use Rattle.tsdb_state.specs.State.{Compaction, EngineState, Entries, File, FlushJob, FrozenPair, PairContent, StoreState, Told}
 use Rattle.tsdb_state.specs.Steps.{failed}
 use Rattle.tsdb_state.specs.Views.{borns_of, working_pair}
 
 -- flushes that are out, where the stamp rises
-pub flushes_up : (stamp : ℕ) (frozen : List FrozenPair) (working new : Pair) (flushes : List FlushJob)
+pub flushes_up : (stamp : ℕ) (frozen : List FrozenPair) (working new : PairContent) (flushes : List FlushJob)
     → Each (IsFlushOut stamp frozen working) flushes → Each (IsFlushOut (stamp + 1) frozen new) flushes
 flushes_up stamp frozen working new = each_weaker _ _ (λ flush out.
     let reached : flush.born ≤ stamp + 1 = omega (arith, out.reached) in

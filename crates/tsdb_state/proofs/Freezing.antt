@@ -14,7 +14,7 @@ use Rattle.tsdb_layers.proofs.Places.{is_path_same, is_place, path_itself}
 use Rattle.tsdb_layers.proofs.Rising.{IsPartOf, below_both, part_append, part_itself, rises_append}
 use Rattle.tsdb_layers.specs.Layers.{Layer, survivor}
 use Rattle.tsdb_layers.specs.Lists.{Among}
-use Rattle.tsdb_layers.specs.Order.{IsAbove, IsBefore, IsBelow, Watermarks}
+use Rattle.tsdb_layers.specs.Order.{IsAbove, IsBeforeInTime, IsBelow, Watermarks}
 use Rattle.tsdb_layers.specs.Places.{Content, Place, is_path, place_cmp}
 use Rattle.tsdb_memtable.specs.Watermarks.{later_time}
 use Rattle.tsdb_path.specs.Nodes.{device_of}
@@ -134,7 +134,7 @@ apart : (a b last : ℤ) → a ≤ℤ last → last <ℤ b → a <ℤ b
 apart a b last h k = grind (arith, ints)
 
 pub below_above : (watermarks : Watermarks) (xs ys : List Layer) → IsBelow watermarks xs → IsAbove watermarks ys
-    → IsBefore xs ys
+    → IsBeforeInTime xs ys
 below_above watermarks xs ys below above p q v w a b same = by (get watermarks (device_of p.path)) (below p v a)
     (subst (λ d. IfSome (get watermarks d) (λ last. last <ℤ q.time)) (sym same) (above q w b))
   where
@@ -144,13 +144,13 @@ below_above watermarks xs ys below above p q v w a b same = by (get watermarks (
 
 -- one pair more behind the frozen ones
 late_push : (late : List Layer) (pairs : List FrozenPair) (pair : FrozenPair) → LateIsBelow late pairs
-    → IsBefore (late ++ (map unsequence_layer pairs ++ unsequence_layer pair ∷ [])) (sequence_layer pair ∷ [])
+    → IsBeforeInTime (late ++ (map unsequence_layer pairs ++ unsequence_layer pair ∷ [])) (sequence_layer pair ∷ [])
     → LateIsBelow late (pairs ++ pair ∷ [])
 late_push late [] pair below last = (last, tt)
 late_push late (first ∷ pairs) pair below last = (
   below.0,
   late_push (late ++ unsequence_layer first ∷ []) pairs pair below.1
-      (subst (λ layers. IsBefore layers (sequence_layer pair ∷ []))
+      (subst (λ layers. IsBeforeInTime layers (sequence_layer pair ∷ []))
       (sym (append_assoc late (unsequence_layer first ∷ []) (map unsequence_layer pairs ++ unsequence_layer pair ∷ [])))
       last),
 )

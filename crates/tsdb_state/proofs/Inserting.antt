@@ -34,7 +34,7 @@ use Rattle.tsdb_state.specs.Commands.{AreCells, IsCell, KeepsBytes}
 use Rattle.tsdb_state.specs.Limit.{IsEmptyPair, IsOneRow, IsWithinPairLimit, empty_pair, point_count}
 use Rattle.tsdb_base.specs.Limits.{max_pair_points}
 use Rattle.tsdb_state.specs.Records.{CanInsert, IsOfDevice, inserted, path_of, place_of, put_cells, put_in_pair}
-use Rattle.tsdb_state.specs.State.{Pair, SeriesEntry, StoreState, Told}
+use Rattle.tsdb_state.specs.State.{PairContent, SeriesEntry, StoreState, Told}
 use Rattle.tsdb_state.specs.StoreOrder.{HasLiveValues, IsOfSeries, LayersInOrder, StoreInOrder, points_of}
 use Rattle.tsdb_state.specs.Views.{file_layers, pair_layers, sequence_layer, unsequence_layer}
 use Rattle.tsdb_state.specs.Worlds.{StandsFor, type_at, value_of}
@@ -42,7 +42,7 @@ use Rattle.tsdb_state.proofs.Typed.{AreTyped, typed_append, typed_left, typed_ri
 
 -- what holds of the points of a pair, and of the cells of a row
 pub cells_hold : (P : Place → Value → Type 0) (schemas : List SeriesEntry) (state : StoreState) (time : ℤ)
-    (cells : List CellRecord) (pair : Pair)
+    (cells : List CellRecord) (pair : PairContent)
     → ((q : Place) (w : Value) → HasPoint (pair_layers pair) q w → P q w)
     → Each (λ cell. P (place_of schemas time cell) cell.value) cells
     → (q : Place) (w : Value) → HasPoint (pair_layers (put_cells schemas state.watermarks time cells pair)) q w → P q w
@@ -115,7 +115,7 @@ row_ready told device time (cell ∷ cells) state ready there = row_ready told d
     (with_value (place_of state.schemas time cell) cell.value state)
     (value_ready told state _ _ ready (cell_type device state _ ready.once (found_in _ _ _ there.0))) there.1
 
-empty_holds : (P : Place → Value → Type 0) (pair : Pair) → IsEmptyPair pair
+empty_holds : (P : Place → Value → Type 0) (pair : PairContent) → IsEmptyPair pair
     → (q : Place) (w : Value) → HasPoint (pair_layers pair) q w → P q w
 empty_holds P pair none q w has = absurd (none_in_pair q w (subst (λ pair. HasPoint (pair_layers pair) q w) same has))
   where

@@ -15,7 +15,7 @@ use Rattle.tsdb_layers.proofs.Lists.{ends_before, filter_append, first_apart, ru
 use Rattle.tsdb_layers.proofs.Rising.{IsPartOf, before_each, before_part, part_itself, part_left}
 use Rattle.tsdb_layers.specs.Lists.{Among, IsRun}
 use Rattle.tsdb_layers.specs.Marks.{marks_up_to, purge}
-use Rattle.tsdb_layers.specs.Order.{IsBefore}
+use Rattle.tsdb_layers.specs.Order.{IsBeforeInTime}
 use Rattle.tsdb_marks.specs.declared.marks.Mark.{Mark}
 use Rattle.tsdb_state.proofs.Cutting.{mark_of}
 use Rattle.tsdb_state.specs.Jobs.{AreApart, HasKind, KeepsItsMarks, Stands, job_inputs}
@@ -89,7 +89,7 @@ run_more run all more is = record { before = is.before; behind = is.behind ++ mo
 
 pub stands_more : (told : Told) (sequence unsequence more_sequence more_unsequence : List File) (job : Compaction)
     (space : Space)
-    → IsBefore (file_layers told unsequence) (file_layers told more_sequence)
+    → IsBeforeInTime (file_layers told unsequence) (file_layers told more_sequence)
     → Stands space told sequence unsequence job
     → Stands space told (sequence ++ more_sequence) (unsequence ++ more_unsequence) job
 stands_more told sequence unsequence more_sequence more_unsequence job Sequence late gap = record {

@@ -7,7 +7,7 @@ use Rattle.tsdb_layers.proofs.Rising.{IsPartOf, before_each, before_part, below_
 use Rattle.tsdb_layers.proofs.Rising.{part_left, part_right, rises_append, rises_left}
 use Rattle.tsdb_layers.specs.Layers.{HasPoint, Layer}
 use Rattle.tsdb_layers.specs.Lists.{EachPair}
-use Rattle.tsdb_layers.specs.Order.{IsBefore, IsBelow, Rises}
+use Rattle.tsdb_layers.specs.Order.{IsBeforeInTime, IsBelow, Rises}
 use Rattle.tsdb_state.proofs.Freezing.{below_above}
 use Rattle.tsdb_state.proofs.Fresh.{pairs_counted}
 use Rattle.tsdb_state.proofs.Typed.{late_before}
@@ -21,7 +21,7 @@ use Rattle.tsdb_state.specs.Views.{unsequence_layer, working_pair}
 -- what the late layers of the first pairs are below of the pairs behind them
 late_behind : (late : List Layer) (before : List FrozenPair) (pair : FrozenPair) (behind : List FrozenPair)
     → LateIsBelow late (before ++ pair ∷ behind)
-    → IsBefore (unsequence_layer pair ∷ []) (sequence_layer pair ∷ map sequence_layer behind)
+    → IsBeforeInTime (unsequence_layer pair ∷ []) (sequence_layer pair ∷ map sequence_layer behind)
 late_behind late [] pair behind below =
     let more = late ++ unsequence_layer pair ∷ [] in
     before_each (unsequence_layer pair ∷ []) (sequence_layer pair ∷ []) _
@@ -71,17 +71,17 @@ module _ (told : Told) (state : StoreState)
       → map sequence_layer (pairs ++ working_pair state ∷ []) ≡ map sequence_layer pairs ++ working
   pairs_are pairs = map-append _ _ _
 
-  pub late_files_below : IsBefore late (map sequence_layer (pairs_of state))
+  pub late_files_below : IsBeforeInTime late (map sequence_layer (pairs_of state))
   late_files_below =
-      subst (IsBefore late) (sym (pairs_are _)) (before_each _ _ _ (late_before _ _ order.late)
+      subst (IsBeforeInTime late) (sym (pairs_are _)) (before_each _ _ _ (late_before _ _ order.late)
       (below_above _ _ working (below_part _ _ _ (part_left _ _) order.late_below) order.above))
 
   pub late_pair_below : (before : List FrozenPair) (pair : FrozenPair) (behind : List FrozenPair)
       → state.frozen ≡ before ++ pair ∷ behind
-      → IsBefore (unsequence_layer pair ∷ []) (sequence_layer pair ∷ map sequence_layer (behind ++ working_pair state ∷
+      → IsBeforeInTime (unsequence_layer pair ∷ []) (sequence_layer pair ∷ map sequence_layer (behind ++ working_pair state ∷
       []))
   late_pair_below before pair behind are =
-      subst (λ layers. IsBefore (unsequence_layer pair ∷ []) (sequence_layer pair ∷ layers)) (sym (pairs_are _))
+      subst (λ layers. IsBeforeInTime (unsequence_layer pair ∷ []) (sequence_layer pair ∷ layers)) (sym (pairs_are _))
       (before_each (unsequence_layer pair ∷ []) (sequence_layer pair ∷ map sequence_layer behind) working
       (late_behind late before pair behind (subst (LateIsBelow late) are order.late))
       (below_above _ (unsequence_layer pair ∷ []) working (below_part _ (unsequence_layer pair ∷ [])

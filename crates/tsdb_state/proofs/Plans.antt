@@ -14,7 +14,7 @@ use Rattle.tsdb_base.specs.declared.value.Value.{Value}
 use Rattle.tsdb_layers.proofs.Lists.{each_among, each_left, each_of_map, each_right}
 use Rattle.tsdb_layers.specs.Layers.{HasPoint}
 use Rattle.tsdb_layers.specs.Lists.{Among, IsRun}
-use Rattle.tsdb_layers.specs.Order.{IsBefore}
+use Rattle.tsdb_layers.specs.Order.{IsBeforeInTime}
 use Rattle.tsdb_layers.specs.Places.{Place}
 use Rattle.tsdb_path.specs.Nodes.{device_of}
 use Rattle.tsdb_plan.proofs.Hulls.{to_end, to_start}
@@ -143,7 +143,7 @@ module _ (told : Told) (known : Entries) (early_claimed late_claimed : File → 
   hulls_before : (early late : List File) → EntriesMatch told known early → EntriesMatch told known late
       → ((f g : File) → Among f early → Among g late → (h l : Hull) → Among h (known f.number).hulls
       → Among l (known g.number).hulls → (h.device ≡ l.device) × (l.from ≤ℤ h.to) → ⊥)
-      → IsBefore (file_layers told early) (file_layers told late)
+      → IsBeforeInTime (file_layers told early) (file_layers told late)
   hulls_before early late of_early of_late never p q v w a b same =
       let f = in_file told early p v a in
       let g = in_file told late q w b in
@@ -155,7 +155,7 @@ module _ (told : Told) (known : Entries) (early_claimed late_claimed : File → 
   -- files that have no time at or above the start of a hull of the late files are before them
   before_late : (early late : List File) → EntriesMatch told known early → EntriesMatch told known late
       → Each (λ file. HasTimeFromStart (file_entries known late_claimed late) (file_entry known early_claimed file) → ⊥)
-      early → IsBefore (file_layers told early) (file_layers told late)
+      early → IsBeforeInTime (file_layers told early) (file_layers told late)
   before_late early late of_early of_late none =
       hulls_before early late of_early of_late (λ f g in_early in_late h l of_f of_g met.
       let never = each_among _ early f none in_early in
@@ -168,7 +168,7 @@ module _ (told : Told) (known : Entries) (early_claimed late_claimed : File → 
   -- files that have no time at or below the end of a hull of the late files are behind them
   late_before : (late behind : List File) → EntriesMatch told known late → EntriesMatch told known behind
       → Each (λ file. HasTimeUpToEnd (file_entries known late_claimed late) (file_entry known early_claimed file) → ⊥)
-      behind → IsBefore (file_layers told late) (file_layers told behind)
+      behind → IsBeforeInTime (file_layers told late) (file_layers told behind)
   late_before late behind of_late of_behind none =
       hulls_before late behind of_late of_behind (λ f g in_late in_behind h l of_f of_g met.
       let never = each_among _ behind g none in_behind in

@@ -17,7 +17,7 @@ use Rattle.tsdb_memtable.specs.Watermarks.{space_by}
 use Rattle.tsdb_path.specs.Nodes.{device_of}
 use Rattle.tsdb_state.proofs.Values.{AreReached, joined, stored, stored_late, value_is}
 use Rattle.tsdb_state.specs.Records.{put_in_pair, put_in_space}
-use Rattle.tsdb_state.specs.State.{File, FrozenPair, Pair, StoreState, Told}
+use Rattle.tsdb_state.specs.State.{File, FrozenPair, PairContent, StoreState, Told}
 use Rattle.tsdb_state.specs.StoreOrder.{LayersInOrder}
 use Rattle.tsdb_state.specs.Views.{layer_of, pair_layers}
 use Rattle.tsdb_state.specs.Worlds.{value_of}
@@ -48,13 +48,13 @@ not_both : (last time : ℤ) → last <ℤ time → time ≤ℤ last → ⊥
 not_both last time h k = grind (arith, ints)
 
 -- the space of a place: above the watermark, or at most at it
-pub data Goes (watermarks : Watermarks) (place : Place) (value : Value) (pair new : Pair) : Type 0 where
+pub data Goes (watermarks : Watermarks) (place : Place) (value : Value) (pair new : PairContent) : Type 0 where
   Early : IfSome (get watermarks (device_of place.path)) (λ last. last <ℤ place.time)
       → new ≡ record pair { sequence = put place value pair.sequence } → Goes watermarks place value pair new
   Late : IsSomeAnd (get watermarks (device_of place.path)) (λ last. place.time ≤ℤ last)
       → new ≡ record pair { unsequence = put place value pair.unsequence } → Goes watermarks place value pair new
 
-pub goes : (watermarks : Watermarks) (place : Place) (value : Value) (pair : Pair)
+pub goes : (watermarks : Watermarks) (place : Place) (value : Value) (pair : PairContent)
     → Goes watermarks place value pair (put_in_pair watermarks place value pair)
 goes watermarks place value pair = by (get watermarks (device_of place.path)) refl
   where
@@ -75,14 +75,14 @@ goes watermarks place value pair = by (get watermarks (device_of place.path)) re
     by (Some last) e = tested last (int_lt last place.time) e refl
 
 module _ (told : Told) (watermarks : Watermarks) (sequence unsequence : List File) (frozen : List FrozenPair)
-    (pair : Pair) (place : Place) (value : Value) where
-  abbrev In : Pair → Type 0
+    (pair : PairContent) (place : Place) (value : Value) where
+  abbrev In : PairContent → Type 0
   In pair = LayersInOrder told watermarks sequence unsequence frozen pair
 
   pub put_in_order : In pair → In (put_in_pair watermarks place value pair)
   put_in_order order = by (put_in_pair watermarks place value pair) (goes _ _ _ _)
     where
-      by : (new : Pair) → Goes watermarks place value pair new → In new
+      by : (new : PairContent) → Goes watermarks place value pair new → In new
       by new (Early above is) =
           let held : IsAbove watermarks (layer_of (put place value pair.sequence)) = put_holds
           (λ q w. IfSome (get watermarks (device_of q.path)) (λ last. last <ℤ q.time)) pair.sequence place value
@@ -114,11 +114,11 @@ none_is (Some value) never = absurd (never value refl)
 module _ (told : Told) (state : StoreState) (place : Place) (value : Value)
     (order : LayersInOrder told state.watermarks state.sequence state.unsequence state.frozen state.working)
     (reached : AreReached state.marks state.stamp) where
-  abbrev new_pair : Pair
+  abbrev new_pair : PairContent
   new_pair = put_in_pair state.watermarks place value state.working
 
   -- the state with another working pair
-  abbrev pub with_working : Pair → StoreState
+  abbrev pub with_working : PairContent → StoreState
   with_working pair = record state { working = pair }
 
   abbrev below_at : Place → Option Value
@@ -127,7 +127,7 @@ module _ (told : Told) (state : StoreState) (place : Place) (value : Value)
   abbrev late_at : Place → Option Value
   late_at q = value_in state.marks q (stored_late told state.unsequence state.frozen)
 
-  abbrev Is : Pair → Place → Type 0
+  abbrev Is : PairContent → Place → Type 0
   Is new q =
       value_of told (with_working new) q ≡ cond (eq_by_cmp place_cmp q place) (Some value) (value_of told state q)
 
@@ -150,7 +150,7 @@ module _ (told : Told) (state : StoreState) (place : Place) (value : Value)
       at_place layers below above e value has =
           no_late _ _ _ above below _ (subst (λ (p : Place). HasPoint layers p value) (is_place q _ e) has)
 
-      by : (new : Pair) → Goes state.watermarks place value state.working new → Is new q
+      by : (new : PairContent) → Goes state.watermarks place value state.working new → Is new q
       by new (Early above is) = subst (λ new. Is new q) (sym is)
           (value_is told (with_working (record state.working { sequence = put place value state.working.sequence })) q
           reached ∙ ap (λ o. joined o (get state.working.unsequence q) (below_at q) (late_at q)) (get_put _ _ _ q)
@@ -166,13 +166,13 @@ module _ (told : Told) (state : StoreState) (place : Place) (value : Value)
           ∙ ap (cond (eq_by_cmp place_cmp q place) (Some value)) (sym (value_is told state q reached)))
 
 -- what holds of the points of a pair, and of one more, in whichever space it goes
-pub pair_holds : (P : Place → Value → Type 0) (watermarks : Watermarks) (place : Place) (value : Value) (pair : Pair)
+pub pair_holds : (P : Place → Value → Type 0) (watermarks : Watermarks) (place : Place) (value : Value) (pair : PairContent)
     → ((q : Place) (w : Value) → HasPoint (pair_layers pair) q w → P q w) → P place value
     → (q : Place) (w : Value) → HasPoint (pair_layers (put_in_pair watermarks place value pair)) q w → P q w
 pair_holds P watermarks place value pair all one q w has =
     by (put_in_pair watermarks place value pair) (goes _ _ _ _) has
   where
-    split : (new : Pair) → HasPoint (pair_layers new) q w
+    split : (new : PairContent) → HasPoint (pair_layers new) q w
         → HasPoint (layer_of new.sequence) q w ⊎ HasPoint (layer_of new.unsequence) q w
     split new (inl h) = inl (inl h)
     split new (inr (inl h)) = inr (inl h)
@@ -186,10 +186,10 @@ pair_holds P watermarks place value pair all one q w has =
     second q w (inl h) = all q w (inr (inl h))
     second q w (inr h) = absurd h
 
-    by : (new : Pair) → Goes watermarks place value pair new → HasPoint (pair_layers new) q w → P q w
+    by : (new : PairContent) → Goes watermarks place value pair new → HasPoint (pair_layers new) q w → P q w
     by new (Early above is) h = ⊎_elim (put_holds P _ _ _ first one q w) (second q w)
         (split (record pair { sequence = put place value pair.sequence })
-        (subst (λ (p : Pair). HasPoint (pair_layers p) q w) is h))
+        (subst (λ (p : PairContent). HasPoint (pair_layers p) q w) is h))
     by new (Late below is) h = ⊎_elim (first q w) (put_holds P _ _ _ second one q w)
         (split (record pair { unsequence = put place value pair.unsequence })
-        (subst (λ (p : Pair). HasPoint (pair_layers p) q w) is h))
+        (subst (λ (p : PairContent). HasPoint (pair_layers p) q w) is h))

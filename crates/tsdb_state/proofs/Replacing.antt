@@ -10,7 +10,7 @@ use Rattle.tsdb_layers.proofs.Rising.{part_itself, part_left, part_middle, part_
 use Rattle.tsdb_layers.proofs.Rising.{rises_left, rises_right}
 use Rattle.tsdb_layers.proofs.Values.{has_cases, has_left, has_right, or_assoc, or_none, value_append}
 use Rattle.tsdb_layers.specs.Layers.{Layer, value_in}
-use Rattle.tsdb_layers.specs.Order.{IsBefore, Rises}
+use Rattle.tsdb_layers.specs.Order.{IsBeforeInTime, Rises}
 use Rattle.tsdb_layers.specs.Places.{Place}
 use Rattle.tsdb_marks.specs.declared.marks.Mark.{Mark}
 use Rattle.tsdb_state.proofs.Arranged.{arranged_in_order, arranged_keeps, regroup, two_parts}
@@ -44,8 +44,8 @@ middle_born stamp before run behind output all new =
 
 -- a sequence run and the first late files become one sequence file
 module _ (told : Told) (state : StoreState) (before run behind first later output : List File)
-    (below : IsBefore (file_layers told before) (file_layers told first))
-    (above : IsBefore (file_layers told first) (file_layers told behind))
+    (below : IsBeforeInTime (file_layers told before) (file_layers told first))
+    (above : IsBeforeInTime (file_layers told first) (file_layers told behind))
     (output_value : (place : Place) → value_in state.marks place (file_layers told output)
     ≡ value_in state.marks place (file_layers told run ++ file_layers told first))
     (output_points : IsPartOf (file_layers told output) (file_layers told run ++ file_layers told first))
@@ -85,11 +85,11 @@ module _ (told : Told) (state : StoreState) (before run behind first later outpu
     first_points : IsPartOf first_layers (file_layers told (first ++ later))
     first_points = rw (map-append) (part_left _ _)
 
-    late_above : IsBefore first_layers (behind_layers ++ sequences)
+    late_above : IsBeforeInTime first_layers (behind_layers ++ sequences)
     late_above = before_each _ _ _ above (late_before first_layers state.frozen
         (late_part _ _ state.frozen first_points order.layers.late))
 
-    working_above : IsBefore first_layers (sequence_layer (working_pair state) ∷ [])
+    working_above : IsBeforeInTime first_layers (sequence_layer (working_pair state) ∷ [])
     working_above = below_above state.watermarks _ (sequence_layer (working_pair state) ∷ [])
         (below_part _ _ _ (λ p v has. has_left _ unsequences p v (first_points p v has)) order.layers.late_below)
         order.layers.above
@@ -103,16 +103,16 @@ module _ (told : Told) (state : StoreState) (before run behind first later outpu
     ) (sunk state.marks place before_layers run_layers output_layers _ first_layers _
         (output_value place) (before_none state.marks place first_layers _ top))
       where
-        top : IsBefore first_layers (behind_layers ++ (sequences ++ sequence_layer (working_pair state) ∷ []))
+        top : IsBeforeInTime first_layers (behind_layers ++ (sequences ++ sequence_layer (working_pair state) ∷ []))
         top = rw (← append_assoc) (before_each _ _ (sequence_layer (working_pair state) ∷ []) late_above working_above)
 
     crossed_rises : Rises (before_layers ++ (output_layers ++ (behind_layers ++ sequences)))
     crossed_rises =
         let rest = rises_right before_layers _ rises in
         let across = rises_across before_layers _ rises in
-        let over : IsBefore output_layers (behind_layers ++ sequences) = before_part _ _ _ _ output_points
+        let over : IsBeforeInTime output_layers (behind_layers ++ sequences) = before_part _ _ _ _ output_points
         (part_itself _) (before_both _ _ _ (rises_across run_layers _ rest) late_above) in
-        let under : IsBefore before_layers output_layers = before_part _ _ _ _ (part_itself _) output_points
+        let under : IsBeforeInTime before_layers output_layers = before_part _ _ _ _ (part_itself _) output_points
         (before_each _ _ _ (before_part _ _ _ _ (part_itself _) (part_left run_layers _) across) below) in
         rises_append _ _ (rises_left _ _ rises) (rises_append _ _ output_rises (rises_right run_layers _ rest) over)
         (before_each _ _ _ under (before_part _ _ _ _ (part_itself _) (part_right run_layers _) across))

@@ -4,13 +4,13 @@ use Rattle.tsdb_layers.proofs.Lists.{each_weaker}
 use Rattle.tsdb_marks.specs.declared.marks.Mark.{Mark}
 use Rattle.tsdb_state.proofs.Values.{AreReached, reached_more, value_by_parts}
 use Rattle.tsdb_layers.specs.Places.{Place}
-use Rattle.tsdb_state.specs.State.{File, FrozenPair, Pair, StoreState, Told}
+use Rattle.tsdb_state.specs.State.{File, FrozenPair, PairContent, StoreState, Told}
 use Rattle.tsdb_state.specs.StoreOrder.{StampsInOrder}
 use Rattle.tsdb_state.specs.Worlds.{value_of}
 
 -- with a raised stamp, whatever the working pair has
 pub stamps_up : (stamp : ℕ) (marks : List Mark) (sequence unsequence : List File) (frozen : List FrozenPair)
-    (working new : Pair)
+    (working new : PairContent)
     → StampsInOrder stamp marks sequence unsequence frozen working
     → StampsInOrder (stamp + 1) marks sequence unsequence frozen new
 stamps_up stamp marks sequence unsequence frozen working new stamps = record {

@@ -9,7 +9,7 @@ use Rattle.tsdb_layers.specs.Places.{Place}
 use Rattle.tsdb_state.specs.State.{FrozenPair, SeriesEntry}
 use Rattle.tsdb_state.specs.StoreOrder.{IsOfSeries, LateIsBelow}
 use Rattle.tsdb_state.specs.Views.{sequence_layer, unsequence_layer}
-use Rattle.tsdb_layers.specs.Order.{IsBefore}
+use Rattle.tsdb_layers.specs.Order.{IsBeforeInTime}
 
 abbrev pub AreTyped : List SeriesEntry → List Layer → Type 0
 AreTyped schemas layers =
@@ -39,7 +39,7 @@ late_part xs ys (pair ∷ pairs) part below =
 
 -- late layers are before all frozen sequence parts
 pub late_before : (late : List Layer) (pairs : List FrozenPair) → LateIsBelow late pairs
-    → IsBefore late (map sequence_layer pairs)
+    → IsBeforeInTime late (map sequence_layer pairs)
 late_before late [] below = λ p q v w a b same. absurd b
 late_before late (pair ∷ pairs) below =
     let first : IsPartOf late (late ++ unsequence_layer pair ∷ []) = part_left _ _ in

@@ -10,7 +10,7 @@ use Rattle.tsdb_base.specs.declared.ids.Space.TheVariants.{Sequence, Unsequence}
 use Rattle.tsdb_base.specs.declared.value.Value.{Value}
 use Rattle.tsdb_layers.specs.Layers.{survivor}
 use Rattle.tsdb_layers.specs.Marks.{marks_up_to}
-use Rattle.tsdb_layers.specs.Order.{IsBefore}
+use Rattle.tsdb_layers.specs.Order.{IsBeforeInTime}
 use Rattle.tsdb_layers.specs.Places.{Content, Place}
 use Rattle.tsdb_marks.specs.declared.marks.Mark.{Mark}
 use Rattle.tsdb_path.specs.Nodes.{device_of}
@@ -20,7 +20,7 @@ use Rattle.tsdb_state.specs.Limit.{IsEmptyPair}
 use Rattle.tsdb_base.specs.Limits.{end_of_numbers}
 use Rattle.tsdb_layers.specs.Lists.{Among, EachPair, IsRun, count, if_some}
 use Rattle.tsdb_state.specs.Records.{numbers_of}
-use Rattle.tsdb_state.specs.State.{Compaction, Entries, Entry, File, FlushJob, FrozenPair, Pair, Pin, Room, Source}
+use Rattle.tsdb_state.specs.State.{Compaction, Entries, Entry, File, FlushJob, FrozenPair, PairContent, Pin, Room, Source}
 use Rattle.tsdb_state.specs.State.{FromFile, FromPart, Told}
 use Rattle.tsdb_state.specs.Views.{file_layer, file_layers}
 
@@ -30,7 +30,7 @@ IsDrawnFor None content = content ≡ empty
 IsDrawnFor (Some number) content = content ≢ empty
 
 -- the flush writes the oldest frozen pair, or one that is frozen no longer
-pub record IsFlushOut (stamp : ℕ) (frozen : List FrozenPair) (working : Pair) (flush : FlushJob) : Type 0 where
+pub record IsFlushOut (stamp : ℕ) (frozen : List FrozenPair) (working : PairContent) (flush : FlushJob) : Type 0 where
   pub reached : flush.born ≤ stamp
   pub before : ¬ IsEmptyPair working → flush.born < stamp
   pub oldest : Each (λ pair. flush.born ≤ pair.born) frozen
@@ -56,8 +56,8 @@ pub record HasGap (told : Told) (sequence unsequence : List File) (job : Compact
   pub place : length run.before ≡ job.place
   pub later : List File
   pub first : unsequence ≡ job.unsequence ++ later
-  pub below : IsBefore (file_layers told run.before) (file_layers told job.unsequence)
-  pub above : IsBefore (file_layers told job.unsequence) (file_layers told run.behind)
+  pub below : IsBeforeInTime (file_layers told run.before) (file_layers told job.unsequence)
+  pub above : IsBeforeInTime (file_layers told job.unsequence) (file_layers told run.behind)
 
 -- the inputs stand side by side in their lists
 abbrev pub Stands : Space → Told → List File → List File → Compaction → Type 0

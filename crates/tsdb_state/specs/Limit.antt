@@ -7,38 +7,38 @@ use Rattle.tsdb_layers.specs.Places.{Content, Place}
 use Rattle.tsdb_memtable.specs.Points.{value_bytes}
 use Rattle.tsdb_path.specs.Nodes.{device_of}
 use Rattle.tsdb_base.specs.Limits.{max_pair_bytes, max_pair_points}
-use Rattle.tsdb_state.specs.State.{Pair}
+use Rattle.tsdb_state.specs.State.{PairContent}
 use Rattle.tsdb_state.specs.Views.{pair_layers}
 
-abbrev pub empty_pair : Pair
+abbrev pub empty_pair : PairContent
 empty_pair = record { sequence = empty; unsequence = empty }
 
-abbrev pub IsEmptyPair : Pair → Type 0
+abbrev pub IsEmptyPair : PairContent → Type 0
 IsEmptyPair pair = (pair.sequence ≡ empty) × (pair.unsequence ≡ empty)
 
 -- how many points are in both spaces
-abbrev pub point_count : Pair → ℕ
+abbrev pub point_count : PairContent → ℕ
 point_count pair = len pair.sequence + len pair.unsequence
 
 -- how many bytes they count: 8 for each time, and those of each value
 abbrev pub content_bytes : Content → ℕ
 content_bytes content = sum_by (λ entry. 8 + value_bytes entry.1) (entries content)
 
-abbrev pub byte_count : Pair → ℕ
+abbrev pub byte_count : PairContent → ℕ
 byte_count pair = content_bytes pair.sequence + content_bytes pair.unsequence
 
 -- the points are what is left of one row, which is of one device, at one time
-pub record IsOneRow (pair : Pair) : Type 0 where
+pub record IsOneRow (pair : PairContent) : Type 0 where
   pub device : List ℕ
   pub time : ℤ
   pub points : (place : Place) (value : Value) → HasPoint (pair_layers pair) place value
       → (device_of place.path ≡ device) × (place.time ≡ time)
 
 -- within the limits of a pair of several rows
-pub record IsWithinLimits (pair : Pair) : Type 0 where
+pub record IsWithinLimits (pair : PairContent) : Type 0 where
   pub points : point_count pair ≤ max_pair_points
   pub bytes : byte_count pair ≤ max_pair_bytes
 
 -- the pair has one row at most, or is within the limits
-abbrev pub IsWithinPairLimit : Pair → Type 0
+abbrev pub IsWithinPairLimit : PairContent → Type 0
 IsWithinPairLimit pair = IsEmptyPair pair ⊎ (IsOneRow pair ⊎ IsWithinLimits pair)

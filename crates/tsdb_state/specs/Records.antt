@@ -24,7 +24,7 @@ use Rattle.tsdb_path.specs.Nodes.{device_of}
 use Rattle.tsdb_state.specs.Limit.{IsEmptyPair, empty_pair, point_count}
 use Rattle.tsdb_base.specs.Limits.{end_of_numbers, max_frozen, max_pair_points}
 use Rattle.tsdb_layers.specs.Lists.{EachPair, count}
-use Rattle.tsdb_state.specs.State.{File, FrozenPair, Pair, SeriesEntry, StoreState}
+use Rattle.tsdb_state.specs.State.{File, FrozenPair, PairContent, SeriesEntry, StoreState}
 use Rattle.tsdb_state.specs.Views.{borns_of, working_pair}
 use Rattle.tsdb_state.specs.Worlds.{type_at}
 
@@ -45,12 +45,12 @@ created schema state = record state {
 abbrev pub path_of : List SeriesEntry → ℕ → List ℕ
 path_of schemas number = unwrap_or (option_map (λ series. series.schema.path) (slice_get schemas number)) []
 
-abbrev pub put_in_space : Space → Place → Value → Pair → Pair
+abbrev pub put_in_space : Space → Place → Value → PairContent → PairContent
 put_in_space Sequence place value pair = record pair { sequence = put place value pair.sequence }
 put_in_space Unsequence place value pair = record pair { unsequence = put place value pair.unsequence }
 
 -- the value in the space that the watermark rule names for its place
-abbrev pub put_in_pair : Watermarks → Place → Value → Pair → Pair
+abbrev pub put_in_pair : Watermarks → Place → Value → PairContent → PairContent
 put_in_pair watermarks place value pair =
     put_in_space (space_by (get watermarks (device_of place.path)) place.time) place value pair
 
@@ -58,7 +58,7 @@ abbrev pub place_of : List SeriesEntry → ℤ → CellRecord → Place
 place_of schemas time cell = record { path = path_of schemas cell.series.0; time = time }
 
 -- each value of a row at its place
-abbrev pub put_cells : List SeriesEntry → Watermarks → ℤ → List CellRecord → Pair → Pair
+abbrev pub put_cells : List SeriesEntry → Watermarks → ℤ → List CellRecord → PairContent → PairContent
 put_cells schemas watermarks time [] pair = pair
 put_cells schemas watermarks time (cell ∷ cells) pair = put_cells schemas watermarks time cells
     (put_in_pair watermarks (place_of schemas time cell) cell.value pair)
@@ -98,7 +98,7 @@ pub record CanDelete (path : List ℕ) (state : StoreState) : Type 0 where
   pub there : IsSome (type_at state.schemas path)
   pub stamp : state.stamp < end_of_numbers
 
-abbrev pub cut_pair : List ℕ → Range → Pair → Pair
+abbrev pub cut_pair : List ℕ → Range → PairContent → PairContent
 cut_pair path range pair = record {
   sequence = cut path range pair.sequence;
   unsequence = cut path range pair.unsequence;

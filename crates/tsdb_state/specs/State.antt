@@ -17,14 +17,14 @@ pub record SeriesEntry : Type 0 where
   pub live : Bool
 
 -- points in memory, in both spaces
-pub record Pair : Type 0 where
+pub record PairContent : Type 0 where
   pub sequence : Content
   pub unsequence : Content
 
 -- a pair, and the stamp at its freeze
 pub record FrozenPair : Type 0 where
   pub born : ℕ
-  pub pair : Pair
+  pub pair : PairContent
 
 -- a file of a list: its number, and the stamp at the freeze of its points
 pub record File : Type 0 where
@@ -43,7 +43,7 @@ pub record StoreState : Type 0 where
   pub watermarks : Watermarks
   pub marks : List Mark
   pub frozen : List FrozenPair
-  pub working : Pair
+  pub working : PairContent
   pub sequence : List File
   pub unsequence : List File
 
@@ -61,7 +61,7 @@ Entries = ℕ → Entry
 -- a flush that is out: the frozen pair that it writes, and the numbers drawn for its files
 pub record FlushJob : Type 0 where
   pub born : ℕ
-  pub pair : Pair
+  pub pair : PairContent
   pub sequence : Option ℕ
   pub unsequence : Option ℕ
 

@@ -6,14 +6,14 @@ use Rattle.tsdb_base.specs.Values.{type_of}
 use Rattle.tsdb_base.specs.declared.value.DataType.{DataType}
 use Rattle.tsdb_base.specs.declared.value.Value.{Value}
 use Rattle.tsdb_layers.specs.Layers.{HasPoint, Layer}
-use Rattle.tsdb_layers.specs.Order.{IsAbove, IsBefore, IsBelow, Rises, Watermarks}
+use Rattle.tsdb_layers.specs.Order.{IsAbove, IsBeforeInTime, IsBelow, Rises, Watermarks}
 use Rattle.tsdb_layers.specs.Places.{Place}
 use Rattle.tsdb_model.specs.Commands.{IsSchema}
 use Rattle.tsdb_marks.specs.declared.marks.Mark.{Mark}
 use Rattle.tsdb_state.specs.Limit.{IsEmptyPair, IsWithinPairLimit}
 use Rattle.tsdb_base.specs.Limits.{max_frozen}
 use Rattle.tsdb_layers.specs.Lists.{EachPair}
-use Rattle.tsdb_state.specs.State.{File, FrozenPair, Pair, SeriesEntry, StoreState, Told}
+use Rattle.tsdb_state.specs.State.{File, FrozenPair, PairContent, SeriesEntry, StoreState, Told}
 use Rattle.tsdb_state.specs.Views.{file_layers, layer_of, pair_layers, sequence_layer, unsequence_layer}
 use Rattle.tsdb_state.specs.Worlds.{type_at, value_of}
 
@@ -21,13 +21,13 @@ use Rattle.tsdb_state.specs.Worlds.{type_at, value_of}
 abbrev pub LateIsBelow : List Layer → List FrozenPair → Type 0
 LateIsBelow late [] = ⊤
 LateIsBelow late (pair ∷ pairs) =
-    IsBefore (late ++ unsequence_layer pair ∷ []) (sequence_layer pair ∷ [])
+    IsBeforeInTime (late ++ unsequence_layer pair ∷ []) (sequence_layer pair ∷ [])
     × LateIsBelow (late ++ unsequence_layer pair ∷ []) pairs
 
 -- the sequence layers rise; late ones are below the frozen sequence parts behind them; all but the working sequence
 -- part are at most at the watermarks, and that is above them
 pub record LayersInOrder (told : Told) (watermarks : Watermarks) (sequence unsequence : List File)
-    (frozen : List FrozenPair) (working : Pair)
+    (frozen : List FrozenPair) (working : PairContent)
     : Type 0 where
   pub rises : Rises (file_layers told sequence ++ map sequence_layer frozen)
   pub late : LateIsBelow (file_layers told unsequence) frozen
@@ -39,7 +39,7 @@ pub record LayersInOrder (told : Told) (watermarks : Watermarks) (sequence unseq
 -- every born and every version is a stamp that was reached; versions rise, and so do the borns of the frozen pairs, of
 -- which there are at most two, each with a point
 pub record StampsInOrder (stamp : ℕ) (marks : List Mark) (sequence unsequence : List File) (frozen : List FrozenPair)
-    (working : Pair)
+    (working : PairContent)
     : Type 0 where
   pub sequence_born : Each (λ file. file.born ≤ stamp) sequence
   pub unsequence_born : Each (λ file. file.born ≤ stamp) unsequence
@@ -58,14 +58,14 @@ IsOfSeries (series ∷ schemas) path data_type =
     ((series.schema.path ≡ path) × (series.schema.data_type ≡ data_type)) ⊎ IsOfSeries schemas path data_type
 
 -- the layers of files and pairs, in no order
-abbrev pub points_of : Told → List File → List File → List FrozenPair → Pair → List Layer
+abbrev pub points_of : Told → List File → List File → List FrozenPair → PairContent → List Layer
 points_of told sequence unsequence frozen working =
     (file_layers told sequence ++ file_layers told unsequence)
     ++ ((map sequence_layer frozen ++ map unsequence_layer frozen) ++ pair_layers working)
 
 -- series are well-formed; two that are there have two paths; each point is of a known series and has its type
 pub record SeriesInOrder (told : Told) (schemas : List SeriesEntry) (sequence unsequence : List File)
-    (frozen : List FrozenPair) (working : Pair)
+    (frozen : List FrozenPair) (working : PairContent)
     : Type 0 where
   pub formed : Each (λ series. IsSchema series.schema) schemas
   pub once : EachPair (λ series other. series.live ≡ true → other.live ≡ true

@@ -2,7 +2,7 @@
 use Rattle.std.specs.Prelude.{ℕ, List, [], ◌∷◌, ◌++◌, map}
 use Rattle.tsdb_layers.specs.Layers.{Layer}
 use Rattle.tsdb_layers.specs.Places.{Content}
-use Rattle.tsdb_state.specs.State.{File, FrozenPair, Pair, StoreState, Told}
+use Rattle.tsdb_state.specs.State.{File, FrozenPair, PairContent, StoreState, Told}
 
 -- the points of a file
 abbrev pub file_layer : Told → File → Layer
@@ -27,7 +27,7 @@ abbrev pub layer_of : Content → List Layer
 layer_of content = record { born = 0; content = content } ∷ []
 
 -- the layers of both parts of a pair
-abbrev pub pair_layers : Pair → List Layer
+abbrev pub pair_layers : PairContent → List Layer
 pair_layers pair = layer_of pair.sequence ++ layer_of pair.unsequence
 
 -- sequence files, the sequence parts of frozen pairs, and the working sequence part

@@ -7,7 +7,7 @@ ghost use Rattle.tsdb_base.specs.declared.value.Value.{Value};
 ghost use Rattle.tsdb_layers.specs.Layers.{HasPoint, survivor};
 ghost use Rattle.tsdb_layers.specs.Lists.{Among, EachPair};
 ghost use Rattle.tsdb_layers.specs.Marks.{marks_up_to};
-ghost use Rattle.tsdb_layers.specs.Order.{IsAbove, IsBefore, IsBelow, Rises};
+ghost use Rattle.tsdb_layers.specs.Order.{IsAbove, IsBeforeInTime, IsBelow, Rises};
 ghost use Rattle.tsdb_layers.specs.Places.{Place};
 ghost use Rattle.tsdb_log.specs.declared.record.CellRecord.{CellRecord};
 ghost use Rattle.tsdb_model.specs.World.{World};
@@ -35,11 +35,11 @@ pub fn order_of_times()
         → StoreInOrder told state → IsAbove state.watermarks (layer_of state.working.sequence) }
     ensures unsequence_files_below_sequence { (told : Told) (state : StoreState)
         → StoreInOrder told state
-        → IsBefore (file_layers told state.unsequence) (map sequence_layer (pairs_of state)) }
+        → IsBeforeInTime (file_layers told state.unsequence) (map sequence_layer (pairs_of state)) }
     ensures unsequence_pairs_below_sequence { (told : Told) (state : StoreState) (before : List FrozenPair)
         (pair : FrozenPair) (behind : List FrozenPair)
         → StoreInOrder told state → state.frozen ≡ before ++ pair ∷ behind
-        → IsBefore (unsequence_layer pair ∷ [])
+        → IsBeforeInTime (unsequence_layer pair ∷ [])
         (sequence_layer pair ∷ map sequence_layer (behind ++ working_pair state ∷ [])) }
 {}
 

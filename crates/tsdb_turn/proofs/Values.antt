@@ -1,7 +1,7 @@
 -- Laws of what a pass learns and what it owes.
 use Rattle.std.proofs.Common.{◌≡◌, ◌≢◌, ℕ, ◌<◌, List, [], ◌++◌, All, refl, sym, ap, subst, ◌∙◌, append_assoc, append-nil, arith}
 use Rattle.std.proofs.lemmas.List.Elements.{All-append}
-use Rattle.tsdb_turn.specs.Values.{Follows, Extends, IsKept, at_start, by_turn}
+use Rattle.tsdb_turn.specs.Values.{Follows, Extends, IsTurnKept, at_start, by_turn}
 use Rattle.tsdb_turn.specs.declared.logged.Logged as logged
 
 all_some : {A : Type 0} (P Q : A → Type 0) (xs : List A) → ((x : A) → P x → Q x) → All P xs → All Q xs
@@ -34,7 +34,7 @@ module _ {V Entry Account : Type 0} (means : logged.Ghosts V Entry Account) wher
   }
 
   -- what each turn keeps
-  pub kept_after : (n seats : ℕ) (start entered value : V) → n < seats → Extends means n start entered value → IsKept means seats start entered → IsKept means seats start value
+  pub kept_after : (n seats : ℕ) (start entered value : V) → n < seats → Extends means n start entered value → IsTurnKept means seats start entered → IsTurnKept means seats start value
   kept_after n seats start entered value made e kept = record {
     numbers =
         subst (λ xs. All (λ x. means.number_of x < seats) xs) (sym e.list)
@@ -43,7 +43,7 @@ module _ {V Entry Account : Type 0} (means : logged.Ghosts V Entry Account) wher
     reached = by_turn n made kept.reached e;
   }
 
-  pub kept_empty : (seats : ℕ) (value : V) → means.entries_of value ≡ [] → IsKept means seats value value
+  pub kept_empty : (seats : ℕ) (value : V) → means.entries_of value ≡ [] → IsTurnKept means seats value value
   kept_empty seats value empty = record {
     numbers = subst (λ xs. All (λ x. means.number_of x < seats) xs) (sym empty) (none_yet _);
     reached = at_start;

@@ -13,7 +13,7 @@ use Rattle.tsdb_turn.specs.declared.view.Stage.TheVariants.{Outside, Waiting, In
 use Rattle.tsdb_turn.specs.declared.view.View.{View}
 use Rattle.tsdb_turn.specs.Passes.{PassState, TurnState, seats_of}
 use Rattle.tsdb_turn.specs.Rule.{Rule, known, view, drawn_at, served_at, bells_at}
-use Rattle.tsdb_turn.specs.Values.{Follows, Extends, IsKept}
+use Rattle.tsdb_turn.specs.Values.{Follows, Extends, IsTurnKept}
 
 -- what a seat of the table has: its view, and the slots that are out with it
 abbrev pub SeatState : Type 0 → Type 0
@@ -52,19 +52,19 @@ module _ {T : Type 0} where
   Draws me found after = (t : ℕ) × (t % 2 ^ 64 ≡ found) × (after ≡ (view (Waiting t) me.0.known, me.1))
 
   -- The seat has taken the slot, and has learnt this of the value and of each number that it knows.
-  pub record Takes (learns : ℕ → T → T → T → Type 0) (t : ℕ) (ks : List (Known T)) (after : SeatState T) : Type 0 where
+  pub record TakesSlot (learns : ℕ → T → T → T → Type 0) (t : ℕ) (ks : List (Known T)) (after : SeatState T) : Type 0 where
     pub value : T
     pub seat : after ≡ (view (Inside t value) ks, (0, Some value) ∷ [])
     pub learnt : AllByRecursion (λ k. learns k.number k.start k.last value) ks
 
   -- with some ticket
   abbrev pub HasTaken : (ℕ → T → T → T → Type 0) → SeatState T → SeatState T → Type 0
-  HasTaken learns me after = (t : ℕ) × Takes learns t me.0.known after
+  HasTaken learns me after = (t : ℕ) × TakesSlot learns t me.0.known after
 
   -- A seat that waits takes the slot where its ticket is served, and else nothing changes.
   pub record Reads (learns : ℕ → T → T → T → Type 0) (t : ℕ) (me : SeatState T) (found : ℕ) (after : SeatState T)
       : Type 0 where
-    pub hit : found ≡ t % 2 ^ 64 → Takes learns t me.0.known after
+    pub hit : found ≡ t % 2 ^ 64 → TakesSlot learns t me.0.known after
     pub miss : found ≢ t % 2 ^ 64 → after ≡ me
 
   -- a seat that is outside and has left this value under its one number
@@ -150,7 +150,7 @@ IsMarkedBy value marks = (marks.start.value ≡ value) × (marks.last.value ≡ 
 -- the rule of a turn, over what its users mean by a value
 abbrev pub RuleOf : {T Entry Account : Type 0} → logged.Ghosts T Entry Account → ℕ → T → State (Option T) (View T)
     → Type 0
-RuleOf means seats start = Rule (Follows means) (IsKept means seats start) seats start
+RuleOf means seats start = Rule (Follows means) (IsTurnKept means seats start) seats start
 
 -- what a pass learns of its number and its start, and of the value, when it enters a turn
 pub record Learns {T Entry Account : Type 0} (means : logged.Ghosts T Entry Account) (turn : TurnState T) (number : ℕ)
@@ -158,7 +158,7 @@ pub record Learns {T Entry Account : Type 0} (means : logged.Ghosts T Entry Acco
   pub made : number < turn.seats
   pub opened : start ≡ turn.start
   pub follows : Follows means number start last value
-  pub kept : IsKept means turn.seats turn.start value
+  pub kept : IsTurnKept means turn.seats turn.start value
 
 -- What a pass learns when it enters the turn is at least this.
 abbrev pub Teaches : {T Entry Account : Type 0} → logged.Ghosts T Entry Account → TurnState T

@@ -43,7 +43,7 @@ module _ {V Entry Account : Type 0} (means : logged.Ghosts V Entry Account) wher
         → Extends number start entered value → IsReached seats start value
 
   -- what each turn keeps: the value comes from the start, by turns, and its entries have the numbers of passes
-  pub record IsKept (seats : ℕ) (start value : V) : Type 0 where
+  pub record IsTurnKept (seats : ℕ) (start value : V) : Type 0 where
     pub numbers : IsNumbered seats value
     pub reached : IsReached seats start value
 

@@ -10,7 +10,7 @@ ghost use Rattle.tsdb_turn.specs.Passes.{FollowsPass, MayLeave, IsOutside, IsLas
 ghost use Rattle.tsdb_turn.specs.Rule.{view};
 ghost use Rattle.tsdb_turn.specs.Steps.{Draws, Leaves, SitsOutside, HasSlot, MayPutBack};
 ghost use Rattle.tsdb_turn.specs.Steps.{IsMarkedBy, AreWords, dealt, known_of};
-ghost use Rattle.tsdb_turn.specs.Values.{IsKept};
+ghost use Rattle.tsdb_turn.specs.Values.{IsTurnKept};
 ghost use Rattle.tsdb_turn.specs.declared.view.Stage.TheVariants.{Outside};
 
 use crate::logged::Logged;
@@ -155,7 +155,7 @@ impl<V: Logged> Turn<V> {
         ensures number { pass.old.number < self.now.seats }
         ensures start { pass.old.start ≡ self.now.start }
         ensures value { FollowsPass V.Logged pass.old result }
-        ensures kept { IsKept V.Logged self.now.seats self.now.start result }
+        ensures kept { IsTurnKept V.Logged self.now.seats self.now.start result }
     {
         let seat = &mut pass.seat;
         // The ticket is drawn before the first look: a pass that leaves and sees no ticket out wakes nobody, and then
@@ -226,7 +226,7 @@ impl<V: Logged> Turn<V> {
         ensures value { All (λ pass. FollowsPass V.Logged pass result) passes.items }
         ensures last { IsLastOf passes.items result }
         ensures passes { AreNumbered self.seats passes.items }
-        ensures kept { IsKept V.Logged self.seats self.start result }
+        ensures kept { IsTurnKept V.Logged self.seats self.start result }
     {
         let seat = self.gather(passes);
         let Turn { table } = self;

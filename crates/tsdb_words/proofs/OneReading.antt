@@ -4,7 +4,7 @@ use Rattle.std.specs.List.{AllByRecursion}
 use Rattle.std.specs.Str.Parse.{digits_value}
 use Rattle.std.specs.Prelude.{◌≤◌}
 use Rattle.std.proofs.lemmas.Bool.{ne_eqb}
-use Rattle.tsdb_words.specs.Words.{AreParts, AreWords, Asked, IsGiven, IsOption, IsPart, IsWithinLimits, Part, Directory, Pair, Workers, End, pairs, workers, directories}
+use Rattle.tsdb_words.specs.Words.{AreArguments, AreWords, Asked, IsGiven, IsOption, IsArgument, IsWithinLimits, Argument, Directory, Pair, Workers, End, pairs, workers, directories}
 use Rattle.tsdb_words.proofs.PartLemmas.{one_digits}
 
 -- ---- one part
@@ -19,13 +19,13 @@ one_option name m n words rest more a b =
 kind : List ℕ → ℕ
 kind word = cond (eqb (get_or word 0 0) 45) (suc (get_or word 2 0)) 0
 
-abbrev kind_of : Part → ℕ
+abbrev kind_of : Argument → ℕ
 kind_of (Directory word) = 0
 kind_of (Pair number) = 113
 kind_of (Workers number) = 120
 kind_of End = 1
 
-kind_is : (part : Part) (word : List ℕ) (words rest : List (List ℕ)) → IsPart part (word ∷ words) rest → kind word ≡ kind_of part
+kind_is : (part : Argument) (word : List ℕ) (words rest : List (List ℕ)) → IsArgument part (word ∷ words) rest → kind word ≡ kind_of part
 unfolding kind
 kind_is (Directory own) word words rest is =
     let same : word ≡ own = let e = is.1 in cc in
@@ -36,11 +36,11 @@ kind_is (Workers number) word words rest ((digits, is, inl e), most) = let same 
 kind_is (Workers number) word words rest ((digits, is, inr e), most) = let same : word ≡ codes "--workers" ++ 61 ∷ digits = cc in ap kind same
 kind_is End word words rest is = let same : word ≡ codes "--" = cc in ap kind same
 
-same_kind : (one other : Part) (word : List ℕ) (words rest more : List (List ℕ)) → IsPart one (word ∷ words) rest → IsPart other (word ∷ words) more
+same_kind : (one other : Argument) (word : List ℕ) (words rest more : List (List ℕ)) → IsArgument one (word ∷ words) rest → IsArgument other (word ∷ words) more
     → kind_of one ≡ kind_of other
 same_kind one other word words rest more a b = sym (kind_is one word words rest a) ∙ kind_is other word words more b
 
-pub no_words : (part : Part) (rest : List (List ℕ)) → ¬ IsPart part [] rest
+pub no_words : (part : Argument) (rest : List (List ℕ)) → ¬ IsArgument part [] rest
 no_words (Directory word) rest is = let e = is.1 in cc
 no_words (Pair number) rest ((digits, is, inl e), least, most) = cc
 no_words (Pair number) rest ((digits, is, inr e), least, most) = cc
@@ -49,7 +49,7 @@ no_words (Workers number) rest ((digits, is, inr e), most) = cc
 no_words End rest is = cc
 
 -- words begin with one part
-pub one_part : (one other : Part) (words rest more : List (List ℕ)) → IsPart one words rest → IsPart other words more → (one ≡ other) × (rest ≡ more)
+pub one_part : (one other : Argument) (words rest more : List (List ℕ)) → IsArgument one words rest → IsArgument other words more → (one ≡ other) × (rest ≡ more)
 one_part one other [] rest more a b = absurd (no_words one rest a)
 one_part (Directory v) (Directory w) (x ∷ xs) rest more a b = let e = a.1 in let f = b.1 in (cc, cc)
 one_part (Pair m) (Pair n) (x ∷ xs) rest more a b =
@@ -61,14 +61,14 @@ one_part one other (x ∷ xs) rest more a b = absurd (omega (arith, same_kind on
 
 -- ---- all parts
 
-pub one_row : (one other : List Part) (words : List (List ℕ)) → AreParts one words → AreParts other words → one ≡ other
+pub one_row : (one other : List Argument) (words : List (List ℕ)) → AreArguments one words → AreArguments other words → one ≡ other
 one_row [] [] words a b = refl
-one_row [] (q ∷ qs) words a b = absurd (no_words q b.0 (subst (λ l. IsPart q l b.0) a b.1))
-one_row (p ∷ ps) [] words a b = absurd (no_words p a.0 (subst (λ l. IsPart p l a.0) b a.1))
+one_row [] (q ∷ qs) words a b = absurd (no_words q b.0 (subst (λ l. IsArgument q l b.0) a b.1))
+one_row (p ∷ ps) [] words a b = absurd (no_words p a.0 (subst (λ l. IsArgument p l a.0) b a.1))
 one_row (p ∷ ps) (q ∷ qs) words a b =
     let same = one_part p q words a.0 b.0 a.1 b.1 in
     let first : p ≡ q = same.0 in
-    let others : ps ≡ qs = one_row ps qs a.0 a.2 (subst (AreParts qs) (sym same.1) b.2) in
+    let others : ps ≡ qs = one_row ps qs a.0 a.2 (subst (AreArguments qs) (sym same.1) b.2) in
     cc
 
 one_given : (numbers : List ℕ) (default m n : ℕ) → IsGiven numbers default m → IsGiven numbers default n → m ≡ n
@@ -81,7 +81,7 @@ one_asked words one other a b =
     let run = a.run in
     let again = b.run in
     let behind : a.behind ≡ b.behind = cc in
-    let parts : a.parts ≡ b.parts = one_row a.parts b.parts a.behind a.are (subst (AreParts b.parts) (sym behind) b.are) in
+    let parts : a.parts ≡ b.parts = one_row a.parts b.parts a.behind a.are (subst (AreArguments b.parts) (sym behind) b.are) in
     let first = a.directory in
     let second = b.directory in
     let directories : directories a.parts ≡ directories b.parts = ap directories parts in
@@ -96,14 +96,14 @@ one_asked words one other a b =
 
 -- ---- limits
 
-pairs_within : (parts : List Part) (words : List (List ℕ)) → AreParts parts words → AllByRecursion (λ n. (1 ≤ n) × (n ≤ 1000000)) (pairs parts)
+pairs_within : (parts : List Argument) (words : List (List ℕ)) → AreArguments parts words → AllByRecursion (λ n. (1 ≤ n) × (n ≤ 1000000)) (pairs parts)
 pairs_within [] words are = tt
 pairs_within (Directory word ∷ parts) words are = pairs_within parts are.0 are.2
 pairs_within (Pair number ∷ parts) words are = ((are.1.1, are.1.2), pairs_within parts are.0 are.2)
 pairs_within (Workers number ∷ parts) words are = pairs_within parts are.0 are.2
 pairs_within (End ∷ parts) words are = pairs_within parts are.0 are.2
 
-workers_within : (parts : List Part) (words : List (List ℕ)) → AreParts parts words → AllByRecursion (λ n. n ≤ 4) (workers parts)
+workers_within : (parts : List Argument) (words : List (List ℕ)) → AreArguments parts words → AllByRecursion (λ n. n ≤ 4) (workers parts)
 workers_within [] words are = tt
 workers_within (Directory word ∷ parts) words are = workers_within parts are.0 are.2
 workers_within (Pair number ∷ parts) words are = workers_within parts are.0 are.2

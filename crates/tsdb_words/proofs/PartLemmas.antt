@@ -2,7 +2,7 @@
 use Rattle.std.proofs.Common.{◌≡◌, ◌≢◌, ℕ, ◌-◌, ◌<◌, ◌≤◌, true≢false, Bool, false, Option, None, Some, List, [], ◌∷◌, ◌++◌, length, take, drop, get_or, inl, inr, sym, ap, ◌∙◌, arith, subst, codes, append-nil, length-append, take_all}
 use Rattle.std.specs.Prelude.{◌↔◌, IfNone, IsTrue}
 use Rattle.std.proofs.lemmas.List.{append_cancel_left}
-use Rattle.tsdb_words.specs.Words.{HasDigits, IsDirectory, IsNumber, IsOption, IsPart, Part, Directory, Pair, Workers, End}
+use Rattle.tsdb_words.specs.Words.{HasDigits, IsDirectory, IsNumber, IsOption, IsArgument, Argument, Directory, Pair, Workers, End}
 
 -- ---- an option
 
@@ -52,9 +52,9 @@ no_number name digits words rest here none number more is =
 -- words that begin with none of the four parts
 pub no_part : (words behind : List (List ℕ)) (first : List ℕ) (directory end : Bool) → words ≡ first ∷ behind
     → (IsTrue directory ↔ IsDirectory first) → directory ≡ false → (IsTrue end ↔ (first ≡ codes "--")) → end ≡ false
-    → ((number : ℕ) (rest : List (List ℕ)) → ¬ IsPart (Pair number) words rest)
-    → ((number : ℕ) (rest : List (List ℕ)) → ¬ IsPart (Workers number) words rest)
-    → (part : Part) (rest : List (List ℕ)) → ¬ IsPart part words rest
+    → ((number : ℕ) (rest : List (List ℕ)) → ¬ IsArgument (Pair number) words rest)
+    → ((number : ℕ) (rest : List (List ℕ)) → ¬ IsArgument (Workers number) words rest)
+    → (part : Argument) (rest : List (List ℕ)) → ¬ IsArgument part words rest
 no_part words behind first directory end w a no_directory b no_end pair workers (Directory word) rest is =
     let same : word ≡ first = let e = is.1 in cc in
     true≢false (sym (a.1 (subst (λ d. IsDirectory d) same is.0)) ∙ no_directory)

@@ -3,26 +3,26 @@ use Rattle.std.proofs.Common.{◌≡◌, ℕ, ◌<◌, true≢false, Bool, true,
 use Rattle.std.specs.Prelude.{◌↔◌, IfNone, IfSome, IsTrue}
 use Rattle.tsdb_words.specs.declared.seen.Seen.{Seen}
 use Rattle.tsdb_words.specs.Steps.{Completes, Follows, nothing}
-use Rattle.tsdb_words.specs.Words.{AreParts, AreWords, Asked, IsPart, IsWithinLimits, Part}
+use Rattle.tsdb_words.specs.Words.{AreArguments, AreWords, Asked, IsArgument, IsWithinLimits, Argument}
 use Rattle.tsdb_words.proofs.OneReading.{no_words, one_part, within_limits}
 use Rattle.tsdb_words.proofs.SeenLemmas.{Adds}
 
 -- ---- one part more
 
 pub none_follows : (seen : Seen) (words : List (List ℕ)) (asked : Asked) → 0 < length words
-    → ((part : Part) (rest : List (List ℕ)) → ¬ IsPart part words rest) → ¬ Follows seen words asked
+    → ((part : Argument) (rest : List (List ℕ)) → ¬ IsArgument part words rest) → ¬ Follows seen words asked
 none_follows seen words asked some none ([], are, completes) = omega (arith, some, ap length are)
 none_follows seen words asked some none (part ∷ parts, are, completes) = none part are.0 are.1
 
-to_next : (old new : Seen) (part : Part) (may : Bool) (words rest : List (List ℕ)) (asked : Asked) → IsPart part words rest → Adds old part may new
+to_next : (old new : Seen) (part : Argument) (may : Bool) (words rest : List (List ℕ)) (asked : Asked) → IsArgument part words rest → Adds old part may new
     → Follows old words asked → IsTrue may × Follows new rest asked
-to_next old new part may words rest asked is adds ([], are, completes) = absurd (no_words part rest (subst (λ l. IsPart part l rest) are is))
+to_next old new part may words rest asked is adds ([], are, completes) = absurd (no_words part rest (subst (λ l. IsArgument part l rest) are is))
 to_next old new part may words rest asked is adds (first ∷ parts, are, completes) =
     let same = one_part part first words rest are.0 is are.1 in
     let after = (adds parts asked).0 (subst (λ p. Completes old (p ∷ parts) asked) (sym same.0) completes) in
-    (after.0, (parts, subst (AreParts parts) (sym same.1) are.2, after.1))
+    (after.0, (parts, subst (AreArguments parts) (sym same.1) are.2, after.1))
 
-pub follows_next : (old new : Seen) (part : Part) (may : Bool) (words rest : List (List ℕ)) → IsPart part words rest → Adds old part may new
+pub follows_next : (old new : Seen) (part : Argument) (may : Bool) (words rest : List (List ℕ)) → IsArgument part words rest → Adds old part may new
     → (asked : Asked) → Follows old words asked ↔ (IsTrue may × Follows new rest asked)
 follows_next old new part may words rest is adds asked = (
   to_next old new part may words rest asked is adds,
@@ -30,14 +30,14 @@ follows_next old new part may words rest is adds asked = (
 )
 
 -- the part may stand there
-pub kept : (first old new : Seen) (part : Part) (may : Bool) (all words rest : List (List ℕ)) → IsPart part words rest → Adds old part may new → may ≡ true
+pub kept : (first old new : Seen) (part : Argument) (may : Bool) (all words rest : List (List ℕ)) → IsArgument part words rest → Adds old part may new → may ≡ true
     → ((asked : Asked) → Follows first all asked ↔ Follows old words asked) → (asked : Asked) → Follows first all asked ↔ Follows new rest asked
 kept first old new part may all words rest is adds yes_it_may same asked =
     let next = follows_next old new part may words rest is adds asked in
     (λ f. (next.0 ((same asked).0 f)).1, λ f. (same asked).1 (next.1 (yes_it_may, f)))
 
 -- and it may not
-pub refused : (first old new : Seen) (part : Part) (may : Bool) (all words rest : List (List ℕ)) → IsPart part words rest → Adds old part may new → may ≡ false
+pub refused : (first old new : Seen) (part : Argument) (may : Bool) (all words rest : List (List ℕ)) → IsArgument part words rest → Adds old part may new → may ≡ false
     → ((asked : Asked) → Follows first all asked ↔ Follows old words asked) → (asked : Asked) → ¬ Follows first all asked
 refused first old new part may all words rest is adds it_may_not same asked f =
     true≢false (sym ((to_next old new part may words rest asked is adds ((same asked).0 f)).0) ∙ it_may_not)
@@ -70,7 +70,7 @@ pub words_follow : (words behind : List (List ℕ)) (first : List ℕ) (asked : 
 words_follow words behind first asked w are =
     let run = are.run in
     let same : are.behind ≡ behind = cc in
-    (cc, (are.parts, subst (AreParts are.parts) same are.are, record { end = are.end; directory = are.directory; pair_points = are.pair_points; workers = are.workers }))
+    (cc, (are.parts, subst (AreArguments are.parts) same are.are, record { end = are.end; directory = are.directory; pair_points = are.pair_points; workers = are.workers }))
 
 -- what completes the parts that were read is asked for by the words
 module _ (words behind : List (List ℕ)) (first : List ℕ) (seen : Seen) (w : words ≡ first ∷ behind)

@@ -4,22 +4,22 @@ use Rattle.std.specs.Prelude.{◌↔◌, IsTrue}
 use Rattle.std.specs.Option.{unwrap_or}
 use Rattle.tsdb_words.specs.declared.seen.Seen.{Seen}
 use Rattle.tsdb_words.specs.Steps.{Completes, KeepsFirst, MayFollow, directory_in, number_in}
-use Rattle.tsdb_words.specs.Words.{Asked, IsGiven, IsOfDirectory, Part, Directory, Pair, Workers, End, directories}
+use Rattle.tsdb_words.specs.Words.{Asked, IsGiven, IsOfDirectory, Argument, Directory, Pair, Workers, End, directories}
 
 abbrev seen : Option (Bor (List ℕ)) → Option ℕ → Option ℕ → Bool → Seen
 seen d p w e = record { directory = d; pair_points = p; workers = w; ended = e }
 
 -- what completes the old with the part in front is what completes the new, if the part may stand there
-abbrev pub Adds : Seen → Part → Bool → Seen → Type 0
-Adds old part may new = (parts : List Part) (asked : Asked) → Completes old (part ∷ parts) asked ↔ (IsTrue may × Completes new parts asked)
+abbrev pub Adds : Seen → Argument → Bool → Seen → Type 0
+Adds old part may new = (parts : List Argument) (asked : Asked) → Completes old (part ∷ parts) asked ↔ (IsTrue may × Completes new parts asked)
 
 -- ---- a directory
 
-without_directory : (e : Bool) (word : List ℕ) (parts : List Part) → MayFollow e (Directory word ∷ parts) → MayFollow e parts
+without_directory : (e : Bool) (word : List ℕ) (parts : List Argument) → MayFollow e (Directory word ∷ parts) → MayFollow e parts
 without_directory true word parts may = may.1
 without_directory false word parts may = may
 
-with_directory : (e : Bool) (word : List ℕ) (parts : List Part) → MayFollow e parts → MayFollow e (Directory word ∷ parts)
+with_directory : (e : Bool) (word : List ℕ) (parts : List Argument) → MayFollow e parts → MayFollow e (Directory word ∷ parts)
 with_directory true word parts may = (tt, may)
 with_directory false word parts may = may
 
@@ -41,12 +41,12 @@ adds_directory (Some first) kept p w e may word keeps parts asked = (
 
 -- ---- an option
 
-without_option : (e : Bool) (part : Part) (parts : List Part) → e ≡ false → (MayFollow false (part ∷ parts) → MayFollow false parts)
+without_option : (e : Bool) (part : Argument) (parts : List Argument) → e ≡ false → (MayFollow false (part ∷ parts) → MayFollow false parts)
     → MayFollow e (part ∷ parts) → MayFollow e parts
 without_option true part parts unended less may = absurd (true≢false unended)
 without_option false part parts unended less may = less may
 
-with_option : (e : Bool) (part : Part) (parts : List Part) → e ≡ false → (MayFollow false parts → MayFollow false (part ∷ parts))
+with_option : (e : Bool) (part : Argument) (parts : List Argument) → e ≡ false → (MayFollow false parts → MayFollow false (part ∷ parts))
     → MayFollow e parts → MayFollow e (part ∷ parts)
 with_option true part parts unended more may = absurd (true≢false unended)
 with_option false part parts unended more may = more may
@@ -78,7 +78,7 @@ adds_workers d p None kept e may number unended keeps parts asked = (
 adds_workers d p (Some first) kept e may number unended keeps parts asked = (λ c. absurd c.workers, λ t. absurd (true≢false (sym t.0 ∙ keeps)))
 
 -- behind a lone `--` no option may stand
-pub adds_none : (s : Seen) (part : Part) → s.ended ≡ true → (IsOfDirectory part → ⊥) → Adds s part (not s.ended) s
+pub adds_none : (s : Seen) (part : Argument) → s.ended ≡ true → (IsOfDirectory part → ⊥) → Adds s part (not s.ended) s
 adds_none s part ended option parts asked = (
   λ c. absurd (option (subst (λ e. MayFollow e (part ∷ parts)) ended c.end).0),
   λ t. absurd (true≢false (sym t.0 ∙ ap not ended)),

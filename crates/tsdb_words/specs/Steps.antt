@@ -7,11 +7,11 @@ use Rattle.tsdb_words.specs.declared.part.Part.{Part as DeclaredPart}
 use Rattle.tsdb_words.specs.declared.seen.Seen.{Seen}
 use Rattle.tsdb_base.specs.Limits.{default_pair_points}
 use Rattle.tsdb_words.specs.Limits.{default_workers}
-use Rattle.tsdb_words.specs.Words.{Asked, Part, Directory, Pair, Workers, End, AreParts, HasNoOptionBehindEnd}
+use Rattle.tsdb_words.specs.Words.{Asked, Argument, Directory, Pair, Workers, End, AreArguments, HasNoOptionBehindEnd}
 use Rattle.tsdb_words.specs.Words.{IsGiven, IsOfDirectory, directories, pairs, workers}
 
 -- a part, with a directory as its bytes
-abbrev pub shown : DeclaredPart → Part
+abbrev pub shown : DeclaredPart → Argument
 shown (declared.Directory word) = Directory word.now
 shown (declared.Pair number) = Pair number
 shown (declared.Workers number) = Workers number
@@ -37,12 +37,12 @@ KeepsFirst None kept value is_first = (kept ≡ Some value) × (is_first ≡ tru
 KeepsFirst (Some first) kept value is_first = is_first ≡ false
 
 -- the parts may follow, where a lone `--` stands before them or not
-abbrev pub MayFollow : Bool → List Part → Type 0
+abbrev pub MayFollow : Bool → List Argument → Type 0
 MayFollow true parts = AllByRecursion IsOfDirectory parts
 MayFollow false parts = HasNoOptionBehindEnd parts
 
 -- what was read and these parts ask for this
-pub record Completes (seen : Seen) (parts : List Part) (asked : Asked) : Type 0 where
+pub record Completes (seen : Seen) (parts : List Argument) (asked : Asked) : Type 0 where
   pub end : MayFollow seen.ended parts
   pub directory : directory_in seen.directory ++ directories parts ≡ asked.directory ∷ []
   pub pair_points : IsGiven (number_in seen.pair_points ++ pairs parts) default_pair_points asked.pair_points
@@ -50,4 +50,4 @@ pub record Completes (seen : Seen) (parts : List Part) (asked : Asked) : Type 0 
 
 -- what was read and these words ask for this
 abbrev pub Follows : Seen → List (List ℕ) → Asked → Type 0
-Follows seen words asked = (parts : List Part) × AreParts parts words × Completes seen parts asked
+Follows seen words asked = (parts : List Argument) × AreArguments parts words × Completes seen parts asked

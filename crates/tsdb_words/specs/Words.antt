@@ -34,52 +34,52 @@ HasDigits name digits words rest = (words ≡ name ∷ digits ∷ rest) ⊎ (wor
 abbrev pub IsOption : List ℕ → ℕ → List (List ℕ) → List (List ℕ) → Type 0
 IsOption name number words rest = (digits : List ℕ) × IsNumber digits number × HasDigits name digits words rest
 
-pub data Part : Type 0 where
-  Directory : List ℕ → Part
-  Pair : ℕ → Part
-  Workers : ℕ → Part
+pub data Argument : Type 0 where
+  Directory : List ℕ → Argument
+  Pair : ℕ → Argument
+  Workers : ℕ → Argument
   -- a lone `--`
-  End : Part
+  End : Argument
 
 -- the words up to the rest are this part
-abbrev pub IsPart : Part → List (List ℕ) → List (List ℕ) → Type 0
-IsPart (Directory word) words rest = IsDirectory word × (words ≡ word ∷ rest)
-IsPart (Pair number) words rest =
+abbrev pub IsArgument : Argument → List (List ℕ) → List (List ℕ) → Type 0
+IsArgument (Directory word) words rest = IsDirectory word × (words ≡ word ∷ rest)
+IsArgument (Pair number) words rest =
     IsOption (codes "--pair") number words rest × (1 ≤ number) × (number ≤ max_pair_points)
-IsPart (Workers number) words rest = IsOption (codes "--workers") number words rest × (number ≤ max_workers)
-IsPart End words rest = words ≡ codes "--" ∷ rest
+IsArgument (Workers number) words rest = IsOption (codes "--workers") number words rest × (number ≤ max_workers)
+IsArgument End words rest = words ≡ codes "--" ∷ rest
 
 -- the words are these parts, one behind another
-abbrev pub AreParts : List Part → List (List ℕ) → Type 0
-AreParts [] words = words ≡ []
-AreParts (part ∷ parts) words = (rest : List (List ℕ)) × IsPart part words rest × AreParts parts rest
+abbrev pub AreArguments : List Argument → List (List ℕ) → Type 0
+AreArguments [] words = words ≡ []
+AreArguments (part ∷ parts) words = (rest : List (List ℕ)) × IsArgument part words rest × AreArguments parts rest
 
 -- ---- which parts may stand together
 
-abbrev pub IsOfDirectory : Part → Type 0
+abbrev pub IsOfDirectory : Argument → Type 0
 IsOfDirectory (Directory word) = Unit {0}
 IsOfDirectory part = ⊥
 
 -- behind a lone `--` stand neither options nor a second one
-abbrev pub HasNoOptionBehindEnd : List Part → Type 0
+abbrev pub HasNoOptionBehindEnd : List Argument → Type 0
 HasNoOptionBehindEnd [] = Unit {0}
 HasNoOptionBehindEnd (End ∷ parts) = AllByRecursion IsOfDirectory parts
 HasNoOptionBehindEnd (part ∷ parts) = HasNoOptionBehindEnd parts
 
 -- the directories among the parts
-abbrev pub directories : List Part → List (List ℕ)
+abbrev pub directories : List Argument → List (List ℕ)
 directories [] = []
 directories (Directory word ∷ parts) = word ∷ directories parts
 directories (part ∷ parts) = directories parts
 
 -- the numbers of `--pair` among the parts
-abbrev pub pairs : List Part → List ℕ
+abbrev pub pairs : List Argument → List ℕ
 pairs [] = []
 pairs (Pair number ∷ parts) = number ∷ pairs parts
 pairs (part ∷ parts) = pairs parts
 
 -- the numbers of `--workers` among the parts
-abbrev pub workers : List Part → List ℕ
+abbrev pub workers : List Argument → List ℕ
 workers [] = []
 workers (Workers number ∷ parts) = number ∷ workers parts
 workers (part ∷ parts) = workers parts
@@ -92,10 +92,10 @@ IsGiven (given ∷ second ∷ others) default number = ⊥
 
 -- the words ask for this: `run`, and behind it the parts in any order, with exactly one directory
 pub record AreWords (words : List (List ℕ)) (asked : Asked) : Type 0 where
-  pub parts : List Part
+  pub parts : List Argument
   pub behind : List (List ℕ)
   pub run : words ≡ codes "run" ∷ behind
-  pub are : AreParts parts behind
+  pub are : AreArguments parts behind
   pub end : HasNoOptionBehindEnd parts
   pub directory : directories parts ≡ asked.directory ∷ []
   pub pair_points : IsGiven (pairs parts) default_pair_points asked.pair_points

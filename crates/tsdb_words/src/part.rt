@@ -3,7 +3,7 @@
 ghost use Rattle.std.specs.Prelude.{◌≡◌, ◌↔◌, ℕ, List, IfSome, IfNone, IsTrue, codes};
 ghost use Rattle.tsdb_words.specs.Steps.{shown};
 ghost use Rattle.tsdb_words.specs.Words as model;
-ghost use Rattle.tsdb_words.specs.Words.{HasDigits, IsDirectory, IsOption, IsPart};
+ghost use Rattle.tsdb_words.specs.Words.{HasDigits, IsDirectory, IsOption, IsArgument};
 
 use crate::number::number_of;
 use crate::word::Word;
@@ -20,8 +20,8 @@ pub enum Part<'a> {
 
 /// The part that the words begin with, and the words behind it.
 pub fn next_part<'a>(words: &'a [Word]) -> Option<(Part<'a>, &'a [Word])>
-    ensures found { IfSome result (λ found. IsPart (shown found.0) words.now found.1.now) }
-    ensures none { IfNone result ((part : model.Part) (rest : List (List ℕ)) → ¬ IsPart part words.now rest) }
+    ensures found { IfSome result (λ found. IsArgument (shown found.0) words.now found.1.now) }
+    ensures none { IfNone result ((part : model.Argument) (rest : List (List ℕ)) → ¬ IsArgument part words.now rest) }
 {
     let (word, behind) = words.split_first()?;
     if is_directory(word.bytes()) {
@@ -55,8 +55,8 @@ fn is_end(word: &[u8]) -> bool
 
 /// The option `--pair` that the words begin with, and the words behind it.
 fn pair<'a>(words: &'a [Word]) -> Option<(Part<'a>, &'a [Word])>
-    ensures found { IfSome result (λ found. IsPart (shown found.0) words.now found.1.now) }
-    ensures none { IfNone result ((number : ℕ) (rest : List (List ℕ)) → ¬ IsPart (model.Pair number) words.now rest) }
+    ensures found { IfSome result (λ found. IsArgument (shown found.0) words.now found.1.now) }
+    ensures none { IfNone result ((number : ℕ) (rest : List (List ℕ)) → ¬ IsArgument (model.Pair number) words.now rest) }
 {
     let (number, rest) = option(b"--pair", words)?;
     if number < 1 || number > MAX_PAIR_POINTS {
@@ -67,9 +67,9 @@ fn pair<'a>(words: &'a [Word]) -> Option<(Part<'a>, &'a [Word])>
 
 /// The option `--workers` that the words begin with, and the words behind it.
 fn workers<'a>(words: &'a [Word]) -> Option<(Part<'a>, &'a [Word])>
-    ensures found { IfSome result (λ found. IsPart (shown found.0) words.now found.1.now) }
+    ensures found { IfSome result (λ found. IsArgument (shown found.0) words.now found.1.now) }
     ensures none { IfNone result ((number : ℕ) (rest : List (List ℕ))
-        → ¬ IsPart (model.Workers number) words.now rest) }
+        → ¬ IsArgument (model.Workers number) words.now rest) }
 {
     let (number, rest) = option(b"--workers", words)?;
     if number > MAX_WORKERS {

@@ -36,7 +36,7 @@ impl<'a> Seen<'a> {
 
     /// Takes one more part, if it may stand here.
     pub fn take(&mut self, part: Part<'a>) -> bool
-        ensures { (parts : List model.Part) (asked : model.Asked) → Completes self.old (shown part.entry ∷ parts) asked
+        ensures { (parts : List model.Argument) (asked : model.Asked) → Completes self.old (shown part.entry ∷ parts) asked
             ↔ (IsTrue result × Completes self.new parts asked) }
     {
         match part {
@@ -49,7 +49,7 @@ impl<'a> Seen<'a> {
 
     /// Takes a lone `--`, if it is the first.
     fn end(&mut self) -> bool
-        ensures { (parts : List model.Part) (asked : model.Asked) → Completes self.old (model.End ∷ parts) asked
+        ensures { (parts : List model.Argument) (asked : model.Asked) → Completes self.old (model.End ∷ parts) asked
             ↔ (IsTrue result × Completes self.new parts asked) }
     {
         let is_first = !self.ended;

@@ -21,8 +21,8 @@ alike_up_to es ss i so_far apart = record {
   same = take i es;
   others = drop i es;
   others_said = drop i ss;
-  entries-are = sym (take-append-drop i es);
-  said-are = sym (take-append-drop i ss) ∙ ap (λ (l : List IndexEntry). l ++ drop i ss) (sym so_far.same);
+  entries_are = sym (take-append-drop i es);
+  said_are = sym (take-append-drop i ss) ∙ ap (λ (l : List IndexEntry). l ++ drop i ss) (sym so_far.same);
   number = length-take-le i es so_far.low_es;
   apart = apart;
 }
@@ -48,11 +48,11 @@ alike_all es ss i so_far end =
 -- lists that are one are alike to their end
 pub ends_alike : (es ss : List IndexEntry) (i : ℕ) → AreAlike es ss i → es ≡ ss → (i ≡ length es) × (i ≡ length ss)
 ends_alike es ss i alike same =
-    let rests = append_cancel_left alike.same alike.others alike.others_said (sym alike.entries-are ∙ same ∙ alike.said-are) in
+    let rests = append_cancel_left alike.same alike.others alike.others_said (sym alike.entries_are ∙ same ∙ alike.said_are) in
     let nil = no_others alike.others alike.others_said rests alike.apart in
     let number = alike.number in
-    let n = ap length alike.entries-are in
-    let m = ap length alike.said-are in
+    let n = ap length alike.entries_are in
+    let m = ap length alike.said_are in
     let p = length-append alike.same alike.others in
     let q = length-append alike.same alike.others_said in
     let none_e = ap length nil.0 in

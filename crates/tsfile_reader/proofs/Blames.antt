@@ -113,7 +113,7 @@ full_from (g ∷ gs) good devices parts =
 
 full_groups : (groups : List Group) → AreGroups groups → AllByRecursion IsFullGroup groups
 full_groups groups good =
-    full_from groups (recursion_from_All IsGroup groups good.groups-are) (recursion_from_All (λ (g : Group). IsPath g.device) groups good.devices) good.chunks
+    full_from groups (recursion_from_All IsGroup groups good.groups_are) (recursion_from_All (λ (g : Group). IsPath g.device) groups good.devices) good.chunks
 
 whole_groups : (groups : List Group) → AllByRecursion IsFullGroup groups → AllByRecursion IsWholeGroup groups
 whole_groups [] full = tt
@@ -121,7 +121,7 @@ whole_groups (g ∷ gs) full = ((full.0.device, full.0.whole), whole_groups gs f
 
 -- the groups of a tree
 pub groups_in : (tree : Tree) → IsTree tree → IsMade tree → AreGroups tree.groups
-groups_in tree is made = record { some = is.some; groups-are = is.groups; rising = is.rising; devices = made.devices; chunks = made.chunks }
+groups_in tree is made = record { some = is.some; groups_are = is.groups; rising = is.rising; devices = made.devices; chunks = made.chunks }
 
 -- bytes that are groups have no bad part
 no_bad_part : (bytes : List ℕ) (groups : List Group) (from at : ℕ) → AreGroups groups → bytes ≡ flat_map group_field groups → IsFirstBadPart from bytes at → ⊥
@@ -165,7 +165,7 @@ next_same (b ∷ bs) (a ∷ more) us vs xs ys less same_u same_v =
 no_shorter : (es said : List IndexEntry) (m n : ℕ) → AreAlike es said m → AreAlike es said n → m < n → ⊥
 no_shorter es said m n a b less =
     let shorter : length a.same < length b.same = omega (arith, less, a.number, b.number) in
-    let next = next_same a.same b.same a.others a.others_said b.others b.others_said shorter (sym a.entries-are ∙ b.entries-are) (sym a.said-are ∙ b.said-are) in
+    let next = next_same a.same b.same a.others a.others_said b.others b.others_said shorter (sym a.entries_are ∙ b.entries_are) (sym a.said_are ∙ b.said_are) in
     a.apart next.next next.next next.us_behind next.vs_behind next.us-are next.vs-are refl
 
 one_count : (es said : List IndexEntry) (m n : ℕ) → AreAlike es said m → AreAlike es said n → m ≡ n
@@ -189,7 +189,7 @@ one_wrong_leaf : (ps : List Pointer) (es said : List IndexEntry) (x y : ℕ) →
 one_wrong_leaf ps es said x y a b =
     let count = one_count es said a.count b.count a.alike b.alike in
     let number : length a.before ≡ length b.before = a.number ∙ ap (λ (n : ℕ). min n (length es - 1) / max_leaf_entries) count ∙ sym b.number in
-    let one = one_pointer a.before a.behind b.before b.behind a.pointer b.pointer number (sym a.pointers-are ∙ b.pointers-are) in
+    let one = one_pointer a.before a.behind b.before b.behind a.pointer b.pointer number (sym a.pointers_are ∙ b.pointers_are) in
     a.place ∙ ap (λ (p : Pointer). p.place) one ∙ sym b.place
 
 -- ---- one place of blame
@@ -204,15 +204,15 @@ one_blame b x y room (part r p ps es has at bad) (part s q qs fs also by other) 
     one_place (data_in q b) (length head) at by (subst (λ (n : ℕ). IsFirstBadPart (length head) (data_in n b) at) one.place bad) other
 one_blame b x y room (part r p ps es has at bad) (leaf s q qs fs also tree said groups by other) =
     let one = one_outline b r s p q ps qs es fs room has also in
-    absurd (no_bad_part (data_in q b) tree.groups (length head) at groups.good groups.bytes-are (subst (λ (n : ℕ). IsFirstBadPart (length head) (data_in n b) at) one.place bad))
+    absurd (no_bad_part (data_in q b) tree.groups (length head) at groups.good groups.bytes_are (subst (λ (n : ℕ). IsFirstBadPart (length head) (data_in n b) at) one.place bad))
 one_blame b x y room (leaf r p ps es has tree said groups at bad) (outline by other) = absurd (good_outline b r p ps es by room has other)
 one_blame b x y room (leaf r p ps es has tree said groups at bad) (part s q qs fs also by other) =
     let one = one_outline b r s p q ps qs es fs room has also in
-    absurd (no_bad_part (data_in p b) tree.groups (length head) by groups.good groups.bytes-are (subst (λ (n : ℕ). IsFirstBadPart (length head) (data_in n b) by) (sym one.place) other))
+    absurd (no_bad_part (data_in p b) tree.groups (length head) by groups.good groups.bytes_are (subst (λ (n : ℕ). IsFirstBadPart (length head) (data_in n b) by) (sym one.place) other))
 one_blame b x y room (leaf r p ps es has tree said groups at bad) (leaf s q qs fs also tree2 said2 groups2 by other) =
     let one = one_outline b r s p q ps qs es fs room has also in
-    let here : data_in q b ≡ flat_map group_field tree.groups = ap (λ (n : ℕ). data_in n b) (sym one.place) ∙ groups.bytes-are in
-    let saids = said_same (data_in q b) tree tree2 said said2 groups.good groups2.good here groups2.bytes-are groups.say groups2.say in
+    let here : data_in q b ≡ flat_map group_field tree.groups = ap (λ (n : ℕ). data_in n b) (sym one.place) ∙ groups.bytes_are in
+    let saids = said_same (data_in q b) tree tree2 said said2 groups.good groups2.good here groups2.bytes_are groups.say groups2.say in
     let moved : IsFirstWrongLeaf qs fs said2 at = subst (λ (l : List IndexEntry). IsFirstWrongLeaf qs fs l at) saids
     (subst (λ (l : List IndexEntry). IsFirstWrongLeaf qs l said at) one.entries (subst (λ (l : List Pointer). IsFirstWrongLeaf l es said at) one.pointers bad)) in
     one_wrong_leaf qs fs said2 at by moved other
@@ -223,9 +223,9 @@ one_blame b x y room (leaf r p ps es has tree said groups at bad) (leaf s q qs f
 tree_data : (tree : Tree) (b : List ℕ) → IsFile tree b → data_in (length (data_field tree)) b ≡ flat_map group_field tree.groups
 tree_data tree b file =
     let groups = flat_map group_field tree.groups in
-    let rest = file.index-bytes ++ (number64 file.root ++ magic) in
+    let rest = file.index_bytes ++ (number64 file.root ++ magic) in
     let apart = file_apart tree b file in
-    let behind : drop (length head) b ≡ flat_map group_field tree.groups ++ (file.index-bytes ++ (number64 file.root ++ magic)) =
+    let behind : drop (length head) b ≡ flat_map group_field tree.groups ++ (file.index_bytes ++ (number64 file.root ++ magic)) =
     ap (λ (l : List ℕ). drop (length head) l) apart ∙ drop_at head (groups ++ rest) (length head) refl in
     let n = length-append head groups in
     let size : length (flat_map group_field tree.groups) ≡ length (data_field tree) - length head = omega (arith, n) in
@@ -240,7 +240,7 @@ not_blamed b at room (part r p ps es has by bad) = λ tree is made file.
 not_blamed b at room (leaf r p ps es has tree said groups by bad) = λ other is made file.
     let of_tree = outline_of_tree other b r p ps es room is made file has in
     let here : data_in p b ≡ flat_map group_field other.groups = ap (λ (n : ℕ). data_in n b) of_tree.0 ∙ tree_data other b file in
-    bad.wrong (said_same (data_in p b) other tree es said (groups_in other is made) groups.good here groups.bytes-are of_tree.1 groups.say)
+    bad.wrong (said_same (data_in p b) other tree es said (groups_in other is made) groups.good here groups.bytes_are of_tree.1 groups.say)
 
 -- ---- what is whole is a tree's file
 
@@ -274,26 +274,26 @@ tree_of b root place ps es said tree has groups same =
     let r = rises b root place ps has.points in
     let low = r.low in
     let high = r.high in
-    let behind = has.points.behind-head in
+    let behind = has.points.behind_head in
     let long = has.long in
-    let front : take 7 b ++ between 7 place b ≡ data_field tree = ap (λ (l : List ℕ). l ++ between 7 place b) has.starts ∙ ap (λ (l : List ℕ). head ++ l) groups.bytes-are in
+    let front : take 7 b ++ between 7 place b ≡ data_field tree = ap (λ (l : List ℕ). l ++ between 7 place b) has.starts ∙ ap (λ (l : List ℕ). head ++ l) groups.bytes_are in
     let size_head : length (take 7 b) ≡ 7 = length-take-le 7 b (omega (arith, long)) in
     let size_rest = length_between b 7 place (omega (arith, low, high)) in
     let n = length-append (take 7 b) (between 7 place b) in
     let m = ap length front in
     let place_is : place ≡ length (data_field tree) = omega (arith, size_head, size_rest, n, m, behind) in
     let split = four b place (tail_place b) (omega (arith, behind)) (omega (arith, low, high)) (omega arith) in
-    let tail : drop (tail_place b) b ≡ number64 root ++ magic = has.tail.bytes-are in
+    let tail : drop (tail_place b) b ≡ number64 root ++ magic = has.tail.bytes_are in
     record {
-      is = record { some = good.some; few = omega (arith, count, few); groups = good.groups-are; rising = good.rising };
+      is = record { some = good.some; few = omega (arith, count, few); groups = good.groups_are; rising = good.rising };
       made = record { devices = good.devices; chunks = good.chunks };
       file = record {
         entries = es;
         root = root;
-        index-bytes = between place (tail_place b) b;
+        index_bytes = between place (tail_place b) b;
         say = say;
-        index-is = subst (λ (p : ℕ). IsSpelling p root es (between place (tail_place b) b)) place_is has.index.spelling;
-        bytes-are =
+        index_is = subst (λ (p : ℕ). IsSpelling p root es (between place (tail_place b) b)) place_is has.index.spelling;
+        bytes_are =
             split ∙ ap (λ (l : List ℕ). (l ++ between place (tail_place b) b) ++ drop (tail_place b) b) front ∙ ap (λ (l : List ℕ). (data_field tree ++ between place (tail_place b) b) ++ l) tail
             ∙ sym (append_assoc (data_field tree ++ between place (tail_place b) b) (number64 root) magic);
       };

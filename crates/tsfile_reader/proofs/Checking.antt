@@ -62,11 +62,11 @@ pointers_cover b root place ps es has =
     let most = has.index.index.few in
     let few = few_leaves leaves s.stand.sizes in
     let cover = covered leaves s.stand.sizes in
-    let root_is = s.root-place in
+    let root_is = s.root_place in
     let size : length (flat_map leaf_field s.leaves) ≡ root - place = omega (arith, root_is) in
     let there : between root (tail_place b) b ≡ root_field place s.leaves =
-    sym (between_back b place root (tail_place b) (omega (arith, low)) (omega (arith, high))) ∙ ap (λ (l : List ℕ). drop (root - place) l) s.bytes-are ∙ drop_at flat (root_field place leaves) (root - place) size in
-    let both : 82 ∷ (number32 (length ps) ++ flat_map pointer_bytes ps) ≡ 82 ∷ (number32 (length s.leaves) ++ pointers place s.leaves) = sym has.points.is.bytes-are ∙ there in
+    sym (between_back b place root (tail_place b) (omega (arith, low)) (omega (arith, high))) ∙ ap (λ (l : List ℕ). drop (root - place) l) s.bytes_are ∙ drop_at flat (root_field place leaves) (root - place) size in
+    let both : 82 ∷ (number32 (length ps) ++ flat_map pointer_bytes ps) ≡ 82 ∷ (number32 (length s.leaves) ++ pointers place s.leaves) = sym has.points.is.bytes_are ∙ there in
     let same = number32-prefix_free (length ps) (length leaves) (flat_map pointer_bytes ps) (pointers place leaves) has.points.is.few (omega (arith, few, all, most)) (behind both) in
     let count = same.0 in
     omega (arith, cover, all, count)
@@ -109,7 +109,7 @@ wrong_in b root place ps es said tree number at has groups wrong place_of =
       before = s.before;
       pointer = s.pointer;
       behind = s.behind;
-      pointers-are = s.all;
+      pointers_are = s.all;
       number = s.size ∙ number_is;
       place = place_of s.before s.behind s.pointer s.all s.size;
     })
@@ -172,7 +172,7 @@ pub is_found : (o : Option (List ℕ)) (ends : Ends) (place : ℕ) (ps : List Po
 is_found None ends place ps index stretch said has is groups same = tt
 is_found (Some b) ends place ps index stretch said has is groups same =
     let t = tree_of b ends.root place ps index.entries said groups.0 has.1 (subst (λ (l : List ℕ). HasGroups l groups.0 said) is groups.1) same in
-    record { tree = groups.0; is = t.is; made = t.made; file = t.file; says = record { bytes-are = has.0; entries = t.say } }
+    record { tree = groups.0; is = t.is; made = t.made; file = t.file; says = record { bytes_are = has.0; entries = t.say } }
 
 -- what holds of a place of damage holds whatever else was to be returned
 pub same_limit : (T : Type 0) (P : ℕ → Type 0) (fault : ReadFault) → IfDamaged {T = T} (Err fault) P → IfDamaged {T = FileMeta} (Err fault) P

@@ -9,7 +9,7 @@ use Rattle.tsdb_base.specs.declared.value.DataType.{DataType}
 use Rattle.tsdb_base.specs.declared.value.Encoding.{Encoding}
 use Rattle.tsdb_base.specs.Plain.{plain_text, BeginsWithNone}
 use Rattle.tsdb_fields.specs.declared.rest.Rest.{Rest}
-use Rattle.tsdb_fields.specs.Reading.{Takes}
+use Rattle.tsdb_fields.specs.Reading.{TakesBytes}
 use Rattle.tsdb_index.proofs.Fields.{takes_both, takes_same}
 use Rattle.tsdb_index.specs.declared.index.IndexEntry.{IndexEntry}
 use Rattle.tsdb_pages.specs.declared.tree.Chunk.{Chunk}
@@ -28,7 +28,7 @@ use Rattle.tsfile_reader.proofs.Rows.{after_chunks, chunks_text, good_chunks, la
 
 -- ---- a stop behind what was read before
 
-pub stop_behind : (before middle : List Part) (left behind : Rest) (text : List ℕ) (at : ℕ) → parts_field middle ≡ parts_field before ++ text → Takes left text behind → StopsAt middle behind at → StopsAt before left at
+pub stop_behind : (before middle : List Part) (left behind : Rest) (text : List ℕ) (at : ℕ) → parts_field middle ≡ parts_field before ++ text → TakesBytes left text behind → StopsAt middle behind at → StopsAt before left at
 stop_behind before middle left behind text at grown takes stops = record {
   parts = stops.parts;
   good = stops.good;
@@ -50,17 +50,17 @@ chunk_read device head place left behind found entry is at pages entry_is =
     let chunk : Chunk = record { measurement = head.measurement; data_type = head.data_type; encoding = head.encoding; pages = pages.pages } in
     record {
       chunk = chunk;
-      measurement-is = refl;
-      type-is = refl;
-      encoding-is = refl;
+      measurement_is = refl;
+      type_is = refl;
+      encoding_is = refl;
       good = record { suits = is.1; some = r.some; few = r.few; pages = r.good; rising = r.rising };
       parts = record { measurement = is.0; points = r.ranges };
       say = subst (λ (e : IndexEntry). IsEntry device place chunk e) (sym entry_is) (record {
-        device-is = refl;
-        measurement-is = refl;
-        type-is = refl;
-        encoding-is = refl;
-        place-is = refl;
+        device_is = refl;
+        measurement_is = refl;
+        type_is = refl;
+        encoding_is = refl;
+        place_is = refl;
         stats = r.stats;
         pages = subst (λ (n : ℕ). ArePageEntries head.encoding n pages.pages found.entries.items) at r.say;
       });
@@ -99,14 +99,14 @@ pub record ChunksSoFar (device : List ℕ) (rest left : Rest) (entries : List In
   pub rising : AllPairs (λ a b. IsBefore a.measurement b.measurement) (front ++ last ∷ [])
   pub earlier : List IndexEntry
   pub final : IndexEntry
-  pub entries-are : entries ≡ earlier ++ final ∷ []
+  pub entries_are : entries ≡ earlier ++ final ∷ []
   pub final-is : final.measurement ≡ last.measurement
   pub say : AreEntries device rest.at (front ++ last ∷ []) entries
-  pub takes : Takes rest (flat_map chunk_field (front ++ last ∷ [])) left
+  pub takes : TakesBytes rest (flat_map chunk_field (front ++ last ∷ [])) left
   pub no_page : BeginsWithMark 80 left.bytes.now → ⊥
 
 -- a chunk's bytes are its head and its pages
-chunk_taken : (c : Chunk) (head : ChunkHead) (left middle behind : Rest) → c.measurement ≡ head.measurement → c.data_type ≡ head.data_type → c.encoding ≡ head.encoding → Takes left (head_bytes head) middle → Takes middle (flat_map (page_field c.encoding) c.pages) behind → Takes left (chunk_field c) behind
+chunk_taken : (c : Chunk) (head : ChunkHead) (left middle behind : Rest) → c.measurement ≡ head.measurement → c.data_type ≡ head.data_type → c.encoding ≡ head.encoding → TakesBytes left (head_bytes head) middle → TakesBytes middle (flat_map (page_field c.encoding) c.pages) behind → TakesBytes left (chunk_field c) behind
 chunk_taken c head left middle behind m t e head_is pages =
     let same : head_bytes head ≡ chunk_head c = head_same c head m t e in
     takes_both left middle behind (chunk_head c) (flat_map (page_field c.encoding) c.pages) (takes_same left middle (head_bytes head) (chunk_head c) same head_is) pages
@@ -115,7 +115,7 @@ chunk_taken c head left middle behind m t e head_is pages =
     head_same c head m t e =
         ap (λ (x : List ℕ). part_field (Part.Chunk x head.data_type head.encoding)) (sym m) ∙ ap (λ (x : DataType). part_field (Part.Chunk c.measurement x head.encoding)) (sym t) ∙ ap (λ (x : Encoding). part_field (Part.Chunk c.measurement c.data_type x)) (sym e)
 
-pub first_chunk : (device : List ℕ) (rest middle left : Rest) (head : ChunkHead) (entry : IndexEntry) (entries : List IndexEntry) → entries ≡ entry ∷ [] → Takes rest (head_bytes head) middle → ReadsChunk device head rest.at middle left entry → ChunksSoFar device rest left entries
+pub first_chunk : (device : List ℕ) (rest middle left : Rest) (head : ChunkHead) (entry : IndexEntry) (entries : List IndexEntry) → entries ≡ entry ∷ [] → TakesBytes rest (head_bytes head) middle → ReadsChunk device head rest.at middle left entry → ChunksSoFar device rest left entries
 first_chunk device rest middle left head entry entries is head_is r = record {
   front = [];
   last = r.chunk;
@@ -123,18 +123,18 @@ first_chunk device rest middle left head entry entries is head_is r = record {
   rising = λ i j d l m. absurd (omega (arith, l, m));
   earlier = [];
   final = entry;
-  entries-are = is;
-  final-is = r.say.measurement-is;
+  entries_are = is;
+  final-is = r.say.measurement_is;
   say = subst (λ (l : List IndexEntry). AreEntries device rest.at (r.chunk ∷ []) l) (sym is) (r.say, tt);
-  takes = takes_same rest left (chunk_field r.chunk) (chunk_field r.chunk ++ []) (sym (append-nil (chunk_field r.chunk))) (chunk_taken r.chunk head rest middle left r.measurement-is r.type-is r.encoding-is head_is r.takes);
+  takes = takes_same rest left (chunk_field r.chunk) (chunk_field r.chunk ++ []) (sym (append-nil (chunk_field r.chunk))) (chunk_taken r.chunk head rest middle left r.measurement_is r.type_is r.encoding_is head_is r.takes);
   no_page = r.ends;
 }
 
-pub next_chunk_read : (device : List ℕ) (rest left middle behind : Rest) (head : ChunkHead) (entry : IndexEntry) (old new : List IndexEntry) (so_far : ChunksSoFar device rest left old) → new ≡ old ++ entry ∷ [] → Takes left (head_bytes head) middle → IsBefore so_far.final.measurement head.measurement
+pub next_chunk_read : (device : List ℕ) (rest left middle behind : Rest) (head : ChunkHead) (entry : IndexEntry) (old new : List IndexEntry) (so_far : ChunksSoFar device rest left old) → new ≡ old ++ entry ∷ [] → TakesBytes left (head_bytes head) middle → IsBefore so_far.final.measurement head.measurement
     → ReadsChunk device head left.at middle behind entry → ChunksSoFar device rest behind new
 next_chunk_read device rest left middle behind head entry old new so_far is head_is less r =
     let chunks = so_far.front ++ so_far.last ∷ [] in
-    let above : IsBefore so_far.last.measurement r.chunk.measurement = subst (λ (x : List ℕ). IsBefore so_far.last.measurement x) (sym r.measurement-is) (subst (λ (x : List ℕ). IsBefore x head.measurement) so_far.final-is less) in
+    let above : IsBefore so_far.last.measurement r.chunk.measurement = subst (λ (x : List ℕ). IsBefore so_far.last.measurement x) (sym r.measurement_is) (subst (λ (x : List ℕ). IsBefore x head.measurement) so_far.final-is less) in
     let place : left.at ≡ rest.at + length (flat_map chunk_field (so_far.front ++ so_far.last ∷ [])) = so_far.takes.place in
     record {
       front = chunks;
@@ -143,11 +143,11 @@ next_chunk_read device rest left middle behind head entry old new so_far is head
       rising = pairs_more (λ (a b : Chunk). IsBefore a.measurement b.measurement) chunks r.chunk so_far.rising (all_below (λ (c : Chunk). c.measurement) so_far.front so_far.last r.chunk.measurement so_far.rising above);
       earlier = old;
       final = entry;
-      entries-are = is;
-      final-is = r.say.measurement-is;
+      entries_are = is;
+      final-is = r.say.measurement_is;
       say = subst (λ (l : List IndexEntry). AreEntries device rest.at ((so_far.front ++ so_far.last ∷ []) ++ r.chunk ∷ []) l) (sym is) (chunks_push device rest.at chunks old r.chunk entry so_far.say (subst (λ (n : ℕ). IsEntry device n r.chunk entry) place r.say));
       takes = takes_same rest behind (flat_map chunk_field (so_far.front ++ so_far.last ∷ []) ++ chunk_field r.chunk) (flat_map chunk_field ((so_far.front ++ so_far.last ∷ []) ++ r.chunk ∷ [])) (sym (chunks_more_text chunks r.chunk))
-          (takes_both rest left behind (flat_map chunk_field chunks) (chunk_field r.chunk) so_far.takes (chunk_taken r.chunk head left middle behind r.measurement-is r.type-is r.encoding-is head_is r.takes));
+          (takes_both rest left behind (flat_map chunk_field chunks) (chunk_field r.chunk) so_far.takes (chunk_taken r.chunk head left middle behind r.measurement_is r.type_is r.encoding_is head_is r.takes));
       no_page = r.ends;
     }
 
@@ -164,11 +164,11 @@ last_at earlier final e entries is at = at ∙ ap (λ (l : List IndexEntry). get
 
 pub last_measurement : (device : List ℕ) (rest left : Rest) (entries : List IndexEntry) (so_far : ChunksSoFar device rest left entries) (e : IndexEntry) (n : ℕ) → n ≡ length entries → e ≡ get_or entries (n - 1) e → e.measurement ≡ so_far.final.measurement
 last_measurement device rest left entries so_far e n count at =
-    ap (λ (x : IndexEntry). x.measurement) (last_at so_far.earlier so_far.final e entries so_far.entries-are (at ∙ ap (λ (k : ℕ). get_or entries (k - 1) e) count))
+    ap (λ (x : IndexEntry). x.measurement) (last_at so_far.earlier so_far.final e entries so_far.entries_are (at ∙ ap (λ (k : ℕ). get_or entries (k - 1) e) count))
 
 pub some_entries : (device : List ℕ) (rest left : Rest) (entries : List IndexEntry) → ChunksSoFar device rest left entries → 1 ≤ length entries
 some_entries device rest left entries so_far =
-    let n = ap length so_far.entries-are in
+    let n = ap length so_far.entries_are in
     let m = length-append so_far.earlier (so_far.final ∷ []) in
     omega (arith, n, m)
 
@@ -194,7 +194,7 @@ no_first_chunk device left none = λ before are. record {
     next_of device bytes none before (Part.Page kind form points) behind may is = may
 
 -- inside the first chunk
-pub in_first_chunk : (device : List ℕ) (rest middle : Rest) (head : ChunkHead) (at : ℕ) → IsChunkHead head → Takes rest (head_bytes head) middle → StopsBehind (chunk_part head) middle at → StopsBehind (Part.Group device) rest at
+pub in_first_chunk : (device : List ℕ) (rest middle : Rest) (head : ChunkHead) (at : ℕ) → IsChunkHead head → TakesBytes rest (head_bytes head) middle → StopsBehind (chunk_part head) middle at → StopsBehind (Part.Group device) rest at
 in_first_chunk device rest middle head at is takes stops = λ before are.
     stop_behind (Part.Group device ∷ before) (chunk_part head ∷ Part.Group device ∷ before) rest middle (head_bytes head) at refl takes (stops (Part.Group device ∷ before) (is, are))
 
@@ -230,7 +230,7 @@ no_next_chunk device rest left entries so_far mark none = λ before are.
     next_of last bytes mark none t e points rest to (Part.Page kind form more) behind may is = other_part 67 80 bytes mark.0 _ (λ same. absurd (omega (arith, same))) mark.1 is
 
 -- inside a later chunk
-pub in_next_chunk : (device : List ℕ) (rest left middle : Rest) (entries : List IndexEntry) (so_far : ChunksSoFar device rest left entries) (head : ChunkHead) (at : ℕ) → IsLaterHead so_far.final.measurement head → Takes left (head_bytes head) middle → StopsBehind (chunk_part head) middle at
+pub in_next_chunk : (device : List ℕ) (rest left middle : Rest) (entries : List IndexEntry) (so_far : ChunksSoFar device rest left entries) (head : ChunkHead) (at : ℕ) → IsLaterHead so_far.final.measurement head → TakesBytes left (head_bytes head) middle → StopsBehind (chunk_part head) middle at
     → StopsBehind (Part.Group device) rest at
 in_next_chunk device rest left middle entries so_far head at later takes stops = λ before are.
     let chunks = so_far.front ++ so_far.last ∷ [] in

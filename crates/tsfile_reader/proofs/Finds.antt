@@ -7,7 +7,7 @@ use Rattle.tsdb_fields.specs.declared.fault.FieldFault.{FieldFault}
 use Rattle.tsdb_fields.specs.declared.fault.FieldFault.TheVariants as field
 use Rattle.tsdb_index.specs.declared.index.IndexEntry.{IndexEntry}
 use Rattle.tsdb_index.specs.declared.pointer.Pointer.{Pointer}
-use Rattle.tsdb_index.specs.Entries.{AreInOrder, IsBefore, IsEntry, names_of}
+use Rattle.tsdb_index.specs.Entries.{AreInOrder, AreNamesBefore, IsEntry, names_of}
 use Rattle.tsdb_index.specs.Faults.{ReadsWhole}
 use Rattle.tsdb_index.specs.Finding.{AreBehind, IsEntryFor, IsLeafFor}
 use Rattle.tsdb_index.specs.Parts.{AreLeavesAt, BeginAt, IsLeaf, IsPointerBefore, end_of, next_names}
@@ -66,8 +66,8 @@ one_leaf_bad Is (Some b) pointer behind root end part slice view (field.Bad at) 
     rw answer_is (refl, λ entries leaf. none entries (subst (λ (l : List ℕ). IsLeaf pointer behind l entries) (sym bytes) leaf))
 one_leaf_bad Is o pointer behind root end part slice view field.Memory answer end_is same is none answer_is = rw answer_is tt
 
-pub leaf_in_order : (pointer : Pointer) (behind : List Pointer) (bytes : List ℕ) (entries : List IndexEntry) → IsLeaf pointer behind bytes entries → AreInOrder IsBefore (map names_of entries)
-leaf_in_order pointer behind bytes entries leaf = order_left IsBefore (map names_of entries) (next_names behind) leaf.rising
+pub leaf_in_order : (pointer : Pointer) (behind : List Pointer) (bytes : List ℕ) (entries : List IndexEntry) → IsLeaf pointer behind bytes entries → AreInOrder AreNamesBefore (map names_of entries)
+leaf_in_order pointer behind bytes entries leaf = order_left AreNamesBefore (map names_of entries) (next_names behind) leaf.rising
 
 -- an entry that is found among good ones is good, and has the names
 pub entry_formed : (names : Names) (entries : List IndexEntry) (found : Option IndexEntry) → IsEntryFor names entries found → All IsEntry entries → IfSome found IsEntry
@@ -193,8 +193,8 @@ not_bad b root place ps es names at room has (no_leaf other_root other_place qs 
 record HasNamed (device measurement : List ℕ) (entries : List IndexEntry) : Type 0 where
   entry : IndexEntry
   there : Contains entries entry
-  device-is : entry.device ≡ device
-  measurement-is : entry.measurement ≡ measurement
+  device_is : entry.device ≡ device
+  measurement_is : entry.measurement ≡ measurement
 
 -- an element is the first of a list or one of the others
 first_or_later : {A : Type 0} (y : A) (ys : List A) (x : A) → Contains (y ∷ ys) x → (y ≡ x) ⊎ Contains ys x
@@ -206,13 +206,13 @@ first_or_later y ys x there = by_place there.0 there.1 there.2
 
 -- behind an entry, and behind the entries of a group
 behind_entry : (device measurement : List ℕ) (e : IndexEntry) (es : List IndexEntry) → HasNamed device measurement es → HasNamed device measurement (e ∷ es)
-behind_entry device measurement e es rest = record { entry = rest.entry; there = Contains-append_right (e ∷ []) es rest.entry rest.there; device-is = rest.device-is; measurement-is = rest.measurement-is }
+behind_entry device measurement e es rest = record { entry = rest.entry; there = Contains-append_right (e ∷ []) es rest.entry rest.there; device_is = rest.device_is; measurement_is = rest.measurement_is }
 
 behind_group : (device measurement : List ℕ) (es others : List IndexEntry) → HasNamed device measurement others → HasNamed device measurement (es ++ others)
-behind_group device measurement es others rest = record { entry = rest.entry; there = Contains-append_right es others rest.entry rest.there; device-is = rest.device-is; measurement-is = rest.measurement-is }
+behind_group device measurement es others rest = record { entry = rest.entry; there = Contains-append_right es others rest.entry rest.there; device_is = rest.device_is; measurement_is = rest.measurement_is }
 
 in_group : (device measurement : List ℕ) (es others : List IndexEntry) → HasNamed device measurement es → HasNamed device measurement (es ++ others)
-in_group device measurement es others rest = record { entry = rest.entry; there = Contains-append_left es others rest.entry rest.there; device-is = rest.device-is; measurement-is = rest.measurement-is }
+in_group device measurement es others rest = record { entry = rest.entry; there = Contains-append_left es others rest.entry rest.there; device_is = rest.device_is; measurement_is = rest.measurement_is }
 
 chunk_named : (device : List ℕ) (place : ℕ) (chunks : List Chunk) (entries : List IndexEntry) (chunk : Chunk) → AreEntries device place chunks entries → Contains chunks chunk → HasNamed device chunk.measurement entries
 chunk_named device place [] entries chunk say there = absurd (let low = there.1 in omega (arith, low))
@@ -224,7 +224,7 @@ chunk_named device place (c ∷ cs) (e ∷ es) chunk say there =
     (first_or_later c cs chunk there)
   where
     here : c ≡ chunk → HasNamed device chunk.measurement (e ∷ es)
-    here same = record { entry = e; there = (0, omega arith, refl); device-is = say.0.device-is; measurement-is = say.0.measurement-is ∙ ap (λ (x : Chunk). x.measurement) same }
+    here same = record { entry = e; there = (0, omega arith, refl); device_is = say.0.device_is; measurement_is = say.0.measurement_is ∙ ap (λ (x : Chunk). x.measurement) same }
 
 group_named : (place : ℕ) (groups : List Group) (by_group : List (List IndexEntry)) (group : Group) (chunk : Chunk) → AreEntriesOf place groups by_group → Contains groups group → Contains group.chunks chunk → HasNamed group.device chunk.measurement (flat_map (λ list. list) by_group)
 group_named place [] by_group group chunk say there inside = absurd (let low = there.1 in omega (arith, low))
@@ -249,7 +249,7 @@ in_tree : (tree : Tree) (b : List ℕ) (names : Names) (found : Option IndexEntr
 in_tree tree b names (Some entry) file has = (record { entries = file.entries; say = file.say; there = has.0 }, has.1)
 in_tree tree b names None file has = λ group chunk there inside device measurement.
     let named = group_named (length head) tree.groups file.say.by_group group chunk file.say.say there inside in
-    has named.entry (subst (λ (es : List IndexEntry). Contains es named.entry) file.say.all named.there) (names_from named.entry names (named.device-is ∙ device) (named.measurement-is ∙ measurement))
+    has named.entry (subst (λ (es : List IndexEntry). Contains es named.entry) file.say.all named.there) (names_from named.entry names (named.device_is ∙ device) (named.measurement_is ∙ measurement))
 
 pub tree_found : (o : Option (List ℕ)) (names : Names) (result : Result (Option IndexEntry) ReadFault) → Answers (λ b. IsLookedUp b names) (λ b. IsBadLookUp b names) o result → Answers (λ b found. length b < 2 ^ 63) (λ b at. length b < 2 ^ 63) o result
     → IfSome o (λ b. (tree : Tree) → IsTree tree → IsMade tree → IsFile tree b → IsNotDamaged result × IfOk result (IsEntryInTree tree names))

@@ -9,7 +9,7 @@ use Rattle.tsdb_base.specs.declared.value.DataType.{DataType}
 use Rattle.tsdb_base.specs.declared.value.Encoding.{Encoding}
 use Rattle.tsdb_base.specs.Plain.{BeginsWithNone}
 use Rattle.tsdb_fields.specs.declared.rest.Rest.{Rest}
-use Rattle.tsdb_fields.specs.Reading.{Takes}
+use Rattle.tsdb_fields.specs.Reading.{TakesBytes}
 use Rattle.tsdb_index.proofs.Fields.{takes_both, takes_same}
 use Rattle.tsdb_index.specs.declared.index.IndexEntry.{IndexEntry}
 use Rattle.tsdb_path.specs.Nodes.{IsPath}
@@ -40,26 +40,26 @@ pub record GroupsSoFar (rest left : Rest) (entries : List IndexEntry) (last : Li
   pub by_group : List (List IndexEntry)
   pub all : all_of by_group ≡ entries
   pub say : AreEntriesOf rest.at (front ++ final ∷ []) by_group
-  pub takes : Takes rest (flat_map group_field (front ++ final ∷ [])) left
+  pub takes : TakesBytes rest (flat_map group_field (front ++ final ∷ [])) left
   pub no_page : BeginsWithMark 80 left.bytes.now → ⊥
   pub no_chunk : BeginsWithMark 67 left.bytes.now → ⊥
 
 -- a group that was read
 record ReadsGroup (device : List ℕ) (left behind : Rest) (entries : List IndexEntry) : Type 0 where
   pub group : Group
-  pub device-is : group.device ≡ device
+  pub device_is : group.device ≡ device
   pub full : IsFullGroup group
   pub say : AreEntries group.device (left.at + length (group_head group)) group.chunks entries
-  pub takes : Takes left (group_field group) behind
+  pub takes : TakesBytes left (group_field group) behind
   pub no_page : BeginsWithMark 80 behind.bytes.now → ⊥
   pub no_chunk : BeginsWithMark 67 behind.bytes.now → ⊥
 
-group_of : (device : List ℕ) (left middle behind : Rest) (entries : List IndexEntry) → IsPath device → Takes left (group_bytes device) middle → ReadsChunks device middle behind entries → ReadsGroup device left behind entries
+group_of : (device : List ℕ) (left middle behind : Rest) (entries : List IndexEntry) → IsPath device → TakesBytes left (group_bytes device) middle → ReadsChunks device middle behind entries → ReadsGroup device left behind entries
 group_of device left middle behind entries is head r =
     let group : Group = record { device = device; chunks = r.chunks } in
     record {
       group = group;
-      device-is = refl;
+      device_is = refl;
       full = record {
         device = is;
         is = record { some = r.read.some; chunks = r.read.good; rising = r.read.rising };
@@ -75,13 +75,13 @@ group_of device left middle behind entries is head r =
     both [] a b = tt
     both (c ∷ cs) a b = ((a.0, b.0), both cs a.1 b.1)
 
-pub first_group : (rest middle left : Rest) (device : List ℕ) (entries : List IndexEntry) → IsPath device → Takes rest (group_bytes device) middle → ReadsChunks device middle left entries → GroupsSoFar rest left entries device
+pub first_group : (rest middle left : Rest) (device : List ℕ) (entries : List IndexEntry) → IsPath device → TakesBytes rest (group_bytes device) middle → ReadsChunks device middle left entries → GroupsSoFar rest left entries device
 first_group rest middle left device entries is head r =
     let g = group_of device rest middle left entries is head r in
     record {
       front = [];
       final = g.group;
-      final-is = g.device-is;
+      final-is = g.device_is;
       full = (g.full, tt);
       rising = λ i j d l m. absurd (omega (arith, l, m));
       by_group = entries ∷ [];
@@ -92,17 +92,17 @@ first_group rest middle left device entries is head r =
       no_chunk = g.no_chunk;
     }
 
-pub next_group : (rest left middle behind : Rest) (device last : List ℕ) (old new : List IndexEntry) (more : List IndexEntry) → GroupsSoFar rest left old last → IsPath device → IsBefore last device → Takes left (group_bytes device) middle → ReadsChunks device middle behind more
+pub next_group : (rest left middle behind : Rest) (device last : List ℕ) (old new : List IndexEntry) (more : List IndexEntry) → GroupsSoFar rest left old last → IsPath device → IsBefore last device → TakesBytes left (group_bytes device) middle → ReadsChunks device middle behind more
     → new ≡ old ++ more → GroupsSoFar rest behind new device
 next_group rest left middle behind device last old new more so_far is less head r new_is =
     let g = group_of device left middle behind more is head r in
     let groups = so_far.front ++ so_far.final ∷ [] in
-    let above : IsBefore so_far.final.device g.group.device = subst (λ (x : List ℕ). IsBefore so_far.final.device x) (sym g.device-is) (subst (λ (x : List ℕ). IsBefore x device) (sym so_far.final-is) less) in
+    let above : IsBefore so_far.final.device g.group.device = subst (λ (x : List ℕ). IsBefore so_far.final.device x) (sym g.device_is) (subst (λ (x : List ℕ). IsBefore x device) (sym so_far.final-is) less) in
     let place : left.at ≡ rest.at + length (flat_map group_field (so_far.front ++ so_far.final ∷ [])) = so_far.takes.place in
     record {
       front = groups;
       final = g.group;
-      final-is = g.device-is;
+      final-is = g.device_is;
       full = recursion_more IsFullGroup groups g.group so_far.full g.full;
       rising = pairs_more (λ (a b : Group). IsBefore a.device b.device) groups g.group so_far.rising (all_below (λ (c : Group). c.device) so_far.front so_far.final g.group.device so_far.rising above);
       by_group = so_far.by_group ++ more ∷ [];
@@ -145,7 +145,7 @@ no_first_group rest none = record {
     next_of bytes none (Part.Chunk name kind form) behind may is = may
     next_of bytes none (Part.Page kind form points) behind may is = may
 
-pub in_first_group : (rest middle : Rest) (device : List ℕ) (at : ℕ) → IsPath device → Takes rest (group_bytes device) middle → StopsBehind (Part.Group device) middle at → IsFirstBadPart rest.at rest.bytes.now at
+pub in_first_group : (rest middle : Rest) (device : List ℕ) (at : ℕ) → IsPath device → TakesBytes rest (group_bytes device) middle → StopsBehind (Part.Group device) middle at → IsFirstBadPart rest.at rest.bytes.now at
 in_first_group rest middle device at is head stops = first_bad rest at (stop_behind [] (Part.Group device ∷ []) rest middle (group_bytes device) at refl head (stops [] (is, tt)))
 
 pub no_next_group : (rest left : Rest) (entries : List IndexEntry) (last : List ℕ) → GroupsSoFar rest left entries last → (left.bytes.now ≡ [] → ⊥) → BeginsWithNone group_bytes (λ x. IsPath x × IsBefore last x) left.bytes.now → IsFirstBadPart rest.at rest.bytes.now left.at
@@ -153,7 +153,7 @@ no_next_group rest left entries last so_far some none =
     let groups = so_far.front ++ so_far.final ∷ [] in
     let n = length-append so_far.front (so_far.final ∷ []) in
     let l = last_group_of groups (omega (arith, n)) so_far.full in
-    let same : l.last ≡ so_far.final = last_same l.front so_far.front l.last so_far.final (sym l.groups-are) in
+    let same : l.last ≡ so_far.final = last_same l.front so_far.front l.last so_far.final (sym l.groups_are) in
     record {
       parts = after_groups groups [];
       good = good_groups groups so_far.full so_far.rising;
@@ -173,12 +173,12 @@ no_next_group rest left entries last so_far some none =
     next_of last bytes no_page no_chunk none t e points rest to (Part.Chunk name kind form) behind may is = no_chunk (_, is)
     next_of last bytes no_page no_chunk none t e points rest to (Part.Page kind form more) behind may is = no_page (_, is)
 
-pub in_next_group : (rest left middle : Rest) (entries : List IndexEntry) (last device : List ℕ) (at : ℕ) → GroupsSoFar rest left entries last → IsPath device → IsBefore last device → Takes left (group_bytes device) middle → StopsBehind (Part.Group device) middle at → IsFirstBadPart rest.at rest.bytes.now at
+pub in_next_group : (rest left middle : Rest) (entries : List IndexEntry) (last device : List ℕ) (at : ℕ) → GroupsSoFar rest left entries last → IsPath device → IsBefore last device → TakesBytes left (group_bytes device) middle → StopsBehind (Part.Group device) middle at → IsFirstBadPart rest.at rest.bytes.now at
 in_next_group rest left middle entries last device at so_far is less head stops =
     let groups = so_far.front ++ so_far.final ∷ [] in
     let n = length-append so_far.front (so_far.final ∷ []) in
     let l = last_group_of groups (omega (arith, n)) so_far.full in
-    let same : l.last ≡ so_far.final = last_same l.front so_far.front l.last so_far.final (sym l.groups-are) in
+    let same : l.last ≡ so_far.final = last_same l.front so_far.front l.last so_far.final (sym l.groups_are) in
     let parts = after_groups groups [] in
     let good = good_groups groups so_far.full so_far.rising in
     let above : IsBefore l.last.device device = subst (λ (x : List ℕ). IsBefore x device) (sym so_far.final-is ∙ ap (λ (g : Group). g.device) (sym same)) less in
@@ -201,12 +201,12 @@ all_groups rest left entries last at so_far nil =
       record {
         good = record {
           some = omega (arith, n);
-          groups-are = All-from_recursion IsGroup groups (are groups so_far.full);
+          groups_are = All-from_recursion IsGroup groups (are groups so_far.full);
           rising = so_far.rising;
           devices = All-from_recursion (λ (g : Group). IsPath g.device) groups (devices groups so_far.full);
           chunks = parts groups so_far.full;
         };
-        bytes-are = so_far.takes.bytes ∙ ap (λ (l : List ℕ). flat_map group_field groups ++ l) nil ∙ append-nil (flat_map group_field groups);
+        bytes_are = so_far.takes.bytes ∙ ap (λ (l : List ℕ). flat_map group_field groups ++ l) nil ∙ append-nil (flat_map group_field groups);
         say = record {
           by_group = so_far.by_group;
           all = so_far.all;

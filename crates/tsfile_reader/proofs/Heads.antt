@@ -74,4 +74,4 @@ pub no_points : (t : DataType) (c : Encoding) (bytes fields found behind : List 
 no_points t c bytes fields found behind suits mark there small none = λ points rest good e.
     let inner : number32 (length found) ++ found ++ behind ≡ number32 (length (body c points)) ++ body c points ++ rest = sym there ∙ tail_same 80 fields (body_bytes (body c points) ++ rest) (sym mark ∙ e) in
     let same = parts_same found (body c points) behind rest small (body_is_short t c suits points good.0 good.1) inner in
-    none points (record { suits = suits; points-are = good.0; ranges = good.1; bytes-are = same.0 })
+    none points (record { suits = suits; points_are = good.0; ranges = good.1; bytes_are = same.0 })

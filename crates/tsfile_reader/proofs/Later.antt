@@ -60,7 +60,7 @@ one_page_first t e suits xs ys x y in_x in_y same =
     let inner : number32 (length (body e xs)) ++ body e xs ++ x ≡ number32 (length (body e ys)) ++ body e ys ++ y =
     tail_same 80 (number32 (length (body e xs)) ++ body e xs ++ x) (number32 (length (body e ys)) ++ body e ys ++ y) same in
     let bodies = parts_same (body e xs) (body e ys) x y (body_is_short t e suits xs in_x.0 in_x.1) (body_is_short t e suits ys in_y.0 in_y.1) inner in
-    one_body t e suits (body e ys) xs ys (record { suits = suits; points-are = in_x.0; ranges = in_x.1; bytes-are = sym bodies.0 }) (record { suits = suits; points-are = in_y.0; ranges = in_y.1; bytes-are = refl })
+    one_body t e suits (body e ys) xs ys (record { suits = suits; points_are = in_x.0; ranges = in_x.1; bytes_are = sym bodies.0 }) (record { suits = suits; points_are = in_y.0; ranges = in_y.1; bytes_are = refl })
 
 pub first_of : (points : List Point) (p : Point) → 0 < length points → p ≡ get_or points 0 p → (others : List Point) × (points ≡ p ∷ others)
 first_of [] p some is = absurd (omega (arith, some))
@@ -123,7 +123,7 @@ page_added t e from place before page points old new stats entry same read later
       ranges = subst (λ (l : List Point). All IsInRange l) (sym points_is) (All-append IsInRange (points_of before) page.points read.ranges good.1);
       rising = subst IsRising (sym points_is) (subst (λ (l : List Point). IsRising (points_of before ++ l)) (sym same) (rise_further (points_of before) points old.stats.end read.rising later.good.0.rising some_points (λ d. end_time (points_of before) old.stats d some_points read.stats) later.later));
       stats = subst (λ (l : List Point). AreStatsOf l new.stats) (sym (points_is ∙ ap (λ (l : List Point). points_of before ++ l) same)) all_stats;
-      say = subst (λ (l : List PageEntry). ArePageEntries e from (before ++ page ∷ []) l) (sym entries) (pages_push e from before old.entries.items page entry read.say (record { place-is = entry_place ∙ place_is; stats = subst (λ (l : List Point). AreStatsOf l entry.stats) (sym same) entry_stats }));
+      say = subst (λ (l : List PageEntry). ArePageEntries e from (before ++ page ∷ []) l) (sym entries) (pages_push e from before old.entries.items page entry read.say (record { place_is = entry_place ∙ place_is; stats = subst (λ (l : List Point). AreStatsOf l entry.stats) (sym same) entry_stats }));
     }
   where
     some_of : (t : DataType) (pages : List Page) → 0 < length pages → AllByRecursion (λ (p : Page). ArePoints t p.points) pages → 0 < length (points_of pages)

@@ -31,11 +31,11 @@ use Rattle.tsfile_reader.proofs.PageTimes.{stats_lie}
 pub record PageStands (tree : Tree) (bytes : List ℕ) (entry : IndexEntry) (number : ℕ) (said : PageEntry) : Type 0 where
   pub group : Group
   pub chunk : Chunk
-  pub in-tree : Contains tree.groups group
-  pub in-group : Contains group.chunks chunk
+  pub in_tree : Contains tree.groups group
+  pub in_group : Contains group.chunks chunk
   pub says : IsEntry group.device entry.place chunk entry
   pub page : Page
-  pub page-is : slice_get chunk.pages number ≡ Some page
+  pub page_is : slice_get chunk.pages number ≡ Some page
   pub inside : said.place ≤ length bytes
   pub stands : HasPage bytes entry said page.points
 
@@ -50,8 +50,8 @@ there xs k low = pick (slice_get_cases xs k).1
 pub page_stands : (tree : Tree) (b : List ℕ) (entry : IndexEntry) (number : ℕ) (said : PageEntry) → IsTree tree → IsMade tree → IsFile tree b → IsEntryOf tree entry → SaysOfPage entry number said → PageStands tree b entry number said
 page_stands tree b entry number said is made file of says =
     let p : HasPlaces tree b entry = All-contains (HasPlaces tree b) of.entries entry (entries_stand tree b of.entries file of.say) of.there in
-    let whole_group : IsWholeGroup p.group = All-contains IsWholeGroup tree.groups p.group (All-from_recursion IsWholeGroup tree.groups (groups_of_tree tree is made)) p.in-tree in
-    let whole : IsWholeChunk p.chunk = All-contains IsWholeChunk p.group.chunks p.chunk (All-from_recursion IsWholeChunk p.group.chunks whole_group.1) p.in-group in
+    let whole_group : IsWholeGroup p.group = All-contains IsWholeGroup tree.groups p.group (All-from_recursion IsWholeGroup tree.groups (groups_of_tree tree is made)) p.in_tree in
+    let whole : IsWholeChunk p.chunk = All-contains IsWholeChunk p.group.chunks p.chunk (All-from_recursion IsWholeChunk p.group.chunks whole_group.1) p.in_group in
     let low = slice_get_within entry.pages number said says in
     let count = p.count in
     let low_chunk : number < length p.chunk.pages = omega (arith, low, count) in
@@ -63,7 +63,7 @@ page_stands tree b entry number said is made file of says =
     let place : (get_or entry.pages number said).place ≡ said.place = ap (λ (q : PageEntry). q.place) at_said in
     let good : IsPageOf p.chunk.data_type found.0 = subst (λ (q : Page). IsPageOf p.chunk.data_type q) at_page (All-from_recursion (IsPageOf p.chunk.data_type) p.chunk.pages (pages_of_chunk p.chunk whole) number page low_chunk) in
     let field : take (length (page_field p.chunk.encoding found.0)) (drop said.place b) ≡ page_field p.chunk.encoding found.0 =
-    subst (λ (q : Page). take (length (page_field p.chunk.encoding q)) (drop said.place b) ≡ page_field p.chunk.encoding q) at_page (subst (λ (n : ℕ). take (length (page_field p.chunk.encoding (get_or p.chunk.pages number page))) (drop n b) ≡ page_field p.chunk.encoding (get_or p.chunk.pages number page)) place stands.stands.bytes-are) in
+    subst (λ (q : Page). take (length (page_field p.chunk.encoding q)) (drop said.place b) ≡ page_field p.chunk.encoding q) at_page (subst (λ (n : ℕ). take (length (page_field p.chunk.encoding (get_or p.chunk.pages number page))) (drop n b) ≡ page_field p.chunk.encoding (get_or p.chunk.pages number page)) place stands.stands.bytes_are) in
     let low_place = stands.stands.inside in
     let stats : AreStatsOf found.0.points said.stats = subst (λ (q : PageEntry). AreStatsOf found.0.points q.stats) at_said (subst (λ (q : Page). AreStatsOf q.points (get_or entry.pages number said).stats) at_page stands.stats) in
     let there_is : BeginsWithPage p.chunk.data_type p.chunk.encoding (drop said.place b) found.0.points = record {
@@ -75,14 +75,14 @@ page_stands tree b entry number said is made file of says =
     record {
       group = p.group;
       chunk = p.chunk;
-      in-tree = p.in-tree;
-      in-group = p.in-group;
+      in_tree = p.in_tree;
+      in_group = p.in_group;
       says = p.says;
       page = found.0;
-      page-is = found.1;
+      page_is = found.1;
       inside = omega (arith, low_place, place);
       stands = record {
-        stands = kinds (drop said.place b) found.0.points entry p.chunk.data_type p.chunk.encoding p.says.type-is p.says.encoding-is there_is;
+        stands = kinds (drop said.place b) found.0.points entry p.chunk.data_type p.chunk.encoding p.says.type_is p.says.encoding_is there_is;
         within = stats_lie found.0.points said.stats good.0.some good.0.rising stats;
       };
     }
@@ -186,12 +186,12 @@ tree_points (Some b) entry number page (Ok points) says answers = λ tree is mad
       record {
         group = s.group;
         chunk = s.chunk;
-        in-tree = s.in-tree;
-        in-group = s.in-group;
+        in_tree = s.in_tree;
+        in_group = s.in_group;
         says = s.says;
         page = s.page;
-        page-is = s.page-is;
-        points-are = one_page_there entry.data_type entry.encoding (drop page.place b) read s.page answers.stands s.stands.stands;
+        page_is = s.page_is;
+        points_are = one_page_there entry.data_type entry.encoding (drop page.place b) read s.page answers.stands s.stands.stands;
       },
     )
 tree_points (Some b) entry number page (Err Failed) says answers = λ tree is made file of. (tt, tt)

@@ -28,7 +28,7 @@ pub tail_same : (b : List ℕ) (r s : ℕ) → length b < 2 ^ 64 → HasTail b r
 tail_same b r s room x y =
     let low_x = x.inside in
     let low_y = y.inside in
-    (number64-prefix_free r s magic magic (omega (arith, low_x, room)) (omega (arith, low_y, room)) (sym x.bytes-are ∙ y.bytes-are)).0
+    (number64-prefix_free r s magic magic (omega (arith, low_x, room)) (omega (arith, low_y, room)) (sym x.bytes_are ∙ y.bytes_are)).0
 
 one_begin : (p q : ℕ) (ps : List Pointer) → BeginAt p ps → BeginAt q ps → p ≡ q
 one_begin p q [] x y = absurd x
@@ -60,10 +60,10 @@ leaves_there b root place ps es room has index =
     let stretch = between place (tail_place b) b in
     let n = length_between b place (tail_place b) (omega arith) in
     let parts = index_parts place root stretch es (omega (arith, low)) (omega (arith, n, low, high)) (omega (arith, n, low, high, room)) index in
-    let qs = parts.pointers-are in
+    let qs = parts.pointers_are in
     let back = between_back b place root (tail_place b) (omega (arith, low)) (omega (arith, high)) in
     let front = between_front b place root (tail_place b) (omega (arith, low)) (omega (arith, high)) in
-    let there : HasRoot b root place parts.pointers-are = record { behind-head = has.behind-head; is = subst (λ (l : List ℕ). IsRoot place root l parts.pointers-are) back parts.is-root } in
+    let there : HasRoot b root place parts.pointers_are = record { behind_head = has.behind_head; is = subst (λ (l : List ℕ). IsRoot place root l parts.pointers_are) back parts.is-root } in
     let same = (root_same b root place place qs ps there has).0 in
     (parts.leaves, subst (λ (l : List ℕ). AreLeavesAt root ps l parts.leaves) front (subst (λ (l : List Pointer). AreLeavesAt root l (take (root - place) (between place (tail_place b) b)) parts.leaves) same parts.leaves-are), sym parts.all)
 
@@ -94,7 +94,7 @@ good_outline b root place ps es at room has (no_leaf long other tail starts q qs
 pub record TreeOutline (tree : Tree) (b : List ℕ) (file : IsFile tree b) : Type 0 where
   pub pointers : List Pointer
   pub outline : HasOutline b file.root (length (data_field tree)) pointers file.entries
-  pub index-is : between (length (data_field tree)) (tail_place b) b ≡ file.index-bytes
+  pub index_is : between (length (data_field tree)) (tail_place b) b ≡ file.index_bytes
 
 pub tree_outline : (tree : Tree) (b : List ℕ) → length b < 2 ^ 64 → IsTree tree → IsMade tree → (file : IsFile tree b) → TreeOutline tree b file
 tree_outline tree b room is made file =
@@ -104,22 +104,22 @@ tree_outline tree b room is made file =
     let some : 7 ≤ length (data_field tree) = length_head tree in
     let above = ends.begins.above in
     let inside = ends.begins.inside in
-    let tail_is : tail_place b - length (data_field tree) ≡ length file.index-bytes = omega (arith, size) in
-    let index : between (length (data_field tree)) (tail_place b) b ≡ file.index-bytes = ap (λ (n : ℕ). take n (drop (length (data_field tree)) b)) tail_is ∙ ends.index-stands.bytes-are in
-    let read : IsRead (length (data_field tree)) file.root file.index-bytes file.entries = record { index = entries_are_index tree file.entries is made file.say (omega (arith, size, room)); spelling = file.index-is } in
-    let parts = index_parts place file.root file.index-bytes file.entries (omega (arith, above)) (omega (arith, inside)) (omega (arith, size, room)) read in
-    let back : drop (file.root - length (data_field tree)) file.index-bytes ≡ between file.root (tail_place b) b =
+    let tail_is : tail_place b - length (data_field tree) ≡ length file.index_bytes = omega (arith, size) in
+    let index : between (length (data_field tree)) (tail_place b) b ≡ file.index_bytes = ap (λ (n : ℕ). take n (drop (length (data_field tree)) b)) tail_is ∙ ends.index_stands.bytes_are in
+    let read : IsRead (length (data_field tree)) file.root file.index_bytes file.entries = record { index = entries_are_index tree file.entries is made file.say (omega (arith, size, room)); spelling = file.index_is } in
+    let parts = index_parts place file.root file.index_bytes file.entries (omega (arith, above)) (omega (arith, inside)) (omega (arith, size, room)) read in
+    let back : drop (file.root - length (data_field tree)) file.index_bytes ≡ between file.root (tail_place b) b =
     ap (λ (l : List ℕ). drop (file.root - length (data_field tree)) l) (sym index) ∙ between_back b place file.root (tail_place b) (omega (arith, above)) (omega (arith, inside, size)) in
     record {
-      pointers = parts.pointers-are;
+      pointers = parts.pointers_are;
       outline = record {
         long = omega (arith, size, some);
-        tail = record { behind-head = omega (arith, some, above); inside = omega (arith, inside, size); bytes-are = ends.tail };
-        starts = ends.head.bytes-are;
-        points = record { behind-head = some; is = subst (λ (l : List ℕ). IsRoot (length (data_field tree)) file.root l parts.pointers-are) back parts.is-root };
+        tail = record { behind_head = omega (arith, some, above); inside = omega (arith, inside, size); bytes_are = ends.tail };
+        starts = ends.head.bytes_are;
+        points = record { behind_head = some; is = subst (λ (l : List ℕ). IsRoot (length (data_field tree)) file.root l parts.pointers_are) back parts.is-root };
         index = subst (λ (l : List ℕ). IsRead (length (data_field tree)) file.root l file.entries) (sym index) read;
       };
-      index-is = index;
+      index_is = index;
     }
   where
     length_head : (tree : Tree) → 7 ≤ length (data_field tree)
@@ -134,8 +134,8 @@ outline_of_tree tree b root place ps es room is made file has =
     let points = subst (λ (r : ℕ). HasRoot b r place ps) same has.points in
     let one = root_same b file.root place (length (data_field tree)) ps t.pointers points t.outline.points in
     let size = (file_ends tree b file).size in
-    let read : IsRead (length (data_field tree)) file.root file.index-bytes es =
-    subst (λ (l : List ℕ). IsRead (length (data_field tree)) file.root l es) t.index-is (subst (λ (p : ℕ). IsRead p file.root (between p (tail_place b) b) es) one.1 (subst (λ (r : ℕ). IsRead place r (between place (tail_place b) b) es) same has.index)) in
+    let read : IsRead (length (data_field tree)) file.root file.index_bytes es =
+    subst (λ (l : List ℕ). IsRead (length (data_field tree)) file.root l es) t.index_is (subst (λ (p : ℕ). IsRead p file.root (between p (tail_place b) b) es) one.1 (subst (λ (r : ℕ). IsRead place r (between place (tail_place b) b) es) same has.index)) in
     (one.1, read_entries tree b es is made file (omega (arith, size, room)) read)
 
 -- no part of the outline of a tree's file is bad
@@ -160,5 +160,5 @@ meta_found (Some b) ends place ps index has = λ tree is made file.
     let len = has.0 in
     let limit = ends.limit in (
       tt,
-      record { bytes-are = len; entries = (outline_of_tree tree b ends.root place ps index.entries (omega (arith, len, limit)) is made file has.1).1 },
+      record { bytes_are = len; entries = (outline_of_tree tree b ends.root place ps index.entries (omega (arith, len, limit)) is made file has.1).1 },
     )

@@ -84,7 +84,7 @@ root_bytes b bytes size root count len count_is is =
 
 no_root_there : (b bytes : List ℕ) (ends : Ends) → HasEnds b ends → bytes ≡ between ends.root (tail_place b) b → ((place : ℕ) (ps : List Pointer) → 7 ≤ place → IsRoot place ends.root bytes ps → ⊥) → IsBadFront b ends.root
 no_root_there b bytes ends has is none =
-    no_root has.long ends.root has.tail has.starts (λ place ps root. none place ps root.behind-head (subst (λ (l : List ℕ). IsRoot place ends.root l ps) (sym is) root.is))
+    no_root has.long ends.root has.tail has.starts (λ place ps root. none place ps root.behind_head (subst (λ (l : List ℕ). IsRoot place ends.root l ps) (sym is) root.is))
 
 pub root_bad : {T B : Type 0} (Is : List ℕ → T → Type 0) (o : Option (List ℕ)) (ends : Ends) (count : ℕ) (bytes slice : List ℕ) (view : B → ℕ × List Pointer) (fault : FieldFault) (answer : ReadFault)
     → IfSome o (λ b. HasEnds b ends) → count ≡ ends.size - 14 - ends.root → IfSome o (λ b. bytes ≡ take count (drop ends.root b)) → slice ≡ bytes → ReadsWhole (λ root. (length head ≤ root.0) × IsRoot root.0 ends.root slice root.1) view (Err fault)
@@ -103,7 +103,7 @@ root_found (Some b) ends root count bytes slice has count_is is same low there =
     long = has.long;
     tail = has.tail;
     starts = has.starts;
-    points = record { behind-head = low; is = subst (λ (l : List ℕ). IsRoot root.place ends.root l root.pointers.items) (same ∙ root_bytes b bytes ends.size ends.root count has.size count_is is) there };
+    points = record { behind_head = low; is = subst (λ (l : List ℕ). IsRoot root.place ends.root l root.pointers.items) (same ∙ root_bytes b bytes ends.size ends.root count has.size count_is is) there };
   },
 )
 
@@ -150,7 +150,7 @@ pub before_tail : (b bytes : List ℕ) (root : ℕ) (ps : List Pointer) → byte
 before_tail b bytes root ps is counted = before (tail_place b - root) (omega arith) refl
   where
     some : length bytes ≡ suc (length (number32 (length ps) ++ flat_map pointer_bytes ps))
-    some = ap length counted.bytes-are
+    some = ap length counted.bytes_are
 
     before : (n : ℕ) → (0 < n → root < tail_place b) → n ≡ tail_place b - root → root < tail_place b
     before zero f e = absurd (let none : length bytes ≡ 0 = ap length is ∙ ap (λ (k : ℕ). length (take k (drop root b))) (sym e) in omega (arith, some, none))

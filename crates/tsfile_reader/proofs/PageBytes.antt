@@ -57,7 +57,7 @@ pub first_read : (o : Option (List ℕ)) (part : List ℕ) (place size first lef
 first_read None part place size first left whole head is says enough = tt
 first_read (Some b) part place size first left whole head is says enough = record {
   size = first;
-  part-is = is;
+  part_is = is;
   whole = λ mark body behind short there.
       let room = room_of b place left mark body behind whole there in
       let by_size : 5 ≤ first → 5 + length body ≤ first = λ five.
@@ -82,7 +82,7 @@ pub second_read : (o : Option (List ℕ)) (part again : List ℕ) (place size fi
 second_read None part again place size first left head is says more inside there = tt
 second_read (Some b) part again place size first left head is says more inside again_is = record {
   size = size;
-  part-is = again_is;
+  part_is = again_is;
   whole = λ mark body behind short there.
       let five : 5 ≤ first = pick (small_or_not first) in
       let said = size_said b part place size first mark body behind five is says short there in
@@ -103,7 +103,7 @@ page_found (Some b) entry page part behind points suits has is good = record {
   behind = behind ++ drop has.size (drop page.place b);
   split =
       let field = page_bytes entry.encoding points in
-      sym (take-append-drop has.size (drop page.place b)) ∙ ap (λ (l : List ℕ). l ++ drop has.size (drop page.place b)) (sym has.part-is ∙ is) ∙ append_assoc field behind (drop has.size (drop page.place b));
+      sym (take-append-drop has.size (drop page.place b)) ∙ ap (λ (l : List ℕ). l ++ drop has.size (drop page.place b)) (sym has.part_is ∙ is) ∙ append_assoc field behind (drop has.size (drop page.place b));
 }
 
 -- where they begin with no page, none stands there
@@ -120,7 +120,7 @@ no_page_there b entry page part has none = λ points has_points.
     let m = has.size - length field in
     let n : has.size ≡ length (page_bytes entry.encoding points) + (has.size - length (page_bytes entry.encoding points)) = omega (arith, low, len) in
     none points (take m there.behind) there.good
-    (has.part-is ∙ ap (λ (k : ℕ). take k (drop page.place b)) n ∙ ap (λ (l : List ℕ). take (length (page_bytes entry.encoding points) + (has.size - length (page_bytes entry.encoding points))) l) there.split ∙ take-append-add field there.behind m)
+    (has.part_is ∙ ap (λ (k : ℕ). take k (drop page.place b)) n ∙ ap (λ (l : List ℕ). take (length (page_bytes entry.encoding points) + (has.size - length (page_bytes entry.encoding points))) l) there.split ∙ take-append-add field there.behind m)
 
 pub page_missing : {T B : Type 0} (Is : List ℕ → T → Type 0) (o : Option (List ℕ)) (entry : IndexEntry) (page : PageEntry) (rest : Rest) (part : List ℕ) (view : B → List Point) (fault : FieldFault) (answer : ReadFault)
     → IfSome o (λ b. HasPageBytes b page.place part) → rest.bytes.now ≡ part → ReadsParts (page_bytes entry.encoding) (AreGood entry.data_type) rest view (Err fault) → answer ≡ as_read_fault page.place fault

@@ -11,7 +11,7 @@ use Rattle.tsdb_base.specs.Plain.{plain_text, BeginsWithNone}
 use Rattle.tsdb_fields.specs.declared.fault.FieldFault.{FieldFault}
 use Rattle.tsdb_fields.specs.declared.fault.FieldFault.TheVariants as field
 use Rattle.tsdb_fields.specs.declared.rest.Rest.{Rest}
-use Rattle.tsdb_fields.specs.Reading.{ReadsParts, Takes}
+use Rattle.tsdb_fields.specs.Reading.{ReadsParts, TakesBytes}
 use Rattle.tsdb_index.proofs.Fields.{takes_both, takes_same}
 use Rattle.tsdb_pages.specs.declared.tree.Page.{Page}
 use Rattle.tsdb_pages.specs.File.{page_bytes, page_field}
@@ -37,12 +37,12 @@ use Rattle.tsfile_reader.proofs.Rows.{after_pages, good_pages, last_page, pages_
 pub record PagesSoFar (t : DataType) (e : Encoding) (rest left : Rest) (found : Pages) : Type 0 where
   pub pages : List Page
   pub read : ArePagesRead t e rest.at pages found
-  pub takes : Takes rest (flat_map (page_field e) pages) left
+  pub takes : TakesBytes rest (flat_map (page_field e) pages) left
 
-pub first_so_far : (t : DataType) (e : Encoding) (rest left : Rest) (found : Pages) (page : Page) → ArePagesRead t e rest.at (page ∷ []) found → Takes rest (page_bytes e page.points) left → PagesSoFar t e rest left found
+pub first_so_far : (t : DataType) (e : Encoding) (rest left : Rest) (found : Pages) (page : Page) → ArePagesRead t e rest.at (page ∷ []) found → TakesBytes rest (page_bytes e page.points) left → PagesSoFar t e rest left found
 first_so_far t e rest left found page read takes = record { pages = page ∷ []; read = read; takes = takes_same rest left (page_field e page) (page_field e page ++ []) (sym (append-nil (page_field e page))) takes }
 
-pub next_so_far : (t : DataType) (e : Encoding) (rest left behind : Rest) (old new : Pages) (page : Page) (so_far : PagesSoFar t e rest left old) → ArePagesRead t e rest.at (so_far.pages ++ page ∷ []) new → Takes left (page_bytes e page.points) behind → PagesSoFar t e rest behind new
+pub next_so_far : (t : DataType) (e : Encoding) (rest left behind : Rest) (old new : Pages) (page : Page) (so_far : PagesSoFar t e rest left old) → ArePagesRead t e rest.at (so_far.pages ++ page ∷ []) new → TakesBytes left (page_bytes e page.points) behind → PagesSoFar t e rest behind new
 next_so_far t e rest left behind old new page so_far read takes = record {
   pages = so_far.pages ++ page ∷ [];
   read = read;

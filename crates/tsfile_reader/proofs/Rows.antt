@@ -275,14 +275,14 @@ groups_end (g ∷ gs) some good = ends_from g gs [] good.0 good.1
 pub record LastOfGroups (groups : List Group) (parts : List Part) : Type 0 where
   pub last : Group
   pub front : List Group
-  pub groups-are : groups ≡ front ++ last ∷ []
+  pub groups_are : groups ≡ front ++ last ∷ []
   pub group : LastGroup last parts
 
 last_of_groups : (g : Group) (gs : List Group) (before : List Part) → AllByRecursion IsFullGroup (g ∷ gs) → LastOfGroups (g ∷ gs) (after_groups (g ∷ gs) before)
-last_of_groups g [] before good = record { last = g; front = []; groups-are = refl; group = last_group g before good.0 }
+last_of_groups g [] before good = record { last = g; front = []; groups_are = refl; group = last_group g before good.0 }
 last_of_groups g (h ∷ hs) before good =
     let r = last_of_groups h hs (after_group g before) good.1 in
-    record { last = r.last; front = g ∷ r.front; groups-are = ap (λ (l : List Group). g ∷ l) r.groups-are; group = r.group }
+    record { last = r.last; front = g ∷ r.front; groups_are = ap (λ (l : List Group). g ∷ l) r.groups_are; group = r.group }
 
 pub last_group_of : (groups : List Group) → 0 < length groups → AllByRecursion IsFullGroup groups → LastOfGroups groups (after_groups groups [])
 last_group_of [] some good = absurd (omega (arith, some))

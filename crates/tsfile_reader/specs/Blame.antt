@@ -33,7 +33,7 @@ pub record IsFirstBadPart (from : ℕ) (bytes : List ℕ) (at : ℕ) : Type 0 wh
 -- groups as a tree has them, of any number of chunks in all
 pub record AreGroups (groups : List Group) : Type 0 where
   pub some : 0 < length groups
-  pub groups-are : All IsGroup groups
+  pub groups_are : All IsGroup groups
   pub rising : AllPairs (λ a b. IsBefore a.device b.device) groups
   pub devices : All (λ group. IsPath group.device) groups
   pub chunks : All HasParts (chunks_of groups)
@@ -41,7 +41,7 @@ pub record AreGroups (groups : List Group) : Type 0 where
 -- the bytes behind the head are the groups of the tree, of which an index says this
 pub record HasGroups (bytes : List ℕ) (tree : Tree) (said : List IndexEntry) : Type 0 where
   pub good : AreGroups tree.groups
-  pub bytes-are : bytes ≡ flat_map group_field tree.groups
+  pub bytes_are : bytes ≡ flat_map group_field tree.groups
   pub say : AreEntriesIn tree said
 
 -- the first so many entries are the same in both lists, and behind them one list ends or the next entries differ
@@ -49,8 +49,8 @@ pub record AreAlike (entries said : List IndexEntry) (count : ℕ) : Type 0 wher
   pub same : List IndexEntry
   pub others : List IndexEntry
   pub others_said : List IndexEntry
-  pub entries-are : entries ≡ same ++ others
-  pub said-are : said ≡ same ++ others_said
+  pub entries_are : entries ≡ same ++ others
+  pub said_are : said ≡ same ++ others_said
   pub number : length same ≡ count
   pub apart : (x y : IndexEntry) (xs ys : List IndexEntry) → others ≡ x ∷ xs → others_said ≡ y ∷ ys → x ≢ y
 
@@ -63,7 +63,7 @@ pub record IsFirstWrongLeaf (pointers : List Pointer) (entries said : List Index
   pub before : List Pointer
   pub pointer : Pointer
   pub behind : List Pointer
-  pub pointers-are : pointers ≡ before ++ pointer ∷ behind
+  pub pointers_are : pointers ≡ before ++ pointer ∷ behind
   pub number : length before ≡ min count (length entries - 1) / max_leaf_entries
   pub place : at ≡ pointer.place
 

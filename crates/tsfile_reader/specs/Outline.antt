@@ -22,9 +22,9 @@ between from to bytes = take (to - from) (drop from bytes)
 -- these bytes are the tail of a file of so many bytes: the place of the root, behind the head and in the file, and
 -- `TsFile`
 pub record IsTail (size : ℕ) (bytes : List ℕ) (root : ℕ) : Type 0 where
-  pub behind-head : length head ≤ root
+  pub behind_head : length head ≤ root
   pub inside : root < size
-  pub bytes-are : bytes ≡ number64 root ++ magic
+  pub bytes_are : bytes ≡ number64 root ++ magic
 
 -- the file ends in a tail with this place of the root
 abbrev pub HasTail : List ℕ → ℕ → Type 0
@@ -36,7 +36,7 @@ HasHead bytes = take (length head) bytes ≡ head
 
 -- from the root's place to the tail stands a root with these pointers, the first one at this place behind the head
 pub record HasRoot (bytes : List ℕ) (root place : ℕ) (pointers : List Pointer) : Type 0 where
-  pub behind-head : length head ≤ place
+  pub behind_head : length head ≤ place
   pub is : IsRoot place root (between root (tail_place bytes) bytes) pointers
 
 -- from the place of the first leaf to the tail stands an index with these entries

@@ -53,9 +53,9 @@ pub record IsEntryOf (tree : Tree) (entry : IndexEntry) : Type 0 where
 pub record ArePointsOf (tree : Tree) (entry : IndexEntry) (number : ℕ) (points : List Point) : Type 0 where
   pub group : Group
   pub chunk : Chunk
-  pub in-tree : Contains tree.groups group
-  pub in-group : Contains group.chunks chunk
+  pub in_tree : Contains tree.groups group
+  pub in_group : Contains group.chunks chunk
   pub says : IsEntry group.device entry.place chunk entry
   pub page : Page
-  pub page-is : slice_get chunk.pages number ≡ Some page
-  pub points-are : points ≡ page.points
+  pub page_is : slice_get chunk.pages number ≡ Some page
+  pub points_are : points ≡ page.points

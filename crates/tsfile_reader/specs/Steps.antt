@@ -8,7 +8,7 @@ use Rattle.tsdb_base.specs.declared.value.DataType.{DataType}
 use Rattle.tsdb_base.specs.declared.value.Encoding.{Encoding}
 use Rattle.tsdb_base.specs.Values.{is_suitable}
 use Rattle.tsdb_fields.specs.declared.rest.Rest.{Rest}
-use Rattle.tsdb_fields.specs.Reading.{Takes}
+use Rattle.tsdb_fields.specs.Reading.{TakesBytes}
 use Rattle.tsdb_index.specs.declared.index.Index.{Index}
 use Rattle.tsdb_index.specs.declared.index.IndexEntry.{IndexEntry}
 use Rattle.tsdb_index.specs.declared.pointer.Pointer.{Pointer}
@@ -102,20 +102,20 @@ IsLaterHead last head = IsChunkHead head × IsBefore last head.measurement
 pub record ReadsPages (data_type : DataType) (encoding : Encoding) (left behind : Rest) (found : Pages) : Type 0 where
   pub pages : List Page
   pub read : ArePagesRead data_type encoding left.at pages found
-  pub takes : Takes left (flat_map (page_field encoding) pages) behind
+  pub takes : TakesBytes left (flat_map (page_field encoding) pages) behind
   pub ends : BeginsWithMark PAGE behind.bytes.now → ⊥
 
 -- all pages of a chunk with this head are read, which stands at this place
 pub record ReadsChunk (device : List ℕ) (head : ChunkHead) (place : ℕ) (left behind : Rest) (entry : IndexEntry)
     : Type 0 where
   pub chunk : Chunk
-  pub measurement-is : chunk.measurement ≡ head.measurement
-  pub type-is : chunk.data_type ≡ head.data_type
-  pub encoding-is : chunk.encoding ≡ head.encoding
+  pub measurement_is : chunk.measurement ≡ head.measurement
+  pub type_is : chunk.data_type ≡ head.data_type
+  pub encoding_is : chunk.encoding ≡ head.encoding
   pub good : IsChunk chunk
   pub parts : HasParts chunk
   pub say : IsEntry device place chunk entry
-  pub takes : Takes left (flat_map (page_field chunk.encoding) chunk.pages) behind
+  pub takes : TakesBytes left (flat_map (page_field chunk.encoding) chunk.pages) behind
   pub ends : BeginsWithMark PAGE behind.bytes.now → ⊥
 
 -- this is read of chunks of one group, of which the first stands at this place
@@ -130,7 +130,7 @@ pub record AreChunksRead (device : List ℕ) (place : ℕ) (chunks : List Chunk)
 pub record ReadsChunks (device : List ℕ) (left behind : Rest) (entries : List IndexEntry) : Type 0 where
   pub chunks : List Chunk
   pub read : AreChunksRead device left.at chunks entries
-  pub takes : Takes left (flat_map chunk_field chunks) behind
+  pub takes : TakesBytes left (flat_map chunk_field chunks) behind
   pub no_page : BeginsWithMark PAGE behind.bytes.now → ⊥
   pub no_chunk : BeginsWithMark 67 behind.bytes.now → ⊥
 
@@ -163,7 +163,7 @@ SaysSize bytes size = (mark count : ℕ) (behind : List ℕ) → count < 2 ^ 32
 -- these are the bytes from the place on, up to the end of the page at least, if one stands there
 pub record HasPageBytes (bytes : List ℕ) (place : ℕ) (part : List ℕ) : Type 0 where
   pub size : ℕ
-  pub part-is : part ≡ take size (drop place bytes)
+  pub part_is : part ≡ take size (drop place bytes)
   pub whole : (mark : ℕ) (body behind : List ℕ) → length body < 2 ^ 32
       → drop place bytes ≡ (mark ∷ body_bytes body) ++ behind → 5 + length body ≤ size
 

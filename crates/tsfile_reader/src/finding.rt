@@ -2,7 +2,7 @@
 //! tsdb_index and tsdb_path.
 ghost use Rattle.std.specs.Prelude.{◌≡◌, ◌<◌, ◌≤◌, ◌^◌, List, All, length, map, IfOk, IfSome};
 ghost use Rattle.tsdb_index.specs.declared.index.IndexEntry.{IndexEntry as Entry};
-ghost use Rattle.tsdb_index.specs.Entries.{AreInOrder, IsBefore, IsEntry, names_of};
+ghost use Rattle.tsdb_index.specs.Entries.{AreInOrder, AreNamesBefore, IsEntry, names_of};
 ghost use Rattle.tsdb_index.specs.Parts.{IsLeaf, end_of as leaf_end};
 ghost use Rattle.tsdb_pages.specs.declared.tree.Tree.{Tree as TreeIn};
 ghost use Rattle.tsdb_pages.specs.File.{IsFile};
@@ -35,7 +35,7 @@ fn read_one_leaf<P: Port>(
         (λ bytes at. (at ≡ pointer.now.place) × ((entries : List Entry)
         → IsLeaf pointer.now behind.now (leaf_bytes root pointer.now behind.now bytes) entries → ⊥))
         (P.Right.file right.now).bytes result }
-    ensures order { IfOk result (λ entries. AreInOrder IsBefore (map names_of entries.items)) }
+    ensures order { IfOk result (λ entries. AreInOrder AreNamesBefore (map names_of entries.items)) }
     ensures formed { IfOk result (λ entries. All IsEntry entries.items) }
     ensures same_store { P.store port.new ≡ P.store port.old }
     ensures cause { HasReadCause (P.faults port.old) (P.faults port.new) result }

@@ -2,7 +2,7 @@
 //! tsdb_fields and tsdb_pages.
 ghost use Rattle.std.specs.Prelude.{◌≡◌, ℕ, ◌↔◌, ◌∷◌, [], ◌++◌, IsTrue, List, true, MatchOption};
 ghost use Rattle.tsdb_base.specs.Values.{is_suitable};
-ghost use Rattle.tsdb_fields.specs.Reading.{ReadsParts, Takes};
+ghost use Rattle.tsdb_fields.specs.Reading.{ReadsParts, TakesBytes};
 ghost use Rattle.tsdb_path.specs.Nodes.{IsPath};
 ghost use Rattle.tsdb_pages.specs.File.{page_bytes};
 ghost use Rattle.tsfile_reader.specs.Page.{AreGood};
@@ -37,7 +37,7 @@ pub fn begins_with(mark: u8, rest: Rest<'_>) -> bool
 /// What is left behind the mark, if it stands first.
 fn behind_mark(mark: u8, rest: Rest<'_>) -> Option<Rest<'_>>
     ensures { MatchOption result ((fields : List ℕ) → rest.entry.bytes.now ≡ mark ∷ fields → ⊥)
-        (λ behind. Takes rest.entry (mark ∷ []) behind) }
+        (λ behind. TakesBytes rest.entry (mark ∷ []) behind) }
 {
     let [first, fields @ ..] = rest.bytes else {
         return None;

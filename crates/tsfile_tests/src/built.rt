@@ -45,7 +45,7 @@ fn may_follow(alloc: Global, last: &Path, next: &Path) -> Result<bool, Fail>
     requires last { 2 ≤ node_count last.now }
     requires next { 2 ≤ node_count next.now }
     ensures { IfOk result (λ may. IsTrue may →
-        index.IsBefore (device_in last.now, measurement_in last.now) (device_in next.now, measurement_in next.now)) }
+        index.AreNamesBefore (device_in last.now, measurement_in last.now) (device_in next.now, measurement_in next.now)) }
 {
     let before = device_of(last)?;
     let behind = device_of(next)?;

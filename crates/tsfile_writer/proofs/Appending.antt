@@ -69,14 +69,14 @@ some_entry groups bytes entries layout some good = subst (λ n. 0 < n) (sym (cou
 -- ---- the steps
 
 pub no_groups : (bytes : List ℕ) (entries : List IndexEntry) → bytes ≡ head → entries ≡ [] → AreGroups [] bytes entries
-no_groups bytes entries is none = record { bytes-are = is ∙ sym (append-nil head); by_group = []; all = sym none; say = tt }
+no_groups bytes entries is none = record { bytes_are = is ∙ sym (append-nil head); by_group = []; all = sym none; say = tt }
 
 pub group_begun : (groups : List Group) (device : List ℕ) (old new : List ℕ) (entries : List IndexEntry) → AreGroups groups old entries → new ≡ old ++ group_start device → AreChunks groups device [] new entries
 group_begun groups device old new entries layout added = record {
-  bytes-before = old;
-  entries-before = entries;
+  bytes_before = old;
+  entries_before = entries;
   before = layout;
-  bytes-are = added ∙ ap (λ (l : List ℕ). old ++ l) (sym (append-nil (group_start device)));
+  bytes_are = added ∙ ap (λ (l : List ℕ). old ++ l) (sym (append-nil (group_start device)));
   own = [];
   all = sym (append-nil entries);
   say = tt;
@@ -86,15 +86,15 @@ pub chunk_begun : (groups : List Group) (device : List ℕ) (chunks : List Chunk
     → AreChunks groups device chunks old entries → page.points ≡ points → new ≡ old ++ (chunk_start measurement data_type encoding ++ page_bytes encoding points) → IsBegun (length old) (length (chunk_start measurement data_type encoding)) points chunk
     → ArePages groups device chunks measurement data_type encoding (page ∷ []) new entries chunk
 chunk_begun groups device chunks measurement data_type encoding page points old new entries chunk layout same added begun = record {
-  bytes-before = old;
+  bytes_before = old;
   before = layout;
-  bytes-are = added ∙ ap (λ (p : List Point). old ++ (chunk_start measurement data_type encoding ++ page_bytes encoding p)) (sym same)
+  bytes_are = added ∙ ap (λ (p : List Point). old ++ (chunk_start measurement data_type encoding ++ page_bytes encoding p)) (sym same)
       ∙ ap (λ (l : List ℕ). old ++ (chunk_start measurement data_type encoding ++ l)) (sym (append-nil (page_field encoding page)));
   is = record {
-    place-is = begun.place-is;
+    place_is = begun.place_is;
     stats = subst (λ (p : List Point). AreStatsOf p chunk.stats) (sym same ∙ sym (append-nil page.points)) begun.stats;
-    say = subst (λ (l : List PageEntry). ArePageEntries encoding (length old + length (chunk_start measurement data_type encoding)) (page ∷ []) l) (sym begun.pages-are)
-        (record { place-is = begun.is.place-is; stats = subst (λ (p : List Point). AreStatsOf p begun.entry.stats) (sym same) begun.is.stats }, tt);
+    say = subst (λ (l : List PageEntry). ArePageEntries encoding (length old + length (chunk_start measurement data_type encoding)) (page ∷ []) l) (sym begun.pages_are)
+        (record { place_is = begun.is.place_is; stats = subst (λ (p : List Point). AreStatsOf p begun.entry.stats) (sym same) begun.is.stats }, tt);
   };
 }
 
@@ -116,20 +116,20 @@ pub page_added : (groups : List Group) (device : List ℕ) (chunks : List Chunk)
     → ArePages groups device chunks measurement data_type encoding (pages ++ page ∷ []) after entries new
 page_added groups device chunks measurement data_type encoding pages page points before after entries old new layout same added longer =
     let start = chunk_start measurement data_type encoding in
-    let first = length layout.bytes-before + length start in
+    let first = length layout.bytes_before + length start in
     let page_fields = flat_map (page_field encoding) pages in
-    let place : length before ≡ length layout.bytes-before + length (chunk_start measurement data_type encoding) + length (flat_map (page_field encoding) pages) = place_behind before layout.bytes-before start page_fields layout.bytes-are in
-    let here : IsPageEntry (length layout.bytes-before + length (chunk_start measurement data_type encoding) + length (flat_map (page_field encoding) pages)) page longer.entry =
-    record { place-is = longer.is.place-is ∙ place; stats = subst (λ (p : List Point). AreStatsOf p longer.entry.stats) (sym same) longer.is.stats } in
+    let place : length before ≡ length layout.bytes_before + length (chunk_start measurement data_type encoding) + length (flat_map (page_field encoding) pages) = place_behind before layout.bytes_before start page_fields layout.bytes_are in
+    let here : IsPageEntry (length layout.bytes_before + length (chunk_start measurement data_type encoding) + length (flat_map (page_field encoding) pages)) page longer.entry =
+    record { place_is = longer.is.place_is ∙ place; stats = subst (λ (p : List Point). AreStatsOf p longer.entry.stats) (sym same) longer.is.stats } in
     record {
-      bytes-before = layout.bytes-before;
+      bytes_before = layout.bytes_before;
       before = layout.before;
-      bytes-are = more_behind before after layout.bytes-before start page_fields (page_field encoding page) layout.bytes-are (added ∙ ap (λ (p : List Point). before ++ page_bytes encoding p) (sym same))
-          ∙ ap (λ (l : List ℕ). layout.bytes-before ++ (start ++ l)) (sym (flat_push (page_field encoding) pages page));
+      bytes_are = more_behind before after layout.bytes_before start page_fields (page_field encoding page) layout.bytes_are (added ∙ ap (λ (p : List Point). before ++ page_bytes encoding p) (sym same))
+          ∙ ap (λ (l : List ℕ). layout.bytes_before ++ (start ++ l)) (sym (flat_push (page_field encoding) pages page));
       is = record {
-        place-is = longer.place-is ∙ layout.is.place-is;
+        place_is = longer.place_is ∙ layout.is.place_is;
         stats = subst (λ (p : List Point). AreStatsOf p new.stats) (ap (λ (p : List Point). points_of pages ++ p) (sym same) ∙ sym (flat_push (λ (p : Page). p.points) pages page)) (longer.stats (points_of pages) layout.is.stats);
-        say = subst (λ (l : List PageEntry). ArePageEntries encoding (length layout.bytes-before + length (chunk_start measurement data_type encoding)) (pages ++ page ∷ []) l) (sym longer.pages-are)
+        say = subst (λ (l : List PageEntry). ArePageEntries encoding (length layout.bytes_before + length (chunk_start measurement data_type encoding)) (pages ++ page ∷ []) l) (sym longer.pages_are)
             (pages_push encoding first pages old.pages.items page longer.entry layout.is.say here);
       };
     }
@@ -138,25 +138,25 @@ page_added groups device chunks measurement data_type encoding pages page points
 pub same_pages : (groups : List Group) (device : List ℕ) (chunks : List Chunk) (measurement : List ℕ) (data_type : DataType) (encoding : Encoding) (pages : List Page) (before after : List ℕ) (entries : List IndexEntry) (old new : OpenChunk)
     → ArePages groups device chunks measurement data_type encoding pages before entries old → after ≡ before → SameChunk old new → ArePages groups device chunks measurement data_type encoding pages after entries new
 same_pages groups device chunks measurement data_type encoding pages before after entries old new layout same same_chunk = record {
-  bytes-before = layout.bytes-before;
+  bytes_before = layout.bytes_before;
   before = layout.before;
-  bytes-are = same ∙ layout.bytes-are;
+  bytes_are = same ∙ layout.bytes_are;
   is = record {
-    place-is = same_chunk.place-is ∙ layout.is.place-is;
+    place_is = same_chunk.place_is ∙ layout.is.place_is;
     stats = subst (AreStatsOf (points_of pages)) (sym same_chunk.stats) layout.is.stats;
-    say = subst (λ (l : List PageEntry). ArePageEntries encoding (length layout.bytes-before + length (chunk_start measurement data_type encoding)) pages l) (sym same_chunk.pages-are) layout.is.say;
+    say = subst (λ (l : List PageEntry). ArePageEntries encoding (length layout.bytes_before + length (chunk_start measurement data_type encoding)) pages l) (sym same_chunk.pages_are) layout.is.say;
   };
 }
 
 -- the entry of a chunk says what is said of it so far
 pub record IsEntryOf (device measurement : List ℕ) (data_type : DataType) (encoding : Encoding) (chunk : OpenChunk) (entry : IndexEntry) : Type 0 where
-  pub device-is : entry.device ≡ device
-  pub measurement-is : entry.measurement ≡ measurement
-  pub type-is : entry.data_type ≡ data_type
-  pub encoding-is : entry.encoding ≡ encoding
-  pub place-is : entry.place ≡ chunk.place
+  pub device_is : entry.device ≡ device
+  pub measurement_is : entry.measurement ≡ measurement
+  pub type_is : entry.data_type ≡ data_type
+  pub encoding_is : entry.encoding ≡ encoding
+  pub place_is : entry.place ≡ chunk.place
   pub stats : entry.stats ≡ chunk.stats
-  pub pages-are : entry.pages ≡ chunk.pages.items
+  pub pages_are : entry.pages ≡ chunk.pages.items
 
 pub chunk_ended : (groups : List Group) (device : List ℕ) (chunks : List Chunk) (chunk : Chunk) (bytes : List ℕ) (before after : List IndexEntry) (open_chunk : OpenChunk) (entry : IndexEntry)
     → ArePages groups device chunks chunk.measurement chunk.data_type chunk.encoding chunk.pages bytes before open_chunk → IsEntryOf device chunk.measurement chunk.data_type chunk.encoding open_chunk entry → after ≡ before ++ entry ∷ []
@@ -164,33 +164,33 @@ pub chunk_ended : (groups : List Group) (device : List ℕ) (chunks : List Chunk
 chunk_ended groups device chunks chunk bytes before after open_chunk entry layout is added =
     let start = chunk_start chunk.measurement chunk.data_type chunk.encoding in
     let chunk_fields = flat_map chunk_field chunks in
-    let place : length layout.bytes-before ≡ length layout.before.bytes-before + length (group_start device) + length (flat_map chunk_field chunks) = place_behind layout.bytes-before layout.before.bytes-before (group_start device) chunk_fields layout.before.bytes-are in
-    let here : IsEntry device (length layout.bytes-before) chunk entry = record {
-      device-is = is.device-is;
-      measurement-is = is.measurement-is;
-      type-is = is.type-is;
-      encoding-is = is.encoding-is;
-      place-is = is.place-is ∙ layout.is.place-is;
+    let place : length layout.bytes_before ≡ length layout.before.bytes_before + length (group_start device) + length (flat_map chunk_field chunks) = place_behind layout.bytes_before layout.before.bytes_before (group_start device) chunk_fields layout.before.bytes_are in
+    let here : IsEntry device (length layout.bytes_before) chunk entry = record {
+      device_is = is.device_is;
+      measurement_is = is.measurement_is;
+      type_is = is.type_is;
+      encoding_is = is.encoding_is;
+      place_is = is.place_is ∙ layout.is.place_is;
       stats = subst (AreStatsOf (points_of chunk.pages)) (sym is.stats) layout.is.stats;
-      pages = subst (λ (l : List PageEntry). ArePageEntries chunk.encoding (length layout.bytes-before + length (chunk_start chunk.measurement chunk.data_type chunk.encoding)) chunk.pages l) (sym is.pages-are) layout.is.say;
+      pages = subst (λ (l : List PageEntry). ArePageEntries chunk.encoding (length layout.bytes_before + length (chunk_start chunk.measurement chunk.data_type chunk.encoding)) chunk.pages l) (sym is.pages_are) layout.is.say;
     }
     in
     record {
-      bytes-before = layout.before.bytes-before;
-      entries-before = layout.before.entries-before;
+      bytes_before = layout.before.bytes_before;
+      entries_before = layout.before.entries_before;
       before = layout.before.before;
-      bytes-are = more_behind layout.bytes-before bytes layout.before.bytes-before (group_start device) chunk_fields (chunk_field chunk) layout.before.bytes-are layout.bytes-are
-          ∙ ap (λ (l : List ℕ). layout.before.bytes-before ++ (group_start device ++ l)) (sym (flat_push chunk_field chunks chunk));
+      bytes_are = more_behind layout.bytes_before bytes layout.before.bytes_before (group_start device) chunk_fields (chunk_field chunk) layout.before.bytes_are layout.bytes_are
+          ∙ ap (λ (l : List ℕ). layout.before.bytes_before ++ (group_start device ++ l)) (sym (flat_push chunk_field chunks chunk));
       own = layout.before.own ++ entry ∷ [];
-      all = added ∙ ap (λ (l : List IndexEntry). l ++ entry ∷ []) layout.before.all ∙ append_assoc layout.before.entries-before layout.before.own (entry ∷ []);
-      say = chunks_push device (length layout.before.bytes-before + length (group_start device)) chunks layout.before.own chunk entry layout.before.say (subst (λ n. IsEntry device n chunk entry) place here);
+      all = added ∙ ap (λ (l : List IndexEntry). l ++ entry ∷ []) layout.before.all ∙ append_assoc layout.before.entries_before layout.before.own (entry ∷ []);
+      say = chunks_push device (length layout.before.bytes_before + length (group_start device)) chunks layout.before.own chunk entry layout.before.say (subst (λ n. IsEntry device n chunk entry) place here);
     }
 
 pub group_ended : (groups : List Group) (group : Group) (bytes : List ℕ) (entries : List IndexEntry) → AreChunks groups group.device group.chunks bytes entries → AreGroups (groups ++ group ∷ []) bytes entries
 group_ended groups group bytes entries layout =
-    let place : length layout.bytes-before ≡ length head + length (flat_map group_field groups) = ap length layout.before.bytes-are ∙ length-append head (flat_map group_field groups) in
+    let place : length layout.bytes_before ≡ length head + length (flat_map group_field groups) = ap length layout.before.bytes_are ∙ length-append head (flat_map group_field groups) in
     record {
-      bytes-are = layout.bytes-are ∙ ap (λ (l : List ℕ). l ++ group_field group) layout.before.bytes-are ∙ append_assoc head (flat_map group_field groups) (group_field group)
+      bytes_are = layout.bytes_are ∙ ap (λ (l : List ℕ). l ++ group_field group) layout.before.bytes_are ∙ append_assoc head (flat_map group_field groups) (group_field group)
           ∙ ap (λ (l : List ℕ). head ++ l) (sym (flat_push group_field groups group));
       by_group = layout.before.by_group ++ layout.own ∷ [];
       all = flat_push (λ (l : List IndexEntry). l) layout.before.by_group layout.own ∙ ap (λ (l : List IndexEntry). l ++ layout.own) layout.before.all ∙ sym layout.all;
@@ -198,13 +198,13 @@ group_ended groups group bytes entries layout =
     }
 
 -- index and tail behind the groups of a tree make its file
-pub file_made : (tree : Tree) (bytes file index-bytes : List ℕ) (root : ℕ) (entries : List IndexEntry) → AreGroups tree.groups bytes entries → index.IsSpelling (length bytes) root entries index-bytes
-    → file ≡ bytes ++ index-bytes ++ number64 root ++ magic → IsFile tree file
-file_made tree bytes file index-bytes root entries layout index_is is = record {
+pub file_made : (tree : Tree) (bytes file index_bytes : List ℕ) (root : ℕ) (entries : List IndexEntry) → AreGroups tree.groups bytes entries → index.IsSpelling (length bytes) root entries index_bytes
+    → file ≡ bytes ++ index_bytes ++ number64 root ++ magic → IsFile tree file
+file_made tree bytes file index_bytes root entries layout index_is is = record {
   entries = entries;
   root = root;
-  index-bytes = index-bytes;
+  index_bytes = index_bytes;
   say = record { by_group = layout.by_group; all = layout.all; say = layout.say };
-  index-is = subst (λ (l : List ℕ). index.IsSpelling (length l) root entries index-bytes) layout.bytes-are index_is;
-  bytes-are = is ∙ ap (λ (l : List ℕ). l ++ index-bytes ++ number64 root ++ magic) layout.bytes-are;
+  index_is = subst (λ (l : List ℕ). index.IsSpelling (length l) root entries index_bytes) layout.bytes_are index_is;
+  bytes_are = is ∙ ap (λ (l : List ℕ). l ++ index_bytes ++ number64 root ++ magic) layout.bytes_are;
 }

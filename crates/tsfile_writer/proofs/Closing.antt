@@ -46,7 +46,7 @@ chunk_of path data_type encoding pages = record { measurement = measurement_of p
 -- the points of all pages, with those that waited
 all_points : (series : Series) (pages : List Page) (page : Page) (path : List ℕ) (data_type : DataType) (encoding : Encoding) (points : List Point) → IsOpenOf series pages path data_type encoding points → page.points ≡ points → points_of (pages ++ page ∷ []) ≡ series.points
 all_points series pages page path data_type encoding points is same =
-    flat_push (λ (p : Page). p.points) pages page ∙ ap (λ (ps : List Point). points_of pages ++ ps) same ∙ sym is.points-are
+    flat_push (λ (p : Page). p.points) pages page ∙ ap (λ (ps : List Point). points_of pages ++ ps) same ∙ sym is.points_are
 
 is_chunk : (series : Series) (pages : List Page) (page : Page) (path : List ℕ) (data_type : DataType) (encoding : Encoding) (points : List Point)
     → IsOpenOf series pages path data_type encoding points → 0 < length points → page.points ≡ points → length (pages ++ page ∷ []) ≤ max_pages → IsChunk (chunk_of path data_type encoding (pages ++ page ∷ []))
@@ -63,11 +63,11 @@ is_chunk series pages page path data_type encoding points is some same few =
 is_chunk_of : (series : Series) (pages : List Page) (page : Page) (path : List ℕ) (data_type : DataType) (encoding : Encoding) (points : List Point)
     → IsOpenOf series pages path data_type encoding points → 0 < length points → page.points ≡ points → IsChunkOf series (chunk_of path data_type encoding (pages ++ page ∷ []))
 is_chunk_of series pages page path data_type encoding points is some same = record {
-  measurement-is = sym is.measurement-is;
-  type-is = sym is.type-is;
-  encoding-is = sym is.encoding-is;
+  measurement_is = sym is.measurement_is;
+  type_is = sym is.type_is;
+  encoding_is = sym is.encoding_is;
   filled = filled_push pages page is.full (subst (λ (ps : List Point). 0 < length ps) (sym same) some) (subst (λ (ps : List Point). length ps ≤ max_values) (sym same) is.few);
-  points-are = all_points series pages page path data_type encoding points is same;
+  points_are = all_points series pages page path data_type encoding points is same;
 }
 
 pub series_closed : (given : List Series) (page : Page) (old new : List ℕ) (before after : List IndexEntry) (path : List ℕ) (data_type : DataType) (encoding : Encoding) (chunk : Option OpenChunk) (whole : OpenChunk) (points : List Point) (entry : IndexEntry)
@@ -88,22 +88,22 @@ series_closed given page old new before after path data_type encoding chunk whol
         of = subst (λ (s : List Series). AreChunksOf s (placed state.groups ++ map (λ (c : Chunk). (device, c)) (state.chunks ++ last ∷ []))) (sym state.all)
             (subst (AreChunksOf (state.front ++ state.last ∷ []))
             (append_assoc (placed state.groups) (map (λ (c : Chunk). (device, c)) state.chunks) ((device, last) ∷ []) ∙ ap (λ (l : List (List ℕ × Chunk)). placed state.groups ++ l) (sym (one_group device state.chunks last)))
-            (chunks_of_push state.front (placed state.groups ++ map (λ (c : Chunk). (device, c)) state.chunks) state.last device last state.grouped.of (sym state.is.device-is)
+            (chunks_of_push state.front (placed state.groups ++ map (λ (c : Chunk). (device, c)) state.chunks) state.last device last state.grouped.of (sym state.is.device_is)
             (is_chunk_of state.last state.pages page path data_type encoding points state.is some same)));
-        groups-good = state.grouped.groups-good;
-        groups-rising = state.grouped.groups-rising;
-        groups-before = state.grouped.groups-before;
-        chunks-good = All-push IsChunk state.chunks last state.grouped.chunks-good here;
-        chunks-rising = pairs_push (λ (a b : Chunk). IsBefore a.measurement b.measurement) state.chunks last state.grouped.chunks-rising state.chunks-before;
+        groups_good = state.grouped.groups_good;
+        groups_rising = state.grouped.groups_rising;
+        groups_before = state.grouped.groups_before;
+        chunks_good = All-push IsChunk state.chunks last state.grouped.chunks_good here;
+        chunks_rising = pairs_push (λ (a b : Chunk). IsBefore a.measurement b.measurement) state.chunks last state.grouped.chunks_rising state.chunks_before;
       };
       some = omega (arith, size);
-      before = λ next less. All-push (λ (c : Chunk). IsBefore c.measurement next) state.chunks last (λ k d lt. before_through _ (measurement_of path) next (state.chunks-before k d lt) less) less;
+      before = λ next less. All-push (λ (c : Chunk). IsBefore c.measurement next) state.chunks last (λ k d lt. before_through _ (measurement_of path) next (state.chunks_before k d lt) less) less;
       layout = chunk_ended state.groups device state.chunks last new before after whole entry stand.1 is added;
       few = omega (arith, n, room);
       front = before;
       entry = entry;
       last = added;
-      device-is = is.device-is;
+      device_is = is.device_is;
       made = state.made;
     }
 
@@ -125,14 +125,14 @@ all_groups : (given : List Series) (device measurement : List ℕ) (bytes : List
     → AreAll given device bytes entries (closed.groups ++ group_of device closed.chunks ∷ [])
 all_groups given device measurement bytes entries closed =
     let group = group_of device closed.chunks in
-    let good : IsGroup (group_of device closed.chunks) = record { some = closed.some; chunks = closed.grouped.chunks-good; rising = closed.grouped.chunks-rising } in
+    let good : IsGroup (group_of device closed.chunks) = record { some = closed.some; chunks = closed.grouped.chunks_good; rising = closed.grouped.chunks_rising } in
     let n = length-append closed.groups (group ∷ []) in
     record {
       of = subst (AreChunksOf given) (sym (placed_push closed.groups group)) closed.grouped.of;
       some = omega (arith, n);
-      good = All-push IsGroup closed.groups group closed.grouped.groups-good good;
-      rising = pairs_push (λ (a b : Group). IsBefore a.device b.device) closed.groups group closed.grouped.groups-rising closed.grouped.groups-before;
-      before = λ next less. All-push (λ (g : Group). IsBefore g.device next) closed.groups group (λ k d lt. before_through _ device next (closed.grouped.groups-before k d lt) less) less;
+      good = All-push IsGroup closed.groups group closed.grouped.groups_good good;
+      rising = pairs_push (λ (a b : Group). IsBefore a.device b.device) closed.groups group closed.grouped.groups_rising closed.grouped.groups_before;
+      before = λ next less. All-push (λ (g : Group). IsBefore g.device next) closed.groups group (λ k d lt. before_through _ device next (closed.grouped.groups_before k d lt) less) less;
       layout = group_ended closed.groups group bytes entries closed.layout;
     }
 
@@ -141,15 +141,15 @@ all_groups given device measurement bytes entries closed =
 begun : (path : List ℕ) (data_type : DataType) (encoding : Encoding) → 2 ≤ node_count path → is_suitable data_type encoding ≡ true → IsOpenOf (series_at path data_type encoding) [] path data_type encoding []
 begun path data_type encoding nodes suits = record {
   nodes = nodes;
-  device-is = refl;
-  measurement-is = refl;
-  type-is = refl;
-  encoding-is = refl;
+  device_is = refl;
+  measurement_is = refl;
+  type_is = refl;
+  encoding_is = refl;
   suits = suits;
-  points-are = refl;
+  points_are = refl;
   full = All-nil (λ (p : Page). length p.points ≡ max_values);
   good = All-nil (λ (p : Page). ArePoints data_type p.points);
-  few-pages = omega arith;
+  few_pages = omega arith;
   few = omega arith;
   typed = All-nil (λ (p : Point). type_of p.value ≡ data_type);
   rising = λ i j d lt within. absurd (omega arith);
@@ -185,13 +185,13 @@ first_begun bytes entries path data_type encoding is none nodes suits path_is = 
   chunks = [];
   grouped = record {
     of = tt;
-    groups-good = All-nil IsGroup;
-    groups-rising = no_pairs (λ (a b : Group). IsBefore a.device b.device);
-    groups-before = All-nil (λ (g : Group). IsBefore g.device (device_of path));
-    chunks-good = All-nil IsChunk;
-    chunks-rising = no_pairs (λ (a b : Chunk). IsBefore a.measurement b.measurement);
+    groups_good = All-nil IsGroup;
+    groups_rising = no_pairs (λ (a b : Group). IsBefore a.device b.device);
+    groups_before = All-nil (λ (g : Group). IsBefore g.device (device_of path));
+    chunks_good = All-nil IsChunk;
+    chunks_rising = no_pairs (λ (a b : Chunk). IsBefore a.measurement b.measurement);
   };
-  chunks-before = All-nil (λ (c : Chunk). IsBefore c.measurement (measurement_of path));
+  chunks_before = All-nil (λ (c : Chunk). IsBefore c.measurement (measurement_of path));
   few = let n : length entries ≡ 0 = ap length none in omega (arith, n);
   stand = (refl, stand);
   made = All-push IsMadeSeries [] (series_at path data_type encoding) (All-nil IsMadeSeries) (made_begun path data_type encoding nodes path_is);
@@ -205,7 +205,7 @@ first_begun bytes entries path data_type encoding is none nodes suits path_is = 
         absurd (omega (arith, n, m))
 
 pub next_begun : (given : List Series) (device measurement : List ℕ) (bytes : List ℕ) (entries : List IndexEntry) (path : List ℕ) (data_type : DataType) (encoding : Encoding) → AreClosed given device measurement bytes entries
-    → 2 ≤ node_count path → is_suitable data_type encoding ≡ true → IsPath path → index.IsBefore (device, measurement) (device_of path, measurement_of path) → BuildState (given ++ series_at path data_type encoding ∷ []) bytes entries path data_type encoding None []
+    → 2 ≤ node_count path → is_suitable data_type encoding ≡ true → IsPath path → index.AreNamesBefore (device, measurement) (device_of path, measurement_of path) → BuildState (given ++ series_at path data_type encoding ∷ []) bytes entries path data_type encoding None []
 next_begun given device measurement bytes entries path data_type encoding closed nodes suits path_is (inl less) =
     let all = all_groups given device measurement bytes entries closed in
     let groups = closed.groups ++ group_of device closed.chunks ∷ [] in
@@ -219,13 +219,13 @@ next_begun given device measurement bytes entries path data_type encoding closed
       chunks = [];
       grouped = record {
         of = subst (AreChunksOf given) (sym (append-nil (placed groups))) all.of;
-        groups-good = all.good;
-        groups-rising = all.rising;
-        groups-before = all.before (device_of path) less;
-        chunks-good = All-nil IsChunk;
-        chunks-rising = no_pairs (λ (a b : Chunk). IsBefore a.measurement b.measurement);
+        groups_good = all.good;
+        groups_rising = all.rising;
+        groups_before = all.before (device_of path) less;
+        chunks_good = All-nil IsChunk;
+        chunks_rising = no_pairs (λ (a b : Chunk). IsBefore a.measurement b.measurement);
       };
-      chunks-before = All-nil (λ (c : Chunk). IsBefore c.measurement (measurement_of path));
+      chunks_before = All-nil (λ (c : Chunk). IsBefore c.measurement (measurement_of path));
       few = closed.few;
       stand = (refl, stand closed less groups all.layout);
       made = All-push IsMadeSeries given (series_at path data_type encoding) closed.made (made_begun path data_type encoding nodes path_is);
@@ -236,7 +236,7 @@ next_begun given device measurement bytes entries path data_type encoding closed
     stand closed less groups layout true test = group_begun groups (device_of path) bytes (bytes ++ group_start (device_of path)) entries layout refl
     stand closed less groups layout false test =
         let same : test.1 ≡ closed.entry = (same_ends test.0 closed.front test.1 closed.entry (sym test.2 ∙ closed.last)).1 in
-        let devices : device ≡ device_of path = sym closed.device-is ∙ ap (λ (e : IndexEntry). e.device) (sym same) ∙ test.3 in
+        let devices : device ≡ device_of path = sym closed.device_is ∙ ap (λ (e : IndexEntry). e.device) (sym same) ∙ test.3 in
         absurd (not_itself device (subst (IsBefore device) (sym devices) less))
 next_begun given device measurement bytes entries path data_type encoding closed nodes suits path_is (inr also) = record {
   front = given;
@@ -247,7 +247,7 @@ next_begun given device measurement bytes entries path data_type encoding closed
   groups = closed.groups;
   chunks = closed.chunks;
   grouped = subst (λ (d : List ℕ). AreGrouped given closed.groups d closed.chunks) also.0 closed.grouped;
-  chunks-before = closed.before (measurement_of path) also.1;
+  chunks_before = closed.before (measurement_of path) also.1;
   few = closed.few;
   stand = (refl, stand closed also.0);
   made = All-push IsMadeSeries given (series_at path data_type encoding) closed.made (made_begun path data_type encoding nodes path_is);
@@ -255,32 +255,32 @@ next_begun given device measurement bytes entries path data_type encoding closed
   where
     stand : (closed : AreClosed given device measurement bytes entries) → device ≡ device_of path → (begins : Bool) → BeginsGroup entries (device_of path) begins
         → AreChunks closed.groups (device_of path) closed.chunks (bytes ++ start_if begins (device_of path)) entries
-    stand closed same true test = absurd (test closed.front closed.entry closed.last (closed.device-is ∙ same))
+    stand closed same true test = absurd (test closed.front closed.entry closed.last (closed.device_is ∙ same))
     stand closed same false test =
         subst (λ (l : List ℕ). AreChunks closed.groups (device_of path) closed.chunks l entries) (sym (append-nil bytes)) (subst (λ (d : List ℕ). AreChunks closed.groups d closed.chunks bytes entries) same closed.layout)
 
 -- the names of the last series come before those that may follow it
 pub names_before : (bytes : List ℕ) (entries : List IndexEntry) (path : List ℕ) (data_type : DataType) (encoding : Encoding) (chunk : Option OpenChunk) (points : List Point) (device measurement : List ℕ)
     → BuildState [] bytes entries path data_type encoding chunk points ⊎ ((front : List Series) × (last : Series) × BuildState (front ++ last ∷ []) bytes entries path data_type encoding chunk points × MayBeFollowedBy device measurement last)
-    → index.IsBefore (device_of path, measurement_of path) (device, measurement)
+    → index.AreNamesBefore (device_of path, measurement_of path) (device, measurement)
 names_before bytes entries path data_type encoding chunk points device measurement (inl state) =
     let n : 0 ≡ length state.front + 1 = ap length state.all ∙ length-append state.front (state.last ∷ []) in
     absurd (omega (arith, n))
 names_before bytes entries path data_type encoding chunk points device measurement (inr given) =
     let state = given.2 in
     let same : given.1 ≡ state.last = (same_ends given.0 state.front given.1 state.last state.all).1 in
-    subst (λ (d : List ℕ). index.IsBefore (d, measurement_of path) (device, measurement)) (ap (λ (s : Series). s.device) same ∙ state.is.device-is)
-    (subst (λ (m : List ℕ). index.IsBefore (given.1.device, m) (device, measurement)) (ap (λ (s : Series). s.measurement) same ∙ state.is.measurement-is) given.3.before)
+    subst (λ (d : List ℕ). index.AreNamesBefore (d, measurement_of path) (device, measurement)) (ap (λ (s : Series). s.device) same ∙ state.is.device_is)
+    (subst (λ (m : List ℕ). index.AreNamesBefore (given.1.device, m) (device, measurement)) (ap (λ (s : Series). s.measurement) same ∙ state.is.measurement_is) given.3.before)
 
 -- ---- the file
 
-pub file_whole : (given : List Series) (device measurement : List ℕ) (bytes file index-bytes : List ℕ) (root : ℕ) (entries : List IndexEntry) → AreClosed given device measurement bytes entries
-    → IsSpelling (length bytes) root entries index-bytes → file ≡ bytes ++ index-bytes ++ number64 root ++ magic → (tree : Tree) × IsTreeOf given tree × IsFile tree file × IsMade tree
-file_whole given device measurement bytes file index-bytes root entries closed index_is is =
+pub file_whole : (given : List Series) (device measurement : List ℕ) (bytes file index_bytes : List ℕ) (root : ℕ) (entries : List IndexEntry) → AreClosed given device measurement bytes entries
+    → IsSpelling (length bytes) root entries index_bytes → file ≡ bytes ++ index_bytes ++ number64 root ++ magic → (tree : Tree) × IsTreeOf given tree × IsFile tree file × IsMade tree
+file_whole given device measurement bytes file index_bytes root entries closed index_is is =
     let all = all_groups given device measurement bytes entries closed in
     let groups = closed.groups ++ group_of device closed.chunks ∷ [] in
     let n : length entries ≡ length (chunks_of (closed.groups ++ group_of device closed.chunks ∷ [])) = count_entries groups bytes entries all.layout in
     let few = subst (λ k. k ≤ max_entries) n closed.few in
     let tree : Tree = record { groups = groups } in
-    let of : IsTreeOf given tree = record { is-tree = record { some = all.some; few = few; groups = all.good; rising = all.rising }; chunks = all.of } in
-    (tree, of, file_made tree bytes file index-bytes root entries all.layout index_is is, tree_made given tree closed.made of)
+    let of : IsTreeOf given tree = record { is_tree = record { some = all.some; few = few; groups = all.good; rising = all.rising }; chunks = all.of } in
+    (tree, of, file_made tree bytes file index_bytes root entries all.layout index_is is, tree_made given tree closed.made of)

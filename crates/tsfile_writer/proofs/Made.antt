@@ -25,8 +25,8 @@ placed_of : (series : Series) (device : List ℕ) (chunk : Chunk) → IsMadeSeri
 placed_of series device chunk made at is = record {
   device = subst IsPath (sym at) made.device;
   parts = record {
-    measurement = subst IsName (sym is.measurement-is) made.measurement;
-    points = subst (All IsInRange) (sym is.points-are) made.points;
+    measurement = subst IsName (sym is.measurement_is) made.measurement;
+    points = subst (All IsInRange) (sym is.points_are) made.points;
   };
 }
 
@@ -61,7 +61,7 @@ chunks_made (g ∷ groups) all =
 
 pub tree_made : (given : List Series) (tree : Tree) → All IsMadeSeries given → IsTreeOf given tree → IsMade tree
 tree_made given tree made of = record {
-  devices = All-from_recursion (λ (g : Group). IsPath g.device) tree.groups (devices_made tree.groups (recursion_from_All IsGroup tree.groups of.is-tree.groups) all);
+  devices = All-from_recursion (λ (g : Group). IsPath g.device) tree.groups (devices_made tree.groups (recursion_from_All IsGroup tree.groups of.is_tree.groups) all);
   chunks = chunks_made tree.groups all;
 }
   where

@@ -70,10 +70,10 @@ filled_same (x ∷ w ∷ ws) (y ∷ z ∷ zs) in_xs in_ys e =
 chunk_same : (series : Series) (a b : Chunk) → IsChunkOf series a → IsChunkOf series b → a ≡ b
 chunk_same series a b is_a is_b =
     let made : List ℕ → DataType → Encoding → List Page → Chunk = λ measurement data_type encoding pages. record { measurement = measurement; data_type = data_type; encoding = encoding; pages = pages } in
-    let n : a.measurement ≡ b.measurement = is_a.measurement-is ∙ sym is_b.measurement-is in
-    let t : a.data_type ≡ b.data_type = is_a.type-is ∙ sym is_b.type-is in
-    let c : a.encoding ≡ b.encoding = is_a.encoding-is ∙ sym is_b.encoding-is in
-    let p : a.pages ≡ b.pages = filled_same a.pages b.pages is_a.filled is_b.filled (is_a.points-are ∙ sym is_b.points-are) in
+    let n : a.measurement ≡ b.measurement = is_a.measurement_is ∙ sym is_b.measurement_is in
+    let t : a.data_type ≡ b.data_type = is_a.type_is ∙ sym is_b.type_is in
+    let c : a.encoding ≡ b.encoding = is_a.encoding_is ∙ sym is_b.encoding_is in
+    let p : a.pages ≡ b.pages = filled_same a.pages b.pages is_a.filled is_b.filled (is_a.points_are ∙ sym is_b.points_are) in
     let same : made a.measurement a.data_type a.encoding a.pages ≡ made b.measurement b.data_type b.encoding b.pages = cc in
     same
 
@@ -199,8 +199,8 @@ one_tree_of given a b is_a is_b =
     let made : List Group → Tree = λ groups. record { groups = groups } in
     ap made (same_parts a.groups b.groups
     (groups_same (map parts_of a.groups) (map parts_of b.groups)
-    (apart_from a.groups (recursion_from_All IsGroup a.groups is_a.is-tree.groups) is_a.is-tree.rising)
-    (apart_from b.groups (recursion_from_All IsGroup b.groups is_b.is-tree.groups) is_b.is-tree.rising)
+    (apart_from a.groups (recursion_from_All IsGroup a.groups is_a.is_tree.groups) is_a.is_tree.rising)
+    (apart_from b.groups (recursion_from_All IsGroup b.groups is_b.is_tree.groups) is_b.is_tree.rising)
     (sym (placed_flat a.groups) ∙ chunks_same given (placed a.groups) (placed b.groups) is_a.chunks is_b.chunks ∙ placed_flat b.groups)))
 
 pub one_file_of : (given : List Series) (a b : Tree) (bytes : List ℕ) → IsTreeOf given a → IsTreeOf given b → IsFile a bytes → IsFile b bytes

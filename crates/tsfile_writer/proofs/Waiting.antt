@@ -20,7 +20,7 @@ use Rattle.tsdb_pages.specs.Pages.{ArePoints, IsInRange}
 use Rattle.tsdb_pages.specs.Trees.{points_of}
 use Rattle.tsdb_pages.proofs.Order.{pairs_across, pairs_behind, pairs_push, rises}
 use Rattle.tsfile_writer.specs.declared.layout.OpenChunk.{OpenChunk}
-use Rattle.tsfile_writer.specs.Given.{IsMadeSeries, MayTake, Series, with_point}
+use Rattle.tsfile_writer.specs.Given.{IsMadeSeries, MayTake, Series, with_last_point}
 use Rattle.tsfile_writer.specs.Steps.{AreChunks, ArePages, IsBegun, start_if}
 use Rattle.tsfile_writer.specs.Building.{BeginsGroup, BuildState, IsOpenOf, IsStarted, PutsIn, SameIfAny, StandIn}
 use Rattle.tsdb_pages.proofs.Entries.{count_pages, flat_push}
@@ -42,11 +42,11 @@ put_stands groups chunks pages page path data_type encoding points old new entri
 put_stands groups chunks pages page path data_type encoding points old new entries None (Some c) same stand puts = (
   some_pages pages page,
   subst (λ (ps : List Page). ArePages groups (device_of path) chunks (measurement_of path) data_type encoding (ps ++ page ∷ []) new entries c) (sym stand.0)
-      (chunk_begun groups (device_of path) chunks (measurement_of path) data_type encoding page points (old ++ start_if puts.begins (device_of path)) new entries c (stand.1 puts.begins puts.test) same puts.bytes-are puts.is),
+      (chunk_begun groups (device_of path) chunks (measurement_of path) data_type encoding page points (old ++ start_if puts.begins (device_of path)) new entries c (stand.1 puts.begins puts.test) same puts.bytes_are puts.is),
 )
 put_stands groups chunks pages page path data_type encoding points old new entries (Some b) (Some c) same stand puts = (
   some_pages pages page,
-  page_added groups (device_of path) chunks (measurement_of path) data_type encoding pages page points old new entries b c stand.1 same puts.bytes-are puts.is,
+  page_added groups (device_of path) chunks (measurement_of path) data_type encoding pages page points old new entries b c stand.1 same puts.bytes_are puts.is,
 )
 
 pub put_few : (groups : List Group) (chunks : List Chunk) (pages : List Page) (page : Page) (path : List ℕ) (data_type : DataType) (encoding : Encoding) (points : List Point) (old new : List ℕ) (entries : List IndexEntry) (before after : Option OpenChunk)
@@ -58,8 +58,8 @@ put_few groups chunks pages page path data_type encoding points old new entries 
     let one : length (pages ++ page ∷ []) ≡ 1 = ap (λ (ps : List Page). length (ps ++ page ∷ [])) stand.0 in
     omega (arith, one)
 put_few groups chunks pages page path data_type encoding points old new entries (Some b) (Some c) same stand puts =
-    let layout = page_added groups (device_of path) chunks (measurement_of path) data_type encoding pages page points old new entries b c stand.1 same puts.bytes-are puts.is in
-    let n = count_pages encoding (length layout.bytes-before + length (chunk_start (measurement_of path) data_type encoding)) (pages ++ page ∷ []) c.pages.items layout.is.say in
+    let layout = page_added groups (device_of path) chunks (measurement_of path) data_type encoding pages page points old new entries b c stand.1 same puts.bytes_are puts.is in
+    let n = count_pages encoding (length layout.bytes_before + length (chunk_start (measurement_of path) data_type encoding)) (pages ++ page ∷ []) c.pages.items layout.is.say in
     subst (λ k. k ≤ max_pages) n puts.is.few
 
 -- ---- nothing has changed but room
@@ -96,7 +96,7 @@ state_as given old new entries path path' data_type type' encoding encoding' bef
       groups = state.groups;
       chunks = state.chunks;
       grouped = state.grouped;
-      chunks-before = state.chunks-before;
+      chunks_before = state.chunks_before;
       few = state.few;
       stand = same_stands state.groups state.chunks state.pages path data_type encoding old new entries before after state.stand same same_chunk;
       made = state.made;
@@ -108,7 +108,7 @@ pub some_wait : (front : List Series) (last : Series) (bytes : List ℕ) (entrie
     → BuildState (front ++ last ∷ []) bytes entries path data_type encoding chunk points → 0 < length last.points → 0 < length points
 some_wait front last bytes entries path data_type encoding chunk [] state some =
     let same : last ≡ state.last = (same_ends front state.front last state.last state.all).1 in
-    let none : last.points ≡ [] = ap (λ (s : Series). s.points) same ∙ state.is.points-are ∙ append-nil (points_of state.pages) ∙ ap points_of (state.is.ahead refl) in
+    let none : last.points ≡ [] = ap (λ (s : Series). s.points) same ∙ state.is.points_are ∙ append-nil (points_of state.pages) ∙ ap points_of (state.is.ahead refl) in
     let n : length last.points ≡ 0 = ap length none in
     absurd (omega (arith, n, some))
 some_wait front last bytes entries path data_type encoding chunk (p ∷ ps) state some = omega arith
@@ -124,7 +124,7 @@ started (Ok chunk) path data_type encoding points entries old middle new begins 
     record {
       begins = begins;
       test = subst (λ (d : List ℕ). BeginsGroup entries d begins) same_device test;
-      bytes-are = bytes ∙ ap (λ (l : List ℕ). l ++ (chunk_start measurement data_type encoding ++ page_bytes encoding seen)) place
+      bytes_are = bytes ∙ ap (λ (l : List ℕ). l ++ (chunk_start measurement data_type encoding ++ page_bytes encoding seen)) place
           ∙ ap (λ (m : List ℕ). old ++ start_if begins (device_of path) ++ (chunk_start m data_type encoding ++ page_bytes encoding seen)) same_measurement
           ∙ ap (λ (ps : List Point). old ++ start_if begins (device_of path) ++ (chunk_start (measurement_of path) data_type encoding ++ page_bytes encoding ps)) same_points;
       is = subst (λ (l : List ℕ). IsBegun (length l) (length (chunk_start (measurement_of path) data_type encoding)) points chunk) place
@@ -157,9 +157,9 @@ pub point_suits : (front : List Series) (last : Series) (bytes : List ℕ) (entr
     → BuildState (front ++ last ∷ []) bytes entries path data_type encoding chunk points → MayTake point last → IsInRange point → Suits data_type points point
 point_suits front last bytes entries path data_type encoding chunk points point state may in_range =
     let same : last ≡ state.last = (same_ends front state.front last state.last state.all).1 in
-    let all : last.points ≡ points_of state.pages ++ points = ap (λ (s : Series). s.points) same ∙ state.is.points-are in
+    let all : last.points ≡ points_of state.pages ++ points = ap (λ (s : Series). s.points) same ∙ state.is.points_are in
     record {
-      typed = may.typed ∙ ap (λ (s : Series). s.data_type) same ∙ state.is.type-is;
+      typed = may.typed ∙ ap (λ (s : Series). s.data_type) same ∙ state.is.type_is;
       later = all_behind (λ (p : Point). p.time <ℤ point.time) (points_of state.pages) points (subst (λ (ps : List Point). All (λ (p : Point). p.time <ℤ point.time) ps) all may.later);
       in_range = in_range;
     }
@@ -178,22 +178,22 @@ later_than_all before (y ∷ ys) point rising later ahead =
 
 rising_more : (series : Series) (pages : List Page) (path : List ℕ) (data_type : DataType) (encoding : Encoding) (points : List Point) (point : Point) → IsOpenOf series pages path data_type encoding points → Suits data_type points point → IsRising (series.points ++ point ∷ [])
 rising_more series pages path data_type encoding points point is suits =
-    let whole : IsRising (points_of pages ++ points) = subst IsRising is.points-are is.rising in
+    let whole : IsRising (points_of pages ++ points) = subst IsRising is.points_are is.rising in
     let later = later_than_all (points_of pages) points point whole suits.later (λ none. ap points_of (is.ahead none)) in
-    pairs_push (λ (a b : Point). a.time <ℤ b.time) series.points point is.rising (subst (λ (ps : List Point). All (λ (p : Point). p.time <ℤ point.time) ps) (sym is.points-are) later)
+    pairs_push (λ (a b : Point). a.time <ℤ b.time) series.points point is.rising (subst (λ (ps : List Point). All (λ (p : Point). p.time <ℤ point.time) ps) (sym is.points_are) later)
 
-given_more : (front : List Series) (last : Series) (front' : List Series) (last' : Series) (point : Point) → front ++ last ∷ [] ≡ front' ++ last' ∷ [] → front ++ with_point point last ∷ [] ≡ front' ++ with_point point last' ∷ []
+given_more : (front : List Series) (last : Series) (front' : List Series) (last' : Series) (point : Point) → front ++ last ∷ [] ≡ front' ++ last' ∷ [] → front ++ with_last_point point last ∷ [] ≡ front' ++ with_last_point point last' ∷ []
 given_more front last front' last' point same =
     let ends = same_ends front front' last last' same in
-    ap (λ (s : Series). front ++ with_point point s ∷ []) ends.1 ∙ ap (λ (l : List Series). l ++ with_point point last' ∷ []) ends.0
+    ap (λ (s : Series). front ++ with_last_point point s ∷ []) ends.1 ∙ ap (λ (l : List Series). l ++ with_last_point point last' ∷ []) ends.0
 
 -- each series is still as its types say
-made_more : (front : List Series) (last : Series) (point : Point) → All IsMadeSeries (front ++ last ∷ []) → IsInRange point → All IsMadeSeries (front ++ with_point point last ∷ [])
+made_more : (front : List Series) (last : Series) (point : Point) → All IsMadeSeries (front ++ last ∷ []) → IsInRange point → All IsMadeSeries (front ++ with_last_point point last ∷ [])
 made_more front last point all in_range =
     let n : length (front ++ last ∷ []) ≡ length front + 1 = length-append front (last ∷ []) in
     let before : All IsMadeSeries front = λ k d lt. subst IsMadeSeries (get_or_append_left front (last ∷ []) d k lt) (all k d (omega (arith, lt, n))) in
     let here : IsMadeSeries last = All-head IsMadeSeries last [] (all_behind IsMadeSeries front (last ∷ []) all) in
-    All-push IsMadeSeries front (with_point point last) before (record {
+    All-push IsMadeSeries front (with_last_point point last) before (record {
       device = here.device;
       measurement = here.measurement;
       points = All-push IsInRange last.points point here.points in_range;
@@ -202,25 +202,25 @@ made_more front last point all in_range =
 -- the point waits with the others
 pub point_waits : (front : List Series) (last : Series) (bytes : List ℕ) (entries : List IndexEntry) (path : List ℕ) (data_type : DataType) (encoding : Encoding) (chunk : Option OpenChunk) (points : List Point) (point : Point)
     → BuildState (front ++ last ∷ []) bytes entries path data_type encoding chunk points → Suits data_type points point → length points < max_values
-    → BuildState (front ++ with_point point last ∷ []) bytes entries path data_type encoding chunk (points ++ point ∷ [])
+    → BuildState (front ++ with_last_point point last ∷ []) bytes entries path data_type encoding chunk (points ++ point ∷ [])
 point_waits front last bytes entries path data_type encoding chunk points point state suits room =
     let n : length (points ++ point ∷ []) ≡ length points + 1 = length-append points (point ∷ []) in
     record {
       front = state.front;
-      last = with_point point state.last;
+      last = with_last_point point state.last;
       all = given_more front last state.front state.last point state.all;
       pages = state.pages;
       is = record {
         nodes = state.is.nodes;
-        device-is = state.is.device-is;
-        measurement-is = state.is.measurement-is;
-        type-is = state.is.type-is;
-        encoding-is = state.is.encoding-is;
+        device_is = state.is.device_is;
+        measurement_is = state.is.measurement_is;
+        type_is = state.is.type_is;
+        encoding_is = state.is.encoding_is;
         suits = state.is.suits;
-        points-are = ap (λ (ps : List Point). ps ++ point ∷ []) state.is.points-are ∙ append_assoc (points_of state.pages) points (point ∷ []);
+        points_are = ap (λ (ps : List Point). ps ++ point ∷ []) state.is.points_are ∙ append_assoc (points_of state.pages) points (point ∷ []);
         full = state.is.full;
         good = state.is.good;
-        few-pages = state.is.few-pages;
+        few_pages = state.is.few_pages;
         few = omega (arith, room, n);
         typed = All-push (λ (p : Point). type_of p.value ≡ data_type) points point state.is.typed suits.typed;
         rising = rising_more state.last state.pages path data_type encoding points point state.is suits;
@@ -229,7 +229,7 @@ point_waits front last bytes entries path data_type encoding chunk points point 
       groups = state.groups;
       chunks = state.chunks;
       grouped = state.grouped;
-      chunks-before = state.chunks-before;
+      chunks_before = state.chunks_before;
       few = state.few;
       stand = state.stand;
       made = made_more front last point state.made suits.in_range;
@@ -240,32 +240,32 @@ are_points series pages path data_type encoding points is some = record {
   some = some;
   few = is.few;
   typed = is.typed;
-  rising = pairs_behind (λ (a b : Point). a.time <ℤ b.time) (points_of pages) points (subst IsRising is.points-are is.rising);
+  rising = pairs_behind (λ (a b : Point). a.time <ℤ b.time) (points_of pages) points (subst IsRising is.points_are is.rising);
 }
 
 -- the points that waited stand as a page, and the point waits alone
 pub page_turned : (front : List Series) (last : Series) (page : Page) (old new : List ℕ) (entries : List IndexEntry) (path : List ℕ) (data_type : DataType) (encoding : Encoding) (before after : Option OpenChunk) (points : List Point) (point : Point)
     → BuildState (front ++ last ∷ []) old entries path data_type encoding before points → Suits data_type points point → length points ≡ max_values → page.points ≡ points → PutsIn path data_type encoding points entries old new before after
-    → BuildState (front ++ with_point point last ∷ []) new entries path data_type encoding after (point ∷ [])
+    → BuildState (front ++ with_last_point point last ∷ []) new entries path data_type encoding after (point ∷ [])
 page_turned front last page old new entries path data_type encoding before after points point state suits size same puts =
     let good : ArePoints data_type page.points = subst (ArePoints data_type) (sym same) (are_points state.last state.pages path data_type encoding points state.is (omega (arith, size))) in
     let moved : points_of (state.pages ++ page ∷ []) ≡ points_of state.pages ++ points = flat_push (λ (p : Page). p.points) state.pages page ∙ ap (λ (ps : List Point). points_of state.pages ++ ps) same in
     record {
       front = state.front;
-      last = with_point point state.last;
+      last = with_last_point point state.last;
       all = given_more front last state.front state.last point state.all;
       pages = state.pages ++ page ∷ [];
       is = record {
         nodes = state.is.nodes;
-        device-is = state.is.device-is;
-        measurement-is = state.is.measurement-is;
-        type-is = state.is.type-is;
-        encoding-is = state.is.encoding-is;
+        device_is = state.is.device_is;
+        measurement_is = state.is.measurement_is;
+        type_is = state.is.type_is;
+        encoding_is = state.is.encoding_is;
         suits = state.is.suits;
-        points-are = ap (λ (ps : List Point). ps ++ point ∷ []) (state.is.points-are ∙ sym moved);
+        points_are = ap (λ (ps : List Point). ps ++ point ∷ []) (state.is.points_are ∙ sym moved);
         full = All-push (λ (p : Page). length p.points ≡ max_values) state.pages page state.is.full (ap length same ∙ size);
         good = All-push (λ (p : Page). ArePoints data_type p.points) state.pages page state.is.good good;
-        few-pages = put_few state.groups state.chunks state.pages page path data_type encoding points old new entries before after same state.stand puts;
+        few_pages = put_few state.groups state.chunks state.pages page path data_type encoding points old new entries before after same state.stand puts;
         few = omega arith;
         typed = All-push (λ (p : Point). type_of p.value ≡ data_type) [] point (All-nil (λ (p : Point). type_of p.value ≡ data_type)) suits.typed;
         rising = rising_more state.last state.pages path data_type encoding points point state.is suits;
@@ -274,7 +274,7 @@ page_turned front last page old new entries path data_type encoding before after
       groups = state.groups;
       chunks = state.chunks;
       grouped = state.grouped;
-      chunks-before = state.chunks-before;
+      chunks_before = state.chunks_before;
       few = state.few;
       stand = put_stands state.groups state.chunks state.pages page path data_type encoding points old new entries before after same state.stand puts;
       made = made_more front last point state.made suits.in_range;

@@ -32,25 +32,25 @@ BeginsGroup entries device false = (front : List IndexEntry) × (last : IndexEnt
 -- the chunks of these series are those of the groups, and of one more group of this device
 pub record AreGrouped (given : List Series) (groups : List Group) (device : List ℕ) (chunks : List Chunk) : Type 0 where
   pub of : AreChunksOf given (placed groups ++ map (λ chunk. (device, chunk)) chunks)
-  pub groups-good : All IsGroup groups
-  pub groups-rising : AllPairs (λ a b. IsBefore a.device b.device) groups
-  pub groups-before : All (λ group. IsBefore group.device device) groups
-  pub chunks-good : All IsChunk chunks
-  pub chunks-rising : AllPairs (λ a b. IsBefore a.measurement b.measurement) chunks
+  pub groups_good : All IsGroup groups
+  pub groups_rising : AllPairs (λ a b. IsBefore a.device b.device) groups
+  pub groups_before : All (λ group. IsBefore group.device device) groups
+  pub chunks_good : All IsChunk chunks
+  pub chunks_rising : AllPairs (λ a b. IsBefore a.measurement b.measurement) chunks
 
 -- a series at this path has these pages in the file, each of 1,000 points, and its other points wait
 pub record IsOpenOf (series : Series) (pages : List Page) (path : List ℕ) (data_type : DataType) (encoding : Encoding)
     (points : List Point) : Type 0 where
   pub nodes : 2 ≤ node_count path
-  pub device-is : series.device ≡ device_of path
-  pub measurement-is : series.measurement ≡ measurement_of path
-  pub type-is : series.data_type ≡ data_type
-  pub encoding-is : series.encoding ≡ encoding
+  pub device_is : series.device ≡ device_of path
+  pub measurement_is : series.measurement ≡ measurement_of path
+  pub type_is : series.data_type ≡ data_type
+  pub encoding_is : series.encoding ≡ encoding
   pub suits : is_suitable data_type encoding ≡ true
-  pub points-are : series.points ≡ points_of pages ++ points
+  pub points_are : series.points ≡ points_of pages ++ points
   pub full : All (λ page. length page.points ≡ max_values) pages
   pub good : All (λ page. ArePoints data_type page.points) pages
-  pub few-pages : length pages ≤ max_pages
+  pub few_pages : length pages ≤ max_pages
   pub few : length points ≤ max_values
   pub typed : All (λ point. type_of point.value ≡ data_type) points
   pub rising : IsRising series.points
@@ -77,7 +77,7 @@ pub record BuildState (given : List Series) (bytes : List ℕ) (entries : List I
   pub groups : List Group
   pub chunks : List Chunk
   pub grouped : AreGrouped front groups (device_of path) chunks
-  pub chunks-before : All (λ chunk. IsBefore chunk.measurement (measurement_of path)) chunks
+  pub chunks_before : All (λ chunk. IsBefore chunk.measurement (measurement_of path)) chunks
   pub few : length entries ≤ max_entries
   pub stand : StandIn groups chunks pages bytes entries path data_type encoding chunk
   pub made : All IsMadeSeries given
@@ -90,8 +90,8 @@ IsBuilding given bytes entries waits = BuildState given bytes entries waits.path
 -- nothing was given, and nothing stands
 pub record IsEmpty (given : List Series) (bytes : List ℕ) (entries : List IndexEntry) : Type 0 where
   pub none : given ≡ []
-  pub no-bytes : bytes ≡ []
-  pub no-entries : entries ≡ []
+  pub no_bytes : bytes ≡ []
+  pub no_entries : entries ≡ []
 
 abbrev pub IsGiven : List Series → List ℕ → List IndexEntry → Option OpenSeries → Type 0
 IsGiven given bytes entries None = IsEmpty given bytes entries
@@ -116,7 +116,7 @@ pub record AreClosed (given : List Series) (device measurement : List ℕ) (byte
   pub front : List IndexEntry
   pub entry : IndexEntry
   pub last : entries ≡ front ++ entry ∷ []
-  pub device-is : entry.device ≡ device
+  pub device_is : entry.device ≡ device
   pub made : All IsMadeSeries given
 
 -- a chunk with one page, behind what stands before a group's chunks where one begins
@@ -124,7 +124,7 @@ pub record IsStarted (path : List ℕ) (data_type : DataType) (encoding : Encodi
     (entries : List IndexEntry) (old new : List ℕ) (chunk : OpenChunk) : Type 0 where
   pub begins : Bool
   pub test : BeginsGroup entries (device_of path) begins
-  pub bytes-are : new ≡ old ++ start_if begins (device_of path)
+  pub bytes_are : new ≡ old ++ start_if begins (device_of path)
       ++ (chunk_start (measurement_of path) data_type encoding ++ page_bytes encoding points)
   pub is : IsBegun (length (old ++ start_if begins (device_of path)))
       (length (chunk_start (measurement_of path) data_type encoding)) points chunk
@@ -132,7 +132,7 @@ pub record IsStarted (path : List ℕ) (data_type : DataType) (encoding : Encodi
 -- one page more stands in the chunk
 pub record IsPut (encoding : Encoding) (points : List Point) (old new : List ℕ)
     (before after : OpenChunk) : Type 0 where
-  pub bytes-are : new ≡ old ++ page_bytes encoding points
+  pub bytes_are : new ≡ old ++ page_bytes encoding points
   pub is : IsLonger (length old) points before after
 
 -- the points of the series at this path stand as a page in this chunk
@@ -153,7 +153,7 @@ SameIfAny (Some before) (Some after) = SameChunk before after
 
 -- all but the chunk is as it was
 pub record SameSeries (old new : OpenSeries) : Type 0 where
-  pub path-is : new.path ≡ old.path
-  pub type-is : new.data_type ≡ old.data_type
-  pub encoding-is : new.encoding ≡ old.encoding
-  pub points-are : new.points.items ≡ old.points.items
+  pub path_is : new.path ≡ old.path
+  pub type_is : new.data_type ≡ old.data_type
+  pub encoding_is : new.encoding ≡ old.encoding
+  pub points_are : new.points.items ≡ old.points.items

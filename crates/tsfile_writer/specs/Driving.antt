@@ -18,5 +18,5 @@ pub record HasLast (path : List ℕ) (builder : Builder) : Type 0 where
   pub last : Series
   pub was : WasGiven builder (front ++ last ∷ [])
   pub some : 0 < length last.points
-  pub device-is : last.device ≡ device_of path
-  pub measurement-is : last.measurement ≡ measurement_of path
+  pub device_is : last.device ≡ device_of path
+  pub measurement_is : last.measurement ≡ measurement_of path

@@ -40,8 +40,8 @@ series_at path data_type encoding = record {
 }
 
 -- a series with one point more
-abbrev pub with_point : Point → Series → Series
-with_point point series = record {
+abbrev pub with_last_point : Point → Series → Series
+with_last_point point series = record {
   device = series.device;
   measurement = series.measurement;
   data_type = series.data_type;
@@ -52,7 +52,7 @@ with_point point series = record {
 -- the series has a point, and its device comes before this one, or is this one and its measurement comes before
 pub record MayBeFollowedBy (device measurement : List ℕ) (series : Series) : Type 0 where
   pub some : 0 < length series.points
-  pub before : index.IsBefore (series.device, series.measurement) (device, measurement)
+  pub before : index.AreNamesBefore (series.device, series.measurement) (device, measurement)
 
 -- the point is of the series' type and later than its points
 pub record MayTake (point : Point) (series : Series) : Type 0 where
@@ -67,11 +67,11 @@ AreFilled (page ∷ next ∷ pages) = (length page.points ≡ max_values) × Are
 
 -- the chunk of a series: its points in pages that are filled in turn
 pub record IsChunkOf (series : Series) (chunk : Chunk) : Type 0 where
-  pub measurement-is : chunk.measurement ≡ series.measurement
-  pub type-is : chunk.data_type ≡ series.data_type
-  pub encoding-is : chunk.encoding ≡ series.encoding
+  pub measurement_is : chunk.measurement ≡ series.measurement
+  pub type_is : chunk.data_type ≡ series.data_type
+  pub encoding_is : chunk.encoding ≡ series.encoding
   pub filled : AreFilled chunk.pages
-  pub points-are : points_of chunk.pages ≡ series.points
+  pub points_are : points_of chunk.pages ≡ series.points
 
 -- each chunk of the groups beside its device
 abbrev pub placed : List Group → List (List ℕ × Chunk)
@@ -87,5 +87,5 @@ AreChunksOf (series ∷ others) (chunk ∷ chunks) =
 
 -- the tree of these series, with pages that are filled in turn
 pub record IsTreeOf (given : List Series) (tree : Tree) : Type 0 where
-  pub is-tree : IsTree tree
+  pub is_tree : IsTree tree
   pub chunks : AreChunksOf given (placed tree.groups)

@@ -29,35 +29,35 @@ AreStatsOfBoth left right all = (before behind : List Point) → AreStatsOf befo
 
 -- an entry for a page of these points at this place
 pub record IsEntryFor (place : ℕ) (points : List Point) (entry : PageEntry) : Type 0 where
-  pub place-is : entry.place ≡ place
+  pub place_is : entry.place ≡ place
   pub stats : AreStatsOf points entry.stats
 
 -- a chunk at this place has one page, of these points, so many bytes behind its first byte
 pub record IsBegun (place skip : ℕ) (points : List Point) (chunk : OpenChunk) : Type 0 where
-  pub place-is : chunk.place ≡ place
+  pub place_is : chunk.place ≡ place
   pub stats : AreStatsOf points chunk.stats
   pub entry : PageEntry
   pub is : IsEntryFor (place + skip) points entry
-  pub pages-are : chunk.pages.items ≡ entry ∷ []
+  pub pages_are : chunk.pages.items ≡ entry ∷ []
 
 -- the chunk has one page more, of these points and at this place
 pub record IsLonger (place : ℕ) (points : List Point) (old new : OpenChunk) : Type 0 where
-  pub place-is : new.place ≡ old.place
+  pub place_is : new.place ≡ old.place
   pub stats : (before : List Point) → AreStatsOf before old.stats → AreStatsOf (before ++ points) new.stats
   pub entry : PageEntry
   pub is : IsEntryFor place points entry
-  pub pages-are : new.pages.items ≡ old.pages.items ++ entry ∷ []
+  pub pages_are : new.pages.items ≡ old.pages.items ++ entry ∷ []
   pub few : length new.pages.items ≤ max_pages
 
 -- the same is said of the chunk
 pub record SameChunk (old new : OpenChunk) : Type 0 where
-  pub place-is : new.place ≡ old.place
+  pub place_is : new.place ≡ old.place
   pub stats : new.stats ≡ old.stats
-  pub pages-are : new.pages.items ≡ old.pages.items
+  pub pages_are : new.pages.items ≡ old.pages.items
 
 -- head and groups stand, and these are their entries
 pub record AreGroups (groups : List Group) (bytes : List ℕ) (entries : List IndexEntry) : Type 0 where
-  pub bytes-are : bytes ≡ head ++ flat_map group_field groups
+  pub bytes_are : bytes ≡ head ++ flat_map group_field groups
   pub by_group : List (List IndexEntry)
   pub all : flat_map (λ list. list) by_group ≡ entries
   pub say : AreEntriesOf (length head) groups by_group
@@ -65,17 +65,17 @@ pub record AreGroups (groups : List Group) (bytes : List ℕ) (entries : List In
 -- behind the groups stands one of this device with these chunks
 pub record AreChunks (groups : List Group) (device : List ℕ) (chunks : List Chunk) (bytes : List ℕ)
     (entries : List IndexEntry) : Type 0 where
-  pub bytes-before : List ℕ
-  pub entries-before : List IndexEntry
-  pub before : AreGroups groups bytes-before entries-before
-  pub bytes-are : bytes ≡ bytes-before ++ (group_start device ++ flat_map chunk_field chunks)
+  pub bytes_before : List ℕ
+  pub entries_before : List IndexEntry
+  pub before : AreGroups groups bytes_before entries_before
+  pub bytes_are : bytes ≡ bytes_before ++ (group_start device ++ flat_map chunk_field chunks)
   pub own : List IndexEntry
-  pub all : entries ≡ entries-before ++ own
-  pub say : AreEntries device (length bytes-before + length (group_start device)) chunks own
+  pub all : entries ≡ entries_before ++ own
+  pub say : AreEntries device (length bytes_before + length (group_start device)) chunks own
 
 -- what is said of a chunk at this place, whose pages begin at the other
 pub record IsOpen (encoding : Encoding) (place first : ℕ) (pages : List Page) (chunk : OpenChunk) : Type 0 where
-  pub place-is : chunk.place ≡ place
+  pub place_is : chunk.place ≡ place
   pub stats : AreStatsOf (points_of pages) chunk.stats
   pub say : ArePageEntries encoding first pages chunk.pages.items
 
@@ -83,9 +83,9 @@ pub record IsOpen (encoding : Encoding) (place first : ℕ) (pages : List Page) 
 pub record ArePages (groups : List Group) (device : List ℕ) (chunks : List Chunk) (measurement : List ℕ)
     (data_type : DataType) (encoding : Encoding) (pages : List Page)
     (bytes : List ℕ) (entries : List IndexEntry) (chunk : OpenChunk) : Type 0 where
-  pub bytes-before : List ℕ
-  pub before : AreChunks groups device chunks bytes-before entries
-  pub bytes-are : bytes ≡ bytes-before ++ (chunk_start measurement data_type encoding
+  pub bytes_before : List ℕ
+  pub before : AreChunks groups device chunks bytes_before entries
+  pub bytes_are : bytes ≡ bytes_before ++ (chunk_start measurement data_type encoding
       ++ flat_map (page_field encoding) pages)
-  pub is : IsOpen encoding (length bytes-before)
-      (length bytes-before + length (chunk_start measurement data_type encoding)) pages chunk
+  pub is : IsOpen encoding (length bytes_before)
+      (length bytes_before + length (chunk_start measurement data_type encoding)) pages chunk

@@ -15,7 +15,7 @@ ghost use Rattle.tsdb_pages.specs.Trees.{IsMade};
 ghost use Rattle.tsdb_path.specs.Nodes.{IsPath, device_of as device_in, measurement_of as measurement_in, node_count};
 ghost use Rattle.tsfile_writer.specs.Building.{AreClosed, BeginsGroup, IsBuilding, IsStarted, PutsIn, SameIfAny};
 ghost use Rattle.tsfile_writer.specs.Building.{SameSeries, WasGiven};
-ghost use Rattle.tsfile_writer.specs.Given.{IsTreeOf, MayBeFollowedBy, MayTake, Series, series_at, with_point};
+ghost use Rattle.tsfile_writer.specs.Given.{IsTreeOf, MayBeFollowedBy, MayTake, Series, series_at, with_last_point};
 
 use crate::fault::BuildFault;
 use crate::layout::{OpenChunk, append_chunk, append_end, append_group_start};
@@ -178,7 +178,7 @@ impl OpenSeries {
             × IsBuilding (front ++ last ∷ []) into.old.items entries.now self.old × MayTake point last }
         ensures ok { OnOk result ((front : List Series) (last : Series) →
             IsBuilding (front ++ last ∷ []) into.old.items entries.now self.old →
-            IsBuilding (front ++ with_point point last ∷ []) into.new.items entries.now self.new) }
+            IsBuilding (front ++ with_last_point point last ∷ []) into.new.items entries.now self.new) }
         ensures memory { OnErr result ((given : List Series) →
             IsBuilding given into.old.items entries.now self.old →
             IsBuilding given into.new.items entries.now self.new) }
@@ -269,7 +269,7 @@ impl Builder {
         requires { (front : List Series) × (last : Series)
             × WasGiven self.old (front ++ last ∷ []) × MayTake point last }
         ensures ok { OnOk result ((front : List Series) (last : Series) → WasGiven self.old (front ++ last ∷ []) →
-            WasGiven self.new (front ++ with_point point last ∷ [])) }
+            WasGiven self.new (front ++ with_last_point point last ∷ [])) }
         ensures memory { OnErr result ((given : List Series) → WasGiven self.old given → WasGiven self.new given) }
     {
         let Some(last) = &mut self.series else {

@@ -14,11 +14,11 @@ use Rattle.enc_dict.proofs.decode.decode_text.Goals as goal
 
 pub returns-in_err-count-clause-bad : goal.returns-in_err-count-clause-bad
 returns-in_err-count-clause-bad c = λ is_bad values is.
-    c.in_err-count.ensures.none (length values) (tail_of values) is.list.few (is.bytes-are ∙ spelling-tail values)
+    c.in_err-count.ensures.none (length values) (tail_of values) is.list.few (is.bytes_are ∙ spelling-tail values)
 
 pub returns-then-not-is_empty-clause-bad : goal.returns-then-not-is_empty-clause-bad
 returns-then-not-is_empty-clause-bad c = λ is_bad values is.
-    let none = ap length (nothing_behind values c.in_ok-count.count c.args.bytes.now c.in_ok-count.rest.now c.if-count-eq0.true c.in_ok-count.ensures.found is.bytes-are) in
+    let none = ap length (nothing_behind values c.in_ok-count.count c.args.bytes.now c.in_ok-count.rest.now c.if-count-eq0.true c.in_ok-count.ensures.found is.bytes_are) in
     search rules
 
 pub returns-then-count-eq0-clause-found : goal.returns-then-count-eq0-clause-found
@@ -29,7 +29,7 @@ returns-then-count-eq0-clause-found c =
     let empty = empty_rest c.in_ok-count.rest.now none in
     rw items (record {
       list = record { few = omega arith; typed = All-nil IsText };
-      bytes-are = c.in_ok-count.ensures.found ∙ ap (λ (n : ℕ). leb n ++ c.in_ok-count.rest.now) c.if-count-eq0.true ∙ ap (λ (t : List ℕ). leb 0 ++ t) empty ∙ append-nil (leb 0);
+      bytes_are = c.in_ok-count.ensures.found ∙ ap (λ (n : ℕ). leb n ++ c.in_ok-count.rest.now) c.if-count-eq0.true ∙ ap (λ (t : List ℕ). leb 0 ++ t) empty ∙ append-nil (leb 0);
     })
   where
     empty_rest : (rest : List ℕ) → length rest ≡ 0 → rest ≡ []

@@ -38,7 +38,7 @@ returns-in_err-places-clause-bad c = λ is_bad texts places are whole.
     c.in_ok-different.ensures.found c.in_ok-texts.ensures.found c.in_ok-texts.ensures.count c.in_ok-texts.ensures.values are.typed whole in
     let number = texts_behind texts places c.in_ok-different.different c.args.bytes.now c.in_ok-different.rest.now c.in_ok-different.ensures.found whole in
     let wide : c.width.result ≡ place_width (length texts) = c.width.ensures ∙ ap binary_digits (c.saturating_sub.ensures ∙ ap (λ n. n - 1) (sym number.0)) in
-    c.in_err-places.ensures.bad (ap (λ x. Err x) bad_there) places (record { size = are.size; below = rw wide are.fit; bytes-are = behind ∙ ap (λ n. pack_bytes n places) (sym wide) })
+    c.in_err-places.ensures.bad (ap (λ x. Err x) bad_there) places (record { size = are.size; below = rw wide are.fit; bytes_are = behind ∙ ap (λ n. pack_bytes n places) (sym wide) })
 
 -- as wide as the places of the texts that were read
 wide_as : (width different : ℕ) (number : ℕ) → width ≡ binary_digits (different - 1) → number ≡ different → width ≡ place_width number
@@ -50,7 +50,7 @@ returns-clause-found c =
     let places = c.in_ok-places.places.items in
     let wide = wide_as c.width.result c.in_ok-different.different (length texts) (c.width.ensures ∙ ap binary_digits c.saturating_sub.ensures) c.in_ok-texts.ensures.count in
     c.in_ok-different.ensures.found ∙ ap (λ (n : ℕ). leb n ++ c.in_ok-different.rest.now) (sym c.in_ok-texts.ensures.count)
-    ∙ ap (λ (t : List ℕ). leb (length texts) ++ t) (c.in_ok-texts.ensures.found ∙ ap (λ (t : List ℕ). flat_map plain_text texts ++ t) (c.in_ok-places.ensures.found.bytes-are ∙ ap (λ n. pack_bytes n places) wide))
+    ∙ ap (λ (t : List ℕ). leb (length texts) ++ t) (c.in_ok-texts.ensures.found ∙ ap (λ (t : List ℕ). flat_map plain_text texts ++ t) (c.in_ok-places.ensures.found.bytes_are ∙ ap (λ n. pack_bytes n places) wide))
 
 pub returns-clause-are : goal.returns-clause-are
 returns-clause-are c =

@@ -15,6 +15,6 @@ returns-in-Some-Some c =
     record {
       index = c.args.index;
       within = search rules;
-      value-is = lent_at c.args.values.now c.args.index value c.args.text.now within at ∙ same;
-      place-is = search rules;
+      value_is = lent_at c.args.values.now c.args.index value c.args.text.now within at ∙ same;
+      place_is = search rules;
     }

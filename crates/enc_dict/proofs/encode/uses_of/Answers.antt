@@ -24,9 +24,9 @@ loop-text-preserved c =
     (λ place is. known_is_place values l.text-index c.deref.result.now t place (omega (arith, length-lent c.args.values.now, c.loop-text-test.true)) (c.deref.ensures.value ∙ l.invariant.numbered.places_are) is) in
     let enters = c.in_ok-place.ensures (first_uses xs) l.invariant.dictionary known in
     record {
-      numbered = rw more (numbered_push t c.in_ok-place.place c.in_ok-place.is_new l.texts.items c.put_first_use.new.into.items l.places.items c.push.new.self.items xs l.invariant.numbered enters.place-is enters.new-is
+      numbered = rw more (numbered_push t c.in_ok-place.place c.in_ok-place.is_new l.texts.items c.put_first_use.new.into.items l.places.items c.push.new.self.items xs l.invariant.numbered enters.place_is enters.new_is
           c.in_ok-put_first_use.ensures c.in_ok-push.ensures.items);
-      dictionary = rw (more, first_uses_push xs t) enters.dictionary-is;
+      dictionary = rw (more, first_uses_push xs t) enters.dictionary_is;
     }
 
 pub returns-clause-different : goal.returns-clause-different

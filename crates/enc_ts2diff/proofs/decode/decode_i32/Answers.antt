@@ -25,7 +25,7 @@ loop-value-preserved c =
 wider_spelling : (bytes : List ℕ) (values : List ℤ) → IsSpelling spelling (FitsSigned w32) bytes values → IsSpelling spelling (FitsSigned w64) bytes values
 wider_spelling bytes values is = record {
   list = wider_list values is.list;
-  bytes-are = is.bytes-are;
+  bytes_are = is.bytes_are;
 }
 
 -- all of the list was copied
@@ -43,7 +43,7 @@ returns-clause-found c =
     let l = c.loop-value in
     let wide = c.in_ok-wide.wide.items in
     let k = all_copied l.values.items c.deref-value-items.result.now wide l.value-index (omega arith) c.deref-value-items.ensures.value c.in_ok-wide.ensures.found.list.few l.invariant.copied l.invariant.fits in
-    record { list = k.list; bytes-are = c.in_ok-wide.ensures.found.bytes-are ∙ ap spelling (sym k.same) }
+    record { list = k.list; bytes_are = c.in_ok-wide.ensures.found.bytes_are ∙ ap spelling (sym k.same) }
 
 pub returns-clause-only : goal.returns-clause-only
 returns-clause-only c =

@@ -15,4 +15,4 @@ returns-clause-only c =
 
 pub returns-clause-bad : goal.returns-clause-bad
 returns-clause-bad c = λ is_bad values is.
-    subst (λ r. Finds (λ found. found.items) r values) is_bad (c.list_in.ensures.finds values is.list (sym is.bytes-are))
+    subst (λ r. Finds (λ found. found.items) r values) is_bad (c.list_in.ensures.finds values is.list (sym is.bytes_are))

@@ -85,7 +85,7 @@ returns-then-count-eq0-clause-found c =
     let items : c.new.result.items ≡ [] = c.new.ensures.items in
     record {
       list = record { few = rw items (omega arith); typed = rw items (All-nil (FitsSigned w64)) };
-      bytes-are = spells_none c.args.bytes.now c.in_ok-count.rest.now c.new.result.items (c.in_ok-count.ensures.found ∙ ap (λ (n : ℕ). leb n ++ c.in_ok-count.rest.now) c.if-count-eq0.true) (nil_from_length c.in_ok-count.rest.now none) items;
+      bytes_are = spells_none c.args.bytes.now c.in_ok-count.rest.now c.new.result.items (c.in_ok-count.ensures.found ∙ ap (λ (n : ℕ). leb n ++ c.in_ok-count.rest.now) c.if-count-eq0.true) (nil_from_length c.in_ok-count.rest.now none) items;
     }
 
 pub returns-then-count-eq0-clause-finds : goal.returns-then-count-eq0-clause-finds
@@ -137,7 +137,7 @@ returns-clause-found c =
     let size = length-restored base first is.0 c.deref.result.now values.items is.1 ∙ number in
     record {
       list = record { few = omega (arith, size, few); typed = is.1.fits };
-      bytes-are = spells c.args.bytes.now c.in_ok-count.rest.now c.in_ok-first.rest.now c.in_ok-count.count c.in_ok-first.first base first is.0 c.deref.result.now values.items
+      bytes_are = spells c.args.bytes.now c.in_ok-count.rest.now c.in_ok-first.rest.now c.in_ok-count.count c.in_ok-first.first base first is.0 c.deref.result.now values.items
           c.in_ok-count.ensures.found c.in_ok-first.ensures.found first-is
           (c.in_ok-base.ensures.found ∙ ap (λ (t : ℤ). block (steps_of t c.in_ok-base.above.items)) (sym base-is) ∙ ap (λ (t : List ℕ). block (steps_of base t)) (sym above-is)) is.1 size;
     })

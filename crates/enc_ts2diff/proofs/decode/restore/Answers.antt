@@ -20,7 +20,7 @@ moved : (base first previous step value : ℤ) (above : List ℕ) (i o : ℕ) (o
 moved base first previous step value above i o out now lt e s v n follows = λ values k.
     let f = follows values k in
     let p = next_value base previous o (drop (i + 1) above) f.0 (subst (λ (t : List ℕ). Continues base previous t f.0) (here above i o lt e) f.1) in
-    let same : value ≡ p.value = v ∙ ap (λ (t : ℤ). int_wrap w64 (previous +ℤ t)) s ∙ sym p.value-is in
+    let same : value ≡ p.value = v ∙ ap (λ (t : ℤ). int_wrap w64 (previous +ℤ t)) s ∙ sym p.value_is in
     let goes_on : Continues base value (drop (i + 1) above) p.rest = subst (λ (t : ℤ). Continues base t (drop (i + 1) above) p.rest) (sym same) p.goes_on in
     let whole : first ∷ values ≡ now ++ p.rest =
     f.2 ∙ ap (λ (t : List ℤ). out ++ t) (p.values-are ∙ ap (λ (t : ℤ). t ∷ p.rest) (sym same))

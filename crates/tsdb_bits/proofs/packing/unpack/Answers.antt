@@ -18,8 +18,8 @@ exact_when_packed : (w count : ℕ) (bytes values : List ℕ) → IsPacking w co
 exact_when_packed w count bytes values p =
     let below : from_digits w values < 2 ^ (count * w) = rw (← p.size) (from_digits-lt w values p.below) in
     record {
-      size = ap length p.bytes-are ∙ length-pack_bytes w values ∙ ap (λ (t : ℕ). bytes_for (t * w)) p.size;
-      unfilled = rw p.bytes-are (rw (number-pack_bytes w values p.below) below);
+      size = ap length p.bytes_are ∙ length-pack_bytes w values ∙ ap (λ (t : ℕ). bytes_for (t * w)) p.size;
+      unfilled = rw p.bytes_are (rw (number-pack_bytes w values p.below) below);
     }
 
 wrong_size : (w count : ℕ) (bytes values : List ℕ) → (length bytes ≡ bytes_for (count * w) → ⊥) → IsPacking w count bytes values → ⊥
@@ -63,7 +63,7 @@ packs w count filling bytes values z size are_bytes number_is below e =
     record {
       size = number_is;
       below = below;
-      bytes-are = sym (ap (λ (t : ℕ). low_bytes (bytes_for (t * w)) (from_digits w values)) number_is
+      bytes_are = sym (ap (λ (t : ℕ). low_bytes (bytes_for (t * w)) (from_digits w values)) number_is
           ∙ ap (λ (t : ℕ). low_bytes t (from_digits w values)) (sym size)
           ∙ ap (λ (t : ℕ). low_bytes (length bytes) t) (sym n)
           ∙ low_bytes-number bytes are_bytes);

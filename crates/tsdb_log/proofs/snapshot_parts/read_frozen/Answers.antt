@@ -1,8 +1,8 @@
 use Rattle.std.proofs.Common.{subst, sym}
 use Rattle.std.proofs.lemmas.Result.{err_from_is_err_and}
-use Rattle.tsdb_fields.specs.Reading.{Takes}
+use Rattle.tsdb_fields.specs.Reading.{TakesBytes}
 use Rattle.tsdb_log.specs.Snapshots.{frozen_fields, AreFrozen}
-use Rattle.tsdb_log.specs.Spelling.{bytes_of}
+use Rattle.tsdb_log.specs.Spelling.{joined_fields}
 use Rattle.tsdb_log.proofs.SnapshotExits.{frozen_count, frozen_pairs, takes_frozen}
 use Rattle.tsdb_log.proofs.snapshot_parts.read_frozen.Goals as goal
 
@@ -23,7 +23,7 @@ returns-in_err-pairs c = record {
 
 pub returns : goal.returns
 returns c = record {
-  exact = subst (λ l. Takes c.args.rest (bytes_of (frozen_fields l)) c.in_ok-pairs.behind × AreFrozen l) (sym c.of.ensures)
+  exact = subst (λ l. TakesBytes c.args.rest (joined_fields (frozen_fields l)) c.in_ok-pairs.behind × AreFrozen l) (sym c.of.ensures)
       (takes_frozen c.in_ok-count.count c.in_ok-pairs.pairs.items c.args.rest c.in_ok-count.behind c.in_ok-pairs.behind
       c.in_ok-count.ensures.exact.1 c.in_ok-count.ensures.exact.0 c.in_ok-pairs.ensures.exact.1 c.in_ok-pairs.ensures.exact.0);
 }

@@ -19,7 +19,7 @@ returns-in_err-times-clause-bad c = λ is_bad points is.
     let p = err_from_is_err_and c.from_residual.result c.from_residual.ensures.1 in
     let passed_on = rw (p.1, p.2) at is_bad in
     let bad : c.in_err-times.field-0.0 ≡ page.Bad = cc in
-    c.in_err-times.ensures.bad (ap (λ x. Err x) bad) (times_field points) (spelling c.args.encoding (values_of points)) (short_times c.args.data_type points is.points-are is.ranges) is.bytes-are
+    c.in_err-times.ensures.bad (ap (λ x. Err x) bad) (times_field points) (spelling c.args.encoding (values_of points)) (short_times c.args.data_type points is.points_are is.ranges) is.bytes_are
 
 pub returns-in_err-times-2-clause-bad : goal.returns-in_err-times-2-clause-bad
 returns-in_err-times-2-clause-bad c = λ is_bad.

@@ -2,7 +2,7 @@ use Rattle.std.proofs.Common.{◌≡◌, ◌+◌, ◌≤◌, false, take, rules,
 use Rattle.std.proofs.lemmas.List.{take_rest}
 use Rattle.std.proofs.lemmas.List.Elements.{All-more}
 use Rattle.std.proofs.lemmas.Bool.{iff_false}
-use Rattle.tsdb_plan.specs.Files.{bytes_of}
+use Rattle.tsdb_plan.specs.Files.{total_bytes}
 use Rattle.tsdb_base.specs.Limits.{max_plan_bytes}
 use Rattle.tsdb_plan.proofs.CrossSteps.{first_more, past_more, best_more, best_is_plan, ends_at_claimed, ends_at_bytes}
 use Rattle.tsdb_plan.proofs.Rows.{bytes_more}
@@ -18,7 +18,7 @@ loop-place-preserved c =
     let inv = c.loop-place.invariant in
     let is = c.index-unsequence-place.is in
     let free = All-more (λ f. f.claimed ≡ false) unsequence place file (omega arith) inv.free (search rules) in
-    let room : c.in-Some.left + bytes_of (take (place + 1) unsequence) ≡ max_plan_bytes = omega (arith, bytes_more unsequence place file (omega arith) is) in
+    let room : c.in-Some.left + total_bytes (take (place + 1) unsequence) ≡ max_plan_bytes = omega (arith, bytes_more unsequence place file (omega arith) is) in
     let first = first_more sequence unsequence _ place c.loop-place.first c.first_reaching-first.result file c.items.result.now (omega arith) is (search rules) (search rules) inv.first c.first_reaching-first.ensures in
     let past = past_more sequence unsequence _ place c.loop-place.past c.past_reached-past.result file c.items-in-loop-place.result.now (omega arith) is (search rules) (take_rest sequence c.loop-place.past) inv.past c.past_reached-past.ensures in
     record {
@@ -48,7 +48,7 @@ returns-then-not-fits c =
     let file = c.index-unsequence-place.result in
     let inv = c.loop-place.invariant in
     let is = c.index-unsequence-place.is in
-    let room : c.in-Some.left + bytes_of (take (place + 1) unsequence) ≡ max_plan_bytes = omega (arith, bytes_more unsequence place file (omega arith) is) in
+    let room : c.in-Some.left + total_bytes (take (place + 1) unsequence) ≡ max_plan_bytes = omega (arith, bytes_more unsequence place file (omega arith) is) in
     let first = first_more sequence unsequence _ place c.loop-place.first c.first_reaching-first.result file c.items.result.now (omega arith) is (search rules) (search rules) inv.first c.first_reaching-first.ensures in
     let past = past_more sequence unsequence _ place c.loop-place.past c.past_reached-past.result file c.items-in-loop-place.result.now (omega arith) is (search rules) (take_rest sequence c.loop-place.past) inv.past c.past_reached-past.ensures in
     let best = best_is_plan sequence unsequence place c.loop-place.plan inv.plan (ends_at_span sequence unsequence file place c.first_reaching-first.result (c.loop-place.past + c.past_reached-past.result) c.max-end.result c.in-Some.left room first past c.max-end.ensures (iff_false c.fits.ensures (search rules))) in

@@ -3,7 +3,7 @@ use Rattle.std.proofs.lemmas.Bool.{false≢true}
 use Rattle.std.proofs.lemmas.List.{take_all}
 use Rattle.std.proofs.lemmas.List.Sums.{sum_by-take-le}
 use Rattle.tsdb_plan.specs.declared.entry.FileEntry.{FileEntry}
-use Rattle.tsdb_plan.specs.Files.{bytes_of}
+use Rattle.tsdb_plan.specs.Files.{total_bytes}
 use Rattle.tsdb_plan.proofs.Rows.{bytes_more}
 use Rattle.tsdb_plan.proofs.cross_plan.fits.Goals as goal
 
@@ -22,5 +22,5 @@ pub returns : goal.returns
 returns c =
     let files = c.args.files.now in
     let all : take c.loop-file.file-index files ≡ files = take_all c.loop-file.file-index files (omega arith) in
-    let sum = ap bytes_of all in
+    let sum = ap total_bytes all in
     (λ _. omega (arith, sum, c.loop-file.invariant), λ _. refl)

@@ -1,6 +1,6 @@
 use Rattle.std.proofs.Common.{◌≡◌, ◌≤◌, false, length, take, rules, ⊎_elim, subst, arith}
 use Rattle.std.proofs.lemmas.List.Elements.{All-more}
-use Rattle.tsdb_plan.specs.InnerPlan.{IsRow}
+use Rattle.tsdb_plan.specs.InnerPlan.{IsInnerRow}
 use Rattle.tsdb_base.specs.Limits.{max_plan_bytes}
 use Rattle.tsdb_plan.proofs.Rows.{row_so_far, stops_at_claimed, stops_at_bytes, stops_at_ten, bytes_more}
 use Rattle.tsdb_plan.proofs.inner_plan.longest_row.Goals as goal
@@ -50,9 +50,9 @@ returns c =
     let count = c.loop-count.count in
     let inv = c.loop-count.invariant in
     let all : count ≡ length files = omega arith in
-    let row : IsRow (take count files) = row_so_far files count c.loop-count.room (omega arith) inv.free inv.few inv.room in
+    let row : IsInnerRow (take count files) = row_so_far files count c.loop-count.room (omega arith) inv.free inv.few inv.room in
     record {
       within = omega arith;
-      row = subst (λ n. IsRow (take n files)) all row;
+      row = subst (λ n. IsInnerRow (take n files)) all row;
       longest = λ n within row. within;
     }

@@ -1,5 +1,5 @@
 use Rattle.std.proofs.Common.{◌≡◌, ◌+◌, ◌≤◌, take}
-use Rattle.tsdb_plan.specs.Files.{AreFree, bytes_of}
+use Rattle.tsdb_plan.specs.Files.{AreFree, total_bytes}
 use Rattle.tsdb_base.specs.Limits.{max_inputs, max_plan_bytes}
 use Rattle.tsdb_plan.proofs.inner_plan.longest_row.Given as goal
 
@@ -8,5 +8,5 @@ abbrev pub invariant-loop-count : goal.invariant-loop-count
 invariant-loop-count l = record {
   free : AreFree (take l.count l.files);
   few : l.count ≤ max_inputs;
-  room : l.room + bytes_of (take l.count l.files) ≡ max_plan_bytes;
+  room : l.room + total_bytes (take l.count l.files) ≡ max_plan_bytes;
 }

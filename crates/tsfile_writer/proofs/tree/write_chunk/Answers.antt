@@ -33,13 +33,13 @@ returns c = record {
       (all_taken chunk.pages c.items-pages.result.now c.loop-page.page-index c.items-pages.ensures (search rules))
       (c.loop-page.invariant groups chunks layout))
       (record {
-        device-is = said.device ∙ c.in_ok-copy.ensures;
-        measurement-is = said.measurement ∙ c.in_ok-copy-2.ensures;
-        type-is = said.data_type;
-        encoding-is = said.encoding;
-        place-is = said.place;
+        device_is = said.device ∙ c.in_ok-copy.ensures;
+        measurement_is = said.measurement ∙ c.in_ok-copy-2.ensures;
+        type_is = said.data_type;
+        encoding_is = said.encoding;
+        place_is = said.place;
         stats = said.stats;
-        pages-are = said.pages;
+        pages_are = said.pages;
       })
       c.in_ok-push.ensures.items;
 }

@@ -1,8 +1,8 @@
 use Rattle.std.proofs.Common.{ℕ, ◌<◌, ◌^◌, subst, sym}
 use Rattle.std.proofs.lemmas.Result.{err_from_is_err_and}
-use Rattle.tsdb_fields.specs.Reading.{Takes}
+use Rattle.tsdb_fields.specs.Reading.{TakesBytes}
 use Rattle.tsdb_log.specs.Snapshots.{counted_fields, AreCounted}
-use Rattle.tsdb_log.specs.Spelling.{bytes_of}
+use Rattle.tsdb_log.specs.Spelling.{joined_fields}
 use Rattle.tsdb_log.proofs.Parts.{counted_count, counted_parts, takes_counted}
 use Rattle.tsdb_log.proofs.part.ListPart.read.Goals as goal
 
@@ -24,7 +24,7 @@ returns-in_err-parts g c = record {
 
 pub returns : goal.returns
 returns g c = record {
-  exact = subst (λ l. Takes c.args.rest (bytes_of (counted_fields g.T.Part.fields l)) c.in_ok-parts.behind × AreCounted g.T.Part.is_part l) (sym c.of.ensures) (
+  exact = subst (λ l. TakesBytes c.args.rest (joined_fields (counted_fields g.T.Part.fields l)) c.in_ok-parts.behind × AreCounted g.T.Part.is_part l) (sym c.of.ensures) (
     takes_counted g.T.Part.fields c.in_ok-count.count c.in_ok-parts.parts.items c.args.rest c.in_ok-count.behind c.in_ok-parts.behind
         c.in_ok-parts.ensures.exact.1.0 c.in_ok-count.ensures.exact.0 c.in_ok-parts.ensures.exact.0,
     (subst (λ (n : ℕ). n < 2 ^ 64) (sym c.in_ok-parts.ensures.exact.1.0) c.in_ok-count.ensures.exact.1, c.in_ok-parts.ensures.exact.1.1),

@@ -2,7 +2,7 @@ use Rattle.std.proofs.Common.{◌≡◌, ◌+◌, rules, List, [], ◌∷◌, �
 use Rattle.std.proofs.lemmas.List.Elements.{All-pop}
 use Rattle.tsdb_turn.specs.Passes.{PassState, TurnState, seats_of, new_pass, new_passes}
 use Rattle.tsdb_turn.specs.Rule.{bells_at, known, view}
-use Rattle.tsdb_turn.specs.Values.{Follows, IsKept}
+use Rattle.tsdb_turn.specs.Values.{Follows, IsTurnKept}
 use Rattle.tsdb_turn.specs.declared.view.Marks.{Marks}
 use Rattle.tsdb_turn.specs.declared.view.Stage.TheVariants.{Outside}
 use Rattle.tsdb_turn.proofs.Seats.{splits, dealt_parts, passes_more}
@@ -15,7 +15,7 @@ split_seat-own-requires g c =
     let seat = c.loop-own_marks.seat in (
       search rules,
       omega arith,
-      splits (Follows g.V.Logged) (IsKept g.V.Logged seats shared.key.start.value) seats shared.key.start.value seat.id seat.me.0 (ap (λ m. m.0.stage) c.loop-own_marks.invariant.seat),
+      splits (Follows g.V.Logged) (IsTurnKept g.V.Logged seats shared.key.start.value) seats shared.key.start.value seat.id seat.me.0 (ap (λ m. m.0.stage) c.loop-own_marks.invariant.seat),
     )
 
 pub outside-requires : goal.outside-requires

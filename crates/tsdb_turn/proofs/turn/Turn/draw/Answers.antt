@@ -1,5 +1,5 @@
 use Rattle.std.proofs.Common.{rules, arith}
-use Rattle.tsdb_turn.specs.Values.{Follows, IsKept}
+use Rattle.tsdb_turn.specs.Values.{Follows, IsTurnKept}
 use Rattle.tsdb_turn.proofs.Steps.{draws}
 use Rattle.tsdb_turn.proofs.turn.Turn.draw.Goals as goal
 
@@ -10,5 +10,5 @@ fetch_add-requires g c =
     let seat = c.args.seat.now in (
       search rules,
       omega arith,
-      draws (Follows g.V.Logged) (IsKept g.V.Logged seats shared.key.start.value) seats shared.key.start.value shared.table_id.slots seat.id seat.me c.requires.outside.0 c.requires.outside.1,
+      draws (Follows g.V.Logged) (IsTurnKept g.V.Logged seats shared.key.start.value) seats shared.key.start.value shared.table_id.slots seat.id seat.me c.requires.outside.0 c.requires.outside.1,
     )

@@ -2,7 +2,7 @@ use Rattle.std.proofs.Common.{[], ◌++◌, Some, map, append-nil, ap, sym, ◌�
 use Rattle.std.proofs.lemmas.List.Elements.{All-pop}
 use Rattle.tsdb_turn.specs.Passes.{TurnState, IsOutside}
 use Rattle.tsdb_turn.specs.Steps.{known_of}
-use Rattle.tsdb_turn.specs.Values.{Follows, IsKept}
+use Rattle.tsdb_turn.specs.Values.{Follows, IsTurnKept}
 use Rattle.tsdb_turn.proofs.Seats.{joins, known_more}
 use Rattle.tsdb_turn.proofs.turn.Turn.gather.Goals as goal
 
@@ -38,7 +38,7 @@ join_seat-requires g c =
       c.into_seat.ensures.own ∙ outs.own ∙ sym known_id,
       ap (λ m. m.1) c.into_seat.ensures.seat,
       omega arith,
-      joins (Follows g.V.Logged) (IsKept g.V.Logged seats shared.key.start.value) seats shared.key.start.value seat.id seat.me.0 other.id other.me.0 c.loop-pass.invariant.stage (ap (λ m. m.0.stage) c.into_seat.ensures.seat),
+      joins (Follows g.V.Logged) (IsTurnKept g.V.Logged seats shared.key.start.value) seats shared.key.start.value seat.id seat.me.0 other.id other.me.0 c.loop-pass.invariant.stage (ap (λ m. m.0.stage) c.into_seat.ensures.seat),
     )
 
 pub loop-pass-preserved : goal.loop-pass-preserved

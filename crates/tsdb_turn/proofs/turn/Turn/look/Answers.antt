@@ -1,7 +1,7 @@
 use Rattle.std.proofs.Common.{rules, arith, ap, sym, subst, ◌∙◌}
 use Rattle.tsdb_turn.specs.Passes.{TurnState}
 use Rattle.tsdb_turn.specs.Steps.{Learns}
-use Rattle.tsdb_turn.specs.Values.{Follows, IsKept}
+use Rattle.tsdb_turn.specs.Values.{Follows, IsTurnKept}
 use Rattle.tsdb_turn.proofs.Steps.{reads}
 use Rattle.tsdb_turn.proofs.turn.Turn.look.Goals as goal
 
@@ -15,7 +15,7 @@ load-requires g c =
     let words = c.self.invariant.bells in (
       search rules,
       omega arith,
-      reads (Follows g.V.Logged) (IsKept g.V.Logged seats start) seats start g.L.Lesson.learns
+      reads (Follows g.V.Logged) (IsTurnKept g.V.Logged seats start) seats start g.L.Lesson.learns
           (λ k value knows kept.
           c.requires.lesson k.number k.start k.last value
           (subst (λ (t : TurnState g.row.V.Denot). Learns g.V.Logged t k.number k.start k.last value) c.self.view_is

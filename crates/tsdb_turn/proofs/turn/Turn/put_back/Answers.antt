@@ -1,6 +1,6 @@
 use Rattle.std.proofs.Common.{rules, arith, Some, ◌∷◌, ap, sym, subst, ◌∙◌}
 use Rattle.atomic_table.specs.Table.{rest}
-use Rattle.tsdb_turn.specs.Values.{Follows, IsKept}
+use Rattle.tsdb_turn.specs.Values.{Follows, IsTurnKept}
 use Rattle.tsdb_turn.proofs.Steps.{departs, departed}
 use Rattle.tsdb_turn.proofs.Values.{follows_itself, follows_others, kept_after}
 use Rattle.tsdb_turn.proofs.turn.Turn.put_back.Goals as goal
@@ -18,13 +18,13 @@ fetch_add-served-requires g c =
     let value = c.args.value in (
       search rules,
       omega arith,
-      departs (Follows g.V.Logged) (IsKept g.V.Logged seats shared.key.start.value) seats shared.key.start.value shared.table_id.slots seat.id seat.me t k entered value
+      departs (Follows g.V.Logged) (IsTurnKept g.V.Logged seats shared.key.start.value) seats shared.key.start.value shared.table_id.slots seat.id seat.me t k entered value
           (c.exchange-empty.ensures.3 ∙ ap (λ m. (m.0, (0, Some value) ∷ rest m.1)) h.3)
           (follows_itself g.V.Logged k.number k.start value ext.origin)
           (λ m l apart fit. follows_others g.V.Logged k.number m k.start entered l value apart ext fit)
           (λ made opened all.
-          subst (λ first. IsKept g.V.Logged seats first value) opened
-          (kept_after g.V.Logged k.number seats k.start entered value made ext (subst (λ first. IsKept g.V.Logged seats first entered) (sym opened) all))),
+          subst (λ first. IsTurnKept g.V.Logged seats first value) opened
+          (kept_after g.V.Logged k.number seats k.start entered value made ext (subst (λ first. IsTurnKept g.V.Logged seats first entered) (sym opened) all))),
     )
 
 pub returns-clause-left : goal.returns-clause-left

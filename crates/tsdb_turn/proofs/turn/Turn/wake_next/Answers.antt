@@ -1,5 +1,5 @@
 use Rattle.std.proofs.Common.{rules, ◌+◌, ◌%◌, ◌^◌, arith, ap}
-use Rattle.tsdb_turn.specs.Values.{Follows, IsKept}
+use Rattle.tsdb_turn.specs.Values.{Follows, IsTurnKept}
 use Rattle.tsdb_turn.proofs.Steps.{rings}
 use Rattle.tsdb_turn.proofs.turn.Turn.wake_next.Goals as goal
 
@@ -11,5 +11,5 @@ fetch_add-requires g c =
     let word = c.bell_of-bell.ensures.word in (
       search rules,
       omega arith,
-      rings (Follows g.V.Logged) (IsKept g.V.Logged shared.key.seats shared.key.start.value) shared.key.seats shared.key.start.value shared.table_id.slots seat.id c.bell_of-bell.result seat.me (λ n. (n + 1) % 2 ^ 64) c.bell_of-bell.ensures.bell,
+      rings (Follows g.V.Logged) (IsTurnKept g.V.Logged shared.key.seats shared.key.start.value) shared.key.seats shared.key.start.value shared.table_id.slots seat.id c.bell_of-bell.result seat.me (λ n. (n + 1) % 2 ^ 64) c.bell_of-bell.ensures.bell,
     )

@@ -28,7 +28,7 @@ returns-clause-ok c = λ given was.
           rw (w.self-is, made.chunk) (state_at new_given w.close.new.into.items w.close.new.entries.items path next.path c.args.data_type next.data_type c.args.encoding next.encoding None [] next.points.items begun made.path made.data_type made.encoding made.points)
       | in-None+in_ok-extend_from_slice-in-None w ↦
           let empty = subst (IsGiven given bytes entries) w.in-None.is was in
-          let there : w.extend_from_slice.new.self.items ≡ head = w.in_ok-extend_from_slice-in-None.ensures.items ∙ ap (λ (l : List ℕ). l ++ head) empty.no-bytes in
-          let begun = first_begun w.extend_from_slice.new.self.items entries path c.args.data_type c.args.encoding there empty.no-entries c.requires.nodes c.requires.suits made.good in
+          let there : w.extend_from_slice.new.self.items ≡ head = w.in_ok-extend_from_slice-in-None.ensures.items ∙ ap (λ (l : List ℕ). l ++ head) empty.no_bytes in
+          let begun = first_begun w.extend_from_slice.new.self.items entries path c.args.data_type c.args.encoding there empty.no_entries c.requires.nodes c.requires.suits made.good in
           rw (w.self-is, made.chunk, empty.none) (state_at (series_at path c.args.data_type c.args.encoding ∷ []) w.extend_from_slice.new.self.items entries path next.path c.args.data_type next.data_type c.args.encoding next.encoding None [] next.points.items begun made.path made.data_type made.encoding made.points)
     ]

@@ -2,7 +2,7 @@ use Rattle.std.proofs.Common.{◌≡◌, ◌<◌, List, [], ◌∷◌, ◌++◌,
 use Rattle.tsdb_base.specs.declared.point.Point.{Point}
 use Rattle.tsdb_base.specs.Limits.{max_values}
 use Rattle.tsdb_pages.specs.Pages.{IsInRange}
-use Rattle.tsfile_writer.specs.Given.{with_point}
+use Rattle.tsfile_writer.specs.Given.{with_last_point}
 use Rattle.tsfile_writer.proofs.Waiting.{are_points, state_at, page_turned, point_suits, point_waits}
 use Rattle.tsfile_writer.proofs.builder.OpenSeries.add_point.Goals as goal
 use Rattle.tsfile_writer.proofs.builder.OpenSeries.add_point.Goals.{then-len-eq-MAX_POINTS+in_ok-put_page, else-len-eq-MAX_POINTS}
@@ -25,8 +25,8 @@ returns-clause-ok c = λ front last state.
           let turned = page_turned front last (record { points = self.points.items }) c.args.into.now.items w.put_page.new.into.items c.args.entries.now self.path self.data_type self.encoding self.chunk w.put_page.new.self.chunk self.points.items c.args.point
           state suits size refl put.ok in
           rw (c.in_ok-push.ensures.items, w.self-is, w.into-is)
-          (state_at (front ++ with_point c.args.point last ∷ []) w.put_page.new.into.items c.args.entries.now self.path w.put_page.new.self.path self.data_type w.put_page.new.self.data_type self.encoding w.put_page.new.self.encoding w.put_page.new.self.chunk
-          (c.args.point ∷ []) (w.clear.new.self.items ++ c.args.point ∷ []) turned put.same.path-is put.same.type-is put.same.encoding-is (ap (λ (l : List Point). l ++ c.args.point ∷ []) w.clear.ensures.items))
+          (state_at (front ++ with_last_point c.args.point last ∷ []) w.put_page.new.into.items c.args.entries.now self.path w.put_page.new.self.path self.data_type w.put_page.new.self.data_type self.encoding w.put_page.new.self.encoding w.put_page.new.self.chunk
+          (c.args.point ∷ []) (w.clear.new.self.items ++ c.args.point ∷ []) turned put.same.path_is put.same.type_is put.same.encoding_is (ap (λ (l : List Point). l ++ c.args.point ∷ []) w.clear.ensures.items))
       | else-len-eq-MAX_POINTS w ↦
           let room : length c.args.self.now.points.items < max_values = grind (arith, w.if-len-eq-MAX_POINTS.false, state.is.few) in
           rw (c.in_ok-push.ensures.items, w.self-is, w.into-is)

@@ -23,7 +23,7 @@ returns-in_err-put_page-clause-memory c = always_on_err c.from_residual-in_err-p
     let put = c.in_err-put_page.ensures in
     subst (λ (entries : List IndexEntry). BuildState given c.put_page.new.into.items entries after.path after.data_type after.encoding after.chunk after.points.items) (sym c.in_ok-reserve.ensures.items)
     (state_as given c.args.into.now.items c.put_page.new.into.items c.args.entries.now.items self.path after.path self.data_type after.data_type self.encoding after.encoding self.chunk after.chunk self.points.items after.points.items
-    state put.same_bytes put.same.path-is put.same.type-is put.same.encoding-is put.same.points-are put.same_chunk))
+    state put.same_bytes put.same.path_is put.same.type_is put.same.encoding_is put.same.points_are put.same_chunk))
 
 pub returns-clause-ok : goal.returns-clause-ok
 returns-clause-ok c = λ given state.
@@ -41,12 +41,12 @@ returns-clause-ok c = λ given state.
     series_closed given (record { points = self.points.items }) c.args.into.now.items c.put_page.new.into.items entries c.push.new.self.items self.path self.data_type self.encoding self.chunk whole self.points.items c.into_entry-entry.result
     state some refl puts
     (record {
-      device-is = said.device ∙ c.in_ok-device.ensures;
-      measurement-is = said.measurement ∙ c.in_ok-measurement.ensures;
-      type-is = said.data_type ∙ put.same.type-is;
-      encoding-is = said.encoding ∙ put.same.encoding-is;
-      place-is = said.place;
+      device_is = said.device ∙ c.in_ok-device.ensures;
+      measurement_is = said.measurement ∙ c.in_ok-measurement.ensures;
+      type_is = said.data_type ∙ put.same.type_is;
+      encoding_is = said.encoding ∙ put.same.encoding_is;
+      place_is = said.place;
       stats = said.stats;
-      pages-are = said.pages;
+      pages_are = said.pages;
     })
     (c.in-Ok.ensures.items ∙ ap (λ (l : List IndexEntry). l ++ c.into_entry-entry.result ∷ []) c.in_ok-reserve.ensures.items) room
