@@ -2,43 +2,44 @@
 use Rattle.std.proofs.Common.{◌≡◌, ◌∙◌, ℕ, List, [], ◌∷◌, ◌++◌, None, Result, Ok, Err, ap}
 use Rattle.std.specs.Prelude.{◌<◌, IsSome}
 use Rattle.std.specs.Result.{IsErr}
-use Rattle.tsdb_base.specs.declared.fault.Memory as fault
 use Rattle.tsdb_base.specs.declared.answers.Answer.TheVariants.{Done}
 use Rattle.tsdb_logged.specs.Answers.{IsAccepted, IsCreateAnswer, IsDeleteAnswer, IsFreezeAnswer, answer_by}
 use Rattle.tsdb_memory.specs.Shown.{number_of}
 use Rattle.tsdb_memory.specs.Store.{FrozenPair, Store, frozen_with_working}
 use Rattle.tsdb_memtable.specs.Pairs.{Pair}
-use Rattle.tsdb_outside.specs.declared.faults.Failed.{Failed}
+use Rattle.tsdb_outside.specs.declared.faults.StoreFault.{StoreFault}
+use Rattle.tsdb_outside.specs.declared.faults.StoreFault.TheVariants as fault
 use Rattle.tsdb_base.specs.Limits.{end_of_numbers}
 
-pub create_answered : (store : Store) (path : List ℕ) (result : Result (Result (Unit {0}) Failed) fault.Memory)
+pub create_answered : (store : Store) (path : List ℕ) (result : Result (Unit {0}) StoreFault)
     → number_of store.series path ≡ None → store.stamp < end_of_numbers → IsCreateAnswer store path (answer_by result)
-create_answered store path (Ok (Ok done)) free stamp = (free, stamp)
-create_answered store path (Ok (Err failed)) free stamp = (free, stamp)
-create_answered store path (Err memory) free stamp = tt
+create_answered store path (Ok done) free stamp = (free, stamp)
+create_answered store path (Err fault.Failed) free stamp = (free, stamp)
+create_answered store path (Err fault.Memory) free stamp = tt
 
-pub delete_answered : (store : Store) (path : List ℕ) (result : Result (Result (Unit {0}) Failed) fault.Memory)
+pub delete_answered : (store : Store) (path : List ℕ) (result : Result (Unit {0}) StoreFault)
     → IsSome (number_of store.series path) → store.stamp < end_of_numbers
     → IsDeleteAnswer store path (answer_by result)
-delete_answered store path (Ok (Ok done)) there stamp = (there, stamp)
-delete_answered store path (Ok (Err failed)) there stamp = (there, stamp)
-delete_answered store path (Err memory) there stamp = tt
+delete_answered store path (Ok done) there stamp = (there, stamp)
+delete_answered store path (Err fault.Failed) there stamp = (there, stamp)
+delete_answered store path (Err fault.Memory) there stamp = tt
 
-pub insert_answered : (stamp : ℕ) (result : Result (Result (Unit {0}) Failed) fault.Memory) → stamp < end_of_numbers
+pub insert_answered : (stamp : ℕ) (result : Result (Unit {0}) StoreFault) → stamp < end_of_numbers
     → IsAccepted stamp (answer_by result)
-insert_answered stamp (Ok (Ok done)) below = below
-insert_answered stamp (Ok (Err failed)) below = below
-insert_answered stamp (Err memory) below = tt
+insert_answered stamp (Ok done) below = below
+insert_answered stamp (Err fault.Failed) below = below
+insert_answered stamp (Err fault.Memory) below = tt
 
-pub freeze_answered : (result : Result (Result (Unit {0}) Failed) fault.Memory) → IsFreezeAnswer (answer_by result)
-freeze_answered (Ok (Ok done)) = tt
-freeze_answered (Ok (Err failed)) = tt
-freeze_answered (Err memory) = tt
+pub freeze_answered : (result : Result (Unit {0}) StoreFault) → IsFreezeAnswer (answer_by result)
+freeze_answered (Ok done) = tt
+freeze_answered (Err fault.Failed) = tt
+freeze_answered (Err fault.Memory) = tt
 
--- where memory ended, nothing is done
-pub err_not_done : (result : Result (Result (Unit {0}) Failed) fault.Memory) → IsErr result → answer_by result ≡ Done → ⊥
+-- where it failed, nothing is done
+pub err_not_done : (result : Result (Unit {0}) StoreFault) → IsErr result → answer_by result ≡ Done → ⊥
 err_not_done (Ok outcome) is done = cc
-err_not_done (Err memory) is done = cc
+err_not_done (Err fault.Failed) is done = cc
+err_not_done (Err fault.Memory) is done = cc
 
 -- the frozen pairs after a freeze depend on the pairs and the stamp alone
 pub same_frozen : (old new : Store) → new.frozen ≡ old.frozen → new.stamp ≡ old.stamp → new.working ≡ old.working

@@ -10,8 +10,9 @@ use Rattle.tsdb_log.specs.declared.record.CellRecord.{CellRecord}
 use Rattle.tsdb_log.specs.declared.record.LogRecord.{LogRecord}
 use Rattle.tsdb_log.specs.declared.record.LogRecord.TheVariants.{Delete, Freeze, Insert}
 use Rattle.tsdb_logged.proofs.Series.{can_create, can_delete}
-use Rattle.tsdb_logged.proofs.Steps.{appended_from, faulted, written}
-use Rattle.tsdb_logged.specs.Appends.{IsAppended}
+use Rattle.tsdb_logged.proofs.Steps.{appended_from, both_kept, faulted, no_memory, written}
+use Rattle.tsdb_logged.specs.Answers.{answer_by}
+use Rattle.tsdb_logged.specs.Appends.{HasStopped, IsAppended}
 use Rattle.tsdb_logged.specs.Commands.{CanPut, CanStop, IsCommand, IsPrepared, create_record}
 use Rattle.tsdb_logged.specs.Logged.{HasLog, IsSound, IsStoredIn, Outside, memory_of, room_of, with_record}
 use Rattle.tsdb_logged.specs.declared.logged.Logged.{Logged}
@@ -21,7 +22,8 @@ use Rattle.tsdb_memory.specs.Shown.{IsMemoryOf, number_of}
 use Rattle.tsdb_memory.specs.Store.{Store}
 use Rattle.tsdb_outside.specs.declared.disk.Disk as disk
 use Rattle.tsdb_outside.specs.declared.faults.Counted as counted
-use Rattle.tsdb_outside.specs.declared.faults.Failed.{Failed}
+use Rattle.tsdb_outside.specs.declared.faults.StoreFault.{StoreFault}
+use Rattle.tsdb_outside.specs.declared.faults.StoreFault.TheVariants as store
 use Rattle.tsdb_base.specs.Limits.{end_of_numbers}
 use Rattle.tsdb_state.specs.Records.{after}
 use Rattle.tsdb_state.specs.State.{EngineState, StoreState}
@@ -88,8 +90,8 @@ module _ {J : Type 0} {means : disk.Ghosts J} {counts : counted.Ghosts J} where
       keep items has = record { log = has.log; named = has.named }
 
   module _ (old mid logged : Logged J means counts) (item : LogRecord) (Needs : EngineState → Type 0)
-      (can : CanLog old item Needs) (prepared : IsPrepared old mid) (room : room_of mid ≤ room_of logged)
-      (same : memory_of logged ≡ memory_of mid) where
+      (can : IsRecord item → CanLog old item Needs) (prepared : IsPrepared old mid)
+      (room : room_of mid ≤ room_of logged) (same : memory_of logged ≡ memory_of mid) where
     all_room : room_of old ≤ room_of logged
     all_room = omega (arith, prepared.record_room, room)
 
@@ -97,16 +99,19 @@ module _ {J : Type 0} {means : disk.Ghosts J} {counts : counted.Ghosts J} where
     shown state is = subst (λ store. IsMemoryOf store state) (sym same) (prepared.same state is)
 
     -- its record was appended, and it took effect
-    pub takes_effect : (memory : Store) → IsAppended mid logged item (Ok tt)
+    pub takes_effect : (memory : Store) → IsRecord item × IsAppended mid logged item (Ok tt)
         → ((state : EngineState) → IsMemoryOf (memory_of logged) state.store → Needs state
         → IsMemoryOf memory (after item state.store))
         → IsCommand old (record logged { memory = memory }) item Needs answer.Done
-    takes_effect memory append effect =
-        written old (record logged { memory = memory }) item Needs can.stored can.doubtful
-        (other_memory old logged memory item (appended_from old mid logged item (Ok tt) prepared.log append))
+    takes_effect memory ended effect =
+        written old (record logged { memory = memory }) item Needs (can ended.0).stored (can ended.0).doubtful
+        (other_memory old logged memory item (appended_from old mid logged item (Ok tt) prepared.log ended.1))
         (λ state is needs. effect state (shown state.store is) needs) all_room
 
-    -- its append failed
-    pub fails : (fault : Failed) → IsAppended mid logged item (Err fault) → IsCommand old logged item Needs answer.Device
-    fails fault append = faulted old logged item Needs can.stored can.doubtful fault
-        (appended_from old mid logged item (Err fault) prepared.log append) shown all_room
+    -- its append failed, or memory ended before it
+    pub stops : (fault : StoreFault) → HasStopped mid logged item fault
+        → IsCommand old logged item Needs (answer_by (Err fault))
+    stops store.Failed ended = faulted old logged item Needs (can ended.0).stored (can ended.0).doubtful (record {})
+        (appended_from old mid logged item (Err record {}) prepared.log ended.1) shown all_room
+    stops store.Memory ended = no_memory old logged item Needs (both_kept old mid logged prepared.log ended.0) shown
+        all_room

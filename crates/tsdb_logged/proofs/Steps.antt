@@ -1,8 +1,6 @@
 -- What a record that was appended, or whose append failed, makes of a sound state.
 use Rattle.std.proofs.Common.{◌≡◌, ◌⊎◌, inl, inr, List, [], ◌∷◌, ◌++◌, map, Option, Some, None, Result, Ok, Err, refl, ap, sym, subst, ◌∙◌, arith}
 use Rattle.std.specs.Prelude.{◌≤◌, IfSome, OnErr, OnOk}
-use Rattle.std.specs.Result.{IsErr}
-use Rattle.tsdb_base.specs.declared.fault.Memory as fault
 use Rattle.std.specs.Option.{option_map}
 use Rattle.tsdb_base.specs.declared.answers.Answer.{Answer}
 use Rattle.tsdb_base.specs.declared.answers.Answer.TheVariants as answer
@@ -15,7 +13,7 @@ use Rattle.tsdb_images.proofs.Storing.{settled_stored}
 use Rattle.tsdb_images.specs.Stored.{LeavesOneOf}
 use Rattle.tsdb_log.specs.Spelling.{spelling}
 use Rattle.tsdb_log.specs.declared.record.LogRecord.{LogRecord}
-use Rattle.tsdb_logged.specs.Answers.{IsRefusal, answer_by}
+use Rattle.tsdb_logged.specs.Answers.{IsRefusal}
 use Rattle.tsdb_logged.specs.Appends.{IsAppended, IsLogKept}
 use Rattle.tsdb_logged.specs.Commands.{IsAfter, IsCommand, IsPrepared}
 use Rattle.tsdb_logged.specs.Logged.{HasLog, IsFaulted, IsSound, IsStoredIn, LeavesStates, Outside, log_of, memory_of, room_of, two_numbers, with_record}
@@ -31,11 +29,6 @@ use Rattle.tsdb_outside.specs.declared.faults.Failed.{Failed}
 use Rattle.tsdb_state.specs.Records.{after, names}
 use Rattle.tsdb_state.specs.State.{EngineState, StoreState}
 use Rattle.tsdb_state.specs.Steps.{failed, wrote}
-
-memory_answer : (result : Result (Result (Unit {0}) Failed) fault.Memory) → IsErr result
-    → answer_by result ≡ answer.Memory
-memory_answer (Ok outcome) is = absurd (cc)
-memory_answer (Err memory) is = refl
 
 module _ {J : Type 0} {means : disk.Ghosts J} {counts : counted.Ghosts J} where
   -- where the log is as it was
@@ -222,22 +215,12 @@ module _ {J : Type 0} {means : disk.Ghosts J} {counts : counted.Ghosts J} where
       by_err (Err fault) failing = λ items doubt has. failing items doubt (log_kept old mid items doubt kept has)
 
   -- the log is kept by one call and the next
-  both_kept : (old mid new : Logged J means counts) → IsLogKept old mid → IsLogKept mid new → IsLogKept old new
+  pub both_kept : (old mid new : Logged J means counts) → IsLogKept old mid → IsLogKept mid new → IsLogKept old new
   both_kept old mid new first second =
       record { log = second.log ∙ first.log; doubted = second.doubted ∙ first.doubted }
 
-  module _ (old new : Logged J means counts) (item : LogRecord) (Needs : EngineState → Type 0)
-      (result : Result (Result (Unit {0}) Failed) fault.Memory) (is : IsErr result) where
-    -- memory ended while it was taken
-    pub out_of_memory : IsPrepared old new → IsCommand old new item Needs (answer_by result)
-    out_of_memory prepared = subst (IsCommand old new item Needs) (sym (memory_answer result is))
-        (no_memory old new item Needs prepared.log prepared.same prepared.record_room)
-
-    -- memory ended as the record was written
-    pub out_of_memory_later : (mid : Logged J means counts) → IsPrepared old mid → IsLogKept mid new
-        → memory_of new ≡ memory_of mid → room_of mid ≤ room_of new → IsCommand old new item Needs (answer_by result)
-    out_of_memory_later mid prepared kept memory room =
-        subst (IsCommand old new item Needs) (sym (memory_answer result is))
-        (no_memory old new item Needs (both_kept old mid new prepared.log kept)
-        (λ state shown. subst (λ store. IsMemoryOf store state) (sym memory) (prepared.same state shown))
-        (omega (arith, prepared.record_room, room)))
+  -- memory ended while it was taken
+  pub out_of_memory : (old new : Logged J means counts) (item : LogRecord) (Needs : EngineState → Type 0)
+      → IsPrepared old new → IsCommand old new item Needs answer.Memory
+  out_of_memory old new item Needs prepared =
+      no_memory old new item Needs prepared.log prepared.same prepared.record_room

@@ -3,11 +3,10 @@ use Rattle.std.specs.Prelude.{◌≡◌, ◌<◌, ℕ, List, None, IsSome, Resul
 use Rattle.std.specs.declared.result.Result.TheVariants.{Ok, Err}
 use Rattle.tsdb_base.specs.declared.answers.Answer.{Answer}
 use Rattle.tsdb_base.specs.declared.answers.Answer.TheVariants.{Done, NoPath, WrongType, Exists, Device, Memory, Full}
-use Rattle.tsdb_base.specs.declared.fault.Memory as fault
-use Rattle.tsdb_log.specs.declared.record.LogRecord.{LogRecord}
 use Rattle.tsdb_memory.specs.Shown.{number_of}
 use Rattle.tsdb_memory.specs.Store.{Store}
-use Rattle.tsdb_outside.specs.declared.faults.Failed.{Failed}
+use Rattle.tsdb_outside.specs.declared.faults.StoreFault.{StoreFault}
+use Rattle.tsdb_outside.specs.declared.faults.StoreFault.TheVariants as store
 use Rattle.tsdb_base.specs.Limits.{end_of_numbers}
 
 -- the answers to a change that the map accepts: full exactly where the stamp is at its end, and then with it
@@ -60,13 +59,8 @@ IsRefusal Device = ⊥
 IsRefusal Memory = ⊥
 IsRefusal (Full counter) = Unit {0}
 
--- whether an append was done, without what it hands back
-abbrev pub is_done : Result LogRecord Failed → Result (Unit {0}) Failed
-is_done (Ok item) = Ok tt
-is_done (Err failed) = Err failed
-
 -- what a change answers, by how its record was appended
-abbrev pub answer_by : Result (Result (Unit {0}) Failed) fault.Memory → Answer
-answer_by (Ok (Ok done)) = Done
-answer_by (Ok (Err failed)) = Device
-answer_by (Err memory) = Memory
+abbrev pub answer_by : Result (Unit {0}) StoreFault → Answer
+answer_by (Ok done) = Done
+answer_by (Err store.Failed) = Device
+answer_by (Err store.Memory) = Memory

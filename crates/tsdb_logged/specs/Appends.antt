@@ -1,11 +1,13 @@
 -- What the append of a record leaves of a log.
-use Rattle.std.specs.Prelude.{◌≡◌, ◌⊎◌, [], ◌∷◌, ◌++◌, List, map, None, Option, Some, OnErr, OnOk, Result}
+use Rattle.std.specs.Prelude.{◌≡◌, ◌<◌, ◌⊎◌, [], ◌∷◌, ◌++◌, List, length, map, None, Option, Some, OnErr, OnOk, Result}
 use Rattle.std.specs.Option.{option_map}
+use Rattle.std.specs.declared.result.Result.TheVariants.{Ok, Err}
 use Rattle.tsdb_frames.specs.Frames.{disk_of, faults_of, slot_of}
 use Rattle.tsdb_frames.specs.Log.{HasRecordsOrOneMore}
-use Rattle.tsdb_log.specs.Spelling.{spelling}
+use Rattle.tsdb_frames.specs.Slots.{frame_bytes}
+use Rattle.tsdb_log.specs.Spelling.{IsRecord, spelling}
 use Rattle.tsdb_log.specs.declared.record.LogRecord.{LogRecord}
-use Rattle.tsdb_logged.specs.Logged.{HasLog, log_of}
+use Rattle.tsdb_logged.specs.Logged.{HasLog, log_of, room_of}
 use Rattle.tsdb_logged.specs.declared.logged.Logged.{Logged}
 use Rattle.tsdb_outside.specs.Causes.{HasCause}
 use Rattle.tsdb_outside.specs.Disk.{Image, in_slot}
@@ -13,6 +15,8 @@ use Rattle.tsdb_outside.specs.Moments.{LeavesFirstThen}
 use Rattle.tsdb_outside.specs.declared.disk.Disk as disk
 use Rattle.tsdb_outside.specs.declared.faults.Counted as counted
 use Rattle.tsdb_outside.specs.declared.faults.Failed.{Failed}
+use Rattle.tsdb_outside.specs.declared.faults.StoreFault.{StoreFault}
+use Rattle.tsdb_outside.specs.declared.faults.StoreFault.TheVariants as store
 
 module _ {J : Type 0} {means : disk.Ghosts J} {counts : counted.Ghosts J} where
   -- what the slot of the log has of these records and one more, if there is one
@@ -38,3 +42,14 @@ module _ {J : Type 0} {means : disk.Ghosts J} {counts : counted.Ghosts J} where
         (HasItems old items (Some item))
     pub slot : slot_of (log_of new) ≡ slot_of (log_of old)
     pub cause : HasCause (faults_of (log_of old)) (faults_of (log_of new)) outcome
+
+  -- the append of the record failed; or memory ended before it, which needs that there was no room for its bytes
+  abbrev pub HasStopped : Logged J means counts → Logged J means counts → LogRecord → StoreFault → Type 0
+  HasStopped old new item store.Failed = IsRecord item × IsAppended old new item (Err record {})
+  HasStopped old new item store.Memory = IsLogKept old new × (room_of old < length (frame_bytes (spelling item)))
+
+  -- the record was appended, or not
+  abbrev pub HasEnded : {T : Type 0} → Logged J means counts → Logged J means counts → LogRecord
+      → Result T StoreFault → Type 0
+  HasEnded old new item (Ok back) = IsRecord item × IsAppended old new item (Ok tt)
+  HasEnded old new item (Err fault) = HasStopped old new item fault

@@ -17,7 +17,7 @@ use tsdb_base::limits::END_OF_NUMBERS;
 use tsdb_base::{Answer, List, Memory, Range, Stamp, Time};
 use tsdb_log::{CellRecord, LogRecord};
 use tsdb_model::Schema;
-use tsdb_outside::{Failed, Journal};
+use tsdb_outside::{Journal, StoreFault};
 use tsdb_path::Path;
 
 /// The last stamp.
@@ -43,18 +43,16 @@ impl<J: Journal> Logged<J> {
         answer_of(self.write_create(schema))
     }
 
-    fn write_create(&mut self, schema: &Schema) -> Result<Result<(), Failed>, Memory>
+    fn write_create(&mut self, schema: &Schema) -> Result<(), StoreFault>
         requires formed { IsSchema schema.now }
         requires free { number_of (memory_of self.old).series schema.now.path ≡ None }
         requires stamp { (memory_of self.old).stamp < end_of_numbers }
         ensures { IsCommand self.old self.new (create_record schema.now) IsAny (answer_by result) }
     {
         let item = self.prepare_create(schema)?;
-        match self.log_record(item)? {
-            Ok(item) => self.memory.finish_create(created_by(item)),
-            Err(failed) => return Ok(Err(failed)),
-        }
-        Ok(Ok(()))
+        let item = self.log_record(item)?;
+        self.memory.finish_create(created_by(item));
+        Ok(())
     }
 
     /// Takes the memory of a creation: that of its record, and of a place for its series.
@@ -96,18 +94,16 @@ impl<J: Journal> Logged<J> {
         series: &Path,
         range: &Range,
         listed: Option<Stamp>,
-    ) -> Result<Result<(), Failed>, Memory>
+    ) -> Result<(), StoreFault>
         requires there { IsSome (number_of (memory_of self.old).series series.now) }
         requires stamp { (memory_of self.old).stamp < end_of_numbers }
         ensures { IsCommand self.old self.new (LogRecord.Delete series.now range.now) (HasLeast listed)
             (answer_by result) }
     {
         let item = self.prepare_delete(series, range)?;
-        match self.log_record(item)? {
-            Ok(item) => self.memory.finish_delete(deleted_by(item), range, listed),
-            Err(failed) => return Ok(Err(failed)),
-        }
-        Ok(Ok(()))
+        let item = self.log_record(item)?;
+        self.memory.finish_delete(deleted_by(item), range, listed);
+        Ok(())
     }
 
     /// Takes the memory of a deletion: that of its record, and of its mark.
@@ -149,7 +145,7 @@ impl<J: Journal> Logged<J> {
         device: &Path,
         time: Time,
         cells: List<CellRecord>,
-    ) -> Result<Result<(), Failed>, Memory>
+    ) -> Result<(), StoreFault>
         requires few { length cells ≤ 1000 }
         requires differ { AllPairs (λ cell other. cell.series.0 ≢ other.series.0) cells }
         requires there { All (λ cell. IsSomeAnd (slice_get (memory_of self.old).series cell.series.0)
@@ -158,11 +154,9 @@ impl<J: Journal> Logged<J> {
         ensures { IsCommand self.old self.new (LogRecord.Insert time cells) (CanPut time cells) (answer_by result) }
     {
         let item = self.prepare_insert(time, cells)?;
-        match self.log_record(item)? {
-            Ok(item) => self.memory.finish_insert(device, time, inserted_by(item)),
-            Err(failed) => return Ok(Err(failed)),
-        }
-        Ok(Ok(()))
+        let item = self.log_record(item)?;
+        self.memory.finish_insert(device, time, inserted_by(item));
+        Ok(())
     }
 
     /// Takes the memory of a row: that of a point more of each series that has no room for one.

@@ -1,22 +1,20 @@
 //! The log with what is in memory. Depends on tsdb_frames, tsdb_framed and tsdb_memory.
-ghost use Rattle.std.specs.Prelude.{◌≡◌, ◌<◌, ◌≤◌, [], ◌∷◌, List, false, length, map, IfOk, None, OnErr, OnOk, Some};
+ghost use Rattle.std.specs.Prelude.{◌≡◌, ◌≤◌, [], ◌∷◌, List, false, map, IfOk, None, Some};
 ghost use Rattle.tsdb_base.specs.declared.ids.FileNumber.{FileNumber};
 ghost use Rattle.tsdb_layers.specs.Lists.{if_some};
 ghost use Rattle.tsdb_log.specs.declared.record.LogRecord.{LogRecord};
 ghost use Rattle.tsdb_logged.specs.Logged.{two_numbers};
-ghost use Rattle.tsdb_logged.specs.Answers.{is_done};
 ghost use Rattle.tsdb_state.specs.Records.{names, new_numbers};
-ghost use Rattle.tsdb_frames.specs.Slots.{frame_bytes};
 ghost use Rattle.tsdb_logged.specs.Answers.{answer_by};
-ghost use Rattle.tsdb_log.specs.Spelling.{FitsFrame, HasFewParts, IsRecord, spelling};
+ghost use Rattle.tsdb_log.specs.Spelling.{FitsFrame, HasFewParts};
 
 use std::alloc::Global;
-use tsdb_base::{Answer, FileNumber, Memory};
+use tsdb_base::{Answer, FileNumber};
 use tsdb_framed::frame_record;
 use tsdb_frames::Frames;
 use tsdb_log::LogRecord;
 use tsdb_memory::MemoryStore;
-use tsdb_outside::{Failed, Journal};
+use tsdb_outside::{Journal, StoreFault};
 
 /// A log, and what is in memory of its records.
 #[derive(Drop)]
@@ -32,7 +30,7 @@ pub struct Logged<J: Journal> {
 impl<J: Journal> Logged<J> {
     ghost use Rattle.tsdb_logged.specs.Closing.{IsClosed};
     ghost use Rattle.tsdb_frames.specs.Frames.{is_aside_in_doubt};
-    ghost use Rattle.tsdb_logged.specs.Appends.{IsAppended, IsLogKept};
+    ghost use Rattle.tsdb_logged.specs.Appends.{HasEnded};
     ghost use Rattle.tsdb_logged.specs.Logged.{HasLog, log_of, memory_of, room_of};
 
     /// The log with what is in memory of it.
@@ -81,42 +79,31 @@ impl<J: Journal> Logged<J> {
 
     /// Appends a record, after a gate in doubt is closed, and hands it back. Where there is room for its bytes, it takes
     /// no memory.
-    pub(crate) fn log_record(
-        &mut self,
-        item: LogRecord,
-    ) -> Result<Result<LogRecord, Failed>, Memory>
+    pub(crate) fn log_record(&mut self, item: LogRecord) -> Result<LogRecord, StoreFault>
         requires few { HasFewParts item }
         requires fits { FitsFrame item }
         ensures memory { memory_of self.new ≡ memory_of self.old }
-        ensures record { OnOk result (IsRecord item) }
-        ensures append { IfOk result (λ outcome. IsAppended self.old self.new item (is_done outcome)) }
-        ensures item { IfOk result (λ outcome. IfOk outcome (λ back. back ≡ item)) }
-        ensures none { OnErr result (IsLogKept self.old self.new) }
+        ensures end { HasEnded self.old self.new item result }
+        ensures item { IfOk result (λ back. back ≡ item) }
         ensures capacity { room_of self.old ≤ room_of self.new }
     {
-        match self.append(&item)? {
-            Ok(()) => Ok(Ok(item)),
-            Err(failed) => Ok(Err(failed)),
-        }
+        self.append(&item)?;
+        Ok(item)
     }
 
     /// The same for a record that is lent.
-    pub(crate) fn append(&mut self, item: &LogRecord) -> Result<Result<(), Failed>, Memory>
+    pub(crate) fn append(&mut self, item: &LogRecord) -> Result<(), StoreFault>
         requires few { HasFewParts item.now }
         requires fits { FitsFrame item.now }
         ensures memory { memory_of self.new ≡ memory_of self.old }
-        ensures record { OnOk result (IsRecord item.now) }
-        ensures append { IfOk result (IsAppended self.old self.new item.now) }
-        ensures none { OnErr result (IsLogKept self.old self.new) }
-        ensures room { OnErr result (room_of self.old < length (frame_bytes (spelling item.now))) }
+        ensures end { HasEnded self.old self.new item.now result }
         ensures capacity { room_of self.old ≤ room_of self.new }
     {
         frame_record(item, &mut self.framed)?;
-        if let Err(failed) = self.frames.settle() {
-            return Ok(Err(failed));
-        }
+        self.frames.settle()?;
         self.doubted = named_files(item);
-        Ok(self.frames.append(&self.framed))
+        self.frames.append(&self.framed)?;
+        Ok(())
     }
 }
 
@@ -142,12 +129,12 @@ fn named_files(item: &LogRecord) -> (Option<FileNumber>, Option<FileNumber>)
 }
 
 /// What a change answers, by how its record was appended.
-pub(crate) fn answer_of(outcome: Result<Result<(), Failed>, Memory>) -> Answer
+pub(crate) fn answer_of(outcome: Result<(), StoreFault>) -> Answer
     ensures { result ≡ answer_by outcome }
 {
     match outcome {
-        Ok(Ok(())) => Answer::Done,
-        Ok(Err(Failed)) => Answer::Device,
-        Err(Memory) => Answer::Memory,
+        Ok(()) => Answer::Done,
+        Err(StoreFault::Failed) => Answer::Device,
+        Err(StoreFault::Memory) => Answer::Memory,
     }
 }

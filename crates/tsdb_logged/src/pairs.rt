@@ -9,7 +9,7 @@ ghost use Rattle.tsdb_base.specs.Limits.{max_frozen};
 use crate::logged::{Logged, answer_of};
 use tsdb_base::{Answer, FileNumber, Memory, Stamp};
 use tsdb_log::LogRecord;
-use tsdb_outside::{Failed, Journal};
+use tsdb_outside::{Failed, Journal, StoreFault};
 
 /// How many bytes the record of a flush has with its length and a gate.
 const FLUSHED_BYTES: usize = 22;
@@ -34,7 +34,7 @@ impl<J: Journal> Logged<J> {
         answer_of(self.write_freeze())
     }
 
-    fn write_freeze(&mut self) -> Result<Result<(), Failed>, Memory>
+    fn write_freeze(&mut self) -> Result<(), StoreFault>
         requires room { length (memory_of self.old).frozen < max_frozen }
         ensures command { IsCommand self.old self.new LogRecord.Freeze CanStop (answer_by result) }
         ensures series { (memory_of self.new).series ≡ (memory_of self.old).series }
@@ -46,11 +46,9 @@ impl<J: Journal> Logged<J> {
         ensures working { answer_by result ≡ Answer.Done → (memory_of self.new).working ≡ [] }
     {
         let freezing = self.memory.prepare_freeze()?;
-        match self.append(&LogRecord::Freeze)? {
-            Ok(()) => self.memory.finish_freeze(freezing),
-            Err(failed) => return Ok(Err(failed)),
-        }
-        Ok(Ok(()))
+        self.append(&LogRecord::Freeze)?;
+        self.memory.finish_freeze(freezing);
+        Ok(())
     }
 
     /// Makes room for the record of a flush.
@@ -79,9 +77,9 @@ impl<J: Journal> Logged<J> {
             unsequence,
         };
         match self.append(&item) {
-            Ok(Ok(())) => self.memory.finish_flushed(listed),
-            Ok(Err(failed)) => return Err(failed),
-            Err(_memory) => unreachable!(),
+            Ok(()) => self.memory.finish_flushed(listed),
+            Err(StoreFault::Failed) => return Err(Failed),
+            Err(StoreFault::Memory) => unreachable!(),
         }
         Ok(())
     }

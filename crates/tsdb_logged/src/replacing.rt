@@ -5,7 +5,7 @@ ghost use Rattle.tsdb_logged.specs.Replacing.{IsReplacement, replacement_bytes};
 use crate::logged::Logged;
 use tsdb_base::{Memory, Stamp};
 use tsdb_log::LogRecord;
-use tsdb_outside::{Failed, Journal};
+use tsdb_outside::{Failed, Journal, StoreFault};
 
 /// How many bytes the record of a replacement has with its length and a gate, without those of its inputs.
 const REPLACED_BYTES: usize = 39;
@@ -39,9 +39,9 @@ impl<J: Journal> Logged<J> {
         ensures { IsReplaced self.old self.new item.now listed result }
     {
         match self.append(item) {
-            Ok(Ok(())) => self.memory.finish_replaced(listed),
-            Ok(Err(failed)) => return Err(failed),
-            Err(_memory) => unreachable!(),
+            Ok(()) => self.memory.finish_replaced(listed),
+            Err(StoreFault::Failed) => return Err(Failed),
+            Err(StoreFault::Memory) => unreachable!(),
         }
         Ok(())
     }
