@@ -1,4 +1,5 @@
-//! What streams give: worked values, the ends of a range, pages that are not read, and calls of a port that fail.
+//! What streams give: worked values, the ends of a range, pages that are not read, late pages that span the series, and
+//! calls of a port that fail.
 
 use crate::stored::{Pair, Sources, Stored, read_stored};
 use std::alloc::Global;
@@ -98,10 +99,61 @@ const CASES: [Case; 7] = [
     },
 ];
 
+/// A file with pages at 0, 2 and 4, 6, and a late one, whose first page at 1, 5 spans both, with another at 6, 7.
+const LATE: Sources = Sources {
+    files: [
+        Stored {
+            born: 10,
+            pages: [&[(0, 10), (2, 12)], &[(4, 14), (6, 16)]],
+        },
+        Stored {
+            born: 20,
+            pages: [&[(1, 21), (5, 25)], &[(6, 26), (7, 27)]],
+        },
+    ],
+    part: &[],
+    part_born: 30,
+    deletions: &[],
+};
+
+/// Behind a pull at most the rest of one page of each file is held: first 2, and 1 and 5.
+const LATE_CASES: [Case; 3] = [
+    Case {
+        from: 0,
+        to: 10,
+        bytes: INDEXES + 2 * FIRST + 2 * LAST,
+        held: 3,
+        wanted: &[
+            (0, 10),
+            (1, 21),
+            (2, 12),
+            (4, 14),
+            (5, 25),
+            (6, 26),
+            (7, 27),
+        ],
+    },
+    Case {
+        from: 0,
+        to: 2,
+        bytes: INDEXES + 2 * FIRST,
+        held: 2,
+        wanted: &[(0, 10), (1, 21), (2, 12)],
+    },
+    // The late page spans the time, and has no point at it.
+    Case {
+        from: 3,
+        to: 3,
+        bytes: INDEXES + FIRST,
+        held: 0,
+        wanted: &[],
+    },
+];
+
 /// The place of the first case in which something else is read.
-fn first_wrong(alloc: Global, cases: &[Case]) -> Result<Option<usize>, Fail> {
+fn first_wrong(alloc: Global, sources: &Sources, cases: &[Case]) -> Result<Option<usize>, Fail> {
     for (place, case) in cases.iter().enumerate() {
-        let (read, bytes) = read_stored(alloc, &SOURCES, (case.from, case.to), u64::MAX)?;
+        let (read, bytes) = read_stored(alloc, sources, (case.from, case.to), u64::MAX)?;
         let same = read.found.as_slice() == case.wanted && read.fault.is_none();
         if !same || bytes != case.bytes || read.held != case.held {
             return Ok(Some(place));
@@ -130,7 +182,13 @@ fn first_wrong_failure(alloc: Global, rows: &[(u64, u64, usize)]) -> Result<Opti
 
 #[test]
 fn a_stream_gives_the_winners_that_survive(rt: HostRuntime) -> Result<(), Fail> {
-    assert_eq!(rt; first_wrong(rt.alloc(), &CASES)?, None);
+    assert_eq!(rt; first_wrong(rt.alloc(), &SOURCES, &CASES)?, None);
+    Ok(())
+}
+
+#[test]
+fn late_pages_that_span_the_series_are_held_one_by_one(rt: HostRuntime) -> Result<(), Fail> {
+    assert_eq!(rt; first_wrong(rt.alloc(), &LATE, &LATE_CASES)?, None);
     Ok(())
 }
 
