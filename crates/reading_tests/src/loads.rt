@@ -7,10 +7,10 @@ use tsdb_base::{Aggregate, Point, Range, Value};
 use tsdb_merge::PullFault;
 
 /// What is asked, over which times, the answer, and how often a page is loaded.
-type Asked = (Aggregate, i64, i64, Option<i64>, u64);
+pub type Wanted = (Aggregate, i64, i64, Option<i64>, u64);
 
 /// What is asked of two pages of 1,000 points each.
-const OF_PAGES: [Asked; 4] = [
+pub const OF_PAGES: [Wanted; 4] = [
     (Aggregate::Count, 1, 2000, Some(2000), 0),
     (Aggregate::Count, 1, 1999, Some(1999), 1),
     (Aggregate::MaxTime, 1, 1999, Some(1999), 1),
@@ -18,7 +18,7 @@ const OF_PAGES: [Asked; 4] = [
 ];
 
 /// What is asked of the pages and of a late point at time 1, which the first page meets.
-const OF_PAGES_AND_LATE_POINT: [Asked; 5] = [
+pub const OF_PAGES_AND_LATE_POINT: [Wanted; 5] = [
     (Aggregate::Count, 1, 2000, Some(2000), 2),
     (Aggregate::MinValue, 1, 2000, Some(-7), 2),
     (Aggregate::FirstValue, 1, 2000, Some(-7), 2),
@@ -27,7 +27,7 @@ const OF_PAGES_AND_LATE_POINT: [Asked; 5] = [
 ];
 
 /// Whether the answer and the number of loads are as wanted.
-fn is_answered(alloc: Global, pieces: &mut [Piece], lists: &[Vec<Point>], asked: &Asked) -> bool {
+fn is_answered(alloc: Global, pieces: &mut [Piece], lists: &[Vec<Point>], asked: &Wanted) -> bool {
     let (name, from, to, wanted, calls) = asked;
     let range = Range {
         from: *from,
@@ -84,7 +84,7 @@ const LATE_SOURCES: [u32; 5] = [0, 0, 0, 1, 1];
 const LATE_RANGE: Range = Range { from: 0, to: 29 };
 
 /// What is asked of late pages. The first value needs one page of each source.
-const OF_LATE_PAGES: [Asked; 5] = [
+pub const OF_LATE_PAGES: [Wanted; 5] = [
     (Aggregate::Count, 0, 29, Some(30), 5),
     (Aggregate::MinTime, 0, 29, Some(0), 2),
     (Aggregate::FirstValue, 0, 29, Some(5), 2),
