@@ -2,22 +2,26 @@
 use Rattle.std.proofs.Common.{◌≡◌, ◌≢◌, ℕ, ◌<◌, ◌≤◌, true, false, cond, List, [], ◌∷◌, ◌++◌, Option, None, Some, map, length, refl, ap, sym, ◌∙◌, arith, codes, append_assoc, length-append, option_map, get_or, inl, inr, ◌⊎◌}
 use Rattle.std.specs.List.{flat_map, AllByRecursion}
 use Rattle.std.specs.Fmt.{signed_decimal}
-use Rattle.std.specs.Prelude.{ℤ, FitsSigned}
+use Rattle.std.specs.Prelude.{ℤ, ◌==◌, FitsSigned, if◌then◌else◌}
 use Rattle.std.specs.Int.{w64}
 use Rattle.std.proofs.lemmas.Bool.{cases_eq, eq-eqb, ne_eqb}
 use Rattle.tsdb_base.specs.declared.value.Value.{Value}
 use Rattle.tsdb_base.specs.declared.value.Value.TheVariants as value
 use Rattle.tsdb_model.specs.declared.reply.Line.{Line}
-use Rattle.tsdb_print.specs.Text.{cell_text, escape, join_with_commas, line, quote, row_text}
+use Rattle.tsdb_print.specs.Text.{cell_text, join_with_commas, line, quote, row_text}
 use Rattle.tsdb_print.specs.Alike.{shown_row, shown_value, shown_values, IsCellInRange, IsRowInRange}
 use Rattle.tsdb_print.proofs.Words.{head_of, tail_of, Stops, IsWord, same_word, signed_word, signed_number, same_signed, after_signed, no_letter, not_empty}
 
+-- a byte of a text, twice where it is a quote
+abbrev doubled : ℕ → List ℕ
+doubled byte = if byte == 39 then byte ∷ byte ∷ [] else byte ∷ []
+
 -- a quote is doubled, and another byte is not
-escape_cases : (b : ℕ) → ((b ≡ 39) × (escape b ≡ 39 ∷ 39 ∷ [])) ⊎ ((b ≢ 39) × (escape b ≡ b ∷ []))
-escape_cases b =
+doubled_cases : (b : ℕ) → ((b ≡ 39) × (doubled b ≡ 39 ∷ 39 ∷ [])) ⊎ ((b ≢ 39) × (doubled b ≡ b ∷ []))
+doubled_cases b =
     elim (cases_eq b 39) [
-      | inl is ↦ inl (is, ap (λ t. cond t (39 ∷ 39 ∷ []) (b ∷ [])) (eq-eqb b 39 is))
-      | inr other ↦ inr (other, ap (λ t. cond t (39 ∷ 39 ∷ []) (b ∷ [])) (ne_eqb b 39 other))
+      | inl is ↦ inl (is, ap (λ t. cond t (b ∷ b ∷ []) (b ∷ [])) (eq-eqb b 39 is) ∙ ap (λ c. c ∷ c ∷ []) is)
+      | inr other ↦ inr (other, ap (λ t. cond t (b ∷ b ∷ []) (b ∷ [])) (ne_eqb b 39 other))
     ]
 
 stop_quote : (x rest : List ℕ) → Stops x → x ≡ 39 ∷ rest → ⊥
@@ -25,40 +29,40 @@ stop_quote [] rest stops e = stops
 stop_quote (b ∷ x) rest stops e = stops.1 (head_of b 39 x rest e)
 
 -- a text of quotes and other bytes, and what follows it
-pub same_quote : (s t x y : List ℕ) → Stops x → Stops y → flat_map escape s ++ 39 ∷ x ≡ flat_map escape t ++ 39 ∷ y → (s ≡ t) × (x ≡ y)
+pub same_quote : (s t x y : List ℕ) → Stops x → Stops y → flat_map doubled s ++ 39 ∷ x ≡ flat_map doubled t ++ 39 ∷ y → (s ≡ t) × (x ≡ y)
 same_quote [] [] x y sx sy e = (refl, cc)
 same_quote [] (c ∷ t) x y sx sy e =
-    elim (escape_cases c) [
-      | inl q ↦ absurd (stop_quote x (flat_map escape t ++ 39 ∷ y) sx
-          (tail_of 39 39 x (39 ∷ (flat_map escape t ++ 39 ∷ y)) (e ∙ ap (λ l. l ++ flat_map escape t ++ 39 ∷ y) q.1)))
-      | inr q ↦ absurd (q.0 (sym (head_of 39 c x (flat_map escape t ++ 39 ∷ y) (e ∙ ap (λ l. l ++ flat_map escape t ++ 39 ∷ y) q.1))))
+    elim (doubled_cases c) [
+      | inl q ↦ absurd (stop_quote x (flat_map doubled t ++ 39 ∷ y) sx
+          (tail_of 39 39 x (39 ∷ (flat_map doubled t ++ 39 ∷ y)) (e ∙ ap (λ l. l ++ flat_map doubled t ++ 39 ∷ y) q.1)))
+      | inr q ↦ absurd (q.0 (sym (head_of 39 c x (flat_map doubled t ++ 39 ∷ y) (e ∙ ap (λ l. l ++ flat_map doubled t ++ 39 ∷ y) q.1))))
     ]
 same_quote (b ∷ s) [] x y sx sy e =
-    elim (escape_cases b) [
-      | inl q ↦ absurd (stop_quote y (flat_map escape s ++ 39 ∷ x) sy
-          (tail_of 39 39 y (39 ∷ (flat_map escape s ++ 39 ∷ x)) (sym e ∙ ap (λ l. l ++ flat_map escape s ++ 39 ∷ x) q.1)))
-      | inr q ↦ absurd (q.0 (sym (head_of 39 b y (flat_map escape s ++ 39 ∷ x) (sym e ∙ ap (λ l. l ++ flat_map escape s ++ 39 ∷ x) q.1))))
+    elim (doubled_cases b) [
+      | inl q ↦ absurd (stop_quote y (flat_map doubled s ++ 39 ∷ x) sy
+          (tail_of 39 39 y (39 ∷ (flat_map doubled s ++ 39 ∷ x)) (sym e ∙ ap (λ l. l ++ flat_map doubled s ++ 39 ∷ x) q.1)))
+      | inr q ↦ absurd (q.0 (sym (head_of 39 b y (flat_map doubled s ++ 39 ∷ x) (sym e ∙ ap (λ l. l ++ flat_map doubled s ++ 39 ∷ x) q.1))))
     ]
 same_quote (b ∷ s) (c ∷ t) x y sx sy e =
-    let left = λ (d : List ℕ). d ++ flat_map escape s ++ 39 ∷ x in
-    let right = λ (d : List ℕ). d ++ flat_map escape t ++ 39 ∷ y in
-    elim (escape_cases b) [
-      | inl p ↦ elim (escape_cases c) [
+    let left = λ (d : List ℕ). d ++ flat_map doubled s ++ 39 ∷ x in
+    let right = λ (d : List ℕ). d ++ flat_map doubled t ++ 39 ∷ y in
+    elim (doubled_cases b) [
+      | inl p ↦ elim (doubled_cases c) [
         | inl q ↦
-            let one = tail_of 39 39 (39 ∷ (flat_map escape s ++ 39 ∷ x)) (39 ∷ (flat_map escape t ++ 39 ∷ y)) (sym (ap left p.1) ∙ e ∙ ap right q.1) in
-            let two = tail_of 39 39 (flat_map escape s ++ 39 ∷ x) (flat_map escape t ++ 39 ∷ y) one in
+            let one = tail_of 39 39 (39 ∷ (flat_map doubled s ++ 39 ∷ x)) (39 ∷ (flat_map doubled t ++ 39 ∷ y)) (sym (ap left p.1) ∙ e ∙ ap right q.1) in
+            let two = tail_of 39 39 (flat_map doubled s ++ 39 ∷ x) (flat_map doubled t ++ 39 ∷ y) one in
             let rest = same_quote s t x y sx sy two in
             let same : b ≡ c = p.0 ∙ sym q.0 in
             let others : s ≡ t = rest.0 in
             (cc, rest.1)
-        | inr q ↦ absurd (q.0 (sym (head_of 39 c (39 ∷ (flat_map escape s ++ 39 ∷ x)) (flat_map escape t ++ 39 ∷ y) (sym (ap left p.1) ∙ e ∙ ap right q.1))))
+        | inr q ↦ absurd (q.0 (sym (head_of 39 c (39 ∷ (flat_map doubled s ++ 39 ∷ x)) (flat_map doubled t ++ 39 ∷ y) (sym (ap left p.1) ∙ e ∙ ap right q.1))))
       ]
-      | inr p ↦ elim (escape_cases c) [
-        | inl q ↦ absurd (p.0 (head_of b 39 (flat_map escape s ++ 39 ∷ x) (39 ∷ (flat_map escape t ++ 39 ∷ y)) (sym (ap left p.1) ∙ e ∙ ap right q.1)))
+      | inr p ↦ elim (doubled_cases c) [
+        | inl q ↦ absurd (p.0 (head_of b 39 (flat_map doubled s ++ 39 ∷ x) (39 ∷ (flat_map doubled t ++ 39 ∷ y)) (sym (ap left p.1) ∙ e ∙ ap right q.1)))
         | inr q ↦
             let both = sym (ap left p.1) ∙ e ∙ ap right q.1 in
-            let rest = same_quote s t x y sx sy (tail_of b c (flat_map escape s ++ 39 ∷ x) (flat_map escape t ++ 39 ∷ y) both) in
-            let same : b ≡ c = head_of b c (flat_map escape s ++ 39 ∷ x) (flat_map escape t ++ 39 ∷ y) both in
+            let rest = same_quote s t x y sx sy (tail_of b c (flat_map doubled s ++ 39 ∷ x) (flat_map doubled t ++ 39 ∷ y) both) in
+            let same : b ≡ c = head_of b c (flat_map doubled s ++ 39 ∷ x) (flat_map doubled t ++ 39 ∷ y) both in
             let others : s ≡ t = rest.0 in
             (cc, rest.1)
       ]
@@ -125,20 +129,20 @@ no_quote [] [] rest word stops e = absurd stops
 no_quote [] (d ∷ x) rest word stops e = stops.1 (cc)
 no_quote (c ∷ text) x rest word stops e = let first : 39 ≡ c = cc in omega (arith, word.0)
 
-quote_then : (bytes x : List ℕ) → quote bytes ++ x ≡ 39 ∷ (flat_map escape bytes ++ 39 ∷ x)
-quote_then bytes x = ap (λ l. 39 ∷ l) (append_assoc (flat_map escape bytes) (39 ∷ []) x)
+quote_then : (bytes x : List ℕ) → quote bytes ++ x ≡ 39 ∷ (flat_map doubled bytes ++ 39 ∷ x)
+quote_then bytes x = ap (λ l. 39 ∷ l) (append_assoc (flat_map doubled bytes) (39 ∷ []) x)
 
 -- a value or none, and what follows it
 pub same_cell : (a b : Option Value) (x y : List ℕ) → IsCellInRange a → IsCellInRange b → Stops x → Stops y
     → cell_text a ++ x ≡ cell_text b ++ y → (option_map shown_value a ≡ option_map shown_value b) × (x ≡ y)
 same_cell (Some (value.Text s)) (Some (value.Text t)) x y ra rb sx sy e =
-    let inner : flat_map escape s ++ 39 ∷ x ≡ flat_map escape t ++ 39 ∷ y = (let whole = sym (quote_then s x) ∙ e ∙ quote_then t y in cc) in
+    let inner : flat_map doubled s ++ 39 ∷ x ≡ flat_map doubled t ++ 39 ∷ y = (let whole = sym (quote_then s x) ∙ e ∙ quote_then t y in cc) in
     let same = same_quote s t x y sx sy inner in
     (ap (λ l. Some (value.Text l)) same.0, same.1)
 same_cell (Some (value.Text s)) b x y ra rb sx sy e =
-    absurd (no_quote (cell_text b) y (flat_map escape s ++ 39 ∷ x) (simple_word b tt rb) sy (sym (quote_then s x) ∙ e))
+    absurd (no_quote (cell_text b) y (flat_map doubled s ++ 39 ∷ x) (simple_word b tt rb) sy (sym (quote_then s x) ∙ e))
 same_cell a (Some (value.Text t)) x y ra rb sx sy e =
-    absurd (no_quote (cell_text a) x (flat_map escape t ++ 39 ∷ y) (simple_word a tt ra) sx (sym (quote_then t y) ∙ sym e))
+    absurd (no_quote (cell_text a) x (flat_map doubled t ++ 39 ∷ y) (simple_word a tt ra) sx (sym (quote_then t y) ∙ sym e))
 same_cell a b x y ra rb sx sy e =
     let same = same_word (cell_text a) (cell_text b) x y (simple_word a tt ra) (simple_word b tt rb) sx sy e in
     (same_simple a b tt tt ra rb same.0, same.1)

@@ -12,8 +12,9 @@ use Rattle.tsdb_base.specs.declared.ids.Space.{Space}
 use Rattle.tsdb_base.specs.declared.ids.Space.TheVariants.{Sequence, Unsequence}
 use Rattle.tsdb_model.specs.declared.reply.FileLine.{FileLine}
 use Rattle.tsdb_model.specs.declared.reply.Listing.{Listing}
-use Rattle.tsdb_print.specs.Text.{file_text, files_of, files_text, line, listing_text, same_space, space_name, working_text}
-use Rattle.tsdb_print.specs.Alike.{IsFileInRange, IsListingInRange, shown_listing}
+use Rattle.tsdb_print.specs.Text.{file_text, line, listing_text, same_space, space_name, working_text}
+use Rattle.tsdb_print.specs.Alike.{IsFileInRange, IsListingInRange, files_of, shown_listing}
+use Rattle.tsdb_print.proofs.Pieces.{file_lines}
 use Rattle.tsdb_print.proofs.Words.{Begins, tail_of, Stops, IsWord, same_word, after_decimal, after_signed}
 
 -- what stands behind the space of a file, up to the end of its line, and what follows
@@ -77,19 +78,19 @@ Lacks space x = (rest : List ℕ) → x ≡ space_name space ++ rest → ⊥
 abbrev AreFiles : Space → List FileLine → Type 0
 AreFiles space files = AllByRecursion (λ file. (file.space ≡ space) × IsFileInRange file) files
 
-first_file : (file : FileLine) (files : List FileLine) (x : List ℕ) → files_text (file ∷ files) ++ x ≡ line (file_text file) ++ (files_text files ++ x)
-first_file file files x = append_assoc (line (file_text file)) (files_text files) x
+first_file : (file : FileLine) (files : List FileLine) (x : List ℕ) → file_lines (file ∷ files) ++ x ≡ line (file_text file) ++ (file_lines files ++ x)
+first_file file files x = append_assoc (line (file_text file)) (file_lines files) x
 
 -- the lines of the files of a space, and what follows them
 pub same_files : (space : Space) (a b : List FileLine) (x y : List ℕ) → AreFiles space a → AreFiles space b → Lacks space x → Lacks space y
-    → files_text a ++ x ≡ files_text b ++ y → (a ≡ b) × (x ≡ y)
+    → file_lines a ++ x ≡ file_lines b ++ y → (a ≡ b) × (x ≡ y)
 same_files space [] [] x y fa fb lx ly e = (refl, e)
 same_files space [] (g ∷ b) x y fa fb lx ly e =
-    absurd (lx (behind_space g (files_text b ++ y)) (e ∙ first_file g b y ∙ file_parts g (files_text b ++ y) ∙ ap (λ s. space_name s ++ behind_space g (files_text b ++ y)) fb.0.0))
+    absurd (lx (behind_space g (file_lines b ++ y)) (e ∙ first_file g b y ∙ file_parts g (file_lines b ++ y) ∙ ap (λ s. space_name s ++ behind_space g (file_lines b ++ y)) fb.0.0))
 same_files space (f ∷ a) [] x y fa fb lx ly e =
-    absurd (ly (behind_space f (files_text a ++ x)) (sym e ∙ first_file f a x ∙ file_parts f (files_text a ++ x) ∙ ap (λ s. space_name s ++ behind_space f (files_text a ++ x)) fa.0.0))
+    absurd (ly (behind_space f (file_lines a ++ x)) (sym e ∙ first_file f a x ∙ file_parts f (file_lines a ++ x) ∙ ap (λ s. space_name s ++ behind_space f (file_lines a ++ x)) fa.0.0))
 same_files space (f ∷ a) (g ∷ b) x y fa fb lx ly e =
-    let first = same_file f g (files_text a ++ x) (files_text b ++ y) fa.0.1 fb.0.1 (sym (first_file f a x) ∙ e ∙ first_file g b y) in
+    let first = same_file f g (file_lines a ++ x) (file_lines b ++ y) fa.0.1 fb.0.1 (sym (first_file f a x) ∙ e ∙ first_file g b y) in
     let others = same_files space a b x y fa.1 fb.1 lx ly first.1 in
     let head : f ≡ g = first.0 in
     let tail : a ≡ b = others.0 in
@@ -120,18 +121,18 @@ ends : (s u w1 d1 w2 d2 w3 d3 w4 d4 e : List ℕ)
     ≡ s ++ (u ++ (w1 ++ (d1 ++ (e ++ (w2 ++ (d2 ++ (w3 ++ (d3 ++ (e ++ (w4 ++ (d4 ++ e)))))))))))
 ends s u w1 d1 w2 d2 w3 d3 w4 d4 e = simp append_assoc
 
-listing_parts : (listing : Listing) → listing_text listing ≡ files_text (files_of Sequence listing.files) ++ (files_text (files_of Unsequence listing.files) ++ behind_files listing)
-listing_parts l = ends (files_text (files_of Sequence l.files)) (files_text (files_of Unsequence l.files)) (codes "frozen ") (decimal l.frozen) (codes "working ")
+listing_parts : (listing : Listing) → listing_text listing ≡ file_lines (files_of Sequence listing.files) ++ (file_lines (files_of Unsequence listing.files) ++ behind_files listing)
+listing_parts l = ends (file_lines (files_of Sequence l.files)) (file_lines (files_of Unsequence l.files)) (codes "frozen ") (decimal l.frozen) (codes "working ")
     (decimal (slice_index l.working 0)) (codes " ") (decimal (slice_index l.working 1)) (codes "marks ") (decimal l.marks) (10 ∷ [])
 
 lacks_frozen : (space : Space) (l : Listing) → Lacks space (behind_files l)
 lacks_frozen Sequence l rest e = let first : 102 ≡ 115 = ap (λ l. get_or l 0 0) e in omega (arith, first)
 lacks_frozen Unsequence l rest e = let first : 102 ≡ 117 = ap (λ l. get_or l 0 0) e in omega (arith, first)
 
-lacks_sequence : (files : List FileLine) (l : Listing) → AreFiles Unsequence files → Lacks Sequence (files_text files ++ behind_files l)
+lacks_sequence : (files : List FileLine) (l : Listing) → AreFiles Unsequence files → Lacks Sequence (file_lines files ++ behind_files l)
 lacks_sequence [] l all rest e = lacks_frozen Sequence l rest e
 lacks_sequence (f ∷ files) l all rest e =
-    let begins = sym (ap (λ s. space_name s ++ behind_space f (files_text files ++ behind_files l)) all.0.0) ∙ sym (file_parts f (files_text files ++ behind_files l)) ∙ sym (first_file f files (behind_files l)) ∙ e in
+    let begins = sym (ap (λ s. space_name s ++ behind_space f (file_lines files ++ behind_files l)) all.0.0) ∙ sym (file_parts f (file_lines files ++ behind_files l)) ∙ sym (first_file f files (behind_files l)) ∙ e in
     let first : 117 ≡ 115 = ap (λ l. get_or l 0 0) begins in
     omega (arith, first)
 
@@ -160,8 +161,8 @@ pub same_listing : (a b : Listing) → IsListingInRange a → IsListingInRange b
 same_listing a b ra rb e =
     let ua = AreFiles-of Unsequence a.files ra.files in
     let ub = AreFiles-of Unsequence b.files rb.files in
-    let s = same_files Sequence (files_of Sequence a.files) (files_of Sequence b.files) (files_text (files_of Unsequence a.files) ++ behind_files a)
-    (files_text (files_of Unsequence b.files) ++ behind_files b) (AreFiles-of Sequence a.files ra.files) (AreFiles-of Sequence b.files rb.files)
+    let s = same_files Sequence (files_of Sequence a.files) (files_of Sequence b.files) (file_lines (files_of Unsequence a.files) ++ behind_files a)
+    (file_lines (files_of Unsequence b.files) ++ behind_files b) (AreFiles-of Sequence a.files ra.files) (AreFiles-of Sequence b.files rb.files)
     (lacks_sequence (files_of Unsequence a.files) a ua) (lacks_sequence (files_of Unsequence b.files) b ub) (sym (listing_parts a) ∙ e ∙ listing_parts b) in
     let u = same_files Unsequence (files_of Unsequence a.files) (files_of Unsequence b.files) (behind_files a) (behind_files b) ua ub (lacks_frozen Unsequence a) (lacks_frozen Unsequence b) s.1 in
     let f = after_decimal a.frozen b.frozen _ _ ra.frozen rb.frozen end_of_line end_of_line (append_cancel_left (codes "frozen ") _ _ u.1) in
@@ -175,17 +176,17 @@ same_listing a b ra rb e =
 begins_file : (file : FileLine) (x : List ℕ) → Begins 32 (line (file_text file) ++ x)
 begins_file file x = record { word = space_name file.space; rest = _; letters = space_word file.space; is = file_parts file x }
 
-begins_files : (files : List FileLine) (x : List ℕ) → Begins 32 x → Begins 32 (files_text files ++ x)
+begins_files : (files : List FileLine) (x : List ℕ) → Begins 32 x → Begins 32 (file_lines files ++ x)
 begins_files [] x begins = begins
 begins_files (file ∷ files) x begins =
-    let first = begins_file file (files_text files ++ x) in
+    let first = begins_file file (file_lines files ++ x) in
     record { word = first.word; rest = first.rest; letters = first.letters; is = first_file file files x ∙ first.is }
 
 -- a listing begins with a word and a blank
 pub listing_begins : (listing : Listing) → Begins 32 (listing_text listing)
 listing_begins listing =
     let frozen : Begins 32 (behind_files listing) = record { word = codes "frozen"; rest = _; letters = (omega arith, (omega arith, (omega arith, (omega arith, (omega arith, (omega arith, tt)))))); is = refl } in
-    let all = begins_files (files_of Sequence listing.files) (files_text (files_of Unsequence listing.files) ++ behind_files listing)
+    let all = begins_files (files_of Sequence listing.files) (file_lines (files_of Unsequence listing.files) ++ behind_files listing)
     (begins_files (files_of Unsequence listing.files) (behind_files listing) frozen) in
     record { word = all.word; rest = all.rest; letters = all.letters; is = listing_parts listing ∙ all.is }
 
@@ -218,7 +219,7 @@ others_gone-too (file ∷ files) = apart_spaces-too file.space file (files_of Un
 
 -- the text of a listing with these files
 abbrev listing_with : List FileLine → List FileLine → Listing → List ℕ
-listing_with s u listing = files_text s ++ files_text u ++ line (codes "frozen " ++ decimal listing.frozen) ++ line (working_text listing.working)
+listing_with s u listing = file_lines s ++ file_lines u ++ line (codes "frozen " ++ decimal listing.frozen) ++ line (working_text listing.working)
     ++ line (codes "marks " ++ decimal listing.marks)
 
 pub listing_shown : (listing : Listing) → listing_text (shown_listing listing) ≡ listing_text listing

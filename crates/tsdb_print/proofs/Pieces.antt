@@ -3,7 +3,8 @@ use Rattle.std.proofs.Common.{◌≡◌, ℕ, List, [], ◌∷◌, ◌++◌, tru
 use Rattle.std.specs.List.{flat_map}
 use Rattle.tsdb_base.specs.declared.ids.Space.{Space}
 use Rattle.tsdb_model.specs.declared.reply.FileLine.{FileLine}
-use Rattle.tsdb_print.specs.Text.{file_text, files_of, files_text, line, same_space}
+use Rattle.tsdb_print.specs.Alike.{files_of}
+use Rattle.tsdb_print.specs.Text.{file_text, files_text, line, same_space}
 
 -- one more piece at the end of what was appended so far
 pub one_more : (old so_far piece before after : List ℕ) → before ≡ old ++ so_far → after ≡ before ++ piece → after ≡ old ++ (so_far ++ piece)
@@ -15,12 +16,16 @@ pub two_more : (old so_far words digits before after : List ℕ) → before ≡ 
 two_more old so_far words digits before after e f =
     one_more old (so_far ++ words) digits (before ++ words) after (one_more old so_far words before (before ++ words) e refl) f
 
+-- the lines of files
+abbrev pub file_lines : List FileLine → List ℕ
+file_lines files = flat_map (λ file. line (file_text file)) files
+
 -- the lines of the files of a space, file by file
 pub files_by_file : (space : Space) (files : List FileLine)
-    → flat_map (λ file. files_text (files_of space (file ∷ []))) files ≡ files_text (files_of space files)
+    → flat_map (λ file. files_text space (file ∷ [])) files ≡ files_text space files
 files_by_file space [] = refl
 files_by_file space (file ∷ files) =
-    ap (λ l. files_text (files_of space (file ∷ [])) ++ l) (files_by_file space files)
+    ap (λ l. files_text space (file ∷ []) ++ l) (files_by_file space files)
     ∙ elim (same_space file.space space) as
-    (λ b. files_text (cond b (file ∷ []) []) ++ files_text (files_of space files) ≡ files_text (cond b (file ∷ files_of space files) (files_of space files)))
-    [ true ↦ ap (λ l. l ++ files_text (files_of space files)) (append-nil (line (file_text file))) | false ↦ refl ]
+    (λ b. file_lines (cond b (file ∷ []) []) ++ file_lines (files_of space files) ≡ file_lines (cond b (file ∷ files_of space files) (files_of space files)))
+    [ true ↦ ap (λ l. l ++ file_lines (files_of space files)) (append-nil (line (file_text file))) | false ↦ refl ]

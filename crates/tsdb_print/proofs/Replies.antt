@@ -8,6 +8,7 @@ use Rattle.std.proofs.lemmas.List.{append_cancel_left, length-map}
 use Rattle.std.proofs.lemmas.List.Elements.{recursion_from_All}
 use Rattle.tsdb_base.specs.declared.answers.Aggregate.{Aggregate}
 use Rattle.tsdb_base.specs.declared.answers.Aggregate.TheVariants.{Count, FirstValue, LastValue, MinValue, MaxValue, MinTime, MaxTime}
+use Rattle.tsdb_base.specs.Notation.{aggregate_name}
 use Rattle.tsdb_base.specs.declared.answers.Answer.{Answer}
 use Rattle.tsdb_base.specs.declared.answers.Answer.TheVariants.{Done, NoPath, WrongType, Exists, Device, Memory, Full}
 use Rattle.tsdb_base.specs.declared.value.Value.{Value}
@@ -24,7 +25,7 @@ use Rattle.tsdb_model.specs.History.{IsAllowed}
 use Rattle.tsdb_model.specs.State.{State}
 use Rattle.tsdb_model.specs.World.{World}
 use Rattle.tsdb_print.specs.Alike.{IsInRange, IsRowInRange, IsCellInRange, as_printed, shown_answer, shown_value, shown_values, shown_row}
-use Rattle.tsdb_print.specs.Text.{aggregate_name, answer_text, cell_text, column_text, item_text, items_of, join_with_commas, line, reply_text, row_text, rows_text, values_text}
+use Rattle.tsdb_print.specs.Text.{answer_text, cell_text, column_text, item_text, items_of, join_with_commas, line, reply_text, row_text, rows_text, values_text}
 use Rattle.tsdb_print.proofs.Words.{Begins, IsWord, Stops, apart_by_stop}
 use Rattle.tsdb_print.proofs.Cells.{rows_lines, same_rows, same_values}
 use Rattle.tsdb_print.proofs.Listings.{listing_begins, listing_shown, same_listing}

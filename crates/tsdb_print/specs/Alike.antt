@@ -1,9 +1,10 @@
 -- What a reply shows: what is left of it when what is not printed is forgotten.
-use Rattle.std.specs.Prelude.{◌≡◌, ◌<◌, ◌^◌, FitsSigned, List, ◌++◌, Option, None, Some, map, length, option_map}
+use Rattle.std.specs.Prelude.{◌≡◌, ◌<◌, ◌^◌, FitsSigned, List, ◌++◌, Option, None, Some, map, filter, length, option_map}
 use Rattle.std.specs.Int.{w64}
 use Rattle.std.specs.List.{AllByRecursion}
 use Rattle.tsdb_base.specs.declared.answers.Answer.{Answer}
 use Rattle.tsdb_base.specs.declared.answers.Answer.TheVariants as answer
+use Rattle.tsdb_base.specs.declared.ids.Space.{Space}
 use Rattle.tsdb_base.specs.declared.ids.Space.TheVariants.{Sequence, Unsequence}
 use Rattle.tsdb_base.specs.declared.value.Value.{Value}
 use Rattle.tsdb_base.specs.declared.value.Value.TheVariants as value
@@ -12,7 +13,7 @@ use Rattle.tsdb_model.specs.declared.reply.Line.{Line}
 use Rattle.tsdb_model.specs.declared.reply.Listing.{Listing}
 use Rattle.tsdb_model.specs.declared.reply.Reply.{Reply}
 use Rattle.tsdb_model.specs.declared.reply.Reply.TheVariants.{Plain, Lines, Values, Files}
-use Rattle.tsdb_print.specs.Text.{files_of}
+use Rattle.tsdb_print.specs.Text.{same_space}
 
 -- the counter of `full` is not printed
 abbrev pub shown_answer : Answer → Answer
@@ -36,6 +37,10 @@ shown_values values = map (option_map shown_value) values
 
 abbrev pub shown_row : Line → Line
 shown_row row = record { time = row.time; values = shown_values row.values }
+
+-- the files of a space, in their order
+abbrev pub files_of : Space → List FileLine → List FileLine
+files_of space files = filter (λ file. same_space file.space space) files
 
 -- the sequence files are printed first
 abbrev pub shown_listing : Listing → Listing

@@ -1,11 +1,10 @@
 -- The text of the output. Each line ends with a line feed.
-use Rattle.std.specs.Prelude.{ℕ, ℤ, ◌==◌, List, [], ◌∷◌, ◌++◌, Bool, true, false, Option, None, Some, length, map}
-use Rattle.std.specs.Prelude.{filter, slice_index, codes, if◌then◌else◌}
+use Rattle.std.specs.Prelude.{ℕ, ℤ, List, [], ◌∷◌, ◌++◌, Bool, true, false, Option, None, Some, length, map}
+use Rattle.std.specs.Prelude.{filter, slice_index, codes}
 use Rattle.std.specs.Fmt.{decimal, signed_decimal}
-use Rattle.std.specs.List.{flat_map}
+use Rattle.std.specs.List.{flat_map, join_by}
+use Rattle.tsdb_base.specs.Notation.{aggregate_name, escape}
 use Rattle.tsdb_base.specs.declared.answers.Aggregate.{Aggregate}
-use Rattle.tsdb_base.specs.declared.answers.Aggregate.TheVariants.{Count, FirstValue, LastValue, MinValue, MaxValue}
-use Rattle.tsdb_base.specs.declared.answers.Aggregate.TheVariants.{MinTime, MaxTime}
 use Rattle.tsdb_base.specs.declared.answers.Answer.{Answer}
 use Rattle.tsdb_base.specs.declared.answers.Answer.TheVariants as answer
 use Rattle.tsdb_base.specs.declared.ids.Space.{Space}
@@ -13,8 +12,7 @@ use Rattle.tsdb_base.specs.declared.ids.Space.TheVariants.{Sequence, Unsequence}
 use Rattle.tsdb_base.specs.declared.value.Value.{Value}
 use Rattle.tsdb_base.specs.declared.value.Value.TheVariants as value
 use Rattle.tsdb_model.specs.declared.command.Command.{Command}
-use Rattle.tsdb_model.specs.declared.command.Command.TheVariants.{Create, Insert, Delete, Select, Flush, CompactInner}
-use Rattle.tsdb_model.specs.declared.command.Command.TheVariants.{CompactCross, ShowFiles}
+use Rattle.tsdb_model.specs.declared.command.Command.TheVariants.{Select}
 use Rattle.tsdb_model.specs.declared.command.Item.{Item}
 use Rattle.tsdb_model.specs.declared.reply.FileLine.{FileLine}
 use Rattle.tsdb_model.specs.declared.reply.Line.{Line}
@@ -28,8 +26,7 @@ line text = text ++ 10 ∷ []
 
 -- texts with commas between them
 abbrev pub join_with_commas : List (List ℕ) → List ℕ
-join_with_commas [] = []
-join_with_commas (text ∷ texts) = text ++ flat_map (λ other. 44 ∷ other) texts
+join_with_commas texts = join_by (λ text. text) (codes ",") texts
 
 -- what a command answers that returns no lines
 abbrev pub answer_text : Answer → List ℕ
@@ -41,37 +38,18 @@ answer_text answer.Device = codes "device"
 answer_text answer.Memory = codes "memory"
 answer_text (answer.Full counter) = codes "full"
 
--- a byte of a text, twice where it is a quote
-abbrev pub escape : ℕ → List ℕ
-escape byte = if byte == 39 then 39 ∷ 39 ∷ [] else byte ∷ []
-
--- a text between quotes
+-- a text between quotes, with each quote in it doubled
 abbrev pub quote : List ℕ → List ℕ
-quote bytes = 39 ∷ flat_map escape bytes ++ 39 ∷ []
-
-abbrev pub truth_text : Bool → List ℕ
-truth_text true = codes "true"
-truth_text false = codes "false"
-
-abbrev pub value_text : Value → List ℕ
-value_text (value.Bool b) = truth_text b
-value_text (value.I32 number) = signed_decimal number
-value_text (value.I64 number) = signed_decimal number
-value_text (value.Text bytes) = quote bytes
+quote bytes = 39 ∷ escape 39 bytes ++ 39 ∷ []
 
 -- a value, or `null` where there is none
 abbrev pub cell_text : Option Value → List ℕ
 cell_text None = codes "null"
-cell_text (Some value) = value_text value
-
-abbrev pub aggregate_name : Aggregate → List ℕ
-aggregate_name Count = codes "count"
-aggregate_name FirstValue = codes "first_value"
-aggregate_name LastValue = codes "last_value"
-aggregate_name MinValue = codes "min_value"
-aggregate_name MaxValue = codes "max_value"
-aggregate_name MinTime = codes "min_time"
-aggregate_name MaxTime = codes "max_time"
+cell_text (Some (value.Bool true)) = codes "true"
+cell_text (Some (value.Bool false)) = codes "false"
+cell_text (Some (value.I32 number)) = signed_decimal number
+cell_text (Some (value.I64 number)) = signed_decimal number
+cell_text (Some (value.Text bytes)) = quote bytes
 
 -- an aggregate of a measurement, or the measurement alone
 abbrev pub column_text : Option Aggregate → List ℕ → List ℕ
@@ -110,17 +88,12 @@ file_text file = space_name file.space ++ codes " " ++ decimal file.number.0 ++ 
 
 abbrev pub same_space : Space → Space → Bool
 same_space Sequence Sequence = true
-same_space Sequence Unsequence = false
-same_space Unsequence Sequence = false
 same_space Unsequence Unsequence = true
+same_space space other = false
 
--- the files of a space, in their order
-abbrev pub files_of : Space → List FileLine → List FileLine
-files_of space files = filter (λ file. same_space file.space space) files
-
--- lines for files
-abbrev pub files_text : List FileLine → List ℕ
-files_text files = flat_map (λ file. line (file_text file)) files
+-- the lines of the files of a space, in their order
+abbrev pub files_text : Space → List FileLine → List ℕ
+files_text space files = flat_map (λ file. line (file_text file)) (filter (λ file. same_space file.space space) files)
 
 -- the points of the working pair: the sequence ones, then the unsequence ones
 abbrev pub working_text : List ℕ → List ℕ
@@ -128,20 +101,14 @@ working_text points = codes "working " ++ decimal (slice_index points 0) ++ code
 
 -- a listing: the sequence files, the unsequence files, the frozen pairs, the working pair, and the deletion marks
 abbrev pub listing_text : Listing → List ℕ
-listing_text listing = files_text (files_of Sequence listing.files) ++ files_text (files_of Unsequence listing.files)
+listing_text listing = files_text Sequence listing.files ++ files_text Unsequence listing.files
     ++ line (codes "frozen " ++ decimal listing.frozen) ++ line (working_text listing.working)
     ++ line (codes "marks " ++ decimal listing.marks)
 
 -- the items of a select; another command has none
 abbrev pub items_of : Command → List Item
-items_of (Create schema) = []
-items_of (Insert device row) = []
-items_of (Delete series range) = []
 items_of (Select device items range) = items
-items_of Flush = []
-items_of (CompactInner space) = []
-items_of CompactCross = []
-items_of ShowFiles = []
+items_of command = []
 
 -- the reply to a command
 abbrev pub reply_text : Command → Reply → List ℕ

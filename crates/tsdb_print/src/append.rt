@@ -2,8 +2,8 @@
 ghost use Rattle.std.specs.Prelude.{◌≡◌, ℕ, ◌+◌, ◌<◌, List, [], ◌∷◌, ◌++◌, OnOk, map};
 ghost use Rattle.std.specs.Fmt.{decimal, signed_decimal};
 ghost use Rattle.std.specs.List.{flat_map};
-ghost use Rattle.tsdb_print.specs.Text.{aggregate_name, cell_text, escape, item_text, join_with_commas, quote};
-ghost use Rattle.tsdb_print.specs.Text.{truth_text, value_text};
+ghost use Rattle.tsdb_base.specs.Notation.{aggregate_name, escape};
+ghost use Rattle.tsdb_print.specs.Text.{cell_text, item_text, join_with_commas, quote};
 
 use std::alloc::AllocError;
 use tsdb_base::{Aggregate, Value};
@@ -124,7 +124,7 @@ fn name_of(aggregate: Aggregate) -> &'static [u8]
 }
 
 fn append_value(value: &Value, into: &mut Vec<u8>) -> Result<(), AllocError>
-    ensures { OnOk result (into.new.items ≡ into.old.items ++ value_text value.now) }
+    ensures { OnOk result (into.new.items ≡ into.old.items ++ cell_text (Some value.now)) }
 {
     match value {
         Value::Bool(true) => into.extend_from_slice(b"true"),
@@ -148,7 +148,7 @@ fn append_quote(bytes: &[u8], into: &mut Vec<u8>) -> Result<(), AllocError>
 }
 
 fn append_escape(byte: u8, into: &mut Vec<u8>) -> Result<(), AllocError>
-    ensures { OnOk result (into.new.items ≡ into.old.items ++ escape byte) }
+    ensures { OnOk result (into.new.items ≡ into.old.items ++ escape 39 (byte ∷ [])) }
 {
     if byte == b'\'' {
         return into.extend_from_slice(b"''");

@@ -1,7 +1,7 @@
 //! Appends the listing of a store. Depends on `append`.
 ghost use Rattle.std.specs.Prelude.{◌≡◌, [], ◌∷◌, ◌++◌, OnOk, codes};
 ghost use Rattle.std.specs.Fmt.{decimal};
-ghost use Rattle.tsdb_print.specs.Text.{file_text, files_of, files_text, line, listing_text, space_name, span_text};
+ghost use Rattle.tsdb_print.specs.Text.{file_text, files_text, line, listing_text, space_name, span_text};
 ghost use Rattle.tsdb_print.specs.Text.{working_text};
 
 use crate::append::{append_signed, append_unsigned};
@@ -39,7 +39,7 @@ fn append_count(words: &[u8], number: u64, into: &mut Vec<u8>) -> Result<(), All
 
 /// Appends the lines of the files of a space, in their order.
 fn append_files(space: Space, files: &[FileLine], into: &mut Vec<u8>) -> Result<(), AllocError>
-    ensures { OnOk result (into.new.items ≡ into.old.items ++ files_text (files_of space files.now)) }
+    ensures { OnOk result (into.new.items ≡ into.old.items ++ files_text space files.now) }
 {
     for file in files {
         append_file_of(space, file, into)?;
@@ -49,7 +49,7 @@ fn append_files(space: Space, files: &[FileLine], into: &mut Vec<u8>) -> Result<
 
 /// Appends the line of a file, if it is in the space.
 fn append_file_of(space: Space, file: &FileLine, into: &mut Vec<u8>) -> Result<(), AllocError>
-    ensures { OnOk result (into.new.items ≡ into.old.items ++ files_text (files_of space (file.now ∷ []))) }
+    ensures { OnOk result (into.new.items ≡ into.old.items ++ files_text space (file.now ∷ [])) }
 {
     match (space, file.space) {
         (Space::Sequence, Space::Sequence) | (Space::Unsequence, Space::Unsequence) => {
