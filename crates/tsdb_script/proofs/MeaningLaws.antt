@@ -118,54 +118,36 @@ no_bad_word words kind good h = h.bad (among h.before h.word h.behind (subst (Al
 same_row : (one other : Row) → one.time ≡ other.time → one.cells ≡ other.cells → one ≡ other
 same_row one other times cells = made_same {C = Row} (λ time cells. record { time = time; cells = cells }) one.time other.time one.cells other.cells times cells
 
-one_create : (path data_type encoding : List ℕ) (schema : Schema) (other : Command) → Says (Create path data_type encoding) (command.Create schema)
-    → Says (Create path data_type encoding) other → command.Create schema ≡ other
-one_create path data_type encoding schema (command.Create other) says again =
+one_said : (syntax : Syntax) (command other : Command) → Says syntax command → Says syntax other → command ≡ other
+one_said (Create path data_type encoding) (command.Create schema) (command.Create other) says again =
     let made : List ℕ → DataType → Encoding → Schema = λ path data_type encoding. record { path = path; data_type = data_type; encoding = encoding } in
     let paths : schema.path ≡ other.path = says.0 ∙ sym again.0 in
     let types = one_type data_type schema.data_type other.data_type says.1 again.1 in
     let encodings = one_encoding encoding schema.encoding other.encoding says.2 again.2 in
     let same : made schema.path schema.data_type schema.encoding ≡ made other.path other.data_type other.encoding = cc in
     ap command.Create same
-one_create path data_type encoding schema other says again = absurd again
-
-module _ (device : List ℕ) (names : List (List ℕ)) (time : List ℕ) (values : List Operand) where
-  one_insert : (path : List ℕ) (row : Row) (other : Command) → Says (Insert device names time values) (command.Insert path row) → Says (Insert device names time values) other
-      → command.Insert path row ≡ other
-  one_insert path row (command.Insert other rows) says again =
-      let paths : path ≡ other = says.0 ∙ sym again.0 in
-      let literals = one_each IsLiteral one_literal values (map (λ cell. cell.value) row.cells) (map (λ cell. cell.value) rows.cells) says.3 again.3 in
-      let same = same_row row rows (one_integer time row.time rows.time says.1 again.1) (same_cells row.cells rows.cells (says.2 ∙ sym again.2) literals) in
-      cc
-  one_insert path row other says again = absurd again
-
-one_delete : (path : List ℕ) (conditions : List Condition) (series : List ℕ) (range : Range) (other : Command) → Says (Delete path conditions) (command.Delete series range)
-    → Says (Delete path conditions) other → command.Delete series range ≡ other
-one_delete path conditions series range (command.Delete other ranges) says again =
+one_said (Insert device names time values) (command.Insert path row) (command.Insert other rows) says again =
+    let paths : path ≡ other = says.0 ∙ sym again.0 in
+    let literals = one_each IsLiteral one_literal values (map (λ cell. cell.value) row.cells) (map (λ cell. cell.value) rows.cells) says.3 again.3 in
+    let same = same_row row rows (one_integer time row.time rows.time says.1 again.1) (same_cells row.cells rows.cells (says.2 ∙ sym again.2) literals) in
+    cc
+one_said (Delete path conditions) (command.Delete series range) (command.Delete other ranges) says again =
     let paths : series ≡ other = says.0 ∙ sym again.0 in
     let same = one_range conditions range ranges says.1 again.1 in
     cc
-one_delete path conditions series range other says again = absurd again
-
-module _ (columns : List Column) (device : List ℕ) (conditions : List Condition) where
-  one_select : (path : List ℕ) (items : List Item) (range : Range) (other : Command) → Says (Select columns device conditions) (command.Select path items range)
-      → Says (Select columns device conditions) other → command.Select path items range ≡ other
-  one_select path items range (command.Select other others ranges) says again =
-      let paths : path ≡ other = says.0 ∙ sym again.0 in
-      let each = one_each IsItem one_item columns items others says.1 again.1 in
-      let same = one_range conditions range ranges says.2 again.2 in
-      cc
-  one_select path items range other says again = absurd again
-
-one_said : (syntax : Syntax) (command other : Command) → Says syntax command → Says syntax other → command ≡ other
-one_said (Create path data_type encoding) (command.Create schema) other says again = one_create path data_type encoding schema other says again
-one_said (Insert device names time values) (command.Insert path row) other says again = one_insert device names time values path row other says again
-one_said (Delete path conditions) (command.Delete series range) other says again = one_delete path conditions series range other says again
-one_said (Select columns device conditions) (command.Select path items range) other says again = one_select columns device conditions path items range other says again
+one_said (Select columns device conditions) (command.Select path items range) (command.Select other others ranges) says again =
+    let paths : path ≡ other = says.0 ∙ sym again.0 in
+    let each = one_each IsItem one_item columns items others says.1 again.1 in
+    let same = one_range conditions range ranges says.2 again.2 in
+    cc
 one_said Flush command.Flush command.Flush says again = refl
 one_said (CompactInner space) (command.CompactInner one) (command.CompactInner other) says again = ap command.CompactInner (says ∙ sym again)
 one_said CompactCross command.CompactCross command.CompactCross says again = refl
 one_said ShowFiles command.ShowFiles command.ShowFiles says again = refl
+one_said (Create path data_type encoding) (command.Create schema) other says again = absurd again
+one_said (Insert device names time values) (command.Insert path row) other says again = absurd again
+one_said (Delete path conditions) (command.Delete series range) other says again = absurd again
+one_said (Select columns device conditions) (command.Select path items range) other says again = absurd again
 one_said Flush command.Flush other says again = absurd again
 one_said (CompactInner space) (command.CompactInner one) other says again = absurd again
 one_said CompactCross command.CompactCross other says again = absurd again

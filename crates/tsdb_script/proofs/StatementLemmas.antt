@@ -1,7 +1,7 @@
 -- The parser finds exactly the statements whose forms the tokens fit.
 use Rattle.std.proofs.Common.{◌≡◌, ◌<◌, ℕ, ◌||◌, Bool, true, false, true≢false, cond, inl, inr, List, [], ◌∷◌, length, Option, None, Some, Result, Ok, Err, option_map, refl, sym, ap, ◌∙◌, subst, codes}
 use Rattle.std.specs.Prelude.{◌⊎◌, ◌&&◌, not, IsTrue, IfOk, IfErr}
-use Rattle.std.specs.List.{AllByRecursion, list_any}
+use Rattle.std.specs.List.{list_any}
 use Rattle.std.specs.Str.{bytes_eq, str_to_ascii_lowercase}
 use Rattle.std.proofs.lemmas.Bool.{and_parts, not-true, or_parts}
 use Rattle.std.proofs.lemmas.Slice.Eq.{bytes_eq-Decides}
@@ -13,8 +13,8 @@ use Rattle.tsdb_script.specs.declared.syntax.Part.TheVariants as part
 use Rattle.tsdb_script.specs.declared.fault.LineFault.TheVariants.{Bad, Memory}
 use Rattle.tsdb_script.specs.declared.form.TheConstants.{FORMS}
 use Rattle.tsdb_script.specs.declared.token.Token.TheVariants.{Word, Close, Semicolon}
-use Rattle.tsdb_script.specs.Forms.{asks_first, is_at, keyword_text, places, statement_of, Standing, AreConditions, AreListed, IsName, IsValue, IsColumn, Stands, Stand, HasParts, Fits, HasNoForm}
-use Rattle.tsdb_script.specs.Parse.{Gives, Tokens, ◌>>=◌, stands_at, fixed_at, word_at, end_at, operand_at, column_at, list_at, conditions_at, place_at, before, read_at, is_keyword_place, begins_at, form_at, statement_at, create_of, insert_of, delete_of, select_of, bare_of, made_of}
+use Rattle.tsdb_script.specs.Forms.{asks_first, is_at, keyword_text, places, first_names, first_values, first_columns, later_parts, statement_of, Standing, AreConditions, AreListed, IsName, IsValue, IsColumn, Stands, Stand, HasParts, Fits, HasNoForm}
+use Rattle.tsdb_script.specs.Parse.{Gives, Tokens, ◌>>=◌, stands_at, fixed_at, word_at, end_at, operand_at, column_at, list_at, conditions_at, place_at, before, read_at, is_keyword_place, begins_at, form_at, statement_at}
 use Rattle.tsdb_script.specs.Steps.{FaultsWith}
 use Rattle.tsdb_script.specs.Tokens.{is_keyword}
 use Rattle.tsdb_script.proofs.FormLemmas.{some_is, step, leads, mapped, fixed_found, fixed_again, word_found, finds_name, finds_value, finds_column, list_found, list_again, some_listed, conditions_found, conditions_again}
@@ -134,13 +134,6 @@ record Ends (rest : Tokens) : Type 0 where
 abbrev pub GivesAgain : Place → Tokens → Tokens → List Part → List Part → Type 0
 GivesAgain at tokens rest parts others = (found : Option Part) × (place_at at tokens ≡ Some (found, rest)) × (parts ≡ before found others)
 
-fixed_gives : (at : Place) (tokens rest : Tokens) (parts others : List Part) (fixed : Token) → tokens ≡ fixed ∷ rest → IsTrue (is_at at fixed) → parts ≡ others
-    → (found : Option Part) × (◌>>=◌ {B = Option Part × Tokens} (fixed_at at tokens) (λ rest. Some (None, rest)) ≡ Some (found, rest)) × (parts ≡ before found others)
-fixed_gives at tokens rest parts others fixed e is same =
-    let found : Option Part = None in
-    let taken : ◌>>=◌ {B = Option Part × Tokens} (fixed_at at tokens) (λ rest. Some (found, rest)) ≡ Some (found, rest) = leads (fixed_at at tokens) rest _ _ (fixed_again at fixed tokens rest e is) refl in
-    (found, taken, same)
-
 place_again : (at : Place) (tokens rest : Tokens) (parts others : List Part) → (is_list at ≡ true → Ends rest) → Stands at tokens rest parts others → GivesAgain at tokens rest parts others
 unfolding place_at
 place_again place.Word tokens rest parts others ends h = (Some (part.Word h.0), leads (word_at tokens) (h.0, rest) _ _ (ap word_at h.1) refl, h.2)
@@ -152,7 +145,8 @@ place_again place.Columns tokens rest parts others ends h =
     (Some (part.Columns h.0), leads _ (h.0, rest) _ _ (list_again place.Comma IsColumn column_at finds_column refl rest (ends refl).no_comma (ends refl).no_open h.0 tokens h.1) refl, h.2)
 place_again place.Where tokens rest parts others ends h =
     (Some (part.Conditions h.0), leads _ (h.0, rest) _ _ (conditions_again h.0 tokens rest (ends refl).no_where (ends refl).no_and (ends refl).no_open h.1) refl, h.2)
-place_again at tokens rest parts others ends h = fixed_gives at tokens rest parts others h.0 h.1 h.2 h.3
+place_again at tokens rest parts others ends h =
+    (None, leads {B = Option Part × Tokens} (fixed_at at tokens) rest (λ rest. Some (None, rest)) _ (fixed_again at h.0 tokens rest h.1 h.2) refl, h.3)
 
 -- what stands behind a list ends it
 ends_at : (behind : List Place) (rest : Tokens) (parts : List Part) → ends_list behind ≡ true → Stand behind rest parts → Ends rest
@@ -245,49 +239,18 @@ form_again (g ∷ forms) f tokens has begins =
       ]
     ] refl
 
--- the parts are taken as the table of statements has them
-
-create_is : (parts : List Part) → create_of parts ≡ statement_of form.Create parts
-unfolding create_of
-create_is (part.Word p ∷ part.Word t ∷ part.Word c ∷ []) = refl
-create_is _ = refl
-
-insert_is : (parts : List Part) → insert_of parts ≡ statement_of form.Insert parts
-unfolding insert_of
-insert_is (part.Word d ∷ part.Names ns ∷ part.Word t ∷ part.Values vs ∷ []) = refl
-insert_is _ = refl
-
-delete_is : (parts : List Part) → delete_of parts ≡ statement_of form.Delete parts
-unfolding delete_of
-delete_is (part.Word p ∷ part.Conditions cs ∷ []) = refl
-delete_is _ = refl
-
-select_is : (parts : List Part) → select_of parts ≡ statement_of form.Select parts
-unfolding select_of
-select_is (part.Columns cs ∷ part.Word d ∷ part.Conditions ws ∷ []) = refl
-select_is _ = refl
-
-made_is : (f : Form) (parts : List Part) → made_of f parts ≡ statement_of f parts
-unfolding bare_of
-made_is form.Create parts = create_is parts
-made_is form.Insert parts = insert_is parts
-made_is form.Delete parts = delete_is parts
-made_is form.Select parts = select_is parts
-made_is _ [] = refl
-made_is _ (x ∷ more) = refl
-
 statement_found : (tokens : Tokens) (syntax : Syntax) → statement_at tokens ≡ Some syntax → Fits tokens syntax
 unfolding statement_at
 statement_found tokens syntax e =
-    let a = step (form_at FORMS.now tokens) (λ f. read_at (places f) tokens >>= (λ parts. made_of f parts)) syntax e in
-    let b = step (read_at (places a.0) tokens) (λ parts. made_of a.0 parts) syntax a.2 in
-    record { form = a.0; parts = b.0; stand = read_found (places a.0) tokens b.0 b.1; says = sym (made_is a.0 b.0) ∙ b.2 }
+    let a = step (form_at FORMS.now tokens) (λ f. read_at (places f) tokens >>= (λ parts. Some (statement_of f parts))) syntax e in
+    let b = step (read_at (places a.0) tokens) (λ parts. Some (statement_of a.0 parts)) syntax a.2 in
+    record { form = a.0; parts = b.0; stand = read_found (places a.0) tokens b.0 b.1; says = some_is _ syntax b.2 }
 
 statement_again : (tokens : Tokens) (syntax : Syntax) → Fits tokens syntax → statement_at tokens ≡ Some syntax
 unfolding statement_at
 statement_again tokens syntax h =
     leads (form_at FORMS.now tokens) h.form _ _ (form_again FORMS.now h.form tokens (has_all h.form) (begins_again (places h.form) tokens h.parts h.stand))
-    (leads (read_at (places h.form) tokens) h.parts _ _ (read_again (places h.form) tokens h.parts (all_ended h.form) h.stand) (made_is h.form h.parts ∙ h.says))
+    (leads (read_at (places h.form) tokens) h.parts _ _ (read_again (places h.form) tokens h.parts (all_ended h.form) h.stand) (ap (λ (s : Syntax). Some s) h.says))
 
 -- ---- what the parser returns
 
@@ -306,38 +269,35 @@ same_statement tokens one other h k = let e : Some one ≡ Some other = sym (sta
 
 -- ---- lists have parts
 
-abbrev pub IsFilled : Part → Type 0
-IsFilled (part.Names names) = 0 < length names
-IsFilled (part.Values values) = 0 < length values
-IsFilled (part.Columns columns) = 0 < length columns
-IsFilled other = Unit {0}
+-- no list among the parts of a row is empty
+abbrev HasFullLists : List Place → List Part → Type 0
+HasFullLists [] parts = Unit {0}
+HasFullLists (place.Word ∷ row) parts = HasFullLists row (later_parts parts)
+HasFullLists (place.Names ∷ row) parts = (0 < length (first_names parts)) × HasFullLists row (later_parts parts)
+HasFullLists (place.Values ∷ row) parts = (0 < length (first_values parts)) × HasFullLists row (later_parts parts)
+HasFullLists (place.Columns ∷ row) parts = (0 < length (first_columns parts)) × HasFullLists row (later_parts parts)
+HasFullLists (place.Where ∷ row) parts = HasFullLists row (later_parts parts)
+HasFullLists (other ∷ row) parts = HasFullLists row parts
 
-filled : (row : List Place) (tokens : Tokens) (parts : List Part) → Stand row tokens parts → AllByRecursion IsFilled parts
-filled [] tokens parts h = subst (AllByRecursion IsFilled) (sym h.1) tt
-filled (place.Word ∷ row) tokens parts h = subst (AllByRecursion IsFilled) (sym h.2.2) (tt, filled row h.0 h.1 h.3)
+filled : (row : List Place) (tokens : Tokens) (parts : List Part) → Stand row tokens parts → HasFullLists row parts
+filled [] tokens parts h = tt
+filled (place.Word ∷ row) tokens parts h = subst (HasFullLists (place.Word ∷ row)) (sym h.2.2) (filled row h.0 h.1 h.3)
 filled (place.Names ∷ row) tokens parts h =
-    subst (AllByRecursion IsFilled) (sym h.2.2) (some_listed place.Comma IsName word_at finds_name h.2.0 tokens h.0 h.2.1, filled row h.0 h.1 h.3)
+    subst (HasFullLists (place.Names ∷ row)) (sym h.2.2) (some_listed place.Comma IsName word_at finds_name h.2.0 tokens h.0 h.2.1, filled row h.0 h.1 h.3)
 filled (place.Values ∷ row) tokens parts h =
-    subst (AllByRecursion IsFilled) (sym h.2.2) (some_listed place.Comma IsValue operand_at finds_value h.2.0 tokens h.0 h.2.1, filled row h.0 h.1 h.3)
+    subst (HasFullLists (place.Values ∷ row)) (sym h.2.2) (some_listed place.Comma IsValue operand_at finds_value h.2.0 tokens h.0 h.2.1, filled row h.0 h.1 h.3)
 filled (place.Columns ∷ row) tokens parts h =
-    subst (AllByRecursion IsFilled) (sym h.2.2) (some_listed place.Comma IsColumn column_at finds_column h.2.0 tokens h.0 h.2.1, filled row h.0 h.1 h.3)
-filled (place.Where ∷ row) tokens parts h = subst (AllByRecursion IsFilled) (sym h.2.2) (tt, filled row h.0 h.1 h.3)
-filled (_ ∷ row) tokens parts h = subst (AllByRecursion IsFilled) (sym h.2.3) (filled row h.0 h.1 h.3)
+    subst (HasFullLists (place.Columns ∷ row)) (sym h.2.2) (some_listed place.Comma IsColumn column_at finds_column h.2.0 tokens h.0 h.2.1, filled row h.0 h.1 h.3)
+filled (place.Where ∷ row) tokens parts h = subst (HasFullLists (place.Where ∷ row)) (sym h.2.2) (filled row h.0 h.1 h.3)
+filled (_ ∷ row) tokens parts h = subst (HasFullLists row) (sym h.2.3) (filled row h.0 h.1 h.3)
 
-with_parts : (f : Form) (parts : List Part) (syntax : Syntax) → statement_of f parts ≡ Some syntax → AllByRecursion IsFilled parts → HasParts syntax
-with_parts form.Create (part.Word p ∷ part.Word t ∷ part.Word c ∷ []) syntax e all = subst HasParts (some_is _ syntax e) tt
-with_parts form.Insert (part.Word d ∷ part.Names ns ∷ part.Word t ∷ part.Values vs ∷ []) syntax e all = subst HasParts (some_is _ syntax e) (all.1.0, all.1.1.1.0)
-with_parts form.Delete (part.Word p ∷ part.Conditions cs ∷ []) syntax e all = subst HasParts (some_is _ syntax e) tt
-with_parts form.Select (part.Columns cs ∷ part.Word d ∷ part.Conditions ws ∷ []) syntax e all = subst HasParts (some_is _ syntax e) all.0
-with_parts form.Flush [] syntax e all = subst HasParts (some_is _ syntax e) tt
-with_parts form.CompactSequence [] syntax e all = subst HasParts (some_is _ syntax e) tt
-with_parts form.CompactUnsequence [] syntax e all = subst HasParts (some_is _ syntax e) tt
-with_parts form.CompactCross [] syntax e all = subst HasParts (some_is _ syntax e) tt
-with_parts form.ShowFiles [] syntax e all = subst HasParts (some_is _ syntax e) tt
-with_parts _ _ syntax e all = cc
+with_parts : (f : Form) (parts : List Part) → HasFullLists (places f) parts → HasParts (statement_of f parts)
+with_parts form.Insert parts h = (h.0, h.1.0)
+with_parts form.Select parts h = h.0
+with_parts _ parts h = tt
 
 pub has_parts : (tokens : Tokens) (syntax : Syntax) → Fits tokens syntax → HasParts syntax
-has_parts tokens syntax h = with_parts h.form h.parts syntax h.says (filled (places h.form) tokens h.parts h.stand)
+has_parts tokens syntax h = subst HasParts h.says (with_parts h.form h.parts (filled (places h.form) tokens h.parts h.stand))
 
 pub parts_ok : (tokens : List Token) (result : Result Syntax LineFault) → IfOk result (Fits tokens) → IfOk result HasParts
 parts_ok tokens (Ok syntax) fits = has_parts tokens syntax fits

@@ -1,5 +1,5 @@
 -- Which tokens fit the form of a statement. A form is a row of places, in the table of `src/form.rt`.
-use Rattle.std.specs.Prelude.{◌≡◌, ◌⊎◌, ℕ, ◌<◌, ◌||◌, Bool, true, false, IsTrue, List, [], ◌∷◌, Option, None, Some, length, codes}
+use Rattle.std.specs.Prelude.{◌≡◌, ◌⊎◌, ℕ, ◌<◌, ◌||◌, Bool, true, false, IsTrue, List, [], ◌∷◌, Option, None, Some, length, drop, codes}
 use Rattle.tsdb_base.specs.declared.ids.Space.TheVariants.{Sequence, Unsequence}
 use Rattle.tsdb_script.specs.Types.{Column, Comparison, Condition, Form, Operand, Part, Place, Syntax, Token}
 use Rattle.tsdb_script.specs.declared.form.Form.TheVariants as form
@@ -150,20 +150,45 @@ Stand (place ∷ places) tokens parts = (rest : List Token) × (others : List Pa
 
 -- ---- statements
 
+-- what stands first among parts, by its kind; it is empty where that is another
+abbrev pub first_word : List Part → List ℕ
+first_word (part.Word word ∷ others) = word
+first_word parts = []
+
+abbrev pub first_names : List Part → List (List ℕ)
+first_names (part.Names names ∷ others) = names
+first_names parts = []
+
+abbrev pub first_values : List Part → List Operand
+first_values (part.Values values ∷ others) = values
+first_values parts = []
+
+abbrev pub first_columns : List Part → List Column
+first_columns (part.Columns columns ∷ others) = columns
+first_columns parts = []
+
+abbrev pub first_conditions : List Part → List Condition
+first_conditions (part.Conditions conditions ∷ others) = conditions
+first_conditions parts = []
+
+-- the parts behind the first one
+abbrev pub later_parts : List Part → List Part
+later_parts parts = drop 1 parts
+
 -- the statement of a form with these parts
-abbrev pub statement_of : Form → List Part → Option Syntax
-statement_of form.Create (part.Word path ∷ part.Word type ∷ part.Word encoding ∷ []) = Some (Create path type encoding)
-statement_of form.Insert (part.Word device ∷ part.Names names ∷ part.Word time ∷ part.Values values ∷ []) =
-    Some (Insert device names time values)
-statement_of form.Delete (part.Word path ∷ part.Conditions conditions ∷ []) = Some (Delete path conditions)
-statement_of form.Select (part.Columns columns ∷ part.Word device ∷ part.Conditions conditions ∷ []) =
-    Some (Select columns device conditions)
-statement_of form.Flush [] = Some Flush
-statement_of form.CompactSequence [] = Some (CompactInner Sequence)
-statement_of form.CompactUnsequence [] = Some (CompactInner Unsequence)
-statement_of form.CompactCross [] = Some CompactCross
-statement_of form.ShowFiles [] = Some ShowFiles
-statement_of form parts = None
+abbrev pub statement_of : Form → List Part → Syntax
+statement_of form.Create parts =
+    Create (first_word parts) (first_word (later_parts parts)) (first_word (later_parts (later_parts parts)))
+statement_of form.Insert parts = Insert (first_word parts) (first_names (later_parts parts))
+    (first_word (later_parts (later_parts parts))) (first_values (later_parts (later_parts (later_parts parts))))
+statement_of form.Delete parts = Delete (first_word parts) (first_conditions (later_parts parts))
+statement_of form.Select parts =
+    Select (first_columns parts) (first_word (later_parts parts)) (first_conditions (later_parts (later_parts parts)))
+statement_of form.Flush parts = Flush
+statement_of form.CompactSequence parts = CompactInner Sequence
+statement_of form.CompactUnsequence parts = CompactInner Unsequence
+statement_of form.CompactCross parts = CompactCross
+statement_of form.ShowFiles parts = ShowFiles
 
 -- a list that wants a part has one
 abbrev pub HasParts : Syntax → Type 0
@@ -176,7 +201,7 @@ pub record Fits (tokens : List Token) (syntax : Syntax) : Type 0 where
   pub form : Form
   pub parts : List Part
   pub stand : Stand (places form) tokens parts
-  pub says : statement_of form parts ≡ Some syntax
+  pub says : statement_of form parts ≡ syntax
 
 -- the tokens fit no form, which is a fault of kind 3
 abbrev pub HasNoForm : List Token → ℕ → Type 0

@@ -1,9 +1,7 @@
 -- What the parser finds, step by step, as functions on lists of tokens. No public clause cites them.
 use Rattle.std.specs.Prelude.{◌≡◌, ℕ, zero, suc, length, ◌&&◌, Bool, true, false, List, [], ◌∷◌, Option, None, Some}
 use Rattle.std.specs.Prelude.{Result, Ok, Err, option_map, if◌then◌else◌}
-use Rattle.tsdb_base.specs.declared.ids.Space.TheVariants.{Sequence, Unsequence}
 use Rattle.tsdb_script.specs.Types.{Column, Comparison, Condition, Form, LineFault, Operand, Part, Place, Syntax, Token}
-use Rattle.tsdb_script.specs.declared.form.Form.TheVariants as form
 use Rattle.tsdb_script.specs.declared.form.Keyword.TheVariants as key
 use Rattle.tsdb_script.specs.declared.form.Place.TheVariants as place
 use Rattle.tsdb_script.specs.declared.syntax.Comparison.TheVariants as compared
@@ -11,11 +9,9 @@ use Rattle.tsdb_script.specs.declared.syntax.Operand.TheVariants as operand
 use Rattle.tsdb_script.specs.declared.syntax.Part.TheVariants as part
 use Rattle.tsdb_script.specs.declared.fault.LineFault.TheVariants.{Bad, Memory}
 use Rattle.tsdb_script.specs.declared.form.TheConstants.{FORMS}
-use Rattle.tsdb_script.specs.declared.syntax.Syntax.TheVariants.{Create, Insert, Delete, Select, Flush, CompactInner}
-use Rattle.tsdb_script.specs.declared.syntax.Syntax.TheVariants.{CompactCross, ShowFiles}
 use Rattle.tsdb_script.specs.declared.token.Token.TheVariants.{Word, Text, Semicolon, Equal, Less}
 use Rattle.tsdb_script.specs.declared.token.Token.TheVariants.{LessEqual, Greater, GreaterEqual}
-use Rattle.tsdb_script.specs.Forms.{is_at, places}
+use Rattle.tsdb_script.specs.Forms.{is_at, places, statement_of}
 use Rattle.tsdb_script.specs.Tokens.{is_keyword}
 
 infixl 10 ◌>>=◌
@@ -154,82 +150,8 @@ abbrev pub form_at : List Form → Tokens → Option Form
 form_at [] tokens = None
 form_at (form ∷ forms) tokens = if begins_at (places form) tokens then Some form else form_at forms tokens
 
--- ---- a statement of its parts
-
-abbrev pub word_part : List Part → Option (List ℕ × List Part)
-word_part (part.Word word ∷ parts) = Some (word, parts)
-word_part parts = None
-
-abbrev pub names_part : List Part → Option (List (List ℕ) × List Part)
-names_part (part.Names names ∷ parts) = Some (names, parts)
-names_part parts = None
-
-abbrev pub values_part : List Part → Option (List Operand × List Part)
-values_part (part.Values values ∷ parts) = Some (values, parts)
-values_part parts = None
-
-abbrev pub columns_part : List Part → Option (List Column × List Part)
-columns_part (part.Columns columns ∷ parts) = Some (columns, parts)
-columns_part parts = None
-
-abbrev pub conditions_part : List Part → Option (List Condition × List Part)
-conditions_part (part.Conditions conditions ∷ parts) = Some (conditions, parts)
-conditions_part parts = None
-
-abbrev pub no_part : List Part → Option (Unit {0})
-no_part [] = Some tt
-no_part parts = None
-
-unfoldable pub create_of : List Part → Option Syntax
-create_of parts = do
-  path ← word_part parts
-  data_type ← word_part path.1
-  encoding ← word_part data_type.1
-  nothing ← no_part encoding.1
-  Some (Create path.0 data_type.0 encoding.0)
-
-unfoldable pub insert_of : List Part → Option Syntax
-insert_of parts = do
-  device ← word_part parts
-  names ← names_part device.1
-  time ← word_part names.1
-  values ← values_part time.1
-  nothing ← no_part values.1
-  Some (Insert device.0 names.0 time.0 values.0)
-
-unfoldable pub delete_of : List Part → Option Syntax
-delete_of parts = do
-  path ← word_part parts
-  conditions ← conditions_part path.1
-  nothing ← no_part conditions.1
-  Some (Delete path.0 conditions.0)
-
-unfoldable pub select_of : List Part → Option Syntax
-select_of parts = do
-  columns ← columns_part parts
-  device ← word_part columns.1
-  conditions ← conditions_part device.1
-  nothing ← no_part conditions.1
-  Some (Select columns.0 device.0 conditions.0)
-
-unfoldable pub bare_of : Syntax → List Part → Option Syntax
-bare_of syntax parts = do
-  nothing ← no_part parts
-  Some syntax
-
-abbrev pub made_of : Form → List Part → Option Syntax
-made_of form.Create parts = create_of parts
-made_of form.Insert parts = insert_of parts
-made_of form.Delete parts = delete_of parts
-made_of form.Select parts = select_of parts
-made_of form.Flush parts = bare_of Flush parts
-made_of form.CompactSequence parts = bare_of (CompactInner Sequence) parts
-made_of form.CompactUnsequence parts = bare_of (CompactInner Unsequence) parts
-made_of form.CompactCross parts = bare_of CompactCross parts
-made_of form.ShowFiles parts = bare_of ShowFiles parts
-
 unfoldable pub statement_at : Tokens → Option Syntax
 statement_at tokens = do
   form ← form_at FORMS.now tokens
   parts ← read_at (places form) tokens
-  made_of form parts
+  Some (statement_of form parts)

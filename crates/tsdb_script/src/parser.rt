@@ -4,13 +4,12 @@ ghost use Rattle.std.specs.Prelude.{◌≡◌, IfOk, IfErr, List, Option, drop, 
 ghost use Rattle.std.specs.List.{list_any};
 ghost use Rattle.tsdb_script.specs.declared.form.TheConstants.{FORMS};
 ghost use Rattle.tsdb_script.specs.declared.token.Token.{Token};
-ghost use Rattle.tsdb_script.specs.Forms.{asks_first, is_at, places, Fits, HasNoForm, HasParts};
+ghost use Rattle.tsdb_script.specs.Forms.{asks_first, is_at, later_parts, places, statement_of, Fits, HasNoForm, HasParts};
+ghost use Rattle.tsdb_script.specs.Forms.{first_columns, first_conditions, first_names, first_values, first_word};
 ghost use Rattle.tsdb_script.specs.Steps.{FaultsWith};
 ghost use Rattle.tsdb_script.specs.Parse.{begins_at, called_at, column_at, comparison_at, condition_at, conditions_at};
-ghost use Rattle.tsdb_script.specs.Parse.{items_at, onto, says, bare_of, columns_part, conditions_part, create_of, delete_of, insert_of, made_of};
-ghost use Rattle.tsdb_script.specs.Parse.{names_part, no_part, select_of, values_part, word_part};
-ghost use Rattle.tsdb_script.specs.Parse.{end_at, fixed_at, form_at, list_at, operand_at, place_at, read_at, stands_at};
-ghost use Rattle.tsdb_script.specs.Parse.{statement_at, word_at, Gives};
+ghost use Rattle.tsdb_script.specs.Parse.{end_at, fixed_at, form_at, items_at, list_at, onto, operand_at, place_at};
+ghost use Rattle.tsdb_script.specs.Parse.{read_at, says, stands_at, statement_at, word_at, Gives};
 
 use crate::fault::LineFault;
 use crate::form::{FORMS, Form, Keyword, Place};
@@ -54,7 +53,7 @@ fn matched<'a>(alloc: Global, tokens: &mut Tokens<'a>) -> Result<Syntax<'a>, Lin
 {
     let form = form_of(tokens).ok_or(NO_FORM)?;
     let mut parts = parts_of(alloc, form.places(), tokens)?;
-    made(form, &mut parts)
+    Ok(made(alloc, form, &mut parts))
 }
 
 /// The first form whose leading keywords the tokens begin with.
@@ -354,150 +353,94 @@ fn conditions<'a>(alloc: Global, tokens: &mut Tokens<'a>) -> Result<List<Conditi
 }
 
 /// The statement of a form with these parts.
-fn made<'a>(form: Form, parts: &mut Parts<'a>) -> Result<Syntax<'a>, LineFault>
-    ensures { Gives (λ syntax. syntax) result (made_of form parts.old.items) }
+fn made<'a>(alloc: Global, form: Form, parts: &mut Parts<'a>) -> Syntax<'a>
+    ensures { result ≡ statement_of form parts.old.items }
 {
     match form {
-        Form::Create => create(parts),
-        Form::Insert => insert(parts),
-        Form::Delete => delete(parts),
-        Form::Select => select(parts),
-        Form::Flush => bare(Syntax::Flush, parts),
-        Form::CompactSequence => bare(inner(Space::Sequence), parts),
-        Form::CompactUnsequence => bare(inner(Space::Unsequence), parts),
-        Form::CompactCross => bare(Syntax::CompactCross, parts),
-        Form::ShowFiles => bare(Syntax::ShowFiles, parts),
+        Form::Create => Syntax::Create {
+            path: word_part(parts),
+            data_type: word_part(parts),
+            encoding: word_part(parts),
+        },
+        Form::Insert => Syntax::Insert {
+            device: word_part(parts),
+            names: names_part(alloc, parts),
+            time: word_part(parts),
+            values: values_part(alloc, parts),
+        },
+        Form::Delete => Syntax::Delete {
+            path: word_part(parts),
+            conditions: conditions_part(alloc, parts),
+        },
+        Form::Select => Syntax::Select {
+            columns: columns_part(alloc, parts),
+            device: word_part(parts),
+            conditions: conditions_part(alloc, parts),
+        },
+        Form::Flush => Syntax::Flush,
+        Form::CompactSequence => Syntax::CompactInner {
+            space: Space::Sequence,
+        },
+        Form::CompactUnsequence => Syntax::CompactInner {
+            space: Space::Unsequence,
+        },
+        Form::CompactCross => Syntax::CompactCross,
+        Form::ShowFiles => Syntax::ShowFiles,
     }
 }
 
-fn inner<'a>(space: Space) -> Syntax<'a>
-    ensures { result ≡ Syntax.CompactInner space }
-{
-    Syntax::CompactInner { space }
-}
-
-fn word_part<'a>(parts: &mut Parts<'a>) -> Result<Word<'a>, LineFault>
-    ensures { Gives (λ word. (word, parts.new.items)) result (word_part parts.old.items) }
+/// Takes the first part, which is a word.
+fn word_part<'a>(parts: &mut Parts<'a>) -> Word<'a>
+    ensures word { result ≡ first_word parts.old.items }
+    ensures rest { parts.new.items ≡ later_parts parts.old.items }
 {
     match parts.pop_front() {
-        Some(Part::Word(word)) => Ok(word),
-        Some(_other) => Err(NO_FORM),
-        None => Err(NO_FORM),
+        Some(Part::Word(word)) => word,
+        Some(_other) => Word::of(&[]),
+        None => Word::of(&[]),
     }
 }
 
-fn names_part<'a>(parts: &mut Parts<'a>) -> Result<List<Word<'a>>, LineFault>
-    ensures { Gives (λ names. (names, parts.new.items)) result (names_part parts.old.items) }
+fn names_part<'a>(alloc: Global, parts: &mut Parts<'a>) -> List<Word<'a>>
+    ensures names { result ≡ first_names parts.old.items }
+    ensures rest { parts.new.items ≡ later_parts parts.old.items }
 {
     match parts.pop_front() {
-        Some(Part::Names(names)) => Ok(names),
-        Some(_other) => Err(NO_FORM),
-        None => Err(NO_FORM),
+        Some(Part::Names(names)) => names,
+        Some(_other) => List::of(Vec::new(alloc)),
+        None => List::of(Vec::new(alloc)),
     }
 }
 
-fn values_part<'a>(parts: &mut Parts<'a>) -> Result<List<Operand<'a>>, LineFault>
-    ensures { Gives (λ values. (values, parts.new.items)) result (values_part parts.old.items) }
+fn values_part<'a>(alloc: Global, parts: &mut Parts<'a>) -> List<Operand<'a>>
+    ensures values { result ≡ first_values parts.old.items }
+    ensures rest { parts.new.items ≡ later_parts parts.old.items }
 {
     match parts.pop_front() {
-        Some(Part::Values(values)) => Ok(values),
-        Some(_other) => Err(NO_FORM),
-        None => Err(NO_FORM),
+        Some(Part::Values(values)) => values,
+        Some(_other) => List::of(Vec::new(alloc)),
+        None => List::of(Vec::new(alloc)),
     }
 }
 
-fn columns_part<'a>(parts: &mut Parts<'a>) -> Result<List<Column<'a>>, LineFault>
-    ensures { Gives (λ columns. (columns, parts.new.items)) result (columns_part parts.old.items) }
+fn columns_part<'a>(alloc: Global, parts: &mut Parts<'a>) -> List<Column<'a>>
+    ensures columns { result ≡ first_columns parts.old.items }
+    ensures rest { parts.new.items ≡ later_parts parts.old.items }
 {
     match parts.pop_front() {
-        Some(Part::Columns(columns)) => Ok(columns),
-        Some(_other) => Err(NO_FORM),
-        None => Err(NO_FORM),
+        Some(Part::Columns(columns)) => columns,
+        Some(_other) => List::of(Vec::new(alloc)),
+        None => List::of(Vec::new(alloc)),
     }
 }
 
-fn conditions_part<'a>(parts: &mut Parts<'a>) -> Result<List<Condition<'a>>, LineFault>
-    ensures { Gives (λ conditions. (conditions, parts.new.items)) result (conditions_part parts.old.items) }
+fn conditions_part<'a>(alloc: Global, parts: &mut Parts<'a>) -> List<Condition<'a>>
+    ensures conditions { result ≡ first_conditions parts.old.items }
+    ensures rest { parts.new.items ≡ later_parts parts.old.items }
 {
     match parts.pop_front() {
-        Some(Part::Conditions(conditions)) => Ok(conditions),
-        Some(_other) => Err(NO_FORM),
-        None => Err(NO_FORM),
+        Some(Part::Conditions(conditions)) => conditions,
+        Some(_other) => List::of(Vec::new(alloc)),
+        None => List::of(Vec::new(alloc)),
     }
-}
-
-/// There is no further part.
-fn no_part(parts: &Parts) -> Result<(), LineFault>
-    ensures { Gives (λ r. r) result (no_part parts.now.items) }
-{
-    if parts.is_empty() {
-        Ok(())
-    } else {
-        Err(NO_FORM)
-    }
-}
-
-#[tactic(auto, unfolding(crate::specs::Parse::bare_of))]
-fn bare<'a>(syntax: Syntax<'a>, parts: &mut Parts) -> Result<Syntax<'a>, LineFault>
-    ensures { Gives (λ syntax. syntax) result (bare_of syntax.entry parts.old.items) }
-{
-    no_part(parts)?;
-    Ok(syntax)
-}
-
-#[tactic(auto, unfolding(crate::specs::Parse::create_of))]
-fn create<'a>(parts: &mut Parts<'a>) -> Result<Syntax<'a>, LineFault>
-    ensures { Gives (λ syntax. syntax) result (create_of parts.old.items) }
-{
-    let path = word_part(parts)?;
-    let data_type = word_part(parts)?;
-    let encoding = word_part(parts)?;
-    no_part(parts)?;
-    Ok(Syntax::Create {
-        path,
-        data_type,
-        encoding,
-    })
-}
-
-#[tactic(auto, unfolding(crate::specs::Parse::insert_of))]
-fn insert<'a>(parts: &mut Parts<'a>) -> Result<Syntax<'a>, LineFault>
-    ensures { Gives (λ syntax. syntax) result (insert_of parts.old.items) }
-{
-    let device = word_part(parts)?;
-    let names = names_part(parts)?;
-    let time = word_part(parts)?;
-    let values = values_part(parts)?;
-    no_part(parts)?;
-    Ok(Syntax::Insert {
-        device,
-        names,
-        time,
-        values,
-    })
-}
-
-#[tactic(auto, unfolding(crate::specs::Parse::delete_of))]
-fn delete<'a>(parts: &mut Parts<'a>) -> Result<Syntax<'a>, LineFault>
-    ensures { Gives (λ syntax. syntax) result (delete_of parts.old.items) }
-{
-    let path = word_part(parts)?;
-    let conditions = conditions_part(parts)?;
-    no_part(parts)?;
-    Ok(Syntax::Delete { path, conditions })
-}
-
-#[tactic(auto, unfolding(crate::specs::Parse::select_of))]
-fn select<'a>(parts: &mut Parts<'a>) -> Result<Syntax<'a>, LineFault>
-    ensures { Gives (λ syntax. syntax) result (select_of parts.old.items) }
-{
-    let columns = columns_part(parts)?;
-    let device = word_part(parts)?;
-    let conditions = conditions_part(parts)?;
-    no_part(parts)?;
-    Ok(Syntax::Select {
-        columns,
-        device,
-        conditions,
-    })
 }
