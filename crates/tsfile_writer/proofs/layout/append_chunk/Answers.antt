@@ -1,6 +1,7 @@
-use Rattle.std.proofs.Common.{◌≡◌, ◌+◌, ap, ◌∙◌, length, rules}
+use Rattle.std.proofs.Common.{◌≡◌, ◌+◌, ap, ◌∙◌, length, rules, subst, sym}
 use Rattle.std.proofs.lemmas.List.{length-append}
 use Rattle.tsdb_pages.specs.File.{chunk_start}
+use Rattle.tsdb_stats.specs.Statistics.{AreStatsOf}
 use Rattle.tsfile_writer.proofs.layout.append_chunk.Goals as goal
 
 pub returns-clause-chunk : goal.returns-clause-chunk

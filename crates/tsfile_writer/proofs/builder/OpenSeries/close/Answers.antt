@@ -41,8 +41,8 @@ returns-clause-ok c = λ given state.
     series_closed given (record { points = self.points.items }) c.args.into.now.items c.put_page.new.into.items entries c.push.new.self.items self.path self.data_type self.encoding self.chunk whole self.points.items c.into_entry-entry.result
     state some refl puts
     (record {
-      device_is = said.device ∙ c.in_ok-device.ensures;
-      measurement_is = said.measurement ∙ c.in_ok-measurement.ensures;
+      device_is = said.device ∙ c.in_ok-device.ensures.value;
+      measurement_is = said.measurement ∙ c.in_ok-measurement.ensures.value;
       type_is = said.data_type ∙ put.same.type_is;
       encoding_is = said.encoding ∙ put.same.encoding_is;
       place_is = said.place;
