@@ -1,13 +1,14 @@
 -- The tokens of a line, as the reader finds them.
 use Rattle.std.proofs.Common.{◌≡◌, ◌≤◌, ◌<◌, ℕ, Bool, true, false, cond, eqb, leb, ◌||◌, inl, inr, List, [], ◌∷◌, ◌++◌, length, Option, None, Some, option_map, refl, sym, ap, ◌∙◌, subst, append_assoc, length-append, arith}
-use Rattle.std.specs.Prelude.{All, IsTrue, MatchBool, option_and_then}
+use Rattle.std.specs.Prelude.{All, IsTrue, MatchBool, not, option_and_then}
 use Rattle.std.proofs.lemmas.Bool.{eqb-true, false≢true, or_cases, or_from, cases_Bool, leb-true, le-leb, eq-eqb}
 use Rattle.std.proofs.lemmas.List.Elements.{All-nil, All-cons, All-head, All-tail}
+use Rattle.tsdb_base.specs.Notation.{escape}
 use Rattle.tsdb_script.specs.Types.{LineFault, Token}
 use Rattle.tsdb_script.specs.declared.token.Token.TheVariants.{Word, Text, Less, LessEqual, Greater, GreaterEqual}
 use Rattle.tsdb_script.specs.declared.fault.LineFault.TheVariants.{Bad}
 use Rattle.tsdb_script.specs.Steps.{FaultsWith, after_blanks, word_parts, onto, content_parts, short_text, text_at, less_at, greater_at, mark_at, token_at}
-use Rattle.tsdb_script.specs.Tokens.{is_blank, is_word_byte, is_quote, is_mark, starts, escape, AreWordAnd, AreTextAnd, BeginsWithToken, AreBlanksAnd, AreTokensAnd, IsStray, IsBadText, HasNoTokens}
+use Rattle.tsdb_script.specs.Tokens.{is_blank, is_word_byte, is_quote, is_mark, starts, AreWordAnd, AreTextAnd, BeginsWithToken, AreBlanksAnd, AreTokensAnd, IsStray, IsBadText, HasNoTokens}
 use Rattle.tsdb_script.proofs.TextLemmas.{content_parts-other, content_parts-pair, content_parts-end}
 
 pub some_is : {A : Type 0} (x y : A) → Some x ≡ Some y → x ≡ y
@@ -263,7 +264,8 @@ no_token [] solid some none = absurd (omega (arith, some))
 no_token (b ∷ bytes) solid some none =
     elim (is_quote b) as (λ t. is_quote b ≡ t → MatchBool t (IsBadText (b ∷ bytes)) (IsStray (b ∷ bytes))) [
       | true ↦ λ is. record { begins = is; no_text = λ content rest h. (let found = token_again (Text content) (b ∷ bytes) rest h in cc) }
-      | false ↦ λ no. record { first = b; more = bytes; begins = refl; solid = solid; no_token = or_from (is_word_byte b) (is_quote b || is_mark b) (no_word b bytes none) (or_from (is_quote b) (is_mark b) no (no_mark b bytes none)) }
+      | false ↦ λ no. ap not (or_from (is_blank b) (is_word_byte b || (is_quote b || is_mark b)) solid
+          (or_from (is_word_byte b) (is_quote b || is_mark b) (no_word b bytes none) (or_from (is_quote b) (is_mark b) no (no_mark b bytes none))))
     ] refl
   where
     no_mark : (b : ℕ) (bytes : List ℕ) → token_at (b ∷ bytes) ≡ None → is_mark b ≡ false

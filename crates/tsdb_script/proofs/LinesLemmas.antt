@@ -1,9 +1,9 @@
 -- Scripts cut into lines, and lines without their ends.
 use Rattle.std.proofs.Common.{◌≡◌, ◌≢◌, ℕ, ◌<◌, zero, suc, get_or, Bool, true, false, cond, ◌&&◌, List, [], ◌∷◌, ◌++◌, length, take, drop, eqb, refl, ap, ◌∙◌, arith}
-use Rattle.std.specs.List.{concat, list_all}
+use Rattle.std.specs.List.{concat, list_all, onto_first}
 use Rattle.std.proofs.Math.Dec.{eqb-suc-zero}
 use Rattle.std.proofs.lemmas.Bool.{eqb-true, eq-eqb}
-use Rattle.tsdb_script.specs.Reading.{lines_of, before_lines, without_last}
+use Rattle.tsdb_script.specs.Reading.{lines_of, without_last}
 use Rattle.tsdb_script.specs.Steps.{after_blanks}
 use Rattle.tsdb_script.specs.Tokens.{is_blank}
 
@@ -14,18 +14,18 @@ different a b h = elim (eqb a b) as (λ t. eqb a b ≡ t → t ≡ false) [ true
 pub lines_of-found : (bytes : List ℕ) (at : ℕ) → at < length bytes → ((k : ℕ) → k < at → get_or bytes k 0 ≢ 10) → get_or bytes at 0 ≡ 10
     → lines_of bytes ≡ take (suc at) bytes ∷ lines_of (drop (suc at) bytes)
 lines_of-found [] at lt before here = absurd (omega arith)
-lines_of-found (b ∷ bytes) zero lt before here = ap (λ t. cond t ((b ∷ []) ∷ lines_of bytes) (before_lines b (lines_of bytes))) (eq-eqb b 10 here)
+lines_of-found (b ∷ bytes) zero lt before here = ap (λ t. cond t ((b ∷ []) ∷ lines_of bytes) (onto_first b (lines_of bytes))) (eq-eqb b 10 here)
 lines_of-found (b ∷ bytes) (suc at) lt before here =
-    ap (λ t. cond t ((b ∷ []) ∷ lines_of bytes) (before_lines b (lines_of bytes))) (different b 10 (before 0 (omega arith)))
-    ∙ ap (before_lines b) (lines_of-found bytes at (omega arith) (λ k h. before (suc k) (omega arith)) here)
+    ap (λ t. cond t ((b ∷ []) ∷ lines_of bytes) (onto_first b (lines_of bytes))) (different b 10 (before 0 (omega arith)))
+    ∙ ap (onto_first b) (lines_of-found bytes at (omega arith) (λ k h. before (suc k) (omega arith)) here)
 
 -- a text without a line feed is one line
 pub lines_of-one : (bytes : List ℕ) → 0 < length bytes → ((k : ℕ) → k < length bytes → get_or bytes k 0 ≢ 10) → lines_of bytes ≡ bytes ∷ []
 lines_of-one [] lt before = absurd (omega arith)
 lines_of-one (b ∷ []) lt before = ap (λ t. cond t ((b ∷ []) ∷ []) ((b ∷ []) ∷ [])) (different b 10 (before 0 (omega arith)))
 lines_of-one (b ∷ c ∷ bytes) lt before =
-    ap (λ t. cond t ((b ∷ []) ∷ lines_of (c ∷ bytes)) (before_lines b (lines_of (c ∷ bytes)))) (different b 10 (before 0 (omega arith)))
-    ∙ ap (before_lines b) (lines_of-one (c ∷ bytes) (omega arith) (λ k h. before (suc k) (omega arith)))
+    ap (λ t. cond t ((b ∷ []) ∷ lines_of (c ∷ bytes)) (onto_first b (lines_of (c ∷ bytes)))) (different b 10 (before 0 (omega arith)))
+    ∙ ap (onto_first b) (lines_of-one (c ∷ bytes) (omega arith) (λ k h. before (suc k) (omega arith)))
 
 -- what stands before a last byte
 pub without_last-push : (last b : ℕ) (front : List ℕ) → without_last last (front ++ b ∷ []) ≡ cond (eqb b last) front (front ++ b ∷ [])
@@ -51,16 +51,16 @@ blank_is (b ∷ bytes) = by_first (is_blank b) (blank_is bytes)
     by_first true e = e
     by_first false e = eqb-suc-zero (length bytes)
 
-concat-before : (b : ℕ) (lines : List (List ℕ)) → concat (before_lines b lines) ≡ b ∷ concat lines
-concat-before b [] = refl
-concat-before b (l ∷ lines) = refl
+concat-onto_first : (b : ℕ) (lines : List (List ℕ)) → concat (onto_first b lines) ≡ b ∷ concat lines
+concat-onto_first b [] = refl
+concat-onto_first b (l ∷ lines) = refl
 
 -- the lines are all of the bytes
 pub concat-lines_of : (bytes : List ℕ) → concat (lines_of bytes) ≡ bytes
 concat-lines_of [] = refl
 concat-lines_of (b ∷ bytes) =
-    elim (eqb b 10) as (λ t. concat (cond t ((b ∷ []) ∷ lines_of bytes) (before_lines b (lines_of bytes))) ≡ b ∷ bytes)
-    [ true ↦ ap (λ l. b ∷ l) (concat-lines_of bytes) | false ↦ concat-before b (lines_of bytes) ∙ ap (λ l. b ∷ l) (concat-lines_of bytes) ]
+    elim (eqb b 10) as (λ t. concat (cond t ((b ∷ []) ∷ lines_of bytes) (onto_first b (lines_of bytes))) ≡ b ∷ bytes)
+    [ true ↦ ap (λ l. b ∷ l) (concat-lines_of bytes) | false ↦ concat-onto_first b (lines_of bytes) ∙ ap (λ l. b ∷ l) (concat-lines_of bytes) ]
 
 -- how the lines go on where bytes follow: all but the last stay, and the last goes on
 pub record GoesOn (bytes rest : List ℕ) : Type 0 where
@@ -72,15 +72,15 @@ pub record GoesOn (bytes rest : List ℕ) : Type 0 where
   pub long : lines_of (bytes ++ rest) ≡ front ++ (last ++ more) ∷ others
 
 -- what a byte that is no line feed becomes in front of lines
-headed : (b : ℕ) (lines : List (List ℕ)) → (more : List ℕ) × (others : List (List ℕ)) × (before_lines b lines ≡ (b ∷ more) ∷ others)
+headed : (b : ℕ) (lines : List (List ℕ)) → (more : List ℕ) × (others : List (List ℕ)) × (onto_first b lines ≡ (b ∷ more) ∷ others)
 headed b [] = ([], [], refl)
 headed b (l ∷ lines) = (l, lines, refl)
 
 feed : (b : ℕ) (bytes : List ℕ) → eqb b 10 ≡ true → lines_of (b ∷ bytes) ≡ (b ∷ []) ∷ lines_of bytes
-feed b bytes e = ap (λ t. cond t ((b ∷ []) ∷ lines_of bytes) (before_lines b (lines_of bytes))) e
+feed b bytes e = ap (λ t. cond t ((b ∷ []) ∷ lines_of bytes) (onto_first b (lines_of bytes))) e
 
-no_feed : (b : ℕ) (bytes : List ℕ) → eqb b 10 ≡ false → lines_of (b ∷ bytes) ≡ before_lines b (lines_of bytes)
-no_feed b bytes e = ap (λ t. cond t ((b ∷ []) ∷ lines_of bytes) (before_lines b (lines_of bytes))) e
+no_feed : (b : ℕ) (bytes : List ℕ) → eqb b 10 ≡ false → lines_of (b ∷ bytes) ≡ onto_first b (lines_of bytes)
+no_feed b bytes e = ap (λ t. cond t ((b ∷ []) ∷ lines_of bytes) (onto_first b (lines_of bytes))) e
 
 goes : (bytes rest : List ℕ) (front : List (List ℕ)) (last more : List ℕ) (others : List (List ℕ)) → lines_of bytes ≡ front ++ last ∷ []
     → lines_of (bytes ++ rest) ≡ front ++ (last ++ more) ∷ others → GoesOn bytes rest
@@ -98,9 +98,9 @@ longer b bytes rest false e g = onto g.front g.short g.long
   where
     onto : (front : List (List ℕ)) → lines_of bytes ≡ front ++ g.last ∷ [] → lines_of (bytes ++ rest) ≡ front ++ (g.last ++ g.more) ∷ g.others → GoesOn (b ∷ bytes) rest
     onto [] short long =
-        goes (b ∷ bytes) rest [] (b ∷ g.last) g.more g.others (no_feed b bytes e ∙ ap (before_lines b) short) (no_feed b (bytes ++ rest) e ∙ ap (before_lines b) long)
+        goes (b ∷ bytes) rest [] (b ∷ g.last) g.more g.others (no_feed b bytes e ∙ ap (onto_first b) short) (no_feed b (bytes ++ rest) e ∙ ap (onto_first b) long)
     onto (f ∷ front) short long =
-        goes (b ∷ bytes) rest ((b ∷ f) ∷ front) g.last g.more g.others (no_feed b bytes e ∙ ap (before_lines b) short) (no_feed b (bytes ++ rest) e ∙ ap (before_lines b) long)
+        goes (b ∷ bytes) rest ((b ∷ f) ∷ front) g.last g.more g.others (no_feed b bytes e ∙ ap (onto_first b) short) (no_feed b (bytes ++ rest) e ∙ ap (onto_first b) long)
 
 pub goes_on : (b : ℕ) (bytes rest : List ℕ) → GoesOn (b ∷ bytes) rest
 goes_on b [] rest = single b rest (eqb b 10) refl

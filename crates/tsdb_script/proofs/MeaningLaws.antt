@@ -2,7 +2,7 @@
 use Rattle.std.proofs.Common.{◌≡◌, ℕ, ℤ, ◌<◌, true, List, [], ◌∷◌, ◌++◌, Option, None, Some, Result, Ok, Err, length, map, inl, inr, refl, sym, ap, subst, ◌∙◌, true≢false, arith}
 use Rattle.std.specs.Prelude.{◌≤ℤ◌, FitsSigned, All, IfOk}
 use Rattle.std.specs.Int.{w64}
-use Rattle.std.specs.List.{AllByRecursion, AllZip}
+use Rattle.std.specs.List.{AllByRecursion, AllZip, flat_map}
 use Rattle.std.specs.Option.{IsSome}
 use Rattle.std.proofs.lemmas.Int.{ints}
 use Rattle.std.proofs.lemmas.List.{length-map}
@@ -17,7 +17,7 @@ use Rattle.tsdb_model.specs.Commands.{AreDifferent, AreItems, IsDevice, IsRow, I
 use Rattle.tsdb_model.specs.World.{is_in}
 use Rattle.tsdb_script.specs.declared.syntax.Syntax.TheVariants.{Create, Insert, Delete, Select, Flush, CompactInner, CompactCross, ShowFiles}
 use Rattle.tsdb_script.specs.Forms.{HasParts}
-use Rattle.tsdb_script.specs.Meaning.{HasBadWord, AreAlike, ArePaired, IsGood, IsItem, IsLiteral, IsNamed, IsRangeOf, Means, Objects, Role, DeviceOf, Says, column_roles, condition_roles, measurements_of, roles}
+use Rattle.tsdb_script.specs.Meaning.{HasBadWord, AreAlike, ArePaired, IsGood, IsItem, IsLiteral, IsNamed, IsRangeOf, Means, Objects, Role, DeviceOf, Says, column_role, condition_roles, roles}
 use Rattle.tsdb_script.proofs.Ranges.{not_before, not_behind, within}
 use Rattle.tsdb_script.proofs.WordLists.{AllByRecursion-split}
 use Rattle.tsdb_script.proofs.SameWords.{one_encoding, one_integer, one_literal, one_named, one_type}
@@ -227,7 +227,7 @@ well_formed (Insert device names time values) (command.Insert path row) parts me
 well_formed (Delete path conditions) (command.Delete series range) parts means = subst IsSeries (sym means.says.0) means.words.0.1
 well_formed (Select columns device conditions) (command.Select path items range) parts means = (
   subst IsDevice (sym means.says.0)
-      (AllByRecursion-split IsGood (column_roles columns) (DeviceOf (measurements_of columns) device ∷ condition_roles conditions) means.words).1.0.1,
+      (AllByRecursion-split IsGood (flat_map column_role columns) (DeviceOf (map (λ column. column.measurement) columns) device ∷ condition_roles conditions) means.words).1.0.1,
   well_formed_items columns items parts means.balanced means.says.1,
 )
 well_formed Flush command.Flush parts means = tt

@@ -1,11 +1,11 @@
 -- What an insert and a select say, where all their words are good.
 use Rattle.std.proofs.Common.{◌≡◌, ℕ, ℤ, List, [], ◌∷◌, length, map, inr, refl, sym, subst, ◌∙◌}
-use Rattle.std.specs.List.{AllByRecursion, AllZip}
+use Rattle.std.specs.List.{AllByRecursion, AllZip, flat_map}
 use Rattle.std.proofs.lemmas.Slice.Zip.{AllZip-long}
 use Rattle.tsdb_script.specs.Types.{Cell, Column, Condition, Literal, Operand}
 use Rattle.tsdb_model.specs.declared.command.Command.TheVariants as command
 use Rattle.tsdb_script.specs.declared.syntax.Syntax.TheVariants.{Insert, Select}
-use Rattle.tsdb_script.specs.Meaning.{ArePaired, IsGood, IsInteger, IsLiteral, Means, Objects, column_roles, condition_roles, measurements_of, roles}
+use Rattle.tsdb_script.specs.Meaning.{ArePaired, IsGood, IsInteger, IsLiteral, Means, Objects, column_role, condition_roles, roles}
 use Rattle.tsdb_script.specs.Meaning.{DevicePath, Measurement, DeviceOf, Number, Scalar}
 use Rattle.tsdb_script.proofs.WordLists.{AllByRecursion-append}
 
@@ -43,7 +43,7 @@ module _ (device : List ℕ) (names : List (List ℕ)) (time : List ℕ) (values
 
 module _ (columns : List Column) (device : List ℕ) (conditions : List Condition) where
   -- all words are good
-  pub select_words : AllByRecursion IsGood (column_roles columns) → IsGood (DeviceOf (measurements_of columns) device) → AllByRecursion IsGood (condition_roles conditions)
+  pub select_words : AllByRecursion IsGood (flat_map column_role columns) → IsGood (DeviceOf (map (λ column. column.measurement) columns) device) → AllByRecursion IsGood (condition_roles conditions)
       → AllByRecursion IsGood (roles (Select columns device conditions))
   select_words good path ranged =
-      AllByRecursion-append IsGood (column_roles columns) (DeviceOf (measurements_of columns) device ∷ condition_roles conditions) good (path, ranged)
+      AllByRecursion-append IsGood (flat_map column_role columns) (DeviceOf (map (λ column. column.measurement) columns) device ∷ condition_roles conditions) good (path, ranged)

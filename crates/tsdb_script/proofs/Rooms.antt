@@ -1,13 +1,13 @@
 -- How many bytes a device leaves for the name of a measurement.
 use Rattle.std.proofs.Common.{◌≡◌, ℕ, ◌-◌, ◌<◌, ◌≤◌, List, [], ◌∷◌, length, arith, length-append}
-use Rattle.std.specs.Prelude.{◌↔◌, All}
-use Rattle.std.specs.List.{AllByRecursion}
+use Rattle.std.specs.Prelude.{◌↔◌, All, map}
+use Rattle.std.specs.List.{AllByRecursion, flat_map}
 use Rattle.std.proofs.lemmas.List.Elements.{All-head, All-tail, All-cons, All-nil}
 use Rattle.tsdb_path.specs.Nodes.{dot, IsName, IsPath, child_of, node_count}
 use Rattle.tsdb_path.proofs.Bytes.{IsNode-dotless}
 use Rattle.tsdb_path.proofs.Parts.{IsPath-child, node_count-child, parts_from_path}
 use Rattle.tsdb_script.specs.Types.{Column}
-use Rattle.tsdb_script.specs.Meaning.{IsGood, Node, aggregate_role, column_role, column_roles, measurements_of}
+use Rattle.tsdb_script.specs.Meaning.{IsGood, Node, aggregate_role, column_role}
 use Rattle.tsdb_script.proofs.WordLists.{AllByRecursion-split}
 
 -- a device has this room: its child of a name is a path exactly where the name has no more bytes
@@ -31,11 +31,11 @@ abbrev pub IsShort : ℕ → Column → Type 0
 IsShort room column = length column.measurement ≤ room
 
 -- the measurements of all columns are short exactly where the device takes them
-pub all_fit : (device : List ℕ) (room : ℕ) (columns : List Column) → HasRoom device room → AllByRecursion IsGood (column_roles columns)
-    → All (IsShort room) columns ↔ AllByRecursion (λ name. IsPath (child_of device name)) (measurements_of columns)
+pub all_fit : (device : List ℕ) (room : ℕ) (columns : List Column) → HasRoom device room → AllByRecursion IsGood (flat_map column_role columns)
+    → All (IsShort room) columns ↔ AllByRecursion (λ name. IsPath (child_of device name)) (map (λ column. column.measurement) columns)
 all_fit device room [] fits good = ((λ short. tt), (λ all. All-nil (IsShort room)))
 all_fit device room (column ∷ columns) fits good =
-    let parts = AllByRecursion-split IsGood (column_role column) (column_roles columns) good in
+    let parts = AllByRecursion-split IsGood (column_role column) (flat_map column_role columns) good in
     let named : IsName column.measurement = (AllByRecursion-split IsGood (aggregate_role column.aggregate) (Node column.measurement ∷ []) parts.0).1.0 in
     let rest = all_fit device room columns fits parts.1 in (
       (λ short. ((fits column.measurement named).1 (All-head (IsShort room) column columns short), rest.0 (All-tail (IsShort room) column columns short))),

@@ -6,12 +6,13 @@ use Rattle.std.specs.Str.{str_to_ascii_lowercase}
 use Rattle.std.proofs.lemmas.Bool.Decides.{nat_tests}
 use Rattle.std.proofs.lemmas.Slice.Eq.{bytes_eq-Decides}
 use Rattle.tsdb_script.specs.Types.{Aggregate, DataType, Encoding, Literal, Operand}
+use Rattle.tsdb_base.specs.Notation.{aggregate_name}
 use Rattle.tsdb_base.specs.declared.answers.Aggregate.TheVariants as aggregate
 use Rattle.tsdb_base.specs.declared.value.DataType.TheVariants as type
 use Rattle.tsdb_base.specs.declared.value.Encoding.TheVariants as encoding
 use Rattle.tsdb_model.specs.declared.command.Literal.TheVariants as literal
 use Rattle.tsdb_script.specs.declared.syntax.Operand.TheVariants as operand
-use Rattle.tsdb_script.specs.Meaning.{IsInteger, IsLiteral, IsNamed, Names, aggregate_name, encoding_name, type_name}
+use Rattle.tsdb_script.specs.Meaning.{IsInteger, IsLiteral, IsNamed, Names, encoding_name, type_name}
 use Rattle.tsdb_script.specs.Tokens.{is_keyword}
 
 lower_names : (word name : List ℕ) → Names word name → str_to_ascii_lowercase word ≡ str_to_ascii_lowercase name

@@ -3,8 +3,9 @@ use Rattle.std.proofs.Common.{◌≡◌, ◌<◌, ◌+◌, ℕ, true, false, con
 use Rattle.std.proofs.lemmas.Bool.{eqb-true, false≢true, cases_lt}
 use Rattle.std.proofs.lemmas.List.{take_more, drop_more, drop_all}
 use Rattle.std.proofs.lemmas.List.Concat.{flat_map-append}
+use Rattle.tsdb_base.specs.Notation.{escape}
 use Rattle.tsdb_script.specs.Steps.{content_parts, unescape, onto}
-use Rattle.tsdb_script.specs.Tokens.{escape, starts}
+use Rattle.tsdb_script.specs.Tokens.{starts}
 
 abbrev pub with_front : List ℕ → List ℕ × List ℕ → List ℕ × List ℕ
 with_front front parts = (front ++ parts.0, parts.1)

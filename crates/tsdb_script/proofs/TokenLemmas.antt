@@ -1,7 +1,7 @@
 -- A line has one reading.
 use Rattle.std.proofs.Common.{◌≡◌, ℕ, true, false, cond, ◌||◌, inl, inr, List, [], ◌∷◌, Option, None, Some, refl, sym, ap, ◌∙◌, subst}
 use Rattle.std.specs.Prelude.{◌⊎◌}
-use Rattle.std.proofs.lemmas.Bool.{eqb-true, false≢true, or_cases, or_parts, cases_Bool}
+use Rattle.std.proofs.lemmas.Bool.{eqb-true, false≢true, not-true, or_cases, or_parts, cases_Bool}
 use Rattle.tsdb_script.specs.Types.{Token}
 use Rattle.tsdb_script.specs.declared.token.Token.TheVariants.{Word}
 use Rattle.tsdb_script.specs.Steps.{after_blanks, content_parts, token_at, mark_at, text_at, word_parts}
@@ -28,7 +28,10 @@ final_end : IsFinal []
 final_end = record { solid = refl; none = refl }
 
 final_stray : (bytes : List ℕ) → IsStray bytes → IsFinal bytes
-final_stray bytes h = subst IsFinal (sym h.begins) (record { solid = h.solid; none = none h.first h.more h.no_token })
+final_stray [] h = absurd (false≢true h)
+final_stray (b ∷ bytes) h =
+    let parts = or_parts (is_blank b) (is_word_byte b || (is_quote b || is_mark b)) (not-true _ h) in
+    record { solid = parts.0; none = none b bytes parts.1 }
   where
     none : (b : ℕ) (more : List ℕ) → (is_word_byte b || (is_quote b || is_mark b)) ≡ false → token_at (b ∷ more) ≡ None
     none b more neither =
@@ -91,10 +94,12 @@ pub same_tokens : (line : List ℕ) (one other : List Token) → AreTokens line 
 same_tokens line one other h k = (only_one one other line [] [] final_end final_end h k).0
 
 stray_quote : (bytes : List ℕ) → IsStray bytes → IsBadText bytes → ⊥
-stray_quote bytes h k =
-    let one = or_parts (is_word_byte h.first) (is_quote h.first || is_mark h.first) h.no_token in
-    let two = or_parts (is_quote h.first) (is_mark h.first) one.1 in
-    false≢true (sym two.0 ∙ ap (starts is_quote) (sym h.begins) ∙ k.begins)
+stray_quote [] h k = false≢true h
+stray_quote (b ∷ bytes) h k =
+    let one = or_parts (is_blank b) (is_word_byte b || (is_quote b || is_mark b)) (not-true _ h) in
+    let two = or_parts (is_word_byte b) (is_quote b || is_mark b) one.1 in
+    let three = or_parts (is_quote b) (is_mark b) two.1 in
+    false≢true (sym three.0 ∙ k.begins)
 
 pub same_kind : (line : List ℕ) (one other : ℕ) → HasNoTokens line one → HasNoTokens line other → one ≡ other
 same_kind line one other h k =
@@ -114,9 +119,6 @@ not_both line tokens kind h k =
     let same : [] ≡ k.rest = (only_one tokens k.tokens line [] k.rest final_end (final_stuck k.rest kind k.stuck) h k.front).1 in
     by_cases (subst (λ r. (IsStray r × (kind ≡ 3)) ⊎ (IsBadText r × (kind ≡ 6))) (sym same) k.stuck)
   where
-    empty : (b : ℕ) (more : List ℕ) → [] ≡ b ∷ more → ⊥
-    empty b more e = cc
-
     by_cases : (IsStray [] × (kind ≡ 3)) ⊎ (IsBadText [] × (kind ≡ 6)) → ⊥
-    by_cases (inl a) = empty a.0.first a.0.more a.0.begins
+    by_cases (inl a) = false≢true a.0
     by_cases (inr b) = false≢true b.0.begins

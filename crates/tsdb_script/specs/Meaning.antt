@@ -6,7 +6,7 @@ use Rattle.std.specs.List.{AllByRecursion, AllZip, flat_map}
 use Rattle.std.specs.Option.{IsSome}
 use Rattle.std.specs.Str.Parse.{IsNumeral, without_leading_sign, signed_digits_value}
 use Rattle.tsdb_script.specs.Types.{Aggregate, Column, Command, Comparison, Condition, DataType, Encoding, Item, Literal, Operand, Range, Syntax}
-use Rattle.tsdb_base.specs.declared.answers.Aggregate.TheVariants as aggregate
+use Rattle.tsdb_base.specs.Notation.{aggregate_name}
 use Rattle.tsdb_base.specs.declared.value.DataType.TheVariants as type
 use Rattle.tsdb_base.specs.declared.value.Encoding.TheVariants as encoding
 use Rattle.tsdb_model.specs.declared.command.Command.TheVariants as command
@@ -47,16 +47,6 @@ encoding_name encoding.Plain = codes "plain"
 encoding_name encoding.Dictionary = codes "dictionary"
 encoding_name encoding.Rle = codes "rle"
 encoding_name encoding.Ts2diff = codes "ts_2diff"
-
--- the name of an aggregate
-abbrev pub aggregate_name : Aggregate → List ℕ
-aggregate_name aggregate.Count = codes "count"
-aggregate_name aggregate.FirstValue = codes "first_value"
-aggregate_name aggregate.LastValue = codes "last_value"
-aggregate_name aggregate.MinValue = codes "min_value"
-aggregate_name aggregate.MaxValue = codes "max_value"
-aggregate_name aggregate.MinTime = codes "min_time"
-aggregate_name aggregate.MaxTime = codes "max_time"
 
 -- a value: a text, `true` or `false` in any ASCII case, or an integer
 abbrev pub IsLiteral : Operand → Literal → Type 0
@@ -128,21 +118,14 @@ aggregate_role (Some word) = AggregateName word ∷ []
 abbrev pub column_role : Column → List Role
 column_role column = aggregate_role column.aggregate ++ Node column.measurement ∷ []
 
-abbrev pub column_roles : List Column → List Role
-column_roles columns = flat_map column_role columns
-
--- the measurements that columns ask for
-abbrev pub measurements_of : List Column → List (List ℕ)
-measurements_of columns = map (λ column. column.measurement) columns
-
 -- the words of a statement, from the left
 abbrev pub roles : Syntax → List Role
 roles (Create path data_type encoding) = SeriesPath path ∷ TypeName data_type ∷ EncodingName data_type encoding ∷ []
 roles (Insert device names time values) = DevicePath device
     ∷ (map (Measurement device) names ++ Number time ∷ map Scalar values)
 roles (Delete path conditions) = SeriesPath path ∷ condition_roles conditions
-roles (Select columns device conditions) =
-    column_roles columns ++ DeviceOf (measurements_of columns) device ∷ condition_roles conditions
+roles (Select columns device conditions) = flat_map column_role columns
+    ++ DeviceOf (map (λ column. column.measurement) columns) device ∷ condition_roles conditions
 roles syntax = []
 
 -- the first word that is not what its place asks for decides the kind

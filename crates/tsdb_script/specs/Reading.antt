@@ -1,7 +1,7 @@
 -- What a script says: its lines, what is objected to a line, and the commands that the lines give.
 use Rattle.std.specs.Prelude.{◌≡◌, ◌⊎◌, ℕ, ◌+◌, ◌<◌, ◌≤◌, ◌==◌, ◌||◌, Bool, true, false, IsTrue, All, List, [], ◌∷◌}
 use Rattle.std.specs.Prelude.{◌++◌, length, map, if◌then◌else◌}
-use Rattle.std.specs.List.{concat, list_all, list_any}
+use Rattle.std.specs.List.{concat, list_all, list_any, onto_first}
 use Rattle.std.specs.Set.{distinct_count}
 use Rattle.std.specs.Str.Parse.{IsNumeral, digits_value}
 use Rattle.tsdb_script.specs.Types.{Numbered, ScriptFault, Syntax, Token}
@@ -15,15 +15,10 @@ use Rattle.tsdb_script.specs.Tokens.{is_blank, starts, AreTokens, HasNoTokens}
 
 -- ---- lines
 
--- a byte before these lines stands in the first of them
-abbrev pub before_lines : ℕ → List (List ℕ) → List (List ℕ)
-before_lines byte [] = (byte ∷ []) ∷ []
-before_lines byte (line ∷ lines) = (byte ∷ line) ∷ lines
-
 -- the lines of a script, each with the line feed that ends it, which the last may lack
 abbrev pub lines_of : List ℕ → List (List ℕ)
 lines_of [] = []
-lines_of (byte ∷ bytes) = if byte == 10 then (byte ∷ []) ∷ lines_of bytes else before_lines byte (lines_of bytes)
+lines_of (byte ∷ bytes) = if byte == 10 then (byte ∷ []) ∷ lines_of bytes else onto_first byte (lines_of bytes)
 
 -- bytes without the last one, where that is this one
 abbrev pub without_last : ℕ → List ℕ → List ℕ

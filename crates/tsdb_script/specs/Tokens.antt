@@ -1,9 +1,9 @@
 -- What the tokens of a line are. A line is blanks and tokens, one after another, where no token could be longer.
-use Rattle.std.specs.Prelude.{◌≡◌, ◌⊎◌, ℕ, ◌<◌, ◌≤◌, ◌==◌, ◌||◌, Bool, true, false, IsTrue, All, List, [], ◌∷◌, ◌++◌}
-use Rattle.std.specs.Prelude.{length, if◌then◌else◌}
+use Rattle.std.specs.Prelude.{◌≡◌, ◌⊎◌, ℕ, ◌<◌, ◌≤◌, ◌==◌, ◌||◌, Bool, true, false, not, IsTrue, All, List, []}
+use Rattle.std.specs.Prelude.{◌∷◌, ◌++◌, length}
 use Rattle.std.specs.Char.{is_ascii_alphanumeric}
-use Rattle.std.specs.List.{flat_map}
 use Rattle.std.specs.Str.{str_eq_ignore_ascii_case}
+use Rattle.tsdb_base.specs.Notation.{escape}
 use Rattle.tsdb_script.specs.Types.{Token}
 use Rattle.tsdb_script.specs.declared.token.Token.TheVariants.{Word, Text, Open, Close, Comma, Semicolon, Equal, Less}
 use Rattle.tsdb_script.specs.declared.token.Token.TheVariants.{LessEqual, Greater, GreaterEqual}
@@ -29,10 +29,6 @@ is_mark b = b == 40 || (b == 41 || (b == 44 || (b == 59 || (b == 61 || (b == 60 
 abbrev pub starts : (ℕ → Bool) → List ℕ → Bool
 starts test [] = false
 starts test (b ∷ bytes) = test b
-
--- the bytes of a text's content, with each quote doubled
-abbrev pub escape : ℕ → List ℕ → List ℕ
-escape quote content = flat_map (λ b. if b == quote then b ∷ b ∷ [] else b ∷ []) content
 
 -- a word is this keyword, in any ASCII case
 abbrev pub is_keyword : List ℕ → List ℕ → Bool
@@ -84,12 +80,8 @@ abbrev pub AreTokens : List ℕ → List Token → Type 0
 AreTokens line tokens = AreTokensAnd tokens line []
 
 -- the bytes begin with one that is no blank and begins no token
-pub record IsStray (bytes : List ℕ) : Type 0 where
-  pub first : ℕ
-  pub more : List ℕ
-  pub begins : bytes ≡ first ∷ more
-  pub solid : is_blank first ≡ false
-  pub no_token : (is_word_byte first || (is_quote first || is_mark first)) ≡ false
+abbrev pub IsStray : List ℕ → Type 0
+IsStray bytes = starts (λ b. not (is_blank b || (is_word_byte b || (is_quote b || is_mark b)))) bytes ≡ true
 
 -- the bytes begin with a quote, but with no text: it is not closed, or too long
 pub record IsBadText (bytes : List ℕ) : Type 0 where

@@ -1,13 +1,13 @@
 //! What a statement means: its words from the left, and then the whole. Depends on `words`, `conditions`, `syntax` and
 //! `fault`.
 ghost use Rattle.std.specs.Prelude.{◌≡◌, ◌≤◌, ◌↔◌, ◌∷◌, [], All, None, IsTrue, IfOk, IfErr, map, length};
-ghost use Rattle.std.specs.List.{AllByRecursion, AllZip};
+ghost use Rattle.std.specs.List.{AllByRecursion, AllZip, flat_map};
 ghost use Rattle.std.specs.Option.{IsSome};
 ghost use Rattle.tsdb_model.specs.Commands.{AreDifferent, IsWellFormed};
 ghost use Rattle.tsdb_path.specs.Nodes.{IsPath, child_of};
 ghost use Rattle.tsdb_script.specs.Forms.{HasParts};
 ghost use Rattle.tsdb_script.specs.Meaning.{HasBadWord, AreAlike, IsBad, ArePaired, IsGood, IsItem, IsLiteral, IsNamed};
-ghost use Rattle.tsdb_script.specs.Meaning.{Means, Objects, aggregate_role, column_role, column_roles, measurements_of};
+ghost use Rattle.tsdb_script.specs.Meaning.{Means, Objects, aggregate_role, column_role};
 ghost use Rattle.tsdb_script.specs.Meaning.{DeviceOf, Measurement, Scalar};
 ghost use Rattle.tsdb_script.specs.Steps.{FaultsWith};
 
@@ -88,8 +88,8 @@ fn item(alloc: Global, column: &Column) -> Result<Item, LineFault>
 /// The items of a select.
 fn items(alloc: Global, columns: &[Column]) -> Result<Vec<Item>, LineFault>
     ensures found { IfOk result (λ items. AllZip IsItem columns.now items.items) }
-    ensures good { IfOk result (λ _. AllByRecursion IsGood (column_roles columns.now)) }
-    ensures bad { IfErr result (FaultsWith (HasBadWord (column_roles columns.now))) }
+    ensures good { IfOk result (λ _. AllByRecursion IsGood (flat_map column_role columns.now)) }
+    ensures bad { IfErr result (FaultsWith (HasBadWord (flat_map column_role columns.now))) }
 {
     let mut items = Vec::with_capacity(alloc, columns.len())?;
     for column in columns {
@@ -156,9 +156,11 @@ fn are_short(columns: &[Column], room: usize) -> bool
 
 /// The path of the device of the columns.
 fn device_of(alloc: Global, columns: &[Column], word: &Word) -> Result<Path, LineFault>
-    requires { AllByRecursion IsGood (column_roles columns.now) }
-    ensures found { IfOk result (λ path. (path ≡ word.now) × IsGood (DeviceOf (measurements_of columns.now) word.now)) }
-    ensures bad { IfErr result (FaultsWith (IsBad (DeviceOf (measurements_of columns.now) word.now))) }
+    requires { AllByRecursion IsGood (flat_map column_role columns.now) }
+    ensures found { IfOk result (λ path. (path ≡ word.now)
+        × IsGood (DeviceOf (map (λ column. column.measurement) columns.now) word.now)) }
+    ensures bad { IfErr result
+        (FaultsWith (IsBad (DeviceOf (map (λ column. column.measurement) columns.now) word.now))) }
 {
     let device = device_path(alloc, word)?;
     if are_short(columns, room_of(&device)) {

@@ -1,8 +1,8 @@
 //! What each word of a statement means. Depends on `syntax`, `token` and `fault`.
 ghost use Rattle.std.specs.Prelude.{◌≡◌, ◌≤◌, ◌↔◌, ℤ, ℕ, List, IfOk, IfErr, IfSome, IfNone, length};
 ghost use Rattle.tsdb_path.specs.Nodes.{IsName, IsPath, child_of, node_count};
-ghost use Rattle.tsdb_script.specs.Meaning.{IsBad, IsGood, IsInteger, IsLiteral, Names, aggregate_name, encoding_name};
-ghost use Rattle.tsdb_script.specs.Meaning.{type_name};
+ghost use Rattle.tsdb_base.specs.Notation.{aggregate_name};
+ghost use Rattle.tsdb_script.specs.Meaning.{IsBad, IsGood, IsInteger, IsLiteral, Names, encoding_name, type_name};
 ghost use Rattle.tsdb_script.specs.Meaning.{SeriesPath, DevicePath, Node, Number, Scalar, TypeName, EncodingName};
 ghost use Rattle.tsdb_script.specs.Meaning.{AggregateName};
 ghost use Rattle.tsdb_script.specs.Steps.{FaultsWith};
