@@ -1,7 +1,8 @@
-//! Worked values, marks, and calls of the port that fail.
+//! Worked values, marks, calls of the port that fail, and bytes that are read.
 
-use crate::jobs::{Compacted, Said, run_compaction};
-use crate::stored::{Stored, Stretch, pairs_of};
+use crate::counted::bytes_read_once;
+use crate::jobs::{Compacted, Said, run_compaction, run_counted};
+use crate::stored::{Stored, Stretch, bytes_of, pairs_of};
 use std::alloc::Global;
 use std::test::Fail;
 use tsdb_base::{DataType, Time};
@@ -229,11 +230,11 @@ fn first_unheard(alloc: Global, first: u64, last: u64) -> Result<Option<u64>, Fa
     Ok(None)
 }
 
-/// The first two calls store the inputs. Those up to the 30th read them, and the next one writes the output.
+/// The first two calls store the inputs. Those up to the 20th read them, and the next one writes the output.
 #[test]
 fn each_call_of_the_port_that_fails_fails_the_run(rt: HostRuntime) -> Result<(), Fail> {
     let alloc = rt.alloc();
-    assert_eq!(rt; first_unheard(alloc, 3, 31)?, None);
+    assert_eq!(rt; first_unheard(alloc, 3, 21)?, None);
     Ok(())
 }
 
@@ -244,5 +245,46 @@ fn a_point_of_another_type_fails_the_run(rt: HostRuntime) -> Result<(), Fail> {
     other.types = (DataType::Int32, DataType::Int64);
     let ran = run_compaction(rt.alloc(), &other, u64::MAX)?;
     assert_eq!(rt; ran.fault, Some(StoreFault::Failed));
+    Ok(())
+}
+
+/// All points of both series are deleted, so that no output is read.
+const OF_NONE: Compacted = Compacted {
+    is_cross: false,
+    files: [
+        Stored {
+            born: 10,
+            a: &[(1, 1_100, 1)],
+            b: &[(5, 5, 5)],
+        },
+        Stored {
+            born: 20,
+            a: &[(1_000, 2_100, 2)],
+            b: &[(7, 7, 7)],
+        },
+    ],
+    deletions: &[
+        ("root.g.d.a", Time::MIN, Time::MAX, 30),
+        ("root.g.d.b", Time::MIN, Time::MAX, 31),
+    ],
+    types: BOTH,
+};
+
+/// How many bytes both files have where their indexes and each of their pages are read once.
+fn bytes_of_both(alloc: Global, files: &[Stored; 2]) -> Result<u64, Fail> {
+    let older = bytes_read_once(alloc, &bytes_of(alloc, &files[0])?)?;
+    let newer = bytes_read_once(alloc, &bytes_of(alloc, &files[1])?)?;
+    Ok(older.saturating_add(newer))
+}
+
+/// The index of an input is read once for both of its series, and each page once.
+#[test]
+fn the_index_of_an_input_is_read_once(rt: HostRuntime) -> Result<(), Fail> {
+    let alloc = rt.alloc();
+    let (ran, bytes) = run_counted(alloc, &OF_NONE, u64::MAX)?;
+    assert_eq!(rt;
+        (ran.fault, ran.said, bytes),
+        (None, None, bytes_of_both(alloc, &OF_NONE.files)?)
+    );
     Ok(())
 }

@@ -372,7 +372,7 @@ fn asked_of(alloc: Global, compacted: &Compacted) -> Result<Asked, Fail>
 }
 
 /// A port of which this call fails.
-fn port_failing(alloc: Global, number: u64) -> Result<MemPort, Fail> {
+pub fn port_failing(alloc: Global, number: u64) -> Result<MemPort, Fail> {
     let slots = [vec![in alloc; 0]?, vec![in alloc; 0]?];
     let fails = Fails {
         journal: Vec::new(alloc),
@@ -384,10 +384,18 @@ fn port_failing(alloc: Global, number: u64) -> Result<MemPort, Fail> {
 }
 
 /// Runs the compaction, over a port of which this call fails, counted from 1 with the two calls that store the inputs.
-pub fn run_compaction(alloc: Global, compacted: &Compacted, failing: u64) -> Result<Ran, Fail> {
+/// Answers how many bytes the port read, too.
+pub fn run_counted(alloc: Global, compacted: &Compacted, failing: u64) -> Result<(Ran, u64), Fail> {
     let older = bytes_of(alloc, &compacted.files[0])?;
     let newer = bytes_of(alloc, &compacted.files[1])?;
     let asked = asked_of(alloc, compacted)?;
     let mut port = port_failing(alloc, failing)?;
-    run_files::<MemFiles>(alloc, &mut port, asked, &older, &newer)
+    let ran = run_files::<MemFiles>(alloc, &mut port, asked, &older, &newer)?;
+    Ok((ran, port.bytes_read()))
+}
+
+/// Runs the compaction so, and answers what the run gave.
+pub fn run_compaction(alloc: Global, compacted: &Compacted, failing: u64) -> Result<Ran, Fail> {
+    let (ran, _bytes) = run_counted(alloc, compacted, failing)?;
+    Ok(ran)
 }

@@ -30,7 +30,7 @@ use Rattle.tsdb_state.specs.State.{Told}
 
 -- ---- lists
 
-among_at : {X : Type 0} (xs : List X) (i : ℕ) (x : X) → i < length xs → x ≡ get_or xs i x → Among x xs
+pub among_at : {X : Type 0} (xs : List X) (i : ℕ) (x : X) → i < length xs → x ≡ get_or xs i x → Among x xs
 among_at [] i x below at = absurd (omega (arith, below))
 among_at (y ∷ ys) zero x below at = inl (sym at)
 among_at (y ∷ ys) (suc i) x below at = inr (among_at ys i x (omega (arith, below)) at)
@@ -232,3 +232,8 @@ module _ {F S R P : Type 0} (name : R → NamedFile) (job : Job F S R P) where
 pub some_series : (filled : List Filled) → (filled ≡ [] → ⊥) → 0 < length filled
 some_series [] not_empty = absurd (not_empty refl)
 some_series (first ∷ filled) not_empty = omega arith
+
+-- and one without an element is empty
+pub none_filled : (filled : List Filled) → (0 < length filled → ⊥) → filled ≡ []
+none_filled [] none = refl
+none_filled (first ∷ filled) none = absurd (none (omega arith))

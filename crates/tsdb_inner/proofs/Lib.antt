@@ -5,3 +5,4 @@ pub mod Told
 pub mod Sources
 pub mod Series
 pub mod All
+pub mod Opened

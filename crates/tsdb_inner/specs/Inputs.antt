@@ -1,5 +1,7 @@
 -- The inputs of a job as the sources of a stream.
 use Rattle.std.specs.Prelude.{◌≡◌, IsSome}
+use Rattle.tsdb_columns.specs.Indexed.{IsIndexed, IsWholeFile, source_of}
+use Rattle.tsdb_columns.specs.declared.source.IndexedFile.{IndexedFile}
 use Rattle.tsdb_columns.specs.declared.source.Source.{Source}
 use Rattle.tsdb_columns.specs.declared.source.Source.TheVariants.{File, Part}
 use Rattle.tsdb_compactions.specs.declared.job.Input.{Input}
@@ -18,3 +20,11 @@ module _ {F S R P : Type 0} (file : R → NamedFile) where
   -- the right to read the input tells bytes
   abbrev pub TellsBytes : Input F S R P → Type 0
   TellsBytes input = IsSome (file input.right).bytes
+
+  -- where the right to read the input tells bytes, they are those of a tree
+  abbrev pub IsWhole : Input F S R P → Type 0
+  IsWhole input = IsWholeFile (file input.right)
+
+  -- the input, lent with the index that was read of it
+  abbrev pub IsOpenedAs : Input F S R P → IndexedFile R → Type 0
+  IsOpenedAs input indexed = IsLentAs input (source_of indexed) × IsIndexed file indexed

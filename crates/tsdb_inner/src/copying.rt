@@ -1,7 +1,8 @@
 //! The points of one series, into a file in the making. Depends on tsdb_columns and tsdb_engine.
-ghost use Rattle.std.specs.Prelude.{◌≡◌, ◌↔◌, ◌≤◌, All, IfOk, IsTrue, List, None, Some, false, true};
+ghost use Rattle.std.specs.Prelude.{◌≡◌, ◌↔◌, ◌≤◌, All, IfOk, IsTrue, List, None, Some, false, map, true};
 ghost use Rattle.tsdb_base.specs.declared.point.Point.{Point as PointOf};
 ghost use Rattle.tsdb_columns.specs.Files.{FilePages, HasReason};
+ghost use Rattle.tsdb_columns.specs.Indexed.{IsIndexed, source_of};
 ghost use Rattle.tsdb_columns.specs.Lanes.{IsSourceOf};
 ghost use Rattle.tsdb_columns.specs.Streams.{AreToldSources, AreTrueSources, IsStreamOfStore, IsToldStream};
 ghost use Rattle.tsdb_columns.specs.Streams.{IsTrueStream, stream_left};
@@ -13,7 +14,7 @@ ghost use Rattle.tsdb_path.specs.Nodes.{node_count};
 
 use std::alloc::Global;
 use tsdb_base::{Point, Range, Time};
-use tsdb_columns::{Source, Stream, open_column, pull};
+use tsdb_columns::{IndexedFile, Stream, open_indexed, pull};
 use tsdb_engine::Part;
 use tsdb_marks::Marks;
 use tsdb_model::Schema;
@@ -72,30 +73,31 @@ fn put_rest<P: Port>(
     Err(StoreFault::Memory)
 }
 
-/// Adds a series with the points of these sources that no mark deletes, of the last source at each time. False: a point
-/// is of another type, or not later than the one before, which those of whole files never are.
+/// Adds a series with the points of these files that no mark deletes, of the last file at each time. False: a point is
+/// of another type, or not later than the one before, which those of whole files never are.
 pub(crate) fn copy_series<'a, P: Port>(
     alloc: Global,
     schema: &'a Schema,
     marks: &'a Marks,
-    sources: Vec<Source<'a, P::Right>>,
+    files: &[IndexedFile<'a, P::Right>],
     part: &mut Part,
     port: &mut P,
 ) -> Result<bool, StoreFault>
     requires schema { IsSchema schema.now }
-    requires of_store { All (IsSourceOf P.Right.file (P.store port.old)) sources.items }
+    requires indexed { All (IsIndexed P.Right.file) files.now }
+    requires of_store { All (IsSourceOf P.Right.file (P.store port.old)) (map source_of files.now) }
     requires follows { MayAdd part.old schema.now }
     ensures copied { IfOk result (λ whole. whole ≡ true
-        → Copies P.Right.file schema.now marks.now.marks sources.entry.items part.old part.new) }
+        → Copies P.Right.file schema.now marks.now.marks (map source_of files.now) part.old part.new) }
     ensures damaged { IfOk result (λ whole. whole ≡ false
-        → AreDamaged P.Right.file schema.now marks.now.marks sources.entry.items) }
-    ensures reason { (pages : FilePages) → AreTrueSources P.Right.file schema.now.path pages sources.entry.items
-        → HasReason (AreToldSources P.Right.file pages sources.entry.items)
+        → AreDamaged P.Right.file schema.now marks.now.marks (map source_of files.now)) }
+    ensures reason { (pages : FilePages) → AreTrueSources P.Right.file schema.now.path pages (map source_of files.now)
+        → HasReason (AreToldSources P.Right.file pages (map source_of files.now))
         (P.faults port.old) (P.faults port.new) result }
     ensures later { P.faults port.old ≤ P.faults port.new }
     ensures same_store { P.store port.new ≡ P.store port.old }
 {
-    let mut stream = open_column(alloc, &schema.path, &ALL_TIMES, marks, sources, port)?;
+    let mut stream = open_indexed(alloc, &schema.path, &ALL_TIMES, marks, files)?;
     let Some(first) = pull(&mut stream, port)? else {
         return Ok(true);
     };

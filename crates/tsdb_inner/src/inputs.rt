@@ -1,37 +1,48 @@
 //! The inputs of a job as the sources of streams. Depends on tsdb_compactions and tsdb_columns.
 ghost use Rattle.std.specs.List.{AllByRecursion as Each, AllZip};
 ghost use Rattle.std.specs.Prelude.{◌≡◌, ◌≤◌, ◌⊎◌, IfOk};
-ghost use Rattle.tsdb_inner.specs.Inputs.{IsLentAs, TellsBytes};
 ghost use Rattle.tsdb_base.specs.Causes.{Rose};
+ghost use Rattle.tsdb_columns.specs.Files.{HasReason};
+ghost use Rattle.tsdb_inner.specs.Inputs.{IsInputOf, IsOpenedAs, IsWhole, TellsBytes};
 
 use std::alloc::Global;
-use tsdb_base::Memory;
-use tsdb_columns::Source;
+use tsdb_columns::{IndexedFile, open_index};
 use tsdb_compactions::Input;
-use tsdb_outside::{Files, Port};
+use tsdb_outside::{Files, Port, StoreFault};
 
-/// An input, lent.
-fn lend_one<F: Files>(input: &Input<F>) -> Source<'_, F::Right>
-    ensures { IsLentAs input.now result }
+/// Reads the index of an input.
+fn open_input<'a, F: Files>(
+    alloc: Global,
+    input: &'a Input<F>,
+    port: &mut F::Port,
+) -> Result<IndexedFile<'a, F::Right>, StoreFault>
+    requires of_store { IsInputOf F.Right.file (F.Port.store port.old) input.now }
+    ensures opened { IfOk result (IsOpenedAs F.Right.file input.now) }
+    ensures reason { HasReason (IsWhole F.Right.file input.now) (F.Port.faults port.old) (F.Port.faults port.new) result }
+    ensures later { F.Port.faults port.old ≤ F.Port.faults port.new }
+    ensures same_store { F.Port.store port.new ≡ F.Port.store port.old }
 {
-    Source::File {
-        right: &input.right,
-        born: input.born,
-    }
+    open_index(alloc, &input.right, input.born, port)
 }
 
-/// The inputs, lent to a stream in their order.
-pub(crate) fn lend<'a, F: Files>(
+/// Reads the index of each input, in their order. Streams of all series are opened over these.
+pub(crate) fn open_inputs<'a, F: Files>(
     alloc: Global,
     inputs: &'a [Input<F>],
-) -> Result<Vec<Source<'a, F::Right>>, Memory>
-    ensures { IfOk result (λ lent. AllZip IsLentAs inputs.now lent.items) }
+    port: &mut F::Port,
+) -> Result<Vec<IndexedFile<'a, F::Right>>, StoreFault>
+    requires of_store { Each (IsInputOf F.Right.file (F.Port.store port.old)) inputs.now }
+    ensures opened { IfOk result (λ files. AllZip (IsOpenedAs F.Right.file) inputs.now files.items) }
+    ensures reason { HasReason (Each (IsWhole F.Right.file) inputs.now)
+        (F.Port.faults port.old) (F.Port.faults port.new) result }
+    ensures later { F.Port.faults port.old ≤ F.Port.faults port.new }
+    ensures same_store { F.Port.store port.new ≡ F.Port.store port.old }
 {
-    let mut lent = Vec::with_capacity(alloc, inputs.len())?;
+    let mut files = Vec::with_capacity(alloc, inputs.len())?;
     for input in inputs {
-        lent.push(lend_one(input))?;
+        files.push(open_input(alloc, input, port)?)?;
     }
-    Ok(lent)
+    Ok(files)
 }
 
 /// Counts that the inputs are damaged.

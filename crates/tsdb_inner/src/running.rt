@@ -1,10 +1,10 @@
 //! Running a compaction. Depends on `copying` and `inputs`.
-ghost use Rattle.std.specs.List.{AllByRecursion as Each};
-ghost use Rattle.std.specs.Prelude.{◌≡◌, ◌≤◌, ◌<◌, IfOk, IfSome, List, OnOk, length};
+ghost use Rattle.std.specs.List.{AllByRecursion as Each, AllZip};
+ghost use Rattle.std.specs.Prelude.{◌≡◌, ◌↔◌, ◌≤◌, ◌<◌, IfOk, IfSome, IsTrue, List, OnOk, length};
 ghost use Rattle.tsdb_compactions.specs.Jobs.{IsFormed};
 ghost use Rattle.tsdb_compactions.specs.Outputs.{HasWinners, IsBuiltFor, IsOutputOf, TellsTruth};
 ghost use Rattle.tsdb_engine.specs.Making.{IsPart, MayAdd};
-ghost use Rattle.tsdb_inner.specs.Inputs.{IsInputOf};
+ghost use Rattle.tsdb_inner.specs.Inputs.{IsInputOf, IsOpenedAs};
 ghost use Rattle.tsdb_inner.specs.Winners.{AreSeries, CopiesSeries};
 ghost use Rattle.tsdb_jobs.specs.Parts.{Filled};
 ghost use Rattle.tsdb_layers.specs.Lists.{Among};
@@ -12,23 +12,26 @@ ghost use Rattle.tsdb_outside.specs.Causes.{HasStoreCause};
 ghost use Rattle.tsdb_state.specs.State.{Told};
 
 use crate::copying::copy_series;
-use crate::inputs::{count_damage, lend};
+use crate::inputs::{count_damage, open_inputs};
 use std::alloc::Global;
+use tsdb_columns::IndexedFile;
 use tsdb_compactions::Job;
 use tsdb_engine::{Part, Whole};
 use tsdb_jobs::Built;
 use tsdb_model::Schema;
 use tsdb_outside::{Files, Port, StoreFault};
 
-/// Adds a series of the job with its surviving winners.
+/// Adds a series of the job with its surviving winners. The files are its inputs.
 fn copy_one<F: Files>(
     alloc: Global,
     job: &Job<F>,
+    files: &[IndexedFile<'_, F::Right>],
     schema: &Schema,
     part: &mut Part,
     port: &mut F::Port,
 ) -> Result<(), StoreFault>
     requires formed { IsFormed job.now }
+    requires opened { AllZip (IsOpenedAs F.Right.file) job.now.inputs files.now }
     requires among { Among schema.now job.now.schemas }
     requires of_store { Each (IsInputOf F.Right.file (F.Port.store port.old)) job.now.inputs }
     requires follows { MayAdd part.old schema.now }
@@ -38,17 +41,22 @@ fn copy_one<F: Files>(
     ensures later { F.Port.faults port.old ≤ F.Port.faults port.new }
     ensures same_store { F.Port.store port.new ≡ F.Port.store port.old }
 {
-    let sources = lend(alloc, job.inputs.items())?;
-    if copy_series(alloc, schema, &job.marks, sources, part, port)? {
+    if copy_series(alloc, schema, &job.marks, files, part, port)? {
         return Ok(());
     }
     count_damage(job.inputs.items(), port);
     Err(StoreFault::Failed)
 }
 
-/// The surviving winners of the job's inputs, one series behind another.
-fn copy_all<F: Files>(alloc: Global, job: &Job<F>, port: &mut F::Port) -> Result<Part, StoreFault>
+/// The surviving winners of the job's inputs, which are these files, one series behind another.
+fn copy_all<F: Files>(
+    alloc: Global,
+    job: &Job<F>,
+    files: &[IndexedFile<'_, F::Right>],
+    port: &mut F::Port,
+) -> Result<Part, StoreFault>
     requires formed { IsFormed job.now }
+    requires opened { AllZip (IsOpenedAs F.Right.file) job.now.inputs files.now }
     requires of_store { Each (IsInputOf F.Right.file (F.Port.store port.old)) job.now.inputs }
     ensures copied { IfOk result (λ part. (filled : List Filled) × IsPart filled part × AreSeries filled
         × HasWinners F.Right.file job.now filled) }
@@ -59,9 +67,35 @@ fn copy_all<F: Files>(alloc: Global, job: &Job<F>, port: &mut F::Port) -> Result
 {
     let mut part = Part::new(alloc);
     for schema in job.schemas.items() {
-        copy_one(alloc, job, schema, &mut part, port)?;
+        copy_one(alloc, job, files, schema, &mut part, port)?;
     }
     Ok(part)
+}
+
+/// The surviving winners of the job's inputs. The index of each is read once, and held meanwhile.
+fn copy_inputs<F: Files>(
+    alloc: Global,
+    job: &Job<F>,
+    port: &mut F::Port,
+) -> Result<Part, StoreFault>
+    requires formed { IsFormed job.now }
+    requires of_store { Each (IsInputOf F.Right.file (F.Port.store port.old)) job.now.inputs }
+    ensures copied { IfOk result (λ part. (filled : List Filled) × IsPart filled part × AreSeries filled
+        × HasWinners F.Right.file job.now filled) }
+    ensures cause { (told : Told) → TellsTruth F.Right.file told job.now
+        → HasStoreCause (F.Port.faults port.old) (F.Port.faults port.new) result }
+    ensures later { F.Port.faults port.old ≤ F.Port.faults port.new }
+    ensures same_store { F.Port.store port.new ≡ F.Port.store port.old }
+{
+    let files = open_inputs(alloc, job.inputs.items(), port)?;
+    copy_all(alloc, job, &files, port)
+}
+
+/// Whether a part has a series: a file of none is never put.
+fn has_series(part: &Part) -> bool
+    ensures { (filled : List Filled) → IsPart filled part.now → IsTrue result ↔ (0 < length filled) }
+{
+    !part.is_empty()
 }
 
 /// Puts the file of a part that has a series.
@@ -102,8 +136,8 @@ fn run<F: Files>(
     ensures later { F.Port.faults port.old ≤ F.Port.faults port.new }
     ensures same_store { F.Port.store port.new ≡ F.Port.store port.old }
 {
-    let part = copy_all(alloc, job, port)?;
-    if part.is_empty() {
+    let part = copy_inputs(alloc, job, port)?;
+    if !has_series(&part) {
         return Ok(None);
     }
     Ok(Some(put_part(job, part, port)?))
