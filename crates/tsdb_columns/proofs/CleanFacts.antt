@@ -20,7 +20,7 @@ use Rattle.tsdb_columns.specs.declared.lane.Lane.{Lane}
 use Rattle.tsdb_columns.specs.declared.lane.Lane.TheVariants.{Pages, Part}
 use Rattle.tsdb_columns.specs.declared.lane.PartLane.{PartLane}
 use Rattle.tsdb_index.specs.declared.index.IndexEntry.{IndexEntry}
-use Rattle.tsdb_columns.specs.Cleaning.{AreCleaned, IsFlagged, flags_of, lane_hulls, page_times, picked}
+use Rattle.tsdb_columns.specs.Cleaning.{AreCleaned, IsCleaned, IsFlagged, all_set, flags_of, lane_hulls, page_times, picked, whole_of}
 use Rattle.tsdb_columns.specs.Lanes.{is_passed}
 use Rattle.tsdb_index.specs.declared.index.PageEntry.{PageEntry}
 use Rattle.tsdb_layers.proofs.Places.{is_path_same, path_itself}
@@ -274,11 +274,11 @@ module _ (path : List ℕ) (range : Range) (marks : List Mark) (hulls : List (Li
 
 -- ---- sources that pass over their clean pages
 
-pub same_hulls : {R : Type 0} (flags : List Bool) (old new : Lane R) → IsFlagged flags old new → lane_hulls new ≡ lane_hulls old
-same_hulls flags (Pages old) (Pages new) is = ap (λ (e : IndexEntry). map page_times e.pages) is.3
-same_hulls flags (Pages old) (Part new) is = absurd is
-same_hulls flags (Part old) (Pages new) is = absurd is
-same_hulls flags (Part old) (Part new) is = ap (λ (p : PartLane). hull_of p.rest.now) is
+pub same_hulls : {R : Type 0} (flags : List Bool) (whole : Bool) (old new : Lane R) → IsFlagged flags whole old new → lane_hulls new ≡ lane_hulls old
+same_hulls flags whole (Pages old) (Pages new) is = ap (λ (e : IndexEntry). map page_times e.pages) is.3
+same_hulls flags whole (Pages old) (Part new) is = absurd is
+same_hulls flags whole (Part old) (Pages new) is = absurd is
+same_hulls flags whole (Part old) (Part new) is = ap (λ (p : PartLane). hull_of p.rest.now) is
 
 map_set : {X Y : Type 0} (f : X → Y) (xs : List X) (k : ℕ) (x : X) → k < length xs → f x ≡ f (get_or xs k x) → map f (set xs k x) ≡ map f xs
 map_set f [] k x low same = absurd (omega (arith, low))
@@ -299,26 +299,55 @@ before_or_at (suc k) (suc n) low = by (before_or_at k n (omega (arith, low)))
     by (inl less) = inl (omega (arith, less))
     by (inr same) = inr (ap suc same)
 
+-- ---- flags that are all set
+
+set_push : (flags : List Bool) (flag : Bool) → all_set flags ≡ true → flag ≡ true → all_set (flags ++ flag ∷ []) ≡ true
+set_push [] flag all here = ap (λ b. b && true) here
+set_push (f ∷ flags) flag all here =
+    let parts = both f (all_set flags) all in
+    ap (λ b. b && all_set (flags ++ flag ∷ [])) parts.0 ∙ set_push flags flag parts.1 here
+
+pub set_more : (flags : List Bool) (i : ℕ) (flag : Bool) → i < length flags → flag ≡ get_or flags i flag → all_set (take i flags) ≡ true → flag ≡ true → all_set (take (i + 1) flags) ≡ true
+set_more flags i flag low is before here =
+    ap all_set (take_more flags i flag low ∙ ap (λ z. take i flags ++ z ∷ []) (sym is)) ∙ set_push (take i flags) flag before here
+
+pub set_none : (flags : List Bool) (i : ℕ) (flag : Bool) → i < length flags → flag ≡ get_or flags i flag → flag ≡ false → all_set flags ≡ false
+set_none [] i flag low is here = absurd (omega (arith, low))
+set_none (f ∷ flags) zero flag low is here = ap (λ b. b && all_set flags) (sym is ∙ here)
+set_none (f ∷ flags) (suc i) flag low is here = by f (set_none flags i flag (omega (arith, low)) is here)
+  where
+    by : (b : Bool) → all_set flags ≡ false → (b && all_set flags) ≡ false
+    by true rest = rest
+    by false rest = refl
+
+pub passed_at : (flags : List Bool) (i : ℕ) → i < length flags → is_passed flags i ≡ get_or flags i (is_passed flags i)
+passed_at flags i low = ap (λ o. unwrap_or o false) (slice_get-get_or flags i (is_passed flags i) low)
+
+-- the pages of a source and whether they are one piece, as they were found
+pub as_cleaned : {R : Type 0} (kept : Kept) (hulls : List (List Range)) (flags : List Bool) (whole : Bool) (old new : Lane R) → flags ≡ flags_of kept hulls old → whole ≡ whole_of hulls flags old → IsFlagged flags whole old new → IsCleaned kept hulls old new
+as_cleaned kept hulls flags whole old new are is flagged =
+    subst (λ f. IsFlagged f (whole_of hulls f old) old new) are (subst (λ w. IsFlagged flags w old new) is flagged)
+
 module _ {R : Type 0} (kept : Kept) where
   -- the first sources pass over their clean pages, and the rest are as before
   pub record IsPassing (old new : List (Lane R)) (place : ℕ) : Type 0 where
     pub long : length new ≡ length old
     pub hulls : map lane_hulls new ≡ map lane_hulls old
-    pub done : (k : ℕ) (d : Lane R) → k < length old → k < place → IsFlagged (flags_of kept (others k (map lane_hulls old)) (get_or old k d)) (get_or old k d) (get_or new k d)
+    pub done : (k : ℕ) (d : Lane R) → k < length old → k < place → IsCleaned kept (others k (map lane_hulls old)) (get_or old k d) (get_or new k d)
     pub rest : (k : ℕ) (d : Lane R) → k < length old → place ≤ k → get_or new k d ≡ get_or old k d
 
   pub passing_none : (old : List (Lane R)) → IsPassing old old 0
   passing_none old = record { long = refl; hulls = refl; done = λ k d low none. absurd (omega (arith, none)); rest = λ k d low past. refl }
 
-  pub passing_more : (old new : List (Lane R)) (place : ℕ) (lane lane_now : Lane R) (flags : List Bool) → IsPassing old new place → place < length new → lane ≡ get_or new place lane → flags ≡ flags_of kept (others place (map lane_hulls new)) lane → IsFlagged flags lane lane_now
+  pub passing_more : (old new : List (Lane R)) (place : ℕ) (lane lane_now : Lane R) → IsPassing old new place → place < length new → lane ≡ get_or new place lane → IsCleaned kept (others place (map lane_hulls new)) lane lane_now
       → IsPassing old (set new place lane_now) (place + 1)
-  passing_more old new place lane lane_now flags was low is are flagged =
+  passing_more old new place lane lane_now was low is cleaned =
       let long = was.long in
       let below : place < length old = omega (arith, low, long) in
       let before : lane ≡ get_or old place lane = is ∙ was.rest place lane below (omega arith) in
       record {
         long = length-set new place lane_now ∙ was.long;
-        hulls = map_set lane_hulls new place lane_now low (same_hulls flags lane lane_now flagged ∙ ap lane_hulls (is ∙ get_or_default new place lane lane_now low)) ∙ was.hulls;
+        hulls = map_set lane_hulls new place lane_now low (same_hulls (flags_of kept (others place (map lane_hulls new)) lane) (whole_of (others place (map lane_hulls new)) (flags_of kept (others place (map lane_hulls new)) lane) lane) lane lane_now cleaned ∙ ap lane_hulls (is ∙ get_or_default new place lane lane_now low)) ∙ was.hulls;
         done = λ k d under less. by k d under (before_or_at k place less);
         rest = λ k d under past. get_or-set_other new place k lane_now d (apart k past) ∙ was.rest k d under (omega (arith, past));
       }
@@ -326,14 +355,14 @@ module _ {R : Type 0} (kept : Kept) where
       apart : (k : ℕ) → place + 1 ≤ k → k ≡ place → ⊥
       apart k past same = absurd (omega (arith, past, same))
 
-      by : (k : ℕ) (d : Lane R) → k < length old → (k < place) ⊎ (k ≡ place) → IsFlagged (flags_of kept (others k (map lane_hulls old)) (get_or old k d)) (get_or old k d) (get_or (set new place lane_now) k d)
-      by k d under (inl less) = subst (IsFlagged (flags_of kept (others k (map lane_hulls old)) (get_or old k d)) (get_or old k d)) (sym (get_or-set_other new place k lane_now d (λ same. absurd (omega (arith, less, same))))) (was.done k d under less)
+      by : (k : ℕ) (d : Lane R) → k < length old → (k < place) ⊎ (k ≡ place) → IsCleaned kept (others k (map lane_hulls old)) (get_or old k d) (get_or (set new place lane_now) k d)
+      by k d under (inl less) = subst (IsCleaned kept (others k (map lane_hulls old)) (get_or old k d)) (sym (get_or-set_other new place k lane_now d (λ same. absurd (omega (arith, less, same))))) (was.done k d under less)
       by k d under (inr same) =
           let here : lane ≡ get_or old k d = is ∙ get_or_default new place lane d low ∙ ap (λ n. get_or new n d) (sym same) ∙ was.rest k d under (omega (arith, same)) in
           let now : get_or (set new place lane_now) k d ≡ lane_now = ap (λ n. get_or (set new place lane_now) n d) same ∙ get_or-set_same new place lane_now d low in
-          let flags_are : flags ≡ flags_of kept (others k (map lane_hulls old)) lane = are ∙ ap (λ h. flags_of kept (others place h) lane) was.hulls ∙ ap (λ n. flags_of kept (others n (map lane_hulls old)) lane) (sym same) in
-          subst (λ z. IsFlagged (flags_of kept (others k (map lane_hulls old)) z) z (get_or (set new place lane_now) k d)) here
-          (subst (IsFlagged (flags_of kept (others k (map lane_hulls old)) lane) lane) (sym now) (subst (λ f. IsFlagged f lane lane_now) flags_are flagged))
+          let hulls : others place (map lane_hulls new) ≡ others k (map lane_hulls old) = ap (others place) was.hulls ∙ ap (λ n. others n (map lane_hulls old)) (sym same) in
+          subst (λ z. IsCleaned kept (others k (map lane_hulls old)) z (get_or (set new place lane_now) k d)) here
+          (subst (IsCleaned kept (others k (map lane_hulls old)) lane) (sym now) (subst (λ h. IsCleaned kept h lane lane_now) hulls cleaned))
 
   pub passing_all : (old new : List (Lane R)) (place : ℕ) → IsPassing old new place → length new ≤ place → AreCleaned kept old new
   passing_all old new place was past = record {

@@ -8,12 +8,14 @@ use Rattle.std.proofs.lemmas.List.Sums.{sum_by-cons}
 use Rattle.tsdb_aggregate.specs.Pieces.{overlap}
 use Rattle.tsdb_base.specs.declared.point.Point.{Point}
 use Rattle.tsdb_base.specs.declared.point.Range.{Range}
+use Rattle.tsdb_base.specs.declared.point.Stats.{Stats}
 use Rattle.tsdb_base.specs.declared.value.Value.{Value}
 use Rattle.tsdb_base.specs.declared.value.Value.TheVariants.{I64}
 use Rattle.tsdb_columns.proofs.LaneViews.{ArePages, IsPage, pages_by_number}
 use Rattle.tsdb_columns.specs.Clean.{count_read, hull_of, is_clean, others, source_hulls, source_read}
-use Rattle.tsdb_columns.specs.Cleaning.{IsFlagged, flags_of, is_clean_page, lane_hulls, page_times}
+use Rattle.tsdb_columns.specs.Cleaning.{IsCleaned, is_clean_page, lane_hulls, page_times}
 use Rattle.tsdb_columns.specs.Files.{FilePages, HasEntryPages}
+use Rattle.tsdb_columns.specs.Kept.{times_of}
 use Rattle.tsdb_columns.specs.Lanes.{IsTrueSource, OpensAs, count_due, is_due, lane_due, source_all}
 use Rattle.tsdb_columns.specs.declared.kept.Kept.{Kept}
 use Rattle.tsdb_columns.specs.declared.lane.Lane.{Lane}
@@ -23,6 +25,7 @@ use Rattle.tsdb_columns.specs.declared.source.Source.TheVariants as source
 use Rattle.tsdb_index.specs.declared.index.PageEntry.{PageEntry}
 use Rattle.tsdb_outside.specs.Files.{NamedFile}
 use Rattle.tsdb_sources.specs.Pieces.{joined}
+use Rattle.tsdb_stats.specs.Statistics.{AreStatsOf}
 
 -- ---- pages of an entry, of which the flags say whether they are clean
 
@@ -50,23 +53,27 @@ last_time None start end e = absurd (none_some e)
     none_some e = cc
 last_time (Some p) start end e = let same : p.time ≡ end = cc in same
 
-page_hull : (page : PageEntry) (points : List Point) → IsPage page points → page_times page ∷ [] ≡ hull_of points
-page_hull page [] is = absurd (none_some is.stats.start)
+-- statistics of points have their times
+pub stats_hull : (stats : Stats) (points : List Point) → AreStatsOf points stats → times_of stats ∷ [] ≡ hull_of points
+stats_hull stats [] are = absurd (none_some are.start)
   where
-    none_some : ◌≡◌ {A = Option Value} None (Some (I64 page.stats.start)) → ⊥
+    none_some : ◌≡◌ {A = Option Value} None (Some (I64 stats.start)) → ⊥
     none_some e = cc
-page_hull page (p ∷ ps) is =
-    let from : p.time ≡ page.stats.start = first is.stats.start in
+stats_hull stats (p ∷ ps) are =
+    let from : p.time ≡ stats.start = first are.start in
     let at : length (p ∷ ps) - 1 ≡ length ps = omega arith in
-    let to : unwrap_or (option_map (λ (q : Point). q.time) (slice_get (p ∷ ps) (length ps))) p.time ≡ page.stats.end =
-    last_time (slice_get (p ∷ ps) (length ps)) p.time page.stats.end (subst (λ n. option_map (λ (q : Point). I64 q.time) (slice_get (p ∷ ps) n) ≡ Some (I64 page.stats.end)) at is.stats.end) in
-    ap (λ t. range_of t page.stats.end ∷ []) (sym from) ∙ ap (λ t. range_of p.time t ∷ []) (sym to)
+    let to : unwrap_or (option_map (λ (q : Point). q.time) (slice_get (p ∷ ps) (length ps))) p.time ≡ stats.end =
+    last_time (slice_get (p ∷ ps) (length ps)) p.time stats.end (subst (λ n. option_map (λ (q : Point). I64 q.time) (slice_get (p ∷ ps) n) ≡ Some (I64 stats.end)) at are.end) in
+    ap (λ t. range_of t stats.end ∷ []) (sym from) ∙ ap (λ t. range_of p.time t ∷ []) (sym to)
   where
     range_of : ℤ → ℤ → Range
     range_of from to = record { from = from; to = to }
 
-    first : ◌≡◌ {A = Option Value} (Some (I64 p.time)) (Some (I64 page.stats.start)) → p.time ≡ page.stats.start
+    first : ◌≡◌ {A = Option Value} (Some (I64 p.time)) (Some (I64 stats.start)) → p.time ≡ stats.start
     first e = cc
+
+page_hull : (page : PageEntry) (points : List Point) → IsPage page points → page_times page ∷ [] ≡ hull_of points
+page_hull page points is = stats_hull page.stats points is.stats
 
 pages_hulls : (pages : List PageEntry) (list : List (List Point)) → ArePages pages list → map page_times pages ≡ flat_map hull_of list
 pages_hulls [] [] are = refl
@@ -139,7 +146,7 @@ module _ {R : Type 0} (file : R → NamedFile) (pages : FilePages) where
 
   -- as many pages of a source are due as meet the range and are not clean
   pub one_due : (kept : Kept) (names : List ℕ × List ℕ) (hulls : List (List Range)) (number : ℕ) (from : Source R) (old new : Lane R) → OpensAs file names from old → lane_hulls old ≡ source_hulls file pages from
-      → IsFlagged (flags_of kept (others number hulls) old) old new → lane_due kept.range new ≡ source_read file pages kept.series.now kept.range kept.marks.now.marks hulls number from
+      → IsCleaned kept (others number hulls) old new → lane_due kept.range new ≡ source_read file pages kept.series.now kept.range kept.marks.now.marks hulls number from
   one_due kept names hulls number (source.File right born) (Pages old) (Pages new) opens same flagged =
       ap (λ flags. count_due kept.range flags new.entry.pages) flagged.0
       ∙ ap (λ e. count_due kept.range (map (is_clean_page kept (others number hulls) old.born.0) old.entry.pages) e.pages) flagged.3

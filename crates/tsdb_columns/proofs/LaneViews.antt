@@ -190,7 +190,7 @@ survives_clean path (mark ∷ marks) born times t none here =
         let met : overlap (record { from = mark.from; to = mark.to }) times ≡ true = common_time (record { from = mark.from; to = mark.to }) times t two.1 here in
         false≢true (sym f ∙ both_true (is_path mark.path path) (nat_lt born mark.version.0 && overlap (record { from = mark.from; to = mark.to }) times) two.0 (both_true (nat_lt born mark.version.0) (overlap (record { from = mark.from; to = mark.to }) times) one.1 met))
 
-not_true : (b : Bool) → not b ≡ true → b ≡ false
+pub not_true : (b : Bool) → not b ≡ true → b ≡ false
 not_true true e = absurd (false≢true e)
 not_true false e = refl
 
@@ -215,13 +215,13 @@ kept_clean path range marks hulls born times p clean here =
     let c = inside times p.time here in
     both_true (is_in range p.time) (survives marks (at path p.time) born) (inside_test range p.time (omega (arith, ints, a.0, c.0)) (omega (arith, ints, b.1, c.1))) (survives_clean path marks born times p.time clean.unmarked here)
 
-all_inside : (stats : Stats) (points : List Point) → LieIn stats points → All (λ p. is_in (times_of stats) p.time ≡ true) points
+pub all_inside : (stats : Stats) (points : List Point) → LieIn stats points → All (λ p. is_in (times_of stats) p.time ≡ true) points
 all_inside stats [] lie = All-nil (λ (p : Point). is_in (times_of stats) p.time ≡ true)
 all_inside stats (p ∷ ps) lie =
     let here = All-head (λ (p : Point). (stats.start ≤ℤ p.time) × (p.time ≤ℤ stats.end)) p ps lie in
     All-cons (λ (p : Point). is_in (times_of stats) p.time ≡ true) p ps (inside_test (times_of stats) p.time here.0 here.1) (all_inside stats ps (All-tail (λ (p : Point). (stats.start ≤ℤ p.time) × (p.time ≤ℤ stats.end)) p ps lie))
 
-all_kept : (keep : Point → Bool) (times : Range) (points : List Point) → All (λ p. is_in times p.time ≡ true) points → ((p : Point) → is_in times p.time ≡ true → keep p ≡ true) → All (λ p. keep p ≡ true) points
+pub all_kept : (keep : Point → Bool) (times : Range) (points : List Point) → All (λ p. is_in times p.time ≡ true) points → ((p : Point) → is_in times p.time ≡ true → keep p ≡ true) → All (λ p. keep p ≡ true) points
 all_kept keep times [] all f = All-nil (λ (p : Point). keep p ≡ true)
 all_kept keep times (p ∷ ps) all f = All-cons (λ (p : Point). keep p ≡ true) p ps (f p (All-head (λ (p : Point). is_in times p.time ≡ true) p ps all)) (all_kept keep times ps (All-tail (λ (p : Point). is_in times p.time ≡ true) p ps all) f)
 

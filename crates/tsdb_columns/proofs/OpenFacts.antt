@@ -1,5 +1,5 @@
 -- A file that is opened: the pages of a tree's chunk are those of its entry.
-use Rattle.std.proofs.Common.{◌≡◌, ℕ, Bool, zero, suc, ◌+◌, List, [], ◌∷◌, length, map, get_or, Result, Ok, Err, refl, sym, ap, subst, ◌∙◌, arith}
+use Rattle.std.proofs.Common.{◌≡◌, ℕ, Bool, zero, suc, ◌+◌, List, [], ◌∷◌, ◌++◌, length, map, get_or, Result, Ok, Err, refl, sym, ap, subst, ◌∙◌, arith}
 use Rattle.std.specs.Prelude.{Option, None, Some, IfSome, Contains, filter, option_map, slice_get}
 use Rattle.std.proofs.lemmas.List.{length-map}
 use Rattle.std.proofs.lemmas.List.Elements.{All-contains}
@@ -20,7 +20,7 @@ use Rattle.tsdb_outside.specs.Files.{NamedFile, Store}
 use Rattle.tsdb_pages.specs.File.{ArePageEntries, IsEntry, page_field}
 use Rattle.tsdb_pages.specs.File.{IsFile}
 use Rattle.tsdb_pages.specs.Places.{HasPlaces}
-use Rattle.tsdb_pages.specs.Trees.{IsMade, IsTree}
+use Rattle.tsdb_pages.specs.Trees.{IsMade, IsTree, points_of}
 use Rattle.tsdb_pages.specs.declared.tree.Chunk.{Chunk}
 use Rattle.tsdb_pages.specs.declared.tree.Group.{Group}
 use Rattle.tsdb_pages.specs.declared.tree.Page.{Page}
@@ -75,10 +75,20 @@ entry_pages names name entry list h of named = (
             ),
         stats_of number said points says got,
       ),
+  subst (λ (q : List Point). AreStatsOf q entry.stats) (sym all_points) place.says.stats,
 )
   where
     place : HasPlaces h.tree h.bytes entry
     place = All-contains (HasPlaces h.tree h.bytes) of.entries entry (entries_stand h.tree h.bytes of.entries h.file of.say) of.there
+
+    joined_points : (pages : List Page) → joined (map (λ (page : Page). page.points) pages) ≡ points_of pages
+    joined_points [] = refl
+    joined_points (page ∷ pages) = ap (λ l. page.points ++ l) (joined_points pages)
+
+    all_points : joined list ≡ points_of place.chunk.pages
+    all_points =
+        ap joined (h.pages_are.of_chunk place.chunk (chunk_of h.tree names entry place.group place.chunk named place.in_tree place.in_group place.says))
+        ∙ joined_points place.chunk.pages
 
     stats_of : (number : ℕ) (said : PageEntry) (points : List Point) → slice_get entry.pages number ≡ Some said → slice_get list number ≡ Some points → AreStatsOf points said.stats
     stats_of number said points says got =

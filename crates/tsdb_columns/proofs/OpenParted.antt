@@ -1,7 +1,7 @@
 -- The merge of sources that were opened and pass over their clean pages is parted.
 use Rattle.std.proofs.Common.{◌≡◌, ℕ, zero, suc, ◌+◌, ◌<◌, Bool, not, inl, inr, List, [], ◌∷◌, ◌++◌, map, length, get_or, drop, Option, None, Some, refl, sym, ap, subst, ◌∙◌, arith}
 use Rattle.std.specs.Prelude.{All, filter, flat_map, slice_get, sum_by, ◌<ℤ◌}
-use Rattle.std.specs.List.{AllZip}
+use Rattle.std.specs.List.{AllZip, list_any}
 use Rattle.std.specs.List.Sorted.{IsPermutation}
 use Rattle.std.specs.Option.{option_map, unwrap_or}
 use Rattle.std.specs.Prelude.{AllPairs, ◌≤ℤ◌}
@@ -12,15 +12,17 @@ use Rattle.std.proofs.lemmas.Option.{get_or_from_slice_get, slice_get_within}
 use Rattle.tsdb_base.specs.declared.point.Point.{Point}
 use Rattle.tsdb_base.specs.declared.point.Range.{Range}
 use Rattle.tsdb_base.specs.declared.point.Stats.{Stats}
-use Rattle.tsdb_columns.proofs.LaneViews.{ArePages, all_seen, left_pages_seen, pages_by_number, picked_seen}
+use Rattle.tsdb_columns.proofs.LaneViews.{ArePages, not_true, pages_by_number}
 use Rattle.tsdb_columns.proofs.OpenFacts.{got_map, pages_of_store, pages_true, part_of_store, part_true}
-use Rattle.tsdb_columns.proofs.SoundViews.{AreOpen, IsOpen, part_left as left_of_part, part_passed, part_points, sound, view, views}
+use Rattle.tsdb_columns.proofs.SoundViews.{AreOpen, IsOnePiece, IsOpen, all_seens, left_seens, part_left as left_of_part, part_passed, part_points, passed_seens, sound, view, views}
 use Rattle.tsdb_columns.proofs.Views.{View, all_of, covered, gathered, kept_all, kept_left, lists_left, passed_of}
 use Rattle.tsdb_columns.proofs.ViewMerges.{parted}
 use Rattle.tsdb_columns.proofs.DueFacts.{all_hulls_are, hulls_are, one_due, sums}
-use Rattle.tsdb_columns.specs.Clean.{others, source_hulls, source_read, sources_read}
-use Rattle.tsdb_columns.specs.Cleaning.{AreCleaned, IsFlagged, flags_of, is_clean_page, lane_hulls, lane_passed}
+use Rattle.tsdb_columns.proofs.CleanFacts.{both}
+use Rattle.tsdb_columns.specs.Clean.{any_meets, others, source_hulls, source_read, sources_read}
+use Rattle.tsdb_columns.specs.Cleaning.{AreCleaned, IsCleaned, IsFlagged, all_set, flags_of, is_clean_page, lane_hulls, lane_passed}
 use Rattle.tsdb_columns.specs.Files.{FilePages, HasEntryPages}
+use Rattle.tsdb_columns.specs.Kept.{times_of}
 use Rattle.tsdb_columns.specs.Lanes.{IsLaneOf, IsToldLane, IsTrueLane, IsTrueSource, OpensAs, keep_of, lane_due, lane_left, left_pages, source_all, source_left}
 use Rattle.tsdb_columns.specs.Parted.{IsParted}
 use Rattle.tsdb_columns.specs.declared.kept.Kept.{Kept}
@@ -38,6 +40,7 @@ use Rattle.tsdb_base.specs.Points.{IsRising}
 use Rattle.tsdb_merge.specs.Winners.{IsMergeOf, IsToldMergeOf}
 use Rattle.tsdb_outside.specs.Files.{NamedFile, Store}
 use Rattle.tsdb_sources.specs.Pieces.{joined}
+use Rattle.tsdb_stats.specs.Statistics.{AreStatsOf}
 
 none_some : {X : Type 0} (x : X) → ◌≡◌ {A = Option X} None (Some x) → ⊥
 none_some x e = cc
@@ -63,7 +66,7 @@ module _ {R : Type 0} (file : R → NamedFile) (pages : FilePages) (kept : Kept)
   told_is (Some list) points e = (refl, some_same (joined list) points e)
 
   seen_file : (hulls : List (List Range)) (names : List ℕ × List ℕ) (right : _) (born : _) (old new : PageLane R) (points : List Point) → OpensAs file names (source.File right born) (Pages old) → IsTrueSource file names pages (source.File right born)
-      → IsFlagged (flags_of kept hulls (Pages old)) (Pages old) (Pages new) → source_all file pages (source.File right born) ≡ Some points → IsRising points → IsSeen hulls (source.File right born) (Pages new)
+      → IsCleaned kept hulls (Pages old) (Pages new) → source_all file pages (source.File right born) ≡ Some points → IsRising points → IsSeen hulls (source.File right born) (Pages new)
   seen_file hulls names right born old new points opens truth flagged all rising =
       let list = unwrap_or (pages (file right.now).number) [] in
       let told = told_is (pages (file right.now).number) points all in
@@ -75,24 +78,35 @@ module _ {R : Type 0} (file : R → NamedFile) (pages : FilePages) (kept : Kept)
       let are_old : ArePages old.entry.pages list = pages_by_number old.entry.pages list entry_pages.1 (λ number page ps a b. let h = entry_pages.2 number page ps a b in record { within = h.0; stats = h.2 }) in
       let are : ArePages new.entry.pages list = subst (λ (e : IndexEntry). ArePages e.pages list) (sym flagged.3) are_old in
       let told_new : pages (file new.right.now).number ≡ Some list = ap (λ r. pages (file r.now).number) right_is ∙ told.0 in
+      let flags_are : new.passed.items ≡ map (is_clean_page kept hulls new.born.0) new.entry.pages = flagged.0 ∙ ap (λ b. map (is_clean_page kept hulls b) old.entry.pages) (ap (λ s. s.0) (sym flagged.2)) ∙ ap (λ (e : IndexEntry). map (is_clean_page kept hulls new.born.0) e.pages) (sym flagged.3) in
+      let long : length new.passed.items ≡ length new.entry.pages = ap length flags_are ∙ length-map new.entry.pages (is_clean_page kept hulls new.born.0) in
+      let piece : new.whole ≡ true → IsOnePiece hulls new list = λ e.
+          let parts = both (all_set (flags_of kept hulls (Pages old))) (not (list_any (any_meets (times_of old.entry.stats)) hulls)) (sym flagged.5 ∙ e) in
+          record {
+            all = ap all_set flagged.0 ∙ parts.0;
+            clear = ap (λ (n : IndexEntry). list_any (any_meets (times_of n.stats)) hulls) flagged.3
+                ∙ not_true (list_any (any_meets (times_of old.entry.stats)) hulls) parts.1;
+            stats = subst (λ (n : IndexEntry). AreStatsOf (joined list) n.stats) (sym flagged.3) entry_pages.3;
+          } in
       record {
         opened = (
-          flagged.0 ∙ ap (λ b. map (is_clean_page kept hulls b) old.entry.pages) (ap (λ s. s.0) (sym flagged.2)) ∙ ap (λ (e : IndexEntry). map (is_clean_page kept hulls new.born.0) e.pages) (sym flagged.3),
+          flags_are,
           are,
           subst IsRising (sym told.1) rising,
+          piece,
         );
         left =
             ap (option_map (λ l. filter (keep_of kept new.born.0) (joined (drop new.next (left_pages new.passed.items l))))) told_new
             ∙ ap (λ n. Some (filter (keep_of kept new.born.0) (joined (drop n (left_pages new.passed.items list))))) next_is
-            ∙ ap (λ l. Some (filter (keep_of kept new.born.0) l)) (sym (left_pages_seen new.passed.items new.entry.pages list are));
+            ∙ ap (λ l. Some (filter (keep_of kept new.born.0) l)) (sym (left_seens new list are long new.whole (λ e. (piece e).all)));
         all =
             ap (option_map (λ l. filter (keep_of kept born.0) (joined l))) told.0
             ∙ ap (λ b. Some (filter (keep_of kept b) (joined list))) (ap (λ s. s.0) (sym born_is))
-            ∙ ap (λ l. Some (filter (keep_of kept new.born.0) l)) (sym (all_seen new.passed.items new.entry.pages list are));
-        passed = sym (picked_seen new.passed.items new.entry.pages list are);
+            ∙ ap (λ l. Some (filter (keep_of kept new.born.0) l)) (sym (all_seens new list are new.whole));
+        passed = sym (passed_seens new list are new.whole);
       }
 
-  one_seen : (hulls : List (List Range)) (names : List ℕ × List ℕ) (from : Source R) (old new : Lane R) (points : List Point) → OpensAs file names from old → IsTrueSource file names pages from → IsFlagged (flags_of kept hulls old) old new
+  one_seen : (hulls : List (List Range)) (names : List ℕ × List ℕ) (from : Source R) (old new : Lane R) (points : List Point) → OpensAs file names from old → IsTrueSource file names pages from → IsCleaned kept hulls old new
       → source_all file pages from ≡ Some points → IsRising points → IsSeen hulls from new
   one_seen hulls names (source.File right born) (Pages old) (Pages new) points opens truth flagged all rising = seen_file hulls names right born old new points opens truth flagged all rising
   one_seen hulls names (source.File right born) (Pages old) (Part new) points opens truth flagged all rising = absurd flagged
@@ -172,10 +186,10 @@ module _ {R : Type 0} (file : R → NamedFile) (pages : FilePages) (kept : Kept)
           let list = some_at (source_all file pages) sources lists k from told a in
           let old_is : get_or olds k lane ≡ old.0 = get_or_from_slice_get olds k old.0 lane old.1 in
           let new_is : get_or news k lane ≡ lane = get_or_from_slice_get news k lane lane b in
-          let flagged : IsFlagged (flags_of kept (others k (map (source_hulls file pages) sources)) old.0) old.0 lane =
-          subst (λ h. IsFlagged (flags_of kept (others k h) old.0) old.0 lane) hulls
-          (subst (λ z. IsFlagged (flags_of kept (others k (map lane_hulls olds)) old.0) old.0 z) new_is
-          (subst (λ z. IsFlagged (flags_of kept (others k (map lane_hulls olds)) z) z (get_or news k lane)) old_is (cleaned.each k lane low))) in
+          let flagged : IsCleaned kept (others k (map (source_hulls file pages) sources)) old.0 lane =
+          subst (λ h. IsCleaned kept (others k h) old.0 lane) hulls
+          (subst (λ z. IsCleaned kept (others k (map lane_hulls olds)) old.0 z) new_is
+          (subst (λ z. IsCleaned kept (others k (map lane_hulls olds)) z (get_or news k lane)) old_is (cleaned.each k lane low))) in
           one_due file pages kept names (map (source_hulls file pages) sources) k from old.0 lane old.2 (hulls_are file pages names from old.0 list.0 old.2 (all_at (IsTrueSource file names pages) sources k from truth a) list.1) flagged
 
   module _ (names : List ℕ × List ℕ) (sources : List (Source R)) (olds news : List (Lane R)) (lists : List (List Point)) (opens : AllZip (OpensAs file names) sources olds) (truth : All (IsTrueSource file names pages) sources)
@@ -187,11 +201,10 @@ module _ {R : Type 0} (file : R → NamedFile) (pages : FilePages) (kept : Kept)
         let list = some_at (source_all file pages) sources lists k from told a in
         let old_is : get_or olds k lane ≡ old.0 = get_or_from_slice_get olds k old.0 lane old.1 in
         let new_is : get_or news k lane ≡ lane = get_or_from_slice_get news k lane lane b in
-        let flags = λ (h : List (List Range)) (z : Lane R). flags_of kept (others k h) z in
-        let flagged : IsFlagged (flags_of kept (others k (map lane_hulls news)) old.0) old.0 lane =
-        subst (λ h. IsFlagged (flags_of kept (others k h) old.0) old.0 lane) (sym cleaned.hulls)
-        (subst (λ z. IsFlagged (flags_of kept (others k (map lane_hulls olds)) old.0) old.0 z) new_is
-        (subst (λ z. IsFlagged (flags_of kept (others k (map lane_hulls olds)) z) z (get_or news k lane)) old_is (cleaned.each k lane low))) in
+        let flagged : IsCleaned kept (others k (map lane_hulls news)) old.0 lane =
+        subst (λ h. IsCleaned kept (others k h) old.0 lane) (sym cleaned.hulls)
+        (subst (λ z. IsCleaned kept (others k (map lane_hulls olds)) old.0 z) new_is
+        (subst (λ z. IsCleaned kept (others k (map lane_hulls olds)) z (get_or news k lane)) old_is (cleaned.each k lane low))) in
         one_seen (others k (map lane_hulls news)) names from old.0 lane list.0 old.2 (all_at (IsTrueSource file names pages) sources k from truth a) flagged list.1 (all_at IsRising lists k list.0 rising list.2)
 
     same_long : length sources ≡ length news
@@ -286,23 +299,23 @@ module _ {R : Type 0} (file : R → NamedFile) (pages : FilePages) (kept : Kept)
 -- ---- what was so of the sources is so of them with their flags
 
 module _ {R : Type 0} (file : R → NamedFile) where
-  pub flagged_true : (pages : FilePages) (flags : List Bool) (old new : Lane R) → IsFlagged flags old new → IsTrueLane file pages old → IsTrueLane file pages new
-  flagged_true pages flags (Pages old) (Pages new) is truth = pages_true file pages new (rw (is.1, is.3) (truth old refl))
-  flagged_true pages flags (Pages old) (Part new) is truth = absurd is
-  flagged_true pages flags (Part old) (Pages new) is truth = absurd is
-  flagged_true pages flags (Part old) (Part new) is truth = part_true file pages new
+  pub flagged_true : (pages : FilePages) (flags : List Bool) (whole : Bool) (old new : Lane R) → IsFlagged flags whole old new → IsTrueLane file pages old → IsTrueLane file pages new
+  flagged_true pages flags whole (Pages old) (Pages new) is truth = pages_true file pages new (rw (is.1, is.3) (truth old refl))
+  flagged_true pages flags whole (Pages old) (Part new) is truth = absurd is
+  flagged_true pages flags whole (Part old) (Pages new) is truth = absurd is
+  flagged_true pages flags whole (Part old) (Part new) is truth = part_true file pages new
 
-  pub flagged_told : (pages : FilePages) (flags : List Bool) (old new : Lane R) → IsFlagged flags old new → IsToldLane file pages old → IsToldLane file pages new
-  flagged_told pages flags (Pages old) (Pages new) is told = rw is.1 told
-  flagged_told pages flags (Pages old) (Part new) is told = absurd is
-  flagged_told pages flags (Part old) (Pages new) is told = absurd is
-  flagged_told pages flags (Part old) (Part new) is told = tt
+  pub flagged_told : (pages : FilePages) (flags : List Bool) (whole : Bool) (old new : Lane R) → IsFlagged flags whole old new → IsToldLane file pages old → IsToldLane file pages new
+  flagged_told pages flags whole (Pages old) (Pages new) is told = rw is.1 told
+  flagged_told pages flags whole (Pages old) (Part new) is told = absurd is
+  flagged_told pages flags whole (Part old) (Pages new) is told = absurd is
+  flagged_told pages flags whole (Part old) (Part new) is told = tt
 
-  pub flagged_of : (store : Store) (flags : List Bool) (old new : Lane R) → IsFlagged flags old new → IsLaneOf file store old → IsLaneOf file store new
-  flagged_of store flags (Pages old) (Pages new) is of = pages_of_store file store new (ap (λ r. (file r.now).store) is.1 ∙ of old refl)
-  flagged_of store flags (Pages old) (Part new) is of = absurd is
-  flagged_of store flags (Part old) (Pages new) is of = absurd is
-  flagged_of store flags (Part old) (Part new) is of = part_of_store file store new
+  pub flagged_of : (store : Store) (flags : List Bool) (whole : Bool) (old new : Lane R) → IsFlagged flags whole old new → IsLaneOf file store old → IsLaneOf file store new
+  flagged_of store flags whole (Pages old) (Pages new) is of = pages_of_store file store new (ap (λ r. (file r.now).store) is.1 ∙ of old refl)
+  flagged_of store flags whole (Pages old) (Part new) is of = absurd is
+  flagged_of store flags whole (Part old) (Pages new) is of = absurd is
+  flagged_of store flags whole (Part old) (Part new) is of = part_of_store file store new
 
-pub all_cleaned : {R : Type 0} (kept : Kept) (olds news : List (Lane R)) (Q : Lane R → Type 0) → ((flags : List Bool) (old new : Lane R) → IsFlagged flags old new → Q old → Q new) → AreCleaned kept olds news → All Q olds → All Q news
-all_cleaned kept olds news Q step cleaned all = λ k d low. let long = cleaned.long in step _ (get_or olds k d) (get_or news k d) (cleaned.each k d (omega (arith, low, long))) (all k d (omega (arith, low, long)))
+pub all_cleaned : {R : Type 0} (kept : Kept) (olds news : List (Lane R)) (Q : Lane R → Type 0) → ((flags : List Bool) (whole : Bool) (old new : Lane R) → IsFlagged flags whole old new → Q old → Q new) → AreCleaned kept olds news → All Q olds → All Q news
+all_cleaned kept olds news Q step cleaned all = λ k d low. let long = cleaned.long in step _ _ (get_or olds k d) (get_or news k d) (cleaned.each k d (omega (arith, low, long))) (all k d (omega (arith, low, long)))

@@ -14,6 +14,7 @@ use Rattle.tsdb_pages.specs.declared.tree.Chunk.{Chunk}
 use Rattle.tsdb_pages.specs.declared.tree.Group.{Group}
 use Rattle.tsdb_pages.specs.declared.tree.Page.{Page}
 use Rattle.tsdb_pages.specs.declared.tree.Tree.{Tree}
+use Rattle.tsdb_sources.specs.Pieces.{joined}
 use Rattle.tsdb_stats.specs.Statistics.{AreStatsOf}
 use Rattle.tsfile_reader.specs.Page.{HasNoPage, HasPage, LieIn, SaysOfPage}
 use Rattle.tsfile_reader.specs.declared.fault.ReadFault.{ReadFault}
@@ -63,11 +64,12 @@ HasPagePoints entry name said points = LieIn said.stats points
     → ((read : List Point) → HasPage bytes entry said read → read ≡ points) × (HasNoPage bytes entry said → ⊥))
     × AreStatsOf points said.stats
 
--- the file tells its bytes, and has these points in the pages of the entry
+-- the file tells its bytes, and has these points in the pages of the entry, which says the statistics of all of them
 abbrev pub HasEntryPages : IndexEntry → NamedFile → List (List Point) → Type 0
 HasEntryPages entry name pages = (is_some name.bytes ≡ true) × (length pages ≡ length entry.pages)
     × ((number : ℕ) (said : PageEntry) (points : List Point) → SaysOfPage entry number said
     → slice_get pages number ≡ Some points → HasPagePoints entry name said points)
+    × AreStatsOf (joined pages) entry.stats
 
 -- the count never falls, and the call returns `Failed` only where it has risen, or the file is not whole; `Memory` is
 -- free

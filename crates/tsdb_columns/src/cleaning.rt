@@ -3,8 +3,8 @@ ghost use Rattle.std.specs.List.{list_any};
 ghost use Rattle.std.specs.List.Sorted.{IsPermutation};
 ghost use Rattle.std.specs.Prelude.{◌≡◌, ◌<◌, ◌≤ℤ◌, ◌++◌, AllPairs, IfOk, OnOk, flat_map, length, map};
 ghost use Rattle.tsdb_columns.specs.Clean.{any_meets, hull_of, is_clean as clean, others};
-ghost use Rattle.tsdb_columns.specs.Cleaning.{AreCleaned, IsFlagged, flags_of, lane_hulls, lane_passed};
-ghost use Rattle.tsdb_columns.specs.Cleaning.{picked};
+ghost use Rattle.tsdb_columns.specs.Cleaning.{AreCleaned, IsFlagged, all_set, flags_of, lane_hulls};
+ghost use Rattle.tsdb_columns.specs.Cleaning.{lane_passed, picked, whole_of};
 
 use crate::filling::is_passed;
 use crate::kept::{Kept, contains, times_of};
@@ -98,12 +98,71 @@ fn clean_pages<R>(
     Ok(flags)
 }
 
-/// Lets a source pass over these pages.
-fn pass<R>(lane: &mut Lane<'_, R>, flags: Vec<bool>)
-    ensures { IsFlagged flags.items lane.old lane.new }
+/// Whether a page or part of a source meets the times, of those beside the one at a place.
+fn others_meet<R>(lanes: &[Lane<'_, R>], place: usize, times: &Range) -> bool
+    requires { place < length lanes.now }
+    ensures { result ≡ list_any (any_meets times.now) (others place (map lane_hulls lanes.now)) }
+{
+    let (before, rest) = lanes.split_at(place);
+    let (_, behind) = rest.split_at(1);
+    if source_meets(before, times) {
+        return true;
+    }
+    source_meets(behind, times)
+}
+
+/// Whether all of these are set.
+fn are_set(flags: &[bool]) -> bool
+    ensures { result ≡ all_set flags.now }
+{
+    for place in 0..flags.len() {
+        if !is_passed(flags, place) {
+            return false;
+        }
+    }
+    true
+}
+
+/// Whether the pages of a source with these flags, which stands at this place, are passed over as one piece.
+fn is_whole<R>(lanes: &[Lane<'_, R>], place: usize, lane: &Lane<'_, R>, flags: &[bool]) -> bool
+    requires { place < length lanes.now }
+    ensures { result ≡ whole_of (others place (map lane_hulls lanes.now)) flags.now lane.now }
+{
+    let Lane::Pages(pages) = lane else {
+        return false;
+    };
+    if !are_set(flags) {
+        return false;
+    }
+    !others_meet(lanes, place, &times_of(&pages.entry.stats))
+}
+
+/// Which pages of a source, which stands at this place, are clean, and whether they are passed over as one piece.
+fn clean_lane<R>(
+    alloc: Global,
+    kept: &Kept<'_>,
+    lanes: &[Lane<'_, R>],
+    place: usize,
+    lane: &Lane<'_, R>,
+) -> Result<(Vec<bool>, bool), Memory>
+    requires { place < length lanes.now }
+    ensures flags { IfOk result (λ clean. clean.0.items
+        ≡ flags_of kept.now (others place (map lane_hulls lanes.now)) lane.now) }
+    ensures whole { IfOk result (λ clean. clean.1
+        ≡ whole_of (others place (map lane_hulls lanes.now)) clean.0.items lane.now) }
+{
+    let flags = clean_pages(alloc, kept, lanes, place, lane)?;
+    let whole = is_whole(lanes, place, lane, &flags);
+    Ok((flags, whole))
+}
+
+/// Lets a source pass over these pages, as one piece or one by one.
+fn pass<R>(lane: &mut Lane<'_, R>, flags: Vec<bool>, whole: bool)
+    ensures { IsFlagged flags.items whole lane.old lane.new }
 {
     if let Lane::Pages(pages) = lane {
         pages.passed = flags;
+        pages.whole = whole;
     }
 }
 
@@ -116,8 +175,8 @@ pub(crate) fn pass_clean<R>(
     ensures { OnOk result (AreCleaned kept.now lanes.old.items lanes.new.items) }
 {
     for place in 0..lanes.len() {
-        let flags = clean_pages(alloc, kept, lanes, place, &lanes[place])?;
-        pass(&mut lanes[place], flags);
+        let (flags, whole) = clean_lane(alloc, kept, lanes, place, &lanes[place])?;
+        pass(&mut lanes[place], flags, whole);
     }
     Ok(())
 }
@@ -134,14 +193,18 @@ fn add_passed(flags: &[bool], pages: &[PageEntry], into: &mut Vec<Stats>) -> Res
     Ok(())
 }
 
-/// Adds the statistics of the pages that a source passes over.
+/// Adds the statistics of the pages that a source passes over, or of their chunk.
 fn add_lane<R>(lane: &Lane<'_, R>, into: &mut Vec<Stats>) -> Result<(), Memory>
     ensures { OnOk result (into.new.items ≡ into.old.items ++ lane_passed lane.now) }
 {
-    match lane {
-        Lane::Pages(pages) => add_passed(&pages.passed, pages.entry.pages.items(), into),
-        Lane::Part(_) => Ok(()),
+    let Lane::Pages(pages) = lane else {
+        return Ok(());
+    };
+    if pages.whole {
+        into.push(pages.entry.stats.copy()?)?;
+        return Ok(());
     }
+    add_passed(&pages.passed, pages.entry.pages.items(), into)
 }
 
 /// The statistics of the pages that sources pass over, in order of time.

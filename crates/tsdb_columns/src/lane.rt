@@ -15,6 +15,8 @@ pub(crate) struct PageLane<'a, R> {
     pub in_order: bool,
     /// Which of the first pages are passed over.
     pub passed: Vec<bool>,
+    /// Whether these are all pages, and are passed over as one piece, with the statistics of their chunk.
+    pub whole: bool,
     pub next: usize,
     ghost order: { IsTrue in_order → AreInOrder entry.pages } by { order_prop in_order entry.pages },
 }

@@ -48,6 +48,7 @@ pub(crate) fn lane_of<'a, R: ReadRight>(
             in_order: are_in_order(entry.pages.items()),
             entry,
             passed: Vec::new(alloc),
+            whole: false,
             next: 0,
         }),
         None => Lane::Part(PartLane { born, rest: &[] }),

@@ -1,7 +1,7 @@
 use Rattle.std.proofs.Common.{◌≡◌, ◌∙◌, ◌<◌, ap, get_or, length, map, arith}
-use Rattle.tsdb_columns.proofs.CleanFacts.{passing_all, passing_more, passing_none, same_at}
+use Rattle.tsdb_columns.proofs.CleanFacts.{as_cleaned, passing_all, passing_more, passing_none, same_at}
 use Rattle.tsdb_columns.specs.Clean.{others}
-use Rattle.tsdb_columns.specs.Cleaning.{flags_of, lane_hulls}
+use Rattle.tsdb_columns.specs.Cleaning.{flags_of, lane_hulls, whole_of}
 use Rattle.tsdb_columns.proofs.cleaning.pass_clean.Goals as goal
 
 pub loop-place-init : goal.loop-place-init
@@ -15,8 +15,15 @@ loop-place-preserved g c =
     let long = c.loop-place.invariant.long in
     let end = c.len-place-end.ensures in
     let below : c.loop-place.place < length lanes = omega (arith, long, end, c.loop-place-test.true) in
-    passing_more c.args.kept.now c.args.lanes.now.items lanes c.loop-place.place lane c.pass.new.lane c.in_ok-flags.flags.items c.loop-place.invariant below is
-    (c.in_ok-flags.ensures ∙ ap (λ l. flags_of c.args.kept.now (others c.loop-place.place (map lane_hulls l)) c.index.result.now) c.deref.ensures.value ∙ ap (flags_of c.args.kept.now (others c.loop-place.place (map lane_hulls lanes))) (same_at lanes c.loop-place.place c.index.result.now lane below c.index.ensures is)) c.pass.ensures
+    let kept = c.args.kept.now in
+    let hulls = others c.loop-place.place (map lane_hulls lanes) in
+    let same = same_at lanes c.loop-place.place c.index.result.now lane below c.index.ensures is in
+    let found = c.in_ok-flags in
+    passing_more kept c.args.lanes.now.items lanes c.loop-place.place lane c.pass.new.lane c.loop-place.invariant below is
+    (as_cleaned kept hulls _ _ lane c.pass.new.lane
+    (found.ensures.flags ∙ ap (λ l. flags_of kept (others c.loop-place.place (map lane_hulls l)) c.index.result.now) c.deref.ensures.value ∙ ap (flags_of kept hulls) same)
+    (found.ensures.whole ∙ ap (λ l. whole_of (others c.loop-place.place (map lane_hulls l)) found.flags.items c.index.result.now) c.deref.ensures.value ∙ ap (whole_of hulls found.flags.items) same)
+    c.pass.ensures)
 
 pub returns : goal.returns
 returns g c = passing_all c.args.kept.now c.args.lanes.now.items c.loop-place.lanes.items c.loop-place.place c.loop-place.invariant
