@@ -1,5 +1,5 @@
 -- The merge of sources that were opened and pass over their clean pages is parted.
-use Rattle.std.proofs.Common.{◌≡◌, ℕ, zero, suc, ◌+◌, ◌<◌, Bool, not, inl, inr, List, [], ◌∷◌, ◌++◌, map, length, get_or, drop, Option, None, Some, refl, sym, ap, subst, ◌∙◌, arith}
+use Rattle.std.proofs.Common.{◌≡◌, ℕ, zero, suc, ◌+◌, ◌<◌, Bool, true, not, inl, inr, List, [], ◌∷◌, ◌++◌, map, length, get_or, drop, Option, None, Some, refl, sym, ap, subst, ◌∙◌, arith}
 use Rattle.std.specs.Prelude.{All, filter, flat_map, slice_get, sum_by, ◌<ℤ◌}
 use Rattle.std.specs.List.{AllZip, list_any}
 use Rattle.std.specs.List.Sorted.{IsPermutation}
@@ -81,13 +81,13 @@ module _ {R : Type 0} (file : R → NamedFile) (pages : FilePages) (kept : Kept)
       let flags_are : new.passed.items ≡ map (is_clean_page kept hulls new.born.0) new.entry.pages = flagged.0 ∙ ap (λ b. map (is_clean_page kept hulls b) old.entry.pages) (ap (λ s. s.0) (sym flagged.2)) ∙ ap (λ (e : IndexEntry). map (is_clean_page kept hulls new.born.0) e.pages) (sym flagged.3) in
       let long : length new.passed.items ≡ length new.entry.pages = ap length flags_are ∙ length-map new.entry.pages (is_clean_page kept hulls new.born.0) in
       let piece : new.whole ≡ true → IsOnePiece hulls new list = λ e.
-          let parts = both (all_set (flags_of kept hulls (Pages old))) (not (list_any (any_meets (times_of old.entry.stats)) hulls)) (sym flagged.5 ∙ e) in
-          record {
-            all = ap all_set flagged.0 ∙ parts.0;
-            clear = ap (λ (n : IndexEntry). list_any (any_meets (times_of n.stats)) hulls) flagged.3
-                ∙ not_true (list_any (any_meets (times_of old.entry.stats)) hulls) parts.1;
-            stats = subst (λ (n : IndexEntry). AreStatsOf (joined list) n.stats) (sym flagged.3) entry_pages.3;
-          } in
+      let parts = both (all_set (flags_of kept hulls (Pages old))) (not (list_any (any_meets (times_of old.entry.stats)) hulls)) (sym flagged.5 ∙ e) in
+      record {
+        all = ap all_set flagged.0 ∙ parts.0;
+        clear = ap (λ (n : IndexEntry). list_any (any_meets (times_of n.stats)) hulls) flagged.3
+            ∙ not_true (list_any (any_meets (times_of old.entry.stats)) hulls) parts.1;
+        stats = subst (λ (n : IndexEntry). AreStatsOf (joined list) n.stats) (sym flagged.3) entry_pages.3;
+      } in
       record {
         opened = (
           flags_are,

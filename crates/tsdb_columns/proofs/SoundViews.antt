@@ -190,7 +190,7 @@ begin_outside : (a b : Range) → is_in a b.from ≡ false → is_in b a.from �
 begin_outside a b first second = by (is_in a b.from) (is_in b b.from) (is_in b a.from) (is_in a a.from) first second
   where
     by : (p q r s : Bool) → p ≡ false → r ≡ false → ((p && q) || (r && s)) ≡ false
-    by p q r s no also = rw (no, also) refl
+    by p q r s first second = rw (first, second) refl
 
 -- what begins as a range that does not meet another begins outside of it
 outside_of : (t s : Seen) (r : Range) → BeginsAs t r → overlap r s.hull ≡ false → is_in s.hull t.hull.from ≡ false
@@ -253,9 +253,11 @@ module _ {R : Type 0} where
     where
       by : (whole : Bool) → (whole ≡ true → IsOnePiece hulls lane list) → Each (IsFit (keep_of kept lane.born.0)) (seens_of whole lane list)
       by true piece =
-          let one = piece refl in
-          (fit_whole (keep_of kept lane.born.0) lane.entry.stats (joined list) one.stats is.2
-          (all_kept_pages (keep_of kept lane.born.0) (is_clean_page kept hulls lane.born.0) lane.entry.pages list is.1 (keeps kept hulls lane) (ap all_set (sym is.0) ∙ one.all)), tt)
+          let one = piece refl in (
+            fit_whole (keep_of kept lane.born.0) lane.entry.stats (joined list) one.stats is.2
+                (all_kept_pages (keep_of kept lane.born.0) (is_clean_page kept hulls lane.born.0) lane.entry.pages list is.1 (keeps kept hulls lane) (ap all_set (sym is.0) ∙ one.all)),
+            tt,
+          )
       by false piece = subst (λ flags. Each (IsFit (keep_of kept lane.born.0)) (seen_pages flags lane.entry.pages list)) (sym is.0)
           (fit_pages (keep_of kept lane.born.0) (is_clean_page kept hulls lane.born.0) lane.entry.pages list is.1 (keeps kept hulls lane))
   open_fit kept hulls (Part lane) list is = part_fit (keep_of kept lane.born.0) lane.rest.now is
