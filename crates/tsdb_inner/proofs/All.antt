@@ -1,7 +1,9 @@
 -- The series of a job, copied one behind another.
 use Rattle.std.proofs.Common.{◌≡◌, ◌≢◌, ℕ, ◌+◌, ◌<◌, ◌≤◌, zero, suc, inl, inr, ⊎_elim, List, [], ◌∷◌, ◌++◌, length, take, drop, get_or}
-use Rattle.std.proofs.Common.{Option, None, Some, refl, sym, ap, subst, ◌∙◌, arith}
+use Rattle.std.proofs.Common.{Bool, true, false, Option, None, Some, refl, sym, ap, subst, ◌∙◌, arith}
+use Rattle.std.specs.Prelude.{◌↔◌, IsTrue, not}
 use Rattle.std.specs.List.{AllByRecursion as Each}
+use Rattle.std.proofs.lemmas.Bool.{false≢true}
 use Rattle.std.proofs.lemmas.List.{take-append-drop}
 use Rattle.tsdb_base.specs.declared.point.Point.{Point}
 use Rattle.tsdb_base.specs.declared.value.Value.{Value}
@@ -237,3 +239,9 @@ some_series (first ∷ filled) not_empty = omega arith
 pub none_filled : (filled : List Filled) → (0 < length filled → ⊥) → filled ≡ []
 none_filled [] none = refl
 none_filled (first ∷ filled) none = absurd (none (omega arith))
+
+-- whether a part is not empty says whether it has a series
+pub has_some : (empty : Bool) (filled : List Filled) → (IsTrue empty ↔ (filled ≡ [])) → IsTrue (not empty) ↔ (0 < length filled)
+has_some true filled says =
+    (λ e. absurd (false≢true e), λ some. absurd (let none = subst (λ (l : List Filled). 0 < length l) (says.0 refl) some in omega (arith, none)))
+has_some false filled says = (λ e. some_series filled (λ none. false≢true (says.1 none)), λ some. refl)

@@ -65,8 +65,9 @@ module _ {F S R P : Type 0} (name : R → NamedFile) where
   all_whole told (input ∷ inputs) reads = (whole_of told input reads.0, all_whole told inputs reads.1)
 
   -- a fault of reading the indexes has its cause where what is told is the truth
-  pub opening_cause : {T U : Type 0} (job : Job F S R P) (a b : ℕ) (fault : StoreFault)
-      → HasReason {T = T} (Each (IsWhole name) job.inputs) a b (Err fault)
+  pub opening_cause : {T U : Type 0} (job : Job F S R P) (inputs : List (Input F S R P)) → inputs ≡ job.inputs → (a b : ℕ)
+      (fault : StoreFault) → HasReason {T = T} (Each (IsWhole name) inputs) a b (Err fault)
       → (told : Told) → TellsTruth name told job → HasStoreCause {T = U} a b (Err fault)
-  opening_cause job a b fault reason told truth =
-      cause_of (Each (IsWhole name) job.inputs) a b fault reason (all_whole told job.inputs truth.read)
+  opening_cause job inputs are a b fault reason told truth =
+      cause_of (Each (IsWhole name) inputs) a b fault reason (all_whole told inputs
+      (subst (Each (λ (input : Input F S R P). IsSome (name input.right).bytes → IsRead name told input)) (sym are) truth.read))

@@ -20,6 +20,9 @@ copy_one-requires-clause-among g c = λ lifetimes lives.
     c.schema-item.is in
     schema_among g.F.Right.ReadRight.file c.args.job.now c.loop-schema.schema-index c.schema-item.result below at
 
+pub copy_one-requires-clause-opened : goal.copy_one-requires-clause-opened
+copy_one-requires-clause-opened g c = λ lifetimes lives. c.requires.opened
+
 pub copy_one-requires-clause-of_store : goal.copy_one-requires-clause-of_store
 copy_one-requires-clause-of_store g c = λ lifetimes lives.
     subst (λ s. Each (IsInputOf g.F.Right.ReadRight.file s) c.args.job.now.inputs) (sym c.loop-schema.invariant.2)

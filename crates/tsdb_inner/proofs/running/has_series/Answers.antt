@@ -1,6 +1,5 @@
-use Rattle.std.proofs.Common.{rules}
-use Rattle.tsdb_inner.proofs.All.{some_series}
+use Rattle.tsdb_inner.proofs.All.{has_some}
 use Rattle.tsdb_inner.proofs.running.has_series.Goals as goal
 
 pub returns : goal.returns
-returns c = ?
+returns c = λ filled is. has_some c.is_empty.result filled (c.is_empty.ensures filled is)
