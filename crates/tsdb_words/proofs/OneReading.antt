@@ -2,9 +2,9 @@
 use Rattle.std.proofs.Common.{◌≡◌, ℕ, suc, cond, eqb, List, [], ◌∷◌, ◌++◌, get_or, inl, inr, refl, sym, ap, ◌∙◌, arith, subst, codes}
 use Rattle.std.specs.List.{AllByRecursion}
 use Rattle.std.specs.Str.Parse.{digits_value}
-use Rattle.std.specs.Prelude.{◌≤◌}
+use Rattle.std.specs.Prelude.{◌≤◌, filter}
 use Rattle.std.proofs.lemmas.Bool.{ne_eqb}
-use Rattle.tsdb_words.specs.Words.{AreArguments, AreWords, Asked, IsGiven, IsOption, IsArgument, IsWithinLimits, Argument, Directory, Pair, Workers, End, pairs, workers, directories}
+use Rattle.tsdb_words.specs.Words.{AreArguments, AreWords, Asked, IsGiven, IsOption, IsArgument, IsWithinLimits, Argument, Directory, Pair, Workers, End, is_directory, is_pair, is_workers}
 use Rattle.tsdb_words.proofs.PartLemmas.{one_digits}
 
 -- ---- one part
@@ -71,10 +71,33 @@ one_row (p ∷ ps) (q ∷ qs) words a b =
     let others : ps ≡ qs = one_row ps qs a.0 a.2 (subst (AreArguments qs) (sym same.1) b.2) in
     cc
 
-one_given : (numbers : List ℕ) (default m n : ℕ) → IsGiven numbers default m → IsGiven numbers default n → m ≡ n
-one_given [] default m n a b = a ∙ sym b
-one_given (x ∷ []) default m n a b = a ∙ sym b
-one_given (x ∷ y ∷ numbers) default m n a b = absurd a
+-- the number of an option
+number_of : Argument → ℕ
+number_of (Pair number) = number
+number_of (Workers number) = number
+number_of part = 0
+
+pair_number : (number : ℕ) → number_of (Pair number) ≡ number
+unfolding number_of
+pair_number number = refl
+
+workers_number : (number : ℕ) → number_of (Workers number) ≡ number
+unfolding number_of
+workers_number number = refl
+
+module _ (option : ℕ → Argument) (its : (number : ℕ) → number_of (option number) ≡ number) (given : List Argument) (default : ℕ) where
+  one_given : (m n : ℕ) → IsGiven option given default m → IsGiven option given default n → m ≡ n
+  one_given m n (inl a) (inl b) =
+      let same : option m ≡ option n = (let both = sym a ∙ b in cc) in
+      sym (its m) ∙ ap number_of same ∙ its n
+  one_given m n (inl a) (inr b) = let none = sym a ∙ b.0 in cc
+  one_given m n (inr a) (inl b) = let none = sym b ∙ a.0 in cc
+  one_given m n (inr a) (inr b) = a.1 ∙ sym b.1
+
+  given_within : (P : ℕ → Type 0) (n : ℕ) → AllByRecursion (λ part. P (number_of part)) given → P default
+      → IsGiven option given default n → P n
+  given_within P n all good (inl is) = subst P (its n) (subst (AllByRecursion (λ part. P (number_of part))) is all).0
+  given_within P n all good (inr is) = subst P (sym is.1) good
 
 pub one_asked : (words : List (List ℕ)) (one other : Asked) → AreWords words one → AreWords words other → one ≡ other
 one_asked words one other a b =
@@ -84,43 +107,43 @@ one_asked words one other a b =
     let parts : a.parts ≡ b.parts = one_row a.parts b.parts a.behind a.are (subst (AreArguments b.parts) (sym behind) b.are) in
     let first = a.directory in
     let second = b.directory in
-    let directories : directories a.parts ≡ directories b.parts = ap directories parts in
-    let directory : one.directory ≡ other.directory = cc in
-    let pair : one.pair_points ≡ other.pair_points = one_given (pairs a.parts) 10000 one.pair_points other.pair_points a.pair_points
-    (subst (λ ps. IsGiven (pairs ps) 10000 other.pair_points) (sym parts) b.pair_points) in
-    let count : one.workers ≡ other.workers = one_given (workers a.parts) 1 one.workers other.workers a.workers
-    (subst (λ ps. IsGiven (workers ps) 1 other.workers) (sym parts) b.workers) in
+    let directories = ap (filter is_directory) parts in
+    let directory : one.directory ≡ other.directory = (let same : Directory one.directory ∷ [] ≡ Directory other.directory ∷ [] = sym first ∙ directories ∙ second in cc) in
+    let pair : one.pair_points ≡ other.pair_points = one_given Pair pair_number (filter is_pair a.parts) 10000 one.pair_points other.pair_points a.pair_points
+    (subst (λ ps. IsGiven Pair (filter is_pair ps) 10000 other.pair_points) (sym parts) b.pair_points) in
+    let count : one.workers ≡ other.workers = one_given Workers workers_number (filter is_workers a.parts) 1 one.workers other.workers a.workers
+    (subst (λ ps. IsGiven Workers (filter is_workers ps) 1 other.workers) (sym parts) b.workers) in
     let made : List ℕ → ℕ → ℕ → Asked = λ d p w. record { directory = d; pair_points = p; workers = w } in
     let same : made one.directory one.pair_points one.workers ≡ made other.directory other.pair_points other.workers = cc in
     same
 
 -- ---- limits
 
-pairs_within : (parts : List Argument) (words : List (List ℕ)) → AreArguments parts words → AllByRecursion (λ n. (1 ≤ n) × (n ≤ 1000000)) (pairs parts)
+pairs_within : (parts : List Argument) (words : List (List ℕ)) → AreArguments parts words
+    → AllByRecursion (λ part. (1 ≤ number_of part) × (number_of part ≤ 1000000)) (filter is_pair parts)
+unfolding number_of
 pairs_within [] words are = tt
 pairs_within (Directory word ∷ parts) words are = pairs_within parts are.0 are.2
 pairs_within (Pair number ∷ parts) words are = ((are.1.1, are.1.2), pairs_within parts are.0 are.2)
 pairs_within (Workers number ∷ parts) words are = pairs_within parts are.0 are.2
 pairs_within (End ∷ parts) words are = pairs_within parts are.0 are.2
 
-workers_within : (parts : List Argument) (words : List (List ℕ)) → AreArguments parts words → AllByRecursion (λ n. n ≤ 4) (workers parts)
+workers_within : (parts : List Argument) (words : List (List ℕ)) → AreArguments parts words
+    → AllByRecursion (λ part. number_of part ≤ 4) (filter is_workers parts)
+unfolding number_of
 workers_within [] words are = tt
 workers_within (Directory word ∷ parts) words are = workers_within parts are.0 are.2
 workers_within (Pair number ∷ parts) words are = workers_within parts are.0 are.2
 workers_within (Workers number ∷ parts) words are = (are.1.1, workers_within parts are.0 are.2)
 workers_within (End ∷ parts) words are = workers_within parts are.0 are.2
 
-given_within : (P : ℕ → Type 0) (numbers : List ℕ) (default n : ℕ) → AllByRecursion P numbers → P default → IsGiven numbers default n → P n
-given_within P [] default n all good is = subst P (sym is) good
-given_within P (x ∷ []) default n all good is = subst P (sym is) all.0
-given_within P (x ∷ y ∷ numbers) default n all good is = absurd is
-
 pub within_limits : (words : List (List ℕ)) (asked : Asked) → AreWords words asked → IsWithinLimits asked
 within_limits words asked are =
-    let pair = given_within (λ n. (1 ≤ n) × (n ≤ 1000000)) (pairs are.parts) 10000 asked.pair_points
+    let pair = given_within Pair pair_number (filter is_pair are.parts) 10000 (λ n. (1 ≤ n) × (n ≤ 1000000)) asked.pair_points
     (pairs_within are.parts are.behind are.are) (omega arith, omega arith) are.pair_points in
     record {
       least = pair.0;
       most = pair.1;
-      workers = given_within (λ n. n ≤ 4) (workers are.parts) 1 asked.workers (workers_within are.parts are.behind are.are) (omega arith) are.workers;
+      workers = given_within Workers workers_number (filter is_workers are.parts) 1 (λ n. n ≤ 4) asked.workers
+          (workers_within are.parts are.behind are.are) (omega arith) are.workers;
     }

@@ -79,6 +79,10 @@ module _ (words behind : List (List ℕ)) (first : List ℕ) (seen : Seen) (w : 
   none_asked None none = λ asked are. none asked ((found asked).0 (words_follow words behind first asked w are).1)
   none_asked (Some asked) none = tt
 
+  pub asked_found : first ≡ codes "run" → (result : Option Asked) → IfSome result (Completes seen []) → IfSome result (λ asked. AreWords words asked)
+  asked_found run None completes = tt
+  asked_found run (Some asked) completes = are_words words behind first asked w run ((found asked).1 completes)
+
   pub asked_within : first ≡ codes "run" → (result : Option Asked) → IfSome result (Completes seen []) → IfSome result (λ asked. IsWithinLimits asked)
   asked_within run None completes = tt
   asked_within run (Some asked) completes = within_limits words asked (are_words words behind first asked w run ((found asked).1 completes))

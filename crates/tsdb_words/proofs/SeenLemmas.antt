@@ -1,10 +1,11 @@
 -- What one part more adds to what was read.
-use Rattle.std.proofs.Common.{◌≡◌, ℕ, true≢false, Bool, true, false, not, List, [], ◌∷◌, ◌++◌, Bor, Option, None, Some, refl, sym, ap, ◌∙◌, subst}
-use Rattle.std.specs.Prelude.{◌↔◌, IsTrue}
+use Rattle.std.proofs.Common.{◌≡◌, ℕ, true≢false, Bool, true, false, not, List, [], ◌∷◌, ◌++◌, Bor, Option, None, Some, inl, inr, refl, sym, ap, ◌∙◌, subst}
+use Rattle.std.specs.Prelude.{◌↔◌, IsTrue, filter}
+use Rattle.std.proofs.lemmas.Bool.{false≢true}
 use Rattle.std.specs.Option.{unwrap_or}
 use Rattle.tsdb_words.specs.declared.seen.Seen.{Seen}
-use Rattle.tsdb_words.specs.Steps.{Completes, KeepsFirst, MayFollow, directory_in, number_in}
-use Rattle.tsdb_words.specs.Words.{Asked, IsGiven, IsOfDirectory, Argument, Directory, Pair, Workers, End, directories}
+use Rattle.tsdb_words.specs.Steps.{Completes, KeepsFirst, MayFollow, directory_in, option_in}
+use Rattle.tsdb_words.specs.Words.{Asked, IsGiven, Argument, Directory, Pair, Workers, End, is_directory}
 
 abbrev seen : Option (Bor (List ℕ)) → Option ℕ → Option ℕ → Bool → Seen
 seen d p w e = record { directory = d; pair_points = p; workers = w; ended = e }
@@ -20,7 +21,7 @@ without_directory true word parts may = may.1
 without_directory false word parts may = may
 
 with_directory : (e : Bool) (word : List ℕ) (parts : List Argument) → MayFollow e parts → MayFollow e (Directory word ∷ parts)
-with_directory true word parts may = (tt, may)
+with_directory true word parts may = (refl, may)
 with_directory false word parts may = may
 
 pub adds_directory : (d kept : Option (Bor (List ℕ))) (p w : Option ℕ) (e may : Bool) (word : Bor (List ℕ)) → KeepsFirst d kept word may
@@ -35,11 +36,17 @@ adds_directory None kept p w e may word keeps parts asked = (
       record { end = with_directory e word.now parts c.end; directory = c.directory; pair_points = c.pair_points; workers = c.workers },
 )
 adds_directory (Some first) kept p w e may word keeps parts asked = (
-  λ c. let two : first.now ∷ word.now ∷ directories parts ≡ asked.directory ∷ [] = c.directory in cc,
+  λ c. let two : Directory first.now ∷ Directory word.now ∷ filter is_directory parts ≡ Directory asked.directory ∷ [] = c.directory in cc,
   λ t. absurd (true≢false (sym t.0 ∙ keeps)),
 )
 
 -- ---- an option
+
+-- no option is given twice
+given_twice : (option : ℕ → Argument) (first second : Argument) (others : List Argument) (default number : ℕ)
+    → ¬ IsGiven option (first ∷ second ∷ others) default number
+given_twice option first second others default number (inl one) = cc
+given_twice option first second others default number (inr none) = let empty : first ∷ second ∷ others ≡ [] = none.0 in cc
 
 without_option : (e : Bool) (part : Argument) (parts : List Argument) → e ≡ false → (MayFollow false (part ∷ parts) → MayFollow false parts)
     → MayFollow e (part ∷ parts) → MayFollow e parts
@@ -62,7 +69,7 @@ adds_pair d None kept w e may number unended keeps parts asked = (
   λ t. let c = subst (λ k. Completes (seen d k w e) parts asked) keeps.0 t.1 in
       record { end = with_option e (Pair number) parts unended (λ m. m) c.end; directory = c.directory; pair_points = c.pair_points; workers = c.workers },
 )
-adds_pair d (Some first) kept w e may number unended keeps parts asked = (λ c. absurd c.pair_points, λ t. absurd (true≢false (sym t.0 ∙ keeps)))
+adds_pair d (Some first) kept w e may number unended keeps parts asked = (λ c. absurd (given_twice Pair (Pair first) (Pair number) _ _ _ c.pair_points), λ t. absurd (true≢false (sym t.0 ∙ keeps)))
 
 pub adds_workers : (d : Option (Bor (List ℕ))) (p w kept : Option ℕ) (e may : Bool) (number : ℕ) → e ≡ false → KeepsFirst w kept number may
     → Adds (seen d p w e) (Workers number) may (seen d p kept e)
@@ -75,10 +82,10 @@ adds_workers d p None kept e may number unended keeps parts asked = (
   λ t. let c = subst (λ k. Completes (seen d p k e) parts asked) keeps.0 t.1 in
       record { end = with_option e (Workers number) parts unended (λ m. m) c.end; directory = c.directory; pair_points = c.pair_points; workers = c.workers },
 )
-adds_workers d p (Some first) kept e may number unended keeps parts asked = (λ c. absurd c.workers, λ t. absurd (true≢false (sym t.0 ∙ keeps)))
+adds_workers d p (Some first) kept e may number unended keeps parts asked = (λ c. absurd (given_twice Workers (Workers first) (Workers number) _ _ _ c.workers), λ t. absurd (true≢false (sym t.0 ∙ keeps)))
 
 -- behind a lone `--` no option may stand
-pub adds_none : (s : Seen) (part : Argument) → s.ended ≡ true → (IsOfDirectory part → ⊥) → Adds s part (not s.ended) s
+pub adds_none : (s : Seen) (part : Argument) → s.ended ≡ true → ¬ IsTrue (is_directory part) → Adds s part (not s.ended) s
 adds_none s part ended option parts asked = (
   λ c. absurd (option (subst (λ e. MayFollow e (part ∷ parts)) ended c.end).0),
   λ t. absurd (true≢false (sym t.0 ∙ ap not ended)),
@@ -87,7 +94,7 @@ adds_none s part ended option parts asked = (
 -- ---- a lone `--`
 
 pub adds_end : (d : Option (Bor (List ℕ))) (p w : Option ℕ) (e : Bool) → Adds (seen d p w e) End (not e) (seen d p w true)
-adds_end d p w true parts asked = (λ c. absurd c.end.0, λ t. absurd (true≢false (sym t.0)))
+adds_end d p w true parts asked = (λ c. absurd (false≢true c.end.0), λ t. absurd (true≢false (sym t.0)))
 adds_end d p w false parts asked = (
   λ c. (refl, record { end = c.end; directory = c.directory; pair_points = c.pair_points; workers = c.workers }),
   λ t. let c = t.1 in record { end = c.end; directory = c.directory; pair_points = c.pair_points; workers = c.workers },
@@ -99,20 +106,21 @@ nothing_follows : (e : Bool) → MayFollow e []
 nothing_follows true = tt
 nothing_follows false = tt
 
-given_or : (read : Option ℕ) (default number : ℕ) → number ≡ unwrap_or read default → IsGiven (number_in read ++ []) default number
-given_or None default number is = is
-given_or (Some given) default number is = is
+given_or : (option : ℕ → Argument) (read : Option ℕ) (default number : ℕ) → number ≡ unwrap_or read default
+    → IsGiven option (option_in option read ++ []) default number
+given_or option None default number is = inr (refl, is)
+given_or option (Some given) default number is = inl (ap (λ n. option n ∷ []) (sym is))
 
 pub asked_is : (s : Seen) (word : Bor (List ℕ)) (pair count : ℕ) (asked : Asked) → s.directory ≡ Some word → pair ≡ unwrap_or s.pair_points 10000
     → count ≡ unwrap_or s.workers 1 → asked ≡ record { directory = word.now; pair_points = pair; workers = count } → Completes s [] asked
 asked_is s word pair count asked some is also made = subst (Completes s []) (sym made) (record {
   end = nothing_follows s.ended;
   directory = ap (λ d. directory_in d ++ []) some;
-  pair_points = given_or s.pair_points 10000 pair is;
-  workers = given_or s.workers 1 count also;
+  pair_points = given_or Pair s.pair_points 10000 pair is;
+  workers = given_or Workers s.workers 1 count also;
 })
 
 pub no_directory : (s : Seen) (asked : Asked) → s.directory ≡ None → ¬ Completes s [] asked
 no_directory s asked none c =
-    let empty : [] ≡ asked.directory ∷ [] = subst (λ d. directory_in d ++ [] ≡ asked.directory ∷ []) none c.directory in
+    let empty : [] ≡ Directory asked.directory ∷ [] = subst (λ d. directory_in d ++ [] ≡ Directory asked.directory ∷ []) none c.directory in
     cc

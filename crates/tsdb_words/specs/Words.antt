@@ -1,5 +1,6 @@
 -- What the words of the command line ask for.
-use Rattle.std.specs.Prelude.{◌≡◌, ◌≢◌, ◌⊎◌, ℕ, ◌<◌, ◌≤◌, List, [], ◌∷◌, ◌++◌, length, slice_index, codes}
+use Rattle.std.specs.Prelude.{◌≡◌, ◌≢◌, ◌⊎◌, ℕ, ◌<◌, ◌≤◌, Bool, true, false, IsTrue, List, [], ◌∷◌, ◌++◌, filter, length}
+use Rattle.std.specs.Prelude.{slice_index, codes}
 use Rattle.std.specs.List.{AllByRecursion}
 use Rattle.std.specs.Str.Parse.{IsNumeral, digits_value}
 use Rattle.tsdb_base.specs.Limits.{default_pair_points, max_pair_points, max_workers}
@@ -56,39 +57,27 @@ AreArguments (part ∷ parts) words = (rest : List (List ℕ)) × IsArgument par
 
 -- ---- which parts may stand together
 
-abbrev pub IsOfDirectory : Argument → Type 0
-IsOfDirectory (Directory word) = Unit {0}
-IsOfDirectory part = ⊥
+abbrev pub is_directory : Argument → Bool
+is_directory (Directory word) = true
+is_directory part = false
+
+abbrev pub is_pair : Argument → Bool
+is_pair (Pair number) = true
+is_pair part = false
+
+abbrev pub is_workers : Argument → Bool
+is_workers (Workers number) = true
+is_workers part = false
 
 -- behind a lone `--` stand neither options nor a second one
 abbrev pub HasNoOptionBehindEnd : List Argument → Type 0
 HasNoOptionBehindEnd [] = Unit {0}
-HasNoOptionBehindEnd (End ∷ parts) = AllByRecursion IsOfDirectory parts
+HasNoOptionBehindEnd (End ∷ parts) = AllByRecursion (λ part. IsTrue (is_directory part)) parts
 HasNoOptionBehindEnd (part ∷ parts) = HasNoOptionBehindEnd parts
 
--- the directories among the parts
-abbrev pub directories : List Argument → List (List ℕ)
-directories [] = []
-directories (Directory word ∷ parts) = word ∷ directories parts
-directories (part ∷ parts) = directories parts
-
--- the numbers of `--pair` among the parts
-abbrev pub pairs : List Argument → List ℕ
-pairs [] = []
-pairs (Pair number ∷ parts) = number ∷ pairs parts
-pairs (part ∷ parts) = pairs parts
-
--- the numbers of `--workers` among the parts
-abbrev pub workers : List Argument → List ℕ
-workers [] = []
-workers (Workers number ∷ parts) = number ∷ workers parts
-workers (part ∷ parts) = workers parts
-
--- the number of an option that is given at most once: the given one, or else the default
-abbrev pub IsGiven : List ℕ → ℕ → ℕ → Type 0
-IsGiven [] default number = number ≡ default
-IsGiven (given ∷ []) default number = number ≡ given
-IsGiven (given ∷ second ∷ others) default number = ⊥
+-- an option is given once, with this number, or not at all, and the number is the default
+abbrev pub IsGiven : (ℕ → Argument) → List Argument → ℕ → ℕ → Type 0
+IsGiven option given default number = (given ≡ option number ∷ []) ⊎ ((given ≡ []) × (number ≡ default))
 
 -- the words ask for this: `run`, and behind it the parts in any order, with exactly one directory
 pub record AreWords (words : List (List ℕ)) (asked : Asked) : Type 0 where
@@ -97,9 +86,9 @@ pub record AreWords (words : List (List ℕ)) (asked : Asked) : Type 0 where
   pub run : words ≡ codes "run" ∷ behind
   pub are : AreArguments parts behind
   pub end : HasNoOptionBehindEnd parts
-  pub directory : directories parts ≡ asked.directory ∷ []
-  pub pair_points : IsGiven (pairs parts) default_pair_points asked.pair_points
-  pub workers : IsGiven (workers parts) default_workers asked.workers
+  pub directory : filter is_directory parts ≡ Directory asked.directory ∷ []
+  pub pair_points : IsGiven Pair (filter is_pair parts) default_pair_points asked.pair_points
+  pub workers : IsGiven Workers (filter is_workers parts) default_workers asked.workers
 
 -- within the limits of the options
 pub record IsWithinLimits (asked : Asked) : Type 0 where

@@ -1,5 +1,5 @@
 use Rattle.std.proofs.Common.{◌≡◌, ◌∷◌, rules, codes}
-use Rattle.tsdb_words.proofs.ReadLemmas.{asked_within, none_asked, words_follow}
+use Rattle.tsdb_words.proofs.ReadLemmas.{asked_found, asked_within, none_asked, words_follow}
 use Rattle.tsdb_words.proofs.read.read_words.Goals as goal
 
 pub returns-in_err-parts_of-clause-none : goal.returns-in_err-parts_of-clause-none
@@ -12,6 +12,12 @@ pub returns-clause-none : goal.returns-clause-none
 returns-clause-none c =
     none_asked c.args.words.now c.in_ok-first.behind.now c.in_ok-first.first.now c.in_ok-parts_of.field-0 (search rules) c.in_ok-parts_of.ensures.found
     c.asked.result c.asked.ensures.none
+
+pub returns-clause-found : goal.returns-clause-found
+returns-clause-found c =
+    let run : c.in_ok-first.first.now ≡ codes "run" = search rules in
+    asked_found c.args.words.now c.in_ok-first.behind.now c.in_ok-first.first.now c.in_ok-parts_of.field-0 (search rules) c.in_ok-parts_of.ensures.found
+    run c.asked.result c.asked.ensures.found
 
 pub returns-clause-limits : goal.returns-clause-limits
 returns-clause-limits c =

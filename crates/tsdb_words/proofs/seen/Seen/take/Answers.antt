@@ -1,3 +1,4 @@
+use Rattle.std.proofs.lemmas.Bool.{false≢true}
 use Rattle.tsdb_words.proofs.SeenLemmas.{adds_directory, adds_none, adds_pair, adds_workers}
 use Rattle.tsdb_words.specs.Words.{Pair, Workers}
 use Rattle.tsdb_words.proofs.seen.Seen.take.Goals as goal
@@ -19,7 +20,7 @@ returns-then-not-self c =
     (adds_pair s.directory s.pair_points keep.new.kept s.workers s.ended keep.result c.in-Pair.number c.if-not-self.true keep.ensures)
 
 pub returns-else-not-self : goal.returns-else-not-self
-returns-else-not-self c = rw c.in-Pair.is (adds_none c.args.self.now (Pair c.in-Pair.number) c.if-not-self.false (λ none. none))
+returns-else-not-self c = rw c.in-Pair.is (adds_none c.args.self.now (Pair c.in-Pair.number) c.if-not-self.false false≢true)
 
 pub returns-then-not-self-2 : goal.returns-then-not-self-2
 returns-then-not-self-2 c =
@@ -29,4 +30,4 @@ returns-then-not-self-2 c =
     (adds_workers s.directory s.pair_points s.workers keep.new.kept s.ended keep.result c.in-Workers.number c.if-not-self-2.true keep.ensures)
 
 pub returns-else-not-self-2 : goal.returns-else-not-self-2
-returns-else-not-self-2 c = rw c.in-Workers.is (adds_none c.args.self.now (Workers c.in-Workers.number) c.if-not-self-2.false (λ none. none))
+returns-else-not-self-2 c = rw c.in-Workers.is (adds_none c.args.self.now (Workers c.in-Workers.number) c.if-not-self-2.false false≢true)
