@@ -9,7 +9,7 @@ use Rattle.std.proofs.lemmas.Option.{same_Some}
 use Rattle.tsdb_model.specs.declared.command.Command.{Command}
 use Rattle.tsdb_model.specs.History.{Entry}
 use Rattle.tsdb_script.specs.declared.numbered.Numbered.{Numbered}
-use Rattle.tsdb_history.specs.History.{AreEntries, IsComplete, command_of, commands_of, entry_of, replies_to}
+use Rattle.tsdb_history.specs.History.{IsComplete, command_of, commands_of, entry_of, replies_to}
 use Rattle.tsdb_history.specs.declared.told.Told.{Told}
 
 -- an element keeps its place as the list grows
@@ -125,22 +125,22 @@ entry_of-longer script numbered told entry is =
 pub heads : {X : Type 0} (x y : X) (xs ys : List X) → x ∷ xs ≡ y ∷ ys → (x ≡ y) × (xs ≡ ys)
 heads x y xs ys e = (cc, cc)
 
-AreEntries-longer : (script : List Numbered) (numbered : Numbered) (history : List Told) (entries : List Entry)
-    → AreEntries script history entries → AreEntries (script ++ numbered ∷ []) history entries
-AreEntries-longer script numbered [] [] are = refl
-AreEntries-longer script numbered [] (e ∷ entries) are = cc
-AreEntries-longer script numbered (t ∷ history) [] are = cc
-AreEntries-longer script numbered (t ∷ history) (e ∷ entries) are =
+answers-longer : (script : List Numbered) (numbered : Numbered) (history : List Told) (entries : List Entry)
+    → map (entry_of script) history ≡ map Some entries → map (entry_of (script ++ numbered ∷ [])) history ≡ map Some entries
+answers-longer script numbered [] [] are = refl
+answers-longer script numbered [] (e ∷ entries) are = cc
+answers-longer script numbered (t ∷ history) [] are = cc
+answers-longer script numbered (t ∷ history) (e ∷ entries) are =
     let h = heads (entry_of script t) (Some e) (map (entry_of script) history) (map Some entries) are in
     ap (λ o. o ∷ map (entry_of (script ++ numbered ∷ [])) history) (entry_of-longer script numbered t e h.0)
-    ∙ ap (λ l. Some e ∷ l) (AreEntries-longer script numbered history entries h.1)
+    ∙ ap (λ l. Some e ∷ l) (answers-longer script numbered history entries h.1)
 
 -- one more entry
-pub AreEntries-push : (script : List Numbered) (numbered : Numbered) (history : List Told) (told : Told) (entries : List Entry)
-    → AreEntries script history entries → command_of (script ++ numbered ∷ []) told ≡ Some numbered.command
-    → AreEntries (script ++ numbered ∷ []) (history ++ told ∷ []) (entries ++ with_reply told numbered.command ∷ [])
-AreEntries-push script numbered history told entries are is =
+pub answers-push : (script : List Numbered) (numbered : Numbered) (history : List Told) (told : Told) (entries : List Entry)
+    → map (entry_of script) history ≡ map Some entries → command_of (script ++ numbered ∷ []) told ≡ Some numbered.command
+    → map (entry_of (script ++ numbered ∷ [])) (history ++ told ∷ []) ≡ map Some (entries ++ with_reply told numbered.command ∷ [])
+answers-push script numbered history told entries are is =
     map-append (entry_of (script ++ numbered ∷ [])) history (told ∷ [])
-    ∙ ap (λ l. l ++ entry_of (script ++ numbered ∷ []) told ∷ []) (AreEntries-longer script numbered history entries are)
+    ∙ ap (λ l. l ++ entry_of (script ++ numbered ∷ []) told ∷ []) (answers-longer script numbered history entries are)
     ∙ ap (λ o. map Some entries ++ o ∷ []) (ap (option_map (with_reply told)) is)
     ∙ sym (map-append Some entries (with_reply told numbered.command ∷ []))

@@ -8,7 +8,7 @@ use Rattle.std.proofs.lemmas.List.{map-append, drop_all, get_or-set_same, get_or
 use Rattle.std.proofs.lemmas.List.Sums.{sum_by_push}
 use Rattle.std.proofs.Math.Seq.{take-length}
 use Rattle.tsdb_base.specs.declared.answers.Answer.TheVariants as answer
-use Rattle.tsdb_history.proofs.Entries.{AreEntries-push, IsComplete-push, command_of-last, length-commands_of-push}
+use Rattle.tsdb_history.proofs.Entries.{IsComplete-push, answers-push, command_of-last, length-commands_of-push}
 use Rattle.tsdb_history.specs.History.{IsHistory, IsInLineOrder, commands_of, is_device, is_device_reply}
 use Rattle.tsdb_history.specs.History.{session_numbers}
 use Rattle.tsdb_history.specs.declared.told.Told.{Told}
@@ -95,7 +95,7 @@ one_more script history entries counts next numbered told so_far long within sam
     record {
       history_of = record {
         complete = IsComplete-push script history numbered told same index so_far.history_of.complete;
-        answers = AreEntries-push script numbered history told entries so_far.history_of.answers
+        answers = answers-push script numbered history told entries so_far.history_of.answers
             (command_of-last script history numbered told same index);
       };
       in_line_order = pushed (λ t. t.session) (λ n. n.session) history script told numbered so_far.in_line_order same;

@@ -47,14 +47,10 @@ abbrev pub entry_of : List Numbered → Told → Option Entry
 entry_of script told =
     option_map (λ command. record { command = command; reply = told.reply }) (command_of script told)
 
--- the replies of a history, each with its command
-abbrev pub AreEntries : List Numbered → List Told → List Entry → Type 0
-AreEntries script history entries = map (entry_of script) history ≡ map Some entries
-
--- the replies to the commands of a script
+-- the replies to the commands of a script, each an entry with its command
 pub record IsHistory (script : List Numbered) (history : List Told) (entries : List Entry) : Type 0 where
   pub complete : IsComplete script history
-  pub answers : AreEntries script history entries
+  pub answers : map (entry_of script) history ≡ map Some entries
 
 -- the commands took place in the order of the script's lines
 abbrev pub IsInLineOrder : List Numbered → List Told → Type 0
