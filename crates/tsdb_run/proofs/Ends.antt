@@ -134,15 +134,15 @@ module _ (words : List (List ℕ)) (left : Option (List ℕ)) where
 
   pub ends_headline : (place : Contents) (rose : Type 0) (directory : Option (List ℕ)) (status : Status)
       (history : List Told) (held : Option (List ℕ)) → EndsInput words left status → history ≡ []
-      → Headline (idle words left place rose directory status history held)
+      → Headline status (idle words left place rose directory history held)
   ends_headline place rose directory Words history held is none =
-      without_any words left place rose directory Words history held none
+      without_any words left place rose directory history held none
   ends_headline place rose directory Memory history held is none =
-      inr (without_any words left place rose directory Memory history held none)
+      inr (without_any words left place rose directory history held none)
   ends_headline place rose directory (Script line kind) history held is none =
-      (is.1, without_any words left place rose directory (Script line kind) history held none)
+      (is.1, without_any words left place rose directory history held none)
   ends_headline place rose directory Source history held is none =
-      without_any words left place rose directory Source history held none
+      without_any words left place rose directory history held none
   ends_headline place rose directory Done history held is none = absurd is
   ends_headline place rose directory Sink history held is none = absurd is
   ends_headline place rose directory Device history held is none = absurd is

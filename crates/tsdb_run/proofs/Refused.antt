@@ -29,7 +29,7 @@ use Rattle.tsdb_recovery.specs.Damage.{AnswersDamageIn, IsDamagedIn}
 use Rattle.tsdb_recovery.specs.Stored.{AreStored}
 use Rattle.tsdb_recovery.specs.Taking.{HaveLengths}
 use Rattle.tsdb_run.specs.Causes.{ReportsDamage}
-use Rattle.tsdb_run.specs.Headline.{Headline, IsWithoutCommands, Run, Says}
+use Rattle.tsdb_run.specs.Headline.{Headline, IsWithoutCommands, Run}
 use Rattle.tsdb_run.specs.Steps.{IsOpeningStatus, IsRefused, opening_status, run_of}
 use Rattle.tsdb_run.specs.Store.{Contents, HasDamage, IsLeftAlone, IsSound, KeepsListed, Tells, contents}
 use Rattle.tsdb_run.specs.declared.status.Status.{Status}
@@ -257,28 +257,24 @@ err_again P Q (Err fault) step holds = step fault holds
 -- ---- what is said by the status
 
 -- the run of these words and this source that left place and sink as they were
-abbrev pub idle : List (List ℕ) → Option (List ℕ) → Contents → Type 0 → Option (List ℕ) → Status → List Answered
+abbrev pub idle : List (List ℕ) → Option (List ℕ) → Contents → Type 0 → Option (List ℕ) → List Answered
     → Option (List ℕ) → Run
-idle words left place rose directory status history held =
-    run_of words left place place rose directory status history held held
+idle words left place rose directory history held = run_of words left place place rose directory history held held
 
 pub without_any : (words : List (List ℕ)) (left : Option (List ℕ)) (place : Contents) (rose : Type 0)
-    (directory : Option (List ℕ)) (status : Status) (history : List Answered) (held : Option (List ℕ)) → history ≡ []
-    → IsWithoutCommands (idle words left place rose directory status history held)
-without_any words left place rose directory status history held none =
-    without (idle words left place rose directory status history held) none (Keeps-refl held)
+    (directory : Option (List ℕ)) (history : List Answered) (held : Option (List ℕ)) → history ≡ []
+    → IsWithoutCommands (idle words left place rose directory history held)
+without_any words left place rose directory history held none =
+    without (idle words left place rose directory history held) none (Keeps-refl held)
     (same_left place.disk place.disk place.stored place.stored (Keeps-same place.disk) refl)
 
-pub says : (run : Run) (status : Status) → run.status ≡ status → Says status run → Headline run
-says run status same is = subst (λ s. Says s run) (sym same) is
-
-pub says_refused : (run : Run) (status : Status) → IsOpeningStatus run.old status → IsWithoutCommands run
-    → Says status run
-says_refused run Done is none = absurd is
-says_refused run Memory is none = inr none
-says_refused run Words is none = absurd is
-says_refused run (Script line kind) is none = absurd is
-says_refused run Source is none = absurd is
-says_refused run Sink is none = absurd is
-says_refused run Device is none = none
-says_refused run (Damaged part at) is none = (is, none)
+pub headline_refused : (run : Run) (status : Status) → IsOpeningStatus run.old status → IsWithoutCommands run
+    → Headline status run
+headline_refused run Done is none = absurd is
+headline_refused run Memory is none = inr none
+headline_refused run Words is none = absurd is
+headline_refused run (Script line kind) is none = absurd is
+headline_refused run Source is none = absurd is
+headline_refused run Sink is none = absurd is
+headline_refused run Device is none = none
+headline_refused run (Damaged part at) is none = (is, none)

@@ -5,7 +5,7 @@ use Rattle.std.specs.Io.KnownBytes.{Appends}
 use Rattle.std.proofs.Math.ListN.{get_or-map}
 use Rattle.std.proofs.lemmas.List.{length-map}
 use Rattle.tsdb_history.specs.History.{session_numbers}
-use Rattle.tsdb_run.specs.Headline.{IsExecuted, Run, Says}
+use Rattle.tsdb_run.specs.Headline.{Headline, IsExecuted, Run}
 use Rattle.tsdb_run.specs.Output.{AppendsPrefix, output_text}
 use Rattle.tsdb_run.specs.Steps.{IsRunOn, IsWritten}
 use Rattle.tsdb_run.specs.declared.status.Status.{Status}
@@ -38,13 +38,13 @@ module _ (run : Run) (script : List Numbered) (asked : Asked) (words : AreWords 
     printed = printed;
   }
 
-  pub Says-written : (status : Status) → IsWritten status run.held run.holds (output_text script run.history)
-      → Says status run
-  Says-written Done written = executed (Appends run.held run.holds) written
-  Says-written Sink written = executed (AppendsPrefix run.held run.holds) written
-  Says-written Memory written = inl (executed (AppendsPrefix run.held run.holds) written)
-  Says-written Words written = absurd written
-  Says-written (Script line kind) written = absurd written
-  Says-written Source written = absurd written
-  Says-written Device written = absurd written
-  Says-written (Damaged part at) written = absurd written
+  pub headline_written : (status : Status) → IsWritten status run.held run.holds (output_text script run.history)
+      → Headline status run
+  headline_written Done written = executed (Appends run.held run.holds) written
+  headline_written Sink written = executed (AppendsPrefix run.held run.holds) written
+  headline_written Memory written = inl (executed (AppendsPrefix run.held run.holds) written)
+  headline_written Words written = absurd written
+  headline_written (Script line kind) written = absurd written
+  headline_written Source written = absurd written
+  headline_written Device written = absurd written
+  headline_written (Damaged part at) written = absurd written

@@ -35,8 +35,7 @@ pub record Run : Type 1 where
   pub rose : Type 0
   -- the directory whose store was taken up last
   pub directory : Option (List ℕ)
-  -- how it ended, and the replies
-  pub status : Status
+  -- the replies
   pub history : List Told
   -- what the sink held and holds, where it tells that
   pub held : Option (List ℕ)
@@ -107,17 +106,14 @@ pub record IsWithoutCommands (run : Run) : Type 0 where
   -- so a sound store is left sound, in the state that it was in
   pub sound : (at : plain.State) → IsSound run.old at → IsSound run.new at
 
--- What each status says. Done: the script was executed and exactly its output written. Where the sink failed, or memory
--- ran out as the output was written, a prefix of the output was. With every other status nothing was written.
-abbrev pub Says : Status → Run → Type 0
-Says Done run = IsExecuted run (Appends run.held run.holds)
-Says Sink run = IsExecuted run (AppendsPrefix run.held run.holds)
-Says Memory run = IsExecuted run (AppendsPrefix run.held run.holds) ⊎ IsWithoutCommands run
-Says Words run = IsWithoutCommands run
-Says (Script line kind) run = IfSome run.left (λ bytes. IsFirstBad bytes line kind) × IsWithoutCommands run
-Says Source run = IsWithoutCommands run
-Says Device run = IsWithoutCommands run
-Says (Damaged part at) run = IsDamaged run.old part at × IsWithoutCommands run
-
-abbrev pub Headline : Run → Type 0
-Headline run = Says run.status run
+-- What holds of a run that ended so. Done: the script was executed and exactly its output written. Where the sink failed,
+-- or memory ran out as the output was written, a prefix of the output was. With every other status nothing was written.
+abbrev pub Headline : Status → Run → Type 0
+Headline Done run = IsExecuted run (Appends run.held run.holds)
+Headline Sink run = IsExecuted run (AppendsPrefix run.held run.holds)
+Headline Memory run = IsExecuted run (AppendsPrefix run.held run.holds) ⊎ IsWithoutCommands run
+Headline Words run = IsWithoutCommands run
+Headline (Script line kind) run = IfSome run.left (λ bytes. IsFirstBad bytes line kind) × IsWithoutCommands run
+Headline Source run = IsWithoutCommands run
+Headline Device run = IsWithoutCommands run
+Headline (Damaged part at) run = IsDamaged run.old part at × IsWithoutCommands run

@@ -33,16 +33,15 @@ use Rattle.tsdb_script.specs.declared.numbered.Numbered.{Numbered}
 use Rattle.tsdb_serving.specs.Serving.{IsServing, disk_under}
 
 -- the run of these words and this source, with what it left
-abbrev pub run_of : List (List ℕ) → Option (List ℕ) → Contents → Contents → Type 0 → Option (List ℕ) → Status
-    → List Told → Option (List ℕ) → Option (List ℕ) → Run
-run_of words left old new rose directory status history held holds = record {
+abbrev pub run_of : List (List ℕ) → Option (List ℕ) → Contents → Contents → Type 0 → Option (List ℕ) → List Told
+    → Option (List ℕ) → Option (List ℕ) → Run
+run_of words left old new rose directory history held holds = record {
   words = words;
   left = left;
   old = old;
   new = new;
   rose = rose;
   directory = directory;
-  status = status;
   history = history;
   held = held;
   holds = holds;

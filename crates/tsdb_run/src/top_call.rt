@@ -44,14 +44,13 @@ pub fn run<S: Source, K: Sink, P: Place>(
     out: &mut K,
     place: &mut P,
 ) -> Ended
-    ensures headline { Headline (record {
+    ensures headline { Headline result.status (record {
       words = words.now;
       left = S.left script.old;
       old = contents (P.state place.old) (P.stored place.old);
       new = contents (P.state place.new) (P.stored place.new);
       rose = Rose (P.faults place.old) (P.faults place.new);
       directory = P.asked place.new;
-      status = result.status;
       history = result.history;
       held = K.held out.old;
       holds = K.held out.new;
@@ -97,9 +96,9 @@ fn run_script<K: Sink, P: Place>(
     requires limit { IsPairLimit asked.now.pair_points }
     requires some { (bytes : List ℕ) × IsScript bytes script.now }
     ensures headline { (words : List (List ℕ)) (left : Option (List ℕ)) → AreWords words asked.now
-        → IfSome left (λ bytes. IsScript bytes script.now) → Headline (run_of words left
+        → IfSome left (λ bytes. IsScript bytes script.now) → Headline result.status (run_of words left
         (contents (P.state place.old) (P.stored place.old)) (contents (P.state place.new) (P.stored place.new))
-        (Rose (P.faults place.old) (P.faults place.new)) (P.asked place.new) result.status result.history
+        (Rose (P.faults place.old) (P.faults place.new)) (P.asked place.new) result.history
         (K.held out.old) (K.held out.new)) }
     ensures in_line_order { (result.history ≡ []) ⊎ IsInLineOrder script.now result.history }
     ensures statuses { IsServedStatus result.status }

@@ -3,10 +3,11 @@ use Rattle.std.proofs.KnownBytes.{Keeps-refl}
 use Rattle.tsdb_base.specs.Causes.{Rose}
 use Rattle.tsdb_run.proofs.Ends.{calm, shows_device, taken_device, written_unrefused}
 use Rattle.tsdb_run.proofs.Opening.{refused_rose}
-use Rattle.tsdb_run.proofs.Refused.{says, says_refused, without}
-use Rattle.tsdb_run.proofs.Written.{Says-written, small_sessions}
+use Rattle.tsdb_run.proofs.Refused.{headline_refused, without}
+use Rattle.tsdb_run.proofs.Written.{headline_written, small_sessions}
 use Rattle.tsdb_run.specs.Causes.{IsRefusedStore, ReportsDamage}
 use Rattle.tsdb_run.specs.Output.{output_text}
+use Rattle.tsdb_run.specs.Headline.{Headline}
 use Rattle.tsdb_run.specs.Steps.{IsAnswered, IsOpeningStatus, IsWritten, run_of}
 use Rattle.tsdb_run.specs.Store.{contents}
 use Rattle.tsdb_run.specs.declared.status.Status.TheVariants.{Sink}
@@ -49,8 +50,8 @@ returns-in-Ok-clause-headline g c = λ words left are read.
     let run = run_of words left (contents (g.P.Disk.state c.args.place.now) (g.P.Place.stored c.args.place.now))
     (contents (g.P.Disk.state c.run_commands.new.place) (g.P.Place.stored c.run_commands.new.place))
     (Rose (g.P.Counted.faults c.args.place.now) (g.P.Counted.faults c.run_commands.new.place))
-    (g.P.Place.asked c.run_commands.new.place) status history old new in
-    Says-written run script c.args.asked.now are c.in-Ok.ensures.directory read c.in-Ok.ensures.executed status
+    (g.P.Place.asked c.run_commands.new.place) history old new in
+    headline_written run script c.args.asked.now are c.in-Ok.ensures.directory read c.in-Ok.ensures.executed status
     (subst (λ h. IsWritten status old new (output_text script h)) c.items.ensures c.write_output-status.ensures.written)
 
 pub returns-in-Ok-clause-device : goal.returns-in-Ok-clause-device
@@ -75,10 +76,9 @@ returns-in-Err-clause-headline g c = λ words left are read.
     let run = run_of words left (contents (g.P.Disk.state c.args.place.now) (g.P.Place.stored c.args.place.now))
     (contents (g.P.Disk.state c.run_commands.new.place) (g.P.Place.stored c.run_commands.new.place))
     (Rose (g.P.Counted.faults c.args.place.now) (g.P.Counted.faults c.run_commands.new.place))
-    (g.P.Place.asked c.run_commands.new.place) c.end_without_commands.result.status
-    c.end_without_commands.result.history held held in
-    says run c.in-Err.refused c.end_without_commands.ensures.status
-    (says_refused run c.in-Err.refused c.in-Err.ensures.refused.why
+    (g.P.Place.asked c.run_commands.new.place) c.end_without_commands.result.history held held in
+    subst (λ status. Headline status run) (sym c.end_without_commands.ensures.status)
+    (headline_refused run c.in-Err.refused c.in-Err.ensures.refused.why
     (without run c.end_without_commands.ensures.history (Keeps-refl held) c.in-Err.ensures.refused.left_alone))
 
 pub returns-in-Err-clause-sink : goal.returns-in-Err-clause-sink
