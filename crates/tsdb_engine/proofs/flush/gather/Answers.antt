@@ -52,8 +52,8 @@ loop-place-preserved c =
     let here = at_place c.args.space (arc_value job.pair) job.schemas job.series c.loop-place.place c.schema-item.result _ c.points_of-points.result.now c.requires.typed
     (rw (sym c.items-schema-items.ensures) (c.loop-place-test.true)) (rw (c.items-schema-items.ensures) at c.schema-item.is) (rw (c.deref.ensures, c.items-numbers.ensures) at c.points_of-points.ensures.points) in
     elim c.if-not-is_empty.branch [
-      | then-not-is_empty+in_ok-add w ↦ rw (w.part_is) (one_gathered c.args.space (arc_value job.pair) job.schemas job.series c.loop-place.place c.loop-place.part _ c.schema-item.result c.points_of-points.result.now here (search rules) c.requires.rising w.in_ok-add.ensures.ok c.loop-place.invariant)
-      | else-not-is_empty w ↦ rw (w.part_is) (nothing_gathered c.args.space (arc_value job.pair) job.schemas job.series c.loop-place.place c.loop-place.part c.schema-item.result c.points_of-points.result.now here (search rules) c.loop-place.invariant)
+      | then-not-is_empty+in_ok-add w ↦ rw (w.part-is) (one_gathered c.args.space (arc_value job.pair) job.schemas job.series c.loop-place.place c.loop-place.part _ c.schema-item.result c.points_of-points.result.now here (search rules) c.requires.rising w.in_ok-add.ensures.ok c.loop-place.invariant)
+      | else-not-is_empty w ↦ rw (w.part-is) (nothing_gathered c.args.space (arc_value job.pair) job.schemas job.series c.loop-place.place c.loop-place.part c.schema-item.result c.points_of-points.result.now here (search rules) c.loop-place.invariant)
     ]
 
 pub returns : goal.returns
