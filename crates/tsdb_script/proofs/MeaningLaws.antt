@@ -70,8 +70,8 @@ module _ (conditions : List Condition) where
   lies_in : (range other : Range) → IsRangeOf conditions range → IsRangeOf conditions other → range.from ≤ℤ range.to
       → (other.from ≤ℤ range.from) × (range.from ≤ℤ other.to) × (range.to ≤ℤ other.to)
   lies_in range other is again some =
-      let first = has_same_times range other is again range.from is.form.from (within range.from range.to range.from (omega (arith, ints)) some) in
-      let last = has_same_times range other is again range.to is.form.to (within range.from range.to range.to some (omega (arith, ints))) in
+      let first = has_same_times range other is again range.from is.from (within range.from range.to range.from (omega (arith, ints)) some) in
+      let last = has_same_times range other is again range.to is.to (within range.from range.to range.to some (omega (arith, ints))) in
       (not_before other.from other.to range.from first, not_behind other.from other.to range.from first, not_behind other.from other.to range.to last)
 
   same_ends : (range other : Range) → range.from ≡ other.from → range.to ≡ other.to → range ≡ other
@@ -79,12 +79,12 @@ module _ (conditions : List Condition) where
 
   one_range : (range other : Range) → IsRangeOf conditions range → IsRangeOf conditions other → range ≡ other
   one_range range other is again =
-      elim is.form.form [
-        | inl some ↦ (let here = lies_in range other is again some in elim again.form.form [
+      elim is.form [
+        | inl some ↦ (let here = lies_in range other is again some in elim again.form [
           | inl more ↦ (let there = lies_in other range again is more in same_ends range other (omega (arith, ints, here.0, there.0)) (omega (arith, ints, here.2, there.2)))
           | inr none ↦ absurd (omega (arith, ints, here.0, here.1, none.0, none.1))
         ])
-        | inr none ↦ elim again.form.form [
+        | inr none ↦ elim again.form [
           | inl more ↦ (let there = lies_in other range again is more in absurd (omega (arith, ints, there.0, there.1, none.0, none.1)))
           | inr empty ↦ same_ends range other (none.0 ∙ sym empty.0) (none.1 ∙ sym empty.1)
         ]

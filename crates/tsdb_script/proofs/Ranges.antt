@@ -5,7 +5,8 @@ use Rattle.std.specs.Int.{w64}
 use Rattle.std.proofs.lemmas.Int.{ints}
 use Rattle.tsdb_script.specs.Types.{Condition, Range}
 use Rattle.tsdb_model.specs.World.{is_in}
-use Rattle.tsdb_script.specs.Meaning.{Compares, HasRangeForm, IsInteger, IsRangeOf, Meets}
+use Rattle.tsdb_script.specs.Meaning.{Compares, IsInteger, IsRangeOf, Meets}
+use Rattle.tsdb_script.specs.Steps.{HasRangeForm}
 use Rattle.tsdb_script.proofs.WordLists.{AllByRecursion-append, AllByRecursion-split, next}
 
 pub not_before : (f t x : ℤ) → (int_le f x && int_le x t) ≡ true → f ≤ℤ x
@@ -31,5 +32,7 @@ range_next conditions i x n old bounds new lt e before integer narrows meets for
     (λ all. let parts = AllByRecursion-split (Meets time) (take i conditions) (x ∷ []) all in
         (meets time fits).1 ((before.times time fits).1 parts.0, (narrows time fits).1 (subst (λ m. Compares x.comparison time m) (sym integer.value) parts.1.0))),
   );
-  form = form;
+  from = form.from;
+  to = form.to;
+  form = form.form;
 }

@@ -13,10 +13,10 @@ use Rattle.tsdb_script.specs.declared.syntax.Part.TheVariants as part
 use Rattle.tsdb_script.specs.declared.fault.LineFault.TheVariants.{Bad, Memory}
 use Rattle.tsdb_script.specs.declared.form.TheConstants.{FORMS}
 use Rattle.tsdb_script.specs.declared.token.Token.TheVariants.{Word, Close, Semicolon}
-use Rattle.tsdb_script.specs.Forms.{asks_first, is_at, keyword_text, places, first_names, first_values, first_columns, later_parts, statement_of, Standing, AreConditions, AreListed, IsName, IsValue, IsColumn, Stands, Stand, HasParts, Fits, HasNoForm}
+use Rattle.tsdb_script.specs.Forms.{is_at, keyword_text, places, first_names, first_values, first_columns, statement_of, Standing, AreConditions, AreListed, IsName, IsValue, IsColumn, Stands, Stand, HasParts, Fits, HasNoForm}
 use Rattle.tsdb_script.specs.Parse.{Gives, Tokens, ◌>>=◌, stands_at, fixed_at, word_at, end_at, operand_at, column_at, list_at, conditions_at, place_at, before, read_at, is_keyword_place, begins_at, form_at, statement_at}
 use Rattle.tsdb_script.specs.Steps.{FaultsWith}
-use Rattle.tsdb_script.specs.Tokens.{is_keyword}
+use Rattle.tsdb_script.specs.Tokens.{is_keyword, starts}
 use Rattle.tsdb_script.proofs.FormLemmas.{some_is, step, leads, mapped, fixed_found, fixed_again, word_found, finds_name, finds_value, finds_column, list_found, list_again, some_listed, conditions_found, conditions_again}
 
 -- ---- the table: keywords tell the forms apart, and no list goes on with what stands behind it
@@ -216,17 +216,17 @@ any_has test f (g ∷ forms) (inl same) is = ap (λ t. t || list_any test forms)
 any_has test f (g ∷ forms) (inr later) is =
     elim (test g) as (λ t. (t || list_any test forms) ≡ true) [ true ↦ refl | false ↦ any_has test f forms later is ]
 
-row_begins : (row : List Place) (tokens : Tokens) → keyword_first row ≡ true → begins_at row tokens ≡ true → (t : Token) × (rest : Tokens) × (tokens ≡ t ∷ rest) × (asks_first t row ≡ true)
+row_begins : (row : List Place) (tokens : Tokens) → keyword_first row ≡ true → begins_at row tokens ≡ true → (t : Token) × (rest : Tokens) × (tokens ≡ t ∷ rest) × (starts (λ place. is_at place t) row ≡ true)
 row_begins [] tokens first begins = absurd (true≢false (sym first))
 row_begins (at ∷ row) [] first begins = absurd (true≢false (sym begins ∙ ap (λ t. cond t false true) first))
 row_begins (at ∷ row) (t ∷ rest) first begins =
     (t, rest, refl, (and_parts (is_at at t) (begins_at row rest) (sym (ap (λ b. cond b (is_at at t && begins_at row rest) true) first) ∙ begins)).0)
 
 -- a statement begins with a word that a form begins with
-pub form_begins : (tokens : Tokens) (syntax : Syntax) → Fits tokens syntax → (t : Token) × (rest : Tokens) × (tokens ≡ t ∷ rest) × (list_any (λ f. asks_first t (places f)) FORMS.now ≡ true)
+pub form_begins : (tokens : Tokens) (syntax : Syntax) → Fits tokens syntax → (t : Token) × (rest : Tokens) × (tokens ≡ t ∷ rest) × (list_any (λ f. starts (λ place. is_at place t) (places f)) FORMS.now ≡ true)
 form_begins tokens syntax h =
     let b = row_begins (places h.form) tokens (all_keyword_first h.form) (begins_again (places h.form) tokens h.parts h.stand) in
-    (b.0, b.1, b.2, any_has (λ f. asks_first b.0 (places f)) h.form FORMS.now (has_all h.form) b.3)
+    (b.0, b.1, b.2, any_has (λ f. starts (λ place. is_at place b.0) (places f)) h.form FORMS.now (has_all h.form) b.3)
 
 form_again : (forms : List Form) (f : Form) (tokens : Tokens) → Has f forms → begins_at (places f) tokens ≡ true → form_at forms tokens ≡ Some f
 form_again [] f tokens has begins = absurd has
@@ -272,11 +272,11 @@ same_statement tokens one other h k = let e : Some one ≡ Some other = sym (sta
 -- no list among the parts of a row is empty
 abbrev HasFullLists : List Place → List Part → Type 0
 HasFullLists [] parts = Unit {0}
-HasFullLists (place.Word ∷ row) parts = HasFullLists row (later_parts parts)
-HasFullLists (place.Names ∷ row) parts = (0 < length (first_names parts)) × HasFullLists row (later_parts parts)
-HasFullLists (place.Values ∷ row) parts = (0 < length (first_values parts)) × HasFullLists row (later_parts parts)
-HasFullLists (place.Columns ∷ row) parts = (0 < length (first_columns parts)) × HasFullLists row (later_parts parts)
-HasFullLists (place.Where ∷ row) parts = HasFullLists row (later_parts parts)
+HasFullLists (place.Word ∷ row) parts = HasFullLists row (drop 1 parts)
+HasFullLists (place.Names ∷ row) parts = (0 < length (first_names parts)) × HasFullLists row (drop 1 parts)
+HasFullLists (place.Values ∷ row) parts = (0 < length (first_values parts)) × HasFullLists row (drop 1 parts)
+HasFullLists (place.Columns ∷ row) parts = (0 < length (first_columns parts)) × HasFullLists row (drop 1 parts)
+HasFullLists (place.Where ∷ row) parts = HasFullLists row (drop 1 parts)
 HasFullLists (other ∷ row) parts = HasFullLists row parts
 
 filled : (row : List Place) (tokens : Tokens) (parts : List Part) → Stand row tokens parts → HasFullLists row parts

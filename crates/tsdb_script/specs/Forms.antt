@@ -122,25 +122,19 @@ AreConditions [] tokens rest = tokens ≡ rest
 AreConditions (c ∷ cs) tokens rest =
     Behind (place.Keyword key.Where) (AreListed (place.Keyword key.And) IsCondition) (c ∷ cs) tokens rest
 
+-- something stands in the tokens up to the rest, and is the part before the others
+abbrev pub StandsAs : {X : Type 0} → Standing X → (X → Part) → List Token → List Token → List Part → List Part → Type 0
+StandsAs {X} Is made tokens rest parts others = (x : X) × Is x tokens rest × (parts ≡ made x ∷ others)
+
 -- what stands at the place are the tokens up to the rest, which give the parts up to the others
 abbrev pub Stands : Place → List Token → List Token → List Part → List Part → Type 0
-Stands place.Word tokens rest parts others = (word : List ℕ)
-    × IsName word tokens rest × (parts ≡ part.Word word ∷ others)
-Stands place.Names tokens rest parts others = (names : List (List ℕ))
-    × AreListed place.Comma IsName names tokens rest × (parts ≡ part.Names names ∷ others)
-Stands place.Values tokens rest parts others = (values : List Operand)
-    × AreListed place.Comma IsValue values tokens rest × (parts ≡ part.Values values ∷ others)
-Stands place.Columns tokens rest parts others = (columns : List Column)
-    × AreListed place.Comma IsColumn columns tokens rest × (parts ≡ part.Columns columns ∷ others)
-Stands place.Where tokens rest parts others = (conditions : List Condition)
-    × AreConditions conditions tokens rest × (parts ≡ part.Conditions conditions ∷ others)
-Stands place tokens rest parts others = (fixed : Token)
+Stands place.Word = StandsAs IsName part.Word
+Stands place.Names = StandsAs (AreListed place.Comma IsName) part.Names
+Stands place.Values = StandsAs (AreListed place.Comma IsValue) part.Values
+Stands place.Columns = StandsAs (AreListed place.Comma IsColumn) part.Columns
+Stands place.Where = StandsAs AreConditions part.Conditions
+Stands place = λ tokens rest parts others. (fixed : Token)
     × (tokens ≡ fixed ∷ rest) × IsTrue (is_at place fixed) × (parts ≡ others)
-
--- the first place asks for this token
-abbrev pub asks_first : Token → List Place → Bool
-asks_first token [] = false
-asks_first token (place ∷ behind) = is_at place token
 
 -- the tokens stand at these places and give these parts, with one `;` behind them or none
 abbrev pub Stand : List Place → List Token → List Part → Type 0
@@ -171,19 +165,15 @@ abbrev pub first_conditions : List Part → List Condition
 first_conditions (part.Conditions conditions ∷ others) = conditions
 first_conditions parts = []
 
--- the parts behind the first one
-abbrev pub later_parts : List Part → List Part
-later_parts parts = drop 1 parts
-
 -- the statement of a form with these parts
 abbrev pub statement_of : Form → List Part → Syntax
 statement_of form.Create parts =
-    Create (first_word parts) (first_word (later_parts parts)) (first_word (later_parts (later_parts parts)))
-statement_of form.Insert parts = Insert (first_word parts) (first_names (later_parts parts))
-    (first_word (later_parts (later_parts parts))) (first_values (later_parts (later_parts (later_parts parts))))
-statement_of form.Delete parts = Delete (first_word parts) (first_conditions (later_parts parts))
+    Create (first_word parts) (first_word (drop 1 parts)) (first_word (drop 1 (drop 1 parts)))
+statement_of form.Insert parts = Insert (first_word parts) (first_names (drop 1 parts))
+    (first_word (drop 1 (drop 1 parts))) (first_values (drop 1 (drop 1 (drop 1 parts))))
+statement_of form.Delete parts = Delete (first_word parts) (first_conditions (drop 1 parts))
 statement_of form.Select parts =
-    Select (first_columns parts) (first_word (later_parts parts)) (first_conditions (later_parts (later_parts parts)))
+    Select (first_columns parts) (first_word (drop 1 parts)) (first_conditions (drop 1 (drop 1 parts)))
 statement_of form.Flush parts = Flush
 statement_of form.CompactSequence parts = CompactInner Sequence
 statement_of form.CompactUnsequence parts = CompactInner Unsequence

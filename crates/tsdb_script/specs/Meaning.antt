@@ -177,16 +177,12 @@ least_time = negsuc 9223372036854775807
 abbrev pub greatest_time : ℤ
 greatest_time = pos 9223372036854775807
 
--- a range of times of 64 bits. No time is the range from the greatest to the least
-pub record HasRangeForm (range : Range) : Type 0 where
+-- The range has exactly the times of 64 bits that meet all conditions. No time is the range from the greatest to the least.
+pub record IsRangeOf (conditions : List Condition) (range : Range) : Type 0 where
+  pub times : (time : ℤ) → FitsSigned w64 time → (is_in range time ≡ true) ↔ AllByRecursion (Meets time) conditions
   pub from : FitsSigned w64 range.from
   pub to : FitsSigned w64 range.to
   pub form : (range.from ≤ℤ range.to) ⊎ ((range.from ≡ greatest_time) × (range.to ≡ least_time))
-
--- the range has exactly the times that meet all conditions
-pub record IsRangeOf (conditions : List Condition) (range : Range) : Type 0 where
-  pub times : (time : ℤ) → FitsSigned w64 time → (is_in range time ≡ true) ↔ AllByRecursion (Meets time) conditions
-  pub form : HasRangeForm range
 
 -- the word names the aggregate, where there is one
 abbrev pub IsNamed : Option (List ℕ) → Option Aggregate → Type 0

@@ -8,7 +8,7 @@ use Rattle.tsdb_script.specs.Types.{Numbered, ScriptFault, Syntax, Token}
 use Rattle.tsdb_script.specs.declared.fault.ScriptFault.TheVariants as fault
 use Rattle.tsdb_script.specs.declared.token.Token.TheVariants.{Word}
 use Rattle.tsdb_script.specs.declared.form.TheConstants.{FORMS}
-use Rattle.tsdb_script.specs.Forms.{asks_first, places, Fits, HasNoForm}
+use Rattle.tsdb_script.specs.Forms.{is_at, places, Fits, HasNoForm}
 use Rattle.tsdb_base.specs.Limits.{max_commands, max_line_bytes, max_script_bytes, max_sessions}
 use Rattle.tsdb_script.specs.Meaning.{Means, Objects}
 use Rattle.tsdb_script.specs.Tokens.{is_blank, starts, AreTokens, HasNoTokens}
@@ -63,7 +63,7 @@ session_count sessions = distinct_count (λ a b. a == b) sessions
 -- the first token is one that a form begins with
 abbrev pub BeginsStatement : List Token → Type 0
 BeginsStatement [] = ⊥
-BeginsStatement (token ∷ rest) = IsTrue (list_any (λ form. asks_first token (places form)) FORMS.now)
+BeginsStatement (token ∷ rest) = IsTrue (list_any (λ form. starts (λ place. is_at place token) (places form)) FORMS.now)
 
 -- ---- the passes over a line, of which the first that objects decides the kind
 

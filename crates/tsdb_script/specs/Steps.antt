@@ -1,7 +1,9 @@
 -- What the steps of the reader give, as functions on lists. No public clause cites them.
-use Rattle.std.specs.Prelude.{ℕ, ◌==◌, List, [], ◌∷◌, Option, None, Some, option_map, option_and_then, nat_le, length}
+use Rattle.std.specs.Prelude.{◌≡◌, ◌⊎◌, ℕ, ◌≤ℤ◌, ◌==◌, FitsSigned, List, [], ◌∷◌, Option, None, Some, option_map, option_and_then, nat_le, length}
 use Rattle.std.specs.Prelude.{if◌then◌else◌}
-use Rattle.tsdb_script.specs.Types.{LineFault, Token}
+use Rattle.std.specs.Int.{w64}
+use Rattle.tsdb_script.specs.Meaning.{greatest_time, least_time}
+use Rattle.tsdb_script.specs.Types.{LineFault, Range, Token}
 use Rattle.tsdb_script.specs.declared.fault.LineFault.TheVariants.{Bad, Memory}
 use Rattle.tsdb_script.specs.declared.token.Token.TheVariants.{Word, Text, Open, Close, Comma, Semicolon, Equal, Less}
 use Rattle.tsdb_script.specs.declared.token.Token.TheVariants.{LessEqual, Greater, GreaterEqual}
@@ -81,3 +83,9 @@ token_at (b ∷ bytes) =
 abbrev pub FaultsWith : (ℕ → Type 0) → LineFault → Type 0
 FaultsWith reasons (Bad kind) = reasons kind
 FaultsWith reasons Memory = Unit {0}
+
+-- what `IsRangeOf` asks of a range beside its times
+pub record HasRangeForm (range : Range) : Type 0 where
+  pub from : FitsSigned w64 range.from
+  pub to : FitsSigned w64 range.to
+  pub form : (range.from ≤ℤ range.to) ⊎ ((range.from ≡ greatest_time) × (range.to ≡ least_time))

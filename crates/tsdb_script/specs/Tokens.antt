@@ -25,10 +25,10 @@ is_quote b = b == 39 || b == 34
 abbrev pub is_mark : ℕ → Bool
 is_mark b = b == 40 || (b == 41 || (b == 44 || (b == 59 || (b == 61 || (b == 60 || b == 62)))))
 
--- the first byte, if there is one, passes the test
-abbrev pub starts : (ℕ → Bool) → List ℕ → Bool
+-- the first item, if there is one, passes the test
+abbrev pub starts : {X : Type 0} → (X → Bool) → List X → Bool
 starts test [] = false
-starts test (b ∷ bytes) = test b
+starts test (x ∷ xs) = test x
 
 -- a word is this keyword, in any ASCII case
 abbrev pub is_keyword : List ℕ → List ℕ → Bool

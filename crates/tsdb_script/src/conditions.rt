@@ -3,8 +3,8 @@ ghost use Rattle.std.specs.Prelude.{◌≡◌, ◌≤ℤ◌, ◌↔◌, ℤ, Fit
 ghost use Rattle.std.specs.Int.{w64};
 ghost use Rattle.std.specs.List.{AllByRecursion};
 ghost use Rattle.tsdb_model.specs.World.{is_in};
-ghost use Rattle.tsdb_script.specs.Meaning.{Compares, HasBadWord, HasRangeForm, IsGood, IsRangeOf, condition_roles};
-ghost use Rattle.tsdb_script.specs.Steps.{FaultsWith};
+ghost use Rattle.tsdb_script.specs.Meaning.{Compares, HasBadWord, IsGood, IsRangeOf, condition_roles};
+ghost use Rattle.tsdb_script.specs.Steps.{FaultsWith, HasRangeForm};
 
 use crate::fault::LineFault;
 use crate::syntax::{Comparison, Condition};

@@ -4,9 +4,10 @@ ghost use Rattle.std.specs.Prelude.{◌≡◌, IfOk, IfErr, List, Option, drop, 
 ghost use Rattle.std.specs.List.{list_any};
 ghost use Rattle.tsdb_script.specs.declared.form.TheConstants.{FORMS};
 ghost use Rattle.tsdb_script.specs.declared.token.Token.{Token};
-ghost use Rattle.tsdb_script.specs.Forms.{asks_first, is_at, later_parts, places, statement_of, Fits, HasNoForm, HasParts};
+ghost use Rattle.tsdb_script.specs.Forms.{is_at, places, statement_of, Fits, HasNoForm, HasParts};
 ghost use Rattle.tsdb_script.specs.Forms.{first_columns, first_conditions, first_names, first_values, first_word};
 ghost use Rattle.tsdb_script.specs.Steps.{FaultsWith};
+ghost use Rattle.tsdb_script.specs.Tokens.{starts};
 ghost use Rattle.tsdb_script.specs.Parse.{begins_at, called_at, column_at, comparison_at, condition_at, conditions_at};
 ghost use Rattle.tsdb_script.specs.Parse.{end_at, fixed_at, form_at, items_at, list_at, onto, operand_at, place_at};
 ghost use Rattle.tsdb_script.specs.Parse.{read_at, says, stands_at, statement_at, word_at, Gives};
@@ -72,7 +73,7 @@ fn form_of(tokens: &Tokens) -> Option<Form>
 
 /// Whether a form begins with this token.
 pub fn begins_form(token: &Token) -> bool
-    ensures { result ≡ list_any (λ form. asks_first token.now (places form)) FORMS.now }
+    ensures { result ≡ list_any (λ form. starts (λ place. is_at place token.now) (places form)) FORMS.now }
 {
     let mut forms = FORMS;
     while let Some((form, others)) = forms.split_first() {
@@ -86,7 +87,7 @@ pub fn begins_form(token: &Token) -> bool
 
 /// Whether the first place asks for this token.
 fn asks_first(token: &Token, places: &[Place]) -> bool
-    ensures { result ≡ asks_first token.now places.now }
+    ensures { result ≡ starts (λ place. is_at place token.now) places.now }
 {
     match places.first() {
         Some(place) => is_at(*place, token),
@@ -392,7 +393,7 @@ fn made<'a>(alloc: Global, form: Form, parts: &mut Parts<'a>) -> Syntax<'a>
 /// Takes the first part, which is a word.
 fn word_part<'a>(parts: &mut Parts<'a>) -> Word<'a>
     ensures word { result ≡ first_word parts.old.items }
-    ensures rest { parts.new.items ≡ later_parts parts.old.items }
+    ensures rest { parts.new.items ≡ drop 1 parts.old.items }
 {
     match parts.pop_front() {
         Some(Part::Word(word)) => word,
@@ -403,7 +404,7 @@ fn word_part<'a>(parts: &mut Parts<'a>) -> Word<'a>
 
 fn names_part<'a>(alloc: Global, parts: &mut Parts<'a>) -> List<Word<'a>>
     ensures names { result ≡ first_names parts.old.items }
-    ensures rest { parts.new.items ≡ later_parts parts.old.items }
+    ensures rest { parts.new.items ≡ drop 1 parts.old.items }
 {
     match parts.pop_front() {
         Some(Part::Names(names)) => names,
@@ -414,7 +415,7 @@ fn names_part<'a>(alloc: Global, parts: &mut Parts<'a>) -> List<Word<'a>>
 
 fn values_part<'a>(alloc: Global, parts: &mut Parts<'a>) -> List<Operand<'a>>
     ensures values { result ≡ first_values parts.old.items }
-    ensures rest { parts.new.items ≡ later_parts parts.old.items }
+    ensures rest { parts.new.items ≡ drop 1 parts.old.items }
 {
     match parts.pop_front() {
         Some(Part::Values(values)) => values,
@@ -425,7 +426,7 @@ fn values_part<'a>(alloc: Global, parts: &mut Parts<'a>) -> List<Operand<'a>>
 
 fn columns_part<'a>(alloc: Global, parts: &mut Parts<'a>) -> List<Column<'a>>
     ensures columns { result ≡ first_columns parts.old.items }
-    ensures rest { parts.new.items ≡ later_parts parts.old.items }
+    ensures rest { parts.new.items ≡ drop 1 parts.old.items }
 {
     match parts.pop_front() {
         Some(Part::Columns(columns)) => columns,
@@ -436,7 +437,7 @@ fn columns_part<'a>(alloc: Global, parts: &mut Parts<'a>) -> List<Column<'a>>
 
 fn conditions_part<'a>(alloc: Global, parts: &mut Parts<'a>) -> List<Condition<'a>>
     ensures conditions { result ≡ first_conditions parts.old.items }
-    ensures rest { parts.new.items ≡ later_parts parts.old.items }
+    ensures rest { parts.new.items ≡ drop 1 parts.old.items }
 {
     match parts.pop_front() {
         Some(Part::Conditions(conditions)) => conditions,
