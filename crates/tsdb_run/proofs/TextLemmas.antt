@@ -1,15 +1,18 @@
 -- The text of the output, by its parts.
 use Rattle.std.proofs.Common.{◌≡◌, ℕ, ◌+◌, ◌<◌, zero, suc, add-one, arith, eqb, eq-eqb, get_or, Bool, true, false, cond, not, ◌||◌, List, [], ◌∷◌, ◌++◌, append-nil, append_assoc, drop, length, map, Some, refl, sym, ap, ◌∙◌}
-use Rattle.std.specs.List.{filter, flat_map, list_any}
+use Rattle.std.specs.List.{cons_option, filter, filter_map, flat_map, list_any}
+use Rattle.std.specs.Option.{option_map}
 use Rattle.std.proofs.lemmas.Bool.{eqb-true, false≢true}
 use Rattle.std.proofs.lemmas.List.{length-map}
 use Rattle.std.proofs.lemmas.List.Elements.{filter-append}
 use Rattle.std.proofs.lemmas.Map.Views.{any-filter_same}
 use Rattle.tsdb_print.specs.Text.{reply_text}
 use Rattle.tsdb_script.specs.declared.numbered.Numbered.{Numbered}
-use Rattle.tsdb_history.specs.History.{command_of}
+use Rattle.tsdb_history.specs.History.{command_of, entry_of}
+use Rattle.tsdb_model.specs.History.{Entry}
+use Rattle.tsdb_model.specs.declared.command.Command.{Command}
 use Rattle.tsdb_run.proofs.LineOrder.{their_own}
-use Rattle.tsdb_run.specs.Output.{replies_text, sessions_of, told_text}
+use Rattle.tsdb_run.specs.Output.{replies_text, sessions_of}
 use Rattle.tsdb_run.specs.Steps.{IsAnswered, reply_text_of, with_session}
 use Rattle.tsdb_history.specs.declared.told.Told.{Told}
 
@@ -83,18 +86,25 @@ side_by_side session [] history = []
 side_by_side session (numbered ∷ script) [] = []
 side_by_side session (numbered ∷ script) (told ∷ history) = reply_text_of session numbered told ++ side_by_side session script history
 
+-- a reply with its command, and the text of both
+abbrev answered : Told → Command → Entry
+answered told command = record { command = command; reply = told.reply }
+
+abbrev entry_text : Entry → List ℕ
+entry_text entry = reply_text entry.command entry.reply
+
 beside : (all script : List Numbered) (history : List Told) (session : ℕ) → map (command_of all) history ≡ map (λ numbered. Some numbered.command) script
-    → flat_map (λ told. told_text (command_of all told) told) (filter (λ told. eqb told.session session) history) ≡ side_by_side session script history
+    → flat_map entry_text (filter_map (entry_of all) (filter (λ told. eqb told.session session) history)) ≡ side_by_side session script history
 beside all [] [] session same = refl
 beside all [] (t ∷ history) session same = cc
 beside all (n ∷ script) [] session same = refl
 beside all (n ∷ script) (t ∷ history) session same =
     let h = heads (command_of all t) (Some n.command) (map (command_of all) history) (map (λ numbered. Some numbered.command) script) same in
     let more = beside all script history session h.1 in
-    elim (eqb t.session session) as (λ b.
-    flat_map (λ told. told_text (command_of all told) told) (cond b (t ∷ filter (λ told. eqb told.session session) history) (filter (λ told. eqb told.session session) history))
+    let others = filter (λ told. eqb told.session session) history in
+    elim (eqb t.session session) as (λ b. flat_map entry_text (filter_map (entry_of all) (cond b (t ∷ others) others))
     ≡ cond b (reply_text n.command t.reply) [] ++ side_by_side session script history) [
-      | true ↦ ap (λ c. told_text c t ++ flat_map (λ told. told_text (command_of all told) told) (filter (λ told. eqb told.session session) history)) h.0
+      | true ↦ ap (λ c. flat_map entry_text (cons_option (option_map (answered t) c) (filter_map (entry_of all) others))) h.0
           ∙ ap (λ l. reply_text n.command t.reply ++ l) more
       | false ↦ more
     ]

@@ -1,17 +1,11 @@
 -- The text of the output, one function of a script and its history, and what a sink holds of it.
-use Rattle.std.specs.Prelude.{◌≡◌, ℕ, ◌==◌, not, List, [], ◌∷◌, ◌++◌, Option, None, Some, map, filter}
-use Rattle.std.specs.List.{flat_map}
+use Rattle.std.specs.Prelude.{◌≡◌, ℕ, ◌==◌, not, List, [], ◌∷◌, ◌++◌, Option, map, filter}
+use Rattle.std.specs.List.{filter_map, flat_map}
 use Rattle.std.specs.Io.KnownBytes.{Appends}
-use Rattle.tsdb_model.specs.declared.command.Command.{Command}
 use Rattle.tsdb_print.specs.Text.{order_text, reply_text, session_text}
 use Rattle.tsdb_script.specs.declared.numbered.Numbered.{Numbered}
-use Rattle.tsdb_history.specs.History.{command_of, replies_to}
+use Rattle.tsdb_history.specs.History.{entry_of, replies_to}
 use Rattle.tsdb_history.specs.declared.told.Told.{Told}
-
--- the text of a reply, where it answers a command
-abbrev pub told_text : Option Command → Told → List ℕ
-told_text None told = []
-told_text (Some command) told = reply_text command told.reply
 
 -- the sessions of a script, in the order in which they first appear
 abbrev pub sessions_of : List Numbered → List ℕ
@@ -19,10 +13,10 @@ sessions_of [] = []
 sessions_of (numbered ∷ script) =
     numbered.session ∷ filter (λ session. not (session == numbered.session)) (sessions_of script)
 
--- the replies to a session, in their order
+-- the replies to a session, in their order, each by its command
 abbrev pub replies_text : List Numbered → List Told → ℕ → List ℕ
 replies_text script history session =
-    flat_map (λ told. told_text (command_of script told) told) (replies_to history session)
+    flat_map (λ entry. reply_text entry.command entry.reply) (filter_map (entry_of script) (replies_to history session))
 
 -- the heading of a session, and the replies to it
 abbrev pub part_text : List Numbered → List Told → ℕ → List ℕ
