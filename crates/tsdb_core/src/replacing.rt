@@ -87,22 +87,39 @@ impl<J: Journal, F: Files> Core<J, F> {
         let listed = self
             .files
             .least_replaced(job.space, runs.sequence, runs.unsequence, born);
+        let Job {
+            space,
+            born,
+            place,
+            inputs,
+            sequence,
+            unsequence,
+            marks,
+            schemas,
+            output: number,
+        } = job;
         let item = LogRecord::Replaced {
-            born: job.born,
-            space: job.space,
-            place: place_of(job.space, runs),
+            born,
+            space,
+            place: place_of(space, runs),
             output: number_of(output),
-            sequence: job.sequence,
-            unsequence: job.unsequence,
+            sequence,
+            unsequence,
         };
         let outcome = self.logged.replaced(&item, listed);
         let Some((sequence, unsequence)) = inputs_in(item) else {
             unreachable!()
         };
         let job = Job {
+            space,
+            born,
+            place,
+            inputs,
             sequence,
             unsequence,
-            ..job
+            marks,
+            schemas,
+            output: number,
         };
         (job, outcome)
     }
