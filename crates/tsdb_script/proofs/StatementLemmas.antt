@@ -1,5 +1,5 @@
 -- The parser finds exactly the statements whose forms the tokens fit.
-use Rattle.std.proofs.Common.{◌≡◌, ◌<◌, ℕ, ◌||◌, Bool, true, false, true≢false, cond, inl, inr, List, [], ◌∷◌, length, Option, None, Some, Result, Ok, Err, option_map, refl, sym, ap, ◌∙◌, subst, codes}
+use Rattle.std.proofs.Common.{◌≡◌, ◌<◌, ℕ, ◌||◌, Bool, true, false, true≢false, cond, inl, inr, List, [], ◌∷◌, length, drop, Option, None, Some, Result, Ok, Err, option_map, refl, sym, ap, ◌∙◌, subst, codes}
 use Rattle.std.specs.Prelude.{◌⊎◌, ◌&&◌, not, IsTrue, IfOk, IfErr}
 use Rattle.std.specs.List.{list_any}
 use Rattle.std.specs.Str.{bytes_eq, str_to_ascii_lowercase}
