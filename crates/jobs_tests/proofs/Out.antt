@@ -8,7 +8,7 @@ use Rattle.std.specs.Option.{option_map}
 use Rattle.std.specs.Prelude.{ℕ, ◌≤◌, IfSome}
 use Rattle.jobs_tests.specs.Begins.{BeginsOrNot}
 use Rattle.jobs_tests.specs.Out.{AreHandedOn, BeginsJob, EndsFlush, EndsJob, EndsPin, HasFlush, HasJob, HasPin, IsHandedOn, IsKept}
-use Rattle.jobs_tests.specs.Out.{Loans, TakesFlush, TakesPin, compaction_of, flush_of, with_job, with_pin}
+use Rattle.jobs_tests.specs.Out.{IsWithJob, Loans, TakesFlush, TakesPin, compaction_of, flush_of, with_job, with_pin}
 use Rattle.tsdb_base.specs.declared.ids.FileNumber.{FileNumber}
 use Rattle.tsdb_base.specs.declared.ids.Space.{Space}
 use Rattle.tsdb_committing.specs.Files.{NewFile, new_file, new_files}
@@ -44,8 +44,8 @@ use Rattle.tsdb_kept.proofs.Taken.{still_all}
 use Rattle.tsdb_kept.specs.Files.{KeptFiles, kept_file, none_kept}
 use Rattle.tsdb_kept.specs.Places.{AllFiles, AreOfStore, AreUnread, KeptFile, OnlyMakesPlaces, Places}
 use Rattle.tsdb_kept.specs.Rights.{IsRightTo}
-use Rattle.tsdb_layers.proofs.Lists.{each_weaker}
-use Rattle.tsdb_layers.specs.Lists.{IsWithOne, if_some}
+use Rattle.tsdb_layers.proofs.Lists.{among_right, each_weaker}
+use Rattle.tsdb_layers.specs.Lists.{Among, IsWithOne, if_some}
 use Rattle.tsdb_outside.specs.Files.{NamedFile, Store}
 use Rattle.tsdb_outside.specs.declared.disk.Disk as disk
 use Rattle.tsdb_outside.specs.declared.faults.Counted as counted
@@ -108,6 +108,18 @@ has_numbers job = record { sequence = refl; unsequence = refl }
 first_one : {X : Type 0} (x : X) (xs : List X) → IsWithOne x xs (x ∷ xs)
 first_one x xs = record { before = []; behind = xs; with_it = refl; without = refl }
 
+behind_one : {X : Type 0} (x y : X) (others all : List X) → IsWithOne x others all → IsWithOne x (y ∷ others) (y ∷ all)
+behind_one x y others all is = record {
+  before = y ∷ is.before;
+  behind = is.behind;
+  with_it = ap (λ xs. y ∷ xs) is.with_it;
+  without = ap (λ xs. y ∷ xs) is.without;
+}
+
+one_among : {X : Type 0} (x : X) (others all : List X) → IsWithOne x others all → Among x all
+one_among x others all is =
+    subst (Among x) (sym is.with_it) (among_right is.before (x ∷ is.behind) x (inl refl))
+
 module _ {F S R P : Type 0} (job : Job F S R P) where
   long : length (plain_numbers job.sequence) ≡ length job.sequence
   long = length-map job.sequence (λ (n : FileNumber). n.0)
@@ -129,6 +141,23 @@ module _ {F S R P : Type 0} (job : Job F S R P) where
         (drop-append_seam (plain_numbers job.sequence) (plain_numbers job.unsequence));
     marks = refl;
     output = refl;
+  }
+
+module _ {F S R P : Type 0} (name : R → NamedFile) where
+  first_job : (job : Job F S R P) (out : Loans) → IsWithJob name job out (with_job name job out)
+  first_job job out = record {
+    flushes = refl;
+    compactions = first_one (compaction_of job) out.compactions;
+    lent = first_one (job_rights name job) out.lent;
+  }
+
+  -- and so it is among these and one more
+  behind_job : (job second : Job F S R P) (others all : Loans) → IsWithJob name job others all
+      → IsWithJob name job (with_job name second others) (with_job name second all)
+  behind_job job second others all is = record {
+    flushes = is.flushes;
+    compactions = behind_one (compaction_of job) (compaction_of second) others.compactions all.compactions is.compactions;
+    lent = behind_one (job_rights name job) (job_rights name second) others.lent all.lent is.lent;
   }
 
 -- nothing is out
@@ -301,49 +330,84 @@ module _ {J F S R P : Type 0} {means : disk.Ghosts J} {counts : counted.Ghosts J
 
     module _ (store : Store) (core : Core J F S R P means counts) (job : Job F S R P) (has : HasJob name store core job) where
       pub job_is_out : IsJobOut name core job
-      job_is_out = job_out name core job (compaction_of job) has.1.compactions (compaction_of job ∷ has.1.compactions)
-          has.1.flushes (job_rights name job ∷ has.1.lent) has.0 (is_compaction job has.0)
-          (first_one (compaction_of job) has.1.compactions) (inl refl) has.2.loans
+      job_is_out = job_out name core job (compaction_of job) has.1.compactions has.2.compactions has.2.flushes has.2.lent
+          has.0 (is_compaction job has.0) has.3.compactions
+          (one_among (job_rights name job) has.1.lent has.2.lent has.3.lent) has.4.loans
 
       pub inputs_in_store : Each (IsInputOf name store) job.inputs
       inputs_in_store = each_weaker
           (λ (input : Input F S R P). IsRightTo name (kept_file input.number.0 (files_of core)) (Some input.right))
           (IsInputOf name store)
           (λ input held. of_right name store (kept_file input.number.0 (files_of core)) input.right held
-          (has.2.of_store input.number.0)) job.inputs job_is_out.kept.held.held
+          (has.4.of_store input.number.0)) job.inputs job_is_out.kept.held.held
 
       pub kept_beside : IsKept store core
-      kept_beside = (with_job name job has.1, has.2)
+      kept_beside = (has.2, has.4)
 
     pub job_still : (store other : Store) (a b : Core J F S R P means counts) (job : Job F S R P) → other ≡ store
         → HasJob name store a job → IsHandedOn store a b → HasJob name other b job
     job_still store other a b job same has hands =
-        subst (λ (s : Store). HasJob name s b job) (sym same) (has.0, has.1, hands (with_job name job has.1) has.2)
+        subst (λ (s : Store). HasJob name s b job) (sym same) (has.0, has.1, has.2, has.3, hands has.2 has.4)
 
     pub job_ended : (store : Store) (old new : Core J F S R P means counts) (job : Job F S R P) (file : Option NewFile)
         → ends.EndsJob old new job file → IsJobOut name old job → IfSome file (λ one. one.token.name.store ≡ store)
         → EndsJob name store old new job
-    job_ended store old new job file ended is_out in_store out kept = record {
-      loans = ended.loans (compaction_of job) out.compactions (compaction_of job ∷ out.compactions) out.flushes
-          (job_rights name job) out.lent (job_rights name job ∷ out.lent) (is_compaction job (handed_of old job is_out.kept))
-          (first_one (compaction_of job) out.compactions) (on_inputs name job)
-          (first_one (job_rights name job) out.lent) kept.loans;
+    job_ended store old new job file ended is_out in_store others all is kept = record {
+      loans = ended.loans (compaction_of job) others.compactions all.compactions others.flushes
+          (job_rights name job) others.lent all.lent (is_compaction job (handed_of old job is_out.kept))
+          is.compactions (on_inputs name job) is.lent
+          (subst (λ flushes. KeepsLoans old flushes all.compactions all.lent) is.flushes kept.loans);
       of_store = ended.of_store store kept.of_store in_store;
     }
 
     pub begins_and_ends : (store : Store) (a b c : Core J F S R P means counts) (job : Job F S R P)
         → BeginsJob name a b (Some job) → EndsJob name store b c job → IsHandedOn store a c
-    begins_and_ends store a b c job begins ended out kept = ended out (begins store out kept).1
+    begins_and_ends store a b c job begins ended out kept =
+        ended out (with_job name job out) (first_job name job out) (begins store out kept).1
 
     pub begun_has : (store : Store) (a b : Core J F S R P means counts) (job : Job F S R P)
         → BeginsJob name a b (Some job) → IsKept store a → HasJob name store b job
-    begun_has store a b job begins kept = let both = begins store kept.0 kept.1 in (both.0, kept.0, both.1)
+    begun_has store a b job begins kept = let both = begins store kept.0 kept.1 in
+        (both.0, kept.0, with_job name job kept.0, first_job name job kept.0, both.1)
 
     -- steps come, and then the job ends
     pub then_ends : (store other : Store) (a b c : Core J F S R P means counts) (job : Job F S R P) → other ≡ store
         → IsHandedOn store a b → EndsJob name other b c job → EndsJob name store a c job
-    then_ends store other a b c job same hands ended out kept =
-        subst (λ (s : Store). EndsJob name s b c job) same ended out (hands (with_job name job out) kept)
+    then_ends store other a b c job same hands ended others all is kept =
+        subst (λ (s : Store). EndsJob name s b c job) same ended others all is (hands all kept)
+
+    -- ---- a second compaction that begins while the first one is out, and ends behind it
+
+    pub has_beside : (store : Store) (a b : Core J F S R P means counts) (job second : Job F S R P)
+        → BeginsJob name a b (Some second) → HasJob name store a job → HasJob name store b job
+    has_beside store a b job second begins has = (
+      has.0,
+      with_job name second has.1,
+      with_job name second has.2,
+      behind_job name job second has.1 has.2 has.3,
+      (begins store has.2 has.4).1,
+    )
+
+    pub is_left : (store other : Store) (a b c : Core J F S R P means counts) (job second : Job F S R P) → other ≡ store
+        → BeginsJob name a b (Some second) → EndsJob name store b c job → HasJob name store a job
+        → HasJob name other c second
+    is_left store other a b c job second same begins ended has =
+        let both = begins store has.2 has.4 in subst (λ (s : Store). HasJob name s c second) (sym same) (
+          both.0,
+          has.1,
+          with_job name second has.1,
+          first_job name second has.1,
+          ended (with_job name second has.1) (with_job name second has.2)
+              (behind_job name job second has.1 has.2 has.3) both.1,
+        )
+
+    pub both_ended : (store other : Store) (a b c d : Core J F S R P means counts) (job second : Job F S R P)
+        → other ≡ store → BeginsJob name a b (Some second) → EndsJob name store b c job
+        → EndsJob name other c d second → EndsJob name store a d job
+    both_ended store other a b c d job second same begins first last others all is kept =
+        subst (λ (s : Store). EndsJob name s c d second) same last others (with_job name second others)
+        (first_job name second others) (first (with_job name second others) (with_job name second all)
+        (behind_job name job second others all is) (begins store all kept).1)
 
     -- ---- pins
 

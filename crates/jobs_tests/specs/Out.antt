@@ -1,5 +1,5 @@
 -- What a core keeps for the jobs and pins that are out, and what each call hands on of it.
-use Rattle.std.specs.Prelude.{◌∷◌, drop, length, take, List, Option, None, Some}
+use Rattle.std.specs.Prelude.{◌≡◌, ◌∷◌, drop, length, take, List, Option, None, Some}
 use Rattle.std.specs.FinMap.{empty}
 use Rattle.std.specs.Option.{option_map}
 use Rattle.tsdb_base.specs.declared.ids.FileNumber.{FileNumber}
@@ -13,6 +13,7 @@ use Rattle.tsdb_core.specs.declared.engine.Core.{Core}
 use Rattle.tsdb_jobs.specs.Jobs.{IsJob}
 use Rattle.tsdb_jobs.specs.declared.flush.FlushJob.{FlushJob}
 use Rattle.tsdb_kept.specs.Places.{AreOfStore}
+use Rattle.tsdb_layers.specs.Lists.{IsWithOne}
 use Rattle.tsdb_outside.specs.Files.{NamedFile, Store}
 use Rattle.tsdb_outside.specs.declared.disk.Disk as disk
 use Rattle.tsdb_outside.specs.declared.faults.Counted as counted
@@ -62,6 +63,12 @@ module _ {F S R P : Type 0} (name : R → NamedFile) where
     lent = job_rights name job ∷ loans.lent;
   }
 
+  -- the second ones are the first ones and a compaction, at some place among them
+  pub record IsWithJob (job : Job F S R P) (others all : Loans) : Type 0 where
+    pub flushes : all.flushes ≡ others.flushes
+    pub compactions : IsWithOne (compaction_of job) others.compactions all.compactions
+    pub lent : IsWithOne (job_rights name job) others.lent all.lent
+
   -- these and a pin
   abbrev pub with_pin : Pin F S R P → Loans → Loans
   with_pin pin loans = record {
@@ -102,9 +109,10 @@ module _ {J F S R P : Type 0} {means : disk.Ghosts J} {counts : counted.Ghosts J
   EndsFlush store old new job = (out : Loans) → Keeps store (with_flush job out) old → Keeps store out new
 
   module _ (name : R → NamedFile) where
-    -- the same of a compaction
+    -- the same of a compaction, whichever others began before it and behind it
     abbrev pub HasJob : Store → Core J F S R P means counts → Job F S R P → Type 0
-    HasJob store core job = IsHandedOut job × (out : Loans) × Keeps store (with_job name job out) core
+    HasJob store core job = IsHandedOut job × (others : Loans) × (all : Loans) × IsWithJob name job others all
+        × Keeps store all core
 
     abbrev pub BeginsJob : Core J F S R P means counts → Core J F S R P means counts → Option (Job F S R P) → Type 0
     BeginsJob old new None = AreHandedOn old new
@@ -112,7 +120,8 @@ module _ {J F S R P : Type 0} {means : disk.Ghosts J} {counts : counted.Ghosts J
         → IsHandedOut job × Keeps store (with_job name job out) new
 
     abbrev pub EndsJob : Store → Core J F S R P means counts → Core J F S R P means counts → Job F S R P → Type 0
-    EndsJob store old new job = (out : Loans) → Keeps store (with_job name job out) old → Keeps store out new
+    EndsJob store old new job = (others all : Loans) → IsWithJob name job others all → Keeps store all old
+        → Keeps store others new
 
     -- the same of a pin
     abbrev pub HasPin : Store → Core J F S R P means counts → Pin F S R P → Type 0

@@ -9,7 +9,7 @@ use tsdb_outside::Failed;
 
 const INNER: Kind = Kind::Inner(Space::Sequence);
 
-const LATE: Kind = Kind::Inner(Space::Unsequence);
+pub const LATE: Kind = Kind::Inner(Space::Unsequence);
 
 /// A compaction of two sequence files.
 const COURSE: Course<'static> = Course {
@@ -22,6 +22,7 @@ const COURSE: Course<'static> = Course {
     ],
     kind: INNER,
     meanwhile: &[],
+    second: None,
     written: &[],
     commits: true,
     behind: &[],
@@ -64,6 +65,7 @@ const DELETED_MEANWHILE: Case<'static> = Case {
         ],
         kind: Kind::Cross,
         meanwhile: &[Step::Delete(5, 5)],
+        second: None,
         written: &[],
         commits: true,
         behind: &[],
@@ -104,6 +106,7 @@ const PINNED_MEANWHILE: Case<'static> = Case {
         ],
         kind: Kind::Cross,
         meanwhile: &[],
+        second: None,
         written: &[],
         commits: true,
         behind: &[Step::Put(10, 3)],
@@ -153,6 +156,7 @@ const SEQUENCE_CLAIMED: Case<'static> = Case {
             Step::Flush,
             Step::Compact(LATE),
         ],
+        second: None,
         written: &[],
         commits: false,
         behind: &[],
@@ -208,6 +212,7 @@ const LATE_CLAIMED: Case<'static> = Case {
             Step::Compact(Kind::Cross),
             Step::Compact(LATE),
         ],
+        second: None,
         written: &[],
         commits: true,
         behind: &[],
@@ -388,7 +393,7 @@ const CASES: [Case<'static>; 8] = [
 ];
 
 /// The first of the cases that is not as it says.
-fn first_apart(alloc: Global, cases: &[Case<'_>]) -> Result<Option<usize>, Fail> {
+pub fn first_apart(alloc: Global, cases: &[Case<'_>]) -> Result<Option<usize>, Fail> {
     for (index, case) in cases.iter().enumerate() {
         if first_wrong(alloc, 1, &[*case], &[], &[])?.is_some() {
             return Ok(Some(index));
@@ -406,8 +411,7 @@ fn compactions_under_pins(rt: HostRuntime) -> Result<(), Fail> {
 /// The last number that a file can have.
 const LAST_NUMBER: u64 = 0x7fff_ffff_ffff_ffff;
 
-const LAST_FILES: &str =
-    "sequence 9223372036854775805 born 2 points 1 from 1 to 1\n\
+const LAST_FILES: &str = "sequence 9223372036854775805 born 2 points 1 from 1 to 1\n\
         sequence 9223372036854775806 born 3 points 1 from 2 to 2\n\
         frozen 0\n\
         working 0 0\n\

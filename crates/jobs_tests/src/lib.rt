@@ -2,8 +2,9 @@
 //! examples, refusals, calls that fail, and small states beside a plain slow store. Depends on the crates that it
 //! tests.
 //!
-//! A course is a compaction under a pin, with steps before it, while it is out, and behind it. `calls` and `jobs` are the
-//! calls of a core, `course` leads a core through a course, `slow` the plain slow store.
+//! A course is a compaction under a pin, with steps before it, while it is out, and behind it, and maybe a second
+//! compaction that begins while it is out and ends behind it. `calls` and `jobs` are the calls of a core, `course` leads
+//! a core through a course, `slow` is the plain slow store.
 #![tactic(auto)]
 
 #[cfg(test)]
@@ -14,6 +15,8 @@ mod cases;
 mod course;
 #[cfg(test)]
 mod jobs;
+#[cfg(test)]
+mod overlaps;
 #[cfg(test)]
 mod slow;
 #[cfg(test)]

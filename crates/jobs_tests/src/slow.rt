@@ -490,7 +490,15 @@ impl SlowStore {
         Ok(())
     }
 
-    /// The compaction of a course.
+    /// The second compaction of a course, if it has one.
+    fn begin_second(&mut self, kind: Option<Kind>) -> Result<Option<SlowJob>, Fail> {
+        match kind {
+            Some(kind) => self.begin(list_of(kind)),
+            None => Ok(None),
+        }
+    }
+
+    /// The compactions of a course.
     fn compact(&mut self, course: Course<'_>) -> Result<Compacted, Fail> {
         let Some(job) = self.begin(list_of(course.kind))? else {
             return Ok(Compacted {
@@ -502,11 +510,15 @@ impl SlowStore {
         let began = Began::Job(told_of(&job));
         let points = Some(job.points.len() as u64);
         self.steps(course.meanwhile)?;
+        let second = self.begin_second(course.second)?;
         self.steps(course.written)?;
         if course.commits {
             self.commit(job)?;
         } else {
             self.give_up(job)?;
+        }
+        if let Some(second) = second {
+            self.commit(second)?;
         }
         Ok(Compacted {
             began,

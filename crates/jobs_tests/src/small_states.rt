@@ -1,5 +1,5 @@
-//! Small states of a store, in each of which a compaction begins, something happens, and the compaction ends, beside
-//! the plain slow store. Depends on `course` and `slow`.
+//! Small states of a store, in each of which a compaction begins, something happens, and the compaction ends, also with
+//! a second one out, beside the plain slow store. Depends on `course` and `slow`.
 use crate::course::{Case, Course, Step, first_wrong};
 use crate::jobs::{Began, Kind};
 use crate::slow::SlowStore;
@@ -80,6 +80,7 @@ fn agree_in(alloc: Global, before: &[Step], kind: Kind) -> Result<bool, Fail> {
                 before,
                 kind,
                 meanwhile,
+                second: None,
                 written: &[],
                 commits,
                 behind: &[],
@@ -95,12 +96,36 @@ fn agree_in(alloc: Global, before: &[Step], kind: Kind) -> Result<bool, Fail> {
     Ok(true)
 }
 
+/// Two late files while a compaction is out. A second compaction begins behind them.
+const TWO_LATE: [Step; 4] = [Step::Put(1, 95), Step::Flush, Step::Put(2, 96), Step::Flush];
+
+/// Whether they agree in a state on a compaction of this kind and one of late files that begins behind it, ends behind
+/// it, and has a newer late file behind its inputs.
+fn agree_on_two(alloc: Global, before: &[Step], kind: Kind) -> Result<bool, Fail> {
+    for commits in [true, false] {
+        let course = Course {
+            before,
+            kind,
+            meanwhile: &TWO_LATE,
+            second: Some(Kind::Inner(Space::Unsequence)),
+            written: &[Step::Put(2, 97), Step::Flush],
+            commits,
+            behind: &[],
+            times: [1, 2, 3],
+        };
+        if agreed(alloc, course)?.is_none() {
+            return Ok(false);
+        }
+    }
+    Ok(true)
+}
+
 /// The places of the words of the first state in which the two do not agree on a compaction of this kind.
 fn first_apart(alloc: Global, kind: Kind) -> Result<Option<(usize, usize)>, Fail> {
     for first in 0..WORDS.len() {
         for second in 0..WORDS.len() {
             let before = steps_of(alloc, WORDS[first], WORDS[second])?;
-            if !agree_in(alloc, &before, kind)? {
+            if !agree_in(alloc, &before, kind)? || !agree_on_two(alloc, &before, kind)? {
                 return Ok(Some((first, second)));
             }
         }
