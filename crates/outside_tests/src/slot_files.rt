@@ -1,7 +1,7 @@
 //! The journal over files: one that tells what it holds, and one of the system whose syncs fail.
 ghost use Rattle.std.specs.Prelude.{◌≡◌, ◌+◌, ◌-◌, ◌^◌, ◌≤◌, min, OnOk, OnErr, vec_len};
 ghost use Rattle.std.proofs.Common.{rules};
-ghost use Rattle.tsdb_outside.specs.Causes.{Rose};
+ghost use Rattle.tsdb_base.specs.Causes.{Rose};
 ghost use Rattle.tsdb_outside.specs.Disk.{overwrite};
 
 use crate::directories::{first_and_length, opened, write_three};

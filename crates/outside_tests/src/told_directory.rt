@@ -2,7 +2,7 @@
 //! room for one file, so a file that was not taken away shows at the next `put`. Two of its calls fail, by number. Each
 //! handle has a file of its own. Depends on `fs_outside`.
 ghost use Rattle.std.specs.Prelude.{◌≡◌, ◌≤◌, map, None, Some, OnErr};
-ghost use Rattle.tsdb_outside.specs.Causes.{Rose};
+ghost use Rattle.tsdb_base.specs.Causes.{Rose};
 ghost use Rattle.fs_outside.specs.Directory.{change_one, with_bytes, with_synced_bytes, with_synced_name, without};
 ghost use Rattle.outside_tests.specs.ToldDirectory.{has_number, held_files};
 

@@ -3,7 +3,7 @@
 //! Depends on `fs_outside`.
 ghost use Rattle.std.specs.Prelude.{◌≡◌, ◌≢◌, ◌≤◌, ◌↔◌, [], ◌∷◌, IsTrue, None, Some, OnErr};
 ghost use Rattle.std.specs.Option.{option_map};
-ghost use Rattle.tsdb_outside.specs.Causes.{Rose};
+ghost use Rattle.tsdb_base.specs.Causes.{Rose};
 ghost use Rattle.fs_outside.specs.SlotDirectory.{with_renamed};
 ghost use Rattle.outside_tests.specs.ToldSlots.{bytes_of, state_of, view_of};
 
