@@ -23,7 +23,8 @@ pub loop-input-preserved : goal.loop-input-preserved
 loop-input-preserved g c =
     let inv = c.loop-input.invariant in
     let done = c.in_ok-open_input.ensures in (
-      zip_more (IsOpenedAs g.F.Right.ReadRight.file) _ _ _ _ _ _ c.loop-input-test.true c.input-item.is inv.0 done.opened (search rules),
+      zip_more (IsOpenedAs g.F.Right.ReadRight.file) c.args.inputs.now c.loop-input.input-index c.input-item.result
+          c.loop-input.files.items c.push.new.self.items c.in_ok-open_input.field-0 c.loop-input-test.true c.input-item.is inv.0 done.opened (search rules),
       omega (arith, inv.1, done.later),
       done.same_store ∙ inv.2,
     )
