@@ -4,8 +4,8 @@ ghost use Rattle.std.specs.Vec.Iter.{into_iter_items};
 
 use std::alloc::{AllocError, Global};
 use std::test::Fail;
-use tsdb_base::{Point, Value};
-use tsdb_merge::{ListPoints, Merge, Points, PullFault, is_rising};
+use tsdb_base::{Point, Value, is_rising};
+use tsdb_merge::{ListPoints, Merge, Points, PullFault};
 
 fn crosses_threads<T: Send>(_value: &T) {}
 

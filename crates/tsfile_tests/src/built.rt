@@ -10,8 +10,8 @@ use super::samples::{WORKED, add_chunk, chunk_of, numbered, pages, points};
 use super::writer::{tree_of, wide_tree, written};
 use std::alloc::Global;
 use std::test::Fail;
-use tsdb_base::{DataType, Encoding, Point, Value, suits};
-use tsdb_pages::{Group, is_rising};
+use tsdb_base::{DataType, Encoding, Point, Value, is_rising, suits};
+use tsdb_pages::Group;
 use tsdb_path::{Name, Path};
 use tsfile_writer::Builder;
 
