@@ -356,7 +356,7 @@ module _ {J F S R P : Type 0} {means : disk.Ghosts J} {counts : counted.Ghosts J
       loans = ended.loans (compaction_of job) others.compactions all.compactions others.flushes
           (job_rights name job) others.lent all.lent (is_compaction job (handed_of old job is_out.kept))
           is.compactions (on_inputs name job) is.lent
-          (subst (λ flushes. KeepsLoans old flushes all.compactions all.lent) is.flushes kept.loans);
+          (subst (λ them. KeepsLoans old them all.compactions all.lent) is.flushes kept.loans);
       of_store = ended.of_store store kept.of_store in_store;
     }
 
