@@ -23,7 +23,7 @@ build:
 bench: build
 	@echo 'Proving and building the program tsdb_bench ...' >&2
 	@cd crates/tsdb_bench && rt run -- quick >&2
-	@case " scripts durable compactions queries sizes openings " in *" $(or $(GROUP),none) "*) ;; \
+	@case " scripts durable compactions sizes openings " in *" $(or $(GROUP),none) "*) ;; \
 	    *) crates/tsdb_bench/out/tsdb_bench $(GROUP);; esac
 	@[ -n "$(GROUP)" ] && [ "$(GROUP)" != scripts ] || bench/scripts.py bin/tsdb
 	@[ -n "$(GROUP)" ] && [ "$(GROUP)" != durable ] || bench/durable.py bin/tsdb

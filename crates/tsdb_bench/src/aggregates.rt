@@ -8,8 +8,8 @@ use crate::table::{Rounds, row};
 use std::marker::Brand;
 use std::sync::ledger::{Blank, Ledger};
 use std::time::Instant;
-use tsdb_aggregate::{Piece, Steps, aggregate};
-use tsdb_base::{Aggregate, Point, Range, Value};
+use tsdb_aggregate::{Piece, aggregate};
+use tsdb_base::{Aggregate, Point, Range, Steps, Value};
 use tsdb_stats::stats_of;
 
 /// The range of all times that are measured.

@@ -1,5 +1,5 @@
-//! The speed of whole files: built, checked, and their index read, in memory and on the disk. It depends on
-//! `tsfile_writer` and `tsfile_reader`, and on `mem_outside` and `fs_outside` for the ports.
+//! The speed of whole files: built, checked, their index read, and one entry of it found, in memory and on the disk. It
+//! depends on `tsfile_writer` and `tsfile_reader`, and on `mem_outside` and `fs_outside` for the ports.
 ghost use Rattle.std.specs.Prelude.{◌≡◌, ◌<◌, ◌↔◌, All, IsTrue, OnOk, length};
 ghost use Rattle.tsdb_base.specs.Values.{type_of};
 ghost use Rattle.tsdb_base.specs.Points.{IsRising};
@@ -7,7 +7,7 @@ ghost use Rattle.tsfile_writer.specs.Driving.{HasLast, IsBare};
 
 use crate::fault::Fault;
 use crate::numbers::next;
-use crate::table::{Rounds, row};
+use crate::table::{Rounds, each, row};
 use fs_outside::FsPlace;
 use mem_outside::SteadyPlace;
 use std::fs;
@@ -16,7 +16,7 @@ use tsdb_base::{DataType, Encoding, FileNumber, List, Point, Value, is_rising};
 use tsdb_outside::{Files, Place, Port};
 use tsdb_pages::{Chunk, Group, Page, Tree, is_tree};
 use tsdb_path::{Name, Path};
-use tsfile_reader::{check_file, read_meta};
+use tsfile_reader::{check_file, find_entry, read_meta};
 use tsfile_writer::{Builder, write_tree};
 
 /// The points of the file of one series.
@@ -24,6 +24,9 @@ const POINTS: u64 = 1_000_000;
 
 /// The chunks of the file with a large index.
 const CHUNKS: u64 = 1_000;
+
+/// The chunks of the file in which one entry is found.
+const SERIES: u64 = 10_000;
 
 /// The folder of the store on the disk.
 const FOLDER: &str = "tsdb_bench_store";
@@ -118,6 +121,8 @@ enum Reading {
     Whole,
     /// Its index.
     Index,
+    /// One entry of its index.
+    Entry,
 }
 
 impl Reading {
@@ -128,11 +133,25 @@ impl Reading {
         match self {
             Reading::Whole => 5,
             Reading::Index => 100,
+            Reading::Entry => 1_000,
         }
     }
 }
 
-/// Reads a file through the port, and returns its length.
+/// Finds the entry of one series, and returns its place.
+fn find_one<P: Port>(rt: &HostRuntime, port: &mut P, right: &P::Right) -> Result<u64, Fault>
+    requires { (P.Right.file right.now).store ≡ P.store port.old }
+    ensures { P.store port.new ≡ P.store port.old }
+{
+    let device = Path::read(rt.alloc(), b"root.bench.d")?;
+    let measurement = Name::read(rt.alloc(), b"s5000")?;
+    match find_entry(rt.alloc(), port, right, &device, &measurement)? {
+        Some(entry) => Ok(entry.place),
+        None => Ok(0),
+    }
+}
+
+/// Reads a file through the port, and returns its length or a place in it.
 fn read_file<P: Port>(
     rt: &HostRuntime,
     port: &mut P,
@@ -145,12 +164,13 @@ fn read_file<P: Port>(
     let meta = match reading {
         Reading::Whole => check_file(rt.alloc(), port, right)?,
         Reading::Index => read_meta(rt.alloc(), port, right)?,
+        Reading::Entry => return find_one(rt, port, right),
     };
-    Ok(meta.bytes)
+    Ok(meta.size)
 }
 
-/// The rows of one file in the store of a port: how many points are checked a second, or how many entries of its index
-/// are read.
+/// The rows of one file in the store of a port: how many points are checked a second, how many entries of its index are
+/// read, or how long it takes to find one.
 fn repeat<P: Port>(
     rt: &HostRuntime,
     rounds: Rounds,
@@ -167,8 +187,13 @@ fn repeat<P: Port>(
     for _ in 0..many {
         check = check.wrapping_add(read_file(rt, port, right, file.reading)?);
     }
-    let done = many.saturating_mul(file.count);
-    row(rt, rounds, file.what, file.step, done, start)?;
+    match file.reading {
+        Reading::Entry => each(rt, rounds, file.what, file.step, many, start)?,
+        Reading::Whole | Reading::Index => {
+            let done = many.saturating_mul(file.count);
+            row(rt, rounds, file.what, file.step, done, start)?;
+        }
+    }
     Ok(check)
 }
 
@@ -241,60 +266,92 @@ fn at_place<P: Place>(
     outcome
 }
 
-/// The file of one series and that of many chunks, with what is read of each.
-fn both<'a>(
-    large: &'a [u8],
-    points: u64,
-    wide: &'a [u8],
-    chunks: u64,
-    names: [&'a str; 2],
-) -> [FileOf<'a>; 2] {
-    let [large_name, wide_name] = names;
+/// A file, and how many points or entries of it are read in a round.
+#[derive(Clone, Copy)]
+struct Measured<'a> {
+    bytes: &'a [u8],
+    count: u64,
+}
+
+/// The file of one series, that of many chunks, and that in which one entry is found, with what is read of each.
+fn all<'a>(files: [Measured<'a>; 3], names: [&'a str; 3]) -> [FileOf<'a>; 3] {
+    let [large, wide, widest] = files;
+    let [large_name, wide_name, widest_name] = names;
     [
         FileOf {
-            bytes: large,
-            count: points,
+            bytes: large.bytes,
+            count: large.count,
             reading: Reading::Whole,
             what: large_name,
             step: "check",
         },
         FileOf {
-            bytes: wide,
-            count: chunks,
+            bytes: wide.bytes,
+            count: wide.count,
             reading: Reading::Index,
             what: wide_name,
             step: "read_meta",
         },
+        FileOf {
+            bytes: widest.bytes,
+            count: widest.count,
+            reading: Reading::Entry,
+            what: widest_name,
+            step: "find_entry",
+        },
     ]
+}
+
+/// How the table calls the files in memory, and on the disk.
+const IN_MEMORY: [&str; 3] = [
+    "the file, in memory",
+    "1,000 chunks, in memory",
+    "one of 10,000 series, in memory",
+];
+
+const ON_DISK: [&str; 3] = [
+    "the file, on the disk",
+    "1,000 chunks, on the disk",
+    "one of 10,000 series, on the disk",
+];
+
+/// The file of one series, and the row of building it.
+fn build_large(rt: &HostRuntime, rounds: Rounds, count: u64) -> Result<Vec<u8>, Fault> {
+    let series = Path::read(rt.alloc(), b"root.bench.d.s")?;
+    let given = points(rt, count)?;
+    let start = Instant::now(rt)?;
+    let large = build(rt, &series, given)?;
+    let what = "a file of 1,000,000 INT64 TS_2DIFF";
+    row(rt, rounds, what, "build", count, start)?;
+    Ok(large)
 }
 
 /// The rows of files that are built, checked, and opened.
 pub fn files(rt: &HostRuntime, rounds: Rounds) -> Result<u64, Fault> {
     let alloc = rt.alloc();
-    let count = rounds.of(POINTS);
-    let series = Path::read(alloc, b"root.bench.d.s")?;
-    let given = points(rt, count)?;
-    let start = Instant::now(rt)?;
-    let large = build(rt, &series, given)?;
-    row(
-        rt,
-        rounds,
-        "a file of 1,000,000 INT64 TS_2DIFF",
-        "build",
-        count,
-        start,
-    )?;
-    let chunks = rounds.of(CHUNKS);
+    let (count, chunks, series) = (rounds.of(POINTS), rounds.of(CHUNKS), rounds.of(SERIES));
+    let large = build_large(rt, rounds, count)?;
     let wide = many_chunks(rt, chunks)?;
+    let widest = many_chunks(rt, series)?;
+    let sized = [
+        Measured {
+            bytes: &large,
+            count,
+        },
+        Measured {
+            bytes: &wide,
+            count: chunks,
+        },
+        Measured {
+            bytes: &widest,
+            count: series,
+        },
+    ];
     let slots = [vec![in alloc; 0]?, vec![in alloc; 0]?];
     let mut memory = SteadyPlace::new(alloc, slots, Vec::new(alloc))?;
-    let names = ["the file, in memory", "1,000 chunks, in memory"];
-    let read = both(&large, count, &wide, chunks, names);
-    let in_memory = at_place(rt, rounds, &mut memory, &read)?;
+    let in_memory = at_place(rt, rounds, &mut memory, &all(sized, IN_MEMORY))?;
     let mut disk = FsPlace::new(rt.clone()?);
-    let names = ["the file, on the disk", "1,000 chunks, on the disk"];
-    let read = both(&large, count, &wide, chunks, names);
-    let on_disk = at_place(rt, rounds, &mut disk, &read)?;
+    let on_disk = at_place(rt, rounds, &mut disk, &all(sized, ON_DISK))?;
     fs::remove_dir_all(rt, FOLDER)?;
     Ok(in_memory.wrapping_add(on_disk).max(1))
 }

@@ -47,13 +47,39 @@ fn entry(rt: &HostRuntime, number: u64) -> Result<IndexEntry, Fault> {
     })
 }
 
-/// The rows of an index of 100,000 chunks of one page.
-pub fn indexes(rt: &HostRuntime, rounds: Rounds) -> Result<u64, Fault> {
-    let chunks = rounds.of(100_000);
+/// How the table calls the index.
+const NAME: &str = "an index of 100,000 chunks of one page";
+
+/// The entries of so many chunks.
+fn entries(rt: &HostRuntime, chunks: u64) -> Result<Vec<IndexEntry>, Fault> {
     let mut entries = Vec::new(rt.alloc());
     for number in 0..chunks {
         entries.push(entry(rt, number)?)?;
     }
+    Ok(entries)
+}
+
+/// The row of reading these bytes. Says how many entries were read.
+fn read(
+    rt: &HostRuntime,
+    rounds: Rounds,
+    bytes: &[u8],
+    root: u64,
+    chunks: u64,
+) -> Result<u64, Fault> {
+    if bytes.len() > LIMIT || root < PLACE || root - PLACE > bytes.len() as u64 {
+        return Err(Fault::Unread);
+    }
+    let start = Instant::now(rt)?;
+    let index = read_index(rt.alloc(), bytes, PLACE, root)?;
+    row(rt, rounds, NAME, "read", chunks, start)?;
+    Ok(index.entries.items().len() as u64)
+}
+
+/// The rows of an index.
+pub fn indexes(rt: &HostRuntime, rounds: Rounds) -> Result<u64, Fault> {
+    let chunks = rounds.of(100_000);
+    let entries = entries(rt, chunks)?;
     if entries.is_empty() {
         return Err(Fault::Unread);
     }
@@ -62,30 +88,7 @@ pub fn indexes(rt: &HostRuntime, rounds: Rounds) -> Result<u64, Fault> {
     };
     let start = Instant::now(rt)?;
     let (bytes, root) = write_leaves_and_root(rt.alloc(), &index, PLACE)?;
-    row(
-        rt,
-        rounds,
-        "an index of 100,000 chunks of one page",
-        "write",
-        chunks,
-        start,
-    )?;
-    if bytes.len() > LIMIT || root < PLACE || root - PLACE > bytes.len() as u64 {
-        return Err(Fault::Unread);
-    }
-    let start = Instant::now(rt)?;
-    let read = read_index(rt.alloc(), &bytes, PLACE, root)?;
-    row(
-        rt,
-        rounds,
-        "an index of 100,000 chunks of one page",
-        "read",
-        chunks,
-        start,
-    )?;
-    Ok(
-        (read.entries.items().len() as u64)
-            .wrapping_add(root)
-            .max(1),
-    )
+    row(rt, rounds, NAME, "write", chunks, start)?;
+    let count = read(rt, rounds, &bytes, root, chunks)?;
+    Ok(count.wrapping_add(root).max(1))
 }

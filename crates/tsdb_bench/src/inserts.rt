@@ -104,7 +104,7 @@ impl BareCore {
 }
 
 /// Files in memory, none of which is there.
-fn no_files(alloc: Global) -> Result<SteadyFiles, Fault> {
+pub(crate) fn no_files(alloc: Global) -> Result<SteadyFiles, Fault> {
     let slots = [vec![in alloc; 0]?, vec![in alloc; 0]?];
     let mut place = SteadyPlace::new(alloc, slots, Vec::new(alloc))?;
     match place.take_up(b"bench") {

@@ -60,53 +60,70 @@ fn page(rt: &HostRuntime, values: Values) -> Result<Vec<Point>, Fault> {
     Ok(points)
 }
 
-/// The rows of pages and of statistics.
-pub fn pages(rt: &HostRuntime, rounds: Rounds) -> Result<u64, Fault> {
-    let any = page(rt, Values::Any)?;
-    let growing = page(rt, Values::Growing)?;
-    let runs = page(rt, Values::Runs)?;
-    let texts = page(rt, Values::Texts)?;
-    let (number, text) = (DataType::Int64, DataType::Text);
-    let mut check = 1u64;
-    for done in [
-        repeat(
-            rt,
-            rounds,
-            "a page, INT64 PLAIN",
-            &any,
-            number,
-            Encoding::Plain,
-        )?,
-        repeat(
-            rt,
-            rounds,
-            "a page, INT64 TS_2DIFF",
-            &growing,
-            number,
-            Encoding::Ts2diff,
-        )?,
-        repeat(
-            rt,
-            rounds,
-            "a page, INT64 RLE of runs of 100",
-            &runs,
-            number,
-            Encoding::Rle,
-        )?,
-        repeat(
-            rt,
-            rounds,
-            "a page, TEXT DICTIONARY of five",
-            &texts,
-            text,
-            Encoding::Dictionary,
-        )?,
-        statistics(rt, rounds, "statistics of INT64", &any)?,
-        statistics(rt, rounds, "statistics of TEXT", &texts)?,
-    ] {
+/// A page that is measured, and how the table calls it.
+#[derive(Clone, Copy)]
+struct Measured {
+    what: &'static str,
+    values: Values,
+    data_type: DataType,
+    encoding: Encoding,
+}
+
+const PAGES: [Measured; 4] = [
+    Measured {
+        what: "a page, INT64 PLAIN",
+        values: Values::Any,
+        data_type: DataType::Int64,
+        encoding: Encoding::Plain,
+    },
+    Measured {
+        what: "a page, INT64 TS_2DIFF",
+        values: Values::Growing,
+        data_type: DataType::Int64,
+        encoding: Encoding::Ts2diff,
+    },
+    Measured {
+        what: "a page, INT64 RLE of runs of 100",
+        values: Values::Runs,
+        data_type: DataType::Int64,
+        encoding: Encoding::Rle,
+    },
+    Measured {
+        what: "a page, TEXT DICTIONARY of five",
+        values: Values::Texts,
+        data_type: DataType::Text,
+        encoding: Encoding::Dictionary,
+    },
+];
+
+/// The rows of these pages.
+fn all_pages(rt: &HostRuntime, rounds: Rounds, pages: &[Measured]) -> Result<u64, Fault> {
+    let mut check = 0u64;
+    for one in pages {
+        let points = page(rt, one.values)?;
+        let done = repeat(rt, rounds, one.what, &points, one.data_type, one.encoding)?;
         check = check.wrapping_add(done);
     }
-    Ok(check.max(1))
+    Ok(check)
+}
+
+/// The row of the statistics of a page of these values.
+fn statistics_of(
+    rt: &HostRuntime,
+    rounds: Rounds,
+    what: &str,
+    values: Values,
+) -> Result<u64, Fault> {
+    let points = page(rt, values)?;
+    statistics(rt, rounds, what, &points)
+}
+
+/// The rows of pages and of statistics.
+pub fn pages(rt: &HostRuntime, rounds: Rounds) -> Result<u64, Fault> {
+    let pages = all_pages(rt, rounds, &PAGES)?;
+    let numbers = statistics_of(rt, rounds, "statistics of INT64", Values::Any)?;
+    let texts = statistics_of(rt, rounds, "statistics of TEXT", Values::Texts)?;
+    Ok(pages.wrapping_add(numbers).wrapping_add(texts).max(1))
 }
 
 /// Writing and reading of one page.

@@ -5,8 +5,8 @@ ghost use Rattle.tsdb_aggregate.specs.Steps.{held_of};
 
 use std::alloc::Global;
 use std::sync::ledger::Ledger;
-use tsdb_aggregate::{Loader, Steps};
-use tsdb_base::{Memory, Point};
+use tsdb_aggregate::Loader;
+use tsdb_base::{Memory, Point, Steps};
 use tsdb_merge::PullFault;
 
 /// Lists in memory, whose loads cost nothing. A load copies its list.
@@ -19,7 +19,7 @@ pub struct Lists {
 fn copy_points(alloc: Global, points: &[Point]) -> Result<Vec<Point>, Memory>
     ensures { IfOk result (λ copy. copy.items ≡ points.now) }
 {
-    let mut copy = Vec::new(alloc);
+    let mut copy = Vec::with_capacity(alloc, points.len())?;
     for place in 0..points.len() {
         let point = &points[place];
         copy.push(Point {

@@ -31,7 +31,7 @@ fn entry(rt: &HostRuntime, from: u64, to: u64) -> Result<FileEntry, Fault> {
     Ok(FileEntry {
         number: FileNumber(1),
         born: Stamp(1),
-        bytes: 1,
+        size: 1,
         points: 1,
         hulls: List::of(hulls),
         claimed: false,

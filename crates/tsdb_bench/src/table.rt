@@ -65,3 +65,24 @@ pub fn rate(
     let a_second = u128::from(done) * 1_000_000_000 / nanos;
     println!(rt; "{what:<50} {step:<10} {a_second:>10} a second")
 }
+
+/// Prints how many milliseconds each of these took since `start`.
+pub fn each(
+    rt: &HostRuntime,
+    rounds: Rounds,
+    what: &str,
+    step: &str,
+    done: u64,
+    start: Instant,
+) -> io::Result<()> {
+    let nanos = start.elapsed(rt)?.as_nanos();
+    if rounds == Rounds::One {
+        return Ok(());
+    }
+    let micros = nanos / 1000 / u128::from(done).max(1);
+    println!(rt;
+        "{what:<50} {step:<10} {:>6}.{:03} ms",
+        micros / 1000,
+        micros % 1000
+    )
+}
