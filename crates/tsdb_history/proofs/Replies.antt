@@ -132,6 +132,7 @@ module _ {J F S R P : Type 0} {means : disk.Ghosts J} {counts : counted.Ghosts J
       served = record {
         put = kept.put;
         numbers = kept.numbers;
+        differ = kept.differ;
         doubt = kept.doubt;
         may = may_then kept.may;
         serving = subst (λ state. IsServing new (files ++ kept.put) state kept.doubt)

@@ -29,6 +29,7 @@ use Rattle.tsdb_outside.specs.declared.disk.Disk as disk
 use Rattle.tsdb_outside.specs.declared.faults.Counted as counted
 use Rattle.tsdb_replay.specs.Stores.{HoldsKept, StandsFor, StandsForOneOf}
 use Rattle.tsdb_replay.specs.Stores as stores
+use Rattle.tsdb_serving.proofs.Differing.{differ_on, drawn_apart}
 use Rattle.tsdb_serving.proofs.Parts.{more_files}
 use Rattle.tsdb_serving.proofs.Steps.{idle, image_left}
 use Rattle.tsdb_serving.proofs.Answered.{stamp_is}
@@ -58,6 +59,7 @@ module _ {J F S R P : Type 0} {means : disk.Ghosts J} {counts : counted.Ghosts J
     reached = tt;
     put = [];
     numbers = tt;
+    differ = tt;
     doubt = None;
     may = inl refl;
     settled = λ ends. refl;
@@ -180,6 +182,8 @@ module _ {J F S R P : Type 0} {means : disk.Ghosts J} {counts : counted.Ghosts J
             (λ (file : StoredFile). IsDrawn first new file.number) from_first so_far.put so_far.numbers)
             (each_weaker (λ (file : StoredFile). IsDrawn mid new file.number)
             (λ (file : StoredFile). IsDrawn first new file.number) from_second served.put served.numbers);
+        differ = differ_on (IsDrawn first mid) (IsDrawn mid new) (drawn_apart first mid new) so_far.put served.put
+            so_far.numbers served.numbers so_far.differ served.differ;
         doubt = served.doubt;
         may = may;
         settled = settled;

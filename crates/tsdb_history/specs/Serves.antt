@@ -1,5 +1,5 @@
 -- What the commands of a script leave, one behind another, on one core.
-use Rattle.std.specs.Prelude.{◌≡◌, ◌⊎◌, Bool, true, List, [], ◌++◌, Option, None, Some, ⊤}
+use Rattle.std.specs.Prelude.{◌≡◌, ◌≢◌, ◌⊎◌, Bool, true, List, [], ◌++◌, Option, None, Some, ⊤}
 use Rattle.std.specs.List.{AllByRecursion as Each}
 use Rattle.tsdb_base.specs.declared.answers.Answer.TheVariants as answer
 use Rattle.tsdb_base.specs.declared.ids.Space.TheVariants.{Sequence}
@@ -11,6 +11,7 @@ use Rattle.tsdb_history.specs.History.{IsHistory, IsInLineOrder}
 use Rattle.tsdb_history.specs.Prefixes.{EndsDone, EndsListed, IsInDoubt, StandsAfterPrefix}
 use Rattle.tsdb_history.specs.Reach.{AreFullWithin}
 use Rattle.tsdb_history.specs.declared.told.Told.{Told}
+use Rattle.tsdb_layers.specs.Lists.{EachPair}
 use Rattle.tsdb_model.specs.History.{Entry, IsLegal, state_after}
 use Rattle.tsdb_model.specs.State as plain
 use Rattle.tsdb_model.specs.declared.command.Command.{Command}
@@ -58,9 +59,9 @@ module _ {J F S R P : Type 0} {means : disk.Ghosts J} {counts : counted.Ghosts J
   HasCompacted Flush old new = ⊤
   HasCompacted ShowFiles old new = ⊤
 
-  -- These entries were served, beside the files that were there. The files that were put have numbers that were drawn
-  -- meanwhile. A stop at any moment left the state after a prefix of the entries. A listing that was answered last is
-  -- that of the core.
+  -- These entries were served, beside the files that were there. The files that were put have different numbers, which
+  -- were drawn meanwhile. A stop at any moment left the state after a prefix of the entries. A listing that was
+  -- answered last is that of the core.
   pub record HasServed (old new : Core J F S R P means counts) (files : List StoredFile) (start : plain.State)
       (entries : List Entry)
       : Type 0 where
@@ -69,6 +70,7 @@ module _ {J F S R P : Type 0} {means : disk.Ghosts J} {counts : counted.Ghosts J
     pub reached : AreFullWithin (next_of new) start entries
     pub put : List StoredFile
     pub numbers : Each (λ (file : StoredFile). IsDrawn old new file.number) put
+    pub differ : EachPair (λ (a b : StoredFile). a.number ≢ b.number) put
     pub doubt : Option plain.State
     pub may : MayDoubt entries after doubt
     pub settled : EndsDone entries → doubt ≡ None

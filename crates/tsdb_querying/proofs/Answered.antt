@@ -96,6 +96,7 @@ module _ {J F S R P : Type 0} {means : disk.Ghosts J} {counts : counted.Ghosts J
         served = record {
           put = [];
           numbers = tt;
+          differ = tt;
           doubt = next;
           may = inr (inl refl);
           serving = subst (λ state. IsServing new (files ++ []) state next) (sym stays)

@@ -137,6 +137,7 @@ module _ {J F S R P : Type 0} {means : disk.Ghosts J} {counts : counted.Ghosts J
           numbers = each_weaker (λ (file : StoredFile). file.number ≡ job.output.0)
               (λ (file : StoredFile). IsDrawn old new file.number) (λ file is. as_drawn file.number is) served.put
               served.numbers;
+          differ = served.differ;
           doubt = served.doubt;
           may = served.may;
           serving = served.serving;

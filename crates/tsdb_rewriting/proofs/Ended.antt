@@ -27,6 +27,7 @@ use Rattle.std.specs.FinMap.{empty}
 use Rattle.tsdb_rewriting.proofs.Ready.{EndsTokens, ready_ended}
 use Rattle.tsdb_rewriting.proofs.States.{abandoned, served}
 use Rattle.tsdb_rewriting.specs.Rewriting.{EndsRewrite, IsFinished, IsRewriting, IsServingRewrite, KeepsBoth}
+use Rattle.tsdb_serving.proofs.Differing.{NoNumber}
 use Rattle.tsdb_serving.proofs.Jobs.{ready_swept}
 use Rattle.tsdb_serving.proofs.Parts.{swept}
 use Rattle.tsdb_serving.proofs.Steps.{then}
@@ -43,8 +44,8 @@ module _ {J F S R P : Type 0} {means : disk.Ghosts J} {counts : counted.Ghosts J
   then_swept : (files : List StoredFile) (at : plain.State) (next : Option plain.State)
       → slot_under mid ≡ slot_under old → IsServedBy Q old mid files at next at at
       → IsServedBy Q old new files at next at at
-  then_swept files at next slot one = then laws Q Q Q (λ n is. is) (λ n is. is) old mid new files at next at at slot one
-      (swept laws Q mid new (files ++ one.put) at one.doubt one.serving outcome sweeps)
+  then_swept files at next slot one = then laws Q NoNumber Q (λ n is. is) (λ n none. absurd none) (λ a b is none. absurd none) old mid new files at
+      next at at slot one (swept laws NoNumber mid new (files ++ one.put) at one.doubt one.serving outcome sweeps)
 
   later_swept : faults_under old ≤ faults_under mid → faults_under old ≤ faults_under new
   later_swept = subst (λ (logged : Logged J means counts). faults_under old ≤ faults_of (log_of logged))

@@ -27,6 +27,7 @@ use Rattle.tsdb_replacing.proofs.Told.{told_same, worlds_with}
 use Rattle.tsdb_replacing.specs.Outputs.{only_output}
 use Rattle.tsdb_replay.specs.Stores.{IsStateOf}
 use Rattle.tsdb_rewriting.specs.Rewriting.{IsServingRewrite}
+use Rattle.tsdb_serving.proofs.Differing.{Differ, stored_differ}
 use Rattle.tsdb_serving.proofs.Held.{either_wider, held_more, held_with}
 use Rattle.tsdb_serving.proofs.Jobs.{stored_number}
 use Rattle.tsdb_serving.proofs.Parts.{leads_as}
@@ -42,6 +43,11 @@ use Rattle.tsdb_state.specs.Worlds.{KeepsWorld}
 abbrev pub put_of : Option NewFile → List StoredFile
 put_of None = []
 put_of (Some file) = flat_map stored_of (all_of (only_output file))
+
+-- one file differs from all others
+differ_one : (file : Option NewFile) → Differ (put_of file)
+differ_one None = tt
+differ_one (Some file) = stored_differ (all_of (only_output file)) (tt, tt)
 
 -- a compaction leaves the stamp
 record_stamp : (job : Compaction) (output : List File) (place : ℕ) (store : StoreState)
@@ -119,7 +125,7 @@ module _ {J F S R P : Type 0} {means : disk.Ghosts J} {counts : counted.Ghosts J
 
         pub abandoned : IsJobAbandoned old new job file → IsServedBy Q old new files at next at at
         abandoned gives_up = quiet laws Q old new files (put_of file) at next at
-            (ap (λ log. log_of log) gives_up.logged) (numbers file output) before
+            (ap (λ log. log_of log) gives_up.logged) (numbers file output) (differ_one file) before
             (shows (ended is.compaction is.others (sent_files file) is.state) next refl (leads_with file output)
             (gives_up.step is.outside is.state is.compaction is.others content is.seen is.is is.out output))
 
@@ -147,6 +153,7 @@ module _ {J F S R P : Type 0} {means : disk.Ghosts J} {counts : counted.Ghosts J
       by_record doubt may shown = record {
         put = put_of file;
         numbers = numbers commits.content file commits.output;
+        differ = differ_one file;
         doubt = doubt;
         may = may;
         serving = shown;

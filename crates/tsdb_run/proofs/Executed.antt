@@ -1,7 +1,7 @@
 -- The entries of a run, from the store that was taken up to the one that was put down.
-use Rattle.std.proofs.Common.{◌≡◌, ◌⊎◌, ◌∙◌, inl, inr, ⊎_elim, ℕ, ◌+◌, ◌<◌, ◌≤◌, List, [], ◌∷◌, ◌++◌, Option, None, Some}
-use Rattle.std.proofs.Common.{Result, Ok, Err, refl, subst, sym, arith}
-use Rattle.std.specs.Prelude.{◌-◌, ◌^◌, min, IfOk}
+use Rattle.std.proofs.Common.{◌≡◌, ◌≢◌, ◌⊎◌, ◌∙◌, inl, inr, ⊎_elim, ℕ, ◌+◌, ◌<◌, ◌≤◌, List, [], ◌∷◌, ◌++◌, Option, None, Some}
+use Rattle.std.proofs.Common.{Result, Ok, Err, zero, suc, ap, refl, subst, sym, arith}
+use Rattle.std.specs.Prelude.{◌-◌, ◌^◌, min, slice_get, IfOk}
 use Rattle.std.specs.List.{AllByRecursion as Each}
 use Rattle.std.specs.Option.{IsSomeAnd}
 use Rattle.tsdb_core.specs.Core.{next_of}
@@ -15,6 +15,7 @@ use Rattle.tsdb_history.specs.Prefixes.{EndsDone, StandsAfter, StandsAfterPrefix
 use Rattle.tsdb_history.specs.Serves.{HasServed, LeavesPrefix}
 use Rattle.tsdb_images.specs.Stored.{LeavesOneOf, kept_bytes}
 use Rattle.tsdb_layers.proofs.Lists.{each_weaker}
+use Rattle.tsdb_layers.specs.Lists.{EachPair}
 use Rattle.tsdb_model.specs.History.{Entry}
 use Rattle.tsdb_model.specs.State as plain
 use Rattle.tsdb_opening.specs.Opening.{greatest}
@@ -51,6 +52,25 @@ keeps_leaves old new P before after keeps each = record {
   each = λ image left. each image (⊎_elim (λ earlier. before.only_now image earlier) (λ now. keeps.crash image now)
       (keeps.time.nothing_else old.moment image (omega arith) left));
 }
+
+-- ---- the numbers of files
+
+-- no other file has the number
+not_there : (number : ℕ) (files : List StoredFile) → Each (λ (other : StoredFile). number ≢ other.number) files
+    → (i n : ℕ) → slice_get (numbers_of files) i ≡ Some n → number ≡ n → ⊥
+not_there number [] apart i n at same = absurd cc
+not_there number (file ∷ files) apart zero n at same = apart.0 (same ∙ sym (same_Some file.number n at))
+not_there number (file ∷ files) apart (suc i) n at same = not_there number files apart.1 i n at same
+
+numbered_once : (files : List StoredFile) → EachPair (λ (a b : StoredFile). a.number ≢ b.number) files
+    → (i j n : ℕ) → slice_get (numbers_of files) i ≡ Some n → slice_get (numbers_of files) j ≡ Some n → i ≡ j
+numbered_once [] differ i j n at other = absurd cc
+numbered_once (file ∷ files) differ zero zero n at other = refl
+numbered_once (file ∷ files) differ zero (suc j) n at other =
+    absurd (not_there file.number files differ.0 j n other (same_Some file.number n at))
+numbered_once (file ∷ files) differ (suc i) zero n at other =
+    absurd (not_there file.number files differ.0 i n at (same_Some file.number n other))
+numbered_once (file ∷ files) differ (suc i) (suc j) n at other = ap suc (numbered_once files differ.1 i j n at other)
 
 -- ---- the core
 
@@ -103,6 +123,7 @@ module _ {J F S R P : Type 0} {means : disk.Ghosts J} {counts : counted.Ghosts J
     legal = served.legal;
     put = served.put;
     newer = newer below;
+    once = numbered_once served.put served.differ;
     moments = moments;
     stored = stored;
     at_rest = record { told = told; are_stored = are_stored; held = closed.held };
@@ -172,6 +193,7 @@ module _ (files : List StoredFile) (start : plain.State) (entries : List Entry) 
     legal = run.legal;
     put = run.put;
     newer = run.newer;
+    once = run.once;
     moments = leaves_on old mid new behind (prefixed run.put)
         (keeps_leaves old mid (prefixed run.put) before between keeps
         (λ image left. no_prefix (StandsFor (files ++ run.put) image) start entries
@@ -191,6 +213,7 @@ module _ (files : List StoredFile) (start : plain.State) (entries : List Entry) 
     legal = run.legal;
     put = run.put;
     newer = run.newer;
+    once = run.once;
     moments = leaves_on old mid new behind (prefixed run.put) run.moments
         (keeps_leaves mid new (prefixed run.put) between behind keeps
         (λ image left. whole_prefix (StandsFor (files ++ run.put) image) start run.after entries run.legal

@@ -8,11 +8,12 @@ use Rattle.tsdb_history.specs.History.{IsHistory, IsInLineOrder}
 use Rattle.tsdb_history.specs.Prefixes.{EndsDone, EndsListed, StandsAfter, StandsAfterPrefix}
 use Rattle.tsdb_history.specs.Reach.{AreFullWithin, max_drawn}
 use Rattle.tsdb_history.specs.declared.told.Told.{Told}
+use Rattle.tsdb_model.specs.Commands.{AreDifferent}
 use Rattle.tsdb_model.specs.History.{Entry, IsLegal}
 use Rattle.tsdb_model.specs.State as plain
 use Rattle.tsdb_model.specs.declared.reply.Listing.{Listing}
 use Rattle.tsdb_outside.specs.Disk.{Image, DiskState}
-use Rattle.tsdb_outside.specs.Files.{StoredFile}
+use Rattle.tsdb_outside.specs.Files.{StoredFile, numbers_of}
 use Rattle.tsdb_outside.specs.Moments.{LeavesOnly}
 use Rattle.tsdb_run.specs.Output.{AppendsPrefix, output_text}
 use Rattle.tsdb_run.specs.Store.{Contents, IsDamaged, IsLeftAlone, IsListed, IsNextNumber, IsSound, StandsFor, Stores}
@@ -53,9 +54,10 @@ pub record HasRun (files : List StoredFile) (start : plain.State) (entries : Lis
   pub after : plain.State
   -- each reply is allowed in the state at its place
   pub legal : IsLegal start entries after
-  -- the files that were put
+  -- the files that were put; a number is used once
   pub put : List StoredFile
   pub newer : AreNewer put files
+  pub once : AreDifferent (numbers_of put)
   -- a stop at any moment left what stands for the state after a prefix of the entries
   pub moments : LeavesOnly old new.disk (λ image. StandsAfterPrefix (StandsFor (files ++ put) image) start entries)
   -- the files that are stored then, none but those of the run

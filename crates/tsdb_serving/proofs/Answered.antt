@@ -30,6 +30,7 @@ use Rattle.tsdb_outside.specs.Files.{StoredFile}
 use Rattle.tsdb_outside.specs.declared.disk.Disk as disk
 use Rattle.tsdb_outside.specs.declared.faults.Counted as counted
 use Rattle.tsdb_replay.specs.Stores.{IsStateOf}
+use Rattle.tsdb_serving.proofs.Differing.{NoNumber, drawn_apart}
 use Rattle.tsdb_serving.proofs.Held.{either_wider, held_more, same_state}
 use Rattle.tsdb_serving.proofs.Parts.{froze, unchanged}
 use Rattle.tsdb_serving.proofs.Steps.{moved, moved_left, quiet, quiet_left, then, then_left, then_settled}
@@ -255,7 +256,7 @@ module _ {J F S R P : Type 0} {means : disk.Ghosts J} {counts : counted.Ghosts J
     -- nothing was written
     kept : log_of (logged_of new) ≡ log_of (logged_of old) → IsSeen new serving.outside serving.state
         → IsServedBy Q old new files at next then_state at
-    kept same seen = quiet laws Q old new files [] at next then_state same tt serving (shown seen)
+    kept same seen = quiet laws Q old new files [] at next then_state same tt tt serving (shown seen)
 
     still : new ≡ old → IsServedBy Q old new files at next then_state at
     still same = kept (ap (λ (core : Core J F S R P means counts). log_of (logged_of core)) same)
@@ -265,7 +266,7 @@ module _ {J F S R P : Type 0} {means : disk.Ghosts J} {counts : counted.Ghosts J
     kept_left : (same : log_of (logged_of new) ≡ log_of (logged_of old))
         (seen : IsSeen new serving.outside serving.state) → (kept same seen).doubt ≡ next
     unfolding kept
-    kept_left same seen = quiet_left laws Q old new files [] at next then_state same tt serving (shown seen)
+    kept_left same seen = quiet_left laws Q old new files [] at next then_state same tt tt serving (shown seen)
 
     still_left : (same : new ≡ old) → (still same).doubt ≡ next
     unfolding still
@@ -287,6 +288,7 @@ module _ {J F S R P : Type 0} {means : disk.Ghosts J} {counts : counted.Ghosts J
       written doubt now may is = record {
         put = [];
         numbers = tt;
+        differ = tt;
         doubt = doubt;
         may = may;
         serving = is;
@@ -383,7 +385,7 @@ module _ {J F S R P : Type 0} {means : disk.Ghosts J} {counts : counted.Ghosts J
     -- where the record cannot have been written, the log is as it was
     same_log : log_of (logged_of new) ≡ log_of (logged_of old) → IsSeen new serving.outside serving.state
         → IsServedBy Q old new files at next at at
-    same_log same seen = quiet laws Q old new files [] at next at same tt serving (shown seen)
+    same_log same seen = quiet laws Q old new files [] at next at same tt tt serving (shown seen)
 
     same_core : new ≡ old → IsServedBy Q old new files at next at at
     same_core same = same_log (ap (λ (core : Core J F S R P means counts). log_of (logged_of core)) same)
@@ -428,18 +430,18 @@ module _ {J F S R P : Type 0} {means : disk.Ghosts J} {counts : counted.Ghosts J
         × RowDoubts next at (done_after at asked) result served.doubt
         × (¬ IsWritten at asked (Plain result) → IsServedBy Q old new files at next at at)
 
-    -- the core before the record
+    -- the core before the record, which no file was put for
     placed : (between : Core J F S R P means counts) → HasPlace row old between
-        → (first : IsServedBy Q old between files at next at at) × (slot_under between ≡ slot_under old)
+        → (first : IsServedBy NoNumber old between files at next at at) × (slot_under between ≡ slot_under old)
     placed between (inl (fits, same)) = (
-      unchanged laws Q old between files at next at
+      unchanged laws NoNumber old between files at next at
           (ap (λ (core : Core J F S R P means counts). log_of (logged_of core)) same)
           (λ outside engine seen. subst (λ (core : Core J F S R P means counts). IsSeen core outside engine) (sym same)
           seen) serving,
       ap (λ (core : Core J F S R P means counts). slot_under core) same,
     )
     placed between (inr frozen) = (
-      froze laws Q old between answer.Done frozen.freeze frozen.can files at next serving,
+      froze laws NoNumber old between answer.Done frozen.freeze frozen.can files at next serving,
       frozen.freeze.slot,
     )
 
@@ -454,18 +456,19 @@ module _ {J F S R P : Type 0} {means : disk.Ghosts J} {counts : counted.Ghosts J
     put_ends result put map =
         let first = placed put.between put.place in
         let step = put.put in (
-          then laws Q Q Q (λ n is. is) (λ n is. is) old put.between new files at next (done_after at asked)
+          then laws NoNumber Q Q (λ n none. absurd none) (λ n is. is) (λ a b none. absurd none) old put.between new
+              files at next (done_after at asked)
               (state_after at asked (Plain result)) first.1 first.0
               (served Q put.between new (item.Insert row.time put.cells) asked (λ store. refl)
               (files ++ first.0.put) at first.0.doubt first.0.serving result step (put_leads result put)),
-          λ is. then_settled laws Q Q Q (λ n is. is) (λ n is. is) old put.between new files at next
+          λ is. then_settled laws NoNumber Q Q (λ n none. absurd none) (λ n is. is) (λ a b none. absurd none) old put.between new files at next
               (done_after at asked) (state_after at asked (Plain result)) first.1 first.0
               (served Q put.between new (item.Insert row.time put.cells) asked (λ store. refl)
               (files ++ first.0.put) at first.0.doubt first.0.serving result step (put_leads result put))
               (settles Q put.between new (item.Insert row.time put.cells) asked (λ store. refl) (files ++ first.0.put)
               at first.0.doubt first.0.serving result step (put_leads result put) is),
           subst (RowDoubts next at (done_after at asked) result)
-              (sym (then_left laws Q Q Q (λ n is. is) (λ n is. is) old put.between new files at next
+              (sym (then_left laws NoNumber Q Q (λ n none. absurd none) (λ n is. is) (λ a b none. absurd none) old put.between new files at next
               (done_after at asked) (state_after at asked (Plain result)) first.1 first.0
               (served Q put.between new (item.Insert row.time put.cells) asked (λ store. refl)
               (files ++ first.0.put) at first.0.doubt first.0.serving result step (put_leads result put))))
@@ -477,7 +480,8 @@ module _ {J F S R P : Type 0} {means : disk.Ghosts J} {counts : counted.Ghosts J
               (files ++ first.0.put) at first.0.doubt first.0.serving result step (put_leads result put)).doubt
               (doubts Q put.between new (item.Insert row.time put.cells) asked (λ store. refl) (files ++ first.0.put)
               at first.0.doubt first.0.serving result step (put_leads result put)))),
-          λ not. then laws Q Q Q (λ n is. is) (λ n is. is) old put.between new files at next at at first.1 first.0
+          λ not. then laws NoNumber Q Q (λ n none. absurd none) (λ n is. is) (λ a b none. absurd none) old put.between
+              new files at next at at first.1 first.0
               (unmoved Q put.between new (item.Insert row.time put.cells) asked (λ store. refl) (files ++ first.0.put)
               at first.0.doubt first.0.serving result step map not),
         )
@@ -488,6 +492,7 @@ module _ {J F S R P : Type 0} {means : disk.Ghosts J} {counts : counted.Ghosts J
     for_command kept = record {
       put = kept.put;
       numbers = kept.numbers;
+      differ = kept.differ;
       doubt = kept.doubt;
       may = may kept.may;
       serving = kept.serving;
@@ -573,19 +578,19 @@ module _ {J F S R P : Type 0} {means : disk.Ghosts J} {counts : counted.Ghosts J
           → IsAnsweredBy (IsDrawn old new) old new files at next (command.Insert device row) (Plain result)
       behind result second = record {
         allowed = second.allowed;
-        served = then laws (IsDrawn old mid) (IsDrawn mid new) (IsDrawn old new) low high old mid new files at next
+        served = then laws (IsDrawn old mid) (IsDrawn mid new) (IsDrawn old new) low high (drawn_apart old mid new) old mid new files at next
             (done_after at (command.Insert device row)) (state_after at (command.Insert device row) (Plain result)) slot
             first second.served;
-        settled = λ change is. then_settled laws (IsDrawn old mid) (IsDrawn mid new) (IsDrawn old new) low high old mid new
+        settled = λ change is. then_settled laws (IsDrawn old mid) (IsDrawn mid new) (IsDrawn old new) low high (drawn_apart old mid new) old mid new
             files at next (done_after at (command.Insert device row))
             (state_after at (command.Insert device row) (Plain result)) slot first second.served (second.settled change is);
         doubtful = subst (LeavesDoubt next at (command.Insert device row) (Plain result))
-            (sym (then_left laws (IsDrawn old mid) (IsDrawn mid new) (IsDrawn old new) low high old mid new files at next
+            (sym (then_left laws (IsDrawn old mid) (IsDrawn mid new) (IsDrawn old new) low high (drawn_apart old mid new) old mid new files at next
             (done_after at (command.Insert device row)) (state_after at (command.Insert device row) (Plain result)) slot
             first second.served))
             (behind_doubts next at device row (Plain result) first.doubt second.served.doubt first.may second.doubtful);
-        unwritten = λ change not. then laws (IsDrawn old mid) (IsDrawn mid new) (IsDrawn old new) low high old mid new files
-            at next at at slot first (second.unwritten change not);
+        unwritten = λ change not. then laws (IsDrawn old mid) (IsDrawn mid new) (IsDrawn old new) low high
+            (drawn_apart old mid new) old mid new files at next at at slot first (second.unwritten change not);
       }
 
   -- the flush before a row failed

@@ -36,6 +36,7 @@ use Rattle.tsdb_outside.specs.Moments.{LeavesOnly}
 use Rattle.tsdb_outside.specs.declared.disk.Disk as disk
 use Rattle.tsdb_outside.specs.declared.faults.Counted as counted
 use Rattle.tsdb_outside.specs.declared.faults.Failed.{Failed}
+use Rattle.tsdb_serving.proofs.Differing.{NoNumber, drawn_apart}
 use Rattle.tsdb_serving.proofs.Jobs.{put_numbers, ready_again, ready_swept, still_ready, within}
 use Rattle.tsdb_serving.proofs.Parts as parts
 use Rattle.tsdb_serving.proofs.Steps.{then}
@@ -91,7 +92,7 @@ module _ {J F S R P : Type 0} {means : disk.Ghosts J} {counts : counted.Ghosts J
         record { from = low; to = omega (arith, high, second.next) })
         (λ n drawn. let low = drawn.from in let high = drawn.to in
         record { from = omega (arith, low, first.next); to = high })
-        old mid new files at next at at first.slot one
+        (drawn_apart old mid new) old mid new files at next at at first.slot one
         (second.keeps tells (files ++ one.put) at one.doubt one.serving);
   }
 
@@ -144,6 +145,7 @@ module _ {J F S R P : Type 0} {means : disk.Ghosts J} {counts : counted.Ghosts J
       numbers = each_weaker (λ (file : StoredFile). IsOfJob job file.number)
           (λ (file : StoredFile). IsDrawn old new file.number) (λ file of_job. as_drawn file.number of_job) served.put
           served.numbers;
+      differ = served.differ;
       doubt = served.doubt;
       may = served.may;
       serving = served.serving;
@@ -183,9 +185,10 @@ module _ {J F S R P : Type 0} {means : disk.Ghosts J} {counts : counted.Ghosts J
       keeps = λ told files at next serving.
           let one = parts.committed laws (IsOfJob job) old mid job built given of_job (tells told)
           (put_numbers given job built of_job) files at next serving commit commits in
-          then laws (IsOfJob job) (IsOfJob job) (IsOfJob job) (λ n is. is) (λ n is. is) old mid new files at next
+          then laws (IsOfJob job) NoNumber (IsOfJob job) (λ n is. is) (λ n none. absurd none)
+          (λ a b is none. absurd none) old mid new files at next
           at at commits.slot one
-          (parts.swept laws (IsOfJob job) mid new (files ++ one.put) at one.doubt one.serving outcome sweeps);
+          (parts.swept laws NoNumber mid new (files ++ one.put) at one.doubt one.serving outcome sweeps);
     }
 
     pub abandon_ends : IsAbandoned old mid job built → EndsJob store old new job
@@ -199,9 +202,10 @@ module _ {J F S R P : Type 0} {means : disk.Ghosts J} {counts : counted.Ghosts J
       keeps = λ told files at next serving.
           let one = parts.abandoned laws (IsOfJob job) old mid job built given of_job (tells told)
           (put_numbers given job built of_job) files at next serving gives_up in
-          then laws (IsOfJob job) (IsOfJob job) (IsOfJob job) (λ n is. is) (λ n is. is) old mid new files at next
+          then laws (IsOfJob job) NoNumber (IsOfJob job) (λ n is. is) (λ n none. absurd none)
+          (λ a b is none. absurd none) old mid new files at next
           at at (ap (λ logged. slot_of (log_of logged)) gives_up.logged) one
-          (parts.swept laws (IsOfJob job) mid new (files ++ one.put) at one.doubt one.serving outcome sweeps);
+          (parts.swept laws NoNumber mid new (files ++ one.put) at one.doubt one.serving outcome sweeps);
     }
 
 module _ {J F S R P : Type 0} {means : disk.Ghosts J} {counts : counted.Ghosts J} where

@@ -1,5 +1,6 @@
 pub mod Answered
 pub mod Causes
+pub mod Differing
 pub mod First
 pub mod Flushes
 pub mod Held

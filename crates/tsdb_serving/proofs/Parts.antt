@@ -6,7 +6,7 @@ use Rattle.std.specs.Prelude.{IfSome}
 use Rattle.tsdb_answers.proofs.Following.{froze_stands}
 use Rattle.tsdb_base.specs.declared.answers.Answer.{Answer}
 use Rattle.tsdb_base.specs.declared.answers.Answer.TheVariants as answer
-use Rattle.tsdb_committing.proofs.Stored.{told_same, worlds_with}
+use Rattle.tsdb_committing.proofs.Stored.{numbers_differ, one_at_most, told_same, worlds_with}
 use Rattle.tsdb_committing.specs.Files.{AreOfJob, IsOutAs, NewFiles, TellBytes, all_of, state_files}
 use Rattle.tsdb_committing.specs.Files.{stored_of, told_with, with_files}
 use Rattle.tsdb_core.specs.Commands.{IsCoreCommand, IsSeenAfter}
@@ -38,6 +38,7 @@ use Rattle.tsdb_outside.specs.declared.disk.Disk as disk
 use Rattle.tsdb_outside.specs.declared.faults.Counted as counted
 use Rattle.tsdb_outside.specs.declared.faults.Failed.{Failed}
 use Rattle.tsdb_replay.specs.Stores.{IsStateOf}
+use Rattle.tsdb_serving.proofs.Differing.{Differ, stored_differ}
 use Rattle.tsdb_serving.proofs.Held.{either_wider, held_more, held_with, held_without}
 use Rattle.tsdb_serving.proofs.Steps.{quiet_left, quiet}
 use Rattle.tsdb_serving.specs.Flushing.{IsServingJob}
@@ -127,6 +128,7 @@ module _ {J F S R P : Type 0} {means : disk.Ghosts J} {counts : counted.Ghosts J
     froze_by doubt may is = record {
       put = [];
       numbers = tt;
+      differ = tt;
       doubt = doubt;
       may = may;
       serving = is;
@@ -214,7 +216,7 @@ module _ {J F S R P : Type 0} {means : disk.Ghosts J} {counts : counted.Ghosts J
       (next : Option plain.State) (after : plain.State) → log_of (logged_of new) ≡ log_of (logged_of old)
       → ((outside : Outside) (engine : EngineState) → IsSeen old outside engine → IsSeen new outside engine)
       → IsServing old files at next → IsServedBy Q old new files at next after at
-  unchanged Q old new files at next after same step serving = quiet laws Q old new files [] at next after same tt
+  unchanged Q old new files at next after same step serving = quiet laws Q old new files [] at next after same tt tt
       serving
       (more_files new files [] at next (same_seen old new files at next step serving))
 
@@ -226,7 +228,7 @@ module _ {J F S R P : Type 0} {means : disk.Ghosts J} {counts : counted.Ghosts J
       → (unchanged Q old new files at next after same step serving).doubt ≡ next
   unfolding unchanged
   unchanged_left Q old new files at next after same step serving = quiet_left laws Q old new files [] at next after same
-      tt serving (more_files new files [] at next (same_seen old new files at next step serving))
+      tt tt serving (more_files new files [] at next (same_seen old new files at next step serving))
 
   -- ---- taking a job
 
@@ -260,6 +262,11 @@ module _ {J F S R P : Type 0} {means : disk.Ghosts J} {counts : counted.Ghosts J
       (is : IsServingJob old job files at next) where
     abbrev put : List StoredFile
     put = flat_map stored_of (all_of built)
+
+    -- its numbers are among those of all jobs that are out, which differ
+    differ : Differ put
+    differ = stored_differ (all_of built) (numbers_differ store job built is.flush of_job is.out.of.sequence
+        is.out.of.unsequence (one_at_most job is.outside is.state is.flush is.others is.seen.sound.stored is.out))
 
     abbrev later : Outside
     later = with_files is.flush built is.outside
@@ -300,7 +307,7 @@ module _ {J F S R P : Type 0} {means : disk.Ghosts J} {counts : counted.Ghosts J
 
     pub abandoned : IsAbandoned old new job built → IsServedBy Q old new files at next at at
     abandoned gives_up = quiet laws Q old new files put at next at (ap (λ log. log_of log) gives_up.logged) numbers
-        before
+        differ before
         (shows (ended_flush is.flush is.others (state_files built) is.state) next refl leads_later
         (gives_up.step is.outside is.state is.flush is.others is.seen is.out tells))
 
@@ -322,6 +329,7 @@ module _ {J F S R P : Type 0} {means : disk.Ghosts J} {counts : counted.Ghosts J
       by_record oldest doubt may shown = record {
         put = put;
         numbers = numbers;
+        differ = differ;
         doubt = doubt;
         may = may;
         serving = shown;
@@ -345,7 +353,7 @@ module _ {J F S R P : Type 0} {means : disk.Ghosts J} {counts : counted.Ghosts J
         held = held_with built is.outside.kept files is.held;
       })
       committed_as Gone same answered seen = quiet laws Q old new files put at next at
-          (ap (λ log. log_of log) (commits.gone (sym same))) numbers before
+          (ap (λ log. log_of log) (commits.gone (sym same))) numbers differ before
           (shows (ended_flush is.flush is.others (built_files is.flush) is.state) next refl leads_later seen)
       committed_as Device same oldest (inl seen) = by_record oldest None (inl refl)
           (shows (settled (ended_flush is.flush is.others (built_files is.flush) is.state)) None refl tt seen)
@@ -366,7 +374,7 @@ module _ {J F S R P : Type 0} {means : disk.Ghosts J} {counts : counted.Ghosts J
     swept_of : (numbers : List ℕ) → logged_of new ≡ logged_of old
         → IsSeen new (without_files numbers serving.outside) (swept_state numbers serving.state)
         → IsServedBy Q old new files at next at at
-    swept_of numbers same seen = quiet laws Q old new files [] at next at (ap (λ log. log_of log) same) tt
+    swept_of numbers same seen = quiet laws Q old new files [] at next at (ap (λ log. log_of log) same) tt tt
         serving (more_files new files [] at next (record {
           outside = without_files numbers serving.outside;
           state = swept_state numbers serving.state;

@@ -1,5 +1,5 @@
 -- Steps of a core, one behind another, and those that leave the log as it was.
-use Rattle.std.proofs.Common.{◌≡◌, ℕ, List, ◌++◌, Option, None, Some, inl, inr, refl, sym, subst, arith}
+use Rattle.std.proofs.Common.{◌≡◌, ◌≢◌, ℕ, List, ◌++◌, Option, None, Some, inl, inr, refl, sym, subst, arith}
 use Rattle.std.proofs.lemmas.List.{append_assoc}
 use Rattle.std.specs.List.{AllByRecursion as Each}
 use Rattle.tsdb_core.specs.Core.{logged_of}
@@ -18,6 +18,7 @@ use Rattle.tsdb_outside.specs.Moments.{LeavesOnly}
 use Rattle.tsdb_outside.specs.declared.disk.Disk as disk
 use Rattle.tsdb_outside.specs.declared.disk.Slot.{Slot}
 use Rattle.tsdb_outside.specs.declared.faults.Counted as counted
+use Rattle.tsdb_serving.proofs.Differing.{Differ, differ_on}
 use Rattle.tsdb_serving.proofs.Held.{as_before, doubt_on, held_more, same_state, wider}
 use Rattle.tsdb_serving.specs.Serving.{AreHeldWith, IsServedBy, IsServing, LeavesEither, disk_under}
 use Rattle.tsdb_serving.specs.Serving.{slot_under}
@@ -45,12 +46,13 @@ module _ {J F S R P : Type 0} {means : disk.Ghosts J} {counts : counted.Ghosts J
   -- a step that leaves the log as it was, and the state
   pub quiet : (Q : ℕ → Type 0) (old new : Core J F S R P means counts) (files put : List StoredFile) (at : plain.State)
       (next : Option plain.State) (after : plain.State) → log_of (logged_of new) ≡ log_of (logged_of old)
-      → Each (λ (file : StoredFile). Q file.number) put
+      → Each (λ (file : StoredFile). Q file.number) put → Differ put
       → IsServing old files at next → IsServing new (files ++ put) at next
       → IsServedBy Q old new files at next after at
-  quiet Q old new files put at next after same numbers before serving = record {
+  quiet Q old new files put at next after same numbers differ before serving = record {
     put = put;
     numbers = numbers;
+    differ = differ;
     doubt = next;
     may = inr (inl refl);
     serving = serving;
@@ -66,14 +68,14 @@ module _ {J F S R P : Type 0} {means : disk.Ghosts J} {counts : counted.Ghosts J
   pub quiet_left : (Q : ℕ → Type 0) (old new : Core J F S R P means counts) (files put : List StoredFile)
       (at : plain.State) (next : Option plain.State) (after : plain.State)
       (same : log_of (logged_of new) ≡ log_of (logged_of old)) (numbers : Each (λ (file : StoredFile). Q file.number) put)
-      (before : IsServing old files at next) (serving : IsServing new (files ++ put) at next)
-      → (quiet Q old new files put at next after same numbers before serving).doubt ≡ next
+      (differ : Differ put) (before : IsServing old files at next) (serving : IsServing new (files ++ put) at next)
+      → (quiet Q old new files put at next after same numbers differ before serving).doubt ≡ next
   unfolding quiet
-  quiet_left Q old new files put at next after same numbers before serving = refl
+  quiet_left Q old new files put at next after same numbers differ before serving = refl
 
-  -- a step that keeps the state, and then a command
+  -- a step that keeps the state, and then a command, which puts files of other numbers
   module _ (A B Q : ℕ → Type 0) (from_first : (n : ℕ) → A n → Q n) (from_second : (n : ℕ) → B n → Q n)
-      (old mid new : Core J F S R P means counts) (files : List StoredFile) (at : plain.State)
+      (apart : (a b : ℕ) → A a → B b → a ≢ b) (old mid new : Core J F S R P means counts) (files : List StoredFile) (at : plain.State)
       (next : Option plain.State) (after now : plain.State) (slot : slot_under mid ≡ slot_under old)
       (first : IsServedBy A old mid files at next at at)
       (second : IsServedBy B mid new (files ++ first.put) at first.doubt after now) where
@@ -124,6 +126,7 @@ module _ {J F S R P : Type 0} {means : disk.Ghosts J} {counts : counted.Ghosts J
           (λ file has. from_first file.number has) first.put first.numbers)
           (each_weaker (λ (file : StoredFile). B file.number) (λ (file : StoredFile). Q file.number)
           (λ file has. from_second file.number has) second.put second.numbers);
+      differ = differ_on A B apart first.put second.put first.numbers second.numbers first.differ second.differ;
       doubt = second.doubt;
       may = doubt_on next first.doubt second.doubt at after first.may second.may;
       serving = subst (λ list. IsServing new list now second.doubt) joined second.serving;
@@ -150,6 +153,7 @@ module _ {J F S R P : Type 0} {means : disk.Ghosts J} {counts : counted.Ghosts J
   moved Q old new files at next after now later is served = record {
     put = served.put;
     numbers = served.numbers;
+    differ = served.differ;
     doubt = served.doubt;
     may = served.may;
     serving = subst (λ state. IsServing new (files ++ served.put) state served.doubt) is served.serving;

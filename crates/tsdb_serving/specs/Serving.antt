@@ -1,11 +1,12 @@
 -- Which state of the plain model a core is in beside the files of its run, and what a command that it serves makes of
 -- it.
-use Rattle.std.specs.Prelude.{◌≡◌, ◌⊎◌, ℕ, ◌≤◌, ◌<◌, false, List, ◌++◌, Option, None, Some}
+use Rattle.std.specs.Prelude.{◌≡◌, ◌≢◌, ◌⊎◌, ℕ, ◌≤◌, ◌<◌, false, List, ◌++◌, Option, None, Some}
 use Rattle.std.specs.List.{AllByRecursion as Each}
 use Rattle.tsdb_core.specs.Core.{IsSeen, logged_of, next_of}
 use Rattle.tsdb_core.specs.declared.engine.Core.{Core}
 use Rattle.tsdb_frames.specs.Frames.{disk_of, slot_of}
 use Rattle.tsdb_images.specs.Stored.{LeadsTo, LeavesOneOf}
+use Rattle.tsdb_layers.specs.Lists.{EachPair}
 use Rattle.tsdb_logged.specs.Logged.{Outside, log_of, memory_of}
 use Rattle.tsdb_base.specs.declared.answers.Answer.TheVariants.{Done, Device, Full}
 use Rattle.tsdb_model.specs.Apply.{reply_of}
@@ -94,13 +95,15 @@ module _ {J F S R P : Type 0} {means : disk.Ghosts J} {counts : counted.Ghosts J
   IsSure store core = (store.tells ≡ false)
       ⊎ ((files : List StoredFile) × (at : plain.State) × (next : Option plain.State) × IsServing core files at next)
 
-  -- A command leads to the state `after` where it takes effect, and has led to `now`. Files of these numbers were put
-  -- meanwhile. At each moment a stop left the state before it, or the one in doubt, or the one after it.
+  -- A command leads to the state `after` where it takes effect, and has led to `now`. Files of these numbers, which
+  -- differ, were put meanwhile. At each moment a stop left the state before it, or the one in doubt, or the one after
+  -- it.
   pub record IsServedBy (Put : ℕ → Type 0) (old new : Core J F S R P means counts) (files : List StoredFile)
       (at : plain.State) (next : Option plain.State) (after now : plain.State)
       : Type 0 where
     pub put : List StoredFile
     pub numbers : Each (λ (file : StoredFile). Put file.number) put
+    pub differ : EachPair (λ (a b : StoredFile). a.number ≢ b.number) put
     pub doubt : Option plain.State
     pub may : MayDoubt next at after doubt
     pub serving : IsServing new (files ++ put) now doubt
