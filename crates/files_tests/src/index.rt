@@ -123,7 +123,7 @@ fn worked_meta(rt: HostRuntime) -> Result<(), Fail> {
     let index = Index {
         entries: List::of(worked_entry(alloc)?),
     };
-    let meta = FileMeta { bytes: 234, index };
+    let meta = FileMeta { size: 234, index };
     assert_eq!(rt; meta.index.entries.items().len(), 1);
     let bytes = whole(alloc, &meta.index, 44)??;
     assert!(rt; bytes.as_slice() == WORKED.as_slice());

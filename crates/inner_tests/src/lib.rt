@@ -1,5 +1,5 @@
-//! Compactions of two files in memory: worked values, late points that win, marks, calls of a port that fail, and how many bytes are read. It
-//! depends on the crates that it tests.
+//! Compactions of two files in memory: worked values, late points that win, marks, calls of a port that fail, and how
+//! many bytes are read. It depends on the crates that it tests.
 #![tactic(auto)]
 
 #[cfg(test)]

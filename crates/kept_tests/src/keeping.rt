@@ -29,7 +29,7 @@ fn put<F: Files>(
         entry: FileEntry {
             number,
             born,
-            bytes: 3,
+            size: 3,
             points: 1,
             hulls: List::of(Vec::new(alloc)),
             claimed: false,

@@ -35,7 +35,7 @@ fn file(
     Ok(FileEntry {
         number: FileNumber(1),
         born: Stamp(1),
-        bytes,
+        size: bytes,
         points: 1,
         hulls: List::of(list),
         claimed,
@@ -102,7 +102,7 @@ fn inner_plans_at_the_limits(rt: HostRuntime) -> Result<(), Fail> {
 fn bytes_of(files: &[FileEntry]) -> u128 {
     let mut bytes = 0u128;
     for file in files {
-        bytes = bytes.saturating_add(u128::from(file.bytes));
+        bytes = bytes.saturating_add(u128::from(file.size));
     }
     bytes
 }
@@ -308,7 +308,7 @@ fn slow_cross(
         let mut bytes = bytes_of(late);
         for (place, file) in sequence.iter().enumerate() {
             if first <= place && place < end {
-                bytes = bytes.saturating_add(u128::from(file.bytes));
+                bytes = bytes.saturating_add(u128::from(file.size));
             }
         }
         if late.iter().all(|file| !file.claimed) && bytes <= 268_435_456 {

@@ -7,8 +7,8 @@ use std::alloc::{AllocError, Global};
 use std::marker::Brand;
 use std::sync::ledger::{Blank, Ledger};
 use std::test::Fail;
-use tsdb_aggregate::{Loader, Piece, Steps, aggregate};
-use tsdb_base::{Aggregate, Memory, Point, Range, Value};
+use tsdb_aggregate::{Loader, Piece, aggregate};
+use tsdb_base::{Aggregate, Memory, Point, Range, Steps, Value};
 use tsdb_merge::PullFault;
 use tsdb_stats::stats_of;
 

@@ -32,7 +32,7 @@ fn first_in<J: Journal, F: Files>(core: &Core<J, F>, space: Space) -> Option<Kep
     Some(Kept {
         number: entry.number.0,
         born: entry.born.0,
-        bytes: entry.bytes,
+        bytes: entry.size,
         points: entry.points,
         times,
         claimed: entry.claimed,

@@ -7,7 +7,7 @@ use Rattle.tsdb_plan.specs.declared.entry.FileEntry.{FileEntry}
 use Rattle.tsdb_state.specs.State.{Entries, Entry}
 
 abbrev pub no_entry : Entry
-no_entry = record { bytes = 0; points = 0; hulls = []; series = [] }
+no_entry = record { size = 0; points = 0; hulls = []; series = [] }
 
 -- the entry with the series, where both are there
 abbrev pub known_by : Option FileEntry → Option KeptFile → Entry

@@ -12,11 +12,10 @@ use crate::entry::{Entry, entries_in, group_length};
 use crate::group::add_group;
 use crate::loader::Loader;
 use crate::piece::Piece;
-use crate::steps::Steps;
 use crate::tally::Tally;
 use std::alloc::Global;
 use std::sync::ledger::Ledger;
-use tsdb_base::{Aggregate, Range, Value};
+use tsdb_base::{Aggregate, Range, Steps, Value};
 use tsdb_merge::PullFault;
 
 /// Adds the winners of a group in the range to a tally: by the statistics of a clean piece, or by points.

@@ -15,11 +15,10 @@ use crate::entry::{Entry, begins_after, later_end};
 use crate::lanes::{Lane, Lanes};
 use crate::loader::Loader;
 use crate::piece::{Piece, contains};
-use crate::steps::Steps;
 use crate::tally::Tally;
 use std::alloc::Global;
 use std::sync::ledger::Ledger;
-use tsdb_base::{Aggregate, Memory, Point, Range, Time};
+use tsdb_base::{Aggregate, Memory, Point, Range, Steps, Time};
 use tsdb_merge::{LazyMerge, PullFault, Supply};
 
 /// The entries in the order of their sources, and of one source in order of time.

@@ -7,11 +7,10 @@ ghost use Rattle.tsdb_aggregate.specs.Lanes.{HasPlaces, IsTaken, SpendsDown, lan
 ghost use Rattle.tsdb_aggregate.specs.SpendLaws.{down_none, down_then, named_then};
 
 use crate::loader::Loader;
-use crate::steps::Steps;
 use std::alloc::Global;
 use std::sync::ledger::Ledger;
 use std::vec::IntoIter;
-use tsdb_base::{Memory, Point};
+use tsdb_base::{Memory, Point, Steps};
 use tsdb_merge::{PullFault, Supply};
 
 /// The most points that are moved at once.

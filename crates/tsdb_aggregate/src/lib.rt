@@ -1,5 +1,5 @@
 //! Aggregates of one series from pieces of several sources: from a piece's statistics where nothing else lies over
-//! it, and else from its points. It depends on `tsdb_base`, on `tsdb_map` for the definition of the aggregates, on
+//! it, and else from its points. It depends on `tsdb_base`, on `tsdb_model` for the definition of the aggregates, on
 //! `tsdb_stats` for statistics and on `tsdb_merge` for the points that win.
 //!
 //! The pieces are put in order of their starts once. The walk goes along groups of pieces whose hulls meet one another.
@@ -12,11 +12,9 @@ mod group;
 mod lanes;
 mod loader;
 mod piece;
-mod steps;
 mod tally;
 
 pub use fold::{aggregate, winners_are_one};
 pub use loader::Loader;
 pub use piece::{Piece, overlap};
-pub use steps::Steps;
 pub use tally::Tally;

@@ -2,10 +2,9 @@
 ghost use Rattle.std.specs.Prelude.{◌≡◌, ◌+◌, ◌<◌, IfOk, IfSome, length};
 ghost use Rattle.tsdb_aggregate.specs.Loads.{LoaderState, Spends, held_at};
 
-use crate::steps::Steps;
 use std::alloc::Global;
 use std::sync::ledger::Ledger;
-use tsdb_base::Point;
+use tsdb_base::{Point, Steps};
 use tsdb_merge::PullFault;
 
 /// Gives the points of pieces, each named by its place in the list of pieces.

@@ -11,6 +11,7 @@ mod list;
 mod plain;
 mod point;
 mod rising;
+mod steps;
 mod text;
 mod value;
 
@@ -21,5 +22,6 @@ pub use list::List;
 pub use plain::{PlainValue, put_all, take_all};
 pub use point::{Point, Range, Stats, Time, copy_points};
 pub use rising::is_rising;
+pub use steps::Steps;
 pub use text::{Text, TextFault};
 pub use value::{DataType, Encoding, Value, suits};

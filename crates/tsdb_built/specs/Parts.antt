@@ -46,7 +46,7 @@ pub record IsPart (part : List Filled) : Type 0 where
 
 -- what is kept of the file of these series
 abbrev pub entry_of : FileEntry → List (List ℕ) → Entry
-entry_of entry series = record { bytes = entry.bytes; points = entry.points; hulls = entry.hulls; series = series }
+entry_of entry series = record { size = entry.size; points = entry.points; hulls = entry.hulls; series = series }
 
 -- The schemas of a job are those of series that are there, each beside its number, and no other series has a point in the
 -- pair, whose points are in order of time.

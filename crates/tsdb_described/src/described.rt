@@ -45,7 +45,7 @@ pub fn describe(
     let entry = FileEntry {
         number,
         born,
-        bytes: meta.bytes,
+        size: meta.size,
         points,
         hulls: List::of(hulls),
         claimed: false,

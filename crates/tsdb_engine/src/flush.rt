@@ -95,7 +95,8 @@ fn put_drawn<F: Files>(
 ) -> Result<Option<Built<F>>, StoreFault>
     requires job { IsJob job.now }
     requires drawn { IsDrawnFor drawn (job_part space job.now) }
-    ensures done { IfOk result (IsDone F.Sealed.file F.Sealed.rights (F.Port.store port.old) job.now.born.0 (job_part space job.now) drawn) }
+    ensures done { IfOk result (IsDone F.Sealed.file F.Sealed.rights (F.Port.store port.old) job.now.born.0
+        (job_part space job.now) drawn) }
     ensures same_store { F.Port.store port.new ≡ F.Port.store port.old }
     ensures cause { HasStoreCause (F.Port.faults port.old) (F.Port.faults port.new) result }
 {

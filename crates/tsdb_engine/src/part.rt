@@ -141,7 +141,7 @@ impl Part {
         let entry = FileEntry {
             number,
             born,
-            bytes: bytes.len() as u64,
+            size: bytes.len() as u64,
             points,
             hulls: List::of(hulls),
             claimed: false,

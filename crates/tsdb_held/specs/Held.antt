@@ -26,7 +26,7 @@ leaving file = record { number = file.number.0; born = file.born.0 }
 -- what is kept of a file with these series
 abbrev pub entry_of : FileEntry → List (List ℕ) → Entry
 entry_of entry series =
-    record { bytes = entry.bytes; points = entry.points; hulls = entry.hulls; series = series }
+    record { size = entry.size; points = entry.points; hulls = entry.hulls; series = series }
 
 -- The lists and the outgoing files are those of the state, rights are counted as there, and what is known of a listed file
 -- is what is kept of it.

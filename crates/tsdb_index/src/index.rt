@@ -33,6 +33,6 @@ pub struct Index {
 /// What is read of a file besides its points: its length in bytes and its index.
 #[derive(PartialEq, Eq, Drop)]
 pub struct FileMeta {
-    pub bytes: u64,
+    pub size: u64,
     pub index: Index,
 }

@@ -53,13 +53,6 @@ cause_of {S} {T} whole a b fault reason all = record {
         → ◌≡◌ {A = Result S StoreFault} (Err fault) (Err Failed)
     same fault is = cc
 
-pub cause_memory : {T : Type 0} (a b : ℕ) (fault : StoreFault) → a ≤ b → fault ≡ Memory
-    → HasStoreCause {T = T} a b (Err fault)
-cause_memory {T} a b fault later is = record { later = later; failed = λ failed. absurd (other fault is failed) }
-  where
-    other : (fault : StoreFault) → fault ≡ Memory → ◌≡◌ {A = Result T StoreFault} (Err fault) (Err Failed) → ⊥
-    other fault is failed = cc
-
 pub cause_ok : {T : Type 0} (a b : ℕ) (x : T) → a ≤ b → HasStoreCause a b (Ok x)
 cause_ok {T} a b x later = record { later = later; failed = λ failed. absurd (other x failed) }
   where

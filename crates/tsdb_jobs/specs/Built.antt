@@ -51,7 +51,7 @@ pub record AreHullsOf (part : List Filled) (hulls : List Hull) : Type 0 where
 pub record IsEntryOf (number born : ℕ) (bytes : List ℕ) (part : List Filled) (entry : FileEntry) : Type 0 where
   pub number_is : entry.number.0 ≡ number
   pub born_is : entry.born.0 ≡ born
-  pub bytes_are : entry.bytes ≡ length bytes
+  pub bytes_are : entry.size ≡ length bytes
   pub points_are : entry.points ≡ sum_by (λ filled. length filled.points) part
   pub hulls_are : AreHullsOf part entry.hulls
   pub free : entry.claimed ≡ false

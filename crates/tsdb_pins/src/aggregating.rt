@@ -13,8 +13,7 @@ ghost use Rattle.tsdb_state.specs.Steps.{PinStandsFor};
 use crate::folding::read_value;
 use std::alloc::Global;
 use std::sync::ledger::Ledger;
-use tsdb_aggregate::Steps;
-use tsdb_base::Value;
+use tsdb_base::{Steps, Value};
 use tsdb_outside::{Files, StoreFault};
 use tsdb_pinning::Pin;
 

@@ -19,8 +19,8 @@ ghost use Rattle.tsdb_pins.specs.Weaving.{AreLater, IsNext, Weaves, ends_before 
 use crate::lending::lend;
 use std::alloc::Global;
 use std::sync::ledger::Ledger;
-use tsdb_aggregate::{Steps, Tally};
-use tsdb_base::{Aggregate, Memory, Point, Range, Stats, Value};
+use tsdb_aggregate::Tally;
+use tsdb_base::{Aggregate, Memory, Point, Range, Stats, Steps, Value};
 use tsdb_columns::{Source, Stream, open_parted, pull};
 use tsdb_marks::Marks;
 use tsdb_outside::{Files, Port, StoreFault};

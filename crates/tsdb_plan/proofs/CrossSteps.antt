@@ -94,5 +94,5 @@ best_is_plan sequence unsequence count (Some run) best all = (record { eligible 
 pub ends_at_claimed : (sequence unsequence : List FileEntry) (place : ℕ) (file : FileEntry) → place < length unsequence → file ≡ get_or unsequence place file → file.claimed ≡ true → (other : CrossRun) → IsEligible sequence unsequence other → other.prefix ≤ place
 ends_at_claimed sequence unsequence place file l e claimed other h = stops_at_claimed unsequence place other.prefix file l e claimed h.within h.free
 
-pub ends_at_bytes : (sequence unsequence : List FileEntry) (place room : ℕ) (file : FileEntry) → place < length unsequence → file ≡ get_or unsequence place file → room + total_bytes (take place unsequence) ≡ max_plan_bytes → room < file.bytes → (other : CrossRun) → IsEligible sequence unsequence other → other.prefix ≤ place
+pub ends_at_bytes : (sequence unsequence : List FileEntry) (place room : ℕ) (file : FileEntry) → place < length unsequence → file ≡ get_or unsequence place file → room + total_bytes (take place unsequence) ≡ max_plan_bytes → room < file.size → (other : CrossRun) → IsEligible sequence unsequence other → other.prefix ≤ place
 ends_at_bytes sequence unsequence place room file l e sum big other h = stops_at_bytes unsequence place other.prefix room max_plan_bytes file l e sum big (omega (arith, h.fits))

@@ -9,12 +9,12 @@ use Rattle.tsdb_plan.specs.InnerPlan.{IsInnerRow}
 use Rattle.tsdb_base.specs.Limits.{max_inputs, max_plan_bytes}
 
 -- the bytes of a prefix, and of one file more
-pub bytes_more : (files : List FileEntry) (count : ℕ) (file : FileEntry) → count < length files → file ≡ get_or files count file → total_bytes (take (count + 1) files) ≡ total_bytes (take count files) + file.bytes
-bytes_more files count file l e = sum_by_more (λ f. f.bytes) files count file l ∙ ap (λ f. total_bytes (take count files) + f.bytes) (sym e)
+pub bytes_more : (files : List FileEntry) (count : ℕ) (file : FileEntry) → count < length files → file ≡ get_or files count file → total_bytes (take (count + 1) files) ≡ total_bytes (take count files) + file.size
+bytes_more files count file l e = sum_by_more (λ f. f.size) files count file l ∙ ap (λ f. total_bytes (take count files) + f.size) (sym e)
 
 -- a longer prefix has at least as many bytes
 pub bytes_of-take-le : (files : List FileEntry) (m n : ℕ) → m ≤ n → total_bytes (take m files) ≤ total_bytes (take n files)
-bytes_of-take-le files m n l = let e = take-take m n files l in let h = sum_by-take-le (λ (f : FileEntry). f.bytes) (take n files) m in let P : List FileEntry → Type 0 = λ xs. total_bytes xs ≤ total_bytes (take n files) in subst P e h
+bytes_of-take-le files m n l = let e = take-take m n files l in let h = sum_by-take-le (λ (f : FileEntry). f.size) (take n files) m in let P : List FileEntry → Type 0 = λ xs. total_bytes xs ≤ total_bytes (take n files) in subst P e h
 
 -- no row goes on over a claimed file
 pub stops_at_claimed : (files : List FileEntry) (count n : ℕ) (file : FileEntry) → count < length files → file ≡ get_or files count file → file.claimed ≡ true → n ≤ length files → AreFree (take n files) → n ≤ count
@@ -28,7 +28,7 @@ stops_at_claimed files count n file l e claimed within free =
     (cases_lt count n)
 
 -- nor over one that does not fit beside those before it
-pub stops_at_bytes : (files : List FileEntry) (count n room limit : ℕ) (file : FileEntry) → count < length files → file ≡ get_or files count file → room + total_bytes (take count files) ≡ limit → room < file.bytes → total_bytes (take n files) ≤ limit → n ≤ count
+pub stops_at_bytes : (files : List FileEntry) (count n room limit : ℕ) (file : FileEntry) → count < length files → file ≡ get_or files count file → room + total_bytes (take count files) ≡ limit → room < file.size → total_bytes (take n files) ≤ limit → n ≤ count
 stops_at_bytes files count n room limit file l e sum big fits =
     ⊎_elim
     (λ (past : count < n). absurd (omega (arith, bytes_more files count file l e, bytes_of-take-le files (count + 1) n (omega arith))))

@@ -36,7 +36,7 @@ longer_is files n m l = ap (λ xs. xs ++ drop n (take m files)) (sym (take-take 
 span_bytes : (files : List FileEntry) (from to : ℕ) → from ≤ to → total_bytes (take from files) + total_bytes (take (to - from) (drop from files)) ≡ total_bytes (take to files)
 span_bytes files from to l =
     let e : from + (to - from) ≡ to = omega (arith, l) in
-    sym (sum_by-append (λ (f : FileEntry). f.bytes) (take from files) (take (to - from) (drop from files)))
+    sym (sum_by-append (λ (f : FileEntry). f.size) (take from files) (take (to - from) (drop from files)))
     ∙ ap total_bytes (sym (take-add from (to - from) files))
     ∙ ap (λ n. total_bytes (take n files)) e
 

@@ -20,4 +20,4 @@ AreFree files = All (λ file. file.claimed ≡ false) files
 
 -- the bytes of the files together
 abbrev pub total_bytes : List FileEntry → ℕ
-total_bytes files = sum_by (λ file. file.bytes) files
+total_bytes files = sum_by (λ file. file.size) files

@@ -15,7 +15,7 @@ fn fits(files: &[FileEntry], room: u64) -> bool
 {
     let mut left = room;
     for file in files {
-        let Some(rest) = left.checked_sub(file.bytes) else {
+        let Some(rest) = left.checked_sub(file.size) else {
             return false;
         };
         left = rest;
@@ -74,7 +74,7 @@ pub fn cross(sequence: &[FileEntry], unsequence: &[FileEntry]) -> Option<CrossRu
         if file.claimed {
             break;
         }
-        let Some(left) = room.checked_sub(file.bytes) else {
+        let Some(left) = room.checked_sub(file.size) else {
             break;
         };
         room = left;

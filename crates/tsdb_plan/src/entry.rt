@@ -17,7 +17,7 @@ pub struct Hull {
 pub struct FileEntry {
     pub number: FileNumber,
     pub born: Stamp,
-    pub bytes: u64,
+    pub size: u64,
     pub points: u64,
     pub hulls: List<Hull>,
     pub claimed: bool,

@@ -16,7 +16,7 @@ fn longest_row(files: &[FileEntry]) -> usize
         if file.claimed || count == MAX_FILES {
             return count;
         }
-        let Some(left) = room.checked_sub(file.bytes) else {
+        let Some(left) = room.checked_sub(file.size) else {
             return count;
         };
         room = left;

@@ -13,7 +13,7 @@ abbrev pub file_entry : Entries → (File → Bool) → File → FileEntry
 file_entry known claimed file = record {
   number = record { 0 = file.number };
   born = record { 0 = file.born };
-  bytes = (known file.number).bytes;
+  size = (known file.number).size;
   points = (known file.number).points;
   hulls = (known file.number).hulls;
   claimed = claimed file;

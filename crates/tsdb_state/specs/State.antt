@@ -49,7 +49,7 @@ pub record StoreState : Type 0 where
 
 -- what is kept of a file in memory: its length, its number of points, a hull for each device, and its series
 pub record Entry : Type 0 where
-  pub bytes : ℕ
+  pub size : ℕ
   pub points : ℕ
   pub hulls : List Hull
   pub series : List (List ℕ)

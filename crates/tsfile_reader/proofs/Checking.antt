@@ -168,7 +168,7 @@ limited o (Damaged at) limit = limit
 limited o Memory limit = tt
 
 pub is_found : (o : Option (List ℕ)) (ends : Ends) (place : ℕ) (ps : List Pointer) (index : Index) (stretch : List ℕ) (said : List IndexEntry) → IfSome o (λ b. IsOutlineIn b ends place ps index) → IfSome o (λ b. stretch ≡ data_in place b)
-    → (tree : Tree) × HasGroups stretch tree said → index.entries ≡ said → IfSome o (λ b. IsMetaOfTree b (record { bytes = ends.size; index = index }))
+    → (tree : Tree) × HasGroups stretch tree said → index.entries ≡ said → IfSome o (λ b. IsMetaOfTree b (record { size = ends.size; index = index }))
 is_found None ends place ps index stretch said has is groups same = tt
 is_found (Some b) ends place ps index stretch said has is groups same =
     let t = tree_of b ends.root place ps index.entries said groups.0 has.1 (subst (λ (l : List ℕ). HasGroups l groups.0 said) is groups.1) same in

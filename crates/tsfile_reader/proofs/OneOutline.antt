@@ -154,7 +154,7 @@ meta_refused (Some b) Is P (Damaged at) answers limit = λ tree is made file. ab
 meta_refused (Some b) Is P Memory answers limit = λ tree is made file. (tt, tt)
 
 pub meta_found : (o : Option (List ℕ)) (ends : Ends) (place : ℕ) (ps : List Pointer) (index : Index) → IfSome o (λ b. IsOutlineIn b ends place ps index)
-    → IfSome o (λ b. (tree : Tree) → IsTree tree → IsMade tree → IsFile tree b → Unit {0} × IsMetaOf tree b (record { bytes = ends.size; index = index }))
+    → IfSome o (λ b. (tree : Tree) → IsTree tree → IsMade tree → IsFile tree b → Unit {0} × IsMetaOf tree b (record { size = ends.size; index = index }))
 meta_found None ends place ps index has = tt
 meta_found (Some b) ends place ps index has = λ tree is made file.
     let len = has.0 in

@@ -8,12 +8,12 @@ use Rattle.tsfile_reader.specs.Outline.{HasOutline}
 
 -- this is read of the file of the tree: its length, and its index
 pub record IsMetaOf (tree : Tree) (bytes : List ℕ) (meta : FileMeta) : Type 0 where
-  pub bytes_are : meta.bytes ≡ length bytes
+  pub bytes_are : meta.size ≡ length bytes
   pub entries : AreEntriesIn tree meta.index.entries
 
 -- the length, tail, head, root and leaves are as defined, and this is read of them
 pub record IsMetaIn (bytes : List ℕ) (meta : FileMeta) : Type 0 where
-  pub bytes_are : meta.bytes ≡ length bytes
+  pub bytes_are : meta.size ≡ length bytes
   pub root : ℕ
   pub place : ℕ
   pub pointers : List Pointer

@@ -57,7 +57,7 @@ pub fn read_meta<P: Port>(
 {
     let outline = read_outline(alloc, port, right)?;
     Ok(FileMeta {
-        bytes: outline.ends.size,
+        size: outline.ends.size,
         index: outline.index,
     })
 }
@@ -263,7 +263,7 @@ pub fn check_file<P: Port>(
         return Err(ReadFault::Damaged { at });
     }
     Ok(FileMeta {
-        bytes: outline.ends.size,
+        size: outline.ends.size,
         index: outline.index,
     })
 }

@@ -131,7 +131,7 @@ fn is_meta_found(
     call: Call,
 ) -> Result<bool, Fail> {
     let meta = read_bytes(alloc, port, &file.bytes, call)?;
-    Ok(meta.bytes == file.bytes.len() as u64 && is_index_of(alloc, file, &meta.index)?)
+    Ok(meta.size == file.bytes.len() as u64 && is_index_of(alloc, file, &meta.index)?)
 }
 
 /// Whether the page with this number has so many points from a time on.

@@ -20,7 +20,7 @@ fn is_worked_entry(alloc: Global, port: &mut SteadyPort, entry: &IndexEntry) -> 
 /// Whether this is the index of the worked file.
 fn is_worked_meta(alloc: Global, port: &mut SteadyPort, meta: &FileMeta) -> bool {
     match meta.index.entries.items() {
-        [entry] => meta.bytes == 234 && is_worked_entry(alloc, port, entry),
+        [entry] => meta.size == 234 && is_worked_entry(alloc, port, entry),
         _ => false,
     }
 }

@@ -36,7 +36,7 @@ returns-then-file c =
 
 pub returns-in_default : goal.returns-in_default
 returns-in_default c =
-    let full : c.index-unsequence-place.result.bytes ≤ c.loop-place.room → ⊥ = c.in_default.ensures in
+    let full : c.index-unsequence-place.result.size ≤ c.loop-place.room → ⊥ = c.in_default.ensures in
     let best = best_is_plan c.args.sequence.now c.args.unsequence.now c.loop-place.place c.loop-place.plan c.loop-place.invariant.plan (ends_at_bytes c.args.sequence.now c.args.unsequence.now c.loop-place.place c.loop-place.room c.index-unsequence-place.result (omega arith) c.index-unsequence-place.is c.loop-place.invariant.room (omega arith)) in
     record { found = best.0; none = best.1 }
 

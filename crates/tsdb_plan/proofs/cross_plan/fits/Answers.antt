@@ -14,8 +14,8 @@ pub returns-in_default : goal.returns-in_default
 returns-in_default c =
     let files = c.args.files.now in
     let more = bytes_more files c.loop-file.file-index c.file-item.result (omega arith) c.file-item.is in
-    let whole = sum_by-take-le (λ (f : FileEntry). f.bytes) files (c.loop-file.file-index + 1) in
-    let full : c.file-item.result.bytes ≤ c.loop-file.left → ⊥ = c.in_default.ensures in
+    let whole = sum_by-take-le (λ (f : FileEntry). f.size) files (c.loop-file.file-index + 1) in
+    let full : c.file-item.result.size ≤ c.loop-file.left → ⊥ = c.in_default.ensures in
     (λ e. absurd (false≢true e), λ fits. absurd (omega (arith, more, whole, c.loop-file.invariant)))
 
 pub returns : goal.returns

@@ -37,7 +37,7 @@ returns-in_default c =
     let count = c.loop-count.count in
     let inv = c.loop-count.invariant in
     let file = c.index-files-count.result in
-    let full : file.bytes ≤ c.loop-count.room → ⊥ = c.in_default.ensures in
+    let full : file.size ≤ c.loop-count.room → ⊥ = c.in_default.ensures in
     record {
       within = omega arith;
       row = row_so_far files count c.loop-count.room (omega arith) inv.free inv.few inv.room;

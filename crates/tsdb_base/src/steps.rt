@@ -1,4 +1,4 @@
-//! A count of steps that takes no bytes. It depends on std alone.
+//! A count of steps that takes no bytes.
 ghost use Rattle.std.specs.Prelude.{◌≡◌, ◌+◌, ℕ};
 
 use std::marker::Model;
