@@ -318,7 +318,7 @@ impl MemSealed {
         ensures node { sealed_node self.new ≡ sealed_node self.old }
         ensures store { sealed_store self.new ≡ sealed_store self.old }
         ensures ok { OnOk result (sealed_rights self.new ≡ sealed_rights self.old + 1) }
-        ensures err { OnErr result (sealed_rights self.new ≡ sealed_rights self.old) }
+        ensures memory { OnErr result (sealed_rights self.new ≡ sealed_rights self.old) }
     {
         let Some(rights) = self.rights.checked_add(1) else {
             return Err(Memory);

@@ -32,7 +32,7 @@ fn take_input<F: Files>(
     requires kept { IsSome (kept_file number.0 files.old) }
     ensures ok { OnOk result (IsOneTaken F.Right.file number born files.old files.new inputs.old.items
         inputs.new.items) }
-    ensures err { OnErr result (KeepsFiles files.old files.new × (inputs.new.items ≡ inputs.old.items)) }
+    ensures memory { OnErr result (KeepsFiles files.old files.new × (inputs.new.items ≡ inputs.old.items)) }
 {
     inputs.reserve(1)?;
     match files.share(number)? {
@@ -59,7 +59,7 @@ pub fn take_inputs<F: Files>(
     requires within { IsWithin run (entries_in space files.old) }
     ensures ok { OnOk result (TakesEntries F.Right.file (slice_range (entries_in space files.old) run.first run.end)
         files.old files.new inputs.old.items inputs.new.items) }
-    ensures err { OnErr result (TakesSome F.Right.file files.old files.new inputs.old.items inputs.new.items) }
+    ensures memory { OnErr result (TakesSome F.Right.file files.old files.new inputs.old.items inputs.new.items) }
 {
     for place in run.first..run.end {
         let entry = &files.entries(space)[place];

@@ -66,7 +66,7 @@ impl<F: Files> KeptFile<F> {
     pub(crate) fn share(&mut self) -> Result<F::Right, Memory>
         ensures right { IfOk result (λ right. F.Right.file right ≡ self.old.name) }
         ensures ok { OnOk result (self.new ≡ one_more self.old) }
-        ensures err { OnErr result (self.new ≡ self.old) }
+        ensures memory { OnErr result (self.new ≡ self.old) }
     {
         let Some(rights) = self.rights.checked_add(1) else {
             return Err(Memory);

@@ -101,7 +101,7 @@ impl<F: Files> KeptFiles<F> {
         ensures places { OnOk result (ArePlacesMade (if_some sequence ++ if_some unsequence) self.old.places
             self.new.places) }
         ensures room { OnOk result (self.new.spare ≡ more_room self.old.spare (flush_room_of sequence unsequence)) }
-        ensures err { OnErr result (self.new.spare ≡ self.old.spare) }
+        ensures memory { OnErr result (self.new.spare ≡ self.old.spare) }
     {
         self.prepare(sequence, unsequence, &flush_room(sequence, unsequence))
     }
@@ -118,7 +118,7 @@ impl<F: Files> KeptFiles<F> {
         ensures files { OnlyMakesPlaces self.old.places self.new.places }
         ensures places { OnOk result (ArePlacesMade (output ∷ []) self.old.places self.new.places) }
         ensures room { OnOk result (self.new.spare ≡ more_room self.old.spare (compaction_room_of space inputs)) }
-        ensures err { OnErr result (self.new.spare ≡ self.old.spare) }
+        ensures memory { OnErr result (self.new.spare ≡ self.old.spare) }
     {
         self.prepare(Some(output), None, &compaction_room(space, inputs))
     }
@@ -215,7 +215,7 @@ impl<F: Files> KeptFiles<F> {
         ensures files { OnlyMakesPlaces self.old.places self.new.places }
         ensures places { OnOk result (ArePlacesMade (if_some first ++ if_some second) self.old.places self.new.places) }
         ensures room { OnOk result (self.new.spare ≡ more_room self.old.spare room.now) }
-        ensures err { OnErr result (self.new.spare ≡ self.old.spare) }
+        ensures memory { OnErr result (self.new.spare ≡ self.old.spare) }
     {
         let spare = sum_of(&self.spare, room)?;
         make_places::<F>(&mut self.tokens, first, second)?;
@@ -378,7 +378,7 @@ impl<F: Files> KeptFiles<F> {
     pub fn share(&mut self, number: FileNumber) -> Result<Option<F::Right>, Memory>
         ensures right { IfOk result (IsRightTo F.Right.file (kept_file number.0 self.old)) }
         ensures ok { OnOk result (HasChanged one_more number.0 self.old.places self.new.places) }
-        ensures err { OnErr result (place_at number.0 self.new.places ≡ place_at number.0 self.old.places) }
+        ensures memory { OnErr result (place_at number.0 self.new.places ≡ place_at number.0 self.old.places) }
         ensures others { OthersStay number.0 self.old.places self.new.places }
         ensures lists { KeepsLists self.old self.new }
         ensures room { self.new.spare ≡ self.old.spare }

@@ -14,7 +14,7 @@ pub(crate) fn share_at<F: Files>(
 ) -> Result<Option<F::Right>, Memory>
     ensures right { IfOk result (IsRightTo F.Right.file (file_at (place_at number.0 places.old.entries))) }
     ensures ok { OnOk result (HasChanged one_more number.0 places.old.entries places.new.entries) }
-    ensures err { OnErr result (place_at number.0 places.new.entries ≡ place_at number.0 places.old.entries) }
+    ensures memory { OnErr result (place_at number.0 places.new.entries ≡ place_at number.0 places.old.entries) }
     ensures others { OthersStay number.0 places.old.entries places.new.entries }
 {
     let Some(place) = places.get_mut(&number.0) else {

@@ -39,7 +39,7 @@ impl Index {
             (at self.new.series.entries path.now) from to version) }
         ensures others { (other : List ℕ) → path.now ≢ other
             → at self.new.series.entries other ≡ at self.old.series.entries other }
-        ensures err { OnErr result ((other : List ℕ)
+        ensures memory { OnErr result ((other : List ℕ)
             → at self.new.series.entries other ≡ at self.old.series.entries other) }
     {
         if let Some(series) = self.series.get_mut(path) {

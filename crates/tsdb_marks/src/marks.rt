@@ -77,7 +77,7 @@ fn moment(time: Time) -> u64
 fn index_mark(index: &mut Index, alloc: Global, mark: &Mark) -> Result<(), Memory>
     ensures added { OnOk result ((marks : List Mark) (floor : ℕ) → IsIndexOf marks floor index.old.series.entries
         → IsIndexOf (marks ++ mark.now ∷ []) floor index.new.series.entries) }
-    ensures err { OnErr result ((marks : List Mark) (floor : ℕ) → IsIndexOf marks floor index.old.series.entries
+    ensures memory { OnErr result ((marks : List Mark) (floor : ℕ) → IsIndexOf marks floor index.old.series.entries
         → IsIndexOf marks floor index.new.series.entries) }
 {
     let (from, to) = (moment(mark.from), moment(mark.to));
@@ -205,7 +205,7 @@ impl Marks {
     pub fn reserve(&mut self) -> Result<(), Memory>
         ensures marks { self.new.marks ≡ self.old.marks }
         ensures ok { OnOk result (self.new.spare ≡ self.old.spare + 1) }
-        ensures err { IfErr result (λ _. self.new.spare ≡ self.old.spare) }
+        ensures memory { IfErr result (λ _. self.new.spare ≡ self.old.spare) }
     {
         let alloc = *self.marks.allocator();
         let marks = self.marks.as_slice();

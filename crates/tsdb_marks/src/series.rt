@@ -84,7 +84,7 @@ impl Series {
     /// Adds a mark over the moments from `from` to `to`, which may be none.
     pub(crate) fn add(&mut self, from: u64, to: u64, version: u64) -> Result<(), Memory>
         ensures added { OnOk result (AddsMark self.old self.new from to version) }
-        ensures err { OnErr result (self.new ≡ self.old) }
+        ensures memory { OnErr result (self.new ≡ self.old) }
     {
         self.versions.reserve(1)?;
         self.runs.reserve(1)?;

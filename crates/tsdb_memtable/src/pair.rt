@@ -118,7 +118,7 @@ impl Pair {
         ensures points { (space : SpaceOf) (other : ℕ)
             → points_of space other self.new ≡ points_of space other self.old }
         ensures ok { OnOk result (spare_of series.0 self.new ≡ spare_of series.0 self.old + cells) }
-        ensures err { OnErr result (spare_of series.0 self.new ≡ spare_of series.0 self.old) }
+        ensures memory { OnErr result (spare_of series.0 self.new ≡ spare_of series.0 self.old) }
         ensures others { (other : ℕ) → series.0 ≢ other → spare_of other self.new ≡ spare_of other self.old }
     {
         if !has_room(&self.totals, cells) {

@@ -74,7 +74,7 @@ impl SeriesPoints {
     pub(crate) fn reserve(&mut self, cells: u64) -> Result<(), Memory>
         requires { most_bytes self.old + cells * max_point_bytes ≤ max_bytes }
         ensures ok { OnOk result (self.new ≡ with_room cells self.old) }
-        ensures err { OnErr result (self.new ≡ self.old) }
+        ensures memory { OnErr result (self.new ≡ self.old) }
     {
         let spare = self.spare + cells as usize;
         self.sequence.reserve(spare)?;

@@ -102,7 +102,7 @@ pub trait Port: Counted + Send {
         ensures right { IfOk result (λ right. Self.Right.file right ≡ Self.Sealed.file sealed.old) }
         ensures file { Self.Sealed.file sealed.new ≡ Self.Sealed.file sealed.old }
         ensures ok { OnOk result (Self.Sealed.rights sealed.new ≡ Self.Sealed.rights sealed.old + 1) }
-        ensures err { OnErr result (Self.Sealed.rights sealed.new ≡ Self.Sealed.rights sealed.old) };
+        ensures memory { OnErr result (Self.Sealed.rights sealed.new ≡ Self.Sealed.rights sealed.old) };
 
     /// Takes a right of this file back.
     fn give_back(sealed: &mut Self::Sealed, right: Self::Right)

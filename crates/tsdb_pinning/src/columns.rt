@@ -28,7 +28,7 @@ fn take_space<F: Files>(
     ensures ok { OnOk result (TakesAll F.Right.file
         (AreOfSpace F.Right.file space files.old memory.now asked.now.schema.path asked.now.id.0 range.now)
         files.old files.new sources.old.items sources.new.items) }
-    ensures err { OnErr result (TakesSome F.Right.file files.old files.new sources.old.items sources.new.items) }
+    ensures memory { OnErr result (TakesSome F.Right.file files.old files.new sources.old.items sources.new.items) }
 {
     take_files(files, space, &asked.schema.path, sources)?;
     take_parts(alloc, memory, space, asked.id, range, sources)
@@ -46,7 +46,7 @@ fn take_sources<F: Files>(
     ensures ok { OnOk result (TakesAll F.Right.file
         (AreSourcesOf F.Right.file files.old memory.now asked.now.schema.path asked.now.id.0 range.now)
         files.old files.new sources.old.items sources.new.items) }
-    ensures err { OnErr result (TakesSome F.Right.file files.old files.new sources.old.items sources.new.items) }
+    ensures memory { OnErr result (TakesSome F.Right.file files.old files.new sources.old.items sources.new.items) }
 {
     take_space(alloc, files, memory, Space::Sequence, asked, range, sources)?;
     take_space(
@@ -71,7 +71,7 @@ fn take_column<F: Files>(
 ) -> Result<(), Memory>
     ensures ok { OnOk result (IsColumnTaken F.Right.file memory.now range.now asked files.old files.new
         columns.old.items columns.new.items) }
-    ensures err { OnErr result (KeepsFiles files.old files.new × (columns.new.items ≡ columns.old.items)) }
+    ensures memory { OnErr result (KeepsFiles files.old files.new × (columns.new.items ≡ columns.old.items)) }
 {
     columns.reserve(1)?;
     let mut sources = Vec::new(alloc);
@@ -105,7 +105,7 @@ pub(crate) fn take_columns<F: Files>(
 ) -> Result<(), Memory>
     ensures ok { OnOk result (AreColumnsTaken F.Right.file memory.now range.now all.items files.old files.new
         columns.old.items columns.new.items) }
-    ensures err { OnErr result (TakesSomeColumns F.Right.file files.old files.new columns.old.items
+    ensures memory { OnErr result (TakesSomeColumns F.Right.file files.old files.new columns.old.items
         columns.new.items) }
 {
     for asked in all {

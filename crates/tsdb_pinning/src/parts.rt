@@ -24,7 +24,7 @@ fn take_part<F: Files>(
 ) -> Result<(), Memory>
     ensures ok { OnOk result (sources.new.items ≡ sources.old.items
         ++ parts_in space series.0 range.now (record { born = born.0; pair = pair.now } ∷ [])) }
-    ensures err { OnErr result (sources.new.items ≡ sources.old.items) }
+    ensures memory { OnErr result (sources.new.items ≡ sources.old.items) }
     ensures rising { IsRising (points_of space series.0 pair.now) }
 {
     // (a call of the pair tells that its points rise)
@@ -52,7 +52,7 @@ pub(crate) fn take_parts<F: Files>(
     ensures ok { OnOk result (sources.new.items ≡ sources.old.items
         ++ parts_in space series.0 range.now (pairs_in memory.now)) }
     ensures rising { OnOk result (AreRisingIn space series.0 (pairs_in memory.now)) }
-    ensures err { OnErr result (AddsParts sources.old.items sources.new.items) }
+    ensures memory { OnErr result (AddsParts sources.old.items sources.new.items) }
 {
     let pairs = memory.frozen();
     for one in pairs {

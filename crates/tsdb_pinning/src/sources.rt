@@ -30,7 +30,7 @@ fn take_file<F: Files>(
 ) -> Result<(), Memory>
     ensures ok { OnOk result (TakesAll F.Right.file (IsFileWithRight F.Right.file files.old number born)
         files.old files.new sources.old.items sources.new.items) }
-    ensures err { OnErr result (KeepsFiles files.old files.new × (sources.new.items ≡ sources.old.items)) }
+    ensures memory { OnErr result (KeepsFiles files.old files.new × (sources.new.items ≡ sources.old.items)) }
 {
     sources.reserve(1)?;
     if let Some(right) = files.share(number)? {
@@ -56,7 +56,7 @@ pub(crate) fn take_files<F: Files>(
     ensures ok { OnOk result (TakesAll F.Right.file
         (AreOfFiles F.Right.file files.old path.now (entries_in space files.old))
         files.old files.new sources.old.items sources.new.items) }
-    ensures err { OnErr result (TakesSome F.Right.file files.old files.new sources.old.items sources.new.items) }
+    ensures memory { OnErr result (TakesSome F.Right.file files.old files.new sources.old.items sources.new.items) }
 {
     for place in 0..files.entries(space).len() {
         let entry = &files.entries(space)[place];

@@ -71,7 +71,7 @@ fn take_all<F: Files>(
     range: &Range,
 ) -> Result<Pin<F>, Memory>
     ensures ok { IfOk result (IsPinOver F.Right.file memory.now range.now all.items files.old files.new) }
-    ensures err { OnErr result (KeepsFiles files.old files.new) }
+    ensures memory { OnErr result (KeepsFiles files.old files.new) }
 {
     let marks = marks_of(alloc, memory, &all)?;
     let mut columns = Vec::new(alloc);

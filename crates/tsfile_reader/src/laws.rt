@@ -8,6 +8,6 @@ pub fn one_blame()
 {}
 
 /// The file of a tree is blamed nowhere.
-pub fn no_file_is_blamed()
+pub fn a_whole_file_is_not_blamed()
     ensures { (bytes : List ℕ) (at : ℕ) → length bytes < 2 ^ 64 → IsBlamed bytes at → IsNoFile bytes }
 {}

@@ -28,5 +28,5 @@ mod same;
 
 pub use fault::ReadFault;
 pub use finding::find_entry;
-pub use laws::{no_file_is_blamed, one_blame};
+pub use laws::{a_whole_file_is_not_blamed, one_blame};
 pub use reader::{check_file, read_meta, read_points};

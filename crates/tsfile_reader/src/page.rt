@@ -100,7 +100,7 @@ fn read_body<'a>(alloc: Global, rest: Rest<'a>) -> Result<(&'a [u8], Rest<'a>), 
 }
 
 /// Reads a page of this type and encoding.
-pub fn read_page<'a>(
+pub fn read_marked_page<'a>(
     alloc: Global,
     data_type: DataType,
     encoding: Encoding,

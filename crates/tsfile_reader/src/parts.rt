@@ -18,7 +18,7 @@ ghost use Rattle.tsfile_reader.specs.Steps.{AreLaterPoints, ArePagesRead, IsChun
 ghost use Rattle.tsfile_reader.specs.Steps.{ReadsChunk, ReadsChunks, ReadsOrStops, ReadsPages, StopsBehind};
 
 use crate::fault::ReadFault;
-use crate::page::{ChunkHead, begins_with, read_chunk_head, read_group_head, read_page};
+use crate::page::{ChunkHead, begins_with, read_chunk_head, read_group_head, read_marked_page};
 use std::alloc::Global;
 use tsdb_base::limits::MAX_PAGES;
 use tsdb_base::{DataType, Encoding, List, Memory, Point, Stats};
@@ -79,7 +79,7 @@ fn read_next_page<'a>(
         (AreLaterPoints data_type pages.now) rest.entry (λ points. points.items) result }
 {
     let bad = FieldFault::Bad { at: rest.at };
-    let (points, behind) = read_page(alloc, data_type, encoding, rest)?;
+    let (points, behind) = read_marked_page(alloc, data_type, encoding, rest)?;
     if pages.entries.len() >= MAX_PAGES || points[0].time <= pages.stats.end {
         return Err(bad);
     }
@@ -97,7 +97,7 @@ fn read_pages<'a>(
     ensures { ReadsOrStops (λ r. ReadsPages data_type encoding rest.entry r.1 r.0)
         (λ at. (measurement : List ℕ) → StopsBehind (Part.Chunk measurement data_type encoding) rest.entry at) result }
 {
-    let (points, behind) = match read_page(alloc, data_type, encoding, rest) {
+    let (points, behind) = match read_marked_page(alloc, data_type, encoding, rest) {
         Ok(read) => read,
         Err(fault) => return Err(ReadFault::of_part(fault, rest.at)),
     };

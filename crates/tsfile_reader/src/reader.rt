@@ -17,7 +17,7 @@ ghost use Rattle.tsfile_reader.specs.Steps.{HasPageBytes, IsFirstWrong, SaysSize
 use crate::ends::Outline;
 use crate::fault::ReadFault;
 use crate::outline::HEAD_BYTES;
-use crate::page::read_page;
+use crate::page::read_marked_page;
 use crate::parts::read_groups;
 use crate::port::{read_outline, read_part};
 use crate::same::is_same_entry;
@@ -155,7 +155,7 @@ fn read_points_at<P: Port>(
         at: 0,
         bytes: &bytes,
     };
-    match read_page(alloc, entry.data_type, entry.encoding, rest) {
+    match read_marked_page(alloc, entry.data_type, entry.encoding, rest) {
         Ok((points, _behind)) => {
             if !lie_in(&points, &page.stats) {
                 return Err(ReadFault::Damaged { at: page.place });

@@ -153,7 +153,7 @@ impl OpenSeries {
         ensures same { SameSeries self.old self.new }
         ensures ok { OnOk result (PutsIn self.old.path self.old.data_type self.old.encoding self.old.points.items
             entries.now into.old.items into.new.items self.old.chunk self.new.chunk) }
-        ensures same_bytes { OnErr result (into.new.items ≡ into.old.items) }
+        ensures memory { OnErr result (into.new.items ≡ into.old.items) }
         ensures same_chunk { OnErr result (SameIfAny self.old.chunk self.new.chunk) }
     {
         match &mut self.chunk {

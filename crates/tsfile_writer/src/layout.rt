@@ -155,7 +155,7 @@ impl OpenChunk {
         requires points { ArePoints data_type points.now }
         ensures bytes { OnOk result (into.new.items ≡ into.old.items ++ page_bytes encoding points.now) }
         ensures chunk { OnOk result (IsLonger (length into.old.items) points.now self.old self.new) }
-        ensures same_bytes { OnErr result (into.new.items ≡ into.old.items) }
+        ensures memory { OnErr result (into.new.items ≡ into.old.items) }
         ensures same_chunk { OnErr result (SameChunk self.old self.new) }
     {
         if self.pages.len() >= MAX_PAGES {

@@ -3,10 +3,10 @@ use Rattle.tsdb_compacting.proofs.Begun.{both_taken, ok_of_both, place_made, the
 use Rattle.tsdb_compacting.proofs.Taken.{on_err}
 use Rattle.tsdb_compacting.proofs.beginning.take_all.Goals as goal
 
-pub returns-in_err-take_inputs-2-clause-err : goal.returns-in_err-take_inputs-2-clause-err
-returns-in_err-take_inputs-2-clause-err g c = on_err _ (then_some g.F.Right.ReadRight.file c.args.files.now
+pub returns-in_err-take_inputs-2-clause-memory : goal.returns-in_err-take_inputs-2-clause-memory
+returns-in_err-take_inputs-2-clause-memory g c = on_err _ (then_some g.F.Right.ReadRight.file c.args.files.now
     c.take_inputs.new.files c.take_inputs-2.new.files _ c.args.inputs.now.items c.take_inputs.new.inputs.items
-    c.take_inputs-2.new.inputs.items c.requires.none c.in_ok-take_inputs.ensures.ok c.in_err-take_inputs-2.ensures.err)
+    c.take_inputs-2.new.inputs.items c.requires.none c.in_ok-take_inputs.ensures.ok c.in_err-take_inputs-2.ensures.memory)
 
 pub returns-clause-ok : goal.returns-clause-ok
 returns-clause-ok g c = ok_of_both c.prepare_compaction.result
@@ -17,12 +17,12 @@ returns-clause-ok g c = ok_of_both c.prepare_compaction.result
     (search rules))
     c.prepare_compaction.ensures.places c.prepare_compaction.ensures.room
 
-pub returns-clause-err : goal.returns-clause-err
-returns-clause-err g c = when_err c.prepare_compaction.result
+pub returns-clause-memory : goal.returns-clause-memory
+returns-clause-memory g c = when_err c.prepare_compaction.result
     (place_made g.F.Right.ReadRight.file c.args.files.now c.take_inputs-2.new.files c.prepare_compaction.new.self
     c.take_inputs-2.new.inputs.items
     (then_some_all g.F.Right.ReadRight.file c.args.files.now c.take_inputs.new.files c.take_inputs-2.new.files _ _
     c.args.inputs.now.items c.take_inputs.new.inputs.items c.take_inputs-2.new.inputs.items c.requires.none
     c.in_ok-take_inputs.ensures.ok c.in_ok-take_inputs-2.ensures.ok)
     c.prepare_compaction.ensures.files c.prepare_compaction.ensures.lists)
-    c.prepare_compaction.ensures.err
+    c.prepare_compaction.ensures.memory

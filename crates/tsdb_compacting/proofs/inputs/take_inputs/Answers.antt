@@ -34,11 +34,11 @@ loop-place-preserved g c =
     (within_run c.args.run (length _) c.loop-place.place c.requires.within.ends c.loop-place-test.true) at
     c.in_ok-take_input.ensures.ok
 
-pub returns-in_err-take_input-clause-err : goal.returns-in_err-take_input-clause-err
-returns-in_err-take_input-clause-err g c = on_err _ (one_failed g.F.Right.ReadRight.file c.args.space c.args.run.first
+pub returns-in_err-take_input-clause-memory : goal.returns-in_err-take_input-clause-memory
+returns-in_err-take_input-clause-memory g c = on_err _ (one_failed g.F.Right.ReadRight.file c.args.space c.args.run.first
     c.args.files.now c.loop-place.files c.take_input.new.files c.args.inputs.now.items c.loop-place.inputs.items
-    c.take_input.new.inputs.items c.loop-place.place c.loop-place.invariant c.in_err-take_input.ensures.err.0
-    c.in_err-take_input.ensures.err.1)
+    c.take_input.new.inputs.items c.loop-place.place c.loop-place.invariant c.in_err-take_input.ensures.memory.0
+    c.in_err-take_input.ensures.memory.1)
 
 pub returns-clause-ok : goal.returns-clause-ok
 returns-clause-ok g c = run_taken g.F.Right.ReadRight.file c.args.space c.args.run c.args.files.now c.loop-place.files

@@ -8,7 +8,7 @@ pub give_back_sources-requires-after_bounds : goal.give_back_sources-requires-af
 give_back_sources-requires-after_bounds g c κs within = some_held g.F.Right.ReadRight.file c.args.files.now
     c.take_sources.new.files c.take_sources.new.sources.items
     (subst (λ l. TakesSome g.F.Right.ReadRight.file c.args.files.now c.take_sources.new.files l
-    c.take_sources.new.sources.items) c.new-sources.ensures.items c.in-Err.ensures.err)
+    c.take_sources.new.sources.items) c.new-sources.ensures.items c.in-Err.ensures.memory)
 
 pub returns-in-Ok-clause-ok : goal.returns-in-Ok-clause-ok
 returns-in-Ok-clause-ok g c = column_taken g.F.Right.ReadRight.file c.args.memory.now c.args.range.now c.args.asked
@@ -21,11 +21,11 @@ returns-in-Ok-clause-ok g c = column_taken g.F.Right.ReadRight.file c.args.memor
     refl refl c.of.ensures
     (c.push.ensures ∙ ap (λ l. l ++ record { schema = c.args.asked.schema; aggregate = c.args.asked.aggregate; sources = c.of.result } ∷ []) c.in_ok-reserve.ensures.items)
 
-pub returns-in-Err-clause-err : goal.returns-in-Err-clause-err
-returns-in-Err-clause-err g c = (
+pub returns-in-Err-clause-memory : goal.returns-in-Err-clause-memory
+returns-in-Err-clause-memory g c = (
   some_returned g.F.Right.ReadRight.file c.args.files.now c.take_sources.new.files c.give_back_sources.new.files
       c.take_sources.new.sources.items
       (subst (λ l. TakesSome g.F.Right.ReadRight.file c.args.files.now c.take_sources.new.files l
-      c.take_sources.new.sources.items) c.new-sources.ensures.items c.in-Err.ensures.err) c.give_back_sources.ensures,
+      c.take_sources.new.sources.items) c.new-sources.ensures.items c.in-Err.ensures.memory) c.give_back_sources.ensures,
   c.in_ok-reserve.ensures.items,
 )

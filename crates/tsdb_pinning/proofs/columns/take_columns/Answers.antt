@@ -23,11 +23,11 @@ loop-asked-preserved g c = record {
       c.in_ok-take_column.ensures.ok;
 }
 
-pub returns-in_err-take_column-clause-err : goal.returns-in_err-take_column-clause-err
-returns-in_err-take_column-clause-err g c = on_err _ (gathered_some g.F.Right.ReadRight.file c.args.memory.now
+pub returns-in_err-take_column-clause-memory : goal.returns-in_err-take_column-clause-memory
+returns-in_err-take_column-clause-memory g c = on_err _ (gathered_some g.F.Right.ReadRight.file c.args.memory.now
     c.args.range.now c.args.all.items (into_iter_items c.loop-asked.asked-iterator) c.args.files.now c.loop-asked.files
     c.take_column.new.files c.args.columns.now.items c.loop-asked.columns.items c.take_column.new.columns.items
-    c.loop-asked.invariant.gathered c.in_err-take_column.ensures.err.0 c.in_err-take_column.ensures.err.1)
+    c.loop-asked.invariant.gathered c.in_err-take_column.ensures.memory.0 c.in_err-take_column.ensures.memory.1)
 
 pub returns-clause-ok : goal.returns-clause-ok
 returns-clause-ok g c =

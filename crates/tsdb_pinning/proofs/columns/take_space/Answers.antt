@@ -11,10 +11,10 @@ returns-clause-ok g c = ok_of_both c.take_parts.result
     c.take_files.new.sources.items c.take_parts.new.sources.items c.in_ok-take_files.ensures.ok push rising)
     c.take_parts.ensures.ok c.take_parts.ensures.rising
 
-pub returns-clause-err : goal.returns-clause-err
-returns-clause-err g c = when_err c.take_parts.result
+pub returns-clause-memory : goal.returns-clause-memory
+returns-clause-memory g c = when_err c.take_parts.result
     (λ adds. space_some g.F.Right.ReadRight.file c.args.files.now c.take_files.new.files c.args.sources.now.items
     c.take_files.new.sources.items c.take_parts.new.sources.items
     (AreOfFiles g.F.Right.ReadRight.file c.args.files.now c.args.asked.now.schema.path
     (entries_in c.args.space c.args.files.now)) c.in_ok-take_files.ensures.ok adds)
-    c.take_parts.ensures.err
+    c.take_parts.ensures.memory

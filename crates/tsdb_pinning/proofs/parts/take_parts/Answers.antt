@@ -13,10 +13,10 @@ loop-one-preserved g c = frozen_step _ _ _ _ c.args.space c.args.series.0 c.args
     c.loop-one.sources.items c.take_part.new.sources.items c.loop-one-test.true c.one-item.is c.born.ensures
     c.pair.ensures c.loop-one.invariant c.in_ok-take_part.ensures.ok c.take_part.ensures.rising
 
-pub returns-in_err-take_part-clause-err : goal.returns-in_err-take_part-clause-err
-returns-in_err-take_part-clause-err g c = on_err _ (copied_so_far _ _ _ _ c.args.space c.args.series.0 c.args.range.now
+pub returns-in_err-take_part-clause-memory : goal.returns-in_err-take_part-clause-memory
+returns-in_err-take_part-clause-memory g c = on_err _ (copied_so_far _ _ _ _ c.args.space c.args.series.0 c.args.range.now
     (map frozen_in (take c.loop-one.one-index c.frozen-pairs.result.now)) c.args.sources.now.items
-    c.loop-one.sources.items c.take_part.new.sources.items c.loop-one.invariant c.in_err-take_part.ensures.err)
+    c.loop-one.sources.items c.take_part.new.sources.items c.loop-one.invariant c.in_err-take_part.ensures.memory)
 
 pub returns-clause-ok : goal.returns-clause-ok
 returns-clause-ok g c = when_ok c.take_part-2.result
@@ -34,7 +34,7 @@ returns-clause-rising g c = when_ok c.take_part-2.result
     c.stamp.ensures.value c.working.ensures c.loop-one.invariant push c.take_part-2.ensures.rising).rising)
     c.take_part-2.ensures.ok
 
-pub returns-clause-err : goal.returns-clause-err
-returns-clause-err g c = when_err c.take_part-2.result (λ same. copied_so_far _ _ _ _ c.args.space c.args.series.0
+pub returns-clause-memory : goal.returns-clause-memory
+returns-clause-memory g c = when_err c.take_part-2.result (λ same. copied_so_far _ _ _ _ c.args.space c.args.series.0
     c.args.range.now (map frozen_in (take c.loop-one.one-index c.frozen-pairs.result.now)) c.args.sources.now.items
-    c.loop-one.sources.items c.take_part-2.new.sources.items c.loop-one.invariant same) c.take_part-2.ensures.err
+    c.loop-one.sources.items c.take_part-2.new.sources.items c.loop-one.invariant same) c.take_part-2.ensures.memory

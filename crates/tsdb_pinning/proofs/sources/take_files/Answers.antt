@@ -38,11 +38,11 @@ loop-place-preserved g c =
           (sym c.has_series.ensures ∙ w.if-has_series.false))
     ]
 
-pub returns-in_err-take_file-clause-err : goal.returns-in_err-take_file-clause-err
-returns-in_err-take_file-clause-err g c = on_err _ (file_failed g.F.Right.ReadRight.file c.args.path.now
+pub returns-in_err-take_file-clause-memory : goal.returns-in_err-take_file-clause-memory
+returns-in_err-take_file-clause-memory g c = on_err _ (file_failed g.F.Right.ReadRight.file c.args.path.now
     c.args.space c.args.files.now c.loop-place.files c.take_file.new.files c.args.sources.now.items
     c.loop-place.sources.items c.take_file.new.sources.items c.loop-place.place c.loop-place.invariant
-    c.in_err-take_file.ensures.err.0 c.in_err-take_file.ensures.err.1)
+    c.in_err-take_file.ensures.memory.0 c.in_err-take_file.ensures.memory.1)
 
 pub returns-clause-ok : goal.returns-clause-ok
 returns-clause-ok g c = all_taken g.F.Right.ReadRight.file c.args.path.now c.args.space c.args.files.now

@@ -8,14 +8,14 @@ use Rattle.tsdb_pinning.proofs.Pinned.{pin_over}
 use Rattle.tsdb_pinning.specs.Pins.{AreColumnsTaken, TakesSomeColumns}
 use Rattle.tsdb_pinning.proofs.taking.take_all.Goals as goal
 
-pub returns-in_err-marks-clause-err : goal.returns-in_err-marks-clause-err
-returns-in_err-marks-clause-err g c = on_err _ (nothing_changed c.args.files.now)
+pub returns-in_err-marks-clause-memory : goal.returns-in_err-marks-clause-memory
+returns-in_err-marks-clause-memory g c = on_err _ (nothing_changed c.args.files.now)
 
 pub give_back_columns-requires-after_bounds : goal.give_back_columns-requires-after_bounds
 give_back_columns-requires-after_bounds g c κs within = columns_held g.F.Right.ReadRight.file c.args.files.now
     c.take_columns.new.files c.take_columns.new.columns.items
     (subst (λ l. TakesSomeColumns g.F.Right.ReadRight.file c.args.files.now c.take_columns.new.files l
-    c.take_columns.new.columns.items) c.new-columns.ensures.items c.in-Err.ensures.err)
+    c.take_columns.new.columns.items) c.new-columns.ensures.items c.in-Err.ensures.memory)
 
 pub returns-in-Ok-clause-ok : goal.returns-in-Ok-clause-ok
 returns-in-Ok-clause-ok g c =
@@ -28,8 +28,8 @@ returns-in-Ok-clause-ok g c =
     taken c.stamp.ensures.value refl (subst (λ l. c.in_ok-marks.marks.marks ≡ filter (is_of (map (λ asked. asked.schema.path) l)) c.args.memory.now.marks.marks)
     c.deref.ensures.value c.in_ok-marks.ensures) c.of.ensures
 
-pub returns-in-Err-clause-err : goal.returns-in-Err-clause-err
-returns-in-Err-clause-err g c = columns_returned g.F.Right.ReadRight.file c.args.files.now c.take_columns.new.files
+pub returns-in-Err-clause-memory : goal.returns-in-Err-clause-memory
+returns-in-Err-clause-memory g c = columns_returned g.F.Right.ReadRight.file c.args.files.now c.take_columns.new.files
     c.give_back_columns.new.files c.take_columns.new.columns.items
     (subst (λ l. TakesSomeColumns g.F.Right.ReadRight.file c.args.files.now c.take_columns.new.files l
-    c.take_columns.new.columns.items) c.new-columns.ensures.items c.in-Err.ensures.err) c.give_back_columns.ensures
+    c.take_columns.new.columns.items) c.new-columns.ensures.items c.in-Err.ensures.memory) c.give_back_columns.ensures

@@ -40,7 +40,7 @@ take_job_inputs-requires-clause-unsequence g c κs within =
 
 pub returns-in_err-inputs-clause-not : goal.returns-in_err-inputs-clause-not
 returns-in_err-inputs-clause-not g c = on_err _ (untouched c.args.self.now c.reserve_replaced.new.self
-    c.take_job_inputs.new.files c.in_ok-reserve_replaced.ensures.kept c.in_err-inputs.ensures.err)
+    c.take_job_inputs.new.files c.in_ok-reserve_replaced.ensures.kept c.in_err-inputs.ensures.memory)
 
 pub returns-clause-begun : goal.returns-clause-begun
 returns-clause-begun g c = job_begun g.F.Right.ReadRight.file c.args.self.now c.reserve_replaced.new.self

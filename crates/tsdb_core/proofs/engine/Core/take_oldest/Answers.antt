@@ -20,7 +20,7 @@ returns-in_err-job-clause-not g c = on_err _ (not_taken c.args.self.now c.reserv
 pub returns-in_err-prepare_flush-clause-not : goal.returns-in_err-prepare_flush-clause-not
 returns-in_err-prepare_flush-clause-not g c = on_err _ (not_taken c.args.self.now c.reserve_flushed.new.self
     c.prepare_flush.new.self c.in_ok-reserve_flushed.ensures.kept c.in_err-prepare_flush.ensures.lists
-    c.in_err-prepare_flush.ensures.files c.in_err-prepare_flush.ensures.err)
+    c.in_err-prepare_flush.ensures.files c.in_err-prepare_flush.ensures.memory)
 
 pub returns-clause-taken : goal.returns-clause-taken
 returns-clause-taken g c = flush_taken c.args.self.now c.reserve_flushed.new.self c.prepare_flush.new.self
@@ -48,7 +48,7 @@ returns-in_err-job-clause-world g c = not_taken_world c.args.self.now _ (not_tak
 pub returns-in_err-prepare_flush-clause-world : goal.returns-in_err-prepare_flush-clause-world
 returns-in_err-prepare_flush-clause-world g c = not_taken_world c.args.self.now _ (not_taken c.args.self.now
     c.reserve_flushed.new.self c.prepare_flush.new.self c.in_ok-reserve_flushed.ensures.kept
-    c.in_err-prepare_flush.ensures.lists c.in_err-prepare_flush.ensures.files c.in_err-prepare_flush.ensures.err)
+    c.in_err-prepare_flush.ensures.lists c.in_err-prepare_flush.ensures.files c.in_err-prepare_flush.ensures.memory)
 
 pub returns-clause-world : goal.returns-clause-world
 returns-clause-world g c = taken_world c.args.self.now _ c.in_ok-job.job

@@ -14,14 +14,14 @@ returns-in-Some-clause-others c = λ other ne.
     let updates = (c.get_mut.follows.holds c.add.new.self).3 had in
     at_other c.args.path.now other (is_path c.args.path.now other) _ _ c.add.new.self refl ne (updates.0 other)
 
-pub returns-in-Some-clause-err : goal.returns-in-Some-clause-err
-returns-in-Some-clause-err c = on_err_weaker c.add.result (λ kept. λ other.
+pub returns-in-Some-clause-memory : goal.returns-in-Some-clause-memory
+returns-in-Some-clause-memory c = on_err_weaker c.add.result (λ kept. λ other.
     let P : Option Series → Type 0 = λ o. IsSome o in
     let had : IsSome (lookup (is_path c.args.path.now) c.args.self.now.series.entries) = subst P c.in-Some.ensures.value refl in
     let updates = (c.get_mut.follows.holds c.add.new.self).3 had in
     let Q : List ℕ → Type 0 = λ path. lookup (is_path path) c.args.self.now.series.entries ≡ Some c.add.new.self in
     let here : Q c.args.path.now = sym c.in-Some.ensures.value ∙ ap Some (sym kept) in
-    at_same c.args.path.now other (is_path c.args.path.now other) _ _ c.add.new.self refl (λ same. subst Q same here) (updates.0 other)) c.add.ensures.err
+    at_same c.args.path.now other (is_path c.args.path.now other) _ _ c.add.new.self refl (λ same. subst Q same here) (updates.0 other)) c.add.ensures.memory
 
 pub returns-clause-others : goal.returns-clause-others
 returns-clause-others c = λ other ne.

@@ -58,5 +58,5 @@ returns-in-None-clause-spare c = λ other.
     subst (λ (pair : Pair). IsProvided (spare_of other pair) (spare_of other c.reserve.new.self)) (kept ∙ c.self.view_is)
     (provided-one series other there c.reserve.new.self none
     (reserved c.reserve.result (spare_of series there) (spare_of series c.reserve.new.self) c.reserve.ensures.ok
-    c.reserve.ensures.err none)
+    c.reserve.ensures.memory none)
     (c.reserve.ensures.others other))

@@ -16,28 +16,28 @@ use Rattle.tsdb_memtable.proofs.pair.Pair.reserve.Goals.{In_err-reserve-in-Some}
 pub invariant_of-self : goal.invariant_of-self
 invariant_of-self c =
     let test = is_series c.args.series.0 in
-    let same = (c.get_mut.follows.holds c.reserve.new.self).0 ∙ ap (set_value test c.self.inside.series.entries) c.in_err-reserve-in-Some.ensures.err
+    let same = (c.get_mut.follows.holds c.reserve.new.self).0 ∙ ap (set_value test c.self.inside.series.entries) c.in_err-reserve-in-Some.ensures.memory
     ∙ set_value_same test c.self.inside.series.entries c.in-Some.points.now (sym c.in-Some.ensures.value) in
     record { totals = subst (λ (pair : Pair). AreTotals pair c.self.inside.totals) (sym same) c.self.invariant.totals; most = c.self.invariant.most }
 
 pub returns-in_err-reserve-in-Some-clause-tables : goal.returns-in_err-reserve-in-Some-clause-tables
 returns-in_err-reserve-in-Some-clause-tables c =
     let test = is_series c.args.series.0 in
-    let same = (c.get_mut.follows.holds c.reserve.new.self).0 ∙ ap (set_value test c.self.inside.series.entries) c.in_err-reserve-in-Some.ensures.err
+    let same = (c.get_mut.follows.holds c.reserve.new.self).0 ∙ ap (set_value test c.self.inside.series.entries) c.in_err-reserve-in-Some.ensures.memory
     ∙ set_value_same test c.self.inside.series.entries c.in-Some.points.now (sym c.in-Some.ensures.value) in
     λ space. ap (table space) (same ∙ c.self.view_is)
 
 pub returns-in_err-reserve-in-Some-clause-points : goal.returns-in_err-reserve-in-Some-clause-points
 returns-in_err-reserve-in-Some-clause-points c =
     let test = is_series c.args.series.0 in
-    let same = (c.get_mut.follows.holds c.reserve.new.self).0 ∙ ap (set_value test c.self.inside.series.entries) c.in_err-reserve-in-Some.ensures.err
+    let same = (c.get_mut.follows.holds c.reserve.new.self).0 ∙ ap (set_value test c.self.inside.series.entries) c.in_err-reserve-in-Some.ensures.memory
     ∙ set_value_same test c.self.inside.series.entries c.in-Some.points.now (sym c.in-Some.ensures.value) in
     λ space other. ap (points_of space other) (same ∙ c.self.view_is)
 
 pub returns-in_err-reserve-in-Some-clause-others : goal.returns-in_err-reserve-in-Some-clause-others
 returns-in_err-reserve-in-Some-clause-others c =
     let test = is_series c.args.series.0 in
-    let same = (c.get_mut.follows.holds c.reserve.new.self).0 ∙ ap (set_value test c.self.inside.series.entries) c.in_err-reserve-in-Some.ensures.err
+    let same = (c.get_mut.follows.holds c.reserve.new.self).0 ∙ ap (set_value test c.self.inside.series.entries) c.in_err-reserve-in-Some.ensures.memory
     ∙ set_value_same test c.self.inside.series.entries c.in-Some.points.now (sym c.in-Some.ensures.value) in
     λ other ne. ap (spare_of other) (same ∙ c.self.view_is)
 

@@ -23,7 +23,7 @@ returns-in_err-put_page-clause-memory c = always_on_err c.from_residual-in_err-p
     let put = c.in_err-put_page.ensures in
     subst (λ (entries : List IndexEntry). BuildState given c.put_page.new.into.items entries after.path after.data_type after.encoding after.chunk after.points.items) (sym c.in_ok-reserve.ensures.items)
     (state_as given c.args.into.now.items c.put_page.new.into.items c.args.entries.now.items self.path after.path self.data_type after.data_type self.encoding after.encoding self.chunk after.chunk self.points.items after.points.items
-    state put.same_bytes put.same.path_is put.same.type_is put.same.encoding_is put.same.points_are put.same_chunk))
+    state put.memory put.same.path_is put.same.type_is put.same.encoding_is put.same.points_are put.same_chunk))
 
 pub returns-clause-ok : goal.returns-clause-ok
 returns-clause-ok c = λ given state.

@@ -6,7 +6,7 @@ use Rattle.tsdb_pages.specs.File.{page_bytes}
 use Rattle.tsfile_reader.specs.Page.{AreGood}
 use Rattle.tsfile_reader.specs.Steps.{IsBodySize, body_bytes}
 use Rattle.tsfile_reader.proofs.Heads.{no_body, no_points}
-use Rattle.tsfile_reader.proofs.page.read_page.Goals as goal
+use Rattle.tsfile_reader.proofs.page.read_marked_page.Goals as goal
 
 pub returns-in_err-body : goal.returns-in_err-body
 returns-in_err-body c = record {
