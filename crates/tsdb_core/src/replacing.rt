@@ -72,7 +72,7 @@ impl<J: Journal, F: Files> Core<J, F> {
     /// Appends the record of the end of a job whose inputs stand in these runs, and hands the job back.
     fn log_end(
         &mut self,
-        job: Job<F>,
+        mut job: Job<F>,
         runs: InputRuns,
         output: &Option<Built<F>>,
     ) -> (Job<F>, Result<(), Failed>)
@@ -87,40 +87,20 @@ impl<J: Journal, F: Files> Core<J, F> {
         let listed = self
             .files
             .least_replaced(job.space, runs.sequence, runs.unsequence, born);
-        let Job {
-            space,
-            born,
-            place,
-            inputs,
-            sequence,
-            unsequence,
-            marks,
-            schemas,
-            output: number,
-        } = job;
         let item = LogRecord::Replaced {
-            born,
-            space,
-            place: place_of(space, runs),
+            born: job.born,
+            space: job.space,
+            place: place_of(job.space, runs),
             output: number_of(output),
-            sequence,
-            unsequence,
+            sequence: job.sequence,
+            unsequence: job.unsequence,
         };
         let outcome = self.logged.replaced(&item, listed);
         let Some((sequence, unsequence)) = inputs_in(item) else {
             unreachable!()
         };
-        let job = Job {
-            space,
-            born,
-            place,
-            inputs,
-            sequence,
-            unsequence,
-            marks,
-            schemas,
-            output: number,
-        };
+        job.sequence = sequence;
+        job.unsequence = unsequence;
         (job, outcome)
     }
 
