@@ -4,12 +4,14 @@
 #![tactic(auto)]
 
 mod fault;
+mod many;
 mod reading;
 mod rest;
 mod statistics;
 mod writing;
 
 pub use fault::FieldFault;
+pub use many::{FieldReader, read_fields};
 pub use reading::{read_field, read_name, read_path, read_value};
 pub use rest::Rest;
 pub use statistics::{read_stats, write_stats};
