@@ -1,10 +1,8 @@
 -- Fields that follow one another: where one of them is missing, the whole is.
-use Rattle.std.proofs.Common.{◌≡◌, ℕ, ◌+◌, ◌<◌, List, [], ◌∷◌, ◌++◌, length, Err, refl, sym, ap, subst, ◌∙◌, append_assoc, arith}
-use Rattle.std.specs.Prelude.{ℤ, All, Option, None, Some}
-use Rattle.std.specs.List.{flat_map, AllByRecursion}
-use Rattle.std.proofs.lemmas.Grind.{flat_map-append}
-use Rattle.std.proofs.lemmas.List.{append-nil, length-append}
-use Rattle.std.proofs.lemmas.List.Elements.{All-push, recursion_from_All}
+use Rattle.std.proofs.Common.{◌≡◌, ℕ, ◌<◌, List, [], ◌∷◌, ◌++◌, length, Err, refl, sym, ap, subst, ◌∙◌, append_assoc, arith}
+use Rattle.std.specs.Prelude.{ℤ, Option, None, Some}
+use Rattle.std.specs.List.{flat_map}
+use Rattle.std.proofs.lemmas.List.{append-nil}
 use Rattle.tsdb_base.specs.declared.point.Stats.{Stats}
 use Rattle.tsdb_base.specs.declared.value.DataType.{DataType}
 use Rattle.tsdb_base.specs.declared.value.Value.{Value}
@@ -12,17 +10,17 @@ use Rattle.tsdb_base.specs.FieldLaws.{pair_field-prefix_free}
 use Rattle.tsdb_base.specs.Fields.{pair_field, IsPair}
 use Rattle.tsdb_base.specs.Plain.{AreValues, BeginsWithNone, plain_text, IsText}
 use Rattle.tsdb_base.specs.PlainLaws.{plain_text-prefix_free}
-use Rattle.tsdb_base.proofs.PlainLists.{IsPrefixFree}
+use Rattle.tsdb_base.proofs.PlainLists.{IsPrefixFree, same_values}
 use Rattle.tsdb_path.specs.Nodes.{IsName, IsPath}
 use Rattle.tsdb_fields.specs.declared.fault.FieldFault.{FieldFault}
 use Rattle.tsdb_fields.specs.declared.fault.FieldFault.TheVariants.{Bad, Memory}
 use Rattle.tsdb_fields.specs.declared.rest.Rest.{Rest}
-use Rattle.tsdb_fields.specs.Reading.{ReadsParts, TakesBytes}
+use Rattle.tsdb_fields.specs.Reading.{ReadsParts}
 use Rattle.tsdb_fields.specs.Statistics.{optional_field, stats_field, IsExtremeOf, IsStatsOf}
 use Rattle.tsdb_index.specs.Faults.{ReadsWhole}
 use Rattle.tsdb_index.specs.Steps.{IsCounted}
 use Rattle.tsdb_fields.proofs.Laws.{value_field-prefix_free}
-use Rattle.tsdb_fields.proofs.Parts.{part_fault, times, AreTimes, ends, AreEnds, extremes, AreExtremes, times-prefix_free, ends-prefix_free}
+use Rattle.tsdb_fields.proofs.Parts.{times, AreTimes, ends, AreEnds, extremes, AreExtremes, times-prefix_free, ends-prefix_free}
 
 -- ---- no field's bytes begin those of another
 
@@ -74,83 +72,6 @@ none_behind whole IsWhole f IsPart part tail split good free a bytes rest is_a f
     let same = free a (part w) rest (tail w ++ behind) is_a (good w is) (sym found ∙ e ∙ ap (λ (l : List ℕ). l ++ behind) (split w) ∙ append_assoc (f (part w)) (tail w) behind) in
     none w behind (is, sym same.0) same.1
 
--- one part and another behind it are taken
-pub takes_both : (old middle new : Rest) (first second : List ℕ) → TakesBytes old first middle → TakesBytes middle second new → TakesBytes old (first ++ second) new
-takes_both old middle new first second a b = record {
-  bytes = a.bytes ∙ ap (λ (l : List ℕ). first ++ l) b.bytes ∙ sym (append_assoc first second new.bytes.now);
-  place = let n = length-append first second in omega (arith, a.place, b.place, n);
-}
-
-pub takes_same : (old new : Rest) (text other : List ℕ) → text ≡ other → TakesBytes old text new → TakesBytes old other new
-takes_same old new text other same t = record {
-  bytes = t.bytes ∙ ap (λ (l : List ℕ). l ++ new.bytes.now) same;
-  place = t.place ∙ ap (λ (l : List ℕ). old.at + length l) same;
-}
-
--- ---- items one behind another
-
--- what follows an item is known where the item is
-abbrev pub IsSeparable : {A : Type 0} → (A → List ℕ) → (A → Type 0) → Type 0
-IsSeparable {A} f IsItem = (a b : A) (x y : List ℕ) → IsItem a → IsItem b → f a ++ x ≡ f b ++ y → x ≡ y
-
-pub separable : {A : Type 0} (f : A → List ℕ) (IsItem : A → Type 0) → IsPrefixFree f IsItem → IsSeparable f IsItem
-separable f IsItem free a b x y is_a is_b e = (free a b x y is_a is_b e).1
-
-first_gone : {A : Type 0} (f : A → List ℕ) (IsItem : A → Type 0) (apart : IsSeparable f IsItem) (u v : A) (us vs : List A) (r s : List ℕ) → IsItem u → IsItem v → flat_map f (u ∷ us) ++ r ≡ flat_map f (v ∷ vs) ++ s → flat_map f us ++ r ≡ flat_map f vs ++ s
-first_gone f IsItem apart u v us vs r s is_u is_v e =
-    apart u v (flat_map f us ++ r) (flat_map f vs ++ s) is_u is_v (sym (append_assoc (f u) (flat_map f us) r) ∙ e ∙ append_assoc (f v) (flat_map f vs) s)
-
-no_longer_by_recursion : {A : Type 0} (f : A → List ℕ) (IsItem : A → Type 0) (apart : IsSeparable f IsItem) (so_far items : List A) (rest more : List ℕ) → length so_far < length items → AllByRecursion IsItem so_far → AllByRecursion IsItem items
-    → flat_map f so_far ++ rest ≡ flat_map f items ++ more → BeginsWithNone f IsItem rest → ⊥
-no_longer_by_recursion f IsItem apart [] [] rest more lt is_a is_b e none = absurd (omega arith)
-no_longer_by_recursion f IsItem apart (u ∷ us) [] rest more lt is_a is_b e none = absurd (omega arith)
-no_longer_by_recursion f IsItem apart [] (v ∷ vs) rest more lt is_a is_b e none = none v (flat_map f vs ++ more) is_b.0 (e ∙ append_assoc (f v) (flat_map f vs) more)
-no_longer_by_recursion f IsItem apart (u ∷ us) (v ∷ vs) rest more lt is_a is_b e none =
-    let shorter : length us < length vs = omega arith in
-    no_longer_by_recursion f IsItem apart us vs rest more shorter is_a.1 is_b.1 (first_gone f IsItem apart u v us vs rest more is_a.0 is_b.0 e) none
-
-rest_by_recursion : {A : Type 0} (f : A → List ℕ) (IsItem : A → Type 0) (apart : IsSeparable f IsItem) (xs ys : List A) (r s : List ℕ) → length xs ≡ length ys → AllByRecursion IsItem xs → AllByRecursion IsItem ys
-    → flat_map f xs ++ r ≡ flat_map f ys ++ s → r ≡ s
-rest_by_recursion f IsItem apart [] [] r s len is_a is_b e = e
-rest_by_recursion f IsItem apart (u ∷ us) [] r s len is_a is_b e = absurd (omega arith)
-rest_by_recursion f IsItem apart [] (v ∷ vs) r s len is_a is_b e = absurd (omega arith)
-rest_by_recursion f IsItem apart (u ∷ us) (v ∷ vs) r s len is_a is_b e =
-    let shorter : length us ≡ length vs = omega arith in
-    rest_by_recursion f IsItem apart us vs r s shorter is_a.1 is_b.1 (first_gone f IsItem apart u v us vs r s is_a.0 is_b.0 e)
-
--- so many items stand in front of the same bytes
-pub rest_same : {A : Type 0} (f : A → List ℕ) (IsItem : A → Type 0) (apart : IsSeparable f IsItem) (xs ys : List A) (r s : List ℕ) → length xs ≡ length ys → All IsItem xs → All IsItem ys → flat_map f xs ++ r ≡ flat_map f ys ++ s → r ≡ s
-rest_same f IsItem apart xs ys r s len is_a is_b e = rest_by_recursion f IsItem apart xs ys r s len (recursion_from_All IsItem xs is_a) (recursion_from_All IsItem ys is_b) e
-
--- the items so far are taken
-pub record AreTaken {A : Type 0} (f : A → List ℕ) (IsItem : A → Type 0) (old : Rest) (items : List A) (left : Rest) : Type 0 where
-  pub takes : TakesBytes old (flat_map f items) left
-  pub good : All IsItem items
-
-pub none_taken : {A : Type 0} (f : A → List ℕ) (IsItem : A → Type 0) (old : Rest) (items : List A) → items ≡ [] → AreTaken f IsItem old items old
-none_taken f IsItem old [] none = record { takes = record { bytes = refl; place = omega arith }; good = λ k d lt. absurd (omega arith) }
-none_taken f IsItem old (x ∷ xs) none = absurd cc
-
-pub one_taken : {A : Type 0} (f : A → List ℕ) (IsItem : A → Type 0) (old middle new : Rest) (items more : List A) (item : A) → more ≡ items ++ item ∷ [] → AreTaken f IsItem old items middle → TakesBytes middle (f item) new → IsItem item → AreTaken f IsItem old more new
-one_taken f IsItem old middle new items more item is so_far takes good =
-    let all : flat_map f items ++ f item ≡ flat_map f more = ap (λ (l : List ℕ). flat_map f items ++ l) (sym (append-nil (f item))) ∙ sym (flat_map-append f items (item ∷ [])) ∙ ap (flat_map f) (sym is) in
-    record {
-      takes = takes_same old new (flat_map f items ++ f item) (flat_map f more) all (takes_both old middle new (flat_map f items) (f item) so_far.takes takes);
-      good = rw is (All-push IsItem items item so_far.good good);
-    }
-
-pub one_more : {A : Type 0} (items more : List A) (item : A) (n : ℕ) → more ≡ items ++ item ∷ [] → length items ≡ n → length more ≡ n + 1
-one_more items more item n is len = let all = ap length is ∙ length-append items (item ∷ []) in omega (arith, all, len)
-
--- where no item follows, there are not so many items
-pub items_fault : {A B C : Type 0} (f : A → List ℕ) (IsItem : A → Type 0) (apart : IsSeparable f IsItem) (count : ℕ) (old middle : Rest) (items : List A) (view : C → A) (view_all : B → List A) (fault : FieldFault)
-    → length items < count → AreTaken f IsItem old items middle → ReadsParts f IsItem middle view (Err fault) → ReadsParts (flat_map f) (AreValues IsItem count) old view_all (Err fault)
-items_fault f IsItem apart count old middle items view view_all fault few so_far reads =
-    part_fault f IsItem (flat_map f) (AreValues IsItem count) old middle view view_all fault
-    (λ none values behind are e.
-    no_longer_by_recursion f IsItem apart items values middle.bytes.now behind (omega (arith, few, are.0)) (recursion_from_All IsItem items so_far.good) (recursion_from_All IsItem values are.1) (sym so_far.takes.bytes ∙ e) none)
-    reads
-
 -- ---- a mark, the number of the items, and the items
 
 -- a fault of a part is one of the whole
@@ -185,11 +106,11 @@ no_items mark number limit f IsItem free bytes fields rest n found counted small
     let same = count_is mark number limit f IsItem free bytes fields rest n items found counted small is in
     none items [] (sym same.0, is.good) (same.1 ∙ sym (append-nil (flat_map f items)))
 
-pub more_behind : {A : Type 0} (mark : ℕ) (number : ℕ → List ℕ) (limit : ℕ) (f : A → List ℕ) (IsItem : A → Type 0) (free : IsPrefixFree number (λ n. n < limit)) (apart : IsSeparable f IsItem) (bytes fields rest behind : List ℕ) (n : ℕ) (found_items : List A)
+pub more_behind : {A : Type 0} (mark : ℕ) (number : ℕ → List ℕ) (limit : ℕ) (f : A → List ℕ) (IsItem : A → Type 0) (free : IsPrefixFree number (λ n. n < limit)) (free_items : IsPrefixFree f IsItem) (bytes fields rest behind : List ℕ) (n : ℕ) (found_items : List A)
     → bytes ≡ mark ∷ fields → fields ≡ number n ++ rest → n < limit → rest ≡ flat_map f found_items ++ behind → AreValues IsItem n found_items → (behind ≡ [] → ⊥) → (items : List A) → IsCounted mark number limit f IsItem bytes items → ⊥
-more_behind mark number limit f IsItem free apart bytes fields rest behind n found_items found counted small split are some items is =
+more_behind mark number limit f IsItem free free_items bytes fields rest behind n found_items found counted small split are some items is =
     let same = count_is mark number limit f IsItem free bytes fields rest n items found counted small is in
-    some (rest_same f IsItem apart found_items items behind [] (are.0 ∙ same.0) are.1 is.good (sym split ∙ same.1 ∙ sym (append-nil (flat_map f items))))
+    some (same_values f IsItem free_items found_items items behind [] (are.0 ∙ same.0) are.1 is.good (sym split ∙ same.1 ∙ sym (append-nil (flat_map f items)))).1
 
 pub is_counted : {A : Type 0} (mark : ℕ) (number : ℕ → List ℕ) (limit : ℕ) (f : A → List ℕ) (IsItem : A → Type 0) (bytes fields rest behind : List ℕ) (n : ℕ) (items : List A)
     → bytes ≡ mark ∷ fields → fields ≡ number n ++ rest → n < limit → rest ≡ flat_map f items ++ behind → AreValues IsItem n items → behind ≡ [] → IsCounted mark number limit f IsItem bytes items

@@ -1,11 +1,9 @@
 //! Reading an index: the root first, and then the leaf at each of its pointers. Depends on `index`, `pointer`, `order`
 //! and `fault`.
 ghost use Rattle.std.specs.Prelude.{◌≡◌, ℕ, ◌+◌, ◌<◌, ◌≤◌, ◌^◌, ◌∷◌, List, length, IfOk, IfErr, MatchOption};
-ghost use Rattle.std.specs.List.{flat_map};
 ghost use Rattle.tsdb_index.specs.declared.marks.TheConstants.{LEAF, ROOT};
 ghost use Rattle.tsdb_base.specs.Fields.{number16, number32};
-ghost use Rattle.tsdb_base.specs.Plain.{AreValues};
-ghost use Rattle.tsdb_fields.specs.Reading.{ReadsParts};
+ghost use Rattle.tsdb_fields.specs.Reading.{LacksPart};
 ghost use Rattle.tsdb_index.specs.Entries.{IsEntry, IsPageOf};
 ghost use Rattle.tsdb_index.specs.Faults.{IsFirstBad, IsRead, ReadsWhole};
 ghost use Rattle.tsdb_index.specs.Parts.{IsLeaf, IsPointer, IsRoot, end_of as leaf_end, pointer_bytes};
@@ -19,114 +17,95 @@ use crate::order::{are_leaf, are_root};
 use crate::pointer::Pointer;
 use std::alloc::Global;
 use tsdb_base::{DataType, List, suits};
-use tsdb_fields::{FieldFault, Rest, read_field, read_name, read_path, read_stats};
+use tsdb_fields::{
+    FieldFault, FieldReader, Rest, read_field, read_fields, read_name, read_path, read_stats,
+};
 
-fn read_page<'a>(
-    alloc: Global,
+/// Reads what the index says of a page, in a chunk of this type.
+#[derive(Clone, Copy)]
+struct PageReader {
     data_type: DataType,
-    rest: Rest<'a>,
-) -> Result<(PageEntry, Rest<'a>), FieldFault>
-    ensures parts { ReadsParts page_field (IsPageOf data_type) rest.entry (λ page. page) result }
-{
-    let (place, behind) = read_field(alloc, rest)?;
-    let (stats, behind) = read_stats(alloc, data_type, behind)?;
-    Ok((PageEntry { place, stats }, behind))
 }
 
-/// Reads so many pages.
-fn read_pages<'a>(
-    alloc: Global,
-    data_type: DataType,
-    count: u32,
-    rest: Rest<'a>,
-) -> Result<(Vec<PageEntry>, Rest<'a>), FieldFault>
-    ensures parts { ReadsParts (flat_map page_field) (AreValues (IsPageOf data_type) count) rest.entry
-        (λ pages. pages.items) result }
-{
-    let mut pages = Vec::new(alloc);
-    let mut left = rest;
-    for _ in 0..count {
-        let (page, behind) = read_page(alloc, data_type, left)?;
-        pages.push(page)?;
-        left = behind;
+impl FieldReader for PageReader {
+    type Field = PageEntry;
+
+    ghost spelling = { page_field };
+
+    ghost is_field = { λ reader. IsPageOf reader.data_type };
+
+    ghost is_bad = { λ reader. LacksPart page_field (IsPageOf reader.data_type) };
+
+    fn read<'a>(&self, alloc: Global, rest: Rest<'a>) -> Result<(PageEntry, Rest<'a>), FieldFault> {
+        let (place, behind) = read_field(alloc, rest)?;
+        let (stats, behind) = read_stats(alloc, self.data_type, behind)?;
+        Ok((PageEntry { place, stats }, behind))
     }
-    Ok((pages, left))
 }
 
-fn read_entry<'a>(alloc: Global, rest: Rest<'a>) -> Result<(IndexEntry, Rest<'a>), FieldFault>
-    ensures parts { ReadsParts entry_field IsEntry rest.entry (λ entry. entry) result }
-{
-    let (device, behind) = read_path(alloc, rest)?;
-    let (measurement, behind) = read_name(alloc, behind)?;
-    let ((data_type, (encoding, place)), behind) = read_field(alloc, behind)?;
-    if !suits(data_type, encoding) {
-        return Err(FieldFault::Bad { at: rest.at });
+#[derive(Clone, Copy)]
+struct EntryReader;
+
+impl FieldReader for EntryReader {
+    type Field = IndexEntry;
+
+    ghost spelling = { entry_field };
+
+    ghost is_field = { λ _. IsEntry };
+
+    ghost is_bad = { λ _. LacksPart entry_field IsEntry };
+
+    fn read<'a>(
+        &self,
+        alloc: Global,
+        rest: Rest<'a>,
+    ) -> Result<(IndexEntry, Rest<'a>), FieldFault> {
+        let (device, behind) = read_path(alloc, rest)?;
+        let (measurement, behind) = read_name(alloc, behind)?;
+        let ((data_type, (encoding, place)), behind) = read_field(alloc, behind)?;
+        if !suits(data_type, encoding) {
+            return Err(FieldFault::Bad { at: rest.at });
+        }
+        let (stats, behind) = read_stats(alloc, data_type, behind)?;
+        let (count, behind) = read_field::<u32>(alloc, behind)?;
+        let reader = PageReader { data_type };
+        let (pages, behind) = read_fields(&reader, alloc, count as u64, behind)?;
+        let entry = IndexEntry {
+            device,
+            measurement,
+            data_type,
+            encoding,
+            place,
+            stats,
+            pages: List::of(pages),
+        };
+        Ok((entry, behind))
     }
-    let (stats, behind) = read_stats(alloc, data_type, behind)?;
-    let (count, behind) = read_field(alloc, behind)?;
-    let (pages, behind) = read_pages(alloc, data_type, count, behind)?;
-    let entry = IndexEntry {
-        device,
-        measurement,
-        data_type,
-        encoding,
-        place,
-        stats,
-        pages: List::of(pages),
-    };
-    Ok((entry, behind))
 }
 
-/// Reads so many entries.
-fn read_entries<'a>(
-    alloc: Global,
-    count: u16,
-    rest: Rest<'a>,
-) -> Result<(Vec<IndexEntry>, Rest<'a>), FieldFault>
-    ensures parts { ReadsParts (flat_map entry_field) (AreValues IsEntry count) rest.entry
-        (λ entries. entries.items) result }
-{
-    let mut entries = Vec::new(alloc);
-    let mut left = rest;
-    for _ in 0..count {
-        let (entry, behind) = read_entry(alloc, left)?;
-        entries.push(entry)?;
-        left = behind;
+#[derive(Clone, Copy)]
+struct PointerReader;
+
+impl FieldReader for PointerReader {
+    type Field = Pointer;
+
+    ghost spelling = { pointer_bytes };
+
+    ghost is_field = { λ _. IsPointer };
+
+    ghost is_bad = { λ _. LacksPart pointer_bytes IsPointer };
+
+    fn read<'a>(&self, alloc: Global, rest: Rest<'a>) -> Result<(Pointer, Rest<'a>), FieldFault> {
+        let (device, behind) = read_path(alloc, rest)?;
+        let (measurement, behind) = read_name(alloc, behind)?;
+        let (place, behind) = read_field(alloc, behind)?;
+        let pointer = Pointer {
+            device,
+            measurement,
+            place,
+        };
+        Ok((pointer, behind))
     }
-    Ok((entries, left))
-}
-
-fn read_pointer<'a>(alloc: Global, rest: Rest<'a>) -> Result<(Pointer, Rest<'a>), FieldFault>
-    ensures parts { ReadsParts pointer_bytes IsPointer rest.entry (λ pointer. pointer) result }
-{
-    let (device, behind) = read_path(alloc, rest)?;
-    let (measurement, behind) = read_name(alloc, behind)?;
-    let (place, behind) = read_field(alloc, behind)?;
-    let pointer = Pointer {
-        device,
-        measurement,
-        place,
-    };
-    Ok((pointer, behind))
-}
-
-/// Reads so many pointers.
-fn read_pointers<'a>(
-    alloc: Global,
-    count: u32,
-    rest: Rest<'a>,
-) -> Result<(Vec<Pointer>, Rest<'a>), FieldFault>
-    ensures parts { ReadsParts (flat_map pointer_bytes) (AreValues IsPointer count) rest.entry
-        (λ pointers. pointers.items) result }
-{
-    let mut pointers = Vec::new(alloc);
-    let mut left = rest;
-    for _ in 0..count {
-        let (pointer, behind) = read_pointer(alloc, left)?;
-        pointers.push(pointer)?;
-        left = behind;
-    }
-    Ok((pointers, left))
 }
 
 /// What stands behind the mark of a part, if the bytes begin with the mark. Places inside a part are not asked for, so
@@ -158,7 +137,7 @@ fn entries_in(alloc: Global, bytes: &[u8]) -> Result<Vec<IndexEntry>, FieldFault
         return Err(bad);
     };
     let (count, rest) = read_field::<u16>(alloc, rest)?;
-    let (entries, rest) = read_entries(alloc, count, rest)?;
+    let (entries, rest) = read_fields(&EntryReader, alloc, count as u64, rest)?;
     if !rest.bytes.is_empty() {
         return Err(bad);
     }
@@ -175,7 +154,7 @@ pub fn pointers_in(alloc: Global, bytes: &[u8]) -> Result<Vec<Pointer>, FieldFau
         return Err(bad);
     };
     let (count, rest) = read_field::<u32>(alloc, rest)?;
-    let (pointers, rest) = read_pointers(alloc, count, rest)?;
+    let (pointers, rest) = read_fields(&PointerReader, alloc, count as u64, rest)?;
     if !rest.bytes.is_empty() {
         return Err(bad);
     }

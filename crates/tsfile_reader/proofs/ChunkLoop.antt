@@ -10,7 +10,7 @@ use Rattle.tsdb_base.specs.declared.value.Encoding.{Encoding}
 use Rattle.tsdb_base.specs.Plain.{plain_text, BeginsWithNone}
 use Rattle.tsdb_fields.specs.declared.rest.Rest.{Rest}
 use Rattle.tsdb_fields.specs.Reading.{TakesBytes}
-use Rattle.tsdb_index.proofs.Fields.{takes_both, takes_same}
+use Rattle.tsdb_fields.proofs.Taken.{takes_both, takes_same}
 use Rattle.tsdb_index.specs.declared.index.IndexEntry.{IndexEntry}
 use Rattle.tsdb_pages.specs.declared.tree.Chunk.{Chunk}
 use Rattle.tsdb_pages.specs.File.{ArePageEntries, AreEntries, IsEntry, chunk_field, chunk_head, page_field}

@@ -12,7 +12,7 @@ use Rattle.tsdb_fields.specs.declared.fault.FieldFault.{FieldFault}
 use Rattle.tsdb_fields.specs.declared.fault.FieldFault.TheVariants as field
 use Rattle.tsdb_fields.specs.declared.rest.Rest.{Rest}
 use Rattle.tsdb_fields.specs.Reading.{ReadsParts, TakesBytes}
-use Rattle.tsdb_index.proofs.Fields.{takes_both, takes_same}
+use Rattle.tsdb_fields.proofs.Taken.{takes_both, takes_same}
 use Rattle.tsdb_pages.specs.declared.tree.Page.{Page}
 use Rattle.tsdb_pages.specs.File.{page_bytes, page_field}
 use Rattle.tsdb_base.specs.Limits.{max_pages}

@@ -5,21 +5,21 @@ use Rattle.tsdb_base.specs.declared.value.DataType.{DataType}
 use Rattle.tsdb_base.specs.declared.value.Encoding.{Encoding}
 use Rattle.tsdb_index.specs.declared.index.IndexEntry.{IndexEntry}
 use Rattle.tsdb_index.specs.declared.index.PageEntry.{PageEntry}
-use Rattle.tsdb_index.proofs.Fields.{takes_both, takes_same}
 use Rattle.tsdb_base.specs.Fields.{number32}
 use Rattle.tsdb_base.specs.Plain.{AreValues, plain_text}
 use Rattle.tsdb_base.specs.Values.{is_suitable}
 use Rattle.tsdb_path.specs.Nodes.{IsName, IsPath}
 use Rattle.tsdb_fields.specs.Statistics.{stats_field, IsStatsOf}
 use Rattle.tsdb_fields.proofs.Parts.{part_fault, parts_of}
+use Rattle.tsdb_fields.proofs.Taken.{no_fields, takes_both, takes_same}
 use Rattle.tsdb_index.specs.Entries.{IsEntry, IsPageOf}
 use Rattle.tsdb_index.specs.Spelling.{entry_field, page_field}
-use Rattle.tsdb_index.proofs.Entries.{Is32, IsKind, behind_kind, behind_name, behind_path, behind_stats, entry_apart, kind_field, no_kind, no_name, no_number, no_pages, no_path, no_statistics, past_kind, past_name, past_number, past_path, past_statistics, unsuited}
-use Rattle.tsdb_index.proofs.reading.read_entry.Goals as goal
+use Rattle.tsdb_index.proofs.Entries.{Is32, IsKind, behind_kind, behind_name, behind_path, behind_stats, entry_apart, kind_field, no_kind, no_name, no_number, no_pages, no_path, no_statistics, page-prefix_free, past_kind, past_name, past_number, past_path, past_statistics, unsuited}
+use Rattle.tsdb_index.proofs.reading.EntryReaderFieldReader.read.Goals as goal
 
 pub returns-in_err-device : goal.returns-in_err-device
 returns-in_err-device c = record {
-  parts =
+  exact =
       let p = err_from_is_err_and c.from_residual.result c.from_residual.ensures.1 in
       let lacks = part_fault plain_text IsPath entry_field IsEntry c.args.rest c.args.rest (λ v. v) (λ s. s) c.in_err-device.field-0.0
       (no_path c.args.rest.bytes.now) (parts_of plain_text IsPath c.args.rest (λ v. v) c.in_err-device.field-0.0 c.in_err-device.ensures.exact) in
@@ -28,7 +28,7 @@ returns-in_err-device c = record {
 
 pub returns-in_err-measurement : goal.returns-in_err-measurement
 returns-in_err-measurement c = record {
-  parts =
+  exact =
       let p = err_from_is_err_and c.from_residual-in_err-measurement.result c.from_residual-in_err-measurement.ensures.1 in
       let d = c.in_ok-device in
       let lacks = part_fault plain_text IsName entry_field IsEntry c.args.rest d.behind (λ v. v) (λ s. s) c.in_err-measurement.field-0.0
@@ -39,7 +39,7 @@ returns-in_err-measurement c = record {
 
 pub returns-in_err-data_type : goal.returns-in_err-data_type
 returns-in_err-data_type c = record {
-  parts =
+  exact =
       let p = err_from_is_err_and c.from_residual-in_err-data_type.result c.from_residual-in_err-data_type.ensures.1 in
       let d = c.in_ok-device in
       let m = c.in_ok-measurement in
@@ -51,7 +51,7 @@ returns-in_err-data_type c = record {
 
 pub returns-then-not-suits : goal.returns-then-not-suits
 returns-then-not-suits c = record {
-  parts =
+  exact =
       let d = c.in_ok-device in
       let m = c.in_ok-measurement in
       let k = c.in_ok-data_type in
@@ -62,7 +62,7 @@ returns-then-not-suits c = record {
 
 pub returns-in_err-stats : goal.returns-in_err-stats
 returns-in_err-stats c = record {
-  parts =
+  exact =
       let p = err_from_is_err_and c.from_residual-in_err-stats.result c.from_residual-in_err-stats.ensures.1 in
       let d = c.in_ok-device in
       let m = c.in_ok-measurement in
@@ -76,7 +76,7 @@ returns-in_err-stats c = record {
 
 pub returns-in_err-count : goal.returns-in_err-count
 returns-in_err-count c = record {
-  parts =
+  exact =
       let p = err_from_is_err_and c.from_residual-in_err-count.result c.from_residual-in_err-count.ensures.1 in
       let d = c.in_ok-device in
       let m = c.in_ok-measurement in
@@ -91,7 +91,7 @@ returns-in_err-count c = record {
 
 pub returns-in_err-pages : goal.returns-in_err-pages
 returns-in_err-pages c = record {
-  parts =
+  exact =
       let p = err_from_is_err_and c.from_residual-in_err-pages.result c.from_residual-in_err-pages.ensures.1 in
       let d = c.in_ok-device in
       let m = c.in_ok-measurement in
@@ -101,13 +101,13 @@ returns-in_err-pages c = record {
       let n = c.in_ok-count in
       let lacks = part_fault (flat_map page_field) (AreValues (IsPageOf k.data_type) n.count) entry_field IsEntry c.args.rest n.behind (λ (vs : Vec PageEntry Global). vs.items) (λ s. s) c.in_err-pages.field-0.0
       (λ none. past_path d.device c.args.rest.bytes.now d.behind.bytes.now d.ensures.exact.1 d.ensures.exact.0.bytes (past_name d.device m.measurement d.behind.bytes.now m.behind.bytes.now m.ensures.exact.1 m.ensures.exact.0.bytes (past_kind d.device m.measurement kind m.behind.bytes.now k.behind.bytes.now k.ensures.exact.1 k.ensures.exact.0.bytes (past_statistics d.device m.measurement kind s.stats k.behind.bytes.now s.behind.bytes.now s.ensures.exact.1 s.ensures.exact.0.bytes (past_number d.device m.measurement kind s.stats n.count s.behind.bytes.now n.behind.bytes.now n.ensures.exact.1 n.ensures.exact.0.bytes (no_pages d.device m.measurement kind s.stats n.count n.behind.bytes.now none))))))
-      c.in_err-pages.ensures.parts in
+      (no_fields page_field (IsPageOf k.data_type) (page-prefix_free k.data_type) n.count n.behind (λ (vs : Vec PageEntry Global). vs.items) c.in_err-pages.field-0.0 c.in_err-pages.ensures.exact) in
       rw (p.1, p.2) lacks;
 }
 
 pub returns : goal.returns
 returns c = record {
-  parts =
+  exact =
       let d = c.in_ok-device in
       let m = c.in_ok-measurement in
       let k = c.in_ok-data_type in
@@ -116,8 +116,8 @@ returns c = record {
       let n = c.in_ok-count in
       let g = c.in_ok-pages in
       let e : IndexEntry = record { device = d.device; measurement = m.measurement; data_type = k.data_type; encoding = k.encoding; place = k.place; stats = s.stats; pages = g.pages.items } in
-      let len : number32 n.count ≡ number32 (length g.pages.items) = ap number32 (sym g.ensures.parts.1.0) in
-      let pages = takes_both s.behind n.behind g.behind (number32 (length g.pages.items)) (flat_map page_field g.pages.items) (takes_same s.behind n.behind (number32 n.count) (number32 (length g.pages.items)) len n.ensures.exact.0) g.ensures.parts.0 in
+      let len : number32 n.count ≡ number32 (length g.pages.items) = ap number32 (sym g.ensures.exact.1.0) in
+      let pages = takes_both s.behind n.behind g.behind (number32 (length g.pages.items)) (flat_map page_field g.pages.items) (takes_same s.behind n.behind (number32 n.count) (number32 (length g.pages.items)) len n.ensures.exact.0) g.ensures.exact.0 in
       let stats = takes_both k.behind s.behind g.behind (stats_field s.stats) (behind_stats e) s.ensures.exact.0 pages in
       let kinds = takes_both m.behind k.behind g.behind (kind_field kind) (behind_kind e) k.ensures.exact.0 stats in
       let names = takes_both d.behind m.behind g.behind (plain_text m.measurement) (behind_name e) m.ensures.exact.0 kinds in
@@ -130,8 +130,8 @@ returns c = record {
           suits = search rules;
           place = k.ensures.exact.1.1.1;
           stats = s.ensures.exact.1;
-          few = omega (arith, g.ensures.parts.1.0, n.ensures.exact.1);
-          pages = g.ensures.parts.1.1;
+          few = omega (arith, g.ensures.exact.1.0, n.ensures.exact.1);
+          pages = g.ensures.exact.1.1;
         },
       );
 }

@@ -5,11 +5,11 @@ use Rattle.tsdb_path.specs.Nodes.{IsName, IsPath}
 use Rattle.tsdb_fields.proofs.Parts.{part_fault, parts_of}
 use Rattle.tsdb_index.specs.Parts.{IsPointer, pointer_bytes}
 use Rattle.tsdb_index.proofs.Entries.{Is64, no_pointer_name, no_pointer_path, no_pointer_place}
-use Rattle.tsdb_index.proofs.reading.read_pointer.Goals as goal
+use Rattle.tsdb_index.proofs.reading.PointerReaderFieldReader.read.Goals as goal
 
 pub returns-in_err-device : goal.returns-in_err-device
 returns-in_err-device c = record {
-  parts =
+  exact =
       let p = err_from_is_err_and c.from_residual.result c.from_residual.ensures.1 in
       let lacks = part_fault plain_text IsPath pointer_bytes IsPointer c.args.rest c.args.rest (λ v. v) (λ s. s) c.in_err-device.field-0.0
       (no_pointer_path c.args.rest.bytes.now) (parts_of plain_text IsPath c.args.rest (λ v. v) c.in_err-device.field-0.0 c.in_err-device.ensures.exact) in
@@ -18,7 +18,7 @@ returns-in_err-device c = record {
 
 pub returns-in_err-measurement : goal.returns-in_err-measurement
 returns-in_err-measurement c = record {
-  parts =
+  exact =
       let p = err_from_is_err_and c.from_residual-in_err-measurement.result c.from_residual-in_err-measurement.ensures.1 in
       let lacks = part_fault plain_text IsName pointer_bytes IsPointer c.args.rest c.in_ok-device.behind (λ v. v) (λ s. s) c.in_err-measurement.field-0.0
       (no_pointer_name c.in_ok-device.device c.args.rest.bytes.now c.in_ok-device.behind.bytes.now c.in_ok-device.ensures.exact.1 c.in_ok-device.ensures.exact.0.bytes)
@@ -28,7 +28,7 @@ returns-in_err-measurement c = record {
 
 pub returns-in_err-place : goal.returns-in_err-place
 returns-in_err-place c = record {
-  parts =
+  exact =
       let p = err_from_is_err_and c.from_residual-in_err-place.result c.from_residual-in_err-place.ensures.1 in
       let lacks = part_fault number64 Is64 pointer_bytes IsPointer c.args.rest c.in_ok-measurement.behind (λ v. v) (λ s. s) c.in_err-place.field-0.0
       (no_pointer_place c.in_ok-device.device c.in_ok-measurement.measurement c.args.rest.bytes.now c.in_ok-device.behind.bytes.now c.in_ok-measurement.behind.bytes.now
