@@ -1,19 +1,18 @@
 -- A fault that reading a part gave is that of the whole.
-use Rattle.std.proofs.Common.{◌≡◌, ℕ, suc, ◌<◌, List, [], ◌∷◌, ◌++◌, length, Err, refl, sym, ap, subst, ◌∙◌, append_assoc, inl, inr, arith}
-use Rattle.std.specs.Prelude.{All}
+use Rattle.std.proofs.Common.{◌≡◌, ℕ, suc, ◌+◌, List, [], ◌∷◌, ◌++◌, length, Ok, Err, refl, sym, ap, subst, ◌∙◌, inl, inr, arith}
+use Rattle.std.specs.Prelude.{Result}
 use Rattle.std.specs.List.{flat_map}
 use Rattle.std.proofs.lemmas.List.Elements.{recursion_from_All}
-use Rattle.std.proofs.lemmas.Grind.{flat_map-append}
-use Rattle.std.proofs.lemmas.List.{append-nil, length-append}
+use Rattle.std.proofs.lemmas.List.{append-nil}
 use Rattle.tsdb_base.specs.Plain.{AreValues}
 use Rattle.tsdb_base.proofs.PlainLists.{IsPrefixFree}
 use Rattle.tsdb_fields.specs.declared.fault.FieldFault.{FieldFault}
 use Rattle.tsdb_fields.specs.declared.fault.FieldFault.TheVariants.{Bad, Memory}
 use Rattle.tsdb_fields.specs.declared.rest.Rest.{Rest}
-use Rattle.tsdb_fields.specs.Reading.{TakesBytes, Lacks, Reads}
+use Rattle.tsdb_fields.specs.Reading.{IsBadBehind, Lacks, Reads, ReadsOr, TakesBytes}
 use Rattle.tsdb_log.specs.declared.record.LogRecord.{LogRecord}
 use Rattle.tsdb_log.specs.Spelling.{joined_fields, fields, spelling, IsRecord}
-use Rattle.tsdb_log.specs.Steps.{BeginsWithRecord, IsMissing, Fails}
+use Rattle.tsdb_log.specs.Steps.{BeginsWithRecord, IsMissing, Fails, ReadsFields}
 use Rattle.tsdb_log.specs.Rows.{both, field, AreBoth, IsRowForm}
 use Rattle.tsdb_log.specs.RowLaws.{bytes_append, alone, one_field, row_of_field, no_first, no_second}
 use Rattle.tsdb_log.specs.ListLaws.{AreList, no_more_rows}
@@ -78,28 +77,29 @@ pub kind_fails : {A : Type 0} (kind : ℕ) (row : A → List (List ℕ)) (IsA : 
 kind_fails kind row IsA rest (Bad at) first as_row fails = no_record kind row IsA rest.bytes.now at as_row (subst (λ (n : ℕ). IsMissing row IsA n rest.bytes.now at) first fails)
 kind_fails kind row IsA rest Memory first as_row fails = tt
 
--- behind some rows the next one is missing
-pub rows_fail : {A : Type 0} (row : A → List (List ℕ)) (Is : A → Type 0) (rows : IsRowForm row Is) (so_far : List A) (n : ℕ) (old new : Rest) (fault : FieldFault)
-    → All Is so_far → length so_far < n → TakesBytes old (joined_fields (flat_map row so_far)) new → Fails row Is new.at new.bytes.now fault → Fails (flat_map row) (AreValues Is n) old.at old.bytes.now fault
-rows_fail row Is rows so_far n old new (Bad at) all lt takes fails =
+-- the bytes of many rows
+bytes_of : {A : Type 0} (row : A → List (List ℕ)) (xs : List A) → flat_map (λ a. joined_fields (row a)) xs ≡ joined_fields (flat_map row xs)
+bytes_of row [] = refl
+bytes_of row (x ∷ xs) = ap (λ (l : List ℕ). joined_fields (row x) ++ l) (bytes_of row xs) ∙ sym (bytes_append (row x) (flat_map row xs))
+
+-- a row is read as a field
+pub reads_row : {A B : Type 0} (row : A → List (List ℕ)) (Is : A → Type 0) (old : Rest) (view : B → A) (result : Result (B × Rest) FieldFault)
+    → ReadsFields row Is old view result → ReadsOr (λ a. joined_fields (row a)) Is (IsMissing row Is) old view result
+reads_row row Is old view (Ok r) reads = reads
+reads_row row Is old view (Err (Bad at)) reads = reads
+reads_row row Is old view (Err Memory) reads = reads
+
+-- rows that are read as fields, one behind another, are a row
+pub reads_rows : {A B : Type 0} (row : A → List (List ℕ)) (Is : A → Type 0) (rows : IsRowForm row Is) (n : ℕ) (old : Rest) (view : B → List A) (result : Result (B × Rest) FieldFault)
+    → ReadsOr (flat_map (λ a. joined_fields (row a))) (AreValues Is n) (IsBadBehind (λ a. joined_fields (row a)) Is (IsMissing row Is) n) old view result
+    → ReadsFields (flat_map row) (AreValues Is n) old view result
+reads_rows row Is rows n old view (Ok r) reads = (subst (λ (l : List ℕ). TakesBytes old l r.1) (bytes_of row (view r.0)) reads.0, reads.1)
+reads_rows row Is rows n old view (Err (Bad at)) bad =
+    let bytes = bytes_of row bad.fields in
     missing_as (flat_map row) (AreList Is n) (flat_map row) (AreValues Is n) old.at old.bytes.now at (values_as row Is n)
-    (no_more_rows row Is rows so_far n old.at new.at old.bytes.now new.bytes.now at (recursion_from_All Is so_far all) lt takes.bytes takes.place fails)
-rows_fail row Is rows so_far n old new Memory all lt takes fails = tt
-
--- what was taken one behind another
-pub takes_both : (a b c : Rest) (s t : List ℕ) → TakesBytes a s b → TakesBytes b t c → TakesBytes a (s ++ t) c
-takes_both a b c s t first second = record {
-  bytes = first.bytes ∙ ap (λ (l : List ℕ). s ++ l) second.bytes ∙ sym (append_assoc s t c.bytes.now);
-  place = let x = first.place in let y = second.place in let size = length-append s t in omega arith;
-}
-
--- one row more was taken
-pub takes_more : {A : Type 0} (row : A → List (List ℕ)) (so_far all : List A) (a : A) (old middle new : Rest) → all ≡ so_far ++ a ∷ []
-    → TakesBytes old (joined_fields (flat_map row so_far)) middle → TakesBytes middle (joined_fields (row a)) new → TakesBytes old (joined_fields (flat_map row all)) new
-takes_more {A} row so_far all a old middle new push first second =
-    let rows = ap (λ (l : List A). flat_map row l) push ∙ flat_map-append row so_far (a ∷ []) ∙ ap (λ (l : List (List ℕ)). flat_map row so_far ++ l) (append-nil (row a)) in
-    let bytes = ap (λ (l : List (List ℕ)). joined_fields l) rows ∙ bytes_append (flat_map row so_far) (row a) in
-    subst (λ (l : List ℕ). TakesBytes old l new) (sym bytes) (takes_both old middle new (joined_fields (flat_map row so_far)) (joined_fields (row a)) first second)
+    (no_more_rows row Is rows bad.fields n old.at bad.next old.bytes.now bad.behind at (recursion_from_All Is bad.fields bad.good) bad.few
+    (bad.splits ∙ ap (λ (l : List ℕ). l ++ bad.behind) bytes) (bad.place ∙ ap (λ (l : List ℕ). old.at + length l) bytes) bad.bad)
+reads_rows row Is rows n old view (Err Memory) bad = tt
 
 -- a record was taken behind its first byte
 pub takes_record : (kind : ℕ) (item : LogRecord) (row : List ℕ) (old new : Rest) → IsRecord item → spelling item ≡ kind ∷ row → old.at ≡ 1 → TakesBytes old row new → BeginsWithRecord (kind ∷ old.bytes.now) item new

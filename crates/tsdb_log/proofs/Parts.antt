@@ -11,6 +11,7 @@ use Rattle.tsdb_fields.specs.declared.fault.FieldFault.{FieldFault}
 use Rattle.tsdb_fields.specs.declared.rest.Rest.{Rest}
 use Rattle.tsdb_fields.specs.Reading.{TakesBytes, Reads}
 use Rattle.tsdb_fields.proofs.Appending.{both_written}
+use Rattle.tsdb_fields.proofs.Taken.{takes_both}
 use Rattle.tsdb_log.specs.PartLaws.{counted_as, counted_row, IsCountedRow}
 use Rattle.tsdb_log.specs.Rows.{field, IsNumber64}
 use Rattle.tsdb_log.specs.Snapshots.{counted_fields, AreCounted}
@@ -19,7 +20,7 @@ use Rattle.tsdb_log.specs.Steps.{Fails, ReadsFields}
 use Rattle.tsdb_log.specs.RowLaws.{bytes_append, bytes_length}
 use Rattle.tsdb_log.specs.ListLaws.{copies, values_of_list}
 use Rattle.tsdb_log.proofs.Wholes.{row_more}
-use Rattle.tsdb_log.proofs.Faults.{field_fails, first_fails, behind_field, fails_as, one, takes_both}
+use Rattle.tsdb_log.proofs.Faults.{field_fails, first_fails, behind_field, fails_as, one}
 
 -- ---- reading
 

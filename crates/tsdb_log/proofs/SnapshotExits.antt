@@ -6,6 +6,7 @@ use Rattle.std.proofs.lemmas.List.Elements.{All-nil}
 use Rattle.tsdb_fields.specs.declared.fault.FieldFault.{FieldFault}
 use Rattle.tsdb_fields.specs.declared.rest.Rest.{Rest}
 use Rattle.tsdb_fields.specs.Reading.{TakesBytes, Reads}
+use Rattle.tsdb_fields.proofs.Taken.{takes_both}
 use Rattle.tsdb_log.specs.declared.record.LogRecord.TheVariants.{Snapshot}
 use Rattle.tsdb_log.specs.declared.snapshot.PairRecord.{PairRecord}
 use Rattle.tsdb_log.specs.declared.snapshot.TableRecord.{TableRecord}
@@ -17,7 +18,7 @@ use Rattle.tsdb_log.specs.Rows.{field}
 use Rattle.tsdb_log.specs.ListLaws.{copies, values_of_list}
 use Rattle.tsdb_log.specs.Steps.{BeginsWithRecord, Fails}
 use Rattle.tsdb_log.proofs.Bodies.{snapshot_as}
-use Rattle.tsdb_log.proofs.Faults.{behind_field, fails_as, field_fails, first_fails, second_fails, kind_fails, record_fails, takes_both, takes_record}
+use Rattle.tsdb_log.proofs.Faults.{behind_field, fails_as, field_fails, first_fails, second_fails, kind_fails, record_fails, takes_record}
 use Rattle.tsdb_log.proofs.Parts.{takes_pair}
 
 no_tables : (p : List TableRecord × List TableRecord) × AreTwoTables p

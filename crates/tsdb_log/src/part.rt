@@ -16,12 +16,13 @@ ghost use Rattle.tsdb_log.specs.PartLaws.{cell_rows, file_rows, some_cell, some_
 ghost use Rattle.tsdb_log.specs.Rows.{both, field, AreBoth, IsAny, IsNumber64, IsRowForm};
 ghost use Rattle.tsdb_log.specs.Snapshots.{counted_fields, typed_fields, AreCounted};
 ghost use Rattle.tsdb_log.specs.Spelling.{joined_fields, cell_fields, file_fields, space_field, IsCell, IsFile};
-ghost use Rattle.tsdb_log.specs.Steps.{ReadsFields};
+ghost use Rattle.tsdb_log.specs.Steps.{IsMissing, ReadsFields};
 
 use crate::record::CellRecord;
 use std::alloc::Global;
+use std::marker::PhantomData;
 use tsdb_base::{DataType, Encoding, FileNumber, List, Memory, SeriesId, Space, Time, Value};
-use tsdb_fields::{FieldFault, Rest, read_field, read_path, read_value};
+use tsdb_fields::{FieldFault, FieldReader, Rest, read_field, read_fields, read_path, read_value};
 use tsdb_path::Path;
 
 /// What is written in fields, one behind another.
@@ -307,6 +308,26 @@ impl<A: Part, B: Part> Part for (A, B) {
     }
 }
 
+/// Reads parts of one type.
+#[derive(Drop)]
+struct PartReader<T> {
+    of: PhantomData<T>,
+}
+
+impl<T: Part> FieldReader for PartReader<T> {
+    type Field = T;
+
+    ghost spelling = { λ part. joined_fields (T.fields part) };
+
+    ghost is_field = { λ _. T.is_part };
+
+    ghost is_bad = { λ _. IsMissing T.fields T.is_part };
+
+    fn read<'a>(&self, alloc: Global, rest: Rest<'a>) -> Result<(T, Rest<'a>), FieldFault> {
+        T::read(alloc, rest)
+    }
+}
+
 /// So many parts. It takes room for those alone that are there.
 pub(crate) fn read_parts<'a, T: Part>(
     alloc: Global,
@@ -316,14 +337,8 @@ pub(crate) fn read_parts<'a, T: Part>(
     ensures exact { ReadsFields (flat_map T.fields) (AreValues T.is_part count) rest.entry
         (λ parts. parts.items) result }
 {
-    let mut parts = Vec::new(alloc);
-    let mut behind = rest;
-    for _ in 0..count {
-        let (part, next) = T::read(alloc, behind)?;
-        parts.push(part)?;
-        behind = next;
-    }
-    Ok((parts, behind))
+    let reader = PartReader::<T> { of: PhantomData };
+    read_fields(&reader, alloc, count, rest)
 }
 
 /// Appends the bytes of parts, one behind another.
