@@ -1,6 +1,8 @@
 -- The parser finds what stands in the tokens, and finds it again whatever stands behind.
-use Rattle.std.proofs.Common.{◌≡◌, ◌≤◌, ◌<◌, ℕ, zero, suc, true, false, true≢false, cond, List, [], ◌∷◌, length, Option, None, Some, option_map, refl, sym, ap, ◌∙◌, subst, arith}
+use Rattle.std.proofs.Common.{◌≡◌, ◌≤◌, ◌<◌, ℕ, zero, suc, true, false, true≢false, List, [], ◌∷◌, length, Option, None, Some, option_map, refl, sym, ap, ◌∙◌, subst, arith}
 use Rattle.std.specs.Prelude.{IsTrue}
+use Rattle.std.proofs.lemmas.Bool.{cond_both, cond-false, cond-true}
+use Rattle.std.proofs.lemmas.Option.{cond_some, same_Some}
 use Rattle.tsdb_script.specs.Types.{Column, Comparison, Condition, Operand, Place, Token}
 use Rattle.tsdb_script.specs.declared.form.Keyword.TheVariants as key
 use Rattle.tsdb_script.specs.declared.form.Place.TheVariants as place
@@ -8,10 +10,8 @@ use Rattle.tsdb_script.specs.declared.syntax.Comparison.TheVariants as compared
 use Rattle.tsdb_script.specs.declared.syntax.Operand.TheVariants as operand
 use Rattle.tsdb_script.specs.declared.token.Token.TheVariants.{Word, Text, Open, Close, Equal, Less, LessEqual, Greater, GreaterEqual}
 use Rattle.tsdb_script.specs.Forms.{is_at, comparison_token, Standing, IsName, IsValue, Called, IsColumn, Behind, IsCondition, AreRow, AreListed, AreConditions}
-use Rattle.tsdb_script.specs.Parse.{Tokens, ◌>>=◌, stands_at, fixed_at, word_at, operand_at, comparison_at, condition_at, called_at, column_at, onto, items_at, list_at, conditions_at}
-
-pub some_is : {A : Type 0} (x y : A) → Some x ≡ Some y → x ≡ y
-some_is x y e = cc
+use Rattle.tsdb_script.specs.Parse.{Tokens, ◌>>=◌, stands_at, fixed_at, word_at, operand_at, comparison_at, condition_at, called_at, column_at, items_at, list_at, conditions_at}
+use Rattle.tsdb_script.specs.Steps.{onto}
 
 -- how a step went that led on
 pub step : {A B : Type 0} (o : Option A) (f : A → Option B) (y : B) → (o >>= f) ≡ Some y → (x : A) × (o ≡ Some x) × (f x ≡ Some y)
@@ -24,31 +24,24 @@ leads o x f y e h = ap (λ o. o >>= f) e ∙ h
 
 pub mapped : {A B : Type 0} (f : A → B) (o : Option A) (y : B) → option_map f o ≡ Some y → (x : A) × (o ≡ Some x) × (f x ≡ y)
 mapped f None y e = cc
-mapped f (Some x) y e = (x, refl, some_is (f x) y e)
+mapped f (Some x) y e = (x, refl, same_Some (f x) y e)
 
 -- the token that a place asks for
 
 pub fixed_found : (at : Place) (tokens rest : Tokens) → fixed_at at tokens ≡ Some rest → (fixed : Token) × (tokens ≡ fixed ∷ rest) × IsTrue (is_at at fixed)
 fixed_found at [] rest e = cc
-fixed_found at (t ∷ more) rest e =
-    elim (is_at at t) as (λ b. is_at at t ≡ b → cond b (Some more) None ≡ Some rest → (fixed : Token) × (t ∷ more ≡ fixed ∷ rest) × IsTrue (is_at at fixed)) [
-      | true ↦ λ is e. (t, ap (λ l. t ∷ l) (some_is more rest e), is)
-      | false ↦ λ is e. cc
-    ] refl e
+fixed_found at (t ∷ more) rest e = let is = cond_some (is_at at t) more rest e in (t, ap (λ l. t ∷ l) is.1, is.0)
 
 pub fixed_again : (at : Place) (fixed : Token) (tokens rest : Tokens) → tokens ≡ fixed ∷ rest → IsTrue (is_at at fixed) → fixed_at at tokens ≡ Some rest
-fixed_again at fixed tokens rest e is = ap (fixed_at at) e ∙ ap (λ b. cond b (Some rest) None) is
+fixed_again at fixed tokens rest e is = ap (fixed_at at) e ∙ cond-true (is_at at fixed) _ _ is
 
 pub stands_again : (at : Place) (fixed : Token) (tokens rest : Tokens) → tokens ≡ fixed ∷ rest → IsTrue (is_at at fixed) → stands_at at tokens ≡ true
 stands_again at fixed tokens rest e is = ap (stands_at at) e ∙ is
 
-open_is : (t : Token) → IsTrue (is_at place.Open t) → t ≡ Open
-open_is Open is = refl
-open_is _ is = absurd (true≢false (sym is))
-
-close_is : (t : Token) → IsTrue (is_at place.Close t) → t ≡ Close
-close_is Close is = refl
-close_is _ is = absurd (true≢false (sym is))
+parenthesis_is : (t : Token) → (IsTrue (is_at place.Open t) → t ≡ Open) × (IsTrue (is_at place.Close t) → t ≡ Close)
+parenthesis_is Open = (λ is. refl, λ is. absurd (true≢false (sym is)))
+parenthesis_is Close = (λ is. absurd (true≢false (sym is)), λ is. refl)
+parenthesis_is _ = (λ is. absurd (true≢false (sym is)), λ is. absurd (true≢false (sym is)))
 
 -- what stands where another mark is asked for does not open a parenthesis
 closes : (at : Place) (t : Token) → IsTrue (is_at at t) → is_at at Open ≡ false → is_at place.Open t ≡ false
@@ -62,7 +55,7 @@ pub record Finds {X : Type 0} (Is : Standing X) (item : Tokens → Option (X × 
   pub shrinks : (x : X) (tokens rest : Tokens) → Is x tokens rest → length rest < length tokens
 
 pub word_found : (tokens : Tokens) (r : List ℕ × Tokens) → word_at tokens ≡ Some r → tokens ≡ Word r.0 ∷ r.1
-word_found (Word w ∷ rest) r e = ap (λ (r : List ℕ × Tokens). Word r.0 ∷ r.1) (some_is (w, rest) r e)
+word_found (Word w ∷ rest) r e = ap (λ (r : List ℕ × Tokens). Word r.0 ∷ r.1) (same_Some (w, rest) r e)
 word_found _ r e = cc
 
 pub finds_name : Finds IsName word_at
@@ -76,8 +69,8 @@ pub finds_value : Finds IsValue operand_at
 finds_value = record { found = found; again = again; shrinks = shrinks }
   where
     found : (tokens : Tokens) (r : Operand × Tokens) → operand_at tokens ≡ Some r → IsValue r.0 tokens r.1
-    found (Word w ∷ rest) r e = subst (λ (r : Operand × Tokens). IsValue r.0 (Word w ∷ rest) r.1) (some_is (operand.Word w, rest) r e) refl
-    found (Text t ∷ rest) r e = subst (λ (r : Operand × Tokens). IsValue r.0 (Text t ∷ rest) r.1) (some_is (operand.Text t, rest) r e) refl
+    found (Word w ∷ rest) r e = subst (λ (r : Operand × Tokens). IsValue r.0 (Word w ∷ rest) r.1) (same_Some (operand.Word w, rest) r e) refl
+    found (Text t ∷ rest) r e = subst (λ (r : Operand × Tokens). IsValue r.0 (Text t ∷ rest) r.1) (same_Some (operand.Text t, rest) r e) refl
     found _ r e = cc
 
     again : (x : Operand) (tokens rest : Tokens) → IsValue x tokens rest → stands_at place.Open rest ≡ false → operand_at tokens ≡ Some (x, rest)
@@ -89,11 +82,11 @@ finds_value = record { found = found; again = again; shrinks = shrinks }
     shrinks (operand.Text t) tokens rest e = let long = ap length e in omega (arith, long)
 
 comparison_is : (tokens : Tokens) (r : Comparison × Tokens) → comparison_at tokens ≡ Some r → tokens ≡ comparison_token r.0 ∷ r.1
-comparison_is (Less ∷ rest) r e = ap (λ (r : Comparison × Tokens). comparison_token r.0 ∷ r.1) (some_is (compared.Less, rest) r e)
-comparison_is (LessEqual ∷ rest) r e = ap (λ (r : Comparison × Tokens). comparison_token r.0 ∷ r.1) (some_is (compared.LessEqual, rest) r e)
-comparison_is (Greater ∷ rest) r e = ap (λ (r : Comparison × Tokens). comparison_token r.0 ∷ r.1) (some_is (compared.Greater, rest) r e)
-comparison_is (GreaterEqual ∷ rest) r e = ap (λ (r : Comparison × Tokens). comparison_token r.0 ∷ r.1) (some_is (compared.GreaterEqual, rest) r e)
-comparison_is (Equal ∷ rest) r e = ap (λ (r : Comparison × Tokens). comparison_token r.0 ∷ r.1) (some_is (compared.Equal, rest) r e)
+comparison_is (Less ∷ rest) r e = ap (λ (r : Comparison × Tokens). comparison_token r.0 ∷ r.1) (same_Some (compared.Less, rest) r e)
+comparison_is (LessEqual ∷ rest) r e = ap (λ (r : Comparison × Tokens). comparison_token r.0 ∷ r.1) (same_Some (compared.LessEqual, rest) r e)
+comparison_is (Greater ∷ rest) r e = ap (λ (r : Comparison × Tokens). comparison_token r.0 ∷ r.1) (same_Some (compared.Greater, rest) r e)
+comparison_is (GreaterEqual ∷ rest) r e = ap (λ (r : Comparison × Tokens). comparison_token r.0 ∷ r.1) (same_Some (compared.GreaterEqual, rest) r e)
+comparison_is (Equal ∷ rest) r e = ap (λ (r : Comparison × Tokens). comparison_token r.0 ∷ r.1) (same_Some (compared.Equal, rest) r e)
 comparison_is _ r e = cc
 
 comparison_again : (c : Comparison) (tokens rest : Tokens) → tokens ≡ comparison_token c ∷ rest → comparison_at tokens ≡ Some (c, rest)
@@ -107,7 +100,7 @@ condition_found tokens r e =
     let b = step _ _ _ a.2 in
     let c = step _ _ _ b.2 in
     let f = fixed_found (place.Keyword key.Time) tokens a.0 a.1 in
-    let is : ◌≡◌ {A = Condition × Tokens} (record { comparison = b.0.0; number = c.0.0 }, c.0.1) r = some_is _ r c.2 in
+    let is : ◌≡◌ {A = Condition × Tokens} (record { comparison = b.0.0; number = c.0.0 }, c.0.1) r = same_Some _ r c.2 in
     subst (λ (r : Condition × Tokens). IsCondition r.0 tokens r.1) is
     (f.0, a.0, f.1, f.2, comparison_is a.0 b.0 b.1 ∙ ap (λ (l : Tokens). comparison_token b.0.0 ∷ l) (word_found b.0.1 c.0 c.1))
 
@@ -132,27 +125,24 @@ called_found name tokens r from begins e =
     let c = step _ _ _ b.2 in
     let o = fixed_found place.Open tokens a.0 a.1 in
     let d = fixed_found place.Close b.0.1 c.0 c.1 in
-    let is : ◌≡◌ {A = Column × Tokens} (record { aggregate = Some name; measurement = b.0.0 }, c.0) r = some_is _ r c.2 in
+    let is : ◌≡◌ {A = Column × Tokens} (record { aggregate = Some name; measurement = b.0.0 }, c.0) r = same_Some _ r c.2 in
     subst (λ (r : Column × Tokens). IsColumn r.0 from r.1) is
-    (begins ∙ ap (λ (l : Tokens). Word name ∷ l) (o.1 ∙ ap (λ t. t ∷ a.0) (open_is o.0 o.2) ∙ ap (λ (l : Tokens). Open ∷ l)
-    (word_found a.0 b.0 b.1 ∙ ap (λ (l : Tokens). Word b.0.0 ∷ l) (d.1 ∙ ap (λ t. t ∷ c.0) (close_is d.0 d.2)))))
+    (begins ∙ ap (λ (l : Tokens). Word name ∷ l) (o.1 ∙ ap (λ t. t ∷ a.0) ((parenthesis_is o.0).0 o.2) ∙ ap (λ (l : Tokens). Open ∷ l)
+    (word_found a.0 b.0 b.1 ∙ ap (λ (l : Tokens). Word b.0.0 ∷ l) (d.1 ∙ ap (λ t. t ∷ c.0) ((parenthesis_is d.0).1 d.2)))))
 
 column_found : (tokens : Tokens) (r : Column × Tokens) → column_at tokens ≡ Some r → IsColumn r.0 tokens r.1
 unfolding column_at
 column_found tokens r e =
     let a = step _ _ _ e in
-    elim (stands_at place.Open a.0.1) as (λ t. cond t (called_at a.0.0 a.0.1) (Some (record { aggregate = None; measurement = a.0.0 }, a.0.1)) ≡ Some r → IsColumn r.0 tokens r.1) [
-      | true ↦ λ e. called_found a.0.0 a.0.1 r tokens (word_found tokens a.0 a.1) e
-      | false ↦ λ e. (let is : ◌≡◌ {A = Column × Tokens} (record { aggregate = None; measurement = a.0.0 }, a.0.1) r = some_is _ r e in
-          subst (λ (r : Column × Tokens). IsColumn r.0 tokens r.1) is (word_found tokens a.0 a.1))
-    ] a.2
+    cond_both (stands_at place.Open a.0.1) _ _ (λ o. o ≡ Some r → IsColumn r.0 tokens r.1)
+    (λ opened. called_found a.0.0 a.0.1 r tokens (word_found tokens a.0 a.1))
+    (λ none e. subst (λ (r : Column × Tokens). IsColumn r.0 tokens r.1) (same_Some _ r e) (word_found tokens a.0 a.1)) a.2
 
 column_again : (aggregate : Option (List ℕ)) (measurement : List ℕ) (tokens rest : Tokens) → Called aggregate measurement tokens rest → stands_at place.Open rest ≡ false
     → column_at tokens ≡ Some (record { aggregate = aggregate; measurement = measurement }, rest)
 unfolding column_at called_at
 column_again None measurement tokens rest e calm =
-    leads (word_at tokens) (measurement, rest) _ _ (ap word_at e)
-    (ap (λ b. cond b (called_at measurement rest) (Some (record { aggregate = None; measurement = measurement }, rest))) calm)
+    leads (word_at tokens) (measurement, rest) _ _ (ap word_at e) (cond-false (stands_at place.Open rest) _ _ calm)
 column_again (Some name) measurement tokens rest e calm = leads (word_at tokens) (name, Open ∷ Word measurement ∷ Close ∷ rest) _ _ (ap word_at e) refl
 
 column_shrinks : (aggregate : Option (List ℕ)) (measurement : List ℕ) (tokens rest : Tokens) → Called aggregate measurement tokens rest → length rest < length tokens
@@ -170,17 +160,15 @@ finds_column = record {
 
 module _ {X : Type 0} (between : Place) (Is : Standing X) (item : Tokens → Option (X × Tokens)) (finds : Finds Is item) where
   items_found : (turns : ℕ) (tokens : Tokens) (r : List X × Tokens) → items_at between item turns tokens ≡ Some r → AreRow (Behind between Is) r.0 tokens r.1
-  items_found zero tokens r e = subst (λ (r : List X × Tokens). AreRow (Behind between Is) r.0 tokens r.1) (some_is ([], tokens) r e) refl
+  items_found zero tokens r e = subst (λ (r : List X × Tokens). AreRow (Behind between Is) r.0 tokens r.1) (same_Some ([], tokens) r e) refl
   items_found (suc n) tokens r e =
-      elim (stands_at between tokens) as (λ t. cond t (fixed_at between tokens >>= (λ rest. item rest >>= (λ x. option_map (onto x.0) (items_at between item n x.1)))) (Some ([], tokens)) ≡ Some r
-      → AreRow (Behind between Is) r.0 tokens r.1) [
-        | true ↦ λ e. (let a = step _ _ _ e in
-            let b = step _ _ _ a.2 in
-            let s = mapped (onto b.0.0) (items_at between item n b.0.1) r b.2 in
-            let f = fixed_found between tokens a.0 a.1 in
-            subst (λ (r : List X × Tokens). AreRow (Behind between Is) r.0 tokens r.1) s.2 (b.0.1, (f.0, a.0, f.1, f.2, finds.found a.0 b.0 b.1), items_found n b.0.1 s.0 s.1))
-        | false ↦ λ e. subst (λ (r : List X × Tokens). AreRow (Behind between Is) r.0 tokens r.1) (some_is ([], tokens) r e) refl
-      ] e
+      cond_both (stands_at between tokens) _ _ (λ o. o ≡ Some r → AreRow (Behind between Is) r.0 tokens r.1)
+      (λ more e. (let a = step _ _ _ e in
+      let b = step _ _ _ a.2 in
+      let s = mapped (onto b.0.0) (items_at between item n b.0.1) r b.2 in
+      let f = fixed_found between tokens a.0 a.1 in
+      subst (λ (r : List X × Tokens). AreRow (Behind between Is) r.0 tokens r.1) s.2 (b.0.1, (f.0, a.0, f.1, f.2, finds.found a.0 b.0 b.1), items_found n b.0.1 s.0 s.1)))
+      (λ over e. subst (λ (r : List X × Tokens). AreRow (Behind between Is) r.0 tokens r.1) (same_Some ([], tokens) r e) refl) e
 
   pub list_found : (tokens : Tokens) (r : List X × Tokens) → list_at between item tokens ≡ Some r → AreListed between Is r.0 tokens r.1
   list_found tokens r e =
@@ -205,12 +193,10 @@ module _ {X : Type 0} (between : Place) (Is : Standing X) (item : Tokens → Opt
     items_again : (xs : List X) (turns : ℕ) (tokens : Tokens) → length xs ≤ turns → AreRow (Behind between Is) xs tokens rest → items_at between item turns tokens ≡ Some (xs, rest)
     items_again [] zero tokens enough h = ap (λ (l : Tokens). Some ([], l)) h
     items_again [] (suc n) tokens enough h =
-        ap (λ t. cond t (fixed_at between tokens >>= (λ rest. item rest >>= (λ x. option_map (onto x.0) (items_at between item n x.1)))) (Some ([], tokens))) (ap (stands_at between) h ∙ stops)
-        ∙ ap (λ (l : Tokens). Some ([], l)) h
+        cond-false (stands_at between tokens) _ _ (ap (stands_at between) h ∙ stops) ∙ ap (λ (l : Tokens). Some ([], l)) h
     items_again (x ∷ xs) zero tokens enough h = absurd (omega (arith, enough))
     items_again (x ∷ xs) (suc n) tokens enough h =
-        ap (λ t. cond t (fixed_at between tokens >>= (λ rest. item rest >>= (λ x. option_map (onto x.0) (items_at between item n x.1)))) (Some ([], tokens)))
-        (stands_again between h.1.0 tokens h.1.1 h.1.2 h.1.3)
+        cond-true (stands_at between tokens) _ _ (stands_again between h.1.0 tokens h.1.1 h.1.2 h.1.3)
         ∙ leads (fixed_at between tokens) h.1.1 _ _ (fixed_again between h.1.0 tokens h.1.1 h.1.2 h.1.3)
         (leads (item h.1.1) (x, h.0) _ _ (finds.again x h.1.1 h.0 h.1.4 (row_calm xs h.0 h.2)) (ap (option_map (onto x)) (items_again xs n h.0 (omega (arith, enough)) h.2)))
 
@@ -220,20 +206,19 @@ module _ {X : Type 0} (between : Place) (Is : Standing X) (item : Tokens → Opt
         leads (item tokens) (x, h.0) _ _ (finds.again x tokens h.0 h.1 (row_calm xs h.0 h.2))
         (ap (option_map (onto x)) (items_again xs (length h.0) h.0 (row_length xs h.0 rest h.2) h.2))
 
-  pub some_listed : (xs : List X) (tokens rest : Tokens) → AreListed between Is xs tokens rest → 0 < length xs
-  some_listed [] tokens rest h = absurd h
-  some_listed (x ∷ xs) tokens rest h = omega arith
+pub some_listed : {X : Type 0} (between : Place) (Is : Standing X) (xs : List X) (tokens rest : Tokens)
+    → AreListed between Is xs tokens rest → 0 < length xs
+some_listed between Is [] tokens rest h = absurd h
+some_listed between Is (x ∷ xs) tokens rest h = omega arith
 
 pub conditions_found : (tokens : Tokens) (r : List Condition × Tokens) → conditions_at tokens ≡ Some r → AreConditions r.0 tokens r.1
 unfolding conditions_at
 conditions_found tokens r e =
-    elim (stands_at (place.Keyword key.Where) tokens) as (λ t. cond t (fixed_at (place.Keyword key.Where) tokens >>= list_at (place.Keyword key.And) condition_at) (Some ([], tokens)) ≡ Some r
-    → AreConditions r.0 tokens r.1) [
-      | true ↦ λ e. (let a = step _ _ _ e in
-          let f = fixed_found (place.Keyword key.Where) tokens a.0 a.1 in
-          behind_where r.0 r.1 f.0 a.0 f.1 f.2 (list_found (place.Keyword key.And) IsCondition condition_at finds_condition a.0 r a.2))
-      | false ↦ λ e. subst (λ (r : List Condition × Tokens). AreConditions r.0 tokens r.1) (some_is ([], tokens) r e) refl
-    ] e
+    cond_both (stands_at (place.Keyword key.Where) tokens) _ _ (λ o. o ≡ Some r → AreConditions r.0 tokens r.1)
+    (λ some e. (let a = step _ _ _ e in
+    let f = fixed_found (place.Keyword key.Where) tokens a.0 a.1 in
+    behind_where r.0 r.1 f.0 a.0 f.1 f.2 (list_found (place.Keyword key.And) IsCondition condition_at finds_condition a.0 r a.2)))
+    (λ none e. subst (λ (r : List Condition × Tokens). AreConditions r.0 tokens r.1) (same_Some ([], tokens) r e) refl) e
   where
     behind_where : (conditions : List Condition) (rest : Tokens) (fixed : Token) (more : Tokens) → tokens ≡ fixed ∷ more → IsTrue (is_at (place.Keyword key.Where) fixed)
         → AreListed (place.Keyword key.And) IsCondition conditions more rest → AreConditions conditions tokens rest
@@ -244,10 +229,9 @@ pub conditions_again : (conditions : List Condition) (tokens rest : Tokens) → 
     → stands_at place.Open rest ≡ false → AreConditions conditions tokens rest → conditions_at tokens ≡ Some (conditions, rest)
 unfolding conditions_at
 conditions_again [] tokens rest no_where no_and calm h =
-    ap (λ t. cond t (fixed_at (place.Keyword key.Where) tokens >>= list_at (place.Keyword key.And) condition_at) (Some ([], tokens))) (ap (stands_at (place.Keyword key.Where)) h ∙ no_where)
+    cond-false (stands_at (place.Keyword key.Where) tokens) _ _ (ap (stands_at (place.Keyword key.Where)) h ∙ no_where)
     ∙ ap (λ (l : Tokens). Some ([], l)) h
 conditions_again (c ∷ cs) tokens rest no_where no_and calm h =
-    ap (λ t. cond t (fixed_at (place.Keyword key.Where) tokens >>= list_at (place.Keyword key.And) condition_at) (Some ([], tokens)))
-    (stands_again (place.Keyword key.Where) h.0 tokens h.1 h.2 h.3)
+    cond-true (stands_at (place.Keyword key.Where) tokens) _ _ (stands_again (place.Keyword key.Where) h.0 tokens h.1 h.2 h.3)
     ∙ leads (fixed_at (place.Keyword key.Where) tokens) h.1 _ _ (fixed_again (place.Keyword key.Where) h.0 tokens h.1 h.2 h.3)
     (list_again (place.Keyword key.And) IsCondition condition_at finds_condition refl rest no_and calm (c ∷ cs) h.1 h.4)

@@ -18,4 +18,3 @@ pub mod SessionLemmas
 pub mod LineLemmas
 pub mod ReadingLemmas
 pub mod ScriptLemmas
-pub mod WordBytes

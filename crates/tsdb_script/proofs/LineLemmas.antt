@@ -134,15 +134,12 @@ module _ (line : Line) (is : IsWithin line) where
 
 -- ---- a line is one command, or has a fault of one kind, and not both
 
-same_numbered : (one other : Numbered) → one.session ≡ other.session → one.command ≡ other.command → one ≡ other
-same_numbered one other session command =
-    made_same {C = Numbered} (λ session command. record { session = session; command = command }) one.session other.session one.command other.command session command
-
 pub one_line_command : (line : Line) (one other : Numbered) → IsCommand line one → IsCommand line other → one ≡ other
 one_line_command line one other is again =
     let same = one_session line one.session other.session is.statement again.statement is.tokens again.tokens in
     let syntax = same_statement again.statement is.syntax again.syntax (subst (λ s. Fits s is.syntax) same.1 is.fits) again.fits in
-    same_numbered one other same.0 (one_command again.syntax one.command other.command (subst (λ s. Means s one.command) syntax is.means) again.means)
+    made_same {C = Numbered} (λ session command. record { session = session; command = command }) _ _ _ _ same.0
+    (one_command again.syntax one.command other.command (subst (λ s. Means s one.command) syntax is.means) again.means)
 
 one_kind : (pass : Pass) (line : Line) (kind other : ℕ) → ObjectsIn pass line kind → ObjectsIn pass line other → kind ≡ other
 one_kind Limits line kind other h k = h.1 ∙ sym k.1

@@ -1,7 +1,6 @@
 -- A statement says one command at most, or has an objection of one kind at most, and not both. What it says is well-formed.
-use Rattle.std.proofs.Common.{◌≡◌, ℕ, ℤ, ◌<◌, true, List, [], ◌∷◌, ◌++◌, Option, None, Some, Result, Ok, Err, length, map, inl, inr, refl, sym, ap, subst, ◌∙◌, true≢false, arith}
-use Rattle.std.specs.Prelude.{◌≤ℤ◌, FitsSigned, All, IfOk}
-use Rattle.std.specs.Int.{w64}
+use Rattle.std.proofs.Common.{◌≡◌, ℕ, ◌<◌, true, List, [], ◌∷◌, ◌++◌, Option, None, Some, Result, Ok, Err, length, map, inl, inr, refl, sym, ap, subst, ◌∙◌, true≢false, arith}
+use Rattle.std.specs.Prelude.{◌≤ℤ◌, All, IfOk}
 use Rattle.std.specs.List.{AllByRecursion, AllZip, flat_map}
 use Rattle.std.specs.Option.{IsSome}
 use Rattle.std.proofs.lemmas.Int.{ints}
@@ -14,13 +13,12 @@ use Rattle.tsdb_base.specs.Values.{is_suitable}
 use Rattle.tsdb_model.specs.declared.command.Row.{Row}
 use Rattle.tsdb_model.specs.declared.command.Schema.{Schema}
 use Rattle.tsdb_model.specs.Commands.{AreDifferent, AreItems, IsDevice, IsRow, IsSeries, IsSchema, IsWellFormed}
-use Rattle.tsdb_model.specs.World.{is_in}
 use Rattle.tsdb_script.specs.declared.syntax.Syntax.TheVariants.{Create, Insert, Delete, Select, Flush, CompactInner, CompactCross, ShowFiles}
 use Rattle.tsdb_script.specs.Forms.{HasParts}
 use Rattle.tsdb_script.specs.Meaning.{HasBadWord, AreAlike, ArePaired, IsGood, IsItem, IsLiteral, IsNamed, IsRangeOf, Means, Objects, Role, DeviceOf, Says, column_role, condition_roles, roles}
 use Rattle.tsdb_script.proofs.Ranges.{not_before, not_behind, within}
-use Rattle.tsdb_script.proofs.WordLists.{AllByRecursion-split}
-use Rattle.tsdb_script.proofs.SameWords.{one_encoding, one_integer, one_literal, one_named, one_type}
+use Rattle.tsdb_script.proofs.WordLists.{AllByRecursion-split, earlier, later, order, same_place}
+use Rattle.tsdb_script.proofs.SameWords.{one_encoding, one_integer, one_literal, one_named, same_name, types_differ}
 
 -- ---- lists
 
@@ -62,16 +60,12 @@ one_item column item other is again =
 -- ---- ranges
 
 module _ (conditions : List Condition) where
-  has_same_times : (range other : Range) → IsRangeOf conditions range → IsRangeOf conditions other → (time : ℤ) → FitsSigned w64 time → is_in range time ≡ true
-      → is_in other time ≡ true
-  has_same_times range other is again time fits inside = (again.times time fits).1 ((is.times time fits).0 inside)
-
   -- a range that is not empty lies in any range of the same conditions
   lies_in : (range other : Range) → IsRangeOf conditions range → IsRangeOf conditions other → range.from ≤ℤ range.to
       → (other.from ≤ℤ range.from) × (range.from ≤ℤ other.to) × (range.to ≤ℤ other.to)
   lies_in range other is again some =
-      let first = has_same_times range other is again range.from is.from (within range.from range.to range.from (omega (arith, ints)) some) in
-      let last = has_same_times range other is again range.to is.to (within range.from range.to range.to some (omega (arith, ints))) in
+      let first = (again.times range.from is.from).1 ((is.times range.from is.from).0 (within range.from range.to range.from (omega (arith, ints)) some)) in
+      let last = (again.times range.to is.to).1 ((is.times range.to is.to).0 (within range.from range.to range.to some (omega (arith, ints)))) in
       (not_before other.from other.to range.from first, not_behind other.from other.to range.from first, not_behind other.from other.to range.to last)
 
   same_ends : (range other : Range) → range.from ≡ other.from → range.to ≡ other.to → range ≡ other
@@ -92,44 +86,35 @@ module _ (conditions : List Condition) where
 
 -- ---- words
 
--- the first bad word is one
-one_bad : (before : List Role) (word : Role) (behind others : List Role) (another : Role) (rest : List Role) → before ++ word ∷ behind ≡ others ++ another ∷ rest
-    → AllByRecursion IsGood before → AllByRecursion IsGood others → ¬ IsGood word → ¬ IsGood another → word ≡ another
-one_bad [] word behind [] another rest same good well bad worse = cc
-one_bad [] word behind (r ∷ others) another rest same good well bad worse = let first : r ≡ word = cc in absurd (bad (subst IsGood first well.0))
-one_bad (r ∷ before) word behind [] another rest same good well bad worse = let first : r ≡ another = cc in absurd (worse (subst IsGood first good.0))
-one_bad (r ∷ before) word behind (s ∷ others) another rest same good well bad worse =
-    let more : before ++ word ∷ behind ≡ others ++ another ∷ rest = cc in one_bad before word behind others another rest more good.1 well.1 bad worse
-
-one_bad_word : (words : List Role) (kind other : ℕ) → HasBadWord words kind → HasBadWord words other → kind ≡ other
-one_bad_word words kind other h k =
-    let same = one_bad h.before h.word h.behind k.before k.word k.behind (sym h.stands ∙ k.stands) h.good k.good h.bad k.bad in
-    rw (h.decides, same, k.decides) refl
-
 among : (before : List Role) (word : Role) (behind : List Role) → AllByRecursion IsGood (before ++ word ∷ behind) → IsGood word
-among [] word behind good = good.0
-among (r ∷ before) word behind good = among before word behind good.1
+among before word behind good = (AllByRecursion-split IsGood before (word ∷ behind) good).1.0
+
+-- the first bad word is one
+one_bad_word : (words : List Role) (kind other : ℕ) → HasBadWord words kind → HasBadWord words other → kind ≡ other
+one_bad_word words kind other h k = elim (order h.before h.word h.behind k.before k.word k.behind (sym h.stands ∙ k.stands)) [
+  | earlier more is ↦ absurd (h.bad (among h.before h.word more (subst (AllByRecursion IsGood) is k.good)))
+  | later more is ↦ absurd (k.bad (among k.before k.word more (subst (AllByRecursion IsGood) is h.good)))
+  | same_place fronts is ↦ rw (h.decides, is, k.decides) refl
+]
 
 no_bad_word : (words : List Role) (kind : ℕ) → AllByRecursion IsGood words → ¬ HasBadWord words kind
 no_bad_word words kind good h = h.bad (among h.before h.word h.behind (subst (AllByRecursion IsGood) h.stands good))
 
 -- ---- statements
 
-same_row : (one other : Row) → one.time ≡ other.time → one.cells ≡ other.cells → one ≡ other
-same_row one other times cells = made_same {C = Row} (λ time cells. record { time = time; cells = cells }) one.time other.time one.cells other.cells times cells
-
 one_said : (syntax : Syntax) (command other : Command) → Says syntax command → Says syntax other → command ≡ other
 one_said (Create path data_type encoding) (command.Create schema) (command.Create other) says again =
     let made : List ℕ → DataType → Encoding → Schema = λ path data_type encoding. record { path = path; data_type = data_type; encoding = encoding } in
     let paths : schema.path ≡ other.path = says.0 ∙ sym again.0 in
-    let types = one_type data_type schema.data_type other.data_type says.1 again.1 in
+    let types = types_differ schema.data_type other.data_type (same_name data_type _ _ says.1 again.1) in
     let encodings = one_encoding encoding schema.encoding other.encoding says.2 again.2 in
     let same : made schema.path schema.data_type schema.encoding ≡ made other.path other.data_type other.encoding = cc in
     ap command.Create same
 one_said (Insert device names time values) (command.Insert path row) (command.Insert other rows) says again =
     let paths : path ≡ other = says.0 ∙ sym again.0 in
     let literals = one_each IsLiteral one_literal values (map (λ cell. cell.value) row.cells) (map (λ cell. cell.value) rows.cells) says.3 again.3 in
-    let same = same_row row rows (one_integer time row.time rows.time says.1 again.1) (same_cells row.cells rows.cells (says.2 ∙ sym again.2) literals) in
+    let same : row ≡ rows = made_same {C = Row} (λ time cells. record { time = time; cells = cells }) _ _ _ _ (one_integer time row.time rows.time says.1 again.1)
+    (same_cells row.cells rows.cells (says.2 ∙ sym again.2) literals) in
     cc
 one_said (Delete path conditions) (command.Delete series range) (command.Delete other ranges) says again =
     let paths : series ≡ other = says.0 ∙ sym again.0 in

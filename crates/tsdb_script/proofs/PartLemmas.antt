@@ -1,45 +1,34 @@
 -- The loops of the parser: the items of a list, the places of a form, and the forms.
-use Rattle.std.proofs.Common.{◌≡◌, ◌≤◌, ◌<◌, ◌+◌, ◌-◌, ℕ, zero, suc, Bool, true, false, true≢false, cond, drop, List, [], ◌∷◌, ◌++◌, Option, None, Some, option_map, refl, sym, ap, ◌∙◌, append_assoc, append-nil, arith}
-use Rattle.std.specs.Prelude.{◌&&◌}
+use Rattle.std.proofs.Common.{◌≡◌, ◌≤◌, ◌<◌, ◌+◌, ◌-◌, ℕ, zero, suc, Bool, true, false, true≢false, cond, drop, inl, inr, List, [], ◌∷◌, ◌++◌, Option, None, Some, option_map, refl, sym, ap, ◌∙◌, append_assoc, append-nil, arith}
+use Rattle.std.specs.Prelude.{◌⊎◌, ◌&&◌}
+use Rattle.std.proofs.lemmas.Bool.{cond-false, cond-true}
 use Rattle.tsdb_script.specs.Types.{Part, Place, Token}
 use Rattle.tsdb_script.specs.Forms.{is_at}
-use Rattle.tsdb_script.specs.Parse.{Tokens, onto, items_at, stands_at, fixed_at, is_keyword_place, begins_at, place_at, before, read_at, end_at, ◌>>=◌}
-
-abbrev pub with_items : {X : Type 0} → List X → List X × Tokens → List X × Tokens
-with_items front items = (front ++ items.0, items.1)
-
-with_items-onto : {X : Type 0} (front : List X) (x : X) (o : Option (List X × Tokens)) → option_map (with_items front) (option_map (onto x) o) ≡ option_map (with_items (front ++ x ∷ [])) o
-with_items-onto front x None = refl
-with_items-onto front x (Some items) = ap (λ l. Some (l, items.1)) (sym (append_assoc front (x ∷ []) items.0))
+use Rattle.tsdb_script.specs.Parse.{Tokens, items_at, stands_at, fixed_at, is_keyword_place, begins_at, place_at, before, read_at, end_at, ◌>>=◌}
+use Rattle.tsdb_script.proofs.FormLemmas.{leads}
+use Rattle.tsdb_script.proofs.TextLemmas.{with_front, with_front-onto}
 
 module _ {X : Type 0} (between : Place) (item : Tokens → Option (X × Tokens)) where
   -- one more item
   pub items_step : (turns : ℕ) (tokens inner rest : Tokens) (front : List X) (x : X) (all : Option (List X × Tokens))
-      → 0 < turns → stands_at between tokens ≡ true → fixed_at between tokens ≡ Some inner → item inner ≡ Some (x, rest) → option_map (with_items front) (items_at between item turns tokens) ≡ all
-      → option_map (with_items (front ++ x ∷ [])) (items_at between item (turns - 1) rest) ≡ all
+      → 0 < turns → stands_at between tokens ≡ true → fixed_at between tokens ≡ Some inner → item inner ≡ Some (x, rest) → option_map (with_front front) (items_at between item turns tokens) ≡ all
+      → option_map (with_front (front ++ x ∷ [])) (items_at between item (turns - 1) rest) ≡ all
   items_step zero tokens inner rest front x all some is taken found so_far = absurd (omega (arith, some))
   items_step (suc n) tokens inner rest front x all some is taken found so_far =
       let one : suc n - 1 ≡ n = omega arith in
-      ap (λ k. option_map (with_items (front ++ x ∷ [])) (items_at between item k rest)) one
-      ∙ sym (with_items-onto front x (items_at between item n rest))
-      ∙ sym (ap (λ t. option_map (with_items front) (cond t (fixed_at between tokens >>= (λ rest. item rest >>= (λ part. option_map (onto part.0) (items_at between item n part.1)))) (Some ([], tokens)))) is
-      ∙ ap (λ o. option_map (with_items front) (o >>= (λ rest. item rest >>= (λ part. option_map (onto part.0) (items_at between item n part.1))))) taken
-      ∙ ap (λ o. option_map (with_items front) (o >>= (λ part. option_map (onto part.0) (items_at between item n part.1)))) found)
+      ap (λ k. option_map (with_front (front ++ x ∷ [])) (items_at between item k rest)) one
+      ∙ sym (with_front-onto front x (items_at between item n rest))
+      ∙ sym (ap (option_map (with_front front)) (cond-true (stands_at between tokens) _ _ is
+      ∙ leads _ inner _ _ taken (leads (item inner) (x, rest) _ _ found refl)))
       ∙ so_far
 
-  -- no further item
-  pub items_over : (turns : ℕ) (tokens : Tokens) (front : List X) (all : Option (List X × Tokens))
-      → stands_at between tokens ≡ false → option_map (with_items front) (items_at between item turns tokens) ≡ all → all ≡ Some (front, tokens)
-  items_over zero tokens front all is so_far = sym so_far ∙ ap (λ l. Some (l, tokens)) (append-nil front)
-  items_over (suc n) tokens front all is so_far =
-      sym so_far
-      ∙ ap (λ t. option_map (with_items front) (cond t (fixed_at between tokens >>= (λ rest. item rest >>= (λ part. option_map (onto part.0) (items_at between item n part.1)))) (Some ([], tokens)))) is
-      ∙ ap (λ l. Some (l, tokens)) (append-nil front)
-
-  pub items_out : (turns : ℕ) (tokens : Tokens) (front : List X) (all : Option (List X × Tokens))
-      → turns ≤ 0 → option_map (with_items front) (items_at between item turns tokens) ≡ all → all ≡ Some (front, tokens)
-  items_out zero tokens front all is so_far = sym so_far ∙ ap (λ l. Some (l, tokens)) (append-nil front)
-  items_out (suc n) tokens front all is so_far = absurd (omega (arith, is))
+  -- no further item, or no further turn
+  pub items_over : (turns : ℕ) (tokens : Tokens) (front : List X) (all : Option (List X × Tokens)) → (turns ≤ 0) ⊎ (stands_at between tokens ≡ false)
+      → option_map (with_front front) (items_at between item turns tokens) ≡ all → all ≡ Some (front, tokens)
+  items_over zero tokens front all over so_far = sym so_far ∙ ap (λ l. Some (l, tokens)) (append-nil front)
+  items_over (suc n) tokens front all (inl none) so_far = absurd (omega (arith, none))
+  items_over (suc n) tokens front all (inr is) so_far =
+      sym so_far ∙ ap (option_map (with_front front)) (cond-false (stands_at between tokens) _ _ is) ∙ ap (λ l. Some (l, tokens)) (append-nil front)
 
 -- ---- the keywords that a form begins with
 
@@ -68,13 +57,15 @@ abbrev pub behind_parts : List Part → List Part → List Part
 behind_parts front parts = front ++ parts
 
 module _ (row behind : List Place) (p : Place) (tokens : Tokens) (front : List Part) (all : Option (List Part)) (e : row ≡ p ∷ behind) (so_far : option_map (behind_parts front) (read_at row tokens) ≡ all) where
+  at_place : (o : Option (Option Part × Tokens)) → place_at p tokens ≡ o
+      → option_map (behind_parts front) (o >>= (λ found. option_map (before found.0) (read_at behind found.1))) ≡ all
+  at_place o found =
+      sym (ap (λ l. option_map (behind_parts front) (read_at l tokens)) e
+      ∙ ap (λ o. option_map (behind_parts front) (o >>= (λ found. option_map (before found.0) (read_at behind found.1)))) found) ∙ so_far
+
   -- a place without a part
   pub read_fixed : (rest : Tokens) → place_at p tokens ≡ Some (None, rest) → option_map (behind_parts front) (read_at behind rest) ≡ all
-  read_fixed rest found =
-      plain (read_at behind rest)
-      ∙ sym (ap (λ l. option_map (behind_parts front) (read_at l tokens)) e
-      ∙ ap (λ o. option_map (behind_parts front) (o >>= (λ found. option_map (before found.0) (read_at behind found.1)))) found)
-      ∙ so_far
+  read_fixed rest found = plain (read_at behind rest) ∙ at_place _ found
     where
       plain : (o : Option (List Part)) → option_map (behind_parts front) o ≡ option_map (behind_parts front) (option_map (before None) o)
       plain None = refl
@@ -82,11 +73,7 @@ module _ (row behind : List Place) (p : Place) (tokens : Tokens) (front : List P
 
   -- a place with a part
   pub read_part : (rest : Tokens) (x : Part) → place_at p tokens ≡ Some (Some x, rest) → option_map (behind_parts (front ++ x ∷ [])) (read_at behind rest) ≡ all
-  read_part rest x found =
-      onto_front (read_at behind rest)
-      ∙ sym (ap (λ l. option_map (behind_parts front) (read_at l tokens)) e
-      ∙ ap (λ o. option_map (behind_parts front) (o >>= (λ found. option_map (before found.0) (read_at behind found.1)))) found)
-      ∙ so_far
+  read_part rest x found = onto_front (read_at behind rest) ∙ at_place _ found
     where
       onto_front : (o : Option (List Part)) → option_map (behind_parts (front ++ x ∷ [])) o ≡ option_map (behind_parts front) (option_map (before (Some x)) o)
       onto_front None = refl
@@ -94,9 +81,7 @@ module _ (row behind : List Place) (p : Place) (tokens : Tokens) (front : List P
 
   -- a place at which nothing stands that fits
   pub read_out : place_at p tokens ≡ None → all ≡ None
-  read_out none =
-      sym so_far ∙ ap (λ l. option_map (behind_parts front) (read_at l tokens)) e
-      ∙ ap (λ o. option_map (behind_parts front) (o >>= (λ found. option_map (before found.0) (read_at behind found.1)))) none
+  read_out none = sym (at_place None none)
 
 -- no further place
 module _ (row : List Place) (tokens : Tokens) (front : List Part) (all : Option (List Part)) (e : row ≡ []) (so_far : option_map (behind_parts front) (read_at row tokens) ≡ all) where

@@ -10,9 +10,10 @@ use Rattle.tsdb_script.specs.Types.{Numbered}
 use Rattle.tsdb_script.specs.Reading.{Line, line_behind, lines_of, sessions_of, session_count, Give, no_line, skipped_line, command_line, IsBad, IsCommand, IsFirstBad, IsScript, IsSkipped, IsWithinLimits}
 use Rattle.tsdb_script.proofs.LineLemmas.{one_line_command, one_line_fault, command_not_bad, skipped_not_bad, past_limit}
 use Rattle.tsdb_script.proofs.LinesLemmas.{concat-lines_of, goes_on, GoesOn}
-use Rattle.tsdb_script.proofs.MeaningLaws.{well_formed as well_formed_meaning}
+use Rattle.tsdb_script.proofs.MeaningLaws.{well_formed}
 use Rattle.tsdb_script.proofs.StatementLemmas.{has_parts}
 use Rattle.tsdb_script.proofs.SessionLemmas.{as_many, session_number, sessions-push}
+use Rattle.tsdb_script.proofs.WordLists.{earlier, later, order, same_place}
 
 -- ---- lines give one list of commands
 
@@ -51,34 +52,15 @@ same_commands lines others script other (command_line f s l one gives is) (comma
 
 -- ---- a bad line
 
--- which of two places of a list stands first
-data Order (front : List (List ℕ)) (line : List ℕ) (before : List (List ℕ)) (other : List ℕ) : Type 0 where
-  ahead : (more : List (List ℕ)) → before ≡ front ++ line ∷ more → Order front line before other
-  behind : (more : List (List ℕ)) → front ≡ before ++ other ∷ more → Order front line before other
-  equal : front ≡ before → line ≡ other → Order front line before other
-
-order : (a : List (List ℕ)) (x : List ℕ) (xs b : List (List ℕ)) (y : List ℕ) (ys : List (List ℕ)) → a ++ x ∷ xs ≡ b ++ y ∷ ys → Order a x b y
-order [] x xs [] y ys e = equal refl cc
-order [] x xs (c ∷ b) y ys e = let first : x ≡ c = cc in ahead b (ap (λ (z : List ℕ). z ∷ b) (sym first))
-order (c ∷ a) x xs [] y ys e = let first : c ≡ y = cc in behind a (ap (λ (z : List ℕ). z ∷ a) first)
-order (c ∷ a) x xs (d ∷ b) y ys e =
-    let first : c ≡ d = cc in
-    let rest : a ++ x ∷ xs ≡ b ++ y ∷ ys = cc in
-    elim (order a x xs b y ys rest) [
-      | ahead more is ↦ ahead more (ap (λ (z : List ℕ). z ∷ b) (sym first) ∙ ap (λ l. c ∷ l) is)
-      | behind more is ↦ behind more (ap (λ (z : List ℕ). z ∷ a) first ∙ ap (λ l. d ∷ l) is)
-      | equal fronts is ↦ equal (ap (λ (z : List ℕ). z ∷ a) first ∙ ap (λ l. d ∷ l) fronts) is
-    ]
-
 -- lines among which a bad one stands give no commands
 module _ (before : List (List ℕ)) (line : List ℕ) (script : List Numbered) (kind : ℕ) (good : Give before script) (bad : IsBad (line_behind before script line) kind) where
   -- the last of some lines is none that is good, and stands behind the bad one
   stands : (front rest : List (List ℕ)) (last : List ℕ) (said : List Numbered) → front ++ last ∷ [] ≡ before ++ line ∷ rest → Give front said
       → ((kind : ℕ) → ¬ IsBad (line_behind front said last) kind) → (more : List (List ℕ)) × (front ≡ before ++ line ∷ more)
   stands front rest last said e gives fine = elim (order front last [] before line rest e) [
-    | ahead more is ↦ absurd (omega (arith, ap length e, ap length is, length-append front (last ∷ []), length-append before (line ∷ rest), length-append front (last ∷ more)))
-    | behind more is ↦ (more, is)
-    | equal fronts is ↦ absurd (fine kind (moved (λ line. IsBad line kind) before front script said line last (sym fronts)
+    | earlier more is ↦ absurd (omega (arith, ap length e, ap length is, length-append front (last ∷ []), length-append before (line ∷ rest), length-append front (last ∷ more)))
+    | later more is ↦ (more, is)
+    | same_place fronts is ↦ absurd (fine kind (moved (λ line. IsBad line kind) before front script said line last (sym fronts)
         (same_commands before front script said good gives (sym fronts)) (sym is) bad))
   ]
 
@@ -101,9 +83,9 @@ pub same_first_bad : (bytes : List ℕ) (line kind other_line other_kind : ℕ) 
     → (line ≡ other_line) × (kind ≡ other_kind)
 same_first_bad bytes line kind other_line other_kind a b =
     elim (order a.before a.line a.behind b.before b.line b.behind (sym a.lines ∙ b.lines)) [
-      | ahead more is ↦ absurd (clash a.before a.line a.script kind a.good a.bad b.before more b.script b.good is)
-      | behind more is ↦ absurd (clash b.before b.line b.script other_kind b.good b.bad a.before more a.script a.good is)
-      | equal before here ↦ (
+      | earlier more is ↦ absurd (clash a.before a.line a.script kind a.good a.bad b.before more b.script b.good is)
+      | later more is ↦ absurd (clash b.before b.line b.script other_kind b.good b.bad a.before more a.script a.good is)
+      | same_place before here ↦ (
         a.count_is ∙ ap (λ (l : List (List ℕ)). length l + 1) before ∙ sym b.count_is,
         one_line_fault (line_behind b.before b.script b.line) kind other_kind
             (moved (λ line. IsBad line kind) a.before b.before a.script b.script a.line b.line before (same_commands a.before b.before a.script b.script a.good b.good before) here a.bad) b.bad,
@@ -117,41 +99,34 @@ lines_short lines script no_line = omega arith
 lines_short lines script (skipped_line front before line gives is) = omega (arith, is.script_bytes, ap length (concat-append front (line ∷ [])), length-append (concat front) (line ++ []), length-append line [])
 lines_short lines script (command_line front before line numbered gives is) = omega (arith, is.script_bytes, ap length (concat-append front (line ∷ [])), length-append (concat front) (line ++ []), length-append line [])
 
-lines_commands : (lines : List (List ℕ)) (script : List Numbered) → Give lines script → length (sessions_of script) ≤ 1000000
-lines_commands lines script no_line = omega arith
-lines_commands lines script (skipped_line front before line gives is) = lines_commands front before gives
-lines_commands lines script (command_line front before line numbered gives is) = omega (arith, is.commands, ap length (sessions-push before numbered), length-append (sessions_of before) (numbered.session ∷ []))
-
-lines_sessions : (lines : List (List ℕ)) (script : List Numbered) → Give lines script → session_count (sessions_of script) ≤ 8
-lines_sessions lines script no_line = omega arith
-lines_sessions lines script (skipped_line front before line gives is) = lines_sessions front before gives
-lines_sessions lines script (command_line front before line numbered gives is) = subst (λ s. session_count s ≤ 8) (sym (sessions-push before numbered)) is.sessions
-
 abbrev IsNumber : ℕ → Type 0
 IsNumber session = (1 ≤ session) × (session ≤ 999)
 
-lines_numbers : (lines : List (List ℕ)) (script : List Numbered) → Give lines script → All IsNumber (sessions_of script)
-lines_numbers lines script no_line = All-nil IsNumber
-lines_numbers lines script (skipped_line front before line gives is) = lines_numbers front before gives
-lines_numbers lines script (command_line front before line numbered gives is) =
-    subst (All IsNumber) (sym (sessions-push before numbered)) (All-push IsNumber (sessions_of before) numbered.session (lines_numbers front before gives) (session_number is.tokens.word numbered.session is.tokens.number))
+abbrev AreWithin : List ℕ → Type 0
+AreWithin sessions = (length sessions ≤ 1000000) × (session_count sessions ≤ 8) × All IsNumber sessions
+
+lines_sessions : (lines : List (List ℕ)) (script : List Numbered) → Give lines script → AreWithin (sessions_of script)
+lines_sessions lines script no_line = (omega arith, omega arith, All-nil IsNumber)
+lines_sessions lines script (skipped_line front before line gives is) = lines_sessions front before gives
+lines_sessions lines script (command_line front before line numbered gives is) = subst AreWithin (sym (sessions-push before numbered)) (
+  omega (arith, is.commands, length-append (sessions_of before) (numbered.session ∷ [])),
+  is.sessions,
+  All-push IsNumber (sessions_of before) numbered.session (lines_sessions front before gives).2 (session_number is.tokens.word numbered.session is.tokens.number),
+)
 
 pub well_formed_lines : (lines : List (List ℕ)) (script : List Numbered) → Give lines script → All (λ numbered. IsWellFormed numbered.command) script
 well_formed_lines lines script no_line = All-nil (λ (numbered : Numbered). IsWellFormed numbered.command)
 well_formed_lines lines script (skipped_line front before line gives is) = well_formed_lines front before gives
 well_formed_lines lines script (command_line front before line numbered gives is) =
-    All-push (λ (numbered : Numbered). IsWellFormed numbered.command) before numbered (well_formed_lines front before gives) (well_formed_meaning is.syntax numbered.command (has_parts is.statement is.syntax is.fits) is.means)
+    All-push (λ (numbered : Numbered). IsWellFormed numbered.command) before numbered (well_formed_lines front before gives) (well_formed is.syntax numbered.command (has_parts is.statement is.syntax is.fits) is.means)
 
 pub within_limits : (bytes : List ℕ) (script : List Numbered) → IsScript bytes script → IsWithinLimits bytes script
 within_limits bytes script is = record {
   short = omega (arith, lines_short (lines_of bytes) script is, ap length (concat-lines_of bytes));
-  commands = omega (arith, lines_commands (lines_of bytes) script is, as_many script);
-  sessions = lines_sessions (lines_of bytes) script is;
-  numbers = lines_numbers (lines_of bytes) script is;
+  commands = omega (arith, (lines_sessions (lines_of bytes) script is).0, as_many script);
+  sessions = (lines_sessions (lines_of bytes) script is).1;
+  numbers = (lines_sessions (lines_of bytes) script is).2;
 }
-
-pub well_formed : (bytes : List ℕ) (script : List Numbered) → IsScript bytes script → All (λ numbered. IsWellFormed numbered.command) script
-well_formed bytes script is = well_formed_lines (lines_of bytes) script is
 
 -- ---- a script that is too long
 
@@ -170,8 +145,8 @@ module _ (bytes other : List ℕ) (front : List (List ℕ)) (last last' : List �
   stays_bad : (line kind : ℕ) → IsFirstBad bytes line kind → IsFirstBad other line kind
   stays_bad line kind bad =
       elim (order front last others bad.before bad.line bad.behind (sym lines ∙ bad.lines)) [
-        | ahead more is ↦ absurd (not_behind bad.before more bad.script bad.good is)
-        | behind more is ↦ record {
+        | earlier more is ↦ absurd (not_behind bad.before more bad.script bad.good is)
+        | later more is ↦ record {
           before = bad.before;
           line = bad.line;
           behind = more ++ last' ∷ others';
@@ -181,7 +156,7 @@ module _ (bytes other : List ℕ) (front : List (List ℕ)) (last last' : List �
           good = bad.good;
           bad = bad.bad;
         }
-        | equal before here ↦ record {
+        | same_place before here ↦ record {
           before = front;
           line = last';
           behind = others';

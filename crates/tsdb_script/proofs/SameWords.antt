@@ -1,10 +1,12 @@
 -- A word names one type, encoding or aggregate at most, and writes one value at most.
-use Rattle.std.proofs.Common.{◌≡◌, ◌⊎◌, ℕ, ℤ, ◌+◌, true, false, List, [], ◌∷◌, Option, None, Some, inl, inr, refl, sym, ap, ◌∙◌, true≢false, arith}
+use Rattle.std.proofs.Common.{◌≡◌, ◌≤◌, ℕ, ℤ, true, false, List, [], ◌∷◌, Option, None, Some, refl, sym, ap, ◌∙◌, true≢false, arith}
 use Rattle.std.specs.Prelude.{codes}
 use Rattle.std.specs.Char.{to_ascii_lowercase}
 use Rattle.std.specs.Str.{str_to_ascii_lowercase}
+use Rattle.std.proofs.lemmas.Bool.{ne_eqb}
 use Rattle.std.proofs.lemmas.Bool.Decides.{nat_tests}
 use Rattle.std.proofs.lemmas.Slice.Eq.{bytes_eq-Decides}
+use Rattle.std.proofs.lemmas.Str.Parse.{digit_from_value}
 use Rattle.tsdb_script.specs.Types.{Aggregate, DataType, Encoding, Literal, Operand}
 use Rattle.tsdb_base.specs.Notation.{aggregate_name}
 use Rattle.tsdb_base.specs.declared.answers.Aggregate.TheVariants as aggregate
@@ -24,7 +26,7 @@ same_name word one other names again =
     (bytes_eq-Decides (str_to_ascii_lowercase one) (str_to_ascii_lowercase other)).1 (sym (lower_names word one names) ∙ lower_names word other again)
 
 -- the names of two types differ
-types_differ : (one other : DataType) → is_keyword (type_name one) (type_name other) ≡ true → one ≡ other
+pub types_differ : (one other : DataType) → is_keyword (type_name one) (type_name other) ≡ true → one ≡ other
 types_differ type.Boolean type.Boolean same = refl
 types_differ type.Int32 type.Int32 same = refl
 types_differ type.Int64 type.Int64 same = refl
@@ -50,19 +52,13 @@ aggregates_differ aggregate.MinTime aggregate.MinTime same = refl
 aggregates_differ aggregate.MaxTime aggregate.MaxTime same = refl
 aggregates_differ one other same = absurd (true≢false (sym same))
 
-pub one_type : (word : List ℕ) (one other : DataType) → Names word (type_name one) → Names word (type_name other) → one ≡ other
-one_type word one other names again = types_differ one other (same_name word (type_name one) (type_name other) names again)
-
 pub one_encoding : (word : List ℕ) (one other : Encoding) → Names word (encoding_name one) → Names word (encoding_name other) → one ≡ other
 one_encoding word one other names again = encodings_differ one other (same_name word (encoding_name one) (encoding_name other) names again)
-
-one_aggregate : (word : List ℕ) (one other : Aggregate) → Names word (aggregate_name one) → Names word (aggregate_name other) → one ≡ other
-one_aggregate word one other names again = aggregates_differ one other (same_name word (aggregate_name one) (aggregate_name other) names again)
 
 -- an aggregate or none
 pub one_named : (word : Option (List ℕ)) (one other : Option Aggregate) → IsNamed word one → IsNamed word other → one ≡ other
 one_named None None None is again = refl
-one_named (Some word) (Some one) (Some other) is again = ap Some (one_aggregate word one other is again)
+one_named (Some word) (Some one) (Some other) is again = ap Some (aggregates_differ one other (same_name word _ _ is again))
 one_named None None (Some other) is again = absurd again
 one_named (Some word) (Some one) None is again = absurd again
 one_named word one other is again = absurd is
@@ -71,29 +67,19 @@ pub one_integer : (word : List ℕ) (one other : ℤ) → IsInteger word one →
 one_integer word one other is again = is.value ∙ sym again.value
 
 -- a letter by its lower case
-letter : (b c : ℕ) → to_ascii_lowercase b ≡ c → (b ≡ c) ⊎ (b + 32 ≡ c)
-letter b c e = grind (arith, nat_tests)
+letter : (b c : ℕ) → to_ascii_lowercase b ≡ c → 97 ≤ c → 65 ≤ b
+letter b c e low = grind (arith, nat_tests)
 
--- what begins with a T or an F is no integer
-no_integer : (b : ℕ) (word : List ℕ) (number : ℤ) → (b ≡ 116) ⊎ ((b ≡ 84) ⊎ ((b ≡ 102) ⊎ (b ≡ 70))) → ¬ IsInteger (b ∷ word) number
-no_integer b word number (inl e) is = let digits = rw e at is.digits in omega (arith, digits.1.0)
-no_integer b word number (inr (inl e)) is = let digits = rw e at is.digits in omega (arith, digits.1.0)
-no_integer b word number (inr (inr (inl e))) is = let digits = rw e at is.digits in omega (arith, digits.1.0)
-no_integer b word number (inr (inr (inr e))) is = let digits = rw e at is.digits in omega (arith, digits.1.0)
-
-no_true : (word : List ℕ) (number : ℤ) → Names word (codes "true") → ¬ IsInteger word number
-no_true [] number names is = omega (arith, is.digits.0)
-no_true (b ∷ word) number names is =
-    let lower = lower_names (b ∷ word) (codes "true") names in
-    let first : to_ascii_lowercase b ≡ 116 = cc in
-    no_integer b word number (elim (letter b 116 first) [ inl small ↦ inl small | inr upper ↦ inr (inl (omega arith)) ]) is
-
-no_false : (word : List ℕ) (number : ℤ) → Names word (codes "false") → ¬ IsInteger word number
-no_false [] number names is = omega (arith, is.digits.0)
-no_false (b ∷ word) number names is =
-    let lower = lower_names (b ∷ word) (codes "false") names in
-    let first : to_ascii_lowercase b ≡ 102 = cc in
-    no_integer b word number (elim (letter b 102 first) [ inl small ↦ inr (inr (inl small)) | inr upper ↦ inr (inr (inr (omega arith))) ]) is
+-- a word that names what begins with a letter is no integer
+no_integer : (name : List ℕ) (c : ℕ) (others word : List ℕ) (number : ℤ)
+    → str_to_ascii_lowercase name ≡ c ∷ others → 97 ≤ c → Names word name → ¬ IsInteger word number
+no_integer name c others [] number lower low names is = omega (arith, is.digits.0)
+no_integer name c others (b ∷ word) number lower low names is =
+    let same = lower_names (b ∷ word) name names in
+    let first : to_ascii_lowercase b ≡ c = cc in
+    let large : 65 ≤ b = letter b c first low in
+    let digits = rw (ne_eqb b 45 (λ e. omega arith), ne_eqb b 43 (λ e. omega arith)) at is.digits in
+    omega (arith, digit_from_value b digits.1.0)
 
 pub one_literal : (operand : Operand) (one other : Literal) → IsLiteral operand one → IsLiteral operand other → one ≡ other
 one_literal (operand.Text content) (literal.Text one) (literal.Text other) is again = ap literal.Text (is ∙ sym again)
@@ -102,10 +88,10 @@ one_literal (operand.Word word) (literal.Bool false) (literal.Bool false) is aga
 one_literal (operand.Word word) (literal.Int one) (literal.Int other) is again = ap literal.Int (one_integer word one other is again)
 one_literal (operand.Word word) (literal.Bool true) (literal.Bool false) is again = absurd (true≢false (sym (same_name word (codes "true") (codes "false") is again)))
 one_literal (operand.Word word) (literal.Bool false) (literal.Bool true) is again = absurd (true≢false (sym (same_name word (codes "false") (codes "true") is again)))
-one_literal (operand.Word word) (literal.Bool true) (literal.Int number) is again = absurd (no_true word number is again)
-one_literal (operand.Word word) (literal.Bool false) (literal.Int number) is again = absurd (no_false word number is again)
-one_literal (operand.Word word) (literal.Int number) (literal.Bool true) is again = absurd (no_true word number again is)
-one_literal (operand.Word word) (literal.Int number) (literal.Bool false) is again = absurd (no_false word number again is)
+one_literal (operand.Word w) (literal.Bool true) (literal.Int n) is again = absurd (no_integer (codes "true") 116 _ w n refl (omega arith) is again)
+one_literal (operand.Word w) (literal.Bool false) (literal.Int n) is again = absurd (no_integer (codes "false") 102 _ w n refl (omega arith) is again)
+one_literal (operand.Word w) (literal.Int n) (literal.Bool true) is again = absurd (no_integer (codes "true") 116 _ w n refl (omega arith) again is)
+one_literal (operand.Word w) (literal.Int n) (literal.Bool false) is again = absurd (no_integer (codes "false") 102 _ w n refl (omega arith) again is)
 one_literal (operand.Text content) (literal.Text one) other is again = absurd again
 one_literal (operand.Text content) one other is again = absurd is
 one_literal (operand.Word word) one (literal.Text text) is again = absurd again

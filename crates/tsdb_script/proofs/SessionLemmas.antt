@@ -8,6 +8,7 @@ use Rattle.std.specs.Str.{IsUtf8, IsValidUpTo, valid_up_to}
 use Rattle.std.specs.Str.Parse.{AllDigits, IsNumeral, ParsesUnsigned, digits_value, without_leading_plus}
 use Rattle.std.specs.Result.{MatchResult, result_ok}
 use Rattle.std.specs.declared.str.Utf8Error.{Utf8Error}
+use Rattle.std.proofs.Math.Bool.{or-false}
 use Rattle.std.proofs.lemmas.Bool.{eqb-true, eq-eqb, cases_Bool}
 use Rattle.std.proofs.lemmas.Cmp.{nat_eq_equiv}
 use Rattle.std.proofs.lemmas.Fmt.{IsAscii-from_digits, decimal-digits_value}
@@ -89,11 +90,7 @@ same-known different sessions session q known same =
     by_first true e =
         let is : is_member eq sessions q ≡ true = sym (same q) ∙ ap (is_member eq different) (eqb-true q session e) ∙ known in
         is ∙ sym (ap (λ t. t || (eqb q session || false)) is)
-    by_first false e = sym (ap (λ t. is_member eq sessions q || (t || false)) e ∙ or_none (is_member eq sessions q))
-      where
-        or_none : (t : Bool) → (t || false) ≡ t
-        or_none true = refl
-        or_none false = refl
+    by_first false e = sym (ap (λ t. is_member eq sessions q || (t || false)) e ∙ or-false (is_member eq sessions q))
 
 -- and one that is new
 same-new : (different sessions : List ℕ) (session q : ℕ) → ((q : ℕ) → is_member eq different q ≡ is_member eq sessions q)

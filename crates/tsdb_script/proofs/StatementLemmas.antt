@@ -3,7 +3,8 @@ use Rattle.std.proofs.Common.{◌≡◌, ◌<◌, ℕ, ◌||◌, Bool, true, fal
 use Rattle.std.specs.Prelude.{◌⊎◌, ◌&&◌, not, IsTrue, IfOk, IfErr}
 use Rattle.std.specs.List.{list_any}
 use Rattle.std.specs.Str.{bytes_eq, str_to_ascii_lowercase}
-use Rattle.std.proofs.lemmas.Bool.{and_parts, not-true, or_parts}
+use Rattle.std.proofs.lemmas.Bool.{and_parts, cond_both, not-true, or_parts}
+use Rattle.std.proofs.lemmas.Option.{same_Some}
 use Rattle.std.proofs.lemmas.Slice.Eq.{bytes_eq-Decides}
 use Rattle.tsdb_script.specs.Types.{Form, LineFault, Part, Place, Syntax, Token}
 use Rattle.tsdb_script.specs.declared.form.Form.TheVariants as form
@@ -17,7 +18,7 @@ use Rattle.tsdb_script.specs.Forms.{is_at, keyword_text, places, first_names, fi
 use Rattle.tsdb_script.specs.Parse.{Gives, Tokens, ◌>>=◌, stands_at, fixed_at, word_at, end_at, operand_at, column_at, list_at, conditions_at, place_at, before, read_at, is_keyword_place, begins_at, form_at, statement_at}
 use Rattle.tsdb_script.specs.Steps.{FaultsWith}
 use Rattle.tsdb_script.specs.Tokens.{is_keyword, starts}
-use Rattle.tsdb_script.proofs.FormLemmas.{some_is, step, leads, mapped, fixed_found, fixed_again, word_found, finds_name, finds_value, finds_column, list_found, list_again, some_listed, conditions_found, conditions_again}
+use Rattle.tsdb_script.proofs.FormLemmas.{step, leads, mapped, fixed_found, fixed_again, word_found, finds_name, finds_value, finds_column, list_found, list_again, some_listed, conditions_found, conditions_again}
 
 -- ---- the table: keywords tell the forms apart, and no list goes on with what stands behind it
 
@@ -99,7 +100,7 @@ fixed_place : (at : Place) (tokens : Tokens) (r : Option Part × Tokens) (others
 fixed_place at tokens r others e =
     let a = step _ _ _ e in
     let f = fixed_found at tokens a.0 a.1 in
-    let is : ◌≡◌ {A = Option Part × Tokens} (None, a.0) r = some_is _ r a.2 in
+    let is : ◌≡◌ {A = Option Part × Tokens} (None, a.0) r = same_Some _ r a.2 in
     (f.0, f.1 ∙ ap (λ (r : Option Part × Tokens). f.0 ∷ r.1) is, f.2, ap (λ (r : Option Part × Tokens). before r.0 others) (sym is))
 
 -- a place that gives a part
@@ -108,7 +109,7 @@ part_found : {X : Type 0} (make : X → Part) (Is : Standing X) (item : Tokens �
     → (x : X) × Is x tokens r.1 × (before r.0 others ≡ make x ∷ others)
 part_found {X} make Is item tokens found r others e =
     let a = step _ _ _ e in
-    let is : ◌≡◌ {A = Option Part × Tokens} (Some (make a.0.0), a.0.1) r = some_is _ r a.2 in
+    let is : ◌≡◌ {A = Option Part × Tokens} (Some (make a.0.0), a.0.1) r = same_Some _ r a.2 in
     subst (λ (r : Option Part × Tokens). (x : X) × Is x tokens r.1 × (before r.0 others ≡ make x ∷ others)) is (a.0.0, found a.0 a.1, refl)
 
 place_found : (at : Place) (tokens : Tokens) (r : Option Part × Tokens) (others : List Part) → place_at at tokens ≡ Some r → Stands at tokens r.1 (before r.0 others) others
@@ -178,7 +179,7 @@ end_again tokens (inl e) = ap end_at e
 end_again tokens (inr e) = ap end_at e
 
 read_found : (row : List Place) (tokens : Tokens) (parts : List Part) → read_at row tokens ≡ Some parts → Stand row tokens parts
-read_found [] tokens parts e = let a = step {A = Unit {0}} (end_at tokens) (λ _. Some []) parts e in (end_is tokens a.0 a.1, sym (some_is [] parts a.2))
+read_found [] tokens parts e = let a = step {A = Unit {0}} (end_at tokens) (λ _. Some []) parts e in (end_is tokens a.0 a.1, sym (same_Some [] parts a.2))
 read_found (at ∷ row) tokens parts e =
     let a = step _ _ _ e in
     let s = mapped (before a.0.0) (read_at row a.0.1) parts a.2 in
@@ -202,11 +203,7 @@ begins_again (_ ∷ row) (t ∷ rest) parts h = refl
 
 -- ---- the first word of a form
 
-abbrev pub keyword_first : List Place → Bool
-keyword_first [] = false
-keyword_first (at ∷ row) = is_keyword_place at
-
-all_keyword_first : (f : Form) → keyword_first (places f) ≡ true
+all_keyword_first : (f : Form) → starts is_keyword_place (places f) ≡ true
 all_keyword_first form.Create = refl
 all_keyword_first _ = refl
 
@@ -216,7 +213,8 @@ any_has test f (g ∷ forms) (inl same) is = ap (λ t. t || list_any test forms)
 any_has test f (g ∷ forms) (inr later) is =
     elim (test g) as (λ t. (t || list_any test forms) ≡ true) [ true ↦ refl | false ↦ any_has test f forms later is ]
 
-row_begins : (row : List Place) (tokens : Tokens) → keyword_first row ≡ true → begins_at row tokens ≡ true → (t : Token) × (rest : Tokens) × (tokens ≡ t ∷ rest) × (starts (λ place. is_at place t) row ≡ true)
+row_begins : (row : List Place) (tokens : Tokens) → starts is_keyword_place row ≡ true → begins_at row tokens ≡ true
+    → (t : Token) × (rest : Tokens) × (tokens ≡ t ∷ rest) × (starts (λ place. is_at place t) row ≡ true)
 row_begins [] tokens first begins = absurd (true≢false (sym first))
 row_begins (at ∷ row) [] first begins = absurd (true≢false (sym begins ∙ ap (λ t. cond t false true) first))
 row_begins (at ∷ row) (t ∷ rest) first begins =
@@ -231,20 +229,22 @@ form_begins tokens syntax h =
 form_again : (forms : List Form) (f : Form) (tokens : Tokens) → Has f forms → begins_at (places f) tokens ≡ true → form_at forms tokens ≡ Some f
 form_again [] f tokens has begins = absurd has
 form_again (g ∷ forms) f tokens has begins =
-    elim (begins_at (places g) tokens) as (λ t. begins_at (places g) tokens ≡ t → cond t (Some g) (form_at forms tokens) ≡ Some f) [
-      | true ↦ λ too. elim (all_differ f g) [ inl same ↦ ap (λ (f : Form). Some f) (sym same) | inr other ↦ absurd (apart (places f) (places g) tokens other begins too) ]
-      | false ↦ λ out. elim has [
-        | inl same ↦ absurd (true≢false (sym begins ∙ ap (λ f. begins_at (places f) tokens) same ∙ out))
-        | inr later ↦ form_again forms f tokens later begins
-      ]
-    ] refl
+    cond_both (begins_at (places g) tokens) (Some g) (form_at forms tokens) (λ o. o ≡ Some f)
+    (λ too. elim (all_differ f g) [
+      | inl same ↦ ap (λ (f : Form). Some f) (sym same)
+      | inr other ↦ absurd (apart (places f) (places g) tokens other begins too)
+    ])
+    (λ out. elim has [
+      | inl same ↦ absurd (true≢false (sym begins ∙ ap (λ f. begins_at (places f) tokens) same ∙ out))
+      | inr later ↦ form_again forms f tokens later begins
+    ])
 
 statement_found : (tokens : Tokens) (syntax : Syntax) → statement_at tokens ≡ Some syntax → Fits tokens syntax
 unfolding statement_at
 statement_found tokens syntax e =
     let a = step (form_at FORMS.now tokens) (λ f. read_at (places f) tokens >>= (λ parts. Some (statement_of f parts))) syntax e in
     let b = step (read_at (places a.0) tokens) (λ parts. Some (statement_of a.0 parts)) syntax a.2 in
-    record { form = a.0; parts = b.0; stand = read_found (places a.0) tokens b.0 b.1; says = some_is _ syntax b.2 }
+    record { form = a.0; parts = b.0; stand = read_found (places a.0) tokens b.0 b.1; says = same_Some _ syntax b.2 }
 
 statement_again : (tokens : Tokens) (syntax : Syntax) → Fits tokens syntax → statement_at tokens ≡ Some syntax
 unfolding statement_at
@@ -283,11 +283,11 @@ filled : (row : List Place) (tokens : Tokens) (parts : List Part) → Stand row 
 filled [] tokens parts h = tt
 filled (place.Word ∷ row) tokens parts h = subst (HasFullLists (place.Word ∷ row)) (sym h.2.2) (filled row h.0 h.1 h.3)
 filled (place.Names ∷ row) tokens parts h =
-    subst (HasFullLists (place.Names ∷ row)) (sym h.2.2) (some_listed place.Comma IsName word_at finds_name h.2.0 tokens h.0 h.2.1, filled row h.0 h.1 h.3)
+    subst (HasFullLists (place.Names ∷ row)) (sym h.2.2) (some_listed place.Comma IsName h.2.0 tokens h.0 h.2.1, filled row h.0 h.1 h.3)
 filled (place.Values ∷ row) tokens parts h =
-    subst (HasFullLists (place.Values ∷ row)) (sym h.2.2) (some_listed place.Comma IsValue operand_at finds_value h.2.0 tokens h.0 h.2.1, filled row h.0 h.1 h.3)
+    subst (HasFullLists (place.Values ∷ row)) (sym h.2.2) (some_listed place.Comma IsValue h.2.0 tokens h.0 h.2.1, filled row h.0 h.1 h.3)
 filled (place.Columns ∷ row) tokens parts h =
-    subst (HasFullLists (place.Columns ∷ row)) (sym h.2.2) (some_listed place.Comma IsColumn column_at finds_column h.2.0 tokens h.0 h.2.1, filled row h.0 h.1 h.3)
+    subst (HasFullLists (place.Columns ∷ row)) (sym h.2.2) (some_listed place.Comma IsColumn h.2.0 tokens h.0 h.2.1, filled row h.0 h.1 h.3)
 filled (place.Where ∷ row) tokens parts h = subst (HasFullLists (place.Where ∷ row)) (sym h.2.2) (filled row h.0 h.1 h.3)
 filled (_ ∷ row) tokens parts h = subst (HasFullLists row) (sym h.2.3) (filled row h.0 h.1 h.3)
 

@@ -1,13 +1,14 @@
 -- What stands between two quotes, and its content.
 use Rattle.std.proofs.Common.{◌≡◌, ◌<◌, ◌+◌, ℕ, true, false, cond, eqb, List, [], ◌∷◌, ◌++◌, length, take, drop, get_or, Bool, inl, inr, Option, None, Some, option_map, refl, sym, ap, ◌∙◌, append_assoc, append-nil, length-append, arith}
-use Rattle.std.proofs.lemmas.Bool.{eqb-true, false≢true, cases_lt}
+use Rattle.std.proofs.lemmas.Bool.{cond_both, cond-false, cond-true, eqb-true, false≢true, cases_lt}
+use Rattle.std.proofs.lemmas.Iterator.Adapters.{option_map_id}
 use Rattle.std.proofs.lemmas.List.{take_more, drop_more, drop_all}
 use Rattle.std.proofs.lemmas.List.Concat.{flat_map-append}
 use Rattle.tsdb_base.specs.Notation.{escape}
 use Rattle.tsdb_script.specs.Steps.{content_parts, unescape, onto}
 use Rattle.tsdb_script.specs.Tokens.{starts}
 
-abbrev pub with_front : List ℕ → List ℕ × List ℕ → List ℕ × List ℕ
+abbrev pub with_front : {X Y : Type 0} → List X → List X × Y → List X × Y
 with_front front parts = (front ++ parts.0, parts.1)
 
 -- the bytes in front are this content with each quote doubled, and what is read behind them goes on with it
@@ -18,56 +19,39 @@ pub record IsContentSoFar (quote : ℕ) (bytes : List ℕ) (at count : ℕ) : Ty
   pub parts : content_parts quote bytes ≡ option_map (with_front content) (content_parts quote (drop at bytes))
 
 -- a byte that is no quote is doubled to itself, and a quote to two
-escape-one : (quote b : ℕ) (content : List ℕ) → eqb b quote ≡ false → escape quote (content ++ b ∷ []) ≡ escape quote content ++ b ∷ []
-escape-one quote b content other =
+escape-push : (quote b : ℕ) (content : List ℕ) (t : Bool) → eqb b quote ≡ t
+    → escape quote (content ++ b ∷ []) ≡ escape quote content ++ (cond t (b ∷ b ∷ []) (b ∷ []) ++ [])
+escape-push quote b content t is =
     flat_map-append (λ b. cond (eqb b quote) (b ∷ b ∷ []) (b ∷ [])) content (b ∷ [])
-    ∙ ap (λ t. escape quote content ++ (cond t (b ∷ b ∷ []) (b ∷ []) ++ [])) other
+    ∙ ap (λ t. escape quote content ++ (cond t (b ∷ b ∷ []) (b ∷ []) ++ [])) is
 
-escape-two : (quote b : ℕ) (content : List ℕ) → eqb b quote ≡ true → escape quote (content ++ b ∷ []) ≡ escape quote content ++ b ∷ b ∷ []
-escape-two quote b content same =
-    flat_map-append (λ b. cond (eqb b quote) (b ∷ b ∷ []) (b ∷ [])) content (b ∷ [])
-    ∙ ap (λ t. escape quote content ++ (cond t (b ∷ b ∷ []) (b ∷ []) ++ [])) same
-
-with_front-onto : (content : List ℕ) (b : ℕ) (o : Option (List ℕ × List ℕ)) → option_map (with_front content) (option_map (onto b) o) ≡ option_map (with_front (content ++ b ∷ [])) o
-with_front-onto content b None = refl
-with_front-onto content b (Some parts) = ap (λ l. Some (l, parts.1)) (sym (append_assoc content (b ∷ []) parts.0))
-
-with_front-nil : (o : Option (List ℕ × List ℕ)) → o ≡ option_map (with_front []) o
-with_front-nil None = refl
-with_front-nil (Some parts) = refl
+pub with_front-onto : {X Y : Type 0} (front : List X) (x : X) (o : Option (List X × Y))
+    → option_map (with_front front) (option_map (onto x) o) ≡ option_map (with_front (front ++ x ∷ [])) o
+with_front-onto front x None = refl
+with_front-onto front x (Some parts) = ap (λ l. Some (l, parts.1)) (sym (append_assoc front (x ∷ []) parts.0))
 
 -- one step of what is read
 pub content_parts-other : (quote b : ℕ) (bytes : List ℕ) → eqb b quote ≡ false → content_parts quote (b ∷ bytes) ≡ option_map (onto b) (content_parts quote bytes)
-content_parts-other quote b [] other = ap (λ t. cond t (Some ([], [])) None) other
-content_parts-other quote b (c ∷ bytes) other =
-    ap (λ t. cond t (cond (eqb c quote) (option_map (onto b) (content_parts quote bytes)) (Some ([], c ∷ bytes))) (option_map (onto b) (content_parts quote (c ∷ bytes)))) other
+content_parts-other quote b [] other = cond-false (eqb b quote) _ _ other
+content_parts-other quote b (c ∷ bytes) other = cond-false (eqb b quote) _ _ other
 
 pub content_parts-pair : (quote b c : ℕ) (bytes : List ℕ) → eqb b quote ≡ true → eqb c quote ≡ true → content_parts quote (b ∷ c ∷ bytes) ≡ option_map (onto b) (content_parts quote bytes)
-content_parts-pair quote b c bytes same again =
-    ap (λ t. cond t (cond (eqb c quote) (option_map (onto b) (content_parts quote bytes)) (Some ([], c ∷ bytes))) (option_map (onto b) (content_parts quote (c ∷ bytes)))) same
-    ∙ ap (λ t. cond t (option_map (onto b) (content_parts quote bytes)) (Some ([], c ∷ bytes))) again
+content_parts-pair quote b c bytes same again = cond-true (eqb b quote) _ _ same ∙ cond-true (eqb c quote) _ _ again
 
 pub content_parts-end : (quote b : ℕ) (bytes : List ℕ) → eqb b quote ≡ true → starts (λ b. eqb b quote) bytes ≡ false → content_parts quote (b ∷ bytes) ≡ Some ([], bytes)
-content_parts-end quote b [] same other = ap (λ t. cond t (Some ([], [])) None) same
-content_parts-end quote b (c ∷ bytes) same other =
-    ap (λ t. cond t (cond (eqb c quote) (option_map (onto b) (content_parts quote bytes)) (Some ([], c ∷ bytes))) (option_map (onto b) (content_parts quote (c ∷ bytes)))) same
-    ∙ ap (λ t. cond t (option_map (onto b) (content_parts quote bytes)) (Some ([], c ∷ bytes))) other
+content_parts-end quote b [] same other = cond-true (eqb b quote) _ _ same
+content_parts-end quote b (c ∷ bytes) same other = cond-true (eqb b quote) _ _ same ∙ cond-false (eqb c quote) _ _ other
 
 -- undoubling undoes doubling
 unescape-other : (quote b : ℕ) (bytes : List ℕ) → eqb b quote ≡ false → unescape quote (b ∷ bytes) ≡ b ∷ unescape quote bytes
 unescape-other quote b [] other = refl
-unescape-other quote b (c ∷ bytes) other = ap (λ t. cond t (b ∷ unescape quote bytes) (b ∷ unescape quote (c ∷ bytes))) other
-
-unescape-pair : (quote b : ℕ) (bytes : List ℕ) → eqb b quote ≡ true → unescape quote (b ∷ b ∷ bytes) ≡ b ∷ unescape quote bytes
-unescape-pair quote b bytes same = ap (λ t. cond t (b ∷ unescape quote bytes) (b ∷ unescape quote (b ∷ bytes))) same
+unescape-other quote b (c ∷ bytes) other = cond-false (eqb b quote) _ _ other
 
 pub unescape-escape : (quote : ℕ) (content : List ℕ) → unescape quote (escape quote content) ≡ content
 unescape-escape quote [] = refl
-unescape-escape quote (b ∷ content) =
-    elim (eqb b quote) as (λ t. eqb b quote ≡ t → unescape quote (cond t (b ∷ b ∷ []) (b ∷ []) ++ escape quote content) ≡ b ∷ content) [
-      | true ↦ λ e. unescape-pair quote b (escape quote content) e ∙ ap (λ l. b ∷ l) (unescape-escape quote content)
-      | false ↦ λ e. unescape-other quote b (escape quote content) e ∙ ap (λ l. b ∷ l) (unescape-escape quote content)
-    ] refl
+unescape-escape quote (b ∷ content) = cond_both (eqb b quote) _ _ (λ front. unescape quote (front ++ escape quote content) ≡ b ∷ content)
+    (λ e. cond-true (eqb b quote) _ _ e ∙ ap (λ l. b ∷ l) (unescape-escape quote content))
+    (λ e. unescape-other quote b (escape quote content) e ∙ ap (λ l. b ∷ l) (unescape-escape quote content))
 
 -- the first byte of what is left
 first_is : (bytes : List ℕ) (at : ℕ) (test : ℕ → Bool) → at < length bytes → starts test (drop at bytes) ≡ test (get_or bytes at 0)
@@ -81,7 +65,7 @@ content_more_other quote bytes at count within other so_far =
     let is : eqb b quote ≡ false = sym (first_is bytes at (λ b. eqb b quote) within) ∙ other in
     record {
       content = so_far.content ++ b ∷ [];
-      front = take_more bytes at 0 within ∙ ap (λ l. l ++ b ∷ []) so_far.front ∙ sym (escape-one quote b so_far.content is);
+      front = take_more bytes at 0 within ∙ ap (λ l. l ++ b ∷ []) so_far.front ∙ sym (escape-push quote b so_far.content false is);
       count_is = omega (arith, so_far.count_is, length-append so_far.content (b ∷ []));
       parts = so_far.parts
           ∙ ap (λ l. option_map (with_front so_far.content) (content_parts quote l)) (drop_more bytes at 0 within)
@@ -105,7 +89,7 @@ content_more_pair quote bytes at count within same again within' so_far =
           ∙ ap (λ l. l ++ c ∷ []) (take_more bytes at 0 within)
           ∙ append_assoc (take at bytes) (b ∷ []) (c ∷ [])
           ∙ ap (λ c. take at bytes ++ b ∷ c ∷ []) twin
-          ∙ ap (λ l. l ++ b ∷ b ∷ []) so_far.front ∙ sym (escape-two quote b so_far.content is);
+          ∙ ap (λ l. l ++ b ∷ b ∷ []) so_far.front ∙ sym (escape-push quote b so_far.content true is);
       count_is = omega (arith, so_far.count_is, length-append so_far.content (b ∷ []));
       parts = so_far.parts
           ∙ ap (λ l. option_map (with_front so_far.content) (content_parts quote l)) (drop_more bytes at 0 within ∙ ap (λ l. b ∷ l) (drop_more bytes (at + 1) 0 within'))
@@ -138,4 +122,4 @@ content_ended quote bytes at count within same other so_far =
     )
 
 pub content_none : (quote : ℕ) (bytes : List ℕ) → IsContentSoFar quote bytes 0 0
-content_none quote bytes = record { content = []; front = refl; count_is = refl; parts = with_front-nil (content_parts quote bytes) }
+content_none quote bytes = record { content = []; front = refl; count_is = refl; parts = sym (option_map_id (content_parts quote bytes)) }

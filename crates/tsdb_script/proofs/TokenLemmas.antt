@@ -1,23 +1,18 @@
 -- A line has one reading.
-use Rattle.std.proofs.Common.{◌≡◌, ℕ, true, false, cond, ◌||◌, inl, inr, List, [], ◌∷◌, Option, None, Some, refl, sym, ap, ◌∙◌, subst}
+use Rattle.std.proofs.Common.{◌≡◌, ℕ, true, false, ◌||◌, inl, inr, List, [], ◌∷◌, Option, None, Some, refl, sym, ap, ◌∙◌, subst}
 use Rattle.std.specs.Prelude.{◌⊎◌}
-use Rattle.std.proofs.lemmas.Bool.{eqb-true, false≢true, not-true, or_cases, or_parts, cases_Bool}
+use Rattle.std.proofs.lemmas.Bool.{both_ways, cond-false, false≢true, false_from_ne_true, not-true, or_left, or_parts, or_right}
+use Rattle.std.proofs.lemmas.Option.{same_Some}
 use Rattle.tsdb_script.specs.Types.{Token}
-use Rattle.tsdb_script.specs.declared.token.Token.TheVariants.{Word}
-use Rattle.tsdb_script.specs.Steps.{after_blanks, content_parts, token_at, mark_at, text_at, word_parts}
+use Rattle.tsdb_script.specs.Steps.{after_blanks, content_parts, token_at, text_at}
 use Rattle.tsdb_script.specs.Tokens.{is_blank, is_word_byte, is_quote, is_mark, starts, AreTokensAnd, AreTokens, AreTextAnd, IsStray, IsBadText, HasNoTokens}
-use Rattle.tsdb_script.proofs.LexLemmas.{blanks_unique, content_found, quote_cases, some_is, text_found, token_again}
+use Rattle.tsdb_script.proofs.LexLemmas.{blanks_unique, content_found, either, here, quote_cases, text_found, token_again}
 
 -- a blank begins no token
 token_solid : (bytes : List ℕ) (r : Token × List ℕ) → token_at bytes ≡ Some r → starts is_blank bytes ≡ false
 token_solid [] r e = refl
-token_solid (b ∷ bytes) r e = elim (cases_Bool (is_blank b)) [
-  | inl blank ↦ elim (or_cases _ _ blank) [
-    | inl h ↦ (let none : token_at (b ∷ bytes) ≡ None = ap (λ b. token_at (b ∷ bytes)) (eqb-true b 32 h) in cc)
-    | inr h ↦ (let none : token_at (b ∷ bytes) ≡ None = ap (λ b. token_at (b ∷ bytes)) (eqb-true b 9 h) in cc)
-  ]
-  | inr solid ↦ solid
-]
+token_solid (b ∷ bytes) r e = false_from_ne_true (is_blank b)
+    (λ blank. (let none = either _ _ (here (λ b. token_at (b ∷ bytes) ≡ None) b 32 refl) (here (λ b. token_at (b ∷ bytes) ≡ None) b 9 refl) blank in cc))
 
 -- no blank and no token begins here
 record IsFinal (bytes : List ℕ) : Type 0 where
@@ -30,24 +25,14 @@ final_end = record { solid = refl; none = refl }
 final_stray : (bytes : List ℕ) → IsStray bytes → IsFinal bytes
 final_stray [] h = absurd (false≢true h)
 final_stray (b ∷ bytes) h =
-    let parts = or_parts (is_blank b) (is_word_byte b || (is_quote b || is_mark b)) (not-true _ h) in
-    record { solid = parts.0; none = none b bytes parts.1 }
-  where
-    none : (b : ℕ) (more : List ℕ) → (is_word_byte b || (is_quote b || is_mark b)) ≡ false → token_at (b ∷ more) ≡ None
-    none b more neither =
-        let one = or_parts (is_word_byte b) (is_quote b || is_mark b) neither in
-        let two = or_parts (is_quote b) (is_mark b) one.1 in
-        let word : Option (Token × List ℕ) = Some (Word (word_parts (b ∷ more)).0, (word_parts (b ∷ more)).1) in
-        ap (λ t. cond t (Some (mark_at b more)) (cond (is_quote b) (text_at b more) (cond (is_word_byte b) word None))) two.1
-        ∙ ap (λ t. cond t (text_at b more) (cond (is_word_byte b) word None)) two.0
-        ∙ ap (λ t. cond t word None) one.0
+    let solid = or_parts (is_blank b) (is_word_byte b || (is_quote b || is_mark b)) (not-true _ h) in
+    let one = or_parts (is_word_byte b) (is_quote b || is_mark b) solid.1 in
+    let two = or_parts (is_quote b) (is_mark b) one.1 in
+    record { solid = solid.0; none = cond-false (is_mark b) _ _ two.1 ∙ cond-false (is_quote b) _ _ two.0 ∙ cond-false (is_word_byte b) _ _ one.0 }
 
 quote_solid : (bytes : List ℕ) → starts is_quote bytes ≡ true → starts is_blank bytes ≡ false
 quote_solid [] h = refl
-quote_solid (b ∷ bytes) h = elim (or_cases _ _ h) [
-  | inl h ↦ ap is_blank (eqb-true b 39 h)
-  | inr h ↦ ap is_blank (eqb-true b 34 h)
-]
+quote_solid (b ∷ bytes) h = quote_cases (λ b. is_blank b ≡ false) refl refl b h
 
 -- no token but a text begins with a quote
 no_text_found : (bytes : List ℕ) → starts is_quote bytes ≡ true → ((content rest : List ℕ) → ¬ AreTextAnd content bytes rest) → token_at bytes ≡ None
@@ -59,12 +44,9 @@ no_text_found (b ∷ bytes) quote no_text =
     by_found None e = refl
     by_found (Some r) e = let t = text_found b bytes (content_parts b bytes) r quote (content_found b bytes) e in absurd (no_text t.0 r.1 t.2)
 
-final_bad : (bytes : List ℕ) → IsBadText bytes → IsFinal bytes
-final_bad bytes h = record { solid = quote_solid bytes h.begins; none = no_text_found bytes h.begins h.no_text }
-
 final_stuck : (rest : List ℕ) (kind : ℕ) → (IsStray rest × (kind ≡ 3)) ⊎ (IsBadText rest × (kind ≡ 6)) → IsFinal rest
 final_stuck rest kind (inl h) = final_stray rest h.0
-final_stuck rest kind (inr h) = final_bad rest h.0
+final_stuck rest kind (inr h) = record { solid = quote_solid rest h.0.begins; none = no_text_found rest h.0.begins h.0.no_text }
 
 -- what the reader finds in a line without tokens, and in one that begins with a token
 none_left : (line rest : List ℕ) → IsFinal rest → AreTokensAnd [] line rest → (rest ≡ after_blanks line) × (token_at (after_blanks line) ≡ None)
@@ -75,16 +57,13 @@ one_left t ts line rest h =
     let found : token_at h.0 ≡ Some (t, h.1) = token_again t h.0 h.1 h.3 in
     ap token_at (sym (blanks_unique line h.0 h.2 (token_solid h.0 (t, h.1) found))) ∙ found
 
-clash : (o : Option (Token × List ℕ)) (r : Token × List ℕ) → o ≡ None → o ≡ Some r → ⊥
-clash o r none found = cc
-
 -- up to where no token begins the tokens are the only ones
 only_one : (one other : List Token) (line rest rest' : List ℕ) → IsFinal rest → IsFinal rest' → AreTokensAnd one line rest → AreTokensAnd other line rest' → (one ≡ other) × (rest ≡ rest')
 only_one [] [] line rest rest' f f' h k = (refl, (none_left line rest f h).0 ∙ sym (none_left line rest' f' k).0)
-only_one [] (u ∷ us) line rest rest' f f' h k = absurd (clash _ _ (none_left line rest f h).1 (one_left u us line rest' k))
-only_one (t ∷ ts) [] line rest rest' f f' h k = absurd (clash _ _ (none_left line rest' f' k).1 (one_left t ts line rest h))
+only_one [] (u ∷ us) line rest rest' f f' h k = let none = (none_left line rest f h).1 in let found = one_left u us line rest' k in cc
+only_one (t ∷ ts) [] line rest rest' f f' h k = let none = (none_left line rest' f' k).1 in let found = one_left t ts line rest h in cc
 only_one (t ∷ ts) (u ∷ us) line rest rest' f f' h k =
-    let both : ◌≡◌ {A = Token × List ℕ} (t, h.1) (u, k.1) = some_is (t, h.1) (u, k.1) (sym (one_left t ts line rest h) ∙ one_left u us line rest' k) in
+    let both : ◌≡◌ {A = Token × List ℕ} (t, h.1) (u, k.1) = same_Some (t, h.1) (u, k.1) (sym (one_left t ts line rest h) ∙ one_left u us line rest' k) in
     let token : t ≡ u = ap (λ (r : Token × List ℕ). r.0) both in
     let more : h.1 ≡ k.1 = ap (λ (r : Token × List ℕ). r.1) both in
     let rec = only_one ts us k.1 rest rest' f f' (subst (λ l. AreTokensAnd ts l rest) more h.4) k.4 in
@@ -95,11 +74,7 @@ same_tokens line one other h k = (only_one one other line [] [] final_end final_
 
 stray_quote : (bytes : List ℕ) → IsStray bytes → IsBadText bytes → ⊥
 stray_quote [] h k = false≢true h
-stray_quote (b ∷ bytes) h k =
-    let one = or_parts (is_blank b) (is_word_byte b || (is_quote b || is_mark b)) (not-true _ h) in
-    let two = or_parts (is_word_byte b) (is_quote b || is_mark b) one.1 in
-    let three = or_parts (is_quote b) (is_mark b) two.1 in
-    false≢true (sym three.0 ∙ k.begins)
+stray_quote (b ∷ bytes) h k = both_ways _ (not-true _ h) (or_right (is_blank b) _ (or_right (is_word_byte b) _ (or_left (is_quote b) (is_mark b) k.begins)))
 
 pub same_kind : (line : List ℕ) (one other : ℕ) → HasNoTokens line one → HasNoTokens line other → one ≡ other
 same_kind line one other h k =

@@ -14,6 +14,25 @@ pub AllByRecursion-append : {A : Type 0} (P : A → Type 0) (xs ys : List A) →
 AllByRecursion-append P [] ys all_xs all_ys = all_ys
 AllByRecursion-append P (x ∷ xs) ys all_xs all_ys = (all_xs.0, AllByRecursion-append P xs ys all_xs.1 all_ys)
 
+-- which of two places of a list stands first
+pub data Order {X : Type 0} (front : List X) (x : X) (before : List X) (y : X) : Type 0 where
+  earlier : (more : List X) → before ≡ front ++ x ∷ more → Order front x before y
+  later : (more : List X) → front ≡ before ++ y ∷ more → Order front x before y
+  same_place : front ≡ before → x ≡ y → Order front x before y
+
+pub order : {X : Type 0} (a : List X) (x : X) (xs b : List X) (y : X) (ys : List X) → a ++ x ∷ xs ≡ b ++ y ∷ ys → Order a x b y
+order [] x xs [] y ys e = same_place refl cc
+order [] x xs (c ∷ b) y ys e = let first : x ≡ c = cc in earlier b (ap (λ (z : _). z ∷ b) (sym first))
+order (c ∷ a) x xs [] y ys e = let first : c ≡ y = cc in later a (ap (λ (z : _). z ∷ a) first)
+order (c ∷ a) x xs (d ∷ b) y ys e =
+    let first : c ≡ d = cc in
+    let rest : a ++ x ∷ xs ≡ b ++ y ∷ ys = cc in
+    elim (order a x xs b y ys rest) [
+      | earlier more is ↦ earlier more (ap (λ (z : _). z ∷ b) (sym first) ∙ ap (λ l. c ∷ l) is)
+      | later more is ↦ later more (ap (λ (z : _). z ∷ a) first ∙ ap (λ l. d ∷ l) is)
+      | same_place fronts is ↦ same_place (ap (λ (z : _). z ∷ a) first ∙ ap (λ l. d ∷ l) fronts) is
+    ]
+
 -- the word behind good ones is bad
 pub bad_behind : (before : List Role) (word : Role) (behind : List Role) (kind : ℕ) → AllByRecursion IsGood before → IsBad word kind → HasBadWord (before ++ word ∷ behind) kind
 bad_behind before word behind kind good bad =

@@ -12,6 +12,7 @@ use Rattle.tsdb_script.specs.declared.form.TheConstants.{FORMS}
 use Rattle.tsdb_script.specs.declared.token.Token.TheVariants.{Word, Text, Semicolon, Equal, Less}
 use Rattle.tsdb_script.specs.declared.token.Token.TheVariants.{LessEqual, Greater, GreaterEqual}
 use Rattle.tsdb_script.specs.Forms.{is_at, places, statement_of}
+use Rattle.tsdb_script.specs.Steps.{onto}
 use Rattle.tsdb_script.specs.Tokens.{is_keyword}
 
 infixl 10 ◌>>=◌
@@ -81,10 +82,6 @@ column_at tokens = do
   first ← word_at tokens
   if stands_at place.Open first.1 then called_at first.0 first.1
       else Some (record { aggregate = None; measurement = first.0 }, first.1)
-
--- an item put before a list of items
-abbrev pub onto : {X : Type 0} → X → List X × Tokens → List X × Tokens
-onto x items = (x ∷ items.0, items.1)
 
 -- the items as long as there are more, but at most so many
 abbrev pub items_at : {X : Type 0} → Place → (Tokens → Option (X × Tokens)) → ℕ → Tokens → Option (List X × Tokens)

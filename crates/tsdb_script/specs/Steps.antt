@@ -26,9 +26,9 @@ abbrev pub after_blanks : List ℕ → List ℕ
 after_blanks [] = []
 after_blanks (b ∷ bytes) = if is_blank b then after_blanks bytes else b ∷ bytes
 
--- a byte put before the first of two parts
-abbrev pub onto : ℕ → List ℕ × List ℕ → List ℕ × List ℕ
-onto b parts = (b ∷ parts.0, parts.1)
+-- an item put before the first of two parts
+abbrev pub onto : {X Y : Type 0} → X → List X × Y → List X × Y
+onto x parts = (x ∷ parts.0, parts.1)
 
 -- the longest word that the bytes begin with, and the rest
 abbrev pub word_parts : List ℕ → List ℕ × List ℕ
@@ -51,13 +51,10 @@ short_text parts = if nat_le (length parts.0) max_text_bytes then Some (Text par
 abbrev pub text_at : ℕ → List ℕ → Option (Token × List ℕ)
 text_at quote bytes = option_and_then short_text (content_parts quote bytes)
 
-abbrev pub less_at : List ℕ → Token × List ℕ
-less_at [] = (Less, [])
-less_at (b ∷ bytes) = if b == 61 then (LessEqual, bytes) else (Less, b ∷ bytes)
-
-abbrev pub greater_at : List ℕ → Token × List ℕ
-greater_at [] = (Greater, [])
-greater_at (b ∷ bytes) = if b == 61 then (GreaterEqual, bytes) else (Greater, b ∷ bytes)
+-- a mark alone, or with `=` behind it
+abbrev pub or_equal : Token → Token → List ℕ → Token × List ℕ
+or_equal alone joined [] = (alone, [])
+or_equal alone joined (b ∷ bytes) = if b == 61 then (joined, bytes) else (alone, b ∷ bytes)
 
 -- the mark that begins with this byte, and the rest
 abbrev pub mark_at : ℕ → List ℕ → Token × List ℕ
@@ -67,8 +64,8 @@ mark_at b bytes =
     else if b == 44 then (Comma, bytes)
     else if b == 59 then (Semicolon, bytes)
     else if b == 61 then (Equal, bytes)
-    else if b == 60 then less_at bytes
-    else greater_at bytes
+    else if b == 60 then or_equal Less LessEqual bytes
+    else or_equal Greater GreaterEqual bytes
 
 -- the token that the bytes begin with, and the rest
 abbrev pub token_at : List ℕ → Option (Token × List ℕ)

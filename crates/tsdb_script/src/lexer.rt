@@ -1,7 +1,7 @@
 //! Cuts a line into its tokens, in one pass. Depends on `token` and `fault`.
 ghost use Rattle.std.specs.Prelude.{◌≡◌, ◌==◌, length, Some, None, IfOk, IfErr, IfSome, drop, option_map};
 ghost use Rattle.std.specs.Prelude.{if◌then◌else◌};
-ghost use Rattle.tsdb_script.specs.Steps.{after_blanks, content_parts, greater_at, less_at, mark_at, text_at, token_at};
+ghost use Rattle.tsdb_script.specs.Steps.{after_blanks, content_parts, mark_at, or_equal, text_at, token_at};
 ghost use Rattle.tsdb_script.specs.Steps.{unescape, word_parts, FaultsWith};
 ghost use Rattle.tsdb_script.specs.Tokens.{is_blank, is_mark, is_quote, is_word_byte, starts, AreTokens, HasNoTokens};
 
@@ -122,7 +122,7 @@ fn mark<'a>(first: u8, rest: &'a [u8]) -> (Token<'a>, &'a [u8])
 
 /// `<=` where the rest begins with `=`, and else `<`.
 fn less<'a>(rest: &'a [u8]) -> (Token<'a>, &'a [u8])
-    ensures { (result.0, result.1.now) ≡ less_at rest.now }
+    ensures { (result.0, result.1.now) ≡ or_equal Token.Less Token.LessEqual rest.now }
 {
     match rest.split_first() {
         Some((b'=', more)) => (Token::LessEqual, more),
@@ -132,7 +132,7 @@ fn less<'a>(rest: &'a [u8]) -> (Token<'a>, &'a [u8])
 
 /// `>=` where the rest begins with `=`, and else `>`.
 fn greater<'a>(rest: &'a [u8]) -> (Token<'a>, &'a [u8])
-    ensures { (result.0, result.1.now) ≡ greater_at rest.now }
+    ensures { (result.0, result.1.now) ≡ or_equal Token.Greater Token.GreaterEqual rest.now }
 {
     match rest.split_first() {
         Some((b'=', more)) => (Token::GreaterEqual, more),

@@ -6,10 +6,10 @@ ghost use Rattle.tsdb_script.specs.declared.form.TheConstants.{FORMS};
 ghost use Rattle.tsdb_script.specs.declared.token.Token.{Token};
 ghost use Rattle.tsdb_script.specs.Forms.{is_at, places, statement_of, Fits, HasNoForm, HasParts};
 ghost use Rattle.tsdb_script.specs.Forms.{first_columns, first_conditions, first_names, first_values, first_word};
-ghost use Rattle.tsdb_script.specs.Steps.{FaultsWith};
+ghost use Rattle.tsdb_script.specs.Steps.{onto, FaultsWith};
 ghost use Rattle.tsdb_script.specs.Tokens.{starts};
 ghost use Rattle.tsdb_script.specs.Parse.{begins_at, called_at, column_at, comparison_at, condition_at, conditions_at};
-ghost use Rattle.tsdb_script.specs.Parse.{end_at, fixed_at, form_at, items_at, list_at, onto, operand_at, place_at};
+ghost use Rattle.tsdb_script.specs.Parse.{end_at, fixed_at, form_at, items_at, list_at, operand_at, place_at};
 ghost use Rattle.tsdb_script.specs.Parse.{read_at, says, stands_at, statement_at, word_at, Gives};
 
 use crate::fault::LineFault;

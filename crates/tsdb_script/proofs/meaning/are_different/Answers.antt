@@ -2,7 +2,8 @@ use Rattle.std.proofs.Common.{List, true≢false, refl, sym, subst, ◌∙◌}
 use Rattle.std.specs.List.{IsDistinct}
 use Rattle.std.proofs.lemmas.Bool.{not-false, not-true}
 use Rattle.std.proofs.lemmas.List.{take_all}
-use Rattle.tsdb_script.proofs.Names.{different, distinct_next, none_distinct, repeated, same, seen_next, stands_at}
+use Rattle.std.proofs.lemmas.Option.{slice_get_read}
+use Rattle.tsdb_script.proofs.Names.{different, distinct_next, none_distinct, repeated, same, seen_next}
 use Rattle.tsdb_script.proofs.meaning.are_different.Goals as goal
 
 pub loop-name-init : goal.loop-name-init
@@ -14,7 +15,7 @@ returns-then-not-branch c =
     let i = c.loop-name.name-index in
     let names = c.args.names.now in
     let before = sym (c.loop-name.invariant.seen c.bytes.result) ∙ not-false _ (sym c.in_ok-insert.ensures.added ∙ c.if-not-branch.true) in
-    (λ f. absurd (true≢false (sym f)), λ all. absurd (repeated names i x (stands_at names i x c.loop-name-test.true c.name-item.is) (rw c.bytes.ensures.value at before) all))
+    (λ f. absurd (true≢false (sym f)), λ all. absurd (repeated names i x (slice_get_read names _ i x refl c.loop-name-test.true c.name-item.is) (rw c.bytes.ensures.value at before) all))
 
 pub loop-name-preserved : goal.loop-name-preserved
 loop-name-preserved c =

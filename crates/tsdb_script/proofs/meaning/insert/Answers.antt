@@ -47,7 +47,6 @@ returns-clause-found c =
     let paired = rw (c.as_slice.ensures.value, c.as_slice-2.ensures.value, c.in_ok-names.ensures.found.0, c.items.ensures) at c.in_ok-are_paired.ensures in
     let is : c.in_ok-are_paired.field-0 ≡ true = search rules in
     let fits : FitsSigned w64 c.in_ok-time.time = c.in_ok-time.ensures.found.fits in
-    let said = rw c.items-2.ensures at c.in_ok-literals.ensures.found in
     let measured = rw (← c.of-cells.ensures, c.in_ok-names.ensures.found.0, c.items.ensures) at c.in_ok-cells.ensures.names in
     let valued = rw (← c.of-cells.ensures) at c.in_ok-cells.ensures.literals in
     simp to_z-of_z (insert_means a.device.now a.names.now a.time.now a.values.now c.in_ok-device.device c.in_ok-time.time c.in_ok-literals.literals.items c.of-cells.result

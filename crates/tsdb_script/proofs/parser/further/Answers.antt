@@ -1,5 +1,5 @@
-use Rattle.std.proofs.Common.{sym, ◌∙◌}
-use Rattle.tsdb_script.proofs.PartLemmas.{items_step, items_over, items_out}
+use Rattle.std.proofs.Common.{inl, inr, sym, ◌∙◌}
+use Rattle.tsdb_script.proofs.PartLemmas.{items_step, items_over}
 use Rattle.tsdb_script.proofs.parser.further.Goals as goal
 use Rattle.tsdb_script.proofs.parser.further.Goals.{then-loop-turns-test+else-stands, else-loop-turns-test}
 
@@ -13,6 +13,6 @@ pub returns : goal.returns
 returns g c =
     rw c.of.ensures
     (elim c.loop-turns-test.branch [
-      | then-loop-turns-test+else-stands w ↦ items_over c.args.between g.P.Listed.at c.loop-turns.turns c.loop-turns.tokens.items c.loop-turns.items.items _ (sym w.stands.ensures ∙ w.if-stands.false) c.loop-turns.invariant
-      | else-loop-turns-test w ↦ items_out c.args.between g.P.Listed.at c.loop-turns.turns c.loop-turns.tokens.items c.loop-turns.items.items _ w.loop-turns-test.false c.loop-turns.invariant
+      | then-loop-turns-test+else-stands w ↦ items_over c.args.between g.P.Listed.at c.loop-turns.turns c.loop-turns.tokens.items c.loop-turns.items.items _ (inr (sym w.stands.ensures ∙ w.if-stands.false)) c.loop-turns.invariant
+      | else-loop-turns-test w ↦ items_over c.args.between g.P.Listed.at c.loop-turns.turns c.loop-turns.tokens.items c.loop-turns.items.items _ (inl w.loop-turns-test.false) c.loop-turns.invariant
     ])
