@@ -167,7 +167,8 @@ module _ {X : Type 0} (between : Place) (Is : Standing X) (item : Tokens → Opt
       let b = step _ _ _ a.2 in
       let s = mapped (onto b.0.0) (items_at between item n b.0.1) r b.2 in
       let f = fixed_found between tokens a.0 a.1 in
-      subst (λ (r : List X × Tokens). AreRow (Behind between Is) r.0 tokens r.1) s.2 (b.0.1, (f.0, a.0, f.1, f.2, finds.found a.0 b.0 b.1), items_found n b.0.1 s.0 s.1)))
+      subst (λ (r : List X × Tokens). AreRow (Behind between Is) r.0 tokens r.1) s.2
+      (b.0.1, (f.0, a.0, f.1, f.2, finds.found a.0 b.0 b.1), items_found n b.0.1 s.0 s.1)))
       (λ over e. subst (λ (r : List X × Tokens). AreRow (Behind between Is) r.0 tokens r.1) (same_Some ([], tokens) r e) refl) e
 
   pub list_found : (tokens : Tokens) (r : List X × Tokens) → list_at between item tokens ≡ Some r → AreListed between Is r.0 tokens r.1

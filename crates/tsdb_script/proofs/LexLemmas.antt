@@ -19,7 +19,7 @@ after_blanks_is [] = record { blanks = []; whole = refl; blank = All-nil (λ b. 
 after_blanks_is (b ∷ bytes) =
     let more : AreBlanksAnd bytes (after_blanks bytes) = after_blanks_is bytes in
     cond_both (is_blank b) _ _ (AreBlanksAnd (b ∷ bytes))
-    (λ e. record { blanks = b ∷ more.blanks; whole = ap (λ l. b ∷ l) more.whole; blank = All-cons (λ b. IsTrue (is_blank b)) b more.blanks e more.blank })
+    (λ e. record { blanks = b ∷ more.blanks; whole = ap (λ l. b ∷ l) more.whole; blank = All-cons (λ b. IsTrue (is_blank b)) b _ e more.blank })
     (λ e. record { blanks = []; whole = refl; blank = All-nil (λ b. IsTrue (is_blank b)) })
 
 pub after_blanks_solid : (bytes : List ℕ) → starts is_blank (after_blanks bytes) ≡ false
@@ -83,7 +83,7 @@ longest_word [] = record { whole = refl; letters = All-nil (λ b. IsTrue (is_wor
 longest_word (b ∷ bytes) =
     let h = longest_word bytes in
     cond_both (is_word_byte b) _ _ (λ (parts : List ℕ × List ℕ). IsLongest parts.0 (b ∷ bytes) parts.1)
-    (λ e. record { whole = ap (λ l. b ∷ l) h.whole; letters = All-cons (λ b. IsTrue (is_word_byte b)) b (word_parts bytes).0 e h.letters; longest = h.longest })
+    (λ e. record { whole = ap (λ l. b ∷ l) h.whole; letters = All-cons (λ b. IsTrue (is_word_byte b)) b _ e h.letters; longest = h.longest })
     (λ e. record { whole = refl; letters = All-nil (λ b. IsTrue (is_word_byte b)); longest = e })
 
 word_some : (b : ℕ) (bytes : List ℕ) → is_word_byte b ≡ true → 0 < length (word_parts (b ∷ bytes)).0
@@ -113,11 +113,12 @@ IsContentIn quote bytes None = Unit {0}
 IsContentIn quote bytes (Some r) = IsContent quote bytes r.0 r.1
 
 -- one more byte of the content, with a quote doubled
-content_more : (quote b : ℕ) (front bytes : List ℕ) (o : Option (List ℕ × List ℕ)) → front ≡ cond (eqb b quote) (b ∷ b ∷ []) (b ∷ []) → IsContentIn quote bytes o
-    → IsContentIn quote (front ++ bytes) (option_map (onto b) o)
+content_more : (quote b : ℕ) (front bytes : List ℕ) (o : Option (List ℕ × List ℕ))
+    → front ≡ cond (eqb b quote) (b ∷ b ∷ []) (b ∷ []) → IsContentIn quote bytes o → IsContentIn quote (front ++ bytes) (option_map (onto b) o)
 content_more quote b front bytes None is h = h
 content_more quote b front bytes (Some r) is h = record {
-  whole = ap (λ l. front ++ l) h.whole ∙ sym (append_assoc front (escape quote r.0) (quote ∷ r.1)) ∙ ap (λ f. (f ++ escape quote r.0) ++ quote ∷ r.1) is;
+  whole = ap (λ l. front ++ l) h.whole ∙ sym (append_assoc front (escape quote r.0) (quote ∷ r.1))
+      ∙ ap (λ f. (f ++ escape quote r.0) ++ quote ∷ r.1) is;
   longest = h.longest;
 }
 
@@ -127,7 +128,8 @@ content_found quote (b ∷ []) = cond_both (eqb b quote) _ _ (IsContentIn quote 
     (λ e. record { whole = ap (λ c. c ∷ []) (eqb-true b quote e); longest = refl }) (λ e. tt)
 content_found quote (b ∷ c ∷ bytes) = cond_both (eqb b quote) _ _ (IsContentIn quote (b ∷ c ∷ bytes))
     (λ e. cond_both (eqb c quote) _ _ (IsContentIn quote (b ∷ c ∷ bytes))
-    (λ f. subst (λ c. IsContentIn quote (b ∷ c ∷ bytes) (option_map (onto b) (content_parts quote bytes))) (eqb-true b quote e ∙ sym (eqb-true c quote f))
+    (λ f. subst (λ c. IsContentIn quote (b ∷ c ∷ bytes) (option_map (onto b) (content_parts quote bytes)))
+    (eqb-true b quote e ∙ sym (eqb-true c quote f))
     (content_more quote b (b ∷ b ∷ []) bytes _ (ap (λ t. cond t (b ∷ b ∷ []) (b ∷ [])) (sym e)) (content_found quote bytes)))
     (λ f. record { whole = ap (λ x. x ∷ c ∷ bytes) (eqb-true b quote e); longest = f }))
     (λ e. content_more quote b (b ∷ []) (c ∷ bytes) _ (ap (λ t. cond t (b ∷ b ∷ []) (b ∷ [])) (sym e)) (content_found quote (c ∷ bytes)))
@@ -136,8 +138,8 @@ content_again : (quote : ℕ) (content rest : List ℕ) → starts (λ b. eqb b 
 content_again quote [] rest longest = content_parts-end quote quote rest (eq-eqb quote quote refl) longest
 content_again quote (b ∷ content) rest longest =
     cond_both (eqb b quote) _ _ (λ front. content_parts quote ((front ++ escape quote content) ++ quote ∷ rest) ≡ Some (b ∷ content, rest))
-    (λ e. content_parts-pair quote b b (escape quote content ++ quote ∷ rest) e e ∙ ap (option_map (onto b)) (content_again quote content rest longest))
-    (λ e. content_parts-other quote b (escape quote content ++ quote ∷ rest) e ∙ ap (option_map (onto b)) (content_again quote content rest longest))
+    (λ e. content_parts-pair quote b b _ e e ∙ ap (option_map (onto b)) (content_again quote content rest longest))
+    (λ e. content_parts-other quote b _ e ∙ ap (option_map (onto b)) (content_again quote content rest longest))
 
 -- a text that is found is one
 pub text_found : (quote : ℕ) (bytes : List ℕ) (o : Option (List ℕ × List ℕ)) (r : Token × List ℕ) → is_quote quote ≡ true → IsContentIn quote bytes o
@@ -148,7 +150,7 @@ text_found quote bytes (Some p) r is h e =
       p.0,
       ap (λ (r : Token × List ℕ). r.0) fits.1,
       subst (λ (r : Token × List ℕ). AreTextAnd p.0 (quote ∷ bytes) r.1) fits.1
-          (record { quote = quote; quotes = is; whole = ap (λ l. quote ∷ l) h.whole; longest = h.longest; short = leb-true (length p.0) 65535 fits.0 }),
+          (record { quote = quote; quotes = is; whole = ap (λ l. quote ∷ l) h.whole; longest = h.longest; short = leb-true _ _ fits.0 }),
     )
 
 -- what the reader finds is the token
@@ -158,7 +160,8 @@ token_found (b ∷ bytes) r e =
     cond_both (is_mark b) _ _ (λ o. o ≡ Some r → Begins r (b ∷ bytes))
     (λ is e. subst (λ r. Begins r (b ∷ bytes)) (same_Some (mark_at b bytes) r e) (begins_mark bytes b is))
     (λ other. cond_both (is_quote b) _ _ (λ o. o ≡ Some r → Begins r (b ∷ bytes))
-    (λ is e. (let t = text_found b bytes (content_parts b bytes) r is (content_found b bytes) e in subst (λ token. BeginsWithToken token (b ∷ bytes) r.1) t.1 t.2))
+    (λ is e. (let t = text_found b bytes (content_parts b bytes) r is (content_found b bytes) e in
+    subst (λ token. BeginsWithToken token (b ∷ bytes) r.1) t.1 t.2))
     (λ other e. (let word = cond_some (is_word_byte b) _ r e in subst (λ r. Begins r (b ∷ bytes)) word.1 (begins_word b bytes word.0)))) e
 
 -- a byte of a word is no mark and no quote

@@ -64,7 +64,7 @@ module _ (conditions : List Condition) where
   lies_in : (range other : Range) → IsRangeOf conditions range → IsRangeOf conditions other → range.from ≤ℤ range.to
       → (other.from ≤ℤ range.from) × (range.from ≤ℤ other.to) × (range.to ≤ℤ other.to)
   lies_in range other is again some =
-      let first = (again.times range.from is.from).1 ((is.times range.from is.from).0 (within range.from range.to range.from (omega (arith, ints)) some)) in
+      let first = (again.times range.from is.from).1 ((is.times range.from is.from).0 (within range.from range.to _ (omega (arith, ints)) some)) in
       let last = (again.times range.to is.to).1 ((is.times range.to is.to).0 (within range.from range.to range.to some (omega (arith, ints)))) in
       (not_before other.from other.to range.from first, not_behind other.from other.to range.from first, not_behind other.from other.to range.to last)
 
@@ -113,8 +113,8 @@ one_said (Create path data_type encoding) (command.Create schema) (command.Creat
 one_said (Insert device names time values) (command.Insert path row) (command.Insert other rows) says again =
     let paths : path ≡ other = says.0 ∙ sym again.0 in
     let literals = one_each IsLiteral one_literal values (map (λ cell. cell.value) row.cells) (map (λ cell. cell.value) rows.cells) says.3 again.3 in
-    let same : row ≡ rows = made_same {C = Row} (λ time cells. record { time = time; cells = cells }) _ _ _ _ (one_integer time row.time rows.time says.1 again.1)
-    (same_cells row.cells rows.cells (says.2 ∙ sym again.2) literals) in
+    let same : row ≡ rows = made_same {C = Row} (λ time cells. record { time = time; cells = cells }) _ _ _ _
+    (one_integer time row.time rows.time says.1 again.1) (same_cells row.cells rows.cells (says.2 ∙ sym again.2) literals) in
     cc
 one_said (Delete path conditions) (command.Delete series range) (command.Delete other ranges) says again =
     let paths : series ≡ other = says.0 ∙ sym again.0 in

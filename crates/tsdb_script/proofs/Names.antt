@@ -1,5 +1,5 @@
 -- Names that differ, found by a set of those before.
-use Rattle.std.proofs.Common.{◌≡◌, ℕ, ◌+◌, ◌<◌, Bool, true, false, List, [], length, get_or, take, Some, cond, true≢false, inl, inr, refl, sym, ap, ◌∙◌, arith}
+use Rattle.std.proofs.Common.{◌≡◌, ℕ, ◌+◌, ◌<◌, Bool, true, false, List, [], length, get_or, take, Some, cond, true≢false, inl, inr, sym, ap, ◌∙◌, arith}
 use Rattle.std.specs.Prelude.{nat_eq, slice_get, ◌||◌}
 use Rattle.std.specs.List.{IsDistinct, list_any}
 use Rattle.std.specs.Cmp.Lexicographic.{bytes_decides, nat_list_eq_equiv, pointwise}
@@ -41,11 +41,12 @@ distinct_next names i x lt e distinct none = rw (next names i x lt e) (IsDistinc
 pub repeated : (names : List (List ℕ)) (i : ℕ) (x : List ℕ) → slice_get names i ≡ Some x → list_any (same x) (take i names) ≡ true → AreDifferent names → ⊥
 repeated names i x stands e all =
     let found = Any-from_list_any (same x) (take i names) e in
-    let before : (found.0 < i) × (found.0 < length names) = (omega (arith, found.2, length-take i names), omega (arith, found.2, length-take i names)) in
-    let there = slice_get-get_or names found.0 found.1 before.1 ∙ ap Some (sym (get_or-take i names found.0 found.1 before.0) ∙ found.3) in
+    let before : found.0 < i = omega (arith, found.2, length-take i names) in
+    let within : found.0 < length names = omega (arith, found.2, length-take i names) in
+    let there = slice_get-get_or names found.0 found.1 within ∙ ap Some (sym (get_or-take i names found.0 found.1 before) ∙ found.3) in
     let name : x ≡ found.1 = (bytes_decides x found.1).0 found.4 in
     let place : found.0 ≡ i = all found.0 i x (there ∙ ap Some (sym name)) stands in
-    omega (arith, before.0, place)
+    omega (arith, before, place)
 
 either : (a b : Bool) → cond b true a ≡ (a || b)
 either a true = sym (or-true a)

@@ -11,7 +11,8 @@ use Rattle.tsdb_script.proofs.TextLemmas.{with_front, with_front-onto}
 module _ {X : Type 0} (between : Place) (item : Tokens → Option (X × Tokens)) where
   -- one more item
   pub items_step : (turns : ℕ) (tokens inner rest : Tokens) (front : List X) (x : X) (all : Option (List X × Tokens))
-      → 0 < turns → stands_at between tokens ≡ true → fixed_at between tokens ≡ Some inner → item inner ≡ Some (x, rest) → option_map (with_front front) (items_at between item turns tokens) ≡ all
+      → 0 < turns → stands_at between tokens ≡ true → fixed_at between tokens ≡ Some inner → item inner ≡ Some (x, rest)
+      → option_map (with_front front) (items_at between item turns tokens) ≡ all
       → option_map (with_front (front ++ x ∷ [])) (items_at between item (turns - 1) rest) ≡ all
   items_step zero tokens inner rest front x all some is taken found so_far = absurd (omega (arith, some))
   items_step (suc n) tokens inner rest front x all some is taken found so_far =

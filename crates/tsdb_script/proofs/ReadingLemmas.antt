@@ -58,7 +58,14 @@ module _ (before : List (List ℕ)) (line : List ℕ) (script : List Numbered) (
   stands : (front rest : List (List ℕ)) (last : List ℕ) (said : List Numbered) → front ++ last ∷ [] ≡ before ++ line ∷ rest → Give front said
       → ((kind : ℕ) → ¬ IsBad (line_behind front said last) kind) → (more : List (List ℕ)) × (front ≡ before ++ line ∷ more)
   stands front rest last said e gives fine = elim (order front last [] before line rest e) [
-    | earlier more is ↦ absurd (omega (arith, ap length e, ap length is, length-append front (last ∷ []), length-append before (line ∷ rest), length-append front (last ∷ more)))
+    | earlier more is ↦ absurd (omega (
+      arith,
+      ap length e,
+      ap length is,
+      length-append front (last ∷ []),
+      length-append before (line ∷ rest),
+      length-append front (last ∷ more),
+    ))
     | later more is ↦ (more, is)
     | same_place fronts is ↦ absurd (fine kind (moved (λ line. IsBad line kind) before front script said line last (sym fronts)
         (same_commands before front script said good gives (sym fronts)) (sym is) bad))
@@ -111,14 +118,15 @@ lines_sessions lines script (skipped_line front before line gives is) = lines_se
 lines_sessions lines script (command_line front before line numbered gives is) = subst AreWithin (sym (sessions-push before numbered)) (
   omega (arith, is.commands, length-append (sessions_of before) (numbered.session ∷ [])),
   is.sessions,
-  All-push IsNumber (sessions_of before) numbered.session (lines_sessions front before gives).2 (session_number is.tokens.word numbered.session is.tokens.number),
+  All-push IsNumber (sessions_of before) numbered.session (lines_sessions front before gives).2 (session_number _ _ is.tokens.number),
 )
 
 pub well_formed_lines : (lines : List (List ℕ)) (script : List Numbered) → Give lines script → All (λ numbered. IsWellFormed numbered.command) script
 well_formed_lines lines script no_line = All-nil (λ (numbered : Numbered). IsWellFormed numbered.command)
 well_formed_lines lines script (skipped_line front before line gives is) = well_formed_lines front before gives
 well_formed_lines lines script (command_line front before line numbered gives is) =
-    All-push (λ (numbered : Numbered). IsWellFormed numbered.command) before numbered (well_formed_lines front before gives) (well_formed is.syntax numbered.command (has_parts is.statement is.syntax is.fits) is.means)
+    All-push (λ (numbered : Numbered). IsWellFormed numbered.command) before numbered (well_formed_lines front before gives)
+    (well_formed is.syntax numbered.command (has_parts is.statement is.syntax is.fits) is.means)
 
 pub within_limits : (bytes : List ℕ) (script : List Numbered) → IsScript bytes script → IsWithinLimits bytes script
 within_limits bytes script is = record {

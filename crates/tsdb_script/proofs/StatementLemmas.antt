@@ -179,7 +179,8 @@ end_again tokens (inl e) = ap end_at e
 end_again tokens (inr e) = ap end_at e
 
 read_found : (row : List Place) (tokens : Tokens) (parts : List Part) → read_at row tokens ≡ Some parts → Stand row tokens parts
-read_found [] tokens parts e = let a = step {A = Unit {0}} (end_at tokens) (λ _. Some []) parts e in (end_is tokens a.0 a.1, sym (same_Some [] parts a.2))
+read_found [] tokens parts e =
+    let a = step {A = Unit {0}} (end_at tokens) (λ _. Some []) parts e in (end_is tokens a.0 a.1, sym (same_Some [] parts a.2))
 read_found (at ∷ row) tokens parts e =
     let a = step _ _ _ e in
     let s = mapped (before a.0.0) (read_at row a.0.1) parts a.2 in

@@ -12,7 +12,8 @@ use Rattle.tsdb_script.proofs.LexLemmas.{blanks_unique, content_found, either, h
 token_solid : (bytes : List ℕ) (r : Token × List ℕ) → token_at bytes ≡ Some r → starts is_blank bytes ≡ false
 token_solid [] r e = refl
 token_solid (b ∷ bytes) r e = false_from_ne_true (is_blank b)
-    (λ blank. (let none = either _ _ (here (λ b. token_at (b ∷ bytes) ≡ None) b 32 refl) (here (λ b. token_at (b ∷ bytes) ≡ None) b 9 refl) blank in cc))
+    (λ blank. (let begins : ℕ → Type 0 = λ b. token_at (b ∷ bytes) ≡ None in
+    let none = either _ _ (here begins b 32 refl) (here begins b 9 refl) blank in cc))
 
 -- no blank and no token begins here
 record IsFinal (bytes : List ℕ) : Type 0 where
@@ -63,7 +64,7 @@ only_one [] [] line rest rest' f f' h k = (refl, (none_left line rest f h).0 ∙
 only_one [] (u ∷ us) line rest rest' f f' h k = let none = (none_left line rest f h).1 in let found = one_left u us line rest' k in cc
 only_one (t ∷ ts) [] line rest rest' f f' h k = let none = (none_left line rest' f' k).1 in let found = one_left t ts line rest h in cc
 only_one (t ∷ ts) (u ∷ us) line rest rest' f f' h k =
-    let both : ◌≡◌ {A = Token × List ℕ} (t, h.1) (u, k.1) = same_Some (t, h.1) (u, k.1) (sym (one_left t ts line rest h) ∙ one_left u us line rest' k) in
+    let both : ◌≡◌ {A = Token × List ℕ} (t, h.1) (u, k.1) = same_Some _ _ (sym (one_left t ts line rest h) ∙ one_left u us line rest' k) in
     let token : t ≡ u = ap (λ (r : Token × List ℕ). r.0) both in
     let more : h.1 ≡ k.1 = ap (λ (r : Token × List ℕ). r.1) both in
     let rec = only_one ts us k.1 rest rest' f f' (subst (λ l. AreTokensAnd ts l rest) more h.4) k.4 in
@@ -74,7 +75,8 @@ same_tokens line one other h k = (only_one one other line [] [] final_end final_
 
 stray_quote : (bytes : List ℕ) → IsStray bytes → IsBadText bytes → ⊥
 stray_quote [] h k = false≢true h
-stray_quote (b ∷ bytes) h k = both_ways _ (not-true _ h) (or_right (is_blank b) _ (or_right (is_word_byte b) _ (or_left (is_quote b) (is_mark b) k.begins)))
+stray_quote (b ∷ bytes) h k =
+    both_ways _ (not-true _ h) (or_right (is_blank b) _ (or_right (is_word_byte b) _ (or_left (is_quote b) (is_mark b) k.begins)))
 
 pub same_kind : (line : List ℕ) (one other : ℕ) → HasNoTokens line one → HasNoTokens line other → one ≡ other
 same_kind line one other h k =

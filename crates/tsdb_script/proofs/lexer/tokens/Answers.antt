@@ -13,8 +13,8 @@ pub returns-in_err-token-clause-bad : goal.returns-in_err-token-clause-bad
 returns-in_err-token-clause-bad c =
     let p = err_from_is_err_and c.from_residual-in_err-token.result c.from_residual-in_err-token.ensures.1 in
     rw (p.1, p.2)
-    (stuck_at c.args.line.now c.loop-rest.tokens.items c.loop-rest.rest.now _ c.loop-rest.invariant.so_far c.loop-rest.invariant.solid (omega (arith, eqb-false _ _ (sym c.loop-rest-test.ensures)))
-    c.in_err-token.ensures.bad.0 c.in_err-token.ensures.bad.1)
+    (stuck_at c.args.line.now c.loop-rest.tokens.items c.loop-rest.rest.now _ c.loop-rest.invariant.so_far c.loop-rest.invariant.solid
+    (omega (arith, eqb-false _ _ (sym c.loop-rest-test.ensures))) c.in_err-token.ensures.bad.0 c.in_err-token.ensures.bad.1)
 
 pub loop-rest-smaller : goal.loop-rest-smaller
 loop-rest-smaller c =

@@ -14,8 +14,10 @@ returns-then-not-branch c =
     let x = c.name-item.result in
     let i = c.loop-name.name-index in
     let names = c.args.names.now in
-    let before = sym (c.loop-name.invariant.seen c.bytes.result) ∙ not-false _ (sym c.in_ok-insert.ensures.added ∙ c.if-not-branch.true) in
-    (λ f. absurd (true≢false (sym f)), λ all. absurd (repeated names i x (slice_get_read names _ i x refl c.loop-name-test.true c.name-item.is) (rw c.bytes.ensures.value at before) all))
+    let before = sym (c.loop-name.invariant.seen c.bytes.result) ∙ not-false _ (sym c.in_ok-insert.ensures.added ∙ c.if-not-branch.true) in (
+      λ f. absurd (true≢false (sym f)),
+      λ all. absurd (repeated names i x (slice_get_read _ _ i x refl c.loop-name-test.true c.name-item.is) (rw c.bytes.ensures.value at before) all),
+    )
 
 pub loop-name-preserved : goal.loop-name-preserved
 loop-name-preserved c =

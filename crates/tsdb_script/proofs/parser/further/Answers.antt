@@ -13,6 +13,7 @@ pub returns : goal.returns
 returns g c =
     rw c.of.ensures
     (elim c.loop-turns-test.branch [
-      | then-loop-turns-test+else-stands w ↦ items_over c.args.between g.P.Listed.at c.loop-turns.turns c.loop-turns.tokens.items c.loop-turns.items.items _ (inr (sym w.stands.ensures ∙ w.if-stands.false)) c.loop-turns.invariant
-      | else-loop-turns-test w ↦ items_over c.args.between g.P.Listed.at c.loop-turns.turns c.loop-turns.tokens.items c.loop-turns.items.items _ (inl w.loop-turns-test.false) c.loop-turns.invariant
+      | then-loop-turns-test+else-stands w ↦ items_over c.args.between g.P.Listed.at c.loop-turns.turns _ _ _
+          (inr (sym w.stands.ensures ∙ w.if-stands.false)) c.loop-turns.invariant
+      | else-loop-turns-test w ↦ items_over c.args.between g.P.Listed.at c.loop-turns.turns _ _ _ (inl w.loop-turns-test.false) c.loop-turns.invariant
     ])
