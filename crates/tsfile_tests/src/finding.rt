@@ -1,9 +1,9 @@
-//! Tests of `find_entry`: names at the ends of leaves and names that no series has, leaves that are not read, faults of
-//! the port, and damage. Depends on tsfile_reader, tsfile_writer, tsdb_pages, tsdb_index, mem_outside, tsdb_outside,
-//! tsdb_path and tsdb_base.
+//! Tests of `find_entry`: names at the ends of leaves and names that no series has, how much of a large index is read,
+//! leaves that are not read, faults of the port, and damage. Depends on tsfile_reader, tsfile_writer, tsdb_pages,
+//! tsdb_index, mem_outside, tsdb_outside, tsdb_path and tsdb_base.
 
-use super::reader::{port_failing_at, steady_port};
-use mem_outside::SteadyPort;
+use super::reader::{Call, port_failing_at, read_bytes, steady_port};
+use mem_outside::{MemPort, SteadyPort};
 use std::alloc::Global;
 use std::test::Fail;
 use tsdb_base::{DataType, Encoding, FileNumber, List, Point, Value};
@@ -11,11 +11,23 @@ use tsdb_index::{FileMeta, IndexEntry};
 use tsdb_outside::Port;
 use tsdb_pages::{Chunk, Group, Page, Tree, is_tree};
 use tsdb_path::{Name, Path};
-use tsfile_reader::{ReadFault, find_entry, read_meta};
+use tsfile_reader::{ReadFault, find_entry};
 use tsfile_writer::write_tree;
 
-/// How many series the file has: two full leaves, and one of 88 entries.
+/// How many series the small file has: two full leaves, and one of 88 entries.
 const SERIES: u64 = 600;
+
+/// The device of the large file. With this name of 60 bytes each of 10,000 entries has 204 bytes, and the index 2 MB.
+const LONG_DEVICE: &str = "root.plant_on_the_river.hall_of_presses.press_042.sensors_01";
+
+/// The number of the large file's first series.
+const FIRST: u64 = 10_000;
+
+/// The number behind that of its last series.
+const END: u64 = 20_000;
+
+/// The most bytes of a file that a look-up may read.
+const MOST_READ: u64 = 100_000;
 
 /// How many bytes a pointer of the root has: `root.g.d`, a name of four bytes, and a place.
 const POINTER: usize = 24;
@@ -25,27 +37,32 @@ fn one_chunk(alloc: Global, number: u64) -> Result<Chunk, Fail> {
     let name = format!(in alloc; "s{number:03}")?;
     let point = Point {
         time: 1,
-        value: Value::Bool(true),
+        value: Value::I64(5),
     };
     let page = Page {
         points: List::of(vec![in alloc; point]?),
     };
     Ok(Chunk {
         measurement: Name::read(alloc, name.as_bytes())?,
-        data_type: DataType::Boolean,
+        data_type: DataType::Int64,
         encoding: Encoding::Plain,
         pages: List::of(vec![in alloc; page]?),
     })
 }
 
-/// The file of `root.g.d` with the measurements `s000` to `s599`.
-fn wide_file(alloc: Global) -> Result<Vec<u8>, Fail> {
+/// The chunks of the measurements with these numbers, all of as many digits, of three or more.
+fn chunks_from(alloc: Global, first: u64, end: u64) -> Result<Vec<Chunk>, Fail> {
     let mut chunks = Vec::new(alloc);
-    for number in 0..SERIES {
+    for number in first..end {
         chunks.push(one_chunk(alloc, number)?)?;
     }
+    Ok(chunks)
+}
+
+/// The file of a device with these chunks.
+fn file_of(alloc: Global, device: &str, chunks: Vec<Chunk>) -> Result<Vec<u8>, Fail> {
     let group = Group {
-        device: Path::read(alloc, b"root.g.d")?,
+        device: Path::read(alloc, device.as_bytes())?,
         chunks: List::of(chunks),
     };
     let tree = Tree {
@@ -55,6 +72,21 @@ fn wide_file(alloc: Global) -> Result<Vec<u8>, Fail> {
         return Err("no tree".into());
     }
     Ok(write_tree(alloc, &tree)?)
+}
+
+/// The file of `root.g.d` with the measurements `s000` to `s599`.
+fn wide_file(alloc: Global) -> Result<Vec<u8>, Fail> {
+    file_of(alloc, "root.g.d", chunks_from(alloc, 0, SERIES)?)
+}
+
+/// The file of the long device with the measurements `s10000` to `s19999`.
+fn large_file(alloc: Global) -> Result<Vec<u8>, Fail> {
+    file_of(alloc, LONG_DEVICE, chunks_from(alloc, FIRST, END)?)
+}
+
+/// A port that counts what it reads, of which no call fails.
+fn counting_port(alloc: Global) -> Result<MemPort, Fail> {
+    port_failing_at(alloc, u64::MAX)
 }
 
 /// Stores these bytes through the port, looks a series up in them, and removes them.
@@ -81,20 +113,11 @@ fn find_in<P: Port>(
 }
 
 /// The index of these bytes.
-fn meta_of(alloc: Global, port: &mut SteadyPort, bytes: &[u8]) -> Result<FileMeta, ReadFault> {
-    let Ok(mut sealed) = port.put(FileNumber(1), bytes) else {
-        return Err(ReadFault::Failed);
-    };
-    let outcome = match SteadyPort::share(&mut sealed) {
-        Ok(right) => {
-            let outcome = read_meta(alloc, port, &right);
-            SteadyPort::give_back(&mut sealed, right);
-            outcome
-        }
-        Err(_) => Err(ReadFault::Memory),
-    };
-    let _ = port.remove(sealed);
-    outcome
+fn meta_of(alloc: Global, port: &mut MemPort, bytes: &[u8]) -> Result<FileMeta, Fail> {
+    match read_bytes(alloc, port, bytes, Call::Meta) {
+        Ok(meta) => Ok(meta),
+        Err(_) => Err("no index".into()),
+    }
 }
 
 /// A device, a measurement, and the number of their entry in the index.
@@ -120,6 +143,16 @@ const ROWS: [Row; 16] = [
     ("root.g.e", "a", None),
 ];
 
+/// The first series of the large file, one in the middle, the last, and names before, between and behind.
+const FEW_OF_MANY: [Row; 6] = [
+    (LONG_DEVICE, "s10000", Some(0)),
+    (LONG_DEVICE, "s15000", Some(5_000)),
+    (LONG_DEVICE, "s19999", Some(9_999)),
+    (LONG_DEVICE, "s", None),
+    (LONG_DEVICE, "s150000", None),
+    (LONG_DEVICE, "s20000", None),
+];
+
 /// Whether this was found: the entry with this number, or none.
 fn is_found(
     outcome: &Result<Option<IndexEntry>, ReadFault>,
@@ -136,10 +169,10 @@ fn is_found(
     }
 }
 
-/// Looks one series up, and whether it is found as the row says.
+/// Looks one series up, and whether it is found as the row says, with less than 100 kB of the file read.
 fn is_right(
     alloc: Global,
-    port: &mut SteadyPort,
+    port: &mut MemPort,
     bytes: &[u8],
     meta: &FileMeta,
     row: Row,
@@ -147,14 +180,16 @@ fn is_right(
     let (device, measurement, number) = row;
     let device = Path::read(alloc, device.as_bytes())?;
     let measurement = Name::read(alloc, measurement.as_bytes())?;
+    let before = port.bytes_read();
     let outcome = find_in(alloc, port, bytes, &device, &measurement);
-    Ok(is_found(&outcome, meta, number))
+    let read = port.bytes_read().saturating_sub(before);
+    Ok(read < MOST_READ && is_found(&outcome, meta, number))
 }
 
-/// The place of the first row that is not found as it says.
+/// The place of the first row that is not found so.
 fn first_wrong(
     alloc: Global,
-    port: &mut SteadyPort,
+    port: &mut MemPort,
     bytes: &[u8],
     meta: &FileMeta,
     rows: &[Row],
@@ -170,12 +205,25 @@ fn first_wrong(
 #[test]
 fn each_series_is_found(rt: HostRuntime) -> Result<(), Fail> {
     let alloc = rt.alloc();
-    let mut port = steady_port(alloc)?;
+    let mut port = counting_port(alloc)?;
     let bytes = wide_file(alloc)?;
-    let Ok(meta) = meta_of(alloc, &mut port, &bytes) else {
-        return Err("no index".into());
-    };
+    let meta = meta_of(alloc, &mut port, &bytes)?;
     assert_eq!(rt; first_wrong(alloc, &mut port, &bytes, &meta, &ROWS)?, None);
+    Ok(())
+}
+
+/// The index of 10,000 series has over 2 MB, and looking one of them up reads under 100 kB.
+#[test]
+fn one_of_many_series(rt: HostRuntime) -> Result<(), Fail> {
+    let alloc = rt.alloc();
+    let mut port = counting_port(alloc)?;
+    let bytes = large_file(alloc)?;
+    let meta = meta_of(alloc, &mut port, &bytes)?;
+    assert!(rt; port.bytes_read() > 2_000_000);
+    assert_eq!(rt;
+        first_wrong(alloc, &mut port, &bytes, &meta, &FEW_OF_MANY)?,
+        None
+    );
     Ok(())
 }
 
