@@ -27,23 +27,40 @@ fn stats(number: u64) -> Stats {
     }
 }
 
-/// The entry of a chunk of one page. A device has 1,000 of them.
-fn entry(rt: &HostRuntime, number: u64) -> Result<IndexEntry, Fault> {
-    let alloc = rt.alloc();
-    let device = format!(in alloc; "root.bench.d{:04}", number / 1000)?;
-    let measurement = format!(in alloc; "s{:03}", number % 1000)?;
+/// The device of a chunk, which has 1,000 of them.
+fn device_of(rt: &HostRuntime, number: u64) -> Result<Path, Fault> {
+    let text = format!(in rt.alloc(); "root.bench.d{:04}", number / 1000)?;
+    Ok(Path::read(rt.alloc(), text.as_bytes())?)
+}
+
+/// The measurement of a chunk.
+fn measurement_of(rt: &HostRuntime, number: u64) -> Result<Name, Fault> {
+    let text = format!(in rt.alloc(); "s{:03}", number % 1000)?;
+    Ok(Name::read(rt.alloc(), text.as_bytes())?)
+}
+
+/// The one page of a chunk.
+fn pages_of(rt: &HostRuntime, number: u64) -> Result<List<PageEntry>, Fault> {
     let page = PageEntry {
         place: number,
         stats: stats(number),
     };
+    Ok(List::of(vec![in rt.alloc(); page]?))
+}
+
+/// The entry of a chunk of one page.
+fn entry(rt: &HostRuntime, number: u64) -> Result<IndexEntry, Fault> {
+    let device = device_of(rt, number)?;
+    let measurement = measurement_of(rt, number)?;
+    let pages = pages_of(rt, number)?;
     Ok(IndexEntry {
-        device: Path::read(alloc, device.as_bytes())?,
-        measurement: Name::read(alloc, measurement.as_bytes())?,
+        device,
+        measurement,
         data_type: DataType::Int64,
         encoding: Encoding::Plain,
         place: number,
         stats: stats(number),
-        pages: List::of(vec![in alloc; page]?),
+        pages,
     })
 }
 
@@ -57,6 +74,21 @@ fn entries(rt: &HostRuntime, chunks: u64) -> Result<Vec<IndexEntry>, Fault> {
         entries.push(entry(rt, number)?)?;
     }
     Ok(entries)
+}
+
+/// The row of writing the index of so many chunks. Gives its bytes and the place of its root.
+fn write(rt: &HostRuntime, rounds: Rounds, chunks: u64) -> Result<(Vec<u8>, u64), Fault> {
+    let entries = entries(rt, chunks)?;
+    if entries.is_empty() {
+        return Err(Fault::Unread);
+    }
+    let index = Index {
+        entries: List::of(entries),
+    };
+    let start = Instant::now(rt)?;
+    let written = write_leaves_and_root(rt.alloc(), &index, PLACE)?;
+    row(rt, rounds, NAME, "write", chunks, start)?;
+    Ok(written)
 }
 
 /// The row of reading these bytes. Says how many entries were read.
@@ -79,16 +111,7 @@ fn read(
 /// The rows of an index.
 pub fn indexes(rt: &HostRuntime, rounds: Rounds) -> Result<u64, Fault> {
     let chunks = rounds.of(100_000);
-    let entries = entries(rt, chunks)?;
-    if entries.is_empty() {
-        return Err(Fault::Unread);
-    }
-    let index = Index {
-        entries: List::of(entries),
-    };
-    let start = Instant::now(rt)?;
-    let (bytes, root) = write_leaves_and_root(rt.alloc(), &index, PLACE)?;
-    row(rt, rounds, NAME, "write", chunks, start)?;
+    let (bytes, root) = write(rt, rounds, chunks)?;
     let count = read(rt, rounds, &bytes, root, chunks)?;
     Ok(count.wrapping_add(root).max(1))
 }
