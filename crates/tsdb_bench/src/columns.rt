@@ -1,5 +1,5 @@
-//! The speed of one series as a stream over files, whose pages are read through a port in memory. It depends on `filled`
-//! and `served`.
+//! The speed of one series as a stream over files, whose pages are read through a port in memory. It depends on
+//! `filled` and `served`.
 //!
 //! A stream walks the tree of `LazyMerge`: a port has to be `Send`, so what reads through one is no supply.
 
