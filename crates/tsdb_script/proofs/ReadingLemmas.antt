@@ -10,7 +10,7 @@ use Rattle.tsdb_script.specs.Types.{Numbered}
 use Rattle.tsdb_script.specs.Reading.{Line, line_behind, lines_of, sessions_of, session_count, Give, no_line, skipped_line, command_line, IsBad, IsCommand, IsFirstBad, IsScript, IsSkipped, IsWithinLimits}
 use Rattle.tsdb_script.proofs.LineLemmas.{one_line_command, one_line_fault, command_not_bad, skipped_not_bad, past_limit}
 use Rattle.tsdb_script.proofs.LinesLemmas.{concat-lines_of, goes_on, GoesOn}
-use Rattle.tsdb_script.proofs.MeaningLaws.{well_formed}
+use Rattle.tsdb_script.proofs.MeaningLaws.{well_formed as well_formed_meaning}
 use Rattle.tsdb_script.proofs.StatementLemmas.{has_parts}
 use Rattle.tsdb_script.proofs.SessionLemmas.{as_many, session_number, sessions-push}
 use Rattle.tsdb_script.proofs.WordLists.{earlier, later, order, same_place}
@@ -126,7 +126,7 @@ well_formed_lines lines script no_line = All-nil (λ (numbered : Numbered). IsWe
 well_formed_lines lines script (skipped_line front before line gives is) = well_formed_lines front before gives
 well_formed_lines lines script (command_line front before line numbered gives is) =
     All-push (λ (numbered : Numbered). IsWellFormed numbered.command) before numbered (well_formed_lines front before gives)
-    (well_formed is.syntax numbered.command (has_parts is.statement is.syntax is.fits) is.means)
+    (well_formed_meaning is.syntax numbered.command (has_parts is.statement is.syntax is.fits) is.means)
 
 pub within_limits : (bytes : List ℕ) (script : List Numbered) → IsScript bytes script → IsWithinLimits bytes script
 within_limits bytes script is = record {
@@ -135,6 +135,9 @@ within_limits bytes script is = record {
   sessions = (lines_sessions (lines_of bytes) script is).1;
   numbers = (lines_sessions (lines_of bytes) script is).2;
 }
+
+pub well_formed : (bytes : List ℕ) (script : List Numbered) → IsScript bytes script → All (λ numbered. IsWellFormed numbered.command) script
+well_formed bytes script is = well_formed_lines (lines_of bytes) script is
 
 -- ---- a script that is too long
 

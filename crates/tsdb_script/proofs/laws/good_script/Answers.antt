@@ -1,9 +1,8 @@
-use Rattle.tsdb_script.specs.Reading.{lines_of}
-use Rattle.tsdb_script.proofs.ReadingLemmas.{well_formed_lines, within_limits}
+use Rattle.tsdb_script.proofs.ReadingLemmas.{well_formed, within_limits}
 use Rattle.tsdb_script.proofs.laws.good_script.Goals as goal
 
 pub returns-clause-limits : goal.returns-clause-limits
 returns-clause-limits c = within_limits
 
 pub returns-clause-well_formed : goal.returns-clause-well_formed
-returns-clause-well_formed c = λ bytes script. well_formed_lines (lines_of bytes) script
+returns-clause-well_formed c = well_formed
