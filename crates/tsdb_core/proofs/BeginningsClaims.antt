@@ -114,7 +114,7 @@ module _ (files : KeptFiles) (known : Entries) (engine : EngineState) (are : Are
       by (Some file) some is = λ i. record {
         number = entry.number;
         born = entry.born;
-        bytes = (is i).bytes;
+        size = (is i).size;
         points = (is i).points;
         hulls = (is i).hulls;
         claimed = claimed i;
