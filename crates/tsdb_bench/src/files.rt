@@ -85,33 +85,53 @@ fn build(rt: &HostRuntime, path: &Path, points: Vec<Point>) -> Result<Vec<u8>, F
     Ok(builder.finish()?)
 }
 
-/// A file of so many chunks of one page of ten points.
-fn many_chunks(rt: &HostRuntime, count: u64) -> Result<Vec<u8>, Fault> {
-    let alloc = rt.alloc();
-    let mut chunks = Vec::new(alloc);
+/// The measurement of a chunk.
+fn measurement_of(rt: &HostRuntime, number: u64) -> Result<Name, Fault> {
+    let text = format!(in rt.alloc(); "s{number:04}")?;
+    Ok(Name::read(rt.alloc(), text.as_bytes())?)
+}
+
+/// One page of ten points.
+fn pages(rt: &HostRuntime) -> Result<List<Page>, Fault> {
+    let page = Page {
+        points: List::of(points(rt, 10)?),
+    };
+    Ok(List::of(vec![in rt.alloc(); page]?))
+}
+
+/// So many chunks of one page.
+fn chunks(rt: &HostRuntime, count: u64) -> Result<Vec<Chunk>, Fault> {
+    let mut chunks = Vec::new(rt.alloc());
     for number in 0..count {
-        let measurement = format!(in alloc; "s{number:04}")?;
-        let page = Page {
-            points: List::of(points(rt, 10)?),
-        };
+        let measurement = measurement_of(rt, number)?;
+        let pages = pages(rt)?;
         chunks.push(Chunk {
-            measurement: Name::read(alloc, measurement.as_bytes())?,
+            measurement,
             data_type: DataType::Int64,
             encoding: Encoding::Ts2diff,
-            pages: List::of(vec![in alloc; page]?),
+            pages,
         })?;
     }
-    let group = Group {
-        device: Path::read(alloc, b"root.bench.d")?,
-        chunks: List::of(chunks),
-    };
+    Ok(chunks)
+}
+
+/// One group of so many chunks.
+fn groups(rt: &HostRuntime, count: u64) -> Result<List<Group>, Fault> {
+    let device = Path::read(rt.alloc(), b"root.bench.d")?;
+    let chunks = List::of(chunks(rt, count)?);
+    let group = Group { device, chunks };
+    Ok(List::of(vec![in rt.alloc(); group]?))
+}
+
+/// A file of so many chunks of one page of ten points.
+fn many_chunks(rt: &HostRuntime, count: u64) -> Result<Vec<u8>, Fault> {
     let tree = Tree {
-        groups: List::of(vec![in alloc; group]?),
+        groups: groups(rt, count)?,
     };
     if !is_tree(&tree) {
         return Err(Fault::Unread);
     }
-    Ok(write_tree(alloc, &tree)?)
+    Ok(write_tree(rt.alloc(), &tree)?)
 }
 
 /// What is read of a file.
@@ -326,9 +346,24 @@ fn build_large(rt: &HostRuntime, rounds: Rounds, count: u64) -> Result<Vec<u8>, 
     Ok(large)
 }
 
+/// The rows of files in memory.
+fn read_in_memory(rt: &HostRuntime, rounds: Rounds, files: &[FileOf]) -> Result<u64, Fault> {
+    let alloc = rt.alloc();
+    let slots = [vec![in alloc; 0]?, vec![in alloc; 0]?];
+    let mut memory = SteadyPlace::new(alloc, slots, Vec::new(alloc))?;
+    at_place(rt, rounds, &mut memory, files)
+}
+
+/// The rows of files on the disk.
+fn read_on_disk(rt: &HostRuntime, rounds: Rounds, files: &[FileOf]) -> Result<u64, Fault> {
+    let mut disk = FsPlace::new(rt.clone()?);
+    let check = at_place(rt, rounds, &mut disk, files)?;
+    fs::remove_dir_all(rt, FOLDER)?;
+    Ok(check)
+}
+
 /// The rows of files that are built, checked, and opened.
 pub fn files(rt: &HostRuntime, rounds: Rounds) -> Result<u64, Fault> {
-    let alloc = rt.alloc();
     let (count, chunks, series) = (rounds.of(POINTS), rounds.of(CHUNKS), rounds.of(SERIES));
     let large = build_large(rt, rounds, count)?;
     let wide = many_chunks(rt, chunks)?;
@@ -347,11 +382,7 @@ pub fn files(rt: &HostRuntime, rounds: Rounds) -> Result<u64, Fault> {
             count: series,
         },
     ];
-    let slots = [vec![in alloc; 0]?, vec![in alloc; 0]?];
-    let mut memory = SteadyPlace::new(alloc, slots, Vec::new(alloc))?;
-    let in_memory = at_place(rt, rounds, &mut memory, &all(sized, IN_MEMORY))?;
-    let mut disk = FsPlace::new(rt.clone()?);
-    let on_disk = at_place(rt, rounds, &mut disk, &all(sized, ON_DISK))?;
-    fs::remove_dir_all(rt, FOLDER)?;
+    let in_memory = read_in_memory(rt, rounds, &all(sized, IN_MEMORY))?;
+    let on_disk = read_on_disk(rt, rounds, &all(sized, ON_DISK))?;
     Ok(in_memory.wrapping_add(on_disk).max(1))
 }
