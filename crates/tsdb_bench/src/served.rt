@@ -1,6 +1,6 @@
 //! A core over a log and files in memory that serves the commands of scripts. It depends on `journal` and `inserts`, on
 //! `tsdb_core`, on `tsdb_script` and `tsdb_history` for commands, and on `tsdb_pins` for streams.
-ghost use Rattle.std.specs.Prelude.{◌≡◌, All, IfOk};
+ghost use Rattle.std.specs.Prelude.{◌≡◌, All};
 ghost use Rattle.std.proofs.Props.{props};
 ghost use Rattle.tsdb_columns.specs.Streams.{IsStreamOfStore};
 ghost use Rattle.tsdb_model.specs.Commands.{IsWellFormed};
