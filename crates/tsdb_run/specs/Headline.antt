@@ -1,7 +1,7 @@
 -- The headline: every reply is the one that a last-write-wins map per series returns at that command's place in the
 -- printed order, which keeps each session's order, whatever is flushed in between; and whenever the machine stops,
 -- within any write too, the next run finds the map after a prefix of that order that has every acknowledged command.
-use Rattle.std.specs.Prelude.{◌≡◌, ◌⊎◌, ℕ, ◌+◌, ◌*◌, ◌<◌, List, [], ◌++◌, length, Option, Some, IfSome}
+use Rattle.std.specs.Prelude.{◌≡◌, ◌⊎◌, ℕ, ◌+◌, ◌*◌, ◌<◌, List, [], ◌++◌, length, map, Option, Some, IfSome}
 use Rattle.std.specs.Io.KnownBytes.{Appends, Keeps as KeepsBytes}
 use Rattle.std.specs.List.{AllByRecursion as Each}
 use Rattle.tsdb_history.specs.History.{IsHistory, IsInLineOrder}
@@ -13,7 +13,7 @@ use Rattle.tsdb_model.specs.History.{Entry, IsLegal}
 use Rattle.tsdb_model.specs.State as plain
 use Rattle.tsdb_model.specs.declared.reply.Listing.{Listing}
 use Rattle.tsdb_outside.specs.Disk.{Image, DiskState}
-use Rattle.tsdb_outside.specs.Files.{StoredFile, numbers_of}
+use Rattle.tsdb_outside.specs.Files.{StoredFile}
 use Rattle.tsdb_outside.specs.Moments.{LeavesOnly}
 use Rattle.tsdb_run.specs.Output.{AppendsPrefix, output_text}
 use Rattle.tsdb_run.specs.Store.{Contents, IsDamaged, IsLeftAlone, IsListed, IsNextNumber, IsSound, StandsFor, Stores}
@@ -57,7 +57,7 @@ pub record HasRun (files : List StoredFile) (start : plain.State) (entries : Lis
   -- the files that were put; a number is used once
   pub put : List StoredFile
   pub newer : AreNewer put files
-  pub once : AreDifferent (numbers_of put)
+  pub once : AreDifferent (map (λ (file : StoredFile). file.number) put)
   -- a stop at any moment left what stands for the state after a prefix of the entries
   pub moments : LeavesOnly old new.disk (λ image. StandsAfterPrefix (StandsFor (files ++ put) image) start entries)
   -- the files that are stored then, none but those of the run
