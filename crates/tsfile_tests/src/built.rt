@@ -6,6 +6,7 @@ ghost use Rattle.tsdb_index.specs.Entries as index;
 ghost use Rattle.tsdb_path.specs.Nodes.{device_of as device_in, measurement_of as measurement_in, node_count};
 ghost use Rattle.tsfile_writer.specs.Driving.{HasLast, IsBare};
 
+use super::reader::{Call, read_bytes, steady_port};
 use super::samples::{WORKED, add_chunk, chunk_of, numbered, pages, points};
 use super::writer::{tree_of, wide_tree, written};
 use std::alloc::Global;
@@ -266,5 +267,44 @@ fn many_series_built(rt: HostRuntime) -> Result<(), Fail> {
     let bytes = built(alloc, many_series(alloc)?)?;
     let other = written(alloc, &wide_tree(alloc)?)?;
     assert!(rt; bytes == other);
+    Ok(())
+}
+
+/// One point more than fill 299 pages.
+fn long_points(alloc: Global) -> Result<Vec<Point>, Fail> {
+    let mut points = Vec::new(alloc);
+    for time in 0..299_001 {
+        points.push(Point {
+            time,
+            value: Value::I64(time),
+        })?;
+    }
+    Ok(points)
+}
+
+/// How many pages the file has that is built of these points, and passes the check of a whole file.
+fn pages_built(alloc: Global, points: Vec<Point>) -> Result<usize, Fail> {
+    let series = Series {
+        path: Path::read(alloc, b"root.d.s")?,
+        data_type: DataType::Int64,
+        encoding: Encoding::Ts2diff,
+        points,
+    };
+    let bytes = built(alloc, vec![in alloc; series]?)?;
+    let mut port = steady_port(alloc)?;
+    let Ok(meta) = read_bytes(alloc, &mut port, &bytes, Call::Check) else {
+        return Err("no file".into());
+    };
+    match meta.index.entries.items() {
+        [entry] => Ok(entry.pages.items().len()),
+        _ => Err("not one entry".into()),
+    }
+}
+
+/// A chunk of more pages than one byte counts.
+#[test]
+fn many_pages_built(rt: HostRuntime) -> Result<(), Fail> {
+    let alloc = rt.alloc();
+    assert_eq!(rt; pages_built(alloc, long_points(alloc)?)?, 300);
     Ok(())
 }
