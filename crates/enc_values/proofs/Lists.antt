@@ -6,8 +6,9 @@ use Rattle.std.proofs.lemmas.List.Elements.{recursion_from_All, All-from_recursi
 use Rattle.tsdb_base.specs.declared.value.DataType.{DataType}
 use Rattle.tsdb_base.specs.declared.value.Encoding.{Encoding}
 use Rattle.tsdb_base.specs.declared.value.Value.{Value}
+use Rattle.tsdb_base.specs.Values.{IsValueOf}
 use Rattle.enc_list.specs.Lists.{IsListOf, IsSpelling, SpellNone, HasOneSpelling, IsShort}
-use Rattle.enc_values.specs.Spelling.{IsValueOf, spelling}
+use Rattle.enc_values.specs.Spelling.{spelling}
 use Rattle.enc_values.specs.Steps.{MakesValues, spelling_of}
 
 -- f and g agree on the items of a list

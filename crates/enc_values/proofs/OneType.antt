@@ -15,6 +15,7 @@ use Rattle.tsdb_base.specs.declared.value.Value.{Value}
 use Rattle.tsdb_base.specs.declared.value.Value.TheVariants as value
 use Rattle.tsdb_base.specs.Plain.{plain_bool, plain_i32, plain_i64, plain_text}
 use Rattle.tsdb_base.specs.Values.{is_suitable, type_of}
+use Rattle.tsdb_base.specs.Fields.{value_field}
 use Rattle.tsdb_bits.specs.Leb.{leb}
 use Rattle.tsdb_bits.specs.Zigzag.{zigzag}
 use Rattle.enc_plain.specs.Spelling as plain
@@ -22,7 +23,7 @@ use Rattle.enc_rle.specs.Spelling as rle
 use Rattle.enc_ts2diff.specs.Spelling as ts2diff
 use Rattle.enc_dict.specs.Spelling as dict
 use Rattle.enc_list.specs.Lists.{IsSpelling, SpellNone, HasOneSpelling, IsShort}
-use Rattle.enc_values.specs.Spelling.{spelling, plain_value, code_of, integer_of, text_of}
+use Rattle.enc_values.specs.Spelling.{spelling, code_of, integer_of, text_of}
 use Rattle.enc_values.specs.Steps.{spelling_of, truth_of}
 use Rattle.enc_values.proofs.Lists.{map_same}
 
@@ -50,9 +51,9 @@ short_by left right IsValue same short = λ list is. rw (same list) (short list 
 
 -- ---- the spelling of each type in each encoding that suits it
 
-plain_by : {A : Type 0} (as_value : A → Value) (list : List A) → spelling_of as_value Plain list ≡ plain.spelling (λ a. plain_value (as_value a)) list
+plain_by : {A : Type 0} (as_value : A → Value) (list : List A) → spelling_of as_value Plain list ≡ plain.spelling (λ a. value_field (as_value a)) list
 plain_by as_value list =
-    ap (λ (n : ℕ). leb n ++ flat_map plain_value (map as_value list)) (length-map list as_value) ∙ ap (λ (t : List ℕ). leb (length list) ++ t) (flat_map-map plain_value as_value list)
+    ap (λ (n : ℕ). leb n ++ flat_map value_field (map as_value list)) (length-map list as_value) ∙ ap (λ (t : List ℕ). leb (length list) ++ t) (flat_map-map value_field as_value list)
 
 rle_by : {A : Type 0} (as_value : A → Value) (list : List A) → spelling_of as_value Rle list ≡ rle.spelling (λ a. code_of (as_value a)) list
 rle_by as_value list = ap rle.codes_spelling (map-map code_of as_value list)
@@ -89,10 +90,10 @@ dictionary_texts list = ap dict.spelling (map-map text_of value.Text list ∙ ma
 
 -- ---- the parts that are encoded of the values of items
 
-pub plain_items : {T : Type 0} (value_of : T → Value) (items : List T) → leb (length items) ++ flat_map (λ item. plain_value (value_of item)) items ≡ plain.spelling plain_value (map value_of items)
+pub plain_items : {T : Type 0} (value_of : T → Value) (items : List T) → leb (length items) ++ flat_map (λ item. value_field (value_of item)) items ≡ plain.spelling value_field (map value_of items)
 plain_items value_of items =
-    ap (λ (n : ℕ). leb n ++ flat_map (λ item. plain_value (value_of item)) items) (sym (length-map items value_of))
-    ∙ ap (λ (t : List ℕ). leb (length (map value_of items)) ++ t) (sym (flat_map-map plain_value value_of items))
+    ap (λ (n : ℕ). leb n ++ flat_map (λ item. value_field (value_of item)) items) (sym (length-map items value_of))
+    ∙ ap (λ (t : List ℕ). leb (length (map value_of items)) ++ t) (sym (flat_map-map value_field value_of items))
 
 -- the codes of the items are those of their parts
 codes_same : {T P : Type 0} (value_of : T → Value) (part_of : Value → P) (code : P → ℕ) (items : List T) → All (λ item. code_of (value_of item) ≡ code (part_of (value_of item))) items

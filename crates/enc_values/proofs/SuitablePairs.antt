@@ -9,7 +9,7 @@ use Rattle.tsdb_base.specs.declared.value.Value.{Value}
 use Rattle.tsdb_base.specs.declared.value.Value.TheVariants as value
 use Rattle.tsdb_base.specs.Plain.{plain_bool, plain_i32, plain_i64, plain_text, IsText}
 use Rattle.tsdb_base.specs.PlainLaws.{plain_bool-prefix_free, plain_i32-prefix_free, plain_i64-prefix_free, plain_text-prefix_free}
-use Rattle.tsdb_base.specs.Values.{is_suitable}
+use Rattle.tsdb_base.specs.Values.{is_suitable, IsValueOf}
 use Rattle.tsdb_base.proofs.PlainLists.{IsPrefixFree}
 use Rattle.tsdb_bits.specs.Zigzag.{zigzag}
 use Rattle.enc_list.specs.Lists.{HasOneSpelling, IsShort}
@@ -24,7 +24,7 @@ use Rattle.enc_ts2diff.proofs.Numbers.{wider_list}
 use Rattle.enc_ts2diff.proofs.Parts as ts2diff_laws
 use Rattle.enc_dict.specs.Spelling as dict
 use Rattle.enc_dict.proofs.SpellingLaws as dict_laws
-use Rattle.enc_values.specs.Spelling.{IsValueOf, spelling}
+use Rattle.enc_values.specs.Spelling.{spelling}
 use Rattle.enc_values.specs.Steps.{MakesValues, spelling_of}
 use Rattle.enc_values.specs.TypeLaws.{makes_booleans, makes_int32, makes_int64, makes_texts}
 use Rattle.enc_values.proofs.Lists.{values_have_one_spelling, values_are_short}

@@ -1,37 +1,16 @@
 -- The bytes of a list of values of one type, in each encoding.
-use Rattle.std.specs.Prelude.{◌≡◌, ℕ, ℤ, pos, List, [], map, FitsSigned}
-use Rattle.std.specs.Int.{w32, w64}
+use Rattle.std.specs.Prelude.{ℕ, ℤ, pos, List, [], map}
 use Rattle.tsdb_base.specs.declared.value.DataType.{DataType}
 use Rattle.tsdb_base.specs.declared.value.Encoding.{Encoding}
 use Rattle.tsdb_base.specs.declared.value.Encoding.TheVariants.{Plain, Dictionary, Rle, Ts2diff}
 use Rattle.tsdb_base.specs.declared.value.Value.{Value}
 use Rattle.tsdb_base.specs.declared.value.Value.TheVariants as value
-use Rattle.tsdb_base.specs.Plain.{plain_bool, plain_i32, plain_i64, plain_text, IsText}
-use Rattle.tsdb_base.specs.Values.{type_of}
+use Rattle.tsdb_base.specs.Fields.{value_field}
 use Rattle.tsdb_bits.specs.Zigzag.{zigzag}
 use Rattle.enc_plain.specs.Spelling as plain
 use Rattle.enc_rle.specs.Spelling as rle
 use Rattle.enc_ts2diff.specs.Spelling as ts2diff
 use Rattle.enc_dict.specs.Spelling as dict
-
--- the number or the text in a value is one that its type has
-abbrev pub Fits : Value → Type 0
-Fits (value.Bool truth) = Unit {0}
-Fits (value.I32 number) = FitsSigned w32 number
-Fits (value.I64 number) = FitsSigned w64 number
-Fits (value.Text bytes) = IsText bytes
-
--- a value of the type
-pub record IsValueOf (data_type : DataType) (v : Value) : Type 0 where
-  pub type_is : type_of v ≡ data_type
-  pub fits : Fits v
-
--- the bytes of one value by itself
-abbrev pub plain_value : Value → List ℕ
-plain_value (value.Bool truth) = plain_bool truth
-plain_value (value.I32 number) = plain_i32 number
-plain_value (value.I64 number) = plain_i64 number
-plain_value (value.Text bytes) = plain_text bytes
 
 -- the code of a value in a run; runs are of booleans and numbers
 abbrev pub code_of : Value → ℕ
@@ -56,7 +35,7 @@ text_of (value.Text bytes) = bytes
 
 -- the bytes of a list of values
 abbrev pub spelling : Encoding → List Value → List ℕ
-spelling Plain values = plain.spelling plain_value values
+spelling Plain values = plain.spelling value_field values
 spelling Rle values = rle.spelling code_of values
 spelling Ts2diff values = ts2diff.spelling (map integer_of values)
 spelling Dictionary values = dict.spelling (map text_of values)

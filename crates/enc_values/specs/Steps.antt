@@ -4,7 +4,8 @@ use Rattle.tsdb_base.specs.declared.value.DataType.{DataType}
 use Rattle.tsdb_base.specs.declared.value.Encoding.{Encoding}
 use Rattle.tsdb_base.specs.declared.value.Value.{Value}
 use Rattle.tsdb_base.specs.declared.value.Value.TheVariants as value
-use Rattle.enc_values.specs.Spelling.{IsValueOf, spelling}
+use Rattle.tsdb_base.specs.Values.{IsValueOf}
+use Rattle.enc_values.specs.Spelling.{spelling}
 
 -- the values of the type are those that `as_value` makes
 pub record MakesValues {A : Type 0} (data_type : DataType) (as_value : A → Value) (IsValue : A → Type 0) : Type 0 where

@@ -5,7 +5,7 @@ use Rattle.tsdb_base.specs.declared.value.DataType.TheVariants.{Boolean, Int32, 
 use Rattle.tsdb_base.specs.declared.value.Value.{Value}
 use Rattle.tsdb_base.specs.declared.value.Value.TheVariants as value
 use Rattle.tsdb_base.specs.Plain.{IsText}
-use Rattle.enc_values.specs.Spelling.{IsValueOf}
+use Rattle.tsdb_base.specs.Values.{IsValueOf}
 use Rattle.enc_values.specs.Steps.{MakesValues}
 
 boolean_in : (v : Value) → IsValueOf Boolean v → (a : Bool) × Unit {0} × (v ≡ value.Bool a)
@@ -33,13 +33,13 @@ text_in (value.I64 number) is = absurd cc
 text_in (value.Text bytes) is = (bytes, is.fits, refl)
 
 pub makes_booleans : MakesValues Boolean value.Bool (λ _. Unit {0})
-makes_booleans = record { typed = λ a is. record { type_is = refl; fits = is }; all = boolean_in }
+makes_booleans = record { typed = λ a is. record { typed = refl; fits = is }; all = boolean_in }
 
 pub makes_int32 : MakesValues Int32 value.I32 (FitsSigned w32)
-makes_int32 = record { typed = λ a is. record { type_is = refl; fits = is }; all = int32_in }
+makes_int32 = record { typed = λ a is. record { typed = refl; fits = is }; all = int32_in }
 
 pub makes_int64 : MakesValues Int64 value.I64 (FitsSigned w64)
-makes_int64 = record { typed = λ a is. record { type_is = refl; fits = is }; all = int64_in }
+makes_int64 = record { typed = λ a is. record { typed = refl; fits = is }; all = int64_in }
 
 pub makes_texts : MakesValues TextType value.Text IsText
-makes_texts = record { typed = λ a is. record { type_is = refl; fits = is }; all = text_in }
+makes_texts = record { typed = λ a is. record { typed = refl; fits = is }; all = text_in }

@@ -6,9 +6,9 @@ ghost use Rattle.tsdb_base.specs.declared.value.DataType.TheVariants as types;
 ghost use Rattle.tsdb_base.specs.declared.value.Value.{Value as Values};
 ghost use Rattle.tsdb_base.specs.declared.value.Value.TheVariants as value;
 ghost use Rattle.tsdb_base.specs.Plain.{IsText};
-ghost use Rattle.tsdb_base.specs.Values.{is_suitable};
+ghost use Rattle.tsdb_base.specs.Values.{is_suitable, IsValueOf};
 ghost use Rattle.enc_list.specs.Lists.{IsOnly, IsSpelling, SpellNone};
-ghost use Rattle.enc_values.specs.Spelling.{IsValueOf, spelling};
+ghost use Rattle.enc_values.specs.Spelling.{spelling};
 ghost use Rattle.enc_values.specs.Steps.{MakesValues, spelling_of};
 ghost use Rattle.enc_values.specs.TypeLaws.{makes_booleans, makes_int32, makes_int64, makes_texts};
 

@@ -3,9 +3,10 @@ ghost use Rattle.std.specs.Prelude.{◌≡◌, ◌≤◌, ◌++◌, All, length,
 ghost use Rattle.std.specs.List.{flat_map};
 ghost use Rattle.tsdb_base.specs.Limits.{max_values};
 ghost use Rattle.tsdb_base.specs.Values.{is_suitable, type_of};
+ghost use Rattle.tsdb_base.specs.Fields.{value_field};
 ghost use Rattle.enc_plain.specs.Spelling as plain;
 ghost use Rattle.enc_dict.specs.Spelling.{lent};
-ghost use Rattle.enc_values.specs.Spelling.{integer_of, plain_value, spelling, text_of};
+ghost use Rattle.enc_values.specs.Spelling.{integer_of, spelling, text_of};
 ghost use Rattle.enc_values.specs.Steps.{truth_of};
 
 use crate::item::HasValue;
@@ -51,7 +52,7 @@ pub fn encode_into<T: HasValue>(
 
 fn encode_plain_into<T: HasValue>(items: &[T], into: &mut Vec<u8>) -> Result<(), Memory>
     ensures ok { OnOk result (into.new.items ≡
-        into.old.items ++ plain.spelling plain_value (map T.value_of items.now)) }
+        into.old.items ++ plain.spelling value_field (map T.value_of items.now)) }
     ensures memory { OnErr result (into.new.items ≡ into.old.items) }
 {
     let start = into.len();
@@ -65,7 +66,7 @@ fn encode_plain_into<T: HasValue>(items: &[T], into: &mut Vec<u8>) -> Result<(),
 /// Appends the bytes. After `Memory` some of them may stand behind what was there.
 fn append_plain<T: HasValue>(items: &[T], into: &mut Vec<u8>) -> Result<(), Memory>
     ensures ok { OnOk result (into.new.items ≡
-        into.old.items ++ plain.spelling plain_value (map T.value_of items.now)) }
+        into.old.items ++ plain.spelling value_field (map T.value_of items.now)) }
     ensures kept { take (vec_len into.old) into.new.items ≡ into.old.items }
 {
     put_leb(items.len() as u64, into)?;
@@ -77,7 +78,7 @@ fn append_plain<T: HasValue>(items: &[T], into: &mut Vec<u8>) -> Result<(), Memo
 
 /// Appends the bytes of one value by itself.
 fn put_value(value: &Value, into: &mut Vec<u8>) -> Result<(), Memory>
-    ensures ok { OnOk result (into.new.items ≡ into.old.items ++ plain_value value.now) }
+    ensures ok { OnOk result (into.new.items ≡ into.old.items ++ value_field value.now) }
     ensures kept { take (vec_len into.old) into.new.items ≡ into.old.items }
 {
     match value {

@@ -2,9 +2,9 @@
 ghost use Rattle.std.specs.Prelude.{◌≡◌, true};
 ghost use Rattle.tsdb_base.specs.declared.value.DataType.{DataType};
 ghost use Rattle.tsdb_base.specs.declared.value.Encoding.{Encoding};
-ghost use Rattle.tsdb_base.specs.Values.{is_suitable};
+ghost use Rattle.tsdb_base.specs.Values.{is_suitable, IsValueOf};
 ghost use Rattle.enc_list.specs.Lists.{HasOneSpelling, IsShort};
-ghost use Rattle.enc_values.specs.Spelling.{IsValueOf, spelling};
+ghost use Rattle.enc_values.specs.Spelling.{spelling};
 
 /// Two lists of values of one type with the same bytes are equal.
 pub fn one_spelling()

@@ -1,5 +1,7 @@
--- The type of a value, and which encodings suit a type.
-use Rattle.std.specs.Prelude.{Bool, true, false}
+-- The type of a value, what its bytes can hold, and which encodings suit a type.
+use Rattle.std.specs.Prelude.{◌≡◌, Bool, true, false, FitsSigned}
+use Rattle.std.specs.Int.{w32, w64}
+use Rattle.tsdb_base.specs.Plain.{IsText}
 use Rattle.tsdb_base.specs.declared.value.DataType.{DataType}
 use Rattle.tsdb_base.specs.declared.value.DataType.TheVariants.{Boolean, Int32, Int64, Text as TextType}
 use Rattle.tsdb_base.specs.declared.value.Encoding.{Encoding}
@@ -13,6 +15,18 @@ type_of (value.Bool b) = Boolean
 type_of (value.I32 n) = Int32
 type_of (value.I64 n) = Int64
 type_of (value.Text bytes) = TextType
+
+-- a value that its bytes can hold
+abbrev pub IsValue : Value → Type 0
+IsValue (value.Bool b) = Unit {0}
+IsValue (value.I32 n) = FitsSigned w32 n
+IsValue (value.I64 n) = FitsSigned w64 n
+IsValue (value.Text bytes) = IsText bytes
+
+-- a value of this type
+pub record IsValueOf (data_type : DataType) (value : Value) : Type 0 where
+  pub typed : type_of value ≡ data_type
+  pub fits : IsValue value
 
 -- every type may be written plainly, runs are of booleans and numbers, differences of numbers,
 -- and a dictionary of texts

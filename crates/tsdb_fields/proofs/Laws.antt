@@ -5,7 +5,7 @@ use Rattle.tsdb_base.specs.declared.value.Value.TheVariants as value
 use Rattle.tsdb_base.specs.Fields.{value_field}
 use Rattle.tsdb_base.specs.PlainLaws.{plain_bool-prefix_free, plain_i32-prefix_free, plain_i64-prefix_free, plain_text-prefix_free}
 use Rattle.tsdb_base.proofs.PlainLists.{IsPrefixFree}
-use Rattle.tsdb_fields.specs.Reading.{IsValueOf}
+use Rattle.tsdb_base.specs.Values.{IsValueOf}
 
 pub value_field-prefix_free : (data_type : DataType) → IsPrefixFree value_field (IsValueOf data_type)
 value_field-prefix_free t (value.Bool a) (value.Bool b) x y is_a is_b e = let same = plain_bool-prefix_free a b x y tt tt e in (ap value.Bool same.0, same.1)

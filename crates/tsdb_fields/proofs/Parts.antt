@@ -9,10 +9,11 @@ use Rattle.tsdb_base.specs.FieldLaws.{number64-prefix_free, pair_field-prefix_fr
 use Rattle.tsdb_base.specs.Plain.{plain_i64, BeginsWithNone}
 use Rattle.tsdb_base.specs.PlainLaws.{plain_i64-prefix_free}
 use Rattle.tsdb_base.proofs.PlainLists.{IsPrefixFree}
+use Rattle.tsdb_base.specs.Values.{IsValueOf}
 use Rattle.tsdb_fields.specs.declared.fault.FieldFault.{FieldFault}
 use Rattle.tsdb_fields.specs.declared.fault.FieldFault.TheVariants.{Bad, Memory}
 use Rattle.tsdb_fields.specs.declared.rest.Rest.{Rest}
-use Rattle.tsdb_fields.specs.Reading.{IsValueOf, Reads, ReadsParts}
+use Rattle.tsdb_fields.specs.Reading.{Reads, ReadsParts}
 use Rattle.tsdb_fields.specs.Statistics.{optional_field, stats_field, IsExtremeOf, IsStatsOf}
 use Rattle.tsdb_fields.proofs.Laws.{value_field-prefix_free}
 

@@ -1,12 +1,7 @@
 -- What reading one field says of the bytes that are left.
-use Rattle.std.specs.Prelude.{◌≡◌, ℕ, ◌+◌, ◌<◌, List, ◌++◌, length, All, Result, Ok, Err, FitsSigned}
+use Rattle.std.specs.Prelude.{◌≡◌, ℕ, ◌+◌, ◌<◌, List, ◌++◌, length, All, Result, Ok, Err}
 use Rattle.std.specs.List.{flat_map}
-use Rattle.std.specs.Int.{w32, w64}
-use Rattle.tsdb_base.specs.declared.value.DataType.{DataType}
-use Rattle.tsdb_base.specs.declared.value.Value.{Value}
-use Rattle.tsdb_base.specs.declared.value.Value.TheVariants as value
-use Rattle.tsdb_base.specs.Plain.{IsText, BeginsWithNone}
-use Rattle.tsdb_base.specs.Values.{type_of}
+use Rattle.tsdb_base.specs.Plain.{BeginsWithNone}
 use Rattle.tsdb_fields.specs.declared.fault.FieldFault.{FieldFault}
 use Rattle.tsdb_fields.specs.declared.fault.FieldFault.TheVariants.{Bad, Memory}
 use Rattle.tsdb_fields.specs.declared.rest.Rest.{Rest}
@@ -55,15 +50,3 @@ pub record IsBadBehind {A : Type 0} (spelling : A → List ℕ) (IsField : A →
   pub place : next ≡ start + length (flat_map spelling fields)
   pub splits : bytes ≡ flat_map spelling fields ++ behind
   pub bad : IsBad next behind at
-
--- a value that its bytes can hold
-abbrev pub IsValue : Value → Type 0
-IsValue (value.Bool b) = Unit {0}
-IsValue (value.I32 n) = FitsSigned w32 n
-IsValue (value.I64 n) = FitsSigned w64 n
-IsValue (value.Text bytes) = IsText bytes
-
--- a value of this type
-pub record IsValueOf (data_type : DataType) (value : Value) : Type 0 where
-  pub typed : type_of value ≡ data_type
-  pub fits : IsValue value

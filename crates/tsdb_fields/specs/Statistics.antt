@@ -7,7 +7,7 @@ use Rattle.tsdb_base.specs.declared.value.DataType.TheVariants.{Boolean, Int32, 
 use Rattle.tsdb_base.specs.declared.value.Value.{Value}
 use Rattle.tsdb_base.specs.Fields.{number64, value_field}
 use Rattle.tsdb_base.specs.Plain.{plain_i64}
-use Rattle.tsdb_fields.specs.Reading.{IsValueOf}
+use Rattle.tsdb_base.specs.Values.{IsValueOf}
 
 -- a value that may be missing, which then has no bytes
 abbrev pub optional_field : Option Value → List ℕ

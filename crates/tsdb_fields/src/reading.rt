@@ -2,8 +2,9 @@
 ghost use Rattle.std.specs.Prelude.{◌≡◌, ◌≢◌};
 ghost use Rattle.tsdb_base.specs.Fields.{value_field};
 ghost use Rattle.tsdb_base.specs.Plain.{plain_text, IsText};
+ghost use Rattle.tsdb_base.specs.Values.{IsValueOf};
 ghost use Rattle.tsdb_path.specs.Nodes.{IsName, IsPath};
-ghost use Rattle.tsdb_fields.specs.Reading.{IsValueOf, Reads};
+ghost use Rattle.tsdb_fields.specs.Reading.{Reads};
 
 use crate::fault::FieldFault;
 use crate::rest::Rest;

@@ -3,7 +3,8 @@ ghost use Rattle.std.specs.Prelude.{◌≡◌, ◌++◌, OnOk, OnErr};
 ghost use Rattle.tsdb_base.specs.Fields.{number64, pair_field, value_field, IsPair};
 ghost use Rattle.tsdb_base.specs.Growth.{GrewByPrefix};
 ghost use Rattle.tsdb_base.specs.Plain.{plain_i64};
-ghost use Rattle.tsdb_fields.specs.Reading.{IsValueOf, Reads, ReadsParts};
+ghost use Rattle.tsdb_base.specs.Values.{IsValueOf};
+ghost use Rattle.tsdb_fields.specs.Reading.{Reads, ReadsParts};
 ghost use Rattle.tsdb_fields.specs.Statistics.{optional_field, stats_field, IsExtremeOf, IsStatsOf};
 
 use crate::fault::FieldFault;

@@ -23,7 +23,7 @@ use Rattle.tsdb_log.specs.declared.fault.LogFault.TheVariants as log
 use Rattle.tsdb_log.specs.Places.{Reaches, IsBad, IsFurthest}
 use Rattle.std.proofs.lemmas.List.{append-nil}
 use Rattle.tsdb_fields.specs.declared.rest.Rest.{Rest}
-use Rattle.tsdb_fields.specs.Reading.{TakesBytes, Reads, IsValueOf}
+use Rattle.tsdb_fields.specs.Reading.{TakesBytes, Reads}
 use Rattle.tsdb_fields.proofs.Taken.{takes_both}
 use Rattle.tsdb_log.specs.declared.record.CellRecord.{CellRecord}
 use Rattle.tsdb_log.specs.declared.record.LogRecord.{LogRecord}
@@ -35,8 +35,7 @@ use Rattle.tsdb_log.specs.RowLaws.{bytes_append}
 use Rattle.tsdb_log.specs.ViewLaws.{kind_of, kind_first, kind_range}
 use Rattle.tsdb_log.specs.ListLaws.{copies, values_of_list}
 use Rattle.tsdb_log.proofs.Faults.{field_fails, first_fails, second_fails, behind_field, fails_as, kind_fails, record_fails, one, takes_record}
-use Rattle.tsdb_base.specs.Values.{type_of}
-use Rattle.tsdb_fields.specs.Reading.{IsValue}
+use Rattle.tsdb_base.specs.Values.{type_of, IsValue, IsValueOf}
 use Rattle.tsdb_log.specs.PartLaws.{root, some_value, path_free, some_number, some_time, value_row, IsValueRow, typed_as}
 use Rattle.tsdb_log.specs.Snapshots.{typed_fields}
 use Rattle.tsdb_log.proofs.Parts.{takes_pair}

@@ -17,9 +17,8 @@ use Rattle.tsdb_base.specs.declared.value.Value.{Value}
 use Rattle.tsdb_base.specs.declared.value.Value.TheVariants as value
 use Rattle.tsdb_base.specs.Fields.{number64, type_field, encoding_field, value_field}
 use Rattle.tsdb_base.specs.Plain.{plain_bool, plain_i64, plain_text}
-use Rattle.tsdb_base.specs.Values.{type_of}
+use Rattle.tsdb_base.specs.Values.{type_of, IsValue}
 use Rattle.tsdb_path.specs.Nodes.{IsPath}
-use Rattle.tsdb_fields.specs.Reading.{IsValue}
 use Rattle.tsdb_log.specs.declared.record.CellRecord.{CellRecord}
 use Rattle.tsdb_log.specs.declared.record.LogRecord.{LogRecord}
 use Rattle.tsdb_log.specs.declared.record.LogRecord.TheVariants.{Create, Insert, Delete, Freeze, Flushed, Replaced, Snapshot}

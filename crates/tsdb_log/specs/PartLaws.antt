@@ -17,10 +17,9 @@ use Rattle.tsdb_base.specs.Fields.{number64, type_field, encoding_field, value_f
 use Rattle.tsdb_base.specs.FieldLaws.{number64-prefix_free, type_field-prefix_free, encoding_field-prefix_free}
 use Rattle.tsdb_base.specs.Plain.{plain_i64, plain_text, AreValues}
 use Rattle.tsdb_base.specs.PlainLaws.{plain_i64-prefix_free, plain_text-prefix_free}
-use Rattle.tsdb_base.specs.Values.{type_of}
+use Rattle.tsdb_base.specs.Values.{type_of, IsValue, IsValueOf}
 use Rattle.tsdb_base.proofs.PlainLists.{IsPrefixFree}
 use Rattle.tsdb_path.specs.Nodes.{IsPath}
-use Rattle.tsdb_fields.specs.Reading.{IsValue, IsValueOf}
 use Rattle.tsdb_fields.proofs.Laws.{value_field-prefix_free}
 use Rattle.tsdb_log.specs.declared.record.CellRecord.{CellRecord}
 use Rattle.tsdb_log.specs.Rows.{both, field, AreBoth, IsAny, IsNumber64, IsRowForm}

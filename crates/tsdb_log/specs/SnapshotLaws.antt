@@ -10,8 +10,8 @@ use Rattle.tsdb_base.specs.declared.value.Value.{Value}
 use Rattle.tsdb_base.specs.Fields.{number64, type_field, encoding_field}
 use Rattle.tsdb_base.specs.Plain.{plain_i64, plain_text, AreValues}
 use Rattle.tsdb_base.proofs.PlainLists.{IsPrefixFree}
+use Rattle.tsdb_base.specs.Values.{IsValue}
 use Rattle.tsdb_path.specs.Nodes.{IsPath}
-use Rattle.tsdb_fields.specs.Reading.{IsValue}
 use Rattle.tsdb_log.specs.declared.snapshot.FileRecord.{FileRecord}
 use Rattle.tsdb_log.specs.declared.snapshot.MarkRecord.{MarkRecord}
 use Rattle.tsdb_log.specs.declared.snapshot.PairRecord.{PairRecord}

@@ -8,9 +8,8 @@ use Rattle.tsdb_base.specs.declared.ids.Stamp.{Stamp}
 use Rattle.tsdb_base.specs.declared.ids.Space.TheVariants.{Sequence, Unsequence}
 use Rattle.tsdb_base.specs.Fields.{number16, number32, number64, type_field, encoding_field, value_field}
 use Rattle.tsdb_base.specs.Plain.{plain_i64, plain_text}
-use Rattle.tsdb_base.specs.Values.{type_of}
+use Rattle.tsdb_base.specs.Values.{type_of, IsValue}
 use Rattle.tsdb_path.specs.Nodes.{IsPath}
-use Rattle.tsdb_fields.specs.Reading.{IsValue}
 use Rattle.tsdb_log.specs.declared.record.CellRecord.{CellRecord}
 use Rattle.tsdb_log.specs.declared.record.LogRecord.{LogRecord}
 use Rattle.tsdb_log.specs.declared.record.LogRecord.TheVariants.{Create, Insert, Delete, Freeze, Flushed, Replaced, Snapshot}

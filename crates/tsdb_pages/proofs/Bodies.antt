@@ -14,12 +14,12 @@ use Rattle.tsdb_base.specs.Fields.{number32}
 use Rattle.tsdb_base.specs.FieldLaws.{number32-prefix_free}
 use Rattle.tsdb_base.specs.PlainLaws.{same_front}
 use Rattle.tsdb_base.specs.Limits.{max_values}
-use Rattle.tsdb_base.specs.Values.{is_suitable}
+use Rattle.tsdb_base.specs.Values.{is_suitable, IsValueOf}
 use Rattle.enc_list.specs.Lists.{IsListOf, IsSpelling, SpellNone}
 use Rattle.enc_ts2diff.specs.Spelling as ts2diff
 use Rattle.enc_ts2diff.proofs.Canonical as sizes
 use Rattle.enc_ts2diff.proofs.Parts as times_laws
-use Rattle.enc_values.specs.Spelling.{IsValueOf, spelling}
+use Rattle.enc_values.specs.Spelling.{spelling}
 use Rattle.enc_values.proofs.SuitablePairs.{laws_of}
 use Rattle.tsdb_pages.specs.declared.fault.PageFault.{PageFault}
 use Rattle.tsdb_pages.specs.declared.fault.PageFault.TheVariants as page
@@ -42,7 +42,7 @@ are_times data_type points are ranges = record {
 pub are_values : (data_type : DataType) (points : List Point) → ArePoints data_type points → All IsInRange points → IsListOf (IsValueOf data_type) (values_of points)
 are_values data_type points are ranges = record {
   few = subst (λ n. n ≤ max_values) (sym (length-map points (λ (p : Point). p.value))) are.few;
-  typed = All-map (IsValueOf data_type) (λ (p : Point). p.value) points (λ k d lt. record { type_is = are.typed k d lt; fits = (ranges k d lt).1 });
+  typed = All-map (IsValueOf data_type) (λ (p : Point). p.value) points (λ k d lt. record { typed = are.typed k d lt; fits = (ranges k d lt).1 });
 }
 
 few_times : (data_type : DataType) (points : List Point) → ArePoints data_type points → All IsInRange points → length (times_field points) < 2 ^ 30
@@ -152,7 +152,7 @@ is_body data_type encoding suits bytes times values ts vs found in_times in_valu
       points_are = record {
         some = subst (λ k. 0 < k) (sym n) some;
         few = subst (λ k. k ≤ max_values) (sym n) in_times.list.few;
-        typed = λ k d lt. (All-of_map (IsValueOf data_type) (λ (p : Point). p.value) pairs typed k d lt).type_is;
+        typed = λ k d lt. (All-of_map (IsValueOf data_type) (λ (p : Point). p.value) pairs typed k d lt).typed;
         rising = rising;
       };
       ranges = λ k d lt. (All-of_map (FitsSigned w64) (λ (p : Point). p.time) pairs fit k d lt, (All-of_map (IsValueOf data_type) (λ (p : Point). p.value) pairs typed k d lt).fits);

@@ -11,22 +11,14 @@ use Rattle.tsdb_base.specs.declared.point.Stats.{Stats}
 use Rattle.tsdb_base.specs.declared.value.DataType.{DataType}
 use Rattle.tsdb_base.specs.declared.value.Value.{Value}
 use Rattle.tsdb_base.specs.declared.value.Value.TheVariants as value
-use Rattle.tsdb_base.specs.Values.{type_of}
+use Rattle.tsdb_base.specs.Values.{type_of, IsValue, IsValueOf}
 use Rattle.tsdb_model.specs.Folds.{greater, if_number, is_less, lesser, number_of, numbers}
-use Rattle.tsdb_fields.specs.Reading.{IsValue, IsValueOf}
 use Rattle.tsdb_fields.specs.Statistics.{IsExtremeOf, IsStatsOf, is_numeric}
 use Rattle.tsdb_stats.specs.Statistics.{AreStatsOf}
-use Rattle.enc_values.specs.Spelling.{Fits}
 use Rattle.tsdb_pages.specs.Pages.{IsInRange}
 
-value_fits : (v : Value) → Fits v → IsValue v
-value_fits (value.Bool b) fits = fits
-value_fits (value.I32 n) fits = fits
-value_fits (value.I64 n) fits = fits
-value_fits (value.Text bytes) fits = fits
-
 of_type : (t : DataType) (p : Point) → type_of p.value ≡ t → IsInRange p → IsValueOf t p.value
-of_type t p typed range = record { typed = typed; fits = value_fits p.value range.1 }
+of_type t p typed range = record { typed = typed; fits = range.1 }
 
 -- ---- the least and the greatest
 

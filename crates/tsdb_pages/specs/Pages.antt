@@ -8,9 +8,9 @@ use Rattle.tsdb_base.specs.declared.value.Encoding.{Encoding}
 use Rattle.tsdb_base.specs.declared.value.Value.{Value}
 use Rattle.tsdb_base.specs.Fields.{number32}
 use Rattle.tsdb_base.specs.Limits.{max_values}
-use Rattle.tsdb_base.specs.Values.{type_of}
+use Rattle.tsdb_base.specs.Values.{type_of, IsValue}
 use Rattle.enc_ts2diff.specs.Spelling as ts2diff
-use Rattle.enc_values.specs.Spelling.{Fits, spelling}
+use Rattle.enc_values.specs.Spelling.{spelling}
 
 -- the points of one page of this type: 1 to 1,000, in order of time
 pub record ArePoints (data_type : DataType) (points : List Point) : Type 0 where
@@ -21,7 +21,7 @@ pub record ArePoints (data_type : DataType) (points : List Point) : Type 0 where
 
 -- a time of 64 bits, and a number or a text that the value's type has
 abbrev pub IsInRange : Point → Type 0
-IsInRange point = FitsSigned w64 point.time × Fits point.value
+IsInRange point = FitsSigned w64 point.time × IsValue point.value
 
 abbrev pub times_of : List Point → List ℤ
 times_of points = map (λ point. point.time) points

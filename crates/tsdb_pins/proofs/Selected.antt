@@ -25,7 +25,7 @@ use Rattle.tsdb_pinning.specs.declared.pin.Column.{Column}
 use Rattle.tsdb_pinning.specs.declared.pin.Pin.{Pin}
 use Rattle.tsdb_pinning.specs.declared.pin.PinnedSource.{PinnedSource}
 use Rattle.tsdb_pinning.specs.declared.pin.PinnedSource.TheVariants.{File, Part}
-use Rattle.tsdb_pins.specs.Reading.{HasTold, IsColumnRead, IsValueOf, IsValueRead, SeriesPages, TellPoints, TellsPoints}
+use Rattle.tsdb_pins.specs.Reading.{HasTold, IsColumnRead, IsColumnValue, IsValueRead, SeriesPages, TellPoints, TellsPoints}
 use Rattle.tsdb_pins.specs.Streams.{HasColumnLeft, IsColumnOpened}
 use Rattle.tsdb_sources.specs.Pieces.{joined}
 use Rattle.tsdb_state.specs.State as state
@@ -33,7 +33,7 @@ use Rattle.tsdb_state.specs.State.{FromFile, FromPart, Told}
 use Rattle.tsdb_state.specs.Steps.{PinStandsFor}
 
 -- the aggregate of a merge that has the points of the series
-value_is : (aggregate : Option Aggregate) (lists : List (List Point)) (series : Points) (answer : Option Value) → ((points : List Point) → IsMergeOf lists points → points ≡ in_order series) → IsValueOf aggregate lists answer
+value_is : (aggregate : Option Aggregate) (lists : List (List Point)) (series : Points) (answer : Option Value) → ((points : List Point) → IsMergeOf lists points → points ≡ in_order series) → IsColumnValue aggregate lists answer
     → answer ≡ item_value aggregate series
 value_is None lists series answer has is = is
 value_is (Some a) lists series answer has is = is.is ∙ ap (aggregate_of a) (has is.points is.merge)

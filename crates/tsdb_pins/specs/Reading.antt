@@ -52,9 +52,9 @@ pub record IsFoldOf (name : Aggregate) (lists : List (List Point)) (answer : Opt
   pub is : answer ≡ aggregate_of name points
 
 -- the answer is the aggregate that is asked for, if one is
-abbrev pub IsValueOf : Option Aggregate → List (List Point) → Option Value → Type 0
-IsValueOf None lists answer = answer ≡ None
-IsValueOf (Some name) lists answer = IsFoldOf name lists answer
+abbrev pub IsColumnValue : Option Aggregate → List (List Point) → Option Value → Type 0
+IsColumnValue None lists answer = answer ≡ None
+IsColumnValue (Some name) lists answer = IsFoldOf name lists answer
 
 -- the points of each page of a series in the file of a number, where they are told
 abbrev pub SeriesPages : Type 0
@@ -104,4 +104,4 @@ module _ {F S R P : Type 0} (name : R → NamedFile) (pages : SeriesPages) where
   abbrev pub IsValueRead : Range → List Mark → Column F S R P → Option Value → Type 0
   IsValueRead range marks column answer = (lists : List (List Point))
       → AllZip (HasTold column.schema.path) column.sources lists → Each IsRising lists
-      → IsValueOf column.aggregate (kept_of column.schema.path range marks column.sources lists) answer
+      → IsColumnValue column.aggregate (kept_of column.schema.path range marks column.sources lists) answer

@@ -1,8 +1,9 @@
 use Rattle.std.proofs.Common.{◌≡◌, Err, ap}
 use Rattle.std.proofs.lemmas.Result.{err_from_is_err_and}
 use Rattle.tsdb_base.specs.declared.fault.DecodeFault.TheVariants.{Bad}
+use Rattle.tsdb_base.specs.Values.{IsValueOf}
 use Rattle.enc_list.proofs.ListLaws.{only_found}
-use Rattle.enc_values.specs.Spelling.{IsValueOf, spelling}
+use Rattle.enc_values.specs.Spelling.{spelling}
 use Rattle.enc_values.proofs.Lists.{values_spell, no_values_spell}
 use Rattle.enc_values.proofs.SuitablePairs.{laws_of}
 use Rattle.enc_values.proofs.decoder.values_in.Goals as goal

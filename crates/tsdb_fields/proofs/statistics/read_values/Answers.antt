@@ -1,6 +1,6 @@
 use Rattle.std.proofs.lemmas.Result.{err_from_is_err_and}
 use Rattle.tsdb_base.specs.Fields.{value_field}
-use Rattle.tsdb_fields.specs.Reading.{IsValueOf}
+use Rattle.tsdb_base.specs.Values.{IsValueOf}
 use Rattle.tsdb_fields.proofs.Laws.{value_field-prefix_free}
 use Rattle.tsdb_fields.proofs.Parts.{no_second, part_fault, parts_of, ends, AreEnds}
 use Rattle.tsdb_fields.proofs.statistics.read_values.Goals as goal
