@@ -1,7 +1,9 @@
-//! The numbers that lists begin with, and packed numbers. It depends on `enc_list`.
+//! The numbers that lists begin with, packed numbers, and appends that failed. It depends on `enc_list`.
 use crate::answers::{is_bad, is_read};
-use enc_list::{take_count, take_number, take_packed};
-use tsdb_base::DecodeFault;
+use enc_list::{all_or_none, take_count, take_number, take_packed};
+use std::alloc::{AllocError, Global};
+use std::test::Fail;
+use tsdb_base::{DecodeFault, Memory};
 
 fn has_count(bytes: &[u8], count: usize, rest: &[u8]) -> bool {
     take_count(bytes) == Ok((count, rest))
@@ -29,4 +31,22 @@ fn counts_and_numbers(rt: HostRuntime) {
 fn packed_numbers(rt: HostRuntime) {
     assert!(rt; is_read(take_packed(rt.alloc(), &[0x24], 3, 2), &[0, 1, 2]));
     assert!(rt; is_bad(take_packed(rt.alloc(), &[0x64], 3, 2)));
+}
+
+/// The bytes that are left of three, the last of which a call with this answer appended.
+fn left_of(alloc: Global, appended: Result<(), Memory>) -> Result<Vec<u8>, AllocError> {
+    let mut bytes = Vec::new(alloc);
+    bytes.extend_from_slice(&[1, 2, 3])?;
+    let is_same = all_or_none(appended, 2, &mut bytes) == appended;
+    if !is_same {
+        bytes.clear();
+    }
+    Ok(bytes)
+}
+
+#[test]
+fn an_append_that_failed_is_undone(rt: HostRuntime) -> Result<(), Fail> {
+    assert!(rt; left_of(rt.alloc(), Ok(()))?.as_slice() == &[1, 2, 3]);
+    assert!(rt; left_of(rt.alloc(), Err(Memory))?.as_slice() == &[1, 2]);
+    Ok(())
 }

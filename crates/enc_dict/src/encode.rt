@@ -7,6 +7,7 @@ ghost use Rattle.tsdb_base.specs.Plain.{plain_text};
 ghost use Rattle.enc_dict.specs.Spelling.{first_uses, lent, place_in, spelling};
 
 use crate::dictionary::{HINTS, hint_of, known_place, place_of};
+use enc_list::all_or_none;
 use std::alloc::Global;
 use std::collections::BTreeMap;
 use tsdb_base::{Memory, PlainValue, Text};
@@ -67,11 +68,8 @@ pub fn encode_text_into(alloc: Global, values: &[&Text], into: &mut Vec<u8>) -> 
     ensures memory { OnErr result (into.new.items ≡ into.old.items) }
 {
     let start = into.len();
-    let outcome = append(alloc, values, into);
-    if outcome.is_err() {
-        into.truncate(start);
-    }
-    outcome
+    let appended = append(alloc, values, into);
+    all_or_none(appended, start, into)
 }
 
 /// Lends each text.

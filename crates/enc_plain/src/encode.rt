@@ -4,6 +4,7 @@ ghost use Rattle.tsdb_base.specs.Limits.{max_values};
 ghost use Rattle.tsdb_base.specs.Plain.{plain_bool, plain_i32, plain_i64, plain_text};
 ghost use Rattle.enc_plain.specs.Spelling.{spelling};
 
+use enc_list::all_or_none;
 use tsdb_base::{Memory, PlainValue, Text, put_all};
 use tsdb_bits::put_leb;
 
@@ -48,11 +49,8 @@ fn encode_into<T: PlainValue>(values: &[T], into: &mut Vec<u8>) -> Result<(), Me
     ensures memory { OnErr result (into.new.items ≡ into.old.items) }
 {
     let start = into.len();
-    let outcome = append(values, into);
-    if outcome.is_err() {
-        into.truncate(start);
-    }
-    outcome
+    let appended = append(values, into);
+    all_or_none(appended, start, into)
 }
 
 /// Appends the bytes. After `Memory` some of them may stand behind what was there.

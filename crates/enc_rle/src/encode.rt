@@ -7,6 +7,7 @@ ghost use Rattle.tsdb_bits.specs.Zigzag.{zigzag};
 ghost use Rattle.enc_rle.specs.Spelling.{bool_code, spelling};
 
 use crate::coded::Coded;
+use enc_list::all_or_none;
 use tsdb_base::Memory;
 use tsdb_bits::put_leb;
 
@@ -42,11 +43,8 @@ fn encode_into<T: Coded>(values: &[T], into: &mut Vec<u8>) -> Result<(), Memory>
     ensures memory { OnErr result (into.new.items ≡ into.old.items) }
 {
     let start = into.len();
-    let outcome = append(values, into);
-    if outcome.is_err() {
-        into.truncate(start);
-    }
-    outcome
+    let appended = append(values, into);
+    all_or_none(appended, start, into)
 }
 
 /// Appends the bytes. After `Memory` some of them may stand behind what was there.

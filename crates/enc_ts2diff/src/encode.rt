@@ -6,6 +6,7 @@ ghost use Rattle.std.specs.Int.{w64};
 ghost use Rattle.tsdb_base.specs.Limits.{max_values};
 ghost use Rattle.enc_ts2diff.specs.Spelling.{differences, least, offsets, block, spelling};
 
+use enc_list::all_or_none;
 use std::alloc::Global;
 use tsdb_base::Memory;
 use tsdb_bits::{pack, put_leb, width, zigzag};
@@ -17,11 +18,8 @@ pub fn encode_i64_into(alloc: Global, values: &[i64], into: &mut Vec<u8>) -> Res
     ensures memory { OnErr result (into.new.items ≡ into.old.items) }
 {
     let start = into.len();
-    let outcome = append(alloc, values, into);
-    if outcome.is_err() {
-        into.truncate(start);
-    }
-    outcome
+    let appended = append(alloc, values, into);
+    all_or_none(appended, start, into)
 }
 
 /// Appends the bytes of at most 1,000 INT32 values: those of the same numbers as INT64 values. After

@@ -10,6 +10,7 @@ ghost use Rattle.enc_values.specs.Spelling.{integer_of, spelling, text_of};
 ghost use Rattle.enc_values.specs.Steps.{truth_of};
 
 use crate::item::HasValue;
+use enc_list::all_or_none;
 use std::alloc::Global;
 use tsdb_base::{DataType, Encoding, Memory, PlainValue, Text, Value};
 use tsdb_bits::put_leb;
@@ -56,11 +57,8 @@ fn encode_plain_into<T: HasValue>(items: &[T], into: &mut Vec<u8>) -> Result<(),
     ensures memory { OnErr result (into.new.items ≡ into.old.items) }
 {
     let start = into.len();
-    let outcome = append_plain(items, into);
-    if outcome.is_err() {
-        into.truncate(start);
-    }
-    outcome
+    let appended = append_plain(items, into);
+    all_or_none(appended, start, into)
 }
 
 /// Appends the bytes. After `Memory` some of them may stand behind what was there.

@@ -9,6 +9,7 @@ ghost use Rattle.tsdb_pages.specs.File.{chunk_start, group_start, magic, page_by
 ghost use Rattle.tsdb_pages.specs.Pages.{ArePoints};
 ghost use Rattle.tsfile_writer.specs.Steps.{AreStatsOfBoth, IsBegun, IsLonger, SameChunk};
 
+use enc_list::all_or_none;
 use std::alloc::Global;
 use tsdb_base::limits::MAX_PAGES;
 use tsdb_base::{DataType, Encoding, List, Memory, PlainValue, Point, Stats};
@@ -91,11 +92,8 @@ fn put_page(
     ensures memory { OnErr result (into.new.items ≡ into.old.items) }
 {
     let start = into.len();
-    let outcome = append_page(alloc, points, data_type, encoding, into);
-    if outcome.is_err() {
-        into.truncate(start);
-    }
-    outcome
+    let appended = append_page(alloc, points, data_type, encoding, into);
+    all_or_none(appended, start, into)
 }
 
 /// The statistics of the points of the first and of those behind them. A count of 2^64 points is a shortage of memory.
