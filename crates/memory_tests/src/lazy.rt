@@ -2,7 +2,7 @@
 //! of its fills in turn. It depends on `merge`.
 ghost use Rattle.std.specs.Prelude.{◌≡◌, ◌≤◌, ◌∷◌, [], None, replicate};
 
-use crate::merge::{points_of, slow_merge, table_of};
+use crate::merge::{FAULTS, point, slow_merge, table_of};
 use std::alloc::{AllocError, Global};
 use std::test::Fail;
 use tsdb_base::Point;
@@ -77,19 +77,34 @@ impl Supply for Pages {
     ghost keeps_then = { λ a b c one two. tt };
 }
 
-/// The points in pages of so many, the first page last.
-fn pages_of(alloc: Global, points: Vec<Point>, page: usize) -> Result<Vec<Vec<Point>>, AllocError> {
-    let mut pages = Vec::new(alloc);
-    let mut one = Vec::new(alloc);
-    for point in points {
-        if one.len() >= page {
-            pages.push(one).map_err(AllocError::from)?;
-            one = Vec::new(alloc);
-        }
-        one.push(point).map_err(AllocError::from)?;
+/// Adds a point to the last page, or to a new one where that has so many points.
+fn add_point(
+    alloc: Global,
+    pages: &mut Vec<Vec<Point>>,
+    point: Point,
+    page: usize,
+) -> Result<(), AllocError> {
+    if let Some(last) = pages.last_mut()
+        && last.len() < page
+    {
+        return last.push(point).map_err(AllocError::from);
     }
-    if !one.is_empty() {
-        pages.push(one).map_err(AllocError::from)?;
+    let one = vec![in alloc; point]?;
+    pages.push(one).map_err(AllocError::from)
+}
+
+/// The points of a source in pages of so many, the first page last.
+fn pages_of(
+    alloc: Global,
+    table: &[(u8, i64)],
+    k: u8,
+    page: usize,
+) -> Result<Vec<Vec<Point>>, AllocError> {
+    let mut pages = Vec::new(alloc);
+    for (place, time) in table {
+        if *place == k {
+            add_point(alloc, &mut pages, point(*time, i64::from(k)), page)?;
+        }
     }
     pages.reverse();
     Ok(pages)
@@ -105,7 +120,7 @@ fn supply(
 ) -> Result<Pages, Fail> {
     let mut sources = Vec::new(alloc);
     for k in 0..count {
-        let pages = pages_of(alloc, points_of(alloc, table, k)?, page)?;
+        let pages = pages_of(alloc, table, k, page)?;
         sources.push(pages).map_err(AllocError::from)?;
     }
     Ok(Pages {
@@ -126,35 +141,53 @@ struct Pulled {
     fault: Option<PullFault>,
 }
 
-/// Pulls until the end or the first fault, at most 100 times.
+/// Pulls once, and keeps what came. Whether more may come.
 #[tactic(auto, using(crate::proofs::Untold::within_untold, crate::proofs::Untold::within_count))]
-fn pull_all(alloc: Global, supply: &mut Pages) -> Result<Pulled, Fail> {
-    let mut merge = LazyMerge::new(alloc, supply.count)?;
-    let mut points = Vec::new(alloc);
-    let mut most = 0;
-    for _ in 0..100 {
-        match merge.pull(supply) {
-            Ok(Some(point)) => points.push(point).map_err(AllocError::from)?,
-            Ok(None) => return Ok(Pulled {
-                points,
-                most,
-                fault: None,
-            }),
-            Err(fault) => return Ok(Pulled {
-                points,
-                most,
-                fault: again(&mut merge, supply, fault),
-            }),
+fn pull_once(merge: &mut LazyMerge, supply: &mut Pages, pulled: &mut Pulled) -> Result<bool, Fail>
+    requires { merge.old.sources ≤ supply.old.count }
+    ensures { merge.new.sources ≤ supply.new.count }
+{
+    match merge.pull(supply) {
+        Ok(Some(point)) => pulled.points.push(point).map_err(AllocError::from)?,
+        Ok(None) => return Ok(false),
+        Err(fault) => {
+            pulled.fault = again(merge, supply, fault);
+            return Ok(false);
         }
-        most = most.max(merge.held());
+    }
+    pulled.most = pulled.most.max(merge.held());
+    Ok(true)
+}
+
+/// Pulls until the end or the first fault, at most 100 times.
+fn pull_to_end(merge: &mut LazyMerge, supply: &mut Pages, pulled: &mut Pulled) -> Result<(), Fail>
+    requires { merge.old.sources ≤ supply.old.count }
+{
+    for _ in 0..100 {
+        if !pull_once(merge, supply, pulled)? {
+            return Ok(());
+        }
     }
     Err(Fail::from("no end"))
 }
 
+/// What a merge of all pages gives.
+fn pull_all(alloc: Global, supply: &mut Pages) -> Result<Pulled, Fail> {
+    let mut pulled = Pulled {
+        points: Vec::new(alloc),
+        most: 0,
+        fault: None,
+    };
+    let mut merge = LazyMerge::new(alloc, supply.count)?;
+    pull_to_end(&mut merge, supply, &mut pulled)?;
+    Ok(pulled)
+}
+
 /// The fault, where one more pull answers it again and nothing is buffered.
-#[tactic(auto, using(crate::proofs::Untold::within_untold))]
+#[tactic(auto, using(crate::proofs::Untold::within_untold, crate::proofs::Untold::within_count))]
 fn again(merge: &mut LazyMerge, supply: &mut Pages, fault: PullFault) -> Option<PullFault>
     requires { merge.old.sources ≤ supply.old.count }
+    ensures { merge.new.sources ≤ supply.new.count }
 {
     let repeated = merge.pull(supply).err() == Some(fault) && merge.held() == 0;
     if repeated { Some(fault) } else { None }
@@ -166,15 +199,21 @@ const NEVER: Fault = Fault {
     fault: PullFault::Memory,
 };
 
+/// Whether the merge gives these points, with at most so many in memory.
+fn gives(alloc: Global, supply: &mut Pages, wanted: &[Point], most: u64) -> Result<bool, Fail> {
+    let found = pull_all(alloc, supply)?;
+    Ok(found.fault.is_none() && found.most <= most && found.points.as_slice() == wanted)
+}
+
 /// Whether the merge of the table's pages is the slow one, with at most one page of each source in memory.
 fn is_slow_merge(alloc: Global, table: &[(u8, i64)], count: u8, page: usize) -> Result<bool, Fail> {
-    let mut pages = supply(alloc, table, count, page, NEVER)?;
-    let found = pull_all(alloc, &mut pages)?;
+    let slow = slow_merge(alloc, table, count)?;
     let bound = (page as u64).saturating_mul(u64::from(count));
-    Ok(
-        found.fault.is_none()
-            && found.most <= bound
-            && found.points == slow_merge(alloc, table, count)?,
+    gives(
+        alloc,
+        &mut supply(alloc, table, count, page, NEVER)?,
+        &slow,
+        bound,
     )
 }
 
@@ -190,12 +229,23 @@ fn all_tables(alloc: Global, count: u8, times: u8) -> Result<bool, Fail> {
     Ok(true)
 }
 
+/// Numbers of sources and of times.
+const SIZES: [(u8, u8); 5] = [(0, 1), (1, 4), (2, 4), (3, 4), (4, 3)];
+
+/// The first of these numbers of which a table is merged otherwise.
+fn first_wrong_size(alloc: Global, sizes: &[(u8, u8)]) -> Result<Option<usize>, Fail> {
+    for (place, (count, times)) in sizes.iter().enumerate() {
+        if !all_tables(alloc, *count, *times)? {
+            return Ok(Some(place));
+        }
+    }
+    Ok(None)
+}
+
 #[test]
 fn pages_are_merged_as_lists(rt: HostRuntime) -> Result<(), Fail> {
-    let alloc = rt.alloc();
-    for (count, times) in [(0, 1), (1, 4), (2, 4), (3, 4), (4, 3)] {
-        assert!(rt; all_tables(alloc, count, times)?, "{count} sources");
-    }
+    let wrong = first_wrong_size(rt.alloc(), &SIZES)?;
+    assert_eq!(rt; wrong, None);
     Ok(())
 }
 
@@ -211,12 +261,26 @@ const LATE: [(u8, i64); 8] = [
     (2, 3),
 ];
 
+/// Whether the merge gives points of these from the first on, and then the fault.
+fn gives_before(
+    alloc: Global,
+    supply: &mut Pages,
+    whole: &[Point],
+    fault: PullFault,
+) -> Result<bool, Fail> {
+    let found = pull_all(alloc, supply)?;
+    Ok(found.fault == Some(fault) && whole.starts_with(&found.points))
+}
+
 /// Whether a fault of one fill ends the merge behind points of the slow one, and is repeated.
 fn ends_at_fault(alloc: Global, fault: Fault) -> Result<bool, Fail> {
-    let mut pages = supply(alloc, &LATE, 3, 1, fault)?;
-    let found = pull_all(alloc, &mut pages)?;
     let whole = slow_merge(alloc, &LATE, 3)?;
-    Ok(found.fault == Some(fault.fault) && whole.starts_with(&found.points))
+    gives_before(
+        alloc,
+        &mut supply(alloc, &LATE, 3, 1, fault)?,
+        &whole,
+        fault.fault,
+    )
 }
 
 /// Whether each of the first ten fills may fail. There are eight pages, and three sources end.
@@ -229,15 +293,19 @@ fn ends_at_each_fault(alloc: Global, fault: PullFault) -> Result<bool, Fail> {
     Ok(true)
 }
 
+/// The first of these faults that does not end the merge as it should.
+fn first_wrong_fault(alloc: Global, faults: &[PullFault]) -> Result<Option<usize>, Fail> {
+    for (place, fault) in faults.iter().enumerate() {
+        if !ends_at_each_fault(alloc, *fault)? {
+            return Ok(Some(place));
+        }
+    }
+    Ok(None)
+}
+
 #[test]
 fn a_fault_of_a_fill_is_repeated(rt: HostRuntime) -> Result<(), Fail> {
-    let kinds = [
-        PullFault::Failed,
-        PullFault::Damaged { at: 7 },
-        PullFault::Memory,
-    ];
-    for fault in kinds {
-        assert!(rt; ends_at_each_fault(rt.alloc(), fault)?);
-    }
+    let wrong = first_wrong_fault(rt.alloc(), &FAULTS)?;
+    assert_eq!(rt; wrong, None);
     Ok(())
 }

@@ -10,7 +10,7 @@ use tsdb_merge::{ListPoints, Merge, Points, PullFault};
 fn crosses_threads<T: Send>(_value: &T) {}
 
 /// A point whose value says which source it is of.
-fn point(time: i64, source: i64) -> Point {
+pub fn point(time: i64, source: i64) -> Point {
     Point {
         time,
         value: Value::I64(source),
@@ -26,7 +26,7 @@ fn source(points: Vec<Point>) -> Result<ListPoints, Fail> {
 }
 
 /// The points that a table has for the source at this place.
-pub fn points_of(alloc: Global, table: &[(u8, i64)], k: u8) -> Result<Vec<Point>, Fail> {
+fn points_of(alloc: Global, table: &[(u8, i64)], k: u8) -> Result<Vec<Point>, Fail> {
     let mut points = Vec::new(alloc);
     for (place, time) in table {
         if *place == k {
@@ -77,8 +77,8 @@ fn pull_all(alloc: Global, merge: &mut Merge<ListPoints>) -> Result<Vec<Point>, 
     Err(Fail::from("no end"))
 }
 
-fn merged(alloc: Global, sources: Vec<ListPoints>) -> Result<Vec<Point>, Fail> {
-    let mut merge = Merge::new(alloc, sources)?;
+fn merged(alloc: Global, table: &[(u8, i64)], count: u8) -> Result<Vec<Point>, Fail> {
+    let mut merge = Merge::new(alloc, sources(alloc, table, count)?)?;
     crosses_threads(&merge);
     pull_all(alloc, &mut merge)
 }
@@ -106,8 +106,7 @@ const MERGES: [MergeRow; 3] = [
 /// The first row of the table that is merged otherwise.
 fn first_wrong_merge(alloc: Global) -> Result<Option<usize>, Fail> {
     for (row, (table, count, wanted)) in MERGES.iter().enumerate() {
-        let found = merged(alloc, sources(alloc, table, *count)?)?;
-        if !are_points(&found, wanted) {
+        if !are_points(&merged(alloc, table, *count)?, wanted) {
             return Ok(Some(row));
         }
     }
@@ -121,9 +120,9 @@ fn tells_rising() -> bool {
 
 #[test]
 fn the_last_source_wins(rt: HostRuntime) -> Result<(), Fail> {
+    assert!(rt; tells_rising());
     let wrong = first_wrong_merge(rt.alloc())?;
     assert_eq!(rt; wrong, None);
-    assert!(rt; tells_rising());
     Ok(())
 }
 
@@ -144,8 +143,8 @@ pub fn table_of(alloc: Global, chosen: u32, bits: u8, times: u8) -> Result<Vec<(
 
 /// Whether the merge of the table's sources is the slow one.
 fn is_slow_merge(alloc: Global, table: &[(u8, i64)], count: u8) -> Result<bool, Fail> {
-    let found = merged(alloc, sources(alloc, table, count)?)?;
-    Ok(found == slow_merge(alloc, table, count)?)
+    let slow = slow_merge(alloc, table, count)?;
+    Ok(merged(alloc, table, count)? == slow)
 }
 
 /// Up to `count` sources, each with any of the times below `times`, beside the slow merge.
@@ -159,14 +158,32 @@ fn all_tables(alloc: Global, count: u8, times: u8) -> Result<bool, Fail> {
     Ok(true)
 }
 
+/// Numbers of sources and of times.
+const SIZES: [(u8, u8); 5] = [(1, 4), (2, 4), (3, 4), (4, 3), (5, 2)];
+
+/// The first of these numbers of which a table is merged otherwise.
+fn first_wrong_size(alloc: Global, sizes: &[(u8, u8)]) -> Result<Option<usize>, Fail> {
+    for (place, (count, times)) in sizes.iter().enumerate() {
+        if !all_tables(alloc, *count, *times)? {
+            return Ok(Some(place));
+        }
+    }
+    Ok(None)
+}
+
 #[test]
 fn all_small_tables(rt: HostRuntime) -> Result<(), Fail> {
-    let alloc = rt.alloc();
-    for (count, times) in [(1, 4), (2, 4), (3, 4), (4, 3), (5, 2)] {
-        assert!(rt; all_tables(alloc, count, times)?, "{count} sources");
-    }
+    let wrong = first_wrong_size(rt.alloc(), &SIZES)?;
+    assert_eq!(rt; wrong, None);
     Ok(())
 }
+
+/// Each kind of fault.
+pub const FAULTS: [PullFault; 3] = [
+    PullFault::Failed,
+    PullFault::Damaged { at: 7 },
+    PullFault::Memory,
+];
 
 /// A list that answers a fault behind some points, and then goes on.
 #[derive(Drop)]
@@ -266,10 +283,18 @@ fn answers_again(merge: &mut Merge<Failing>, fault: PullFault) -> bool {
     merge.pull().err() == Some(fault)
 }
 
+/// Whether the fault is the answer from the first fault on.
+fn repeats(alloc: Global, merge: &mut Merge<Failing>, fault: PullFault) -> Result<bool, Fail> {
+    Ok(meets_only(alloc, merge, fault)? && answers_again(merge, fault))
+}
+
 /// Whether the fault of one source behind some points is the answer from then on.
 fn is_repeated(alloc: Global, which: u8, before: u64, fault: PullFault) -> Result<bool, Fail> {
-    let mut merge = make_failing(alloc, which, before, fault)?;
-    Ok(meets_only(alloc, &mut merge, fault)? && answers_again(&mut merge, fault))
+    repeats(
+        alloc,
+        &mut make_failing(alloc, which, before, fault)?,
+        fault,
+    )
 }
 
 /// Whether ten pulls meet no fault.
@@ -279,8 +304,7 @@ fn has_no_fault(alloc: Global, merge: &mut Merge<Failing>) -> Result<bool, Fail>
 
 /// Whether the source that would fail at its fifth pull is never asked for it.
 fn is_not_asked_again(alloc: Global, fault: PullFault) -> Result<bool, Fail> {
-    let mut merge = make_failing(alloc, 2, 4, fault)?;
-    has_no_fault(alloc, &mut merge)
+    has_no_fault(alloc, &mut make_failing(alloc, 2, 4, fault)?)
 }
 
 /// Whether the fault is repeated whichever source has it, and behind however many points.
@@ -295,14 +319,19 @@ fn is_always_repeated(alloc: Global, fault: PullFault) -> Result<bool, Fail> {
     is_not_asked_again(alloc, fault)
 }
 
+/// The first of these faults that is not repeated.
+fn first_wrong_fault(alloc: Global, faults: &[PullFault]) -> Result<Option<usize>, Fail> {
+    for (place, fault) in faults.iter().enumerate() {
+        if !is_always_repeated(alloc, *fault)? {
+            return Ok(Some(place));
+        }
+    }
+    Ok(None)
+}
+
 #[test]
 fn a_fault_is_repeated(rt: HostRuntime) -> Result<(), Fail> {
-    for fault in [
-        PullFault::Failed,
-        PullFault::Damaged { at: 7 },
-        PullFault::Memory,
-    ] {
-        assert!(rt; is_always_repeated(rt.alloc(), fault)?);
-    }
+    let wrong = first_wrong_fault(rt.alloc(), &FAULTS)?;
+    assert_eq!(rt; wrong, None);
     Ok(())
 }
