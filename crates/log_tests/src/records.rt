@@ -1,8 +1,9 @@
 //! Records and their bytes, each of them cut and inverted.
-ghost use Rattle.std.specs.Prelude.{IfOk};
+ghost use Rattle.std.specs.Prelude.{IfOk, ◌≡◌, ◌≤◌, ◌∷◌, [], length};
+ghost use Rattle.tsdb_log.specs.Snapshots.{most_pairs};
 ghost use Rattle.tsdb_log.specs.Spelling.{HasFewParts};
 
-use std::alloc::Global;
+use std::alloc::{AllocError, Global};
 use std::test::Fail;
 use tsdb_base::{
     DataType, Encoding, FileNumber, List, Point, Range, SeriesId, Space, Stamp, Text, Value,
@@ -189,12 +190,21 @@ fn point(time: i64, value: Value) -> Point {
     Point { time, value }
 }
 
+/// The list of one item.
+fn list_of<T: Drop>(alloc: Global, item: T) -> Result<List<T>, Fail>
+    ensures { IfOk result (λ list. list ≡ item ∷ []) }
+{
+    let mut list = Vec::new(alloc);
+    list.push(item).map_err(AllocError::from)?;
+    Ok(List::of(list))
+}
+
 fn table(alloc: Global, series: u64, points: Vec<Point>) -> Result<List<TableRecord>, Fail> {
     let table = TableRecord {
         series: SeriesId(series),
         points: List::of(points),
     };
-    Ok(List::of(vec![in alloc; table]?))
+    list_of(alloc, table)
 }
 
 fn mark(alloc: Global) -> Result<MarkRecord, Fail> {
@@ -236,26 +246,60 @@ fn watermark(alloc: Global) -> Result<WatermarkRecord, Fail> {
     })
 }
 
-fn snapshot(alloc: Global) -> Result<LogRecord, Fail>
-    ensures { IfOk result HasFewParts }
-{
-    let file = FileRecord {
+fn file() -> FileRecord {
+    FileRecord {
         number: FileNumber(3),
         born: Stamp(5),
-    };
-    Ok(LogRecord::Snapshot(Snapshot {
+    }
+}
+
+/// A snapshot without a part.
+fn bare_snapshot(alloc: Global) -> Snapshot
+    ensures { length result.frozen ≤ most_pairs }
+{
+    Snapshot {
         generation: 2,
         stamp: Stamp(9),
         next_file: 4,
-        schemas: List::of(vec![in alloc; schema(alloc)?]?),
-        watermarks: List::of(vec![in alloc; watermark(alloc)?]?),
-        marks: List::of(vec![in alloc; mark(alloc)?]?),
-        sequence: List::of(vec![in alloc; file]?),
+        schemas: List::of(Vec::new(alloc)),
+        watermarks: List::of(Vec::new(alloc)),
+        marks: List::of(Vec::new(alloc)),
+        sequence: List::of(Vec::new(alloc)),
         unsequence: List::of(Vec::new(alloc)),
-        frozen: List::of(vec![in alloc; frozen(alloc)?]?),
-        working_sequence: working(alloc)?,
+        frozen: List::of(Vec::new(alloc)),
+        working_sequence: List::of(Vec::new(alloc)),
         working_unsequence: List::of(Vec::new(alloc)),
-    }))
+    }
+}
+
+/// Adds a part of each kind.
+fn add_parts(alloc: Global, snapshot: &mut Snapshot) -> Result<(), Fail>
+    requires { length snapshot.old.frozen ≤ most_pairs }
+    ensures { length snapshot.new.frozen ≤ most_pairs }
+{
+    snapshot.schemas = list_of(alloc, schema(alloc)?)?;
+    snapshot.watermarks = list_of(alloc, watermark(alloc)?)?;
+    snapshot.marks = list_of(alloc, mark(alloc)?)?;
+    snapshot.sequence = list_of(alloc, file())?;
+    add_pairs(alloc, snapshot)
+}
+
+/// Adds a frozen pair and a working one.
+fn add_pairs(alloc: Global, snapshot: &mut Snapshot) -> Result<(), Fail>
+    requires { length snapshot.old.frozen ≤ most_pairs }
+    ensures { length snapshot.new.frozen ≤ most_pairs }
+{
+    snapshot.frozen = list_of(alloc, frozen(alloc)?)?;
+    snapshot.working_sequence = working(alloc)?;
+    Ok(())
+}
+
+fn snapshot(alloc: Global) -> Result<LogRecord, Fail>
+    ensures { IfOk result HasFewParts }
+{
+    let mut snapshot = bare_snapshot(alloc);
+    add_parts(alloc, &mut snapshot)?;
+    Ok(LogRecord::Snapshot(snapshot))
 }
 
 /// Whether each cut is bad at the last field that begins in it, and each byte behind the last field is bad itself.
