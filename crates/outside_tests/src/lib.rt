@@ -20,5 +20,7 @@ mod slot_files;
 mod streams;
 #[cfg(test)]
 mod told;
-pub mod told_directory;
-pub mod told_slots;
+#[cfg(test)]
+mod told_directory;
+#[cfg(test)]
+mod told_slots;

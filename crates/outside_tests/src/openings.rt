@@ -32,9 +32,14 @@ const CALLS: u64 = 20;
 // Whether an opening whose call with this number fails is refused or leaves these slots, and the next one leaves them.
 fn opens(start: &Start, failing: u64, wanted: &[Content; 2]) -> bool {
     let mut directory = ToldSlots::new(start.0, start.1, failing);
-    let first = open_slots(&mut directory).is_err() || [directory.a, directory.b] == *wanted;
-    let mut stopped = ToldSlots::new([directory.a, directory.b], directory.has_files, 0);
-    first && open_slots(&mut stopped).is_ok() && [stopped.a, stopped.b] == *wanted
+    let first = open_slots(&mut directory).is_err()
+        || [directory.view.a, directory.view.b] == *wanted;
+    let mut stopped = ToldSlots::new(
+        [directory.view.a, directory.view.b],
+        directory.view.has_files,
+        0,
+    );
+    first && open_slots(&mut stopped).is_ok() && [stopped.view.a, stopped.view.b] == *wanted
 }
 
 // The first of these that is not opened so, whichever call fails, and its number.
@@ -54,7 +59,7 @@ fn first_wrong(starts: &[Start]) -> Option<(usize, u64)> {
 fn first_not_lost(starts: &[Start]) -> Option<usize> {
     for (index, start) in starts.iter().enumerate() {
         let mut directory = ToldSlots::new(start.0, start.1, 0);
-        if open_slots(&mut directory).is_ok() || [directory.a, directory.b] != start.0 {
+        if open_slots(&mut directory).is_ok() || [directory.view.a, directory.view.b] != start.0 {
             return Some(index);
         }
     }

@@ -4,27 +4,29 @@
 ghost use Rattle.std.specs.Prelude.{◌≡◌, ◌≤◌, map, None, Some, OnErr};
 ghost use Rattle.tsdb_base.specs.Causes.{Rose};
 ghost use Rattle.fs_outside.specs.Directory.{change_one, with_bytes, with_synced_bytes, with_synced_name, without};
-ghost use Rattle.outside_tests.specs.ToldDirectory.{has_number, held_files};
+ghost use Rattle.outside_tests.specs.ToldDirectory.{is_number, told_files};
 
 use fs_outside::{FileDirectory, NumberedFile};
 use std::alloc::{AllocError, Global};
 use std::io::{self, ErrorKind};
 
-/// A file, and whether a stop leaves its bytes and its name.
+// What the directory holds: a file with these bytes, if it has a number, and whether a stop leaves its bytes and its name.
 #[derive(Drop)]
-pub struct Held {
-    pub number: u64,
-    pub bytes: Vec<u8>,
-    pub is_synced: bool,
-    pub is_named: bool,
+struct Held {
+    number: Option<u64>,
+    bytes: Vec<u8>,
+    is_synced: bool,
+    is_named: bool,
 }
 
 // Writes the file, if it is this one.
-fn fill(held: &mut Option<Held>, number: u64, bytes: Vec<u8>)
-    ensures { held_files held.new ≡ change_one number (with_bytes bytes.items) (held_files held.old) }
+fn fill(held: &mut Held, number: u64, bytes: Vec<u8>)
+    ensures { told_files held.new.number held.new.bytes.items held.new.is_synced held.new.is_named
+        ≡ change_one number (with_bytes bytes.items)
+        (told_files held.old.number held.old.bytes.items held.old.is_synced held.old.is_named) }
 {
-    if let Some(held) = held
-        && held.number == number
+    if let Some(there) = held.number
+        && there == number
     {
         held.bytes = bytes;
         held.is_synced = false;
@@ -32,40 +34,48 @@ fn fill(held: &mut Option<Held>, number: u64, bytes: Vec<u8>)
 }
 
 // Makes the bytes of the file durable, if it is this one.
-fn make_bytes_durable(held: &mut Option<Held>, number: u64)
-    ensures { held_files held.new ≡ change_one number with_synced_bytes (held_files held.old) }
+fn make_bytes_durable(held: &mut Held, number: u64)
+    ensures { told_files held.new.number held.new.bytes.items held.new.is_synced held.new.is_named
+        ≡ change_one number with_synced_bytes
+        (told_files held.old.number held.old.bytes.items held.old.is_synced held.old.is_named) }
 {
-    if let Some(held) = held
-        && held.number == number
+    if let Some(there) = held.number
+        && there == number
     {
         held.is_synced = true;
     }
 }
 
 // Makes the name of the file durable.
-fn make_name_durable(held: &mut Option<Held>)
-    ensures { held_files held.new ≡ map with_synced_name (held_files held.old) }
+fn make_name_durable(held: &mut Held)
+    ensures { told_files held.new.number held.new.bytes.items held.new.is_synced held.new.is_named
+        ≡ map with_synced_name
+        (told_files held.old.number held.old.bytes.items held.old.is_synced held.old.is_named) }
 {
-    if let Some(held) = held {
+    if let Some(_) = held.number {
         held.is_named = true;
     }
 }
 
 // Takes the file away, if it is this one.
-fn take_away(held: &mut Option<Held>, number: u64)
-    ensures { held_files held.new ≡ without number (held_files held.old) }
+fn take_away(held: &mut Held, number: u64)
+    ensures { told_files held.new.number held.new.bytes.items held.new.is_synced held.new.is_named
+        ≡ without number
+        (told_files held.old.number held.old.bytes.items held.old.is_synced held.old.is_named) }
 {
-    if has_number(held, number) {
-        *held = None;
+    if let Some(there) = held.number
+        && there == number
+    {
+        held.number = None;
     }
 }
 
-// Whether there is the file with this number.
-fn has_number(held: &Option<Held>, number: u64) -> bool
-    ensures { result ≡ has_number number held.now }
+// Whether the file with this number is the one that is there.
+fn is_number(there: Option<u64>, number: u64) -> bool
+    ensures { result ≡ is_number number there }
 {
-    match held {
-        Some(held) => held.number == number,
+    match there {
+        Some(there) => there == number,
         None => false,
     }
 }
@@ -86,7 +96,7 @@ impl NumberedFile for OpenFile {
 #[derive(Drop)]
 pub struct ToldDirectory {
     alloc: Global,
-    held: Option<Held>,
+    held: Held,
     made: u64,
     failing: [u64; 2],
     sync_failed: bool,
@@ -96,11 +106,16 @@ pub struct ToldDirectory {
 impl ToldDirectory {
     /// An empty directory whose calls with these numbers, from 1, fail.
     pub fn new(alloc: Global, failing: [u64; 2]) -> ToldDirectory
-        ensures { result.held ≡ None }
+        ensures { result.held.number ≡ None }
     {
         ToldDirectory {
             alloc,
-            held: None,
+            held: Held {
+                number: None,
+                bytes: Vec::new(alloc),
+                is_synced: false,
+                is_named: false,
+            },
             made: 0,
             failing,
             sync_failed: false,
@@ -137,25 +152,23 @@ impl ToldDirectory {
 impl FileDirectory for ToldDirectory {
     type File = OpenFile;
 
-    ghost told = { λ directory. Some (held_files directory.held) };
+    ghost told = { λ directory. Some (told_files directory.held.number directory.held.bytes.items
+        directory.held.is_synced directory.held.is_named) };
 
     ghost sync_failed = { λ directory. directory.sync_failed };
 
     ghost faults = { λ directory. directory.faults };
 
     fn another(&self) -> Result<Self, AllocError> {
-        let held = match &self.held {
-            Some(held) => Some(Held {
-                number: held.number,
-                bytes: held.bytes.to_vec(self.alloc)?,
-                is_synced: held.is_synced,
-                is_named: held.is_named,
-            }),
-            None => None,
-        };
+        let bytes = self.held.bytes.to_vec(self.alloc)?;
         Ok(ToldDirectory {
             alloc: self.alloc,
-            held,
+            held: Held {
+                number: self.held.number,
+                bytes,
+                is_synced: self.held.is_synced,
+                is_named: self.held.is_named,
+            },
             made: 0,
             failing: self.failing,
             sync_failed: self.sync_failed,
@@ -165,15 +178,15 @@ impl FileDirectory for ToldDirectory {
 
     fn create_new(&mut self, number: u64) -> io::Result<OpenFile> {
         self.call()?;
-        if self.sync_failed || self.held.is_some() {
+        if self.sync_failed || self.held.number.is_some() {
             return Err(self.fail());
         }
-        self.held = Some(Held {
-            number,
+        self.held = Held {
+            number: Some(number),
             bytes: Vec::new(self.alloc),
             is_synced: false,
             is_named: false,
-        });
+        };
         Ok(OpenFile(number))
     }
 
@@ -208,12 +221,12 @@ impl FileDirectory for ToldDirectory {
 
     fn is_there(&mut self, number: u64) -> io::Result<bool> {
         self.call()?;
-        Ok(has_number(&self.held, number))
+        Ok(is_number(self.held.number, number))
     }
 
     fn open(&mut self, number: u64) -> io::Result<Option<OpenFile>> {
         self.call()?;
-        if has_number(&self.held, number) {
+        if is_number(self.held.number, number) {
             return Ok(Some(OpenFile(number)));
         }
         Ok(None)
@@ -222,12 +235,12 @@ impl FileDirectory for ToldDirectory {
     fn read_at(&mut self, file: &OpenFile, at: u64, into: &mut [u8]) -> io::Result<()> {
         self.call()?;
         let at = at as usize;
-        match &self.held {
-            Some(held)
-                if held.number == file.0
-                    && at <= held.bytes.len()
-                    && into.len() <= held.bytes.len() - at => {
-                into.copy_from_slice(&held.bytes[at..at + into.len()]);
+        match self.held.number {
+            Some(there)
+                if there == file.0
+                    && at <= self.held.bytes.len()
+                    && into.len() <= self.held.bytes.len() - at => {
+                into.copy_from_slice(&self.held.bytes[at..at + into.len()]);
                 Ok(())
             }
             _ => Err(self.fail()),
@@ -236,8 +249,8 @@ impl FileDirectory for ToldDirectory {
 
     fn size(&mut self, file: &OpenFile) -> io::Result<u64> {
         self.call()?;
-        match &self.held {
-            Some(held) if held.number == file.0 => Ok(held.bytes.len() as u64),
+        match self.held.number {
+            Some(there) if there == file.0 => Ok(self.held.bytes.len() as u64),
             _ => Err(self.fail()),
         }
     }
@@ -251,8 +264,8 @@ impl FileDirectory for ToldDirectory {
     fn numbers(&mut self) -> io::Result<Vec<u64>> {
         self.call()?;
         let mut numbers = Vec::new(self.alloc);
-        if let Some(held) = &self.held {
-            if numbers.push(held.number).is_err() {
+        if let Some(number) = self.held.number {
+            if numbers.push(number).is_err() {
                 return Err(self.fail());
             }
         }

@@ -5,7 +5,7 @@ ghost use Rattle.std.specs.Prelude.{◌≡◌, ◌≢◌, ◌≤◌, ◌↔◌, 
 ghost use Rattle.std.specs.Option.{option_map};
 ghost use Rattle.tsdb_base.specs.Causes.{Rose};
 ghost use Rattle.fs_outside.specs.SlotDirectory.{with_renamed};
-ghost use Rattle.outside_tests.specs.ToldSlots.{bytes_of, state_of, view_of};
+ghost use Rattle.outside_tests.specs.ToldSlots.{bytes_of, told_state, told_view};
 
 use fs_outside::{OpenSlot, SlotDirectory};
 use std::io::{self, ErrorKind};
@@ -40,9 +40,9 @@ fn is_zero(content: Content) -> bool
     }
 }
 
-/// A directory with slots.
+/// What is seen of two slots, of the file that is made for one of them, and what of it a stop leaves.
 #[derive(Drop)]
-pub struct ToldSlots {
+pub struct View {
     pub a: Content,
     pub b: Content,
     pub has_files: bool,
@@ -51,6 +51,31 @@ pub struct ToldSlots {
     unfinished: Option<u8>,
     is_synced: bool,
     is_named: bool,
+}
+
+// Gives the file that was made the name of a slot.
+fn give_name(view: &mut View, slot: Slot)
+    ensures { told_view view.new.a view.new.b view.new.has_files view.new.a_is_synced view.new.b_is_synced
+        view.new.unfinished view.new.is_synced view.new.is_named
+        ≡ with_renamed slot (told_view view.old.a view.old.b view.old.has_files view.old.a_is_synced
+        view.old.b_is_synced view.old.unfinished view.old.is_synced view.old.is_named) }
+{
+    match slot {
+        Slot::A => {
+            view.a = Some(view.unfinished);
+            view.a_is_synced = view.is_synced;
+        }
+        Slot::B => {
+            view.b = Some(view.unfinished);
+            view.b_is_synced = view.is_synced;
+        }
+    }
+}
+
+/// A directory with slots.
+#[derive(Drop)]
+pub struct ToldSlots {
+    pub view: View,
     made: u64,
     failing: u64,
     faults: u64,
@@ -59,7 +84,7 @@ pub struct ToldSlots {
 impl ToldSlots {
     /// A directory with these slots, and with files or not. Its call with this number, from 1, fails.
     pub fn new(slots: [Content; 2], has_files: bool, failing: u64) -> ToldSlots {
-        ToldSlots {
+        let view = View {
             a: slots[0],
             b: slots[1],
             has_files,
@@ -68,6 +93,9 @@ impl ToldSlots {
             unfinished: None,
             is_synced: false,
             is_named: false,
+        };
+        ToldSlots {
+            view,
             made: 0,
             failing,
             faults: 0,
@@ -76,7 +104,7 @@ impl ToldSlots {
 
     // Counts a fault.
     fn fail(&mut self) -> io::Error
-        ensures view { view_of self.new ≡ view_of self.old }
+        ensures view { self.new.view ≡ self.old.view }
         ensures later { self.old.faults ≤ self.new.faults }
         ensures rose { Rose self.old.faults self.new.faults }
     {
@@ -86,7 +114,7 @@ impl ToldSlots {
 
     // Makes the next call, which may be the one that fails.
     fn call(&mut self) -> io::Result<()>
-        ensures view { view_of self.new ≡ view_of self.old }
+        ensures view { self.new.view ≡ self.old.view }
         ensures later { self.old.faults ≤ self.new.faults }
         ensures rose { OnErr result (Rose self.old.faults self.new.faults) }
     {
@@ -96,23 +124,6 @@ impl ToldSlots {
         }
         Ok(())
     }
-
-    // Gives the file that was made the name of a slot.
-    fn give_name(&mut self, slot: Slot)
-        ensures view { view_of self.new ≡ with_renamed slot (view_of self.old) }
-        ensures faults { self.new.faults ≡ self.old.faults }
-    {
-        match slot {
-            Slot::A => {
-                self.a = Some(self.unfinished);
-                self.a_is_synced = self.is_synced;
-            }
-            Slot::B => {
-                self.b = Some(self.unfinished);
-                self.b_is_synced = self.is_synced;
-            }
-        }
-    }
 }
 
 impl SlotDirectory for ToldSlots {
@@ -120,41 +131,42 @@ impl SlotDirectory for ToldSlots {
 
     type File = ToldSlot;
 
-    ghost state = { state_of };
+    ghost state = { λ slots. told_state (told_view slots.view.a slots.view.b slots.view.has_files slots.view.a_is_synced
+        slots.view.b_is_synced slots.view.unfinished slots.view.is_synced slots.view.is_named) slots.faults };
 
     ghost lawful = { λ _. record { seen_may_stay = refl; counts_now = λ _ _. tt } };
 
     fn has_slot(&mut self, slot: Slot) -> io::Result<bool> {
         self.call()?;
         match slot {
-            Slot::A => Ok(is_there(self.a)),
-            Slot::B => Ok(is_there(self.b)),
+            Slot::A => Ok(is_there(self.view.a)),
+            Slot::B => Ok(is_there(self.view.b)),
         }
     }
 
     fn is_one_zero(&mut self, slot: Slot) -> io::Result<bool> {
         self.call()?;
         match slot {
-            Slot::A => Ok(is_zero(self.a)),
-            Slot::B => Ok(is_zero(self.b)),
+            Slot::A => Ok(is_zero(self.view.a)),
+            Slot::B => Ok(is_zero(self.view.b)),
         }
     }
 
     fn has_files(&mut self) -> io::Result<bool> {
         self.call()?;
-        Ok(self.has_files)
+        Ok(self.view.has_files)
     }
 
     fn sync_parent(&mut self) -> io::Result<()> {
         self.call()?;
-        self.is_named = true;
+        self.view.is_named = true;
         Ok(())
     }
 
     fn create_unfinished(&mut self, _slot: Slot) -> io::Result<()> {
         self.call()?;
-        self.unfinished = None;
-        self.is_synced = false;
+        self.view.unfinished = None;
+        self.view.is_synced = false;
         Ok(())
     }
 
@@ -163,20 +175,20 @@ impl SlotDirectory for ToldSlots {
         if bytes.len() != 1 {
             return Err(self.fail());
         }
-        self.unfinished = Some(bytes[0]);
-        self.is_synced = false;
+        self.view.unfinished = Some(bytes[0]);
+        self.view.is_synced = false;
         Ok(())
     }
 
     fn sync_unfinished(&mut self) -> io::Result<()> {
         self.call()?;
-        self.is_synced = true;
+        self.view.is_synced = true;
         Ok(())
     }
 
     fn rename(&mut self, slot: Slot) -> io::Result<()> {
         self.call()?;
-        self.give_name(slot);
+        give_name(&mut self.view, slot);
         Ok(())
     }
 
@@ -187,8 +199,8 @@ impl SlotDirectory for ToldSlots {
     fn open(&mut self, slot: Slot) -> io::Result<ToldSlot> {
         self.call()?;
         match slot {
-            Slot::A if is_there(self.a) => Ok(ToldSlot(slot)),
-            Slot::B if is_there(self.b) => Ok(ToldSlot(slot)),
+            Slot::A if is_there(self.view.a) => Ok(ToldSlot(slot)),
+            Slot::B if is_there(self.view.b) => Ok(ToldSlot(slot)),
             _ => Err(self.fail()),
         }
     }
@@ -196,8 +208,8 @@ impl SlotDirectory for ToldSlots {
     fn sync_slot(&mut self, file: &ToldSlot) -> io::Result<()> {
         self.call()?;
         match file.0 {
-            Slot::A => self.a_is_synced = true,
-            Slot::B => self.b_is_synced = true,
+            Slot::A => self.view.a_is_synced = true,
+            Slot::B => self.view.b_is_synced = true,
         }
         Ok(())
     }
