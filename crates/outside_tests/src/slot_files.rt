@@ -91,13 +91,19 @@ fn tells_after_failed_sync<F: SlotFile>(file: &mut F) -> bool {
     written && !synced && long && file.read_at(0, &mut bytes).is_ok() && bytes == [0, 5]
 }
 
+// A file of one byte 0.
+fn told_file(alloc: Global, fails_sync: bool) -> Result<ToldFile, AllocError> {
+    let bytes = vec![in alloc; 0]?;
+    Ok(ToldFile {
+        bytes,
+        fails_sync,
+        faults: 0,
+    })
+}
+
 // Whether a file that tells does so, and counts one fault.
 fn told_file_counts_its_fault(alloc: Global) -> Result<bool, AllocError> {
-    let mut file = ToldFile {
-        bytes: vec![in alloc; 0]?,
-        fails_sync: true,
-        faults: 0,
-    };
+    let mut file = told_file(alloc, true)?;
     Ok(tells_after_failed_sync(&mut file) && file.faults == 1)
 }
 
@@ -122,16 +128,8 @@ fn is_given_up<F: SlotFile + Send, G: Send>(journal: &mut FsJournal<F, G>) -> bo
 
 // The same of a journal over files that tell.
 fn told_slot_is_given_up(alloc: Global) -> Result<bool, AllocError> {
-    let a = ToldFile {
-        bytes: vec![in alloc; 0]?,
-        fails_sync: true,
-        faults: 0,
-    };
-    let b = ToldFile {
-        bytes: vec![in alloc; 0]?,
-        fails_sync: false,
-        faults: 0,
-    };
+    let a = told_file(alloc, true)?;
+    let b = told_file(alloc, false)?;
     Ok(is_given_up(&mut FsJournal::new(a, b, ())))
 }
 
