@@ -4,9 +4,10 @@ ghost use Rattle.std.specs.Prelude.{◌≤◌, length, vec_len, IfOk};
 
 use crate::fault::Fault;
 use crate::numbers::next;
-use crate::table::{Rounds, row};
+use crate::table::{Rounds, measured};
+use std::alloc::Global;
 use std::time::Instant;
-use tsdb_base::{Memory, Text};
+use tsdb_base::{DecodeFault, Memory, Text};
 
 /// The values of a page.
 const PAGE: u64 = 1000;
@@ -43,161 +44,217 @@ fn texts(rt: &HostRuntime, different: u64) -> Result<Vec<Text>, Fault>
     Ok(values)
 }
 
-/// The rows of the encodings.
-pub fn encodings(rt: &HostRuntime, rounds: Rounds) -> Result<u64, Fault> {
-    let wide = page(rt, false)?;
-    let times = page(rt, true)?;
-    let texts = texts(rt, 100)?;
-    let mut check = 1u64;
-    for done in [
-        plain_i64(rt, rounds, "PLAIN of INT64", &wide)?,
-        plain_text(rt, rounds, "PLAIN of texts of 8 bytes", &texts)?,
-        rle(rt, rounds, "RLE of any 64 bits, without runs", &wide)?,
-        rle(rt, rounds, "RLE of times, without runs", &times)?,
-        ts2diff(rt, rounds, "TS_2DIFF of any 64 bits", &wide)?,
-        ts2diff(rt, rounds, "TS_2DIFF of times", &times)?,
-        dictionary(rt, rounds, "DICTIONARY of 100 texts of 8 bytes", &texts)?,
-    ] {
-        check = check.wrapping_add(done);
-    }
-    Ok(check.max(1))
+/// A page in one encoding.
+#[derive(Clone, Copy)]
+enum Form {
+    PlainNumbers,
+    PlainTexts,
+    Runs,
+    Differences,
+    Dictionary,
 }
 
-/// The bytes that an encoder appends to none.
-fn appended<F: FnOnce(&mut Vec<u8>) -> Result<(), Memory>>(
-    rt: &HostRuntime,
-    append: F,
-) -> Result<Vec<u8>, Memory>
-    requires { (into : _) → F.pre append into }
-{
-    let mut bytes = Vec::new(rt.alloc());
-    append(&mut bytes)?;
-    Ok(bytes)
+/// The values of a page: numbers, or texts.
+#[derive(Clone, Copy)]
+struct Values<'a> {
+    numbers: &'a [i64],
+    texts: &'a [Text],
 }
 
-/// PLAIN, of numbers.
-fn plain_i64(rt: &HostRuntime, rounds: Rounds, what: &str, values: &[i64]) -> Result<u64, Fault>
-    requires { length values.now ≤ 1000 }
-{
-    let many = rounds.of(2000);
-    let mut check = 0u64;
-    let start = Instant::now(rt)?;
-    for _ in 0..many {
-        let bytes = appended(rt, |into| enc_plain::encode_i64_into(values, into))?;
-        check = check.wrapping_add(bytes.len() as u64);
-    }
-    row(rt, rounds, what, "encode", many * PAGE, start)?;
-    let bytes = appended(rt, |into| enc_plain::encode_i64_into(values, into))?;
-    let start = Instant::now(rt)?;
-    for _ in 0..many {
-        let read = enc_plain::decode_i64(rt.alloc(), &bytes)?;
-        check = check.wrapping_add(read.last().copied().unwrap_or(0).cast_unsigned());
-    }
-    row(rt, rounds, what, "decode", many * PAGE, start)?;
-    Ok(check)
-}
-
-/// PLAIN, of texts.
-fn plain_text(rt: &HostRuntime, rounds: Rounds, what: &str, values: &[Text]) -> Result<u64, Fault>
-    requires { length values.now ≤ 1000 }
-{
-    let many = rounds.of(2000);
-    let mut check = 0u64;
-    let start = Instant::now(rt)?;
-    for _ in 0..many {
-        let bytes = appended(rt, |into| enc_plain::encode_text_into(values, into))?;
-        check = check.wrapping_add(bytes.len() as u64);
-    }
-    row(rt, rounds, what, "encode", many * PAGE, start)?;
-    let bytes = appended(rt, |into| enc_plain::encode_text_into(values, into))?;
-    let start = Instant::now(rt)?;
-    for _ in 0..many {
-        let read = enc_plain::decode_text(rt.alloc(), &bytes)?;
-        check = check.wrapping_add(read.len() as u64);
-    }
-    row(rt, rounds, what, "decode", many * PAGE, start)?;
-    Ok(check)
-}
-
-/// Runs.
-fn rle(rt: &HostRuntime, rounds: Rounds, what: &str, values: &[i64]) -> Result<u64, Fault>
-    requires { length values.now ≤ 1000 }
-{
-    let many = rounds.of(2000);
-    let mut check = 0u64;
-    let start = Instant::now(rt)?;
-    for _ in 0..many {
-        let bytes = appended(rt, |into| enc_rle::encode_i64_into(values, into))?;
-        check = check.wrapping_add(bytes.len() as u64);
-    }
-    row(rt, rounds, what, "encode", many * PAGE, start)?;
-    let bytes = appended(rt, |into| enc_rle::encode_i64_into(values, into))?;
-    let start = Instant::now(rt)?;
-    for _ in 0..many {
-        let read = enc_rle::decode_i64(rt.alloc(), &bytes)?;
-        check = check.wrapping_add(read.last().copied().unwrap_or(0).cast_unsigned());
-    }
-    row(rt, rounds, what, "decode", many * PAGE, start)?;
-    Ok(check)
-}
-
-/// Differences.
-fn ts2diff(rt: &HostRuntime, rounds: Rounds, what: &str, values: &[i64]) -> Result<u64, Fault>
-    requires { length values.now ≤ 1000 }
-{
-    let many = rounds.of(2000);
-    let mut check = 0u64;
-    let start = Instant::now(rt)?;
-    for _ in 0..many {
-        let bytes = appended(
-            rt,
-            |into| enc_ts2diff::encode_i64_into(rt.alloc(), values, into),
-        )?;
-        check = check.wrapping_add(bytes.len() as u64);
-    }
-    row(rt, rounds, what, "encode", many * PAGE, start)?;
-    let bytes = appended(
-        rt,
-        |into| enc_ts2diff::encode_i64_into(rt.alloc(), values, into),
-    )?;
-    let start = Instant::now(rt)?;
-    for _ in 0..many {
-        let read = enc_ts2diff::decode_i64(rt.alloc(), &bytes)?;
-        check = check.wrapping_add(read.last().copied().unwrap_or(0).cast_unsigned());
-    }
-    row(rt, rounds, what, "decode", many * PAGE, start)?;
-    Ok(check)
-}
-
-/// The bytes of a page of texts, which are lent first.
-fn dictionary_bytes(rt: &HostRuntime, values: &[Text]) -> Result<Vec<u8>, Memory> {
-    let mut texts = Vec::with_capacity(rt.alloc(), values.len())?;
+/// Appends the bytes of a page of texts, which are lent first.
+fn append_dictionary(alloc: Global, values: &[Text], into: &mut Vec<u8>) -> Result<(), Memory> {
+    let mut texts = Vec::with_capacity(alloc, values.len())?;
     for text in values {
         texts.push(text)?;
     }
     texts.truncate(1000);
-    appended(
-        rt,
-        |into| enc_dict::encode_text_into(rt.alloc(), &texts, into),
-    )
+    enc_dict::encode_text_into(alloc, &texts, into)
 }
 
-/// A dictionary.
-fn dictionary(rt: &HostRuntime, rounds: Rounds, what: &str, values: &[Text]) -> Result<u64, Fault> {
+/// Appends the bytes of a page.
+fn append(alloc: Global, form: Form, page: Values, into: &mut Vec<u8>) -> Result<(), Memory>
+    requires numbers { length page.numbers.now ≤ 1000 }
+    requires texts { length page.texts.now ≤ 1000 }
+{
+    match form {
+        Form::PlainNumbers => enc_plain::encode_i64_into(page.numbers, into),
+        Form::PlainTexts => enc_plain::encode_text_into(page.texts, into),
+        Form::Runs => enc_rle::encode_i64_into(page.numbers, into),
+        Form::Differences => enc_ts2diff::encode_i64_into(alloc, page.numbers, into),
+        Form::Dictionary => append_dictionary(alloc, page.texts, into),
+    }
+}
+
+/// The bytes of a page.
+fn encoded(alloc: Global, form: Form, page: Values) -> Result<Vec<u8>, Memory>
+    requires numbers { length page.numbers.now ≤ 1000 }
+    requires texts { length page.texts.now ≤ 1000 }
+{
+    let mut bytes = Vec::new(alloc);
+    append(alloc, form, page, &mut bytes)?;
+    Ok(bytes)
+}
+
+/// A number that depends on the numbers that were decoded: the last one.
+fn last_of(decoded: Result<Vec<i64>, DecodeFault>) -> Result<u64, DecodeFault> {
+    let values = decoded?;
+    Ok(values.last().copied().unwrap_or(0).cast_unsigned())
+}
+
+/// How many texts were decoded.
+fn count_of(decoded: Result<Vec<Text>, DecodeFault>) -> Result<u64, DecodeFault> {
+    let texts = decoded?;
+    Ok(texts.len() as u64)
+}
+
+/// Decodes a page, and gives a number that depends on it.
+fn decode(alloc: Global, form: Form, bytes: &[u8]) -> Result<u64, DecodeFault> {
+    match form {
+        Form::PlainNumbers => last_of(enc_plain::decode_i64(alloc, bytes)),
+        Form::PlainTexts => count_of(enc_plain::decode_text(alloc, bytes)),
+        Form::Runs => last_of(enc_rle::decode_i64(alloc, bytes)),
+        Form::Differences => last_of(enc_ts2diff::decode_i64(alloc, bytes)),
+        Form::Dictionary => count_of(enc_dict::decode_text(alloc, bytes)),
+    }
+}
+
+/// The row of encoding a page.
+fn encode_row(
+    rt: &HostRuntime,
+    rounds: Rounds,
+    what: &str,
+    form: Form,
+    page: Values,
+) -> Result<u64, Fault>
+    requires numbers { length page.numbers.now ≤ 1000 }
+    requires texts { length page.texts.now ≤ 1000 }
+{
     let many = rounds.of(2000);
     let mut check = 0u64;
-    let start = Instant::now(rt)?;
+    let start = Instant::now(rt);
     for _ in 0..many {
-        let bytes = dictionary_bytes(rt, values)?;
+        let bytes = encoded(rt.alloc(), form, page)?;
         check = check.wrapping_add(bytes.len() as u64);
     }
-    row(rt, rounds, what, "encode", many * PAGE, start)?;
-    let bytes = dictionary_bytes(rt, values)?;
-    let start = Instant::now(rt)?;
+    measured(rt, rounds, what, "encode", many * PAGE, start, check)
+}
+
+/// The row of decoding a page.
+fn decode_row(
+    rt: &HostRuntime,
+    rounds: Rounds,
+    what: &str,
+    form: Form,
+    bytes: &[u8],
+) -> Result<u64, Fault> {
+    let many = rounds.of(2000);
+    let mut check = 0u64;
+    let start = Instant::now(rt);
     for _ in 0..many {
-        let read = enc_dict::decode_text(rt.alloc(), &bytes)?;
-        check = check.wrapping_add(read.len() as u64);
+        check = check.wrapping_add(decode(rt.alloc(), form, bytes)?);
     }
-    row(rt, rounds, what, "decode", many * PAGE, start)?;
+    measured(rt, rounds, what, "decode", many * PAGE, start, check)
+}
+
+/// The rows of a page in one encoding.
+fn both_rows(
+    rt: &HostRuntime,
+    rounds: Rounds,
+    what: &str,
+    form: Form,
+    page: Values,
+) -> Result<u64, Fault>
+    requires numbers { length page.numbers.now ≤ 1000 }
+    requires texts { length page.texts.now ≤ 1000 }
+{
+    let check = encode_row(rt, rounds, what, form, page)?;
+    let bytes = encoded(rt.alloc(), form, page)?;
+    Ok(check.wrapping_add(decode_row(rt, rounds, what, form, &bytes)?))
+}
+
+/// A page that is measured, and how the table calls it.
+#[derive(Clone, Copy)]
+struct Measured {
+    what: &'static str,
+    form: Form,
+    /// Whether its numbers are times.
+    is_time: bool,
+}
+
+const PAGES: [Measured; 7] = [
+    Measured {
+        what: "PLAIN of INT64",
+        form: Form::PlainNumbers,
+        is_time: false,
+    },
+    Measured {
+        what: "PLAIN of texts of 8 bytes",
+        form: Form::PlainTexts,
+        is_time: false,
+    },
+    Measured {
+        what: "RLE of any 64 bits, without runs",
+        form: Form::Runs,
+        is_time: false,
+    },
+    Measured {
+        what: "RLE of times, without runs",
+        form: Form::Runs,
+        is_time: true,
+    },
+    Measured {
+        what: "TS_2DIFF of any 64 bits",
+        form: Form::Differences,
+        is_time: false,
+    },
+    Measured {
+        what: "TS_2DIFF of times",
+        form: Form::Differences,
+        is_time: true,
+    },
+    Measured {
+        what: "DICTIONARY of 100 texts of 8 bytes",
+        form: Form::Dictionary,
+        is_time: false,
+    },
+];
+
+/// The rows of these pages.
+fn all_rows(
+    rt: &HostRuntime,
+    rounds: Rounds,
+    pages: &[Measured],
+    wide: Values,
+    times: Values,
+) -> Result<u64, Fault>
+    requires wide_numbers { length wide.numbers.now ≤ 1000 }
+    requires wide_texts { length wide.texts.now ≤ 1000 }
+    requires times_numbers { length times.numbers.now ≤ 1000 }
+    requires times_texts { length times.texts.now ≤ 1000 }
+{
+    let mut check = 0u64;
+    for one in pages {
+        let done = match one.is_time {
+            true => both_rows(rt, rounds, one.what, one.form, times)?,
+            false => both_rows(rt, rounds, one.what, one.form, wide)?,
+        };
+        check = check.wrapping_add(done);
+    }
     Ok(check)
+}
+
+/// The rows of the encodings.
+pub fn encodings(rt: &HostRuntime, rounds: Rounds) -> Result<u64, Fault> {
+    let numbers = page(rt, false)?;
+    let times = page(rt, true)?;
+    let texts = texts(rt, 100)?;
+    let wide = Values {
+        numbers: &numbers,
+        texts: &texts,
+    };
+    let rising = Values {
+        numbers: &times,
+        texts: &texts,
+    };
+    Ok(all_rows(rt, rounds, &PAGES, wide, rising)?.max(1))
 }

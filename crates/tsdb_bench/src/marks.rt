@@ -3,7 +3,7 @@ ghost use Rattle.std.specs.Prelude.{◌<◌, length};
 
 use crate::fault::Fault;
 use crate::numbers::next;
-use crate::table::{Rounds, row};
+use crate::table::{Rounds, measured};
 use std::time::Instant;
 use tsdb_base::{Range, Stamp, Time};
 use tsdb_marks::{Mark, Marks};
@@ -39,20 +39,17 @@ fn range_of(ranges: Ranges, done: u64, seed: u64) -> Range {
     Range { from, to }
 }
 
+/// The path of a series.
+fn path(rt: &HostRuntime, number: u32) -> Result<Path, Fault> {
+    let text = format!(in rt.alloc(); "root.g.d.s{number:04}")?;
+    Ok(Path::read(rt.alloc(), text.as_bytes())?)
+}
+
 /// The paths of so many series.
 fn paths(rt: &HostRuntime, count: u32) -> Result<Vec<Path>, Fault> {
     let mut paths = Vec::new(rt.alloc());
     for number in 0..count {
-        let mut text = Vec::from_slice(rt.alloc(), b"root.g.d.s")?;
-        for digit in [
-            number / 1000 % 10,
-            number / 100 % 10,
-            number / 10 % 10,
-            number % 10,
-        ] {
-            text.push(b'0' + digit as u8)?;
-        }
-        paths.push(Path::read(rt.alloc(), text.as_slice())?)?;
+        paths.push(path(rt, number)?)?;
     }
     Ok(paths)
 }
@@ -117,16 +114,16 @@ fn measure(
         return Err(Fault::NoGroup);
     }
     let count = rounds.of(MARKS);
-    let start = Instant::now(rt)?;
+    let start = Instant::now(rt);
     let marks = add(rt, paths, ranges, count)?;
-    row(rt, rounds, what, "add", count, start)?;
-    let start = Instant::now(rt)?;
+    measured(rt, rounds, what, "add", count, start, 0)?;
+    let start = Instant::now(rt);
     let survivors = count_survivors(&marks, paths, count);
-    row(rt, rounds, what, "survives", count, start)?;
-    let start = Instant::now(rt)?;
+    let check = measured(rt, rounds, what, "survives", count, start, survivors.max(1))?;
+    let start = Instant::now(rt);
     let only = marks.only(&paths[..1])?;
-    row(rt, rounds, what, "only", only.marks().len() as u64, start)?;
-    Ok(survivors.max(1))
+    let found = only.marks().len() as u64;
+    measured(rt, rounds, what, "only", found, start, check)
 }
 
 /// The rows of the marks.

@@ -1,7 +1,7 @@
 //! The speed of merging lists of points. It depends on `tsdb_merge`.
 
 use crate::fault::Fault;
-use crate::table::{Rounds, row};
+use crate::table::{Rounds, measured};
 use std::time::Instant;
 use tsdb_base::{Point, Value, is_rising};
 use tsdb_merge::{ListPoints, Merge};
@@ -57,13 +57,12 @@ fn merge(
     let lists = lists(rt, count, length)?;
     let points = count.wrapping_mul(length);
     let mut check = 0u64;
-    let start = Instant::now(rt)?;
+    let start = Instant::now(rt);
     let mut merge = Merge::new(rt.alloc(), lists)?;
     for _ in 0..points {
         if let Some(point) = merge.pull()? {
             check = check.wrapping_add(point.time.cast_unsigned());
         }
     }
-    row(rt, rounds, what, "merge", points, start)?;
-    Ok(check)
+    measured(rt, rounds, what, "merge", points, start, check)
 }

@@ -2,6 +2,7 @@
 
 ghost use Rattle.std.specs.Prelude.{◌<◌, ◌≤◌};
 
+use crate::fault::Fault;
 use std::io;
 use std::time::Instant;
 
@@ -47,6 +48,21 @@ pub fn row(
     }
     let tenths = u128::from(done) * 10_000 / nanos;
     println!(rt; "{what:<50} {step:<10} {:>8}.{}", tenths / 10, tenths % 10)
+}
+
+/// Prints the same row of a start that may have failed, and gives `check`, so that who measures has one exit in place of
+/// three.
+pub fn measured(
+    rt: &HostRuntime,
+    rounds: Rounds,
+    what: &str,
+    step: &str,
+    done: u64,
+    start: io::Result<Instant>,
+    check: u64,
+) -> Result<u64, Fault> {
+    row(rt, rounds, what, step, done, start?)?;
+    Ok(check)
 }
 
 /// Prints how many things were done in a second since `start`.
