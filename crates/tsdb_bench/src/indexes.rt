@@ -1,7 +1,7 @@
 //! The speed of the index of a file. It depends on `tsdb_index`.
 
 use crate::fault::Fault;
-use crate::table::{Rounds, row};
+use crate::table::{Rounds, measured};
 use std::time::Instant;
 use tsdb_base::{DataType, Encoding, List, Stats, Value};
 use tsdb_index::{Index, IndexEntry, PageEntry, read_index, write_leaves_and_root};
@@ -85,9 +85,9 @@ fn write(rt: &HostRuntime, rounds: Rounds, chunks: u64) -> Result<(Vec<u8>, u64)
     let index = Index {
         entries: List::of(entries),
     };
-    let start = Instant::now(rt)?;
+    let start = Instant::now(rt);
     let written = write_leaves_and_root(rt.alloc(), &index, PLACE)?;
-    row(rt, rounds, NAME, "write", chunks, start)?;
+    measured(rt, rounds, NAME, "write", chunks, start, 0)?;
     Ok(written)
 }
 
@@ -102,10 +102,10 @@ fn read(
     if bytes.len() > LIMIT || root < PLACE || root - PLACE > bytes.len() as u64 {
         return Err(Fault::Unread);
     }
-    let start = Instant::now(rt)?;
+    let start = Instant::now(rt);
     let index = read_index(rt.alloc(), bytes, PLACE, root)?;
-    row(rt, rounds, NAME, "read", chunks, start)?;
-    Ok(index.entries.items().len() as u64)
+    let count = index.entries.items().len() as u64;
+    measured(rt, rounds, NAME, "read", chunks, start, count)
 }
 
 /// The rows of an index.

@@ -2,7 +2,7 @@
 
 use crate::fault::Fault;
 use crate::numbers::next;
-use crate::table::{Rounds, row};
+use crate::table::{Rounds, measured};
 use std::time::Instant;
 use tsdb_base::{Point, SeriesId, Time, Value};
 use tsdb_memtable::{Pair, Watermarks};
@@ -51,18 +51,25 @@ fn fill(rt: &HostRuntime, pairs: u64, times: &[Time]) -> Result<u64, Fault> {
     Ok(check)
 }
 
+/// The row of pairs with points at such times.
+fn put_row(
+    rt: &HostRuntime,
+    rounds: Rounds,
+    what: &str,
+    are_some_late: bool,
+) -> Result<u64, Fault> {
+    let times = times(rt, are_some_late)?;
+    let pairs = rounds.of(100);
+    let start = Instant::now(rt);
+    let check = fill(rt, pairs, &times)?;
+    measured(rt, rounds, what, "put", pairs * PAIR, start, check)
+}
+
 /// The rows of the pairs.
 pub fn memtable(rt: &HostRuntime, rounds: Rounds) -> Result<u64, Fault> {
-    let mut check = 1u64;
-    for (what, are_some_late) in [
-        ("pairs of 10,000 points in order of time", false),
-        ("the same, 20 % late by up to 1,000 places", true),
-    ] {
-        let times = times(rt, are_some_late)?;
-        let pairs = rounds.of(100);
-        let start = Instant::now(rt)?;
-        check = check.wrapping_add(fill(rt, pairs, &times)?);
-        row(rt, rounds, what, "put", pairs * PAIR, start)?;
-    }
-    Ok(check.max(1))
+    let what = "pairs of 10,000 points in order of time";
+    let ordered = put_row(rt, rounds, what, false)?;
+    let what = "the same, 20 % late by up to 1,000 places";
+    let late = put_row(rt, rounds, what, true)?;
+    Ok(ordered.wrapping_add(late).max(1))
 }

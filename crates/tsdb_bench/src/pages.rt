@@ -2,7 +2,7 @@
 
 use crate::fault::Fault;
 use crate::numbers::next;
-use crate::table::{Rounds, row};
+use crate::table::{Rounds, measured};
 use std::time::Instant;
 use tsdb_base::{DataType, Encoding, Point, Text, Value, suits};
 use tsdb_pages::{are_points, read_page, write_page};
@@ -139,21 +139,20 @@ fn repeat(
         return Err(Fault::Unread);
     }
     let many = rounds.of(2000);
-    let mut check = 0u64;
-    let start = Instant::now(rt)?;
+    let mut written = 0u64;
+    let start = Instant::now(rt);
     for _ in 0..many {
         let body = write_page(rt.alloc(), points, data_type, encoding)?;
-        check = check.wrapping_add(body.len() as u64);
+        written = written.wrapping_add(body.len() as u64);
     }
-    row(rt, rounds, what, "write", many * PAGE, start)?;
+    let mut check = measured(rt, rounds, what, "write", many * PAGE, start, written)?;
     let body = write_page(rt.alloc(), points, data_type, encoding)?;
-    let start = Instant::now(rt)?;
+    let start = Instant::now(rt);
     for _ in 0..many {
         let read = read_page(rt.alloc(), &body, data_type, encoding)?;
         check = check.wrapping_add(read.len() as u64);
     }
-    row(rt, rounds, what, "read", many * PAGE, start)?;
-    Ok(check)
+    measured(rt, rounds, what, "read", many * PAGE, start, check)
 }
 
 /// Statistics of one page.
@@ -168,10 +167,9 @@ fn statistics(
     }
     let many = rounds.of(20_000);
     let mut check = 0u64;
-    let start = Instant::now(rt)?;
+    let start = Instant::now(rt);
     for _ in 0..many {
         check = check.wrapping_add(stats_of(points)?.count);
     }
-    row(rt, rounds, what, "stats_of", many * PAGE, start)?;
-    Ok(check)
+    measured(rt, rounds, what, "stats_of", many * PAGE, start, check)
 }

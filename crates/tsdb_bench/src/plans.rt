@@ -1,7 +1,7 @@
 //! The speed of cross plans. It depends on `tsdb_plan`.
 
 use crate::fault::Fault;
-use crate::table::{Rounds, row};
+use crate::table::{Rounds, measured};
 use std::time::Instant;
 use tsdb_base::{FileNumber, List, Stamp};
 use tsdb_path::Path;
@@ -70,21 +70,14 @@ fn plan(rt: &HostRuntime, rounds: Rounds, what: &str, spread: u64) -> Result<u64
         return Err(Fault::Unread);
     }
     let mut check = 0u64;
-    let start = Instant::now(rt)?;
+    let start = Instant::now(rt);
     for _ in 0..many {
         if let Some(plan) = cross(&sequence, &unsequence) {
             check = check.wrapping_add(plan.end as u64);
         }
     }
-    row(
-        rt,
-        rounds,
-        what,
-        "hulls",
-        many * (early + late) * u64::from(DEVICES),
-        start,
-    )?;
-    Ok(check)
+    let hulls = many * (early + late) * u64::from(DEVICES);
+    measured(rt, rounds, what, "hulls", hulls, start, check)
 }
 
 /// The rows of cross plans: at least 2.2 million hulls a second are 50 ms a plan.

@@ -1,4 +1,4 @@
-//! Timing, and the rows of the table. It depends on std alone.
+//! Timing, and the rows of the table. It depends on std and on `fault`.
 
 ghost use Rattle.std.specs.Prelude.{◌<◌, ◌≤◌};
 
