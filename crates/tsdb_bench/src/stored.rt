@@ -2,7 +2,7 @@
 ghost use Rattle.std.specs.Prelude.{◌≡◌, All};
 
 use crate::fault::Fault;
-use crate::table::{Rounds, rate};
+use crate::table::{Rounds, rated};
 use fs_outside::FsPlace;
 use std::alloc::{AllocError, AllocFailed, Global};
 use std::fs::{self, File, OpenOptions};
@@ -138,15 +138,14 @@ fn put_and_list<F: Files>(
     ensures port { F.Port.store port.new ≡ F.Port.store port.old }
 {
     let bytes = block(rt.alloc(), BYTES)?;
-    let start = Instant::now(rt)?;
+    let start = Instant::now(rt);
     put_all(files, port, count, &bytes)?;
-    rate(rt, rounds, IN_STORE, "put", count, start)?;
-    let start = Instant::now(rt)?;
+    rated(rt, rounds, IN_STORE, "put", count, start)?;
+    let start = Instant::now(rt);
     if files.list()?.len() as u64 != count {
         return Err(Fault::Unread);
     }
-    rate(rt, rounds, IN_STORE, "list", count, start)?;
-    Ok(())
+    rated(rt, rounds, IN_STORE, "list", count, start)
 }
 
 /// Fetches all files, and then reads or removes them. It prints the row of each step, but of a second `fetch`.
@@ -166,10 +165,10 @@ fn fetch_and_end<F: Files>(
         false => ("read", rounds),
         true => ("remove", Rounds::One),
     };
-    let start = Instant::now(rt)?;
+    let start = Instant::now(rt);
     let mut tokens = Vec::new(rt.alloc());
     let fetched = fetch_all(files, count, &mut tokens);
-    let printed = rate(rt, fetch_rounds, IN_STORE, "fetch", count, start);
+    let printed = rated(rt, fetch_rounds, IN_STORE, "fetch", count, start);
     let start = Instant::now(rt);
     let went_well = end_all(files, port, tokens, is_removal);
     fetched?;
@@ -177,8 +176,7 @@ fn fetch_and_end<F: Files>(
     if !went_well {
         return Err(Fault::Store);
     }
-    rate(rt, rounds, IN_STORE, step, count, start?)?;
-    Ok(())
+    rated(rt, rounds, IN_STORE, step, count, start)
 }
 
 /// The rows of so many files in an open store.
@@ -290,27 +288,31 @@ fn bare_row(
     step: &str,
     count: u64,
 ) -> Result<(), Fault> {
-    let start = Instant::now(rt)?;
+    let start = Instant::now(rt);
     for number in 1..=count {
         make_bare(rt, directory, call, number)?;
     }
-    rate(rt, rounds, BY_CALLS, step, count, start)?;
-    Ok(())
+    rated(rt, rounds, BY_CALLS, step, count, start)
+}
+
+/// The rows of the calls in the folder of the bare files.
+fn bare_rows(rt: &HostRuntime, rounds: Rounds, directory: &File, count: u64) -> Result<(), Fault> {
+    bare_row(rt, rounds, directory, BareCall::Put, "put", count)?;
+    let start = Instant::now(rt);
+    if count_bare(rt)? != count {
+        return Err(Fault::Unread);
+    }
+    rated(rt, rounds, BY_CALLS, "list", count, start)?;
+    bare_row(rt, rounds, directory, BareCall::Fetch, "fetch", count)?;
+    bare_row(rt, rounds, directory, BareCall::Read, "read", count)?;
+    bare_row(rt, rounds, directory, BareCall::Remove, "remove", count)
 }
 
 /// The rows of the calls that a store makes of the system.
 fn by_calls(rt: &HostRuntime, rounds: Rounds, count: u64) -> Result<(), Fault> {
     fs::create_dir(rt, BARE)?;
     let directory = File::open(rt, BARE)?;
-    bare_row(rt, rounds, &directory, BareCall::Put, "put", count)?;
-    let start = Instant::now(rt)?;
-    if count_bare(rt)? != count {
-        return Err(Fault::Unread);
-    }
-    rate(rt, rounds, BY_CALLS, "list", count, start)?;
-    bare_row(rt, rounds, &directory, BareCall::Fetch, "fetch", count)?;
-    bare_row(rt, rounds, &directory, BareCall::Read, "read", count)?;
-    bare_row(rt, rounds, &directory, BareCall::Remove, "remove", count)?;
+    bare_rows(rt, rounds, &directory, count)?;
     fs::remove_dir_all(rt, BARE)?;
     Ok(())
 }

@@ -82,6 +82,19 @@ pub fn rate(
     println!(rt; "{what:<50} {step:<10} {a_second:>10} a second")
 }
 
+/// Prints the row of `rate` of a start that may have failed.
+pub fn rated(
+    rt: &HostRuntime,
+    rounds: Rounds,
+    what: &str,
+    step: &str,
+    done: u64,
+    start: io::Result<Instant>,
+) -> Result<(), Fault> {
+    rate(rt, rounds, what, step, done, start?)?;
+    Ok(())
+}
+
 /// Prints how many milliseconds each of these took since `start`.
 pub fn each(
     rt: &HostRuntime,
