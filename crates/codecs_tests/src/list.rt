@@ -46,7 +46,7 @@ fn left_of(alloc: Global, appended: Result<(), Memory>) -> Result<Vec<u8>, Alloc
 
 #[test]
 fn an_append_that_failed_is_undone(rt: HostRuntime) -> Result<(), Fail> {
-    assert!(rt; left_of(rt.alloc(), Ok(()))?.as_slice() == &[1, 2, 3]);
-    assert!(rt; left_of(rt.alloc(), Err(Memory))?.as_slice() == &[1, 2]);
+    assert!(rt; left_of(rt.alloc(), Ok(()))?.as_slice() == [1, 2, 3].as_slice());
+    assert!(rt; left_of(rt.alloc(), Err(Memory))?.as_slice() == [1, 2].as_slice());
     Ok(())
 }
