@@ -1,18 +1,21 @@
 //! Tests of `Builder` of tsfile_writer: files that it makes, beside those of `write_tree` and of the plain writer.
-ghost use Rattle.std.specs.Prelude.{◌≡◌, ◌<◌, ◌≤◌, ◌↔◌, All, IsTrue, IfOk, OnOk, length};
+ghost use Rattle.std.specs.Prelude.{◌≡◌, ◌<◌, ◌≤◌, ◌↔◌, All, IsTrue, IfOk, List, OnOk, [], length, ℕ};
 ghost use Rattle.tsdb_base.specs.Values.{type_of};
 ghost use Rattle.tsdb_base.specs.Points.{IsRising};
 ghost use Rattle.tsdb_index.specs.Entries as index;
 ghost use Rattle.tsdb_path.specs.Nodes.{device_of as device_in, measurement_of as measurement_in, node_count};
+ghost use Rattle.tsfile_writer.specs.Building.{WasGiven};
 ghost use Rattle.tsfile_writer.specs.Driving.{HasLast, IsBare};
 
 use super::reader::{Call, read_bytes, steady_port};
-use super::samples::{WORKED, add_chunk, chunk_of, numbered, pages, points};
-use super::writer::{tree_of, wide_tree, written};
+use super::samples::{WORKED, add_chunk, chunk, numbered, points, tree_of, worked_points};
+use super::writer::{wide_tree, written};
 use std::alloc::Global;
+use std::slice;
 use std::test::Fail;
-use tsdb_base::{DataType, Encoding, Point, Value, is_rising, suits};
-use tsdb_pages::Group;
+use tsdb_base::{DataType, Encoding, Point, Value, copy_points, is_rising, suits};
+use tsdb_index::FileMeta;
+use tsdb_pages::{Group, Tree};
 use tsdb_path::{Name, Path};
 use tsfile_writer::Builder;
 
@@ -91,32 +94,37 @@ fn put_points(
     Ok(())
 }
 
-/// The file of the series.
-fn built(alloc: Global, all: Vec<Series>) -> Result<Vec<u8>, Fail> {
-    let mut builder = Builder::new(alloc);
-    let mut last: Option<Path> = None;
+/// Gives the series to the builder, one behind the other. There is one at least.
+fn put_all(alloc: Global, all: &[Series], builder: &mut Builder) -> Result<(), Fail>
+    requires { WasGiven builder.old [] }
+    ensures { OnOk result ((path : List ℕ) × HasLast path builder.new) }
+{
+    let mut last: Option<&Path> = None;
     for series in all {
-        let Series {
-            path,
-            data_type,
-            encoding,
-            points,
-        } = series;
-        if path.nodes() < 2 || !suits(data_type, encoding) {
+        let path = &series.path;
+        if path.nodes() < 2 || !suits(series.data_type, series.encoding) {
             return Err("no series".into());
         }
-        if let Some(last) = &last {
-            if !may_follow(alloc, last, &path)? {
+        if let Some(last) = last {
+            if !may_follow(alloc, last, path)? {
                 return Err("not behind the last".into());
             }
         }
-        builder.series(&path, data_type, encoding)?;
-        put_points(&mut builder, &path, data_type, encoding, points)?;
+        builder.series(path, series.data_type, series.encoding)?;
+        let points = copy_points(alloc, &series.points)?;
+        put_points(builder, path, series.data_type, series.encoding, points)?;
         last = Some(path);
     }
-    if last.is_none() {
-        return Err("no series".into());
+    match last {
+        Some(_) => Ok(()),
+        None => Err("no series".into()),
     }
+}
+
+/// The file of the series.
+fn built(alloc: Global, all: &[Series]) -> Result<Vec<u8>, Fail> {
+    let mut builder = Builder::new(alloc);
+    put_all(alloc, all, &mut builder)?;
     Ok(builder.finish()?)
 }
 
@@ -132,50 +140,75 @@ fn sizes(alloc: Global, count: u16) -> Result<Vec<u16>, Fail> {
     Ok(sizes)
 }
 
-/// The devices and measurements of three series.
-const NAMES: [(&[u8], &[u8]); 3] = [(b"root.a", b"s"), (b"root.a", b"t"), (b"root.b", b"a")];
+/// The path, the device and the measurement of a series.
+type Names = (&'static [u8], &'static [u8], &'static [u8]);
 
-/// The pairs of type and encoding, and how many points each of the three series has.
-const CASES: [(DataType, Encoding, [u16; 3]); 10] = [
-    (DataType::Boolean, Encoding::Plain, [1, 1000, 1001]),
-    (DataType::Boolean, Encoding::Rle, [2000, 2001, 1]),
-    (DataType::Int32, Encoding::Plain, [999, 2, 3000]),
-    (DataType::Int32, Encoding::Rle, [1001, 1, 1000]),
-    (DataType::Int32, Encoding::Ts2diff, [1, 2000, 2001]),
-    (DataType::Int64, Encoding::Plain, [2001, 1000, 1]),
-    (DataType::Int64, Encoding::Rle, [3, 1001, 2000]),
-    (DataType::Int64, Encoding::Ts2diff, [1000, 1001, 2001]),
-    (DataType::Text, Encoding::Plain, [1, 2001, 1000]),
-    (DataType::Text, Encoding::Dictionary, [1001, 2000, 1]),
+/// Those of three series.
+const NAMES: [Names; 3] = [
+    (b"root.a.s", b"root.a", b"s"),
+    (b"root.a.t", b"root.a", b"t"),
+    (b"root.b.a", b"root.b", b"a"),
 ];
 
-/// A series of so many points.
+/// A pair of type and encoding, and how many points each of the three series has.
+type Case = (DataType, Encoding, &'static [u16]);
+
+const CASES: [Case; 10] = [
+    (DataType::Boolean, Encoding::Plain, &[1, 1000, 1001]),
+    (DataType::Boolean, Encoding::Rle, &[2000, 2001, 1]),
+    (DataType::Int32, Encoding::Plain, &[999, 2, 3000]),
+    (DataType::Int32, Encoding::Rle, &[1001, 1, 1000]),
+    (DataType::Int32, Encoding::Ts2diff, &[1, 2000, 2001]),
+    (DataType::Int64, Encoding::Plain, &[2001, 1000, 1]),
+    (DataType::Int64, Encoding::Rle, &[3, 1001, 2000]),
+    (DataType::Int64, Encoding::Ts2diff, &[1000, 1001, 2001]),
+    (DataType::Text, Encoding::Plain, &[1, 2001, 1000]),
+    (DataType::Text, Encoding::Dictionary, &[1001, 2000, 1]),
+];
+
+/// The names of the series with this number.
+fn names_of(number: usize) -> Result<Names, Fail> {
+    match NAMES.get(number) {
+        Some(names) => Ok(*names),
+        None => Err("no name".into()),
+    }
+}
+
+/// A series of these points.
 fn series_of(
     alloc: Global,
-    names: (&[u8], &[u8]),
+    path: &[u8],
     kind: (DataType, Encoding),
-    count: u16,
+    points: Vec<Point>,
 ) -> Result<Series, Fail> {
-    let device = Path::read(alloc, names.0)?;
-    let path = device.child(&Name::read(alloc, names.1)?)?;
-    let points = points(alloc, kind.0, 1, count)?;
     Ok(Series {
-        path,
+        path: Path::read(alloc, path)?,
         data_type: kind.0,
         encoding: kind.1,
         points,
     })
 }
 
+/// A series of so many points.
+fn counted_series(
+    alloc: Global,
+    path: &[u8],
+    kind: (DataType, Encoding),
+    count: u16,
+) -> Result<Series, Fail> {
+    series_of(alloc, path, kind, points(alloc, kind.0, 1, count)?)
+}
+
 /// The three series of a case, of so many points.
 fn three_series(
     alloc: Global,
     kind: (DataType, Encoding),
-    counts: [u16; 3],
+    counts: &[u16],
 ) -> Result<Vec<Series>, Fail> {
     let mut all = Vec::new(alloc);
-    for (names, count) in NAMES.into_iter().zip(counts) {
-        all.push(series_of(alloc, names, kind, count)?)?;
+    for number in 0..counts.len() {
+        let path = names_of(number)?.0;
+        all.push(counted_series(alloc, path, kind, counts[number])?)?;
     }
     Ok(all)
 }
@@ -183,90 +216,112 @@ fn three_series(
 /// Adds the chunk of a series, with pages of 1,000 points and a last one.
 fn add_series(
     alloc: Global,
-    names: (&[u8], &[u8]),
+    names: Names,
     kind: (DataType, Encoding),
     count: u16,
     groups: &mut Vec<Group>,
 ) -> Result<(), Fail> {
-    let sizes = sizes(alloc, count)?;
-    let pages = pages(alloc, kind.0, &sizes)?;
-    let chunk = chunk_of(alloc, names.1, kind, pages)?;
-    add_chunk(alloc, names.0, chunk, groups)
+    let chunk = chunk(alloc, names.2, kind, &sizes(alloc, count)?)?;
+    add_chunk(alloc, names.1, chunk, groups)
 }
 
 /// The groups of the three series of a case.
 fn three_chunks(
     alloc: Global,
     kind: (DataType, Encoding),
-    counts: [u16; 3],
+    counts: &[u16],
 ) -> Result<Vec<Group>, Fail> {
     let mut groups = Vec::new(alloc);
-    for (names, count) in NAMES.into_iter().zip(counts) {
-        add_series(alloc, names, kind, count, &mut groups)?;
+    for number in 0..counts.len() {
+        add_series(alloc, names_of(number)?, kind, counts[number], &mut groups)?;
     }
     Ok(groups)
 }
 
-/// The points of the worked file.
-fn worked_points(alloc: Global) -> Result<Vec<Point>, Fail> {
-    let point = Point {
-        time: 1,
-        value: Value::I64(5),
-    };
-    Ok(vec![in alloc; point]?)
+/// The series of the worked file.
+fn worked_series(alloc: Global) -> Result<Series, Fail> {
+    let kind = (DataType::Int64, Encoding::Plain);
+    series_of(alloc, b"root.g.d.s", kind, worked_points(alloc)?)
+}
+
+/// The file of one series.
+fn built_of_one(alloc: Global, series: &Series) -> Result<Vec<u8>, Fail> {
+    built(alloc, slice::from_ref(series))
+}
+
+/// Whether the builder makes the worked file.
+fn is_worked_built(alloc: Global) -> Result<bool, Fail> {
+    let bytes = built_of_one(alloc, &worked_series(alloc)?)?;
+    Ok(bytes.as_slice() == WORKED.as_slice())
 }
 
 #[test]
 fn worked_file_built(rt: HostRuntime) -> Result<(), Fail> {
-    let alloc = rt.alloc();
-    let path = Path::read(alloc, b"root.g.d.s")?;
-    let points = worked_points(alloc)?;
-    let series = Series {
-        path,
-        data_type: DataType::Int64,
-        encoding: Encoding::Plain,
-        points,
-    };
-    let bytes = built(alloc, vec![in alloc; series]?)?;
-    assert!(rt; bytes.as_slice() == WORKED.as_slice());
+    assert!(rt; is_worked_built(rt.alloc())?);
     Ok(())
 }
 
 /// Whether the builder gives the bytes of `write_tree` and of the plain writer.
-fn is_same_file(alloc: Global, kind: (DataType, Encoding), counts: [u16; 3]) -> Result<bool, Fail> {
-    let bytes = built(alloc, three_series(alloc, kind, counts)?)?;
-    let tree = tree_of(three_chunks(alloc, kind, counts)?);
-    Ok(bytes == written(alloc, &tree)?)
+fn is_file_of(alloc: Global, all: &[Series], tree: &Tree) -> Result<bool, Fail> {
+    let bytes = written(alloc, tree)?;
+    Ok(built(alloc, all)? == bytes)
+}
+
+/// Whether the three series of a case are built so.
+fn is_same_file(alloc: Global, case: Case) -> Result<bool, Fail> {
+    let kind = (case.0, case.1);
+    let all = three_series(alloc, kind, case.2)?;
+    let tree = tree_of(three_chunks(alloc, kind, case.2)?);
+    is_file_of(alloc, &all, &tree)
+}
+
+/// The place of the first case whose series are built otherwise.
+fn wrong_case(alloc: Global, cases: &[Case]) -> Result<Option<usize>, Fail> {
+    for place in 0..cases.len() {
+        if !is_same_file(alloc, cases[place])? {
+            return Ok(Some(place));
+        }
+    }
+    Ok(None)
 }
 
 /// Pages are begun at 1,000 points alone.
 #[test]
 fn pages_filled_in_turn(rt: HostRuntime) -> Result<(), Fail> {
-    for (data_type, encoding, counts) in CASES {
-        let is_same = is_same_file(rt.alloc(), (data_type, encoding), counts)?;
-        assert!(rt; is_same, "{data_type:?} {encoding:?}");
-    }
+    let wrong = wrong_case(rt.alloc(), &CASES)?;
+    assert_eq!(rt; wrong, None);
     Ok(())
+}
+
+/// The path of the series with this number, of up to three digits.
+fn numbered_path(number: u64) -> [u8; 11] {
+    let name = numbered(number);
+    [
+        b'r', b'o', b'o', b't', b'.', b'd', b'.', name[0], name[1], name[2], name[3],
+    ]
 }
 
 /// 300 series of one point each.
 fn many_series(alloc: Global) -> Result<Vec<Series>, Fail> {
+    let kind = (DataType::Int32, Encoding::Rle);
     let mut all = Vec::new(alloc);
     for number in 0..300u64 {
-        let name = numbered(number);
-        let names = (b"root.d".as_slice(), name.as_slice());
-        all.push(series_of(alloc, names, (DataType::Int32, Encoding::Rle), 1)?)?;
+        all.push(counted_series(alloc, &numbered_path(number), kind, 1)?)?;
     }
     Ok(all)
+}
+
+/// Whether 300 series are built as their tree is written.
+fn are_many_built(alloc: Global) -> Result<bool, Fail> {
+    let all = many_series(alloc)?;
+    let tree = wide_tree(alloc)?;
+    is_file_of(alloc, &all, &tree)
 }
 
 /// The entries of the series stand in two leaves.
 #[test]
 fn many_series_built(rt: HostRuntime) -> Result<(), Fail> {
-    let alloc = rt.alloc();
-    let bytes = built(alloc, many_series(alloc)?)?;
-    let other = written(alloc, &wide_tree(alloc)?)?;
-    assert!(rt; bytes == other);
+    assert!(rt; are_many_built(rt.alloc())?);
     Ok(())
 }
 
@@ -282,29 +337,30 @@ fn long_points(alloc: Global) -> Result<Vec<Point>, Fail> {
     Ok(points)
 }
 
-/// How many pages the file has that is built of these points, and passes the check of a whole file.
-fn pages_built(alloc: Global, points: Vec<Point>) -> Result<usize, Fail> {
-    let series = Series {
-        path: Path::read(alloc, b"root.d.s")?,
-        data_type: DataType::Int64,
-        encoding: Encoding::Ts2diff,
-        points,
-    };
-    let bytes = built(alloc, vec![in alloc; series]?)?;
-    let mut port = steady_port(alloc)?;
-    let Ok(meta) = read_bytes(alloc, &mut port, &bytes, Call::Check) else {
-        return Err("no file".into());
-    };
+/// The series of these points.
+fn long_series(alloc: Global) -> Result<Series, Fail> {
+    let kind = (DataType::Int64, Encoding::Ts2diff);
+    series_of(alloc, b"root.d.s", kind, long_points(alloc)?)
+}
+
+/// How many pages the one entry of the index has.
+fn pages_of_one(meta: &FileMeta) -> Option<usize> {
     match meta.index.entries.items() {
-        [entry] => Ok(entry.pages.items().len()),
-        _ => Err("not one entry".into()),
+        [entry] => Some(entry.pages.items().len()),
+        _ => None,
     }
+}
+
+/// How many pages the file has that is built of one point more than fill 299, and passes the check of a whole file.
+fn pages_built(alloc: Global) -> Result<Option<usize>, Fail> {
+    let bytes = built_of_one(alloc, &long_series(alloc)?)?;
+    let meta = read_bytes(alloc, &mut steady_port(alloc)?, &bytes, Call::Check)?;
+    Ok(pages_of_one(&meta))
 }
 
 /// A chunk of more pages than one byte counts.
 #[test]
 fn many_pages_built(rt: HostRuntime) -> Result<(), Fail> {
-    let alloc = rt.alloc();
-    assert_eq!(rt; pages_built(alloc, long_points(alloc)?)?, 300);
+    assert_eq!(rt; pages_built(rt.alloc())?, Some(300));
     Ok(())
 }

@@ -1,9 +1,10 @@
 //! Tests of tsfile_reader on files of the plain writer, and on these with bytes changed.
 
-use super::plain_file::{PlainFile, entry_bytes, plain_file, plain_groups, put_end};
+use super::plain_file::{PlainFile, entry_bytes, finish, plain_file, plain_groups};
 use super::reader::{Call, fault_of, meta_of, read_bytes, read_page_in, steady_port};
-use super::samples::{add_chunk, chunk, chunk_of, group, points};
-use super::writer::tree_of;
+use super::samples::{
+    add_chunk, chunk, chunk_of, group, place_at, points, tree_of, tree_of_device,
+};
 use mem_outside::SteadyPort;
 use std::alloc::Global;
 use std::test::Fail;
@@ -106,17 +107,31 @@ fn group_of_rows(alloc: Global, device: &[u8], rows: &[Row], most: u16) -> Resul
 /// The plain file of the table, with so many points in a page at most.
 fn file_of_table(alloc: Global, most: u16) -> Result<PlainFile, Fail> {
     let mut groups = Vec::new(alloc);
-    for (device, rows) in TREE {
-        groups.push(group_of_rows(alloc, device, rows, most)?)?;
+    for group in &TREE {
+        groups.push(group_of_rows(alloc, group.0, group.1, most)?)?;
     }
     plain_file(alloc, &tree_of(groups))
+}
+
+/// Whether this is the entry with this number in the file.
+fn is_entry_of(
+    alloc: Global,
+    file: &PlainFile,
+    number: usize,
+    entry: &IndexEntry,
+) -> Result<bool, Fail> {
+    let bytes = entry_bytes(alloc, entry)?;
+    Ok(match file.entries.get(number) {
+        Some(wanted) => bytes == *wanted,
+        None => false,
+    })
 }
 
 /// Whether this is the index of the file.
 fn is_index_of(alloc: Global, file: &PlainFile, index: &Index) -> Result<bool, Fail> {
     let entries = index.entries.items();
-    for (entry, wanted) in entries.iter().zip(file.entries.iter()) {
-        if entry_bytes(alloc, entry)? != *wanted {
+    for number in 0..entries.len() {
+        if !is_entry_of(alloc, file, number, &entries[number])? {
             return Ok(false);
         }
     }
@@ -156,11 +171,12 @@ fn have_points(
     sizes: &[u16],
 ) -> Result<bool, Fail> {
     let mut start = 1i64;
-    for (number, size) in sizes.iter().enumerate() {
-        if !has_points(alloc, port, bytes, entry, (number, start, *size))? {
+    for number in 0..sizes.len() {
+        let size = sizes[number];
+        if !has_points(alloc, port, bytes, entry, (number, start, size))? {
             return Ok(false);
         }
-        start = start.wrapping_add(i64::from(*size));
+        start = start.wrapping_add(i64::from(size));
     }
     Ok(entry.pages.items().len() == sizes.len())
 }
@@ -175,8 +191,11 @@ fn wrong_entry(
     bytes: &[u8],
     entries: &[IndexEntry],
 ) -> Result<Option<usize>, Fail> {
-    for (place, (entry, sizes)) in entries.iter().zip(SIZES).enumerate() {
-        if !have_points(alloc, port, bytes, entry, sizes)? {
+    for place in 0..entries.len() {
+        let Some(sizes) = SIZES.get(place) else {
+            return Ok(Some(place));
+        };
+        if !have_points(alloc, port, bytes, &entries[place], sizes)? {
             return Ok(Some(place));
         }
     }
@@ -187,25 +206,50 @@ fn wrong_entry(
     }
 }
 
+/// Whether the index and the check find the length of the file and its index.
+fn is_found_by_both(alloc: Global, port: &mut SteadyPort, file: &PlainFile) -> Result<bool, Fail> {
+    Ok(
+        is_meta_found(alloc, port, file, Call::Meta)?
+            && is_meta_found(alloc, port, file, Call::Check)?,
+    )
+}
+
+/// How many entries the file of the table has, and whether it is found by both calls.
+fn table_read(alloc: Global) -> Result<(usize, bool), Fail> {
+    let file = file_of_table(alloc, 1_000)?;
+    let mut port = steady_port(alloc)?;
+    let is_found = is_found_by_both(alloc, &mut port, &file)?;
+    Ok((file.entries.len(), is_found))
+}
+
 #[test]
 fn several_devices(rt: HostRuntime) -> Result<(), Fail> {
-    let alloc = rt.alloc();
-    let mut port = steady_port(alloc)?;
-    let file = file_of_table(alloc, 1_000)?;
-    assert_eq!(rt; file.entries.len(), 6);
-    let is_read = is_meta_found(alloc, &mut port, &file, Call::Meta)?;
-    let is_checked = is_meta_found(alloc, &mut port, &file, Call::Check)?;
-    assert!(rt; is_read && is_checked);
+    let (entries, is_found) = table_read(rt.alloc())?;
+    assert_eq!(rt; entries, 6);
+    assert!(rt; is_found);
     Ok(())
+}
+
+/// The place of the first entry in these bytes whose pages have other points.
+fn wrong_entry_in(
+    alloc: Global,
+    port: &mut SteadyPort,
+    bytes: &[u8],
+) -> Result<Option<usize>, Fail> {
+    let meta = meta_of(alloc, port, bytes)?;
+    wrong_entry(alloc, port, bytes, meta.index.entries.items())
+}
+
+/// The place of the first entry of the table whose pages have other points.
+fn wrong_entry_of_table(alloc: Global) -> Result<Option<usize>, Fail> {
+    let file = file_of_table(alloc, 1_000)?;
+    let mut port = steady_port(alloc)?;
+    wrong_entry_in(alloc, &mut port, &file.bytes)
 }
 
 #[test]
 fn points_of_several_devices(rt: HostRuntime) -> Result<(), Fail> {
-    let alloc = rt.alloc();
-    let mut port = steady_port(alloc)?;
-    let file = file_of_table(alloc, 1_000)?;
-    let meta = meta_of(alloc, &mut port, &file.bytes)?;
-    let wrong = wrong_entry(alloc, &mut port, &file.bytes, meta.index.entries.items())?;
+    let wrong = wrong_entry_of_table(rt.alloc())?;
     assert_eq!(rt; wrong, None);
     Ok(())
 }
@@ -269,15 +313,19 @@ fn is_written_so(
 /// The place of the part in which this byte stands.
 fn part_of(file: &PlainFile, place: u64) -> u64 {
     let tail = (file.bytes.len() as u64).saturating_sub(14);
+    if place >= tail {
+        return tail;
+    }
+    if place >= file.root {
+        return file.root;
+    }
+    if place >= file.leaf {
+        return file.leaf;
+    }
     let mut part = 0;
     for at in &file.places {
         if *at <= place {
             part = *at;
-        }
-    }
-    for at in [file.leaf, file.root, tail] {
-        if at <= place {
-            part = at;
         }
     }
     part
@@ -343,26 +391,41 @@ fn wrong_place(
     file: &mut PlainFile,
 ) -> Result<Option<usize>, Fail> {
     for place in 0..file.bytes.len() {
-        for bits in [0xff, 0x01] {
-            if !is_found(alloc, port, file, place, bits)? {
-                return Ok(Some(place));
-            }
+        if !is_found(alloc, port, file, place, 0xff)?
+            || !is_found(alloc, port, file, place, 0x01)?
+        {
+            return Ok(Some(place));
         }
     }
     Ok(None)
+}
+
+/// What the changes of a file came to: whether it had bytes, the first place at which the check answered as it may not,
+/// and the fault of the file once the changes were undone.
+type Changed = (bool, Option<usize>, Option<ReadFault>);
+
+/// What the changes of this file come to.
+fn changes_of(alloc: Global, port: &mut SteadyPort, file: &mut PlainFile) -> Result<Changed, Fail> {
+    let has_bytes = !file.bytes.is_empty();
+    let wrong = wrong_place(alloc, port, file)?;
+    let fault = fault_of(alloc, port, &file.bytes, Call::Check);
+    Ok((has_bytes, wrong, fault))
+}
+
+/// What the changes of the table's file come to.
+fn changes_of_table(alloc: Global) -> Result<Changed, Fail> {
+    let mut file = file_of_table(alloc, 5)?;
+    let mut port = steady_port(alloc)?;
+    changes_of(alloc, &mut port, &mut file)
 }
 
 /// A byte that is changed is found as damage at a place that its part allows, unless the bytes are then those of
 /// another tree: a value within a page may change where the least and the greatest stay.
 #[test]
 fn changed_bytes(rt: HostRuntime) -> Result<(), Fail> {
-    let alloc = rt.alloc();
-    let mut port = steady_port(alloc)?;
-    let mut file = file_of_table(alloc, 5)?;
-    assert!(rt; !file.bytes.is_empty());
-    let wrong = wrong_place(alloc, &mut port, &mut file)?;
+    let (has_bytes, wrong, fault) = changes_of_table(rt.alloc())?;
+    assert!(rt; has_bytes);
     assert_eq!(rt; wrong, None);
-    let fault = fault_of(alloc, &mut port, &file.bytes, Call::Check);
     assert_eq!(rt; fault, None);
     Ok(())
 }
@@ -374,18 +437,12 @@ fn small_tree(alloc: Global, count: u16) -> Result<Tree, Fail> {
         let name = [b'a' + (number / 26 % 26) as u8, b'a' + (number % 26) as u8];
         chunks.push(chunk(alloc, &name, (DataType::Int64, Encoding::Plain), &[1])?)?;
     }
-    let group = group(alloc, b"root.a", chunks)?;
-    Ok(tree_of(vec![in alloc; group]?))
+    tree_of_device(alloc, b"root.a", chunks)
 }
 
 /// The place of the last leaf, which the root says in its last bytes.
 fn last_leaf(bytes: &[u8]) -> u64 {
-    let mut place = 0u64;
-    let end = bytes.len().saturating_sub(14);
-    for byte in bytes.get(end.saturating_sub(8)..end).unwrap_or(&[]) {
-        place = place << 8 | u64::from(*byte);
-    }
-    place
+    place_at(bytes, bytes.len().saturating_sub(14 + 8))
 }
 
 /// Whether the check finds damage at this place.
@@ -407,32 +464,57 @@ fn is_found_at(
     is_damaged
 }
 
+/// Whether the leaves stand one behind the other before the root, whether a value changed in the first and the last
+/// page is found at the leaf of its chunk, and the fault of the file once the changes are undone.
+fn leaves_found(
+    alloc: Global,
+    port: &mut SteadyPort,
+    file: &mut PlainFile,
+) -> (bool, bool, Option<ReadFault>) {
+    let (first, last) = (file.leaf, last_leaf(&file.bytes));
+    let are_in_order = first < last && last < file.root;
+    let end = first.saturating_sub(1) as usize;
+    let are_found = is_found_at(alloc, port, file, 42, first)
+        && is_found_at(alloc, port, file, end, last);
+    let fault = fault_of(alloc, port, &file.bytes, Call::Check);
+    (are_in_order, are_found, fault)
+}
+
+/// What is found so in a file of two leaves.
+fn two_leaves_found(alloc: Global) -> Result<(bool, bool, Option<ReadFault>), Fail> {
+    let mut file = plain_file(alloc, &small_tree(alloc, 258)?)?;
+    let mut port = steady_port(alloc)?;
+    Ok(leaves_found(alloc, &mut port, &mut file))
+}
+
 /// A page with another value is found at the leaf of its chunk.
 #[test]
 fn second_leaf(rt: HostRuntime) -> Result<(), Fail> {
-    let alloc = rt.alloc();
-    let mut port = steady_port(alloc)?;
-    let mut file = plain_file(alloc, &small_tree(alloc, 258)?)?;
-    let (first, last) = (file.leaf, last_leaf(&file.bytes));
-    assert!(rt; first < last && last < file.root);
-    let end = first.saturating_sub(1) as usize;
-    let is_found = is_found_at(alloc, &mut port, &mut file, 42, first)
-        && is_found_at(alloc, &mut port, &mut file, end, last);
-    assert!(rt; is_found);
-    let fault = fault_of(alloc, &mut port, &file.bytes, Call::Check);
+    let (are_in_order, are_found, fault) = two_leaves_found(rt.alloc())?;
+    assert!(rt; are_in_order);
+    assert!(rt; are_found);
     assert_eq!(rt; fault, None);
     Ok(())
+}
+
+/// The file of a tree without the entry of its last chunk.
+fn file_without_entry(alloc: Global, tree: &Tree) -> Result<PlainFile, Fail> {
+    let mut draft = plain_groups(alloc, tree)?;
+    draft.forget_last_chunk();
+    finish(alloc, draft)
+}
+
+/// Whether a chunk without an entry is found at the last leaf.
+fn is_missed_entry_found(alloc: Global) -> Result<bool, Fail> {
+    let file = file_without_entry(alloc, &small_tree(alloc, 258)?)?;
+    let mut port = steady_port(alloc)?;
+    let at = last_leaf(&file.bytes);
+    Ok(is_damaged_at(alloc, &mut port, &file.bytes, at))
 }
 
 /// A chunk without an entry is found at the last leaf.
 #[test]
 fn chunk_without_entry(rt: HostRuntime) -> Result<(), Fail> {
-    let alloc = rt.alloc();
-    let mut port = steady_port(alloc)?;
-    let mut file = plain_groups(alloc, &small_tree(alloc, 258)?)?;
-    file.forget_last_chunk();
-    put_end(alloc, &mut file)?;
-    let is_damaged = is_damaged_at(alloc, &mut port, &file.bytes, last_leaf(&file.bytes));
-    assert!(rt; is_damaged);
+    assert!(rt; is_missed_entry_found(rt.alloc())?);
     Ok(())
 }

@@ -3,16 +3,17 @@
 //! tsdb_index, mem_outside, tsdb_outside, tsdb_path and tsdb_base.
 
 use super::reader::{Call, port_failing_at, read_bytes, steady_port};
+use super::samples::{place_at, tree_of_device, worked_chunk};
+use super::writer::file_of;
 use mem_outside::{MemPort, SteadyPort};
 use std::alloc::Global;
 use std::test::Fail;
-use tsdb_base::{DataType, Encoding, FileNumber, List, Point, Value};
+use tsdb_base::FileNumber;
 use tsdb_index::{FileMeta, IndexEntry};
 use tsdb_outside::Port;
-use tsdb_pages::{Chunk, Group, Page, Tree, is_tree};
+use tsdb_pages::Chunk;
 use tsdb_path::{Name, Path};
 use tsfile_reader::{ReadFault, find_entry};
-use tsfile_writer::write_tree;
 
 /// How many series the small file has: two full leaves, and one of 88 entries.
 const SERIES: u64 = 600;
@@ -35,19 +36,7 @@ const POINTER: usize = 24;
 /// The chunk of the measurement with this number, of one point.
 fn one_chunk(alloc: Global, number: u64) -> Result<Chunk, Fail> {
     let name = format!(in alloc; "s{number:03}")?;
-    let point = Point {
-        time: 1,
-        value: Value::I64(5),
-    };
-    let page = Page {
-        points: List::of(vec![in alloc; point]?),
-    };
-    Ok(Chunk {
-        measurement: Name::read(alloc, name.as_bytes())?,
-        data_type: DataType::Int64,
-        encoding: Encoding::Plain,
-        pages: List::of(vec![in alloc; page]?),
-    })
+    worked_chunk(alloc, name.as_bytes())
 }
 
 /// The chunks of the measurements with these numbers, all of as many digits, of three or more.
@@ -59,34 +48,21 @@ fn chunks_from(alloc: Global, first: u64, end: u64) -> Result<Vec<Chunk>, Fail> 
     Ok(chunks)
 }
 
-/// The file of a device with these chunks.
-fn file_of(alloc: Global, device: &str, chunks: Vec<Chunk>) -> Result<Vec<u8>, Fail> {
-    let group = Group {
-        device: Path::read(alloc, device.as_bytes())?,
-        chunks: List::of(chunks),
-    };
-    let tree = Tree {
-        groups: List::of(vec![in alloc; group]?),
-    };
-    if !is_tree(&tree) {
-        return Err("no tree".into());
-    }
-    Ok(write_tree(alloc, &tree)?)
+/// The file of a device with the measurements of these numbers.
+fn file_from(alloc: Global, device: &str, first: u64, end: u64) -> Result<Vec<u8>, Fail> {
+    let chunks = chunks_from(alloc, first, end)?;
+    let tree = tree_of_device(alloc, device.as_bytes(), chunks)?;
+    file_of(alloc, &tree)
 }
 
 /// The file of `root.g.d` with the measurements `s000` to `s599`.
 fn wide_file(alloc: Global) -> Result<Vec<u8>, Fail> {
-    file_of(alloc, "root.g.d", chunks_from(alloc, 0, SERIES)?)
+    file_from(alloc, "root.g.d", 0, SERIES)
 }
 
 /// The file of the long device with the measurements `s10000` to `s19999`.
 fn large_file(alloc: Global) -> Result<Vec<u8>, Fail> {
-    file_of(alloc, LONG_DEVICE, chunks_from(alloc, FIRST, END)?)
-}
-
-/// A port that counts what it reads, of which no call fails.
-fn counting_port(alloc: Global) -> Result<MemPort, Fail> {
-    port_failing_at(alloc, u64::MAX)
+    file_from(alloc, LONG_DEVICE, FIRST, END)
 }
 
 /// Stores these bytes through the port, looks a series up in them, and removes them.
@@ -110,14 +86,6 @@ fn find_in<P: Port>(
     };
     let _ = port.remove(sealed);
     outcome
-}
-
-/// The index of these bytes.
-fn meta_of(alloc: Global, port: &mut MemPort, bytes: &[u8]) -> Result<FileMeta, Fail> {
-    match read_bytes(alloc, port, bytes, Call::Meta) {
-        Ok(meta) => Ok(meta),
-        Err(_) => Err("no index".into()),
-    }
 }
 
 /// A device, a measurement, and the number of their entry in the index.
@@ -153,20 +121,28 @@ const FEW_OF_MANY: [Row; 6] = [
     (LONG_DEVICE, "s20000", None),
 ];
 
-/// Whether this was found: the entry with this number, or none.
-fn is_found(
-    outcome: &Result<Option<IndexEntry>, ReadFault>,
-    meta: &FileMeta,
-    number: Option<usize>,
-) -> bool {
-    match (outcome, number) {
-        (Ok(Some(entry)), Some(number)) => match meta.index.entries.items().get(number) {
+/// Whether this is the entry with this number, or none.
+fn is_entry(found: &Option<IndexEntry>, meta: &FileMeta, number: Option<usize>) -> bool {
+    match (found, number) {
+        (Some(entry), Some(number)) => match meta.index.entries.items().get(number) {
             Some(wanted) => entry == wanted,
             None => false,
         },
-        (Ok(None), None) => true,
+        (None, None) => true,
         _ => false,
     }
+}
+
+/// Looks a series up by the text of its device and its measurement.
+fn find_named<P: Port>(
+    alloc: Global,
+    port: &mut P,
+    bytes: &[u8],
+    names: (&str, &str),
+) -> Result<Result<Option<IndexEntry>, ReadFault>, Fail> {
+    let device = Path::read(alloc, names.0.as_bytes())?;
+    let measurement = Name::read(alloc, names.1.as_bytes())?;
+    Ok(find_in(alloc, port, bytes, &device, &measurement))
 }
 
 /// Looks one series up, and whether it is found as the row says, with less than 100 kB of the file read.
@@ -177,13 +153,12 @@ fn is_right(
     meta: &FileMeta,
     row: Row,
 ) -> Result<bool, Fail> {
-    let (device, measurement, number) = row;
-    let device = Path::read(alloc, device.as_bytes())?;
-    let measurement = Name::read(alloc, measurement.as_bytes())?;
     let before = port.bytes_read();
-    let outcome = find_in(alloc, port, bytes, &device, &measurement);
+    let Ok(found) = find_named(alloc, port, bytes, (row.0, row.1))? else {
+        return Ok(false);
+    };
     let read = port.bytes_read().saturating_sub(before);
-    Ok(read < MOST_READ && is_found(&outcome, meta, number))
+    Ok(read < MOST_READ && is_entry(&found, meta, row.2))
 }
 
 /// The place of the first row that is not found so.
@@ -202,13 +177,21 @@ fn first_wrong(
     Ok(None)
 }
 
+/// How many bytes of the file are read for its index, and the place of the first row that is not found so, through a
+/// port that counts what it reads.
+fn found_in(alloc: Global, bytes: &[u8], rows: &[Row]) -> Result<(u64, Option<usize>), Fail> {
+    let mut port = port_failing_at(alloc, u64::MAX)?;
+    let meta = read_bytes(alloc, &mut port, bytes, Call::Meta)?;
+    let read = port.bytes_read();
+    let wrong = first_wrong(alloc, &mut port, bytes, &meta, rows)?;
+    Ok((read, wrong))
+}
+
 #[test]
 fn each_series_is_found(rt: HostRuntime) -> Result<(), Fail> {
     let alloc = rt.alloc();
-    let mut port = counting_port(alloc)?;
-    let bytes = wide_file(alloc)?;
-    let meta = meta_of(alloc, &mut port, &bytes)?;
-    assert_eq!(rt; first_wrong(alloc, &mut port, &bytes, &meta, &ROWS)?, None);
+    let (_read, wrong) = found_in(alloc, &wide_file(alloc)?, &ROWS)?;
+    assert_eq!(rt; wrong, None);
     Ok(())
 }
 
@@ -216,35 +199,21 @@ fn each_series_is_found(rt: HostRuntime) -> Result<(), Fail> {
 #[test]
 fn one_of_many_series(rt: HostRuntime) -> Result<(), Fail> {
     let alloc = rt.alloc();
-    let mut port = counting_port(alloc)?;
-    let bytes = large_file(alloc)?;
-    let meta = meta_of(alloc, &mut port, &bytes)?;
-    assert!(rt; port.bytes_read() > 2_000_000);
-    assert_eq!(rt;
-        first_wrong(alloc, &mut port, &bytes, &meta, &FEW_OF_MANY)?,
-        None
-    );
+    let (read, wrong) = found_in(alloc, &large_file(alloc)?, &FEW_OF_MANY)?;
+    assert!(rt; read > 2_000_000);
+    assert_eq!(rt; wrong, None);
     Ok(())
-}
-
-/// The place that stands in these eight bytes, or the greatest one where they are not there.
-fn place_at(bytes: &[u8], at: usize) -> usize {
-    let mut place = 0usize;
-    for byte in bytes.iter().skip(at).take(8) {
-        place = place.wrapping_mul(256).wrapping_add(usize::from(*byte));
-    }
-    place
 }
 
 /// The place of the root.
 fn root_of(bytes: &[u8]) -> usize {
-    place_at(bytes, bytes.len().saturating_sub(14))
+    place_at(bytes, bytes.len().saturating_sub(14)) as usize
 }
 
 /// The place of the leaf with this number, as the root says.
 fn leaf_of(bytes: &[u8], number: usize) -> usize {
     let pointer = number.wrapping_mul(POINTER).wrapping_add(5 + 16);
-    place_at(bytes, root_of(bytes).wrapping_add(pointer))
+    place_at(bytes, root_of(bytes).wrapping_add(pointer)) as usize
 }
 
 /// The bytes with the last bit of this one changed.
@@ -256,16 +225,14 @@ fn spoiled(alloc: Global, bytes: &[u8], at: usize) -> Result<Vec<u8>, Fail> {
     Ok(changed)
 }
 
-/// What looking `root.g.d` and this name up answers.
-fn fault_of(
+/// The fault of looking `root.g.d` and this name up, if there is one.
+fn fault_of<P: Port>(
     alloc: Global,
-    port: &mut SteadyPort,
+    port: &mut P,
     bytes: &[u8],
     name: &str,
 ) -> Result<Option<ReadFault>, Fail> {
-    let device = Path::read(alloc, b"root.g.d")?;
-    let measurement = Name::read(alloc, name.as_bytes())?;
-    Ok(find_in(alloc, port, bytes, &device, &measurement).err())
+    Ok(find_named(alloc, port, bytes, ("root.g.d", name))?.err())
 }
 
 /// A part of the file.
@@ -356,31 +323,41 @@ fn first_unblamed(
     Ok(None)
 }
 
+/// The place of the first row of the table that is not so in the small file.
+fn unblamed_in_table(alloc: Global) -> Result<Option<usize>, Fail> {
+    let bytes = wide_file(alloc)?;
+    let mut port = steady_port(alloc)?;
+    first_unblamed(alloc, &mut port, &bytes, &SPOILED)
+}
+
 #[test]
 fn parts_that_are_read(rt: HostRuntime) -> Result<(), Fail> {
-    let alloc = rt.alloc();
-    let mut port = steady_port(alloc)?;
-    let bytes = wide_file(alloc)?;
-    assert_eq!(rt; first_unblamed(alloc, &mut port, &bytes, &SPOILED)?, None);
+    let wrong = unblamed_in_table(rt.alloc())?;
+    assert_eq!(rt; wrong, None);
     Ok(())
 }
 
 /// Whether the look-up fails exactly where this call of the port does. The port makes a call for the file, its length,
 /// the tail, the head, the root and the leaf.
 fn fails_as_its_port(alloc: Global, bytes: &[u8], call: u64) -> Result<bool, Fail> {
-    let mut port = port_failing_at(alloc, call)?;
-    let device = Path::read(alloc, b"root.g.d")?;
-    let measurement = Name::read(alloc, b"s300")?;
-    let outcome = find_in(alloc, &mut port, bytes, &device, &measurement);
-    Ok((outcome.err() == Some(ReadFault::Failed)) == (call <= 6))
+    let fault = fault_of(alloc, &mut port_failing_at(alloc, call)?, bytes, "s300")?;
+    Ok((fault == Some(ReadFault::Failed)) == (call <= 6))
+}
+
+/// The first call of the port, of eight, at which the look-up fails otherwise.
+fn wrong_call(alloc: Global, bytes: &[u8]) -> Result<Option<u64>, Fail> {
+    for call in 1..9u64 {
+        if !fails_as_its_port(alloc, bytes, call)? {
+            return Ok(Some(call));
+        }
+    }
+    Ok(None)
 }
 
 #[test]
 fn calls_of_the_port(rt: HostRuntime) -> Result<(), Fail> {
     let alloc = rt.alloc();
-    let bytes = wide_file(alloc)?;
-    for call in 1..9u64 {
-        assert!(rt; fails_as_its_port(alloc, &bytes, call)?);
-    }
+    let wrong = wrong_call(alloc, &wide_file(alloc)?)?;
+    assert_eq!(rt; wrong, None);
     Ok(())
 }

@@ -25,14 +25,18 @@ fn is_worked_meta(alloc: Global, port: &mut SteadyPort, meta: &FileMeta) -> bool
     }
 }
 
-#[test]
-fn worked_file(rt: HostRuntime) -> Result<(), Fail> {
-    let alloc = rt.alloc();
+/// Whether the index of the worked file is read, and the fault of the check of all of it.
+fn worked_read(alloc: Global) -> Result<(bool, Option<ReadFault>), Fail> {
     let mut port = steady_port(alloc)?;
     let meta = meta_of(alloc, &mut port, &WORKED)?;
     let is_worked = is_worked_meta(alloc, &mut port, &meta);
+    Ok((is_worked, fault_of(alloc, &mut port, &WORKED, Call::Check)))
+}
+
+#[test]
+fn worked_file(rt: HostRuntime) -> Result<(), Fail> {
+    let (is_worked, fault) = worked_read(rt.alloc())?;
     assert!(rt; is_worked);
-    let fault = fault_of(alloc, &mut port, &WORKED, Call::Check);
     assert_eq!(rt; fault, None);
     Ok(())
 }
@@ -44,16 +48,22 @@ fn are_damaged_at(alloc: Global, port: &mut SteadyPort, bytes: &[u8], at: u64) -
         && fault_of(alloc, port, bytes, Call::Check) == damage
 }
 
-/// A file that is cut has no tail at its end, or no room for one.
-#[test]
-fn cut_files(rt: HostRuntime) -> Result<(), Fail> {
-    let mut port = steady_port(rt.alloc())?;
+/// The first length to which the worked file is cut and is not read so: it has no tail at its end, or no room for one.
+fn wrong_cut(alloc: Global, port: &mut SteadyPort) -> Option<u8> {
     for size in 0..234u8 {
         let bytes = &WORKED[..usize::from(size)];
         let at = u64::from(if size < 21 { 0 } else { size - 14 });
-        let are_damaged = are_damaged_at(rt.alloc(), &mut port, bytes, at);
-        assert!(rt; are_damaged, "{size}");
+        if !are_damaged_at(alloc, port, bytes, at) {
+            return Some(size);
+        }
     }
+    None
+}
+
+#[test]
+fn cut_files(rt: HostRuntime) -> Result<(), Fail> {
+    let wrong = wrong_cut(rt.alloc(), &mut steady_port(rt.alloc())?);
+    assert_eq!(rt; wrong, None);
     Ok(())
 }
 
@@ -89,13 +99,20 @@ fn is_blamed_inverted(alloc: Global, port: &mut SteadyPort, place: u8) -> bool {
         && fault_of(alloc, port, &bytes, Call::Meta) == wanted
 }
 
+/// The first byte of the worked file that is not blamed as it has to be.
+fn wrong_byte(alloc: Global, port: &mut SteadyPort) -> Option<u8> {
+    for place in 0..234u8 {
+        if !is_blamed_inverted(alloc, port, place) {
+            return Some(place);
+        }
+    }
+    None
+}
+
 #[test]
 fn inverted_bytes(rt: HostRuntime) -> Result<(), Fail> {
-    let mut port = steady_port(rt.alloc())?;
-    for place in 0..234u8 {
-        let is_blamed = is_blamed_inverted(rt.alloc(), &mut port, place);
-        assert!(rt; is_blamed, "{place}");
-    }
+    let wrong = wrong_byte(rt.alloc(), &mut steady_port(rt.alloc())?);
+    assert_eq!(rt; wrong, None);
     Ok(())
 }
 
@@ -125,16 +142,21 @@ fn wrong_page_byte(alloc: Global, port: &mut SteadyPort, entry: &IndexEntry) -> 
     None
 }
 
+/// The first byte of the worked file's page that is not looked at as it has to be.
+fn wrong_byte_of_worked(alloc: Global) -> Result<Option<u8>, Fail> {
+    let mut port = steady_port(alloc)?;
+    let meta = meta_of(alloc, &mut port, &WORKED)?;
+    match meta.index.entries.items() {
+        [entry] => Ok(wrong_page_byte(alloc, &mut port, entry)),
+        _ => Err("not one entry".into()),
+    }
+}
+
 /// All bytes of the page but those of its value are looked at.
 #[test]
 fn inverted_bytes_of_a_page(rt: HostRuntime) -> Result<(), Fail> {
-    let alloc = rt.alloc();
-    let mut port = steady_port(alloc)?;
-    let meta = meta_of(alloc, &mut port, &WORKED)?;
-    for entry in meta.index.entries.items() {
-        let wrong = wrong_page_byte(alloc, &mut port, entry);
-        assert_eq!(rt; wrong, None);
-    }
+    let wrong = wrong_byte_of_worked(rt.alloc())?;
+    assert_eq!(rt; wrong, None);
     Ok(())
 }
 
@@ -149,14 +171,24 @@ fn fails_at(alloc: Global, number: u64, call: Call, last: u64) -> Result<bool, F
     Ok(fault_of(alloc, &mut port, &WORKED, call) == wanted)
 }
 
+/// The first call of the port, of eight, at which the worked file is read otherwise.
+fn wrong_call(alloc: Global, call: Call, last: u64) -> Result<Option<u64>, Fail> {
+    for number in 1..9u64 {
+        if !fails_at(alloc, number, call, last)? {
+            return Ok(Some(number));
+        }
+    }
+    Ok(None)
+}
+
 /// The port makes a call for the file, its length, the tail, the head, the root and the leaves, and for the check one
 /// more, for the groups.
 #[test]
 fn calls_that_fail(rt: HostRuntime) -> Result<(), Fail> {
-    for number in 1..9u64 {
-        assert!(rt; fails_at(rt.alloc(), number, Call::Meta, 6)?, "{number}");
-        assert!(rt; fails_at(rt.alloc(), number, Call::Check, 7)?, "{number}");
-    }
+    let wrong = wrong_call(rt.alloc(), Call::Meta, 6)?;
+    assert_eq!(rt; wrong, None);
+    let wrong = wrong_call(rt.alloc(), Call::Check, 7)?;
+    assert_eq!(rt; wrong, None);
     Ok(())
 }
 
@@ -181,15 +213,20 @@ fn wrong_page_call(alloc: Global, entry: &IndexEntry) -> Result<Option<u64>, Fai
     Ok(None)
 }
 
+/// The first call at which the worked file's page is read otherwise.
+fn wrong_call_of_worked(alloc: Global) -> Result<Option<u64>, Fail> {
+    let meta = meta_of(alloc, &mut steady_port(alloc)?, &WORKED)?;
+    match meta.index.entries.items() {
+        [entry] => wrong_page_call(alloc, entry),
+        _ => Err("not one entry".into()),
+    }
+}
+
 /// A page is read in one call, besides that for the length.
 #[test]
 fn calls_that_fail_at_a_page(rt: HostRuntime) -> Result<(), Fail> {
-    let alloc = rt.alloc();
-    let meta = meta_of(alloc, &mut steady_port(alloc)?, &WORKED)?;
-    for entry in meta.index.entries.items() {
-        let wrong = wrong_page_call(alloc, entry)?;
-        assert_eq!(rt; wrong, None);
-    }
+    let wrong = wrong_call_of_worked(rt.alloc())?;
+    assert_eq!(rt; wrong, None);
     Ok(())
 }
 
@@ -214,9 +251,11 @@ fn with_data(alloc: Global, front: &[u8], behind: &[u8]) -> Result<Vec<u8>, Fail
     Ok(bytes)
 }
 
-/// What stands between the head and the leaf, as prefixes of the worked file and bytes behind them, and the place of
-/// the part that is blamed.
-const DATA: [(usize, &[u8], u64); 9] = [
+/// What stands between the head and the leaf, as a prefix of the worked file and bytes behind it, and the place of the
+/// part that is blamed.
+type Data = (usize, &'static [u8], u64);
+
+const DATA: [Data; 9] = [
     // no group, a group without a chunk, a chunk without a page
     (7, b"", 7),
     (18, b"", 18),
@@ -235,28 +274,27 @@ const DATA: [(usize, &[u8], u64); 9] = [
     (44, b"\x47\x00\x08root.g.d", 44),
 ];
 
-/// Whether the check finds damage at this place in the file with this data, and the index is read.
-fn is_damaged_data(
-    alloc: Global,
-    port: &mut SteadyPort,
-    parts: (&[u8], &[u8]),
-    at: u64,
-) -> Result<bool, Fail> {
-    let bytes = with_data(alloc, parts.0, parts.1)?;
+/// Whether the check finds damage at this place in these bytes, and the index is read.
+fn is_damaged_but_read(alloc: Global, port: &mut SteadyPort, bytes: &[u8], at: u64) -> bool {
     let damage = Some(ReadFault::Damaged { at });
-    Ok(
-        fault_of(alloc, port, &bytes, Call::Check) == damage
-            && fault_of(alloc, port, &bytes, Call::Meta).is_none(),
-    )
+    fault_of(alloc, port, bytes, Call::Check) == damage
+        && fault_of(alloc, port, bytes, Call::Meta).is_none()
+}
+
+/// Whether the file with this data is found so.
+fn is_damaged_data(alloc: Global, port: &mut SteadyPort, row: Data) -> Result<bool, Fail> {
+    let (size, behind, at) = row;
+    let Some(front) = WORKED.get(7..size) else {
+        return Ok(false);
+    };
+    let bytes = with_data(alloc, front, behind)?;
+    Ok(is_damaged_but_read(alloc, port, &bytes, at))
 }
 
 /// The place of the first row of the table whose data is found otherwise.
-fn wrong_data(alloc: Global, port: &mut SteadyPort) -> Result<Option<usize>, Fail> {
-    for (place, (size, behind, at)) in DATA.into_iter().enumerate() {
-        let Some(front) = WORKED.get(7..size) else {
-            return Ok(Some(place));
-        };
-        if !is_damaged_data(alloc, port, (front, behind), at)? {
+fn wrong_data(alloc: Global, port: &mut SteadyPort, rows: &[Data]) -> Result<Option<usize>, Fail> {
+    for place in 0..rows.len() {
+        if !is_damaged_data(alloc, port, rows[place])? {
             return Ok(Some(place));
         }
     }
@@ -265,8 +303,7 @@ fn wrong_data(alloc: Global, port: &mut SteadyPort) -> Result<Option<usize>, Fai
 
 #[test]
 fn other_data(rt: HostRuntime) -> Result<(), Fail> {
-    let mut port = steady_port(rt.alloc())?;
-    let wrong = wrong_data(rt.alloc(), &mut port)?;
+    let wrong = wrong_data(rt.alloc(), &mut steady_port(rt.alloc())?, &DATA)?;
     assert_eq!(rt; wrong, None);
     Ok(())
 }

@@ -5,7 +5,7 @@ use std::alloc::Global;
 use std::mem;
 use std::test::Fail;
 use tsdb_base::{DataType, Encoding, List, Point, Text, Value};
-use tsdb_pages::{Chunk, Group, Page};
+use tsdb_pages::{Chunk, Group, Page, Tree};
 use tsdb_path::{Name, Path};
 
 pub const TYPES: [DataType; 4] = [
@@ -48,6 +48,18 @@ pub fn worked_but(place: usize, bits: u8) -> [u8; 234] {
     bytes
 }
 
+/// The place that stands in the eight bytes from here on, or the greatest one where they are not there.
+pub fn place_at(bytes: &[u8], at: usize) -> u64 {
+    let Some(eight) = bytes.get(at..at.saturating_add(8)) else {
+        return u64::MAX;
+    };
+    let mut place = 0u64;
+    for byte in eight {
+        place = place << 8 | u64::from(*byte);
+    }
+    place
+}
+
 /// The value of a point at this time.
 fn value_at(alloc: Global, data_type: DataType, time: i64) -> Result<Value, Fail> {
     let number = time.wrapping_mul(37) % 101;
@@ -83,7 +95,7 @@ fn page(alloc: Global, data_type: DataType, start: i64, count: u16) -> Result<Pa
 }
 
 /// Pages of so many points, at the times 1, 2 and on.
-pub fn pages(alloc: Global, data_type: DataType, sizes: &[u16]) -> Result<Vec<Page>, Fail> {
+fn pages(alloc: Global, data_type: DataType, sizes: &[u16]) -> Result<Vec<Page>, Fail> {
     let mut pages = Vec::new(alloc);
     let mut start = 1i64;
     for size in sizes {
@@ -108,6 +120,29 @@ pub fn chunk_of(
     })
 }
 
+/// The one point 1, 5 of the worked file.
+pub fn worked_points(alloc: Global) -> Result<Vec<Point>, Fail> {
+    let point = Point {
+        time: 1,
+        value: Value::I64(5),
+    };
+    Ok(vec![in alloc; point]?)
+}
+
+/// The page of the worked file.
+fn worked_page(alloc: Global) -> Result<Page, Fail> {
+    Ok(Page {
+        points: List::of(worked_points(alloc)?),
+    })
+}
+
+/// A chunk with the page of the worked file alone.
+pub fn worked_chunk(alloc: Global, measurement: &[u8]) -> Result<Chunk, Fail> {
+    let pages = vec![in alloc; worked_page(alloc)?]?;
+    let kind = (DataType::Int64, Encoding::Plain);
+    chunk_of(alloc, measurement, kind, pages)
+}
+
 /// A chunk with pages of so many points.
 pub fn chunk(
     alloc: Global,
@@ -118,10 +153,14 @@ pub fn chunk(
     chunk_of(alloc, measurement, kind, pages(alloc, kind.0, sizes)?)
 }
 
+/// The last digit of a number.
+fn digit(number: u64) -> u8 {
+    b'0'.wrapping_add((number % 10) as u8)
+}
+
 /// The name of the chunk with this number, of up to three digits.
 pub fn numbered(number: u64) -> [u8; 4] {
-    let digits = [number / 100, number / 10, number].map(|n| b'0'.wrapping_add((n % 10) as u8));
-    [b's', digits[0], digits[1], digits[2]]
+    [b's', digit(number / 100), digit(number / 10), digit(number)]
 }
 
 /// A group with these chunks.
@@ -141,6 +180,19 @@ fn begin_group(
 ) -> Result<(), Fail> {
     groups.push(group(alloc, device, vec![in alloc; chunk]?)?)?;
     Ok(())
+}
+
+/// A tree of these groups.
+pub fn tree_of(groups: Vec<Group>) -> Tree {
+    Tree {
+        groups: List::of(groups),
+    }
+}
+
+/// A tree of one device with these chunks.
+pub fn tree_of_device(alloc: Global, device: &[u8], chunks: Vec<Chunk>) -> Result<Tree, Fail> {
+    let group = group(alloc, device, chunks)?;
+    Ok(tree_of(vec![in alloc; group]?))
 }
 
 /// Adds a chunk to a group.

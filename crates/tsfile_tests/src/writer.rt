@@ -1,62 +1,48 @@
 //! Tests of `write_tree` of tsfile_writer.
 
 use super::plain_file::plain_file;
-use super::samples::{ENCODINGS, TYPES, WORKED, chunk, chunk_of, group, numbered};
+use super::samples::{
+    ENCODINGS, TYPES, WORKED, chunk, group, numbered, tree_of, tree_of_device, worked_chunk,
+};
 use std::alloc::Global;
 use std::test::Fail;
-use tsdb_base::{DataType, Encoding, List, Point, Value, suits};
-use tsdb_pages::{Chunk, Group, Page, Tree, is_tree};
+use tsdb_base::{DataType, Encoding, suits};
+use tsdb_pages::{Chunk, Group, Tree, is_tree};
 use tsfile_writer::write_tree;
 
 /// The file of a tree.
-fn file_of(alloc: Global, tree: &Tree) -> Result<Vec<u8>, Fail> {
+pub fn file_of(alloc: Global, tree: &Tree) -> Result<Vec<u8>, Fail> {
     if !is_tree(tree) {
         return Err("no tree".into());
     }
     Ok(write_tree(alloc, tree)?)
 }
 
+/// Whether these are the bytes of the plain writer.
+fn is_plain_file(alloc: Global, tree: &Tree, bytes: &[u8]) -> Result<bool, Fail> {
+    let plain = plain_file(alloc, tree)?;
+    Ok(plain.bytes.as_slice() == bytes)
+}
+
 /// The file of a tree, which is as the plain writer's.
 pub fn written(alloc: Global, tree: &Tree) -> Result<Vec<u8>, Fail> {
-    let plain = plain_file(alloc, tree)?;
     let bytes = file_of(alloc, tree)?;
-    if bytes != plain.bytes {
+    if !is_plain_file(alloc, tree, &bytes)? {
         return Err("not the plain writer's file".into());
     }
     Ok(bytes)
 }
 
-/// A tree of these groups.
-pub fn tree_of(groups: Vec<Group>) -> Tree {
-    Tree {
-        groups: List::of(groups),
-    }
-}
-
-/// The page of the one point 1, 5.
-fn worked_page(alloc: Global) -> Result<Page, Fail> {
-    let point = Point {
-        time: 1,
-        value: Value::I64(5),
-    };
-    Ok(Page {
-        points: List::of(vec![in alloc; point]?),
-    })
-}
-
-/// The group of the worked file.
-fn worked_group(alloc: Global) -> Result<Group, Fail> {
-    let pages = vec![in alloc; worked_page(alloc)?]?;
-    let chunk = chunk_of(alloc, b"s", (DataType::Int64, Encoding::Plain), pages)?;
-    group(alloc, b"root.g.d", vec![in alloc; chunk]?)
+/// Whether this is the worked file, as the plain writer's.
+fn is_worked_written(alloc: Global) -> Result<bool, Fail> {
+    let chunks = vec![in alloc; worked_chunk(alloc, b"s")?]?;
+    let bytes = written(alloc, &tree_of_device(alloc, b"root.g.d", chunks)?)?;
+    Ok(bytes.as_slice() == WORKED.as_slice())
 }
 
 #[test]
 fn worked_tree_written(rt: HostRuntime) -> Result<(), Fail> {
-    let alloc = rt.alloc();
-    let tree = tree_of(vec![in alloc; worked_group(alloc)?]?);
-    let bytes = written(alloc, &tree)?;
-    assert!(rt; bytes.as_slice() == WORKED.as_slice());
+    assert!(rt; is_worked_written(rt.alloc())?);
     Ok(())
 }
 
@@ -71,42 +57,58 @@ const NAMES: [&[u8]; 10] = [
 /// The pairs of type and encoding that suit.
 fn kinds(alloc: Global) -> Result<Vec<(DataType, Encoding)>, Fail> {
     let mut kinds = Vec::new(alloc);
-    for data_type in TYPES {
-        for encoding in ENCODINGS {
-            if suits(data_type, encoding) {
-                kinds.push((data_type, encoding))?;
+    for data_type in &TYPES {
+        for encoding in &ENCODINGS {
+            if suits(*data_type, *encoding) {
+                kinds.push((*data_type, *encoding))?;
             }
         }
     }
     Ok(kinds)
 }
 
+/// The chunk with this number, of this type and encoding.
+fn numbered_chunk(alloc: Global, number: usize, kind: (DataType, Encoding)) -> Result<Chunk, Fail> {
+    match (NAMES.get(number), SIZES.get(number % 4)) {
+        (Some(name), Some(sizes)) => chunk(alloc, name, kind, sizes),
+        _ => Err("no name".into()),
+    }
+}
+
 /// A chunk for each of these pairs of type and encoding.
 fn chunks_of(alloc: Global, kinds: &[(DataType, Encoding)]) -> Result<Vec<Chunk>, Fail> {
     let mut chunks = Vec::new(alloc);
-    let rows = NAMES.iter().zip(SIZES.iter().cycle()).zip(kinds);
-    for ((name, sizes), kind) in rows {
-        chunks.push(chunk(alloc, name, *kind, sizes)?)?;
+    for number in 0..kinds.len() {
+        chunks.push(numbered_chunk(alloc, number, kinds[number])?)?;
     }
     Ok(chunks)
+}
+
+/// The devices of the file with all kinds of chunks.
+const DEVICES: [&[u8]; 3] = [b"root", b"root.a", b"root.a_b"];
+
+/// A group for each of the devices, with a chunk for each of these pairs of type and encoding.
+fn groups_of(alloc: Global, kinds: &[(DataType, Encoding)]) -> Result<Vec<Group>, Fail> {
+    let mut groups = Vec::new(alloc);
+    for device in &DEVICES {
+        groups.push(group(alloc, device, chunks_of(alloc, kinds)?)?)?;
+    }
+    Ok(groups)
+}
+
+/// How many pairs of type and encoding suit, and the length of the file with a chunk for each of them in each device.
+fn written_of_all_kinds(alloc: Global) -> Result<(usize, usize), Fail> {
+    let kinds = kinds(alloc)?;
+    let tree = tree_of(groups_of(alloc, &kinds)?);
+    Ok((kinds.len(), written(alloc, &tree)?.len()))
 }
 
 /// Three devices, each with a chunk for each pair of type and encoding, with pages of 1 to 1,000 points.
 #[test]
 fn all_kinds_of_chunks(rt: HostRuntime) -> Result<(), Fail> {
-    let alloc = rt.alloc();
-    let kinds = kinds(alloc)?;
-    assert_eq!(rt; kinds.len(), 10);
-    let mut groups = Vec::new(alloc);
-    for device in [
-        b"root".as_slice(),
-        b"root.a".as_slice(),
-        b"root.a_b".as_slice(),
-    ] {
-        groups.push(group(alloc, device, chunks_of(alloc, &kinds)?)?)?;
-    }
-    let bytes = written(alloc, &tree_of(groups))?;
-    assert!(rt; bytes.len() > 40_000);
+    let (kinds, length) = written_of_all_kinds(rt.alloc())?;
+    assert_eq!(rt; kinds, 10);
+    assert!(rt; length > 40_000);
     Ok(())
 }
 
@@ -120,15 +122,9 @@ fn small_chunks(alloc: Global) -> Result<Vec<Chunk>, Fail> {
     Ok(chunks)
 }
 
-/// The tree of these chunks of one device.
-fn tree_of_chunks(alloc: Global, chunks: Vec<Chunk>) -> Result<Tree, Fail> {
-    let group = group(alloc, b"root.d", chunks)?;
-    Ok(tree_of(vec![in alloc; group]?))
-}
-
 /// The tree of 300 chunks of one point each.
 pub fn wide_tree(alloc: Global) -> Result<Tree, Fail> {
-    tree_of_chunks(alloc, small_chunks(alloc)?)
+    tree_of_device(alloc, b"root.d", small_chunks(alloc)?)
 }
 
 /// The entries of the chunks stand in two leaves.
@@ -139,13 +135,18 @@ fn two_leaves(rt: HostRuntime) -> Result<(), Fail> {
     Ok(())
 }
 
+/// How many pages a chunk of 300 pages of one point has, whose file is written.
+fn pages_written(alloc: Global) -> Result<usize, Fail> {
+    let long = chunk(alloc, b"s", (DataType::Int64, Encoding::Plain), &[1; 300])?;
+    let count = long.pages.items().len();
+    let tree = tree_of_device(alloc, b"root.d", vec![in alloc; long]?)?;
+    let _bytes = written(alloc, &tree)?;
+    Ok(count)
+}
+
 /// One chunk of 300 pages of one point.
 #[test]
 fn many_pages(rt: HostRuntime) -> Result<(), Fail> {
-    let alloc = rt.alloc();
-    let long = chunk(alloc, b"s", (DataType::Int64, Encoding::Plain), &[1; 300])?;
-    assert_eq!(rt; long.pages.items().len(), 300);
-    let tree = tree_of_chunks(alloc, vec![in alloc; long]?)?;
-    let _bytes = written(alloc, &tree)?;
+    assert_eq!(rt; pages_written(rt.alloc())?, 300);
     Ok(())
 }
