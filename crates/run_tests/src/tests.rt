@@ -7,10 +7,13 @@ mod stores;
 mod types;
 
 use mem_outside::{MemSink, MemSource, SteadyPlace, SteadySink, SteadySource};
-use plain_program::output_of;
-use std::alloc::Global;
+use std::alloc::{AllocError, Global};
 use std::test::Fail;
-use tsdb_run::{Ended, Part, Status, Word, run};
+use tsdb_outside::Place;
+use tsdb_run::{Part, Status, Word, run};
+
+/// The words of most runs.
+pub const RUN: &[&str] = &["run", "d"];
 
 /// A first series, for most scripts.
 const CREATE: &str = "1 create timeseries root.g.d.s with datatype=INT64,encoding=PLAIN\n";
@@ -84,7 +87,23 @@ order 1 1 1 1 1
     ),
 ];
 
-fn words(alloc: Global, texts: &[&str]) -> Result<Vec<Word>, Fail> {
+/// What a run left: how it ended, how many replies its history has, and the sink.
+#[derive(Drop)]
+pub struct Left {
+    pub status: Status,
+    pub replies: usize,
+    pub sink: SteadySink,
+}
+
+/// Adds all these parts to a text.
+pub fn push_all(text: &mut String, parts: &[&str]) -> Result<(), AllocError> {
+    for part in parts {
+        text.push_str(part)?;
+    }
+    Ok(())
+}
+
+fn words_of(alloc: Global, texts: &[&str]) -> Result<Vec<Word>, Fail> {
     let mut words = Vec::new(alloc);
     for text in texts {
         words.push(Word::new(alloc, text.as_bytes())?)?;
@@ -98,81 +117,191 @@ fn new_place(alloc: Global) -> Result<SteadyPlace, Fail> {
     Ok(SteadyPlace::new(alloc, slots, Vec::new(alloc))?)
 }
 
-/// A run of a script on a new store, over a source, a sink and a device that never fail.
-pub fn steady(alloc: Global, script: &[u8]) -> Result<(Ended, SteadySink), Fail> {
-    let words = words(alloc, &["run", "d"])?;
-    let mut source = SteadySource::new(Vec::from_slice(alloc, script)?);
+/// What a run on a place leaves, over a source and a sink that never fail.
+fn left_by<P: Place>(alloc: Global, place: &mut P, words: &[Word], script: Vec<u8>) -> Left {
+    let mut source = SteadySource::new(script);
     let mut sink = SteadySink::new(alloc);
+    let ended = run(alloc, words, &mut source, &mut sink, place);
+    Left {
+        status: ended.status,
+        replies: ended.history.items().len(),
+        sink,
+    }
+}
+
+/// The same with words and a script as text.
+pub fn run_on<P: Place>(
+    alloc: Global,
+    place: &mut P,
+    words: &[&str],
+    script: &str,
+) -> Result<Left, Fail> {
+    let words = words_of(alloc, words)?;
+    let script = Vec::from_slice(alloc, script.as_bytes())?;
+    Ok(left_by(alloc, place, &words, script))
+}
+
+/// Whether a run on a place ends well and prints this.
+pub fn prints<P: Place>(
+    alloc: Global,
+    place: &mut P,
+    words: &[&str],
+    script: &str,
+    printed: &str,
+) -> Result<bool, Fail> {
+    let left = run_on(alloc, place, words, script)?;
+    Ok(left.status == Status::Done && left.sink.bytes() == printed.as_bytes())
+}
+
+/// Whether a run of the script on a new store ends well and prints this.
+fn prints_anew(alloc: Global, script: &str, printed: &str) -> Result<bool, Fail> {
     let mut place = new_place(alloc)?;
-    let ended = run(alloc, &words, &mut source, &mut sink, &mut place);
-    Ok((ended, sink))
+    prints(alloc, &mut place, RUN, script, printed)
+}
+
+/// Whether a run of the script on a new store ends so, with so many replies, and prints this.
+fn leaves(alloc: Global, script: &str, wanted: (Status, usize, &str)) -> Result<bool, Fail> {
+    let mut place = new_place(alloc)?;
+    let left = run_on(alloc, &mut place, RUN, script)?;
+    let (status, replies, printed) = wanted;
+    Ok(left.status == status && left.replies == replies && left.sink.bytes() == printed.as_bytes())
+}
+
+/// The first of the scripts behind the create that prints something else.
+fn wrong_example(alloc: Global, examples: &[(&str, &str)]) -> Result<Option<usize>, Fail> {
+    for (at, (lines, printed)) in examples.iter().enumerate() {
+        let script = format!(in alloc; "{CREATE}{lines}")?;
+        if !prints_anew(alloc, script.as_str(), printed)? {
+            return Ok(Some(at));
+        }
+    }
+    Ok(None)
 }
 
 /// A body that always answers out of memory fails here, which no contract can refuse.
 #[test]
 fn worked_examples(rt: HostRuntime) -> Result<(), Fail> {
     let alloc = rt.alloc();
-    let (ended, sink) = steady(alloc, EXAMPLE.as_bytes())?;
-    assert_eq!(rt; ended.status, Status::Done);
-    assert_eq!(rt; sink.bytes(), PRINTED.as_bytes());
-    assert_eq!(rt; ended.history.items().len(), 3);
-    let (ended, sink) = steady(alloc, b"")?;
-    assert_eq!(rt; ended.status, Status::Done);
-    assert_eq!(rt; sink.bytes(), b"order\n".as_slice());
-    for (lines, printed) in EXAMPLES {
-        let script = format!(in alloc; "{CREATE}{lines}")?;
-        let (ended, sink) = steady(alloc, script.as_bytes())?;
-        assert_eq!(rt; ended.status, Status::Done, "{lines}");
-        assert_eq!(rt; sink.bytes(), printed.as_bytes(), "{lines}");
-    }
+    assert!(rt; leaves(alloc, EXAMPLE, (Status::Done, 3, PRINTED))?);
+    assert!(rt; prints_anew(alloc, "", "order\n")?);
+    assert_eq!(rt; wrong_example(alloc, &EXAMPLES)?, None);
     Ok(())
+}
+
+/// A run over a source and a sink in memory, some of whose calls fail: how it ended, how many replies its history has,
+/// and what it printed.
+type Faulty<'a> = (&'a [u64], &'a [u64], Status, usize, &'a str);
+
+fn source_of(alloc: Global, script: &str, fails: &[u64]) -> Result<MemSource, Fail> {
+    let script = Vec::from_slice(alloc, script.as_bytes())?;
+    let fails = Vec::from_slice(alloc, fails)?;
+    Ok(MemSource::new(script, fails))
+}
+
+fn sink_of(alloc: Global, fails: &[u64]) -> Result<MemSink, Fail> {
+    let fails = Vec::from_slice(alloc, fails)?;
+    Ok(MemSink::new(alloc, fails))
+}
+
+/// How a run ends, and how many replies its history has.
+fn end_of(
+    alloc: Global,
+    place: &mut SteadyPlace,
+    words: &[Word],
+    source: &mut MemSource,
+    sink: &mut MemSink,
+) -> (Status, usize) {
+    let ended = run(alloc, words, source, sink, place);
+    (ended.status, ended.history.items().len())
+}
+
+/// Whether a run of the script on the place leaves what is wanted.
+fn is_faulty(
+    alloc: Global,
+    place: &mut SteadyPlace,
+    words: &[&str],
+    script: &str,
+    wanted: Faulty,
+) -> Result<bool, Fail> {
+    let (source_fails, sink_fails, status, replies, printed) = wanted;
+    let words = words_of(alloc, words)?;
+    let mut source = source_of(alloc, script, source_fails)?;
+    let mut sink = sink_of(alloc, sink_fails)?;
+    let end = end_of(alloc, place, &words, &mut source, &mut sink);
+    Ok(end == (status, replies) && sink.bytes() == printed.as_bytes())
+}
+
+/// Lists of words that the program does not know.
+const BAD_WORDS: [&[&str]; 8] = [
+    &[],
+    &["run"],
+    &["run", "d", "e"],
+    &["run", "-x"],
+    &["run", "d", "--pair", "0"],
+    &["run", "d", "--pair", "4", "--pair", "4"],
+    &["run", ""],
+    &["walk", "d"],
+];
+
+/// The first of the lists with which a run on a new store ends otherwise, or prints something.
+fn known_words(alloc: Global, lists: &[&[&str]]) -> Result<Option<usize>, Fail> {
+    for (at, list) in lists.iter().enumerate() {
+        let mut place = new_place(alloc)?;
+        if !is_faulty(
+            alloc,
+            &mut place,
+            list,
+            "",
+            (&[], &[], Status::Words, 0, ""),
+        )? {
+            return Ok(Some(at));
+        }
+    }
+    Ok(None)
+}
+
+const LOG: Part = Part::Log;
+
+/// Statuses with their codes and their texts.
+const STATUSES: [(Status, u8, &str); 8] = [
+    (Status::Done, 0, ""),
+    (Status::Memory, 1, "memory\n"),
+    (
+        Status::Words,
+        2,
+        "usage: tsdb run DIR [--pair N] [--workers N]\n",
+    ),
+    (Status::Script { line: 7, kind: 5 }, 3, "line 7 kind 5\n"),
+    (Status::Source, 4, "source\n"),
+    (Status::Sink, 5, "sink\n"),
+    (Status::Device, 6, "device\n"),
+    (
+        Status::Damaged { part: LOG, at: 20 },
+        7,
+        "damaged log at 20\n",
+    ),
+];
+
+/// Whether the status says this on standard error.
+fn says(alloc: Global, status: &Status, text: &str) -> Result<bool, Fail> {
+    let said = status.text(alloc)?;
+    Ok(said.as_slice() == text.as_bytes())
+}
+
+/// The first of the statuses that has another code or another text.
+fn wrong_status(alloc: Global, rows: &[(Status, u8, &str)]) -> Result<Option<usize>, Fail> {
+    for (at, (status, code, text)) in rows.iter().enumerate() {
+        if status.code() != *code || !says(alloc, status, text)? {
+            return Ok(Some(at));
+        }
+    }
+    Ok(None)
 }
 
 #[test]
 fn words_and_statuses(rt: HostRuntime) -> Result<(), Fail> {
-    let alloc = rt.alloc();
-    let lists: [&[&str]; 8] = [
-        &[],
-        &["run"],
-        &["run", "d", "e"],
-        &["run", "-x"],
-        &["run", "d", "--pair", "0"],
-        &["run", "d", "--pair", "4", "--pair", "4"],
-        &["run", ""],
-        &["walk", "d"],
-    ];
-    for list in lists {
-        let words = words(alloc, list)?;
-        let mut source = MemSource::new(Vec::new(alloc), Vec::new(alloc));
-        let mut sink = MemSink::new(alloc, Vec::new(alloc));
-        let mut place = new_place(alloc)?;
-        let ended = run(alloc, &words, &mut source, &mut sink, &mut place);
-        assert_eq!(rt; ended.status, Status::Words);
-        assert_eq!(rt; sink.bytes(), b"".as_slice());
-    }
-    let log = Part::Log;
-    let texts = [
-        (Status::Done, 0, ""),
-        (Status::Memory, 1, "memory\n"),
-        (
-            Status::Words,
-            2,
-            "usage: tsdb run DIR [--pair N] [--workers N]\n",
-        ),
-        (Status::Script { line: 7, kind: 5 }, 3, "line 7 kind 5\n"),
-        (Status::Source, 4, "source\n"),
-        (Status::Sink, 5, "sink\n"),
-        (Status::Device, 6, "device\n"),
-        (
-            Status::Damaged { part: log, at: 20 },
-            7,
-            "damaged log at 20\n",
-        ),
-    ];
-    for (status, code, text) in texts {
-        assert_eq!(rt; status.code(), code);
-        assert_eq!(rt; status.text(alloc)?.as_slice(), text.as_bytes());
-    }
+    assert_eq!(rt; known_words(rt.alloc(), &BAD_WORDS)?, None);
+    assert_eq!(rt; wrong_status(rt.alloc(), &STATUSES)?, None);
     Ok(())
 }
 
@@ -185,60 +314,81 @@ const BAD_LINES: [(&str, u8); 5] = [
     ("1 select s", 3),
 ];
 
+/// The first of the second lines that is reported otherwise.
+fn wrong_report(alloc: Global, lines: &[(&str, u8)]) -> Result<Option<usize>, Fail> {
+    for (at, (bad, kind)) in lines.iter().enumerate() {
+        let script = format!(in alloc; "{CREATE}{bad}\n1 walk\n")?;
+        let kind = *kind;
+        if !leaves(
+            alloc,
+            script.as_str(),
+            (Status::Script { line: 2, kind }, 0, ""),
+        )? {
+            return Ok(Some(at));
+        }
+    }
+    Ok(None)
+}
+
 /// The first bad line is reported by its number and kind, and nothing is written.
 #[test]
 fn bad_scripts(rt: HostRuntime) -> Result<(), Fail> {
-    let alloc = rt.alloc();
-    for (bad, kind) in BAD_LINES {
-        let script = format!(in alloc; "{CREATE}{bad}\n1 walk\n")?;
-        let (ended, sink) = steady(alloc, script.as_bytes())?;
-        assert_eq!(rt; ended.status, Status::Script { line: 2, kind }, "{bad}");
-        assert_eq!(rt; ended.history.items().len(), 0);
-        assert_eq!(rt; sink.bytes(), b"".as_slice());
-    }
+    assert_eq!(rt; wrong_report(rt.alloc(), &BAD_LINES)?, None);
     Ok(())
 }
 
-/// A source that fails leaves the store untouched. Where the sink fails, the commands were executed all the same.
+/// Runs on one store, one behind another. A source that fails leaves the store untouched. Where the sink fails, the
+/// commands were executed all the same.
+const FAULTY: [(&str, Faulty<'static>); 3] = [
+    (EXAMPLE, (&[1], &[], Status::Source, 0, "")),
+    (EXAMPLE, (&[], &[2], Status::Sink, 3, "session 1\n")),
+    (
+        "1 select s from root.g.d\n",
+        (
+            &[],
+            &[],
+            Status::Done,
+            1,
+            "session 1\ntime,s\n1,5\nrows 1\norder 1\n",
+        ),
+    ),
+];
+
+/// The first of the runs that leaves something else.
+fn wrong_faulty(alloc: Global, runs: &[(&str, Faulty)]) -> Result<Option<usize>, Fail> {
+    let mut place = new_place(alloc)?;
+    for (at, (script, wanted)) in runs.iter().enumerate() {
+        if !is_faulty(alloc, &mut place, RUN, script, *wanted)? {
+            return Ok(Some(at));
+        }
+    }
+    Ok(None)
+}
+
 #[test]
 fn faults_of_source_and_sink(rt: HostRuntime) -> Result<(), Fail> {
-    let alloc = rt.alloc();
-    let words = words(alloc, &["run", "d"])?;
-    let mut place = new_place(alloc)?;
-    let script = Vec::from_slice(alloc, EXAMPLE.as_bytes())?;
-    let mut source = MemSource::new(script, vec![in alloc; 1]?);
-    let mut sink = MemSink::new(alloc, Vec::new(alloc));
-    let ended = run(alloc, &words, &mut source, &mut sink, &mut place);
-    assert_eq!(rt; ended.status, Status::Source);
-    assert_eq!(rt; ended.history.items().len(), 0);
-    assert_eq!(rt; sink.bytes(), b"".as_slice());
-    let script = Vec::from_slice(alloc, EXAMPLE.as_bytes())?;
-    let mut source = MemSource::new(script, Vec::new(alloc));
-    let mut sink = MemSink::new(alloc, vec![in alloc; 2]?);
-    let ended = run(alloc, &words, &mut source, &mut sink, &mut place);
-    assert_eq!(rt; ended.status, Status::Sink);
-    assert_eq!(rt; ended.history.items().len(), 3);
-    assert_eq!(rt; sink.bytes(), b"session 1\n".as_slice());
-    let script = Vec::from_slice(alloc, b"1 select s from root.g.d\n")?;
-    let mut source = MemSource::new(script, Vec::new(alloc));
-    let mut sink = MemSink::new(alloc, Vec::new(alloc));
-    let ended = run(alloc, &words, &mut source, &mut sink, &mut place);
-    assert_eq!(rt; ended.status, Status::Done);
-    assert_eq!(rt;
-        sink.bytes(),
-        b"session 1\ntime,s\n1,5\nrows 1\norder 1\n".as_slice()
-    );
+    assert_eq!(rt; wrong_faulty(rt.alloc(), &FAULTY)?, None);
     Ok(())
+}
+
+/// Whether the script with this number prints what the plain program says.
+fn is_same(alloc: Global, number: usize) -> Result<bool, Fail> {
+    let (script, printed) = plain_program::output_of(alloc, number)?;
+    prints_anew(alloc, script.as_str(), printed.as_str())
+}
+
+/// The first of so many scripts that prints something else than the plain program says.
+fn first_other(alloc: Global, scripts: usize) -> Result<Option<usize>, Fail> {
+    for number in 0..scripts {
+        if !is_same(alloc, number)? {
+            return Ok(Some(number));
+        }
+    }
+    Ok(None)
 }
 
 #[test]
 fn all_short_scripts_against_the_plain_program(rt: HostRuntime) -> Result<(), Fail> {
-    let alloc = rt.alloc();
-    for number in 0..plain_program::SCRIPTS {
-        let (script, printed) = output_of(alloc, number)?;
-        let (ended, sink) = steady(alloc, script.as_bytes())?;
-        assert_eq!(rt; ended.status, Status::Done);
-        assert_eq!(rt; sink.bytes(), printed.as_bytes(), "{script}");
-    }
+    assert_eq!(rt; first_other(rt.alloc(), plain_program::SCRIPTS)?, None);
     Ok(())
 }

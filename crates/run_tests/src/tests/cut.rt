@@ -3,7 +3,8 @@
 ghost use Rattle.std.specs.Prelude.{◌≡◌};
 
 use super::examples::{Row, new_place, prints, status_on};
-use super::stores::{SLOT, place_of};
+use super::says;
+use super::stores::{SELECT, SLOT, place_of};
 use mem_outside::MemPlace;
 use std::alloc::Global;
 use std::test::Fail;
@@ -124,21 +125,17 @@ const FLUSHED: Row = (
     "ok / ok / ok",
 );
 
-/// The exit code of a run on the place, and what it says on standard error.
-fn said_on(alloc: Global, place: &mut MemPlace) -> Result<(u8, Vec<u8>), Fail> {
-    let status = status_on(alloc, place, "1 select s from root.g.d\n")?;
-    Ok((status.code(), status.text(alloc)?))
+/// Whether a run on the place ends with this exit code, and says this on standard error.
+fn is_said(alloc: Global, place: &mut MemPlace, code: u8, text: &str) -> Result<bool, Fail> {
+    let status = status_on(alloc, place, SELECT)?;
+    Ok(status.code() == code && says(alloc, &status, text)?)
 }
 
 #[test]
 fn damage_is_said_with_its_part_and_place(rt: HostRuntime) -> Result<(), Fail> {
     let alloc = rt.alloc();
     let mut torn = place_of(alloc, &SLOT[..40], &[])?;
-    let (code, said) = said_on(alloc, &mut torn)?;
-    assert_eq!(rt;
-        (code, said.as_slice()),
-        (7, b"damaged log at 20\n".as_slice())
-    );
+    assert!(rt; is_said(alloc, &mut torn, 7, "damaged log at 20\n")?);
     Ok(())
 }
 
@@ -148,10 +145,6 @@ fn file_without_its_last_byte_is_damaged_at_its_tail(rt: HostRuntime) -> Result<
     let mut place = new_place(alloc, &[])?;
     assert!(rt; prints(alloc, &mut place, &FLUSHED)?);
     assert_eq!(rt; cut_in(alloc, &mut place, 233)?, Some(234));
-    let (code, said) = said_on(alloc, &mut place)?;
-    assert_eq!(rt;
-        (code, said.as_slice()),
-        (7, b"damaged file 1 at 219\n".as_slice())
-    );
+    assert!(rt; is_said(alloc, &mut place, 7, "damaged file 1 at 219\n")?);
     Ok(())
 }

@@ -1,16 +1,18 @@
 //! Worked examples with files: what is flushed, late points, listings, and numbers at their end.
-use super::words;
-use mem_outside::{Fails, MemPlace, SteadySink, SteadySource, StopKind};
-use std::alloc::Global;
+ghost use Rattle.std.specs.Prelude.{IsSome};
+ghost use Rattle.mem_outside.specs.Place.{journal_of};
+
+use super::stores::{SELECT, first_unanswered, left_after, shows};
+use super::{CREATE, Left, RUN, push_all, run_on};
+use mem_outside::{Fails, MemPlace, StopKind};
+use std::alloc::{AllocError, Global};
 use std::test::Fail;
 use tsdb_base::FileNumber;
-use tsdb_run::{Part, Status, run};
+use tsdb_run::{Part, Status};
 
 /// A run on a store: its options, its commands with `; ` between them, and its replies with ` / ` between their lines.
 /// `C` creates `root.g.d.s`, `I t v` inserts a value at a time, `S` selects all points.
 pub type Row = (&'static [&'static str], &'static str, &'static str);
-
-const RUN: &[&str] = &["run", "d"];
 
 const SMALL: &[&str] = &["run", "--pair", "4", "--workers", "0", "d"];
 
@@ -98,66 +100,71 @@ const ROWS: [Row; 11] = [
     ),
 ];
 
-fn line_of(alloc: Global, command: &str) -> Result<String, Fail> {
-    if command == "C" {
-        return Ok(String::from_str(alloc, super::CREATE)?);
-    }
-    if command == "S" {
-        return Ok(String::from_str(alloc, "1 select s from root.g.d\n")?);
-    }
-    if let Some(point) = command.strip_prefix("I ") {
-        if let Some((time, value)) = point.split_once(' ') {
-            return Ok(format!(in alloc;
-                "1 insert into root.g.d(timestamp,s) values({time},{value})\n"
-            )?);
-        }
-    }
-    Ok(format!(in alloc; "1 {command}\n")?)
+/// The time and the value of an insert.
+fn point_of(command: &str) -> Option<(&str, &str)> {
+    command.strip_prefix("I ")?.split_once(' ')
 }
 
-/// The script of these commands, and what it prints with these replies.
-fn script_of(alloc: Global, row: &Row) -> Result<(String, String), Fail> {
+fn add_line(script: &mut String, command: &str) -> Result<(), AllocError> {
+    if command == "C" {
+        return script.push_str(CREATE);
+    }
+    if command == "S" {
+        return script.push_str(SELECT);
+    }
+    match point_of(command) {
+        Some((time, value)) => {
+            let insert = "1 insert into root.g.d(timestamp,s) values(";
+            push_all(script, &[insert, time, ",", value, ")\n"])
+        }
+        None => push_all(script, &["1 ", command, "\n"]),
+    }
+}
+
+/// The script of these commands.
+fn script_of(alloc: Global, commands: &str) -> Result<String, AllocError> {
     let mut script = String::new(alloc);
-    let mut order = String::from_str(alloc, "order")?;
-    for command in row.1.split("; ") {
-        script.push_str(line_of(alloc, command)?.as_str())?;
-        order.push_str(" 1")?;
+    for command in commands.split("; ") {
+        add_line(&mut script, command)?;
     }
-    let mut printed = String::from_str(alloc, "session 1\n")?;
+    Ok(script)
+}
+
+/// Adds what the script prints with these replies.
+fn add_printed(printed: &mut String, row: &Row) -> Result<(), AllocError> {
+    printed.push_str("session 1\n")?;
     for line in row.2.split(" / ") {
-        printed.push_str(line)?;
-        printed.push_str("\n")?;
+        push_all(printed, &[line, "\n"])?;
     }
-    printed.push_str(order.as_str())?;
-    printed.push_str("\n")?;
-    Ok((script, printed))
+    printed.push_str("order")?;
+    for _ in row.1.split("; ") {
+        printed.push_str(" 1")?;
+    }
+    printed.push_str("\n")
 }
 
 /// Whether a run on the place ends well and prints what the row says.
 pub fn prints(alloc: Global, place: &mut MemPlace, row: &Row) -> Result<bool, Fail> {
-    let (script, printed) = script_of(alloc, row)?;
-    let words = words(alloc, row.0)?;
-    let mut source = SteadySource::new(Vec::from_slice(alloc, script.as_bytes())?);
-    let mut sink = SteadySink::new(alloc);
-    let ended = run(alloc, &words, &mut source, &mut sink, place);
-    Ok(ended.status == Status::Done && sink.bytes() == printed.as_bytes())
+    let script = script_of(alloc, row.1)?;
+    let mut printed = String::new(alloc);
+    add_printed(&mut printed, row)?;
+    super::prints(alloc, place, row.0, script.as_str(), printed.as_str())
 }
 
-/// How a run of the commands on the place ends.
-pub fn status_on(alloc: Global, place: &mut MemPlace, commands: &str) -> Result<Status, Fail> {
-    let words = words(alloc, RUN)?;
-    let mut source = SteadySource::new(Vec::from_slice(alloc, commands.as_bytes())?);
-    let mut sink = SteadySink::new(alloc);
-    Ok(run(alloc, &words, &mut source, &mut sink, place).status)
+/// How a run of the script on the place ends.
+pub fn status_on(alloc: Global, place: &mut MemPlace, script: &str) -> Result<Status, Fail> {
+    let left = run_on(alloc, place, RUN, script)?;
+    Ok(left.status)
 }
 
 /// A place with these slots and files, of whose calls on files these fail.
 fn place_with(
     alloc: Global,
-    slots: [Vec<u8>; 2],
+    slot: &[u8],
     files: Vec<(FileNumber, Vec<u8>)>,
     fails: &[u64],
 ) -> Result<MemPlace, Fail> {
+    let slots = [Vec::from_slice(alloc, slot)?, vec![in alloc; 0]?];
     let fails = Fails {
         journal: Vec::new(alloc),
         files: Vec::from_slice(alloc, fails)?,
@@ -166,14 +173,27 @@ fn place_with(
 }
 
 pub fn new_place(alloc: Global, fails: &[u64]) -> Result<MemPlace, Fail> {
-    let slots = [vec![in alloc; 0]?, vec![in alloc; 0]?];
-    place_with(alloc, slots, Vec::new(alloc), fails)
+    place_with(alloc, &[0], Vec::new(alloc), fails)
+}
+
+/// A file with this number.
+fn file_of(alloc: Global, number: u64, bytes: &[u8]) -> Result<Vec<(FileNumber, Vec<u8>)>, Fail> {
+    let bytes = Vec::from_slice(alloc, bytes)?;
+    let mut files = Vec::new(alloc);
+    files.push((FileNumber(number), bytes))?;
+    Ok(files)
+}
+
+/// Whether a run on a new store prints what the row says.
+fn is_printed(alloc: Global, row: &Row) -> Result<bool, Fail> {
+    let mut place = new_place(alloc, &[])?;
+    prints(alloc, &mut place, row)
 }
 
 /// The first row that prints something else.
 fn first_wrong(alloc: Global, rows: &[Row]) -> Result<Option<usize>, Fail> {
     for (at, row) in rows.iter().enumerate() {
-        if !prints(alloc, &mut new_place(alloc, &[])?, row)? {
+        if !is_printed(alloc, row)? {
             return Ok(Some(at));
         }
     }
@@ -250,20 +270,19 @@ fn runs_behind_one_another(rt: HostRuntime) -> Result<(), Fail> {
     Ok(())
 }
 
+const AT_THE_END: Row = (
+    RUN,
+    "C; I 1 5; flush; S; show files",
+    "ok / ok / full / time,s / 1,5 / rows 1 / frozen 1 / working 0 0 / marks 0",
+);
+
 /// With a file of the greatest number in the store too few numbers are left: a flush freezes, and ends `full`.
 #[test]
 fn numbers_at_their_end(rt: HostRuntime) -> Result<(), Fail> {
     let alloc = rt.alloc();
-    let mut files = Vec::new(alloc);
-    files.push((FileNumber(9_223_372_036_854_775_807), Vec::new(alloc)))?;
-    let slots = [vec![in alloc; 0]?, vec![in alloc; 0]?];
-    let mut place = place_with(alloc, slots, files, &[])?;
-    let row: Row = (
-        RUN,
-        "C; I 1 5; flush; S; show files",
-        "ok / ok / full / time,s / 1,5 / rows 1 / frozen 1 / working 0 0 / marks 0",
-    );
-    assert!(rt; prints(alloc, &mut place, &row)?);
+    let files = file_of(alloc, 9_223_372_036_854_775_807, &[])?;
+    let mut place = place_with(alloc, &[0], files, &[])?;
+    assert!(rt; prints(alloc, &mut place, &AT_THE_END)?);
     Ok(())
 }
 
@@ -294,41 +313,57 @@ const FILE: [u8; 234] = *b"TsFile\x51\
 
 /// How a run ends on the store of this log with so many bytes of file 1, of the calls on whose files these fail.
 fn status_with(alloc: Global, bytes: usize, fails: &[u64]) -> Result<Status, Fail> {
-    let mut file = FILE.to_vec(alloc)?;
-    file.truncate(bytes);
-    let mut files = Vec::new(alloc);
-    files.push((FileNumber(1), file))?;
-    let slots = [LOG.to_vec(alloc)?, vec![in alloc; 0]?];
-    let mut place = place_with(alloc, slots, files, fails)?;
-    status_on(alloc, &mut place, "1 select s from root.g.d\n")
+    let files = file_of(alloc, 1, FILE.get(..bytes).unwrap_or(&[]))?;
+    let mut place = place_with(alloc, &LOG, files, fails)?;
+    status_on(alloc, &mut place, SELECT)
+}
+
+const FIRST_FILE: Part = Part::File(FileNumber(1));
+
+/// How many bytes of file 1 there are, which calls fail, and how the run ends.
+type Listed = (usize, &'static [u64], Status);
+
+const LISTED: [Listed; 4] = [
+    (234, &[], Status::Done),
+    (
+        233,
+        &[],
+        Status::Damaged {
+            part: FIRST_FILE,
+            at: 219,
+        },
+    ),
+    (234, &[1], Status::Device),
+    (234, &[2], Status::Device),
+];
+
+fn wrong_listed(alloc: Global, rows: &[Listed]) -> Result<Option<usize>, Fail> {
+    for (at, (bytes, fails, status)) in rows.iter().enumerate() {
+        if status_with(alloc, *bytes, fails)? != *status {
+            return Ok(Some(at));
+        }
+    }
+    Ok(None)
 }
 
 #[test]
 fn listed_files_are_checked(rt: HostRuntime) -> Result<(), Fail> {
-    let alloc = rt.alloc();
-    let part = Part::File(FileNumber(1));
-    assert_eq!(rt; status_with(alloc, 234, &[])?, Status::Done);
-    assert_eq!(rt;
-        status_with(alloc, 233, &[])?,
-        Status::Damaged { part, at: 219 }
-    );
-    assert_eq!(rt; status_with(alloc, 234, &[1])?, Status::Device);
-    assert_eq!(rt; status_with(alloc, 234, &[2])?, Status::Device);
+    assert_eq!(rt; wrong_listed(rt.alloc(), &LISTED)?, None);
     Ok(())
 }
 
-/// Commands, and what a select prints behind each that changes something.
+/// Commands, and what a select returns behind each that changes something.
 #[derive(Clone, Copy)]
 struct Course {
     commands: &'static str,
-    seen: &'static [Row],
+    seen: &'static [&'static str],
 }
 
-const SEEN: &[Row] = &[
-    (RUN, "S", "path"),
-    (RUN, "S", "time,s / rows 0"),
-    (RUN, "S", "time,s / 1,5 / rows 1"),
-    (RUN, "S", "time,s / 1,6 / rows 1"),
+const SEEN: &[&str] = &[
+    "path\n",
+    "time,s\nrows 0\n",
+    "time,s\n1,5\nrows 1\n",
+    "time,s\n1,6\nrows 1\n",
 ];
 
 const LATE: Course = Course {
@@ -346,11 +381,11 @@ const LATE_AND_COMPACTED: Course = Course {
 const ALL_COMPACTED: Course = Course {
     commands: "C; I 1 5; flush; I 1 6; flush; I 1 7; flush; compact inner unsequence; compact cross",
     seen: &[
-        (RUN, "S", "path"),
-        (RUN, "S", "time,s / rows 0"),
-        (RUN, "S", "time,s / 1,5 / rows 1"),
-        (RUN, "S", "time,s / 1,6 / rows 1"),
-        (RUN, "S", "time,s / 1,7 / rows 1"),
+        "path\n",
+        "time,s\nrows 0\n",
+        "time,s\n1,5\nrows 1\n",
+        "time,s\n1,6\nrows 1\n",
+        "time,s\n1,7\nrows 1\n",
     ],
 };
 
@@ -359,61 +394,93 @@ const SEQUENCE_COMPACTED: Course = Course {
     commands: "C; I 1 5; flush; I 2 6; flush; delete from root.g.d.s where time<=1; compact inner sequence; \
                I 3 7; flush; compact inner sequence",
     seen: &[
-        (RUN, "S", "path"),
-        (RUN, "S", "time,s / rows 0"),
-        (RUN, "S", "time,s / 1,5 / rows 1"),
-        (RUN, "S", "time,s / 1,5 / 2,6 / rows 2"),
-        (RUN, "S", "time,s / 2,6 / rows 1"),
-        (RUN, "S", "time,s / 2,6 / 3,7 / rows 2"),
+        "path\n",
+        "time,s\nrows 0\n",
+        "time,s\n1,5\nrows 1\n",
+        "time,s\n1,5\n2,6\nrows 2\n",
+        "time,s\n2,6\nrows 1\n",
+        "time,s\n2,6\n3,7\nrows 2\n",
     ],
 };
 
-/// What a run of the commands on the place prints.
-fn printed_on(alloc: Global, place: &mut MemPlace, commands: &str) -> Result<Vec<u8>, Fail> {
-    let words = words(alloc, RUN)?;
-    let mut script = String::new(alloc);
-    for command in commands.split("; ") {
-        script.push_str(line_of(alloc, command)?.as_str())?;
-    }
-    let mut source = SteadySource::new(Vec::from_slice(alloc, script.as_bytes())?);
-    let mut sink = SteadySink::new(alloc);
-    run(alloc, &words, &mut source, &mut sink, place);
-    Ok(Vec::from_slice(alloc, sink.bytes())?)
+/// Which of these a select returned.
+fn seen_in(left: &Left, seen: &[&str]) -> Option<usize> {
+    seen.iter().position(|rows| shows(left, rows))
 }
 
-/// Which of these rows a select on the place prints.
-fn seen_on(alloc: Global, place: &mut MemPlace, seen: &[Row]) -> Result<Option<usize>, Fail> {
-    let printed = printed_on(alloc, place, "S")?;
-    for (at, row) in seen.iter().enumerate() {
-        let (_, wanted) = script_of(alloc, row)?;
-        if printed.as_slice() == wanted.as_bytes() {
-            return Ok(Some(at));
+/// Which of these a select on the place returns.
+fn seen_on(alloc: Global, place: &mut MemPlace, seen: &[&str]) -> Result<Option<usize>, Fail> {
+    let left = run_on(alloc, place, RUN, SELECT)?;
+    Ok(seen_in(&left, seen))
+}
+
+/// Which of these a select returns behind a stop at a moment.
+fn seen_after(
+    alloc: Global,
+    place: &MemPlace,
+    moment: u64,
+    kind: StopKind,
+    seen: &[&str],
+) -> Result<Option<usize>, Fail>
+    requires in_it { IsSome (journal_of place.now) }
+{
+    let left = left_after(alloc, place, moment, kind)?;
+    Ok(seen_in(&left, seen))
+}
+
+/// The latest of these that was seen, also behind each kind of stop at a moment: none where something was lost.
+fn latest_at(
+    alloc: Global,
+    place: &MemPlace,
+    moment: u64,
+    seen: &[&str],
+    latest: usize,
+) -> Result<Option<usize>, Fail>
+    requires in_it { IsSome (journal_of place.now) }
+{
+    let mut latest = latest;
+    for kind in [StopKind::Written, StopKind::Unwritten, StopKind::Scrambled] {
+        match seen_after(alloc, place, moment, kind, seen)? {
+            Some(at) if latest <= at.saturating_add(1) => latest = latest.max(at),
+            _ => return Ok(None),
+        }
+    }
+    Ok(Some(latest))
+}
+
+/// The first moment at which a stop leaves a store that is not opened, or in which something is not there that was
+/// acknowledged.
+fn first_lost(alloc: Global, place: &MemPlace, seen: &[&str]) -> Result<Option<u64>, Fail> {
+    let mut latest = 0;
+    for moment in 0..place.moments() {
+        match latest_at(alloc, place, moment, seen, latest)? {
+            Some(at) => latest = at,
+            None => return Ok(Some(moment)),
         }
     }
     Ok(None)
 }
 
-/// The first moment of a run of the commands at which a stop leaves a store that is not opened, or in which something
-/// is not there that was acknowledged.
+/// How a run of the script on the place ends, and which of these a later select returns.
+fn end_of(
+    alloc: Global,
+    place: &mut MemPlace,
+    script: &str,
+    seen: &[&str],
+) -> Result<(Status, Option<usize>), Fail> {
+    let status = status_on(alloc, place, script)?;
+    Ok((status, seen_on(alloc, place, seen)?))
+}
+
+/// The first moment of a run of the commands at which a stop loses something.
 fn lost_at(alloc: Global, course: &Course) -> Result<Option<u64>, Fail> {
+    let script = script_of(alloc, course.commands)?;
     let mut place = new_place(alloc, &[])?;
-    let (script, _) = script_of(alloc, &(RUN, course.commands, ""))?;
-    let status = status_on(alloc, &mut place, script.as_str())?;
-    let last = course.seen.len().checked_sub(1);
-    if status != Status::Done || seen_on(alloc, &mut place, course.seen)? != last {
+    let end = end_of(alloc, &mut place, script.as_str(), course.seen)?;
+    if end != (Status::Done, course.seen.len().checked_sub(1)) {
         return Ok(Some(place.moments()));
     }
-    let mut most = 0;
-    for moment in 0..place.moments() {
-        for kind in [StopKind::Written, StopKind::Unwritten, StopKind::Scrambled] {
-            let mut stopped = place.after_stop(moment, kind)?;
-            match seen_on(alloc, &mut stopped, course.seen)? {
-                Some(seen) if most <= seen.saturating_add(1) => most = most.max(seen),
-                _ => return Ok(Some(moment)),
-            }
-        }
-    }
-    Ok(None)
+    first_lost(alloc, &place, course.seen)
 }
 
 /// A stop at any moment, also within a flush or a compaction, leaves a store that is opened, and in it what was
@@ -432,56 +499,53 @@ fn stops_with_inner_compactions(rt: HostRuntime) -> Result<(), Fail> {
     Ok(())
 }
 
-/// How many commands were answered `device`.
-fn devices(printed: &[u8]) -> usize {
-    let lines = printed.split(|byte| *byte == b'\n');
-    lines.filter(|line| *line == b"device".as_slice()).count()
-}
+/// Flushes and compactions of both kinds, and their order.
+const COMPACTING: &str = "C; I 1 5; flush; I 2 6; flush; delete from root.g.d.s where time<=1; \
+                          compact inner sequence; I 1 7; flush; I 2 8; flush; compact inner unsequence; \
+                          compact cross; S";
 
-/// The replies of what was printed to so many commands, without the heading and the order.
-fn replies(printed: &[u8], commands: usize) -> Option<&[u8]> {
-    let order = commands.saturating_mul(2).saturating_add(6);
-    let end = printed.len().checked_sub(order)?;
-    printed.get(..end)?.strip_prefix(b"session 1\n".as_slice())
-}
-
-/// Whether the replies to the commands end with those to one.
-fn ends_so(printed: &[u8], commands: usize, again: &[u8]) -> bool {
-    match (replies(printed, commands), replies(again, 1)) {
-        (Some(replies), Some(last)) => replies.ends_with(last),
-        _ => false,
-    }
-}
-
-/// The first call of the journal, up to so many, at whose failure not one command is answered `device`, or the next run
-/// does not see what this one saw last.
-fn first_lost(alloc: Global, commands: &str, calls: u64) -> Result<Option<u64>, Fail> {
-    let count = commands.split("; ").count();
-    for call in 1..=calls {
-        let fails = Fails {
-            journal: Vec::from_slice(alloc, &[call])?,
-            files: Vec::new(alloc),
-        };
-        let slots = [vec![in alloc; 0]?, vec![in alloc; 0]?];
-        let mut place = MemPlace::new(alloc, slots, Vec::new(alloc), fails)?;
-        let printed = printed_on(alloc, &mut place, commands)?;
-        let again = printed_on(alloc, &mut place, "S")?;
-        if devices(&printed) != 1 || !ends_so(&printed, count, &again) {
-            return Ok(Some(call));
-        }
-    }
-    Ok(None)
-}
+const COMPACTING_ORDER: &str = "order 1 1 1 1 1 1 1 1 1 1 1 1 1 1\n";
 
 /// Whichever call of the journal fails, one command is answered `device`, also a compaction, and the next run sees what
 /// this one saw last. An accepted command is four calls, a flush eight and a compaction four.
 #[test]
 fn each_call_of_the_journal_fails_in_turn(rt: HostRuntime) -> Result<(), Fail> {
-    let commands =
-        "C; I 1 5; flush; I 2 6; flush; delete from root.g.d.s where time<=1; compact inner sequence; \
-                    I 1 7; flush; I 2 8; flush; compact inner unsequence; compact cross; S";
-    assert_eq!(rt; first_lost(rt.alloc(), commands, 68)?, None);
+    let alloc = rt.alloc();
+    let script = script_of(alloc, COMPACTING)?;
+    assert_eq!(rt;
+        first_unanswered(alloc, script.as_str(), COMPACTING_ORDER, 68)?,
+        None
+    );
     Ok(())
+}
+
+/// How a run of the script ends whose call on the files with this number fails, and which of these a later select
+/// returns.
+fn end_with(
+    alloc: Global,
+    script: &str,
+    call: u64,
+    seen: &[&str],
+) -> Result<(Status, Option<usize>), Fail> {
+    let mut place = new_place(alloc, &[call])?;
+    end_of(alloc, &mut place, script, seen)
+}
+
+/// The first of so many calls on the files at whose failure the run ends otherwise, or what it acknowledged is lost.
+/// The first call is that of the opening.
+fn wrong_call(alloc: Global, script: &str, calls: u64) -> Result<Option<u64>, Fail> {
+    for call in 1..=calls {
+        let end = end_with(alloc, script, call, SEEN)?;
+        let wanted = if call == 1 {
+            (Status::Device, Some(0))
+        } else {
+            (Status::Done, Some(3))
+        };
+        if end != wanted {
+            return Ok(Some(call));
+        }
+    }
+    Ok(None)
 }
 
 /// Whichever call on the files fails, the store is not opened, or a flush, a compaction or a query is answered `device`.
@@ -489,16 +553,7 @@ fn each_call_of_the_journal_fails_in_turn(rt: HostRuntime) -> Result<(), Fail> {
 #[test]
 fn each_call_on_files_fails_in_turn(rt: HostRuntime) -> Result<(), Fail> {
     let alloc = rt.alloc();
-    let (script, _) = script_of(alloc, &(RUN, LATE_AND_COMPACTED.commands, ""))?;
-    for call in 1..=16 {
-        let mut place = new_place(alloc, &[call])?;
-        let status = status_on(alloc, &mut place, script.as_str())?;
-        let seen = seen_on(alloc, &mut place, SEEN)?;
-        if call == 1 {
-            assert_eq!(rt; (status, seen), (Status::Device, Some(0)));
-        } else {
-            assert_eq!(rt; (status, seen), (Status::Done, Some(3)), "{call}");
-        }
-    }
+    let script = script_of(alloc, LATE_AND_COMPACTED.commands)?;
+    assert_eq!(rt; wrong_call(alloc, script.as_str(), 16)?, None);
     Ok(())
 }

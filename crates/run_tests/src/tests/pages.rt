@@ -1,9 +1,8 @@
 //! A worked example: 2,000 points of one series in one file, which has two pages then.
-use super::{CREATE, new_place, words};
-use mem_outside::{SteadyPlace, SteadySink, SteadySource};
-use std::alloc::Global;
+use super::{CREATE, RUN, new_place, prints};
+use mem_outside::SteadyPlace;
+use std::alloc::{AllocError, Global};
 use std::test::Fail;
-use tsdb_run::{Status, run};
 
 /// How many points there are: at each time from 1 on the value that is the time.
 const POINTS: u64 = 2_000;
@@ -35,46 +34,54 @@ const LATE: &str = "1 insert into root.g.d(timestamp,s) values(1,-7)
 
 const LATE_PRINTED: &str = "session 1\nok\ncount(s)\n2000\nmin_value(s)\n-7\norder 1 1 1\n";
 
-/// The first run's script, and what it prints.
-fn first_run(alloc: Global) -> Result<(String, String), Fail> {
+/// A first part, so many times a second one, and a last one.
+fn text_of(
+    alloc: Global,
+    first: &str,
+    times: u64,
+    part: &str,
+    last: &str,
+) -> Result<String, AllocError> {
+    let mut text = String::from_str(alloc, first)?;
+    for _ in 0..times {
+        text.push_str(part)?;
+    }
+    text.push_str(last)?;
+    Ok(text)
+}
+
+/// The first run's script.
+fn first_script(alloc: Global) -> Result<String, AllocError> {
     let mut script = String::from_str(alloc, CREATE)?;
-    let mut printed = String::from_str(alloc, "session 1\nok\n")?;
-    let mut order = String::from_str(alloc, "order 1 1 1 1 1")?;
     for time in 1..=POINTS {
         let line = format!(in alloc;
             "1 insert into root.g.d(timestamp,s) values({time},{time})\n"
         )?;
         script.push_str(line.as_str())?;
-        printed.push_str("ok\n")?;
-        order.push_str(" 1")?;
     }
     script.push_str(COUNTED)?;
-    printed.push_str(COUNTS)?;
-    printed.push_str(order.as_str())?;
-    printed.push_str("\n")?;
-    Ok((script, printed))
+    Ok(script)
 }
 
-/// Whether a run of the script on the place ends well and prints this.
-fn prints(
-    alloc: Global,
-    place: &mut SteadyPlace,
-    script: &str,
-    printed: &str,
-) -> Result<bool, Fail> {
-    let words = words(alloc, &["run", "d"])?;
-    let mut source = SteadySource::new(Vec::from_slice(alloc, script.as_bytes())?);
-    let mut sink = SteadySink::new(alloc);
-    let ended = run(alloc, &words, &mut source, &mut sink, place);
-    Ok(ended.status == Status::Done && sink.bytes() == printed.as_bytes())
+/// What it prints.
+fn first_printed(alloc: Global) -> Result<String, AllocError> {
+    let replies = text_of(alloc, "session 1\nok\n", POINTS, "ok\n", COUNTS)?;
+    let order = text_of(alloc, "order 1 1 1 1 1", POINTS, " 1", "\n")?;
+    format!(in alloc; "{replies}{order}")
+}
+
+/// Whether the first run on the place prints what it is to print.
+fn is_first(alloc: Global, place: &mut SteadyPlace) -> Result<bool, Fail> {
+    let script = first_script(alloc)?;
+    let printed = first_printed(alloc)?;
+    prints(alloc, place, RUN, script.as_str(), printed.as_str())
 }
 
 #[test]
 fn aggregates_of_a_file_of_two_pages(rt: HostRuntime) -> Result<(), Fail> {
     let alloc = rt.alloc();
     let mut place = new_place(alloc)?;
-    let (script, printed) = first_run(alloc)?;
-    assert!(rt; prints(alloc, &mut place, script.as_str(), printed.as_str())?);
-    assert!(rt; prints(alloc, &mut place, LATE, LATE_PRINTED)?);
+    assert!(rt; is_first(alloc, &mut place)?);
+    assert!(rt; prints(alloc, &mut place, RUN, LATE, LATE_PRINTED)?);
     Ok(())
 }

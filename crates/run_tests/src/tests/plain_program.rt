@@ -1,5 +1,5 @@
 //! A plain, slow program for short scripts: it keeps the lines, and looks back over all of them for each reply.
-
+use super::push_all;
 use std::alloc::{AllocError, Global};
 
 /// The series `root.g.d.s` of whole numbers, and `root.g.d.t` of texts.
@@ -55,8 +55,8 @@ const STATEMENTS: [(&str, Act); 9] = [
     ("flush", Act::Flush),
 ];
 
-/// A line: its session, and what its statement does.
-type Line = (u8, Act);
+/// A line: its session, its statement, and what that does.
+type Line = (u8, &'static str, Act);
 
 /// How many scripts of none to three lines there are, with each statement in two sessions.
 const SHORT_SCRIPTS: usize = 1 + 18 + 324 + 5832;
@@ -66,73 +66,82 @@ pub const SCRIPTS: usize = 2 * SHORT_SCRIPTS;
 
 /// The script with this number, and what it prints.
 pub fn output_of(alloc: Global, number: usize) -> Result<(String, String), AllocError> {
-    let mut script = String::new(alloc);
-    let mut lines = Vec::new(alloc);
-    if number % 2 == 1 {
-        add_line(&mut script, &mut lines, alloc, 0)?;
-        add_line(&mut script, &mut lines, alloc, 10)?;
-    }
-    let mut rest = number / 2;
-    for _ in 0..3 {
-        if rest > 0 {
-            add_line(&mut script, &mut lines, alloc, (rest - 1) % 18)?;
-            rest = (rest - 1) / 18;
-        }
-    }
+    let lines = lines_of(alloc, number)?;
+    let script = script_of(alloc, &lines)?;
     let printed = printed(alloc, &lines)?;
     Ok((script, printed))
 }
 
-/// Adds a line by its number: the first nine are of session 1, the others of session 2.
-fn add_line(
-    script: &mut String,
-    lines: &mut Vec<Line>,
-    alloc: Global,
-    number: usize,
-) -> Result<(), AllocError> {
-    let session = if number < 9 { 1 } else { 2 };
+/// The lines of the script with this number.
+fn lines_of(alloc: Global, number: usize) -> Result<Vec<Line>, AllocError> {
+    let mut lines = Vec::new(alloc);
+    if number % 2 == 1 {
+        lines.push(line_of(0))?;
+        lines.push(line_of(10))?;
+    }
+    let mut rest = number / 2;
+    for _ in 0..3 {
+        if rest > 0 {
+            lines.push(line_of((rest - 1) % 18))?;
+            rest = (rest - 1) / 18;
+        }
+    }
+    Ok(lines)
+}
+
+/// A line by its number: the first nine are of session 1, the others of session 2.
+fn line_of(number: usize) -> Line {
     let (text, act) = STATEMENTS[number % 9];
-    script.push_str(&format!(in alloc; "{session} {text}\n")?)?;
-    lines.push((session, act))?;
-    Ok(())
+    (if number < 9 { 1 } else { 2 }, text, act)
+}
+
+fn script_of(alloc: Global, lines: &[Line]) -> Result<String, AllocError> {
+    let mut script = String::new(alloc);
+    for (session, text, _) in lines {
+        push_all(&mut script, &[digit(*session), " ", text, "\n"])?;
+    }
+    Ok(script)
+}
+
+/// The digit of a session.
+fn digit(session: u8) -> &'static str {
+    if session == 1 { "1" } else { "2" }
 }
 
 /// The whole output: the session of the first line, the other one, and the order.
 fn printed(alloc: Global, lines: &[Line]) -> Result<String, AllocError> {
     let mut text = String::new(alloc);
-    if let [(first, _), ..] = lines {
-        for session in [*first, 3u8.saturating_sub(*first)] {
-            text.push_str(&part(alloc, lines, session)?)?;
-        }
+    if let [(first, _, _), ..] = lines {
+        add_part(lines, *first, &mut text)?;
+        add_part(lines, 3u8.saturating_sub(*first), &mut text)?;
     }
     text.push_str("order")?;
-    for (session, _) in lines {
-        text.push_str(&format!(in alloc; " {session}")?)?;
+    for (session, _, _) in lines {
+        push_all(&mut text, &[" ", digit(*session)])?;
     }
     text.push_str("\n")?;
     Ok(text)
 }
 
-/// The heading of a session that has lines, and its replies.
-fn part(alloc: Global, lines: &[Line], session: u8) -> Result<String, AllocError> {
-    let mut text = String::new(alloc);
-    for (at, (other, act)) in lines.iter().enumerate() {
+/// Adds the heading of a session that has lines, and its replies.
+fn add_part(lines: &[Line], session: u8, text: &mut String) -> Result<(), AllocError> {
+    if lines.iter().any(|line| line.0 == session) {
+        push_all(text, &["session ", digit(session), "\n"])?;
+    }
+    for (at, (other, _, act)) in lines.iter().enumerate() {
         if *other == session {
-            if text.is_empty() {
-                text.push_str(&format!(in alloc; "session {session}\n")?)?;
-            }
-            text.push_str(&reply(alloc, &lines[..at], *act)?)?;
+            add_reply(&lines[..at], *act, text)?;
         }
     }
-    Ok(text)
+    Ok(())
 }
 
-/// The reply to a statement behind these lines.
-fn reply(alloc: Global, before: &[Line], act: Act) -> Result<String, AllocError> {
+/// Adds the reply to a statement behind these lines.
+fn add_reply(before: &[Line], act: Act, text: &mut String) -> Result<(), AllocError> {
     match act {
-        Act::Rows if are_there(before, true, true) => rows(alloc, before),
-        Act::Aggregates if are_there(before, true, false) => aggregates(alloc, before),
-        _ => String::from_str(alloc, answer(before, act)),
+        Act::Rows if are_there(before, true, true) => add_rows(before, text),
+        Act::Aggregates if are_there(before, true, false) => add_aggregates(before, text),
+        _ => text.push_str(answer(before, act)),
     }
 }
 
@@ -157,13 +166,13 @@ fn are_there(lines: &[Line], numbers: bool, texts: bool) -> bool {
 }
 
 fn is_there(lines: &[Line], series: Series) -> bool {
-    lines.iter().any(|line| matches!(line.1, Act::Create(other) if other == series))
+    lines.iter().any(|line| matches!(line.2, Act::Create(other) if other == series))
 }
 
 /// What stands in a series at a time behind these lines.
 fn last_written(lines: &[Line], series: Series, time: &str) -> Option<&'static str> {
     let mut last = None;
-    for (at, (_, act)) in lines.iter().enumerate() {
+    for (at, (_, _, act)) in lines.iter().enumerate() {
         match *act {
             Act::Insert(moment, number, text) if moment == time => {
                 let value = if series == Series::Numbers {
@@ -182,26 +191,34 @@ fn last_written(lines: &[Line], series: Series, time: &str) -> Option<&'static s
     last
 }
 
-fn rows(alloc: Global, before: &[Line]) -> Result<String, AllocError> {
-    let mut text = String::from_str(alloc, "time,s,t\n")?;
-    let mut count = 0u8;
+fn add_rows(before: &[Line], text: &mut String) -> Result<(), AllocError> {
+    text.push_str("time,s,t\n")?;
+    let mut count = 0usize;
     for time in ["-2", "1"] {
         let number = last_written(before, Series::Numbers, time);
         let other = last_written(before, Series::Texts, time);
         if number.is_some() || other.is_some() {
             let number = number.unwrap_or("null");
             let other = other.unwrap_or("null");
-            text.push_str(&format!(in alloc; "{time},{number},{other}\n")?)?;
+            push_all(text, &[time, ",", number, ",", other, "\n"])?;
             count = count.saturating_add(1);
         }
     }
-    text.push_str(&format!(in alloc; "rows {count}\n")?)?;
-    Ok(text)
+    push_all(text, &["rows ", count_of(count), "\n"])
+}
+
+/// A count of at most two.
+fn count_of(count: usize) -> &'static str {
+    match count {
+        0 => "0",
+        1 => "1",
+        _ => "2",
+    }
 }
 
 /// All numbers have one digit, so that the greatest is that of the greatest byte.
-fn aggregates(alloc: Global, before: &[Line]) -> Result<String, AllocError> {
-    let mut count = 0u8;
+fn add_aggregates(before: &[Line], text: &mut String) -> Result<(), AllocError> {
+    let mut count = 0usize;
     let mut greatest = "null";
     for time in ["-2", "1"] {
         if let Some(number) = last_written(before, Series::Numbers, time) {
@@ -211,5 +228,6 @@ fn aggregates(alloc: Global, before: &[Line]) -> Result<String, AllocError> {
             }
         }
     }
-    format!(in alloc; "count(s),max_value(s)\n{count},{greatest}\n")
+    let heading = "count(s),max_value(s)\n";
+    push_all(text, &[heading, count_of(count), ",", greatest, "\n"])
 }
