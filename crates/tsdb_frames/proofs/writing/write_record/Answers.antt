@@ -1,10 +1,23 @@
-use Rattle.std.proofs.Common.{◌+◌, arith, inl, length}
+use Rattle.std.proofs.Common.{◌≡◌, ◌+◌, Ok, Err, arith, inl, length}
+use Rattle.std.specs.Prelude.{Result}
 use Rattle.tsdb_outside.specs.Moments.{other}
 use Rattle.tsdb_frames.specs.Log.{payload_of}
+use Rattle.tsdb_frames.specs.declared.writing.Unopened.{Unopened}
+use Rattle.tsdb_frames.specs.declared.writing.Unopened.TheVariants.{Closed, Doubted}
 use Rattle.tsdb_frames.proofs.AsideLemmas.{leaves_slot_on, write_leaves}
 use Rattle.tsdb_frames.proofs.LogLemmas.{added_moments, behind_done, behind_fails, gate_fails, gate_opens_framed, staging_moments}
 use Rattle.tsdb_frames.proofs.StepLemmas.{end_stays}
 use Rattle.tsdb_frames.proofs.writing.write_record.Goals as goal
+
+-- an answer of one kind is not one of the other
+never_err : {T E P : Type 0} (value : T) (error : E) → Ok value ≡ Err error → P
+never_err value error is = absurd cc
+
+closed_is_not_doubted : {T P : Type 0} → ◌≡◌ {A = Result T Unopened} (Err Closed) (Err Doubted) → P
+closed_is_not_doubted is = absurd cc
+
+doubted_is_not_closed : {T P : Type 0} → ◌≡◌ {A = Result T Unopened} (Err Doubted) (Err Closed) → P
+doubted_is_not_closed is = absurd cc
 
 pub returns-in_default-clause-closed : goal.returns-in_default-clause-closed
 returns-in_default-clause-closed g c = λ is acknowledged log.
@@ -65,7 +78,7 @@ write_and_sync-requires-2-after_bounds g c κs lives =
     (g.J.Disk.state c.write_and_sync.new.journal).seen c.write_and_sync.ensures.torn (λ image is. omega (arith, c.requires.gate image is))
 
 pub returns-in_default-clause-doubted : goal.returns-in_default-clause-doubted
-returns-in_default-clause-doubted g c = λ is. absurd cc
+returns-in_default-clause-doubted g c = λ is. closed_is_not_doubted is
 
 pub returns-in_default-clause-elsewhere : goal.returns-in_default-clause-elsewhere
 returns-in_default-clause-elsewhere g c =
@@ -84,7 +97,7 @@ returns-in_default-clause-cause g c = record {
 }
 
 pub returns-in_default-write_and_sync-clause-closed : goal.returns-in_default-write_and_sync-clause-closed
-returns-in_default-write_and_sync-clause-closed g c = λ is. absurd cc
+returns-in_default-write_and_sync-clause-closed g c = λ is. doubted_is_not_closed is
 
 pub returns-in_default-write_and_sync-clause-elsewhere : goal.returns-in_default-write_and_sync-clause-elsewhere
 returns-in_default-write_and_sync-clause-elsewhere g c =
@@ -109,10 +122,10 @@ returns-in_default-write_and_sync-clause-cause g c = record {
 }
 
 pub returns-clause-closed : goal.returns-clause-closed
-returns-clause-closed g c = λ is. absurd cc
+returns-clause-closed g c = λ is. never_err _ _ is
 
 pub returns-clause-doubted : goal.returns-clause-doubted
-returns-clause-doubted g c = λ is. absurd cc
+returns-clause-doubted g c = λ is. never_err _ _ is
 
 pub returns-clause-elsewhere : goal.returns-clause-elsewhere
 returns-clause-elsewhere g c =

@@ -1,16 +1,35 @@
-use Rattle.std.proofs.Common.{◌≡◌, ℕ, ◌+◌, ◌≤◌, List, Err, None, Some, length, take, drop, refl, sym, ◌∙◌, ap, subst, arith, length-drop}
+use Rattle.std.proofs.Common.{◌≡◌, ℕ, ◌+◌, ◌≤◌, List, Ok, Err, None, Some, length, take, drop, refl, sym, ◌∙◌, ap, subst, arith, length-drop}
 use Rattle.std.proofs.lemmas.Bool.{false≢true}
 use Rattle.std.proofs.lemmas.List.{take_all}
 use Rattle.std.proofs.lemmas.Result.{err_from_is_err_and}
 use Rattle.std.specs.Option.{ForSome}
-use Rattle.std.specs.Prelude.{IfSome}
+use Rattle.std.specs.Prelude.{IfSome, IsErrAnd, IsErrOf, Result}
 use Rattle.std.specs.declared.option.Option.{Option}
+use Rattle.tsdb_base.specs.Causes.{Rose}
 use Rattle.tsdb_outside.specs.Disk.{DiskState, Image, Keeps, in_slot}
 use Rattle.tsdb_outside.specs.declared.disk.Slot.{Slot}
 use Rattle.tsdb_frames.specs.Pieces.{HasPiece}
 use Rattle.tsdb_frames.specs.declared.fault.ScanFault.TheVariants.{Failed, Torn}
 use Rattle.tsdb_frames.proofs.FirstLemmas.{keeps_on}
 use Rattle.tsdb_frames.proofs.reader.FrameReader.fill.Goals as goal
+
+-- an answer of one kind is not one of the other
+never_err : {T E P : Type 0} (value : T) (error : E) → Ok value ≡ Err error → P
+never_err value error is = absurd cc
+
+-- the fault that a `?` passed on is the part's
+passed_on : {T E : Type 0} (result : Result T E) (inner error : E) → IsErrAnd result (λ fault. fault ≡ inner) → IsErrOf result error → inner ≡ error
+passed_on result inner error passed is =
+    let p = err_from_is_err_and result passed in
+    let same = rw (p.1, p.2) at is in
+    cc
+
+-- the cause of a part is a cause of the whole
+rose_later : (first mid last : ℕ) → first ≤ mid → Rose mid last → Rose first last
+rose_later first mid last later rose = omega (arith, later, rose)
+
+not_before : (first mid last : ℕ) → first ≤ mid → mid ≤ last → first ≤ last
+not_before first mid last one two = omega (arith, one, two)
 
 -- a piece stays one where nothing is written
 piece_stays : (old new : DiskState) (slot : Slot) (at end : ℕ) (left : List ℕ) → Keeps old new → HasPiece old slot at end left
@@ -106,10 +125,10 @@ returns-then-end-self-clause-all g c = λ no_more.
     (omega (arith, self.piece.ok.0, length-drop self.read self.piece.items)) c.in_ok-end.ensures.length self.within.bytes
 
 pub returns-then-end-self-clause-not_torn : goal.returns-then-end-self-clause-not_torn
-returns-then-end-self-clause-not_torn g c = λ at is. absurd cc
+returns-then-end-self-clause-not_torn g c = λ at is. never_err _ _ is
 
 pub returns-then-end-self-clause-cause : goal.returns-then-end-self-clause-cause
-returns-then-end-self-clause-cause g c = record { later = c.length.ensures.cause.later; failed = λ is. absurd cc }
+returns-then-end-self-clause-cause g c = record { later = c.length.ensures.cause.later; failed = λ is. never_err _ _ is }
 
 pub returns-in_err-self-clause-stays : goal.returns-in_err-self-clause-stays
 returns-in_err-self-clause-stays g c =
@@ -120,24 +139,20 @@ returns-in_err-self-clause-stays g c =
       first = refl;
       keeps = keeps_on (g.J.Disk.state journal) (g.J.Disk.state c.length.new.self) (g.J.Disk.state c.read_piece.new.journal) (g.J.Disk.lawful journal)
           c.length.ensures.keeps c.read_piece.ensures.keeps;
-      later = omega (arith, c.length.ensures.cause.later, c.read_piece.ensures.cause.later);
+      later = not_before _ _ _ c.length.ensures.cause.later c.read_piece.ensures.cause.later;
     }
 
 pub returns-in_err-self-clause-not_torn : goal.returns-in_err-self-clause-not_torn
 returns-in_err-self-clause-not_torn g c = λ at is.
-    let p = err_from_is_err_and c.from_residual-in_err-self.result c.from_residual-in_err-self.ensures.1 in
-    let passed_on = rw (p.1, p.2) at is in
-    let fault : c.in_err-self.field-0.0 ≡ Torn at = cc in
+    let fault = passed_on c.from_residual-in_err-self.result c.in_err-self.field-0.0 (Torn at) c.from_residual-in_err-self.ensures.1 is in
     c.in_err-self.ensures.not_torn at (ap (λ x. Err x) fault)
 
 pub returns-in_err-self-clause-cause : goal.returns-in_err-self-clause-cause
 returns-in_err-self-clause-cause g c = record {
-  later = omega (arith, c.length.ensures.cause.later, c.read_piece.ensures.cause.later);
+  later = not_before _ _ _ c.length.ensures.cause.later c.read_piece.ensures.cause.later;
   failed = λ is.
-      let p = err_from_is_err_and c.from_residual-in_err-self.result c.from_residual-in_err-self.ensures.1 in
-      let passed_on = rw (p.1, p.2) at is in
-      let fault : c.in_err-self.field-0.0 ≡ Failed = cc in
-      omega (arith, c.length.ensures.cause.later, c.in_err-self.ensures.cause.failed (ap (λ x. Err x) fault));
+      let fault = passed_on c.from_residual-in_err-self.result c.in_err-self.field-0.0 Failed c.from_residual-in_err-self.ensures.1 is in
+      rose_later _ _ _ c.length.ensures.cause.later (c.in_err-self.ensures.cause.failed (ap (λ x. Err x) fault));
 }
 
 pub returns-clause-stays : goal.returns-clause-stays
@@ -149,7 +164,7 @@ returns-clause-stays g c =
       first = refl;
       keeps = keeps_on (g.J.Disk.state journal) (g.J.Disk.state c.length.new.self) (g.J.Disk.state c.read_piece.new.journal) (g.J.Disk.lawful journal)
           c.length.ensures.keeps c.read_piece.ensures.keeps;
-      later = omega (arith, c.length.ensures.cause.later, c.read_piece.ensures.cause.later);
+      later = not_before _ _ _ c.length.ensures.cause.later c.read_piece.ensures.cause.later;
     }
 
 pub returns-clause-longer : goal.returns-clause-longer
@@ -161,10 +176,10 @@ pub returns-clause-all : goal.returns-clause-all
 returns-clause-all g c = λ no_more. absurd (false≢true (sym no_more))
 
 pub returns-clause-not_torn : goal.returns-clause-not_torn
-returns-clause-not_torn g c = λ at is. absurd cc
+returns-clause-not_torn g c = λ at is. never_err _ _ is
 
 pub returns-clause-cause : goal.returns-clause-cause
 returns-clause-cause g c = record {
-  later = omega (arith, c.length.ensures.cause.later, c.read_piece.ensures.cause.later);
-  failed = λ is. absurd cc;
+  later = not_before _ _ _ c.length.ensures.cause.later c.read_piece.ensures.cause.later;
+  failed = λ is. never_err _ _ is;
 }
