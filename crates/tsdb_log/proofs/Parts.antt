@@ -102,3 +102,18 @@ pub writes_pair : {T E : Type 0} (result : Result T E) (first second : List (Lis
 writes_pair result first second old middle new begun more =
     subst (λ (l : List ℕ). OnOk result (new ≡ old ++ l)) (sym (bytes_append first second))
     (both_written result old (joined_fields first) (joined_fields second) middle new begun more)
+
+-- there was no room for the first of two rows
+pub no_room_first : {T E : Type 0} (result : Result T E) (first second : List (List ℕ)) (old : List ℕ) (capacity : ℕ)
+    → capacity < length old + length (joined_fields first)
+    → OnErr result (capacity < length old + length (joined_fields (first ++ second)))
+no_room_first result first second old capacity full = always_on_err result (omega (arith, full, bytes_length first second))
+
+-- one row was written, and there was no room for another
+pub no_room_behind : {T E : Type 0} (result : Result T E) (first second : List (List ℕ)) (old middle : List ℕ) (capacity wider : ℕ)
+    → middle ≡ old ++ joined_fields first → capacity ≤ wider
+    → OnErr result (wider < length middle + length (joined_fields second))
+    → OnErr result (capacity < length old + length (joined_fields (first ++ second)))
+no_room_behind (Ok value) first second old middle capacity wider begun grows full = tt
+no_room_behind (Err error) first second old middle capacity wider begun grows full =
+    omega (arith, full, grows, ap length begun, length-append old (joined_fields first), bytes_length first second)

@@ -1,6 +1,10 @@
-use Rattle.std.proofs.Common.{subst, arith}
+use Rattle.std.proofs.Common.{subst, rules, arith, ◌≡◌, ◌++◌, sym}
 use Rattle.std.specs.Vec.{vec_capacity}
 use Rattle.std.proofs.lemmas.List.Elements.{All-more}
+use Rattle.std.specs.Prelude.{All}
+use Rattle.std.specs.List.{flat_map}
+use Rattle.std.proofs.lemmas.List.{append-nil, take_all}
+use Rattle.tsdb_log.specs.Spelling.{joined_fields}
 use Rattle.tsdb_log.proofs.Parts.{always_on_err, no_room_part}
 use Rattle.tsdb_log.proofs.Wholes.{row_more}
 use Rattle.tsdb_log.proofs.part.write_parts.Goals as goal
@@ -25,3 +29,19 @@ loop-part-preserved g c =
 
 pub returns-in_err-write-clause-capacity : goal.returns-in_err-write-clause-capacity
 returns-in_err-write-clause-capacity g c = omega (arith, c.loop-part.invariant.capacity, c.write.ensures.capacity)
+
+pub loop-part-init : goal.loop-part-init
+loop-part-init g c = record { are = search rules; bytes = sym (append-nil c.args.into.now.items); capacity = omega arith }
+
+pub returns-clause-ok : goal.returns-clause-ok
+returns-clause-ok g c =
+    let row = g.T.Part.fields in
+    subst (λ parts. c.loop-part.into.items ≡ c.args.into.now.items ++ joined_fields (flat_map row parts))
+    (take_all c.loop-part.part-index c.args.parts.now c.loop-part-test.false) c.loop-part.invariant.bytes
+
+pub returns-clause-are : goal.returns-clause-are
+returns-clause-are g c =
+    subst (λ parts. All g.T.Part.is_part parts) (take_all c.loop-part.part-index c.args.parts.now c.loop-part-test.false) c.loop-part.invariant.are
+
+pub returns-clause-capacity : goal.returns-clause-capacity
+returns-clause-capacity g c = c.loop-part.invariant.capacity
