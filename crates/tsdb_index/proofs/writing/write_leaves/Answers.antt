@@ -1,5 +1,6 @@
-use Rattle.std.proofs.Common.{◌≡◌, ◌++◌, refl, sym, arith}
-use Rattle.std.proofs.lemmas.List.{take-append-drop}
+use Rattle.std.proofs.Common.{◌≡◌, [], ◌++◌, refl, sym, ap, ◌∙◌, rules, arith}
+use Rattle.std.specs.List.{flat_map}
+use Rattle.std.proofs.lemmas.List.{append-nil, nil_from_length, take-append-drop}
 use Rattle.tsdb_index.proofs.Leaves.{nothing_written, leaf_more}
 use Rattle.tsdb_index.proofs.writing.write_leaves.Goals as goal
 
@@ -16,3 +17,16 @@ leaves-preserved c =
     (omega (arith, c.split_at.ensures.front_len, c.min.ensures))
     (λ follow. omega (arith, follow, c.split_at.ensures.front_len, c.split_at.ensures.back_len, c.min.ensures))
     c.in_ok-append_leaf.ensures.ok
+
+pub returns : goal.returns
+returns c =
+    let written = c.leaves.invariant in
+    let none : c.leaves.rest.now ≡ [] = nil_from_length c.leaves.rest.now (search rules) in
+    let whole = flat_map (λ leaf. leaf) written.leaves in
+    record {
+      leaves = written.leaves;
+      stand = record { sizes = written.sizes none; all = sym (append-nil whole) ∙ ap (λ rest. whole ++ rest) (sym none) ∙ written.split };
+      bytes_are = written.bytes_are;
+      pointers_are = written.pointers_are;
+      number_is = written.number_is;
+    }
