@@ -30,3 +30,6 @@ returns c =
       pointers_are = written.pointers_are;
       number_is = written.number_is;
     }
+
+pub append_leaf-requires-clause-few : goal.append_leaf-requires-clause-few
+append_leaf-requires-clause-few c = omega (arith, c.split_at.ensures.front_len, c.min.ensures)
