@@ -47,7 +47,8 @@ returns-in-Flushed-clause-capacity c = c.write_of_kind-in-Flushed.ensures.capaci
 pub returns-in_err-write_of_kind-in-Replaced-clause-room : goal.returns-in_err-write_of_kind-in-Replaced-clause-room
 returns-in_err-write_of_kind-in-Replaced-clause-room c =
     let r = c.in-Replaced in
-    rw r.is (no_room_first c.from_residual.result ((6 ∷ []) ∷ output_fields r.born r.space r.place r.output) (files_fields r.sequence ++ files_fields r.unsequence)
+    rw r.is (no_room_first c.from_residual.result ((6 ∷ []) ∷ output_fields r.born r.space r.place r.output)
+    (files_fields r.sequence ++ files_fields r.unsequence)
     c.args.into.now.items (vec_capacity c.args.into.now) c.in_err-write_of_kind-in-Replaced.ensures.room)
 
 pub returns-in_err-write_of_kind-in-Replaced-clause-capacity : goal.returns-in_err-write_of_kind-in-Replaced-clause-capacity
@@ -56,7 +57,8 @@ returns-in_err-write_of_kind-in-Replaced-clause-capacity c = c.write_of_kind-in-
 pub returns-in_ok-write_of_kind-in-Replaced-clause-room : goal.returns-in_ok-write_of_kind-in-Replaced-clause-room
 returns-in_ok-write_of_kind-in-Replaced-clause-room c =
     let r = c.in-Replaced in
-    rw r.is (no_room_behind c.write_inputs.result ((6 ∷ []) ∷ output_fields r.born r.space r.place r.output) (files_fields r.sequence ++ files_fields r.unsequence)
+    rw r.is (no_room_behind c.write_inputs.result ((6 ∷ []) ∷ output_fields r.born r.space r.place r.output)
+    (files_fields r.sequence ++ files_fields r.unsequence)
     c.args.into.now.items c.write_of_kind-in-Replaced.new.into.items (vec_capacity c.args.into.now)
     (vec_capacity c.write_of_kind-in-Replaced.new.into) c.in_ok-write_of_kind-in-Replaced.ensures.ok c.write_of_kind-in-Replaced.ensures.capacity
     (rw (c.items-in-Replaced.ensures, c.items-in-Replaced-2.ensures) at c.write_inputs.ensures.room))
