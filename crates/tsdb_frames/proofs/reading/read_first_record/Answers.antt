@@ -91,7 +91,8 @@ returns-then-length-eq0-clause-cause g c = record { later = c.length.ensures.cau
 
 pub returns-in_err-read_start-clause-torn : goal.returns-in_err-read_start-clause-torn
 returns-in_err-read_start-clause-torn g c at is =
-    let fault = passed_on c.from_residual-in_err-read_start.result c.in_err-read_start.field-0.0 (Torn at) c.from_residual-in_err-read_start.ensures.1 is in
+    let passed = c.from_residual-in_err-read_start in
+    let fault = passed_on passed.result c.in_err-read_start.field-0.0 (Torn at) passed.ensures.1 is in
     absurd (c.in_err-read_start.ensures.not_torn at (ap (λ x. Err x) fault))
 
 pub returns-in_err-read_start-clause-keeps : goal.returns-in_err-read_start-clause-keeps
@@ -103,7 +104,8 @@ pub returns-in_err-read_start-clause-cause : goal.returns-in_err-read_start-clau
 returns-in_err-read_start-clause-cause g c = record {
   later = not_before _ _ _ c.loop-frame.invariant.later c.read_start.ensures.cause.later;
   failed = λ is.
-      let fault = passed_on c.from_residual-in_err-read_start.result c.in_err-read_start.field-0.0 Failed c.from_residual-in_err-read_start.ensures.1 is in
+      let passed = c.from_residual-in_err-read_start in
+      let fault = passed_on passed.result c.in_err-read_start.field-0.0 Failed passed.ensures.1 is in
       rose_later _ _ _ c.loop-frame.invariant.later (c.in_err-read_start.ensures.cause.failed (ap (λ x. Err x) fault));
 }
 

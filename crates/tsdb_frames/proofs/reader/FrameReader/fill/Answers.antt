@@ -70,8 +70,8 @@ invariant_of-self g c =
     let self = c.args.self.now in
     record {
       read_within = self.read_within;
-      within = piece_stays (g.J.Disk.state self.journal) (g.J.Disk.state c.length.new.self) self.slot self.at self.end (drop self.read self.piece.items)
-          c.length.ensures.keeps self.within;
+      within = piece_stays (g.J.Disk.state self.journal) (g.J.Disk.state c.length.new.self) self.slot self.at self.end
+          (drop self.read self.piece.items) c.length.ensures.keeps self.within;
     }
 
 pub invariant_of-self-then-end-self : goal.invariant_of-self-then-end-self
@@ -79,8 +79,8 @@ invariant_of-self-then-end-self g c =
     let self = c.args.self.now in
     record {
       read_within = self.read_within;
-      within = piece_stays (g.J.Disk.state self.journal) (g.J.Disk.state c.length.new.self) self.slot self.at self.end (drop self.read self.piece.items)
-          c.length.ensures.keeps self.within;
+      within = piece_stays (g.J.Disk.state self.journal) (g.J.Disk.state c.length.new.self) self.slot self.at self.end
+          (drop self.read self.piece.items) c.length.ensures.keeps self.within;
     }
 
 pub invariant_of-self-2 : goal.invariant_of-self-2
@@ -94,7 +94,8 @@ invariant_of-self-2 g c =
       within = record {
         inside = omega (arith, c.in_ok-self.ensures.size);
         gate = λ behind. omega arith;
-        long = still_long first mid last self.slot c.in_ok-end.end c.length.ensures.keeps.seen c.read_piece.ensures.keeps.seen c.in_ok-end.ensures.length;
+        long = still_long first mid last self.slot c.in_ok-end.end c.length.ensures.keeps.seen c.read_piece.ensures.keeps.seen
+            c.in_ok-end.ensures.length;
         bytes = still_read mid last self.slot self.at c.min-size.result c.in_ok-self.field-0.items c.read_piece.ensures.keeps.seen
             c.in_ok-self.ensures.size c.in_ok-self.ensures.bytes;
         limit = c.in_ok-end.ensures.limit;

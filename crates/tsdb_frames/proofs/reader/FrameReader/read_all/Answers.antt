@@ -1,4 +1,4 @@
-use Rattle.std.proofs.Common.{◌≡◌, ℕ, ◌<◌, ◌≤◌, List, Ok, Err, ap, arith, subst, sym}
+use Rattle.std.proofs.Common.{◌≡◌, ℕ, ◌<◌, ◌≤◌, List, [], ◌∷◌, ◌++◌, Some, Ok, Err, ap, arith, subst, sym}
 use Rattle.std.proofs.lemmas.Result.{err_from_is_err_and}
 use Rattle.std.specs.Prelude.{IfSome, IsErrAnd, IsErrOf, Result}
 use Rattle.std.specs.declared.option.Option.{Option}
@@ -14,6 +14,13 @@ use Rattle.tsdb_frames.proofs.reader.FrameReader.read_all.Goals as goal
 -- an answer of one kind is not one of the other
 never_err : {T E P : Type 0} (value : T) (error : E) → Ok value ≡ Err error → P
 never_err value error is = absurd cc
+
+-- what holds of what an option has
+of_some : (next : Option Frame) (frame : Frame) (P : Frame → Type 0) → next ≡ Some frame → IfSome next P → P frame
+of_some next frame P is has = subst (λ (o : Option Frame). IfSome o P) is has
+
+with_one : (before now : List Frame) (P : List Frame → Type 0) → now ≡ before → P before → P now
+with_one before now P is has = subst P (sym is) has
 
 memory_is_not_torn : {P : Type 0} (at : ℕ) → Memory ≡ Torn at → P
 memory_is_not_torn at is = absurd cc
@@ -54,15 +61,15 @@ loop-frames-preserved g c = record {
   reading = λ journal place reading.
       let reader = c.loop-frames.self in
       let frames = c.loop-frames.frames.items in
-      let one = subst (λ (o : Option Frame). IfSome o (ReadsOne reader c.read_frame.new.self)) c.in-Some.is c.in_ok-frame.ensures.frame in
-      subst (λ (l : List Frame). IsReading journal place c.read_frame.new.self l) (sym c.in_ok-push.ensures.items)
+      let one = of_some c.in_ok-frame.field-0 c.in-Some.frame (ReadsOne reader c.read_frame.new.self) c.in-Some.is c.in_ok-frame.ensures.frame in
+      with_one (frames ++ c.in-Some.frame ∷ []) c.push.new.self.items (IsReading journal place c.read_frame.new.self) c.in_ok-push.ensures.items
       (one journal place frames (c.loop-frames.invariant.reading journal place reading));
   later = not_before _ _ _ c.loop-frames.invariant.later c.read_frame.ensures.cause.later;
 }
 
 pub loop-frames-smaller : goal.loop-frames-smaller
 loop-frames-smaller g c =
-    subst (λ (o : Option Frame). IfSome o (λ frame. unread_of c.read_frame.new.self < unread_of c.loop-frames.self)) c.in-Some.is
+    of_some c.in_ok-frame.field-0 c.in-Some.frame (λ frame. unread_of c.read_frame.new.self < unread_of c.loop-frames.self) c.in-Some.is
     c.in_ok-frame.ensures.forward
 
 pub returns-in_err-frame-clause-keeps : goal.returns-in_err-frame-clause-keeps
@@ -84,7 +91,7 @@ returns-in_err-push-clause-torn g c = λ at is.
 pub returns-in_err-push-clause-keeps : goal.returns-in_err-push-clause-keeps
 returns-in_err-push-clause-keeps g c = always_on_err c.from_residual-in_err-push.result (λ journal place reading.
     let reader = c.loop-frames.self in
-    let one = subst (λ (o : Option Frame). IfSome o (ReadsOne reader c.read_frame.new.self)) c.in-Some.is c.in_ok-frame.ensures.frame in
+    let one = of_some c.in_ok-frame.field-0 c.in-Some.frame (ReadsOne reader c.read_frame.new.self) c.in-Some.is c.in_ok-frame.ensures.frame in
     (one journal place c.loop-frames.frames.items (c.loop-frames.invariant.reading journal place reading)).keeps)
 
 pub returns-in_err-push-clause-cause : goal.returns-in_err-push-clause-cause
