@@ -79,8 +79,12 @@ invariant_of-self g c =
       within = record {
         inside = omega (arith, c.max-self.ensures);
         long = λ image is.
-            omega (arith, c.max-self.ensures, c.write_record.ensures.no_shorter c.grow.new.self.end within.long image is,
-            c.in-Ok.ensures.long image is);
+            omega (
+              arith,
+              c.max-self.ensures,
+              c.write_record.ensures.no_shorter c.grow.new.self.end within.long image is,
+              c.in-Ok.ensures.long image is,
+            );
         limit = omega (arith, c.max-self.ensures, within.limit, c.in-Ok.ensures.limit);
       };
     }
