@@ -1,7 +1,6 @@
 //! Marks beside a slow list.
 
 use std::alloc::Global;
-use std::test::Fail;
 use tsdb_base::{Range, Stamp, Time};
 use tsdb_marks::{Mark, Marks};
 use tsdb_path::Path;
@@ -10,176 +9,225 @@ const MIN: Time = Time::MIN;
 
 const MAX: Time = Time::MAX;
 
-fn mark(alloc: Global, path: &[u8], from: Time, to: Time, version: u64) -> Result<Mark, Fail> {
-    Ok(Mark {
-        path: Path::read(alloc, path)?,
-        from,
-        to,
-        version: Stamp(version),
-    })
+/// Makes a place for the mark, and adds it where it is newer than all. Whether it was added.
+fn add(marks: &mut Marks, mark: Mark) -> bool {
+    let version = mark.version.0;
+    if let Ok(()) = marks.reserve()
+        && marks.marks().iter().all(|kept| kept.version.0 < version)
+    {
+        marks.add(mark);
+        true
+    } else {
+        false
+    }
 }
 
-/// Whether the one mark from 1 to 5 with version 4 covers the series until it is purged.
-fn covers_until_purged(marks: &mut Marks, series: &[Path; 1]) -> Result<bool, Fail> {
-    let is_covered = !marks.survives(&series[0], 3, Stamp(3));
-    let is_newer = marks.survives(&series[0], 3, Stamp(4));
-    let listed = marks.only(series)?.marks().len();
-    marks.purge(Some(Stamp(4)));
-    let is_purged = marks.marks().is_empty() && marks.survives(&series[0], 3, Stamp(3));
-    Ok(is_covered && is_newer && listed == 1 && is_purged)
-}
-
-fn one_mark_covers(alloc: Global) -> Result<bool, Fail> {
-    let series = [Path::read(alloc, b"root.g.d.s")?];
-    let mut marks = Marks::new(alloc);
-    marks.reserve()?;
-    marks.add(mark(alloc, b"root.g.d.s", 1, 5, 4)?);
-    covers_until_purged(&mut marks, &series)
-}
-
-#[test]
-fn one_mark(rt: HostRuntime) -> Result<(), Fail> {
-    assert!(rt; one_mark_covers(rt.alloc())?);
-    Ok(())
+/// Adds the mark of a path.
+fn add_at(
+    marks: &mut Marks,
+    alloc: Global,
+    path: &[u8],
+    (from, to): (Time, Time),
+    version: u64,
+) -> bool {
+    match Path::read(alloc, path) {
+        Ok(path) => add(
+            marks,
+            Mark {
+                path,
+                from,
+                to,
+                version: Stamp(version),
+            },
+        ),
+        Err(_) => false,
+    }
 }
 
 /// Whether no mark of the list covers the point, by a look at each.
 fn survives_slowly(marks: &[Mark], series: &Path, time: Time, born: u64) -> bool {
-    marks.iter().all(|mark| {
-        mark.path.bytes() != series.bytes()
-            || time < mark.from
-            || mark.to < time
-            || mark.version.0 <= born
-    })
+    for mark in marks {
+        let is_of = mark.path.bytes() == series.bytes();
+        if is_of && mark.from <= time && time <= mark.to && born < mark.version.0 {
+            return false;
+        }
+    }
+    true
 }
-
-/// Ranges that touch, lie in one another, are equal, are empty, and reach both ends of time.
-const RANGES: [(&[u8], Time, Time); 12] = [
-    (b"root.g.d.s", 1, 5),
-    (b"root.g.d.s", 6, 9),
-    (b"root.g.d.s", 3, 7),
-    (b"root.g.d.st", 2, 8),
-    (b"root.g.d.s", 4, 4),
-    (b"root.g.d.s", 4, 4),
-    (b"root.g.d.s", 9, 2),
-    (b"root.g.d.s", MIN, 0),
-    (b"root.g.d.st", MIN, MAX),
-    (b"root.g.d.s", 8, MAX),
-    (b"root.g.d.s", MAX, MAX),
-    (b"root.g.d.s", MIN, MIN),
-];
 
 const TIMES: [Time; 15] = [MIN, MIN + 1, -1, 0, 1, 2, 3, 4, 5, 6, 7, 8, 9, MAX - 1, MAX];
 
-/// Makes a place and adds the mark, where it is newer than all.
-fn add(marks: &mut Marks, mark: Mark) -> Result<(), Fail> {
-    marks.reserve()?;
-    let version = mark.version.0;
-    if marks.marks().iter().all(|kept| kept.version.0 < version) {
-        marks.add(mark);
-    }
-    Ok(())
-}
-
 /// Whether the marks answer as the slow look at each, for each of these times and for versions below 13.
 fn answers_as_list(marks: &Marks, path: &Path) -> bool {
-    TIMES.iter().all(|time| {
-        (0..13).all(|born| {
+    for time in &TIMES {
+        for born in 0..13 {
             let slow = survives_slowly(marks.marks(), path, *time, born);
             let at = Range {
                 from: *time,
                 to: *time,
             };
-            marks.survives(path, *time, Stamp(born)) == slow
-                && marks.meets(path, &at, Stamp(born)) != slow
-        })
-    })
-}
-
-/// A series with marks, another one, and a device.
-#[derive(Drop)]
-struct Paths {
-    here: Path,
-    others: [Path; 2],
-}
-
-fn read_paths(alloc: Global) -> Result<Paths, Fail> {
-    Ok(Paths {
-        here: Path::read(alloc, b"root.g.d.s")?,
-        others: [
-            Path::read(alloc, b"root.g.d.st")?,
-            Path::read(alloc, b"root.g.d")?,
-        ],
-    })
-}
-
-/// Adds the marks of all ranges, purges in between, and says at which the marks answer otherwise than the list.
-fn first_wrong(alloc: Global, marks: &mut Marks, paths: &Paths) -> Result<Option<u64>, Fail> {
-    for (version, (path, from, to)) in (1u64..13).zip(&RANGES) {
-        add(marks, mark(alloc, path, *from, *to, version)?)?;
-        if version == 9 {
-            marks.purge(Some(Stamp(3)));
-        }
-        if !answers_as_list(marks, &paths.here)
-            || !paths
-                .others
-                .iter()
-                .all(|other| answers_as_list(marks, other))
-        {
-            return Ok(Some(version));
+            if marks.survives(path, *time, Stamp(born)) != slow
+                || marks.meets(path, &at, Stamp(born)) == slow
+            {
+                return false;
+            }
         }
     }
-    Ok(None)
+    true
 }
 
-/// Whether these ranges meet marks as they should, where all marks are there.
-fn meets_as_wanted(marks: &Marks, here: &Path) -> bool {
-    marks.marks().len() == 9
-        && marks.meets(here, &Range { from: 0, to: 3 }, Stamp(7))
-        && !marks.meets(here, &Range { from: 1, to: 3 }, Stamp(7))
-        && !marks.meets(here, &Range { from: 3, to: 0 }, Stamp(0))
+fn answers_for_all(marks: &Marks, paths: &[Path]) -> bool {
+    for path in paths {
+        if !answers_as_list(marks, path) {
+            return false;
+        }
+    }
+    true
 }
 
-/// Whether the marks of the other series alone are kept.
-fn keeps_only(marks: &Marks, paths: &Paths) -> Result<bool, Fail> {
-    let only = marks.only(&paths.others)?;
-    let has_ninth = only.marks().get(1).is_some_and(|kept| kept.version.0 == 9);
-    Ok(only.marks().len() == 2 && has_ninth && only.survives(&paths.here, MIN, Stamp(0)))
+/// Whether the marks have these versions.
+fn have_versions(marks: &[Mark], versions: &[u64]) -> bool {
+    for (place, mark) in marks.iter().enumerate() {
+        if versions.get(place) != Some(&mark.version.0) {
+            return false;
+        }
+    }
+    marks.len() == versions.len()
 }
 
-/// Whether all marks are kept, in their order, where both series are asked for, one of them twice.
-fn keeps_both(marks: &Marks, paths: &Paths) -> Result<bool, Fail> {
-    let st = &paths.others[0];
-    let only = marks.only(&[st.copy()?, paths.here.copy()?, st.copy()?])?;
-    Ok(
-        only.marks().len() == marks.marks().len()
-            && only
-                .marks()
-                .iter()
-                .zip(marks.marks())
-                .all(|(kept, mark)| kept.version == mark.version),
-    )
+/// Whether the marks of these series alone have these versions, and answer as the list of them does.
+fn keeps(marks: &Marks, series: &[Path], paths: &[Path], versions: &[u64]) -> bool {
+    match marks.only(series) {
+        Ok(only) => have_versions(only.marks(), versions) && answers_for_all(&only, paths),
+        Err(_) => false,
+    }
 }
 
-/// Whether all is as wanted once all marks are there, and once they are purged.
-fn ends_as_wanted(marks: &mut Marks, paths: &Paths) -> Result<bool, Fail> {
-    let is_kept = meets_as_wanted(marks, &paths.here)
-        && keeps_only(marks, paths)?
-        && keeps_both(marks, paths)?;
-    marks.purge(None);
-    Ok(is_kept && marks.survives(&paths.here, MIN, Stamp(0)))
+/// A step of a test, and what is wanted of it.
+#[derive(Clone, Copy)]
+enum Step {
+    /// A mark of this path, range and version is added.
+    Add(&'static [u8], (Time, Time), u64),
+    /// The marks up to this version are dropped, or all.
+    Purge(Option<Stamp>),
+    /// The marks have these versions.
+    Has(&'static [u64]),
+    /// The marks of the paths from one place to another have these versions.
+    Only((usize, usize), &'static [u64]),
+    /// Whether a point of the series survives.
+    Survives(Time, Stamp, bool),
+    /// Whether a mark covers a point of the series at some time of the range.
+    Meets((Time, Time), Stamp, bool),
 }
 
-/// Whether the marks answer as the list does, and are at last as wanted.
-fn marks_agree(alloc: Global) -> Result<bool, Fail> {
-    let paths = read_paths(alloc)?;
-    let mut marks = Marks::new(alloc);
-    let wrong = first_wrong(alloc, &mut marks, &paths)?;
-    Ok(wrong.is_none() && ends_as_wanted(&mut marks, &paths)?)
+/// Takes a step with marks of the series, which is among the paths, and says whether it came out as wanted.
+fn is_right(alloc: Global, marks: &mut Marks, series: &Path, paths: &[Path], step: Step) -> bool {
+    match step {
+        Step::Add(path, range, version) => add_at(marks, alloc, path, range, version),
+        Step::Purge(version) => {
+            marks.purge(version);
+            true
+        }
+        Step::Has(versions) => have_versions(marks.marks(), versions),
+        Step::Only((first, end), versions) => match paths.get(first..end) {
+            Some(asked) => keeps(marks, asked, paths, versions),
+            None => false,
+        },
+        Step::Survives(time, born, wanted) => marks.survives(series, time, born) == wanted,
+        Step::Meets((from, to), born, wanted) => {
+            marks.meets(series, &Range { from, to }, born) == wanted
+        }
+    }
 }
+
+/// The first of the steps that comes out otherwise, or after which the marks do not answer as the list.
+fn first_wrong_step(
+    alloc: Global,
+    marks: &mut Marks,
+    series: &Path,
+    paths: &[Path],
+    steps: &[Step],
+) -> Option<usize> {
+    for (place, step) in steps.iter().enumerate() {
+        if !is_right(alloc, marks, series, paths, *step) || !answers_for_all(marks, paths) {
+            return Some(place);
+        }
+    }
+    None
+}
+
+/// A series with marks between another one, which stands there twice, and a device.
+const PATHS: [&[u8]; 4] = [b"root.g.d.st", b"root.g.d.s", b"root.g.d.st", b"root.g.d"];
+
+/// Adds the paths to the list. Whether there was memory for them.
+fn add_paths(alloc: Global, list: &mut Vec<Path>) -> bool {
+    for path in &PATHS {
+        let is_added = match Path::read(alloc, path) {
+            Ok(path) => list.push(path).is_ok(),
+            Err(_) => false,
+        };
+        if !is_added {
+            return false;
+        }
+    }
+    true
+}
+
+/// The first wrong one of the steps with new marks.
+fn first_wrong(alloc: Global, steps: &[Step]) -> Option<usize> {
+    let mut paths = Vec::new(alloc);
+    let are_read = add_paths(alloc, &mut paths);
+    match paths.get(1) {
+        Some(series) if are_read => {
+            first_wrong_step(alloc, &mut Marks::new(alloc), series, &paths, steps)
+        }
+        _ => Some(0),
+    }
+}
+
+/// One mark, which covers the series until it is purged.
+const ONE_MARK: [Step; 8] = [
+    Step::Add(b"root.g.d.s", (1, 5), 4),
+    Step::Survives(3, Stamp(3), false),
+    Step::Survives(3, Stamp(4), true),
+    Step::Only((1, 2), &[4]),
+    Step::Purge(Some(Stamp(4))),
+    Step::Has(&[]),
+    Step::Survives(3, Stamp(3), true),
+    Step::Only((1, 2), &[]),
+];
 
 #[test]
-fn marks_beside_a_slow_list(rt: HostRuntime) -> Result<(), Fail> {
-    assert!(rt; marks_agree(rt.alloc())?);
-    Ok(())
+fn one_mark(rt: HostRuntime) {
+    assert_eq!(rt; first_wrong(rt.alloc(), &ONE_MARK), None);
+}
+
+/// Marks whose ranges touch, lie in one another, are equal, are empty, and reach both ends of time.
+const MANY_MARKS: [Step; 21] = [
+    Step::Add(b"root.g.d.s", (1, 5), 1),
+    Step::Add(b"root.g.d.s", (6, 9), 2),
+    Step::Add(b"root.g.d.s", (3, 7), 3),
+    Step::Add(b"root.g.d.st", (2, 8), 4),
+    Step::Add(b"root.g.d.s", (4, 4), 5),
+    Step::Add(b"root.g.d.s", (4, 4), 6),
+    Step::Add(b"root.g.d.s", (9, 2), 7),
+    Step::Add(b"root.g.d.s", (MIN, 0), 8),
+    Step::Add(b"root.g.d.st", (MIN, MAX), 9),
+    Step::Purge(Some(Stamp(3))),
+    Step::Add(b"root.g.d.s", (8, MAX), 10),
+    Step::Add(b"root.g.d.s", (MAX, MAX), 11),
+    Step::Add(b"root.g.d.s", (MIN, MIN), 12),
+    Step::Has(&[4, 5, 6, 7, 8, 9, 10, 11, 12]),
+    Step::Meets((0, 3), Stamp(7), true),
+    Step::Meets((1, 3), Stamp(7), false),
+    Step::Meets((3, 0), Stamp(0), false),
+    Step::Only((2, 4), &[4, 9]),
+    Step::Only((0, 3), &[4, 5, 6, 7, 8, 9, 10, 11, 12]),
+    Step::Purge(None),
+    Step::Survives(MIN, Stamp(0), true),
+];
+
+#[test]
+fn marks_beside_a_slow_list(rt: HostRuntime) {
+    assert_eq!(rt; first_wrong(rt.alloc(), &MANY_MARKS), None);
 }

@@ -1,80 +1,94 @@
 //! Memtables beside a slow list.
 
 use std::alloc::Global;
-use std::test::Fail;
 use tsdb_base::{Memory, Point, Range, SeriesId, Space, Text, Time, Value};
 use tsdb_memtable::{Pair, Watermarks, space_of};
 use tsdb_path::Path;
-
-/// Times raised one after another, and the watermark after each.
-const RAISES: [(Time, Time); 5] = [
-    (Time::MIN, Time::MIN),
-    (20, 20),
-    (15, 20),
-    (20, 20),
-    (Time::MAX, Time::MAX),
-];
-
-/// Raises the device's watermark at each time of the table, and says whether it is then as wanted, and no other rises.
-fn rises_as_wanted(watermarks: &mut Watermarks, device: &Path, other: &Path) -> Result<bool, Fail> {
-    for (time, wanted) in &RAISES {
-        watermarks.reserve(device)?;
-        watermarks.raise(device, *time);
-        watermarks.reserve(other)?;
-        if watermarks.get(device) != Some(*wanted) || watermarks.get(other).is_some() {
-            return Ok(false);
-        }
-    }
-    Ok(true)
-}
-
-/// Whether the device has no watermark before it is raised.
-fn has_none_at_first(watermarks: &mut Watermarks, device: &Path) -> Result<bool, Fail> {
-    let before = watermarks.get(device);
-    watermarks.reserve(device)?;
-    Ok(before.is_none() && watermarks.get(device).is_none())
-}
-
-#[test]
-fn watermarks_rise(rt: HostRuntime) -> Result<(), Fail> {
-    let device = Path::read(rt.alloc(), b"root.g.d")?;
-    let other = Path::read(rt.alloc(), b"root.g.e")?;
-    let mut watermarks = Watermarks::new(rt.alloc());
-    assert!(rt; has_none_at_first(&mut watermarks, &device)?);
-    assert!(rt; rises_as_wanted(&mut watermarks, &device, &other)?);
-    Ok(())
-}
-
-/// A watermark, a time, and the space that a point at it goes to.
-const SPACES: [(Option<Time>, Time, Space); 6] = [
-    (None, Time::MIN, Space::Sequence),
-    (Some(Time::MIN), Time::MIN, Space::Unsequence),
-    (Some(20), 19, Space::Unsequence),
-    (Some(20), 20, Space::Unsequence),
-    (Some(20), 21, Space::Sequence),
-    (Some(Time::MAX), Time::MAX, Space::Unsequence),
-];
-
-#[test]
-fn spaces_by_the_watermark(rt: HostRuntime) -> Result<(), Fail> {
-    let wrong = SPACES.iter().position(|(watermark, time, wanted)| space_of(*watermark, *time)
-        != *wanted);
-    assert_eq!(rt; wrong, None);
-    Ok(())
-}
-
-fn crosses_threads<T: Send + Sync>(_value: &T) {}
 
 const MIN: Time = Time::MIN;
 
 const MAX: Time = Time::MAX;
 
-/// A point as the slow list has it: its space, its series, its time and its value.
-type Stored = (Space, u64, Time, i64);
+/// Times raised one after another, and the watermark after each. At first none is raised.
+const RAISES: [(Option<Time>, Option<Time>); 6] = [
+    (None, None),
+    (Some(MIN), Some(MIN)),
+    (Some(20), Some(20)),
+    (Some(15), Some(20)),
+    (Some(20), Some(20)),
+    (Some(MAX), Some(MAX)),
+];
 
-/// Series, time and value of points that are put one after another, where the watermark is 20: in order, late, at a
-/// time that has one, at the watermark, next to it, and at both ends of time.
-const PUTS: [(u64, Time, i64); 18] = [
+/// Makes a place for the device's watermark, and raises it where there is a time. A test sees where it is not raised.
+fn raise(watermarks: &mut Watermarks, device: &Path, time: Option<Time>) {
+    if let Ok(()) = watermarks.reserve(device)
+        && let Some(time) = time
+    {
+        watermarks.raise(device, time);
+    }
+}
+
+/// Whether the device has no watermark at first, then the wanted one after each raise, and no other device has one.
+fn rises_as_wanted(watermarks: &mut Watermarks, device: &Path, other: &Path) -> bool {
+    let mut is_right = watermarks.get(device).is_none();
+    for (time, wanted) in &RAISES {
+        raise(watermarks, device, *time);
+        is_right = is_right
+            && watermarks.reserve(other).is_ok()
+            && watermarks.get(device) == *wanted
+            && watermarks.get(other).is_none();
+    }
+    is_right
+}
+
+fn new_watermarks_rise(alloc: Global) -> bool {
+    match (
+        Path::read(alloc, b"root.g.d"),
+        Path::read(alloc, b"root.g.e"),
+    ) {
+        (Ok(device), Ok(other)) => rises_as_wanted(&mut Watermarks::new(alloc), &device, &other),
+        _ => false,
+    }
+}
+
+#[test]
+fn watermarks_rise(rt: HostRuntime) {
+    assert!(rt; new_watermarks_rise(rt.alloc()));
+}
+
+/// A watermark, a time, and the space that a point at it goes to.
+const SPACES: [(Option<Time>, Time, Space); 6] = [
+    (None, MIN, Space::Sequence),
+    (Some(MIN), MIN, Space::Unsequence),
+    (Some(20), 19, Space::Unsequence),
+    (Some(20), 20, Space::Unsequence),
+    (Some(20), 21, Space::Sequence),
+    (Some(MAX), MAX, Space::Unsequence),
+];
+
+/// The first row of the table whose point goes to the other space.
+fn first_wrong_space() -> Option<usize> {
+    for (place, (watermark, time, wanted)) in SPACES.iter().enumerate() {
+        if space_of(*watermark, *time) != *wanted {
+            return Some(place);
+        }
+    }
+    None
+}
+
+#[test]
+fn spaces_by_the_watermark(rt: HostRuntime) {
+    assert_eq!(rt; first_wrong_space(), None);
+}
+
+fn crosses_threads<T: Send + Sync>(_value: &T) {}
+
+/// Series, time and value of a point.
+type Put = (u64, Time, i64);
+
+/// Points that are put one after another, where the watermark is 20: in order, late, at a time that has one, at the
+/// watermark, next to it, and at both ends of time.
+const PUTS: [Put; 18] = [
     (7, 21, 1),
     (7, 22, 2),
     (7, 30, 3),
@@ -95,6 +109,9 @@ const PUTS: [(u64, Time, i64); 18] = [
     (3, 20, 18),
 ];
 
+/// The times of these points, in order.
+const TIMES: [Time; 11] = [MIN, -1, 0, 5, 19, 20, 21, 22, 25, 30, MAX];
+
 /// Ranges that are looked at and erased: all times, one end, a time with and one without a point, one that begins or
 /// ends at a point, one across the watermark, and an empty one.
 const RANGES: [(Time, Time); 9] = [
@@ -109,115 +126,177 @@ const RANGES: [(Time, Time); 9] = [
     (MIN, MAX),
 ];
 
+/// Two series with points, and one without.
+const SERIES: [u64; 3] = [3, 7, 8];
+
+/// The slow list: points that were put one after another, and the times at which series 7 was then erased.
+type Slow<'a> = (&'a [Put], (Time, Time));
+
+/// No time is erased.
+const NOTHING: (Time, Time) = (1, 0);
+
 fn range((from, to): (Time, Time)) -> Range {
     Range { from, to }
 }
 
-fn is_stored(stored: &Stored, space: Space, series: u64, (from, to): (Time, Time)) -> bool {
-    stored.0 == space && stored.1 == series && from <= stored.2 && stored.2 <= to
+fn is_within(time: Time, (from, to): (Time, Time)) -> bool {
+    from <= time && time <= to
 }
 
-/// Whether the pair has the points of the list in this range, and no other, in order of time.
-fn has_slice(pair: &Pair, slow: &[Stored], space: Space, series: u64, ends: (Time, Time)) -> bool {
-    let points = pair.slice(space, SeriesId(series), &range(ends));
-    let count = slow
-        .iter()
-        .filter(|stored| is_stored(stored, space, series, ends))
-        .count();
-    let is_known = points.iter().all(|point| {
-        slow.iter().any(|stored| {
-            is_stored(stored, space, series, ends)
-                && stored.2 == point.time
-                && point.value == Value::I64(stored.3)
-        })
-    });
-    let is_rising = points
-        .iter()
-        .zip(points.iter().skip(1))
-        .all(|(a, b)| a.time < b.time);
-    points.len() == count && is_known && is_rising
-}
-
-/// Whether the pair answers as the list does, for each series, space and range.
-fn answers_as_list(pair: &Pair, slow: &[Stored]) -> bool {
-    let count = |space| slow.iter().filter(|stored| stored.0 == space).count() as u64;
-    [Space::Sequence, Space::Unsequence].iter().all(|space| {
-        let is_same = [3, 7, 8].iter().all(|series| {
-            RANGES
-                .iter()
-                .all(|ends| has_slice(pair, slow, *space, *series, *ends))
-        });
-        is_same && pair.points(*space) == count(*space)
-    }) && pair.bytes() == 16 * slow.len() as u64
-}
-
-/// Puts a point into the pair and into the list, and says whether both then answer alike.
-fn puts_alike(
-    pair: &mut Pair,
-    slow: &mut Vec<Stored>,
-    watermarks: &Watermarks,
-    device: &Path,
-    (series, time, value): (u64, Time, i64),
-) -> Result<bool, Fail> {
-    pair.provide(SeriesId(series))?;
-    let point = Point {
-        time,
-        value: Value::I64(value),
-    };
-    let space = pair.put(watermarks, device, SeriesId(series), point);
-    let wanted = if time <= 20 {
+/// The space of a point at this time, where the watermark is 20.
+fn slow_space(time: Time) -> Space {
+    if time <= 20 {
         Space::Unsequence
     } else {
         Space::Sequence
-    };
-    slow.retain(|stored| !is_stored(stored, space, series, (time, time)));
-    slow.push((space, series, time, value))?;
-    Ok(space == wanted && answers_as_list(pair, slow))
+    }
+}
+
+/// The value that the list has there: the last one that was put, where it was not erased.
+fn slow_value((puts, erased): Slow, series: u64, time: Time) -> Option<i64> {
+    let mut found = None;
+    for (of, at, value) in puts {
+        if *of == series && *at == time {
+            found = Some(*value);
+        }
+    }
+    if series == 7 && is_within(time, erased) {
+        None
+    } else {
+        found
+    }
+}
+
+/// How many points the list has in the space.
+fn slow_count(slow: Slow, space: Space) -> u64 {
+    let mut count = 0u64;
+    for series in &SERIES {
+        for time in &TIMES {
+            if slow_space(*time) == space && slow_value(slow, *series, *time).is_some() {
+                count = count.saturating_add(1);
+            }
+        }
+    }
+    count
+}
+
+fn is_point(found: Option<&Point>, time: Time, value: i64) -> bool {
+    match found {
+        Some(point) => point.time == time && matches!(point.value, Value::I64(of) if of == value),
+        None => false,
+    }
+}
+
+/// Whether the points are those of the list in this range, and no other, in order of time.
+fn is_slice(
+    points: &[Point],
+    slow: Slow,
+    (space, series): (Space, u64),
+    ends: (Time, Time),
+) -> bool {
+    let mut count = 0usize;
+    for time in &TIMES {
+        if is_within(*time, ends)
+            && slow_space(*time) == space
+            && let Some(value) = slow_value(slow, series, *time)
+        {
+            if !is_point(points.get(count), *time, value) {
+                return false;
+            }
+            count = count.saturating_add(1);
+        }
+    }
+    count == points.len()
+}
+
+/// Whether the pair answers for the space as the list does, for each series and range.
+fn answers_in(pair: &Pair, slow: Slow, space: Space) -> bool {
+    for series in &SERIES {
+        for ends in &RANGES {
+            let points = pair.slice(space, SeriesId(*series), &range(*ends));
+            if !is_slice(points, slow, (space, *series), *ends) {
+                return false;
+            }
+        }
+    }
+    pair.points(space) == slow_count(slow, space)
+}
+
+/// Whether the pair answers as the list does.
+fn answers_as_list(pair: &Pair, slow: Slow) -> bool {
+    let early = slow_count(slow, Space::Sequence);
+    let late = slow_count(slow, Space::Unsequence);
+    answers_in(pair, slow, Space::Sequence)
+        && answers_in(pair, slow, Space::Unsequence)
+        && pair.bytes() == early.saturating_add(late).saturating_mul(16)
+}
+
+/// Puts the point, which is the last of these, and says whether the pair then answers as the list of them does.
+fn puts_alike(
+    pair: &mut Pair,
+    watermarks: &Watermarks,
+    device: &Path,
+    (series, time, value): Put,
+    puts: &[Put],
+) -> bool {
+    match pair.provide(SeriesId(series)) {
+        Ok(()) => {
+            let value = Value::I64(value);
+            let space = pair.put(watermarks, device, SeriesId(series), Point { time, value });
+            space == slow_space(time) && answers_as_list(pair, (puts, NOTHING))
+        }
+        Err(_) => false,
+    }
 }
 
 /// Erases a range of one series that has points and of one that has none, and says whether both answer alike.
-fn erases_alike(pair: &mut Pair, slow: &mut Vec<Stored>, (from, to): (Time, Time)) -> bool {
-    pair.erase(SeriesId(7), &range((from, to)));
-    pair.erase(SeriesId(8), &range((from, to)));
-    slow.retain(|stored| stored.1 != 7 || stored.2 < from || to < stored.2);
-    answers_as_list(pair, slow)
+fn erases_alike(pair: &mut Pair, erased: (Time, Time)) -> bool {
+    pair.erase(SeriesId(7), &range(erased));
+    pair.erase(SeriesId(8), &range(erased));
+    answers_as_list(pair, (&PUTS, erased))
 }
 
 /// Whether the pair and the list answer alike after each put, and after this range is erased.
 fn is_alike(
-    alloc: Global,
+    pair: &mut Pair,
     watermarks: &Watermarks,
     device: &Path,
-    erasure: (Time, Time),
-) -> Result<bool, Fail> {
-    let mut pair = Pair::new(alloc);
-    let mut slow: Vec<Stored> = Vec::new(alloc);
-    for put in &PUTS {
-        if !puts_alike(&mut pair, &mut slow, watermarks, device, *put)? {
-            return Ok(false);
+    puts: &[Put],
+    erased: (Time, Time),
+) -> bool {
+    for place in 0..puts.len() {
+        if !puts_alike(pair, watermarks, device, puts[place], &puts[..place + 1]) {
+            return false;
         }
     }
-    Ok(erases_alike(&mut pair, &mut slow, erasure))
+    erases_alike(pair, erased)
 }
 
-/// The first erasure at which the pair and the list do not answer alike.
-fn first_wrong(alloc: Global, device: &Path) -> Result<Option<usize>, Fail> {
-    let mut watermarks = Watermarks::new(alloc);
-    watermarks.reserve(device)?;
-    watermarks.raise(device, 20);
-    for (place, erasure) in RANGES.iter().enumerate() {
-        if !is_alike(alloc, &watermarks, device, *erasure)? {
-            return Ok(Some(place));
+/// The first erasure at which a pair and the list do not answer alike.
+fn first_wrong_erasure(alloc: Global, watermarks: &Watermarks, device: &Path) -> Option<usize> {
+    for (place, erased) in RANGES.iter().enumerate() {
+        if !is_alike(&mut Pair::new(alloc), watermarks, device, &PUTS, *erased) {
+            return Some(place);
         }
     }
-    Ok(None)
+    None
+}
+
+/// The same for a device whose watermark is 20.
+fn first_wrong(alloc: Global) -> Option<usize> {
+    let mut watermarks = Watermarks::new(alloc);
+    match Path::read(alloc, b"root.g.d") {
+        Ok(device) => {
+            raise(&mut watermarks, &device, Some(20));
+            first_wrong_erasure(alloc, &watermarks, &device)
+        }
+        Err(_) => Some(0),
+    }
 }
 
 #[test]
-fn pair_beside_a_slow_list(rt: HostRuntime) -> Result<(), Fail> {
-    let wrong = first_wrong(rt.alloc(), &Path::read(rt.alloc(), b"root.g.d")?)?;
-    assert_eq!(rt; wrong, None);
-    Ok(())
+fn pair_beside_a_slow_list(rt: HostRuntime) {
+    assert_eq!(rt; first_wrong(rt.alloc()), None);
 }
 
 /// A value as the table of bytes has it.
@@ -229,68 +308,95 @@ enum Plain {
     Text(&'static [u8]),
 }
 
-/// A value of each type, and the bytes of the pair once it has a point with this value too.
-const BYTES: [(u64, Plain); 5] = [
-    (9, Plain::Bool(true)),
-    (9 + 12, Plain::I32(-1)),
-    (9 + 12 + 16, Plain::I64(1)),
-    (9 + 12 + 16 + 8, Plain::Text(b"")),
-    (9 + 12 + 16 + 8 + 11, Plain::Text(b"abc")),
+/// A series, a value of each type, and the bytes of the pair once the series has a point with this value.
+const BYTES: [(u64, Plain, u64); 5] = [
+    (0, Plain::Bool(true), 9),
+    (1, Plain::I32(-1), 9 + 12),
+    (2, Plain::I64(1), 9 + 12 + 16),
+    (3, Plain::Text(b""), 9 + 12 + 16 + 8),
+    (4, Plain::Text(b"abc"), 9 + 12 + 16 + 8 + 11),
 ];
 
-fn value_of(alloc: Global, plain: Plain) -> Result<Value, Fail> {
-    Ok(match plain {
-        Plain::Bool(value) => Value::Bool(value),
-        Plain::I32(value) => Value::I32(value),
-        Plain::I64(value) => Value::I64(value),
-        Plain::Text(bytes) => Value::Text(Text::new(alloc, bytes)?),
-    })
+fn value_of(alloc: Global, plain: Plain) -> Option<Value> {
+    match plain {
+        Plain::Bool(value) => Some(Value::Bool(value)),
+        Plain::I32(value) => Some(Value::I32(value)),
+        Plain::I64(value) => Some(Value::I64(value)),
+        Plain::Text(bytes) => match Text::new(alloc, bytes) {
+            Ok(text) => Some(Value::Text(text)),
+            Err(_) => None,
+        },
+    }
 }
 
-/// Puts the value at one time, and says whether the pair then has so many bytes.
-fn has_bytes_with(
+/// Puts the value at one time of the series. Whether there is one, and a place for it.
+fn puts_value(
     pair: &mut Pair,
     watermarks: &Watermarks,
     device: &Path,
     series: SeriesId,
-    value: Value,
-    wanted: u64,
-) -> Result<bool, Fail> {
-    pair.reserve(series, 1)?;
-    pair.put(watermarks, device, series, Point { time: 4, value });
-    Ok(pair.bytes() == wanted)
+    value: Option<Value>,
+) -> bool {
+    match (value, pair.reserve(series, 1)) {
+        (Some(value), Ok(())) => {
+            pair.put(watermarks, device, series, Point { time: 4, value });
+            true
+        }
+        _ => false,
+    }
 }
 
 /// Whether the pair has the wanted bytes as each value is put twice, at one time of a series of its own.
-fn has_bytes_as_wanted(alloc: Global, pair: &mut Pair, device: &Path) -> Result<bool, Fail> {
-    let watermarks = Watermarks::new(alloc);
-    for (series, (wanted, plain)) in (0u64..5).zip(&BYTES) {
+fn has_bytes_as_wanted(
+    alloc: Global,
+    pair: &mut Pair,
+    watermarks: &Watermarks,
+    device: &Path,
+) -> bool {
+    for (series, plain, wanted) in &BYTES {
         for _ in 0..2 {
-            let value = value_of(alloc, *plain)?;
-            let series = SeriesId(series);
-            if !has_bytes_with(pair, &watermarks, device, series, value, *wanted)? {
-                return Ok(false);
+            let value = value_of(alloc, *plain);
+            if !puts_value(pair, watermarks, device, SeriesId(*series), value)
+                || pair.bytes() != *wanted
+            {
+                return false;
             }
         }
     }
-    Ok(true)
+    true
 }
 
-/// Whether the series are these five, all in the space of points in order.
-fn has_five_series(pair: &Pair) -> Result<bool, Fail> {
-    let late = pair.series(Space::Unsequence)?.len();
-    let series = pair.series(Space::Sequence)?;
-    Ok(late == 0 && series.as_slice() == [0, 1, 2, 3, 4].map(SeriesId).as_slice())
+/// Whether the space has points of these series, and of no other.
+fn has_series(pair: &Pair, space: Space, wanted: &[SeriesId]) -> bool {
+    match pair.series(space) {
+        Ok(series) => series.as_slice() == wanted,
+        Err(_) => false,
+    }
+}
+
+/// Whether the pair has the series of the table in the space of points in order, and too many points find no place.
+fn ends_as_wanted(pair: &mut Pair) -> bool {
+    let too_many = pair.reserve(SeriesId(2), u64::MAX);
+    let five = [0, 1, 2, 3, 4].map(SeriesId);
+    has_series(pair, Space::Sequence, &five)
+        && has_series(pair, Space::Unsequence, &[])
+        && too_many == Err(Memory)
+        && pair.points(Space::Sequence) == 5
+}
+
+fn takes_each_type(alloc: Global) -> bool {
+    let mut pair = Pair::new(alloc);
+    crosses_threads(&pair);
+    match Path::read(alloc, b"root.g.d") {
+        Ok(device) => {
+            has_bytes_as_wanted(alloc, &mut pair, &Watermarks::new(alloc), &device)
+                && ends_as_wanted(&mut pair)
+        }
+        Err(_) => false,
+    }
 }
 
 #[test]
-fn bytes_of_each_type(rt: HostRuntime) -> Result<(), Fail> {
-    let device = Path::read(rt.alloc(), b"root.g.d")?;
-    let mut pair = Pair::new(rt.alloc());
-    assert!(rt; has_bytes_as_wanted(rt.alloc(), &mut pair, &device)?);
-    assert!(rt; has_five_series(&pair)?);
-    let too_many = pair.reserve(SeriesId(2), u64::MAX);
-    assert!(rt; too_many == Err(Memory) && pair.points(Space::Sequence) == 5);
-    crosses_threads(&pair);
-    Ok(())
+fn bytes_of_each_type(rt: HostRuntime) {
+    assert!(rt; takes_each_type(rt.alloc()));
 }

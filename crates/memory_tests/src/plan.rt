@@ -1,102 +1,168 @@
 //! Plans beside slow ones, and at the limits.
 
-use std::alloc::{AllocError, Global};
-use std::test::Fail;
+use std::alloc::Global;
 use tsdb_base::{FileNumber, List, Stamp};
 use tsdb_path::Path;
 use tsdb_plan::{
-    CrossRun, FileEntry, Hull, Run, cross, ends_are_greatest, firsts_are_least, have_rising_hulls,
-    inner, shorter_are_eligible,
+    FileEntry, Hull, cross, ends_are_greatest, firsts_are_least, have_rising_hulls, inner,
+    shorter_are_eligible,
 };
 
 const HALF: u64 = 134_217_728;
 
 fn crosses_threads<T: Send + Sync>(_value: &T) {}
 
-fn device(alloc: Global, name: u8) -> Result<Path, Fail> {
-    Ok(Path::read(alloc, &[b'r', b'o', b'o', b't', b'.', name])?)
+/// The hull of a device: the last byte of its path, its least and its greatest time.
+type Part = (u8, i64, i64);
+
+/// A file: its length, whether it is claimed, and its hulls.
+type File = (u64, bool, &'static [Part]);
+
+/// The first file of an inner plan and its end.
+type Inner = (usize, usize);
+
+/// How many late files a cross plan has, and its first early file and their end.
+type Cross = (usize, usize, usize);
+
+fn add_hull(alloc: Global, hulls: &mut Vec<Hull>, (name, from, to): Part) -> bool {
+    match Path::read(alloc, &[b'r', b'o', b'o', b't', b'.', name]) {
+        Ok(device) => hulls.push(Hull { device, from, to }).is_ok(),
+        Err(_) => false,
+    }
 }
 
-fn file(
-    alloc: Global,
-    bytes: u64,
-    claimed: bool,
-    hulls: &[(u8, i64, i64)],
-) -> Result<FileEntry, Fail> {
-    let mut list = Vec::new(alloc);
-    for (name, from, to) in hulls {
-        let hull = Hull {
-            device: device(alloc, *name)?,
-            from: *from,
-            to: *to,
-        };
-        list.push(hull).map_err(AllocError::from)?;
+fn add_file(alloc: Global, list: &mut Vec<FileEntry>, (size, claimed, parts): File) -> bool {
+    let mut hulls = Vec::new(alloc);
+    let mut is_whole = true;
+    for part in parts {
+        is_whole = add_hull(alloc, &mut hulls, *part) && is_whole;
     }
-    Ok(FileEntry {
+    let entry = FileEntry {
         number: FileNumber(1),
         born: Stamp(1),
-        size: bytes,
+        size,
         points: 1,
-        hulls: List::of(list),
+        hulls: List::of(hulls),
         claimed,
-    })
+    };
+    list.push(entry).is_ok() && is_whole
 }
 
-fn files(alloc: Global, lengths: &[(u64, bool)]) -> Result<Vec<FileEntry>, Fail> {
-    let mut list = Vec::new(alloc);
-    for (bytes, claimed) in lengths {
-        list.push(file(alloc, *bytes, *claimed, &[(b'a', 0, 1)])?)
-            .map_err(AllocError::from)?;
-    }
-    Ok(list)
-}
-
-/// Lengths and claims of files, and the first file and the end of their inner plan.
-type InnerRow = (&'static [(u64, bool)], Option<(usize, usize)>);
-
-const INNER: [InnerRow; 7] = [
-    (
-        &[
-            (200_000_000, false),
-            (100_000_000, false),
-            (100_000_000, false),
-        ],
-        Some((1, 3)),
-    ),
-    (&[(300, false); 11], Some((0, 10))),
-    (&[(300, false), (300, true), (300, false)], None),
-    (&[(HALF, false), (HALF, false)], Some((0, 2))),
-    (&[(HALF + 1, false), (HALF, false)], None),
-    (
-        &[
-            (u64::MAX, false),
-            (u64::MAX, false),
-            (1, false),
-            (HALF, false),
-            (1, true),
-        ],
-        Some((2, 4)),
-    ),
-    (&[], None),
-];
-
-/// The first row of the table that is planned otherwise.
-fn first_wrong_inner(alloc: Global, rows: &[InnerRow]) -> Result<Option<usize>, Fail> {
-    for (place, (lengths, wanted)) in rows.iter().enumerate() {
-        let list = files(alloc, lengths)?;
-        crosses_threads(&list);
-        if inner(&list).map(|run| (run.first, run.end)) != *wanted {
-            return Ok(Some(place));
+/// Adds the files to the list. Whether there was memory for them.
+fn add_files(alloc: Global, list: &mut Vec<FileEntry>, files: &[File]) -> bool {
+    for file in files {
+        if !add_file(alloc, list, *file) {
+            return false;
         }
     }
-    Ok(None)
+    true
 }
 
+/// The plan that is wanted: a worked one, or the one of a slow program.
+#[derive(Clone, Copy)]
+enum Wanted {
+    Inner(Option<Inner>),
+    Cross(Option<Cross>),
+    SlowInner,
+    SlowCross,
+}
+
+/// Files in time order, late files, and their plan.
+type Row<'a> = (&'a [File], &'a [File], Wanted);
+
+fn is_inner_plan(files: &[FileEntry], wanted: Option<Inner>) -> bool {
+    match inner(files) {
+        Some(run) => wanted == Some((run.first, run.end)),
+        None => wanted.is_none(),
+    }
+}
+
+/// Whether the hulls rise, and the cross plan is this one.
+fn is_cross_plan(early: &[FileEntry], late: &[FileEntry], wanted: Option<Cross>) -> bool {
+    if !have_rising_hulls(early) || !have_rising_hulls(late) {
+        return false;
+    }
+    match cross(early, late) {
+        Some(run) => wanted == Some((run.prefix, run.first, run.end)),
+        None => wanted.is_none(),
+    }
+}
+
+/// Whether the plan is the one that is wanted.
+fn is_plan(early: &[FileEntry], late: &[FileEntry], wanted: Wanted) -> bool {
+    match wanted {
+        Wanted::Inner(run) => is_inner_plan(early, run),
+        Wanted::Cross(run) => is_cross_plan(early, late, run),
+        Wanted::SlowInner => is_inner_plan(early, slow_inner(early)),
+        Wanted::SlowCross => is_cross_plan(early, late, slow_cross(early, late)),
+    }
+}
+
+/// Whether the files of the row are planned as it is wanted.
+fn is_planned(alloc: Global, (early, late, wanted): Row) -> bool {
+    let mut sequence = Vec::new(alloc);
+    let mut unsequence = Vec::new(alloc);
+    let is_made = add_files(alloc, &mut sequence, early) && add_files(alloc, &mut unsequence, late);
+    crosses_threads(&sequence);
+    is_made && is_plan(&sequence, &unsequence, wanted)
+}
+
+/// The first row of the table that is planned otherwise.
+fn first_wrong(alloc: Global, rows: &[Row]) -> Option<usize> {
+    for (place, row) in rows.iter().enumerate() {
+        if !is_planned(alloc, *row) {
+            return Some(place);
+        }
+    }
+    None
+}
+
+/// One hull, which no inner plan looks at.
+const A: &[Part] = &[(b'a', 0, 1)];
+
+const INNER: [Row; 7] = [
+    (
+        &[
+            (200_000_000, false, A),
+            (100_000_000, false, A),
+            (100_000_000, false, A),
+        ],
+        &[],
+        Wanted::Inner(Some((1, 3))),
+    ),
+    (&[(300, false, A); 11], &[], Wanted::Inner(Some((0, 10)))),
+    (
+        &[(300, false, A), (300, true, A), (300, false, A)],
+        &[],
+        Wanted::Inner(None),
+    ),
+    (
+        &[(HALF, false, A), (HALF, false, A)],
+        &[],
+        Wanted::Inner(Some((0, 2))),
+    ),
+    (
+        &[(HALF + 1, false, A), (HALF, false, A)],
+        &[],
+        Wanted::Inner(None),
+    ),
+    (
+        &[
+            (u64::MAX, false, A),
+            (u64::MAX, false, A),
+            (1, false, A),
+            (HALF, false, A),
+            (1, true, A),
+        ],
+        &[],
+        Wanted::Inner(Some((2, 4))),
+    ),
+    (&[], &[], Wanted::Inner(None)),
+];
+
 #[test]
-fn inner_plans_at_the_limits(rt: HostRuntime) -> Result<(), Fail> {
-    let wrong = first_wrong_inner(rt.alloc(), &INNER)?;
-    assert_eq!(rt; wrong, None);
-    Ok(())
+fn inner_plans_at_the_limits(rt: HostRuntime) {
+    assert_eq!(rt; first_wrong(rt.alloc(), &INNER), None);
 }
 
 fn bytes_of(files: &[FileEntry]) -> u128 {
@@ -107,17 +173,26 @@ fn bytes_of(files: &[FileEntry]) -> u128 {
     bytes
 }
 
+fn are_free(files: &[FileEntry]) -> bool {
+    for file in files {
+        if file.claimed {
+            return false;
+        }
+    }
+    true
+}
+
 fn is_row(files: &[FileEntry]) -> bool {
-    files.len() <= 10 && files.iter().all(|file| !file.claimed) && bytes_of(files) <= 268_435_456
+    files.len() <= 10 && are_free(files) && bytes_of(files) <= 268_435_456
 }
 
 /// Looks at every part of the list.
-fn slow_inner(files: &[FileEntry]) -> Option<Run> {
+fn slow_inner(files: &[FileEntry]) -> Option<Inner> {
     for first in 0..files.len() {
         let mut longest = None;
         for end in first..files.len() + 1 {
             if end - first >= 2 && is_row(&files[first..end]) {
-                longest = Some(Run { first, end });
+                longest = Some((first, end));
             }
         }
         if longest.is_some() {
@@ -128,138 +203,125 @@ fn slow_inner(files: &[FileEntry]) -> Option<Run> {
 }
 
 /// Length and claim of a file, by a digit.
-const KINDS: [(u64, bool); 5] = [
-    (1, false),
-    (HALF, false),
-    (HALF + 1, false),
-    (2 * HALF, false),
-    (1, true),
-];
-
-/// So many files, whose kinds are the digits of the code.
-fn files_of_code(alloc: Global, count: u32, code: u32) -> Result<Vec<FileEntry>, Fail> {
-    let mut list = Vec::new(alloc);
-    let mut rest = code;
-    for _ in 0..count {
-        let (bytes, claimed) = KINDS[(rest % 5) as usize];
-        rest /= 5;
-        list.push(file(alloc, bytes, claimed, &[])?)
-            .map_err(AllocError::from)?;
+fn kind(digit: u32) -> File {
+    match digit {
+        0 => (1, false, &[]),
+        1 => (HALF, false, &[]),
+        2 => (HALF + 1, false, &[]),
+        3 => (2 * HALF, false, &[]),
+        _ => (1, true, &[]),
     }
-    Ok(list)
 }
 
-/// The first code of so many files whose plan is not the slow one.
-fn first_wrong_code(alloc: Global, count: u32, codes: u32) -> Result<Option<u32>, Fail> {
-    for code in 0..codes {
-        let list = files_of_code(alloc, count, code)?;
-        if inner(&list) != slow_inner(&list) {
-            return Ok(Some(code));
+/// So many of the files, from the first on.
+fn first_of(files: &[File], count: usize) -> &[File] {
+    files.get(..count).unwrap_or(files)
+}
+
+/// The last digits of a code to base 5, the lowest first.
+fn digits(code: u32) -> [u32; 4] {
+    [code % 5, code / 5 % 5, code / 25 % 5, code / 125 % 5]
+}
+
+/// Numbers of files, and how many codes they have.
+const COUNTS: [(usize, u32); 5] = [(0, 1), (1, 5), (2, 25), (3, 125), (4, 625)];
+
+/// The first of these numbers of files of which an inner plan is not the slow one. The digits of the code are the kinds.
+fn first_wrong_count(alloc: Global) -> Option<usize> {
+    for (place, (count, codes)) in COUNTS.iter().enumerate() {
+        for code in 0..*codes {
+            let [a, b, c, d] = digits(code);
+            let files = [kind(a), kind(b), kind(c), kind(d)];
+            if !is_planned(alloc, (first_of(&files, *count), &[], Wanted::SlowInner)) {
+                return Some(place);
+            }
         }
     }
-    Ok(None)
+    None
 }
 
 #[test]
-fn inner_plans_of_all_small_lists(rt: HostRuntime) -> Result<(), Fail> {
-    for (count, codes) in [(0, 1), (1, 5), (2, 25), (3, 125), (4, 625)] {
-        let wrong = first_wrong_code(rt.alloc(), count, codes)?;
-        assert_eq!(rt; wrong, None, "{count} files");
-    }
-    Ok(())
-}
-
-/// Lengths and times of early files of one device, lengths, claims and times of late ones, and the prefix, the first
-/// file and the end of their cross plan.
-type CrossRow = (
-    &'static [(u64, i64, i64)],
-    &'static [(u64, bool, i64, i64)],
-    Option<(usize, usize, usize)>,
-);
-
-fn early_files(alloc: Global, early: &[(u64, i64, i64)]) -> Result<Vec<FileEntry>, Fail> {
-    let mut list = Vec::new(alloc);
-    for (bytes, from, to) in early {
-        let entry = file(alloc, *bytes, false, &[(b'a', *from, *to)])?;
-        list.push(entry).map_err(AllocError::from)?;
-    }
-    Ok(list)
-}
-
-fn late_files(alloc: Global, late: &[(u64, bool, i64, i64)]) -> Result<Vec<FileEntry>, Fail> {
-    let mut list = Vec::new(alloc);
-    for (bytes, claimed, from, to) in late {
-        let entry = file(alloc, *bytes, *claimed, &[(b'a', *from, *to)])?;
-        list.push(entry).map_err(AllocError::from)?;
-    }
-    Ok(list)
-}
-
-/// Whether the hulls rise, and the cross plan is this one.
-fn is_cross_plan(
-    sequence: &[FileEntry],
-    unsequence: &[FileEntry],
-    wanted: Option<(usize, usize, usize)>,
-) -> bool {
-    have_rising_hulls(sequence)
-        && have_rising_hulls(unsequence)
-        && cross(sequence, unsequence).map(|run| (run.prefix, run.first, run.end)) == wanted
-}
-
-/// The first row of the table that is planned otherwise.
-fn first_wrong_cross(alloc: Global, rows: &[CrossRow]) -> Result<Option<usize>, Fail> {
-    for (place, (early, late, wanted)) in rows.iter().enumerate() {
-        let sequence = early_files(alloc, early)?;
-        let unsequence = late_files(alloc, late)?;
-        if !is_cross_plan(&sequence, &unsequence, *wanted) {
-            return Ok(Some(place));
-        }
-    }
-    Ok(None)
+fn inner_plans_of_all_small_lists(rt: HostRuntime) {
+    assert_eq!(rt; first_wrong_count(rt.alloc()), None);
 }
 
 const LARGE: u64 = 100_000_000;
 
-const ONE: &[(u64, i64, i64)] = &[(LARGE, 3, 5)];
+const ONE: &[File] = &[(LARGE, false, &[(b'a', 3, 5)])];
 
-const TWO: &[(u64, i64, i64)] = &[(1, 0, 5), (1, 10, 20)];
+const TWO: &[File] = &[(1, false, &[(b'a', 0, 5)]), (1, false, &[(b'a', 10, 20)])];
 
-const LATE: &[(u64, bool, i64, i64)] = &[(LARGE, false, 0, 9), (LARGE, false, 0, 9)];
+/// A hull around those above.
+const AROUND: &[Part] = &[(b'a', 0, 9)];
+
+const LATE: &[File] = &[(LARGE, false, AROUND), (LARGE, false, AROUND)];
 
 // The last three late files lie between two files, at both ends of their times, and behind them.
-const BY_HULLS: [CrossRow; 6] = [
-    (ONE, LATE, Some((1, 0, 1))),
-    (ONE, &[], None),
-    (&[], LATE, Some((2, 0, 0))),
-    (TWO, &[(1, false, 6, 9)], Some((1, 1, 1))),
-    (TWO, &[(1, false, 5, 10)], Some((1, 0, 2))),
-    (TWO, &[(1, false, 21, 30)], Some((1, 2, 2))),
+const BY_HULLS: [Row; 6] = [
+    (ONE, LATE, Wanted::Cross(Some((1, 0, 1)))),
+    (ONE, &[], Wanted::Cross(None)),
+    (&[], LATE, Wanted::Cross(Some((2, 0, 0)))),
+    (
+        TWO,
+        &[(1, false, &[(b'a', 6, 9)])],
+        Wanted::Cross(Some((1, 1, 1))),
+    ),
+    (
+        TWO,
+        &[(1, false, &[(b'a', 5, 10)])],
+        Wanted::Cross(Some((1, 0, 2))),
+    ),
+    (
+        TWO,
+        &[(1, false, &[(b'a', 21, 30)])],
+        Wanted::Cross(Some((1, 2, 2))),
+    ),
 ];
 
 #[test]
-fn cross_plans_by_hulls(rt: HostRuntime) -> Result<(), Fail> {
-    let wrong = first_wrong_cross(rt.alloc(), &BY_HULLS)?;
-    assert_eq!(rt; wrong, None);
-    Ok(())
+fn cross_plans_by_hulls(rt: HostRuntime) {
+    assert_eq!(rt; first_wrong(rt.alloc(), &BY_HULLS), None);
 }
 
 // The last four are at the limit of bytes, and have lengths that no sum holds.
-const BY_BYTES_AND_CLAIMS: [CrossRow; 6] = [
-    (ONE, &[(1, false, 0, 9), (1, true, 0, 9)], Some((1, 0, 1))),
-    (ONE, &[(1, true, 0, 9), (1, false, 0, 9)], None),
-    (ONE, &[(2 * HALF - LARGE, false, 0, 9)], Some((1, 0, 1))),
-    (ONE, &[(2 * HALF - LARGE + 1, false, 0, 9)], None),
-    (ONE, &[(u64::MAX, false, 0, 9)], None),
-    (&[(u64::MAX, 3, 5), (1, 6, 8)], &[(1, false, 0, 9)], None),
+const BY_BYTES_AND_CLAIMS: [Row; 6] = [
+    (
+        ONE,
+        &[(1, false, AROUND), (1, true, AROUND)],
+        Wanted::Cross(Some((1, 0, 1))),
+    ),
+    (
+        ONE,
+        &[(1, true, AROUND), (1, false, AROUND)],
+        Wanted::Cross(None),
+    ),
+    (
+        ONE,
+        &[(2 * HALF - LARGE, false, AROUND)],
+        Wanted::Cross(Some((1, 0, 1))),
+    ),
+    (
+        ONE,
+        &[(2 * HALF - LARGE + 1, false, AROUND)],
+        Wanted::Cross(None),
+    ),
+    (ONE, &[(u64::MAX, false, AROUND)], Wanted::Cross(None)),
+    (
+        &[
+            (u64::MAX, false, &[(b'a', 3, 5)]),
+            (1, false, &[(b'a', 6, 8)]),
+        ],
+        &[(1, false, AROUND)],
+        Wanted::Cross(None),
+    ),
 ];
 
 #[test]
-fn cross_plans_by_bytes_and_claims(rt: HostRuntime) -> Result<(), Fail> {
-    let wrong = first_wrong_cross(rt.alloc(), &BY_BYTES_AND_CLAIMS)?;
-    assert_eq!(rt; wrong, None);
-    Ok(())
+fn cross_plans_by_bytes_and_claims(rt: HostRuntime) {
+    assert_eq!(rt; first_wrong(rt.alloc(), &BY_BYTES_AND_CLAIMS), None);
 }
 
+/// The least and the greatest time of a device in the files.
 fn hull_of(files: &[FileEntry], device: &Path) -> Option<(i64, i64)> {
     let mut hull = None;
     for file in files {
@@ -273,53 +335,56 @@ fn hull_of(files: &[FileEntry], device: &Path) -> Option<(i64, i64)> {
     hull
 }
 
-fn meets(late: &[FileEntry], file: &FileEntry, devices: &[Path], above: bool) -> bool {
-    for device in devices {
-        if let Some((from, to)) = hull_of(late, device) {
-            for part in file.hulls.items() {
-                let met = if above {
-                    part.to >= from
-                } else {
-                    part.from <= to
-                };
-                if part.device == *device && met {
-                    return true;
-                }
+/// Whether a device of the file ends where its hull in the late files begins or above it, or begins where that ends or
+/// below it.
+fn meets(late: &[FileEntry], file: &FileEntry, above: bool) -> bool {
+    for part in file.hulls.items() {
+        if let Some((from, to)) = hull_of(late, &part.device) {
+            let met = if above {
+                part.to >= from
+            } else {
+                part.from <= to
+            };
+            if met {
+                return true;
             }
         }
     }
     false
 }
 
-/// Computes each device's hull anew for each prefix, and looks at every file.
-fn slow_cross(
-    sequence: &[FileEntry],
-    unsequence: &[FileEntry],
-    devices: &[Path],
-) -> Option<CrossRun> {
-    let mut plan = None;
-    for prefix in 1..unsequence.len() + 1 {
-        let late = &unsequence[..prefix];
-        let above = |file: &FileEntry| meets(late, file, devices, true);
-        let first = sequence.iter().position(above).unwrap_or(sequence.len());
-        let below = |file: &FileEntry| meets(late, file, devices, false);
-        let past = sequence.iter().rposition(below);
-        let end = past.map_or(first, |place| first.max(place.saturating_add(1)));
-        let mut bytes = bytes_of(late);
-        for (place, file) in sequence.iter().enumerate() {
-            if first <= place && place < end {
-                bytes = bytes.saturating_add(u128::from(file.size));
-            }
+/// The first file that meets the late ones from above, and the end of those from it on that meet them from below.
+fn slow_run(early: &[FileEntry], late: &[FileEntry]) -> Inner {
+    let mut first = early.len();
+    let mut end = 0;
+    for (place, file) in early.iter().enumerate() {
+        if meets(late, file, true) {
+            first = first.min(place);
         }
-        if late.iter().all(|file| !file.claimed) && bytes <= 268_435_456 {
-            plan = Some(CrossRun { prefix, first, end });
+        if meets(late, file, false) {
+            end = place.saturating_add(1);
+        }
+    }
+    (first, end.max(first))
+}
+
+/// Computes each device's hull anew for each prefix, and looks at every file.
+fn slow_cross(early: &[FileEntry], late: &[FileEntry]) -> Option<Cross> {
+    let mut plan = None;
+    for prefix in 1..late.len() + 1 {
+        let late = &late[..prefix];
+        let (first, end) = slow_run(early, late);
+        let met = early.get(first..end).unwrap_or(&[]);
+        let bytes = bytes_of(late).saturating_add(bytes_of(met));
+        if are_free(late) && bytes <= 268_435_456 {
+            plan = Some((prefix, first, end));
         }
     }
     plan
 }
 
-fn shape(code: u32) -> &'static [(u8, i64, i64)] {
-    match code {
+fn shape(digit: u32) -> &'static [Part] {
+    match digit {
         0 => &[],
         1 => &[(b'a', 0, 1)],
         2 => &[(b'a', 2, 3)],
@@ -328,85 +393,51 @@ fn shape(code: u32) -> &'static [(u8, i64, i64)] {
     }
 }
 
-fn shapes(alloc: Global, count: u32, code: u32, kind: u32) -> Result<Vec<FileEntry>, Fail> {
-    let mut list = Vec::new(alloc);
-    let mut rest = code;
-    for place in 0..count {
-        let bytes = match kind {
-            0 => 1,
-            1 => 60_000_000,
-            _ => u64::from(place) * 100_000_000,
-        };
-        let claimed = kind == 2 && place == 2;
-        list.push(file(alloc, bytes, claimed, shape(rest % 5))?)
-            .map_err(AllocError::from)?;
-        rest /= 5;
-    }
-    Ok(list)
+/// Files whose shapes are the digits of the code: small ones, large ones, or ones that grow, of which the last is
+/// claimed.
+fn shapes(code: u32, kind: u32) -> [File; 3] {
+    let [a, b, c, _] = digits(code);
+    let sizes = match kind {
+        0 => [1, 1, 1],
+        1 => [60_000_000, 60_000_000, 60_000_000],
+        _ => [0, 100_000_000, 200_000_000],
+    };
+    [
+        (sizes[0], false, shape(a)),
+        (sizes[1], false, shape(b)),
+        (sizes[2], kind == 2, shape(c)),
+    ]
 }
 
-/// How many early and late files there are, how many codes they have, and their kind.
-#[derive(Clone, Copy)]
-struct Small {
-    many: u32,
-    early_codes: u32,
-    few: u32,
-    late_codes: u32,
-    kind: u32,
-}
+/// How many early and late files there are, and the unit of the digits of the late ones in a code. Its lowest digit, to
+/// base 3, is the kind; then come the shapes of the early files, and then those of the late ones.
+const SMALL: [(usize, usize, u32); 2] = [(3, 2, 3 * 125), (2, 3, 3 * 25)];
 
-/// Whether the hulls rise, and the plan is the slow one.
-fn is_slow_cross(sequence: &[FileEntry], unsequence: &[FileEntry], devices: &[Path]) -> bool {
-    have_rising_hulls(sequence)
-        && have_rising_hulls(unsequence)
-        && cross(sequence, unsequence) == slow_cross(sequence, unsequence, devices)
-}
+const CODES: u32 = 3 * 125 * 25;
 
-/// Whether the plan over these early files is the slow one for each code of the late ones.
-fn agrees_for_each_late(
-    alloc: Global,
-    small: Small,
-    sequence: &[FileEntry],
-    devices: &[Path],
-) -> Result<bool, Fail> {
-    for late in 0..small.late_codes {
-        let unsequence = shapes(alloc, small.few, late, small.kind)?;
-        if !is_slow_cross(sequence, &unsequence, devices) {
-            return Ok(false);
+/// The first of these numbers of files, and the first code, at which a cross plan is not the slow one.
+fn first_wrong_small(alloc: Global) -> Option<(usize, u32)> {
+    for (place, (many, few, unit)) in SMALL.iter().enumerate() {
+        for code in 0..CODES {
+            let early = shapes(code / 3, code % 3);
+            let late = shapes(code.checked_div(*unit).unwrap_or(0), code % 3);
+            let row = (
+                first_of(&early, *many),
+                first_of(&late, *few),
+                Wanted::SlowCross,
+            );
+            if !is_planned(alloc, row) {
+                return Some((place, code));
+            }
         }
     }
-    Ok(true)
-}
-
-/// The first code of the early files at which a plan is not the slow one.
-fn first_wrong_early(alloc: Global, small: Small, devices: &[Path]) -> Result<Option<u32>, Fail> {
-    for early in 0..small.early_codes {
-        let sequence = shapes(alloc, small.many, early, small.kind)?;
-        if !agrees_for_each_late(alloc, small, &sequence, devices)? {
-            return Ok(Some(early));
-        }
-    }
-    Ok(None)
+    None
 }
 
 #[test]
-fn cross_plans_of_all_small_lists(rt: HostRuntime) -> Result<(), Fail> {
-    let devices = [device(rt.alloc(), b'a')?, device(rt.alloc(), b'b')?];
-    for (many, early_codes, few, late_codes) in [(3, 125, 2, 25), (2, 25, 3, 125)] {
-        for kind in 0..3 {
-            let small = Small {
-                many,
-                early_codes,
-                few,
-                late_codes,
-                kind,
-            };
-            let wrong = first_wrong_early(rt.alloc(), small, &devices)?;
-            assert_eq!(rt; wrong, None);
-        }
-    }
+fn cross_plans_of_all_small_lists(rt: HostRuntime) {
+    assert_eq!(rt; first_wrong_small(rt.alloc()), None);
     firsts_are_least();
     ends_are_greatest();
     shorter_are_eligible();
-    Ok(())
 }
