@@ -8,23 +8,68 @@ use tests_support::{command_of, words_of};
 use tsdb_map::{Plain, Prepared};
 use tsdb_model::{Command, Reply};
 
-/// What the command of a line returns.
-fn reply_to(alloc: Global, plain: &mut Plain, line: &str) -> Result<Reply, Fail> {
+/// How a command is carried out: in one phase, or in two of which the second one cancels or finishes its change.
+#[derive(Clone, Copy)]
+enum Phases {
+    One,
+    Cancel,
+    Finish,
+}
+
+/// A line without `cancel` or `finish`, which say that its command is carried out in two phases.
+fn phases_of(line: &str) -> (Phases, &str) {
+    if let Some(command) = line.strip_prefix("cancel ") {
+        (Phases::Cancel, command)
+    } else if let Some(command) = line.strip_prefix("finish ") {
+        (Phases::Finish, command)
+    } else {
+        (Phases::One, line)
+    }
+}
+
+fn is_said(alloc: Global, reply: &Reply, wanted: &str) -> Result<bool, Fail> {
+    let words = words_of(alloc, reply)?;
+    Ok(words.as_str() == wanted)
+}
+
+/// Whether the command comes to this in words: its reply, or in two phases `a change`.
+fn comes_to(
+    alloc: Global,
+    plain: &mut Plain,
+    command: &Command,
+    phases: Phases,
+    wanted: &str,
+) -> Result<bool, Fail>
+    requires { IsWellFormed command.now }
+{
+    if let Phases::One = phases {
+        let reply = plain.apply(command)?;
+        return is_said(alloc, &reply, wanted);
+    }
+    match plain.prepare(command)? {
+        Prepared::Reply(reply) => is_said(alloc, &reply, wanted),
+        Prepared::Change(pending) => {
+            match phases {
+                Phases::Finish => plain.finish(command, pending),
+                _ => plain.cancel(command, pending),
+            }
+            Ok(wanted == "a change")
+        }
+    }
+}
+
+fn is_right(alloc: Global, plain: &mut Plain, line: &str, wanted: &str) -> Result<bool, Fail> {
+    let (phases, line) = phases_of(line);
     let command = command_of(alloc, line)?;
-    Ok(plain.apply(&command)?)
+    comes_to(alloc, plain, &command, phases, wanted)
 }
 
-/// The words of what the command of a line returns.
-fn said(alloc: Global, plain: &mut Plain, line: &str) -> Result<String, Fail> {
-    let reply = reply_to(alloc, plain, line)?;
-    words_of(alloc, &reply)
-}
-
-/// The first of the steps, a command and the words of its reply, whose reply is another. The map has no series before.
+/// The first of the steps, a command and what it comes to in words, that comes to something else. The map has no series
+/// before.
 fn first_wrong(alloc: Global, steps: &[(&str, &str)]) -> Result<Option<usize>, Fail> {
     let mut plain = Plain::new(alloc);
     for (step, (line, wanted)) in steps.iter().enumerate() {
-        if said(alloc, &mut plain, line)?.as_str() != *wanted {
+        if !is_right(alloc, &mut plain, line, wanted)? {
             return Ok(Some(step));
         }
     }
@@ -83,227 +128,183 @@ fn a_refused_row_puts_nothing_and_the_last_write_wins(rt: HostRuntime) -> Result
     Ok(())
 }
 
-/// Prepares a command, and finishes or cancels its change. Says in words what it came to.
-fn two_phases(
-    alloc: Global,
-    plain: &mut Plain,
-    command: &Command,
-    finish: bool,
-) -> Result<String, Fail>
-    requires { IsWellFormed command.now }
-{
-    let pending = match plain.prepare(command)? {
-        Prepared::Reply(reply) => return words_of(alloc, &reply),
-        Prepared::Change(pending) => pending,
-    };
-    if finish {
-        plain.finish(command, pending);
-    } else {
-        plain.cancel(command, pending);
-    }
-    Ok(format!(in alloc; "a change")?)
-}
-
-/// What the command of a line comes to in two phases.
-fn come_to(alloc: Global, plain: &mut Plain, line: &str, finish: bool) -> Result<String, Fail> {
-    let command = command_of(alloc, line)?;
-    two_phases(alloc, plain, &command, finish)
-}
-
-/// What a command comes to in two phases, and what a select returns after it.
-fn one_end(
-    alloc: Global,
-    plain: &mut Plain,
-    line: &str,
-    finish: bool,
-    select: &str,
-) -> Result<String, Fail> {
-    let mut words = come_to(alloc, plain, line, finish)?;
-    words.push_str(", ")?;
-    words.push_str(said(alloc, plain, select)?.as_str())?;
-    Ok(words)
-}
-
-/// One end of a command where it is cancelled, and then one where it is finished.
-fn both_ends(alloc: Global, plain: &mut Plain, line: &str, select: &str) -> Result<String, Fail> {
-    let mut words = one_end(alloc, plain, line, false, select)?;
-    words.push_str(" ")?;
-    words.push_str(one_end(alloc, plain, line, true, select)?.as_str())?;
-    Ok(words)
-}
-
 const A: &str = "select a from root.d where time>=-9 and time<=9";
 
 const B: &str = "select b from root.d where time>=-9 and time<=9";
 
-/// A command, a select, and what both ends of the command come to.
-const BOTH_ENDS: [(&str, &str, &str); 6] = [
+/// Commands that are cancelled and then finished, and what a select returns after both.
+const CHANGES: [(&str, &str); 24] = [
     (
-        "create timeseries root.d.a with datatype=INT32,encoding=PLAIN",
-        A,
-        "a change, NoPath a change, ",
+        "cancel create timeseries root.d.a with datatype=INT32,encoding=PLAIN",
+        "a change",
     ),
+    (A, "NoPath"),
     (
-        "insert into root.d(time,a) values(1,7)",
-        A,
-        "a change,  a change, 1 [Some(I32(7))];",
+        "finish create timeseries root.d.a with datatype=INT32,encoding=PLAIN",
+        "a change",
     ),
+    (A, ""),
+    ("cancel insert into root.d(time,a) values(1,7)", "a change"),
+    (A, ""),
+    ("finish insert into root.d(time,a) values(1,7)", "a change"),
+    (A, "1 [Some(I32(7))];"),
     (
-        "create timeseries root.d.b with datatype=TEXT,encoding=PLAIN",
-        B,
-        "a change, NoPath a change, ",
+        "cancel create timeseries root.d.b with datatype=TEXT,encoding=PLAIN",
+        "a change",
     ),
+    (B, "NoPath"),
     (
-        "insert into root.d(time,a,b) values(1,8,'x')",
-        A,
-        "a change, 1 [Some(I32(7))]; a change, 1 [Some(I32(8))];",
+        "finish create timeseries root.d.b with datatype=TEXT,encoding=PLAIN",
+        "a change",
     ),
+    (B, ""),
     (
-        "insert into root.d(time,a,b) values(2,9,'y')",
-        B,
-        "a change, 1 [Some(Text(\"x\"))]; a change, 1 [Some(Text(\"x\"))];2 [Some(Text(\"y\"))];",
+        "cancel insert into root.d(time,a,b) values(1,8,'x')",
+        "a change",
     ),
+    (A, "1 [Some(I32(7))];"),
     (
-        "delete from root.d.a where time>=0 and time<=1",
-        A,
-        "a change, 1 [Some(I32(8))];2 [Some(I32(9))]; a change, 2 [Some(I32(9))];",
+        "finish insert into root.d(time,a,b) values(1,8,'x')",
+        "a change",
     ),
+    (A, "1 [Some(I32(8))];"),
+    (
+        "cancel insert into root.d(time,a,b) values(2,9,'y')",
+        "a change",
+    ),
+    (B, "1 [Some(Text(\"x\"))];"),
+    (
+        "finish insert into root.d(time,a,b) values(2,9,'y')",
+        "a change",
+    ),
+    (B, "1 [Some(Text(\"x\"))];2 [Some(Text(\"y\"))];"),
+    (
+        "cancel delete from root.d.a where time>=0 and time<=1",
+        "a change",
+    ),
+    (A, "1 [Some(I32(8))];2 [Some(I32(9))];"),
+    (
+        "finish delete from root.d.a where time>=0 and time<=1",
+        "a change",
+    ),
+    (A, "2 [Some(I32(9))];"),
 ];
-
-const DONE_AT_ONCE: [(&str, &str, &str); 5] = [
-    (
-        "create timeseries root.d.a with datatype=INT32,encoding=PLAIN",
-        A,
-        "Exists, 2 [Some(I32(9))]; Exists, 2 [Some(I32(9))];",
-    ),
-    (
-        "insert into root.d(time,a) values(2,true)",
-        A,
-        "WrongType, 2 [Some(I32(9))]; WrongType, 2 [Some(I32(9))];",
-    ),
-    (
-        "delete from root.d.c where time>=0 and time<=9",
-        A,
-        "NoPath, 2 [Some(I32(9))]; NoPath, 2 [Some(I32(9))];",
-    ),
-    (
-        "select a from root.d where time>=0 and time<=9",
-        A,
-        "2 [Some(I32(9))];, 2 [Some(I32(9))]; 2 [Some(I32(9))];, 2 [Some(I32(9))];",
-    ),
-    (
-        "flush",
-        A,
-        "Done, 2 [Some(I32(9))]; Done, 2 [Some(I32(9))];",
-    ),
-];
-
-/// The first of the cases that come to something else.
-fn first_wrong_ends(
-    alloc: Global,
-    plain: &mut Plain,
-    cases: &[(&str, &str, &str)],
-) -> Result<Option<usize>, Fail> {
-    for (case, (line, select, wanted)) in cases.iter().enumerate() {
-        if both_ends(alloc, plain, line, select)?.as_str() != *wanted {
-            return Ok(Some(case));
-        }
-    }
-    Ok(None)
-}
-
-/// The first of the cases that come to something else after these commands.
-fn first_wrong_after(
-    alloc: Global,
-    lines: &[&str],
-    cases: &[(&str, &str, &str)],
-) -> Result<Option<usize>, Fail> {
-    let mut plain = Plain::new(alloc);
-    for line in lines {
-        said(alloc, &mut plain, line)?;
-    }
-    first_wrong_ends(alloc, &mut plain, cases)
-}
 
 #[test]
 fn a_change_is_cancelled_or_finished(rt: HostRuntime) -> Result<(), Fail> {
-    assert_eq!(rt; first_wrong_after(rt.alloc(), &[], &BOTH_ENDS)?, None);
+    assert_eq!(rt; first_wrong(rt.alloc(), &CHANGES)?, None);
     Ok(())
 }
 
-/// A series with one point.
-const ONE_POINT: [&str; 2] = [
-    "create timeseries root.d.a with datatype=INT32,encoding=PLAIN",
-    "insert into root.d(time,a) values(2,9)",
+/// A series with one point, and commands that change nothing.
+const DONE_AT_ONCE: [(&str, &str); 22] = [
+    (
+        "create timeseries root.d.a with datatype=INT32,encoding=PLAIN",
+        "Done",
+    ),
+    ("insert into root.d(time,a) values(2,9)", "Done"),
+    (
+        "cancel create timeseries root.d.a with datatype=INT32,encoding=PLAIN",
+        "Exists",
+    ),
+    (A, "2 [Some(I32(9))];"),
+    (
+        "finish create timeseries root.d.a with datatype=INT32,encoding=PLAIN",
+        "Exists",
+    ),
+    (A, "2 [Some(I32(9))];"),
+    (
+        "cancel insert into root.d(time,a) values(2,true)",
+        "WrongType",
+    ),
+    (A, "2 [Some(I32(9))];"),
+    (
+        "finish insert into root.d(time,a) values(2,true)",
+        "WrongType",
+    ),
+    (A, "2 [Some(I32(9))];"),
+    (
+        "cancel delete from root.d.c where time>=0 and time<=9",
+        "NoPath",
+    ),
+    (A, "2 [Some(I32(9))];"),
+    (
+        "finish delete from root.d.c where time>=0 and time<=9",
+        "NoPath",
+    ),
+    (A, "2 [Some(I32(9))];"),
+    (
+        "cancel select a from root.d where time>=0 and time<=9",
+        "2 [Some(I32(9))];",
+    ),
+    (A, "2 [Some(I32(9))];"),
+    (
+        "finish select a from root.d where time>=0 and time<=9",
+        "2 [Some(I32(9))];",
+    ),
+    (A, "2 [Some(I32(9))];"),
+    ("cancel flush", "Done"),
+    (A, "2 [Some(I32(9))];"),
+    ("finish flush", "Done"),
+    (A, "2 [Some(I32(9))];"),
 ];
 
 #[test]
 fn what_changes_nothing_is_answered_at_once(rt: HostRuntime) -> Result<(), Fail> {
-    assert_eq!(rt;
-        first_wrong_after(rt.alloc(), &ONE_POINT, &DONE_AT_ONCE)?,
-        None
-    );
+    assert_eq!(rt; first_wrong(rt.alloc(), &DONE_AT_ONCE)?, None);
     Ok(())
 }
 
-/// The names of the aggregates, in the order in which their values stand below.
-const AGGREGATES: [&str; 7] = [
-    "count",
-    "first_value",
-    "last_value",
-    "min_value",
-    "max_value",
-    "min_time",
-    "max_time",
+const COUNT: &str = "select count(a) from root.d where time>=-9 and time<=9";
+
+const FIRST: &str = "select first_value(a) from root.d where time>=-9 and time<=9";
+
+const LAST: &str = "select last_value(a) from root.d where time>=-9 and time<=9";
+
+const LEAST: &str = "select min_value(a) from root.d where time>=-9 and time<=9";
+
+const GREATEST: &str = "select max_value(a) from root.d where time>=-9 and time<=9";
+
+const MIN_TIME: &str = "select min_time(a) from root.d where time>=-9 and time<=9";
+
+const MAX_TIME: &str = "select max_time(a) from root.d where time>=-9 and time<=9";
+
+/// All aggregates over no, one and three points, and one that is not in the range.
+const AGGREGATED: [(&str, &str); 26] = [
+    (
+        "create timeseries root.d.a with datatype=INT64,encoding=PLAIN",
+        "Done",
+    ),
+    (COUNT, "[Some(I64(0))]"),
+    (FIRST, "[None]"),
+    (LAST, "[None]"),
+    (LEAST, "[None]"),
+    (GREATEST, "[None]"),
+    (MIN_TIME, "[None]"),
+    (MAX_TIME, "[None]"),
+    ("insert into root.d(time,a) values(2,5)", "Done"),
+    (COUNT, "[Some(I64(1))]"),
+    (FIRST, "[Some(I64(5))]"),
+    (LAST, "[Some(I64(5))]"),
+    (LEAST, "[Some(I64(5))]"),
+    (GREATEST, "[Some(I64(5))]"),
+    (MIN_TIME, "[Some(I64(2))]"),
+    (MAX_TIME, "[Some(I64(2))]"),
+    ("insert into root.d(time,a) values(-7,9)", "Done"),
+    ("insert into root.d(time,a) values(3,4)", "Done"),
+    ("insert into root.d(time,a) values(10,99)", "Done"),
+    (COUNT, "[Some(I64(3))]"),
+    (FIRST, "[Some(I64(9))]"),
+    (LAST, "[Some(I64(4))]"),
+    (LEAST, "[Some(I64(4))]"),
+    (GREATEST, "[Some(I64(9))]"),
+    (MIN_TIME, "[Some(I64(-7))]"),
+    (MAX_TIME, "[Some(I64(3))]"),
 ];
-
-/// All aggregates of the series `a`, in words.
-fn aggregates(alloc: Global, plain: &mut Plain) -> Result<String, Fail> {
-    let mut words = String::new(alloc);
-    for name in AGGREGATES {
-        let line = format!(in alloc; "select {name}(a) from root.d where time>=-9 and time<=9")?;
-        words.push_str(said(alloc, plain, line.as_str())?.as_str())?;
-    }
-    Ok(words)
-}
-
-/// Commands, and the aggregates after them: over no, one and three points, and one that is not in the range.
-const AGGREGATED: [(&[&str], &str); 3] = [
-    (
-        &["create timeseries root.d.a with datatype=INT64,encoding=PLAIN"],
-        "[Some(I64(0))][None][None][None][None][None][None]",
-    ),
-    (
-        &["insert into root.d(time,a) values(2,5)"],
-        "[Some(I64(1))][Some(I64(5))][Some(I64(5))][Some(I64(5))][Some(I64(5))][Some(I64(2))][Some(I64(2))]",
-    ),
-    (
-        &[
-            "insert into root.d(time,a) values(-7,9)",
-            "insert into root.d(time,a) values(3,4)",
-            "insert into root.d(time,a) values(10,99)",
-        ],
-        "[Some(I64(3))][Some(I64(9))][Some(I64(4))][Some(I64(4))][Some(I64(9))][Some(I64(-7))][Some(I64(3))]",
-    ),
-];
-
-/// The first of the cases whose aggregates are others.
-fn first_wrong_aggregates(alloc: Global, cases: &[(&[&str], &str)]) -> Result<Option<usize>, Fail> {
-    let mut plain = Plain::new(alloc);
-    for (case, (lines, wanted)) in cases.iter().enumerate() {
-        for line in *lines {
-            said(alloc, &mut plain, line)?;
-        }
-        if aggregates(alloc, &mut plain)?.as_str() != *wanted {
-            return Ok(Some(case));
-        }
-    }
-    Ok(None)
-}
 
 #[test]
 fn aggregates_over_no_one_and_many_points(rt: HostRuntime) -> Result<(), Fail> {
-    assert_eq!(rt; first_wrong_aggregates(rt.alloc(), &AGGREGATED)?, None);
+    assert_eq!(rt; first_wrong(rt.alloc(), &AGGREGATED)?, None);
     Ok(())
 }
 
