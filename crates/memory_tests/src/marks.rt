@@ -199,7 +199,8 @@ const ONE_MARK: [Step; 8] = [
 
 #[test]
 fn one_mark(rt: HostRuntime) {
-    assert_eq!(rt; first_wrong(rt.alloc(), &ONE_MARK), None);
+    let wrong = first_wrong(rt.alloc(), &ONE_MARK);
+    assert_eq!(rt; wrong, None);
 }
 
 /// Marks whose ranges touch, lie in one another, are equal, are empty, and reach both ends of time.
@@ -229,5 +230,6 @@ const MANY_MARKS: [Step; 21] = [
 
 #[test]
 fn marks_beside_a_slow_list(rt: HostRuntime) {
-    assert_eq!(rt; first_wrong(rt.alloc(), &MANY_MARKS), None);
+    let wrong = first_wrong(rt.alloc(), &MANY_MARKS);
+    assert_eq!(rt; wrong, None);
 }

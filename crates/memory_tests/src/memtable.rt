@@ -78,7 +78,8 @@ fn first_wrong_space() -> Option<usize> {
 
 #[test]
 fn spaces_by_the_watermark(rt: HostRuntime) {
-    assert_eq!(rt; first_wrong_space(), None);
+    let wrong = first_wrong_space();
+    assert_eq!(rt; wrong, None);
 }
 
 fn crosses_threads<T: Send + Sync>(_value: &T) {}
@@ -250,10 +251,10 @@ fn puts_alike(
 }
 
 /// Erases a range of one series that has points and of one that has none, and says whether both answer alike.
-fn erases_alike(pair: &mut Pair, erased: (Time, Time)) -> bool {
+fn erases_alike(pair: &mut Pair, puts: &[Put], erased: (Time, Time)) -> bool {
     pair.erase(SeriesId(7), &range(erased));
     pair.erase(SeriesId(8), &range(erased));
-    answers_as_list(pair, (&PUTS, erased))
+    answers_as_list(pair, (puts, erased))
 }
 
 /// Whether the pair and the list answer alike after each put, and after this range is erased.
@@ -269,7 +270,7 @@ fn is_alike(
             return false;
         }
     }
-    erases_alike(pair, erased)
+    erases_alike(pair, puts, erased)
 }
 
 /// The first erasure at which a pair and the list do not answer alike.
@@ -296,7 +297,8 @@ fn first_wrong(alloc: Global) -> Option<usize> {
 
 #[test]
 fn pair_beside_a_slow_list(rt: HostRuntime) {
-    assert_eq!(rt; first_wrong(rt.alloc()), None);
+    let wrong = first_wrong(rt.alloc());
+    assert_eq!(rt; wrong, None);
 }
 
 /// A value as the table of bytes has it.

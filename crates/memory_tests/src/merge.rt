@@ -115,15 +115,18 @@ fn first_wrong_merge(alloc: Global) -> Option<usize> {
     None
 }
 
-/// Whether times that are equal do not rise, and times one behind the other do.
-fn tells_rising() -> bool {
-    !is_rising(&[point(1, 0), point(1, 0)]) && is_rising(&[point(1, 0), point(2, 0)])
+/// Whether times one behind the other rise, and times that are equal do not.
+fn tells_rising(alloc: Global) -> bool {
+    let mut sources = Vec::new(alloc);
+    add_source(alloc, &mut sources, &[(0, 1), (0, 2)], 0)
+        && !add_source(alloc, &mut sources, &[(0, 1), (0, 1)], 0)
 }
 
 #[test]
 fn the_last_source_wins(rt: HostRuntime) {
-    assert!(rt; tells_rising());
-    assert_eq!(rt; first_wrong_merge(rt.alloc()), None);
+    let wrong = first_wrong_merge(rt.alloc());
+    assert!(rt; tells_rising(rt.alloc()));
+    assert_eq!(rt; wrong, None);
 }
 
 /// The last source that has the time.
@@ -188,7 +191,8 @@ fn first_wrong_size(alloc: Global) -> Option<usize> {
 
 #[test]
 fn all_small_tables(rt: HostRuntime) {
-    assert_eq!(rt; first_wrong_size(rt.alloc()), None);
+    let wrong = first_wrong_size(rt.alloc());
+    assert_eq!(rt; wrong, None);
 }
 
 /// Each kind of fault.
@@ -322,5 +326,6 @@ fn first_wrong_fault(alloc: Global) -> Option<usize> {
 
 #[test]
 fn a_fault_is_repeated(rt: HostRuntime) {
-    assert_eq!(rt; first_wrong_fault(rt.alloc()), None);
+    let wrong = first_wrong_fault(rt.alloc());
+    assert_eq!(rt; wrong, None);
 }

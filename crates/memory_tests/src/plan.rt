@@ -12,11 +12,11 @@ const HALF: u64 = 134_217_728;
 
 fn crosses_threads<T: Send + Sync>(_value: &T) {}
 
-/// The hull of a device: the last byte of its path, its least and its greatest time.
-type Part = (u8, i64, i64);
+/// The least and the greatest time of a device in a file, where it has any.
+type Times = Option<(i64, i64)>;
 
-/// A file: its length, whether it is claimed, and its hulls.
-type File = (u64, bool, &'static [Part]);
+/// A file: its length, whether it is claimed, and the times of the devices `a` and `b`.
+type File = (u64, bool, Times, Times);
 
 /// The first file of an inner plan and its end.
 type Inner = (usize, usize);
@@ -24,19 +24,20 @@ type Inner = (usize, usize);
 /// How many late files a cross plan has, and its first early file and their end.
 type Cross = (usize, usize, usize);
 
-fn add_hull(alloc: Global, hulls: &mut Vec<Hull>, (name, from, to): Part) -> bool {
+/// Adds the hull of a device that has times. Whether there was memory for it.
+fn add_hull(alloc: Global, hulls: &mut Vec<Hull>, name: u8, times: Times) -> bool {
+    let Some((from, to)) = times else {
+        return true;
+    };
     match Path::read(alloc, &[b'r', b'o', b'o', b't', b'.', name]) {
         Ok(device) => hulls.push(Hull { device, from, to }).is_ok(),
         Err(_) => false,
     }
 }
 
-fn add_file(alloc: Global, list: &mut Vec<FileEntry>, (size, claimed, parts): File) -> bool {
+fn add_file(alloc: Global, list: &mut Vec<FileEntry>, (size, claimed, a, b): File) -> bool {
     let mut hulls = Vec::new(alloc);
-    let mut is_whole = true;
-    for part in parts {
-        is_whole = add_hull(alloc, &mut hulls, *part) && is_whole;
-    }
+    let is_whole = add_hull(alloc, &mut hulls, b'a', a) && add_hull(alloc, &mut hulls, b'b', b);
     let entry = FileEntry {
         number: FileNumber(1),
         born: Stamp(1),
@@ -117,42 +118,50 @@ fn first_wrong(alloc: Global, rows: &[Row]) -> Option<usize> {
     None
 }
 
-/// One hull, which no inner plan looks at.
-const A: &[Part] = &[(b'a', 0, 1)];
+/// Times that no inner plan looks at.
+const A: Times = Some((0, 1));
 
 const INNER: [Row; 7] = [
     (
         &[
-            (200_000_000, false, A),
-            (100_000_000, false, A),
-            (100_000_000, false, A),
+            (200_000_000, false, A, None),
+            (100_000_000, false, A, None),
+            (100_000_000, false, A, None),
         ],
         &[],
         Wanted::Inner(Some((1, 3))),
     ),
-    (&[(300, false, A); 11], &[], Wanted::Inner(Some((0, 10)))),
     (
-        &[(300, false, A), (300, true, A), (300, false, A)],
+        &[(300, false, A, None); 11],
+        &[],
+        Wanted::Inner(Some((0, 10))),
+    ),
+    (
+        &[
+            (300, false, A, None),
+            (300, true, A, None),
+            (300, false, A, None),
+        ],
         &[],
         Wanted::Inner(None),
     ),
     (
-        &[(HALF, false, A), (HALF, false, A)],
+        &[(HALF, false, A, None), (HALF, false, A, None)],
         &[],
         Wanted::Inner(Some((0, 2))),
     ),
     (
-        &[(HALF + 1, false, A), (HALF, false, A)],
+        &[(HALF + 1, false, A, None), (HALF, false, A, None)],
         &[],
         Wanted::Inner(None),
     ),
     (
         &[
-            (u64::MAX, false, A),
-            (u64::MAX, false, A),
-            (1, false, A),
-            (HALF, false, A),
-            (1, true, A),
+            (u64::MAX, false, A, None),
+            (u64::MAX, false, A, None),
+            (1, false, A, None),
+            (HALF, false, A, None),
+            (1, true, A, None),
         ],
         &[],
         Wanted::Inner(Some((2, 4))),
@@ -162,7 +171,8 @@ const INNER: [Row; 7] = [
 
 #[test]
 fn inner_plans_at_the_limits(rt: HostRuntime) {
-    assert_eq!(rt; first_wrong(rt.alloc(), &INNER), None);
+    let wrong = first_wrong(rt.alloc(), &INNER);
+    assert_eq!(rt; wrong, None);
 }
 
 fn bytes_of(files: &[FileEntry]) -> u128 {
@@ -205,11 +215,11 @@ fn slow_inner(files: &[FileEntry]) -> Option<Inner> {
 /// Length and claim of a file, by a digit.
 fn kind(digit: u32) -> File {
     match digit {
-        0 => (1, false, &[]),
-        1 => (HALF, false, &[]),
-        2 => (HALF + 1, false, &[]),
-        3 => (2 * HALF, false, &[]),
-        _ => (1, true, &[]),
+        0 => (1, false, None, None),
+        1 => (HALF, false, None, None),
+        2 => (HALF + 1, false, None, None),
+        3 => (2 * HALF, false, None, None),
+        _ => (1, true, None, None),
     }
 }
 
@@ -226,7 +236,7 @@ fn digits(code: u32) -> [u32; 4] {
 /// Numbers of files, and how many codes they have.
 const COUNTS: [(usize, u32); 5] = [(0, 1), (1, 5), (2, 25), (3, 125), (4, 625)];
 
-/// The first of these numbers of files of which an inner plan is not the slow one. The digits of the code are the kinds.
+/// The first of these numbers of files of which an inner plan is not the slow one. The digits of a code are the kinds.
 fn first_wrong_count(alloc: Global) -> Option<usize> {
     for (place, (count, codes)) in COUNTS.iter().enumerate() {
         for code in 0..*codes {
@@ -242,19 +252,23 @@ fn first_wrong_count(alloc: Global) -> Option<usize> {
 
 #[test]
 fn inner_plans_of_all_small_lists(rt: HostRuntime) {
-    assert_eq!(rt; first_wrong_count(rt.alloc()), None);
+    let wrong = first_wrong_count(rt.alloc());
+    assert_eq!(rt; wrong, None);
 }
 
 const LARGE: u64 = 100_000_000;
 
-const ONE: &[File] = &[(LARGE, false, &[(b'a', 3, 5)])];
+const ONE: &[File] = &[(LARGE, false, Some((3, 5)), None)];
 
-const TWO: &[File] = &[(1, false, &[(b'a', 0, 5)]), (1, false, &[(b'a', 10, 20)])];
+const TWO: &[File] = &[
+    (1, false, Some((0, 5)), None),
+    (1, false, Some((10, 20)), None),
+];
 
-/// A hull around those above.
-const AROUND: &[Part] = &[(b'a', 0, 9)];
+/// Times around those above.
+const AROUND: Times = Some((0, 9));
 
-const LATE: &[File] = &[(LARGE, false, AROUND), (LARGE, false, AROUND)];
+const LATE: &[File] = &[(LARGE, false, AROUND, None), (LARGE, false, AROUND, None)];
 
 // The last three late files lie between two files, at both ends of their times, and behind them.
 const BY_HULLS: [Row; 6] = [
@@ -263,66 +277,68 @@ const BY_HULLS: [Row; 6] = [
     (&[], LATE, Wanted::Cross(Some((2, 0, 0)))),
     (
         TWO,
-        &[(1, false, &[(b'a', 6, 9)])],
+        &[(1, false, Some((6, 9)), None)],
         Wanted::Cross(Some((1, 1, 1))),
     ),
     (
         TWO,
-        &[(1, false, &[(b'a', 5, 10)])],
+        &[(1, false, Some((5, 10)), None)],
         Wanted::Cross(Some((1, 0, 2))),
     ),
     (
         TWO,
-        &[(1, false, &[(b'a', 21, 30)])],
+        &[(1, false, Some((21, 30)), None)],
         Wanted::Cross(Some((1, 2, 2))),
     ),
 ];
 
 #[test]
 fn cross_plans_by_hulls(rt: HostRuntime) {
-    assert_eq!(rt; first_wrong(rt.alloc(), &BY_HULLS), None);
+    let wrong = first_wrong(rt.alloc(), &BY_HULLS);
+    assert_eq!(rt; wrong, None);
 }
 
 // The last four are at the limit of bytes, and have lengths that no sum holds.
 const BY_BYTES_AND_CLAIMS: [Row; 6] = [
     (
         ONE,
-        &[(1, false, AROUND), (1, true, AROUND)],
+        &[(1, false, AROUND, None), (1, true, AROUND, None)],
         Wanted::Cross(Some((1, 0, 1))),
     ),
     (
         ONE,
-        &[(1, true, AROUND), (1, false, AROUND)],
+        &[(1, true, AROUND, None), (1, false, AROUND, None)],
         Wanted::Cross(None),
     ),
     (
         ONE,
-        &[(2 * HALF - LARGE, false, AROUND)],
+        &[(2 * HALF - LARGE, false, AROUND, None)],
         Wanted::Cross(Some((1, 0, 1))),
     ),
     (
         ONE,
-        &[(2 * HALF - LARGE + 1, false, AROUND)],
+        &[(2 * HALF - LARGE + 1, false, AROUND, None)],
         Wanted::Cross(None),
     ),
-    (ONE, &[(u64::MAX, false, AROUND)], Wanted::Cross(None)),
+    (ONE, &[(u64::MAX, false, AROUND, None)], Wanted::Cross(None)),
     (
         &[
-            (u64::MAX, false, &[(b'a', 3, 5)]),
-            (1, false, &[(b'a', 6, 8)]),
+            (u64::MAX, false, Some((3, 5)), None),
+            (1, false, Some((6, 8)), None),
         ],
-        &[(1, false, AROUND)],
+        &[(1, false, AROUND, None)],
         Wanted::Cross(None),
     ),
 ];
 
 #[test]
 fn cross_plans_by_bytes_and_claims(rt: HostRuntime) {
-    assert_eq!(rt; first_wrong(rt.alloc(), &BY_BYTES_AND_CLAIMS), None);
+    let wrong = first_wrong(rt.alloc(), &BY_BYTES_AND_CLAIMS);
+    assert_eq!(rt; wrong, None);
 }
 
 /// The least and the greatest time of a device in the files.
-fn hull_of(files: &[FileEntry], device: &Path) -> Option<(i64, i64)> {
+fn hull_of(files: &[FileEntry], device: &Path) -> Times {
     let mut hull = None;
     for file in files {
         for part in file.hulls.items() {
@@ -383,13 +399,14 @@ fn slow_cross(early: &[FileEntry], late: &[FileEntry]) -> Option<Cross> {
     plan
 }
 
-fn shape(digit: u32) -> &'static [Part] {
+/// A file with the times of its shape, by a digit.
+fn shaped(size: u64, claimed: bool, digit: u32) -> File {
     match digit {
-        0 => &[],
-        1 => &[(b'a', 0, 1)],
-        2 => &[(b'a', 2, 3)],
-        3 => &[(b'b', 1, 2)],
-        _ => &[(b'a', 1, 2), (b'b', 0, 3)],
+        0 => (size, claimed, None, None),
+        1 => (size, claimed, Some((0, 1)), None),
+        2 => (size, claimed, Some((2, 3)), None),
+        3 => (size, claimed, None, Some((1, 2))),
+        _ => (size, claimed, Some((1, 2)), Some((0, 3))),
     }
 }
 
@@ -403,9 +420,9 @@ fn shapes(code: u32, kind: u32) -> [File; 3] {
         _ => [0, 100_000_000, 200_000_000],
     };
     [
-        (sizes[0], false, shape(a)),
-        (sizes[1], false, shape(b)),
-        (sizes[2], kind == 2, shape(c)),
+        shaped(sizes[0], false, a),
+        shaped(sizes[1], false, b),
+        shaped(sizes[2], kind == 2, c),
     ]
 }
 
@@ -436,7 +453,8 @@ fn first_wrong_small(alloc: Global) -> Option<(usize, u32)> {
 
 #[test]
 fn cross_plans_of_all_small_lists(rt: HostRuntime) {
-    assert_eq!(rt; first_wrong_small(rt.alloc()), None);
+    let wrong = first_wrong_small(rt.alloc());
+    assert_eq!(rt; wrong, None);
     firsts_are_least();
     ends_are_greatest();
     shorter_are_eligible();
