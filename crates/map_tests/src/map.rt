@@ -76,7 +76,7 @@ fn first_wrong(alloc: Global, steps: &[(&str, &str)]) -> Result<Option<usize>, F
     Ok(None)
 }
 
-const LAST_WRITES: [(&str, &str); 22] = [
+const LAST_WRITES: &[(&str, &str)] = &[
     ("insert into root.d(time,a) values(1,1)", "NoPath"),
     (
         "create timeseries root.d.a with datatype=INT32,encoding=PLAIN",
@@ -124,7 +124,7 @@ const LAST_WRITES: [(&str, &str); 22] = [
 
 #[test]
 fn a_refused_row_puts_nothing_and_the_last_write_wins(rt: HostRuntime) -> Result<(), Fail> {
-    assert_eq!(rt; first_wrong(rt.alloc(), &LAST_WRITES)?, None);
+    assert_eq!(rt; first_wrong(rt.alloc(), LAST_WRITES)?, None);
     Ok(())
 }
 
@@ -133,7 +133,7 @@ const A: &str = "select a from root.d where time>=-9 and time<=9";
 const B: &str = "select b from root.d where time>=-9 and time<=9";
 
 /// Commands that are cancelled and then finished, and what a select returns after both.
-const CHANGES: [(&str, &str); 24] = [
+const CHANGES: &[(&str, &str)] = &[
     (
         "cancel create timeseries root.d.a with datatype=INT32,encoding=PLAIN",
         "a change",
@@ -192,12 +192,12 @@ const CHANGES: [(&str, &str); 24] = [
 
 #[test]
 fn a_change_is_cancelled_or_finished(rt: HostRuntime) -> Result<(), Fail> {
-    assert_eq!(rt; first_wrong(rt.alloc(), &CHANGES)?, None);
+    assert_eq!(rt; first_wrong(rt.alloc(), CHANGES)?, None);
     Ok(())
 }
 
 /// A series with one point, and commands that change nothing.
-const DONE_AT_ONCE: [(&str, &str); 22] = [
+const DONE_AT_ONCE: &[(&str, &str)] = &[
     (
         "create timeseries root.d.a with datatype=INT32,encoding=PLAIN",
         "Done",
@@ -251,7 +251,7 @@ const DONE_AT_ONCE: [(&str, &str); 22] = [
 
 #[test]
 fn what_changes_nothing_is_answered_at_once(rt: HostRuntime) -> Result<(), Fail> {
-    assert_eq!(rt; first_wrong(rt.alloc(), &DONE_AT_ONCE)?, None);
+    assert_eq!(rt; first_wrong(rt.alloc(), DONE_AT_ONCE)?, None);
     Ok(())
 }
 
@@ -270,7 +270,7 @@ const MIN_TIME: &str = "select min_time(a) from root.d where time>=-9 and time<=
 const MAX_TIME: &str = "select max_time(a) from root.d where time>=-9 and time<=9";
 
 /// All aggregates over no, one and three points, and one that is not in the range.
-const AGGREGATED: [(&str, &str); 26] = [
+const AGGREGATED: &[(&str, &str)] = &[
     (
         "create timeseries root.d.a with datatype=INT64,encoding=PLAIN",
         "Done",
@@ -304,11 +304,11 @@ const AGGREGATED: [(&str, &str); 26] = [
 
 #[test]
 fn aggregates_over_no_one_and_many_points(rt: HostRuntime) -> Result<(), Fail> {
-    assert_eq!(rt; first_wrong(rt.alloc(), &AGGREGATED)?, None);
+    assert_eq!(rt; first_wrong(rt.alloc(), AGGREGATED)?, None);
     Ok(())
 }
 
-const LEAST_AND_GREATEST: [(&str, &str); 9] = [
+const LEAST_AND_GREATEST: &[(&str, &str)] = &[
     (
         "create timeseries root.d.a with datatype=BOOLEAN,encoding=PLAIN",
         "Done",
@@ -346,6 +346,6 @@ const LEAST_AND_GREATEST: [(&str, &str); 9] = [
 
 #[test]
 fn numbers_alone_have_a_least_and_a_greatest(rt: HostRuntime) -> Result<(), Fail> {
-    assert_eq!(rt; first_wrong(rt.alloc(), &LEAST_AND_GREATEST)?, None);
+    assert_eq!(rt; first_wrong(rt.alloc(), LEAST_AND_GREATEST)?, None);
     Ok(())
 }

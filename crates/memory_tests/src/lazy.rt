@@ -186,7 +186,7 @@ fn is_merged(alloc: Global, table: &[(u8, i64)], count: u8) -> bool {
 }
 
 /// Numbers of sources and of times.
-const SIZES: [(u8, u8); 5] = [(0, 1), (1, 4), (2, 4), (3, 4), (4, 3)];
+const SIZES: &[(u8, u8)] = &[(0, 1), (1, 4), (2, 4), (3, 4), (4, 3)];
 
 /// The first of these numbers, so many sources each with any of the times, of which a table is merged otherwise.
 fn first_wrong_size(alloc: Global) -> Option<usize> {
@@ -208,7 +208,7 @@ fn pages_are_merged_as_lists(rt: HostRuntime) {
 }
 
 /// Late pages: the points of source 1 span those of source 0, and source 2 has the last word at one time.
-const LATE: [(u8, i64); 8] = [
+const LATE: &[(u8, i64)] = &[
     (0, 0),
     (1, 0),
     (0, 1),
@@ -224,7 +224,7 @@ const LATE: [(u8, i64); 8] = [
 fn first_wrong_fault(alloc: Global) -> Option<usize> {
     for (place, fault) in FAULTS.iter().enumerate() {
         for before in 0..10 {
-            if is_slow_merge(alloc, &LATE, 3, 1, (before, *fault)) != Err(*fault) {
+            if is_slow_merge(alloc, LATE, 3, 1, (before, *fault)) != Err(*fault) {
                 return Some(place);
             }
         }

@@ -55,11 +55,11 @@ fn survives_slowly(marks: &[Mark], series: &Path, time: Time, born: u64) -> bool
     true
 }
 
-const TIMES: [Time; 15] = [MIN, MIN + 1, -1, 0, 1, 2, 3, 4, 5, 6, 7, 8, 9, MAX - 1, MAX];
+const TIMES: &[Time] = &[MIN, MIN + 1, -1, 0, 1, 2, 3, 4, 5, 6, 7, 8, 9, MAX - 1, MAX];
 
 /// Whether the marks answer as the slow look at each, for each of these times and for versions below 13.
 fn answers_as_list(marks: &Marks, path: &Path) -> bool {
-    for time in &TIMES {
+    for time in TIMES {
         for born in 0..13 {
             let slow = survives_slowly(marks.marks(), path, *time, born);
             let at = Range {
@@ -157,11 +157,11 @@ fn first_wrong_step(
 }
 
 /// A series with marks between another one, which stands there twice, and a device.
-const PATHS: [&[u8]; 4] = [b"root.g.d.st", b"root.g.d.s", b"root.g.d.st", b"root.g.d"];
+const PATHS: &[&[u8]] = &[b"root.g.d.st", b"root.g.d.s", b"root.g.d.st", b"root.g.d"];
 
 /// Adds the paths to the list. Whether there was memory for them.
 fn add_paths(alloc: Global, list: &mut Vec<Path>) -> bool {
-    for path in &PATHS {
+    for path in PATHS {
         let is_added = match Path::read(alloc, path) {
             Ok(path) => list.push(path).is_ok(),
             Err(_) => false,
@@ -186,7 +186,7 @@ fn first_wrong(alloc: Global, steps: &[Step]) -> Option<usize> {
 }
 
 /// One mark, which covers the series until it is purged.
-const ONE_MARK: [Step; 8] = [
+const ONE_MARK: &[Step] = &[
     Step::Add(b"root.g.d.s", (1, 5), 4),
     Step::Survives(3, Stamp(3), false),
     Step::Survives(3, Stamp(4), true),
@@ -199,12 +199,12 @@ const ONE_MARK: [Step; 8] = [
 
 #[test]
 fn one_mark(rt: HostRuntime) {
-    let wrong = first_wrong(rt.alloc(), &ONE_MARK);
+    let wrong = first_wrong(rt.alloc(), ONE_MARK);
     assert_eq!(rt; wrong, None);
 }
 
 /// Marks whose ranges touch, lie in one another, are equal, are empty, and reach both ends of time.
-const MANY_MARKS: [Step; 21] = [
+const MANY_MARKS: &[Step] = &[
     Step::Add(b"root.g.d.s", (1, 5), 1),
     Step::Add(b"root.g.d.s", (6, 9), 2),
     Step::Add(b"root.g.d.s", (3, 7), 3),
@@ -230,6 +230,6 @@ const MANY_MARKS: [Step; 21] = [
 
 #[test]
 fn marks_beside_a_slow_list(rt: HostRuntime) {
-    let wrong = first_wrong(rt.alloc(), &MANY_MARKS);
+    let wrong = first_wrong(rt.alloc(), MANY_MARKS);
     assert_eq!(rt; wrong, None);
 }

@@ -10,7 +10,7 @@ const MIN: Time = Time::MIN;
 const MAX: Time = Time::MAX;
 
 /// Times raised one after another, and the watermark after each. At first none is raised.
-const RAISES: [(Option<Time>, Option<Time>); 6] = [
+const RAISES: &[(Option<Time>, Option<Time>)] = &[
     (None, None),
     (Some(MIN), Some(MIN)),
     (Some(20), Some(20)),
@@ -31,7 +31,7 @@ fn raise(watermarks: &mut Watermarks, device: &Path, time: Option<Time>) {
 /// Whether the device has no watermark at first, then the wanted one after each raise, and no other device has one.
 fn rises_as_wanted(watermarks: &mut Watermarks, device: &Path, other: &Path) -> bool {
     let mut is_right = watermarks.get(device).is_none();
-    for (time, wanted) in &RAISES {
+    for (time, wanted) in RAISES {
         raise(watermarks, device, *time);
         is_right = is_right
             && watermarks.reserve(other).is_ok()
@@ -57,7 +57,7 @@ fn watermarks_rise(rt: HostRuntime) {
 }
 
 /// A watermark, a time, and the space that a point at it goes to.
-const SPACES: [(Option<Time>, Time, Space); 6] = [
+const SPACES: &[(Option<Time>, Time, Space)] = &[
     (None, MIN, Space::Sequence),
     (Some(MIN), MIN, Space::Unsequence),
     (Some(20), 19, Space::Unsequence),
@@ -89,7 +89,7 @@ type Put = (u64, Time, i64);
 
 /// Points that are put one after another, where the watermark is 20: in order, late, at a time that has one, at the
 /// watermark, next to it, and at both ends of time.
-const PUTS: [Put; 18] = [
+const PUTS: &[Put] = &[
     (7, 21, 1),
     (7, 22, 2),
     (7, 30, 3),
@@ -111,11 +111,11 @@ const PUTS: [Put; 18] = [
 ];
 
 /// The times of these points, in order.
-const TIMES: [Time; 11] = [MIN, -1, 0, 5, 19, 20, 21, 22, 25, 30, MAX];
+const TIMES: &[Time] = &[MIN, -1, 0, 5, 19, 20, 21, 22, 25, 30, MAX];
 
 /// Ranges that are looked at and erased: all times, one end, a time with and one without a point, one that begins or
 /// ends at a point, one across the watermark, and an empty one.
-const RANGES: [(Time, Time); 9] = [
+const RANGES: &[(Time, Time)] = &[
     (25, 20),
     (23, 24),
     (MIN, MIN),
@@ -128,7 +128,7 @@ const RANGES: [(Time, Time); 9] = [
 ];
 
 /// Two series with points, and one without.
-const SERIES: [u64; 3] = [3, 7, 8];
+const SERIES: &[u64] = &[3, 7, 8];
 
 /// The slow list: points that were put one after another, and the times at which series 7 was then erased.
 type Slow<'a> = (&'a [Put], (Time, Time));
@@ -171,8 +171,8 @@ fn slow_value((puts, erased): Slow, series: u64, time: Time) -> Option<i64> {
 /// How many points the list has in the space.
 fn slow_count(slow: Slow, space: Space) -> u64 {
     let mut count = 0u64;
-    for series in &SERIES {
-        for time in &TIMES {
+    for series in SERIES {
+        for time in TIMES {
             if slow_space(*time) == space && slow_value(slow, *series, *time).is_some() {
                 count = count.saturating_add(1);
             }
@@ -196,7 +196,7 @@ fn is_slice(
     ends: (Time, Time),
 ) -> bool {
     let mut count = 0usize;
-    for time in &TIMES {
+    for time in TIMES {
         if is_within(*time, ends)
             && slow_space(*time) == space
             && let Some(value) = slow_value(slow, series, *time)
@@ -212,8 +212,8 @@ fn is_slice(
 
 /// Whether the pair answers for the space as the list does, for each series and range.
 fn answers_in(pair: &Pair, slow: Slow, space: Space) -> bool {
-    for series in &SERIES {
-        for ends in &RANGES {
+    for series in SERIES {
+        for ends in RANGES {
             let points = pair.slice(space, SeriesId(*series), &range(*ends));
             if !is_slice(points, slow, (space, *series), *ends) {
                 return false;
@@ -276,7 +276,7 @@ fn is_alike(
 /// The first erasure at which a pair and the list do not answer alike.
 fn first_wrong_erasure(alloc: Global, watermarks: &Watermarks, device: &Path) -> Option<usize> {
     for (place, erased) in RANGES.iter().enumerate() {
-        if !is_alike(&mut Pair::new(alloc), watermarks, device, &PUTS, *erased) {
+        if !is_alike(&mut Pair::new(alloc), watermarks, device, PUTS, *erased) {
             return Some(place);
         }
     }
@@ -311,7 +311,7 @@ enum Plain {
 }
 
 /// A series, a value of each type, and the bytes of the pair once the series has a point with this value.
-const BYTES: [(u64, Plain, u64); 5] = [
+const BYTES: &[(u64, Plain, u64)] = &[
     (0, Plain::Bool(true), 9),
     (1, Plain::I32(-1), 9 + 12),
     (2, Plain::I64(1), 9 + 12 + 16),
@@ -355,7 +355,7 @@ fn has_bytes_as_wanted(
     watermarks: &Watermarks,
     device: &Path,
 ) -> bool {
-    for (series, plain, wanted) in &BYTES {
+    for (series, plain, wanted) in BYTES {
         for _ in 0..2 {
             let value = value_of(alloc, *plain);
             if !puts_value(pair, watermarks, device, SeriesId(*series), value)

@@ -91,7 +91,7 @@ fn merges(alloc: Global, table: &[(u8, i64)], count: u8, wanted: &[Pulled]) -> b
 /// Sources as a table, how many there are, and what is pulled from their merge.
 type MergeRow = (&'static [(u8, i64)], u8, &'static [Pulled]);
 
-const MERGES: [MergeRow; 3] = [
+const MERGES: &[MergeRow] = &[
     (
         &[(0, 1), (1, 2), (2, 2)],
         3,
@@ -173,7 +173,7 @@ pub fn table_of(chosen: u32, times: u8) -> [(u8, i64); 16] {
 }
 
 /// Numbers of sources and of times.
-const SIZES: [(u8, u8); 5] = [(1, 4), (2, 4), (3, 4), (4, 3), (5, 2)];
+const SIZES: &[(u8, u8)] = &[(1, 4), (2, 4), (3, 4), (4, 3), (5, 2)];
 
 /// The first of these numbers, so many sources each with any of the times, of which a merge is not the slow one.
 fn first_wrong_size(alloc: Global) -> Option<usize> {
@@ -196,7 +196,7 @@ fn all_small_tables(rt: HostRuntime) {
 }
 
 /// Each kind of fault.
-pub const FAULTS: [PullFault; 3] = [
+pub const FAULTS: &[PullFault] = &[
     PullFault::Failed,
     PullFault::Damaged { at: 7 },
     PullFault::Memory,

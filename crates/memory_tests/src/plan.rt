@@ -121,7 +121,7 @@ fn first_wrong(alloc: Global, rows: &[Row]) -> Option<usize> {
 /// Times that no inner plan looks at.
 const A: Times = Some((0, 1));
 
-const INNER: [Row; 7] = [
+const INNER: &[Row] = &[
     (
         &[
             (200_000_000, false, A, None),
@@ -171,7 +171,7 @@ const INNER: [Row; 7] = [
 
 #[test]
 fn inner_plans_at_the_limits(rt: HostRuntime) {
-    let wrong = first_wrong(rt.alloc(), &INNER);
+    let wrong = first_wrong(rt.alloc(), INNER);
     assert_eq!(rt; wrong, None);
 }
 
@@ -234,7 +234,7 @@ fn digits(code: u32) -> [u32; 4] {
 }
 
 /// Numbers of files, and how many codes they have.
-const COUNTS: [(usize, u32); 5] = [(0, 1), (1, 5), (2, 25), (3, 125), (4, 625)];
+const COUNTS: &[(usize, u32)] = &[(0, 1), (1, 5), (2, 25), (3, 125), (4, 625)];
 
 /// The first of these numbers of files of which an inner plan is not the slow one. The digits of a code are the kinds.
 fn first_wrong_count(alloc: Global) -> Option<usize> {
@@ -271,7 +271,7 @@ const AROUND: Times = Some((0, 9));
 const LATE: &[File] = &[(LARGE, false, AROUND, None), (LARGE, false, AROUND, None)];
 
 // The last three late files lie between two files, at both ends of their times, and behind them.
-const BY_HULLS: [Row; 6] = [
+const BY_HULLS: &[Row] = &[
     (ONE, LATE, Wanted::Cross(Some((1, 0, 1)))),
     (ONE, &[], Wanted::Cross(None)),
     (&[], LATE, Wanted::Cross(Some((2, 0, 0)))),
@@ -294,12 +294,12 @@ const BY_HULLS: [Row; 6] = [
 
 #[test]
 fn cross_plans_by_hulls(rt: HostRuntime) {
-    let wrong = first_wrong(rt.alloc(), &BY_HULLS);
+    let wrong = first_wrong(rt.alloc(), BY_HULLS);
     assert_eq!(rt; wrong, None);
 }
 
 // The last four are at the limit of bytes, and have lengths that no sum holds.
-const BY_BYTES_AND_CLAIMS: [Row; 6] = [
+const BY_BYTES_AND_CLAIMS: &[Row] = &[
     (
         ONE,
         &[(1, false, AROUND, None), (1, true, AROUND, None)],
@@ -333,7 +333,7 @@ const BY_BYTES_AND_CLAIMS: [Row; 6] = [
 
 #[test]
 fn cross_plans_by_bytes_and_claims(rt: HostRuntime) {
-    let wrong = first_wrong(rt.alloc(), &BY_BYTES_AND_CLAIMS);
+    let wrong = first_wrong(rt.alloc(), BY_BYTES_AND_CLAIMS);
     assert_eq!(rt; wrong, None);
 }
 
@@ -428,7 +428,7 @@ fn shapes(code: u32, kind: u32) -> [File; 3] {
 
 /// How many early and late files there are, and the unit of the digits of the late ones in a code. Its lowest digit, to
 /// base 3, is the kind; then come the shapes of the early files, and then those of the late ones.
-const SMALL: [(usize, usize, u32); 2] = [(3, 2, 3 * 125), (2, 3, 3 * 25)];
+const SMALL: &[(usize, usize, u32)] = &[(3, 2, 3 * 125), (2, 3, 3 * 25)];
 
 const CODES: u32 = 3 * 125 * 25;
 
