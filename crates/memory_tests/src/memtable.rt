@@ -113,8 +113,8 @@ const PUTS: &[Put] = &[
 /// The times of these points, in order.
 const TIMES: &[Time] = &[MIN, -1, 0, 5, 19, 20, 21, 22, 25, 30, MAX];
 
-/// Ranges that are looked at and erased: all times, one end, a time with and one without a point, one that begins or
-/// ends at a point, one across the watermark, and an empty one.
+/// Ranges that are looked at and erased: an empty one, a time with and one without a point, one that begins or ends at
+/// a point, one across the watermark, one end, and last all times.
 const RANGES: &[(Time, Time)] = &[
     (25, 20),
     (23, 24),
@@ -168,19 +168,6 @@ fn slow_value((puts, erased): Slow, series: u64, time: Time) -> Option<i64> {
     }
 }
 
-/// How many points the list has in the space.
-fn slow_count(slow: Slow, space: Space) -> u64 {
-    let mut count = 0u64;
-    for series in SERIES {
-        for time in TIMES {
-            if slow_space(*time) == space && slow_value(slow, *series, *time).is_some() {
-                count = count.saturating_add(1);
-            }
-        }
-    }
-    count
-}
-
 fn is_point(found: Option<&Point>, time: Time, value: i64) -> bool {
     match found {
         Some(point) => point.time == time && matches!(point.value, Value::I64(of) if of == value),
@@ -188,13 +175,13 @@ fn is_point(found: Option<&Point>, time: Time, value: i64) -> bool {
     }
 }
 
-/// Whether the points are those of the list in this range, and no other, in order of time.
-fn is_slice(
+/// How many points the list has in this range, where these are its points there and no other, in order of time.
+fn count_alike(
     points: &[Point],
     slow: Slow,
     (space, series): (Space, u64),
     ends: (Time, Time),
-) -> bool {
+) -> Option<usize> {
     let mut count = 0usize;
     for time in TIMES {
         if is_within(*time, ends)
@@ -202,34 +189,44 @@ fn is_slice(
             && let Some(value) = slow_value(slow, series, *time)
         {
             if !is_point(points.get(count), *time, value) {
-                return false;
+                return None;
             }
             count = count.saturating_add(1);
         }
     }
-    count == points.len()
+    if count == points.len() {
+        Some(count)
+    } else {
+        None
+    }
 }
 
-/// Whether the pair answers for the space as the list does, for each series and range.
-fn answers_in(pair: &Pair, slow: Slow, space: Space) -> bool {
+/// How many points the list has in the space, where the pair has them in each range of each series.
+fn count_in(pair: &Pair, slow: Slow, space: Space) -> Option<u64> {
+    let mut total = 0u64;
     for series in SERIES {
+        let mut count = 0;
         for ends in RANGES {
             let points = pair.slice(space, SeriesId(*series), &range(*ends));
-            if !is_slice(points, slow, (space, *series), *ends) {
-                return false;
-            }
+            count = count_alike(points, slow, (space, *series), *ends)?;
         }
+        // The last range is that of all times.
+        total = total.saturating_add(count as u64);
     }
-    pair.points(space) == slow_count(slow, space)
+    if pair.points(space) == total {
+        Some(total)
+    } else {
+        None
+    }
 }
 
 /// Whether the pair answers as the list does.
 fn answers_as_list(pair: &Pair, slow: Slow) -> bool {
-    let early = slow_count(slow, Space::Sequence);
-    let late = slow_count(slow, Space::Unsequence);
-    answers_in(pair, slow, Space::Sequence)
-        && answers_in(pair, slow, Space::Unsequence)
-        && pair.bytes() == early.saturating_add(late).saturating_mul(16)
+    let early = count_in(pair, slow, Space::Sequence);
+    match (early, count_in(pair, slow, Space::Unsequence)) {
+        (Some(early), Some(late)) => pair.bytes() == early.saturating_add(late).saturating_mul(16),
+        _ => false,
+    }
 }
 
 /// Puts the point, which is the last of these, and says whether the pair then answers as the list of them does.

@@ -29,7 +29,12 @@ pub fn is_pulled(found: &Option<Point>, wanted: Pulled) -> bool {
     }
 }
 
-/// Adds the points that a table has for a source. Whether there was memory, and their times rise.
+/// Adds a source of these points. Whether their times rise, and there was memory.
+fn add_list(sources: &mut Vec<ListPoints>, points: Vec<Point>) -> bool {
+    is_rising(&points) && sources.push(ListPoints::new(points)).is_ok()
+}
+
+/// Adds the points that a table has for a source.
 fn add_source(
     alloc: Global,
     sources: &mut Vec<ListPoints>,
@@ -43,7 +48,7 @@ fn add_source(
             is_whole = points.push(point(*time, source)).is_ok() && is_whole;
         }
     }
-    is_whole && is_rising(&points) && sources.push(ListPoints::new(points)).is_ok()
+    add_list(sources, points) && is_whole
 }
 
 /// Adds so many sources.
