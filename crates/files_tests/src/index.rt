@@ -1,9 +1,9 @@
-//! Tests of tsdb_index, beside a plain slow reader. Depends on `plain_index`.
+//! Tests of tsdb_index, beside a plain slow reader. Depends on `plain_index` and `samples`.
 
 use super::plain_index;
+use super::samples::{Row, first_wrong, five};
 use std::alloc::Global;
-use std::test::Fail;
-use tsdb_base::{DataType, Encoding, List, Memory, Stats, Value};
+use tsdb_base::{DataType, Encoding, List, Memory};
 use tsdb_index::{
     FileMeta, Index, IndexEntry, IndexFault, PageEntry, read_index, write_index,
     write_leaves_and_root,
@@ -32,135 +32,102 @@ fn worked_but(place: u8, bits: u8) -> [u8; 176] {
     bytes
 }
 
-fn five() -> Stats {
-    Stats {
-        count: 1,
-        start: 1,
-        end: 1,
-        first: Value::I64(5),
-        last: Value::I64(5),
-        least: Some(Value::I64(5)),
-        greatest: Some(Value::I64(5)),
-    }
-}
-
-/// The page at 24.
-fn pages(alloc: Global) -> Result<Vec<PageEntry>, Fail> {
+/// Appends the entry of the chunk at 18, whose page stands at 24, and says whether it could.
+fn push_entry(
+    alloc: Global,
+    device: &[u8],
+    measurement: &[u8],
+    entries: &mut Vec<IndexEntry>,
+) -> bool {
     let page = PageEntry {
         place: 24,
         stats: five(),
     };
-    Ok(vec![in alloc; page]?)
+    match (
+        Path::read(alloc, device),
+        Name::read(alloc, measurement),
+        vec![in alloc; page],
+    ) {
+        (Ok(device), Ok(measurement), Ok(pages)) => {
+            let entry = IndexEntry {
+                device,
+                measurement,
+                data_type: DataType::Int64,
+                encoding: Encoding::Plain,
+                place: 18,
+                stats: five(),
+                pages: List::of(pages),
+            };
+            entries.push(entry).is_ok()
+        }
+        _ => false,
+    }
 }
 
-/// The entry of the chunk at 18, whose page stands at 24.
-fn entry(alloc: Global, device: &[u8], measurement: &[u8]) -> Result<IndexEntry, Fail> {
-    let device = Path::read(alloc, device)?;
-    let measurement = Name::read(alloc, measurement)?;
-    let pages = pages(alloc)?;
-    Ok(IndexEntry {
-        device,
-        measurement,
-        data_type: DataType::Int64,
-        encoding: Encoding::Plain,
-        place: 18,
-        stats: five(),
-        pages: List::of(pages),
-    })
+/// The last digit.
+fn digit(number: u16) -> u8 {
+    b'0' + (number % 10) as u8
+}
+
+/// `m0000`, `m0001` and on.
+fn name_of(number: u16) -> [u8; 5] {
+    [
+        b'm',
+        digit(number / 1000),
+        digit(number / 100),
+        digit(number / 10),
+        digit(number),
+    ]
+}
+
+/// The entries of an index.
+#[derive(Clone, Copy)]
+enum Entries {
+    /// With these devices and measurements.
+    Named(&'static [(&'static [u8], &'static [u8])]),
+    /// So many of one device, with the measurements `m0000`, `m0001` and on.
+    Numbered(u16),
 }
 
 /// The entry of the worked file.
-fn worked_entry(alloc: Global) -> Result<Vec<IndexEntry>, Fail> {
-    Ok(vec![in alloc; entry(alloc, b"root.g.d", b"s")?]?)
-}
+const WORKED_ENTRY: Entries = Entries::Named(&[(b"root.g.d", b"s")]);
 
-/// Entries of one device, with the measurements `m0000`, `m0001` and on.
-fn entries(alloc: Global, count: u16) -> Result<Vec<IndexEntry>, Fail> {
-    let mut entries = Vec::new(alloc);
-    for number in 0..count {
-        let name = format!(in alloc; "m{number:04}")?;
-        entries.push(entry(alloc, b"root.g.d", name.as_bytes())?)?;
+/// The index of these entries.
+fn index_of(alloc: Global, entries: Entries) -> Option<Index> {
+    let mut list = Vec::new(alloc);
+    let mut is_whole = true;
+    match entries {
+        Entries::Named(names) => {
+            for (device, measurement) in names {
+                is_whole &= push_entry(alloc, device, measurement, &mut list);
+            }
+        }
+        Entries::Numbered(count) => {
+            for number in 0..count {
+                is_whole &= push_entry(alloc, b"root.g.d", &name_of(number), &mut list);
+            }
+        }
     }
-    Ok(entries)
+    let entries = List::of(list);
+    is_whole.then_some(Index { entries })
 }
 
-/// The bytes of an index with the first leaf at `place`, and the place of the root.
-fn written_index(alloc: Global, index: &Index, place: u64) -> Result<(Vec<u8>, u64), Fail> {
+/// The bytes of the index with the first leaf at `place`, and the place of the root.
+fn written(alloc: Global, index: &Index, place: u64) -> Option<(Vec<u8>, u64)> {
     if index.entries.items().is_empty() {
-        return Err("no entries".into());
+        None
+    } else {
+        write_leaves_and_root(alloc, index, place).ok()
     }
-    Ok(write_leaves_and_root(alloc, index, place)?)
-}
-
-/// The bytes of the index of these entries with the first leaf at `place`, and the place of the root.
-fn written(alloc: Global, entries: Vec<IndexEntry>, place: u64) -> Result<(Vec<u8>, u64), Fail> {
-    let index = Index {
-        entries: List::of(entries),
-    };
-    written_index(alloc, &index, place)
 }
 
 /// What the index is written as without the place of its root.
-fn whole(alloc: Global, index: &Index, place: u64) -> Result<Result<Vec<u8>, Memory>, Fail> {
+fn whole(alloc: Global, index: &Index, place: u64) -> Option<Result<Vec<u8>, Memory>> {
     if index.entries.items().is_empty() {
-        return Err("no entries".into());
+        None
+    } else {
+        Some(write_index(alloc, index, place))
     }
-    Ok(write_index(alloc, index, place))
-}
-
-#[test]
-fn worked_index(rt: HostRuntime) -> Result<(), Fail> {
-    let alloc = rt.alloc();
-    let (bytes, root) = written(alloc, worked_entry(alloc)?, 44)?;
-    assert!(rt; bytes.as_slice() == WORKED.as_slice());
-    assert_eq!(rt; root, 194);
-    Ok(())
-}
-
-#[test]
-fn worked_meta(rt: HostRuntime) -> Result<(), Fail> {
-    let alloc = rt.alloc();
-    let index = Index {
-        entries: List::of(worked_entry(alloc)?),
-    };
-    let meta = FileMeta { size: 234, index };
-    assert_eq!(rt; meta.index.entries.items().len(), 1);
-    let bytes = whole(alloc, &meta.index, 44)??;
-    assert!(rt; bytes.as_slice() == WORKED.as_slice());
-    Ok(())
-}
-
-/// The last byte of the index would stand at 2^64.
-#[test]
-fn places_beyond_64_bits(rt: HostRuntime) -> Result<(), Fail> {
-    let index = Index {
-        entries: List::of(worked_entry(rt.alloc())?),
-    };
-    let outcome = whole(rt.alloc(), &index, u64::MAX)?;
-    assert!(rt; matches!(outcome, Err(Memory)));
-    Ok(())
-}
-
-/// Whether so many entries are written as so many leaves: a leaf takes 3 bytes and 151 for each entry, the root 5 bytes
-/// and 25 for each leaf.
-fn has_leaves(alloc: Global, count: u16, leaves: u8) -> Result<bool, Fail> {
-    let (bytes, root) = written(alloc, entries(alloc, count)?, 1000)?;
-    let size = 3 * u64::from(leaves) + 151 * u64::from(count);
-    let at = size as usize;
-    let root_start: [u8; 5] = [0x52, 0, 0, 0, leaves];
-    Ok(
-        root == 1000 + size
-            && bytes.len() as u64 == size + 5 + 25 * u64::from(leaves)
-            && bytes.get(at..at + 5) == Some(root_start.as_slice()),
-    )
-}
-
-#[test]
-fn leaves_of_256_entries(rt: HostRuntime) -> Result<(), Fail> {
-    for (count, leaves) in [(1u16, 1u8), (256, 1), (257, 2), (512, 2), (513, 3)] {
-        assert!(rt; has_leaves(rt.alloc(), count, leaves)?, "{count}");
-    }
-    Ok(())
 }
 
 /// Reads the index, if the places are such as a reader may be given; else it is out of memory.
@@ -171,126 +138,18 @@ fn read(alloc: Global, bytes: &[u8], place: u64, root: u64) -> Result<Index, Ind
     read_index(alloc, bytes, place, root)
 }
 
-/// Whether an index of so many entries is read as these.
-fn comes_back(alloc: Global, count: u16) -> Result<bool, Fail> {
-    let (bytes, root) = written(alloc, entries(alloc, count)?, 1000)?;
-    let index = read(alloc, &bytes, 1000, root)?;
-    let entries = entries(alloc, count)?;
-    Ok(index.entries.items() == entries.as_slice())
-}
-
-#[test]
-fn indexes_of_several_sizes(rt: HostRuntime) -> Result<(), Fail> {
-    for count in [1, 256, 257, 513] {
-        assert!(rt; comes_back(rt.alloc(), count)?, "{count}");
-    }
-    Ok(())
-}
-
-/// Whether the index of this read is written as these bytes.
-fn is_written_so(
-    alloc: Global,
-    found: Result<Index, IndexFault>,
-    bytes: &[u8],
-) -> Result<bool, Fail> {
-    let index = found?;
-    let (again, _root) = written_index(alloc, &index, 44)?;
-    Ok(again.as_slice() == bytes)
-}
-
 /// Whether the part at this place is bad.
 fn is_bad(found: &Result<Index, IndexFault>, place: u64) -> bool {
     matches!(found, Err(IndexFault::Bad { at }) if *at == place)
 }
 
-/// Whether the worked index with this byte inverted is read as it has to be. Places and statistics may have any bits.
-/// Every other inverted byte makes its part bad.
-fn is_read_inverted(alloc: Global, place: u8) -> Result<bool, Fail> {
-    let bytes = worked_but(place, 0xff);
-    let found = read(alloc, &bytes, 44, 194);
-    match place {
-        18..82 | 86..150 => is_written_so(alloc, found, &bytes),
-        0..150 => Ok(is_bad(&found, 44)),
-        _ => Ok(is_bad(&found, 194)),
-    }
-}
-
-#[test]
-fn inverted_bytes(rt: HostRuntime) -> Result<(), Fail> {
-    for place in 0..176u8 {
-        assert!(rt; is_read_inverted(rt.alloc(), place)?, "{place}");
-    }
-    Ok(())
-}
-
-/// Whether the leaf and a root that is cut here are bad at the root.
-fn is_bad_with_cut_root(alloc: Global, cut: usize) -> bool {
-    let end = 150usize.saturating_add(cut).min(175);
-    is_bad(&read(alloc, &WORKED[..end], 44, 194), 194)
-}
-
-/// The leaf cut here, and the root behind it.
-fn with_cut_leaf(alloc: Global, cut: usize) -> Result<Vec<u8>, Fail> {
-    let mut bytes = Vec::from_slice(alloc, &WORKED[..cut.min(150)])?;
-    bytes.extend_from_slice(&WORKED[150..])?;
-    Ok(bytes)
-}
-
-/// Whether a leaf that is cut here is bad, and without a root the root is.
-fn is_bad_with_cut_leaf(alloc: Global, cut: usize) -> Result<bool, Fail> {
-    let bytes = with_cut_leaf(alloc, cut)?;
-    let root = (cut as u64).saturating_add(44);
-    let leaf = bytes.get(..cut).unwrap_or(&[]);
-    let at = if cut == 0 { root } else { 44 };
-    let is_root_bad = is_bad(&read(alloc, leaf, 44, root), root);
-    Ok(is_root_bad && is_bad(&read(alloc, &bytes, 44, root), at))
-}
-
-/// A root that is cut is bad. So is a leaf that the root cuts.
-#[test]
-fn cut_indexes(rt: HostRuntime) -> Result<(), Fail> {
-    for cut in 0..26usize {
-        assert!(rt; is_bad_with_cut_root(rt.alloc(), cut), "{cut}");
-    }
-    for cut in 0..150usize {
-        assert!(rt; is_bad_with_cut_leaf(rt.alloc(), cut)?, "{cut}");
-    }
-    Ok(())
-}
-
-/// Whether both readers answer the same.
-fn are_same(found: &Result<Index, IndexFault>, plain: &Result<Vec<IndexEntry>, u64>) -> bool {
-    match (found, plain) {
-        (Ok(index), Ok(entries)) => index.entries.items() == entries.as_slice(),
-        (Err(IndexFault::Bad { at }), Err(wanted)) => at == wanted,
-        _ => false,
-    }
-}
-
 /// Whether the reader answers what the plain one does.
 fn agree(alloc: Global, bytes: &[u8], place: u64, root: u64) -> bool {
-    let plain = plain_index::read(alloc, bytes, place, root);
-    are_same(&read(alloc, bytes, place, root), &plain)
-}
-
-#[test]
-fn inverted_bytes_beside_the_plain_reader(rt: HostRuntime) {
-    assert!(rt; agree(rt.alloc(), &WORKED, 44, 194));
-    for place in 0..176u8 {
-        for mask in [0xffu8, 0x01, 0x80] {
-            let bytes = worked_but(place, mask);
-            assert!(rt; agree(rt.alloc(), &bytes, 44, 194), "{place} {mask}");
-        }
-    }
-}
-
-#[test]
-fn cuts_beside_the_plain_reader(rt: HostRuntime) {
-    for cut in 0..177usize {
-        let bytes = &WORKED[..cut];
-        for root in 0..=cut as u64 {
-            assert!(rt; agree(rt.alloc(), bytes, 44, 44 + root), "{cut} {root}");
-        }
+    let (entries, bad) = plain_index::read(alloc, bytes, place, root);
+    match read(alloc, bytes, place, root) {
+        Ok(index) => bad.is_none() && index.entries.items() == entries.as_slice(),
+        Err(IndexFault::Bad { at }) => bad == Some(at),
+        Err(IndexFault::Memory) => false,
     }
 }
 
@@ -321,48 +180,300 @@ fn disagree_at(alloc: Global, bytes: &mut [u8], root: u64) -> Option<usize> {
     None
 }
 
-/// Indexes of one to three leaves.
-#[test]
-fn leaves_beside_the_plain_reader(rt: HostRuntime) -> Result<(), Fail> {
-    let alloc = rt.alloc();
-    for count in [1u16, 256, 257, 513] {
-        let (mut bytes, root) = written(alloc, entries(alloc, count)?, 1000)?;
-        assert!(rt; agree(alloc, &bytes, 1000, root), "{count}");
-        let wrong = disagree_at(alloc, &mut bytes, root);
-        assert_eq!(rt; wrong, None, "{count}");
+/// What is asked of an index.
+#[derive(Clone, Copy)]
+enum Asked {
+    /// It is written as the worked bytes, with the root at 194.
+    IsWorked,
+    /// Its last byte would stand at 2^64.
+    IsTooFar,
+    /// So many entries take so many leaves.
+    HasLeaves(u16, u8),
+    /// It is read as it was.
+    ComesBack,
+    /// The readers agree, also where one byte is inverted.
+    Agrees,
+    /// It is read, or its leaf is bad.
+    IsRead(bool),
+}
+
+/// Whether these are the bytes of so many entries in so many leaves: a leaf takes 3 bytes and 151 for each entry, the
+/// root 5 bytes and 25 for each leaf.
+fn have_leaves(bytes: &[u8], root: u64, count: u16, leaves: u8) -> bool {
+    let size = 3 * u64::from(leaves) + 151 * u64::from(count);
+    let at = size as usize;
+    let root_start: [u8; 5] = [0x52, 0, 0, 0, leaves];
+    root == 1000 + size
+        && bytes.len() as u64 == size + 5 + 25 * u64::from(leaves)
+        && bytes.get(at..at + 5) == Some(root_start.as_slice())
+}
+
+/// Whether these bytes of the index, with the first leaf and the root at these places, are as asked.
+fn are_right(
+    alloc: Global,
+    bytes: &[u8],
+    (place, root): (u64, u64),
+    index: &Index,
+    asked: Asked,
+) -> bool {
+    match asked {
+        Asked::IsWorked => bytes == WORKED.as_slice() && root == 194,
+        Asked::HasLeaves(count, leaves) => have_leaves(bytes, root, count, leaves),
+        Asked::ComesBack => match read(alloc, bytes, place, root) {
+            Ok(found) => found.entries.items() == index.entries.items(),
+            Err(_) => false,
+        },
+        Asked::IsRead(true) => read(alloc, bytes, place, root).is_ok(),
+        Asked::IsRead(false) => is_bad(&read(alloc, bytes, place, root), place),
+        Asked::IsTooFar | Asked::Agrees => false,
     }
-    Ok(())
+}
+
+/// Whether the index with its first leaf at this place is as asked.
+fn is_as_asked(alloc: Global, index: &Index, place: u64, asked: Asked) -> bool {
+    match (asked, written(alloc, index, place)) {
+        (Asked::IsTooFar, None) => matches!(whole(alloc, index, place), Some(Err(Memory))),
+        (Asked::Agrees, Some((mut bytes, root))) => {
+            agree(alloc, &bytes, place, root) && disagree_at(alloc, &mut bytes, root).is_none()
+        }
+        (_, Some((bytes, root))) => are_right(alloc, &bytes, (place, root), index, asked),
+        _ => false,
+    }
+}
+
+/// Entries, the place of their first leaf, and what is asked of their index.
+impl Row for (Entries, u64, Asked) {
+    fn is_right(&self, alloc: Global) -> bool {
+        let (entries, place, asked) = *self;
+        match index_of(alloc, entries) {
+            Some(index) => is_as_asked(alloc, &index, place, asked),
+            None => false,
+        }
+    }
+}
+
+#[test]
+fn worked_index(rt: HostRuntime) {
+    let row = (WORKED_ENTRY, 44u64, Asked::IsWorked);
+    assert!(rt; row.is_right(rt.alloc()));
+}
+
+/// Whether the index of the worked file has one entry, and is written as the worked bytes.
+fn is_worked_meta(alloc: Global) -> bool {
+    match index_of(alloc, WORKED_ENTRY) {
+        Some(index) => {
+            let meta = FileMeta { size: 234, index };
+            meta.index.entries.items().len() == 1
+                && matches!(&whole(alloc, &meta.index, 44), Some(Ok(bytes)) if bytes.as_slice() == WORKED.as_slice())
+        }
+        None => false,
+    }
+}
+
+#[test]
+fn worked_meta(rt: HostRuntime) {
+    assert!(rt; is_worked_meta(rt.alloc()));
+}
+
+/// The last byte of the index would stand at 2^64.
+#[test]
+fn places_beyond_64_bits(rt: HostRuntime) {
+    let row = (WORKED_ENTRY, u64::MAX, Asked::IsTooFar);
+    assert!(rt; row.is_right(rt.alloc()));
+}
+
+const LEAVES: [(Entries, u64, Asked); 5] = [
+    (Entries::Numbered(1), 1000, Asked::HasLeaves(1, 1)),
+    (Entries::Numbered(256), 1000, Asked::HasLeaves(256, 1)),
+    (Entries::Numbered(257), 1000, Asked::HasLeaves(257, 2)),
+    (Entries::Numbered(512), 1000, Asked::HasLeaves(512, 2)),
+    (Entries::Numbered(513), 1000, Asked::HasLeaves(513, 3)),
+];
+
+#[test]
+fn leaves_of_256_entries(rt: HostRuntime) {
+    assert_eq!(rt; first_wrong(rt.alloc(), &LEAVES), None);
+}
+
+const SIZES: [(Entries, u64, Asked); 4] = [
+    (Entries::Numbered(1), 1000, Asked::ComesBack),
+    (Entries::Numbered(256), 1000, Asked::ComesBack),
+    (Entries::Numbered(257), 1000, Asked::ComesBack),
+    (Entries::Numbered(513), 1000, Asked::ComesBack),
+];
+
+#[test]
+fn indexes_of_several_sizes(rt: HostRuntime) {
+    assert_eq!(rt; first_wrong(rt.alloc(), &SIZES), None);
+}
+
+/// Indexes of one to three leaves.
+const READ_TWICE: [(Entries, u64, Asked); 4] = [
+    (Entries::Numbered(1), 1000, Asked::Agrees),
+    (Entries::Numbered(256), 1000, Asked::Agrees),
+    (Entries::Numbered(257), 1000, Asked::Agrees),
+    (Entries::Numbered(513), 1000, Asked::Agrees),
+];
+
+#[test]
+fn leaves_beside_the_plain_reader(rt: HostRuntime) {
+    assert_eq!(rt; first_wrong(rt.alloc(), &READ_TWICE), None);
 }
 
 /// Two entries with these names, and whether they are an index.
-const PAIRS: [(&str, &str, &str, &str, bool); 5] = [
-    ("root.a", "s", "root.a", "t", true),
-    ("root.a", "t", "root.b", "s", true),
-    ("root.a", "s", "root.a", "s", false),
-    ("root.a", "t", "root.a", "s", false),
-    ("root.b", "s", "root.a", "t", false),
+const PAIRS: [(Entries, u64, Asked); 5] = [
+    (
+        Entries::Named(&[(b"root.a", b"s"), (b"root.a", b"t")]),
+        7,
+        Asked::IsRead(true),
+    ),
+    (
+        Entries::Named(&[(b"root.a", b"t"), (b"root.b", b"s")]),
+        7,
+        Asked::IsRead(true),
+    ),
+    (
+        Entries::Named(&[(b"root.a", b"s"), (b"root.a", b"s")]),
+        7,
+        Asked::IsRead(false),
+    ),
+    (
+        Entries::Named(&[(b"root.a", b"t"), (b"root.a", b"s")]),
+        7,
+        Asked::IsRead(false),
+    ),
+    (
+        Entries::Named(&[(b"root.b", b"s"), (b"root.a", b"t")]),
+        7,
+        Asked::IsRead(false),
+    ),
 ];
 
-/// Whether two entries with these names are an index.
-fn are_index(alloc: Global, first: (&str, &str), next: (&str, &str)) -> Result<bool, Fail> {
-    let first = entry(alloc, first.0.as_bytes(), first.1.as_bytes())?;
-    let next = entry(alloc, next.0.as_bytes(), next.1.as_bytes())?;
-    let (bytes, root) = written(alloc, vec![in alloc; first, next]?, 7)?;
-    let found = read(alloc, &bytes, 7, root);
-    if found.is_ok() {
-        return Ok(true);
+#[test]
+fn entries_that_do_not_rise(rt: HostRuntime) {
+    assert_eq!(rt; first_wrong(rt.alloc(), &PAIRS), None);
+}
+
+/// Whether the index of this read is written as these bytes.
+fn is_written_so(alloc: Global, found: &Result<Index, IndexFault>, bytes: &[u8]) -> bool {
+    match found {
+        Ok(index) => match written(alloc, index, 44) {
+            Some((again, _root)) => again.as_slice() == bytes,
+            None => false,
+        },
+        Err(_) => false,
     }
-    if !is_bad(&found, 7) {
-        return Err("another fault".into());
+}
+
+/// Whether the worked index with this byte inverted is read as it has to be. Places and statistics may have any bits.
+/// Every other inverted byte makes its part bad.
+fn is_read_inverted(alloc: Global, place: u8) -> bool {
+    let bytes = worked_but(place, 0xff);
+    let found = read(alloc, &bytes, 44, 194);
+    match place {
+        18..82 | 86..150 => is_written_so(alloc, &found, &bytes),
+        0..150 => is_bad(&found, 44),
+        _ => is_bad(&found, 194),
     }
-    Ok(false)
+}
+
+/// Whether a leaf that is cut here is bad, and without a root the root is.
+fn is_bad_with_cut_leaf(alloc: Global, cut: usize) -> bool {
+    let leaf = &WORKED[..cut.min(150)];
+    let root = (leaf.len() as u64).saturating_add(44);
+    let at = if leaf.is_empty() { root } else { 44 };
+    match Vec::from_slice(alloc, leaf) {
+        Ok(mut bytes) => {
+            let has_root = bytes.extend_from_slice(&WORKED[150..]).is_ok();
+            has_root
+                && is_bad(&read(alloc, &bytes, 44, root), at)
+                && is_bad(&read(alloc, leaf, 44, root), root)
+        }
+        Err(_) => false,
+    }
+}
+
+/// Whether the worked index is bad whose leaf is cut here, or whose root is.
+fn is_bad_with_cut(alloc: Global, cut: u8) -> bool {
+    match cut {
+        0..150 => is_bad_with_cut_leaf(alloc, usize::from(cut)),
+        _ => is_bad(
+            &read(alloc, &WORKED[..usize::from(cut).min(175)], 44, 194),
+            194,
+        ),
+    }
+}
+
+/// Whether the readers agree on the worked index with these bits of the byte at this place inverted.
+fn agree_but(alloc: Global, place: u8, bits: u8) -> bool {
+    agree(alloc, &worked_but(place, bits), 44, 194)
+}
+
+/// Whether the readers agree on the worked index that ends here, with the root at each place.
+fn agree_with_cut(alloc: Global, cut: u8) -> bool {
+    let bytes = &WORKED[..usize::from(cut).min(176)];
+    for root in 44..=u64::from(cut) + 44 {
+        if !agree(alloc, bytes, 44, root) {
+            return false;
+        }
+    }
+    true
+}
+
+/// What is asked of the worked index at each of its places.
+#[derive(Clone, Copy)]
+enum Harm {
+    Inverted,
+    Cut,
+    InvertedBeside,
+    CutBeside,
+}
+
+/// Whether the worked index that is harmed at this place is read as it has to be.
+fn is_harmed(alloc: Global, harm: Harm, place: u8) -> bool {
+    match harm {
+        Harm::Inverted => is_read_inverted(alloc, place),
+        Harm::Cut => is_bad_with_cut(alloc, place),
+        Harm::InvertedBeside => {
+            agree_but(alloc, place, 0xff)
+                && agree_but(alloc, place, 0x01)
+                && agree_but(alloc, place, 0x80)
+        }
+        Harm::CutBeside => agree_with_cut(alloc, place),
+    }
+}
+
+/// The first place before this one where it is not.
+fn first_wrong_place(alloc: Global, harm: Harm, end: u8) -> Option<u8> {
+    for place in 0..end {
+        if !is_harmed(alloc, harm, place) {
+            return Some(place);
+        }
+    }
+    None
 }
 
 #[test]
-fn entries_that_do_not_rise(rt: HostRuntime) -> Result<(), Fail> {
-    for (device, name, next_device, next, wanted) in PAIRS {
-        let found = are_index(rt.alloc(), (device, name), (next_device, next))?;
-        assert!(rt; found == wanted, "{device} {name} {next_device} {next}");
-    }
-    Ok(())
+fn inverted_bytes(rt: HostRuntime) {
+    assert_eq!(rt; first_wrong_place(rt.alloc(), Harm::Inverted, 176), None);
+}
+
+/// A root that is cut is bad. So is a leaf that the root cuts.
+#[test]
+fn cut_indexes(rt: HostRuntime) {
+    assert_eq!(rt; first_wrong_place(rt.alloc(), Harm::Cut, 176), None);
+}
+
+/// Of the 176 bytes none is at the last place.
+#[test]
+fn inverted_bytes_beside_the_plain_reader(rt: HostRuntime) {
+    assert_eq!(rt;
+        first_wrong_place(rt.alloc(), Harm::InvertedBeside, 177),
+        None
+    );
+}
+
+#[test]
+fn cuts_beside_the_plain_reader(rt: HostRuntime) {
+    assert_eq!(rt; first_wrong_place(rt.alloc(), Harm::CutBeside, 177), None);
 }

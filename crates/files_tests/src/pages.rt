@@ -1,9 +1,8 @@
-//! Tests of tsdb_pages.
+//! Tests of tsdb_pages. Depends on `samples`.
 
-use super::samples::{ENCODINGS, TYPES};
+use super::samples::{Row, Sample, first_wrong, points};
 use std::alloc::Global;
-use std::test::Fail;
-use tsdb_base::{DataType, Encoding, List, Point, Text, Value, suits};
+use tsdb_base::{DataType, Encoding, List, Point, Value, suits};
 use tsdb_pages::{Chunk, Group, Page, PageFault, Tree, are_points, is_tree, read_page, write_page};
 use tsdb_path::{Name, Path};
 
@@ -16,99 +15,131 @@ fn write(
     points: &[Point],
     data_type: DataType,
     encoding: Encoding,
-) -> Result<Vec<u8>, Fail> {
-    if !suits(data_type, encoding) || !are_points(points, data_type) {
-        return Err("no page".into());
+) -> Option<Vec<u8>> {
+    if suits(data_type, encoding) && are_points(points, data_type) {
+        write_page(alloc, points, data_type, encoding).ok()
+    } else {
+        None
     }
-    Ok(write_page(alloc, points, data_type, encoding)?)
 }
 
-/// The value of the point with this number.
-fn value(alloc: Global, data_type: DataType, number: u16) -> Result<Value, Fail> {
-    Ok(match data_type {
-        DataType::Boolean => Value::Bool(number % 3 == 0),
-        DataType::Int32 => Value::I32(i32::from(number % 7) - 3),
-        DataType::Int64 => Value::I64(i64::MIN + i64::from(number % 7)),
-        DataType::Text => Value::Text(Text::new(alloc, &[(number % 5) as u8])?),
-    })
-}
-
-/// Points at the times 0, 10 and on.
-fn points(alloc: Global, data_type: DataType, count: u16) -> Result<Vec<Point>, Fail> {
-    let mut points = Vec::new(alloc);
-    for number in 0..count {
-        let value = value(alloc, data_type, number)?;
-        let time = 10 * i64::from(number);
-        points.push(Point { time, value })?;
+/// Whether the body is read as these points.
+fn is_read_as(
+    alloc: Global,
+    body: &[u8],
+    points: &[Point],
+    data_type: DataType,
+    encoding: Encoding,
+) -> bool {
+    match read_page(alloc, body, data_type, encoding) {
+        Ok(read) => read.as_slice() == points,
+        Err(_) => false,
     }
-    Ok(points)
 }
 
-#[test]
-fn worked_page(rt: HostRuntime) -> Result<(), Fail> {
-    let alloc = rt.alloc();
+/// Whether the point 1, 5 is written as the worked body, and read from it.
+fn is_worked(alloc: Global) -> bool {
     let points = [Point {
         time: 1,
         value: Value::I64(5),
     }];
-    let body = write(alloc, &points, DataType::Int64, Encoding::Plain)?;
-    assert!(rt; body.as_slice() == WORKED_BODY.as_slice());
-    let read = read_page(alloc, &WORKED_BODY, DataType::Int64, Encoding::Plain)?;
-    assert!(rt; read.as_slice() == points.as_slice());
-    Ok(())
+    match write(alloc, &points, DataType::Int64, Encoding::Plain) {
+        Some(body) => {
+            body.as_slice() == WORKED_BODY.as_slice()
+                && is_read_as(
+                    alloc,
+                    &WORKED_BODY,
+                    &points,
+                    DataType::Int64,
+                    Encoding::Plain,
+                )
+        }
+        None => false,
+    }
+}
+
+#[test]
+fn worked_page(rt: HostRuntime) {
+    assert!(rt; is_worked(rt.alloc()));
+}
+
+/// Whether the points are written as a page, and read from it.
+fn are_page(alloc: Global, points: &[Point], data_type: DataType, encoding: Encoding) -> bool {
+    match write(alloc, points, data_type, encoding) {
+        Some(body) => is_read_as(alloc, &body, points, data_type, encoding),
+        None => false,
+    }
 }
 
 /// Whether a page of so many points comes back.
-fn comes_back(
-    alloc: Global,
-    data_type: DataType,
-    encoding: Encoding,
-    count: u16,
-) -> Result<bool, Fail> {
-    let points = points(alloc, data_type, count)?;
-    let body = write(alloc, &points, data_type, encoding)?;
-    if !suits(data_type, encoding) {
-        return Err("no page".into());
+fn comes_back(alloc: Global, data_type: DataType, encoding: Encoding, count: u16) -> bool {
+    match points(alloc, Sample::Repeated(data_type), count) {
+        Some(points) => are_page(alloc, &points, data_type, encoding),
+        None => false,
     }
-    let read = read_page(alloc, &body, data_type, encoding)?;
-    Ok(read == points)
 }
 
-/// The first size of a page that does not come back.
-fn wrong_size(alloc: Global, data_type: DataType, encoding: Encoding) -> Result<Option<u16>, Fail> {
-    for count in [1, 2, 1000] {
-        if !comes_back(alloc, data_type, encoding, count)? {
-            return Ok(Some(count));
+/// A type and an encoding, and whether it suits the type, so that pages come back.
+impl Row for (DataType, Encoding, bool) {
+    fn is_right(&self, alloc: Global) -> bool {
+        let (data_type, encoding, is_suiting) = *self;
+        if is_suiting {
+            comes_back(alloc, data_type, encoding, 1)
+                && comes_back(alloc, data_type, encoding, 2)
+                && comes_back(alloc, data_type, encoding, 1000)
+        } else {
+            !suits(data_type, encoding)
         }
     }
-    Ok(None)
 }
 
-/// Ten pairs of type and encoding suit, and in each a page comes back.
+/// Ten pairs of type and encoding suit.
+const PAIRS: [(DataType, Encoding, bool); 16] = [
+    (DataType::Boolean, Encoding::Plain, true),
+    (DataType::Boolean, Encoding::Dictionary, false),
+    (DataType::Boolean, Encoding::Rle, true),
+    (DataType::Boolean, Encoding::Ts2diff, false),
+    (DataType::Int32, Encoding::Plain, true),
+    (DataType::Int32, Encoding::Dictionary, false),
+    (DataType::Int32, Encoding::Rle, true),
+    (DataType::Int32, Encoding::Ts2diff, true),
+    (DataType::Int64, Encoding::Plain, true),
+    (DataType::Int64, Encoding::Dictionary, false),
+    (DataType::Int64, Encoding::Rle, true),
+    (DataType::Int64, Encoding::Ts2diff, true),
+    (DataType::Text, Encoding::Plain, true),
+    (DataType::Text, Encoding::Dictionary, true),
+    (DataType::Text, Encoding::Rle, false),
+    (DataType::Text, Encoding::Ts2diff, false),
+];
+
 #[test]
-fn round_trips(rt: HostRuntime) -> Result<(), Fail> {
-    let mut pairs = 0u64;
-    for data_type in TYPES {
-        for encoding in ENCODINGS {
-            if suits(data_type, encoding) {
-                pairs = pairs.wrapping_add(1);
-                let wrong = wrong_size(rt.alloc(), data_type, encoding)?;
-                assert!(rt; wrong.is_none(), "{data_type:?} {encoding:?} {wrong:?}");
-            }
+fn round_trips(rt: HostRuntime) {
+    assert_eq!(rt; first_wrong(rt.alloc(), &PAIRS), None);
+}
+
+/// Points of a type, of which no page has so many.
+impl Row for (DataType, u16) {
+    fn is_right(&self, alloc: Global) -> bool {
+        let (data_type, count) = *self;
+        match points(alloc, Sample::Repeated(data_type), count) {
+            Some(points) => !are_points(&points, data_type),
+            None => false,
         }
     }
-    assert_eq!(rt; pairs, 10);
-    Ok(())
 }
+
+const TOO_MANY: [(DataType, u16); 4] = [
+    (DataType::Boolean, 1001),
+    (DataType::Int32, 1001),
+    (DataType::Int64, 1001),
+    (DataType::Text, 1001),
+];
 
 /// No page has 1,001 points.
 #[test]
-fn too_many_points(rt: HostRuntime) -> Result<(), Fail> {
-    for data_type in TYPES {
-        let many = points(rt.alloc(), data_type, 1001)?;
-        assert!(rt; !are_points(&many, data_type));
-    }
-    Ok(())
+fn too_many_points(rt: HostRuntime) {
+    assert_eq!(rt; first_wrong(rt.alloc(), &TOO_MANY), None);
 }
 
 /// Why bodies of INT64 PLAIN are refused, and which.
@@ -131,182 +162,171 @@ const REFUSED: [(&str, &[u8]); 6] = [
 ];
 
 /// Whether no page has this body.
-fn is_refused(alloc: Global, body: &[u8]) -> bool {
-    let read = read_page(alloc, body, DataType::Int64, Encoding::Plain);
-    matches!(read, Err(PageFault::Bad))
+fn is_refused(alloc: Global, body: &[u8], data_type: DataType, encoding: Encoding) -> bool {
+    matches!(
+        read_page(alloc, body, data_type, encoding),
+        Err(PageFault::Bad)
+    )
+}
+
+impl Row for (&'static str, &'static [u8]) {
+    fn is_right(&self, alloc: Global) -> bool {
+        is_refused(alloc, self.1, DataType::Int64, Encoding::Plain)
+    }
 }
 
 #[test]
 fn refused_bodies(rt: HostRuntime) {
-    for (why, body) in REFUSED {
-        assert!(rt; is_refused(rt.alloc(), body), "{why}");
-    }
+    assert_eq!(rt; first_wrong(rt.alloc(), &REFUSED), None);
 }
 
 /// Runs suit no texts, so no page of texts is written in runs.
 #[test]
 fn texts_in_runs_are_refused(rt: HostRuntime) {
-    let read = read_page(rt.alloc(), &WORKED_BODY, DataType::Text, Encoding::Rle);
-    assert!(rt; matches!(read, Err(PageFault::Bad)));
-}
-
-/// Points 5 at these times, each in a page of its own.
-fn chunk_at(
-    alloc: Global,
-    measurement: &[u8],
-    encoding: Encoding,
-    times: &[i64],
-) -> Result<Chunk, Fail> {
-    let mut pages = Vec::new(alloc);
-    for time in times {
-        pages.push(page_at(alloc, *time)?)?;
-    }
-    Ok(Chunk {
-        measurement: Name::read(alloc, measurement)?,
-        data_type: DataType::Int64,
-        encoding,
-        pages: List::of(pages),
-    })
-}
-
-/// The page of the one point 5 at this time.
-fn page_at(alloc: Global, time: i64) -> Result<Page, Fail> {
-    let value = Value::I64(5);
-    let points = vec![in alloc; Point { time, value }]?;
-    Ok(Page {
-        points: List::of(points),
-    })
-}
-
-/// A group with a chunk for each measurement, with these times.
-fn group_at(
-    alloc: Global,
-    device: &[u8],
-    measurements: &[&[u8]],
-    encoding: Encoding,
-    times: &[i64],
-) -> Result<Group, Fail> {
-    let mut chunks = Vec::new(alloc);
-    for measurement in measurements {
-        chunks.push(chunk_at(alloc, measurement, encoding, times)?)?;
-    }
-    Ok(Group {
-        device: Path::read(alloc, device)?,
-        chunks: List::of(chunks),
-    })
+    assert!(rt; is_refused(rt.alloc(), &WORKED_BODY, DataType::Text, Encoding::Rle));
 }
 
 /// Devices, each with these measurements in this encoding, each with pages of one point at these times.
 #[derive(Clone, Copy)]
 struct Form {
+    /// Why these are no tree, or nothing where they are one.
+    why: &'static str,
     devices: &'static [&'static [u8]],
     measurements: &'static [&'static [u8]],
     encoding: Encoding,
     times: &'static [i64],
 }
 
-/// The tree of this form.
-fn tree_of(alloc: Global, form: Form) -> Result<Tree, Fail> {
-    let mut groups = Vec::new(alloc);
-    for device in form.devices {
-        let group = group_at(alloc, device, form.measurements, form.encoding, form.times)?;
-        groups.push(group)?;
+/// Appends the page of the one point 5 at this time, and says whether it could.
+fn push_page(alloc: Global, time: i64, pages: &mut Vec<Page>) -> bool {
+    let value = Value::I64(5);
+    match vec![in alloc; Point { time, value }] {
+        Ok(points) => {
+            let points = List::of(points);
+            pages.push(Page { points }).is_ok()
+        }
+        Err(_) => false,
     }
-    Ok(Tree {
-        groups: List::of(groups),
-    })
 }
 
-/// Why trees are refused, or nothing for the first, which is one; and their forms.
-const FORMS: [(&str, Form); 9] = [
-    (
-        "",
-        Form {
-            devices: &[b"root.a", b"root.b"],
-            measurements: &[b"s", b"t"],
-            encoding: Encoding::Plain,
-            times: &[1, 2],
-        },
-    ),
-    (
-        "no device",
-        Form {
-            devices: &[],
-            measurements: &[b"s"],
-            encoding: Encoding::Plain,
-            times: &[1],
-        },
-    ),
-    (
-        "no measurement",
-        Form {
-            devices: &[b"root.a"],
-            measurements: &[],
-            encoding: Encoding::Plain,
-            times: &[1],
-        },
-    ),
-    (
-        "no time",
-        Form {
-            devices: &[b"root.a"],
-            measurements: &[b"s"],
-            encoding: Encoding::Plain,
-            times: &[],
-        },
-    ),
-    (
-        "devices that fall",
-        Form {
-            devices: &[b"root.b", b"root.a"],
-            measurements: &[b"s"],
-            encoding: Encoding::Plain,
-            times: &[1],
-        },
-    ),
-    (
-        "measurements that fall",
-        Form {
-            devices: &[b"root.a"],
-            measurements: &[b"t", b"s"],
-            encoding: Encoding::Plain,
-            times: &[1],
-        },
-    ),
-    (
-        "a measurement twice",
-        Form {
-            devices: &[b"root.a"],
-            measurements: &[b"s", b"s"],
-            encoding: Encoding::Plain,
-            times: &[1],
-        },
-    ),
-    (
-        "times that stand still",
-        Form {
-            devices: &[b"root.a"],
-            measurements: &[b"s"],
-            encoding: Encoding::Plain,
-            times: &[1, 1],
-        },
-    ),
-    (
-        "an encoding that does not suit",
-        Form {
-            devices: &[b"root.a"],
-            measurements: &[b"s"],
-            encoding: Encoding::Dictionary,
-            times: &[1],
-        },
-    ),
+impl Form {
+    /// Appends the chunk of this measurement, and says whether it could.
+    fn push_chunk(&self, alloc: Global, measurement: &[u8], chunks: &mut Vec<Chunk>) -> bool {
+        let mut pages = Vec::new(alloc);
+        let mut is_whole = true;
+        for time in self.times {
+            is_whole &= push_page(alloc, *time, &mut pages);
+        }
+        match Name::read(alloc, measurement) {
+            Ok(measurement) => {
+                let chunk = Chunk {
+                    measurement,
+                    data_type: DataType::Int64,
+                    encoding: self.encoding,
+                    pages: List::of(pages),
+                };
+                chunks.push(chunk).is_ok() && is_whole
+            }
+            Err(_) => false,
+        }
+    }
+
+    /// Appends the group of this device, and says whether it could.
+    fn push_group(&self, alloc: Global, device: &[u8], groups: &mut Vec<Group>) -> bool {
+        let mut chunks = Vec::new(alloc);
+        let mut is_whole = true;
+        for measurement in self.measurements {
+            is_whole &= self.push_chunk(alloc, measurement, &mut chunks);
+        }
+        match Path::read(alloc, device) {
+            Ok(device) => {
+                let chunks = List::of(chunks);
+                groups.push(Group { device, chunks }).is_ok() && is_whole
+            }
+            Err(_) => false,
+        }
+    }
+}
+
+impl Row for Form {
+    fn is_right(&self, alloc: Global) -> bool {
+        let mut groups = Vec::new(alloc);
+        let mut is_whole = true;
+        for device in self.devices {
+            is_whole &= self.push_group(alloc, device, &mut groups);
+        }
+        let groups = List::of(groups);
+        is_tree(&Tree { groups }) == self.why.is_empty() && is_whole
+    }
+}
+
+const FORMS: [Form; 9] = [
+    Form {
+        why: "",
+        devices: &[b"root.a", b"root.b"],
+        measurements: &[b"s", b"t"],
+        encoding: Encoding::Plain,
+        times: &[1, 2],
+    },
+    Form {
+        why: "no device",
+        devices: &[],
+        measurements: &[b"s"],
+        encoding: Encoding::Plain,
+        times: &[1],
+    },
+    Form {
+        why: "no measurement",
+        devices: &[b"root.a"],
+        measurements: &[],
+        encoding: Encoding::Plain,
+        times: &[1],
+    },
+    Form {
+        why: "no time",
+        devices: &[b"root.a"],
+        measurements: &[b"s"],
+        encoding: Encoding::Plain,
+        times: &[],
+    },
+    Form {
+        why: "devices that fall",
+        devices: &[b"root.b", b"root.a"],
+        measurements: &[b"s"],
+        encoding: Encoding::Plain,
+        times: &[1],
+    },
+    Form {
+        why: "measurements that fall",
+        devices: &[b"root.a"],
+        measurements: &[b"t", b"s"],
+        encoding: Encoding::Plain,
+        times: &[1],
+    },
+    Form {
+        why: "a measurement twice",
+        devices: &[b"root.a"],
+        measurements: &[b"s", b"s"],
+        encoding: Encoding::Plain,
+        times: &[1],
+    },
+    Form {
+        why: "times that stand still",
+        devices: &[b"root.a"],
+        measurements: &[b"s"],
+        encoding: Encoding::Plain,
+        times: &[1, 1],
+    },
+    Form {
+        why: "an encoding that does not suit",
+        devices: &[b"root.a"],
+        measurements: &[b"s"],
+        encoding: Encoding::Dictionary,
+        times: &[1],
+    },
 ];
 
 #[test]
-fn trees(rt: HostRuntime) -> Result<(), Fail> {
-    for (why, form) in FORMS {
-        let tree = tree_of(rt.alloc(), form)?;
-        assert!(rt; is_tree(&tree) == why.is_empty(), "{why}");
-    }
-    Ok(())
+fn trees(rt: HostRuntime) {
+    assert_eq!(rt; first_wrong(rt.alloc(), &FORMS), None);
 }

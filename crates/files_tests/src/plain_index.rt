@@ -6,217 +6,227 @@ use tsdb_base::{DataType, Encoding, List, Stats, Text, Value, suits};
 use tsdb_index::{IndexEntry, PageEntry, Pointer};
 use tsdb_path::{Name, Path};
 
-/// What is left of some bytes.
+/// What is left of some bytes. Where a field is missing or none, that is noted, and the field is taken as any one.
 #[derive(Drop)]
 struct Left<'a> {
+    alloc: Global,
     bytes: &'a [u8],
+    is_bad: bool,
 }
 
 impl<'a> Left<'a> {
+    fn of(alloc: Global, bytes: &'a [u8]) -> Left<'a> {
+        Left {
+            alloc,
+            bytes,
+            is_bad: false,
+        }
+    }
+
     /// The next `N` bytes.
-    fn part<const N: usize>(&mut self) -> Option<[u8; N]> {
-        let (part, behind) = self.bytes.split_first_chunk::<N>()?;
-        self.bytes = behind;
-        Some(*part)
+    fn part<const N: usize>(&mut self) -> [u8; N] {
+        match self.bytes.split_first_chunk::<N>() {
+            Some((part, behind)) => {
+                self.bytes = behind;
+                *part
+            }
+            None => {
+                self.is_bad = true;
+                [0; N]
+            }
+        }
+    }
+
+    /// The next byte, which is this.
+    fn mark(&mut self, mark: u8) {
+        if self.part() != [mark] {
+            self.is_bad = true;
+        }
     }
 
     /// The next number of eight bytes.
-    fn number(&mut self) -> Option<u64> {
-        Some(u64::from_be_bytes(self.part()?))
+    fn number(&mut self) -> u64 {
+        u64::from_be_bytes(self.part())
+    }
+
+    /// The next signed number of eight bytes.
+    fn signed(&mut self) -> i64 {
+        i64::from_be_bytes(self.part())
     }
 
     /// The bytes behind their length.
-    fn text(&mut self) -> Option<&'a [u8]> {
-        let length = u16::from_be_bytes(self.part()?);
-        let (text, behind) = self.bytes.split_at_checked(usize::from(length))?;
-        self.bytes = behind;
-        Some(text)
+    fn text(&mut self) -> &'a [u8] {
+        let length = u16::from_be_bytes(self.part());
+        match self.bytes.split_at_checked(usize::from(length)) {
+            Some((text, behind)) => {
+                self.bytes = behind;
+                text
+            }
+            None => {
+                self.is_bad = true;
+                &[]
+            }
+        }
     }
-}
 
-fn data_type(byte: [u8; 1]) -> Option<DataType> {
-    match byte {
-        [0] => Some(DataType::Boolean),
-        [1] => Some(DataType::Int32),
-        [2] => Some(DataType::Int64),
-        [5] => Some(DataType::Text),
-        _ => None,
+    fn data_type(&mut self) -> DataType {
+        match self.part::<1>() {
+            [0] => DataType::Boolean,
+            [1] => DataType::Int32,
+            [2] => DataType::Int64,
+            [5] => DataType::Text,
+            _ => {
+                self.is_bad = true;
+                DataType::Boolean
+            }
+        }
     }
-}
 
-fn encoding(byte: [u8; 1]) -> Option<Encoding> {
-    match byte {
-        [0] => Some(Encoding::Plain),
-        [1] => Some(Encoding::Dictionary),
-        [2] => Some(Encoding::Rle),
-        [4] => Some(Encoding::Ts2diff),
-        _ => None,
+    /// The encoding, which suits the type.
+    fn encoding(&mut self, data_type: DataType) -> Encoding {
+        let encoding = match self.part::<1>() {
+            [0] => Encoding::Plain,
+            [1] => Encoding::Dictionary,
+            [2] => Encoding::Rle,
+            [4] => Encoding::Ts2diff,
+            _ => {
+                self.is_bad = true;
+                Encoding::Plain
+            }
+        };
+        if !suits(data_type, encoding) {
+            self.is_bad = true;
+        }
+        encoding
     }
-}
 
-fn truth(byte: [u8; 1]) -> Option<bool> {
-    match byte {
-        [0] => Some(false),
-        [1] => Some(true),
-        _ => None,
+    fn truth(&mut self) -> bool {
+        match self.part::<1>() {
+            [0] => false,
+            [1] => true,
+            _ => {
+                self.is_bad = true;
+                false
+            }
+        }
     }
-}
 
-fn value(alloc: Global, data_type: DataType, left: &mut Left<'_>) -> Option<Value> {
-    Some(match data_type {
-        DataType::Boolean => Value::Bool(truth(left.part()?)?),
-        DataType::Int32 => Value::I32(i32::from_be_bytes(left.part()?)),
-        DataType::Int64 => Value::I64(i64::from_be_bytes(left.part()?)),
-        DataType::Text => Value::Text(Text::new(alloc, left.text()?).ok()?),
-    })
-}
-
-fn values(alloc: Global, data_type: DataType, left: &mut Left<'_>) -> Option<(Value, Value)> {
-    let first = value(alloc, data_type, left)?;
-    Some((first, value(alloc, data_type, left)?))
-}
-
-/// The least and the greatest value, which numbers have.
-fn extremes(
-    alloc: Global,
-    data_type: DataType,
-    left: &mut Left<'_>,
-) -> Option<(Option<Value>, Option<Value>)> {
-    if data_type == DataType::Boolean || data_type == DataType::Text {
-        return Some((None, None));
+    fn value(&mut self, data_type: DataType) -> Value {
+        match data_type {
+            DataType::Boolean => Value::Bool(self.truth()),
+            DataType::Int32 => Value::I32(i32::from_be_bytes(self.part())),
+            DataType::Int64 => Value::I64(self.signed()),
+            DataType::Text => match Text::new(self.alloc, self.text()) {
+                Ok(text) => Value::Text(text),
+                Err(_) => {
+                    self.is_bad = true;
+                    Value::Bool(false)
+                }
+            },
+        }
     }
-    let (least, greatest) = values(alloc, data_type, left)?;
-    Some((Some(least), Some(greatest)))
-}
 
-fn stats(alloc: Global, data_type: DataType, left: &mut Left<'_>) -> Option<Stats> {
-    let count = left.number()?;
-    let start = i64::from_be_bytes(left.part()?);
-    let end = i64::from_be_bytes(left.part()?);
-    let (first, last) = values(alloc, data_type, left)?;
-    let (least, greatest) = extremes(alloc, data_type, left)?;
-    Some(Stats {
-        count,
-        start,
-        end,
-        first,
-        last,
-        least,
-        greatest,
-    })
-}
-
-fn page(alloc: Global, data_type: DataType, left: &mut Left<'_>) -> Option<PageEntry> {
-    let place = left.number()?;
-    let stats = stats(alloc, data_type, left)?;
-    Some(PageEntry { place, stats })
-}
-
-fn pages(alloc: Global, data_type: DataType, left: &mut Left<'_>) -> Option<Vec<PageEntry>> {
-    let mut pages = Vec::new(alloc);
-    for _ in 0..u32::from_be_bytes(left.part()?) {
-        pages.push(page(alloc, data_type, left)?).ok()?;
+    /// The least or the greatest value, which numbers have.
+    fn extreme(&mut self, data_type: DataType) -> Option<Value> {
+        match data_type {
+            DataType::Boolean | DataType::Text => None,
+            DataType::Int32 | DataType::Int64 => Some(self.value(data_type)),
+        }
     }
-    Some(pages)
-}
 
-fn names(alloc: Global, left: &mut Left<'_>) -> Option<(Path, Name)> {
-    let device = Path::read(alloc, left.text()?).ok()?;
-    let measurement = Name::read(alloc, left.text()?).ok()?;
-    Some((device, measurement))
-}
-
-/// The type and the encoding, which suits it.
-fn kind(left: &mut Left<'_>) -> Option<(DataType, Encoding)> {
-    let data_type = data_type(left.part()?)?;
-    let encoding = encoding(left.part()?)?;
-    if suits(data_type, encoding) {
-        Some((data_type, encoding))
-    } else {
-        None
+    fn stats(&mut self, data_type: DataType) -> Stats {
+        Stats {
+            count: self.number(),
+            start: self.signed(),
+            end: self.signed(),
+            first: self.value(data_type),
+            last: self.value(data_type),
+            least: self.extreme(data_type),
+            greatest: self.extreme(data_type),
+        }
     }
-}
 
-/// The statistics of the chunk and its pages.
-fn contents(
-    alloc: Global,
-    data_type: DataType,
-    left: &mut Left<'_>,
-) -> Option<(Stats, Vec<PageEntry>)> {
-    let stats = stats(alloc, data_type, left)?;
-    let pages = pages(alloc, data_type, left)?;
-    Some((stats, pages))
-}
-
-fn entry(alloc: Global, left: &mut Left<'_>) -> Option<IndexEntry> {
-    let (device, measurement) = names(alloc, left)?;
-    let (data_type, encoding) = kind(left)?;
-    let place = left.number()?;
-    let (stats, pages) = contents(alloc, data_type, left)?;
-    Some(IndexEntry {
-        device,
-        measurement,
-        data_type,
-        encoding,
-        place,
-        stats,
-        pages: List::of(pages),
-    })
-}
-
-fn entries(alloc: Global, count: u16, left: &mut Left<'_>) -> Option<Vec<IndexEntry>> {
-    let mut entries = Vec::new(alloc);
-    for _ in 0..count {
-        entries.push(entry(alloc, left)?).ok()?;
+    fn page(&mut self, data_type: DataType) -> PageEntry {
+        PageEntry {
+            place: self.number(),
+            stats: self.stats(data_type),
+        }
     }
-    Some(entries)
-}
 
-/// The entries of the leaf that all of these bytes are.
-fn leaf(alloc: Global, bytes: &[u8]) -> Option<Vec<IndexEntry>> {
-    let mut left = Left { bytes };
-    if left.part()? != [0x49] {
-        return None;
+    /// The pages behind their number.
+    fn pages(&mut self, data_type: DataType) -> Vec<PageEntry> {
+        let mut pages = Vec::new(self.alloc);
+        for _ in 0..u32::from_be_bytes(self.part()) {
+            if self.is_bad {
+                break;
+            }
+            let page = self.page(data_type);
+            self.is_bad |= pages.push(page).is_err();
+        }
+        pages
     }
-    let count = u16::from_be_bytes(left.part()?);
-    let entries = entries(alloc, count, &mut left)?;
-    if left.bytes.is_empty() {
-        Some(entries)
-    } else {
-        None
-    }
-}
 
-fn pointer(alloc: Global, left: &mut Left<'_>) -> Option<Pointer> {
-    let (device, measurement) = names(alloc, left)?;
-    let place = left.number()?;
-    Some(Pointer {
-        device,
-        measurement,
-        place,
-    })
-}
-
-fn pointers(alloc: Global, count: u32, left: &mut Left<'_>) -> Option<Vec<Pointer>> {
-    let mut pointers = Vec::new(alloc);
-    for _ in 0..count {
-        pointers.push(pointer(alloc, left)?).ok()?;
+    /// An entry, if it has names.
+    fn entry(&mut self) -> Option<IndexEntry> {
+        let device = Path::read(self.alloc, self.text()).ok()?;
+        let measurement = Name::read(self.alloc, self.text()).ok()?;
+        let data_type = self.data_type();
+        Some(IndexEntry {
+            device,
+            measurement,
+            data_type,
+            encoding: self.encoding(data_type),
+            place: self.number(),
+            stats: self.stats(data_type),
+            pages: List::of(self.pages(data_type)),
+        })
     }
-    Some(pointers)
-}
 
-/// The pointers of the root that all of these bytes are.
-fn root(alloc: Global, bytes: &[u8]) -> Option<Vec<Pointer>> {
-    let mut left = Left { bytes };
-    if left.part()? != [0x52] {
-        return None;
+    /// The entries behind their number.
+    fn entries(&mut self) -> Vec<IndexEntry> {
+        let mut entries = Vec::new(self.alloc);
+        for _ in 0..u16::from_be_bytes(self.part()) {
+            match self.entry() {
+                Some(entry) => self.is_bad |= entries.push(entry).is_err(),
+                None => self.is_bad = true,
+            }
+            if self.is_bad {
+                break;
+            }
+        }
+        entries
     }
-    let count = u32::from_be_bytes(left.part()?);
-    let pointers = pointers(alloc, count, &mut left)?;
-    if left.bytes.is_empty() {
-        Some(pointers)
-    } else {
-        None
+
+    /// A pointer, if it has names.
+    fn pointer(&mut self) -> Option<Pointer> {
+        let device = Path::read(self.alloc, self.text()).ok()?;
+        let measurement = Name::read(self.alloc, self.text()).ok()?;
+        let place = self.number();
+        Some(Pointer {
+            device,
+            measurement,
+            place,
+        })
+    }
+
+    /// The pointers behind their number.
+    fn pointers(&mut self) -> Vec<Pointer> {
+        let mut pointers = Vec::new(self.alloc);
+        for _ in 0..u32::from_be_bytes(self.part()) {
+            match self.pointer() {
+                Some(pointer) => self.is_bad |= pointers.push(pointer).is_err(),
+                None => self.is_bad = true,
+            }
+            if self.is_bad {
+                break;
+            }
+        }
+        pointers
+    }
+
+    /// Whether all fields were there, and nothing is left.
+    fn is_whole(&self) -> bool {
+        !self.is_bad && self.bytes.is_empty()
     }
 }
 
@@ -283,56 +293,73 @@ fn is_leaf(entries: &[IndexEntry], at: &Pointer, next: Option<&Pointer>) -> bool
     }
 }
 
-/// The bytes from one place to another, where the first of all stands at `place`.
-fn between(bytes: &[u8], place: u64, from: u64, to: u64) -> Option<&[u8]> {
-    let from = usize::try_from(from.checked_sub(place)?).ok()?;
-    let to = usize::try_from(to.checked_sub(place)?).ok()?;
-    bytes.get(from..to)
+/// The bytes from one place up to another, where the first of all stands at `place`. There are none where the places
+/// are not such: a difference below 0 wraps, and is past the end of any bytes.
+fn between(bytes: &[u8], place: u64, from: u64, to: u64) -> &[u8] {
+    let from = from.wrapping_sub(place) as usize;
+    let to = to.wrapping_sub(place) as usize;
+    bytes.get(from..to).unwrap_or(&[])
 }
 
-/// The pointers of the root.
-fn root_at(alloc: Global, bytes: &[u8], place: u64, root_place: u64) -> Option<Vec<Pointer>> {
-    let end = place.checked_add(bytes.len() as u64)?;
-    let pointers = root(alloc, between(bytes, place, root_place, end)?)?;
-    if is_root(&pointers, place, root_place) {
-        Some(pointers)
-    } else {
-        None
-    }
+/// The pointers of the root that all of these bytes are. It stands at `root_place`, and the first leaf at `place`.
+fn root(alloc: Global, bytes: &[u8], place: u64, root_place: u64) -> Option<Vec<Pointer>> {
+    let mut left = Left::of(alloc, bytes);
+    left.mark(0x52);
+    let pointers = left.pointers();
+    let is_right = left.is_whole() && is_root(&pointers, place, root_place);
+    is_right.then_some(pointers)
 }
 
-/// The entries of the leaf at this pointer, before the next or the root, if all of the leaf's bytes are one.
-fn leaf_at(
+/// Whether all of these bytes are the leaf at this pointer, before the next. Its entries are appended.
+fn append_leaf(
     alloc: Global,
     bytes: &[u8],
-    places: (u64, u64),
     at: &Pointer,
     next: Option<&Pointer>,
-) -> Option<Vec<IndexEntry>> {
-    let (place, root_place) = places;
-    let end = next.map_or(root_place, |next| next.place);
-    let entries = leaf(alloc, between(bytes, place, at.place, end)?)?;
-    if is_leaf(&entries, at, next) {
-        Some(entries)
-    } else {
-        None
-    }
+    all: &mut Vec<IndexEntry>,
+) -> bool {
+    let mut left = Left::of(alloc, bytes);
+    left.mark(0x49);
+    let mut entries = left.entries();
+    let is_right = left.is_whole() && is_leaf(&entries, at, next);
+    is_right && all.append(&mut entries).is_ok()
 }
 
-/// The entries of the index that all of these bytes are, or the place of the first part that is none.
+/// Appends the entries of the leaves up to the first place where none is, which is given.
+fn bad_leaf(
+    alloc: Global,
+    bytes: &[u8],
+    (place, root_place): (u64, u64),
+    pointers: &[Pointer],
+    all: &mut Vec<IndexEntry>,
+) -> Option<u64> {
+    for (number, at) in pointers.iter().enumerate() {
+        let next = pointers.get(number.wrapping_add(1));
+        let end = next.map_or(root_place, |next| next.place);
+        if !append_leaf(alloc, between(bytes, place, at.place, end), at, next, all) {
+            return Some(at.place);
+        }
+    }
+    None
+}
+
+/// The entries of the index that all of these bytes are, and the place of the first part that is none.
 pub fn read(
     alloc: Global,
     bytes: &[u8],
     place: u64,
     root_place: u64,
-) -> Result<Vec<IndexEntry>, u64> {
-    let pointers = root_at(alloc, bytes, place, root_place).ok_or(root_place)?;
+) -> (Vec<IndexEntry>, Option<u64>) {
+    let end = place.wrapping_add(bytes.len() as u64);
     let mut all = Vec::new(alloc);
-    for (number, at) in pointers.iter().enumerate() {
-        let next = pointers.get(number.wrapping_add(1));
-        let places = (place, root_place);
-        let mut entries = leaf_at(alloc, bytes, places, at, next).ok_or(at.place)?;
-        all.append(&mut entries).map_err(|_| at.place)?;
-    }
-    Ok(all)
+    let bad = match root(
+        alloc,
+        between(bytes, place, root_place, end),
+        place,
+        root_place,
+    ) {
+        Some(pointers) => bad_leaf(alloc, bytes, (place, root_place), &pointers, &mut all),
+        None => Some(root_place),
+    };
+    (all, bad)
 }

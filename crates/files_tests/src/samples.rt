@@ -1,17 +1,100 @@
-//! What several tests share: the types and the encodings. Depends on tsdb_base.
+//! What several tests share: tables of rows that are right or wrong, statistics and points. Depends on tsdb_base.
 
-use tsdb_base::{DataType, Encoding};
+use std::alloc::Global;
+use tsdb_base::{DataType, Point, Stats, Text, Value};
 
-pub const TYPES: [DataType; 4] = [
-    DataType::Boolean,
-    DataType::Int32,
-    DataType::Int64,
-    DataType::Text,
-];
+/// The statistics of the one point 1, 5 of INT64.
+pub fn five() -> Stats {
+    Stats {
+        count: 1,
+        start: 1,
+        end: 1,
+        first: Value::I64(5),
+        last: Value::I64(5),
+        least: Some(Value::I64(5)),
+        greatest: Some(Value::I64(5)),
+    }
+}
 
-pub const ENCODINGS: [Encoding; 4] = [
-    Encoding::Plain,
-    Encoding::Dictionary,
-    Encoding::Rle,
-    Encoding::Ts2diff,
-];
+/// A row of a table, which is right or wrong by itself. Where memory ran out, it is wrong.
+pub trait Row {
+    fn is_right(&self, alloc: Global) -> bool;
+}
+
+/// The place of the first row that is wrong.
+pub fn first_wrong<R: Row>(alloc: Global, rows: &[R]) -> Option<usize> {
+    for place in 0..rows.len() {
+        if !rows[place].is_right(alloc) {
+            return Some(place);
+        }
+    }
+    None
+}
+
+/// What points are made of.
+#[derive(Clone, Copy)]
+pub enum Sample {
+    /// These numbers as INT64, at the times 1, 2 and on.
+    Numbers(&'static [i64]),
+    /// Values of this type at the times 1, 2 and on: the number of the first is 0, and each is 37 more than the one
+    /// before it, modulo 101.
+    Walk(DataType),
+    /// Values of this type that come again, at the times 0, 10 and on.
+    Repeated(DataType),
+}
+
+fn text(alloc: Global, bytes: &[u8]) -> Option<Value> {
+    match Text::new(alloc, bytes) {
+        Ok(text) => Some(Value::Text(text)),
+        Err(_) => None,
+    }
+}
+
+impl Sample {
+    pub fn data_type(self) -> DataType {
+        match self {
+            Sample::Numbers(_) => DataType::Int64,
+            Sample::Walk(data_type) | Sample::Repeated(data_type) => data_type,
+        }
+    }
+
+    /// The time of the point at this place.
+    fn time(self, place: u16) -> i64 {
+        match self {
+            Sample::Numbers(_) | Sample::Walk(_) => i64::from(place) + 1,
+            Sample::Repeated(_) => 10 * i64::from(place),
+        }
+    }
+
+    /// The value of the point at this place, if there is one.
+    fn value(self, alloc: Global, place: u16) -> Option<Value> {
+        let walked = (37 * u32::from(place) % 101) as u16;
+        match self {
+            Sample::Numbers(numbers) => Some(Value::I64(*numbers.get(usize::from(place))?)),
+            Sample::Walk(DataType::Boolean) => Some(Value::Bool(walked % 2 == 1)),
+            Sample::Walk(DataType::Int32) => Some(Value::I32(i32::from(walked))),
+            Sample::Walk(DataType::Int64) => Some(Value::I64(i64::from(walked))),
+            Sample::Walk(DataType::Text) => text(alloc, &walked.to_be_bytes()),
+            Sample::Repeated(DataType::Boolean) => Some(Value::Bool(place % 3 == 0)),
+            Sample::Repeated(DataType::Int32) => Some(Value::I32(i32::from(place % 7) - 3)),
+            Sample::Repeated(DataType::Int64) => Some(Value::I64(i64::MIN + i64::from(place % 7))),
+            Sample::Repeated(DataType::Text) => text(alloc, &[(place % 5) as u8]),
+        }
+    }
+}
+
+/// So many points of the sample.
+pub fn points(alloc: Global, sample: Sample, count: u16) -> Option<Vec<Point>> {
+    let mut points = Vec::new(alloc);
+    let mut is_whole = true;
+    for place in 0..count {
+        match sample.value(alloc, place) {
+            Some(value) => {
+                let time = sample.time(place);
+                is_whole &= points.push(Point { time, value }).is_ok();
+            }
+            None => is_whole = false,
+        }
+    }
+    is_whole.then_some(points)
+}
