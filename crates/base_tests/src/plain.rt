@@ -1,7 +1,6 @@
 //! Values and fields by themselves as bytes. It depends on `tsdb_base`.
 use std::alloc::Global;
-use std::test::Fail;
-use tsdb_base::{DataType, DecodeFault, Encoding, Memory, PlainValue, Text, put_all, take_all};
+use tsdb_base::{DataType, DecodeFault, Encoding, PlainValue, Text, put_all, take_all};
 
 const VALUES: &[u8] =
     b"\x01\x00\x00\x00\x00\x01\xff\xff\xff\xff\x80\x00\x00\x00\x00\x00\x00\x00\x00\x01a";
@@ -42,20 +41,14 @@ fn is_bad<T: PlainValue>(alloc: Global, bytes: &[u8]) -> bool {
     matches!(T::take(alloc, bytes), Err(DecodeFault::Bad))
 }
 
-fn is_written(written: Result<Vec<u8>, Memory>, bytes: &[u8]) -> bool {
-    match written {
-        Ok(found) => found.as_slice() == bytes,
-        Err(_) => false,
-    }
-}
-
-fn values(alloc: Global, text: &Text) -> Result<Vec<u8>, Memory> {
+/// Whether the values are written as their bytes.
+fn are_values_written(alloc: Global, text: &Text) -> bool {
     let mut bytes = Vec::new(alloc);
-    put_all(&[true, false], &mut bytes)?;
-    put_all(&[1, -1], &mut bytes)?;
-    put_all(&[i64::MIN], &mut bytes)?;
-    text.put(&mut bytes)?;
-    Ok(bytes)
+    put_all(&[true, false], &mut bytes).is_ok()
+        && put_all(&[1, -1], &mut bytes).is_ok()
+        && put_all(&[i64::MIN], &mut bytes).is_ok()
+        && text.put(&mut bytes).is_ok()
+        && bytes.as_slice() == VALUES
 }
 
 /// What stands behind the values.
@@ -66,21 +59,29 @@ fn behind_values<'a>(alloc: Global, text: &Text, bytes: &'a [u8]) -> Option<&'a 
     behind(alloc, text, bytes)
 }
 
-#[test]
-fn values_by_themselves(rt: HostRuntime) -> Result<(), Fail> {
-    let alloc = rt.alloc();
-    let text = Text::new(alloc, b"a")?;
-    assert!(rt; is_written(values(alloc, &text), VALUES));
-    assert_eq!(rt; behind_values(alloc, &text, VALUES), Some([].as_slice()));
-    assert!(rt; is_bad::<Text>(alloc, &[0, 2, 7]));
-    Ok(())
+/// Whether the values are written as their bytes, and read from them.
+fn values_come_back(alloc: Global) -> bool {
+    match Text::new(alloc, b"a") {
+        Ok(text) => {
+            are_values_written(alloc, &text)
+                && behind_values(alloc, &text, VALUES) == Some([].as_slice())
+        }
+        Err(_) => false,
+    }
 }
 
-fn fields(alloc: Global) -> Result<Vec<u8>, Memory> {
+#[test]
+fn values_by_themselves(rt: HostRuntime) {
+    assert!(rt; values_come_back(rt.alloc()));
+    assert!(rt; is_bad::<Text>(rt.alloc(), &[0, 2, 7]));
+}
+
+/// Whether the fields are written as their bytes.
+fn are_fields_written(alloc: Global) -> bool {
     let mut bytes = Vec::new(alloc);
-    (7u16, (258u32, 1u64)).put(&mut bytes)?;
-    (DataType::Text, Encoding::Ts2diff).put(&mut bytes)?;
-    Ok(bytes)
+    (7u16, (258u32, 1u64)).put(&mut bytes).is_ok()
+        && (DataType::Text, Encoding::Ts2diff).put(&mut bytes).is_ok()
+        && bytes.as_slice() == FIELDS
 }
 
 /// What stands behind the fields.
@@ -89,11 +90,14 @@ fn behind_fields(alloc: Global, bytes: &[u8]) -> Option<&[u8]> {
     behind(alloc, &(DataType::Text, Encoding::Ts2diff), bytes)
 }
 
+/// Whether the fields are written as their bytes, and read from them.
+fn fields_come_back(alloc: Global) -> bool {
+    are_fields_written(alloc) && behind_fields(alloc, FIELDS) == Some([].as_slice())
+}
+
 #[test]
 fn fields_by_themselves(rt: HostRuntime) {
     let alloc = rt.alloc();
-    assert!(rt; is_written(fields(alloc), FIELDS));
-    assert_eq!(rt; behind_fields(alloc, FIELDS), Some([].as_slice()));
-    assert!(rt; is_bad::<u32>(alloc, &[0, 0, 1]));
-    assert!(rt; is_bad::<Encoding>(alloc, &[3]));
+    assert!(rt; fields_come_back(alloc));
+    assert!(rt; is_bad::<u32>(alloc, &[0, 0, 1]) && is_bad::<Encoding>(alloc, &[3]));
 }

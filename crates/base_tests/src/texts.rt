@@ -1,15 +1,12 @@
-//! Texts: their limit, their order, and that they are keys. It depends on `tsdb_base`.
+//! Texts: their limit, their order, and that they are keys. It depends on `tsdb_base` and `keys`.
+use crate::keys::{is_first, is_found, is_key};
 use std::alloc::Global;
-use std::collections::{BTreeMap, HashMap};
-use std::test::Fail;
 use tsdb_base::{Memory, Text, TextFault};
 
 const LONG: [u8; 65536] = [7; 65536];
 
 /// A byte of ASCII, one above it, and one that is not visible.
 const MIXED: &[u8] = b"a\xff\n";
-
-fn crosses_threads<T: Send + Sync>(_value: &T) {}
 
 /// Whether a text keeps its bytes.
 fn is_kept(alloc: Global, bytes: &[u8]) -> bool {
@@ -30,47 +27,51 @@ fn the_limit_of_texts(rt: HostRuntime) {
     assert!(rt; is_too_long(alloc, &LONG));
 }
 
-fn is_printed(alloc: Global, text: &Text, wanted: &str) -> Result<bool, Fail> {
-    let printed = format!(in alloc; "{text:?} {}", Memory)?;
-    Ok(printed.as_str() == wanted)
+fn is_printed(alloc: Global, text: &Text, wanted: &str) -> bool {
+    match format!(in alloc; "{text:?} {}", Memory) {
+        Ok(printed) => printed.as_str() == wanted,
+        Err(_) => false,
+    }
 }
 
-/// Whether a map finds the text by its hash.
-fn is_found(alloc: Global, text: &Text) -> Result<bool, Fail> {
-    let mut numbers = HashMap::new(alloc);
-    numbers.insert(text.clone()?, 1u8)?;
-    Ok(numbers.get(text) == Some(&1))
+/// Whether maps take the text as a key, which is less than `b`.
+fn is_key_before_b(alloc: Global, text: Text) -> bool {
+    is_key(&text);
+    let key: Result<_, _> = text.clone();
+    match (key, Text::new(alloc, b"b")) {
+        (Ok(key), Ok(second)) => {
+            let is_found = is_found(alloc, key, &text);
+            is_first(alloc, text, second) && is_found
+        }
+        _ => false,
+    }
 }
 
-/// Whether a map gives the first text first, though it came last.
-fn is_first(alloc: Global, first: &Text, second: &Text) -> Result<bool, Fail> {
-    let mut numbers = BTreeMap::new(alloc);
-    numbers.insert(second.clone()?, 2u8)?;
-    numbers.insert(first.clone()?, 1)?;
-    Ok(numbers.keys().next() == Some(first))
+/// Whether the mixed text is printed so, and is a key.
+fn is_printed_and_key(alloc: Global) -> bool {
+    match Text::new(alloc, MIXED) {
+        Ok(text) => {
+            let is_printed = is_printed(alloc, &text, "\"a\\xff\\x0a\" memory");
+            is_key_before_b(alloc, text) && is_printed
+        }
+        Err(_) => false,
+    }
 }
 
 #[test]
-fn texts_are_printed_and_keys(rt: HostRuntime) -> Result<(), Fail> {
-    let alloc = rt.alloc();
-    let text = Text::new(alloc, MIXED)?;
-    crosses_threads(&text);
-    assert!(rt; is_printed(alloc, &text, "\"a\\xff\\x0a\" memory")?);
-    assert!(rt; is_found(alloc, &text)?);
-    let second = Text::new(alloc, b"b")?;
-    assert!(rt; is_first(alloc, &text, &second)?);
-    Ok(())
+fn texts_are_printed_and_keys(rt: HostRuntime) {
+    assert!(rt; is_printed_and_key(rt.alloc()));
 }
 
 /// Whether a text of the first bytes is less than one of the second.
-fn is_less(alloc: Global, first: &[u8], second: &[u8]) -> Result<bool, TextFault> {
-    let first = Text::new(alloc, first)?;
-    let second = Text::new(alloc, second)?;
-    Ok(first < second)
+fn is_less(alloc: Global, first: &[u8], second: &[u8]) -> bool {
+    match (Text::new(alloc, first), Text::new(alloc, second)) {
+        (Ok(first), Ok(second)) => first < second,
+        _ => false,
+    }
 }
 
 #[test]
-fn texts_are_in_order(rt: HostRuntime) -> Result<(), Fail> {
-    assert!(rt; is_less(rt.alloc(), b"ab", b"b")?);
-    Ok(())
+fn texts_are_in_order(rt: HostRuntime) {
+    assert!(rt; is_less(rt.alloc(), b"ab", b"b"));
 }
