@@ -1,8 +1,9 @@
 //! Tests of tsdb_fields. Depends on `samples`.
 
-use super::samples::{Row, first_wrong, five};
+use super::samples::{Row, expect_none, first_wrong, five, text};
 use std::alloc::Global;
-use tsdb_base::{DataType, Encoding, PlainValue, Stats, Text, Value};
+use std::test::Fail;
+use tsdb_base::{DataType, Encoding, PlainValue, Stats, Value};
 use tsdb_fields::{
     FieldFault, Rest, read_field, read_name, read_path, read_stats, read_value, write_name,
     write_path, write_stats, write_value,
@@ -15,7 +16,7 @@ fn rest(bytes: &[u8]) -> Rest<'_> {
 }
 
 /// Whether the field is bad at its first byte.
-fn is_bad<T>(outcome: &Result<T, FieldFault>) -> bool {
+fn is_bad<T: Drop>(outcome: Result<T, FieldFault>) -> bool {
     matches!(outcome, Err(FieldFault::Bad { at: 70 }))
 }
 
@@ -26,6 +27,44 @@ enum Field {
     Kind(DataType, Encoding, u64),
     Numbers(u32, u16),
     Value(i32),
+    /// The statistics of the one point 1, 5 of INT64.
+    Five,
+    /// The statistics of two texts.
+    Texts,
+}
+
+/// The statistics of `b` and no bytes, at the times -1 and 2.
+fn texts(alloc: Global) -> Option<Stats> {
+    let first = text(alloc, b"b")?;
+    let last = text(alloc, b"")?;
+    Some(Stats {
+        count: 2,
+        start: -1,
+        end: 2,
+        first,
+        last,
+        least: None,
+        greatest: None,
+    })
+}
+
+/// Appends the statistics, and says whether they are there.
+fn put_stats(stats: Option<Stats>, into: &mut Vec<u8>) -> bool {
+    match stats {
+        Some(stats) => write_stats(&stats, into).is_ok(),
+        None => false,
+    }
+}
+
+/// What is left behind the value, if it is what was read.
+fn behind<'a, T: PartialEq + Drop>(
+    read: Result<(T, Rest<'a>), FieldFault>,
+    wanted: Option<T>,
+) -> Option<Rest<'a>> {
+    match (read, wanted) {
+        (Ok((found, behind)), Some(wanted)) => (found == wanted).then_some(behind),
+        _ => None,
+    }
 }
 
 /// A path, a name, two fields of one value each in pairs, and a value.
@@ -42,8 +81,8 @@ const BYTES: [u8; 33] =
     *b"\x00\x08root.g.d\x00\x01s\x02\x00\x00\x00\x00\x00\x00\x00\x00\x12\x00\x00\x00\x01\x00\x07\xff\xff\xff\xfe";
 
 impl Field {
-    /// Appends the field, and says whether it could.
-    fn write(self, alloc: Global, into: &mut Vec<u8>) -> bool {
+    /// Appends the field, and says whether it is there.
+    fn put(self, alloc: Global, into: &mut Vec<u8>) -> bool {
         match self {
             Field::Path(bytes) => match Path::read(alloc, bytes) {
                 Ok(path) => write_path(&path, into).is_ok(),
@@ -58,63 +97,49 @@ impl Field {
             }
             Field::Numbers(wide, narrow) => (wide, narrow).put(into).is_ok(),
             Field::Value(number) => write_value(&Value::I32(number), into).is_ok(),
+            Field::Five => put_stats(Some(five()), into),
+            Field::Texts => put_stats(texts(alloc), into),
         }
     }
 
     /// What is left behind the field, if it comes next.
     fn behind<'a>(self, alloc: Global, rest: Rest<'a>) -> Option<Rest<'a>> {
         match self {
-            Field::Path(bytes) => match read_path(alloc, rest) {
-                Ok((path, behind)) => (path.bytes() == bytes).then_some(behind),
-                Err(_) => None,
-            },
-            Field::Name(bytes) => match read_name(alloc, rest) {
-                Ok((name, behind)) => (name.bytes() == bytes).then_some(behind),
-                Err(_) => None,
-            },
+            Field::Path(bytes) => behind(read_path(alloc, rest), Path::read(alloc, bytes).ok()),
+            Field::Name(bytes) => behind(read_name(alloc, rest), Name::read(alloc, bytes).ok()),
             Field::Kind(data_type, encoding, place) => {
-                behind_field(alloc, (data_type, (encoding, place)), rest)
+                behind(
+                    read_field(alloc, rest),
+                    Some((data_type, (encoding, place))),
+                )
             }
-            Field::Numbers(wide, narrow) => behind_field(alloc, (wide, narrow), rest),
-            Field::Value(number) => match read_value(alloc, DataType::Int32, rest) {
-                Ok((value, behind)) => {
-                    matches!(&value, Value::I32(found) if *found == number).then_some(behind)
-                }
-                Err(_) => None,
-            },
+            Field::Numbers(wide, narrow) => {
+                behind(read_field(alloc, rest), Some((wide, narrow)))
+            }
+            Field::Value(number) => {
+                behind(
+                    read_value(alloc, DataType::Int32, rest),
+                    Some(Value::I32(number)),
+                )
+            }
+            Field::Five => behind(read_stats(alloc, DataType::Int64, rest), Some(five())),
+            Field::Texts => behind(read_stats(alloc, DataType::Text, rest), texts(alloc)),
         }
     }
 }
 
-/// What is left behind this value, if it comes next.
-fn behind_field<'a, T: PlainValue + PartialEq>(
-    alloc: Global,
-    value: T,
-    rest: Rest<'a>,
-) -> Option<Rest<'a>> {
-    match read_field::<T>(alloc, rest) {
-        Ok((found, behind)) => (found == value).then_some(behind),
-        Err(_) => None,
-    }
-}
-
 /// Whether the fields are written as these bytes.
-fn are_fields_written(alloc: Global, fields: &[Field], bytes: &[u8]) -> bool {
+fn are_written(alloc: Global, fields: &[Field], bytes: &[u8]) -> bool {
     let mut found = Vec::new(alloc);
     let mut is_whole = true;
     for field in fields {
-        is_whole &= field.write(alloc, &mut found);
+        is_whole &= field.put(alloc, &mut found);
     }
     is_whole && found.as_slice() == bytes
 }
 
-#[test]
-fn fields_written_one_behind_another(rt: HostRuntime) {
-    assert!(rt; are_fields_written(rt.alloc(), &FIELDS, &BYTES));
-}
-
-/// Whether these bytes from 70 up to this place are read as the fields.
-fn are_fields_read(alloc: Global, fields: &[Field], bytes: &[u8], end: u64) -> bool {
+/// Whether these bytes from 70 on are read as the fields, up to their end.
+fn are_read(alloc: Global, fields: &[Field], bytes: &[u8]) -> bool {
     let mut left = Some(rest(bytes));
     for field in fields {
         left = match left {
@@ -123,55 +148,19 @@ fn are_fields_read(alloc: Global, fields: &[Field], bytes: &[u8], end: u64) -> b
         };
     }
     match left {
-        Some(rest) => rest.at == end && rest.bytes.is_empty(),
+        Some(rest) => rest.at == (bytes.len() as u64).saturating_add(70) && rest.bytes.is_empty(),
         None => false,
     }
 }
 
 #[test]
-fn fields_read_one_behind_another(rt: HostRuntime) {
-    assert!(rt; are_fields_read(rt.alloc(), &FIELDS, &BYTES, 103));
+fn fields_written_one_behind_another(rt: HostRuntime) {
+    assert!(rt; are_written(rt.alloc(), &FIELDS, &BYTES));
 }
-
-/// A byte, and the value that it is, if it is one.
-impl<T: PlainValue + PartialEq> Row for (u8, Option<T>) {
-    fn is_right(&self, alloc: Global) -> bool {
-        let (byte, wanted) = self;
-        let bytes = [*byte];
-        let read = read_field::<T>(alloc, rest(&bytes));
-        match (&read, wanted) {
-            (Ok((found, _)), Some(wanted)) => *found == *wanted,
-            (Err(_), None) => is_bad(&read),
-            _ => false,
-        }
-    }
-}
-
-/// The types by their byte.
-const TYPES: [(u8, Option<DataType>); 7] = [
-    (0, Some(DataType::Boolean)),
-    (1, Some(DataType::Int32)),
-    (2, Some(DataType::Int64)),
-    (3, None),
-    (4, None),
-    (5, Some(DataType::Text)),
-    (6, None),
-];
-
-/// The encodings by their byte.
-const ENCODINGS: [(u8, Option<Encoding>); 6] = [
-    (0, Some(Encoding::Plain)),
-    (1, Some(Encoding::Dictionary)),
-    (2, Some(Encoding::Rle)),
-    (3, None),
-    (4, Some(Encoding::Ts2diff)),
-    (5, None),
-];
 
 #[test]
-fn bytes_of_types_and_encodings(rt: HostRuntime) {
-    assert_eq!(rt; first_wrong(rt.alloc(), &TYPES), None);
-    assert_eq!(rt; first_wrong(rt.alloc(), &ENCODINGS), None);
+fn fields_read_one_behind_another(rt: HostRuntime) {
+    assert!(rt; are_read(rt.alloc(), &FIELDS, &BYTES));
 }
 
 /// The bytes of the statistics of the one point 1, 5: the number, both times, and four times the value.
@@ -180,59 +169,77 @@ const NUMBERS: [u8; 56] = [
     0, 0, 0, 0, 0, 0, 0, 5, 0, 0, 0, 0, 0, 0, 0, 5, 0, 0, 0, 0, 0, 0, 0, 5,
 ];
 
-/// The bytes of the statistics of `b` and no bytes, at the times -1 and 2.
+/// The bytes of the statistics of texts.
 const TEXTS: [u8; 29] = [
     0, 0, 0, 0, 0, 0, 0, 2, 255, 255, 255, 255, 255, 255, 255, 255, 0, 0, 0, 0, 0, 0, 0, 2, 0, 1,
     b'b', 0, 0,
 ];
 
-/// Whether the statistics are written as these bytes.
-fn are_written(alloc: Global, stats: &Stats, bytes: &[u8]) -> bool {
-    let mut found = Vec::new(alloc);
-    write_stats(stats, &mut found).is_ok() && found.as_slice() == bytes
-}
-
-/// Whether these bytes are read as the statistics, up to their end.
-fn are_read(alloc: Global, bytes: &[u8], data_type: DataType, stats: &Stats) -> bool {
-    let end = (bytes.len() as u64).saturating_add(70);
-    match read_stats(alloc, data_type, rest(bytes)) {
-        Ok((found, behind)) => found == *stats && behind.at == end && behind.bytes.is_empty(),
-        Err(_) => false,
-    }
-}
-
 #[test]
 fn bytes_of_statistics(rt: HostRuntime) {
-    assert!(rt; are_written(rt.alloc(), &five(), &NUMBERS));
+    assert!(rt; are_written(rt.alloc(), &[Field::Five], &NUMBERS));
 }
 
 #[test]
 fn statistics_of_numbers(rt: HostRuntime) {
-    assert!(rt; are_read(rt.alloc(), &NUMBERS, DataType::Int64, &five()));
-}
-
-/// Whether the statistics of texts are written as their bytes, and read from them.
-fn texts_come_back(alloc: Global) -> bool {
-    match (Text::new(alloc, b"b"), Text::new(alloc, b"")) {
-        (Ok(first), Ok(last)) => {
-            let stats = Stats {
-                count: 2,
-                start: -1,
-                end: 2,
-                first: Value::Text(first),
-                last: Value::Text(last),
-                least: None,
-                greatest: None,
-            };
-            are_written(alloc, &stats, &TEXTS) && are_read(alloc, &TEXTS, DataType::Text, &stats)
-        }
-        _ => false,
-    }
+    assert!(rt; are_read(rt.alloc(), &[Field::Five], &NUMBERS));
 }
 
 #[test]
 fn statistics_of_texts(rt: HostRuntime) {
-    assert!(rt; texts_come_back(rt.alloc()));
+    let alloc = rt.alloc();
+    let texts = [Field::Texts];
+    assert!(rt; are_written(alloc, &texts, &TEXTS) && are_read(alloc, &texts, &TEXTS));
+}
+
+/// A byte, and the type or the encoding that it is, if it is one.
+#[derive(Clone, Copy)]
+enum Coded {
+    Type(u8, Option<DataType>),
+    Encoding(u8, Option<Encoding>),
+}
+
+/// Whether the byte is read as this.
+fn is_read_as<T: PlainValue + PartialEq + Copy>(
+    alloc: Global,
+    byte: u8,
+    wanted: Option<T>,
+) -> bool {
+    let bytes = [byte];
+    match read_field::<T>(alloc, rest(&bytes)) {
+        Ok((found, _)) => wanted == Some(found),
+        Err(fault) => wanted.is_none() && fault == FieldFault::Bad { at: 70 },
+    }
+}
+
+impl Row for Coded {
+    fn is_right(&self, alloc: Global) -> bool {
+        match *self {
+            Coded::Type(byte, wanted) => is_read_as(alloc, byte, wanted),
+            Coded::Encoding(byte, wanted) => is_read_as(alloc, byte, wanted),
+        }
+    }
+}
+
+const CODED: &[Coded] = &[
+    Coded::Type(0, Some(DataType::Boolean)),
+    Coded::Type(1, Some(DataType::Int32)),
+    Coded::Type(2, Some(DataType::Int64)),
+    Coded::Type(3, None),
+    Coded::Type(4, None),
+    Coded::Type(5, Some(DataType::Text)),
+    Coded::Type(6, None),
+    Coded::Encoding(0, Some(Encoding::Plain)),
+    Coded::Encoding(1, Some(Encoding::Dictionary)),
+    Coded::Encoding(2, Some(Encoding::Rle)),
+    Coded::Encoding(3, None),
+    Coded::Encoding(4, Some(Encoding::Ts2diff)),
+    Coded::Encoding(5, None),
+];
+
+#[test]
+fn bytes_of_types_and_encodings(rt: HostRuntime) -> Result<(), Fail> {
+    expect_none(first_wrong(rt.alloc(), CODED))
 }
 
 #[derive(Clone, Copy)]
@@ -248,11 +255,11 @@ enum Kind {
 fn is_refused(alloc: Global, kind: Kind, bytes: &[u8]) -> bool {
     let field = rest(bytes);
     match kind {
-        Kind::Path => is_bad(&read_path(alloc, field)),
-        Kind::Name => is_bad(&read_name(alloc, field)),
-        Kind::Boolean => is_bad(&read_value(alloc, DataType::Boolean, field)),
-        Kind::Number => is_bad(&read_field::<u64>(alloc, field)),
-        Kind::Stats => is_bad(&read_stats(alloc, DataType::Int64, field)),
+        Kind::Path => is_bad(read_path(alloc, field)),
+        Kind::Name => is_bad(read_name(alloc, field)),
+        Kind::Boolean => is_bad(read_value(alloc, DataType::Boolean, field)),
+        Kind::Number => is_bad(read_field::<u64>(alloc, field)),
+        Kind::Stats => is_bad(read_stats(alloc, DataType::Int64, field)),
     }
 }
 
@@ -268,8 +275,8 @@ fn first_read_cut(alloc: Global) -> Option<usize> {
 
 /// A field that is cut is bad at its first byte.
 #[test]
-fn cut_statistics(rt: HostRuntime) {
-    assert_eq!(rt; first_read_cut(rt.alloc()), None);
+fn cut_statistics(rt: HostRuntime) -> Result<(), Fail> {
+    expect_none(first_read_cut(rt.alloc()))
 }
 
 /// Bytes that begin with no field of a kind.
@@ -282,7 +289,7 @@ impl Row for NoField {
     }
 }
 
-const REFUSED: [NoField; 12] = [
+const REFUSED: &[NoField] = &[
     NoField(Kind::Path, b""),
     NoField(Kind::Path, b"\x00"),
     NoField(Kind::Path, b"\x00\x00"),
@@ -298,6 +305,6 @@ const REFUSED: [NoField; 12] = [
 ];
 
 #[test]
-fn refused_fields(rt: HostRuntime) {
-    assert_eq!(rt; first_wrong(rt.alloc(), &REFUSED), None);
+fn refused_fields(rt: HostRuntime) -> Result<(), Fail> {
+    expect_none(first_wrong(rt.alloc(), REFUSED))
 }

@@ -1,9 +1,10 @@
 //! Tests of tsdb_index, beside a plain slow reader. Depends on `plain_index` and `samples`.
 
 use super::plain_index;
-use super::samples::{Row, first_wrong, five};
+use super::samples::{Row, expect_none, first_wrong, five, is_same, push};
 use std::alloc::Global;
-use tsdb_base::{DataType, Encoding, List, Memory};
+use std::test::Fail;
+use tsdb_base::{DataType, Encoding, List};
 use tsdb_index::{
     FileMeta, Index, IndexEntry, IndexFault, PageEntry, read_index, write_index,
     write_leaves_and_root,
@@ -32,36 +33,26 @@ fn worked_but(place: u8, bits: u8) -> [u8; 176] {
     bytes
 }
 
-/// Appends the entry of the chunk at 18, whose page stands at 24, and says whether it could.
-fn push_entry(
-    alloc: Global,
-    device: &[u8],
-    measurement: &[u8],
-    entries: &mut Vec<IndexEntry>,
-) -> bool {
+/// The entry of the chunk at 18, whose page stands at 24.
+fn entry(alloc: Global, device: &[u8], measurement: &[u8]) -> Option<IndexEntry> {
+    let device = Path::read(alloc, device).ok()?;
+    let measurement = Name::read(alloc, measurement).ok()?;
+    let mut pages = Vec::new(alloc);
     let page = PageEntry {
         place: 24,
         stats: five(),
     };
-    match (
-        Path::read(alloc, device),
-        Name::read(alloc, measurement),
-        vec![in alloc; page],
-    ) {
-        (Ok(device), Ok(measurement), Ok(pages)) => {
-            let entry = IndexEntry {
-                device,
-                measurement,
-                data_type: DataType::Int64,
-                encoding: Encoding::Plain,
-                place: 18,
-                stats: five(),
-                pages: List::of(pages),
-            };
-            entries.push(entry).is_ok()
-        }
-        _ => false,
-    }
+    let has_page = push(&mut pages, Some(page));
+    let entry = IndexEntry {
+        device,
+        measurement,
+        data_type: DataType::Int64,
+        encoding: Encoding::Plain,
+        place: 18,
+        stats: five(),
+        pages: List::of(pages),
+    };
+    has_page.then_some(entry)
 }
 
 /// The last digit.
@@ -92,24 +83,25 @@ enum Entries {
 /// The entry of the worked file.
 const WORKED_ENTRY: Entries = Entries::Named(&[(b"root.g.d", b"s")]);
 
-/// The index of these entries.
-fn index_of(alloc: Global, entries: Entries) -> Option<Index> {
+/// The index of these entries, in a file of 234 bytes.
+fn meta_of(alloc: Global, entries: Entries) -> Option<FileMeta> {
     let mut list = Vec::new(alloc);
     let mut is_whole = true;
     match entries {
         Entries::Named(names) => {
             for (device, measurement) in names {
-                is_whole &= push_entry(alloc, device, measurement, &mut list);
+                is_whole &= push(&mut list, entry(alloc, device, measurement));
             }
         }
         Entries::Numbered(count) => {
             for number in 0..count {
-                is_whole &= push_entry(alloc, b"root.g.d", &name_of(number), &mut list);
+                is_whole &= push(&mut list, entry(alloc, b"root.g.d", &name_of(number)));
             }
         }
     }
     let entries = List::of(list);
-    is_whole.then_some(Index { entries })
+    let index = Index { entries };
+    is_whole.then_some(FileMeta { size: 234, index })
 }
 
 /// The bytes of the index with the first leaf at `place`, and the place of the root.
@@ -121,12 +113,12 @@ fn written(alloc: Global, index: &Index, place: u64) -> Option<(Vec<u8>, u64)> {
     }
 }
 
-/// What the index is written as without the place of its root.
-fn whole(alloc: Global, index: &Index, place: u64) -> Option<Result<Vec<u8>, Memory>> {
+/// The bytes of the index without the place of its root.
+fn whole(alloc: Global, index: &Index, place: u64) -> Option<Vec<u8>> {
     if index.entries.items().is_empty() {
         None
     } else {
-        Some(write_index(alloc, index, place))
+        write_index(alloc, index, place).ok()
     }
 }
 
@@ -139,8 +131,8 @@ fn read(alloc: Global, bytes: &[u8], place: u64, root: u64) -> Result<Index, Ind
 }
 
 /// Whether the part at this place is bad.
-fn is_bad(found: &Result<Index, IndexFault>, place: u64) -> bool {
-    matches!(found, Err(IndexFault::Bad { at }) if *at == place)
+fn is_bad(found: Result<Index, IndexFault>, place: u64) -> bool {
+    matches!(found, Err(IndexFault::Bad { at }) if at == place)
 }
 
 /// Whether the reader answers what the plain one does.
@@ -185,16 +177,18 @@ fn disagree_at(alloc: Global, bytes: &mut [u8], root: u64) -> Option<usize> {
 enum Asked {
     /// It is written as the worked bytes, with the root at 194.
     IsWorked,
-    /// Its last byte would stand at 2^64.
+    /// It has one entry, and is written as the worked bytes without the place of its root.
+    IsWorkedMeta,
+    /// Its last byte would stand at 2^64, so it is out of memory.
     IsTooFar,
     /// So many entries take so many leaves.
     HasLeaves(u16, u8),
-    /// It is read as it was.
+    /// It is read as it was written.
     ComesBack,
     /// The readers agree, also where one byte is inverted.
     Agrees,
-    /// It is read, or its leaf is bad.
-    IsRead(bool),
+    /// Its leaf is bad.
+    IsBad,
 }
 
 /// Whether these are the bytes of so many entries in so many leaves: a leaf takes 3 bytes and 151 for each entry, the
@@ -208,45 +202,52 @@ fn have_leaves(bytes: &[u8], root: u64, count: u16, leaves: u8) -> bool {
         && bytes.get(at..at + 5) == Some(root_start.as_slice())
 }
 
-/// Whether these bytes of the index, with the first leaf and the root at these places, are as asked.
+/// Whether the bytes of the index, with the first leaf and the root at these places, are as asked.
 fn are_right(
     alloc: Global,
-    bytes: &[u8],
+    mut bytes: Vec<u8>,
     (place, root): (u64, u64),
     index: &Index,
     asked: Asked,
 ) -> bool {
+    let is_worked = bytes.as_slice() == WORKED.as_slice();
     match asked {
-        Asked::IsWorked => bytes == WORKED.as_slice() && root == 194,
-        Asked::HasLeaves(count, leaves) => have_leaves(bytes, root, count, leaves),
-        Asked::ComesBack => match read(alloc, bytes, place, root) {
-            Ok(found) => found.entries.items() == index.entries.items(),
-            Err(_) => false,
-        },
-        Asked::IsRead(true) => read(alloc, bytes, place, root).is_ok(),
-        Asked::IsRead(false) => is_bad(&read(alloc, bytes, place, root), place),
-        Asked::IsTooFar | Asked::Agrees => false,
+        Asked::IsWorked => is_worked && root == 194,
+        Asked::IsWorkedMeta => {
+            index.entries.items().len() == 1
+                && is_worked
+                && is_same(whole(alloc, index, place), &bytes)
+        }
+        Asked::IsTooFar => false,
+        Asked::HasLeaves(count, leaves) => have_leaves(&bytes, root, count, leaves),
+        Asked::ComesBack => is_same(read(alloc, &bytes, place, root).ok(), index),
+        Asked::Agrees => {
+            agree(alloc, &bytes, place, root) && disagree_at(alloc, &mut bytes, root).is_none()
+        }
+        Asked::IsBad => is_bad(read(alloc, &bytes, place, root), place),
     }
 }
 
 /// Whether the index with its first leaf at this place is as asked.
 fn is_as_asked(alloc: Global, index: &Index, place: u64, asked: Asked) -> bool {
-    match (asked, written(alloc, index, place)) {
-        (Asked::IsTooFar, None) => matches!(whole(alloc, index, place), Some(Err(Memory))),
-        (Asked::Agrees, Some((mut bytes, root))) => {
-            agree(alloc, &bytes, place, root) && disagree_at(alloc, &mut bytes, root).is_none()
+    match written(alloc, index, place) {
+        Some((bytes, root)) => are_right(alloc, bytes, (place, root), index, asked),
+        None => {
+            matches!(asked, Asked::IsTooFar)
+                && index.entries.items().len() == 1
+                && whole(alloc, index, place).is_none()
         }
-        (_, Some((bytes, root))) => are_right(alloc, &bytes, (place, root), index, asked),
-        _ => false,
     }
 }
 
 /// Entries, the place of their first leaf, and what is asked of their index.
-impl Row for (Entries, u64, Asked) {
+type Case = (Entries, u64, Asked);
+
+impl Row for Case {
     fn is_right(&self, alloc: Global) -> bool {
         let (entries, place, asked) = *self;
-        match index_of(alloc, entries) {
-            Some(index) => is_as_asked(alloc, &index, place, asked),
+        match meta_of(alloc, entries) {
+            Some(meta) => is_as_asked(alloc, &meta.index, place, asked),
             None => false,
         }
     }
@@ -254,35 +255,21 @@ impl Row for (Entries, u64, Asked) {
 
 #[test]
 fn worked_index(rt: HostRuntime) {
-    let row = (WORKED_ENTRY, 44u64, Asked::IsWorked);
-    assert!(rt; row.is_right(rt.alloc()));
-}
-
-/// Whether the index of the worked file has one entry, and is written as the worked bytes.
-fn is_worked_meta(alloc: Global) -> bool {
-    match index_of(alloc, WORKED_ENTRY) {
-        Some(index) => {
-            let meta = FileMeta { size: 234, index };
-            meta.index.entries.items().len() == 1
-                && matches!(&whole(alloc, &meta.index, 44), Some(Ok(bytes)) if bytes.as_slice() == WORKED.as_slice())
-        }
-        None => false,
-    }
+    assert!(rt; (WORKED_ENTRY, 44u64, Asked::IsWorked).is_right(rt.alloc()));
 }
 
 #[test]
 fn worked_meta(rt: HostRuntime) {
-    assert!(rt; is_worked_meta(rt.alloc()));
+    assert!(rt; (WORKED_ENTRY, 44u64, Asked::IsWorkedMeta).is_right(rt.alloc()));
 }
 
 /// The last byte of the index would stand at 2^64.
 #[test]
 fn places_beyond_64_bits(rt: HostRuntime) {
-    let row = (WORKED_ENTRY, u64::MAX, Asked::IsTooFar);
-    assert!(rt; row.is_right(rt.alloc()));
+    assert!(rt; (WORKED_ENTRY, u64::MAX, Asked::IsTooFar).is_right(rt.alloc()));
 }
 
-const LEAVES: [(Entries, u64, Asked); 5] = [
+const LEAVES: &[Case] = &[
     (Entries::Numbered(1), 1000, Asked::HasLeaves(1, 1)),
     (Entries::Numbered(256), 1000, Asked::HasLeaves(256, 1)),
     (Entries::Numbered(257), 1000, Asked::HasLeaves(257, 2)),
@@ -291,11 +278,11 @@ const LEAVES: [(Entries, u64, Asked); 5] = [
 ];
 
 #[test]
-fn leaves_of_256_entries(rt: HostRuntime) {
-    assert_eq!(rt; first_wrong(rt.alloc(), &LEAVES), None);
+fn leaves_of_256_entries(rt: HostRuntime) -> Result<(), Fail> {
+    expect_none(first_wrong(rt.alloc(), LEAVES))
 }
 
-const SIZES: [(Entries, u64, Asked); 4] = [
+const SIZES: &[Case] = &[
     (Entries::Numbered(1), 1000, Asked::ComesBack),
     (Entries::Numbered(256), 1000, Asked::ComesBack),
     (Entries::Numbered(257), 1000, Asked::ComesBack),
@@ -303,12 +290,12 @@ const SIZES: [(Entries, u64, Asked); 4] = [
 ];
 
 #[test]
-fn indexes_of_several_sizes(rt: HostRuntime) {
-    assert_eq!(rt; first_wrong(rt.alloc(), &SIZES), None);
+fn indexes_of_several_sizes(rt: HostRuntime) -> Result<(), Fail> {
+    expect_none(first_wrong(rt.alloc(), SIZES))
 }
 
 /// Indexes of one to three leaves.
-const READ_TWICE: [(Entries, u64, Asked); 4] = [
+const READ_TWICE: &[Case] = &[
     (Entries::Numbered(1), 1000, Asked::Agrees),
     (Entries::Numbered(256), 1000, Asked::Agrees),
     (Entries::Numbered(257), 1000, Asked::Agrees),
@@ -316,48 +303,48 @@ const READ_TWICE: [(Entries, u64, Asked); 4] = [
 ];
 
 #[test]
-fn leaves_beside_the_plain_reader(rt: HostRuntime) {
-    assert_eq!(rt; first_wrong(rt.alloc(), &READ_TWICE), None);
+fn leaves_beside_the_plain_reader(rt: HostRuntime) -> Result<(), Fail> {
+    expect_none(first_wrong(rt.alloc(), READ_TWICE))
 }
 
 /// Two entries with these names, and whether they are an index.
-const PAIRS: [(Entries, u64, Asked); 5] = [
+const PAIRS: &[Case] = &[
     (
         Entries::Named(&[(b"root.a", b"s"), (b"root.a", b"t")]),
         7,
-        Asked::IsRead(true),
+        Asked::ComesBack,
     ),
     (
         Entries::Named(&[(b"root.a", b"t"), (b"root.b", b"s")]),
         7,
-        Asked::IsRead(true),
+        Asked::ComesBack,
     ),
     (
         Entries::Named(&[(b"root.a", b"s"), (b"root.a", b"s")]),
         7,
-        Asked::IsRead(false),
+        Asked::IsBad,
     ),
     (
         Entries::Named(&[(b"root.a", b"t"), (b"root.a", b"s")]),
         7,
-        Asked::IsRead(false),
+        Asked::IsBad,
     ),
     (
         Entries::Named(&[(b"root.b", b"s"), (b"root.a", b"t")]),
         7,
-        Asked::IsRead(false),
+        Asked::IsBad,
     ),
 ];
 
 #[test]
-fn entries_that_do_not_rise(rt: HostRuntime) {
-    assert_eq!(rt; first_wrong(rt.alloc(), &PAIRS), None);
+fn entries_that_do_not_rise(rt: HostRuntime) -> Result<(), Fail> {
+    expect_none(first_wrong(rt.alloc(), PAIRS))
 }
 
 /// Whether the index of this read is written as these bytes.
-fn is_written_so(alloc: Global, found: &Result<Index, IndexFault>, bytes: &[u8]) -> bool {
+fn is_written_so(alloc: Global, found: Result<Index, IndexFault>, bytes: &[u8]) -> bool {
     match found {
-        Ok(index) => match written(alloc, index, 44) {
+        Ok(index) => match written(alloc, &index, 44) {
             Some((again, _root)) => again.as_slice() == bytes,
             None => false,
         },
@@ -371,10 +358,18 @@ fn is_read_inverted(alloc: Global, place: u8) -> bool {
     let bytes = worked_but(place, 0xff);
     let found = read(alloc, &bytes, 44, 194);
     match place {
-        18..82 | 86..150 => is_written_so(alloc, &found, &bytes),
-        0..150 => is_bad(&found, 44),
-        _ => is_bad(&found, 194),
+        18..82 | 86..150 => is_written_so(alloc, found, &bytes),
+        0..150 => is_bad(found, 44),
+        _ => is_bad(found, 194),
     }
+}
+
+/// The worked index with its leaf cut here.
+fn with_cut_leaf(alloc: Global, cut: usize) -> Option<Vec<u8>> {
+    let mut bytes = Vec::new(alloc);
+    let has_leaf = bytes.extend_from_slice(&WORKED[..cut.min(150)]).is_ok();
+    let has_root = bytes.extend_from_slice(&WORKED[150..]).is_ok();
+    (has_leaf && has_root).then_some(bytes)
 }
 
 /// Whether a leaf that is cut here is bad, and without a root the root is.
@@ -382,14 +377,10 @@ fn is_bad_with_cut_leaf(alloc: Global, cut: usize) -> bool {
     let leaf = &WORKED[..cut.min(150)];
     let root = (leaf.len() as u64).saturating_add(44);
     let at = if leaf.is_empty() { root } else { 44 };
-    match Vec::from_slice(alloc, leaf) {
-        Ok(mut bytes) => {
-            let has_root = bytes.extend_from_slice(&WORKED[150..]).is_ok();
-            has_root
-                && is_bad(&read(alloc, &bytes, 44, root), at)
-                && is_bad(&read(alloc, leaf, 44, root), root)
-        }
-        Err(_) => false,
+    let is_root_bad = is_bad(read(alloc, leaf, 44, root), root);
+    match with_cut_leaf(alloc, cut) {
+        Some(bytes) => is_root_bad && is_bad(read(alloc, &bytes, 44, root), at),
+        None => false,
     }
 }
 
@@ -398,7 +389,7 @@ fn is_bad_with_cut(alloc: Global, cut: u8) -> bool {
     match cut {
         0..150 => is_bad_with_cut_leaf(alloc, usize::from(cut)),
         _ => is_bad(
-            &read(alloc, &WORKED[..usize::from(cut).min(175)], 44, 194),
+            read(alloc, &WORKED[..usize::from(cut).min(175)], 44, 194),
             194,
         ),
     }
@@ -444,36 +435,33 @@ fn is_harmed(alloc: Global, harm: Harm, place: u8) -> bool {
 }
 
 /// The first place before this one where it is not.
-fn first_wrong_place(alloc: Global, harm: Harm, end: u8) -> Option<u8> {
+fn first_wrong_place(alloc: Global, harm: Harm, end: u8) -> Option<usize> {
     for place in 0..end {
         if !is_harmed(alloc, harm, place) {
-            return Some(place);
+            return Some(usize::from(place));
         }
     }
     None
 }
 
 #[test]
-fn inverted_bytes(rt: HostRuntime) {
-    assert_eq!(rt; first_wrong_place(rt.alloc(), Harm::Inverted, 176), None);
+fn inverted_bytes(rt: HostRuntime) -> Result<(), Fail> {
+    expect_none(first_wrong_place(rt.alloc(), Harm::Inverted, 176))
 }
 
 /// A root that is cut is bad. So is a leaf that the root cuts.
 #[test]
-fn cut_indexes(rt: HostRuntime) {
-    assert_eq!(rt; first_wrong_place(rt.alloc(), Harm::Cut, 176), None);
+fn cut_indexes(rt: HostRuntime) -> Result<(), Fail> {
+    expect_none(first_wrong_place(rt.alloc(), Harm::Cut, 176))
 }
 
 /// Of the 176 bytes none is at the last place.
 #[test]
-fn inverted_bytes_beside_the_plain_reader(rt: HostRuntime) {
-    assert_eq!(rt;
-        first_wrong_place(rt.alloc(), Harm::InvertedBeside, 177),
-        None
-    );
+fn inverted_bytes_beside_the_plain_reader(rt: HostRuntime) -> Result<(), Fail> {
+    expect_none(first_wrong_place(rt.alloc(), Harm::InvertedBeside, 177))
 }
 
 #[test]
-fn cuts_beside_the_plain_reader(rt: HostRuntime) {
-    assert_eq!(rt; first_wrong_place(rt.alloc(), Harm::CutBeside, 177), None);
+fn cuts_beside_the_plain_reader(rt: HostRuntime) -> Result<(), Fail> {
+    expect_none(first_wrong_place(rt.alloc(), Harm::CutBeside, 177))
 }

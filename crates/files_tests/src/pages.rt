@@ -1,7 +1,8 @@
 //! Tests of tsdb_pages. Depends on `samples`.
 
-use super::samples::{Row, Sample, first_wrong, points};
+use super::samples::{Row, Sample, expect_none, first_wrong, points, push};
 use std::alloc::Global;
+use std::test::Fail;
 use tsdb_base::{DataType, Encoding, List, Point, Value, suits};
 use tsdb_pages::{Chunk, Group, Page, PageFault, Tree, are_points, is_tree, read_page, write_page};
 use tsdb_path::{Name, Path};
@@ -94,7 +95,7 @@ impl Row for (DataType, Encoding, bool) {
 }
 
 /// Ten pairs of type and encoding suit.
-const PAIRS: [(DataType, Encoding, bool); 16] = [
+const PAIRS: &[(DataType, Encoding, bool)] = &[
     (DataType::Boolean, Encoding::Plain, true),
     (DataType::Boolean, Encoding::Dictionary, false),
     (DataType::Boolean, Encoding::Rle, true),
@@ -114,8 +115,8 @@ const PAIRS: [(DataType, Encoding, bool); 16] = [
 ];
 
 #[test]
-fn round_trips(rt: HostRuntime) {
-    assert_eq!(rt; first_wrong(rt.alloc(), &PAIRS), None);
+fn round_trips(rt: HostRuntime) -> Result<(), Fail> {
+    expect_none(first_wrong(rt.alloc(), PAIRS))
 }
 
 /// Points of a type, of which no page has so many.
@@ -129,7 +130,7 @@ impl Row for (DataType, u16) {
     }
 }
 
-const TOO_MANY: [(DataType, u16); 4] = [
+const TOO_MANY: &[(DataType, u16)] = &[
     (DataType::Boolean, 1001),
     (DataType::Int32, 1001),
     (DataType::Int64, 1001),
@@ -138,12 +139,12 @@ const TOO_MANY: [(DataType, u16); 4] = [
 
 /// No page has 1,001 points.
 #[test]
-fn too_many_points(rt: HostRuntime) {
-    assert_eq!(rt; first_wrong(rt.alloc(), &TOO_MANY), None);
+fn too_many_points(rt: HostRuntime) -> Result<(), Fail> {
+    expect_none(first_wrong(rt.alloc(), TOO_MANY))
 }
 
 /// Why bodies of INT64 PLAIN are refused, and which.
-const REFUSED: [(&str, &[u8]); 6] = [
+const REFUSED: &[(&str, &[u8])] = &[
     ("no bytes", b""),
     ("times cut off", b"\x00\x00\x00\x05\x01\x02\x00"),
     ("no points", b"\x00\x00\x00\x01\x00\x00"),
@@ -176,8 +177,8 @@ impl Row for (&'static str, &'static [u8]) {
 }
 
 #[test]
-fn refused_bodies(rt: HostRuntime) {
-    assert_eq!(rt; first_wrong(rt.alloc(), &REFUSED), None);
+fn refused_bodies(rt: HostRuntime) -> Result<(), Fail> {
+    expect_none(first_wrong(rt.alloc(), REFUSED))
 }
 
 /// Runs suit no texts, so no page of texts is written in runs.
@@ -197,20 +198,17 @@ struct Form {
     times: &'static [i64],
 }
 
-/// Appends the page of the one point 5 at this time, and says whether it could.
+/// Appends the page of the one point 5 at this time, and says whether it is there.
 fn push_page(alloc: Global, time: i64, pages: &mut Vec<Page>) -> bool {
+    let mut points = Vec::new(alloc);
     let value = Value::I64(5);
-    match vec![in alloc; Point { time, value }] {
-        Ok(points) => {
-            let points = List::of(points);
-            pages.push(Page { points }).is_ok()
-        }
-        Err(_) => false,
-    }
+    let has_point = push(&mut points, Some(Point { time, value }));
+    let points = List::of(points);
+    push(pages, Some(Page { points })) && has_point
 }
 
 impl Form {
-    /// Appends the chunk of this measurement, and says whether it could.
+    /// Appends the chunk of this measurement, and says whether it is there.
     fn push_chunk(&self, alloc: Global, measurement: &[u8], chunks: &mut Vec<Chunk>) -> bool {
         let mut pages = Vec::new(alloc);
         let mut is_whole = true;
@@ -225,13 +223,13 @@ impl Form {
                     encoding: self.encoding,
                     pages: List::of(pages),
                 };
-                chunks.push(chunk).is_ok() && is_whole
+                push(chunks, Some(chunk)) && is_whole
             }
             Err(_) => false,
         }
     }
 
-    /// Appends the group of this device, and says whether it could.
+    /// Appends the group of this device, and says whether it is there.
     fn push_group(&self, alloc: Global, device: &[u8], groups: &mut Vec<Group>) -> bool {
         let mut chunks = Vec::new(alloc);
         let mut is_whole = true;
@@ -241,7 +239,7 @@ impl Form {
         match Path::read(alloc, device) {
             Ok(device) => {
                 let chunks = List::of(chunks);
-                groups.push(Group { device, chunks }).is_ok() && is_whole
+                push(groups, Some(Group { device, chunks })) && is_whole
             }
             Err(_) => false,
         }
@@ -260,7 +258,7 @@ impl Row for Form {
     }
 }
 
-const FORMS: [Form; 9] = [
+const FORMS: &[Form] = &[
     Form {
         why: "",
         devices: &[b"root.a", b"root.b"],
@@ -327,6 +325,6 @@ const FORMS: [Form; 9] = [
 ];
 
 #[test]
-fn trees(rt: HostRuntime) {
-    assert_eq!(rt; first_wrong(rt.alloc(), &FORMS), None);
+fn trees(rt: HostRuntime) -> Result<(), Fail> {
+    expect_none(first_wrong(rt.alloc(), FORMS))
 }

@@ -1,6 +1,7 @@
 //! A plain slow reader of an index, with which the tests compare: it takes field after field, and looks at whole lists
 //! afterwards. It shares no code with tsdb_index, of which it has the types alone.
 
+use super::samples::push;
 use std::alloc::Global;
 use tsdb_base::{DataType, Encoding, List, Stats, Text, Value, suits};
 use tsdb_index::{IndexEntry, PageEntry, Pointer};
@@ -160,8 +161,8 @@ impl<'a> Left<'a> {
             if self.is_bad {
                 break;
             }
-            let page = self.page(data_type);
-            self.is_bad |= pages.push(page).is_err();
+            let is_there = push(&mut pages, Some(self.page(data_type)));
+            self.is_bad |= !is_there;
         }
         pages
     }
@@ -186,13 +187,11 @@ impl<'a> Left<'a> {
     fn entries(&mut self) -> Vec<IndexEntry> {
         let mut entries = Vec::new(self.alloc);
         for _ in 0..u16::from_be_bytes(self.part()) {
-            match self.entry() {
-                Some(entry) => self.is_bad |= entries.push(entry).is_err(),
-                None => self.is_bad = true,
-            }
             if self.is_bad {
                 break;
             }
+            let is_there = push(&mut entries, self.entry());
+            self.is_bad |= !is_there;
         }
         entries
     }
@@ -213,13 +212,11 @@ impl<'a> Left<'a> {
     fn pointers(&mut self) -> Vec<Pointer> {
         let mut pointers = Vec::new(self.alloc);
         for _ in 0..u32::from_be_bytes(self.part()) {
-            match self.pointer() {
-                Some(pointer) => self.is_bad |= pointers.push(pointer).is_err(),
-                None => self.is_bad = true,
-            }
             if self.is_bad {
                 break;
             }
+            let is_there = push(&mut pointers, self.pointer());
+            self.is_bad |= !is_there;
         }
         pointers
     }

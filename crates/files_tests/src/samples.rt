@@ -1,6 +1,7 @@
 //! What several tests share: tables of rows that are right or wrong, statistics and points. Depends on tsdb_base.
 
 use std::alloc::Global;
+use std::test::Fail;
 use tsdb_base::{DataType, Point, Stats, Text, Value};
 
 /// The statistics of the one point 1, 5 of INT64.
@@ -31,6 +32,30 @@ pub fn first_wrong<R: Row>(alloc: Global, rows: &[R]) -> Option<usize> {
     None
 }
 
+/// Fails where a place is wrong.
+pub fn expect_none(wrong: Option<usize>) -> Result<(), Fail> {
+    match wrong {
+        None => Ok(()),
+        Some(place) => Err(Fail::new(format_args!("{place} is wrong"))),
+    }
+}
+
+/// Appends the item if there is one, and says whether it is there. As it is given away, the caller has nothing to drop.
+pub fn push<T: Drop>(list: &mut Vec<T>, item: Option<T>) -> bool {
+    match item {
+        Some(item) => list.push(item).is_ok(),
+        None => false,
+    }
+}
+
+/// Whether this was found.
+pub fn is_same<T: PartialEq + Drop>(found: Option<T>, wanted: &T) -> bool {
+    match found {
+        Some(found) => found == *wanted,
+        None => false,
+    }
+}
+
 /// What points are made of.
 #[derive(Clone, Copy)]
 pub enum Sample {
@@ -43,7 +68,8 @@ pub enum Sample {
     Repeated(DataType),
 }
 
-fn text(alloc: Global, bytes: &[u8]) -> Option<Value> {
+/// The text of these bytes.
+pub fn text(alloc: Global, bytes: &[u8]) -> Option<Value> {
     match Text::new(alloc, bytes) {
         Ok(text) => Some(Value::Text(text)),
         Err(_) => None,
@@ -66,7 +92,7 @@ impl Sample {
         }
     }
 
-    /// The value of the point at this place, if there is one.
+    /// The value of the point at this place.
     fn value(self, alloc: Global, place: u16) -> Option<Value> {
         let walked = (37 * u32::from(place) % 101) as u16;
         match self {
@@ -81,6 +107,13 @@ impl Sample {
             Sample::Repeated(DataType::Text) => text(alloc, &[(place % 5) as u8]),
         }
     }
+
+    /// The point at this place.
+    fn point(self, alloc: Global, place: u16) -> Option<Point> {
+        let value = self.value(alloc, place)?;
+        let time = self.time(place);
+        Some(Point { time, value })
+    }
 }
 
 /// So many points of the sample.
@@ -88,13 +121,7 @@ pub fn points(alloc: Global, sample: Sample, count: u16) -> Option<Vec<Point>> {
     let mut points = Vec::new(alloc);
     let mut is_whole = true;
     for place in 0..count {
-        match sample.value(alloc, place) {
-            Some(value) => {
-                let time = sample.time(place);
-                is_whole &= points.push(Point { time, value }).is_ok();
-            }
-            None => is_whole = false,
-        }
+        is_whole &= push(&mut points, sample.point(alloc, place));
     }
     is_whole.then_some(points)
 }

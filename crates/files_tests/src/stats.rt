@@ -1,7 +1,8 @@
 //! Tests of tsdb_stats. Depends on `samples`.
 
-use super::samples::{Row, Sample, first_wrong, points};
+use super::samples::{Row, Sample, expect_none, first_wrong, is_same, points, push};
 use std::alloc::Global;
+use std::test::Fail;
 use tsdb_base::{DataType, Point, Stats, Value};
 use tsdb_stats::{join, stats_of};
 
@@ -12,6 +13,15 @@ fn stats(points: &[Point]) -> Option<Stats> {
     } else {
         stats_of(points).ok()
     }
+}
+
+/// The statistics of each of these lists. There are fewer where memory ran out.
+fn each_stats(alloc: Global, lists: &[&[Point]]) -> Vec<Stats> {
+    let mut all = Vec::new(alloc);
+    for points in lists {
+        push(&mut all, stats(points));
+    }
+    all
 }
 
 /// So many points, and the first and the last, the least and the greatest of their numbers.
@@ -52,10 +62,11 @@ impl Summary {
             && is_extreme(&stats.greatest, data_type, greatest)
     }
 
-    fn is_found(self, points: &[Point]) -> bool {
-        match stats(points) {
-            Some(stats) => self.is_of(&stats),
-            None => false,
+    fn is_found(self, alloc: Global, points: &[Point]) -> bool {
+        let all = each_stats(alloc, &[points]);
+        match all.as_slice() {
+            [stats] => self.is_of(stats),
+            _ => false,
         }
     }
 }
@@ -64,13 +75,13 @@ impl Row for Summary {
     fn is_right(&self, alloc: Global) -> bool {
         let Summary(sample, count, _) = *self;
         match points(alloc, sample, count) {
-            Some(points) => self.is_found(&points),
+            Some(points) => self.is_found(alloc, &points),
             None => false,
         }
     }
 }
 
-const LISTS: [Summary; 4] = [
+const LISTS: &[Summary] = &[
     Summary(Sample::Numbers(&[5]), 1, [5, 5, 5, 5]),
     Summary(
         Sample::Numbers(&[3, i64::MIN, 7, 7]),
@@ -86,11 +97,11 @@ const LISTS: [Summary; 4] = [
 ];
 
 #[test]
-fn statistics_of_numbers(rt: HostRuntime) {
-    assert_eq!(rt; first_wrong(rt.alloc(), &LISTS), None);
+fn statistics_of_numbers(rt: HostRuntime) -> Result<(), Fail> {
+    expect_none(first_wrong(rt.alloc(), LISTS))
 }
 
-const WALKS: [Summary; 12] = [
+const WALKS: &[Summary] = &[
     Summary(Sample::Walk(DataType::Boolean), 1, [0, 0, 0, 0]),
     Summary(Sample::Walk(DataType::Boolean), 2, [0, 37, 0, 37]),
     Summary(Sample::Walk(DataType::Boolean), 1000, [0, 98, 0, 100]),
@@ -106,26 +117,21 @@ const WALKS: [Summary; 12] = [
 ];
 
 #[test]
-fn statistics_of_each_type(rt: HostRuntime) {
-    assert_eq!(rt; first_wrong(rt.alloc(), &WALKS), None);
+fn statistics_of_each_type(rt: HostRuntime) -> Result<(), Fail> {
+    expect_none(first_wrong(rt.alloc(), WALKS))
 }
 
 /// Whether the whole is both joined, of which each has 1,000 points at most.
 fn is_joined(left: &Stats, right: &Stats, whole: &Stats) -> bool {
-    left.count <= 1000
-        && right.count <= 1000
-        && match join(left, right) {
-            Ok(joined) => joined == *whole,
-            Err(_) => false,
-        }
+    left.count <= 1000 && right.count <= 1000 && is_same(join(left, right).ok(), whole)
 }
 
 /// Whether the statistics of the points before a cut and behind it, joined, are those of all.
-fn are_joined(points: &[Point], cut: usize) -> bool {
+fn are_joined(alloc: Global, points: &[Point], cut: usize) -> bool {
     let (before, behind) = points.split_at(cut.min(points.len()));
-    let (left, right, whole) = (stats(before), stats(behind), stats(points));
-    match (&left, &right, &whole) {
-        (Some(left), Some(right), Some(whole)) => is_joined(left, right, whole),
+    let all = each_stats(alloc, &[before, behind, points]);
+    match all.as_slice() {
+        [left, right, whole] => is_joined(left, right, whole),
         _ => false,
     }
 }
@@ -137,16 +143,16 @@ struct Cut(usize);
 impl Row for Cut {
     fn is_right(&self, alloc: Global) -> bool {
         match points(alloc, Sample::Walk(DataType::Int64), 1000) {
-            Some(points) => are_joined(&points, self.0),
+            Some(points) => are_joined(alloc, &points, self.0),
             None => false,
         }
     }
 }
 
-const CUTS: [Cut; 4] = [Cut(1), Cut(2), Cut(500), Cut(999)];
+const CUTS: &[Cut] = &[Cut(1), Cut(2), Cut(500), Cut(999)];
 
 /// Of 1,000 points, cut in two at each place, the joined statistics are those of the whole, which a table gives.
 #[test]
-fn joined_statistics_are_those_of_the_whole(rt: HostRuntime) {
-    assert_eq!(rt; first_wrong(rt.alloc(), &CUTS), None);
+fn joined_statistics_are_those_of_the_whole(rt: HostRuntime) -> Result<(), Fail> {
+    expect_none(first_wrong(rt.alloc(), CUTS))
 }
