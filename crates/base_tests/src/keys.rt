@@ -5,18 +5,31 @@ use std::hash::Hash;
 
 pub fn crosses_threads<T: Send + Sync>(_value: &T) {}
 
-pub fn is_key<K: Eq + Hash + Ord + Send + Sync>(_key: &K) {}
-
-/// Whether a map finds the key by the hash of the same key.
-pub fn is_found<K: Eq + Hash + Drop>(alloc: Global, key: K, same: &K) -> bool {
+/// Whether a map finds the key by the hash of the same key. Keys cross threads.
+pub fn is_found<K: Eq + Hash + Send + Sync + Drop>(
+    alloc: Global,
+    key: Option<K>,
+    same: Option<K>,
+) -> bool {
     let mut numbers = HashMap::new(alloc);
-    numbers.insert(key, 1u8).is_ok() && numbers.get(same) == Some(&1)
+    match (key, same) {
+        (Some(key), Some(same)) => {
+            crosses_threads(&same);
+            numbers.insert(key, 1u8).is_ok() && numbers.get(&same) == Some(&1)
+        }
+        _ => false,
+    }
 }
 
 /// Whether a map gives the first key first, though it came last.
-pub fn is_first<K: Ord + Drop>(alloc: Global, first: K, second: K) -> bool {
+pub fn is_first<K: Ord + Drop>(alloc: Global, first: Option<K>, second: Option<K>) -> bool {
     let mut numbers = BTreeMap::new(alloc);
-    let has_second = numbers.insert(second, 2u8).is_ok();
-    let has_first = numbers.insert(first, 1).is_ok();
-    has_second && has_first && numbers.values().next() == Some(&1)
+    match (first, second) {
+        (Some(first), Some(second)) => {
+            let has_second = numbers.insert(second, 2u8).is_ok();
+            let has_first = numbers.insert(first, 1).is_ok();
+            has_second && has_first && numbers.values().next() == Some(&1)
+        }
+        _ => false,
+    }
 }

@@ -1,11 +1,19 @@
 //! What no clause says of paths and names: the worked examples, that each call answers with ample memory, the printed
 //! texts, and the bounds that maps and threads ask for. It depends on `tsdb_path`, `keys` and `rows`.
-use crate::keys::{is_first, is_found, is_key};
+use crate::keys::{is_first, is_found};
 use crate::rows::{Row, expect_none, first_wrong};
 use std::alloc::Global;
 use std::test::Fail;
 use tsdb_base::Memory;
 use tsdb_path::{Name, Path, PathFault};
+
+fn path(alloc: Global, bytes: &[u8]) -> Option<Path> {
+    Path::read(alloc, bytes).ok()
+}
+
+fn name(alloc: Global, bytes: &[u8]) -> Option<Name> {
+    Name::read(alloc, bytes).ok()
+}
 
 fn fault_of(alloc: Global, bytes: &[u8]) -> Option<PathFault> {
     Path::read(alloc, bytes).err()
@@ -128,25 +136,28 @@ fn a_path_is_taken_apart(rt: HostRuntime) {
 struct Child(Tailed, u64, &'static [u8], Result<&'static [u8], PathFault>);
 
 impl Child {
+    /// Whether this is the child, or why there is none.
+    fn is_child(self, child: Result<Path, PathFault>) -> bool {
+        match (child, self.3) {
+            (Ok(child), Ok(bytes)) => child.bytes() == bytes,
+            (Err(fault), Err(wanted)) => fault == wanted,
+            _ => false,
+        }
+    }
+
     /// Whether the path has so many nodes, and the child is as it has to be.
-    fn is_child(self, path: &Path, name: &Name) -> bool {
-        let Child(_, nodes, _, wanted) = self;
-        path.nodes() == nodes
-            && match (path.child(name), wanted) {
-                (Ok(child), Ok(bytes)) => child.bytes() == bytes,
-                (Err(fault), Err(wanted)) => fault == wanted,
-                _ => false,
-            }
+    fn is_parent(self, path: Option<Path>, name: Option<Name>) -> bool {
+        match (path, name) {
+            (Some(path), Some(name)) => path.nodes() == self.1 && self.is_child(path.child(&name)),
+            _ => false,
+        }
     }
 }
 
 impl Row for Child {
     fn is_right(&self, alloc: Global) -> bool {
         match bytes_of(alloc, self.0) {
-            Some(bytes) => match (Path::read(alloc, &bytes), Name::read(alloc, self.2)) {
-                (Ok(path), Ok(name)) => self.is_child(&path, &name),
-                _ => false,
-            },
+            Some(bytes) => self.is_parent(path(alloc, &bytes), name(alloc, self.2)),
             None => false,
         }
     }
@@ -239,22 +250,12 @@ fn a_name_has_at_most_255_bytes(rt: HostRuntime) -> Result<(), Fail> {
     expect_none(first_wrong(rt.alloc(), LONG))
 }
 
-/// Whether a name and a path are keys, and paths are in order.
+/// Whether maps find a path and a name, and give paths and names in their order.
 fn are_keys(alloc: Global) -> bool {
-    match (
-        Name::read(alloc, b"a"),
-        Path::read(alloc, b"root.a"),
-        Path::read(alloc, b"root.a"),
-        Path::read(alloc, b"root.B"),
-    ) {
-        (Ok(name), Ok(path), Ok(same), Ok(first)) => {
-            is_key(&name);
-            is_key(&path);
-            let is_found = is_found(alloc, path, &same);
-            is_first(alloc, first, same) && is_found
-        }
-        _ => false,
-    }
+    is_found(alloc, path(alloc, b"root.a"), path(alloc, b"root.a"))
+        && is_first(alloc, path(alloc, b"root.B"), path(alloc, b"root.a"))
+        && is_found(alloc, name(alloc, b"a"), name(alloc, b"a"))
+        && is_first(alloc, name(alloc, b"B"), name(alloc, b"a"))
 }
 
 #[test]

@@ -1,5 +1,5 @@
 //! Texts: their limit, their order, and that they are keys. It depends on `tsdb_base` and `keys`.
-use crate::keys::{is_first, is_found, is_key};
+use crate::keys::{is_first, is_found};
 use std::alloc::Global;
 use tsdb_base::{Memory, Text, TextFault};
 
@@ -27,40 +27,31 @@ fn the_limit_of_texts(rt: HostRuntime) {
     assert!(rt; is_too_long(alloc, &LONG));
 }
 
-fn is_printed(alloc: Global, text: &Text, wanted: &str) -> bool {
-    match format!(in alloc; "{text:?} {}", Memory) {
-        Ok(printed) => printed.as_str() == wanted,
-        Err(_) => false,
+fn text(alloc: Global, bytes: &[u8]) -> Option<Text> {
+    Text::new(alloc, bytes).ok()
+}
+
+fn is_printed(alloc: Global, text: Option<Text>, wanted: &str) -> bool {
+    match text {
+        Some(text) => match format!(in alloc; "{text:?} {}", Memory) {
+            Ok(printed) => printed.as_str() == wanted,
+            Err(_) => false,
+        },
+        None => false,
     }
 }
 
-/// Whether maps take the text as a key, which is less than `b`.
-fn is_key_before_b(alloc: Global, text: Text) -> bool {
-    is_key(&text);
-    let key: Result<_, _> = text.clone();
-    match (key, Text::new(alloc, b"b")) {
-        (Ok(key), Ok(second)) => {
-            let is_found = is_found(alloc, key, &text);
-            is_first(alloc, text, second) && is_found
-        }
-        _ => false,
-    }
-}
-
-/// Whether the mixed text is printed so, and is a key.
-fn is_printed_and_key(alloc: Global) -> bool {
-    match Text::new(alloc, MIXED) {
-        Ok(text) => {
-            let is_printed = is_printed(alloc, &text, "\"a\\xff\\x0a\" memory");
-            is_key_before_b(alloc, text) && is_printed
-        }
-        Err(_) => false,
-    }
+/// Whether a map finds the mixed text, and gives it before `b`.
+fn are_keys(alloc: Global) -> bool {
+    is_found(alloc, text(alloc, MIXED), text(alloc, MIXED))
+        && is_first(alloc, text(alloc, MIXED), text(alloc, b"b"))
 }
 
 #[test]
 fn texts_are_printed_and_keys(rt: HostRuntime) {
-    assert!(rt; is_printed_and_key(rt.alloc()));
+    let alloc = rt.alloc();
+    assert!(rt; is_printed(alloc, text(alloc, MIXED), "\"a\\xff\\x0a\" memory"));
+    assert!(rt; are_keys(alloc));
 }
 
 /// Whether a text of the first bytes is less than one of the second.

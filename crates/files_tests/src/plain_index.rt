@@ -234,21 +234,25 @@ fn stand_before(device: &Path, name: &Name, next_device: &Path, next: &Name) -> 
 
 /// Whether names and places rise.
 fn pointers_rise(pointers: &[Pointer]) -> bool {
-    pointers.windows(2).all(|pair| match pair {
-        [at, next] => {
-            at.place < next.place
-                && stand_before(&at.device, &at.measurement, &next.device, &next.measurement)
+    for place in 1..pointers.len() {
+        let (at, next) = (&pointers[place - 1], &pointers[place]);
+        let have_order = stand_before(&at.device, &at.measurement, &next.device, &next.measurement);
+        if !have_order || at.place >= next.place {
+            return false;
         }
-        _ => false,
-    })
+    }
+    true
 }
 
 /// Whether names rise.
 fn entries_rise(entries: &[IndexEntry]) -> bool {
-    entries.windows(2).all(|pair| match pair {
-        [at, next] => { stand_before(&at.device, &at.measurement, &next.device, &next.measurement) }
-        _ => false,
-    })
+    for place in 1..entries.len() {
+        let (at, next) = (&entries[place - 1], &entries[place]);
+        if !stand_before(&at.device, &at.measurement, &next.device, &next.measurement) {
+            return false;
+        }
+    }
+    true
 }
 
 /// Whether these may be the pointers of a root at `root_place`, where the first leaf stands at `place`.
@@ -332,7 +336,10 @@ fn bad_leaf(
 ) -> Option<u64> {
     for (number, at) in pointers.iter().enumerate() {
         let next = pointers.get(number.wrapping_add(1));
-        let end = next.map_or(root_place, |next| next.place);
+        let end = match next {
+            Some(next) => next.place,
+            None => root_place,
+        };
         if !append_leaf(alloc, between(bytes, place, at.place, end), at, next, all) {
             return Some(at.place);
         }
