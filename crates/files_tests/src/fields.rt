@@ -1,6 +1,6 @@
 //! Tests of tsdb_fields. Depends on `samples`.
 
-use super::samples::{Row, expect_none, first_wrong, five, text};
+use super::samples::{Row, expect_none, first_wrong, five, push, text};
 use std::alloc::Global;
 use std::test::Fail;
 use tsdb_base::{DataType, Encoding, PlainValue, Stats, Value};
@@ -49,10 +49,12 @@ fn texts(alloc: Global) -> Option<Stats> {
 }
 
 /// Appends the statistics, and says whether they are there.
-fn put_stats(stats: Option<Stats>, into: &mut Vec<u8>) -> bool {
-    match stats {
-        Some(stats) => write_stats(&stats, into).is_ok(),
-        None => false,
+fn put_stats(alloc: Global, stats: Option<Stats>, into: &mut Vec<u8>) -> bool {
+    let mut list = Vec::new(alloc);
+    push(&mut list, stats);
+    match list.as_slice() {
+        [stats] => write_stats(stats, into).is_ok(),
+        _ => false,
     }
 }
 
@@ -97,8 +99,8 @@ impl Field {
             }
             Field::Numbers(wide, narrow) => (wide, narrow).put(into).is_ok(),
             Field::Value(number) => write_value(&Value::I32(number), into).is_ok(),
-            Field::Five => put_stats(Some(five()), into),
-            Field::Texts => put_stats(texts(alloc), into),
+            Field::Five => put_stats(alloc, Some(five()), into),
+            Field::Texts => put_stats(alloc, texts(alloc), into),
         }
     }
 

@@ -205,37 +205,37 @@ fn have_leaves(bytes: &[u8], root: u64, count: u16, leaves: u8) -> bool {
 /// Whether the bytes of the index, with the first leaf and the root at these places, are as asked.
 fn are_right(
     alloc: Global,
-    mut bytes: Vec<u8>,
+    bytes: &[u8],
     (place, root): (u64, u64),
     index: &Index,
     asked: Asked,
 ) -> bool {
-    let is_worked = bytes.as_slice() == WORKED.as_slice();
     match asked {
-        Asked::IsWorked => is_worked && root == 194,
-        Asked::IsWorkedMeta => {
-            index.entries.items().len() == 1
-                && is_worked
-                && is_same(whole(alloc, index, place), &bytes)
-        }
-        Asked::IsTooFar => false,
-        Asked::HasLeaves(count, leaves) => have_leaves(&bytes, root, count, leaves),
-        Asked::ComesBack => is_same(read(alloc, &bytes, place, root).ok(), index),
-        Asked::Agrees => {
-            agree(alloc, &bytes, place, root) && disagree_at(alloc, &mut bytes, root).is_none()
-        }
-        Asked::IsBad => is_bad(read(alloc, &bytes, place, root), place),
+        Asked::IsWorked => bytes == WORKED.as_slice() && root == 194,
+        Asked::HasLeaves(count, leaves) => have_leaves(bytes, root, count, leaves),
+        Asked::ComesBack => is_same(read(alloc, bytes, place, root).ok(), index),
+        Asked::IsBad => is_bad(read(alloc, bytes, place, root), place),
+        Asked::IsWorkedMeta | Asked::IsTooFar | Asked::Agrees => false,
     }
 }
 
 /// Whether the index with its first leaf at this place is as asked.
 fn is_as_asked(alloc: Global, index: &Index, place: u64, asked: Asked) -> bool {
+    let is_one = index.entries.items().len() == 1;
     match written(alloc, index, place) {
-        Some((bytes, root)) => are_right(alloc, bytes, (place, root), index, asked),
+        Some((mut bytes, root)) => match asked {
+            Asked::IsWorkedMeta => {
+                is_one
+                    && bytes.as_slice() == WORKED.as_slice()
+                    && is_same(whole(alloc, index, place), &bytes)
+            }
+            Asked::Agrees => {
+                agree(alloc, &bytes, place, root) && disagree_at(alloc, &mut bytes, root).is_none()
+            }
+            _ => are_right(alloc, &bytes, (place, root), index, asked),
+        },
         None => {
-            matches!(asked, Asked::IsTooFar)
-                && index.entries.items().len() == 1
-                && whole(alloc, index, place).is_none()
+            matches!(asked, Asked::IsTooFar) && is_one && whole(alloc, index, place).is_none()
         }
     }
 }

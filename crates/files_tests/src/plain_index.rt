@@ -45,16 +45,6 @@ impl<'a> Left<'a> {
         }
     }
 
-    /// The next number of eight bytes.
-    fn number(&mut self) -> u64 {
-        u64::from_be_bytes(self.part())
-    }
-
-    /// The next signed number of eight bytes.
-    fn signed(&mut self) -> i64 {
-        i64::from_be_bytes(self.part())
-    }
-
     /// The bytes behind their length.
     fn text(&mut self) -> &'a [u8] {
         let length = u16::from_be_bytes(self.part());
@@ -116,7 +106,7 @@ impl<'a> Left<'a> {
         match data_type {
             DataType::Boolean => Value::Bool(self.truth()),
             DataType::Int32 => Value::I32(i32::from_be_bytes(self.part())),
-            DataType::Int64 => Value::I64(self.signed()),
+            DataType::Int64 => Value::I64(i64::from_be_bytes(self.part())),
             DataType::Text => match Text::new(self.alloc, self.text()) {
                 Ok(text) => Value::Text(text),
                 Err(_) => {
@@ -137,20 +127,13 @@ impl<'a> Left<'a> {
 
     fn stats(&mut self, data_type: DataType) -> Stats {
         Stats {
-            count: self.number(),
-            start: self.signed(),
-            end: self.signed(),
+            count: u64::from_be_bytes(self.part()),
+            start: i64::from_be_bytes(self.part()),
+            end: i64::from_be_bytes(self.part()),
             first: self.value(data_type),
             last: self.value(data_type),
             least: self.extreme(data_type),
             greatest: self.extreme(data_type),
-        }
-    }
-
-    fn page(&mut self, data_type: DataType) -> PageEntry {
-        PageEntry {
-            place: self.number(),
-            stats: self.stats(data_type),
         }
     }
 
@@ -161,8 +144,9 @@ impl<'a> Left<'a> {
             if self.is_bad {
                 break;
             }
-            let is_there = push(&mut pages, Some(self.page(data_type)));
-            self.is_bad |= !is_there;
+            let place = u64::from_be_bytes(self.part());
+            let stats = self.stats(data_type);
+            self.is_bad |= !push(&mut pages, Some(PageEntry { place, stats }));
         }
         pages
     }
@@ -177,7 +161,7 @@ impl<'a> Left<'a> {
             measurement,
             data_type,
             encoding: self.encoding(data_type),
-            place: self.number(),
+            place: u64::from_be_bytes(self.part()),
             stats: self.stats(data_type),
             pages: List::of(self.pages(data_type)),
         })
@@ -200,7 +184,7 @@ impl<'a> Left<'a> {
     fn pointer(&mut self) -> Option<Pointer> {
         let device = Path::read(self.alloc, self.text()).ok()?;
         let measurement = Name::read(self.alloc, self.text()).ok()?;
-        let place = self.number();
+        let place = u64::from_be_bytes(self.part());
         Some(Pointer {
             device,
             measurement,

@@ -84,14 +84,6 @@ impl Sample {
         }
     }
 
-    /// The time of the point at this place.
-    fn time(self, place: u16) -> i64 {
-        match self {
-            Sample::Numbers(_) | Sample::Walk(_) => i64::from(place) + 1,
-            Sample::Repeated(_) => 10 * i64::from(place),
-        }
-    }
-
     /// The value of the point at this place.
     fn value(self, alloc: Global, place: u16) -> Option<Value> {
         let walked = (37 * u32::from(place) % 101) as u16;
@@ -111,7 +103,10 @@ impl Sample {
     /// The point at this place.
     fn point(self, alloc: Global, place: u16) -> Option<Point> {
         let value = self.value(alloc, place)?;
-        let time = self.time(place);
+        let time = match self {
+            Sample::Numbers(_) | Sample::Walk(_) => i64::from(place) + 1,
+            Sample::Repeated(_) => 10 * i64::from(place),
+        };
         Some(Point { time, value })
     }
 }
