@@ -215,6 +215,7 @@ fn are_right(
         Asked::HasLeaves(count, leaves) => have_leaves(bytes, root, count, leaves),
         Asked::ComesBack => is_same(read(alloc, bytes, place, root).ok(), index),
         Asked::IsBad => is_bad(read(alloc, bytes, place, root), place),
+        // These are asked of the index itself.
         Asked::IsWorkedMeta | Asked::IsTooFar | Asked::Agrees => false,
     }
 }
