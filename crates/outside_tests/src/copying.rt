@@ -5,24 +5,10 @@ ghost use Rattle.std.specs.Prelude.{◌≡◌};
 use tsdb_base::FileNumber;
 use tsdb_outside::{Failed, Files, Port, StoreFault};
 
-/// The bytes of a file of at most four from a place on, and how many it has.
+/// The first four bytes of a file from a place on, or as many as there are, and how many bytes the file has.
 pub type FileBytes = ([u8; 4], u64);
 
-// Reads a file of at most four bytes from a place on.
-fn read_from<P: Port>(port: &mut P, right: &P::Right, at: u64) -> Result<FileBytes, Failed>
-    requires { (P.Right.file right.now).store ≡ P.store port.old }
-    ensures { P.store port.new ≡ P.store port.old }
-{
-    let mut bytes = [0; 4];
-    let size = port.size(right)?;
-    if size > 4 || at > size {
-        return Err(Failed);
-    }
-    port.read(right, at, &mut bytes[..(size - at) as usize])?;
-    Ok((bytes, size))
-}
-
-/// Reads a file of at most four bytes from a place on, through a right that it takes back.
+/// Reads a file from a place on, or from its end where it ends before, through a right that it takes back.
 pub fn read_shared<P: Port>(
     port: &mut P,
     sealed: &mut P::Sealed,
@@ -35,9 +21,20 @@ pub fn read_shared<P: Port>(
     ensures port { P.store port.new ≡ P.store port.old }
 {
     let right = P::share(sealed)?;
-    let read = read_from(port, &right, at);
+    let mut bytes = [0; 4];
+    let read = match port.size(&right) {
+        Ok(size) => {
+            let at = at.min(size);
+            let count = (size - at).min(4) as usize;
+            match port.read(&right, at, &mut bytes[..count]) {
+                Ok(()) => Ok((bytes, size)),
+                Err(Failed) => Err(StoreFault::Failed),
+            }
+        }
+        Err(Failed) => Err(StoreFault::Failed),
+    };
     P::give_back(sealed, right);
-    Ok(read?)
+    read
 }
 
 /// The bytes of a file from a place on, or none where it is not there.
@@ -53,7 +50,10 @@ pub fn fetch_and_read<F: Files>(
         Ok(Some(mut sealed)) => {
             let read = read_shared(&mut port, &mut sealed, at);
             files.keep(sealed);
-            read.map(|read| Some(read))
+            match read {
+                Ok(read) => Ok(Some(read)),
+                Err(fault) => Err(fault),
+            }
         }
         Ok(None) => Ok(None),
         Err(fault) => Err(fault),
@@ -62,7 +62,7 @@ pub fn fetch_and_read<F: Files>(
     read
 }
 
-/// Copies a file into another store. Whether it was there.
+/// Copies a file of at most four bytes into another store. Whether it was there.
 pub fn copy_file<F: Files>(from: &mut F, to: &mut F, number: u64) -> Result<bool, StoreFault>
     ensures from { F.store from.new ≡ F.store from.old }
     ensures to { F.store to.new ≡ F.store to.old }

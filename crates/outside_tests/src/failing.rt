@@ -1,45 +1,50 @@
-//! The files of a real store over a directory in memory, some of whose calls fail. It has two handles and tells nothing.
-ghost use Rattle.std.specs.Prelude.{None, ◌-◌, ◌^◌};
+//! The files of a real store over a directory in memory, some of whose calls fail. It has two handles and tells
+//! nothing.
+ghost use Rattle.std.specs.Prelude.{None, ◌-◌, ◌^◌, IsTrue, IsErr};
 
+use crate::steps::{FileStep, files_answer};
+use crate::told::files_over;
 use fs_outside::{FileDirectory, FsFiles, NumberedFile};
 use std::alloc::{AllocError, Global};
 use std::io::{self, ErrorKind};
 use std::sync::Arc;
 use std::sync::atomic::{AtomicBool, AtomicU64, Ordering};
 use tsdb_base::FileNumber;
-use tsdb_outside::{Files, Port, StoreFault};
+use tsdb_outside::StoreFault;
 
-// What all handles of a directory share: for each number below 4 one more than the length of its file, or 0 for none;
-// how many calls were made, and which of them fail, by number from 1.
+// What all handles of a directory share: for each number below 4 whether its file is there, of which it keeps no bytes;
+// how many calls were made, and which of them fail, by number from 1; and whether a sync of the names has failed.
 #[derive(Drop)]
 struct Shared {
-    files: Vec<AtomicU64>,
+    there: [AtomicBool; 4],
     calls: AtomicU64,
     failing: [u64; 2],
     sync_failed: AtomicBool,
 }
 
 impl Shared {
-    // Makes a counted call.
-    fn call(&self) -> io::Result<()> {
+    // Makes a counted call, which may be refused.
+    fn call(&self, refused: bool) -> io::Result<()>
+        ensures { IsTrue refused → IsErr result }
+    {
         let number = self.calls.fetch_add(1, Ordering::SeqCst).saturating_add(1);
-        if self.failing.contains(&number) {
-            return Err(io::Error::from(ErrorKind::Other));
-        }
-        Ok(())
-    }
-
-    // One more than the length of a file, or 0 for none.
-    fn size(&self, number: u64) -> u64 {
-        match self.files.get(number as usize) {
-            Some(size) => size.load(Ordering::SeqCst),
-            None => 0,
+        if refused || self.failing.contains(&number) {
+            Err(io::Error::from(ErrorKind::Other))
+        } else {
+            Ok(())
         }
     }
 
-    fn set(&self, number: u64, size: u64) {
-        if let Some(file) = self.files.get(number as usize) {
-            file.store(size, Ordering::SeqCst);
+    fn has(&self, number: u64) -> bool {
+        match self.there.get(number as usize) {
+            Some(there) => there.load(Ordering::SeqCst),
+            None => false,
+        }
+    }
+
+    fn set(&self, number: u64, there: bool) {
+        if let Some(file) = self.there.get(number as usize) {
+            file.store(there, Ordering::SeqCst);
         }
     }
 }
@@ -81,160 +86,144 @@ impl FileDirectory for FailingDirectory {
     }
 
     fn create_new(&mut self, number: u64) -> io::Result<OpenFile> {
-        if self.sync_failed || self.shared.sync_failed.load(Ordering::SeqCst) {
-            return Err(io::Error::from(ErrorKind::Other));
-        }
-        self.shared.call()?;
-        if self.shared.size(number) > 0 {
-            return Err(io::Error::from(ErrorKind::AlreadyExists));
-        }
-        self.shared.set(number, 1);
+        let refused = self.sync_failed
+            || self.shared.sync_failed.load(Ordering::SeqCst)
+            || self.shared.has(number);
+        self.shared.call(refused)?;
+        self.shared.set(number, true);
         Ok(OpenFile(number))
     }
 
-    fn write_all(&mut self, file: &OpenFile, bytes: &[u8]) -> io::Result<()> {
-        self.shared.call()?;
-        self.shared
-            .set(file.0, (bytes.len() as u64).saturating_add(1));
-        Ok(())
+    fn write_all(&mut self, _file: &OpenFile, _bytes: &[u8]) -> io::Result<()> {
+        self.shared.call(false)
     }
 
     fn sync_file(&mut self, _file: &OpenFile) -> io::Result<()> {
-        self.shared.call()
+        self.shared.call(false)
     }
 
     fn sync_names(&mut self) -> io::Result<()> {
+        let answer = self.shared.call(self.sync_failed);
+        self.sync_failed = answer.is_err();
         if self.sync_failed {
-            return Err(io::Error::from(ErrorKind::Other));
-        }
-        let answer = self.shared.call();
-        if answer.is_err() {
             self.shared.sync_failed.store(true, Ordering::SeqCst);
         }
-        self.sync_failed = answer.is_err();
         answer
     }
 
     fn is_there(&mut self, number: u64) -> io::Result<bool> {
-        self.shared.call()?;
-        Ok(self.shared.size(number) > 0)
+        self.shared.call(false)?;
+        Ok(self.shared.has(number))
     }
 
     fn open(&mut self, number: u64) -> io::Result<Option<OpenFile>> {
-        self.shared.call()?;
-        if self.shared.size(number) == 0 {
-            return Ok(None);
-        }
-        Ok(Some(OpenFile(number)))
+        self.shared.call(false)?;
+        Ok(if self.shared.has(number) {
+            Some(OpenFile(number))
+        } else {
+            None
+        })
     }
 
     fn read_at(&mut self, _file: &OpenFile, _at: u64, _into: &mut [u8]) -> io::Result<()> {
-        self.shared.call()
+        self.shared.call(false)
     }
 
-    fn size(&mut self, file: &OpenFile) -> io::Result<u64> {
-        self.shared.call()?;
-        Ok(self.shared.size(file.0).saturating_sub(1))
+    fn size(&mut self, _file: &OpenFile) -> io::Result<u64> {
+        self.shared.call(false)?;
+        Ok(0)
     }
 
     fn remove(&mut self, number: u64) -> io::Result<()> {
-        self.shared.call()?;
-        self.shared.set(number, 0);
-        Ok(())
+        let answer = self.shared.call(false);
+        if answer.is_ok() {
+            self.shared.set(number, false);
+        }
+        answer
     }
 
     fn numbers(&mut self) -> io::Result<Vec<u64>> {
-        let mut numbers = Vec::new(self.alloc);
-        for number in 0..4 {
-            if self.shared.size(number) > 0 {
-                numbers.push(number)?;
-            }
-        }
+        let mut numbers = vec![in self.alloc; 1, 2, 3]?;
+        numbers.retain(|number| self.shared.has(*number));
         Ok(numbers)
     }
 }
 
 // Files over a directory with the file 1, of whose calls these fail.
 fn files_of(alloc: Global, failing: [u64; 2]) -> Result<FsFiles<FailingDirectory>, AllocError> {
-    let mut files = Vec::new(alloc);
-    for size in [0, 4, 0, 0] {
-        files.push(AtomicU64::new(size))?;
-    }
     let shared = Shared {
-        files,
+        there: [
+            AtomicBool::new(false),
+            AtomicBool::new(true),
+            AtomicBool::new(false),
+            AtomicBool::new(false),
+        ],
         calls: AtomicU64::new(0),
         failing,
         sync_failed: AtomicBool::new(false),
     };
+    let shared = Arc::new(alloc, shared)?;
     let directory = FailingDirectory {
         alloc,
-        shared: Arc::new(alloc, shared)?,
+        shared,
         sync_failed: false,
     };
-    let path = Arc::new(alloc, String::from_str(alloc, "d")?)?;
-    Ok(FsFiles::new(alloc, path, directory))
+    files_over(alloc, directory)
 }
 
-// Puts a file of two bytes through a port of its own, and keeps it.
-fn put_and_keep<F: Files>(files: &mut F, number: u64) -> Result<(), StoreFault> {
-    let mut port = files.port()?;
-    let sealed = port.put(FileNumber(number), b"ab");
-    files.end_port(port);
-    files.keep(sealed?);
-    Ok(())
-}
+// Two calls that fail, and steps then. A put makes four calls, and a fifth where it takes its file away.
+type Row = ([u64; 2], &'static [FileStep]);
 
-// Whether a file is there.
-fn is_found<F: Files>(files: &mut F, number: u64) -> Result<bool, StoreFault> {
-    match files.fetch(FileNumber(number))? {
-        Some(sealed) => {
-            files.keep(sealed);
-            Ok(true)
-        }
-        None => Ok(false),
-    }
-}
+const FIRST_PUT: FileStep = FileStep::Put(2, b"ab", Ok(()));
 
-// Whether the files have these numbers, as bits from the lowest on.
-fn numbers_of<F: Files>(files: &mut F) -> Result<u64, StoreFault> {
-    let mut bits = 0u64;
-    for number in &files.list()? {
-        if number.0 < 4 {
-            bits |= 1 << number.0;
-        }
-    }
-    Ok(bits)
-}
+const FIRST_FAILED: FileStep = FileStep::Put(2, b"ab", Err(StoreFault::Failed));
 
-// Two calls that fail, whether a first put of the file 2 and a second one of the file 3 succeed, and the numbers of the
-// files that are there then, as bits. A put makes four calls, and a fifth where it takes its file away.
-type Row = ([u64; 2], bool, bool, u64);
+const SECOND_PUT: FileStep = FileStep::Put(3, b"ab", Ok(()));
 
-const ROWS: [Row; 7] = [
-    ([0, 0], true, true, 0b1110),
+const SECOND_FAILED: FileStep = FileStep::Put(3, b"ab", Err(StoreFault::Failed));
+
+const ONE: FileStep = FileStep::List(&[FileNumber(1)]);
+
+const ONE_TWO: FileStep = FileStep::List(&[FileNumber(1), FileNumber(2)]);
+
+const ONE_THREE: FileStep = FileStep::List(&[FileNumber(1), FileNumber(3)]);
+
+const ALL: FileStep = FileStep::List(&[FileNumber(1), FileNumber(2), FileNumber(3)]);
+
+static ROWS: [Row; 7] = [
+    ([0, 0], &[FIRST_PUT, SECOND_PUT, ALL]),
     // A file that could not be created, written or synced is gone, and the next one is put.
-    ([1, 0], false, true, 0b1010),
-    ([2, 0], false, true, 0b1010),
-    ([3, 0], false, true, 0b1010),
+    ([1, 0], &[FIRST_FAILED, SECOND_PUT, ONE_THREE]),
+    ([2, 0], &[FIRST_FAILED, SECOND_PUT, ONE_THREE]),
+    ([3, 0], &[FIRST_FAILED, SECOND_PUT, ONE_THREE]),
     // One that could not be taken away stays.
-    ([3, 4], false, true, 0b1110),
+    ([3, 4], &[FIRST_FAILED, SECOND_PUT, ALL]),
     // After a sync of the names has failed, no port puts a file.
-    ([4, 0], false, false, 0b0010),
-    ([4, 5], false, false, 0b0110),
+    ([4, 0], &[FIRST_FAILED, SECOND_FAILED, ONE]),
+    ([4, 5], &[FIRST_FAILED, SECOND_FAILED, ONE_TWO]),
 ];
 
-// Whether a row holds.
-fn holds(alloc: Global, row: &Row) -> Result<bool, StoreFault> {
-    let mut files = files_of(alloc, row.0)?;
-    let first = put_and_keep(&mut files, 2).is_ok();
-    let second = put_and_keep(&mut files, 3).is_ok();
-    Ok(first == row.1 && second == row.2 && numbers_of(&mut files)? == row.3)
+// The file 1 is put, which is there, and then looked for, where the look fails and where it does not.
+static THERE: [Row; 1] = [(
+    [2, 0],
+    &[
+        FileStep::Put(1, b"ab", Err(StoreFault::Failed)),
+        FileStep::Read(1, 0, Err(StoreFault::Failed)),
+        FileStep::Read(1, 0, Ok(Some(([0; 4], 0)))),
+    ],
+)];
+
+fn holds(alloc: Global, row: &Row) -> bool {
+    match files_of(alloc, row.0) {
+        Ok(mut files) => files_answer(&mut files, row.1),
+        Err(_) => false,
+    }
 }
 
 // The first row that does not hold.
 fn first_wrong(alloc: Global, rows: &[Row]) -> Option<usize> {
     for (index, row) in rows.iter().enumerate() {
-        if holds(alloc, row) != Ok(true) {
+        if !holds(alloc, row) {
             return Some(index);
         }
     }
@@ -243,19 +232,10 @@ fn first_wrong(alloc: Global, rows: &[Row]) -> Option<usize> {
 
 #[test]
 fn failed_put_takes_its_file_away(rt: HostRuntime) {
-    assert!(rt; first_wrong(rt.alloc(), &ROWS).is_none());
-}
-
-// What is answered to a put of the file 1, which is there, and then to a look that fails, and one that does not.
-fn file_that_is_there(alloc: Global) -> Result<bool, StoreFault> {
-    let mut files = files_of(alloc, [2, 0])?;
-    let put = put_and_keep(&mut files, 1);
-    let first = is_found(&mut files, 1);
-    let second = is_found(&mut files, 1);
-    Ok(put == Err(StoreFault::Failed) && first == Err(StoreFault::Failed) && second == Ok(true))
+    assert_eq!(rt; first_wrong(rt.alloc(), &ROWS), None);
 }
 
 #[test]
 fn file_that_is_there_stays_and_is_not_taken_for_missing(rt: HostRuntime) {
-    assert!(rt; file_that_is_there(rt.alloc()) == Ok(true));
+    assert_eq!(rt; first_wrong(rt.alloc(), &THERE), None);
 }

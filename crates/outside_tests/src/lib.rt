@@ -9,6 +9,10 @@ mod directories;
 #[cfg(test)]
 mod failing;
 #[cfg(test)]
+mod folders;
+#[cfg(test)]
+mod looks;
+#[cfg(test)]
 mod many;
 #[cfg(test)]
 mod memory;
@@ -16,6 +20,10 @@ mod memory;
 mod openings;
 #[cfg(test)]
 mod slot_files;
+#[cfg(test)]
+mod steps;
+#[cfg(test)]
+mod stops;
 #[cfg(test)]
 mod streams;
 #[cfg(test)]

@@ -2,52 +2,62 @@
 use crate::told_slots::{Content, ToldSlots};
 use fs_outside::open_slots;
 
-// The slots of a directory, and whether it has files.
-type Start = ([Content; 2], bool);
+// The slots of a directory, whether it has files, and the slots that its opening leaves, or none where it is refused. A
+// slot is its byte, 'e' where it is empty, or '-' where it is missing.
+type Row = (&'static [u8; 2], bool, Option<&'static [u8; 2]>);
 
-const NEW: [Content; 2] = [Some(Some(0)), Some(Some(0))];
-
-// What is opened as a new store.
-const UNFINISHED: [Start; 2] = [([None, None], false), ([None, Some(Some(0))], false)];
-
-// Stores that are opened as they are.
-const STORES: [Start; 3] = [
-    ([Some(Some(0)), Some(Some(0))], false),
-    ([Some(Some(1)), Some(None)], true),
-    ([Some(None), Some(Some(0))], true),
+const ROWS: [Row; 10] = [
+    // An unfinished store is opened as a new one.
+    (b"--", false, Some(b"00")),
+    (b"-0", false, Some(b"00")),
+    // A whole one is opened as it is.
+    (b"00", false, Some(b"00")),
+    (b"1e", true, Some(b"1e")),
+    (b"e0", true, Some(b"e0")),
+    // This one has lost a slot.
+    (b"--", true, None),
+    (b"-1", false, None),
+    (b"-e", false, None),
+    (b"-0", true, None),
+    (b"0-", false, None),
 ];
 
-// What has lost a slot.
-const LOST: [Start; 5] = [
-    ([None, None], true),
-    ([None, Some(Some(1))], false),
-    ([None, Some(None)], false),
-    ([None, Some(Some(0))], true),
-    ([Some(Some(0)), None], false),
-];
+fn content(letter: u8) -> Content {
+    match letter {
+        b'-' => None,
+        b'e' => Some(None),
+        digit => Some(Some(digit.saturating_sub(b'0'))),
+    }
+}
 
 // No opening makes so many calls.
 const CALLS: u64 = 20;
 
-// Whether an opening whose call with this number fails is refused or leaves these slots, and the next one leaves them.
-fn opens(start: &Start, failing: u64, wanted: &[Content; 2]) -> bool {
-    let mut directory = ToldSlots::new(start.0, start.1, failing);
-    let first = open_slots(&mut directory).is_err()
-        || [directory.view.a, directory.view.b] == *wanted;
-    let mut stopped = ToldSlots::new(
-        [directory.view.a, directory.view.b],
-        directory.view.has_files,
-        0,
-    );
-    first && open_slots(&mut stopped).is_ok() && [stopped.view.a, stopped.view.b] == *wanted
+// Opens a directory whose call with this number fails. Whether it is opened, and its slots then.
+fn open(slots: [Content; 2], has_files: bool, failing: u64) -> (bool, [Content; 2]) {
+    let mut directory = ToldSlots::new(slots, has_files, failing);
+    let opened = open_slots(&mut directory).is_ok();
+    (opened, [directory.view.a, directory.view.b])
 }
 
-// The first of these that is not opened so, whichever call fails, and its number.
-fn first_wrong(starts: &[Start]) -> Option<(usize, u64)> {
-    for (index, start) in starts.iter().enumerate() {
-        let wanted = if start.0[0].is_none() { NEW } else { start.0 };
+// Whether an opening is refused and changes nothing, or is refused or leaves these slots, as the next one does.
+fn holds(row: &Row, failing: u64) -> bool {
+    let before = [content(row.0[0]), content(row.0[1])];
+    let (opened, after) = open(before, row.1, failing);
+    match row.2 {
+        Some(left) => {
+            let left = [content(left[0]), content(left[1])];
+            (!opened || after == left) && open(after, row.1, 0) == (true, left)
+        }
+        None => !opened && after == before,
+    }
+}
+
+// The first row that does not hold, whichever call fails, and the number of that call.
+fn first_wrong(rows: &[Row]) -> Option<(usize, u64)> {
+    for (index, row) in rows.iter().enumerate() {
         for failing in 0..CALLS {
-            if !opens(start, failing, &wanted) {
+            if !holds(row, failing) {
                 return Some((index, failing));
             }
         }
@@ -55,20 +65,7 @@ fn first_wrong(starts: &[Start]) -> Option<(usize, u64)> {
     None
 }
 
-// The first of these whose opening is not refused, or changes its slots.
-fn first_not_lost(starts: &[Start]) -> Option<usize> {
-    for (index, start) in starts.iter().enumerate() {
-        let mut directory = ToldSlots::new(start.0, start.1, 0);
-        if open_slots(&mut directory).is_ok() || [directory.view.a, directory.view.b] != start.0 {
-            return Some(index);
-        }
-    }
-    None
-}
-
 #[test]
 fn each_call_of_an_opening_fails_in_turn(rt: HostRuntime) {
-    assert!(rt; first_wrong(&UNFINISHED).is_none());
-    assert!(rt; first_wrong(&STORES).is_none());
-    assert!(rt; first_not_lost(&LOST).is_none());
+    assert_eq!(rt; first_wrong(&ROWS), None);
 }

@@ -4,13 +4,13 @@ ghost use Rattle.std.proofs.Common.{rules};
 ghost use Rattle.tsdb_base.specs.Causes.{Rose};
 ghost use Rattle.tsdb_outside.specs.Disk.{overwrite};
 
-use crate::directories::{first_and_length, opened, write_three};
+use crate::directories::opened;
+use crate::folders::{Item, are_made};
+use crate::steps::{SlotStep, slots_answer};
 use fs_outside::{FsJournal, SlotFile};
 use std::alloc::{AllocError, Global};
-use std::fs;
 use std::io::{self, ErrorKind};
-use std::os::unix;
-use tsdb_outside::{Failed, Journal, Slot, StoreFault};
+use tsdb_outside::{Failed, Slot, StoreFault};
 
 // A file in memory that tells what it holds. What is written is durable at once; its syncs fail where it is told so.
 #[derive(Drop)]
@@ -82,72 +82,65 @@ impl SlotFile for ToldFile {
     ghost seen_may_stay = { Prim.search rules };
 }
 
-// Whether a file of one byte takes another one behind it, and gives both back, after its sync has failed too.
+// Whether a file takes a byte and another one behind it, and gives both back, after its sync has failed too.
 fn tells_after_failed_sync<F: SlotFile>(file: &mut F) -> bool {
     let mut bytes = [7, 7];
-    let written = file.write_at(1, &[5]).is_ok();
+    let written = file.write_at(0, &[0]).is_ok() && file.write_at(1, &[5]).is_ok();
     let synced = file.sync().is_ok();
     let long = matches!(file.length(), Ok(2));
     written && !synced && long && file.read_at(0, &mut bytes).is_ok() && bytes == [0, 5]
 }
 
-// A file of one byte 0.
-fn told_file(alloc: Global, fails_sync: bool) -> Result<ToldFile, AllocError> {
-    let bytes = vec![in alloc; 0]?;
-    Ok(ToldFile {
-        bytes,
+fn new_file(alloc: Global, fails_sync: bool) -> ToldFile {
+    ToldFile {
+        bytes: Vec::new(alloc),
         fails_sync,
         faults: 0,
-    })
+    }
 }
 
 // Whether a file that tells does so, and counts one fault.
-fn told_file_counts_its_fault(alloc: Global) -> Result<bool, AllocError> {
-    let mut file = told_file(alloc, true)?;
-    Ok(tells_after_failed_sync(&mut file) && file.faults == 1)
+fn told_file_counts_its_fault(alloc: Global) -> bool {
+    let mut file = new_file(alloc, true);
+    tells_after_failed_sync(&mut file) && file.faults == 1
 }
 
 #[test]
 fn told_file_gives_what_it_holds_where_its_sync_fails(rt: HostRuntime) {
-    assert!(rt; told_file_counts_its_fault(rt.alloc()) == Ok(true));
+    assert!(rt; told_file_counts_its_fault(rt.alloc()));
 }
 
-// Whether the first slot is given up once its sync has failed. Its reads and the other slot go on.
-fn is_given_up<F: SlotFile + Send, G: Send>(journal: &mut FsJournal<F, G>) -> bool {
-    let mut first = [7];
-    write_three(journal, Slot::B) == Ok(())
-        && journal.write_at(Slot::A, 1, &[5]) == Ok(())
-        && journal.sync(Slot::A) == Err(Failed)
-        && journal.write_at(Slot::A, 0, &[7]) == Err(Failed)
-        && journal.sync(Slot::A) == Err(Failed)
-        && journal.read_at(Slot::A, 0, &mut first) == Ok(())
-        && first == [0]
-        && write_three(journal, Slot::B) == Ok(())
-        && first_and_length(journal, Slot::B) == Ok((3, 3))
-}
-
-// The same of a journal over files that tell.
-fn told_slot_is_given_up(alloc: Global) -> Result<bool, AllocError> {
-    let a = told_file(alloc, true)?;
-    let b = told_file(alloc, false)?;
-    Ok(is_given_up(&mut FsJournal::new(a, b, ())))
-}
+// The first slot is given up once its sync has failed. Its reads and the other slot go on.
+static GIVEN_UP: [SlotStep; 11] = [
+    SlotStep::Write(Slot::A, 0, &[0], Ok(())),
+    SlotStep::Write(Slot::B, 0, &[3, 2, 1], Ok(())),
+    SlotStep::Sync(Slot::B, Ok(())),
+    SlotStep::Write(Slot::A, 1, &[5], Ok(())),
+    SlotStep::Sync(Slot::A, Err(Failed)),
+    SlotStep::Write(Slot::A, 0, &[7], Err(Failed)),
+    SlotStep::Sync(Slot::A, Err(Failed)),
+    SlotStep::Read(Slot::A, ([0, 5, 0, 0], 2)),
+    SlotStep::Write(Slot::B, 0, &[3, 2, 1], Ok(())),
+    SlotStep::Sync(Slot::B, Ok(())),
+    SlotStep::Read(Slot::B, ([3, 2, 1, 0], 3)),
+];
 
 // How often the journal has failed shows in clauses alone.
 #[test]
 fn slot_whose_sync_failed_is_given_up(rt: HostRuntime) {
-    assert!(rt; told_slot_is_given_up(rt.alloc()) == Ok(true));
+    let a = new_file(rt.alloc(), true);
+    let b = new_file(rt.alloc(), false);
+    assert!(rt; slots_answer(&mut FsJournal::new(a, b, ()), &GIVEN_UP));
 }
 
 // A store whose first slot is a device that takes and gives bytes, and that the system cannot sync.
-fn make_device_store(rt: &HostRuntime) -> io::Result<()> {
-    fs::create_dir(rt, "device")?;
-    fs::write(rt, "device/slot1", "\0")?;
-    unix::fs::symlink(rt, "/dev/zero", "device/slot0")
-}
+static DEVICE: [Item; 3] = [
+    Item::Folder("device"),
+    Item::File("device/slot1", "\0"),
+    Item::Link("device/slot0", "/dev/zero"),
+];
 
 #[test]
 fn opening_syncs_the_slots(rt: HostRuntime) {
-    assert!(rt; make_device_store(&rt).is_ok());
-    assert!(rt; opened(&rt, b"device") == Err(StoreFault::Failed));
+    assert!(rt; are_made(&rt, &DEVICE) && opened(&rt, b"device") == Err(StoreFault::Failed));
 }

@@ -46,7 +46,7 @@ fn take_surely<S: Source + Steady>(source: &mut S, into: &mut [u8]) -> Result<us
     source.take(into)
 }
 
-const WITH_FAILING_CALLS: [Taken; 5] = [
+static WITH_FAILING_CALLS: [Taken; 5] = [
     (Err(Failed), [0, 0, 0, 0]),
     (Ok(4), [1, 2, 3, 4]),
     (Err(Failed), [0, 0, 0, 0]),
@@ -71,61 +71,76 @@ fn gives_one_byte(alloc: Global) -> Result<bool, AllocError> {
 
 #[test]
 fn source_fails_at_its_numbers_and_loses_nothing(rt: HostRuntime) {
-    assert!(rt; fails_and_loses_nothing(rt.alloc()) == Ok(true));
-    assert!(rt; gives_one_byte(rt.alloc()) == Ok(true));
+    let steady = gives_one_byte(rt.alloc());
+    assert!(rt; steady == Ok(true) && fails_and_loses_nothing(rt.alloc()) == Ok(true));
 }
 
-// Whether a sink whose second call fails, and one that is steady, take whole pieces.
-fn take_whole_pieces(alloc: Global) -> Result<bool, AllocError> {
+static WITH_FAILING_PUT: [Put; 3] = [
+    (b"ab", Ok(2)),
+    (b"cd", Err(StoreFault::Failed)),
+    (b"ef", Ok(2)),
+];
+
+static STEADY_PUT: [Put; 1] = [(b"gh", Ok(2))];
+
+// Whether a sink whose second call fails takes whole pieces.
+fn takes_whole_pieces(alloc: Global) -> Result<bool, AllocError> {
     let mut sink = MemSink::new(alloc, vec![in alloc; 2]?);
-    let mut steady = SteadySink::new(alloc);
-    let wrong = wrong_put(
-        &mut sink,
-        &[
-            (b"ab", Ok(2)),
-            (b"cd", Err(StoreFault::Failed)),
-            (b"ef", Ok(2)),
-        ],
-    );
-    let wrong_steady = wrong_put(&mut steady, &[(b"gh", Ok(2))]);
-    Ok(
-        wrong.is_none()
-            && wrong_steady.is_none()
-            && sink.bytes() == b"abef".as_slice()
-            && steady.bytes() == b"gh".as_slice(),
-    )
+    let wrong = wrong_put(&mut sink, &WITH_FAILING_PUT);
+    Ok(wrong.is_none() && sink.bytes() == b"abef".as_slice())
+}
+
+// The same of a steady one.
+fn steady_sink_takes_whole_pieces(alloc: Global) -> bool {
+    let mut sink = SteadySink::new(alloc);
+    wrong_put(&mut sink, &STEADY_PUT).is_none() && sink.bytes() == b"gh".as_slice()
 }
 
 #[test]
 fn sink_fails_at_its_numbers_and_takes_whole_pieces(rt: HostRuntime) {
-    assert!(rt; take_whole_pieces(rt.alloc()) == Ok(true));
+    let steady = steady_sink_takes_whole_pieces(rt.alloc());
+    assert!(rt; steady && takes_whole_pieces(rt.alloc()) == Ok(true));
 }
 
-const HELLO: [Taken; 3] = [
+static HELLO: [Taken; 3] = [
     (Ok(4), *b"hell"),
     (Ok(1), [b'o', 0, 0, 0]),
     (Ok(0), [0, 0, 0, 0]),
 ];
 
-#[test]
-fn source_reads_what_its_reader_has(rt: HostRuntime) {
+fn reads_hello() -> bool {
     let mut source = StdSource::new(b"hello".as_slice());
-    assert!(rt; wrong_take(&mut source, &HELLO).is_none());
-    let mut real = StdSource::new(rt.stdin());
-    assert!(rt; take_four(&mut real).0.is_ok());
+    wrong_take(&mut source, &HELLO).is_none()
 }
 
-const INTO_THREE_BYTES: [Put; 3] = [
+fn reads_input(rt: &HostRuntime) -> bool {
+    let mut source = StdSource::new(rt.stdin());
+    take_four(&mut source).0.is_ok()
+}
+
+#[test]
+fn source_reads_what_its_reader_has(rt: HostRuntime) {
+    assert!(rt; reads_hello() && reads_input(&rt));
+}
+
+static INTO_THREE_BYTES: [Put; 3] = [
     (b"hello", Ok(3)),
     (b"lo", Err(StoreFault::Failed)),
     (b"", Ok(0)),
 ];
 
-#[test]
-fn sink_writes_and_fails_where_its_writer_takes_nothing(rt: HostRuntime) {
+fn fills_three_bytes() -> bool {
     let mut room = [0; 3];
     let mut sink = StdSink::new(room.as_mut_slice());
-    assert!(rt; wrong_put(&mut sink, &INTO_THREE_BYTES).is_none());
-    let mut real = StdSink::new(io::writer(&rt));
-    assert!(rt; real.put(b"x") == Ok(1));
+    wrong_put(&mut sink, &INTO_THREE_BYTES).is_none()
+}
+
+fn writes_output(rt: &HostRuntime) -> bool {
+    let mut sink = StdSink::new(io::writer(rt));
+    sink.put(b"x") == Ok(1)
+}
+
+#[test]
+fn sink_writes_and_fails_where_its_writer_takes_nothing(rt: HostRuntime) {
+    assert!(rt; fills_three_bytes() && writes_output(&rt));
 }

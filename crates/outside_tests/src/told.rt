@@ -1,28 +1,22 @@
 //! The files of a real store over a directory that tells what it has, and has room for one file.
-ghost use Rattle.std.specs.Prelude.{◌≡◌};
-
-use crate::copying::{FileBytes, read_shared};
+use crate::steps::put_read_remove;
 use crate::told_directory::ToldDirectory;
-use fs_outside::FsFiles;
+use fs_outside::{FileDirectory, FsFiles};
 use std::alloc::{AllocError, Global};
 use std::sync::Arc;
 use tsdb_base::FileNumber;
 use tsdb_outside::{Files, Port, StoreFault};
 
-// Puts the file 1, reads it, and removes it.
-fn put_read_remove<P: Port>(port: &mut P) -> Result<FileBytes, StoreFault>
-    ensures { P.store port.new ≡ P.store port.old }
-{
-    let mut sealed = port.put(FileNumber(1), b"ab")?;
-    let read = read_shared(port, &mut sealed, 0);
-    port.remove(sealed)?;
-    read
+/// The files of a store over a directory in memory, which has no path.
+pub fn files_over<D: FileDirectory>(alloc: Global, directory: D) -> Result<FsFiles<D>, AllocError> {
+    let path = Arc::new(alloc, String::new(alloc))?;
+    Ok(FsFiles::new(alloc, path, directory))
 }
 
-// Whether this succeeds, and whether the file 2 can be put then.
+// Whether the file 1 is put, read and removed, and whether the file 2 can be put then.
 fn outcomes<F: Files>(files: &mut F) -> Result<(bool, bool), StoreFault> {
     let mut port = files.port()?;
-    let first = put_read_remove(&mut port) == Ok((*b"ab\0\0", 2));
+    let first = put_read_remove(&mut port, 1, 0) == Ok((*b"abcd", 5));
     let second = port.put(FileNumber(2), b"c");
     files.end_port(port);
     match second {
@@ -37,7 +31,7 @@ fn outcomes<F: Files>(files: &mut F) -> Result<(bool, bool), StoreFault> {
 // Two calls that fail, and the outcomes then.
 type Row = ([u64; 2], (bool, bool));
 
-const ROWS: [Row; 10] = [
+static ROWS: [Row; 10] = [
     ([0, 0], (true, true)),
     // The file could not be created, written or synced, and is not there.
     ([1, 0], (false, true)),
@@ -55,21 +49,17 @@ const ROWS: [Row; 10] = [
     ([8, 0], (false, false)),
 ];
 
-fn files_of(alloc: Global, failing: [u64; 2]) -> Result<FsFiles<ToldDirectory>, AllocError> {
-    let path = Arc::new(alloc, String::from_str(alloc, "d")?)?;
-    Ok(FsFiles::new(alloc, path, ToldDirectory::new(alloc, failing)))
-}
-
-// Whether a row holds.
-fn holds(alloc: Global, row: &Row) -> Result<bool, StoreFault> {
-    let mut files = files_of(alloc, row.0)?;
-    Ok(outcomes(&mut files)? == row.1)
+fn holds(alloc: Global, row: &Row) -> bool {
+    match files_over(alloc, ToldDirectory::new(alloc, row.0)) {
+        Ok(mut files) => outcomes(&mut files) == Ok(row.1),
+        Err(_) => false,
+    }
 }
 
 // The first row that does not hold.
 fn first_wrong(alloc: Global, rows: &[Row]) -> Option<usize> {
     for (index, row) in rows.iter().enumerate() {
-        if holds(alloc, row) != Ok(true) {
+        if !holds(alloc, row) {
             return Some(index);
         }
     }
@@ -78,5 +68,5 @@ fn first_wrong(alloc: Global, rows: &[Row]) -> Option<usize> {
 
 #[test]
 fn each_call_on_a_directory_fails_in_turn(rt: HostRuntime) {
-    assert!(rt; first_wrong(rt.alloc(), &ROWS).is_none());
+    assert_eq!(rt; first_wrong(rt.alloc(), &ROWS), None);
 }

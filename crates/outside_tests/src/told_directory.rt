@@ -1,7 +1,7 @@
-//! A directory in memory that tells what it has, so that the clauses of `FileDirectory` are met by one that tells. It has
-//! room for one file, so a file that was not taken away shows at the next `put`. Two of its calls fail, by number. Each
-//! handle has a file of its own. Depends on `fs_outside`.
-ghost use Rattle.std.specs.Prelude.{◌≡◌, ◌≤◌, map, None, Some, OnErr};
+//! A directory in memory that tells what it has, so that the clauses of `FileDirectory` are met by one that tells. It
+//! has room for one file, so a file that was not taken away shows at the next `put`. Two of its calls fail, by number.
+//! Each handle has a file of its own. Depends on `fs_outside`.
+ghost use Rattle.std.specs.Prelude.{◌≡◌, ◌≤◌, map, None, Some, IsErr, IsTrue, OnErr};
 ghost use Rattle.tsdb_base.specs.Causes.{Rose};
 ghost use Rattle.fs_outside.specs.Directory.{change_one, with_bytes, with_synced_bytes, with_synced_name, without};
 ghost use Rattle.outside_tests.specs.ToldDirectory.{is_number, told_files};
@@ -10,7 +10,8 @@ use fs_outside::{FileDirectory, NumberedFile};
 use std::alloc::{AllocError, Global};
 use std::io::{self, ErrorKind};
 
-// What the directory holds: a file with these bytes, if it has a number, and whether a stop leaves its bytes and its name.
+// What the directory holds: a file with these bytes, if it has a number, and whether a stop leaves its bytes and its
+// name.
 #[derive(Drop)]
 struct Held {
     number: Option<u64>,
@@ -134,18 +135,20 @@ impl ToldDirectory {
         io::Error::from(ErrorKind::Other)
     }
 
-    // Makes the next call, which may be one that fails.
-    fn call(&mut self) -> io::Result<()>
+    // Makes the next call, which may be refused or one that fails.
+    fn call(&mut self, refused: bool) -> io::Result<()>
+        ensures refused { IsTrue refused → IsErr result }
         ensures held { self.new.held ≡ self.old.held }
         ensures sync_failed { self.new.sync_failed ≡ self.old.sync_failed }
         ensures later { self.old.faults ≤ self.new.faults }
         ensures rose { OnErr result (Rose self.old.faults self.new.faults) }
     {
         self.made = self.made.saturating_add(1);
-        if self.failing.contains(&self.made) {
-            return Err(self.fail());
+        if refused || self.failing.contains(&self.made) {
+            Err(self.fail())
+        } else {
+            Ok(())
         }
-        Ok(())
     }
 }
 
@@ -177,10 +180,9 @@ impl FileDirectory for ToldDirectory {
     }
 
     fn create_new(&mut self, number: u64) -> io::Result<OpenFile> {
-        self.call()?;
-        if self.sync_failed || self.held.number.is_some() {
-            return Err(self.fail());
-        }
+        let there = self.held.number;
+        let refused = self.sync_failed || there.is_some();
+        self.call(refused)?;
         self.held = Held {
             number: Some(number),
             bytes: Vec::new(self.alloc),
@@ -191,7 +193,7 @@ impl FileDirectory for ToldDirectory {
     }
 
     fn write_all(&mut self, file: &OpenFile, bytes: &[u8]) -> io::Result<()> {
-        self.call()?;
+        self.call(false)?;
         match bytes.to_vec(self.alloc) {
             Ok(bytes) => {
                 fill(&mut self.held, file.0, bytes);
@@ -202,16 +204,13 @@ impl FileDirectory for ToldDirectory {
     }
 
     fn sync_file(&mut self, file: &OpenFile) -> io::Result<()> {
-        self.call()?;
+        self.call(false)?;
         make_bytes_durable(&mut self.held, file.0);
         Ok(())
     }
 
     fn sync_names(&mut self) -> io::Result<()> {
-        if self.sync_failed {
-            return Err(self.fail());
-        }
-        let answer = self.call();
+        let answer = self.call(self.sync_failed);
         self.sync_failed = answer.is_err();
         if answer.is_ok() {
             make_name_durable(&mut self.held);
@@ -220,55 +219,48 @@ impl FileDirectory for ToldDirectory {
     }
 
     fn is_there(&mut self, number: u64) -> io::Result<bool> {
-        self.call()?;
+        self.call(false)?;
         Ok(is_number(self.held.number, number))
     }
 
     fn open(&mut self, number: u64) -> io::Result<Option<OpenFile>> {
-        self.call()?;
-        if is_number(self.held.number, number) {
-            return Ok(Some(OpenFile(number)));
-        }
-        Ok(None)
+        self.call(false)?;
+        Ok(if is_number(self.held.number, number) {
+            Some(OpenFile(number))
+        } else {
+            None
+        })
     }
 
     fn read_at(&mut self, file: &OpenFile, at: u64, into: &mut [u8]) -> io::Result<()> {
-        self.call()?;
         let at = at as usize;
-        match self.held.number {
-            Some(there)
-                if there == file.0
-                    && at <= self.held.bytes.len()
-                    && into.len() <= self.held.bytes.len() - at => {
-                into.copy_from_slice(&self.held.bytes[at..at + into.len()]);
-                Ok(())
-            }
-            _ => Err(self.fail()),
-        }
+        let length = self.held.bytes.len();
+        let there = is_number(self.held.number, file.0);
+        self.call(!there || at > length || into.len() > length - at)?;
+        into.copy_from_slice(&self.held.bytes[at..at + into.len()]);
+        Ok(())
     }
 
     fn size(&mut self, file: &OpenFile) -> io::Result<u64> {
-        self.call()?;
-        match self.held.number {
-            Some(there) if there == file.0 => Ok(self.held.bytes.len() as u64),
-            _ => Err(self.fail()),
-        }
+        let there = is_number(self.held.number, file.0);
+        self.call(!there)?;
+        Ok(self.held.bytes.len() as u64)
     }
 
     fn remove(&mut self, number: u64) -> io::Result<()> {
-        self.call()?;
+        self.call(false)?;
         take_away(&mut self.held, number);
         Ok(())
     }
 
     fn numbers(&mut self) -> io::Result<Vec<u64>> {
-        self.call()?;
-        let mut numbers = Vec::new(self.alloc);
-        if let Some(number) = self.held.number {
-            if numbers.push(number).is_err() {
-                return Err(self.fail());
-            }
+        self.call(false)?;
+        match self.held.number {
+            Some(number) => match vec![in self.alloc; number] {
+                Ok(numbers) => Ok(numbers),
+                Err(_) => Err(self.fail()),
+            },
+            None => Ok(Vec::new(self.alloc)),
         }
-        Ok(numbers)
     }
 }

@@ -1,7 +1,7 @@
 //! The directory of a store in memory that tells its slots, of at most one byte each, so that the clauses of
 //! `SlotDirectory` are met by one that tells. A stop leaves what is seen in it. One of its calls fails, by number.
 //! Depends on `fs_outside`.
-ghost use Rattle.std.specs.Prelude.{◌≡◌, ◌≢◌, ◌≤◌, ◌↔◌, [], ◌∷◌, IsTrue, None, Some, OnErr};
+ghost use Rattle.std.specs.Prelude.{◌≡◌, ◌≢◌, ◌≤◌, ◌↔◌, [], ◌∷◌, IsErr, IsTrue, None, Some, OnErr};
 ghost use Rattle.std.specs.Option.{option_map};
 ghost use Rattle.tsdb_base.specs.Causes.{Rose};
 ghost use Rattle.fs_outside.specs.SlotDirectory.{with_renamed};
@@ -112,17 +112,19 @@ impl ToldSlots {
         io::Error::from(ErrorKind::Other)
     }
 
-    // Makes the next call, which may be the one that fails.
-    fn call(&mut self) -> io::Result<()>
+    // Makes the next call, which may be refused or the one that fails.
+    fn call(&mut self, refused: bool) -> io::Result<()>
+        ensures refused { IsTrue refused → IsErr result }
         ensures view { self.new.view ≡ self.old.view }
         ensures later { self.old.faults ≤ self.new.faults }
         ensures rose { OnErr result (Rose self.old.faults self.new.faults) }
     {
         self.made = self.made.saturating_add(1);
-        if self.made == self.failing {
-            return Err(self.fail());
+        if refused || self.made == self.failing {
+            Err(self.fail())
+        } else {
+            Ok(())
         }
-        Ok(())
     }
 }
 
@@ -137,7 +139,7 @@ impl SlotDirectory for ToldSlots {
     ghost lawful = { λ _. record { seen_may_stay = refl; counts_now = λ _ _. tt } };
 
     fn has_slot(&mut self, slot: Slot) -> io::Result<bool> {
-        self.call()?;
+        self.call(false)?;
         match slot {
             Slot::A => Ok(is_there(self.view.a)),
             Slot::B => Ok(is_there(self.view.b)),
@@ -145,7 +147,7 @@ impl SlotDirectory for ToldSlots {
     }
 
     fn is_one_zero(&mut self, slot: Slot) -> io::Result<bool> {
-        self.call()?;
+        self.call(false)?;
         match slot {
             Slot::A => Ok(is_zero(self.view.a)),
             Slot::B => Ok(is_zero(self.view.b)),
@@ -153,60 +155,57 @@ impl SlotDirectory for ToldSlots {
     }
 
     fn has_files(&mut self) -> io::Result<bool> {
-        self.call()?;
+        self.call(false)?;
         Ok(self.view.has_files)
     }
 
     fn sync_parent(&mut self) -> io::Result<()> {
-        self.call()?;
+        self.call(false)?;
         self.view.is_named = true;
         Ok(())
     }
 
     fn create_unfinished(&mut self, _slot: Slot) -> io::Result<()> {
-        self.call()?;
+        self.call(false)?;
         self.view.unfinished = None;
         self.view.is_synced = false;
         Ok(())
     }
 
     fn write_unfinished(&mut self, bytes: &[u8]) -> io::Result<()> {
-        self.call()?;
-        if bytes.len() != 1 {
-            return Err(self.fail());
-        }
+        self.call(bytes.len() != 1)?;
         self.view.unfinished = Some(bytes[0]);
         self.view.is_synced = false;
         Ok(())
     }
 
     fn sync_unfinished(&mut self) -> io::Result<()> {
-        self.call()?;
+        self.call(false)?;
         self.view.is_synced = true;
         Ok(())
     }
 
     fn rename(&mut self, slot: Slot) -> io::Result<()> {
-        self.call()?;
+        self.call(false)?;
         give_name(&mut self.view, slot);
         Ok(())
     }
 
     fn sync_names(&mut self) -> io::Result<()> {
-        self.call()
+        self.call(false)
     }
 
     fn open(&mut self, slot: Slot) -> io::Result<ToldSlot> {
-        self.call()?;
-        match slot {
-            Slot::A if is_there(self.view.a) => Ok(ToldSlot(slot)),
-            Slot::B if is_there(self.view.b) => Ok(ToldSlot(slot)),
-            _ => Err(self.fail()),
-        }
+        let there = match slot {
+            Slot::A => is_there(self.view.a),
+            Slot::B => is_there(self.view.b),
+        };
+        self.call(!there)?;
+        Ok(ToldSlot(slot))
     }
 
     fn sync_slot(&mut self, file: &ToldSlot) -> io::Result<()> {
-        self.call()?;
+        self.call(false)?;
         match file.0 {
             Slot::A => self.view.a_is_synced = true,
             Slot::B => self.view.b_is_synced = true,

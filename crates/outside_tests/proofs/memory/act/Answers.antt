@@ -1,9 +1,0 @@
-use Rattle.std.proofs.Common.{◌≡◌, length, sym, ◌∙◌, arith}
-use Rattle.tsdb_outside.specs.Disk.{in_slot}
-use Rattle.outside_tests.proofs.memory.act.Goals as goal
-
-pub write_at-requires : goal.write_at-requires
-write_at-requires g c = λ image told.
-    let all : c.in_ok-length-in-Write.length ≡ length (in_slot c.in-Write.slot image) =
-    c.in_ok-length-in-Write.ensures.length image (sym c.length.ensures.keeps.seen ∙ told) in
-    omega (arith, all)
