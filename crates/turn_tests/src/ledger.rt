@@ -6,7 +6,7 @@ use std::alloc::{AllocError, Global};
 use tsdb_turn::Logged;
 
 /// Which pass added it, and how many it had added before.
-#[derive(Clone, Copy, PartialEq, Eq, Debug)]
+#[derive(Clone, Copy)]
 pub struct Entry {
     pub by: u32,
     pub place: u32,
@@ -67,25 +67,26 @@ impl Ledger {
     }
 }
 
-/// Each of so many passes added so many entries, in its order.
-pub fn has_all_in_order(
-    alloc: Global,
-    entries: &[Entry],
-    passes: u32,
-    times: u32,
-) -> Result<bool, AllocError> {
-    let mut next = Vec::new(alloc);
-    for _ in 0..passes {
-        next.push(0u32)?;
-    }
+// Whether a pass added so many entries, in its order.
+fn has_in_order(entries: &[Entry], by: u32, times: u32) -> bool {
+    let mut next = 0u32;
     for entry in entries {
-        let Some(place) = next.get_mut(entry.by as usize) else {
-            return Ok(false);
-        };
-        if *place != entry.place {
-            return Ok(false);
+        if entry.by == by {
+            if entry.place != next {
+                return false;
+            }
+            next = next.wrapping_add(1);
         }
-        *place = place.wrapping_add(1);
     }
-    Ok(next.iter().all(|place| *place == times))
+    next == times
+}
+
+/// Whether each of so many passes added so many entries, in its order, and there is no other one.
+pub fn has_all_in_order(entries: &[Entry], passes: u32, times: u32) -> bool {
+    for by in 0..passes {
+        if !has_in_order(entries, by, times) {
+            return false;
+        }
+    }
+    entries.iter().all(|entry| entry.by < passes)
 }
