@@ -1,11 +1,14 @@
 //! Slots as bytes, cuts of a log, and stops at each moment of appends, over places in memory.
-use crate::steps::{
-    Left, Step, leaves, place_of, scan_bytes, scan_place, wrong_step_in, wrong_stop,
+use crate::courses::{
+    Course, EACH, STILL, SYNCED, Step, WRITTEN, come_so_in, first_wrong, is_right,
 };
-use mem_outside::{MemJournal, MemPlace, StopKind};
+use crate::slots::Content::Bytes;
+use crate::slots::Seen::{Closed, Records, Torn, TornAt};
+use crate::slots::{EMPTY, Reading, WHOLE, first_misread, place_of, scan_in};
+use mem_outside::{MemJournal, MemPlace};
 use std::alloc::Global;
-use tsdb_frames::{Frame, ScanFault};
-use tsdb_outside::{Failed, Journal, Place, Slot, StoreFault};
+use tsdb_frames::Frame;
+use tsdb_outside::{Journal, Place, Slot};
 
 // The log of a created series and an insert, as its format describes them.
 const CREATED: [u8; 15] = *b"\x01\x00\x0aroot.g.d.s\x02\x00";
@@ -29,78 +32,46 @@ const THREE: [u8; 22] = [
     0,
 ];
 
-// Where the three records are torn when they are cut to this length.
-fn torn_at(length: usize) -> ScanFault {
-    let at = match length {
-        0..=6 => 0,
-        7..=13 => 6,
-        _ => 13,
-    };
-    ScanFault::Torn { at }
-}
-
-// The first length to which the three records are cut and not torn where they should be.
-fn wrong_cut(alloc: Global) -> Result<Option<usize>, StoreFault> {
-    for length in 0..THREE.len() {
-        if scan_bytes(alloc, &THREE[..length])? != Err(torn_at(length)) {
-            return Ok(Some(length));
-        }
-    }
-    Ok(None)
-}
+static CUTS: [Reading; 4] = [
+    (Bytes(&THREE), (0, 6), Torn),
+    (Bytes(&THREE), (7, 13), TornAt(1, 6)),
+    (Bytes(&THREE), (14, 21), TornAt(1, 13)),
+    (Bytes(&THREE), (22, 22), Records(1, 3)),
+];
 
 #[test]
 fn every_cut_of_a_log_is_torn_at_its_last_open_gate(rt: HostRuntime) {
-    assert!(rt; wrong_cut(rt.alloc()) == Ok(None));
-    assert!(rt; scan_bytes(rt.alloc(), &THREE) == Ok(Ok(3)));
+    assert_eq!(rt; first_misread(rt.alloc(), &CUTS), None);
 }
 
-// The bytes of a slot, and the number of its records or why there are none.
-type SlotCase = (&'static [u8], Result<usize, ScanFault>);
-
-const SLOTS: [SlotCase; 8] = [
-    (&[0], Ok(0)),
-    (&[2], Ok(0)),
+static SLOTS: [Reading; 9] = [
+    (Bytes(&[0]), WHOLE, Closed),
+    (Bytes(&[2]), WHOLE, Closed),
     // What stands behind a closed gate is nothing, be it open or torn.
-    (&[0, 1, 1], Ok(0)),
-    (&[1, 0, 0, 0, 1, 7, 255, 1, 9], Ok(1)),
+    (Bytes(&[0, 1, 1]), WHOLE, Closed),
+    (Bytes(&[1, 0, 0, 0, 1, 7, 255, 1, 9]), WHOLE, Records(1, 1)),
     // A length of 0.
-    (&[1, 0, 0, 0, 0, 0, 0], Err(ScanFault::Torn { at: 0 })),
+    (Bytes(&[1, 0, 0, 0, 0, 0, 0]), WHOLE, Torn),
     // A length that leaves the slot, and one that leaves no gate in it.
-    (
-        &[1, 255, 255, 255, 255, 7, 0],
-        Err(ScanFault::Torn { at: 0 }),
-    ),
-    (&[1, 0, 0, 0, 1, 0], Err(ScanFault::Torn { at: 0 })),
+    (Bytes(&[1, 255, 255, 255, 255, 7, 0]), WHOLE, Torn),
+    (Bytes(&[1, 0, 0, 0, 1, 0]), WHOLE, Torn),
     // A last record that cannot be read is no end of the log.
-    (&[1, 0, 0, 0, 1, 7, 1, 0], Err(ScanFault::Torn { at: 6 })),
+    (Bytes(&[1, 0, 0, 0, 1, 7, 1, 0]), WHOLE, TornAt(1, 6)),
+    (Bytes(&WORKED), (40, 40), TornAt(15, 20)),
 ];
-
-// The first slot that is read otherwise.
-fn wrong_slot(alloc: Global, slots: &[SlotCase]) -> Result<Option<usize>, StoreFault> {
-    for (index, (bytes, wanted)) in slots.iter().enumerate() {
-        if scan_bytes(alloc, bytes)? != *wanted {
-            return Ok(Some(index));
-        }
-    }
-    Ok(None)
-}
 
 #[test]
 fn slots_are_read_up_to_the_first_closed_gate(rt: HostRuntime) {
-    assert!(rt; wrong_slot(rt.alloc(), &SLOTS) == Ok(None));
-    let cut = scan_bytes(rt.alloc(), &WORKED[..40]);
-    assert!(rt; cut == Ok(Err(ScanFault::Torn { at: 20 })));
+    assert_eq!(rt; first_misread(rt.alloc(), &SLOTS), None);
 }
 
 // Whether slot A has the bytes of the worked log.
-fn has_worked_bytes(journal: &mut MemJournal) -> Result<bool, Failed> {
+fn has_worked_bytes(journal: &mut MemJournal) -> bool {
     let mut bytes = [7; 54];
-    if journal.length(Slot::A)? != 54 {
-        return Ok(false);
+    match journal.length(Slot::A) {
+        Ok(54) => journal.read_at(Slot::A, 0, &mut bytes).is_ok() && bytes == WORKED,
+        _ => false,
     }
-    journal.read_at(Slot::A, 0, &mut bytes)?;
-    Ok(bytes == WORKED)
 }
 
 // Whether the records are those of the worked log.
@@ -116,158 +87,167 @@ fn are_worked(frames: &[Frame]) -> bool {
     }
 }
 
-// Whether a place has the bytes and the records of the worked log, where it was written there.
-fn has_worked_log(alloc: Global) -> Result<bool, StoreFault> {
-    let mut place = place_of(alloc, &[0], &[], &[])?;
-    let wrong = wrong_step_in(alloc, &mut place, &WORKED_RECORDS)?;
-    let (mut journal, files) = place.take_up(b"d")?;
+// Whether a place has the bytes and the records of the worked log.
+fn has_worked_log(alloc: Global, place: &mut MemPlace) -> bool {
+    let Ok((mut journal, files)) = place.take_up(b"d") else {
+        return false;
+    };
     let has_bytes = has_worked_bytes(&mut journal);
     place.put_down(journal, files);
-    let has_records = match scan_place(alloc, &mut place, Slot::A)? {
-        Ok(frames) => are_worked(&frames),
+    match scan_in(alloc, place, Slot::A) {
+        Ok(frames) => has_bytes && are_worked(&frames),
         Err(_) => false,
-    };
-    Ok(wrong.is_none() && has_bytes == Ok(true) && has_records)
+    }
 }
 
-const WORKED_RECORDS: [Step; 2] = [Step::Added(&CREATED), Step::Added(&INSERTED)];
+// Whether it has where the worked log is written there.
+fn gets_worked_log(alloc: Global) -> bool {
+    match place_of(alloc, &Bytes(&[0]), &EMPTY, &[]) {
+        Ok(mut place) => {
+            come_so_in(alloc, &mut place, &WORKED_RECORDS) && has_worked_log(alloc, &mut place)
+        }
+        Err(_) => false,
+    }
+}
+
+static WORKED_RECORDS: [Step; 2] = [Step::Added(&CREATED), Step::Added(&INSERTED)];
 
 #[test]
 fn worked_log_is_written_and_read(rt: HostRuntime) {
-    assert!(rt; has_worked_log(rt.alloc()) == Ok(true));
-}
-
-// Appends that are made in a place whose calls with these numbers fail, how many moments it has then, and what stops
-// leave that keep what was written and not synced, or do not.
-struct Stops {
-    fails: &'static [u64],
-    appends: &'static [Step],
-    moments: u64,
-    written: &'static [Left],
-    synced: &'static [Left],
-}
-
-// Whether it comes as it should.
-fn comes_so(alloc: Global, stops: &Stops) -> Result<bool, StoreFault> {
-    let mut place = place_of(alloc, &[0], &[], stops.fails)?;
-    let wrong = wrong_step_in(alloc, &mut place, stops.appends)?;
-    Ok(
-        wrong.is_none()
-            && place.moments() == stops.moments
-            && wrong_stop(alloc, &place, StopKind::Written, Slot::A, stops.written)?.is_none()
-            && wrong_stop(alloc, &place, StopKind::Unwritten, Slot::A, stops.synced)?.is_none()
-            && wrong_stop(alloc, &place, StopKind::Scrambled, Slot::A, stops.synced)?.is_none(),
-    )
+    assert!(rt; gets_worked_log(rt.alloc()));
 }
 
 // A gate counts from its write on where the stop leaves what was written, and else from its sync on.
-const THREE_ADDED: Stops = Stops {
-    fails: &[],
-    appends: &[Step::Added(&[1]), Step::Added(&[2, 2]), Step::Added(&[3])],
+static THREE_ADDED: Course = Course {
+    steps: &[Step::Added(&[1]), Step::Added(&[2, 2]), Step::Added(&[3])],
     moments: 13,
-    written: &[(3, &[&[1]]), (7, &[&[1, 2]]), (11, &[&[1, 2, 3]])],
-    synced: &[(4, &[&[1]]), (8, &[&[1, 2]]), (12, &[&[1, 2, 3]])],
+    length: 20,
+    records: &[1, 2, 3],
+    stops: &[
+        (
+            WRITTEN,
+            Slot::A,
+            &[(3, &[&[1]]), (7, &[&[1, 2]]), (11, &[&[1, 2, 3]])],
+        ),
+        (
+            SYNCED,
+            Slot::A,
+            &[(4, &[&[1]]), (8, &[&[1, 2]]), (12, &[&[1, 2, 3]])],
+        ),
+    ],
+    ..STILL
 };
 
 #[test]
 fn stops_leave_the_acknowledged_records_or_one_more(rt: HostRuntime) {
-    assert!(rt; comes_so(rt.alloc(), &THREE_ADDED) == Ok(true));
+    assert!(rt; is_right(rt.alloc(), &THREE_ADDED));
 }
 
 // The sync of the second record's gate fails. The gate is closed by the ninth and tenth call.
-const SECOND_IN_DOUBT: Stops = Stops {
+static SECOND_IN_DOUBT: Course = Course {
     fails: &[8],
-    appends: &[Step::Added(&[1]), Step::Doubted(&[2, 2]), Step::Added(&[3])],
+    steps: &[Step::Added(&[1]), Step::Doubted(&[2, 2]), Step::Added(&[3])],
     moments: 15,
-    written: &[
-        (3, &[&[1]]),
-        (7, &[&[1, 2]]),
-        (9, &[&[1]]),
-        (13, &[&[1, 3]]),
+    length: 14,
+    records: &[1, 3],
+    stops: &[
+        (
+            WRITTEN,
+            Slot::A,
+            &[
+                (3, &[&[1]]),
+                (7, &[&[1, 2]]),
+                (9, &[&[1]]),
+                (13, &[&[1, 3]]),
+            ],
+        ),
+        (SYNCED, Slot::A, &[(4, &[&[1]]), (14, &[&[1, 3]])]),
     ],
-    synced: &[(4, &[&[1]]), (14, &[&[1, 3]])],
+    ..STILL
 };
 
 #[test]
 fn next_append_closes_a_gate_in_doubt(rt: HostRuntime) {
-    assert!(rt; comes_so(rt.alloc(), &SECOND_IN_DOUBT) == Ok(true));
+    assert!(rt; is_right(rt.alloc(), &SECOND_IN_DOUBT));
 }
 
-// What two appends do where a call of the first one fails.
-const BEFORE_THE_GATE: [Step; 2] = [Step::Refused(&[1]), Step::Added(&[3])];
+// A call of the first of two appends fails, before its gate or at it.
+const BEFORE_THE_GATE: Course = Course {
+    steps: &[Step::Refused(&[1]), Step::Added(&[3])],
+    length: 7,
+    records: &[3],
+    ..STILL
+};
 
-const AT_THE_GATE: [Step; 2] = [Step::Doubted(&[1]), Step::Added(&[3])];
+const AT_THE_GATE: Course = Course {
+    steps: &[Step::Doubted(&[1]), Step::Added(&[3])],
+    ..BEFORE_THE_GATE
+};
 
-// Whether two appends do so where the call with this number fails, and a stop behind them leaves the second.
-fn leaves_the_second(alloc: Global, failing: u64, appends: &[Step]) -> Result<bool, StoreFault> {
-    let mut place = place_of(alloc, &[0], &[], &[failing])?;
-    let wrong = wrong_step_in(alloc, &mut place, appends)?;
-    let last = place.moments().saturating_sub(1);
-    Ok(
-        wrong.is_none()
-            && leaves(
-                alloc,
-                &place,
-                last,
-                StopKind::Scrambled,
-                Slot::A,
-                &[(0, &[&[3]])],
-            )?,
-    )
-}
+// Until the second one is added a stop leaves no record or one of both.
+const UNTIL_THEN: &[&[u8]] = &[&[], &[1], &[3]];
 
-// While the gate cannot be closed nothing else is written.
-const NEVER_CLOSED: [Step; 4] = [
-    Step::Doubted(&[1]),
-    Step::Doubted(&[3]),
-    Step::Doubted(&[3]),
-    Step::Added(&[3]),
+static FAULTS: [Course; 5] = [
+    Course {
+        fails: &[1],
+        moments: 6,
+        stops: &[(EACH, Slot::A, &[(0, UNTIL_THEN), (5, &[&[3]])])],
+        ..BEFORE_THE_GATE
+    },
+    Course {
+        fails: &[2],
+        moments: 7,
+        stops: &[(EACH, Slot::A, &[(0, UNTIL_THEN), (6, &[&[3]])])],
+        ..BEFORE_THE_GATE
+    },
+    // Two calls close the gate.
+    Course {
+        fails: &[3],
+        moments: 10,
+        stops: &[(EACH, Slot::A, &[(0, UNTIL_THEN), (9, &[&[3]])])],
+        ..AT_THE_GATE
+    },
+    Course {
+        fails: &[4],
+        moments: 11,
+        stops: &[(EACH, Slot::A, &[(0, UNTIL_THEN), (10, &[&[3]])])],
+        ..AT_THE_GATE
+    },
+    // While the gate cannot be closed nothing else is written.
+    Course {
+        fails: &[4, 5, 7],
+        steps: &[
+            Step::Doubted(&[1]),
+            Step::Doubted(&[3]),
+            Step::Doubted(&[3]),
+            Step::Added(&[3]),
+        ],
+        moments: 14,
+        ..AT_THE_GATE
+    },
 ];
-
-// Whether four appends do so where three calls fail, and leave fourteen moments.
-fn writes_nothing_else(alloc: Global) -> Result<bool, StoreFault> {
-    let mut place = place_of(alloc, &[0], &[], &[4, 5, 7])?;
-    let wrong = wrong_step_in(alloc, &mut place, &NEVER_CLOSED)?;
-    Ok(wrong.is_none() && place.moments() == 14)
-}
 
 #[test]
 fn faults_at_a_gate_leave_it_in_doubt(rt: HostRuntime) {
-    let alloc = rt.alloc();
-    for failing in [1, 2] {
-        assert!(rt; leaves_the_second(alloc, failing, &BEFORE_THE_GATE) == Ok(true));
-    }
-    for failing in [3, 4] {
-        assert!(rt; leaves_the_second(alloc, failing, &AT_THE_GATE) == Ok(true));
-    }
-    assert!(rt; writes_nothing_else(alloc) == Ok(true));
+    assert_eq!(rt; first_wrong(rt.alloc(), &FAULTS), None);
 }
 
-// Whether each kind of stop at the last moment leaves no record.
-fn leaves_none(alloc: Global, place: &MemPlace) -> Result<bool, StoreFault> {
-    for kind in [StopKind::Written, StopKind::Unwritten, StopKind::Scrambled] {
-        if !leaves(alloc, place, 8, kind, Slot::A, &[(0, &[&[]])])? {
-            return Ok(false);
-        }
-    }
-    Ok(true)
-}
-
-// Four calls of the append, two of each settling that found a doubt.
-const SETTLED: [Step; 4] = [
-    Step::Settled,
-    Step::Doubted(&[1]),
-    Step::Unsettled,
-    Step::Settled,
-];
-
-fn settles_in_nine_moments(alloc: Global) -> Result<bool, StoreFault> {
-    let mut place = place_of(alloc, &[0], &[], &[4, 6])?;
-    let wrong = wrong_step_in(alloc, &mut place, &SETTLED)?;
-    Ok(wrong.is_none() && place.moments() == 9 && leaves_none(alloc, &place)?)
-}
+// Four calls of the append, two of each settling that found a doubt. A stop then leaves no record.
+static SETTLED: Course = Course {
+    fails: &[4, 6],
+    steps: &[
+        Step::Settled,
+        Step::Doubted(&[1]),
+        Step::Unsettled,
+        Step::Settled,
+    ],
+    moments: 9,
+    length: 7,
+    stops: &[(EACH, Slot::A, &[(0, &[&[], &[1]]), (8, &[&[]])])],
+    ..STILL
+};
 
 #[test]
 fn settling_closes_a_gate_in_doubt(rt: HostRuntime) {
-    assert!(rt; settles_in_nine_moments(rt.alloc()) == Ok(true));
+    assert!(rt; is_right(rt.alloc(), &SETTLED));
 }

@@ -3,6 +3,8 @@
 #![tactic(auto)]
 
 #[cfg(test)]
+mod courses;
+#[cfg(test)]
 mod firsts;
 #[cfg(test)]
 mod frames;
@@ -11,6 +13,6 @@ mod growing;
 #[cfg(test)]
 mod records;
 #[cfg(test)]
-mod steps;
+mod slots;
 #[cfg(test)]
 mod turning;
