@@ -22,8 +22,8 @@ fn first_records_are_read(rt: HostRuntime) {
     assert_eq!(rt; first_misread(rt.alloc(), &FIRSTS), None);
 }
 
-// A piece has 65,536 bytes, of which a gate, a length and the next gate take 6, and the next piece twice as many. A record
-// is read with its gate behind it, and torn without.
+// A piece has 65,536 bytes, of which a gate, a length and the next gate take 6, and the next piece twice as many. A
+// record is read with its gate behind it, and torn without.
 static AROUND_A_PIECE: [Reading; 12] = [
     (Record(65_529, &[0]), (0, 0), Torn),
     (Record(65_529, &[0]), (1, 1), Records(65_529, 1)),

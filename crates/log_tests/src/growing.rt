@@ -59,8 +59,8 @@ fn slots_of_65_536_bytes_grow_ahead(rt: HostRuntime) {
     assert_eq!(rt; first_wrong(rt.alloc(), &GROWS), None);
 }
 
-// The first record fails with a call that writes zeros, with no gate in doubt, and is added then. What was written of the
-// zeros is there.
+// The first record fails with a call that writes zeros, with no gate in doubt, and is added then. What was written of
+// the zeros is there.
 const ADDED_THEN: Course = Course {
     a: Record(65_530, &[0]),
     steps: &[Step::Refused(&[7]), Step::Added(&[7])],

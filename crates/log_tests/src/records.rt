@@ -233,46 +233,54 @@ fn is_snapshot(snapshot: &Snapshot) -> bool {
         && has_points(snapshot)
 }
 
-/// Whether a record is the one that a payload is.
-fn is_said(said: Said, item: &LogRecord) -> bool {
-    match item {
-        LogRecord::Create {
-            path,
-            data_type,
-            encoding,
-        } => {
-            matches!(said, Said::Create)
-                && is_series(path)
-                && (*data_type, *encoding) == (DataType::Int64, Encoding::Plain)
-        }
-        LogRecord::Insert { time, cells } => match said {
-            Said::Insert => *time == 1 && is_cell(cells.items()),
-            Said::Row => *time == -2 && are_cells(cells.items()),
-            _ => false,
-        },
-        LogRecord::Delete { path, range } => {
-            matches!(said, Said::Delete)
-                && (path.bytes(), range.from, range.to) == (b"root".as_slice(), -1, 2)
-        }
-        LogRecord::Freeze => matches!(said, Said::Freeze),
-        LogRecord::Flushed {
-            sequence,
-            unsequence,
-        } => matches!(said, Said::Flushed) && (sequence.0, unsequence.0) == (3, 0),
-        LogRecord::Replaced {
-            born,
-            space,
-            place,
-            output,
-            sequence,
-            unsequence,
-        } => {
-            matches!(said, Said::Replaced)
-                && (born.0, *space, *place, output.0) == (9, Space::Unsequence, 2, 8)
+/// Whether a record of files is the one that a payload is.
+fn is_of_files(said: Said, item: &LogRecord) -> bool {
+    match (said, item) {
+        (
+            Said::Flushed,
+            LogRecord::Flushed {
+                sequence,
+                unsequence,
+            },
+        ) => (sequence.0, unsequence.0) == (3, 0),
+        (
+            Said::Replaced,
+            LogRecord::Replaced {
+                born,
+                space,
+                place,
+                output,
+                sequence,
+                unsequence,
+            },
+        ) => {
+            (born.0, *space, *place, output.0) == (9, Space::Unsequence, 2, 8)
                 && sequence.items() == [FileNumber(6), FileNumber(7)].as_slice()
                 && unsequence.items().is_empty()
         }
-        LogRecord::Snapshot(snapshot) => matches!(said, Said::Snapshot) && is_snapshot(snapshot),
+        _ => false,
+    }
+}
+
+/// Whether a record is the one that a payload is.
+fn is_said(said: Said, item: &LogRecord) -> bool {
+    match (said, item) {
+        (
+            Said::Create,
+            LogRecord::Create {
+                path,
+                data_type,
+                encoding,
+            },
+        ) => is_series(path) && (*data_type, *encoding) == (DataType::Int64, Encoding::Plain),
+        (Said::Insert, LogRecord::Insert { time, cells }) => *time == 1 && is_cell(cells.items()),
+        (Said::Row, LogRecord::Insert { time, cells }) => *time == -2 && are_cells(cells.items()),
+        (Said::Delete, LogRecord::Delete { path, range }) => {
+            (path.bytes(), range.from, range.to) == (b"root".as_slice(), -1, 2)
+        }
+        (Said::Freeze, LogRecord::Freeze) => true,
+        (Said::Snapshot, LogRecord::Snapshot(snapshot)) => is_snapshot(snapshot),
+        _ => is_of_files(said, item),
     }
 }
 
@@ -340,8 +348,8 @@ fn is_inverted(alloc: Global, payload: &Payload, index: usize, item: &LogRecord)
     }
 }
 
-/// The first byte before which a cut is not bad at the last field that begins in it, or which is inverted and is not bad at
-/// its place.
+/// The first byte before which a cut is not bad at the last field that begins in it, or that is not bad at its place
+/// where it is inverted.
 fn first_wrong_byte(alloc: Global, payload: &Payload, item: &LogRecord) -> Option<usize> {
     for index in 0..payload.bytes.len() {
         let cut = read_record(alloc, &payload.bytes[..index]);

@@ -46,8 +46,8 @@ pub(crate) fn place_of(
     MemPlace::new(alloc, [a, b], Vec::new(alloc), fails)
 }
 
-// The records of a slot of a place, which has its journal back after it. It is `Failed` where the place does not hand it
-// out, too.
+// The records of a slot of a place, which has its journal back after it. It is also `Failed` where the place does not
+// hand it out.
 pub(crate) fn scan_in<P: Place>(
     alloc: Global,
     place: &mut P,
@@ -116,8 +116,8 @@ fn outcomes_of(seen: &Seen) -> (First, Count) {
     }
 }
 
-// A slot that is cut, so that from the first to the second of these numbers of its bytes are left, or of those behind its
-// `Record`; and what is read of it then.
+// A slot that is cut, so that from the first to the second of these numbers of its bytes are left, or of those behind
+// its `Record`; and what is read of it then.
 pub(crate) type Reading = (Content, (usize, usize), Seen);
 
 // It is not cut.

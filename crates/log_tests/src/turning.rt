@@ -5,8 +5,8 @@ use crate::slots::EMPTY;
 use mem_outside::StopKind;
 use tsdb_outside::Slot;
 
-// A log with one record, and one that was given up. The first turns over into the slot of the other, and a record is added
-// to it then.
+// A log with one record, and one that was given up. The first turns over into the slot of the other, and a record is
+// added to it then.
 const TURNS: Course = Course {
     a: Bytes(&[1, 0, 0, 0, 1, 1, 0]),
     b: Bytes(&[1, 0, 0, 0, 1, 9, 0]),
@@ -18,9 +18,9 @@ const TURNS: Course = Course {
     ..STILL
 };
 
-// What stops leave in the slot that it was in, and in the other one: byte 0 is closed by the first two calls, the frame is
-// written by the next two, and the gate is opened by the fifth and sixth. A gate counts from its write on where the stop
-// leaves what was written.
+// What stops leave in the slot that it was in, and in the other one: byte 0 is closed by the first two calls, the frame
+// is written by the next two, and the gate is opened by the fifth and sixth. A gate counts from its write on where the
+// stop leaves what was written.
 const STOPS: [Stops; 4] = [
     (EACH, Slot::A, &[(0, &[&[1]])]),
     (
@@ -95,10 +95,10 @@ const AT_THE_GATE: Course = Course {
     ..BEFORE_THE_GATE
 };
 
-// A course of which the call with this number fails, the record is added with the next number of calls, and the last one is
-// that of the third number. A stop leaves in the slot that the log is in until it turns over its record; then this or both;
-// then both. In the other slot it leaves the log that was given up, no record, or that of the turn that failed; from when
-// the record is added on never that; and at last the record of the second turn.
+// A course whose call of the first number fails, whose record is added by the call of the second number, and whose last
+// call has the third. Stops leave in the slot that the log is in until it turns over its record, and the added one from
+// then on. In the other slot they leave the log that was given up, no record, or that of the turn that failed; from
+// when the record is added on never that; and at last the record of the second turn.
 macro_rules! fails {
     ($failing:literal, $added:literal, $last:literal, $steps:ident) => {
         Course {
@@ -130,8 +130,8 @@ macro_rules! fails {
     };
 }
 
-// The record is added by four calls behind the one that failed, and the two that close a doubt. The second turn takes four,
-// and two more where byte 0 is not known to be closed.
+// The record is added by four calls behind the one that failed, and the two that close a doubt. The second turn takes
+// four, and two more where byte 0 is not known to be closed.
 static FAULTS: [Course; 6] = [
     fails!(1, 5, 11, BEFORE_THE_GATE),
     fails!(2, 6, 12, BEFORE_THE_GATE),
