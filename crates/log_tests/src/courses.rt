@@ -166,12 +166,13 @@ fn leaves(
     }
 }
 
-// Whether stops at each moment leave what they should.
-fn all_leave(alloc: Global, place: &MemPlace, stops: &[Stops]) -> bool {
+// Whether stops leave what they should, at these moments or, where none is named, at each.
+fn all_leave(alloc: Global, place: &MemPlace, at: &[u64], stops: &[Stops]) -> bool {
     for (kinds, slot, table) in stops {
         for kind in *kinds {
             for moment in 0..place.moments() {
-                if !leaves(alloc, place, moment, *kind, *slot, table) {
+                let is_stopped = at.is_empty() || at.contains(&moment);
+                if is_stopped && !leaves(alloc, place, moment, *kind, *slot, table) {
                     return false;
                 }
             }
@@ -193,6 +194,8 @@ pub(crate) struct Course {
     pub(crate) slot: Slot,
     pub(crate) length: u64,
     pub(crate) records: &'static [u8],
+    // The moments at which it is stopped, or none for each, and what stops leave.
+    pub(crate) at: &'static [u64],
     pub(crate) stops: &'static [Stops],
 }
 
@@ -206,6 +209,7 @@ pub(crate) const STILL: Course = Course {
     slot: Slot::A,
     length: 1,
     records: &[],
+    at: &[],
     stops: &[],
 };
 
@@ -215,7 +219,7 @@ fn goes_so(alloc: Global, place: &mut MemPlace, course: &Course) -> bool {
         && place.moments() == course.moments
         && has_length(place, course.slot, course.length)
         && has_one_of(alloc, place, course.slot, &[course.records])
-        && all_leave(alloc, place, course.stops)
+        && all_leave(alloc, place, course.at, course.stops)
 }
 
 pub(crate) fn is_right(alloc: Global, course: &Course) -> bool {

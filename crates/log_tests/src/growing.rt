@@ -98,6 +98,7 @@ static STOPPED: Course = Course {
     a: Record(65_530, &[0]),
     moments: 21,
     length: 65_536 + BLOCK,
+    at: &[0, 1, 9, 16, 17, 18, 19, 20],
     stops: &[(
         EACH,
         Slot::A,
