@@ -1,209 +1,23 @@
 //! Tests of `find_entry`: names at the ends of leaves and names that no series has, how much of a large index is read,
-//! leaves that are not read, faults of the port, and damage. Depends on tsfile_reader, tsfile_writer, tsdb_pages,
-//! tsdb_index, mem_outside, tsdb_outside, tsdb_path and tsdb_base.
+//! leaves that are not read, faults of the port, and damage. Depends on tsfile_reader, tsdb_index, tsdb_outside,
+//! tsdb_path and tsdb_base.
 
-use super::reader::{Call, port_failing_at, read_bytes, steady_port};
-use super::samples::{place_at, tree_of_device, worked_chunk};
+use super::plain_file::ByteSink;
+use super::reader::{Call, NO_CALL, meta_of, port_failing_at, read_bytes};
+use super::samples::{assert_found, numbered_tree, place_at};
 use super::writer::file_of;
-use mem_outside::{MemPort, SteadyPort};
 use std::alloc::Global;
-use std::test::Fail;
-use tsdb_base::FileNumber;
-use tsdb_index::{FileMeta, IndexEntry};
+use tsdb_base::{DataType, Encoding, FileNumber};
+use tsdb_index::IndexEntry;
 use tsdb_outside::Port;
-use tsdb_pages::Chunk;
 use tsdb_path::{Name, Path};
 use tsfile_reader::{ReadFault, find_entry};
-
-/// How many series the small file has: two full leaves, and one of 88 entries.
-const SERIES: u64 = 600;
-
-/// The device of the large file. With this name of 60 bytes each of 10,000 entries has 204 bytes, and the index 2 MB.
-const LONG_DEVICE: &str = "root.plant_on_the_river.hall_of_presses.press_042.sensors_01";
-
-/// The number of the large file's first series.
-const FIRST: u64 = 10_000;
-
-/// The number behind that of its last series.
-const END: u64 = 20_000;
 
 /// The most bytes of a file that a look-up may read.
 const MOST_READ: u64 = 100_000;
 
 /// How many bytes a pointer of the root has: `root.g.d`, a name of four bytes, and a place.
 const POINTER: usize = 24;
-
-/// The chunk of the measurement with this number, of one point.
-fn one_chunk(alloc: Global, number: u64) -> Result<Chunk, Fail> {
-    let name = format!(in alloc; "s{number:03}")?;
-    worked_chunk(alloc, name.as_bytes())
-}
-
-/// The chunks of the measurements with these numbers, all of as many digits, of three or more.
-fn chunks_from(alloc: Global, first: u64, end: u64) -> Result<Vec<Chunk>, Fail> {
-    let mut chunks = Vec::new(alloc);
-    for number in first..end {
-        chunks.push(one_chunk(alloc, number)?)?;
-    }
-    Ok(chunks)
-}
-
-/// The file of a device with the measurements of these numbers.
-fn file_from(alloc: Global, device: &str, first: u64, end: u64) -> Result<Vec<u8>, Fail> {
-    let chunks = chunks_from(alloc, first, end)?;
-    let tree = tree_of_device(alloc, device.as_bytes(), chunks)?;
-    file_of(alloc, &tree)
-}
-
-/// The file of `root.g.d` with the measurements `s000` to `s599`.
-fn wide_file(alloc: Global) -> Result<Vec<u8>, Fail> {
-    file_from(alloc, "root.g.d", 0, SERIES)
-}
-
-/// The file of the long device with the measurements `s10000` to `s19999`.
-fn large_file(alloc: Global) -> Result<Vec<u8>, Fail> {
-    file_from(alloc, LONG_DEVICE, FIRST, END)
-}
-
-/// Stores these bytes through the port, looks a series up in them, and removes them.
-fn find_in<P: Port>(
-    alloc: Global,
-    port: &mut P,
-    bytes: &[u8],
-    device: &Path,
-    measurement: &Name,
-) -> Result<Option<IndexEntry>, ReadFault> {
-    let Ok(mut sealed) = port.put(FileNumber(1), bytes) else {
-        return Err(ReadFault::Failed);
-    };
-    let outcome = match P::share(&mut sealed) {
-        Ok(right) => {
-            let outcome = find_entry(alloc, port, &right, device, measurement);
-            P::give_back(&mut sealed, right);
-            outcome
-        }
-        Err(_) => Err(ReadFault::Memory),
-    };
-    let _ = port.remove(sealed);
-    outcome
-}
-
-/// A device, a measurement, and the number of their entry in the index.
-type Row = (&'static str, &'static str, Option<usize>);
-
-/// The first and the last entry of each leaf, one in the middle, and names before, between and behind.
-const ROWS: [Row; 16] = [
-    ("root.g.d", "s000", Some(0)),
-    ("root.g.d", "s100", Some(100)),
-    ("root.g.d", "s255", Some(255)),
-    ("root.g.d", "s256", Some(256)),
-    ("root.g.d", "s511", Some(511)),
-    ("root.g.d", "s512", Some(512)),
-    ("root.g.d", "s599", Some(599)),
-    ("root.g.d", "s", None),
-    ("root.g.d", "s2555", None),
-    ("root.g.d", "s2560", None),
-    ("root.g.d", "s600", None),
-    ("root.g.d", "t", None),
-    ("root.g", "s256", None),
-    ("root.g.c", "s999", None),
-    ("root.g.d.d", "s000", None),
-    ("root.g.e", "a", None),
-];
-
-/// The first series of the large file, one in the middle, the last, and names before, between and behind.
-const FEW_OF_MANY: [Row; 6] = [
-    (LONG_DEVICE, "s10000", Some(0)),
-    (LONG_DEVICE, "s15000", Some(5_000)),
-    (LONG_DEVICE, "s19999", Some(9_999)),
-    (LONG_DEVICE, "s", None),
-    (LONG_DEVICE, "s150000", None),
-    (LONG_DEVICE, "s20000", None),
-];
-
-/// Whether this is the entry with this number, or none.
-fn is_entry(found: &Option<IndexEntry>, meta: &FileMeta, number: Option<usize>) -> bool {
-    match (found, number) {
-        (Some(entry), Some(number)) => match meta.index.entries.items().get(number) {
-            Some(wanted) => entry == wanted,
-            None => false,
-        },
-        (None, None) => true,
-        _ => false,
-    }
-}
-
-/// Looks a series up by the text of its device and its measurement.
-fn find_named<P: Port>(
-    alloc: Global,
-    port: &mut P,
-    bytes: &[u8],
-    names: (&str, &str),
-) -> Result<Result<Option<IndexEntry>, ReadFault>, Fail> {
-    let device = Path::read(alloc, names.0.as_bytes())?;
-    let measurement = Name::read(alloc, names.1.as_bytes())?;
-    Ok(find_in(alloc, port, bytes, &device, &measurement))
-}
-
-/// Looks one series up, and whether it is found as the row says, with less than 100 kB of the file read.
-fn is_right(
-    alloc: Global,
-    port: &mut MemPort,
-    bytes: &[u8],
-    meta: &FileMeta,
-    row: Row,
-) -> Result<bool, Fail> {
-    let before = port.bytes_read();
-    let Ok(found) = find_named(alloc, port, bytes, (row.0, row.1))? else {
-        return Ok(false);
-    };
-    let read = port.bytes_read().saturating_sub(before);
-    Ok(read < MOST_READ && is_entry(&found, meta, row.2))
-}
-
-/// The place of the first row that is not found so.
-fn first_wrong(
-    alloc: Global,
-    port: &mut MemPort,
-    bytes: &[u8],
-    meta: &FileMeta,
-    rows: &[Row],
-) -> Result<Option<usize>, Fail> {
-    for place in 0..rows.len() {
-        if !is_right(alloc, port, bytes, meta, rows[place])? {
-            return Ok(Some(place));
-        }
-    }
-    Ok(None)
-}
-
-/// How many bytes of the file are read for its index, and the place of the first row that is not found so, through a
-/// port that counts what it reads.
-fn found_in(alloc: Global, bytes: &[u8], rows: &[Row]) -> Result<(u64, Option<usize>), Fail> {
-    let mut port = port_failing_at(alloc, u64::MAX)?;
-    let meta = read_bytes(alloc, &mut port, bytes, Call::Meta)?;
-    let read = port.bytes_read();
-    let wrong = first_wrong(alloc, &mut port, bytes, &meta, rows)?;
-    Ok((read, wrong))
-}
-
-#[test]
-fn each_series_is_found(rt: HostRuntime) -> Result<(), Fail> {
-    let alloc = rt.alloc();
-    let (_read, wrong) = found_in(alloc, &wide_file(alloc)?, &ROWS)?;
-    assert_eq!(rt; wrong, None);
-    Ok(())
-}
-
-/// The index of 10,000 series has over 2 MB, and looking one of them up reads under 100 kB.
-#[test]
-fn one_of_many_series(rt: HostRuntime) -> Result<(), Fail> {
-    let alloc = rt.alloc();
-    let (read, wrong) = found_in(alloc, &large_file(alloc)?, &FEW_OF_MANY)?;
-    assert!(rt; read > 2_000_000);
-    assert_eq!(rt; wrong, None);
-    Ok(())
-}
 
 /// The place of the root.
 fn root_of(bytes: &[u8]) -> usize {
@@ -214,25 +28,6 @@ fn root_of(bytes: &[u8]) -> usize {
 fn leaf_of(bytes: &[u8], number: usize) -> usize {
     let pointer = number.wrapping_mul(POINTER).wrapping_add(5 + 16);
     place_at(bytes, root_of(bytes).wrapping_add(pointer)) as usize
-}
-
-/// The bytes with the last bit of this one changed.
-fn spoiled(alloc: Global, bytes: &[u8], at: usize) -> Result<Vec<u8>, Fail> {
-    let mut changed = Vec::from_slice(alloc, bytes)?;
-    if at < changed.len() {
-        changed[at] ^= 1;
-    }
-    Ok(changed)
-}
-
-/// The fault of looking `root.g.d` and this name up, if there is one.
-fn fault_of<P: Port>(
-    alloc: Global,
-    port: &mut P,
-    bytes: &[u8],
-    name: &str,
-) -> Result<Option<ReadFault>, Fail> {
-    Ok(find_named(alloc, port, bytes, ("root.g.d", name))?.err())
 }
 
 /// A part of the file.
@@ -272,92 +67,253 @@ impl Part {
     }
 }
 
-/// A part with a spoiled byte, a name that is looked up, and the part that is blamed, if one is.
-type Spoiled = (Part, &'static str, Option<Part>);
+/// What is asked of a file, and what has to come of it.
+#[derive(Clone, Copy)]
+enum Row {
+    /// More bytes than these are read for the index.
+    Index(u64),
+    /// The series of this device and measurement has the entry with this number in the index, or none, and less than
+    /// 100 kB of the file is read to find it.
+    Series(&'static str, &'static str, Option<usize>),
+    /// A bit of this part is changed. Where this measurement of `root.g.d` is looked up, this part is blamed, if one is.
+    Spoiled(Part, &'static str, Option<Part>),
+    /// Looking `s300` of `root.g.d` up fails where this call of the port does, or not.
+    Calls(u64, bool),
+}
 
-/// Groups and the other leaves are not read. A name before all leaves needs none.
-const SPOILED: [Spoiled; 12] = [
-    (Part::Head, "s300", Some(Part::Head)),
-    (Part::Tail, "s300", Some(Part::Tail)),
-    (Part::Root, "s300", Some(Part::Root)),
-    (Part::FirstPlace, "s300", Some(Part::FirstPlace)),
-    (Part::Group, "s300", None),
-    (Part::Leaf(0), "s300", None),
-    (Part::Leaf(2), "s300", None),
-    (Part::Leaf(1), "s300", Some(Part::Leaf(1))),
-    (Part::Leaf(1), "s255", None),
-    (Part::Leaf(1), "s2555", None),
-    (Part::Leaf(2), "t", Some(Part::Leaf(2))),
-    (Part::Leaf(0), "r", None),
+/// The first and the last entry of each leaf, one in the middle, and names before, between and behind.
+static ROWS: [Row; 16] = [
+    Row::Series("root.g.d", "s000", Some(0)),
+    Row::Series("root.g.d", "s100", Some(100)),
+    Row::Series("root.g.d", "s255", Some(255)),
+    Row::Series("root.g.d", "s256", Some(256)),
+    Row::Series("root.g.d", "s511", Some(511)),
+    Row::Series("root.g.d", "s512", Some(512)),
+    Row::Series("root.g.d", "s599", Some(599)),
+    Row::Series("root.g.d", "s", None),
+    Row::Series("root.g.d", "s2555", None),
+    Row::Series("root.g.d", "s2560", None),
+    Row::Series("root.g.d", "s600", None),
+    Row::Series("root.g.d", "t", None),
+    Row::Series("root.g", "s256", None),
+    Row::Series("root.g.c", "s999", None),
+    Row::Series("root.g.d.d", "s000", None),
+    Row::Series("root.g.e", "a", None),
 ];
 
-/// Whether looking the name up blames what the row says.
-fn is_blamed(
+/// The index of 10,000 series has over 2 MB. The first of them, one in the middle, the last, and names before, between
+/// and behind.
+static FEW_OF_MANY: [Row; 7] = [
+    Row::Index(2_000_000),
+    Row::Series(LONG_DEVICE, "s10000", Some(0)),
+    Row::Series(LONG_DEVICE, "s15000", Some(5_000)),
+    Row::Series(LONG_DEVICE, "s19999", Some(9_999)),
+    Row::Series(LONG_DEVICE, "s", None),
+    Row::Series(LONG_DEVICE, "s150000", None),
+    Row::Series(LONG_DEVICE, "s20000", None),
+];
+
+/// Groups and the other leaves are not read. A name before all leaves needs none.
+static SPOILED: [Row; 12] = [
+    Row::Spoiled(Part::Head, "s300", Some(Part::Head)),
+    Row::Spoiled(Part::Tail, "s300", Some(Part::Tail)),
+    Row::Spoiled(Part::Root, "s300", Some(Part::Root)),
+    Row::Spoiled(Part::FirstPlace, "s300", Some(Part::FirstPlace)),
+    Row::Spoiled(Part::Group, "s300", None),
+    Row::Spoiled(Part::Leaf(0), "s300", None),
+    Row::Spoiled(Part::Leaf(2), "s300", None),
+    Row::Spoiled(Part::Leaf(1), "s300", Some(Part::Leaf(1))),
+    Row::Spoiled(Part::Leaf(1), "s255", None),
+    Row::Spoiled(Part::Leaf(1), "s2555", None),
+    Row::Spoiled(Part::Leaf(2), "t", Some(Part::Leaf(2))),
+    Row::Spoiled(Part::Leaf(0), "r", None),
+];
+
+/// The port makes a call for the file, its length, the tail, the head, the root and the leaf.
+static CALLS: [Row; 8] = [
+    Row::Calls(1, true),
+    Row::Calls(2, true),
+    Row::Calls(3, true),
+    Row::Calls(4, true),
+    Row::Calls(5, true),
+    Row::Calls(6, true),
+    Row::Calls(7, false),
+    Row::Calls(8, false),
+];
+
+/// Stores these bytes through the port, looks a series up in them, and removes them.
+fn find_in<P: Port>(
     alloc: Global,
-    port: &mut SteadyPort,
+    port: &mut P,
     bytes: &[u8],
-    row: Spoiled,
-) -> Result<bool, Fail> {
-    let (part, name, blamed) = row;
-    let changed = spoiled(alloc, bytes, part.spot(bytes))?;
-    let fault = fault_of(alloc, port, &changed, name)?;
-    Ok(match (fault, blamed) {
+    device: &Path,
+    measurement: &Name,
+) -> Result<Option<IndexEntry>, ReadFault> {
+    let Ok(mut sealed) = port.put(FileNumber(1), bytes) else {
+        return Err(ReadFault::Failed);
+    };
+    let outcome = match P::share(&mut sealed) {
+        Ok(right) => {
+            let outcome = find_entry(alloc, port, &right, device, measurement);
+            P::give_back(&mut sealed, right);
+            outcome
+        }
+        Err(_) => Err(ReadFault::Memory),
+    };
+    let _ = port.remove(sealed);
+    outcome
+}
+
+/// What a look-up gives, and how many bytes of the file are read for it.
+type LookUp = (Result<Option<IndexEntry>, ReadFault>, u64);
+
+/// Looks a series up through a port of which this call fails.
+fn look_up(alloc: Global, bytes: &[u8], device: &Path, measurement: &Name, number: u64) -> LookUp {
+    match port_failing_at(alloc, number) {
+        Some(mut port) => {
+            let found = find_in(alloc, &mut port, bytes, device, measurement);
+            (found, port.bytes_read())
+        }
+        None => (Err(ReadFault::Memory), 0),
+    }
+}
+
+/// Looks a series up by the text of its device and its measurement.
+fn look_up_named(
+    alloc: Global,
+    bytes: &[u8],
+    device: &str,
+    measurement: &str,
+    number: u64,
+) -> LookUp {
+    let device = Path::read(alloc, device.as_bytes());
+    let measurement = Name::read(alloc, measurement.as_bytes());
+    match (device, measurement) {
+        (Ok(device), Ok(measurement)) => look_up(alloc, bytes, &device, &measurement, number),
+        _ => (Err(ReadFault::Memory), 0),
+    }
+}
+
+/// The fault of looking this measurement of `root.g.d` up, if there is one.
+fn fault_of(alloc: Global, bytes: &[u8], measurement: &str, number: u64) -> Option<ReadFault> {
+    let (found, _) = look_up_named(alloc, bytes, "root.g.d", measurement, number);
+    found.err()
+}
+
+/// How many bytes of the file are read for its index.
+fn read_for_index(alloc: Global, bytes: &[u8]) -> u64 {
+    match port_failing_at(alloc, NO_CALL) {
+        Some(mut port) => {
+            let meta = read_bytes(alloc, &mut port, bytes, Call::Meta);
+            if meta.is_ok() { port.bytes_read() } else { 0 }
+        }
+        None => 0,
+    }
+}
+
+/// Whether the entry with this number is found, or none, and less than 100 kB of the file is read for it.
+fn is_found(look_up: &LookUp, entries: &[IndexEntry], number: Option<usize>) -> bool {
+    let is_entry = match (&look_up.0, number) {
+        (Ok(Some(entry)), Some(number)) => match entries.get(number) {
+            Some(wanted) => entry == wanted,
+            None => false,
+        },
+        (Ok(None), None) => true,
+        _ => false,
+    };
+    is_entry && look_up.1 < MOST_READ
+}
+
+/// Whether looking this measurement of `root.g.d` up blames a part, or none, where a bit of another is changed.
+fn is_blamed(alloc: Global, bytes: &[u8], part: Part, name: &str, blamed: Option<Part>) -> bool {
+    let mut changed = ByteSink::new(alloc);
+    changed.put(bytes);
+    changed.flip(part.spot(bytes), 1);
+    match (fault_of(alloc, changed.bytes(), name, NO_CALL), blamed) {
         (Some(ReadFault::Damaged { at }), Some(part)) => at == part.place(bytes) as u64,
         (None, None) => true,
         _ => false,
-    })
+    }
 }
 
-/// The place of the first row that is not so.
-fn first_unblamed(
-    alloc: Global,
-    port: &mut SteadyPort,
-    bytes: &[u8],
-    rows: &[Spoiled],
-) -> Result<Option<usize>, Fail> {
+/// Whether what comes of it is as the row says, in a file with these entries in its index.
+fn is_right(alloc: Global, bytes: &[u8], entries: &[IndexEntry], row: Row) -> bool {
+    match row {
+        Row::Index(least) => read_for_index(alloc, bytes) > least,
+        Row::Series(device, measurement, number) => {
+            let found = look_up_named(alloc, bytes, device, measurement, NO_CALL);
+            is_found(&found, entries, number)
+        }
+        Row::Spoiled(part, name, blamed) => is_blamed(alloc, bytes, part, name, blamed),
+        Row::Calls(number, fails) => {
+            let fault = fault_of(alloc, bytes, "s300", number);
+            (fault == Some(ReadFault::Failed)) == fails
+        }
+    }
+}
+
+/// The place of the first row that is not right.
+fn first_wrong(alloc: Global, bytes: &[u8], entries: &[IndexEntry], rows: &[Row]) -> Option<usize> {
     for place in 0..rows.len() {
-        if !is_blamed(alloc, port, bytes, rows[place])? {
-            return Ok(Some(place));
+        if !is_right(alloc, bytes, entries, rows[place]) {
+            return Some(place);
         }
     }
-    Ok(None)
+    None
 }
 
-/// The place of the first row of the table that is not so in the small file.
-fn unblamed_in_table(alloc: Global) -> Result<Option<usize>, Fail> {
-    let bytes = wide_file(alloc)?;
-    let mut port = steady_port(alloc)?;
-    first_unblamed(alloc, &mut port, &bytes, &SPOILED)
+/// A device, and the numbers of its measurements, from the first to before the end.
+type Numbered = (&'static str, u64, u64);
+
+/// Two full leaves, and one of 88 entries.
+const SMALL: Numbered = ("root.g.d", 0, 600);
+
+/// With this name of 60 bytes each of 10,000 entries has 204 bytes, and the index 2 MB.
+const LONG_DEVICE: &str = "root.plant_on_the_river.hall_of_presses.press_042.sensors_01";
+
+const LARGE: Numbered = (LONG_DEVICE, 10_000, 20_000);
+
+/// The file of the device with these measurements, each of one point.
+fn file_from(alloc: Global, numbered: Numbered) -> Option<Vec<u8>> {
+    let (device, first, end) = numbered;
+    let kind = (DataType::Int64, Encoding::Plain);
+    let tree = numbered_tree(alloc, device.as_bytes(), kind, first, end)?;
+    file_of(alloc, &tree)
+}
+
+/// The place of the first row that is not right in this file, or the first of all where its index is not read.
+fn wrong_in(alloc: Global, bytes: &[u8], rows: &[Row]) -> Option<usize> {
+    match meta_of(alloc, bytes, Call::Meta, NO_CALL) {
+        Ok(meta) => first_wrong(alloc, bytes, meta.index.entries.items(), rows),
+        Err(_) => Some(0),
+    }
+}
+
+/// The place of the first row that is not right in the file of these series.
+fn wrong_row(alloc: Global, numbered: Numbered, rows: &[Row]) -> Option<usize> {
+    match file_from(alloc, numbered) {
+        Some(bytes) => wrong_in(alloc, &bytes, rows),
+        None => Some(0),
+    }
 }
 
 #[test]
-fn parts_that_are_read(rt: HostRuntime) -> Result<(), Fail> {
-    let wrong = unblamed_in_table(rt.alloc())?;
-    assert_eq!(rt; wrong, None);
-    Ok(())
+fn each_series_is_found(rt: HostRuntime) {
+    assert_found(&rt, wrong_row(rt.alloc(), SMALL, &ROWS), None);
 }
 
-/// Whether the look-up fails exactly where this call of the port does. The port makes a call for the file, its length,
-/// the tail, the head, the root and the leaf.
-fn fails_as_its_port(alloc: Global, bytes: &[u8], call: u64) -> Result<bool, Fail> {
-    let fault = fault_of(alloc, &mut port_failing_at(alloc, call)?, bytes, "s300")?;
-    Ok((fault == Some(ReadFault::Failed)) == (call <= 6))
-}
-
-/// The first call of the port, of eight, at which the look-up fails otherwise.
-fn wrong_call(alloc: Global, bytes: &[u8]) -> Result<Option<u64>, Fail> {
-    for call in 1..9u64 {
-        if !fails_as_its_port(alloc, bytes, call)? {
-            return Ok(Some(call));
-        }
-    }
-    Ok(None)
+/// Looking up one of 10,000 series reads under 100 kB.
+#[test]
+fn one_of_many_series(rt: HostRuntime) {
+    assert_found(&rt, wrong_row(rt.alloc(), LARGE, &FEW_OF_MANY), None);
 }
 
 #[test]
-fn calls_of_the_port(rt: HostRuntime) -> Result<(), Fail> {
-    let alloc = rt.alloc();
-    let wrong = wrong_call(alloc, &wide_file(alloc)?)?;
-    assert_eq!(rt; wrong, None);
-    Ok(())
+fn parts_that_are_read(rt: HostRuntime) {
+    assert_found(&rt, wrong_row(rt.alloc(), SMALL, &SPOILED), None);
+}
+
+#[test]
+fn calls_of_the_port(rt: HostRuntime) {
+    assert_found(&rt, wrong_row(rt.alloc(), SMALL, &CALLS), None);
 }

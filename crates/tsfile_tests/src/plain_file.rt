@@ -4,10 +4,9 @@
 
 use std::alloc::Global;
 use std::slice;
-use std::test::Fail;
 use tsdb_base::{DataType, Encoding, Point, Stats, Value, suits};
 use tsdb_index::IndexEntry;
-use tsdb_pages::{Chunk, Group, Page, Tree, are_points, write_page};
+use tsdb_pages::{Chunk, Page, Tree, are_points, write_page};
 
 /// Whether the first is a number less than the second.
 fn is_less(a: &Value, b: &Value) -> bool {
@@ -30,26 +29,29 @@ struct Summary<'a> {
 
 /// What a point makes of the points before it.
 fn with_point<'a>(before: Option<Summary<'a>>, point: &'a Point) -> Summary<'a> {
-    let Some(before) = before else {
-        return Summary {
+    let value = &point.value;
+    match before {
+        Some(before) => Summary {
+            count: before.count.wrapping_add(1),
+            first: before.first,
+            last: point,
+            least: if is_less(value, before.least) {
+                value
+            } else {
+                before.least
+            },
+            greatest: if is_less(before.greatest, value) {
+                value
+            } else {
+                before.greatest
+            },
+        },
+        None => Summary {
             count: 1,
             first: point,
             last: point,
-            least: &point.value,
-            greatest: &point.value,
-        };
-    };
-    let is_least = is_less(&point.value, before.least);
-    let is_greatest = is_less(before.greatest, &point.value);
-    Summary {
-        count: before.count.wrapping_add(1),
-        first: before.first,
-        last: point,
-        least: if is_least { &point.value } else { before.least },
-        greatest: if is_greatest {
-            &point.value
-        } else {
-            before.greatest
+            least: value,
+            greatest: value,
         },
     }
 }
@@ -65,30 +67,48 @@ fn summarize(pages: &[Page]) -> Option<Summary<'_>> {
     summary
 }
 
-/// Bytes that are put one behind another. What could not be put is told at the end alone.
+/// Bytes that are put one behind another. If some could not be put, there are none in the end.
 #[derive(Drop)]
-struct ByteSink {
+pub struct ByteSink {
     bytes: Vec<u8>,
-    /// Whether memory ran out, or statistics of no point were asked for.
+    /// Whether memory ran out, or what was to be put is not defined.
     is_bad: bool,
 }
 
 impl ByteSink {
-    fn new(alloc: Global) -> ByteSink {
+    pub fn new(alloc: Global) -> ByteSink {
         ByteSink {
             bytes: Vec::new(alloc),
             is_bad: false,
         }
     }
 
-    fn size(&self) -> u64 {
+    /// All bytes, or none where one is missing.
+    pub fn bytes(&self) -> &[u8] {
+        if self.is_bad { &[] } else { &self.bytes }
+    }
+
+    pub fn size(&self) -> u64 {
         self.bytes.len() as u64
     }
 
-    fn put(&mut self, bytes: &[u8]) {
+    pub fn put(&mut self, bytes: &[u8]) {
         if self.bytes.extend_from_slice(bytes).is_err() {
             self.is_bad = true;
         }
+    }
+
+    /// Inverts these bits of the byte at this place, if there is one.
+    pub fn flip(&mut self, place: usize, bits: u8) {
+        if let Some(byte) = self.bytes.get_mut(place) {
+            *byte ^= bits;
+        }
+    }
+
+    /// All bytes of another sink.
+    fn put_sink(&mut self, other: &ByteSink) {
+        self.put(&other.bytes);
+        self.is_bad = self.is_bad || other.is_bad;
     }
 
     /// A number in two, four or eight bytes.
@@ -100,12 +120,8 @@ impl ByteSink {
         self.put(&number.to_be_bytes()[4..]);
     }
 
-    fn put8(&mut self, number: u64) {
+    pub fn put8(&mut self, number: u64) {
         self.put(&number.to_be_bytes());
-    }
-
-    fn put_time(&mut self, time: i64) {
-        self.put(&time.to_be_bytes());
     }
 
     fn put_name(&mut self, name: &[u8]) {
@@ -119,13 +135,6 @@ impl ByteSink {
             Value::I32(number) => self.put(&number.to_be_bytes()),
             Value::I64(number) => self.put(&number.to_be_bytes()),
             Value::Text(text) => self.put_name(text.bytes()),
-        }
-    }
-
-    /// The least or the greatest value, if there is one.
-    fn put_extreme(&mut self, extreme: &Option<Value>) {
-        if let Some(value) = extreme {
-            self.put_value(value);
         }
     }
 
@@ -149,8 +158,8 @@ impl ByteSink {
     /// The statistics of some points.
     fn put_summary(&mut self, summary: Summary<'_>) {
         self.put8(summary.count);
-        self.put_time(summary.first.time);
-        self.put_time(summary.last.time);
+        self.put(&summary.first.time.to_be_bytes());
+        self.put(&summary.last.time.to_be_bytes());
         self.put_value(&summary.first.value);
         self.put_value(&summary.last.value);
         if matches!(summary.first.value, Value::I32(_) | Value::I64(_)) {
@@ -159,7 +168,7 @@ impl ByteSink {
         }
     }
 
-    /// The statistics of the points of all these pages.
+    /// The statistics of the points of all these pages. There is one at least.
     fn put_stats(&mut self, pages: &[Page]) {
         match summarize(pages) {
             Some(summary) => self.put_summary(summary),
@@ -170,34 +179,105 @@ impl ByteSink {
     /// Statistics that were read.
     fn put_read_stats(&mut self, stats: &Stats) {
         self.put8(stats.count);
-        self.put_time(stats.start);
-        self.put_time(stats.end);
+        self.put(&stats.start.to_be_bytes());
+        self.put(&stats.end.to_be_bytes());
         self.put_value(&stats.first);
         self.put_value(&stats.last);
-        self.put_extreme(&stats.least);
-        self.put_extreme(&stats.greatest);
-    }
-
-    /// All bytes, if none is missing.
-    fn finish(self) -> Result<Vec<u8>, Fail> {
-        if self.is_bad {
-            return Err("not all bytes".into());
+        if let Some(least) = &stats.least {
+            self.put_value(least);
         }
-        Ok(self.bytes)
+        if let Some(greatest) = &stats.greatest {
+            self.put_value(greatest);
+        }
+    }
+
+    /// An entry of an index that was read.
+    pub fn put_entry(&mut self, entry: &IndexEntry) {
+        self.put_name(entry.device.bytes());
+        self.put_name(entry.measurement.bytes());
+        self.put_kind(entry.data_type, entry.encoding);
+        self.put8(entry.place);
+        self.put_read_stats(&entry.stats);
+        self.put4(entry.pages.items().len() as u64);
+        for page in entry.pages.items() {
+            self.put8(page.place);
+            self.put_read_stats(&page.stats);
+        }
     }
 }
 
-/// A file in the making, and where its parts stand.
-#[derive(Drop)]
-pub struct Draft {
-    sink: ByteSink,
-    places: Vec<u64>,
-    /// The device and the measurement of each chunk, and its entry.
-    names: Vec<Vec<u8>>,
-    entries: Vec<Vec<u8>>,
+/// The body of a page, if the chunk may have such points.
+fn body_of(alloc: Global, chunk: &Chunk, points: &[Point]) -> Option<Vec<u8>> {
+    let (data_type, encoding) = (chunk.data_type, chunk.encoding);
+    if suits(data_type, encoding) && are_points(points, data_type) {
+        write_page(alloc, points, data_type, encoding).ok()
+    } else {
+        None
+    }
 }
 
-impl Draft {
+/// What the index says of a chunk: its device and measurement, and what stands behind these.
+#[derive(Drop)]
+struct Entry {
+    names: ByteSink,
+    fields: ByteSink,
+}
+
+/// Appends a leaf of these entries, and the pointer at it.
+fn put_leaf(leaf: &[Entry], pointers: &mut ByteSink, file: &mut ByteSink) {
+    if let Some(first) = leaf.first() {
+        pointers.put_sink(&first.names);
+        pointers.put8(file.size());
+    }
+    file.put(&[0x49]);
+    file.put2(leaf.len() as u64);
+    for entry in leaf {
+        file.put_sink(&entry.names);
+        file.put_sink(&entry.fields);
+    }
+}
+
+/// Appends the leaves and the pointers at them, and counts them.
+fn put_leaves(entries: &[Entry], pointers: &mut ByteSink, file: &mut ByteSink) -> u64 {
+    let mut leaves = 0u64;
+    for leaf in entries.chunks(256) {
+        put_leaf(leaf, pointers, file);
+        leaves = leaves.wrapping_add(1);
+    }
+    leaves
+}
+
+/// A file, and where its parts stand.
+#[derive(Drop)]
+pub struct PlainFile {
+    alloc: Global,
+    pub sink: ByteSink,
+    entries: Vec<Entry>,
+    /// What the root says of the leaves.
+    pointers: ByteSink,
+    /// The places of the head, the groups, the chunks, the pages, the first leaf, the root and the tail.
+    places: Vec<u64>,
+    /// The place of the first leaf.
+    pub leaf: u64,
+    pub root: u64,
+}
+
+impl PlainFile {
+    /// A file with the head alone.
+    pub fn new(alloc: Global) -> PlainFile {
+        let mut file = PlainFile {
+            alloc,
+            sink: ByteSink::new(alloc),
+            entries: Vec::new(alloc),
+            pointers: ByteSink::new(alloc),
+            places: Vec::new(alloc),
+            leaf: 0,
+            root: 0,
+        };
+        file.begin(b"TsFile\x51");
+        file
+    }
+
     /// A part begins with these bytes, and its place is kept.
     fn begin(&mut self, start: &[u8]) {
         if self.places.push(self.sink.size()).is_err() {
@@ -206,203 +286,114 @@ impl Draft {
         self.sink.put(start);
     }
 
+    /// Begins a group.
+    pub fn put_group(&mut self, device: &[u8]) {
+        self.begin(&[0x47]);
+        self.sink.put_name(device);
+    }
+
+    fn put_page(&mut self, chunk: &Chunk, page: &Page, fields: &mut ByteSink) {
+        fields.put8(self.sink.size());
+        fields.put_stats(slice::from_ref(page));
+        self.begin(&[0x50]);
+        match body_of(self.alloc, chunk, page.points.items()) {
+            Some(body) => {
+                self.sink.put4(body.len() as u64);
+                self.sink.put(&body);
+            }
+            None => self.sink.is_bad = true,
+        }
+    }
+
+    /// Appends a chunk, and says in the fields of its entry what it has.
+    fn put_fields(&mut self, chunk: &Chunk, fields: &mut ByteSink) {
+        let pages = chunk.pages.items();
+        fields.put_kind(chunk.data_type, chunk.encoding);
+        fields.put8(self.sink.size());
+        fields.put_stats(pages);
+        fields.put4(pages.len() as u64);
+        self.begin(&[0x43]);
+        self.sink.put_name(chunk.measurement.bytes());
+        self.sink.put_kind(chunk.data_type, chunk.encoding);
+        for page in pages {
+            self.put_page(chunk, page, fields);
+        }
+    }
+
+    /// Appends a chunk, and its entry.
+    pub fn put_chunk(&mut self, device: &[u8], chunk: &Chunk) {
+        let mut entry = Entry {
+            names: ByteSink::new(self.alloc),
+            fields: ByteSink::new(self.alloc),
+        };
+        entry.names.put_name(device);
+        entry.names.put_name(chunk.measurement.bytes());
+        self.put_fields(chunk, &mut entry.fields);
+        if self.entries.push(entry).is_err() {
+            self.sink.is_bad = true;
+        }
+    }
+
+    /// Appends the groups of a tree.
+    fn put_tree(&mut self, tree: &Tree) {
+        for group in tree.groups.items() {
+            let device = group.device.bytes();
+            self.put_group(device);
+            for chunk in group.chunks.items() {
+                self.put_chunk(device, chunk);
+            }
+        }
+    }
+
+    /// The head and the groups of a tree. There are no bytes in the end if the tree was not made.
+    pub fn of_groups(alloc: Global, tree: &Option<Tree>) -> PlainFile {
+        let mut file = PlainFile::new(alloc);
+        match tree {
+            Some(tree) => file.put_tree(tree),
+            None => file.sink.is_bad = true,
+        }
+        file
+    }
+
+    /// The file of a tree. It has no bytes if the tree was not made.
+    pub fn of_tree(alloc: Global, tree: &Option<Tree>) -> PlainFile {
+        let mut file = PlainFile::of_groups(alloc, tree);
+        file.finish();
+        file
+    }
+
     /// Leaves out the last chunk in the index.
     pub fn forget_last_chunk(&mut self) {
-        let _ = self.names.pop();
         let _ = self.entries.pop();
     }
-}
 
-/// A file, and where its parts stand.
-#[derive(Drop)]
-pub struct PlainFile {
-    pub bytes: Vec<u8>,
-    /// The places of the head, the groups, the chunks and the pages.
-    pub places: Vec<u64>,
-    /// The entry of each chunk.
-    pub entries: Vec<Vec<u8>>,
-    pub leaf: u64,
-    pub root: u64,
-}
-
-/// Appends a page, and says so in the entry of its chunk.
-fn put_page(
-    alloc: Global,
-    chunk: &Chunk,
-    page: &Page,
-    entry: &mut ByteSink,
-    draft: &mut Draft,
-) -> Result<(), Fail> {
-    let points = page.points.items();
-    if !suits(chunk.data_type, chunk.encoding) || !are_points(points, chunk.data_type) {
-        return Err("no page".into());
+    /// Appends the leaves, the root and the tail.
+    pub fn finish(&mut self) {
+        self.leaf = self.sink.size();
+        self.begin(&[]);
+        let leaves = put_leaves(&self.entries, &mut self.pointers, &mut self.sink);
+        self.root = self.sink.size();
+        self.begin(&[0x52]);
+        self.sink.put4(leaves);
+        self.sink.put_sink(&self.pointers);
+        self.begin(&[]);
+        self.sink.put8(self.root);
+        self.sink.put(b"TsFile");
     }
-    let body = write_page(alloc, points, chunk.data_type, chunk.encoding)?;
-    entry.put8(draft.sink.size());
-    entry.put_stats(slice::from_ref(page));
-    draft.begin(&[0x50]);
-    draft.sink.put4(body.len() as u64);
-    draft.sink.put(&body);
-    Ok(())
-}
 
-/// The entry of a chunk at this place, but for its pages.
-fn put_entry_start(device: &[u8], chunk: &Chunk, place: u64, entry: &mut ByteSink) {
-    entry.put_name(device);
-    entry.put_name(chunk.measurement.bytes());
-    entry.put_kind(chunk.data_type, chunk.encoding);
-    entry.put8(place);
-    entry.put_stats(chunk.pages.items());
-    entry.put4(chunk.pages.items().len() as u64);
-}
-
-/// Appends a chunk, and says so in its entry.
-fn put_chunk_and_entry(
-    alloc: Global,
-    device: &[u8],
-    chunk: &Chunk,
-    entry: &mut ByteSink,
-    draft: &mut Draft,
-) -> Result<(), Fail> {
-    put_entry_start(device, chunk, draft.sink.size(), entry);
-    draft.begin(&[0x43]);
-    draft.sink.put_name(chunk.measurement.bytes());
-    draft.sink.put_kind(chunk.data_type, chunk.encoding);
-    for page in chunk.pages.items() {
-        put_page(alloc, chunk, page, entry, draft)?;
+    /// How many chunks the index has.
+    pub fn chunks(&self) -> usize {
+        self.entries.len()
     }
-    Ok(())
-}
 
-/// Appends a chunk. Its entry is given.
-fn put_chunk(
-    alloc: Global,
-    device: &[u8],
-    chunk: &Chunk,
-    draft: &mut Draft,
-) -> Result<Vec<u8>, Fail> {
-    let mut entry = ByteSink::new(alloc);
-    put_chunk_and_entry(alloc, device, chunk, &mut entry, draft)?;
-    entry.finish()
-}
-
-/// The bytes of the names of a chunk.
-fn names_of(alloc: Global, device: &[u8], measurement: &[u8]) -> Result<Vec<u8>, Fail> {
-    let mut names = ByteSink::new(alloc);
-    names.put_name(device);
-    names.put_name(measurement);
-    names.finish()
-}
-
-fn put_group(alloc: Global, group: &Group, draft: &mut Draft) -> Result<(), Fail> {
-    let device = group.device.bytes();
-    draft.begin(&[0x47]);
-    draft.sink.put_name(device);
-    for chunk in group.chunks.items() {
-        let entry = put_chunk(alloc, device, chunk, draft)?;
-        draft.entries.push(entry)?;
-        let names = names_of(alloc, device, chunk.measurement.bytes())?;
-        draft.names.push(names)?;
-    }
-    Ok(())
-}
-
-/// A draft with the head alone.
-fn head(alloc: Global) -> Draft {
-    let mut draft = Draft {
-        sink: ByteSink::new(alloc),
-        places: Vec::new(alloc),
-        names: Vec::new(alloc),
-        entries: Vec::new(alloc),
-    };
-    draft.begin(b"TsFile\x51");
-    draft
-}
-
-/// The head and the groups of a tree's file.
-pub fn plain_groups(alloc: Global, tree: &Tree) -> Result<Draft, Fail> {
-    let mut draft = head(alloc);
-    for group in tree.groups.items() {
-        put_group(alloc, group, &mut draft)?;
-    }
-    Ok(draft)
-}
-
-/// Appends a leaf of these entries, and the pointer at it.
-fn put_leaf(leaf: &[Vec<u8>], first: &[u8], pointers: &mut ByteSink, sink: &mut ByteSink) {
-    pointers.put(first);
-    pointers.put8(sink.size());
-    sink.put(&[0x49]);
-    sink.put2(leaf.len() as u64);
-    for entry in leaf {
-        sink.put(entry);
-    }
-}
-
-/// Appends the leaves and the pointers at them, and counts them.
-fn put_leaves(draft: &mut Draft, pointers: &mut ByteSink) -> u64 {
-    let mut leaves = 0usize;
-    for leaf in draft.entries.chunks(256) {
-        if let Some(first) = draft.names.get(leaves.wrapping_mul(256)) {
-            put_leaf(leaf, first, pointers, &mut draft.sink);
+    /// The place of the part in which this byte stands.
+    pub fn part_of(&self, place: u64) -> u64 {
+        let mut part = 0;
+        for at in &self.places {
+            if *at <= place {
+                part = *at;
+            }
         }
-        leaves = leaves.wrapping_add(1);
+        part
     }
-    leaves as u64
-}
-
-/// Appends the root with these pointers, and the tail.
-fn put_root(leaves: u64, pointers: &ByteSink, sink: &mut ByteSink) {
-    let root = sink.size();
-    sink.put(&[0x52]);
-    sink.put4(leaves);
-    sink.put(&pointers.bytes);
-    sink.put8(root);
-    sink.put(b"TsFile");
-}
-
-/// Appends the index and the tail, and says where the first leaf and the root stand.
-fn put_end(alloc: Global, draft: &mut Draft) -> Result<(u64, u64), Fail> {
-    let mut pointers = ByteSink::new(alloc);
-    let leaf = draft.sink.size();
-    let leaves = put_leaves(draft, &mut pointers);
-    let root = draft.sink.size();
-    put_root(leaves, &pointers, &mut draft.sink);
-    if pointers.is_bad || draft.sink.is_bad {
-        return Err("not all bytes".into());
-    }
-    Ok((leaf, root))
-}
-
-/// The file of a draft, with the index and the tail.
-pub fn finish(alloc: Global, mut draft: Draft) -> Result<PlainFile, Fail> {
-    let (leaf, root) = put_end(alloc, &mut draft)?;
-    Ok(PlainFile {
-        bytes: draft.sink.bytes,
-        places: draft.places,
-        entries: draft.entries,
-        leaf,
-        root,
-    })
-}
-
-/// The file of a tree.
-pub fn plain_file(alloc: Global, tree: &Tree) -> Result<PlainFile, Fail> {
-    finish(alloc, plain_groups(alloc, tree)?)
-}
-
-/// The bytes of an entry that was read.
-pub fn entry_bytes(alloc: Global, entry: &IndexEntry) -> Result<Vec<u8>, Fail> {
-    let mut bytes = ByteSink::new(alloc);
-    bytes.put_name(entry.device.bytes());
-    bytes.put_name(entry.measurement.bytes());
-    bytes.put_kind(entry.data_type, entry.encoding);
-    bytes.put8(entry.place);
-    bytes.put_read_stats(&entry.stats);
-    bytes.put4(entry.pages.items().len() as u64);
-    for page in entry.pages.items() {
-        bytes.put8(page.place);
-        bytes.put_read_stats(&page.stats);
-    }
-    bytes.finish()
 }

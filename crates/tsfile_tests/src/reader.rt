@@ -1,37 +1,13 @@
-//! How the tests of tsfile_reader call it: the bytes of a file are stored through a port, read, and removed.
+//! How the tests of tsfile_reader call it: the bytes of a file are stored through a port, read, and removed. Depends on
+//! tsfile_reader, tsdb_index, mem_outside, tsdb_outside and tsdb_base.
 ghost use Rattle.std.specs.Prelude.{◌≡◌};
 
-use mem_outside::{Fails, MemPlace, MemPort, SteadyPlace, SteadyPort};
+use mem_outside::{Fails, MemPlace, MemPort};
 use std::alloc::Global;
-use std::test::Fail;
 use tsdb_base::{FileNumber, Point, Value};
 use tsdb_index::{FileMeta, IndexEntry};
 use tsdb_outside::{Files, Place, Port};
 use tsfile_reader::{ReadFault, check_file, read_meta, read_points};
-
-/// Two empty slots.
-fn slots(alloc: Global) -> Result<[Vec<u8>; 2], Fail> {
-    let first = vec![in alloc; 0]?;
-    Ok([first, vec![in alloc; 0]?])
-}
-
-/// A port that never fails.
-pub fn steady_port(alloc: Global) -> Result<SteadyPort, Fail> {
-    let mut place = SteadyPlace::new(alloc, slots(alloc)?, Vec::new(alloc))?;
-    let (_journal, mut files) = place.take_up(b"store")?;
-    Ok(files.port()?)
-}
-
-/// A port of which this call fails, counted from 1.
-pub fn port_failing_at(alloc: Global, number: u64) -> Result<MemPort, Fail> {
-    let fails = Fails {
-        journal: Vec::new(alloc),
-        files: vec![in alloc; number]?,
-    };
-    let mut place = MemPlace::new(alloc, slots(alloc)?, Vec::new(alloc), fails)?;
-    let (_journal, mut files) = place.take_up(b"store")?;
-    Ok(files.port()?)
-}
 
 /// How a file is read.
 #[derive(Clone, Copy)]
@@ -95,41 +71,84 @@ pub fn read_page_in<P: Port>(
     outcome
 }
 
-/// The fault of reading these bytes.
-pub fn fault_of<P: Port>(
-    alloc: Global,
-    port: &mut P,
-    bytes: &[u8],
-    call: Call,
-) -> Option<ReadFault> {
-    read_bytes(alloc, port, bytes, call).err()
+/// The port of a place.
+fn port_in(place: &mut MemPlace) -> Option<MemPort> {
+    let (_journal, mut files) = place.take_up(b"store").ok()?;
+    files.port().ok()
 }
 
-/// The fault of reading a page of these bytes.
-pub fn page_fault_of<P: Port>(
-    alloc: Global,
-    port: &mut P,
-    bytes: &[u8],
-    entry: &IndexEntry,
-) -> Option<ReadFault> {
-    read_page_in(alloc, port, bytes, entry, 0).err()
-}
-
-/// The index of these bytes.
-pub fn meta_of(alloc: Global, port: &mut SteadyPort, bytes: &[u8]) -> Result<FileMeta, Fail> {
-    match read_bytes(alloc, port, bytes, Call::Meta) {
-        Ok(meta) => Ok(meta),
-        Err(_) => Err("no index".into()),
+/// A port of which this call fails, counted from 1.
+pub fn port_failing_at(alloc: Global, number: u64) -> Option<MemPort> {
+    let files = vec![in alloc; number].ok()?;
+    let journal = Vec::new(alloc);
+    let slots = [Vec::new(alloc), Vec::new(alloc)];
+    match MemPlace::new(alloc, slots, Vec::new(alloc), Fails { journal, files }) {
+        Ok(mut place) => port_in(&mut place),
+        Err(_) => None,
     }
 }
 
+/// The number of a call that no port makes.
+pub const NO_CALL: u64 = u64::MAX;
+
+/// The index of these bytes, read through a port of which this call fails.
+pub fn meta_of(
+    alloc: Global,
+    bytes: &[u8],
+    call: Call,
+    number: u64,
+) -> Result<FileMeta, ReadFault> {
+    match port_failing_at(alloc, number) {
+        Some(mut port) => read_bytes(alloc, &mut port, bytes, call),
+        None => Err(ReadFault::Memory),
+    }
+}
+
+/// The points of the page with this number of an entry, read through a port of which this call fails.
+pub fn page_of(
+    alloc: Global,
+    bytes: &[u8],
+    entry: &IndexEntry,
+    page: usize,
+    number: u64,
+) -> Result<Vec<Point>, ReadFault> {
+    match port_failing_at(alloc, number) {
+        Some(mut port) => read_page_in(alloc, &mut port, bytes, entry, page),
+        None => Err(ReadFault::Memory),
+    }
+}
+
+/// The fault of reading these bytes, if there is one.
+pub fn fault_of(alloc: Global, bytes: &[u8], call: Call) -> Option<ReadFault> {
+    meta_of(alloc, bytes, call, NO_CALL).err()
+}
+
 /// Whether these are the one point 1, 5 of the worked file.
-pub fn is_worked_point(found: &Result<Vec<Point>, ReadFault>) -> bool {
+pub fn is_worked_point(found: Result<Vec<Point>, ReadFault>) -> bool {
     match found {
         Ok(points) => match points.as_slice() {
             [point] => point.time == 1 && matches!(point.value, Value::I64(5)),
             _ => false,
         },
         Err(_) => false,
+    }
+}
+
+/// How many pages the one chunk has of a file that passes the check.
+fn pages_in(alloc: Global, bytes: &[u8]) -> Option<usize> {
+    match meta_of(alloc, bytes, Call::Check, NO_CALL) {
+        Ok(meta) => match meta.index.entries.items() {
+            [entry] => Some(entry.pages.items().len()),
+            _ => None,
+        },
+        Err(_) => None,
+    }
+}
+
+/// How many pages the one chunk has of a file that was made and passes the check.
+pub fn pages_of_one(alloc: Global, bytes: Option<Vec<u8>>) -> Option<usize> {
+    match bytes {
+        Some(bytes) => pages_in(alloc, &bytes),
+        None => None,
     }
 }

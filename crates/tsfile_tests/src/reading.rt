@@ -1,74 +1,54 @@
-//! Tests of tsfile_reader on the worked file: whole, cut, with inverted bytes and with other parts.
+//! Tests of tsfile_reader on the worked file: whole, cut, with inverted bytes, with other parts, and through ports that
+//! fail.
 
-use super::reader::{
-    Call, fault_of, is_worked_point, meta_of, page_fault_of, port_failing_at, read_page_in,
-    steady_port,
-};
-use super::samples::{WORKED, worked_but};
-use mem_outside::SteadyPort;
+use super::plain_file::ByteSink;
+use super::reader::{Call, NO_CALL, fault_of, is_worked_point, meta_of, page_of};
+use super::samples::{WORKED, assert_found, worked_but};
 use std::alloc::Global;
-use std::test::Fail;
-use tsdb_base::PlainValue;
-use tsdb_index::{FileMeta, IndexEntry};
 use tsfile_reader::ReadFault;
 
-/// Whether this is the entry of the worked file, and its page has the point 1, 5.
-fn is_worked_entry(alloc: Global, port: &mut SteadyPort, entry: &IndexEntry) -> bool {
-    entry.place == 18 && is_worked_point(&read_page_in(alloc, port, &WORKED, entry, 0))
-}
-
-/// Whether this is the index of the worked file.
-fn is_worked_meta(alloc: Global, port: &mut SteadyPort, meta: &FileMeta) -> bool {
-    match meta.index.entries.items() {
-        [entry] => meta.size == 234 && is_worked_entry(alloc, port, entry),
-        _ => false,
+/// Whether the index of the worked file is read, and the point of its page.
+fn is_worked_read(alloc: Global) -> bool {
+    match meta_of(alloc, &WORKED, Call::Meta, NO_CALL) {
+        Ok(meta) => match meta.index.entries.items() {
+            [entry] => {
+                meta.size == 234
+                    && entry.place == 18
+                    && is_worked_point(page_of(alloc, &WORKED, entry, 0, NO_CALL))
+            }
+            _ => false,
+        },
+        Err(_) => false,
     }
 }
 
-/// Whether the index of the worked file is read, and the fault of the check of all of it.
-fn worked_read(alloc: Global) -> Result<(bool, Option<ReadFault>), Fail> {
-    let mut port = steady_port(alloc)?;
-    let meta = meta_of(alloc, &mut port, &WORKED)?;
-    let is_worked = is_worked_meta(alloc, &mut port, &meta);
-    Ok((is_worked, fault_of(alloc, &mut port, &WORKED, Call::Check)))
-}
-
 #[test]
-fn worked_file(rt: HostRuntime) -> Result<(), Fail> {
-    let (is_worked, fault) = worked_read(rt.alloc())?;
-    assert!(rt; is_worked);
-    assert_eq!(rt; fault, None);
-    Ok(())
+fn worked_file(rt: HostRuntime) {
+    assert!(rt; is_worked_read(rt.alloc()));
+    assert!(rt; fault_of(rt.alloc(), &WORKED, Call::Check).is_none());
 }
 
-/// Whether both calls find damage at this place.
-fn are_damaged_at(alloc: Global, port: &mut SteadyPort, bytes: &[u8], at: u64) -> bool {
+/// Whether these are the faults of the check of these bytes and of reading their index.
+fn has_faults(
+    alloc: Global,
+    bytes: &[u8],
+    check: Option<ReadFault>,
+    index: Option<ReadFault>,
+) -> bool {
+    fault_of(alloc, bytes, Call::Check) == check && fault_of(alloc, bytes, Call::Meta) == index
+}
+
+/// Whether damage is found as it has to be in the worked file that is cut to this size: it has no tail at its end, or
+/// no room for one.
+fn is_cut_found(alloc: Global, size: usize) -> bool {
+    let bytes = WORKED.get(..size).unwrap_or(&[]);
+    let at = if size < 21 { 0 } else { (size - 14) as u64 };
     let damage = Some(ReadFault::Damaged { at });
-    fault_of(alloc, port, bytes, Call::Meta) == damage
-        && fault_of(alloc, port, bytes, Call::Check) == damage
-}
-
-/// The first length to which the worked file is cut and is not read so: it has no tail at its end, or no room for one.
-fn wrong_cut(alloc: Global, port: &mut SteadyPort) -> Option<u8> {
-    for size in 0..234u8 {
-        let bytes = &WORKED[..usize::from(size)];
-        let at = u64::from(if size < 21 { 0 } else { size - 14 });
-        if !are_damaged_at(alloc, port, bytes, at) {
-            return Some(size);
-        }
-    }
-    None
-}
-
-#[test]
-fn cut_files(rt: HostRuntime) -> Result<(), Fail> {
-    let wrong = wrong_cut(rt.alloc(), &mut steady_port(rt.alloc())?);
-    assert_eq!(rt; wrong, None);
-    Ok(())
+    has_faults(alloc, bytes, damage, damage)
 }
 
 /// The place of the part that is blamed where this byte of the worked file is inverted.
-fn blamed_place(place: u8) -> u64 {
+fn blamed_place(place: usize) -> u64 {
     match place {
         // the head, the group, the chunk, and the page up to its value
         0..7 => 0,
@@ -87,175 +67,59 @@ fn blamed_place(place: u8) -> u64 {
 
 /// Whether this byte, inverted, is blamed as it has to be. Places and statistics in the leaf may have any bits, and for
 /// the index what stands before the leaf is not looked at.
-fn is_blamed_inverted(alloc: Global, port: &mut SteadyPort, place: u8) -> bool {
-    let bytes = worked_but(usize::from(place), 0xff);
+fn is_inverted_found(alloc: Global, place: usize) -> bool {
     let at = blamed_place(place);
     let damage = Some(ReadFault::Damaged { at });
-    let wanted = match place {
+    let of_index = match place {
         7..44 | 62..126 | 130..194 => None,
         _ => damage,
     };
-    fault_of(alloc, port, &bytes, Call::Check) == damage
-        && fault_of(alloc, port, &bytes, Call::Meta) == wanted
+    has_faults(alloc, &worked_but(place, 0xff), damage, of_index)
 }
 
-/// The first byte of the worked file that is not blamed as it has to be.
-fn wrong_byte(alloc: Global, port: &mut SteadyPort) -> Option<u8> {
-    for place in 0..234u8 {
-        if !is_blamed_inverted(alloc, port, place) {
-            return Some(place);
-        }
+/// The fault of reading the page of the worked file's entry of these bytes, through a port of which this call fails.
+fn page_fault(alloc: Global, bytes: &[u8], number: u64) -> Option<ReadFault> {
+    match meta_of(alloc, &WORKED, Call::Meta, NO_CALL) {
+        Ok(meta) => match meta.index.entries.items() {
+            [entry] => page_of(alloc, bytes, entry, 0, number).err(),
+            _ => Some(ReadFault::Memory),
+        },
+        Err(fault) => Some(fault),
     }
-    None
 }
 
-#[test]
-fn inverted_bytes(rt: HostRuntime) -> Result<(), Fail> {
-    let wrong = wrong_byte(rt.alloc(), &mut steady_port(rt.alloc())?);
-    assert_eq!(rt; wrong, None);
-    Ok(())
-}
-
-/// Whether this byte of the page, inverted, is looked at where it has to be.
-fn is_page_blamed_inverted(
-    alloc: Global,
-    port: &mut SteadyPort,
-    entry: &IndexEntry,
-    place: u8,
-) -> bool {
-    let bytes = worked_but(usize::from(place), 0xff);
+/// Whether this byte of the page, inverted, is looked at where it has to be: all but those of the value are.
+fn is_inverted_found_at_page(alloc: Global, place: usize) -> bool {
     let wanted = if place < 36 {
         Some(ReadFault::Damaged { at: 24 })
     } else {
         None
     };
-    page_fault_of(alloc, port, &bytes, entry) == wanted
+    page_fault(alloc, &worked_but(place, 0xff), NO_CALL) == wanted
 }
 
-/// The first byte of the page of this entry that is not looked at as it has to be.
-fn wrong_page_byte(alloc: Global, port: &mut SteadyPort, entry: &IndexEntry) -> Option<u8> {
-    for place in 24..44u8 {
-        if !is_page_blamed_inverted(alloc, port, entry, place) {
-            return Some(place);
-        }
-    }
-    None
-}
+/// How often the port is called up to the last call that matters: for the file, its length, the tail, the head, the
+/// root and the leaves, for the check also for the groups, and for a page, besides the file and its length, once.
+const CALLS_OF_INDEX: u64 = 6;
 
-/// The first byte of the worked file's page that is not looked at as it has to be.
-fn wrong_byte_of_worked(alloc: Global) -> Result<Option<u8>, Fail> {
-    let mut port = steady_port(alloc)?;
-    let meta = meta_of(alloc, &mut port, &WORKED)?;
-    match meta.index.entries.items() {
-        [entry] => Ok(wrong_page_byte(alloc, &mut port, entry)),
-        _ => Err("not one entry".into()),
-    }
-}
+const CALLS_OF_CHECK: u64 = 7;
 
-/// All bytes of the page but those of its value are looked at.
-#[test]
-fn inverted_bytes_of_a_page(rt: HostRuntime) -> Result<(), Fail> {
-    let wrong = wrong_byte_of_worked(rt.alloc())?;
-    assert_eq!(rt; wrong, None);
-    Ok(())
-}
+const CALLS_OF_PAGE: u64 = 3;
 
-/// Whether the worked file is read so where the port fails at this call: it fails up to the last call.
-fn fails_at(alloc: Global, number: u64, call: Call, last: u64) -> Result<bool, Fail> {
-    let mut port = port_failing_at(alloc, number)?;
-    let wanted = if number <= last {
-        Some(ReadFault::Failed)
+/// Whether this is the fault where this call of the port fails, and this is the last that matters.
+fn is_fault_of_call(fault: Option<ReadFault>, number: u64, last: u64) -> bool {
+    if number <= last {
+        fault == Some(ReadFault::Failed)
     } else {
-        None
-    };
-    Ok(fault_of(alloc, &mut port, &WORKED, call) == wanted)
-}
-
-/// The first call of the port, of eight, at which the worked file is read otherwise.
-fn wrong_call(alloc: Global, call: Call, last: u64) -> Result<Option<u64>, Fail> {
-    for number in 1..9u64 {
-        if !fails_at(alloc, number, call, last)? {
-            return Ok(Some(number));
-        }
+        fault.is_none()
     }
-    Ok(None)
-}
-
-/// The port makes a call for the file, its length, the tail, the head, the root and the leaves, and for the check one
-/// more, for the groups.
-#[test]
-fn calls_that_fail(rt: HostRuntime) -> Result<(), Fail> {
-    let wrong = wrong_call(rt.alloc(), Call::Meta, 6)?;
-    assert_eq!(rt; wrong, None);
-    let wrong = wrong_call(rt.alloc(), Call::Check, 7)?;
-    assert_eq!(rt; wrong, None);
-    Ok(())
-}
-
-/// Whether the page is read so where the port fails at this call: it fails up to the third.
-fn page_fails_at(alloc: Global, entry: &IndexEntry, number: u64) -> Result<bool, Fail> {
-    let mut port = port_failing_at(alloc, number)?;
-    let wanted = if number <= 3 {
-        Some(ReadFault::Failed)
-    } else {
-        None
-    };
-    Ok(page_fault_of(alloc, &mut port, &WORKED, entry) == wanted)
-}
-
-/// The first call at which the page of this entry is read otherwise.
-fn wrong_page_call(alloc: Global, entry: &IndexEntry) -> Result<Option<u64>, Fail> {
-    for number in 1..6u64 {
-        if !page_fails_at(alloc, entry, number)? {
-            return Ok(Some(number));
-        }
-    }
-    Ok(None)
-}
-
-/// The first call at which the worked file's page is read otherwise.
-fn wrong_call_of_worked(alloc: Global) -> Result<Option<u64>, Fail> {
-    let meta = meta_of(alloc, &mut steady_port(alloc)?, &WORKED)?;
-    match meta.index.entries.items() {
-        [entry] => wrong_page_call(alloc, entry),
-        _ => Err("not one entry".into()),
-    }
-}
-
-/// A page is read in one call, besides that for the length.
-#[test]
-fn calls_that_fail_at_a_page(rt: HostRuntime) -> Result<(), Fail> {
-    let wrong = wrong_call_of_worked(rt.alloc())?;
-    assert_eq!(rt; wrong, None);
-    Ok(())
-}
-
-/// Appends the places of leaf and root to the worked root and tail without them.
-fn put_root_and_tail(leaf: u64, bytes: &mut Vec<u8>) -> Result<(), Fail> {
-    let root = bytes.len() as u64;
-    bytes.extend_from_slice(&WORKED[194..212])?;
-    leaf.put(bytes)?;
-    root.put(bytes)?;
-    bytes.extend_from_slice(&WORKED[228..])?;
-    Ok(())
-}
-
-/// A file with this part of the worked file and these bytes behind it between the head and the leaf of that.
-fn with_data(alloc: Global, front: &[u8], behind: &[u8]) -> Result<Vec<u8>, Fail> {
-    let mut bytes = Vec::from_slice(alloc, &WORKED[..7])?;
-    bytes.extend_from_slice(front)?;
-    bytes.extend_from_slice(behind)?;
-    let leaf = bytes.len() as u64;
-    bytes.extend_from_slice(&WORKED[44..194])?;
-    put_root_and_tail(leaf, &mut bytes)?;
-    Ok(bytes)
 }
 
 /// What stands between the head and the leaf, as a prefix of the worked file and bytes behind it, and the place of the
 /// part that is blamed.
 type Data = (usize, &'static [u8], u64);
 
-const DATA: [Data; 9] = [
+static DATA: [Data; 9] = [
     // no group, a group without a chunk, a chunk without a page
     (7, b"", 7),
     (18, b"", 18),
@@ -274,36 +138,113 @@ const DATA: [Data; 9] = [
     (44, b"\x47\x00\x08root.g.d", 44),
 ];
 
-/// Whether the check finds damage at this place in these bytes, and the index is read.
-fn is_damaged_but_read(alloc: Global, port: &mut SteadyPort, bytes: &[u8], at: u64) -> bool {
-    let damage = Some(ReadFault::Damaged { at });
-    fault_of(alloc, port, bytes, Call::Check) == damage
-        && fault_of(alloc, port, bytes, Call::Meta).is_none()
+/// The file whose data is that of the row. The root and the tail say where the leaf and the root are then.
+fn with_data(alloc: Global, row: Data) -> ByteSink {
+    let (size, behind, _) = row;
+    let mut file = ByteSink::new(alloc);
+    file.put(WORKED.get(..size).unwrap_or(&[]));
+    file.put(behind);
+    let leaf = file.size();
+    file.put(&WORKED[44..194]);
+    let root = file.size();
+    file.put(&WORKED[194..212]);
+    file.put8(leaf);
+    file.put8(root);
+    file.put(&WORKED[228..]);
+    file
 }
 
-/// Whether the file with this data is found so.
-fn is_damaged_data(alloc: Global, port: &mut SteadyPort, row: Data) -> Result<bool, Fail> {
-    let (size, behind, at) = row;
-    let Some(front) = WORKED.get(7..size) else {
-        return Ok(false);
-    };
-    let bytes = with_data(alloc, front, behind)?;
-    Ok(is_damaged_but_read(alloc, port, &bytes, at))
+/// Whether the check finds damage in the file of the row at its place, and its index is read.
+fn is_data_found(alloc: Global, row: Data) -> bool {
+    let damage = Some(ReadFault::Damaged { at: row.2 });
+    has_faults(alloc, with_data(alloc, row).bytes(), damage, None)
 }
 
-/// The place of the first row of the table whose data is found otherwise.
-fn wrong_data(alloc: Global, port: &mut SteadyPort, rows: &[Data]) -> Result<Option<usize>, Fail> {
-    for place in 0..rows.len() {
-        if !is_damaged_data(alloc, port, rows[place])? {
-            return Ok(Some(place));
+/// What is done with the worked file, in each case for one number.
+#[derive(Clone, Copy)]
+enum Trial {
+    /// It is cut to this size.
+    Cut,
+    /// This byte is inverted.
+    Inverted,
+    /// This byte is inverted, and the page is read.
+    InvertedAtPage,
+    /// This call of the port fails: the index, the whole file or the page is read.
+    IndexFails,
+    CheckFails,
+    PageFails,
+    /// The data of this row stands in it.
+    Data,
+}
+
+/// Whether what is read is as it has to be.
+fn is_right(alloc: Global, trial: Trial, number: usize) -> bool {
+    let call = number as u64;
+    match trial {
+        Trial::Cut => is_cut_found(alloc, number),
+        Trial::Inverted => is_inverted_found(alloc, number),
+        Trial::InvertedAtPage => is_inverted_found_at_page(alloc, number),
+        Trial::IndexFails => {
+            let fault = meta_of(alloc, &WORKED, Call::Meta, call).err();
+            is_fault_of_call(fault, call, CALLS_OF_INDEX)
+        }
+        Trial::CheckFails => {
+            let fault = meta_of(alloc, &WORKED, Call::Check, call).err();
+            is_fault_of_call(fault, call, CALLS_OF_CHECK)
+        }
+        Trial::PageFails => is_fault_of_call(page_fault(alloc, &WORKED, call), call, CALLS_OF_PAGE),
+        Trial::Data => match DATA.get(number) {
+            Some(row) => is_data_found(alloc, *row),
+            None => false,
+        },
+    }
+}
+
+/// The first of the numbers from `first` to before `end` for which it is not.
+fn first_wrong(alloc: Global, trial: Trial, first: usize, end: usize) -> Option<usize> {
+    for number in first..end {
+        if !is_right(alloc, trial, number) {
+            return Some(number);
         }
     }
-    Ok(None)
+    None
 }
 
 #[test]
-fn other_data(rt: HostRuntime) -> Result<(), Fail> {
-    let wrong = wrong_data(rt.alloc(), &mut steady_port(rt.alloc())?, &DATA)?;
-    assert_eq!(rt; wrong, None);
-    Ok(())
+fn cut_files(rt: HostRuntime) {
+    assert_found(&rt, first_wrong(rt.alloc(), Trial::Cut, 0, 234), None);
+}
+
+#[test]
+fn inverted_bytes(rt: HostRuntime) {
+    assert_found(&rt, first_wrong(rt.alloc(), Trial::Inverted, 0, 234), None);
+}
+
+#[test]
+fn inverted_bytes_of_a_page(rt: HostRuntime) {
+    assert_found(
+        &rt,
+        first_wrong(rt.alloc(), Trial::InvertedAtPage, 24, 44),
+        None,
+    );
+}
+
+#[test]
+fn calls_that_fail(rt: HostRuntime) {
+    assert_found(&rt, first_wrong(rt.alloc(), Trial::IndexFails, 1, 9), None);
+    assert_found(&rt, first_wrong(rt.alloc(), Trial::CheckFails, 1, 9), None);
+}
+
+#[test]
+fn calls_that_fail_at_a_page(rt: HostRuntime) {
+    assert_found(&rt, first_wrong(rt.alloc(), Trial::PageFails, 1, 6), None);
+}
+
+#[test]
+fn other_data(rt: HostRuntime) {
+    assert_found(
+        &rt,
+        first_wrong(rt.alloc(), Trial::Data, 0, DATA.len()),
+        None,
+    );
 }
