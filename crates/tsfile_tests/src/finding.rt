@@ -224,6 +224,18 @@ fn is_found(look_up: &LookUp, entries: &[IndexEntry], number: Option<usize>) -> 
     is_entry && look_up.1 < MOST_READ
 }
 
+/// Whether the series of this device and measurement has the entry with this number, or none.
+fn is_series(
+    alloc: Global,
+    bytes: &[u8],
+    entries: &[IndexEntry],
+    names: (&str, &str),
+    number: Option<usize>,
+) -> bool {
+    let look_up = look_up_named(alloc, bytes, names.0, names.1, NO_CALL);
+    is_found(&look_up, entries, number)
+}
+
 /// Whether looking this measurement of `root.g.d` up blames a part, or none, where a bit of another is changed.
 fn is_blamed(alloc: Global, bytes: &[u8], part: Part, name: &str, blamed: Option<Part>) -> bool {
     let mut changed = ByteSink::new(alloc);
@@ -241,8 +253,7 @@ fn is_right(alloc: Global, bytes: &[u8], entries: &[IndexEntry], row: Row) -> bo
     match row {
         Row::Index(least) => read_for_index(alloc, bytes) > least,
         Row::Series(device, measurement, number) => {
-            let found = look_up_named(alloc, bytes, device, measurement, NO_CALL);
-            is_found(&found, entries, number)
+            is_series(alloc, bytes, entries, (device, measurement), number)
         }
         Row::Spoiled(part, name, blamed) => is_blamed(alloc, bytes, part, name, blamed),
         Row::Calls(number, fails) => {

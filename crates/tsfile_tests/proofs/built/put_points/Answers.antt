@@ -1,4 +1,4 @@
-use Rattle.std.proofs.Common.{◌≡◌, ◌<◌, List, true, length, subst, rules}
+use Rattle.std.proofs.Common.{◌≡◌, List, subst, rules}
 use Rattle.std.specs.Prelude.{All, IsTrue}
 use Rattle.std.specs.Vec.Iter.{into_iter_items}
 use Rattle.tsdb_base.specs.declared.point.Point.{Point}
