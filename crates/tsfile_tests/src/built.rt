@@ -49,8 +49,8 @@ fn points_of(alloc: Global, chunk: &Chunk) -> Result<Vec<Point>, Memory> {
 fn may_follow(last: &Path, next: &Path) -> Result<bool, Memory>
     requires last { 2 ≤ node_count last.now }
     requires next { 2 ≤ node_count next.now }
-    ensures { IfOk result (λ may. IsTrue may →
-        index.AreNamesBefore (device_of last.now, measurement_of last.now) (device_of next.now, measurement_of next.now)) }
+    ensures { IfOk result (λ may. IsTrue may → index.AreNamesBefore
+        (device_of last.now, measurement_of last.now) (device_of next.now, measurement_of next.now)) }
 {
     let before = last.device()?;
     let behind = next.device()?;

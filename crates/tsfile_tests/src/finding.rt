@@ -75,7 +75,7 @@ enum Row {
     /// The series of this device and measurement has the entry with this number in the index, or none, and less than
     /// 100 kB of the file is read to find it.
     Series(&'static str, &'static str, Option<usize>),
-    /// A bit of this part is changed. Where this measurement of `root.g.d` is looked up, this part is blamed, if one is.
+    /// A bit of this part is changed. Where this measurement of `root.g.d` is looked up, this part is blamed, or none.
     Spoiled(Part, &'static str, Option<Part>),
     /// Looking `s300` of `root.g.d` up fails where this call of the port does, or not.
     Calls(u64, bool),
