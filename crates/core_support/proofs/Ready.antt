@@ -214,3 +214,6 @@ none_above next some = record { from_one = some; below = λ n. tt }
 
 pub first_of : (job : FlushJob) (jobs : List FlushJob) → IsWithOne job jobs (job ∷ jobs)
 first_of job jobs = record { before = []; behind = jobs; with_it = refl; without = refl }
+
+pub second_of : (other job : FlushJob) → IsWithOne job (other ∷ []) (other ∷ job ∷ [])
+second_of other job = record { before = other ∷ []; behind = []; with_it = refl; without = refl }

@@ -1,5 +1,5 @@
 //! What a core that flushes is asked for, and what it stays ready for then. Depends on nothing here.
-ghost use Rattle.std.specs.Prelude.{[], List};
+ghost use Rattle.std.specs.Prelude.{[], ◌≤◌, List};
 ghost use Rattle.core_support.specs.Ready.{IsReady, IsReadyWith, IsTakenOut};
 ghost use Rattle.tsdb_committing.specs.Files.{AreDone, new_files};
 ghost use Rattle.tsdb_core.specs.Flushes.{EndsFlush, IsOut};
@@ -18,19 +18,20 @@ use tsdb_logged::Logged;
 use tsdb_model::Command;
 use tsdb_outside::{Files, Journal};
 
-/// The job of the oldest pair.
-pub(crate) fn take<J: Journal, F: Files>(
+/// The job of the oldest pair, where it was frozen at this stamp or before.
+pub fn take<J: Journal, F: Files>(
     core: &mut Core<J, F>,
+    upto: u64,
 ) -> Result<Option<FlushJob>, CoreFault>
     ensures out { (store : Store) (jobs : List JobOf) → IsReady store core.old jobs → IsTakenOut core.new result }
     ensures ready { (store : Store) (jobs : List JobOf) → IsReady store core.old jobs
         → IsReadyWith store core.new jobs result }
 {
-    core.take_flush(Stamp(u64::MAX))
+    core.take_flush(Stamp(upto))
 }
 
 /// Commits the files of a job, or gives them up.
-pub(crate) fn end<J: Journal, F: Files>(
+pub fn end<J: Journal, F: Files>(
     core: &mut Core<J, F>,
     job: FlushJob,
     files: Flushed<F>,
@@ -48,7 +49,7 @@ pub(crate) fn end<J: Journal, F: Files>(
 }
 
 /// What the core answers to a command; none where a flush has to come first, and for a query.
-pub(crate) fn ask<J: Journal, F: Files>(core: &mut Core<J, F>, command: &Command) -> Option<Answer>
+pub fn ask<J: Journal, F: Files>(core: &mut Core<J, F>, command: &Command) -> Option<Answer>
     requires { IsWellFormed command.now }
     ensures { (store : Store) (jobs : List JobOf) → IsReady store core.old jobs → IsReady store core.new jobs }
 {
@@ -61,7 +62,7 @@ pub(crate) fn ask<J: Journal, F: Files>(core: &mut Core<J, F>, command: &Command
 }
 
 /// What the core answers to a freeze; none where a flush has to come first.
-pub(crate) fn freeze<J: Journal, F: Files>(core: &mut Core<J, F>) -> Option<Answer>
+pub fn freeze<J: Journal, F: Files>(core: &mut Core<J, F>) -> Option<Answer>
     ensures { (store : Store) (jobs : List JobOf) → IsReady store core.old jobs → IsReady store core.new jobs }
 {
     if core.frozen() < 2 {
@@ -70,15 +71,23 @@ pub(crate) fn freeze<J: Journal, F: Files>(core: &mut Core<J, F>) -> Option<Answ
     None
 }
 
-/// A core over a log and memory that are new, whose first file gets the number 1.
-pub(crate) fn new_core<J: Journal, F: Files>(
+/// A core over a log and memory that are new, the next file of which gets this number.
+pub fn new_core<J: Journal, F: Files>(
     alloc: Global,
     logged: Logged<J>,
     pair_points: u64,
+    next: u64,
 ) -> Core<J, F>
-    requires { IsPairLimit pair_points }
+    requires limit { IsPairLimit pair_points }
+    requires next { 1 ≤ next }
     ensures { (store : Store) → IsReady store result [] }
 {
     let kept = KeptFiles::new(alloc);
-    Core::new(alloc, logged, kept, Options { pair_points }, FileNumber(1))
+    Core::new(
+        alloc,
+        logged,
+        kept,
+        Options { pair_points },
+        FileNumber(next),
+    )
 }

@@ -73,7 +73,7 @@ fn take_oldest<J: Journal, F: Files>(
     ensures ready { IsReady (F.Port.store port.now) core.new (jobs_of result.0) }
     ensures held { IsHeld F.Sealed.file F.Sealed.rights (F.Port.store port.now) result.0 }
 {
-    match take(core) {
+    match take(core, u64::MAX) {
         Ok(Some(job)) => {
             let came = taken(&job);
             (Held::Taken(job), Ok(came))
@@ -374,7 +374,7 @@ pub fn open_led(
         return Err(Fail::from("a log"));
     };
     let logged = Logged::new(alloc, frames, MemoryStore::new(alloc));
-    let core = new_core(alloc, logged, pair_points);
+    let core = new_core(alloc, logged, pair_points, 1);
     let held = Held::Nothing;
     Ok(Led {
         core,

@@ -1,5 +1,6 @@
 //! A plain slow state: points, marks, pairs and files in lists, and the value at a time by a look at each of them. It
-//! knows nothing of the core. Depends on std alone.
+//! knows nothing of the core. Depends on `words`.
+use crate::words::time_of;
 use std::alloc::Global;
 use std::mem;
 use std::test::Fail;
@@ -241,6 +242,23 @@ impl SlowState {
         }
     }
 
+    /// What it answers to a word with a command, which writes this value; none where a flush has to come first, and for
+    /// any other word.
+    pub fn answer(&mut self, word: &[u8], value: i64) -> Result<Option<Answer>, Fail> {
+        match word {
+            [b'C', name] => self.create(*name).map(Some),
+            [b'I', time, names @ ..] => {
+                if self.needs_flush(names.len()) {
+                    Ok(None)
+                } else {
+                    self.insert(names, time_of(*time), value).map(Some)
+                }
+            }
+            [b'D', from, to, name] => self.delete(*name, time_of(*from), time_of(*to)).map(Some),
+            _ => Ok(None),
+        }
+    }
+
     /// Moves the working pair, where it has a point, behind the frozen ones.
     pub fn freeze(&mut self) -> Result<(), Fail> {
         if self.working.is_empty() {
@@ -337,6 +355,11 @@ impl SlowState {
 
     pub fn frozen(&self) -> usize {
         self.frozen.len()
+    }
+
+    /// The stamp at the last freeze.
+    pub fn newest_frozen(&self) -> Option<u64> {
+        self.frozen.last().map(|pair| pair.born)
     }
 
     /// Whether a mark covers what was frozen at this stamp.
