@@ -2,7 +2,7 @@
 //! on core_support.
 ghost use Rattle.tsdb_model.specs.Commands.{IsWellFormed};
 
-use core_support::{Outcome, SlowJob, SlowState, command_of, time_of};
+use core_support::{Outcome, SlowJob, SlowState, command_of};
 use std::alloc::Global;
 use std::test::Fail;
 use tests_support as lines;
@@ -60,22 +60,6 @@ pub struct Beside {
     outgoing: usize,
     /// How many files the record in doubt names.
     doubted: usize,
-}
-
-/// What the slow state answers, where it may be asked.
-fn slow_answer(slow: &mut SlowState, word: &[u8], value: i64) -> Result<Option<Answer>, Fail> {
-    Ok(match word {
-        [b'C', name] => Some(slow.create(*name)?),
-        [b'I', time, names @ ..] => {
-            if slow.needs_flush(names.len()) {
-                None
-            } else {
-                Some(slow.insert(names, time_of(*time), value)?)
-            }
-        }
-        [b'D', from, to, name] => Some(slow.delete(*name, time_of(*from), time_of(*to))?),
-        _ => None,
-    })
 }
 
 /// The values in the reply to a select of one series.
@@ -284,7 +268,7 @@ impl Beside {
             }
             return Ok(Some(true));
         }
-        let Some(answer) = slow_answer(&mut self.slow, word.as_bytes(), value)? else {
+        let Some(answer) = self.slow.answer(word.as_bytes(), value)? else {
             return Ok((came == Outcome::Waits).then_some(false));
         };
         if answer == Answer::Done {
