@@ -1,327 +1,211 @@
 //! Answers and counts of a core, the limits of a pair at their edges, and a journal that fails at each call in turn.
-mod cores;
+mod cases;
 mod flushes;
-mod flushing;
 mod short_lists;
-mod slow_state;
-mod words;
+mod stored;
 
-use cores::{
-    Served, ask, ask_freeze, ask_word, close_core, counts, needs_flush, open_core, place_of,
-};
-use std::alloc::Global;
+use cases::{Case, End, FREEZE, NO_CALL, OK, WAITS, assert_cases};
 use std::test::Fail;
-use tests_support as lines;
-use tsdb_base::{Answer, Time};
-use tsdb_outside::{Files, Journal};
-use words::command_of;
+use stored::{Came, Step};
+use tsdb_base::Answer;
 
-/// Words over a new store with this pair limit, what each answers, and what the core has in the end.
-#[derive(Clone, Copy)]
-struct Case {
-    limit: u64,
-    steps: &'static [(&'static str, Answer)],
-    counts: [u64; 4],
-}
+const NO_PATH: Came = Came::Answered(Some(Answer::NoPath));
 
-const DONE: Answer = Answer::Done;
-
-const NO_PATH: Answer = Answer::NoPath;
+const EXISTS: Came = Came::Answered(Some(Answer::Exists));
 
 const CASES: &[Case] = &[
     // A freeze of an empty pair does nothing, and a refused row does not freeze.
     Case {
         limit: 1,
+        next: 4,
         steps: &[
-            ("F", DONE),
-            ("Cs", DONE),
-            ("Cs", Answer::Exists),
-            ("I1s", DONE),
-            ("I2st", NO_PATH),
-            ("I3t", NO_PATH),
+            (FREEZE, OK),
+            (Step::Ask("Cs"), OK),
+            (Step::Ask("Cs"), EXISTS),
+            (Step::Ask("I1s"), OK),
+            (Step::Ask("I2st"), NO_PATH),
+            (Step::Ask("I3t"), NO_PATH),
         ],
-        counts: [0, 1, 0, 0],
+        end: End::Counts([0, 1, 0, 0]),
     },
     // A row is whole in one pair, also one that is greater than the limit; the born is that of the last command.
     Case {
         limit: 1,
+        next: 4,
         steps: &[
-            ("Cs", DONE),
-            ("Ct", DONE),
-            ("I1st", DONE),
-            ("I2s", DONE),
-            ("I2st", DONE),
+            (Step::Ask("Cs"), OK),
+            (Step::Ask("Ct"), OK),
+            (Step::Ask("I1st"), OK),
+            (Step::Ask("I2s"), OK),
+            (Step::Ask("I2st"), OK),
         ],
-        counts: [2, 0, 2, 4],
+        end: End::Counts([2, 0, 2, 4]),
     },
     // A deletion erases from the working pair alone. One that finds nothing is accepted, and draws a stamp.
     Case {
         limit: 9,
+        next: 4,
         steps: &[
-            ("Cs", DONE),
-            ("I5s", DONE),
-            ("F", DONE),
-            ("I6s", DONE),
-            ("D09s", DONE),
-            ("D90s", DONE),
-            ("I7s", DONE),
-            ("F", DONE),
+            (Step::Ask("Cs"), OK),
+            (Step::Ask("I5s"), OK),
+            (FREEZE, OK),
+            (Step::Ask("I6s"), OK),
+            (Step::Ask("D09s"), OK),
+            (Step::Ask("D90s"), OK),
+            (Step::Ask("I7s"), OK),
+            (FREEZE, OK),
         ],
-        counts: [2, 0, 0, 6],
+        end: End::Counts([2, 0, 0, 6]),
     },
     // A new store has no series, no pair and the stamp 0.
     Case {
         limit: 9,
-        steps: &[("D09s", NO_PATH), ("F", DONE), ("I1s", NO_PATH)],
-        counts: [0, 0, 0, 0],
+        next: 4,
+        steps: &[
+            (Step::Ask("D09s"), NO_PATH),
+            (FREEZE, OK),
+            (Step::Ask("I1s"), NO_PATH),
+        ],
+        end: End::Counts([0, 0, 0, 0]),
     },
     Case {
         limit: 9,
-        steps: &[("Cs", DONE), ("I1s", DONE), ("F", DONE)],
-        counts: [1, 0, 0, 2],
+        next: 4,
+        steps: &[(Step::Ask("Cs"), OK), (Step::Ask("I1s"), OK), (FREEZE, OK)],
+        end: End::Counts([1, 0, 0, 2]),
     },
     // The fifth row is one above the first limit. A point that is replaced counts in the row.
     Case {
         limit: 2,
+        next: 4,
         steps: &[
-            ("Cs", DONE),
-            ("I1s", DONE),
-            ("I1s", DONE),
-            ("I2s", DONE),
-            ("I3s", DONE),
+            (Step::Ask("Cs"), OK),
+            (Step::Ask("I1s"), OK),
+            (Step::Ask("I1s"), OK),
+            (Step::Ask("I2s"), OK),
+            (Step::Ask("I3s"), OK),
         ],
-        counts: [1, 1, 0, 4],
+        end: End::Counts([1, 1, 0, 4]),
     },
     Case {
         limit: 3,
+        next: 4,
         steps: &[
-            ("Cs", DONE),
-            ("I1s", DONE),
-            ("I1s", DONE),
-            ("I2s", DONE),
-            ("I3s", DONE),
+            (Step::Ask("Cs"), OK),
+            (Step::Ask("I1s"), OK),
+            (Step::Ask("I1s"), OK),
+            (Step::Ask("I2s"), OK),
+            (Step::Ask("I3s"), OK),
         ],
-        counts: [0, 3, 0, 0],
+        end: End::Counts([0, 3, 0, 0]),
     },
     // The watermark is the last sequence time, also after a late row was frozen.
     Case {
         limit: 9,
+        next: 4,
         steps: &[
-            ("Cs", DONE),
-            ("I5s", DONE),
-            ("F", DONE),
-            ("I4s", DONE),
-            ("F", DONE),
-            ("I5s", DONE),
-            ("I6s", DONE),
+            (Step::Ask("Cs"), OK),
+            (Step::Ask("I5s"), OK),
+            (FREEZE, OK),
+            (Step::Ask("I4s"), OK),
+            (FREEZE, OK),
+            (Step::Ask("I5s"), OK),
+            (Step::Ask("I6s"), OK),
         ],
-        counts: [2, 1, 1, 3],
+        end: End::Counts([2, 1, 1, 3]),
     },
 ];
 
 /// Each append is two writes and two syncs, and these are eight appends: the second row freezes.
-const APPENDS: Case = Case {
+const APPENDS: &[Case] = &[Case {
     limit: 2,
+    next: 4,
     steps: &[
-        ("Cs", DONE),
-        ("Ct", DONE),
-        ("I1st", DONE),
-        ("I2s", DONE),
-        ("D11s", DONE),
-        ("I3t", DONE),
-        ("F", DONE),
+        (Step::Ask("Cs"), OK),
+        (Step::Ask("Ct"), OK),
+        (Step::Ask("I1st"), OK),
+        (Step::Ask("I2s"), OK),
+        (Step::Ask("D11s"), OK),
+        (Step::Ask("I3t"), OK),
+        (FREEZE, OK),
     ],
-    counts: [2, 0, 0, 6],
-};
-
-/// Executes the words of a case; one that answers Device is executed once more. How many answered it, where all else is
-/// as the case says.
-fn devices<J: Journal, F: Files>(
-    alloc: Global,
-    core: &mut Served<J, F>,
-    case: &Case,
-) -> Result<Option<usize>, Fail> {
-    let mut devices = 0usize;
-    for (word, wanted) in case.steps {
-        let mut answer = ask_word(alloc, core, word)?;
-        if answer == Some(Answer::Device) {
-            devices = devices.saturating_add(1);
-            answer = ask_word(alloc, core, word)?;
-        }
-        if answer != Some(*wanted) {
-            return Ok(None);
-        }
-    }
-    Ok((counts(core) == case.counts).then_some(devices))
-}
-
-/// What `devices` gives over a new store with these failing calls.
-fn serve(alloc: Global, case: &Case, fails: &[u64]) -> Result<Option<usize>, Fail> {
-    let mut place = place_of(alloc, fails)?;
-    let (mut core, files) = open_core(alloc, &mut place, case.limit)?;
-    let devices = devices(alloc, &mut core, case);
-    close_core(&mut place, core, files);
-    devices
-}
-
-/// The first of the cases that is not as it says.
-fn first_wrong(alloc: Global, cases: &[Case]) -> Result<Option<usize>, Fail> {
-    for (index, case) in cases.iter().enumerate() {
-        if serve(alloc, case, &[])? != Some(0) {
-            return Ok(Some(index));
-        }
-    }
-    Ok(None)
-}
+    end: End::Counts([2, 0, 0, 6]),
+}];
 
 #[test]
 fn answers_and_counts(rt: HostRuntime) -> Result<(), Fail> {
-    assert_eq!(rt; first_wrong(rt.alloc(), CASES)?, None);
-    Ok(())
-}
-
-/// The first call up to this one at whose failure the case does not answer Device once, and else as it says.
-fn first_apart(alloc: Global, case: &Case, calls: u64) -> Result<Option<u64>, Fail> {
-    for call in 1..calls {
-        if serve(alloc, case, &[call])? != Some(1) {
-            return Ok(Some(call));
-        }
-    }
-    Ok(None)
+    assert_cases(&rt, rt.alloc(), CASES, NO_CALL, 0)
 }
 
 #[test]
 fn journal_that_fails_at_each_call(rt: HostRuntime) -> Result<(), Fail> {
-    assert_eq!(rt; first_apart(rt.alloc(), &APPENDS, 33)?, None);
-    Ok(())
+    assert_cases(&rt, rt.alloc(), APPENDS, (1, 33), 1)
 }
 
-/// Words, and whether a row of one cell and one of two need a flush after each, with a limit of two points.
-const NEEDS: &[(&str, bool, bool)] = &[
-    ("Cs", false, false),
-    ("I1s", false, false),
-    ("F", false, false),
-    ("I2s", false, false),
-    ("F", false, false),
-    ("I3s", false, true),
-    ("I4s", true, true),
-];
+const NO_FLUSH: Came = Came::Needs(Some(false));
 
-/// Whether the row of a word needs a flush.
-fn word_needs<J: Journal, F: Files>(
-    alloc: Global,
-    core: &Served<J, F>,
-    word: &str,
-) -> Result<Option<bool>, Fail> {
-    match command_of(alloc, word, 1)? {
-        Some(command) => Ok(needs_flush(core, &command)),
-        None => Ok(None),
-    }
-}
+const FLUSH_FIRST: Came = Came::Needs(Some(true));
 
-/// The first of the words after which the rows do not need a flush as it says, or their number where a third pair may
-/// be frozen after all.
-fn first_other_need<J: Journal, F: Files>(
-    alloc: Global,
-    core: &mut Served<J, F>,
-    needs: &[(&str, bool, bool)],
-) -> Result<Option<usize>, Fail> {
-    for (index, (word, first, second)) in needs.iter().enumerate() {
-        let _ = ask_word(alloc, core, word)?;
-        let one = word_needs(alloc, core, "I9s")?;
-        let two = word_needs(alloc, core, "I9st")?;
-        if one != Some(*first) || two != Some(*second) {
-            return Ok(Some(index));
-        }
-    }
-    Ok(ask_freeze(core).map(|_| needs.len()))
-}
+/// Whether a row of one cell and one of two need a flush after each word. A third pair may not be frozen.
+const NEEDS: &[Case] = &[Case {
+    limit: 2,
+    next: 4,
+    steps: &[
+        (Step::Ask("Cs"), OK),
+        (Step::Needs("I9s"), NO_FLUSH),
+        (Step::Needs("I9st"), NO_FLUSH),
+        (Step::Ask("I1s"), OK),
+        (Step::Needs("I9s"), NO_FLUSH),
+        (Step::Needs("I9st"), NO_FLUSH),
+        (FREEZE, OK),
+        (Step::Needs("I9s"), NO_FLUSH),
+        (Step::Needs("I9st"), NO_FLUSH),
+        (Step::Ask("I2s"), OK),
+        (Step::Needs("I9s"), NO_FLUSH),
+        (Step::Needs("I9st"), NO_FLUSH),
+        (FREEZE, OK),
+        (Step::Needs("I9s"), NO_FLUSH),
+        (Step::Needs("I9st"), NO_FLUSH),
+        (Step::Ask("I3s"), OK),
+        (Step::Needs("I9s"), NO_FLUSH),
+        (Step::Needs("I9st"), FLUSH_FIRST),
+        (Step::Ask("I4s"), OK),
+        (Step::Needs("I9s"), FLUSH_FIRST),
+        (Step::Needs("I9st"), FLUSH_FIRST),
+        (FREEZE, WAITS),
+    ],
+    end: End::Counts([2, 2, 0, 3]),
+}];
 
 #[test]
 fn rows_that_need_a_flush(rt: HostRuntime) -> Result<(), Fail> {
-    let alloc = rt.alloc();
-    let mut place = place_of(alloc, &[])?;
-    let (mut core, files) = open_core(alloc, &mut place, 2)?;
-    let wrong = first_other_need(alloc, &mut core, NEEDS);
-    close_core(&mut place, core, files);
-    assert_eq!(rt; wrong?, None);
-    Ok(())
+    assert_cases(&rt, rt.alloc(), NEEDS, NO_CALL, 0)
 }
 
-/// The most bytes of a text.
-const LONGEST: usize = 65_535;
+/// Two frozen pairs, and a working pair of 1,023 of the longest texts, have place for a text of 58,367 bytes and for
+/// none of one more. Each text counts 8 bytes for its time: 1,023 of 65,543 bytes and one of 58,375 are 67,108,864, the
+/// most of a pair.
+const TEXTS: &[Case] = &[Case {
+    limit: 1_000_000,
+    next: 4,
+    steps: &[
+        (Step::Ask("Ct"), OK),
+        (Step::Ask("I1t"), OK),
+        (FREEZE, OK),
+        (Step::Ask("I2t"), OK),
+        (FREEZE, OK),
+        (
+            Step::Line("create timeseries root.g.d.s with datatype=TEXT,encoding=PLAIN"),
+            OK,
+        ),
+        (Step::Texts(1_023), OK),
+        (Step::TextNeeds(58_367), NO_FLUSH),
+        (Step::TextNeeds(58_368), FLUSH_FIRST),
+    ],
+    end: End::Counts([2, 1_020, 3, 3]),
+}];
 
-/// The line of a script that writes a text of so many bytes into `s`.
-fn text_line(alloc: Global, time: Time, length: usize) -> Result<String, Fail> {
-    let text = "x".repeat(alloc, length)?;
-    Ok(format!(in alloc; "insert into root.g.d(timestamp,s) values({time},'{text}')")?)
-}
-
-/// Freezes two pairs of a point of `t`.
-fn freeze_two<J: Journal, F: Files>(alloc: Global, core: &mut Served<J, F>) -> Result<(), Fail> {
-    for word in ["Ct", "I1t", "F", "I2t", "F"] {
-        let _ = ask_word(alloc, core, word)?;
-    }
-    Ok(())
-}
-
-/// Whether the core has done the command of the line.
-fn has_done<J: Journal, F: Files>(
-    alloc: Global,
-    core: &mut Served<J, F>,
-    line: &str,
-) -> Result<bool, Fail> {
-    let command = lines::command_of(alloc, line)?;
-    Ok(ask(core, &command) == Some(Answer::Done))
-}
-
-/// Creates `s`, and writes the longest text at so many times. Whether all is done.
-fn write_texts<J: Journal, F: Files>(
-    alloc: Global,
-    core: &mut Served<J, F>,
-    texts: Time,
-) -> Result<bool, Fail> {
-    let create = "create timeseries root.g.d.s with datatype=TEXT,encoding=PLAIN";
-    let mut all = has_done(alloc, core, create)?;
-    for time in 0..texts {
-        let line = text_line(alloc, time, LONGEST)?;
-        all &= has_done(alloc, core, line.as_str())?;
-    }
-    Ok(all)
-}
-
-/// Whether a row with a text of so many bytes needs a flush.
-fn text_needs<J: Journal, F: Files>(
-    alloc: Global,
-    core: &Served<J, F>,
-    length: usize,
-) -> Result<Option<bool>, Fail> {
-    let line = text_line(alloc, 2_000, length)?;
-    let command = lines::command_of(alloc, line.as_str())?;
-    Ok(needs_flush(core, &command))
-}
-
-/// Whether two frozen pairs, and a working pair of 1,023 of the longest texts, have place for a text of 58,367 bytes
-/// and for none of one more.
-fn is_full_at_the_limit<J: Journal, F: Files>(
-    alloc: Global,
-    core: &mut Served<J, F>,
-) -> Result<bool, Fail> {
-    freeze_two(alloc, core)?;
-    let written = write_texts(alloc, core, 1_023)?;
-    let last = text_needs(alloc, core, 58_367)?;
-    let above = text_needs(alloc, core, 58_368)?;
-    Ok(written && last == Some(false) && above == Some(true) && counts(core)[0] == 2)
-}
-
-// Each text counts 8 bytes for its time: 1,023 of 65,543 bytes and one of 58,375 are 67,108,864, the most of a pair.
 #[test]
 fn limit_in_bytes(rt: HostRuntime) -> Result<(), Fail> {
-    let alloc = rt.alloc();
-    let mut place = place_of(alloc, &[])?;
-    let (mut core, files) = open_core(alloc, &mut place, 1_000_000)?;
-    let is_full = is_full_at_the_limit(alloc, &mut core);
-    close_core(&mut place, core, files);
-    assert!(rt; is_full?);
-    Ok(())
+    assert_cases(&rt, rt.alloc(), TEXTS, NO_CALL, 0)
 }

@@ -1,12 +1,11 @@
 //! All lists of up to five commands over two series and three times, with a pair limit of two points: the core, the
-//! plain slow state and the plain map execute each. Depends on `cores`, `slow_state` and `words`.
+//! plain slow state and the plain map execute each. Depends on `stored` and core_support.
 ghost use Rattle.tsdb_model.specs.Commands.{IsWellFormed};
 
-use super::cores::{Served, ask, ask_freeze, close_core, counts, open_core, place_of};
-use super::slow_state::SlowState;
-use super::words::{command_of, time_of};
-use mem_outside::{MemFiles, MemJournal};
+use super::stored::{Stored, close_stored, open_stored};
+use core_support::{SlowState, command_of, place_of};
 use std::alloc::Global;
+use std::process::Abort;
 use std::test::Fail;
 use tests_support as lines;
 use tsdb_base::{Answer, Space, Value};
@@ -25,35 +24,9 @@ const SELECT_T: &str = "select t from root.g.d where time>=1 and time<=3";
 
 /// The three that execute a list.
 struct Three<J: Journal, F: Files> {
-    core: Served<J, F>,
+    core: Stored<J, F>,
     slow: SlowState,
     plain: Plain,
-}
-
-/// What came of a word.
-#[derive(Clone, Copy)]
-enum Came {
-    Changed,
-    /// Nothing changed, as none of the three would have it, or two of them may not be asked.
-    Stayed,
-    /// The three do not agree.
-    Apart,
-}
-
-/// What the slow state answers, where it may be asked.
-fn slow_answer(slow: &mut SlowState, word: &[u8], value: i64) -> Result<Option<Answer>, Fail> {
-    Ok(match word {
-        [b'C', name] => Some(slow.create(*name)?),
-        [b'I', time, names @ ..] => {
-            if slow.needs_flush(names.len()) {
-                None
-            } else {
-                Some(slow.insert(names, time_of(*time), value)?)
-            }
-        }
-        [b'D', from, to, name] => Some(slow.delete(*name, time_of(*from), time_of(*to))?),
-        _ => None,
-    })
 }
 
 /// The values at times 1, 2 and 3 of a series in the reply to a select of it.
@@ -73,46 +46,48 @@ fn values_of(reply: &Reply) -> [Option<i64>; 3] {
     values
 }
 
+/// What the plain map answers to a command; none for lines, and where memory ended.
+fn plain_answer(plain: &mut Plain, command: &Command) -> Option<Answer>
+    requires { IsWellFormed command.now }
+{
+    match plain.apply(command) {
+        Ok(Reply::Plain(answer)) => Some(answer),
+        _ => None,
+    }
+}
+
+/// The values of a series of the plain map, which the line selects.
+fn plain_values(alloc: Global, plain: &mut Plain, line: &str) -> Result<[Option<i64>; 3], Fail> {
+    let command = lines::command_of(alloc, line)?;
+    Ok(values_of(&plain.apply(&command)?))
+}
+
 impl<J: Journal, F: Files> Three<J, F> {
-    fn freeze(&mut self) -> Result<Came, Fail> {
+    /// Freezes the working pair. Whether that changed something; none where they do not agree.
+    fn freeze(&mut self) -> Result<Option<bool>, Fail> {
         let frozen = self.slow.frozen();
-        match ask_freeze(&mut self.core) {
-            None => return Ok(Came::Stayed),
-            Some(Answer::Done) => self.slow.freeze()?,
-            Some(_) => return Ok(Came::Apart),
+        match self.core.freeze() {
+            Some(Answer::Done) => {
+                self.slow.freeze()?;
+                Ok(Some(self.slow.frozen() > frozen))
+            }
+            Some(_) => Ok(None),
+            None => Ok(Some(false)),
         }
-        Ok(if self.slow.frozen() > frozen {
-            Came::Changed
-        } else {
-            Came::Stayed
-        })
     }
 
-    /// Executes the command of a word.
-    fn command(&mut self, command: &Command, word: &str, value: i64) -> Result<Came, Fail>
+    /// Executes the command of a word. Whether that changed something; none where they do not agree.
+    fn command(&mut self, command: &Command, word: &str, value: i64) -> Result<Option<bool>, Fail>
         requires { IsWellFormed command.now }
     {
-        let answer = ask(&mut self.core, command);
-        if answer != slow_answer(&mut self.slow, word.as_bytes(), value)? {
-            return Ok(Came::Apart);
-        }
-        let Some(answer) = answer else {
-            return Ok(Came::Stayed);
-        };
-        match self.plain.apply(command)? {
-            Reply::Plain(said) if said == answer => {
-                Ok(if answer == Answer::Done {
-                    Came::Changed
-                } else {
-                    Came::Stayed
-                })
-            }
-            _ => Ok(Came::Apart),
-        }
+        let answer = self.core.ask(command);
+        let is_same = self.slow.answer(word.as_bytes(), value)? == answer
+            && (answer.is_none() || plain_answer(&mut self.plain, command) == answer);
+        Ok(is_same.then_some(answer == Some(Answer::Done)))
     }
 
-    /// Executes a word, which writes this value.
-    fn execute(&mut self, alloc: Global, word: &str, value: i64) -> Result<Came, Fail> {
+    /// Executes a word, which writes this value. Whether that changed something; none where they do not agree.
+    fn execute(&mut self, alloc: Global, word: &str, value: i64) -> Result<Option<bool>, Fail> {
         match command_of(alloc, word, value)? {
             Some(command) => self.command(&command, word, value),
             None => self.freeze(),
@@ -122,7 +97,7 @@ impl<J: Journal, F: Files> Three<J, F> {
     /// Whether the core has the pairs of the slow state.
     fn has_same_pairs(&self) -> bool {
         let slow = &self.slow;
-        counts(&self.core)
+        self.core.counts()
             == [
                 slow.frozen() as u64,
                 slow.working(Space::Sequence) as u64,
@@ -131,155 +106,129 @@ impl<J: Journal, F: Files> Three<J, F> {
             ]
     }
 
-    /// Whether the slow state stands for the plain map's world, at each time of the series that the line selects.
-    fn stands_for(&mut self, alloc: Global, line: &str, name: u8) -> Result<bool, Fail> {
-        let reply = self.plain.apply(&lines::command_of(alloc, line)?)?;
-        let slow = [1, 2, 3].map(|time| self.slow.value(name, time));
-        Ok(values_of(&reply) == slow)
+    /// The values at times 1, 2 and 3 of a series of the slow state.
+    fn slow_values(&self, name: u8) -> [Option<i64>; 3] {
+        let slow = &self.slow;
+        [
+            slow.value(name, 1),
+            slow.value(name, 2),
+            slow.value(name, 3),
+        ]
     }
 
-    /// Whether the three agree on the pairs and on the values.
+    /// Whether they agree on the pairs, and the slow state stands for the plain map's world, at each time of each
+    /// series.
     fn agree(&mut self, alloc: Global) -> Result<bool, Fail> {
         Ok(
             self.has_same_pairs()
-                && self.stands_for(alloc, SELECT_S, b's')?
-                && self.stands_for(alloc, SELECT_T, b't')?,
+                && plain_values(alloc, &mut self.plain, SELECT_S)? == self.slow_values(b's')
+                && plain_values(alloc, &mut self.plain, SELECT_T)? == self.slow_values(b't'),
         )
     }
 
-    /// Executes the words. Whether each changes something, and the three agree behind it.
-    fn change_all(&mut self, alloc: Global, words: &[&str]) -> Result<bool, Fail> {
-        for word in words {
-            match self.execute(alloc, word, 7)? {
-                Came::Changed if self.agree(alloc)? => (),
-                _ => return Ok(false),
-            }
-        }
-        Ok(true)
+    /// Executes a word, and looks whether they agree behind it, where that is asked. Whether the word changed
+    /// something; none where they do not agree.
+    fn step(
+        &mut self,
+        alloc: Global,
+        word: &str,
+        value: i64,
+        looks: bool,
+    ) -> Result<Option<bool>, Fail> {
+        let changed = self.execute(alloc, word, value)?;
+        let agree = !looks || self.agree(alloc)?;
+        Ok(if agree { changed } else { None })
     }
 
-    /// Executes the list with this number, of so many lists of its length, up to the first word that changes nothing.
-    /// The words are the digits of the number. The three have to agree behind each word that was not there in the list
-    /// before. How many lists begin with the words that were executed; 0 where the three do not agree.
-    fn list(&mut self, alloc: Global, number: usize, lists: usize) -> Result<usize, Fail> {
-        let mut alike = lists;
-        for value in 1..6 {
-            if alike <= 1 {
-                return Ok(1);
-            }
-            alike = (alike / WORDS.len()).max(1);
-            let word = WORDS[number / alike % WORDS.len()];
-            let came = self.execute(alloc, word, value)?;
-            if number % alike == 0 && !self.agree(alloc)? {
-                return Ok(0);
-            }
-            match came {
-                Came::Changed => (),
-                Came::Stayed => return Ok(alike),
-                Came::Apart => return Ok(0),
-            }
-        }
-        Ok(1)
-    }
-
-    /// Executes a start and then a list. What `list` gives, or 0 where the three do not agree before it.
-    fn list_behind(
+    /// Executes a start, each word of which has to change something, and then the list with this number, of so many
+    /// lists of its length, up to the first word that changes nothing. The words of the list are the digits of the
+    /// number. The three have to agree before the start, and behind each word that was not there in the list before.
+    /// How many lists begin with the words that were executed, 0 where the three do not agree; and the counts of the
+    /// core then.
+    fn list(
         &mut self,
         alloc: Global,
         start: &[&str],
         number: usize,
         lists: usize,
-    ) -> Result<usize, Fail> {
-        if self.agree(alloc)? && self.change_all(alloc, start)? {
-            self.list(alloc, number, lists)
-        } else {
-            Ok(0)
+    ) -> Result<(usize, [u64; 4]), Fail> {
+        let mut has_started = self.agree(alloc)?;
+        for word in start {
+            has_started = has_started && self.step(alloc, word, 7, true)? == Some(true);
         }
+        let mut changed = has_started.then_some(true);
+        let mut alike = lists;
+        for value in 1..6 {
+            if alike > 1 && changed == Some(true) {
+                alike = (alike / WORDS.len()).max(1);
+                let word = WORDS[number / alike % WORDS.len()];
+                changed = self.step(alloc, word, value, number % alike == 0)?;
+            }
+        }
+        let alike = match changed {
+            Some(true) => 1,
+            Some(false) => alike,
+            None => 0,
+        };
+        Ok((alike, self.core.counts()))
     }
 }
 
-/// Three over a new store with this pair limit.
-fn three_of(
+/// Executes a list behind a start, over a new store with this pair limit. What `list` gives.
+fn serve(
     alloc: Global,
-    core: Served<MemJournal, MemFiles>,
     limit: usize,
-) -> Three<MemJournal, MemFiles> {
-    Three {
+    start: &[&str],
+    number: usize,
+    lists: usize,
+) -> Result<(usize, [u64; 4]), Fail> {
+    let mut place = place_of(alloc, &[])?;
+    let core = open_stored(alloc, &mut place, limit as u64, 4)?;
+    let mut three = Three {
         core,
         slow: SlowState::new(alloc, limit),
         plain: Plain::new(alloc),
-    }
-}
-
-/// Executes a list behind a start, over a new store with a limit of two points. What `list` gives, or 0 where the three
-/// do not agree before it.
-fn serve(alloc: Global, start: &[&str], number: usize, lists: usize) -> Result<usize, Fail> {
-    let mut place = place_of(alloc, &[])?;
-    let (core, files) = open_core(alloc, &mut place, 2)?;
-    let mut three = three_of(alloc, core, 2);
-    let alike = three.list_behind(alloc, start, number, lists);
+    };
+    let went = three.list(alloc, start, number, lists);
     let Three {
         core,
         slow: _,
         plain: _,
     } = three;
-    close_core(&mut place, core, files);
-    alike
+    close_stored(&mut place, core);
+    went
 }
 
-/// The number of the first list on which the three do not agree, among so many lists of one length behind a start. A
-/// word that changes nothing ends a list: that core and log are as before is proved, so what comes behind it is what
-/// comes without it. Shorter lists are those with which these begin.
-fn first_apart(alloc: Global, start: &[&str], lists: usize) -> Result<Option<usize>, Fail> {
+/// Asserts that the three agree on so many lists of one length behind a start. A word that changes nothing ends a list:
+/// that core and log are as before is proved, so what comes behind it is what comes without it. Shorter lists are those
+/// with which these begin.
+fn assert_lists(rt: &impl Abort, alloc: Global, start: &[&str], lists: usize) -> Result<(), Fail> {
     let mut next = 0usize;
     for number in 0..lists {
         if number == next {
-            let alike = serve(alloc, start, number, lists)?;
-            if alike == 0 {
-                return Ok(Some(number));
-            }
-            next = number.saturating_add(alike);
+            let (alike, _) = serve(alloc, 2, start, number, lists)?;
+            assert_ne!(rt; alike, 0, "list {number}");
+            next = next.saturating_add(alike);
         }
     }
-    Ok(None)
+    Ok(())
 }
 
 #[test]
 fn short_lists(rt: HostRuntime) -> Result<(), Fail> {
-    assert_eq!(rt; first_apart(rt.alloc(), &[], 248_832)?, None);
-    Ok(())
+    assert_lists(&rt, rt.alloc(), &[], 248_832)
 }
 
 // Where a mark covers a point of the older of two frozen pairs, it is kept; once it covers nothing, it goes.
 #[test]
 fn short_lists_behind_a_mark(rt: HostRuntime) -> Result<(), Fail> {
-    let start = ["Cs", "Ct", "I2s", "F", "D22s"];
-    assert_eq!(rt; first_apart(rt.alloc(), &start, 1_728)?, None);
-    Ok(())
+    assert_lists(&rt, rt.alloc(), &["Cs", "Ct", "I2s", "F", "D22s"], 1_728)
 }
 
-/// Whether the three agree behind each of five rows, the last of which is one above a limit of four.
-fn agree_on_five_rows(
-    three: &mut Three<MemJournal, MemFiles>,
-    alloc: Global,
-) -> Result<bool, Fail> {
-    let are_alike = three.change_all(alloc, &["Cs", "I1s", "I2s", "I3s", "I4s", "I5s"])?;
-    Ok(are_alike && counts(&three.core) == [1, 1, 0, 5])
-}
-
+// The last row is one above a limit of four.
 #[test]
 fn fifth_row_of_all_three(rt: HostRuntime) -> Result<(), Fail> {
-    let alloc = rt.alloc();
-    let mut place = place_of(alloc, &[])?;
-    let (core, files) = open_core(alloc, &mut place, 4)?;
-    let mut three = three_of(alloc, core, 4);
-    let are_alike = agree_on_five_rows(&mut three, alloc);
-    let Three {
-        core,
-        slow: _,
-        plain: _,
-    } = three;
-    close_core(&mut place, core, files);
-    assert!(rt; are_alike?);
+    let start = ["Cs", "I1s", "I2s", "I3s", "I4s", "I5s"];
+    assert_eq!(rt; serve(rt.alloc(), 4, &start, 0, 1)?, (1, [1, 1, 0, 5]));
     Ok(())
 }

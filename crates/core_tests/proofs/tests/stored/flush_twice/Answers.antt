@@ -1,6 +1,6 @@
 use Rattle.std.proofs.Common.{[], Ok, ap, ◌∙◌}
-use Rattle.core_tests.proofs.Flushing.{is_out, with_job, without_at_fault, without_job}
-use Rattle.core_tests.proofs.tests.flushing.flush_twice.Goals as goal
+use Rattle.core_support.proofs.Ready.{is_out, with_job, without_at_fault, without_job}
+use Rattle.core_tests.proofs.tests.stored.flush_twice.Goals as goal
 
 pub run_twice-requires-clause-is_job : goal.run_twice-requires-clause-is_job
 run_twice-requires-clause-is_job g c = λ lifetimes lives. (is_out c.take.new.core c.take.result c.in-Ok-Some.job

@@ -1,6 +1,6 @@
 use Rattle.std.proofs.Common.{[], ◌∷◌, Ok, ap, ◌∙◌}
-use Rattle.core_tests.proofs.Flushing.{first_of, is_out, of_new_port, with_job, without_at_fault, without_job}
-use Rattle.core_tests.proofs.tests.flushing.flush.Goals as goal
+use Rattle.core_support.proofs.Ready.{first_of, is_out, of_new_port, with_job, without_at_fault, without_job}
+use Rattle.core_tests.proofs.tests.stored.flush.Goals as goal
 
 pub run-requires-clause-is_job : goal.run-requires-clause-is_job
 run-requires-clause-is_job g c = λ lifetimes lives. (is_out c.take.new.core c.take.result c.in-Ok-Some.job

@@ -1,28 +1,23 @@
-//! Cores that flush, over places in memory, and the steps that they are led through. Depends on `words`.
-ghost use Rattle.std.specs.Prelude.{◌≡◌, [], ◌∷◌, ◌≤◌, List, IfOk};
+//! Cores with files over places in memory, and the steps that they are led through. Depends on core_support.
+ghost use Rattle.std.specs.Prelude.{◌≡◌, [], ◌∷◌, List, IfOk, IfSome};
 ghost use Rattle.std.proofs.Props.{props};
-ghost use Rattle.core_tests.specs.Flushing.{IsReady, IsReadyWith, IsTakenOut};
-ghost use Rattle.tsdb_committing.specs.Files.{AreDone, new_files};
-ghost use Rattle.tsdb_core.specs.Flushes.{EndsFlush, IsOut};
-ghost use Rattle.tsdb_core.specs.Limits.{IsPairLimit};
-ghost use Rattle.tsdb_core.specs.declared.commit.Commit.{Commit as HowEnded};
+ghost use Rattle.core_support.specs.Ready.{IsReady};
+ghost use Rattle.tsdb_core.specs.Flushes.{IsOut};
 ghost use Rattle.tsdb_jobs.specs.Jobs.{IsJob};
 ghost use Rattle.tsdb_jobs.specs.declared.flush.FlushJob.{FlushJob as JobOf};
 ghost use Rattle.tsdb_layers.specs.Lists.{IsWithOne};
 ghost use Rattle.tsdb_model.specs.Commands.{IsWellFormed};
-ghost use Rattle.tsdb_outside.specs.Files.{Store};
 
-use super::words::command_of;
+use core_support::{ask, command_of, end, freeze, new_core, take};
 use mem_outside::{MemFiles, MemJournal, MemPlace};
 use std::alloc::Global;
 use std::test::Fail;
 use tests_support as lines;
-use tsdb_base::{Answer, FileNumber, Stamp, Time};
-use tsdb_core::{Commit, Core, CoreFault, Options};
+use tsdb_base::{Answer, Space, Stamp, Time};
+use tsdb_core::{Commit, Core, CoreFault};
 use tsdb_engine::{FlushRefused, run_flush};
 use tsdb_frames::Frames;
-use tsdb_jobs::{FlushJob, Flushed};
-use tsdb_kept::KeptFiles;
+use tsdb_jobs::FlushJob;
 use tsdb_logged::Logged;
 use tsdb_memory::MemoryStore;
 use tsdb_model::{Command, Reply};
@@ -32,10 +27,16 @@ use tsdb_print::print_reply;
 /// A step of a list.
 #[derive(Clone, Copy)]
 pub enum Step {
-    /// A command or a freeze, as `words` has them.
+    /// A command or a freeze, as core_support has them in words.
     Ask(&'static str),
-    /// Writes a value into `s` at a time.
-    Put(Time),
+    /// The command of a line of a script.
+    Line(&'static str),
+    /// Writes a text of the most bytes into `s` at each of so many times, from 0 on.
+    Texts(Time),
+    /// Looks whether the row of a word needs a flush.
+    Needs(&'static str),
+    /// Looks whether a text of so many bytes for `s` needs a flush.
+    TextNeeds(usize),
     /// Takes the oldest pair that was frozen at this stamp or before, writes its files, and commits them.
     Flush(u64),
     /// Gives the flush up in place of its commit.
@@ -48,11 +49,12 @@ pub enum Step {
 }
 
 /// What came of a step.
-#[derive(Clone, Copy, Debug, PartialEq, Eq)]
+#[derive(Clone, Copy, PartialEq, Eq)]
 pub enum Came {
-    Answered(Answer),
-    /// A flush has to come before the row or the freeze.
-    Waits,
+    /// What was answered; none where a flush has to come before the row or the freeze.
+    Answered(Option<Answer>),
+    /// Whether the row needs a flush; none for what is no row.
+    Needs(Option<bool>),
     NotDue,
     NotTaken(CoreFault),
     /// How a flush was committed; none where it was given up.
@@ -62,34 +64,28 @@ pub enum Came {
     Has { frozen: u64, outgoing: usize },
 }
 
-/// The job of the oldest pair, where it is due.
-fn take<J: Journal, F: Files>(
-    core: &mut Core<J, F>,
-    upto: u64,
-) -> Result<Option<FlushJob>, CoreFault>
-    ensures out { (store : Store) (jobs : List JobOf) → IsReady store core.old jobs → IsTakenOut core.new result }
-    ensures ready { (store : Store) (jobs : List JobOf) → IsReady store core.old jobs
-        → IsReadyWith store core.new jobs result }
+/// The most bytes of a text.
+const LONGEST: usize = 65_535;
+
+/// The command that writes a text of so many bytes at a time into `s`.
+fn text_command(alloc: Global, time: Time, length: usize) -> Result<Command, Fail>
+    ensures { IfOk result IsWellFormed }
 {
-    core.take_flush(Stamp(upto))
+    let text = "x".repeat(alloc, length)?;
+    let line = format!(in alloc; "insert into root.g.d(timestamp,s) values({time},'{text}')")?;
+    lines::command_of(alloc, line.as_str())
 }
 
-/// Commits the files of a job, or gives them up.
-fn end<J: Journal, F: Files>(
-    core: &mut Core<J, F>,
-    job: FlushJob,
-    files: Flushed<F>,
-    commits: bool,
-) -> Option<Commit>
-    requires out { IsOut core.old job }
-    requires done { AreDone F.Sealed.file F.Sealed.rights job files }
-    ensures { (commit : HowEnded) × EndsFlush core.old core.new job (new_files F.Sealed.file files) commit }
+/// The command of a step, where it has one.
+fn command_in(alloc: Global, step: Step) -> Result<Option<Command>, Fail>
+    ensures { IfOk result (λ command. IfSome command IsWellFormed) }
 {
-    if commits {
-        return Some(core.commit_flush(job, files));
+    match step {
+        Step::Ask(word) | Step::Needs(word) => command_of(alloc, word, 1),
+        Step::Line(line) => Ok(Some(lines::command_of(alloc, line)?)),
+        Step::TextNeeds(length) => Ok(Some(text_command(alloc, 2_000, length)?)),
+        _ => Ok(None),
     }
-    core.abandon_flush(job, files);
-    None
 }
 
 /// Writes the files of a job, and commits them, or gives them up. It is given up too where they cannot be put.
@@ -177,31 +173,6 @@ fn flush_twice<J: Journal, F: Files>(
     }
 }
 
-/// What the core answers to a command, where it may be asked.
-fn ask<J: Journal, F: Files>(core: &mut Core<J, F>, command: &Command) -> Came
-    requires { IsWellFormed command.now }
-    ensures { (store : Store) (jobs : List JobOf) → IsReady store core.old jobs → IsReady store core.new jobs }
-{
-    match command {
-        Command::Create(schema) => Came::Answered(core.create(schema)),
-        Command::Delete { series, range } => Came::Answered(core.delete(series, range)),
-        Command::Insert { device, row } if !core.needs_flush(row) => {
-            Came::Answered(core.insert(device, row))
-        }
-        _ => Came::Waits,
-    }
-}
-
-/// What the core answers to a freeze, where it may be asked.
-fn freeze<J: Journal, F: Files>(core: &mut Core<J, F>) -> Came
-    ensures { (store : Store) (jobs : List JobOf) → IsReady store core.old jobs → IsReady store core.new jobs }
-{
-    if core.frozen() < 2 {
-        return Came::Answered(core.freeze());
-    }
-    Came::Waits
-}
-
 /// Sweeps the files that are on their way out.
 fn sweep<J: Journal, F: Files>(core: &mut Core<J, F>, port: &mut F::Port) -> Came
     requires ready { IsReady (F.Port.store port.old) core.old [] }
@@ -209,14 +180,6 @@ fn sweep<J: Journal, F: Files>(core: &mut Core<J, F>, port: &mut F::Port) -> Cam
     ensures same_store { F.Port.store port.new ≡ F.Port.store port.old }
 {
     Came::Swept(core.sweep(port))
-}
-
-/// The command that writes a value into `s`.
-fn put_command(alloc: Global, time: Time) -> Result<Command, Fail>
-    ensures { IfOk result IsWellFormed }
-{
-    let line = format!(in alloc; "insert into root.g.d(timestamp,s) values({time},1)")?;
-    lines::command_of(alloc, line.as_str())
 }
 
 /// A core without a job that is out, with its files and a port of theirs.
@@ -229,17 +192,41 @@ pub struct Stored<J: Journal, F: Files> {
 }
 
 impl<J: Journal, F: Files> Stored<J, F> {
+    /// What the core answers to a command, where it may be asked.
+    pub fn ask(&mut self, command: &Command) -> Option<Answer>
+        requires { IsWellFormed command.now }
+    {
+        ask(&mut self.core, command)
+    }
+
+    /// What the core answers to a freeze, where it may be asked.
+    pub fn freeze(&mut self) -> Option<Answer> {
+        freeze(&mut self.core)
+    }
+
     /// Takes a step.
     pub fn go(&mut self, alloc: Global, step: Step) -> Result<Came, Fail> {
+        match command_in(alloc, step)? {
+            Some(command) => Ok(self.go_by_command(step, &command)),
+            None => self.go_without_command(alloc, step),
+        }
+    }
+
+    fn go_by_command(&mut self, step: Step, command: &Command) -> Came
+        requires { IsWellFormed command.now }
+    {
         match step {
-            Step::Ask(word) => match command_of(alloc, word, 1)? {
-                Some(command) => Ok(ask(&mut self.core, &command)),
-                None => Ok(freeze(&mut self.core)),
+            Step::Needs(_) | Step::TextNeeds(_) => match command {
+                Command::Insert { row, .. } => Came::Needs(Some(self.core.needs_flush(row))),
+                _ => Came::Needs(None),
             },
-            Step::Put(time) => {
-                let command = put_command(alloc, time)?;
-                Ok(ask(&mut self.core, &command))
-            }
+            _ => Came::Answered(self.ask(command)),
+        }
+    }
+
+    fn go_without_command(&mut self, alloc: Global, step: Step) -> Result<Came, Fail> {
+        match step {
+            Step::Texts(texts) => self.write_texts(alloc, texts),
             Step::Flush(upto) => Ok(self.flush(alloc, upto, true)),
             Step::GiveUp => Ok(self.flush(alloc, u64::MAX, false)),
             Step::Twice => Ok(flush_twice::<J, F>(alloc, &mut self.core, &mut self.port)),
@@ -248,39 +235,54 @@ impl<J: Journal, F: Files> Stored<J, F> {
                 frozen: self.core.frozen(),
                 outgoing: self.core.outgoing().len(),
             }),
+            _ => Ok(Came::Answered(self.freeze())),
         }
+    }
+
+    /// What came of the first text that was not written, or of the last.
+    fn write_texts(&mut self, alloc: Global, texts: Time) -> Result<Came, Fail> {
+        let mut answer = Some(Answer::Done);
+        for time in 0..texts {
+            let command = text_command(alloc, time, LONGEST)?;
+            let next = self.ask(&command);
+            if answer == Some(Answer::Done) {
+                answer = next;
+            }
+        }
+        Ok(Came::Answered(answer))
     }
 
     fn flush(&mut self, alloc: Global, upto: u64, commits: bool) -> Came {
         flush::<J, F>(alloc, &mut self.core, &mut self.port, upto, commits)
     }
 
-    /// The listing, as it is printed.
-    pub fn listing(&self, alloc: Global) -> Result<Vec<u8>, Fail> {
-        let listing = Reply::Files(self.core.show()?);
-        Ok(print_reply(alloc, &Command::ShowFiles, &listing)?)
+    /// What the core has: frozen pairs, points of the working pair in each space, and the born of the newest frozen
+    /// pair, 0 where there is none.
+    pub fn counts(&self) -> [u64; 4] {
+        let newest = match self.core.newest_frozen() {
+            Some(Stamp(born)) => born,
+            None => 0,
+        };
+        let sequence = self.core.working(Space::Sequence);
+        let unsequence = self.core.working(Space::Unsequence);
+        [self.core.frozen(), sequence, unsequence, newest]
+    }
+
+    /// Whether the listing is printed as this text.
+    pub fn lists(&self, alloc: Global, text: &str) -> bool {
+        match self.core.show() {
+            Ok(listing) => is_printed(alloc, &Reply::Files(listing), text),
+            Err(_) => false,
+        }
     }
 }
 
-/// A core over a log and memory that are new, the next file of which gets this number.
-fn new_core<J: Journal, F: Files>(
-    alloc: Global,
-    logged: Logged<J>,
-    pair_points: u64,
-    next: u64,
-) -> Core<J, F>
-    requires limit { IsPairLimit pair_points }
-    requires next { 1 ≤ next }
-    ensures { (store : Store) → IsReady store result [] }
-{
-    let kept = KeptFiles::new(alloc);
-    Core::new(
-        alloc,
-        logged,
-        kept,
-        Options { pair_points },
-        FileNumber(next),
-    )
+/// Whether a listing is printed as this text.
+fn is_printed(alloc: Global, listing: &Reply, text: &str) -> bool {
+    match print_reply(alloc, &Command::ShowFiles, listing) {
+        Ok(printed) => printed.as_slice() == text.as_bytes(),
+        Err(_) => false,
+    }
 }
 
 /// A core over the log of a place, with this pair limit, the next file of which gets this number.

@@ -2,8 +2,8 @@ use Rattle.std.proofs.Common.{inl, inr, refl}
 use Rattle.tsdb_base.specs.declared.ids.Space.TheVariants.{Sequence, Unsequence}
 use Rattle.tsdb_core.specs.declared.commit.Commit.TheVariants.{Gone}
 use Rattle.tsdb_jobs.specs.Jobs.{job_part}
-use Rattle.core_tests.proofs.Flushing.{ended}
-use Rattle.core_tests.proofs.tests.flushing.run.Goals as goal
+use Rattle.core_support.proofs.Ready.{ended}
+use Rattle.core_tests.proofs.tests.stored.run.Goals as goal
 
 pub returns-in-Ok-clause-ready : goal.returns-in-Ok-clause-ready
 returns-in-Ok-clause-ready g c = ended g.F.Sealed.SealedFile.file g.F.Sealed.SealedFile.rights

@@ -1,6 +1,6 @@
 use Rattle.std.proofs.Common.{[]}
-use Rattle.core_tests.proofs.Flushing.{of_new_port, swept_ready}
-use Rattle.core_tests.proofs.tests.flushing.sweep.Goals as goal
+use Rattle.core_support.proofs.Ready.{of_new_port, swept_ready}
+use Rattle.core_tests.proofs.tests.stored.sweep.Goals as goal
 
 pub returns-clause-ready : goal.returns-clause-ready
 returns-clause-ready g c = of_new_port c.sweep.new.self (g.F.Port.Port.store c.args.port.now)

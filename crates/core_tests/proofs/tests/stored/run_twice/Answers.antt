@@ -1,7 +1,7 @@
 use Rattle.std.proofs.Common.{[], ◌∷◌, Ok, ap, ◌∙◌}
-use Rattle.core_tests.proofs.Flushing.{first_of, is_out, of_new_port, out_of, second_of, with_job, without_at_fault}
-use Rattle.core_tests.proofs.Flushing.{without_job}
-use Rattle.core_tests.proofs.tests.flushing.run_twice.Goals as goal
+use Rattle.core_support.proofs.Ready.{first_of, is_out, of_new_port, out_of, second_of, with_job, without_at_fault}
+use Rattle.core_support.proofs.Ready.{without_job}
+use Rattle.core_tests.proofs.tests.stored.run_twice.Goals as goal
 
 pub run-first-requires-clause-out : goal.run-first-requires-clause-out
 run-first-requires-clause-out g c = λ lifetimes lives. out_of (g.F.Port.Port.store c.args.port.now) c.take.new.core c.args.first
