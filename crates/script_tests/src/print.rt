@@ -2,16 +2,17 @@
 //! tsdb_map, tsdb_path and tsdb_base.
 
 use std::alloc::Global;
-use std::test::Fail;
-use tsdb_base::{Aggregate, Answer, FileNumber, List, Range, Space, Stamp, Text, Value};
+use tsdb_base::{Aggregate, Answer, FileNumber, List, Memory, Range, Space, Stamp, Text, Value};
 use tsdb_model::{Command, FileLine, Item, Line, Listing, Reply};
 use tsdb_path::{Name, Path};
 use tsdb_print::{print_order, print_reply, print_session};
 
-/// Whether this is what the reply prints.
-fn prints(alloc: Global, command: &Command, reply: &Reply, printed: &[u8]) -> Result<bool, Fail> {
-    let bytes = print_reply(alloc, command, reply)?;
-    Ok(bytes.as_slice() == printed)
+/// Whether this is printed.
+fn is_text(printed: Result<Vec<u8>, Memory>, text: &[u8]) -> bool {
+    match printed {
+        Ok(bytes) => bytes.as_slice() == text,
+        Err(Memory) => false,
+    }
 }
 
 const ANSWERS: [(Answer, &str); 7] = [
@@ -24,51 +25,52 @@ const ANSWERS: [(Answer, &str); 7] = [
     (Answer::Full { counter: 7 }, "full\n"),
 ];
 
-/// The place of the first answer that prints otherwise.
-fn wrong_answer(alloc: Global, answers: &[(Answer, &str)]) -> Result<Option<usize>, Fail> {
-    for (place, (answer, printed)) in answers.iter().enumerate() {
-        let reply = Reply::Plain(*answer);
-        if !prints(alloc, &Command::Flush, &reply, printed.as_bytes())? {
-            return Ok(Some(place));
-        }
-    }
-    Ok(None)
+fn is_answer(alloc: Global, answer: Answer, text: &str) -> bool {
+    let printed = print_reply(alloc, &Command::Flush, &Reply::Plain(answer));
+    is_text(printed, text.as_bytes())
 }
 
 #[test]
-fn plain_answers(rt: HostRuntime) -> Result<(), Fail> {
-    let wrong = wrong_answer(rt.alloc(), &ANSWERS)?;
-    assert_eq!(rt; wrong, None);
-    Ok(())
+fn plain_answers(rt: HostRuntime) {
+    for (place, (answer, text)) in ANSWERS.iter().enumerate() {
+        assert!(rt; is_answer(rt.alloc(), *answer, text), "{place}");
+    }
 }
 
 type Column = (&'static str, Option<Aggregate>);
 
-fn items_of(alloc: Global, columns: &[Column]) -> Result<Vec<Item>, Fail> {
+// The lists below lack what memory does not suffice for, which the text shows.
+
+fn items_of(alloc: Global, columns: &[Column]) -> List<Item> {
     let mut items = Vec::new(alloc);
     for (name, aggregate) in columns {
-        let measurement = Name::read(alloc, name.as_bytes())?;
-        let aggregate = *aggregate;
-        items.push(Item {
-            measurement,
-            aggregate,
-        })?;
+        if let Ok(measurement) = Name::read(alloc, name.as_bytes()) {
+            let aggregate = *aggregate;
+            let _ = items.push(Item {
+                measurement,
+                aggregate,
+            });
+        }
     }
-    Ok(items)
+    List::of(items)
 }
 
-/// A select of these columns from `root.g.d`, over all times.
-fn select(alloc: Global, columns: &[Column]) -> Result<Command, Fail> {
-    let device = Path::read(alloc, b"root.g.d")?;
-    let items = items_of(alloc, columns)?;
-    Ok(Command::Select {
-        device,
-        items: List::of(items),
-        range: Range {
-            from: i64::MIN,
-            to: i64::MAX,
-        },
-    })
+/// Whether a select of these columns from `root.g.d`, over all times, prints this.
+fn select_prints(alloc: Global, columns: &[Column], reply: &Reply, text: &[u8]) -> bool {
+    match Path::read(alloc, b"root.g.d") {
+        Ok(device) => {
+            let command = Command::Select {
+                device,
+                items: items_of(alloc, columns),
+                range: Range {
+                    from: i64::MIN,
+                    to: i64::MAX,
+                },
+            };
+            is_text(print_reply(alloc, &command, reply), text)
+        }
+        Err(_) => false,
+    }
 }
 
 /// A value of a table.
@@ -81,35 +83,37 @@ enum Cell {
     Text(&'static [u8]),
 }
 
-fn value_of(alloc: Global, cell: Cell) -> Result<Option<Value>, Fail> {
-    Ok(match cell {
+fn value_of(alloc: Global, cell: Cell) -> Option<Value> {
+    match cell {
         Cell::Null => None,
         Cell::Bool(truth) => Some(Value::Bool(truth)),
         Cell::I32(number) => Some(Value::I32(number)),
         Cell::I64(number) => Some(Value::I64(number)),
-        Cell::Text(bytes) => Some(Value::Text(Text::new(alloc, bytes)?)),
-    })
+        Cell::Text(bytes) => match Text::new(alloc, bytes) {
+            Ok(text) => Some(Value::Text(text)),
+            Err(_) => None,
+        },
+    }
 }
 
-fn values_of(alloc: Global, cells: &[Cell]) -> Result<List<Option<Value>>, Fail> {
+fn values_of(alloc: Global, cells: &[Cell]) -> List<Option<Value>> {
     let mut values = Vec::new(alloc);
     for cell in cells {
-        values.push(value_of(alloc, *cell)?)?;
+        let _ = values.push(value_of(alloc, *cell));
     }
-    Ok(List::of(values))
+    List::of(values)
 }
 
 type Row = (i64, [Cell; 2]);
 
-/// The rows of a select.
-fn rows_of(alloc: Global, rows: &[Row]) -> Result<Reply, Fail> {
+fn lines_of(alloc: Global, rows: &[Row]) -> List<Line> {
     let mut lines = Vec::new(alloc);
     for (time, cells) in rows {
-        let values = values_of(alloc, cells)?;
         let time = *time;
-        lines.push(Line { time, values })?;
+        let values = values_of(alloc, cells);
+        let _ = lines.push(Line { time, values });
     }
-    Ok(Reply::Lines(List::of(lines)))
+    List::of(lines)
 }
 
 const TEXT_AND_NUMBER: [Column; 2] = [("t", None), ("s", None)];
@@ -121,33 +125,26 @@ const ROWS: [Row; 3] = [
     (0, [Cell::Text(b"''\n,\xff"), Cell::I64(-7)]),
 ];
 
+/// Whether these rows print this.
+fn rows_print(alloc: Global, rows: &[Row], text: &[u8]) -> bool {
+    let reply = Reply::Lines(lines_of(alloc, rows));
+    select_prints(alloc, &TEXT_AND_NUMBER, &reply, text)
+}
+
 #[test]
-fn rows_of_texts_and_numbers(rt: HostRuntime) -> Result<(), Fail> {
-    let alloc = rt.alloc();
-    let printed = b"time,t,s
+fn rows_of_texts_and_numbers(rt: HostRuntime) {
+    let text = b"time,t,s
 -9223372036854775808,'it''s',null
 -1,'',9223372036854775807
 0,'''''\n,\xff',-7
 rows 3
 ";
-    let command = select(alloc, &TEXT_AND_NUMBER)?;
-    let are_printed = prints(alloc, &command, &rows_of(alloc, &ROWS)?, printed)?;
-    assert!(rt; are_printed);
-    Ok(())
+    assert!(rt; rows_print(rt.alloc(), &ROWS, text));
 }
 
 #[test]
-fn no_rows(rt: HostRuntime) -> Result<(), Fail> {
-    let alloc = rt.alloc();
-    let command = select(alloc, &TEXT_AND_NUMBER)?;
-    let are_printed = prints(
-        alloc,
-        &command,
-        &rows_of(alloc, &[])?,
-        b"time,t,s\nrows 0\n",
-    )?;
-    assert!(rt; are_printed);
-    Ok(())
+fn no_rows(rt: HostRuntime) {
+    assert!(rt; rows_print(rt.alloc(), &[], b"time,t,s\nrows 0\n"));
 }
 
 const AGGREGATES: [Column; 7] = [
@@ -170,19 +167,19 @@ const VALUES: [Cell; 7] = [
     Cell::I64(8),
 ];
 
+fn values_print(alloc: Global, columns: &[Column], cells: &[Cell], text: &[u8]) -> bool {
+    let reply = Reply::Values(values_of(alloc, cells));
+    select_prints(alloc, columns, &reply, text)
+}
+
 /// The items stand as they were written, and not in the order of their names.
 #[test]
-fn aggregates(rt: HostRuntime) -> Result<(), Fail> {
-    let alloc = rt.alloc();
-    let printed =
+fn aggregates(rt: HostRuntime) {
+    let text =
         b"count(s),max_value(s),min_time(s),first_value(b),last_value(a),min_value(a),max_time(a)
 0,null,null,true,'x',-1,8
 ";
-    let command = select(alloc, &AGGREGATES)?;
-    let reply = Reply::Values(values_of(alloc, &VALUES)?);
-    let are_printed = prints(alloc, &command, &reply, printed)?;
-    assert!(rt; are_printed);
-    Ok(())
+    assert!(rt; values_print(rt.alloc(), &AGGREGATES, &VALUES, text));
 }
 
 /// Files: the space, the number, the stamp, the least and the greatest time, each with one point.
@@ -192,60 +189,53 @@ const FILES: [(Space, u64, u64, i64, i64); 3] = [
     (Space::Sequence, 1, 2, 11, 12),
 ];
 
-fn files_of(alloc: Global) -> Result<Vec<FileLine>, Fail> {
+fn files_of(alloc: Global) -> List<FileLine> {
     let mut files = Vec::new(alloc);
     for (space, number, born, from, to) in FILES {
-        files.push(FileLine {
+        let _ = files.push(FileLine {
             space,
             number: FileNumber(number),
             born: Stamp(born),
             points: 1,
             from,
             to,
-        })?;
+        });
     }
-    Ok(files)
+    List::of(files)
+}
+
+/// Whether the listing of the files prints this.
+fn listing_prints(alloc: Global, text: &[u8]) -> bool {
+    let reply = Reply::Files(Listing {
+        files: files_of(alloc),
+        frozen: 2,
+        working: [0, 7],
+        marks: 1,
+    });
+    is_text(print_reply(alloc, &Command::ShowFiles, &reply), text)
 }
 
 #[test]
-fn listings(rt: HostRuntime) -> Result<(), Fail> {
-    let alloc = rt.alloc();
-    let printed = b"sequence 4 born 5 points 1 from 10 to 10
+fn listings(rt: HostRuntime) {
+    let text = b"sequence 4 born 5 points 1 from 10 to 10
 sequence 1 born 2 points 1 from 11 to 12
 unsequence 3 born 4 points 1 from -15 to 15
 frozen 2
 working 0 7
 marks 1
 ";
-    let reply = Reply::Files(Listing {
-        files: List::of(files_of(alloc)?),
-        frozen: 2,
-        working: [0, 7],
-        marks: 1,
-    });
-    let are_printed = prints(alloc, &Command::ShowFiles, &reply, printed)?;
-    assert!(rt; are_printed);
-    Ok(())
+    assert!(rt; listing_prints(rt.alloc(), text));
 }
 
 #[test]
-fn headings_of_sessions(rt: HostRuntime) -> Result<(), Fail> {
-    let bytes = print_session(rt.alloc(), 999)?;
-    assert!(rt; bytes.as_slice() == b"session 999\n".as_slice());
-    Ok(())
-}
-
-fn is_order(alloc: Global, sessions: &[u16], printed: &[u8]) -> Result<bool, Fail> {
-    let bytes = print_order(alloc, sessions)?;
-    Ok(bytes.as_slice() == printed)
+fn headings_of_sessions(rt: HostRuntime) {
+    assert!(rt; is_text(print_session(rt.alloc(), 999), b"session 999\n"));
 }
 
 #[test]
-fn orders_of_sessions(rt: HostRuntime) -> Result<(), Fail> {
-    let alloc = rt.alloc();
-    let some = is_order(alloc, &[2, 1, 999, 2], b"order 2 1 999 2\n")?;
-    assert!(rt; some);
-    let none = is_order(alloc, &[], b"order\n")?;
-    assert!(rt; none);
-    Ok(())
+fn orders_of_sessions(rt: HostRuntime) {
+    let some = print_order(rt.alloc(), &[2, 1, 999, 2]);
+    assert!(rt; is_text(some, b"order 2 1 999 2\n"));
+    let none = print_order(rt.alloc(), &[]);
+    assert!(rt; is_text(none, b"order\n"));
 }

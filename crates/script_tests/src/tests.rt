@@ -1,8 +1,9 @@
 //! What no clause says: that scripts are read with ample memory, and which kind of fault a line has.
+mod byte_sink;
 mod commands;
-mod fault;
 mod limits;
 mod lines;
+mod parts;
 mod plain_forms;
 mod plain_reader;
 mod plain_tokens;

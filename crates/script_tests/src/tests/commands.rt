@@ -1,5 +1,5 @@
 //! What the commands of a script say, as text.
-use super::fault::Fault;
+use super::byte_sink::ByteSink;
 use std::alloc::Global;
 use tsdb_base::{Aggregate, DataType, Encoding, Range, Space};
 use tsdb_model::{Command, Item, Literal, Row, Schema};
@@ -35,105 +35,90 @@ fn aggregate_name(aggregate: Aggregate) -> &'static [u8] {
     }
 }
 
-/// Adds a word behind a blank.
-fn write(word: &[u8], said: &mut Vec<u8>) -> Result<(), Fault> {
-    said.push(b' ')?;
-    said.extend_from_slice(word)?;
-    Ok(())
-}
-
-fn write_number(alloc: Global, number: i64, said: &mut Vec<u8>) -> Result<(), Fault> {
-    write(format!(in alloc; "{number}")?.as_bytes(), said)
-}
-
-fn write_literal(alloc: Global, literal: &Literal, said: &mut Vec<u8>) -> Result<(), Fault> {
+fn write_literal(literal: &Literal, said: &mut ByteSink) {
     match literal {
-        Literal::Bool(true) => write(b"true", said),
-        Literal::Bool(false) => write(b"false", said),
-        Literal::Int(number) => write_number(alloc, *number, said),
+        Literal::Bool(true) => said.put_word(b"true"),
+        Literal::Bool(false) => said.put_word(b"false"),
+        Literal::Int(number) => said.put_number(*number),
         Literal::Text(text) => {
-            write(b"'", said)?;
-            said.extend_from_slice(text.bytes())?;
-            Ok(())
+            said.put_word(b"'");
+            said.put(text.bytes());
         }
     }
 }
 
-fn write_range(alloc: Global, range: &Range, said: &mut Vec<u8>) -> Result<(), Fault> {
-    write_number(alloc, range.from, said)?;
-    write_number(alloc, range.to, said)
+fn write_range(range: &Range, said: &mut ByteSink) {
+    said.put_number(range.from);
+    said.put_number(range.to);
 }
 
-fn write_schema(schema: &Schema, said: &mut Vec<u8>) -> Result<(), Fault> {
-    write(b"create", said)?;
-    write(schema.path.bytes(), said)?;
-    write(type_name(schema.data_type), said)?;
-    write(encoding_name(schema.encoding), said)
+fn write_schema(schema: &Schema, said: &mut ByteSink) {
+    said.put_word(b"create");
+    said.put_word(schema.path.bytes());
+    said.put_word(type_name(schema.data_type));
+    said.put_word(encoding_name(schema.encoding));
 }
 
-fn write_row(alloc: Global, row: &Row, said: &mut Vec<u8>) -> Result<(), Fault> {
+fn write_row(row: &Row, said: &mut ByteSink) {
     for cell in row.cells.items() {
-        write(cell.measurement.bytes(), said)?;
+        said.put_word(cell.measurement.bytes());
     }
-    write_number(alloc, row.time, said)?;
+    said.put_number(row.time);
     for cell in row.cells.items() {
-        write_literal(alloc, &cell.value, said)?;
+        write_literal(&cell.value, said);
     }
-    Ok(())
 }
 
-fn write_items(items: &[Item], said: &mut Vec<u8>) -> Result<(), Fault> {
+fn write_items(items: &[Item], said: &mut ByteSink) {
     for item in items {
         if let Some(aggregate) = item.aggregate {
-            write(aggregate_name(aggregate), said)?;
+            said.put_word(aggregate_name(aggregate));
         }
-        write(item.measurement.bytes(), said)?;
+        said.put_word(item.measurement.bytes());
     }
-    Ok(())
 }
 
-/// Adds the text of a command: its first words, its paths, names and values, and the ends of its range.
-fn write_command(alloc: Global, command: &Command, said: &mut Vec<u8>) -> Result<(), Fault> {
+/// Puts the text of a command: its first words, its paths, names and values, and the ends of its range.
+fn write_command(command: &Command, said: &mut ByteSink) {
     match command {
         Command::Create(schema) => write_schema(schema, said),
         Command::Insert { device, row } => {
-            write(b"insert", said)?;
-            write(device.bytes(), said)?;
-            write_row(alloc, row, said)
+            said.put_word(b"insert");
+            said.put_word(device.bytes());
+            write_row(row, said);
         }
         Command::Delete { series, range } => {
-            write(b"delete", said)?;
-            write(series.bytes(), said)?;
-            write_range(alloc, range, said)
+            said.put_word(b"delete");
+            said.put_word(series.bytes());
+            write_range(range, said);
         }
         Command::Select {
             device,
             items,
             range,
         } => {
-            write(b"select", said)?;
-            write_items(items.items(), said)?;
-            write(device.bytes(), said)?;
-            write_range(alloc, range, said)
+            said.put_word(b"select");
+            write_items(items.items(), said);
+            said.put_word(device.bytes());
+            write_range(range, said);
         }
-        Command::Flush => write(b"flush", said),
-        Command::CompactInner(Space::Sequence) => write(b"compact inner sequence", said),
-        Command::CompactInner(Space::Unsequence) => write(b"compact inner unsequence", said),
-        Command::CompactCross => write(b"compact cross", said),
-        Command::ShowFiles => write(b"show files", said),
+        Command::Flush => said.put_word(b"flush"),
+        Command::CompactInner(Space::Sequence) => said.put_word(b"compact inner sequence"),
+        Command::CompactInner(Space::Unsequence) => said.put_word(b"compact inner unsequence"),
+        Command::CompactCross => said.put_word(b"compact cross"),
+        Command::ShowFiles => said.put_word(b"show files"),
     }
 }
 
 /// The commands of a script, a line of text for each.
-pub fn text_of(alloc: Global, script: &[Numbered]) -> Result<Vec<u8>, Fault> {
-    let mut said = Vec::new(alloc);
+pub fn text_of(alloc: Global, script: &[Numbered]) -> ByteSink {
+    let mut said = ByteSink::new(alloc);
     for numbered in script {
-        let session = numbered.session;
-        said.extend_from_slice(format!(in alloc; "{session}")?.as_bytes())?;
-        write_command(alloc, &numbered.command, &mut said)?;
-        said.push(b'\n')?;
+        said.put_digits(i64::from(numbered.session));
+        write_command(&numbered.command, &mut said);
+        said.put(b"\n");
     }
-    Ok(said)
+    said
 }
 
 /// Scripts, and what their commands say.
@@ -185,23 +170,16 @@ const SAID: [(&[u8], &[u8]); 8] = [
     ),
 ];
 
-fn says(alloc: Global, script: &[u8], wanted: &[u8]) -> Result<bool, Fault> {
+fn says(alloc: Global, script: &[u8], wanted: &[u8]) -> bool {
     match read_script(alloc, script) {
-        Ok(script) => Ok(text_of(alloc, script.as_slice())?.as_slice() == wanted),
-        Err(_) => Ok(false),
+        Ok(script) => text_of(alloc, script.as_slice()).bytes() == Some(wanted),
+        Err(_) => false,
     }
-}
-
-fn first_wrong(alloc: Global, scripts: &[(&[u8], &[u8])]) -> Result<Option<usize>, Fault> {
-    for (case, (script, wanted)) in scripts.iter().enumerate() {
-        if !says(alloc, script, wanted)? {
-            return Ok(Some(case));
-        }
-    }
-    Ok(None)
 }
 
 #[test]
 fn what_commands_say(rt: HostRuntime) {
-    assert!(rt; first_wrong(rt.alloc(), &SAID) == Ok(None));
+    for (case, (script, wanted)) in SAID.iter().enumerate() {
+        assert!(rt; says(rt.alloc(), script, wanted), "{case}");
+    }
 }

@@ -1,6 +1,8 @@
 //! Scripts at their limits, and one past them.
+use super::byte_sink::ByteSink;
 use super::read;
-use std::alloc::{AllocError, Global};
+use std::alloc::Global;
+use std::process::Abort;
 use tsdb_script::ScriptFault;
 
 const MAX_LINE: usize = 1_048_576;
@@ -22,37 +24,25 @@ type Case = (
     Result<usize, ScriptFault>,
 );
 
-fn script_of(
-    alloc: Global,
-    first: &[u8],
-    times: usize,
-    part: &[u8],
-    last: &[u8],
-) -> Result<Vec<u8>, AllocError> {
-    let mut script = Vec::new(alloc);
-    script.extend_from_slice(first)?;
-    for _ in 0..times {
-        script.extend_from_slice(part)?;
-    }
-    script.extend_from_slice(last)?;
-    Ok(script)
-}
-
 fn is_read(alloc: Global, case: &Case) -> bool {
     let (first, times, part, last, wanted) = case;
-    match script_of(alloc, first, *times, part, last) {
-        Ok(script) => read(alloc, script.as_slice()) == *wanted,
-        Err(_) => false,
+    let mut script = ByteSink::new(alloc);
+    script.put(first);
+    for _ in 0..*times {
+        script.put(part);
+    }
+    script.put(last);
+    match script.bytes() {
+        Some(script) => read(alloc, script) == *wanted,
+        None => false,
     }
 }
 
-fn first_wrong(alloc: Global, cases: &[Case]) -> Option<usize> {
+/// Expects that each of the scripts is read so.
+fn expect(rt: &impl Abort, alloc: Global, cases: &[Case]) {
     for (at, case) in cases.iter().enumerate() {
-        if !is_read(alloc, case) {
-            return Some(at);
-        }
+        assert!(rt; is_read(alloc, case), "{at}");
     }
-    None
 }
 
 const LINES: [Case; 11] = [
@@ -79,7 +69,7 @@ const LINES: [Case; 11] = [
 
 #[test]
 fn the_longest_line(rt: HostRuntime) {
-    assert_eq!(rt; first_wrong(rt.alloc(), &LINES), None);
+    expect(&rt, rt.alloc(), &LINES);
 }
 
 const SCRIPTS: [Case; 2] = [
@@ -101,7 +91,7 @@ const SCRIPTS: [Case; 2] = [
 
 #[test]
 fn the_longest_script(rt: HostRuntime) {
-    assert_eq!(rt; first_wrong(rt.alloc(), &SCRIPTS), None);
+    expect(&rt, rt.alloc(), &SCRIPTS);
 }
 
 const A_BYTE_MORE: [Case; 4] = [
@@ -133,7 +123,7 @@ const A_BYTE_MORE: [Case; 4] = [
 
 #[test]
 fn a_byte_more(rt: HostRuntime) {
-    assert_eq!(rt; first_wrong(rt.alloc(), &A_BYTE_MORE), None);
+    expect(&rt, rt.alloc(), &A_BYTE_MORE);
 }
 
 const NO_TEXT: Result<usize, ScriptFault> = Err(ScriptFault::Bad { line: 1, kind: 6 });
@@ -179,7 +169,7 @@ const TEXTS: [Case; 5] = [
 
 #[test]
 fn the_longest_text(rt: HostRuntime) {
-    assert_eq!(rt; first_wrong(rt.alloc(), &TEXTS), None);
+    expect(&rt, rt.alloc(), &TEXTS);
 }
 
 const NAMES: [Case; 2] = [
@@ -195,14 +185,14 @@ const NAMES: [Case; 2] = [
 
 #[test]
 fn the_most_names(rt: HostRuntime) {
-    assert_eq!(rt; first_wrong(rt.alloc(), &NAMES), None);
+    expect(&rt, rt.alloc(), &NAMES);
 }
 
 const MOST_COMMANDS: Case = (b"", 1_000_000, b"1 flush\n", b"", Ok(1_000_000));
 
 #[test]
 fn the_most_commands(rt: HostRuntime) {
-    assert!(rt; is_read(rt.alloc(), &MOST_COMMANDS));
+    expect(&rt, rt.alloc(), &[MOST_COMMANDS]);
 }
 
 /// One more is refused before its statement is read.
@@ -219,7 +209,7 @@ const ONE_MORE: Case = (
 
 #[test]
 fn a_command_more(rt: HostRuntime) {
-    assert!(rt; is_read(rt.alloc(), &ONE_MORE));
+    expect(&rt, rt.alloc(), &[ONE_MORE]);
 }
 
 /// Commands of eight sessions.
@@ -264,5 +254,5 @@ const SESSIONS: [Case; 7] = [
 
 #[test]
 fn at_most_eight_sessions(rt: HostRuntime) {
-    assert_eq!(rt; first_wrong(rt.alloc(), &SESSIONS), None);
+    expect(&rt, rt.alloc(), &SESSIONS);
 }

@@ -1,16 +1,15 @@
 //! Single lines, by the kind of their fault: a table for each pass.
 use super::read;
 use std::alloc::Global;
+use std::process::Abort;
 use tsdb_script::ScriptFault;
 
-/// The first of the lines whose fault is not of this kind.
-fn first_wrong(alloc: Global, kind: u8, lines: &[&[u8]]) -> Option<usize> {
+/// Expects a fault of this kind of each of the lines.
+fn expect(rt: &impl Abort, alloc: Global, kind: u8, lines: &[&[u8]]) {
     for (case, line) in lines.iter().enumerate() {
-        if read(alloc, line) != Err(ScriptFault::Bad { line: 1, kind }) {
-            return Some(case);
-        }
+        let found = read(alloc, line);
+        assert!(rt; found == Err(ScriptFault::Bad { line: 1, kind }), "{case}");
     }
-    None
 }
 
 /// A byte begins no token. It comes before what stands behind it.
@@ -31,7 +30,7 @@ const STRAY: [&[u8]; 12] = [
 
 #[test]
 fn what_begins_no_token(rt: HostRuntime) {
-    assert_eq!(rt; first_wrong(rt.alloc(), 3, &STRAY), None);
+    expect(&rt, rt.alloc(), 3, &STRAY);
 }
 
 /// A text is not closed.
@@ -48,7 +47,7 @@ const NOT_CLOSED: [&[u8]; 8] = [
 
 #[test]
 fn texts_that_are_not_closed(rt: HostRuntime) {
-    assert_eq!(rt; first_wrong(rt.alloc(), 6, &NOT_CLOSED), None);
+    expect(&rt, rt.alloc(), 6, &NOT_CLOSED);
 }
 
 /// The first token is no session.
@@ -66,7 +65,7 @@ const NO_SESSION: [&[u8]; 9] = [
 
 #[test]
 fn what_is_no_session(rt: HostRuntime) {
-    assert_eq!(rt; first_wrong(rt.alloc(), 1, &NO_SESSION), None);
+    expect(&rt, rt.alloc(), 1, &NO_SESSION);
 }
 
 /// No statement begins with the second token.
@@ -85,7 +84,7 @@ const NO_STATEMENT: [&[u8]; 10] = [
 
 #[test]
 fn what_begins_no_statement(rt: HostRuntime) {
-    assert_eq!(rt; first_wrong(rt.alloc(), 2, &NO_STATEMENT), None);
+    expect(&rt, rt.alloc(), 2, &NO_STATEMENT);
 }
 
 /// The tokens fit no form.
@@ -134,7 +133,7 @@ const NO_FORM: [&[u8]; 40] = [
 
 #[test]
 fn what_fits_no_form(rt: HostRuntime) {
-    assert_eq!(rt; first_wrong(rt.alloc(), 3, &NO_FORM), None);
+    expect(&rt, rt.alloc(), 3, &NO_FORM);
 }
 
 /// From the left the first bad word is no path and no measurement. The last six fit their forms with odd words.
@@ -158,7 +157,7 @@ const NO_PATH: [&[u8]; 15] = [
 
 #[test]
 fn what_is_no_path(rt: HostRuntime) {
-    assert_eq!(rt; first_wrong(rt.alloc(), 4, &NO_PATH), None);
+    expect(&rt, rt.alloc(), 4, &NO_PATH);
 }
 
 /// From the left the first bad word is no number and no value.
@@ -172,7 +171,7 @@ const NO_NUMBER: [&[u8]; 5] = [
 
 #[test]
 fn what_is_no_number(rt: HostRuntime) {
-    assert_eq!(rt; first_wrong(rt.alloc(), 5, &NO_NUMBER), None);
+    expect(&rt, rt.alloc(), 5, &NO_NUMBER);
 }
 
 /// From the left the first bad word is no type, encoding or aggregate.
@@ -186,7 +185,7 @@ const NO_NAME: [&[u8]; 5] = [
 
 #[test]
 fn what_names_nothing(rt: HostRuntime) {
-    assert_eq!(rt; first_wrong(rt.alloc(), 8, &NO_NAME), None);
+    expect(&rt, rt.alloc(), 8, &NO_NAME);
 }
 
 /// All words are good, and do not go together.
@@ -200,5 +199,5 @@ const UNBALANCED: [&[u8]; 5] = [
 
 #[test]
 fn words_that_do_not_go_together(rt: HostRuntime) {
-    assert_eq!(rt; first_wrong(rt.alloc(), 7, &UNBALANCED), None);
+    expect(&rt, rt.alloc(), 7, &UNBALANCED);
 }

@@ -1,7 +1,5 @@
 //! The forms of statements, as templates, and how tokens fit them, one form after another. Depends on `plain_tokens`.
-use super::fault::Fault;
-use super::plain_tokens::{Shape, Token};
-use std::alloc::Global;
+use super::plain_tokens::{FIXED, Shape, Token, is_one_of};
 
 /// The forms. A letter in upper case is a place for a word, `V` one for a text too, and `O` one for a comparison. With
 /// two dots it is a list of such parts.
@@ -62,141 +60,98 @@ const VALUE: &[&[u8]] = &[b"V"];
 /// The symbols of a condition.
 const CONDITION: &[&[u8]] = &[b"time", b"O", b"N"];
 
-/// A place of a form, by its letter, and the token that stands there.
-#[derive(Clone, Copy)]
-pub struct Hole<'a> {
-    pub role: u8,
-    pub shape: Shape,
-    pub bytes: &'a [u8],
-}
+const COMPARISONS: [&[u8]; 5] = [b"<", b"<=", b">", b">=", b"="];
 
-/// The places of the form that the tokens fit, with or without one `;` at the end.
-pub fn form_of<'a>(alloc: Global, tokens: &[Token<'a>]) -> Result<Option<Vec<Hole<'a>>>, Fault> {
+/// Whether the tokens fit a form, with or without one `;` at the end. Gives them the roles that they have in it.
+pub fn have_form(tokens: &mut [Token]) -> bool {
     for form in FORMS.iter() {
-        let mut holes = Vec::new(alloc);
-        if fits_form(form, tokens, &mut holes)? {
-            return Ok(Some(holes));
+        if fit_form(form, tokens) {
+            return true;
         }
     }
-    Ok(None)
+    false
 }
 
-/// Whether the tokens fit a form. Adds its places, up to where they do not.
-fn fits_form<'a>(
-    form: &[&[u8]],
-    tokens: &[Token<'a>],
-    holes: &mut Vec<Hole<'a>>,
-) -> Result<bool, Fault> {
-    let mut at = 0usize;
+fn fit_form(form: &[&[u8]], tokens: &mut [Token]) -> bool {
+    let mut end = Some(0);
     for symbol in form {
-        match behind(symbol, tokens, at, holes)? {
-            Some(next) => at = next,
-            None => return Ok(false),
+        if let Some(at) = end {
+            end = behind(symbol, tokens, at);
         }
     }
-    if fits_at(b";", tokens, at) {
-        at = at.saturating_add(1);
+    match end {
+        Some(at) => behind_one(b";", tokens, at).unwrap_or(at) == tokens.len(),
+        None => false,
     }
-    Ok(at == tokens.len())
 }
 
 /// The place behind the tokens that a symbol stands for, from a place on.
-fn behind<'a>(
-    symbol: &[u8],
-    tokens: &[Token<'a>],
-    at: usize,
-    holes: &mut Vec<Hole<'a>>,
-) -> Result<Option<usize>, Fault> {
+fn behind(symbol: &[u8], tokens: &mut [Token], at: usize) -> Option<usize> {
     match symbol {
-        [part, b'.', b'.'] => behind_list(*part, tokens, at, holes),
-        _ => behind_one(symbol, tokens, at, holes),
+        [part, b'.', b'.'] => behind_list(*part, tokens, at),
+        _ => behind_one(symbol, tokens, at),
     }
 }
 
 /// The place behind one or more parts with commas or `and` between them.
-fn behind_list<'a>(
-    part: u8,
-    tokens: &[Token<'a>],
-    at: usize,
-    holes: &mut Vec<Hole<'a>>,
-) -> Result<Option<usize>, Fault> {
+fn behind_list(part: u8, tokens: &mut [Token], at: usize) -> Option<usize> {
     let joint = if part == b'C' {
         b"and".as_slice()
     } else {
         b","
     };
-    let mut at = at;
-    for _ in tokens {
-        match behind_all(symbols_of(part, tokens, at), tokens, at, holes)? {
-            Some(next) if fits_at(joint, tokens, next) => at = next.saturating_add(1),
-            end => return Ok(end),
+    let mut end = behind_part(part, tokens, at);
+    for _ in 0..tokens.len() {
+        if let Some(at) = end
+            && let Some(next) = behind_one(joint, tokens, at)
+        {
+            end = behind_part(part, tokens, next);
         }
     }
-    Ok(None)
+    end
+}
+
+/// The place behind a part of a list.
+fn behind_part(part: u8, tokens: &mut [Token], at: usize) -> Option<usize> {
+    let mut end = Some(at);
+    for symbol in symbols_of(part, tokens, at) {
+        if let Some(at) = end {
+            end = behind_one(symbol, tokens, at);
+        }
+    }
+    end
 }
 
 /// The symbols of a part of a list. An item is an aggregate where `(` follows its first word.
 fn symbols_of(part: u8, tokens: &[Token], at: usize) -> &'static [&'static [u8]] {
-    match part {
-        b'V' => VALUE,
-        b'C' => CONDITION,
-        b'I' if fits_at(b"(", tokens, at.saturating_add(1)) => CALL,
+    match (part, tokens.get(at.saturating_add(1))) {
+        (b'V', _) => VALUE,
+        (b'C', _) => CONDITION,
+        (b'I', Some(next)) if fits(b"(", next) => CALL,
         _ => NAME,
     }
 }
 
-/// The place behind tokens that these symbols stand for, one after another.
-fn behind_all<'a>(
-    symbols: &[&[u8]],
-    tokens: &[Token<'a>],
-    at: usize,
-    holes: &mut Vec<Hole<'a>>,
-) -> Result<Option<usize>, Fault> {
-    let mut at = at;
-    for symbol in symbols {
-        match behind_one(symbol, tokens, at, holes)? {
-            Some(next) => at = next,
-            None => return Ok(None),
+/// The place behind a token that the symbol stands for, which gets its role.
+fn behind_one(symbol: &[u8], tokens: &mut [Token], at: usize) -> Option<usize> {
+    match tokens.get_mut(at) {
+        Some(token) if fits(symbol, token) => {
+            token.role = match symbol {
+                [letter @ b'A'..=b'Z'] => *letter,
+                _ => FIXED,
+            };
+            Some(at.saturating_add(1))
         }
-    }
-    Ok(Some(at))
-}
-
-/// The place behind a token that the symbol stands for. Adds the token where the symbol is a place.
-fn behind_one<'a>(
-    symbol: &[u8],
-    tokens: &[Token<'a>],
-    at: usize,
-    holes: &mut Vec<Hole<'a>>,
-) -> Result<Option<usize>, Fault> {
-    if !fits_at(symbol, tokens, at) {
-        return Ok(None);
-    }
-    if let ([role @ b'A'..=b'Z'], Some(token)) = (symbol, tokens.get(at)) {
-        holes.push(Hole {
-            role: *role,
-            shape: token.shape,
-            bytes: token.bytes,
-        })?;
-    }
-    Ok(Some(at.saturating_add(1)))
-}
-
-/// Whether the token at a place is one that the symbol stands for.
-fn fits_at(symbol: &[u8], tokens: &[Token], at: usize) -> bool {
-    match tokens.get(at) {
-        Some(token) => fits(symbol, token),
-        None => false,
+        _ => None,
     }
 }
 
 fn fits(symbol: &[u8], token: &Token) -> bool {
-    let bytes = token.bytes;
-    match symbol {
-        b"O" => token.shape == Shape::Mark && matches!(bytes, b"<" | b"<=" | b">" | b">=" | b"="),
-        b"V" => token.shape != Shape::Mark,
-        [b'A'..=b'Z'] => token.shape == Shape::Word,
-        [b'a'..=b'z', ..] => token.shape == Shape::Word && bytes.eq_ignore_ascii_case(symbol),
-        _ => token.shape == Shape::Mark && bytes == symbol,
+    match symbol.first() {
+        Some(b'O') => token.shape == Shape::Mark && is_one_of(token.bytes, &COMPARISONS),
+        Some(b'V') => token.shape != Shape::Mark,
+        Some(b'A'..=b'Z') => token.shape == Shape::Word,
+        Some(b'a'..=b'z') => token.shape == Shape::Word && token.bytes.eq_ignore_ascii_case(symbol),
+        _ => token.shape == Shape::Mark && token.bytes == symbol,
     }
 }

@@ -1,9 +1,10 @@
 //! A plain, slow reader of scripts: pass after pass, each over the whole line. It says as text what the commands are,
 //! and takes no step of the reading that it is compared with. Scripts are short: only the limit of sessions is looked
-//! at. Depends on `plain_tokens`, `plain_forms` and `plain_words`.
-use super::fault::Fault;
-use super::plain_forms::form_of;
-use super::plain_tokens::{Shape, Token, tokens_of};
+//! at. Depends on `plain_tokens`, `plain_forms`, `plain_words` and what these depend on.
+use super::byte_sink::ByteSink;
+use super::parts::{count_parts, cut};
+use super::plain_forms::have_form;
+use super::plain_tokens::{Shape, Token, add_tokens, is_one_of};
 use super::plain_words::{bad_kind, write_command};
 use std::alloc::Global;
 use tsdb_script::ScriptFault;
@@ -13,30 +14,20 @@ const STATEMENTS: [&[u8]; 7] = [
     b"create", b"insert", b"delete", b"select", b"flush", b"compact", b"show",
 ];
 
-/// A fault of a line.
-fn bad<T>(kind: u8) -> Result<T, Fault> {
-    Err(Fault::Bad { kind })
-}
-
-/// The commands of a script, a line of text for each, or its fault.
-pub fn commands_of(alloc: Global, script: &[u8]) -> Result<Vec<u8>, ScriptFault> {
-    let mut said = Vec::new(alloc);
-    let mut sessions = Vec::new(alloc);
-    let mut number = 1u32;
-    for line in script.split(|byte| *byte == b'\n') {
-        match read_line(alloc, line, &mut sessions, &mut said) {
-            Ok(()) => number = number.saturating_add(1),
-            Err(fault) => return Err(at_line(number, fault)),
+/// Puts what the commands of a script say, a line of text for each. Returns the fault of the script.
+pub fn read_plainly(alloc: Global, script: &[u8], said: &mut ByteSink) -> Result<(), ScriptFault> {
+    let mut sessions = [b"".as_slice(); 8];
+    let mut number = 0u32;
+    let mut rest = script;
+    for _ in 0..count_parts(script, b'\n') {
+        let (line, behind) = cut(rest, b'\n');
+        number = number.saturating_add(1);
+        if let Err(kind) = read_line(alloc, line, &mut sessions, said) {
+            return Err(ScriptFault::Bad { line: number, kind });
         }
+        rest = behind;
     }
-    Ok(said)
-}
-
-fn at_line(line: u32, fault: Fault) -> ScriptFault {
-    match fault {
-        Fault::Bad { kind } => ScriptFault::Bad { line, kind },
-        Fault::Memory => ScriptFault::Memory,
-    }
+    Ok(())
 }
 
 /// A line without one 0d at its end.
@@ -47,85 +38,96 @@ fn content_of(line: &[u8]) -> &[u8] {
     }
 }
 
+/// A comment, or a line of blanks.
 fn is_skipped(line: &[u8]) -> bool {
-    line.first() == Some(&b'#')
-        || content_of(line)
-            .iter()
-            .all(|byte| *byte == b' ' || *byte == b'\t')
+    if line.first() == Some(&b'#') {
+        return true;
+    }
+    for byte in content_of(line) {
+        if *byte != b' ' && *byte != b'\t' {
+            return false;
+        }
+    }
+    true
 }
 
-/// Says what the command of a line is, where the line is not skipped, and adds the command's session.
+/// Puts what the command of a line says, where the line is not skipped, and keeps the command's session. Returns the
+/// kind of its fault.
 fn read_line<'a>(
     alloc: Global,
     line: &'a [u8],
-    sessions: &mut Vec<&'a [u8]>,
-    said: &mut Vec<u8>,
-) -> Result<(), Fault> {
+    sessions: &mut [&'a [u8]; 8],
+    said: &mut ByteSink,
+) -> Result<(), u8> {
+    let mut tokens = Vec::new(alloc);
     if is_skipped(line) {
-        return Ok(());
+        Ok(())
+    } else {
+        match add_tokens(content_of(line), &mut tokens, said) {
+            Ok(()) => read_tokens(tokens.as_mut_slice(), sessions, said),
+            bad => bad,
+        }
     }
-    let tokens = tokens_of(alloc, content_of(line))?;
-    read_tokens(alloc, tokens.as_slice(), sessions, said)
 }
 
 fn read_tokens<'a>(
-    alloc: Global,
-    tokens: &[Token<'a>],
-    sessions: &mut Vec<&'a [u8]>,
-    said: &mut Vec<u8>,
-) -> Result<(), Fault> {
-    let Some((session, statement)) = tokens.split_first() else {
-        return bad(1);
+    tokens: &mut [Token<'a>],
+    sessions: &mut [&'a [u8]; 8],
+    said: &mut ByteSink,
+) -> Result<(), u8> {
+    let Some((session, statement)) = tokens.split_first_mut() else {
+        return Err(1);
     };
+    let session = session.bytes;
     if !is_session(session) {
-        return bad(1);
-    }
-    sessions.push(session.bytes)?;
-    if different(sessions.as_slice()) > 8 {
-        return bad(9);
-    }
-    if !begins_statement(statement) {
-        return bad(2);
-    }
-    said.extend_from_slice(session.bytes)?;
-    read_statement(alloc, statement, said)
-}
-
-fn read_statement(alloc: Global, statement: &[Token], said: &mut Vec<u8>) -> Result<(), Fault> {
-    let Some(holes) = form_of(alloc, statement)? else {
-        return bad(3);
-    };
-    match bad_kind(holes.as_slice()) {
-        Some(kind) => bad(kind),
-        None => write_command(alloc, statement, holes.as_slice(), said),
+        Err(1)
+    } else if is_ninth(session, sessions) {
+        Err(9)
+    } else if !begins_statement(statement) {
+        Err(2)
+    } else {
+        said.put(session);
+        read_statement(statement, said)
     }
 }
 
-/// A word of one to three digits without a leading 0.
-fn is_session(token: &Token) -> bool {
-    token.shape == Shape::Word
-        && token.bytes.len() <= 3
-        && token.bytes.first() != Some(&b'0')
-        && token.bytes.iter().all(|byte| byte.is_ascii_digit())
+fn read_statement(statement: &mut [Token], said: &mut ByteSink) -> Result<(), u8> {
+    if !have_form(statement) {
+        Err(3)
+    } else if let Some(kind) = bad_kind(statement) {
+        Err(kind)
+    } else {
+        write_command(statement, said);
+        Ok(())
+    }
 }
 
-/// How many different words there are.
-fn different(words: &[&[u8]]) -> usize {
-    let mut count = 0usize;
-    for (at, word) in words.iter().enumerate() {
-        if !words.iter().take(at).any(|other| *other == *word) {
-            count = count.saturating_add(1);
+/// One to three digits without a leading 0.
+fn is_session(bytes: &[u8]) -> bool {
+    for byte in bytes {
+        if !byte.is_ascii_digit() {
+            return false;
         }
     }
-    count
+    bytes.len() <= 3 && bytes.first() != Some(&b'0')
+}
+
+/// Whether a session is a ninth one. Keeps the first eight, each where there is room.
+fn is_ninth<'a>(session: &'a [u8], sessions: &mut [&'a [u8]; 8]) -> bool {
+    for kept in sessions.iter_mut() {
+        if kept.is_empty() {
+            *kept = session;
+        }
+        if *kept == session {
+            return false;
+        }
+    }
+    true
 }
 
 fn begins_statement(tokens: &[Token]) -> bool {
     match tokens.first() {
-        Some(token) => token.shape == Shape::Word
-            && STATEMENTS
-                .iter()
-                .any(|word| token.bytes.eq_ignore_ascii_case(word)),
+        Some(token) => token.shape == Shape::Word && is_one_of(token.bytes, &STATEMENTS),
         None => false,
     }
 }

@@ -1,96 +1,67 @@
 //! Short scripts, each read beside the plain, slow reader: all of a few bytes, all lines of a few tokens, all lines
 //! that lie one or two tokens beside a good one, and all of a few lines.
+use super::byte_sink::ByteSink;
 use super::commands::text_of;
-use super::fault::Fault;
-use super::plain_reader::commands_of;
+use super::parts::{count_parts, cut};
+use super::plain_reader::read_plainly;
 use std::alloc::Global;
-use tsdb_script::{ScriptFault, read_script};
-
-/// The text of a script's commands, or its fault.
-fn found(alloc: Global, script: &[u8]) -> Result<Vec<u8>, ScriptFault> {
-    let script = read_script(alloc, script)?;
-    text_of(alloc, script.as_slice()).map_err(|_| ScriptFault::Memory)
-}
+use std::process::Abort;
+use tsdb_script::read_script;
 
 /// Whether a script is read as the plain reader reads it.
 fn is_same(alloc: Global, script: &[u8]) -> bool {
-    match (found(alloc, script), commands_of(alloc, script)) {
-        (Ok(found), Ok(wanted)) => found.as_slice() == wanted.as_slice(),
-        (Err(found), Err(wanted)) => found == wanted && found != ScriptFault::Memory,
-        _ => false,
+    let mut said = ByteSink::new(alloc);
+    let plain = read_plainly(alloc, script, &mut said);
+    match read_script(alloc, script) {
+        Ok(commands) => {
+            let found = text_of(alloc, commands.as_slice());
+            plain.is_ok() && found.bytes().is_some() && found.bytes() == said.bytes()
+        }
+        Err(fault) => plain == Err(fault) && said.bytes().is_some(),
     }
 }
 
-/// Adds so many parts, which this number names.
-fn add_parts(
+/// Whether the bytes that were put are a script that is read as the plain reader reads it.
+fn is_same_put(alloc: Global, script: &ByteSink) -> bool {
+    match script.bytes() {
+        Some(script) => is_same(alloc, script),
+        None => false,
+    }
+}
+
+/// The script that this number names digit by digit: one of the prefixes, and so many parts at most behind it. The last
+/// digit is no part.
+fn script_of(
+    alloc: Global,
+    prefixes: &[&[u8]],
     parts: &[&[u8]],
-    count: usize,
+    most: u32,
     number: usize,
-    script: &mut Vec<u8>,
-) -> Result<(), Fault> {
-    let base = parts.len().max(1);
-    let mut rest = number;
-    for _ in 0..count {
+) -> ByteSink {
+    let mut script = ByteSink::new(alloc);
+    let base = prefixes.len().max(1);
+    if let Some(prefix) = prefixes.get(number % base) {
+        script.put(prefix);
+    }
+    let mut rest = number / base;
+    let base = parts.len().saturating_add(1);
+    for _ in 0..most {
         if let Some(part) = parts.get(rest % base) {
-            script.extend_from_slice(part)?;
+            script.put(part);
         }
         rest /= base;
     }
-    Ok(())
+    script
 }
 
-/// The script of a prefix and so many parts, which this number names.
-fn script_of(
-    alloc: Global,
-    prefix: &[u8],
-    parts: &[&[u8]],
-    count: usize,
-    number: usize,
-) -> Result<Vec<u8>, Fault> {
-    let mut script = Vec::new(alloc);
-    script.extend_from_slice(prefix)?;
-    add_parts(parts, count, number, &mut script)?;
-    Ok(script)
-}
-
-/// How many scripts are so many of these parts.
-fn scripts(parts: &[&[u8]], count: usize) -> usize {
-    let mut scripts = 1usize;
-    for _ in 0..count {
-        scripts = scripts.saturating_mul(parts.len().max(1));
+/// Expects that all scripts are read as the plain reader reads them that are one of the prefixes, and so many parts at
+/// most behind it.
+fn expect(rt: &impl Abort, alloc: Global, prefixes: &[&[u8]], parts: &[&[u8]], most: u32) {
+    let behind_each = parts.len().saturating_add(1).saturating_pow(most);
+    for number in 0..prefixes.len().saturating_mul(behind_each) {
+        let script = script_of(alloc, prefixes, parts, most, number);
+        assert!(rt; is_same_put(alloc, &script), "{number}");
     }
-    scripts
-}
-
-/// Whether the script that this number names is read as the plain reader reads it.
-fn is_same_of(alloc: Global, prefix: &[u8], parts: &[&[u8]], count: usize, number: usize) -> bool {
-    match script_of(alloc, prefix, parts, count, number) {
-        Ok(script) => is_same(alloc, script.as_slice()),
-        Err(_) => false,
-    }
-}
-
-/// Whether all scripts are read as the plain reader reads them that are a prefix, and behind it so many parts.
-fn are_same_of(alloc: Global, prefix: &[u8], parts: &[&[u8]], count: usize) -> bool {
-    for number in 0..scripts(parts, count) {
-        if !is_same_of(alloc, prefix, parts, count, number) {
-            return false;
-        }
-    }
-    true
-}
-
-/// Whether all scripts are read as the plain reader reads them that are one of the prefixes, and behind it so many
-/// parts at most.
-fn are_same(alloc: Global, prefixes: &[&[u8]], parts: &[&[u8]], most: usize) -> bool {
-    for prefix in prefixes {
-        for count in 0..=most {
-            if !are_same_of(alloc, prefix, parts, count) {
-                return false;
-            }
-        }
-    }
-    true
 }
 
 /// Bytes of each kind of token, blanks, ends of lines, and one that begins no token.
@@ -100,7 +71,7 @@ const BYTES: [&[u8]; 12] = [
 
 #[test]
 fn all_scripts_of_a_few_bytes(rt: HostRuntime) {
-    assert!(rt; are_same(rt.alloc(), &[b"", b"1 ", b"1 '"], &BYTES, 3));
+    expect(&rt, rt.alloc(), &[b"", b"1 ", b"1 '"], &BYTES, 3);
 }
 
 /// Words, marks and texts, each behind a blank.
@@ -119,7 +90,7 @@ const TOKENS: [&[u8]; 10] = [
 
 #[test]
 fn all_lines_of_four_tokens(rt: HostRuntime) {
-    assert!(rt; are_same(rt.alloc(), &[b"7"], &TOKENS, 4));
+    expect(&rt, rt.alloc(), &[b"7"], &TOKENS, 4);
 }
 
 /// Words of the commands that say nothing more, each behind a blank.
@@ -137,7 +108,7 @@ const WORDS: [&[u8]; 9] = [
 
 #[test]
 fn all_lines_of_four_words(rt: HostRuntime) {
-    assert!(rt; are_same(rt.alloc(), &[b"7"], &WORDS, 4));
+    expect(&rt, rt.alloc(), &[b"7"], &WORDS, 4);
 }
 
 /// Good lines, a token behind each blank.
@@ -215,40 +186,35 @@ fn token_at(at: usize, token: &'static [u8], one: Change, other: Change) -> &'st
 }
 
 /// The line with two changes, of which the first comes first where both are of one place.
-fn line_of(
-    alloc: Global,
-    line: &'static [u8],
-    one: Change,
-    other: Change,
-) -> Result<Vec<u8>, Fault> {
-    let mut changed = Vec::new(alloc);
-    for (at, token) in line.split(|byte| *byte == b' ').enumerate() {
-        changed.extend_from_slice(token_at(at, token, one, other))?;
-        changed.push(b' ')?;
+fn line_of(alloc: Global, line: &'static [u8], one: Change, other: Change) -> ByteSink {
+    let mut changed = ByteSink::new(alloc);
+    let mut rest = line;
+    for at in 0..places(line) {
+        let (token, behind) = cut(rest, b' ');
+        changed.put(token_at(at, token, one, other));
+        changed.put(b" ");
+        rest = behind;
     }
-    Ok(changed)
+    changed
 }
 
 /// Whether a line with two changes is read as the plain reader reads it.
 fn is_same_changed(alloc: Global, line: &'static [u8], one: Change, other: Change) -> bool {
-    match line_of(alloc, line, one, other) {
-        Ok(line) => is_same(alloc, line.as_slice()),
-        Err(_) => false,
-    }
+    is_same_put(alloc, &line_of(alloc, line, one, other))
 }
 
 /// How many tokens a line has.
 fn places(line: &[u8]) -> usize {
-    line.split(|byte| *byte == b' ').count()
+    count_parts(line, b' ')
 }
 
 /// A few of them, of which two at a time take the places of others: the passes that object to them come one before the
 /// other.
 const FEW: [&[u8]; 5] = [b"", b"`", b"root.1", b"1.5", b"s"];
 
-/// Whether the lines are read as the plain reader reads them that have one of the tokens at a place.
-fn are_same_at(alloc: Global, line: &'static [u8], place: usize, tokens: &[&'static [u8]]) -> bool {
-    for token in tokens {
+/// Whether the lines are read as the plain reader reads them that have one of the others at a place.
+fn are_same_at(alloc: Global, line: &'static [u8], place: usize) -> bool {
+    for token in OTHERS.iter() {
         if !is_same_changed(alloc, line, (place, *token), (place, *token)) {
             return false;
         }
@@ -256,62 +222,30 @@ fn are_same_at(alloc: Global, line: &'static [u8], place: usize, tokens: &[&'sta
     true
 }
 
-/// Whether the lines are read as the plain reader reads them that have a token at a place, and a second one before it.
-fn are_same_before(
-    alloc: Global,
-    line: &'static [u8],
-    (place, token): Change,
-    second: &'static [u8],
-) -> bool {
-    for other in 0..place {
-        if !is_same_changed(alloc, line, (place, token), (other, second)) {
-            return false;
-        }
-    }
-    true
-}
-
-/// Whether the lines are read as the plain reader reads them that have two of the tokens, one of them at a place and
-/// the other before it.
-fn are_same_with_two(
-    alloc: Global,
-    line: &'static [u8],
-    place: usize,
-    tokens: &[&'static [u8]],
-) -> bool {
-    for token in tokens {
-        for second in tokens {
-            if !are_same_before(alloc, line, (place, *token), *second) {
-                return false;
+/// Whether the lines are read as the plain reader reads them that have two of the few, one of them at a place and the
+/// other before it.
+fn are_same_before(alloc: Global, line: &'static [u8], place: usize) -> bool {
+    for token in FEW.iter() {
+        for second in FEW.iter() {
+            for other in 0..place {
+                if !is_same_changed(alloc, line, (place, *token), (other, *second)) {
+                    return false;
+                }
             }
         }
     }
     true
 }
 
-fn are_same_beside(alloc: Global, line: &'static [u8]) -> bool {
-    for place in 0..places(line) {
-        if !are_same_at(alloc, line, place, &OTHERS)
-            || !are_same_with_two(alloc, line, place, &FEW)
-        {
-            return false;
-        }
-    }
-    true
-}
-
-fn first_wrong(alloc: Global, lines: &[&'static [u8]]) -> Option<usize> {
-    for (case, line) in lines.iter().enumerate() {
-        if !are_same_beside(alloc, *line) {
-            return Some(case);
-        }
-    }
-    None
-}
-
 #[test]
 fn all_lines_beside_a_good_one(rt: HostRuntime) {
-    assert_eq!(rt; first_wrong(rt.alloc(), &GOOD), None);
+    let alloc = rt.alloc();
+    for (case, line) in GOOD.iter().enumerate() {
+        for place in 0..places(line) {
+            let are_same = are_same_at(alloc, line, place) && are_same_before(alloc, line, place);
+            assert!(rt; are_same, "{case} at {place}");
+        }
+    }
 }
 
 /// Lines of a script: good ones, skipped ones, bad ones of different kinds, and ends of lines.
@@ -329,7 +263,7 @@ const LINES: [&[u8]; 9] = [
 
 #[test]
 fn all_scripts_of_a_few_lines(rt: HostRuntime) {
-    assert!(rt; are_same(rt.alloc(), &[b""], &LINES, 3));
+    expect(&rt, rt.alloc(), &[b""], &LINES, 3);
 }
 
 /// Comparisons with numbers at the ends of their range, and between them.
@@ -360,7 +294,7 @@ const RANGES: [&[u8]; 2] = [
 
 #[test]
 fn all_ranges_of_a_few_conditions(rt: HostRuntime) {
-    assert!(rt; are_same(rt.alloc(), &RANGES, &CONDITIONS, 2));
+    expect(&rt, rt.alloc(), &RANGES, &CONDITIONS, 2);
 }
 
 /// Creates of each type, and of what is none, up to the encoding.
@@ -384,7 +318,7 @@ const ENCODINGS: [&[u8]; 6] = [
 
 #[test]
 fn all_types_with_all_encodings(rt: HostRuntime) {
-    assert!(rt; are_same(rt.alloc(), &TYPES, &ENCODINGS, 1));
+    expect(&rt, rt.alloc(), &TYPES, &ENCODINGS, 1);
 }
 
 /// Seven sessions.
@@ -410,5 +344,5 @@ const SESSIONS: [&[u8]; 7] = [
 
 #[test]
 fn all_sessions_behind_seven(rt: HostRuntime) {
-    assert!(rt; are_same(rt.alloc(), &[SEVEN], &SESSIONS, 3));
+    expect(&rt, rt.alloc(), &[SEVEN], &SESSIONS, 3);
 }
