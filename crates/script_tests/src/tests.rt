@@ -3,7 +3,6 @@ mod byte_sink;
 mod commands;
 mod limits;
 mod lines;
-mod parts;
 mod plain_forms;
 mod plain_reader;
 mod plain_tokens;

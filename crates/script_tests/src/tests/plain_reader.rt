@@ -2,10 +2,10 @@
 //! and takes no step of the reading that it is compared with. Scripts are short: only the limit of sessions is looked
 //! at. Depends on `plain_tokens`, `plain_forms`, `plain_words` and what these depend on.
 use super::byte_sink::ByteSink;
-use super::parts::{count_parts, cut};
 use super::plain_forms::have_form;
 use super::plain_tokens::{Shape, Token, add_tokens, is_one_of};
 use super::plain_words::{bad_kind, write_command};
+use crate::parts::{count_parts, cut};
 use std::alloc::Global;
 use tsdb_script::ScriptFault;
 

@@ -1,8 +1,8 @@
 //! What words mean in their places, whether they are bad there, and the text of a command. Depends on `plain_tokens`,
 //! `parts` and `byte_sink`.
 use super::byte_sink::ByteSink;
-use super::parts::{count_parts, cut};
 use super::plain_tokens::{FIXED, Shape, Token, is_one_of, write_content};
+use crate::parts::{count_parts, cut};
 
 /// The types with their encodings.
 const ENCODINGS: [(&[u8], &[&[u8]]); 4] = [

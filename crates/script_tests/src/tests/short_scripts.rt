@@ -2,21 +2,26 @@
 //! that lie one or two tokens beside a good one, and all of a few lines.
 use super::byte_sink::ByteSink;
 use super::commands::text_of;
-use super::parts::{count_parts, cut};
 use super::plain_reader::read_plainly;
+use crate::parts::{count_parts, cut};
 use std::alloc::Global;
 use std::process::Abort;
 use tsdb_script::read_script;
+
+/// Whether both have all bytes, and the same.
+fn agree(found: &ByteSink, wanted: &ByteSink) -> bool {
+    match (found.bytes(), wanted.bytes()) {
+        (Some(found), Some(wanted)) => found == wanted,
+        _ => false,
+    }
+}
 
 /// Whether a script is read as the plain reader reads it.
 fn is_same(alloc: Global, script: &[u8]) -> bool {
     let mut said = ByteSink::new(alloc);
     let plain = read_plainly(alloc, script, &mut said);
     match read_script(alloc, script) {
-        Ok(commands) => {
-            let found = text_of(alloc, commands.as_slice());
-            plain.is_ok() && found.bytes().is_some() && found.bytes() == said.bytes()
-        }
+        Ok(commands) => plain.is_ok() && agree(&text_of(alloc, commands.as_slice()), &said),
         Err(fault) => plain == Err(fault) && said.bytes().is_some(),
     }
 }
