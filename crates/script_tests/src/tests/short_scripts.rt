@@ -34,13 +34,12 @@ fn is_same_put(alloc: Global, script: &ByteSink) -> bool {
     }
 }
 
-/// The script that this number names digit by digit: one of the prefixes, and so many parts at most behind it. The last
-/// digit is no part.
+/// The script that this number names digit by digit: one of the prefixes, and so many parts behind it.
 fn script_of(
     alloc: Global,
     prefixes: &[&[u8]],
     parts: &[&[u8]],
-    most: u32,
+    count: u32,
     number: usize,
 ) -> ByteSink {
     let mut script = ByteSink::new(alloc);
@@ -49,8 +48,8 @@ fn script_of(
         script.put(prefix);
     }
     let mut rest = number / base;
-    let base = parts.len().saturating_add(1);
-    for _ in 0..most {
+    let base = parts.len().max(1);
+    for _ in 0..count {
         if let Some(part) = parts.get(rest % base) {
             script.put(part);
         }
@@ -62,10 +61,14 @@ fn script_of(
 /// Expects that all scripts are read as the plain reader reads them that are one of the prefixes, and so many parts at
 /// most behind it.
 fn expect(rt: &impl Abort, alloc: Global, prefixes: &[&[u8]], parts: &[&[u8]], most: u32) {
-    let behind_each = parts.len().saturating_add(1).saturating_pow(most);
-    for number in 0..prefixes.len().saturating_mul(behind_each) {
-        let script = script_of(alloc, prefixes, parts, most, number);
-        assert!(rt; is_same_put(alloc, &script), "{number}");
+    for count in 0..=most {
+        let scripts = prefixes
+            .len()
+            .saturating_mul(parts.len().saturating_pow(count));
+        for number in 0..scripts {
+            let script = script_of(alloc, prefixes, parts, count, number);
+            assert!(rt; is_same_put(alloc, &script), "{number} of {count}");
+        }
     }
 }
 
