@@ -13,10 +13,10 @@ ghost use Rattle.fs_outside.specs.Directory.{DirectoryFile, IsFreeIn, IsTakenIn,
 ghost use Rattle.fs_outside.specs.Directory.{with_bytes, with_synced_bytes, with_synced_name, without, numbers_in};
 ghost use Rattle.fs_outside.specs.Directory.{HasBytesOf, HasLengthOf};
 
-use crate::file_name::{name_of_number, number_of_name};
+use crate::file_name::{name_of_number, number_of_name, path_in};
 use crate::locked_directory::LockedDirectory;
 use std::alloc::{AllocError, Global};
-use std::fs::{self, File, OpenOptions};
+use std::fs::{self, File};
 use std::io::{self, ErrorKind};
 use std::os::unix::fs::FileExt;
 use std::rt::Files;
@@ -164,12 +164,7 @@ impl<R: Files<File = File> + AllocGlobal + Clone + Drop> StoreDirectory<R> {
 
     fn path(&self, number: u64) -> Result<String, AllocError> {
         let name = name_of_number(self.rt.alloc(), number)?;
-        let length = self.path.len().saturating_add(name.len());
-        let mut path = String::with_capacity(self.rt.alloc(), length.saturating_add(1))?;
-        path.push_str(self.path.as_str())?;
-        path.push('/')?;
-        path.push_str(name.as_str())?;
-        Ok(path)
+        path_in(self.rt.alloc(), self.path.as_str(), name.as_str())
     }
 }
 
@@ -209,11 +204,7 @@ impl<R: Files<File = File> + AllocGlobal + Clone + Drop> FileDirectory for Store
             self.own = Some(File::open(&self.rt, self.path.as_str())?);
         }
         let path = self.path(number)?;
-        let file = OpenOptions::new()
-            .read(true)
-            .write(true)
-            .create_new(true)
-            .open(&self.rt, path.as_str())?;
+        let file = File::create_new(&self.rt, path.as_str())?;
         Ok(FileOnDisk { file, number })
     }
 

@@ -1,5 +1,5 @@
-//! The names of the files of a store: the number in decimal without leading zeros, and `.tsfile`. Depends on
-//! `tsdb_outside`.
+//! The names of the files of a store: the number in decimal without leading zeros, and `.tsfile`. Also the path of a
+//! name in a directory. Depends on `tsdb_outside`.
 ghost use Rattle.std.specs.Prelude.{◌≡◌, ◌≢◌, ◌++◌, ◌<◌, ◌^◌, ℕ, List, None, Some, IfOk, IfSome, MatchOption, codes};
 ghost use Rattle.std.specs.Fmt.{decimal};
 ghost use Rattle.std.specs.String.{string_bytes};
@@ -16,6 +16,16 @@ pub fn name_of_number(alloc: Global, number: u64) -> Result<String, AllocError>
     ensures { IfOk result (λ name. string_bytes name ≡ file_name number) }
 {
     format!(in alloc; "{number}.tsfile")
+}
+
+/// The path of a name in a directory, in one allocation.
+pub fn path_in(alloc: Global, dir: &str, name: &str) -> Result<String, AllocError> {
+    let length = dir.len().saturating_add(name.len());
+    let mut path = String::with_capacity(alloc, length.saturating_add(1))?;
+    path.push_str(dir)?;
+    path.push('/')?;
+    path.push_str(name)?;
+    Ok(path)
 }
 
 // What stands before the suffix, if the name ends in it.

@@ -12,6 +12,7 @@ ghost use Rattle.fs_outside.specs.SlotDirectory.{IsOneZero, KeepsDirectory, Stay
 ghost use Rattle.fs_outside.specs.SlotDirectory.{with_unfinished, with_synced_unfinished, with_own_name, with_renamed};
 ghost use Rattle.fs_outside.specs.SlotDirectory.{with_synced_slot};
 
+use crate::file_name::path_in;
 use std::alloc::AllocError;
 use std::fs::{self, File, OpenOptions};
 use std::io::{self, ErrorKind, Write};
@@ -141,10 +142,7 @@ impl<'a, R: Files<File = File> + AllocGlobal> SlotsOnDisk<'a, R> {
 
     // The path of a name in the directory.
     fn path(&self, name: &str) -> Result<String, AllocError> {
-        let mut path = String::from_str(self.rt.alloc(), self.dir)?;
-        path.push('/')?;
-        path.push_str(name)?;
-        Ok(path)
+        path_in(self.rt.alloc(), self.dir, name)
     }
 
     fn open_file(&self, name: &str) -> io::Result<File> {
