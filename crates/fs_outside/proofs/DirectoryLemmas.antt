@@ -4,7 +4,7 @@ use Rattle.std.proofs.Common.{◌≡◌, ◌⊎◌, ℕ, zero, suc, ◌≤◌, t
 use Rattle.std.proofs.Common.{subst, arith, inl, inr, ⊎_elim}
 use Rattle.std.proofs.lemmas.Bool.{false≢true}
 use Rattle.tsdb_outside.specs.Files.{IsFileNumber}
-use Rattle.std.specs.Prelude.{◌↔◌, Contains, Some, None, IfSome, Result, Ok, Err, OnOk, OnErr, length}
+use Rattle.std.specs.Prelude.{◌↔◌, Contains, Some, None, IfSome, Result, Ok, Err, IfOk, OnOk, OnErr, length}
 use Rattle.tsdb_base.specs.Causes.{Rose}
 use Rattle.tsdb_outside.specs.Causes.{HasCause}
 use Rattle.tsdb_outside.specs.Limits.{FitsSlot}
@@ -12,7 +12,7 @@ use Rattle.std.specs.Option.{IsSomeAnd}
 use Rattle.std.specs.declared.option.Option.{Option}
 use Rattle.fs_outside.specs.Directory.{DirectoryFile, with_bytes, with_synced_bytes, with_synced_name, numbers_in}
 use Rattle.fs_outside.specs.Directory.{IsFree, IsFreeIn, change_one, add_new, without, put_durable, Becomes, Fills}
-use Rattle.fs_outside.specs.Directory.{SameBut, IsTakenAway, RoseTwice, HasLengthOf}
+use Rattle.fs_outside.specs.Directory.{SameBut, IsTakenAway, StaysTaken, RoseTwice, HasBytesOf, HasLengthOf}
 
 Contains-head : {X : Type 0} (x : X) (xs : List X) → Contains (x ∷ xs) x
 Contains-head x xs = (0, omega arith, refl)
@@ -198,3 +198,48 @@ pub list_is_exact : (told : Option (List DirectoryFile)) (list numbers : List �
 list_is_exact None list numbers there same = tt
 list_is_exact (Some files) list numbers there same = λ n fits.
     (λ h. (there n fits).0 ((same n fits).0 h), λ h. (same n fits).1 ((there n fits).1 h))
+
+-- what is told goes on to be told behind a call that only counts
+pub same_but_still : (n : ℕ) (a b c : Option (List DirectoryFile)) → SameBut n a b → c ≡ b → SameBut n a c
+same_but_still n a b c but same = subst (λ (o : Option (List DirectoryFile)). SameBut n a o) (sym same) but
+
+pub stays_taken_still : (n : ℕ) (a b c : Option (List DirectoryFile)) → StaysTaken n a b → c ≡ b → StaysTaken n a c
+stays_taken_still n a b c stays same = subst (λ (o : Option (List DirectoryFile)). StaysTaken n a o) (sym same) stays
+
+pub taken_away_still : (n before now last : ℕ) (a b c : Option (List DirectoryFile)) → IsTakenAway n a b before now → c ≡ b → last ≡ now
+    → IsTakenAway n a c before last
+taken_away_still n before now last a b c away same count =
+    subst (λ (m : ℕ). IsTakenAway n a c before m) (sym count)
+    (subst (λ (o : Option (List DirectoryFile)). IsTakenAway n a o before now) (sym same) away)
+
+-- a number that was taken, and nothing was made
+pub stays_taken_same : (n : ℕ) (a b : Option (List DirectoryFile)) → b ≡ a → StaysTaken n a b
+stays_taken_same n None b same = tt
+stays_taken_same n (Some files) b same = λ taken. same
+
+pub not_taken : (n : ℕ) (a b : Option (List DirectoryFile)) → IsFreeIn n a → StaysTaken n a b
+not_taken n None b free = tt
+not_taken n (Some files) b free = λ taken. absurd (taken free)
+
+-- a file is read or measured by its number
+pub bytes_read : {T E : Type 0} (r : Result T E) (made n at : ℕ) (into : List ℕ) (a b : Option (List DirectoryFile)) → made ≡ n → b ≡ a
+    → OnOk r (HasBytesOf made at into b) → OnOk r (HasBytesOf n at into a)
+bytes_read r made n at into a b same told has =
+    subst (λ (m : ℕ). OnOk r (HasBytesOf m at into a)) same
+    (subst (λ (o : Option (List DirectoryFile)). OnOk r (HasBytesOf made at into o)) told has)
+
+pub length_read : {E : Type 0} (r : Result ℕ E) (made n : ℕ) (a b : Option (List DirectoryFile)) → made ≡ n → b ≡ a
+    → IfOk r (λ size. HasLengthOf made size b) → IfOk r (λ size. HasLengthOf n size a)
+length_read r made n a b same told has =
+    subst (λ (m : ℕ). IfOk r (λ size. HasLengthOf m size a)) same
+    (subst (λ (o : Option (List DirectoryFile)). IfOk r (λ size. HasLengthOf made size o)) told has)
+
+-- one call and then another
+pub becomes_twice : {X : Type 0} (f g : X → X) (a b c : Option X) → Becomes f a b → Becomes g b c → Becomes (λ x. g (f x)) a c
+becomes_twice f g None b c first then = tt
+becomes_twice {X} f g (Some x) b c first then = subst (λ (o : Option X). Becomes g o c) first then
+
+-- what a call after the last one that is told of leaves as it was
+pub becomes_still : {X : Type 0} (f : X → X) (a b c : Option X) → Becomes f a b → c ≡ b → Becomes f a c
+becomes_still f None b c is same = tt
+becomes_still f (Some x) b c is same = same ∙ is

@@ -1,3 +1,4 @@
+mod CauseLemmas
 mod FileLemmas
 mod DirectoryLemmas
 mod NameLemmas
