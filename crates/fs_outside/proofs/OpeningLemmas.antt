@@ -380,7 +380,7 @@ not_reopened before b first mid last finished later (inl rose) = inl (omega (ari
 not_reopened before b first mid last finished later (inr gone) = inr (lost_behind before b finished gone)
 
 -- a directory that tells nothing
-pub stays_silent : StaysDurable silent_directory silent_directory
+stays_silent : StaysDurable silent_directory silent_directory
 stays_silent = record { crash = λ image left. left; keeps = λ image left. left; time = λ image left. left }
 
 pub keeps_silent : KeepsDirectory silent_directory silent_directory

@@ -1,3 +1,6 @@
+use Rattle.std.proofs.Common.{◌≡◌, ◌∙◌, refl}
+use Rattle.std.specs.Arc.{arc_value}
+use Rattle.std.specs.String.{string_bytes}
 use Rattle.std.proofs.lemmas.Result.{IfOk-from_err}
 use Rattle.fs_outside.proofs.place.open_parts.Goals as goal
 
@@ -90,3 +93,15 @@ returns-in_err-try_clone-2-clause-store g c = IfOk-from_err c.from_residual-in_e
 
 pub returns-in_err-try_clone-2-clause-faults : goal.returns-in_err-try_clone-2-clause-faults
 returns-in_err-try_clone-2-clause-faults g c = IfOk-from_err c.from_residual-in_err-try_clone-2.result _ c.from_residual-in_err-try_clone-2.ensures.0
+
+pub returns-clause-path : goal.returns-clause-path
+returns-clause-path g c = rw c.in_ok-path.ensures.ok (c.in_ok-from_str.ensures.ok ∙ c.in-Ok.ensures.cases.0)
+
+pub returns-clause-store : goal.returns-clause-store
+returns-clause-store g c =
+    let path : string_bytes (arc_value c.in_ok-path.path) ≡ c.args.dir.now =
+    rw c.in_ok-path.ensures.ok (c.in_ok-from_str.ensures.ok ∙ c.in-Ok.ensures.cases.0) in
+    c.new-files.ensures.store ∙ rw (c.in_ok-try_clone-2.ensures, path) refl
+
+pub returns-clause-faults : goal.returns-clause-faults
+returns-clause-faults g c = (c.new-3.ensures.faults, c.new-files.ensures.faults)
