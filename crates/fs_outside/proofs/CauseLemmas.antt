@@ -1,8 +1,7 @@
 -- What follows from how a call ended, and from the counts of faults.
-use Rattle.std.proofs.Common.{◌≡◌, ◌∙◌, ℕ, ◌+◌, ◌-◌, ◌^◌, ◌≤◌, min, true, false, sym, ap, subst, arith}
-use Rattle.std.proofs.lemmas.Bool.{false≢true}
+use Rattle.std.proofs.Common.{◌≡◌, ◌∙◌, ℕ, ◌+◌, ◌-◌, ◌^◌, ◌≤◌, min, sym, ap, subst, arith}
 use Rattle.std.proofs.lemmas.Result.{err_from_is_err_and}
-use Rattle.std.specs.Prelude.{Result, Ok, Err, OnOk, OnErr, IsErrAnd, IsErrOf, is_err}
+use Rattle.std.specs.Prelude.{Result, Ok, Err, OnOk, OnErr, IsErrAnd, IsErrOf}
 use Rattle.tsdb_base.specs.Causes.{Rose}
 use Rattle.tsdb_outside.specs.Causes.{HasCause}
 use Rattle.tsdb_outside.specs.declared.faults.StoreFault.{StoreFault}
@@ -12,15 +11,6 @@ use Rattle.fs_outside.proofs.DirectoryLemmas.{always_on_err}
 pub always_on_ok : {T E : Type 0} {P : Type 0} (r : Result T E) → P → OnOk r P
 always_on_ok (Ok x) p = p
 always_on_ok (Err e) p = tt
-
--- what a clause says where the call is known to have succeeded or failed
-pub holds_on_ok : {T E P : Type 0} (r : Result T E) → is_err r ≡ false → OnOk r P → P
-holds_on_ok (Ok x) good holds = holds
-holds_on_ok (Err e) good holds = absurd (false≢true (sym good))
-
-pub holds_on_err : {T E P : Type 0} (r : Result T E) → is_err r ≡ true → OnErr r P → P
-holds_on_err (Ok x) bad holds = absurd (false≢true bad)
-holds_on_err (Err e) bad holds = holds
 
 -- an answer of one kind is not one of the other
 pub never_err : {T E P : Type 0} (value : T) (error : E) → Ok value ≡ Err error → P

@@ -4,10 +4,9 @@ use Rattle.std.proofs.Common.{◌≡◌, ◌⊎◌, ℕ, zero, suc, ◌≤◌, t
 use Rattle.std.proofs.Common.{subst, arith, inl, inr, ⊎_elim}
 use Rattle.std.proofs.lemmas.Bool.{false≢true}
 use Rattle.tsdb_outside.specs.Files.{IsFileNumber}
-use Rattle.std.specs.Prelude.{◌↔◌, Contains, Some, None, IfSome, Result, Ok, Err, IfOk, OnOk, OnErr, length}
+use Rattle.std.specs.Prelude.{◌↔◌, Contains, Some, None, IfSome, Result, Ok, Err, IfOk, OnOk, OnErr}
 use Rattle.tsdb_base.specs.Causes.{Rose}
 use Rattle.tsdb_outside.specs.Causes.{HasCause}
-use Rattle.tsdb_outside.specs.Limits.{FitsSlot}
 use Rattle.std.specs.Option.{IsSomeAnd}
 use Rattle.std.specs.declared.option.Option.{Option}
 use Rattle.fs_outside.specs.Directory.{DirectoryFile, with_bytes, with_synced_bytes, with_synced_name, numbers_in}
@@ -182,13 +181,6 @@ away_after_removal (Ok x) n before made filled now a b c then later rose cause g
 away_after_removal (Err e) n before made filled now a b c then later rose cause gone =
     let again : Rose filled now = cause.failed in
     taken_away n before now a b c then (inr (omega (arith, later, rose, again)))
-
--- a file is too long for the answer
-pub too_long : (n size : ℕ) (told : Option (List DirectoryFile)) → HasLengthOf n size told → ¬ FitsSlot size
-    → IfSome told (λ files. (file : DirectoryFile) → Contains files file → file.number ≡ n → ¬ FitsSlot (length file.bytes))
-too_long n size None is long = tt
-too_long n size (Some files) is long = λ file there same fits.
-    long (subst (λ (m : ℕ). FitsSlot m) (sym (is file there same)) fits)
 
 -- a list of numbers that are those of the files
 pub list_is_exact : (told : Option (List DirectoryFile)) (list numbers : List ℕ)
