@@ -1,5 +1,5 @@
 //! Which pages are loaded, and loads that fail.
-use crate::pages::{Fault, NEVER, answer, mark_clean, pieces_of, points};
+use crate::pages::{Fault, NEVER, Shape, answer, lists_of, mark_clean, pieces_of};
 use std::alloc::{AllocError, Global};
 use std::test::Fail;
 use tsdb_aggregate::Piece;
@@ -38,45 +38,51 @@ fn is_answered(alloc: Global, pieces: &mut [Piece], lists: &[Vec<Point>], asked:
     found.answer == Ok(wanted.map(|number| Value::I64(number))) && found.calls == *calls
 }
 
-fn two_pages(alloc: Global) -> Result<Vec<Vec<Point>>, Fail> {
-    Ok(vec![in alloc;
-        points(alloc, 1, 1000, 1, 0)?,
-        points(alloc, 1001, 2000, 1, 0)?,
-    ]?)
+/// The first of the questions that is answered otherwise.
+fn wrong_answer(
+    alloc: Global,
+    lists: &[Vec<Point>],
+    sources: &[u32],
+    asked: &[Wanted],
+) -> Result<Option<usize>, Fail> {
+    let mut pieces = pieces_of(alloc, lists, sources)?;
+    for (at, asked) in asked.iter().enumerate() {
+        if !is_answered(alloc, &mut pieces, lists, asked) {
+            return Ok(Some(at));
+        }
+    }
+    Ok(None)
+}
+
+const PAGES: [Shape; 2] = [(1, 1000, 1, 0), (1001, 2000, 1, 0)];
+
+/// The two pages, and a late point.
+fn pages_and_late_point(alloc: Global) -> Result<Vec<Vec<Point>>, Fail> {
+    let mut lists = lists_of(alloc, &PAGES)?;
+    let value = Value::I64(-7);
+    let late = vec![in alloc; Point { time: 1, value }]?;
+    lists.push(late).map_err(AllocError::from)?;
+    Ok(lists)
 }
 
 #[test]
 fn pages_are_loaded_only_where_they_must_be(rt: HostRuntime) -> Result<(), Fail> {
     let alloc = rt.alloc();
-    let mut lists = two_pages(alloc)?;
-    let mut pieces = pieces_of(alloc, &lists, &[0, 0])?;
-    for asked in &OF_PAGES {
-        assert!(rt; is_answered(alloc, &mut pieces, &lists, asked));
-    }
-    let late = vec![in alloc;
-        Point {
-            time: 1,
-            value: Value::I64(-7)
-        },
-    ]?;
-    lists.push(late).map_err(AllocError::from)?;
-    let mut pieces = pieces_of(alloc, &lists, &[0, 0, 1])?;
-    for asked in &OF_PAGES_AND_LATE_POINT {
-        assert!(rt; is_answered(alloc, &mut pieces, &lists, asked));
-    }
+    let lists = pages_and_late_point(alloc)?;
+    let pages = wrong_answer(alloc, lists.get(..2).unwrap_or(&[]), &[0, 0], &OF_PAGES)?;
+    let late = wrong_answer(alloc, &lists, &[0, 0, 1], &OF_PAGES_AND_LATE_POINT)?;
+    assert_eq!(rt; (pages, late), (None, None));
     Ok(())
 }
 
 /// Late pages that span the series: three pages of one source under two of another.
-fn late_pages(alloc: Global) -> Result<Vec<Vec<Point>>, Fail> {
-    Ok(vec![in alloc;
-        points(alloc, 0, 9, 1, 0)?,
-        points(alloc, 10, 19, 1, 0)?,
-        points(alloc, 20, 29, 1, 0)?,
-        points(alloc, 0, 14, 2, 1)?,
-        points(alloc, 16, 28, 2, 1)?,
-    ]?)
-}
+const LATE_PAGES: [Shape; 5] = [
+    (0, 9, 1, 0),
+    (10, 19, 1, 0),
+    (20, 29, 1, 0),
+    (0, 14, 2, 1),
+    (16, 28, 2, 1),
+];
 
 /// Their sources.
 const LATE_SOURCES: [u32; 5] = [0, 0, 0, 1, 1];
@@ -94,12 +100,9 @@ pub const OF_LATE_PAGES: [Wanted; 5] = [
 
 #[test]
 fn a_page_is_loaded_when_the_merge_comes_to_it(rt: HostRuntime) -> Result<(), Fail> {
-    let alloc = rt.alloc();
-    let lists = late_pages(alloc)?;
-    let mut pieces = pieces_of(alloc, &lists, &LATE_SOURCES)?;
-    for asked in &OF_LATE_PAGES {
-        assert!(rt; is_answered(alloc, &mut pieces, &lists, asked));
-    }
+    let lists = lists_of(rt.alloc(), &LATE_PAGES)?;
+    let wrong = wrong_answer(rt.alloc(), &lists, &LATE_SOURCES, &OF_LATE_PAGES)?;
+    assert_eq!(rt; wrong, None);
     Ok(())
 }
 
@@ -109,20 +112,28 @@ fn ends_at_fault(alloc: Global, pieces: &[Piece], lists: &[Vec<Point>], fault: F
     found.answer == Err(fault.fault) && found.calls == fault.before.saturating_add(1)
 }
 
-#[test]
-fn each_load_may_fail(rt: HostRuntime) -> Result<(), Fail> {
-    let alloc = rt.alloc();
-    let lists = late_pages(alloc)?;
+const KINDS: [PullFault; 3] = [
+    PullFault::Failed,
+    PullFault::Damaged { at: 7 },
+    PullFault::Memory,
+];
+
+/// The first fault that is not the answer, and how many loads come before it.
+fn wrong_fault(alloc: Global) -> Result<Option<(PullFault, u64)>, Fail> {
+    let lists = lists_of(alloc, &LATE_PAGES)?;
     let pieces = pieces_of(alloc, &lists, &LATE_SOURCES)?;
-    let kinds = [
-        PullFault::Failed,
-        PullFault::Damaged { at: 7 },
-        PullFault::Memory,
-    ];
-    for fault in kinds {
+    for fault in KINDS {
         for before in 0..5 {
-            assert!(rt; ends_at_fault(alloc, &pieces, &lists, Fault { before, fault }));
+            if !ends_at_fault(alloc, &pieces, &lists, Fault { before, fault }) {
+                return Ok(Some((fault, before)));
+            }
         }
     }
+    Ok(None)
+}
+
+#[test]
+fn each_load_may_fail(rt: HostRuntime) -> Result<(), Fail> {
+    assert_eq!(rt; wrong_fault(rt.alloc())?, None);
     Ok(())
 }

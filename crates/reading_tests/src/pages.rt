@@ -194,6 +194,20 @@ pub fn points(
     Ok(list)
 }
 
+/// First time, last time and step of a list of points, and the source that its values tell.
+pub type Shape = (i64, i64, i64, i64);
+
+/// A list for each shape.
+pub fn lists_of(alloc: Global, shapes: &[Shape]) -> Result<Vec<Vec<Point>>, Fail> {
+    let mut lists = Vec::new(alloc);
+    for (from, to, step, source) in shapes {
+        lists
+            .push(points(alloc, *from, *to, *step, *source)?)
+            .map_err(AllocError::from)?;
+    }
+    Ok(lists)
+}
+
 /// A piece with the statistics of its points.
 pub fn piece(points: &[Point], source: u32) -> Result<Piece, Fail> {
     if points.is_empty() {
@@ -209,10 +223,9 @@ pub fn piece(points: &[Point], source: u32) -> Result<Piece, Fail> {
 /// A piece for each list, of the source at its place.
 pub fn pieces_of(alloc: Global, lists: &[Vec<Point>], sources: &[u32]) -> Result<Vec<Piece>, Fail> {
     let mut pieces = Vec::new(alloc);
-    for (list, source) in lists.iter().zip(sources) {
-        pieces
-            .push(piece(list, *source)?)
-            .map_err(AllocError::from)?;
+    for (place, list) in lists.iter().enumerate() {
+        let source = sources.get(place).copied().unwrap_or(0);
+        pieces.push(piece(list, source)?).map_err(AllocError::from)?;
     }
     Ok(pieces)
 }
