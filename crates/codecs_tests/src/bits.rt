@@ -5,7 +5,7 @@ use tsdb_base::Memory;
 use tsdb_bits::{BitFault, UnpackFault, get_leb, pack, put_leb, unpack, unzigzag, width, zigzag};
 
 /// Numbers and their LEB128 bytes.
-const LEBS: [(u64, &[u8]); 5] = [
+static LEBS: [(u64, &[u8]); 5] = [
     (0, &[0]),
     (127, &[127]),
     (128, &[128, 1]),
@@ -30,7 +30,7 @@ fn first_wrong_leb(alloc: Global, lebs: &[(u64, &[u8])]) -> Option<usize> {
 }
 
 /// Bytes, the place that is read, and why no number stands there.
-const NO_LEBS: [(&[u8], u64, BitFault); 8] = [
+static NO_LEBS: [(&[u8], u64, BitFault); 8] = [
     (&[128, 0], 0, BitFault::Overlong { at: 0 }),
     (&[128], 0, BitFault::Short { at: 1 }),
     (&[7], 1, BitFault::Short { at: 1 }),
@@ -75,7 +75,7 @@ fn leb_examples(rt: HostRuntime) {
 }
 
 /// Signed numbers and their unsigned ones.
-const ZIGZAGS: [(i64, u64); 6] = [
+static ZIGZAGS: [(i64, u64); 6] = [
     (0, 0),
     (-1, 1),
     (1, 2),
@@ -85,7 +85,7 @@ const ZIGZAGS: [(i64, u64); 6] = [
 ];
 
 /// Numbers and how many binary digits they have.
-const WIDTHS: [(u64, u8); 6] = [(0, 0), (1, 1), (2, 2), (255, 8), (256, 9), (u64::MAX, 64)];
+static WIDTHS: [(u64, u8); 6] = [(0, 0), (1, 1), (2, 2), (255, 8), (256, 9), (u64::MAX, 64)];
 
 fn first_wrong_zigzag(pairs: &[(i64, u64)]) -> Option<usize> {
     for (place, (signed, unsigned)) in pairs.iter().enumerate() {
@@ -128,7 +128,7 @@ fn unpacks_to(alloc: Global, bytes: &[u8], values: &[u64]) -> bool {
 }
 
 /// Bytes, a count and a width, and why they are no packing.
-const NO_PACKINGS: [(&[u8], u64, u8, UnpackFault); 6] = [
+static NO_PACKINGS: [(&[u8], u64, u8, UnpackFault); 6] = [
     (&[0x64], 3, 2, UnpackFault::Overlong { at: 0 }),
     (&[], 3, 2, UnpackFault::Short { at: 0 }),
     (&[0x24, 0], 3, 2, UnpackFault::Overlong { at: 1 }),

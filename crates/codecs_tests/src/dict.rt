@@ -10,7 +10,7 @@ use std::test::Fail;
 use tsdb_base::{Memory, Text};
 
 /// Lists of texts of one byte, and their bytes.
-const EXAMPLES: [(&[u8], &[u8]); 4] = [
+static EXAMPLES: [(&[u8], &[u8]); 4] = [
     (b"aba", b"\x03\x02\x00\x01a\x00\x01b\x02"),
     (b"aa", b"\x02\x01\x00\x01a"),
     (b"ba", b"\x02\x02\x00\x01b\x00\x01a\x02"),
@@ -60,7 +60,7 @@ fn vectors(rt: HostRuntime) -> Result<(), Fail> {
 }
 
 /// Why bytes are no list, and which.
-const REFUSED: [(&str, &[u8]); 13] = [
+static REFUSED: [(&str, &[u8]); 13] = [
     ("a text not used", b"\x01\x02\x00\x01a\x00\x01b\x00"),
     ("order of bytes", b"\x02\x02\x00\x01a\x00\x01b\x01"),
     ("a text twice", b"\x02\x02\x00\x01a\x00\x01a\x02"),
@@ -137,7 +137,7 @@ fn round_trips(rt: HostRuntime) -> Result<(), Fail> {
 }
 
 /// A text of 65,535 bytes.
-const LONG: [u8; 65535] = [0xff; 65535];
+static LONG: [u8; 65535] = [0xff; 65535];
 
 fn long_and_empty(alloc: Global) -> Result<Vec<Text>, Fail> {
     let mut texts = Vec::new(alloc);

@@ -57,7 +57,7 @@ fn vectors(rt: HostRuntime) -> Result<(), Fail> {
 }
 
 /// Bytes of no list of truth values.
-const NO_TRUTHS: [&[u8]; 6] = [
+static NO_TRUTHS: [&[u8]; 6] = [
     b"",
     b"\x80\x00",
     b"\x00\x00",
@@ -67,10 +67,10 @@ const NO_TRUTHS: [&[u8]; 6] = [
 ];
 
 /// Bytes of no list of numbers.
-const NO_NUMBERS: [&[u8]; 2] = [b"\x01\x00\x00\x00", b"\x01\x00\x00\x00\x00\x00"];
+static NO_NUMBERS: [&[u8]; 2] = [b"\x01\x00\x00\x00", b"\x01\x00\x00\x00\x00\x00"];
 
 /// Bytes of no list of texts.
-const NO_TEXTS: [&[u8]; 3] = [b"\x01\x00", b"\x01\x00\x02a", b"\x01\x00\x01ab"];
+static NO_TEXTS: [&[u8]; 3] = [b"\x01\x00", b"\x01\x00\x02a", b"\x01\x00\x01ab"];
 
 fn first_truths(alloc: Global, refused: &[&[u8]]) -> Option<usize> {
     for (place, bytes) in refused.iter().enumerate() {

@@ -42,7 +42,7 @@ fn worked_examples(rt: HostRuntime) {
 }
 
 /// Bytes of no list.
-const REFUSED: [&[u8]; 8] = [
+static REFUSED: [&[u8]; 8] = [
     &[],
     // Runs not joined, a run of length 0, and a run cut short.
     &[4, 1, 10, 2, 10, 1, 1],
@@ -57,7 +57,7 @@ const REFUSED: [&[u8]; 8] = [
 ];
 
 /// 2^31, which is no INT32 value.
-const BEYOND: [u8; 7] = [1, 1, 0x80, 0x80, 0x80, 0x80, 0x10];
+static BEYOND: [u8; 7] = [1, 1, 0x80, 0x80, 0x80, 0x80, 0x10];
 
 fn is_refused(alloc: Global, bytes: &[u8]) -> bool {
     is_bad(decode_i64(alloc, bytes))

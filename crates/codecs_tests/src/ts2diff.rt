@@ -11,7 +11,7 @@ const MIN: i64 = i64::MIN;
 const MAX: i64 = i64::MAX;
 
 /// Lists and their bytes.
-const EXAMPLES: [(&[i64], &[u8]); 6] = [
+static EXAMPLES: [(&[i64], &[u8]); 6] = [
     (&[], &[0]),
     (&[7], &[1, 14]),
     (&[10, 20, 30], &[3, 20, 20, 0]),
@@ -65,7 +65,7 @@ fn worked_examples(rt: HostRuntime) {
 }
 
 /// Bytes of no list.
-const REFUSED: [&[u8]; 9] = [
+static REFUSED: [&[u8]; 9] = [
     &[],
     // A width larger than needed.
     &[3, 20, 20, 1, 0],
@@ -83,7 +83,7 @@ const REFUSED: [&[u8]; 9] = [
 ];
 
 /// 2^31, which is no INT32 value.
-const BEYOND: [u8; 6] = [1, 0x80, 0x80, 0x80, 0x80, 0x10];
+static BEYOND: [u8; 6] = [1, 0x80, 0x80, 0x80, 0x80, 0x10];
 
 fn first_taken(alloc: Global, refused: &[&[u8]]) -> Option<usize> {
     for (place, bytes) in refused.iter().enumerate() {

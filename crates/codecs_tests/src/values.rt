@@ -230,7 +230,7 @@ fn round_trips(rt: HostRuntime) -> Result<(), Fail> {
 }
 
 /// Why bytes are refused, and which.
-const REFUSED: [(&str, DataType, Encoding, &[u8]); 8] = [
+static REFUSED: [(&str, DataType, Encoding, &[u8]); 8] = [
     (
         "a width too large",
         DataType::Int64,
