@@ -109,7 +109,7 @@ fn agrees(alloc: Global, shapes: &[Shape], sources: &[u32], range: &Range) -> Re
     Ok(wrong_name(alloc, &pieces, &lists, range)?.is_none())
 }
 
-const RANGES: [Range; 4] = [
+static RANGES: [Range; 4] = [
     Range { from: 0, to: 11 },
     Range { from: 2, to: 7 },
     Range { from: 4, to: 4 },
@@ -128,7 +128,7 @@ fn agree(alloc: Global, shapes: &[Shape], orders: &[[u32; 3]]) -> Result<bool, F
 }
 
 /// First time, last time and step of a piece: alone or met, in the range, half in it or outside it, of one point.
-const SHAPES: [(i64, i64, i64); 6] = [
+static SHAPES: [(i64, i64, i64); 6] = [
     (0, 2, 1),
     (1, 5, 2),
     (4, 4, 1),
@@ -161,7 +161,7 @@ fn three_pieces_beside_a_slow_fold(rt: HostRuntime) -> Result<(), Fail> {
 }
 
 /// Two pieces of one source that have no time in common, though their hulls meet, and a piece of a later source.
-const INTERLEAVED: [Shape; 3] = [(0, 8, 2, 0), (1, 11, 2, 0), (3, 6, 3, 1)];
+static INTERLEAVED: [Shape; 3] = [(0, 8, 2, 0), (1, 11, 2, 0), (3, 6, 3, 1)];
 
 #[test]
 fn pieces_of_one_source_may_interleave(rt: HostRuntime) -> Result<(), Fail> {

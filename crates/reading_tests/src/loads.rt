@@ -10,7 +10,7 @@ use tsdb_merge::PullFault;
 pub type Wanted = (Aggregate, i64, i64, Option<i64>, u64);
 
 /// What is asked of two pages of 1,000 points each.
-pub const OF_PAGES: [Wanted; 4] = [
+pub static OF_PAGES: [Wanted; 4] = [
     (Aggregate::Count, 1, 2000, Some(2000), 0),
     (Aggregate::Count, 1, 1999, Some(1999), 1),
     (Aggregate::MaxTime, 1, 1999, Some(1999), 1),
@@ -18,7 +18,7 @@ pub const OF_PAGES: [Wanted; 4] = [
 ];
 
 /// What is asked of the pages and of a late point at time 1, which the first page meets.
-pub const OF_PAGES_AND_LATE_POINT: [Wanted; 5] = [
+pub static OF_PAGES_AND_LATE_POINT: [Wanted; 5] = [
     (Aggregate::Count, 1, 2000, Some(2000), 2),
     (Aggregate::MinValue, 1, 2000, Some(-7), 2),
     (Aggregate::FirstValue, 1, 2000, Some(-7), 2),
@@ -54,7 +54,7 @@ fn wrong_answer(
     Ok(None)
 }
 
-const PAGES: [Shape; 2] = [(1, 1000, 1, 0), (1001, 2000, 1, 0)];
+static PAGES: [Shape; 2] = [(1, 1000, 1, 0), (1001, 2000, 1, 0)];
 
 /// The two pages, and a late point.
 fn pages_and_late_point(alloc: Global) -> Result<Vec<Vec<Point>>, Fail> {
@@ -76,7 +76,7 @@ fn pages_are_loaded_only_where_they_must_be(rt: HostRuntime) -> Result<(), Fail>
 }
 
 /// Late pages that span the series: three pages of one source under two of another.
-const LATE_PAGES: [Shape; 5] = [
+static LATE_PAGES: [Shape; 5] = [
     (0, 9, 1, 0),
     (10, 19, 1, 0),
     (20, 29, 1, 0),
@@ -85,12 +85,12 @@ const LATE_PAGES: [Shape; 5] = [
 ];
 
 /// Their sources.
-const LATE_SOURCES: [u32; 5] = [0, 0, 0, 1, 1];
+static LATE_SOURCES: [u32; 5] = [0, 0, 0, 1, 1];
 
 const LATE_RANGE: Range = Range { from: 0, to: 29 };
 
 /// What is asked of late pages. The first value needs one page of each source.
-pub const OF_LATE_PAGES: [Wanted; 5] = [
+pub static OF_LATE_PAGES: [Wanted; 5] = [
     (Aggregate::Count, 0, 29, Some(30), 5),
     (Aggregate::MinTime, 0, 29, Some(0), 2),
     (Aggregate::FirstValue, 0, 29, Some(5), 2),

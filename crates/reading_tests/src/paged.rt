@@ -184,7 +184,7 @@ fn ends_so(found: &Answered, fault: PullFault, load: u64) -> bool {
 
 /// The calls of the port that fail, and the load that meets each. The port is called once for the file, and twice for each
 /// page: for the length, and for the bytes.
-const FAILING: [(u64, u64); 10] = [
+static FAILING: [(u64, u64); 10] = [
     (2, 1),
     (3, 1),
     (4, 2),
@@ -223,7 +223,7 @@ fn each_read_of_a_page_may_fail(rt: HostRuntime) -> Result<(), Fail> {
 }
 
 /// The pages of both series by the order in which a merge comes to them: the series, its page, and the load.
-const IN_ORDER: [(usize, usize, u64); 5] = [(0, 0, 1), (1, 0, 2), (0, 1, 3), (1, 1, 4), (0, 2, 5)];
+static IN_ORDER: [(usize, usize, u64); 5] = [(0, 0, 1), (1, 0, 2), (0, 1, 3), (1, 1, 4), (0, 2, 5)];
 
 /// The place of a page of an entry.
 fn place_of(file: &OfFile, series: usize, page: usize) -> u64 {
@@ -260,7 +260,7 @@ fn each_page_may_be_damaged(rt: HostRuntime) -> Result<(), Fail> {
 }
 
 /// The types with the encodings that suit them.
-const PAIRS: [(DataType, Encoding); 10] = [
+static PAIRS: [(DataType, Encoding); 10] = [
     (DataType::Boolean, Encoding::Plain),
     (DataType::Int32, Encoding::Plain),
     (DataType::Int64, Encoding::Plain),
@@ -327,7 +327,7 @@ fn last_up_to(alloc: Global, file: &OfFile, to: i64) -> Result<Option<Value>, Fa
 }
 
 /// Times, and the numbers of the last values up to them: at 2 and 3 those of the late page.
-const LAST_VALUES: [(i64, u8); 4] = [(1, 1), (2, 12), (3, 13), (4, 4)];
+static LAST_VALUES: [(i64, u8); 4] = [(1, 1), (2, 12), (3, 13), (4, 4)];
 
 /// Whether these are the last values of pages at 1 to 4 and a late page at 2 and 3, of a type in an encoding.
 fn is_read(alloc: Global, pair: (DataType, Encoding), rows: &[(i64, u8)]) -> Result<bool, Fail> {

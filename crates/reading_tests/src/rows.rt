@@ -31,15 +31,13 @@ fn is_line(line: &Line, time: i64, numbers: &[Option<i64>]) -> bool {
 
 /// Whether these are the rows of the table.
 fn are_rows(lines: &[Line]) -> bool {
-    for (at, (time, numbers)) in ROWS.iter().enumerate() {
-        if !lines
-            .get(at)
-            .is_some_and(|line| is_line(line, *time, numbers))
-        {
-            return false;
-        }
-    }
     lines.len() == ROWS.len()
+        && lines.iter().zip(&ROWS).all(|(line, (time, numbers))| {
+            line.time == *time
+                && is_number(line.values.items().first(), numbers[0])
+                && is_number(line.values.items().get(1), numbers[1])
+                && is_number(line.values.items().get(2), numbers[2])
+        })
 }
 
 #[test]
@@ -101,7 +99,7 @@ fn agrees(alloc: Global, columns: &[Shape; 2]) -> Result<bool, Fail> {
 }
 
 /// First time, last time and step of a column: none, one point, all, every second and every third.
-const SHAPES: [(i64, i64, i64); 6] = [
+static SHAPES: [(i64, i64, i64); 6] = [
     (1, 0, 1),
     (4, 4, 1),
     (0, 11, 1),
