@@ -1,3 +1,5 @@
+use Rattle.std.proofs.Common.{arith}
+use Rattle.std.proofs.lemmas.Grind.{common_steps}
 use Rattle.std.proofs.Common.{◌∷◌, [], ◌++◌, ◌∙◌, ap, take_all}
 use Rattle.std.specs.List.{flat_map}
 use Rattle.tsdb_print.specs.Text.{files_text}
@@ -11,3 +13,6 @@ returns c =
     c.loop-file.invariant
     ∙ ap (λ l. c.args.into.now.items ++ flat_map (λ file. files_text space (file ∷ [])) l) (take_all c.loop-file.file-index files c.loop-file-test.false)
     ∙ ap (λ l. c.args.into.now.items ++ l) (files_by_file space files)
+
+pub loop-file-preserved : goal.loop-file-preserved
+loop-file-preserved c = grind (arith, common_steps)
