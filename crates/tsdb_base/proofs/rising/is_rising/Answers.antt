@@ -1,3 +1,4 @@
+use Rattle.std.proofs.lemmas.Grind.{common_steps}
 use Rattle.std.proofs.Common.{refl, arith}
 use Rattle.std.proofs.lemmas.Bool.{false≢true}
 use Rattle.std.proofs.lemmas.Int.{ints}
@@ -12,3 +13,6 @@ returns-then-points-i c =
 
 pub returns : goal.returns
 returns c = (λ _. rising_from_adjacent c.args.points.now (λ k d l. c.loop-i.invariant k d (omega arith)), λ _. refl)
+
+pub loop-i-preserved : goal.loop-i-preserved
+loop-i-preserved c = grind (arith, common_steps)
