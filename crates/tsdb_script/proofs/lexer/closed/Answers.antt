@@ -1,3 +1,4 @@
+use Rattle.std.proofs.lemmas.Grind.{common_steps}
 use Rattle.std.proofs.Common.{◌≡◌, ◌+◌, ◌-◌, ◌<◌, length, take, drop, sym, ap, ◌∙◌, subst, arith, length-drop, Some}
 use Rattle.std.proofs.lemmas.List.{take_all}
 use Rattle.tsdb_script.specs.Steps.{unescape}
@@ -42,3 +43,6 @@ loop-at-preserved c =
                 (content_more_pair quote bytes at count c.loop-at-test.true (sym c.has.ensures ∙ w.if-not-has.false) (sym w.has-else-not-has.ensures ∙ w.if-has.true) more c.loop-at.invariant.so_far);
           })
     ]
+
+pub returns-clause-content : goal.returns-clause-content
+returns-clause-content c = grind (arith, common_steps)

@@ -1,3 +1,4 @@
+use Rattle.std.proofs.lemmas.Grind.{common_steps}
 use Rattle.std.proofs.Common.{◌≡◌, length, arith}
 use Rattle.tsdb_script.proofs.Cells.{finished, map-reverse}
 use Rattle.tsdb_script.proofs.meaning.cells.Goals as goal
@@ -11,3 +12,6 @@ pub returns-clause-literals : goal.returns-clause-literals
 returns-clause-literals c =
     let none : length c.loop-measurement.literals.items ≡ 0 = omega (arith, c.in_default.ensures.cases, c.loop-measurement.invariant.paired) in
     rw (c.reverse.ensures.items, map-reverse) (finished c.loop-measurement.literals.items _ c.args.literals.items none c.loop-measurement.invariant.literals)
+
+pub loop-measurement-preserved : goal.loop-measurement-preserved
+loop-measurement-preserved c = grind (arith, common_steps)

@@ -1,3 +1,4 @@
+use Rattle.std.proofs.lemmas.Grind.{common_steps}
 use Rattle.std.proofs.Common.{◌≡◌, ◌≤◌, length, refl, arith, ap, ◌∙◌}
 use Rattle.tsdb_script.specs.Meaning.{Measurement}
 use Rattle.tsdb_script.proofs.WordLists.{bad_at, good_next, next, passed_on}
@@ -23,3 +24,6 @@ loop-word-preserved c =
       good = good_next (Measurement c.args.device.now) _ _ _ c.loop-word-test.true c.word-item.is c.loop-word.invariant.good
           (c.in_ok-name.ensures.found.1, (c.room_of-room.ensures c.word-item.result c.in_ok-name.ensures.found.1).1 short);
     }
+
+pub returns-clause-found : goal.returns-clause-found
+returns-clause-found c = grind (arith, common_steps)

@@ -1,3 +1,5 @@
+use Rattle.std.proofs.Common.{arith, rules}
+use Rattle.std.proofs.lemmas.Grind.{common_steps}
 use Rattle.tsdb_script.proofs.ReadingLemmas.{well_formed_lines}
 use Rattle.tsdb_script.proofs.ScriptLemmas.{begin, more_command, more_skipped, refuses}
 use Rattle.tsdb_script.proofs.SessionLemmas.{none_different}
@@ -26,3 +28,48 @@ loop-rest-preserved c =
 
 pub returns-clause-good : goal.returns-clause-good
 returns-clause-good c = well_formed_lines c.loop-rest.invariant.front c.loop-rest.script.items c.loop-rest.invariant.gives
+
+pub first_line-requires : goal.first_line-requires
+first_line-requires c = search rules
+
+pub overflow_sub-end : goal.overflow_sub-end
+overflow_sub-end c = grind (arith, common_steps)
+
+pub overflow_add-number : goal.overflow_add-number
+overflow_add-number c = search rules
+
+pub read_line-requires : goal.read_line-requires
+read_line-requires c = search rules
+
+pub push-requires-clause-sessions : goal.push-requires-clause-sessions
+push-requires-clause-sessions c = search rules
+
+pub push-requires-clause-room : goal.push-requires-clause-room
+push-requires-clause-room c = search rules
+
+pub returns-in_err-push-in-Ok-Some-clause-found : goal.returns-in_err-push-in-Ok-Some-clause-found
+returns-in_err-push-in-Ok-Some-clause-found c = search rules
+
+pub returns-in_err-push-in-Ok-Some-clause-good : goal.returns-in_err-push-in-Ok-Some-clause-good
+returns-in_err-push-in-Ok-Some-clause-good c = search rules
+
+pub returns-in_err-push-in-Ok-Some-clause-bad : goal.returns-in_err-push-in-Ok-Some-clause-bad
+returns-in_err-push-in-Ok-Some-clause-bad c = search rules
+
+pub returns-in-Err-clause-found : goal.returns-in-Err-clause-found
+returns-in-Err-clause-found c = search rules
+
+pub returns-in-Err-clause-good : goal.returns-in-Err-clause-good
+returns-in-Err-clause-good c = search rules
+
+pub loop-rest-smaller-in_ok-push-in-Ok-Some : goal.loop-rest-smaller-in_ok-push-in-Ok-Some
+loop-rest-smaller-in_ok-push-in-Ok-Some c = grind (arith, common_steps)
+
+pub loop-rest-smaller : goal.loop-rest-smaller
+loop-rest-smaller c = grind (arith, common_steps)
+
+pub returns-clause-found : goal.returns-clause-found
+returns-clause-found c = grind (arith, common_steps)
+
+pub returns-clause-bad : goal.returns-clause-bad
+returns-clause-bad c = search rules
