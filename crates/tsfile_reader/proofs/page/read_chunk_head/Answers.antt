@@ -1,4 +1,5 @@
-use Rattle.std.proofs.Common.{◌≡◌, false, rules}
+use Rattle.std.proofs.lemmas.Grind.{common_steps}
+use Rattle.std.proofs.Common.{◌≡◌, false, rules, arith}
 use Rattle.std.proofs.lemmas.Result.{err_from_is_err_and}
 use Rattle.tsdb_base.specs.Values.{is_suitable}
 use Rattle.tsdb_fields.proofs.Parts.{part_fault, parts_of}
@@ -27,3 +28,9 @@ returns-then-not-suits c = record {
       let unfit : is_suitable k.data_type k.encoding ≡ false = search rules in
       unsuited c.args.rest.bytes.now c.in-Some.fields.bytes.now m.behind.bytes.now k.behind.bytes.now m.measurement k.data_type k.encoding c.in-Some.ensures.bytes m.ensures.exact.0.bytes m.ensures.exact.1 k.ensures.exact.0.bytes unfit;
 }
+
+pub returns-in_err-measurement : goal.returns-in_err-measurement
+returns-in_err-measurement c = grind (arith, common_steps)
+
+pub returns : goal.returns
+returns c = grind (arith, common_steps)

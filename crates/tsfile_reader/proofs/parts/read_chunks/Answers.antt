@@ -1,3 +1,4 @@
+use Rattle.std.proofs.lemmas.Grind.{common_steps}
 use Rattle.std.proofs.Common.{ℕ, List, Vec, Global, subst, sym, ◌∙◌, arith}
 use Rattle.std.proofs.lemmas.Bool.{false≢true}
 use Rattle.std.proofs.lemmas.Result.{err_from_is_err_and}
@@ -97,3 +98,6 @@ chunks-preserved c =
 pub returns : goal.returns
 returns c =
     all_chunks c.args.device.now c.args.rest c.chunks.left c.chunks.entries.items c.chunks.invariant (λ mark. let held = c.begins_with.ensures.1 mark in false≢true (sym c.chunks-test.false ∙ held))
+
+pub chunks-smaller : goal.chunks-smaller
+chunks-smaller c = grind (arith, common_steps)

@@ -1,3 +1,4 @@
+use Rattle.std.proofs.lemmas.Grind.{common_steps}
 use Rattle.std.proofs.Common.{◌≡◌, ℕ, List, Vec, Global, length, subst, sym, ap, ◌∙◌, arith}
 use Rattle.std.proofs.lemmas.List.{nil_from_length}
 use Rattle.std.proofs.lemmas.Result.{err_from_is_err_and}
@@ -72,3 +73,6 @@ returns c =
     let empty = sym c.is_empty.ensures ∙ c.groups-test.false in
     let none : length c.groups.left.bytes.now ≡ 0 = grind (arith, empty) in
     all_groups c.args.rest c.groups.left c.groups.entries.items c.groups.last c.requires c.groups.invariant (nil_from_length c.groups.left.bytes.now none)
+
+pub groups-smaller : goal.groups-smaller
+groups-smaller c = grind (arith, common_steps)

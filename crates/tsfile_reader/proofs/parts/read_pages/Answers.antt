@@ -1,3 +1,4 @@
+use Rattle.std.proofs.lemmas.Grind.{common_steps}
 use Rattle.std.proofs.Common.{ℕ, List, Vec, Global, length, arith, sym, ap, subst}
 use Rattle.tsdb_base.specs.declared.point.Point.{Point}
 use Rattle.tsdb_fields.specs.declared.rest.Rest.{Rest}
@@ -49,3 +50,6 @@ returns-in-Err-read_next_page c =
     let e = c.args.encoding in
     stop (page_bytes e) (AreLaterPoints t c.pages.pages) c.pages.left (λ (v : Vec Point Global). v.items) c.in-Err-read_next_page.fault c.of_part-in-Err-read_next_page.result c.pages.left.at (λ (r : Pages × Rest). ReadsPages t e c.args.rest r.1 r.0) (λ at. (m : List ℕ) → StopsBehind (Part.Chunk m t e) c.args.rest at)
     c.in-Err-read_next_page.ensures.parts c.of_part-in-Err-read_next_page.ensures (λ none. none_later t e c.args.rest c.pages.left c.pages.pages c.pages.invariant (c.begins_with.ensures.0 c.pages-test.true) none)
+
+pub pages-smaller : goal.pages-smaller
+pages-smaller c = grind (arith, common_steps)
