@@ -1,4 +1,5 @@
-use Rattle.std.proofs.Common.{◌≡◌, ◌+◌, ap, ◌∙◌, length, rules, subst, sym}
+use Rattle.std.proofs.lemmas.Grind.{common_steps}
+use Rattle.std.proofs.Common.{◌≡◌, ◌+◌, ap, ◌∙◌, length, rules, subst, sym, arith}
 use Rattle.std.proofs.lemmas.List.{length-append}
 use Rattle.tsdb_pages.specs.File.{chunk_start}
 use Rattle.tsdb_stats.specs.Statistics.{AreStatsOf}
@@ -15,3 +16,60 @@ returns-clause-chunk c =
       is = record { place_is = place; stats = subst (AreStatsOf c.args.points.now) (sym c.in_ok-copy.ensures) c.in_ok-stats.ensures.found };
       pages_are = search rules;
     }
+
+pub stats_of-requires : goal.stats_of-requires
+stats_of-requires c = search rules
+
+pub returns-in_err-stats-clause-bytes : goal.returns-in_err-stats-clause-bytes
+returns-in_err-stats-clause-bytes c = search rules
+
+pub returns-in_err-stats-clause-chunk : goal.returns-in_err-stats-clause-chunk
+returns-in_err-stats-clause-chunk c = search rules
+
+pub returns-in_err-stats-clause-kept : goal.returns-in_err-stats-clause-kept
+returns-in_err-stats-clause-kept c = grind (arith, common_steps)
+
+pub returns-in_err-append_chunk_start-clause-bytes : goal.returns-in_err-append_chunk_start-clause-bytes
+returns-in_err-append_chunk_start-clause-bytes c = search rules
+
+pub returns-in_err-append_chunk_start-clause-chunk : goal.returns-in_err-append_chunk_start-clause-chunk
+returns-in_err-append_chunk_start-clause-chunk c = search rules
+
+pub returns-in_err-append_chunk_start-clause-kept : goal.returns-in_err-append_chunk_start-clause-kept
+returns-in_err-append_chunk_start-clause-kept c = search rules
+
+pub returns-in_err-copy-clause-bytes : goal.returns-in_err-copy-clause-bytes
+returns-in_err-copy-clause-bytes c = search rules
+
+pub returns-in_err-copy-clause-chunk : goal.returns-in_err-copy-clause-chunk
+returns-in_err-copy-clause-chunk c = search rules
+
+pub returns-in_err-copy-clause-kept : goal.returns-in_err-copy-clause-kept
+returns-in_err-copy-clause-kept c = search rules
+
+pub append_page-requires-clause-suits : goal.append_page-requires-clause-suits
+append_page-requires-clause-suits c = search rules
+
+pub append_page-requires-clause-points : goal.append_page-requires-clause-points
+append_page-requires-clause-points c = search rules
+
+pub returns-in_err-append_page-clause-kept : goal.returns-in_err-append_page-clause-kept
+returns-in_err-append_page-clause-kept c = grind (arith, common_steps)
+
+pub vec-requires : goal.vec-requires
+vec-requires c = search rules
+
+pub returns-in_err-pages-clause-bytes : goal.returns-in_err-pages-clause-bytes
+returns-in_err-pages-clause-bytes c = search rules
+
+pub returns-in_err-pages-clause-chunk : goal.returns-in_err-pages-clause-chunk
+returns-in_err-pages-clause-chunk c = search rules
+
+pub returns-in_err-pages-clause-kept : goal.returns-in_err-pages-clause-kept
+returns-in_err-pages-clause-kept c = grind (arith, common_steps)
+
+pub returns-clause-bytes : goal.returns-clause-bytes
+returns-clause-bytes c = grind (arith, common_steps)
+
+pub returns-clause-kept : goal.returns-clause-kept
+returns-clause-kept c = grind (arith, common_steps)

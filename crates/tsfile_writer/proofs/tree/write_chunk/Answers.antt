@@ -1,4 +1,5 @@
-use Rattle.std.proofs.Common.{◌≡◌, List, get_or, refl, sym, ap, subst, ◌∙◌, take, rules}
+use Rattle.std.proofs.lemmas.Grind.{elements}
+use Rattle.std.proofs.Common.{◌≡◌, List, get_or, refl, sym, ap, subst, ◌∙◌, take, rules, arith}
 use Rattle.tsdb_pages.specs.declared.tree.Page.{Page}
 use Rattle.tsfile_writer.specs.Steps.{ArePages}
 use Rattle.tsfile_writer.proofs.Appending.{all_taken, chunk_begun, chunk_ended, first_taken, more_taken, page_added}
@@ -43,3 +44,6 @@ returns c = record {
       })
       c.in_ok-push.ensures.items;
 }
+
+pub put_page-requires-clause-points : goal.put_page-requires-clause-points
+put_page-requires-clause-points c = grind (arith, elements)

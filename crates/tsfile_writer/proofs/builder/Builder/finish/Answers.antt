@@ -1,4 +1,5 @@
-use Rattle.std.proofs.Common.{subst}
+use Rattle.std.proofs.lemmas.Grind.{common_steps}
+use Rattle.std.proofs.Common.{subst, arith}
 use Rattle.tsdb_path.specs.Nodes.{device_of, measurement_of}
 use Rattle.tsfile_writer.specs.Building.{IsGiven}
 use Rattle.tsfile_writer.proofs.Closing.{file_whole}
@@ -11,3 +12,9 @@ returns c = λ given was.
     let closed = c.in_ok-close.ensures.ok given (subst (IsGiven given self.bytes.items self.entries.items) c.in-Some.is was) in
     let made = c.in_ok-bytes.ensures in
     file_whole given (device_of path) (measurement_of path) c.close.new.into.items c.in_ok-bytes.bytes.items made.0 made.1 c.close.new.entries.items closed made.2 made.3
+
+pub unreachable-requires : goal.unreachable-requires
+unreachable-requires c = grind (arith, common_steps)
+
+pub append_end-requires : goal.append_end-requires
+append_end-requires c = grind (arith, common_steps)

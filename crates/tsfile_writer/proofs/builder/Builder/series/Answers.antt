@@ -1,4 +1,5 @@
-use Rattle.std.proofs.Common.{◌≡◌, ℕ, List, [], ◌∷◌, ◌++◌, None, ◌⊎◌, ◌∙◌, ap, subst}
+use Rattle.std.proofs.lemmas.Grind.{common_steps}
+use Rattle.std.proofs.Common.{◌≡◌, ℕ, List, [], ◌∷◌, ◌++◌, None, ◌⊎◌, ◌∙◌, ap, subst, arith}
 use Rattle.std.specs.Prelude.{Option}
 use Rattle.tsdb_path.specs.Nodes.{device_of, measurement_of}
 use Rattle.tsdb_pages.specs.File.{head}
@@ -32,3 +33,6 @@ returns-clause-ok c = λ given was.
           let begun = first_begun w.extend_from_slice.new.self.items entries path c.args.data_type c.args.encoding there empty.no_entries c.requires.nodes c.requires.suits made.good in
           rw (w.self-is, made.chunk, empty.none) (state_at (series_at path c.args.data_type c.args.encoding ∷ []) w.extend_from_slice.new.self.items entries path next.path c.args.data_type next.data_type c.args.encoding next.encoding None [] next.points.items begun made.path made.data_type made.encoding made.points)
     ]
+
+pub close-requires : goal.close-requires
+close-requires c = grind (arith, common_steps)

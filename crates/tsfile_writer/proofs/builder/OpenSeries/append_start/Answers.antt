@@ -1,4 +1,5 @@
-use Rattle.std.proofs.Common.{◌≡◌, ℕ, ◌++◌, Bool, sym, ◌∙◌, ap}
+use Rattle.std.proofs.lemmas.Grind.{common_steps}
+use Rattle.std.proofs.Common.{◌≡◌, ℕ, ◌++◌, Bool, sym, ◌∙◌, ap, arith}
 use Rattle.std.specs.declared.vec.Vec.{Vec}
 use Rattle.std.specs.Global.{Global}
 use Rattle.std.proofs.lemmas.List.{append-nil}
@@ -19,3 +20,12 @@ returns-clause-ok c =
     in
     started c.append_chunk.result self.path self.data_type self.encoding self.points.items c.args.entries.now c.args.into.now.items c.if-begins_group.into.items c.append_chunk.new.into.items c.begins_group.result
     c.in_ok-device.device c.in_ok-measurement.measurement c.deref.result.now c.in_ok-device.ensures.value c.in_ok-measurement.ensures.value c.deref.ensures.value c.begins_group.ensures first c.append_chunk.ensures.bytes c.append_chunk.ensures.chunk
+
+pub returns-in_err-device-clause-kept : goal.returns-in_err-device-clause-kept
+returns-in_err-device-clause-kept c = grind (arith, common_steps)
+
+pub returns-in_err-measurement-clause-kept : goal.returns-in_err-measurement-clause-kept
+returns-in_err-measurement-clause-kept c = grind (arith, common_steps)
+
+pub returns-clause-kept : goal.returns-clause-kept
+returns-clause-kept c = grind (arith, common_steps)

@@ -1,0 +1,18 @@
+use Rattle.std.proofs.Common.{arith}
+use Rattle.std.proofs.lemmas.Grind.{common_steps}
+use Rattle.tsfile_writer.proofs.layout.append_chunk_start.Goals as goal
+
+pub returns-in_err-push-clause-kept : goal.returns-in_err-push-clause-kept
+returns-in_err-push-clause-kept c = grind (arith, common_steps)
+
+pub returns-in_err-write_name-clause-kept : goal.returns-in_err-write_name-clause-kept
+returns-in_err-write_name-clause-kept c = grind (arith, common_steps)
+
+pub returns-in_err-put-clause-kept : goal.returns-in_err-put-clause-kept
+returns-in_err-put-clause-kept c = grind (arith, common_steps)
+
+pub returns-clause-ok : goal.returns-clause-ok
+returns-clause-ok c = grind (arith, common_steps)
+
+pub returns-clause-kept : goal.returns-clause-kept
+returns-clause-kept c = grind (arith, common_steps)
