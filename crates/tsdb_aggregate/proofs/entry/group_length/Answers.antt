@@ -1,3 +1,4 @@
+use Rattle.std.proofs.lemmas.Grind.{common_steps}
 use Rattle.std.proofs.Common.{rules, ◌≡◌, false, inl, inr, refl, arith}
 use Rattle.tsdb_aggregate.proofs.EntryLemmas.{all_later, cut_at, cut_first, one_more}
 use Rattle.tsdb_aggregate.specs.declared.entry.Entry.{Entry}
@@ -17,3 +18,9 @@ loop-place-preserved c = (
   all_later c.args.entries.now c.loop-place.place c.index-entries-place.result _ _ c.later_end-end.result _ (omega arith) c.index-entries-place.is refl (search rules) c.later_end-end.ensures c.loop-place.invariant.0,
   one_more (λ (e : Entry). e.piece.now.clean ≡ false) c.args.entries.now c.loop-place.place c.index-entries-place.result (omega arith) c.index-entries-place.is c.loop-place.invariant.1 c.if-piece.false,
 )
+
+pub loop-place-init : goal.loop-place-init
+loop-place-init c = grind (arith, common_steps)
+
+pub returns-clause-cut : goal.returns-clause-cut
+returns-clause-cut c = grind (arith, common_steps)

@@ -1,3 +1,4 @@
+use Rattle.std.proofs.lemmas.Grind.{common_steps}
 use Rattle.std.proofs.Common.{rules, ◌≡◌, ◌∷◌, ◌<◌, [], Err, true, length, subst, arith}
 use Rattle.std.specs.Prelude.{All, List, ◌≤◌}
 use Rattle.std.specs.Vec.Iter.{into_iter_items}
@@ -84,3 +85,12 @@ returns-then-is_filled-clause-spends g c =
 
 pub returns-then-is_filled-clause-filled : goal.returns-then-is_filled-clause-filled
 returns-then-is_filled-clause-filled g c = subst (IsFilled true) c.deref.ensures.value (c.is_filled.ensures c.if-is_filled.true)
+
+pub returns-then-branch-clause-moved : goal.returns-then-branch-clause-moved
+returns-then-branch-clause-moved g c = grind (arith, common_steps)
+
+pub returns-then-branch-clause-most : goal.returns-then-branch-clause-most
+returns-then-branch-clause-most g c = grind (arith, common_steps)
+
+pub returns-in_default-clause-moved : goal.returns-in_default-clause-moved
+returns-in_default-clause-moved g c = grind (arith, common_steps)

@@ -1,4 +1,5 @@
-use Rattle.std.proofs.Common.{rules, ◌≡◌, ◌<◌, length, get_or}
+use Rattle.std.proofs.lemmas.Grind.{common_steps}
+use Rattle.std.proofs.Common.{rules, ◌≡◌, ◌<◌, length, get_or, arith}
 use Rattle.tsdb_merge.proofs.SourceLemmas.{others_of}
 use Rattle.tsdb_aggregate.specs.Lanes.{lane_left}
 use Rattle.tsdb_aggregate.proofs.LaneLemmas.{left_after, left_before}
@@ -21,3 +22,9 @@ returns-clause-others g c =
     let below : c.args.source < length list = c.requires.source in
     let is : old ≡ get_or list c.args.source old = search rules in
     others_of list c.args.source old c.fill_lane.new.lane below is (lane_left held)
+
+pub returns-clause-most : goal.returns-clause-most
+returns-clause-most g c = grind (arith, common_steps)
+
+pub returns-clause-spends : goal.returns-clause-spends
+returns-clause-spends g c = grind (arith, common_steps)
