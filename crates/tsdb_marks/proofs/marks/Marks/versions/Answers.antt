@@ -1,4 +1,5 @@
-use Rattle.std.proofs.Common.{◌≡◌, ◌∙◌, ◌++◌, ℕ, List, ap, sym, subst, take, drop, length, ◌-◌}
+use Rattle.std.proofs.lemmas.Grind.{common_steps}
+use Rattle.std.proofs.Common.{◌≡◌, ◌∙◌, ◌++◌, ℕ, List, ap, sym, subst, take, drop, length, ◌-◌, arith}
 use Rattle.std.specs.Prelude.{nat_eq}
 use Rattle.std.specs.List.{filter}
 use Rattle.std.proofs.lemmas.List.{take_all}
@@ -34,3 +35,12 @@ returns-clause-has c = λ mark there.
     ∙ ap (λ vs. has_version vs mark) c.loop-path.invariant
     ∙ ap (λ ps. has_version (versions_in ps c.args.self.now.marks) mark) (take_all c.loop-path.path-index c.args.series.now c.loop-path-test.false)
     ∙ versions_in-has c.args.series.now c.args.self.now.marks mark rising there
+
+pub returns-in_err-extend_from_slice-clause-rising : goal.returns-in_err-extend_from_slice-clause-rising
+returns-in_err-extend_from_slice-clause-rising c = grind (arith, common_steps)
+
+pub returns-in_err-push_versions-clause-rising : goal.returns-in_err-push_versions-clause-rising
+returns-in_err-push_versions-clause-rising c = grind (arith, common_steps)
+
+pub returns-clause-rising : goal.returns-clause-rising
+returns-clause-rising c = grind (arith, common_steps)

@@ -1,3 +1,4 @@
+use Rattle.std.proofs.lemmas.Grind.{common_steps}
 use Rattle.std.proofs.Common.{◌<◌, ◌≤◌, ⊎_elim, List, subst, sym, arith, get_or}
 use Rattle.std.proofs.lemmas.Bool.{cases_lt}
 use Rattle.std.proofs.lemmas.List.{get_or_default}
@@ -42,3 +43,6 @@ returns-after-loop-at-clause-unmet c = λ none.
     (unmet_steps steps c.args.from c.args.to c.args.born c.count_until-first.result c.count_until-first.ensures
     (λ k d e. let v = c.version_before.ensures.last k d e in omega (arith, v, c.if-version_before-born.false))
     (λ k d low within starts. c.loop-at.invariant.old k d low (omega (arith, within, c.loop-at-test.false))))
+
+pub loop-at-preserved : goal.loop-at-preserved
+loop-at-preserved c = grind (arith, common_steps)

@@ -1,3 +1,4 @@
+use Rattle.std.proofs.lemmas.Grind.{common_steps}
 use Rattle.std.proofs.Common.{◌≡◌, ◌∙◌, ◌<◌, List, map, length, get_or, subst, sym, ap, arith}
 use Rattle.std.specs.List.{All}
 use Rattle.std.proofs.lemmas.List.{get_or-map, length-map}
@@ -39,3 +40,6 @@ loop-run-preserved c =
       | else-run-born-via-then-run-born+else-meets w ↦ push (w.meets.ensures.unmet w.if-meets.false)
       | else-run-born-via-else-run-born w ↦ push (λ m low high. let le = run_up_to (steps_of c.run-item.result) m in omega (arith, le, good.newest, w.if-run-born.false))
     ]
+
+pub returns-clause-unmet : goal.returns-clause-unmet
+returns-clause-unmet c = grind (arith, common_steps)
