@@ -45,7 +45,7 @@ const LAST: u64 = 112;
 
 const WHOLE: &[Pair] = &[(1, 11), (2, 22), (3, 33), (6, 26), (9, 39)];
 
-const CASES: [Case; 7] = [
+static CASES: [Case; 7] = [
     // At 2 the newer file wins, and at 3 the part in memory. 5 is deleted. At 6 the older point is deleted and the newer
     // one is not. At 8 a later deletion meets the newer file, and at 9 it is older than the part in memory.
     Case {
@@ -117,7 +117,7 @@ const LATE: Sources = Sources {
 };
 
 /// Behind a pull at most the rest of one page of each file is held: first 2, and 1 and 5.
-const LATE_CASES: [Case; 3] = [
+static LATE_CASES: [Case; 3] = [
     Case {
         from: 0,
         to: 10,
@@ -164,7 +164,7 @@ fn first_wrong(alloc: Global, sources: &Sources, cases: &[Case]) -> Result<Optio
 
 /// Which calls of the port fail, from the first to the second, and how many points are found before. Of the calls up to
 /// the twelfth two store the files and five open each of them. A page takes two calls.
-const FAILURES: [(u64, u64, usize); 3] = [(3, 16, 0), (17, 18, 2), (19, 20, 3)];
+static FAILURES: [(u64, u64, usize); 3] = [(3, 16, 0), (17, 18, 2), (19, 20, 3)];
 
 /// The first number of a call that fails where something else is found, or another fault comes.
 fn first_wrong_failure(alloc: Global, rows: &[(u64, u64, usize)]) -> Result<Option<u64>, Fail> {

@@ -45,7 +45,7 @@ struct Row {
 
 const A: [bool; 2] = [true, false];
 
-const FLUSH: [Step; 3] = [Step::Freeze, Step::TakeFlush, Step::CommitFlush];
+static FLUSH: [Step; 3] = [Step::Freeze, Step::TakeFlush, Step::CommitFlush];
 
 const ROWS: [Row; 15] = [
     // a reader that takes the sequence sources one after another gives time 0 after time 1

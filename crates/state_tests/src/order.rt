@@ -21,7 +21,7 @@ pub enum Part {
     LiveSeries,
 }
 
-pub const PARTS: [Part; 15] = [
+pub static PARTS: [Part; 15] = [
     Part::SequencePartsRise,
     Part::BelowTheWatermark,
     Part::AboveTheWatermark,

@@ -10,7 +10,7 @@ const A: [bool; 2] = [true, false];
 const B: [bool; 2] = [false, true];
 
 /// What follows on a state, as far as it can be made.
-const SCRIPTS: [&[Step]; 13] = [
+static SCRIPTS: [&[Step]; 13] = [
     &[Step::Insert(A, 0), Step::Freeze],
     &[
         Step::Insert(A, 1),

@@ -115,7 +115,7 @@ struct Start {
     steps: [&'static [Step]; 2],
 }
 
-const STARTS: [Start; 7] = [
+static STARTS: [Start; 7] = [
     Start {
         devices: [0, 1],
         limit: 2,
