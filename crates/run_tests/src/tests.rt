@@ -28,7 +28,7 @@ const EXAMPLE: &str = "1 create timeseries root.g.d.s with datatype=INT64,encodi
 const PRINTED: &str = "session 1\nok\nok\ntime,s\n1,5\nrows 1\norder 1 1 1\n";
 
 /// Scripts whose first line creates `root.g.d.s`, and what they print.
-const EXAMPLES: [(&str, &str); 4] = [
+static EXAMPLES: [(&str, &str); 4] = [
     // Aggregates over an empty range, and over a series whose points are deleted.
     (
         "1 select count(s),max_value(s),min_time(s) from root.g.d where time>5 and time<5
@@ -232,7 +232,7 @@ fn is_faulty(
 }
 
 /// Lists of words that the program does not know.
-const BAD_WORDS: [&[&str]; 8] = [
+static BAD_WORDS: [&[&str]; 8] = [
     &[],
     &["run"],
     &["run", "d", "e"],
@@ -263,7 +263,7 @@ fn known_words(alloc: Global, lists: &[&[&str]]) -> Result<Option<usize>, Fail> 
 const LOG: Part = Part::Log;
 
 /// Statuses with their codes and their texts.
-const STATUSES: [(Status, u8, &str); 8] = [
+static STATUSES: [(Status, u8, &str); 8] = [
     (Status::Done, 0, ""),
     (Status::Memory, 1, "memory\n"),
     (
@@ -306,7 +306,7 @@ fn words_and_statuses(rt: HostRuntime) -> Result<(), Fail> {
 }
 
 /// Second lines that are bad, and the kinds of their faults.
-const BAD_LINES: [(&str, u8); 5] = [
+static BAD_LINES: [(&str, u8); 5] = [
     ("1 insert into root.g.d(timestamp,s) values(1.5,2)", 5),
     ("1 compact outer", 3),
     ("0 select s from root.g.d", 1),
@@ -339,7 +339,7 @@ fn bad_scripts(rt: HostRuntime) -> Result<(), Fail> {
 
 /// Runs on one store, one behind another. A source that fails leaves the store untouched. Where the sink fails, the
 /// commands were executed all the same.
-const FAULTY: [(&str, Faulty<'static>); 3] = [
+static FAULTY: [(&str, Faulty<'static>); 3] = [
     (EXAMPLE, (&[1], &[], Status::Source, 0, "")),
     (EXAMPLE, (&[], &[2], Status::Sink, 3, "session 1\n")),
     (

@@ -1,5 +1,5 @@
 //! Tests of tsdb_print: that each call succeeds with ample memory, and texts worked out by hand. Depends on tsdb_print,
-//! tsdb_map, tsdb_path and tsdb_base.
+//! tsdb_model, tsdb_path and tsdb_base.
 
 use std::alloc::Global;
 use tsdb_base::{Aggregate, Answer, FileNumber, List, Memory, Range, Space, Stamp, Text, Value};

@@ -1,4 +1,4 @@
-//! For tests alone: lines of text as commands, and replies in words. Depends on tsdb_map and tsdb_script.
+//! For tests alone: lines of text as commands, and replies in words. Depends on tsdb_model and tsdb_script.
 //!
 //! A table of commands is a `const` of lines, and a small loop takes them one after another, so that a test with many
 //! cases has no more to prove than one with few:

@@ -1,5 +1,5 @@
-//! What the plain map answers to the changes of an engine, by what is in memory. Depends on tsdb_base, tsdb_path, tsdb_map,
-//! tsdb_log, tsdb_state, tsdb_memory, tsdb_rows and tsdb_logged. There is no code but laws.
+//! What the plain map answers to the changes of an engine, by what is in memory. Depends on tsdb_base,
+//! tsdb_model, tsdb_log, tsdb_state, tsdb_memory, tsdb_rows and tsdb_logged. There is no code but laws.
 #![tactic(auto)]
 
 mod laws;

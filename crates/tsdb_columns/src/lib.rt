@@ -1,6 +1,6 @@
 //! One series as a stream of points over files and points in memory, read page by page. Depends on tsdb_base,
-//! tsdb_path, tsdb_map, tsdb_index, tsdb_pages, tsfile_reader, tsdb_marks, tsdb_layers, tsdb_merge, tsdb_aggregate and
-//! tsdb_outside.
+//! tsdb_path, tsdb_model, tsdb_index, tsdb_pages, tsfile_reader, tsdb_marks, tsdb_layers, tsdb_merge, tsdb_aggregate
+//! and tsdb_outside.
 //!
 //! A source is a file or a part in memory. Sources stand from the lowest to the highest priority, and at each time the
 //! last source with a point that no mark deletes wins. A page is read when the merge comes to it, and only where its

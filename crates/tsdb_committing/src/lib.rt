@@ -1,7 +1,7 @@
 //! What the end of a flush is to the engine state: the files that were built for it are told, the flush can be
-//! committed with them, and they join the files that a core keeps. Depends on tsdb_base, tsdb_map, tsdb_outside, tsdb_plan,
-//! tsdb_layers, tsdb_state, tsdb_images, tsdb_memory, tsdb_logged, tsdb_jobs, tsdb_built, tsdb_flushing, tsdb_kept and
-//! tsdb_held. There is no code but laws.
+//! committed with them, and they join the files that a core keeps. Depends on tsdb_base, tsdb_model, tsdb_outside,
+//! tsdb_plan, tsdb_layers, tsdb_state, tsdb_images, tsdb_memory, tsdb_logged, tsdb_jobs, tsdb_built, tsdb_flushing,
+//! tsdb_kept and tsdb_held. There is no code but laws.
 #![tactic(auto)]
 
 mod laws;

@@ -1,5 +1,5 @@
 //! The inputs of a compaction among the files that a core keeps, what its job has of memory, and its ends. Depends on
-//! tsdb_base, tsdb_path, tsdb_map, tsdb_marks, tsdb_memory, tsdb_outside, tsdb_plan, tsdb_jobs, tsdb_compactions,
+//! tsdb_base, tsdb_path, tsdb_model, tsdb_marks, tsdb_memory, tsdb_outside, tsdb_plan, tsdb_jobs, tsdb_compactions,
 //! tsdb_kept and, for their definitions and lemmas, tsdb_pinning, tsdb_committing and tsdb_flushing.
 //!
 //! - A job has a right to read each of its inputs. Rights are tokens: the end of the job gives them back.

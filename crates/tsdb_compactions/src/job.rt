@@ -1,4 +1,4 @@
-//! A compaction that is out. Depends on tsdb_base, tsdb_map, tsdb_marks and tsdb_outside.
+//! A compaction that is out. Depends on tsdb_base, tsdb_model, tsdb_marks and tsdb_outside.
 
 use tsdb_base::{FileNumber, List, Space, Stamp};
 use tsdb_marks::Marks;

@@ -1,4 +1,4 @@
-//! A builder that is given the series of a part. Depends on tsdb_base, tsdb_map and tsfile_writer.
+//! A builder that is given the series of a part. Depends on tsdb_base, tsdb_model and tsfile_writer.
 ghost use Rattle.std.specs.Prelude.{◌≡◌, ◌≤◌, ◌<◌, List, [], ◌∷◌, ◌++◌, true, length, map, IfOk, OnOk};
 ghost use Rattle.std.specs.List.{AllByRecursion as Each};
 ghost use Rattle.tsdb_base.specs.Values.{is_suitable};

@@ -1,4 +1,4 @@
-//! The job of a flush, taken from what is in memory. Depends on tsdb_base, tsdb_path, tsdb_map, tsdb_memtable,
+//! The job of a flush, taken from what is in memory. Depends on tsdb_base, tsdb_path, tsdb_model, tsdb_memtable,
 //! tsdb_memory, tsdb_state, tsdb_jobs and tsdb_built.
 //!
 //! A job has the oldest frozen pair, and the series that have a point in it, in the order of a tree: by the bytes of

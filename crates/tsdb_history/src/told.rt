@@ -1,4 +1,4 @@
-//! A reply of a history. Depends on tsdb_map.
+//! A reply of a history. Depends on tsdb_model.
 use tsdb_model::Reply;
 
 /// A reply, with the session of its command and the command's place in that session, counted from 0.

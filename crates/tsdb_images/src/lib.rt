@@ -1,5 +1,5 @@
-//! What a stop leaves of an engine with files. Depends on `tsdb_base`, `tsdb_path`, `tsdb_map`, `tsdb_log`,
-//! `tsdb_outside`, `tsdb_frames`, `tsdb_pages`, `tsdb_layers`, `tsdb_state` and `tsdb_replay`.
+//! What a stop leaves of an engine with files. Depends on `tsdb_base`, `tsdb_model`, `tsdb_log`,
+//! `tsdb_outside`, `tsdb_frames`, `tsdb_layers`, `tsdb_state` and `tsdb_replay`.
 //!
 //! `specs/Stored.antt` says when an engine is stored: the acknowledged records of its log lead to its store, it is in
 //! order, and each of its files is kept. The laws say that each step keeps it stored, and that whatever a stop leaves

@@ -1,4 +1,4 @@
-//! A flush that is out, and its files. Depends on tsdb_base, tsdb_map, tsdb_memtable, tsdb_path, tsdb_plan and
+//! A flush that is out, and its files. Depends on tsdb_base, tsdb_model, tsdb_memtable, tsdb_path, tsdb_plan and
 //! tsdb_outside.
 
 use std::alloc::Global;

@@ -1,5 +1,5 @@
 //! Layers of points, in the order of their priority, under deletion marks. Depends on `tsdb_base`, `tsdb_path`,
-//! `tsdb_map` and `tsdb_marks`.
+//! `tsdb_model` and `tsdb_marks`.
 //!
 //! The definitions stand in `specs/`: `Places` has places and contents, `Marks` which places a list of marks leaves,
 //! `Layers` the value at a place, and `Order` the order of layers in time. There is no code but laws.

@@ -1,5 +1,5 @@
-//! The lines of files in a listing of a store, by what is kept of each file. Depends on tsdb_base, tsdb_map, tsdb_plan,
-//! tsdb_layers, tsdb_state, tsdb_images, tsdb_kept and tsdb_held.
+//! The lines of files in a listing of a store, by what is kept of each file. Depends on tsdb_base, tsdb_model,
+//! tsdb_plan, tsdb_layers, tsdb_state, tsdb_kept and tsdb_held.
 #![tactic(auto)]
 
 mod laws;

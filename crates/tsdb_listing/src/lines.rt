@@ -1,4 +1,4 @@
-//! The lines of files, by their entries. Depends on tsdb_base, tsdb_map and tsdb_plan.
+//! The lines of files, by their entries. Depends on tsdb_base, tsdb_model and tsdb_plan.
 ghost use Rattle.std.specs.Prelude.{◌≡◌, ◌++◌, fold, map, IfOk, OnOk};
 ghost use Rattle.std.specs.Int.{int_max, int_min};
 ghost use Rattle.tsdb_base.specs.declared.ids.Space.TheVariants.{Sequence, Unsequence};

@@ -1,7 +1,7 @@
 //! What an engine holds in memory, and what each record of the log does to it, in two phases: `prepare` takes all the
-//! memory that the effect needs, and `finish` takes none. So a running engine writes the record in between, and a replay
-//! does not. Depends on `tsdb_base`, `tsdb_path`, `tsdb_map`, `tsdb_log`, `tsdb_marks`, `tsdb_memtable`, `tsdb_layers`
-//! and `tsdb_state`.
+//! memory that the effect needs, and `finish` takes none. So a running engine writes the record in between, and a
+//! replay does not. Depends on `tsdb_base`, `tsdb_path`, `tsdb_model`, `tsdb_log`, `tsdb_marks`, `tsdb_memtable`,
+//! `tsdb_layers` and `tsdb_state`.
 //!
 //! A contract sees a `Store`. Which states of the engine have it as their part in memory says one relation,
 //! `IsMemoryOf`; an effect leads from each such state to the state after the record. Files are no part of it: where an

@@ -1,5 +1,6 @@
 //! The replay of a log, before any file is looked at: what the records give, one after another. Depends on `tsdb_base`,
-//! `tsdb_path`, `tsdb_map`, `tsdb_log`, `tsdb_memtable`, `tsdb_layers`, `tsdb_state`, `tsdb_replay` and `tsdb_memory`.
+//! `tsdb_path`, `tsdb_model`, `tsdb_log`, `tsdb_memtable`, `tsdb_layers`, `tsdb_state`, `tsdb_replay` and
+//! `tsdb_memory`.
 //!
 //! An `Opening` has what is in memory, the two lists of files by number and born, and the numbers that records have
 //! named. Which state of replay it shows says one relation, `IsOpeningOf`; a record leads from each such state to the

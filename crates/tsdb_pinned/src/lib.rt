@@ -1,4 +1,4 @@
-//! What a pin has in the worlds that it stands for. Depends on tsdb_base, tsdb_map, tsdb_memory, tsdb_kept,
+//! What a pin has in the worlds that it stands for. Depends on tsdb_base, tsdb_model, tsdb_memory, tsdb_kept,
 //! tsdb_pinning, tsdb_state, tsdb_layers, tsdb_merge and tsdb_sources.
 //!
 //! The points of a column are the merge of what its sources have in the range and no mark deletes. Laws say that these

@@ -1,4 +1,4 @@
-//! Pins: what a query reads, taken at one moment and given back later. Depends on tsdb_base, tsdb_path, tsdb_map,
+//! Pins: what a query reads, taken at one moment and given back later. Depends on tsdb_base, tsdb_path, tsdb_model,
 //! tsdb_marks, tsdb_memtable, tsdb_outside, tsdb_plan, tsdb_layers, tsdb_state, tsdb_memory, tsdb_kept and tsdb_held.
 //!
 //! - A pin has a column for each item. A column has a right to read each listed file that has its series, and copies of

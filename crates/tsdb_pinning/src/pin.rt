@@ -1,4 +1,4 @@
-//! A pin that is out. Depends on tsdb_base, tsdb_map, tsdb_marks and tsdb_outside.
+//! A pin that is out. Depends on tsdb_base, tsdb_model, tsdb_marks and tsdb_outside.
 
 use tsdb_base::{Aggregate, FileNumber, List, Point, Range, Stamp};
 use tsdb_marks::Marks;

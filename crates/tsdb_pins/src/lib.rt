@@ -1,4 +1,4 @@
-//! What a query answers from its pin. Depends on tsdb_base, tsdb_path, tsdb_map, tsdb_outside, tsdb_pinning,
+//! What a query answers from its pin. Depends on tsdb_base, tsdb_path, tsdb_model, tsdb_outside, tsdb_pinning,
 //! tsdb_columns, tsdb_lines, tsdb_aggregate, tsdb_pinned and tsdb_replay.
 //!
 //! A query takes neither the core nor any lock: it reads the pin's files through the port of its session. A column is a

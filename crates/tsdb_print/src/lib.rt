@@ -1,5 +1,5 @@
-//! The text of the output: replies, the headings of sessions, and the order of the commands. Depends on tsdb_base,
-//! tsdb_path and tsdb_map.
+//! The text of the output: replies, the headings of sessions, and the order of the commands. Depends on tsdb_base
+//! and tsdb_model.
 #![tactic(auto)]
 
 mod append;

@@ -1,4 +1,4 @@
-//! The aggregates of a query. Depends on `query`, tsdb_core, tsdb_aggregate and tsdb_pins.
+//! The aggregates of a query. Depends on `query`, tsdb_core and tsdb_pins.
 ghost use Rattle.std.specs.Prelude.{◌≡◌, ◌≢◌, ℕ, ◌≤◌, false, true, IfOk, List, Option};
 ghost use Rattle.tsdb_base.specs.declared.answers.Answer.{Answer as AnswerOf};
 ghost use Rattle.tsdb_columns.specs.Files.{HasReason};

@@ -1,7 +1,7 @@
 //! What the end of a compaction is to the engine state: the output that was built for it is told, and the job can be
-//! committed with it, or ends without its record. Depends on tsdb_base, tsdb_outside, tsdb_plan, tsdb_layers, tsdb_log,
-//! tsdb_state, tsdb_images, tsdb_memory, tsdb_logged, tsdb_jobs, tsdb_compactions, tsdb_held and tsdb_committing.
-//! There is no code but laws.
+//! committed with it, or ends without its record. Depends on tsdb_base, tsdb_outside, tsdb_layers, tsdb_state,
+//! tsdb_images, tsdb_memory, tsdb_logged, tsdb_jobs, tsdb_compactions, tsdb_held and tsdb_committing. There is no code
+//! but laws.
 #![tactic(auto)]
 
 mod laws;

@@ -1,5 +1,5 @@
 //! Replay: what the records of a log lead to, where a log is damaged, and what a log and the files beside it stand for.
-//! Depends on `tsdb_base`, `tsdb_path`, `tsdb_map`, `tsdb_log`, `tsdb_frames`, `tsdb_outside`, `tsdb_pages`,
+//! Depends on `tsdb_base`, `tsdb_path`, `tsdb_model`, `tsdb_log`, `tsdb_frames`, `tsdb_outside`, `tsdb_pages`,
 //! `tsdb_layers` and `tsdb_state`.
 //!
 //! It has definitions (`specs/`) and laws. `Replays` is replay over any step, and what a log stands for of which a

@@ -1,5 +1,5 @@
 //! The rows of inserts against what is in memory: how a row is read, when it fits the working pair, and that it can
-//! then be put. Depends on `tsdb_base`, `tsdb_path`, `tsdb_map`, `tsdb_log`, `tsdb_memtable`, `tsdb_state` and
+//! then be put. Depends on `tsdb_base`, `tsdb_path`, `tsdb_model`, `tsdb_log`, `tsdb_memtable`, `tsdb_state` and
 //! `tsdb_memory`.
 //!
 //! An insert takes four calls: `cells_of` reads the row, or refuses it as the plain map does; `fits` says whether the

@@ -1,5 +1,5 @@
 //! Scripts: reads the bytes of a script as commands of sessions, or finds the first bad line and the kind of its fault.
-//! Depends on tsdb_base, tsdb_path and tsdb_map.
+//! Depends on tsdb_base, tsdb_path and tsdb_model.
 #![tactic(auto)]
 
 mod conditions;

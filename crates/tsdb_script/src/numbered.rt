@@ -1,4 +1,4 @@
-//! A command with the number of its session. Depends on tsdb_map.
+//! A command with the number of its session. Depends on tsdb_model.
 use tsdb_model::Command;
 
 /// A command of a session.

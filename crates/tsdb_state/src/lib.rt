@@ -1,4 +1,4 @@
-//! The engine state, its steps, and their laws. Depends on `tsdb_base`, `tsdb_path`, `tsdb_map`, `tsdb_marks`,
+//! The engine state, its steps, and their laws. Depends on `tsdb_base`, `tsdb_path`, `tsdb_model`, `tsdb_marks`,
 //! `tsdb_memtable`, `tsdb_plan`, `tsdb_log` and `tsdb_layers`.
 //!
 //! The definitions stand in `specs/`: `State` is the engine state, `Views` its layers, `Worlds` its values and the

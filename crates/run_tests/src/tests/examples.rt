@@ -17,7 +17,7 @@ pub type Row = (&'static [&'static str], &'static str, &'static str);
 const SMALL: &[&str] = &["run", "--pair", "4", "--workers", "0", "d"];
 
 /// Runs, each on a new store.
-const ROWS: [Row; 11] = [
+static ROWS: [Row; 11] = [
     // A point at the last flushed time goes to the unsequence part, and wins.
     (
         RUN,
@@ -208,7 +208,7 @@ fn files_and_memory(rt: HostRuntime) -> Result<(), Fail> {
 
 /// Runs on one store, one behind another. The watermark of the device stays where it was, although its last point is
 /// gone; what was not flushed is in the log.
-const RUNS: [Row; 4] = [
+static RUNS: [Row; 4] = [
     (
         RUN,
         "C; I 10 1; flush; I 20 1; flush; I 15 1; flush; delete from root.g.d.s where time=20; I 30 9",
@@ -237,7 +237,7 @@ const RUNS: [Row; 4] = [
 
 /// Two runs on one store, with a compaction in the first. No file has a point behind 15 then, and the watermark is still
 /// 20.
-const COMPACTED: [Row; 2] = [
+static COMPACTED: [Row; 2] = [
     (
         RUN,
         "C; I 10 1; flush; I 20 1; flush; I 15 1; flush; delete from root.g.d.s where time=20; \
@@ -287,7 +287,7 @@ fn numbers_at_their_end(rt: HostRuntime) -> Result<(), Fail> {
 }
 
 /// The log of a created series, an insert of 5 at time 1, a freeze and a flush to file 1.
-const LOG: [u8; 82] = [
+static LOG: [u8; 82] = [
     1, 0, 0, 0, 15, 1, 0, 10, 114, 111, 111, 116, 46, 103, 46, 100, 46, 115, 2, 0, // at 0
     1, 0, 0, 0, 28, 2, 0, 0, 0, 0, 0, 0, 0, 1, 0, 1, 0, 0, 0, 0, 0, 0, 0, 0, 2, 0, 0, 0, 0, 0, 0,
     0, 5, // at 20
@@ -323,7 +323,7 @@ const FIRST_FILE: Part = Part::File(FileNumber(1));
 /// How many bytes of file 1 there are, which calls fail, and how the run ends.
 type Listed = (usize, &'static [u64], Status);
 
-const LISTED: [Listed; 4] = [
+static LISTED: [Listed; 4] = [
     (234, &[], Status::Done),
     (
         233,

@@ -25,7 +25,7 @@ enum Act {
     Flush,
 }
 
-const STATEMENTS: [(&str, Act); 9] = [
+static STATEMENTS: [(&str, Act); 9] = [
     (
         "create timeseries root.g.d.s with datatype=INT64,encoding=PLAIN",
         Act::Create(Series::Numbers),

@@ -32,7 +32,7 @@ type Shown = (&'static str, u64, u64);
 
 /// What a select returns behind each line that is accepted. The opening lists the files; then an accepted command makes
 /// two writes and two syncs, and no other makes any.
-const SHOWN: [Shown; 7] = [
+static SHOWN: [Shown; 7] = [
     ("path\n", 0, 5),
     ("time,s\nrows 0\n", 4, 9),
     ("time,s\n10,1\nrows 1\n", 8, 13),
@@ -212,7 +212,7 @@ const DOUBTFUL_PRINTED: &str =
     "session 1\nok\ndevice\ntime,s\nrows 0\nok\ntime,s\n2,6\nrows 1\norder 1 1 1 1 1\n";
 
 /// The second insert begins behind call 9 and is acknowledged behind call 15.
-const IN_DOUBT: [Shown; 3] = [
+static IN_DOUBT: [Shown; 3] = [
     ("time,s\nrows 0\n", 5, 15),
     ("time,s\n1,5\nrows 1\n", 5, 11),
     ("time,s\n2,6\nrows 1\n", 14, u64::MAX),

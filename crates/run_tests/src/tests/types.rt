@@ -15,7 +15,7 @@ struct Row {
     is_ordered: bool,
 }
 
-const ROWS: [Row; 4] = [
+static ROWS: [Row; 4] = [
     Row {
         data_type: "BOOLEAN",
         encoding: "RLE",
