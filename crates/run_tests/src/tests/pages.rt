@@ -1,8 +1,9 @@
 //! A worked example: 2,000 points of one series in one file, which has two pages then.
-use super::{CREATE, RUN, new_place, prints};
-use mem_outside::SteadyPlace;
-use std::alloc::{AllocError, Global};
-use std::test::Fail;
+use super::places::{NEW, place_of};
+use super::runs::{CREATE, INSERT, Run, is_right, prints};
+use super::text::Text;
+use std::alloc::Global;
+use tsdb_outside::Place;
 
 /// How many points there are: at each time from 1 on the value that is the time.
 const POINTS: u64 = 2_000;
@@ -27,61 +28,55 @@ marks 0
 ";
 
 /// A second run: a point in memory takes the place of one in a file.
-const LATE: &str = "1 insert into root.g.d(timestamp,s) values(1,-7)
-1 select count(s) from root.g.d
-1 select min_value(s) from root.g.d
-";
+const LATE: Run = Run::Replies(
+    "I 1 -7; select count(s) from root.g.d; select min_value(s) from root.g.d",
+    "ok / count(s) / 2000 / min_value(s) / -7",
+);
 
-const LATE_PRINTED: &str = "session 1\nok\ncount(s)\n2000\nmin_value(s)\n-7\norder 1 1 1\n";
-
-/// A first part, so many times a second one, and a last one.
-fn text_of(
-    alloc: Global,
-    first: &str,
-    times: u64,
-    part: &str,
-    last: &str,
-) -> Result<String, AllocError> {
-    let mut text = String::from_str(alloc, first)?;
-    for _ in 0..times {
-        text.push_str(part)?;
-    }
-    text.push_str(last)?;
-    Ok(text)
-}
-
-/// The first run's script.
-fn first_script(alloc: Global) -> Result<String, AllocError> {
-    let mut script = String::from_str(alloc, CREATE)?;
+/// Puts the first run's script.
+fn put_script(script: &mut Text) {
+    script.put(&[CREATE]);
     for time in 1..=POINTS {
-        let line = format!(in alloc;
-            "1 insert into root.g.d(timestamp,s) values({time},{time})\n"
-        )?;
-        script.push_str(line.as_str())?;
+        script.put(&[INSERT]);
+        script.put_number(time);
+        script.put(&[","]);
+        script.put_number(time);
+        script.put(&[")\n"]);
     }
-    script.push_str(COUNTED)?;
-    Ok(script)
+    script.put(&[COUNTED]);
 }
 
-/// What it prints.
-fn first_printed(alloc: Global) -> Result<String, AllocError> {
-    let replies = text_of(alloc, "session 1\nok\n", POINTS, "ok\n", COUNTS)?;
-    let order = text_of(alloc, "order 1 1 1 1 1", POINTS, " 1", "\n")?;
-    format!(in alloc; "{replies}{order}")
+/// Puts what it prints.
+fn put_printed(printed: &mut Text) {
+    printed.put(&["session 1\nok\n"]);
+    for _ in 0..POINTS {
+        printed.put(&["ok\n"]);
+    }
+    printed.put(&[COUNTS, "order 1 1 1 1 1"]);
+    for _ in 0..POINTS {
+        printed.put(&[" 1"]);
+    }
+    printed.put(&["\n"]);
 }
 
-/// Whether the first run on the place prints what it is to print.
-fn is_first(alloc: Global, place: &mut SteadyPlace) -> Result<bool, Fail> {
-    let script = first_script(alloc)?;
-    let printed = first_printed(alloc)?;
-    prints(alloc, place, RUN, script.as_str(), printed.as_str())
+/// Whether both runs, one behind the other on the place, print what they should.
+fn print_both<P: Place>(alloc: Global, place: &mut P) -> (bool, bool) {
+    let mut script = Text::new(alloc);
+    put_script(&mut script);
+    let mut printed = Text::new(alloc);
+    put_printed(&mut printed);
+    let first = prints(alloc, place, script, &printed);
+    (first, is_right(alloc, place, &LATE))
+}
+
+fn print_both_anew(alloc: Global) -> (bool, bool) {
+    match place_of(alloc, &NEW) {
+        Ok(mut place) => print_both(alloc, &mut place),
+        Err(_) => (false, false),
+    }
 }
 
 #[test]
-fn aggregates_of_a_file_of_two_pages(rt: HostRuntime) -> Result<(), Fail> {
-    let alloc = rt.alloc();
-    let mut place = new_place(alloc)?;
-    assert!(rt; is_first(alloc, &mut place)?);
-    assert!(rt; prints(alloc, &mut place, RUN, LATE, LATE_PRINTED)?);
-    Ok(())
+fn aggregates_of_a_file_of_two_pages(rt: HostRuntime) {
+    assert_eq!(rt; print_both_anew(rt.alloc()), (true, true));
 }

@@ -1,8 +1,8 @@
 //! All types and aggregates over a series without points, with one, and with many.
-
-use super::{prints_anew, push_all};
-use std::alloc::{AllocError, Global};
-use std::test::Fail;
+use super::courses::{expect_each, prints_anew};
+use super::runs::{INSERT, Run};
+use super::text::Text;
+use std::alloc::Global;
 
 /// A type: its name, an encoding that suits it, the literals that are written at 7, -2, 3 and once more at 3, and
 /// how the values at -2, 3 and 7 are printed.
@@ -52,97 +52,79 @@ const SELECTS: &str = "1 select s from root.g.d
 1 select min_value(s),max_value(s) from root.g.d
 ";
 
-const INSERT: &str = "1 insert into root.g.d(timestamp,s) values";
-
-/// Adds a script over a series of the type.
-fn add_script(text: &mut String, row: &Row) -> Result<(), AllocError> {
+/// Puts a script over a series of the type.
+fn put_script(script: &mut Text, row: &Row) {
     let [first, second, third, fourth] = row.literals;
     let create = "1 create timeseries root.g.d.s with datatype=";
-    push_all(
-        text,
-        &[create, row.data_type, ",encoding=", row.encoding, "\n"],
-    )?;
-    push_all(text, &[SELECTS, INSERT, "(7,", first, ")\n"])?;
-    push_all(text, &[SELECTS, INSERT, "(-2,", second, ")\n"])?;
-    push_all(text, &[INSERT, "(3,", third, ")\n"])?;
-    push_all(text, &[INSERT, "(3,", fourth, ")\n", SELECTS])
+    script.put(&[create, row.data_type, ",encoding=", row.encoding, "\n"]);
+    script.put(&[SELECTS, INSERT, "7,", first, ")\n"]);
+    script.put(&[SELECTS, INSERT, "-2,", second, ")\n"]);
+    script.put(&[INSERT, "3,", third, ")\n"]);
+    script.put(&[INSERT, "3,", fourth, ")\n", SELECTS]);
 }
 
-/// Adds what the selects print of rows, of these aggregates, and of these extremes.
-fn add_selected(
-    text: &mut String,
+/// Puts what the selects print of rows, of these aggregates, and of these extremes.
+fn put_selected(
+    printed: &mut Text,
     row: &Row,
     rows: &[&str],
     aggregates: &[&str],
     extremes: [&str; 2],
-) -> Result<(), AllocError> {
-    let [least, greatest] = extremes;
-    let heading = "\ncount(s),first_value(s),last_value(s),min_time(s),max_time(s)\n";
-    text.push_str("time,s\n")?;
-    push_all(text, rows)?;
-    text.push_str(heading)?;
-    push_all(text, aggregates)?;
+) {
+    printed.put(&["time,s\n"]);
+    printed.put(rows);
+    printed.put(&["\ncount(s),first_value(s),last_value(s),min_time(s),max_time(s)\n"]);
+    printed.put(aggregates);
     if row.is_ordered {
-        let heading = "\nmin_value(s),max_value(s)\n";
-        push_all(text, &[heading, least, ",", greatest, "\n"])
+        let [least, greatest] = extremes;
+        printed.put(&["\nmin_value(s),max_value(s)\n", least, ",", greatest, "\n"]);
     } else {
-        text.push_str("\ntype\n")
+        printed.put(&["\ntype\n"]);
     }
 }
 
-/// Adds what the script prints.
-fn add_output(text: &mut String, row: &Row) -> Result<(), AllocError> {
+/// Puts what the script prints.
+fn put_printed(printed: &mut Text, row: &Row) {
     let [first, second, third] = row.printed;
-    text.push_str("session 1\nok\n")?;
+    printed.put(&["session 1\nok\n"]);
     let none = "0,null,null,null,null";
-    add_selected(text, row, &["rows 0"], &[none], ["null", "null"])?;
-    text.push_str("ok\n")?;
+    put_selected(printed, row, &["rows 0"], &[none], ["null", "null"]);
+    printed.put(&["ok\n"]);
     let rows = ["7,", third, "\nrows 1"];
     let aggregates = ["1,", third, ",", third, ",7,7"];
-    add_selected(text, row, &rows, &aggregates, [third, third])?;
-    text.push_str("ok\nok\nok\n")?;
+    put_selected(printed, row, &rows, &aggregates, [third, third]);
+    printed.put(&["ok\nok\nok\n"]);
     let rows = ["-2,", first, "\n3,", second, "\n7,", third, "\nrows 3"];
     let aggregates = ["3,", first, ",", third, ",-2,7"];
-    add_selected(text, row, &rows, &aggregates, [first, second])?;
-    text.push_str("order 1 1 1 1 1 1 1 1 1 1 1 1 1 1\n")
+    put_selected(printed, row, &rows, &aggregates, [first, second]);
+    printed.put(&["order 1 1 1 1 1 1 1 1 1 1 1 1 1 1\n"]);
 }
 
-fn is_printed(alloc: Global, row: &Row) -> Result<bool, Fail> {
-    let mut script = String::new(alloc);
-    add_script(&mut script, row)?;
-    let mut printed = String::new(alloc);
-    add_output(&mut printed, row)?;
-    prints_anew(alloc, script.as_str(), printed.as_str())
-}
-
-/// The first of the types whose script prints something else.
-fn first_wrong(alloc: Global, rows: &[Row]) -> Result<Option<usize>, Fail> {
-    for (at, row) in rows.iter().enumerate() {
-        if !is_printed(alloc, row)? {
-            return Ok(Some(at));
-        }
-    }
-    Ok(None)
+fn is_printed(alloc: Global, row: &Row) -> bool {
+    let mut script = Text::new(alloc);
+    put_script(&mut script, row);
+    let mut printed = Text::new(alloc);
+    put_printed(&mut printed, row);
+    prints_anew(alloc, script, &printed)
 }
 
 #[test]
-fn types_and_aggregates(rt: HostRuntime) -> Result<(), Fail> {
-    assert_eq!(rt; first_wrong(rt.alloc(), &ROWS)?, None);
-    Ok(())
+fn types_and_aggregates(rt: HostRuntime) {
+    for row in ROWS.iter() {
+        assert!(rt; is_printed(rt.alloc(), row), "{}", row.data_type);
+    }
 }
 
 /// A least value of texts is refused, and so is a number that does not fit its series.
-const WRONG: &str = "1 create timeseries root.g.d.t with datatype=TEXT,encoding=DICTIONARY
-1 create timeseries root.g.d.i with datatype=INT32,encoding=RLE
-1 select min_value(t) from root.g.d
-1 insert into root.g.d(timestamp,i) values(1,2147483648)
-1 select i from root.g.d
-";
-
-const WRONG_PRINTED: &str = "session 1\nok\nok\ntype\ntype\ntime,i\nrows 0\norder 1 1 1 1 1\n";
+static WRONG: [Run; 1] = [Run::Replies(
+    "create timeseries root.g.d.t with datatype=TEXT,encoding=DICTIONARY; \
+     create timeseries root.g.d.i with datatype=INT32,encoding=RLE; \
+     select min_value(t) from root.g.d; insert into root.g.d(timestamp,i) values(1,2147483648); \
+     select i from root.g.d",
+    "ok / ok / type / type / time,i / rows 0",
+)];
 
 #[test]
-fn wrong_types(rt: HostRuntime) -> Result<(), Fail> {
-    assert!(rt; prints_anew(rt.alloc(), WRONG, WRONG_PRINTED)?);
-    Ok(())
+fn wrong_types(rt: HostRuntime) {
+    expect_each(&rt, rt.alloc(), &WRONG);
 }
