@@ -188,6 +188,20 @@ fn words_and_statuses(rt: HostRuntime) {
     }
 }
 
+/// Whether the status says this on standard error, and returns this code.
+fn reports(alloc: Global, status: Status, code: u8, text: &str) -> bool {
+    let mut err = Vec::new(alloc);
+    let returned = status.report(alloc, &mut err);
+    returned == code && err.as_slice() == text.as_bytes()
+}
+
+#[test]
+fn codes_and_their_texts(rt: HostRuntime) {
+    for (at, (status, code, text)) in STATUSES.iter().enumerate() {
+        assert!(rt; reports(rt.alloc(), *status, *code, text), "status {at}");
+    }
+}
+
 /// The first bad line is reported by its number and kind, and nothing is written.
 static BAD_LINES: [Run; 5] = [
     Run::Script(Script {

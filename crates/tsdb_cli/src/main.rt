@@ -3,12 +3,8 @@
 //! fs_outside.
 #![tactic(auto)]
 
-ghost use Rattle.std.specs.Prelude.{◌≡◌};
-ghost use Rattle.tsdb_run.specs.Status.{status_code};
-
 use fs_outside::{FsPlace, StdSink, StdSource};
 use std::alloc::Global;
-use std::io::Write;
 use std::process::ExitCode;
 use std::rt::Env;
 use std::{env, io};
@@ -47,21 +43,7 @@ fn start(rt: &HostRuntime) -> Status {
     }
 }
 
-/// Says how the run ended, and returns the exit code.
-fn report<W: Write>(alloc: Global, status: Status, err: &mut W) -> u8
-    ensures { result ≡ status_code status }
-{
-    if let Ok(text) = status.text(alloc) {
-        // Where standard error takes nothing, the exit code still tells.
-        let _ = err.write_all(&text);
-    }
-    status.code()
-}
-
 fn main(rt: HostRuntime) -> ExitCode {
     let status = start(&rt);
-    ExitCode::from(report(rt.alloc(), status, &mut rt.stderr()))
+    ExitCode::from(status.report(rt.alloc(), &mut rt.stderr()))
 }
-
-#[cfg(test)]
-mod tests;

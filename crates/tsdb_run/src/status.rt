@@ -3,6 +3,7 @@ ghost use Rattle.std.specs.Prelude.{◌≡◌, IfOk};
 ghost use Rattle.tsdb_run.specs.Status.{status_code, status_text};
 
 use std::alloc::Global;
+use std::io::Write;
 use tsdb_base::{List, Memory};
 use tsdb_history::Told;
 use tsdb_recover::Part;
@@ -68,6 +69,17 @@ impl Status {
             Status::Damaged { part, at } => return damaged_text(alloc, *part, *at),
         };
         Ok(Vec::from_slice(alloc, text)?)
+    }
+
+    /// Says on standard error how the run ended, and returns the exit code.
+    pub fn report<W: Write>(self, alloc: Global, err: &mut W) -> u8
+        ensures { result ≡ status_code self }
+    {
+        if let Ok(text) = self.text(alloc) {
+            // Where standard error takes nothing, the exit code still tells.
+            let _ = err.write_all(&text);
+        }
+        self.code()
     }
 }
 

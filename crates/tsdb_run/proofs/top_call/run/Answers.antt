@@ -1,3 +1,4 @@
+use Rattle.std.proofs.Common.{rules}
 use Rattle.std.proofs.Common.{◌∙◌, Err, ap, arith, inl, inr, ⊎_elim, refl, subst, sym}
 use Rattle.std.specs.Prelude.{IfSome}
 use Rattle.tsdb_base.specs.Causes.{Rose}
@@ -184,3 +185,9 @@ returns-in-Err-clause-complete g c good =
     (ends_complete c.args.words.now left rose status
     (subst (EndsInput c.args.words.now left) (sym c.end_without_commands.ensures.status) c.in-Err.ensures.status)
     told.rose good)
+
+pub returns-in-Err-clause-devices : goal.returns-in-Err-clause-devices
+returns-in-Err-clause-devices c = search rules
+
+pub returns-in-Err-clause-place_untouched : goal.returns-in-Err-clause-place_untouched
+returns-in-Err-clause-place_untouched c = search rules
