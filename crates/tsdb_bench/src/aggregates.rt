@@ -2,12 +2,11 @@
 
 ghost use Rattle.std.specs.Prelude.{◌≡◌, length};
 
-use crate::fault::Fault;
+use crate::bench::Bench;
 use crate::pieces::Lists;
-use crate::table::{Rounds, row};
+use crate::points::even_points;
 use std::marker::Brand;
 use std::sync::ledger::{Blank, Ledger};
-use std::time::Instant;
 use tsdb_aggregate::{Piece, aggregate};
 use tsdb_base::{Aggregate, Point, Range, Steps, Value};
 use tsdb_stats::stats_of;
@@ -18,59 +17,42 @@ const ALL: Range = Range {
     to: i64::MAX,
 };
 
-/// So many points from a time on.
-fn points(rt: &HostRuntime, from: u64, length: u64) -> Result<Vec<Point>, Fault> {
-    let mut points = Vec::new(rt.alloc());
-    for step in 0..length {
-        let time = from.wrapping_add(step).cast_signed();
-        let value = Value::I64(time);
-        points.push(Point { time, value })?;
-    }
-    Ok(points)
-}
-
 /// A piece of a source of its own, with the statistics of its points.
-fn piece(points: &[Point], source: u32, clean: bool) -> Result<Piece, Fault> {
+fn piece(bench: &mut Bench, points: &[Point], source: u32, clean: bool) -> Option<Piece> {
     if points.is_empty() {
-        return Err(Fault::Unread);
+        return None;
     }
-    Ok(Piece {
-        stats: stats_of(points)?,
+    let stats = bench.ok(stats_of(points))?;
+    Some(Piece {
+        stats,
         source,
         clean,
     })
 }
 
-/// The aggregate, `many` times.
+/// Computes the aggregate `many` times.
 fn repeat<L: Ledger>(
-    rt: &HostRuntime,
+    bench: &mut Bench,
     name: Aggregate,
     pieces: &[Piece],
-    range: &Range,
     loader: &mut Lists,
     many: u64,
     blank: Blank,
-) -> Result<u64, Fault>
+)
     requires name { blank.name ≡ L.name }
     requires parts { blank.parts ≡ L.parts }
     requires one { blank.parts ≡ 1 }
     requires one_each { length loader.old.lists.items ≡ length pieces.now }
 {
+    let alloc = bench.alloc();
     let mut pages = Steps::<L>::new(blank);
-    let mut check = 0u64;
     for _ in 0..many {
-        if let Some(Value::I64(answer)) = aggregate(
-            rt.alloc(),
-            name,
-            pieces,
-            range,
-            loader,
-            &mut pages,
-        )? {
-            check = check.wrapping_add(answer.cast_unsigned());
+        match aggregate(alloc, name, pieces, &ALL, loader, &mut pages) {
+            Ok(Some(Value::I64(answer))) => bench.add(answer.cast_unsigned()),
+            Ok(_) => (),
+            Err(fault) => bench.fail(fault),
         }
     }
-    Ok(check)
 }
 
 /// Which pieces are made.
@@ -95,7 +77,7 @@ impl Layout {
 }
 
 /// What one row measures.
-#[derive(Drop)]
+#[derive(Clone, Copy)]
 struct Case {
     layout: Layout,
     name: Aggregate,
@@ -109,45 +91,39 @@ struct Case {
 }
 
 /// Folds the pieces of a case and prints its row.
-fn fold(
-    rt: &HostRuntime,
-    rounds: Rounds,
-    what: &str,
-    step: &str,
-    case: &Case,
-) -> Result<u64, Fault> {
-    let mut lists = Vec::new(rt.alloc());
-    let mut pieces = Vec::new(rt.alloc());
+fn fold(bench: &mut Bench, what: &str, step: &str, case: Case) {
+    let alloc = bench.alloc();
+    let mut pieces = Vec::new(alloc);
+    let mut loader = Lists {
+        lists: Vec::new(alloc),
+    };
     for source in 0..case.pieces {
         let start = case.layout.start(u64::from(source), case.length);
-        let list = points(rt, start, case.length)?;
-        pieces.push(piece(&list, source, case.layout == Layout::Clean)?)?;
-        lists.push(list)?;
+        let list = even_points(bench, start, 1, case.length);
+        if let Some(piece) = piece(bench, &list, source, case.layout == Layout::Clean) {
+            bench.push(&mut pieces, piece);
+        }
+        bench.push(&mut loader.lists, list);
     }
-    if pieces.len() != lists.len() {
-        return Err(Fault::Unread);
+    if loader.lists.len() == pieces.len() {
+        bench.start();
+        repeat::<Brand>(
+            bench,
+            case.name,
+            &pieces,
+            &mut loader,
+            case.repeats,
+            Blank::new(1),
+        );
+        bench.row(what, step, case.done.wrapping_mul(case.repeats));
     }
-    let mut loader = Lists { lists };
-    let start = Instant::now(rt)?;
-    let check = repeat::<Brand>(
-        rt,
-        case.name,
-        &pieces,
-        &ALL,
-        &mut loader,
-        case.repeats,
-        Blank::new(1),
-    )?;
-    let done = case.done.wrapping_mul(case.repeats);
-    row(rt, rounds, what, step, done, start)?;
-    Ok(check)
 }
 
 /// The rows of aggregates.
-pub fn aggregates(rt: &HostRuntime, rounds: Rounds) -> Result<u64, Fault> {
-    let (many, pieces, length, repeats) = match rounds {
-        Rounds::One => (4, 4, 4, 1),
-        Rounds::Many => (10_000, 1000, 1000, 100),
+pub fn aggregates(bench: &mut Bench) {
+    let (many, pieces, length, repeats) = match bench.is_quick() {
+        true => (4, 4, 4, 1),
+        false => (10_000, 1000, 1000, 100),
     };
     let clean = Case {
         layout: Layout::Clean,
@@ -165,8 +141,7 @@ pub fn aggregates(rt: &HostRuntime, rounds: Rounds) -> Result<u64, Fault> {
         repeats: 1,
         done: u64::from(pieces).wrapping_mul(length),
     };
-    let count = fold(rt, rounds, "count of 10,000 clean pieces", "pieces", &clean)?;
+    fold(bench, "count of 10,000 clean pieces", "pieces", clean);
     let what = "1,000 pieces of 1,000 points, half meet another";
-    let greatest = fold(rt, rounds, what, "points", &met)?;
-    Ok(count.wrapping_add(greatest).max(1))
+    fold(bench, what, "points", met);
 }

@@ -3,11 +3,9 @@
 //!
 //! A stream walks the tree of `LazyMerge`: a port has to be `Send`, so what reads through one is no supply.
 
-use crate::fault::Fault;
+use crate::bench::Bench;
 use crate::filled::{Rows, create, insert, serve_text};
 use crate::served::{InMemory, close, open, stream_all};
-use crate::table::{Rounds, row};
-use std::time::Instant;
 use tsdb_script::read_script;
 
 /// The files, and the points of each.
@@ -16,9 +14,8 @@ const FILES: u64 = 4;
 const POINTS: u64 = 250_000;
 
 /// Writes the files, whose times take turns.
-fn write_files(rt: &HostRuntime, served: &mut InMemory, count: u64) -> Result<u64, Fault> {
-    create(rt, served, 0, 1)?;
-    let mut check = 0u64;
+fn write_files(bench: &mut Bench, served: &mut InMemory, count: u64) {
+    create(bench, served, 0, 1);
     for first in 0..FILES {
         let rows = Rows {
             device: 0,
@@ -27,31 +24,29 @@ fn write_files(rt: &HostRuntime, served: &mut InMemory, count: u64) -> Result<u6
             step: FILES,
             count,
         };
-        insert(rt, served, rows)?;
-        check = check.wrapping_add(serve_text(rt, served, "1 flush\n")?);
+        insert(bench, served, rows);
+        serve_text(bench, served, "1 flush\n");
     }
-    Ok(check)
 }
 
-/// Writes the files, and prints the row of the stream over them.
-fn measure(rt: &HostRuntime, rounds: Rounds, served: &mut InMemory) -> Result<u64, Fault> {
-    let count = rounds.of(POINTS);
-    write_files(rt, served, count)?;
-    let script = read_script(rt.alloc(), b"1 select s000 from root.bench.d0\n")?;
-    let start = Instant::now(rt)?;
-    let taken = stream_all(rt.alloc(), served, &script)?;
+/// The row of the stream over the files.
+fn measure(bench: &mut Bench, served: &mut InMemory, count: u64) {
+    let script = read_script(bench.alloc(), b"1 select s000 from root.bench.d0\n");
+    let script = bench.list(script);
+    bench.start();
+    let taken = stream_all(bench, served, &script);
     let what = "4 files of 250 pages of 1,000 points, in memory";
-    row(rt, rounds, what, "stream", taken, start)?;
-    if taken != count.saturating_mul(FILES) {
-        return Err(Fault::Unread);
-    }
-    Ok(taken)
+    bench.row(what, "stream", taken);
+    bench.require(taken == count.saturating_mul(FILES));
 }
 
 /// The row of a stream over files.
-pub fn columns(rt: &HostRuntime, rounds: Rounds) -> Result<u64, Fault> {
-    let mut served = open(rt.alloc())?;
-    let measured = measure(rt, rounds, &mut served);
-    close(served);
-    measured
+pub fn columns(bench: &mut Bench) {
+    let count = bench.rounds(POINTS);
+    let opened = open(bench.alloc());
+    if let Some(mut served) = bench.ok(opened) {
+        write_files(bench, &mut served, count);
+        measure(bench, &mut served, count);
+        close(served);
+    }
 }

@@ -1,47 +1,48 @@
 //! The speed of the four encodings, at pages of 1,000 values. It depends on their crates.
 
-ghost use Rattle.std.specs.Prelude.{◌≤◌, length, vec_len, IfOk};
+ghost use Rattle.std.specs.Prelude.{◌≤◌, length, vec_len};
 
-use crate::fault::Fault;
+use crate::bench::Bench;
 use crate::numbers::next;
-use crate::table::{Rounds, measured};
 use std::alloc::Global;
-use std::time::Instant;
 use tsdb_base::{DecodeFault, Memory, Text};
 
 /// The values of a page.
 const PAGE: u64 = 1000;
 
 /// A page of numbers: of any 64 bits, or times about 1,000 apart.
-fn page(rt: &HostRuntime, is_time: bool) -> Result<Vec<i64>, Fault>
-    ensures { IfOk result (λ values. vec_len values ≤ 1000) }
+fn page(bench: &mut Bench, is_time: bool) -> Vec<i64>
+    ensures { vec_len result ≤ 1000 }
 {
-    let mut values = Vec::new(rt.alloc());
+    let mut values = Vec::new(bench.alloc());
     let mut seed = 7u64;
     let mut time = 1_700_000_000_000u64;
     for _ in 0..PAGE {
         seed = next(seed);
         time = time.wrapping_add(1000 + (seed >> 60));
-        values.push(if is_time { time } else { seed }.cast_signed())?;
+        bench.push(&mut values, if is_time { time } else { seed }.cast_signed());
     }
     values.truncate(1000);
-    Ok(values)
+    values
 }
 
 /// A page of texts of eight bytes, of which `different` differ.
-fn texts(rt: &HostRuntime, different: u64) -> Result<Vec<Text>, Fault>
-    ensures { IfOk result (λ values. vec_len values ≤ 1000) }
+fn texts(bench: &mut Bench, different: u64) -> Vec<Text>
+    ensures { vec_len result ≤ 1000 }
 {
-    let mut values = Vec::new(rt.alloc());
+    let alloc = bench.alloc();
+    let mut values = Vec::new(alloc);
     let mut seed = 7u64;
     for _ in 0..PAGE {
         seed = next(seed);
         let place = (seed >> 32).checked_rem(different).unwrap_or(0);
         let bytes = place.wrapping_add(0x3030_3030_3030_3030).to_be_bytes();
-        values.push(Text::new(rt.alloc(), &bytes)?)?;
+        if let Some(text) = bench.ok(Text::new(alloc, &bytes)) {
+            bench.push(&mut values, text);
+        }
     }
     values.truncate(1000);
-    Ok(values)
+    values
 }
 
 /// A page in one encoding.
@@ -85,91 +86,46 @@ fn append(alloc: Global, form: Form, page: Values, into: &mut Vec<u8>) -> Result
     }
 }
 
-/// The bytes of a page.
-fn encoded(alloc: Global, form: Form, page: Values) -> Result<Vec<u8>, Memory>
-    requires numbers { length page.numbers.now ≤ 1000 }
-    requires texts { length page.texts.now ≤ 1000 }
-{
-    let mut bytes = Vec::new(alloc);
-    append(alloc, form, page, &mut bytes)?;
-    Ok(bytes)
+/// Adds the last of the numbers that were decoded.
+fn add_last(bench: &mut Bench, decoded: Result<Vec<i64>, DecodeFault>) {
+    if let Some(values) = bench.ok(decoded) {
+        bench.add(values.last().copied().unwrap_or(0).cast_unsigned());
+    }
 }
 
-/// A number that depends on the numbers that were decoded: the last one.
-fn last_of(decoded: Result<Vec<i64>, DecodeFault>) -> Result<u64, DecodeFault> {
-    let values = decoded?;
-    Ok(values.last().copied().unwrap_or(0).cast_unsigned())
-}
-
-/// How many texts were decoded.
-fn count_of(decoded: Result<Vec<Text>, DecodeFault>) -> Result<u64, DecodeFault> {
-    let texts = decoded?;
-    Ok(texts.len() as u64)
-}
-
-/// Decodes a page, and gives a number that depends on it.
-fn decode(alloc: Global, form: Form, bytes: &[u8]) -> Result<u64, DecodeFault> {
+/// Decodes a page, and adds a number that depends on it.
+fn decode(bench: &mut Bench, form: Form, bytes: &[u8]) {
+    let alloc = bench.alloc();
     match form {
-        Form::PlainNumbers => last_of(enc_plain::decode_i64(alloc, bytes)),
-        Form::PlainTexts => count_of(enc_plain::decode_text(alloc, bytes)),
-        Form::Runs => last_of(enc_rle::decode_i64(alloc, bytes)),
-        Form::Differences => last_of(enc_ts2diff::decode_i64(alloc, bytes)),
-        Form::Dictionary => count_of(enc_dict::decode_text(alloc, bytes)),
+        Form::PlainNumbers => add_last(bench, enc_plain::decode_i64(alloc, bytes)),
+        Form::PlainTexts => bench.add_length(enc_plain::decode_text(alloc, bytes)),
+        Form::Runs => add_last(bench, enc_rle::decode_i64(alloc, bytes)),
+        Form::Differences => add_last(bench, enc_ts2diff::decode_i64(alloc, bytes)),
+        Form::Dictionary => bench.add_length(enc_dict::decode_text(alloc, bytes)),
     }
-}
-
-/// The row of encoding a page.
-fn encode_row(
-    rt: &HostRuntime,
-    rounds: Rounds,
-    what: &str,
-    form: Form,
-    page: Values,
-) -> Result<u64, Fault>
-    requires numbers { length page.numbers.now ≤ 1000 }
-    requires texts { length page.texts.now ≤ 1000 }
-{
-    let many = rounds.of(2000);
-    let mut check = 0u64;
-    let start = Instant::now(rt);
-    for _ in 0..many {
-        let bytes = encoded(rt.alloc(), form, page)?;
-        check = check.wrapping_add(bytes.len() as u64);
-    }
-    measured(rt, rounds, what, "encode", many * PAGE, start, check)
-}
-
-/// The row of decoding a page.
-fn decode_row(
-    rt: &HostRuntime,
-    rounds: Rounds,
-    what: &str,
-    form: Form,
-    bytes: &[u8],
-) -> Result<u64, Fault> {
-    let many = rounds.of(2000);
-    let mut check = 0u64;
-    let start = Instant::now(rt);
-    for _ in 0..many {
-        check = check.wrapping_add(decode(rt.alloc(), form, bytes)?);
-    }
-    measured(rt, rounds, what, "decode", many * PAGE, start, check)
 }
 
 /// The rows of a page in one encoding.
-fn both_rows(
-    rt: &HostRuntime,
-    rounds: Rounds,
-    what: &str,
-    form: Form,
-    page: Values,
-) -> Result<u64, Fault>
+fn both_rows(bench: &mut Bench, what: &str, form: Form, page: Values)
     requires numbers { length page.numbers.now ≤ 1000 }
     requires texts { length page.texts.now ≤ 1000 }
 {
-    let check = encode_row(rt, rounds, what, form, page)?;
-    let bytes = encoded(rt.alloc(), form, page)?;
-    Ok(check.wrapping_add(decode_row(rt, rounds, what, form, &bytes)?))
+    let alloc = bench.alloc();
+    let many = bench.rounds(2000);
+    bench.start();
+    for _ in 0..many {
+        let mut bytes = Vec::new(alloc);
+        bench.note(append(alloc, form, page, &mut bytes));
+        bench.add(bytes.len() as u64);
+    }
+    bench.row(what, "encode", many.saturating_mul(PAGE));
+    let mut bytes = Vec::new(alloc);
+    bench.note(append(alloc, form, page, &mut bytes));
+    bench.start();
+    for _ in 0..many {
+        decode(bench, form, &bytes);
+    }
+    bench.row(what, "decode", many.saturating_mul(PAGE));
 }
 
 /// A page that is measured, and how the table calls it.
@@ -181,7 +137,7 @@ struct Measured {
     is_time: bool,
 }
 
-const PAGES: [Measured; 7] = [
+const PAGES: &[Measured] = &[
     Measured {
         what: "PLAIN of INT64",
         form: Form::PlainNumbers,
@@ -219,35 +175,11 @@ const PAGES: [Measured; 7] = [
     },
 ];
 
-/// The rows of these pages.
-fn all_rows(
-    rt: &HostRuntime,
-    rounds: Rounds,
-    pages: &[Measured],
-    wide: Values,
-    times: Values,
-) -> Result<u64, Fault>
-    requires wide_numbers { length wide.numbers.now ≤ 1000 }
-    requires wide_texts { length wide.texts.now ≤ 1000 }
-    requires times_numbers { length times.numbers.now ≤ 1000 }
-    requires times_texts { length times.texts.now ≤ 1000 }
-{
-    let mut check = 0u64;
-    for one in pages {
-        let done = match one.is_time {
-            true => both_rows(rt, rounds, one.what, one.form, times)?,
-            false => both_rows(rt, rounds, one.what, one.form, wide)?,
-        };
-        check = check.wrapping_add(done);
-    }
-    Ok(check)
-}
-
 /// The rows of the encodings.
-pub fn encodings(rt: &HostRuntime, rounds: Rounds) -> Result<u64, Fault> {
-    let numbers = page(rt, false)?;
-    let times = page(rt, true)?;
-    let texts = texts(rt, 100)?;
+pub fn encodings(bench: &mut Bench) {
+    let numbers = page(bench, false);
+    let times = page(bench, true);
+    let texts = texts(bench, 100);
     let wide = Values {
         numbers: &numbers,
         texts: &texts,
@@ -256,5 +188,10 @@ pub fn encodings(rt: &HostRuntime, rounds: Rounds) -> Result<u64, Fault> {
         numbers: &times,
         texts: &texts,
     };
-    Ok(all_rows(rt, rounds, &PAGES, wide, rising)?.max(1))
+    for one in PAGES {
+        match one.is_time {
+            true => both_rows(bench, one.what, one.form, rising),
+            false => both_rows(bench, one.what, one.form, wide),
+        }
+    }
 }

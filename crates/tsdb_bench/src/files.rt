@@ -5,18 +5,20 @@ ghost use Rattle.tsdb_base.specs.Values.{type_of};
 ghost use Rattle.tsdb_base.specs.Points.{IsRising};
 ghost use Rattle.tsfile_writer.specs.Driving.{HasLast, IsBare};
 
+use crate::bench::Bench;
 use crate::fault::Fault;
-use crate::numbers::next;
-use crate::table::{Rounds, each, row};
+use crate::memory::new_place;
+use crate::names;
+use crate::points::{Values, points};
 use fs_outside::FsPlace;
-use mem_outside::SteadyPlace;
+use std::alloc::Global;
 use std::fs;
-use std::time::Instant;
-use tsdb_base::{DataType, Encoding, FileNumber, List, Point, Value, is_rising};
+use tsdb_base::{DataType, Encoding, FileNumber, List, Point, is_rising};
+use tsdb_index::FileMeta;
 use tsdb_outside::{Files, Place, Port};
 use tsdb_pages::{Chunk, Group, Page, Tree, is_tree};
 use tsdb_path::{Name, Path};
-use tsfile_reader::{check_file, find_entry, read_meta};
+use tsfile_reader::{ReadFault, check_file, find_entry, read_meta};
 use tsfile_writer::{Builder, write_tree};
 
 /// The points of the file of one series.
@@ -30,23 +32,6 @@ const SERIES: u64 = 10_000;
 
 /// The folder of the store on the disk.
 const FOLDER: &str = "tsdb_bench_store";
-
-/// Points with times about 1,000 apart, and values that grow by about 1,000.
-fn points(rt: &HostRuntime, count: u64) -> Result<Vec<Point>, Fault> {
-    let mut points = Vec::new(rt.alloc());
-    let mut seed = 7u64;
-    let mut time = 1_700_000_000_000u64;
-    for place in 0..count {
-        seed = next(seed);
-        time = time.wrapping_add(1000 + (seed >> 60));
-        let value = place.wrapping_mul(1000).wrapping_add(seed >> 56);
-        points.push(Point {
-            time: time.cast_signed(),
-            value: Value::I64(value.cast_signed()),
-        })?;
-    }
-    Ok(points)
-}
 
 /// Whether these are points of INT64, in order of time.
 fn are_numbers(points: &[Point]) -> bool
@@ -75,67 +60,90 @@ fn fill(builder: &mut Builder, path: &Path, points: Vec<Point>) -> Result<(), Fa
 }
 
 /// The file of one series with these points.
-fn build(rt: &HostRuntime, path: &Path, points: Vec<Point>) -> Result<Vec<u8>, Fault> {
+fn build(alloc: Global, path: &Path, points: Vec<Point>) -> Result<Vec<u8>, Fault> {
     if path.nodes() < 2 {
         return Err(Fault::Unread);
     }
-    let mut builder = Builder::new(rt.alloc());
+    let mut builder = Builder::new(alloc);
     builder.series(path, DataType::Int64, Encoding::Ts2diff)?;
     fill(&mut builder, path, points)?;
     Ok(builder.finish()?)
 }
 
-/// The measurement of a chunk.
-fn measurement_of(rt: &HostRuntime, number: u64) -> Result<Name, Fault> {
-    let text = format!(in rt.alloc(); "s{number:04}")?;
-    Ok(Name::read(rt.alloc(), text.as_bytes())?)
+/// The file of one series, and the row of building it.
+fn build_large(bench: &mut Bench, count: u64) -> Vec<u8> {
+    let alloc = bench.alloc();
+    let Some(path) = bench.ok(Path::read(alloc, b"root.bench.d.s")) else {
+        return Vec::new(alloc);
+    };
+    let given = points(bench, Values::GrowingUnevenly, count);
+    bench.start();
+    let large = bench.list(build(alloc, &path, given));
+    bench.row("a file of 1,000,000 INT64 TS_2DIFF", "build", count);
+    large
 }
 
-/// One page of ten points.
-fn pages(rt: &HostRuntime) -> Result<List<Page>, Fault> {
+/// A chunk of one page of ten points.
+fn chunk(bench: &mut Bench, number: u64) -> Option<Chunk> {
+    let alloc = bench.alloc();
+    let measurement = names::name(bench, format!(in alloc; "s{number:04}"))?;
     let page = Page {
-        points: List::of(points(rt, 10)?),
+        points: List::of(points(bench, Values::GrowingUnevenly, 10)),
     };
-    Ok(List::of(vec![in rt.alloc(); page]?))
+    let mut pages = Vec::new(alloc);
+    bench.push(&mut pages, page);
+    Some(Chunk {
+        measurement,
+        data_type: DataType::Int64,
+        encoding: Encoding::Ts2diff,
+        pages: List::of(pages),
+    })
 }
 
-/// So many chunks of one page.
-fn chunks(rt: &HostRuntime, count: u64) -> Result<Vec<Chunk>, Fault> {
-    let mut chunks = Vec::new(rt.alloc());
+/// So many chunks of a device.
+fn tree(bench: &mut Bench, device: Path, count: u64) -> Tree {
+    let alloc = bench.alloc();
+    let mut chunks = Vec::new(alloc);
     for number in 0..count {
-        let measurement = measurement_of(rt, number)?;
-        let pages = pages(rt)?;
-        chunks.push(Chunk {
-            measurement,
-            data_type: DataType::Int64,
-            encoding: Encoding::Ts2diff,
-            pages,
-        })?;
+        if let Some(chunk) = chunk(bench, number) {
+            bench.push(&mut chunks, chunk);
+        }
     }
-    Ok(chunks)
-}
-
-/// One group of so many chunks.
-fn groups(rt: &HostRuntime, count: u64) -> Result<List<Group>, Fault> {
-    let device = Path::read(rt.alloc(), b"root.bench.d")?;
-    let chunks = List::of(chunks(rt, count)?);
-    let group = Group { device, chunks };
-    Ok(List::of(vec![in rt.alloc(); group]?))
-}
-
-/// A file of so many chunks of one page of ten points.
-fn many_chunks(rt: &HostRuntime, count: u64) -> Result<Vec<u8>, Fault> {
-    let tree = Tree {
-        groups: groups(rt, count)?,
+    let group = Group {
+        device,
+        chunks: List::of(chunks),
     };
-    if !is_tree(&tree) {
-        return Err(Fault::Unread);
+    let mut groups = Vec::new(alloc);
+    bench.push(&mut groups, group);
+    Tree {
+        groups: List::of(groups),
     }
-    Ok(write_tree(rt.alloc(), &tree)?)
+}
+
+/// A file of so many chunks.
+fn many_chunks(bench: &mut Bench, count: u64) -> Vec<u8> {
+    let alloc = bench.alloc();
+    let Some(device) = bench.ok(Path::read(alloc, b"root.bench.d")) else {
+        return Vec::new(alloc);
+    };
+    let tree = tree(bench, device, count);
+    if is_tree(&tree) {
+        bench.list(write_tree(alloc, &tree))
+    } else {
+        bench.fail(Fault::Unread);
+        Vec::new(alloc)
+    }
+}
+
+/// Where a store lies.
+#[derive(Clone, Copy)]
+enum Medium {
+    Memory,
+    Disk,
 }
 
 /// What is read of a file.
-#[derive(Clone, Copy, PartialEq, Eq)]
+#[derive(Clone, Copy)]
 enum Reading {
     /// All of it, each part tested.
     Whole,
@@ -147,242 +155,191 @@ enum Reading {
 
 impl Reading {
     /// How often a file is read so.
-    fn rounds(self) -> u64
-        ensures { 0 < result }
-    {
+    fn rounds(self) -> u64 {
         match self {
             Reading::Whole => 5,
             Reading::Index => 100,
             Reading::Entry => 1_000,
         }
     }
-}
 
-/// Finds the entry of one series, and returns its place.
-fn find_one<P: Port>(rt: &HostRuntime, port: &mut P, right: &P::Right) -> Result<u64, Fault>
-    requires { (P.Right.file right.now).store ≡ P.store port.old }
-    ensures { P.store port.new ≡ P.store port.old }
-{
-    let device = Path::read(rt.alloc(), b"root.bench.d")?;
-    let measurement = Name::read(rt.alloc(), b"s5000")?;
-    match find_entry(rt.alloc(), port, right, &device, &measurement)? {
-        Some(entry) => Ok(entry.place),
-        None => Ok(0),
-    }
-}
-
-/// Reads a file through the port, and returns its length or a place in it.
-fn read_file<P: Port>(
-    rt: &HostRuntime,
-    port: &mut P,
-    right: &P::Right,
-    reading: Reading,
-) -> Result<u64, Fault>
-    requires { (P.Right.file right.now).store ≡ P.store port.old }
-    ensures { P.store port.new ≡ P.store port.old }
-{
-    let meta = match reading {
-        Reading::Whole => check_file(rt.alloc(), port, right)?,
-        Reading::Index => read_meta(rt.alloc(), port, right)?,
-        Reading::Entry => return find_one(rt, port, right),
-    };
-    Ok(meta.size)
-}
-
-/// The rows of one file in the store of a port: how many points are checked a second, how many entries of its index are
-/// read, or how long it takes to find one.
-fn repeat<P: Port>(
-    rt: &HostRuntime,
-    rounds: Rounds,
-    port: &mut P,
-    right: &P::Right,
-    file: &FileOf,
-) -> Result<u64, Fault>
-    requires { (P.Right.file right.now).store ≡ P.store port.old }
-    ensures { P.store port.new ≡ P.store port.old }
-{
-    let many = rounds.of(file.reading.rounds());
-    let mut check = 0u64;
-    let start = Instant::now(rt)?;
-    for _ in 0..many {
-        check = check.wrapping_add(read_file(rt, port, right, file.reading)?);
-    }
-    match file.reading {
-        Reading::Entry => each(rt, rounds, file.what, file.step, many, start)?,
-        Reading::Whole | Reading::Index => {
-            let done = many.saturating_mul(file.count);
-            row(rt, rounds, file.what, file.step, done, start)?;
+    /// How the table calls a file that is read so.
+    fn what(self, medium: Medium) -> &'static str {
+        match (self, medium) {
+            (Reading::Whole, Medium::Memory) => "the file, in memory",
+            (Reading::Whole, Medium::Disk) => "the file, on the disk",
+            (Reading::Index, Medium::Memory) => "1,000 chunks, in memory",
+            (Reading::Index, Medium::Disk) => "1,000 chunks, on the disk",
+            (Reading::Entry, Medium::Memory) => "one of 10,000 series, in memory",
+            (Reading::Entry, Medium::Disk) => "one of 10,000 series, on the disk",
         }
     }
-    Ok(check)
 }
 
-/// A file that is read, and how the table calls it.
-#[derive(Drop)]
-struct FileOf<'a> {
+/// A file that is read.
+#[derive(Clone, Copy)]
+struct Readable<'a> {
     bytes: &'a [u8],
     /// How many points or entries are read in a round.
     count: u64,
     reading: Reading,
-    what: &'a str,
-    step: &'a str,
 }
 
-/// Stores a file, reads it, and removes it.
-fn store_and_read<P: Port>(
-    rt: &HostRuntime,
-    rounds: Rounds,
-    port: &mut P,
-    file: &FileOf,
-) -> Result<u64, Fault>
+/// Adds the size of a file that was read.
+fn add_size(bench: &mut Bench, meta: Result<FileMeta, ReadFault>) {
+    if let Some(meta) = bench.ok(meta) {
+        bench.add(meta.size);
+    }
+}
+
+/// Finds the entry of one series, and adds its place.
+fn find_one<P: Port>(bench: &mut Bench, port: &mut P, right: &P::Right)
+    requires { (P.Right.file right.now).store ≡ P.store port.old }
     ensures { P.store port.new ≡ P.store port.old }
 {
-    let mut sealed = port.put(FileNumber(1), file.bytes)?;
-    let outcome = match P::share(&mut sealed) {
-        Ok(right) => {
-            let outcome = repeat(rt, rounds, port, &right, file);
-            P::give_back(&mut sealed, right);
-            outcome
-        }
-        Err(_) => Err(Fault::Memory),
+    let alloc = bench.alloc();
+    let Some(device) = bench.ok(Path::read(alloc, b"root.bench.d")) else {
+        return;
     };
-    port.remove(sealed)?;
-    outcome
+    let Some(measurement) = bench.ok(Name::read(alloc, b"s5000")) else {
+        return;
+    };
+    match find_entry(alloc, port, right, &device, &measurement) {
+        Ok(Some(entry)) => bench.add(entry.place),
+        Ok(None) => (),
+        Err(fault) => bench.fail(fault),
+    }
+}
+
+/// Reads a file through the port.
+fn read_file<P: Port>(bench: &mut Bench, port: &mut P, right: &P::Right, reading: Reading)
+    requires { (P.Right.file right.now).store ≡ P.store port.old }
+    ensures { P.store port.new ≡ P.store port.old }
+{
+    let alloc = bench.alloc();
+    match reading {
+        Reading::Whole => add_size(bench, check_file(alloc, port, right)),
+        Reading::Index => add_size(bench, read_meta(alloc, port, right)),
+        Reading::Entry => find_one(bench, port, right),
+    }
+}
+
+/// The row of a file in the store of a port: how many points are checked a second, how many entries of its index are
+/// read, or how long it takes to find one.
+fn repeat<P: Port>(
+    bench: &mut Bench,
+    port: &mut P,
+    right: &P::Right,
+    medium: Medium,
+    file: Readable,
+)
+    requires { (P.Right.file right.now).store ≡ P.store port.old }
+    ensures { P.store port.new ≡ P.store port.old }
+{
+    let many = bench.rounds(file.reading.rounds());
+    bench.start();
+    for _ in 0..many {
+        read_file(bench, port, right, file.reading);
+    }
+    let done = many.saturating_mul(file.count);
+    let what = file.reading.what(medium);
+    match file.reading {
+        Reading::Whole => bench.row(what, "check", done),
+        Reading::Index => bench.row(what, "read_meta", done),
+        Reading::Entry => bench.each(what, "find_entry", many),
+    }
+}
+
+/// Reads a stored file, and removes it.
+fn read_and_remove<P: Port>(
+    bench: &mut Bench,
+    port: &mut P,
+    sealed: P::Sealed,
+    medium: Medium,
+    file: Readable,
+)
+    requires rights { P.Sealed.rights sealed ≡ 0 }
+    requires store { (P.Sealed.file sealed).store ≡ P.store port.old }
+    ensures { P.store port.new ≡ P.store port.old }
+{
+    let mut sealed = sealed;
+    match P::share(&mut sealed) {
+        Ok(right) => {
+            repeat(bench, port, &right, medium, file);
+            P::give_back(&mut sealed, right);
+        }
+        Err(fault) => bench.fail(fault),
+    }
+    bench.note(port.remove(sealed));
 }
 
 /// The rows of the files through one port.
-fn read_all<P: Port>(
-    rt: &HostRuntime,
-    rounds: Rounds,
-    port: &mut P,
-    files: &[FileOf],
-) -> Result<u64, Fault>
+fn read_all<P: Port>(bench: &mut Bench, port: &mut P, medium: Medium, files: &[Readable])
     ensures { P.store port.new ≡ P.store port.old }
 {
-    let mut check = 0u64;
     for file in files {
-        check = check.wrapping_add(store_and_read(rt, rounds, port, file)?);
+        match port.put(FileNumber(1), file.bytes) {
+            Ok(sealed) => read_and_remove(bench, port, sealed, medium, *file),
+            Err(fault) => bench.fail(fault),
+        }
     }
-    Ok(check)
 }
 
 /// The rows of files in a store at this place.
-fn at_place<P: Place>(
-    rt: &HostRuntime,
-    rounds: Rounds,
-    place: &mut P,
-    files: &[FileOf],
-) -> Result<u64, Fault> {
-    let (journal, mut stored) = place.take_up(FOLDER.as_bytes())?;
-    let outcome = match stored.port() {
-        Ok(mut port) => {
-            let outcome = read_all(rt, rounds, &mut port, files);
-            stored.end_port(port);
-            outcome
+fn at_place<P: Place>(bench: &mut Bench, place: &mut P, medium: Medium, files: &[Readable]) {
+    match place.take_up(FOLDER.as_bytes()) {
+        Ok((journal, mut stored)) => {
+            match stored.port() {
+                Ok(mut port) => {
+                    read_all(bench, &mut port, medium, files);
+                    stored.end_port(port);
+                }
+                Err(fault) => bench.fail(fault),
+            }
+            place.put_down(journal, stored);
         }
-        Err(_) => Err(Fault::Memory),
-    };
-    place.put_down(journal, stored);
-    outcome
+        Err(fault) => bench.fail(fault),
+    }
 }
 
-/// A file, and how many points or entries of it are read in a round.
-#[derive(Clone, Copy)]
-struct Measured<'a> {
-    bytes: &'a [u8],
-    count: u64,
-}
-
-/// The file of one series, that of many chunks, and that in which one entry is found, with what is read of each.
-fn all<'a>(files: [Measured<'a>; 3], names: [&'a str; 3]) -> [FileOf<'a>; 3] {
-    let [large, wide, widest] = files;
-    let [large_name, wide_name, widest_name] = names;
-    [
-        FileOf {
-            bytes: large.bytes,
-            count: large.count,
-            reading: Reading::Whole,
-            what: large_name,
-            step: "check",
-        },
-        FileOf {
-            bytes: wide.bytes,
-            count: wide.count,
-            reading: Reading::Index,
-            what: wide_name,
-            step: "read_meta",
-        },
-        FileOf {
-            bytes: widest.bytes,
-            count: widest.count,
-            reading: Reading::Entry,
-            what: widest_name,
-            step: "find_entry",
-        },
-    ]
-}
-
-/// How the table calls the files in memory, and on the disk.
-const IN_MEMORY: [&str; 3] = [
-    "the file, in memory",
-    "1,000 chunks, in memory",
-    "one of 10,000 series, in memory",
-];
-
-const ON_DISK: [&str; 3] = [
-    "the file, on the disk",
-    "1,000 chunks, on the disk",
-    "one of 10,000 series, on the disk",
-];
-
-/// The file of one series, and the row of building it.
-fn build_large(rt: &HostRuntime, rounds: Rounds, count: u64) -> Result<Vec<u8>, Fault> {
-    let series = Path::read(rt.alloc(), b"root.bench.d.s")?;
-    let given = points(rt, count)?;
-    let start = Instant::now(rt)?;
-    let large = build(rt, &series, given)?;
-    let what = "a file of 1,000,000 INT64 TS_2DIFF";
-    row(rt, rounds, what, "build", count, start)?;
-    Ok(large)
-}
-
-/// The rows of files in memory.
-fn read_in_memory(rt: &HostRuntime, rounds: Rounds, files: &[FileOf]) -> Result<u64, Fault> {
-    let alloc = rt.alloc();
-    let slots = [vec![in alloc; 0]?, vec![in alloc; 0]?];
-    let mut memory = SteadyPlace::new(alloc, slots, Vec::new(alloc))?;
-    at_place(rt, rounds, &mut memory, files)
-}
-
-/// The rows of files on the disk.
-fn read_on_disk(rt: &HostRuntime, rounds: Rounds, files: &[FileOf]) -> Result<u64, Fault> {
-    let mut disk = FsPlace::new(rt.clone()?);
-    let check = at_place(rt, rounds, &mut disk, files)?;
-    fs::remove_dir_all(rt, FOLDER)?;
-    Ok(check)
+/// The rows of files in memory, and on the disk.
+fn read_everywhere(bench: &mut Bench, files: &[Readable]) {
+    let place = new_place(bench.alloc());
+    if let Some(mut memory) = bench.ok(place) {
+        at_place(bench, &mut memory, Medium::Memory, files);
+    }
+    let rt = bench.rt();
+    let mut disk = FsPlace::new(rt);
+    at_place(bench, &mut disk, Medium::Disk, files);
+    if !bench.has_failed() {
+        bench.note(fs::remove_dir_all(&rt, FOLDER));
+    }
 }
 
 /// The rows of files that are built, checked, and opened.
-pub fn files(rt: &HostRuntime, rounds: Rounds) -> Result<u64, Fault> {
-    let (count, chunks, series) = (rounds.of(POINTS), rounds.of(CHUNKS), rounds.of(SERIES));
-    let large = build_large(rt, rounds, count)?;
-    let wide = many_chunks(rt, chunks)?;
-    let widest = many_chunks(rt, series)?;
-    let sized = [
-        Measured {
+pub fn files(bench: &mut Bench) {
+    let count = bench.rounds(POINTS);
+    let chunks = bench.rounds(CHUNKS);
+    let series = bench.rounds(SERIES);
+    let large = build_large(bench, count);
+    let wide = many_chunks(bench, chunks);
+    let widest = many_chunks(bench, series);
+    let files = [
+        Readable {
             bytes: &large,
             count,
+            reading: Reading::Whole,
         },
-        Measured {
+        Readable {
             bytes: &wide,
             count: chunks,
+            reading: Reading::Index,
         },
-        Measured {
+        Readable {
             bytes: &widest,
             count: series,
+            reading: Reading::Entry,
         },
     ];
-    let in_memory = read_in_memory(rt, rounds, &all(sized, IN_MEMORY))?;
-    let on_disk = read_on_disk(rt, rounds, &all(sized, ON_DISK))?;
-    Ok(in_memory.wrapping_add(on_disk).max(1))
+    read_everywhere(bench, &files);
 }

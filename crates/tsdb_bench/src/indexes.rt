@@ -1,11 +1,10 @@
 //! The speed of the index of a file. It depends on `tsdb_index`.
 
+use crate::bench::Bench;
 use crate::fault::Fault;
-use crate::table::{Rounds, measured};
-use std::time::Instant;
+use crate::names;
 use tsdb_base::{DataType, Encoding, List, Stats, Value};
 use tsdb_index::{Index, IndexEntry, PageEntry, read_index, write_leaves_and_root};
-use tsdb_path::{Name, Path};
 
 /// The place of the first leaf.
 const PLACE: u64 = 7;
@@ -27,91 +26,79 @@ fn stats(number: u64) -> Stats {
     }
 }
 
-/// The device of a chunk, which has 1,000 of them.
-fn device_of(rt: &HostRuntime, number: u64) -> Result<Path, Fault> {
-    let text = format!(in rt.alloc(); "root.bench.d{:04}", number / 1000)?;
-    Ok(Path::read(rt.alloc(), text.as_bytes())?)
-}
-
-/// The measurement of a chunk.
-fn measurement_of(rt: &HostRuntime, number: u64) -> Result<Name, Fault> {
-    let text = format!(in rt.alloc(); "s{:03}", number % 1000)?;
-    Ok(Name::read(rt.alloc(), text.as_bytes())?)
-}
-
-/// The one page of a chunk.
-fn pages_of(rt: &HostRuntime, number: u64) -> Result<List<PageEntry>, Fault> {
+/// The entry of a chunk of one page. A device has 1,000 chunks.
+fn entry(bench: &mut Bench, number: u64) -> Option<IndexEntry> {
+    let alloc = bench.alloc();
+    let device = format!(in alloc; "root.bench.d{:04}", number / 1000);
+    let device = names::path(bench, device)?;
+    let measurement = format!(in alloc; "s{:03}", number % 1000);
+    let measurement = names::name(bench, measurement)?;
+    let mut pages = Vec::new(alloc);
     let page = PageEntry {
         place: number,
         stats: stats(number),
     };
-    Ok(List::of(vec![in rt.alloc(); page]?))
-}
-
-/// The entry of a chunk of one page.
-fn entry(rt: &HostRuntime, number: u64) -> Result<IndexEntry, Fault> {
-    let device = device_of(rt, number)?;
-    let measurement = measurement_of(rt, number)?;
-    let pages = pages_of(rt, number)?;
-    Ok(IndexEntry {
+    bench.push(&mut pages, page);
+    Some(IndexEntry {
         device,
         measurement,
         data_type: DataType::Int64,
         encoding: Encoding::Plain,
         place: number,
         stats: stats(number),
-        pages,
+        pages: List::of(pages),
     })
+}
+
+/// The entries of so many chunks.
+fn entries(bench: &mut Bench, chunks: u64) -> Vec<IndexEntry> {
+    let mut entries = Vec::new(bench.alloc());
+    for number in 0..chunks {
+        if let Some(entry) = entry(bench, number) {
+            bench.push(&mut entries, entry);
+        }
+    }
+    entries
 }
 
 /// How the table calls the index.
 const NAME: &str = "an index of 100,000 chunks of one page";
 
-/// The entries of so many chunks.
-fn entries(rt: &HostRuntime, chunks: u64) -> Result<Vec<IndexEntry>, Fault> {
-    let mut entries = Vec::new(rt.alloc());
-    for number in 0..chunks {
-        entries.push(entry(rt, number)?)?;
-    }
-    Ok(entries)
-}
-
 /// The row of writing the index of so many chunks. Gives its bytes and the place of its root.
-fn write(rt: &HostRuntime, rounds: Rounds, chunks: u64) -> Result<(Vec<u8>, u64), Fault> {
-    let entries = entries(rt, chunks)?;
+fn write(bench: &mut Bench, chunks: u64) -> Option<(Vec<u8>, u64)> {
+    let alloc = bench.alloc();
+    let entries = entries(bench, chunks);
     if entries.is_empty() {
-        return Err(Fault::Unread);
+        return None;
     }
     let index = Index {
         entries: List::of(entries),
     };
-    let start = Instant::now(rt);
-    let written = write_leaves_and_root(rt.alloc(), &index, PLACE)?;
-    measured(rt, rounds, NAME, "write", chunks, start, 0)?;
-    Ok(written)
+    bench.start();
+    let written = bench.ok(write_leaves_and_root(alloc, &index, PLACE));
+    bench.row(NAME, "write", chunks);
+    written
 }
 
-/// The row of reading these bytes. Says how many entries were read.
-fn read(
-    rt: &HostRuntime,
-    rounds: Rounds,
-    bytes: &[u8],
-    root: u64,
-    chunks: u64,
-) -> Result<u64, Fault> {
+/// The row of reading these bytes.
+fn read(bench: &mut Bench, bytes: &[u8], root: u64, chunks: u64) {
     if bytes.len() > LIMIT || root < PLACE || root - PLACE > bytes.len() as u64 {
-        return Err(Fault::Unread);
+        bench.fail(Fault::Unread);
+        return;
     }
-    let start = Instant::now(rt);
-    let index = read_index(rt.alloc(), bytes, PLACE, root)?;
-    let count = index.entries.items().len() as u64;
-    measured(rt, rounds, NAME, "read", chunks, start, count)
+    let alloc = bench.alloc();
+    bench.start();
+    if let Some(index) = bench.ok(read_index(alloc, bytes, PLACE, root)) {
+        bench.row(NAME, "read", chunks);
+        bench.add(index.entries.items().len() as u64);
+    }
 }
 
 /// The rows of an index.
-pub fn indexes(rt: &HostRuntime, rounds: Rounds) -> Result<u64, Fault> {
-    let chunks = rounds.of(100_000);
-    let (bytes, root) = write(rt, rounds, chunks)?;
-    let count = read(rt, rounds, &bytes, root, chunks)?;
-    Ok(count.wrapping_add(root).max(1))
+pub fn indexes(bench: &mut Bench) {
+    let chunks = bench.rounds(100_000);
+    if let Some((bytes, root)) = write(bench, chunks) {
+        bench.add(root);
+        read(bench, &bytes, root, chunks);
+    }
 }

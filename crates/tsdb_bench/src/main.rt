@@ -5,6 +5,7 @@
 #![tactic(auto)]
 
 mod aggregates;
+mod bench;
 mod columns;
 mod encodings;
 mod fault;
@@ -15,24 +16,26 @@ mod indexes;
 mod inserts;
 mod journal;
 mod marks;
+mod memory;
 mod memtable;
 mod merges;
+mod names;
 mod numbers;
 mod pages;
 mod pieces;
 mod plans;
+mod points;
 mod queries;
 mod served;
 mod stored;
-mod table;
 mod turns;
 
+use bench::Bench;
 use fault::Fault;
 use std::env;
 use std::sync::Wait;
 use std::thread::Threads;
 use std::time::Clock;
-use table::Rounds;
 
 /// What a row of the table can be of.
 #[derive(Clone, Copy)]
@@ -62,7 +65,7 @@ struct Named {
 }
 
 /// The groups in the order in which they are measured.
-const GROUPS: [Named; 15] = [
+const GROUPS: &[Named] = &[
     Named {
         name: "encodings",
         group: Group::Encodings,
@@ -125,83 +128,66 @@ const GROUPS: [Named; 15] = [
     },
 ];
 
-/// Measures one group. The result depends on all that was computed, so that no compiler leaves the
-/// work out. `handle` is the runtime again, as the right to start threads and to wait.
-fn measure_group<R: Threads + Wait + Clock + Sync>(
-    rt: &HostRuntime,
-    handle: &R,
-    group: Group,
-    rounds: Rounds,
-) -> Result<u64, Fault> {
+/// Measures one group. `handle` is the runtime again, as the right to start threads and to wait.
+fn measure_group<R: Threads + Wait + Clock + Sync>(bench: &mut Bench, handle: &R, group: Group) {
     match group {
-        Group::Encodings => encodings::encodings(rt, rounds),
-        Group::Memtable => memtable::memtable(rt, rounds),
-        Group::Marks => marks::marks(rt, rounds),
-        Group::Turns => turns::turns(rt, handle, rounds),
-        Group::Merges => merges::merges(rt, rounds),
-        Group::Aggregates => aggregates::aggregates(rt, rounds),
-        Group::Columns => columns::columns(rt, rounds),
-        Group::Plans => plans::plans(rt, rounds),
-        Group::Pages => pages::pages(rt, rounds),
-        Group::Indexes => indexes::indexes(rt, rounds),
-        Group::Files => files::files(rt, rounds),
-        Group::Inserts => inserts::inserts(rt, rounds),
-        Group::Flushes => flushes::flushes(rt, rounds),
-        Group::Queries => queries::queries(rt, rounds),
-        Group::Stored => stored::stored(rt, rounds),
+        Group::Encodings => encodings::encodings(bench),
+        Group::Memtable => memtable::memtable(bench),
+        Group::Marks => marks::marks(bench),
+        Group::Turns => turns::turns(bench, handle),
+        Group::Merges => merges::merges(bench),
+        Group::Aggregates => aggregates::aggregates(bench),
+        Group::Columns => columns::columns(bench),
+        Group::Plans => plans::plans(bench),
+        Group::Pages => pages::pages(bench),
+        Group::Indexes => indexes::indexes(bench),
+        Group::Files => files::files(bench),
+        Group::Inserts => inserts::inserts(bench),
+        Group::Flushes => flushes::flushes(bench),
+        Group::Queries => queries::queries(bench),
+        Group::Stored => stored::stored(bench),
     }
 }
 
-/// Measures those of the groups that have this name, or all where it is empty.
+/// Measures those of the groups that have this name, or all where it is empty. Whether there is one.
 fn measure_groups<R: Threads + Wait + Clock + Sync>(
-    rt: &HostRuntime,
+    bench: &mut Bench,
     handle: &R,
-    groups: &[Named],
     wanted: &str,
-    rounds: Rounds,
-) -> Result<u64, Fault> {
-    let mut check = 0u64;
-    for named in groups {
-        if wanted.is_empty() || wanted == named.name {
-            check = check.wrapping_add(measure_group(rt, handle, named.group, rounds)?);
+) -> bool {
+    let mut is_found = false;
+    for named in GROUPS {
+        let is_wanted = wanted.is_empty() || wanted == named.name;
+        if is_wanted && !bench.has_failed() {
+            measure_group(bench, handle, named.group);
         }
+        is_found = is_found || is_wanted;
     }
-    Ok(check)
+    is_found
 }
 
-/// Measures the group of this name, or all where it is empty.
-fn measure<R: Threads + Wait + Clock + Sync>(
+/// Does what the word asks for, or measures all where it is empty.
+fn run<R: Threads + Wait + Clock + Sync>(
     rt: &HostRuntime,
     handle: &R,
-    wanted: &str,
-    rounds: Rounds,
-) -> Result<u64, Fault> {
-    let mut check = measure_groups(rt, handle, &GROUPS, wanted, rounds)?;
-    if wanted == "full" {
-        check = check.wrapping_add(stored::full(rt)?);
+    word: &str,
+) -> Result<(), Fault> {
+    let is_quick = word == "quick";
+    let mut bench = Bench::new(rt, is_quick);
+    bench.head();
+    let wanted = if is_quick { "" } else { word };
+    if word == "full" {
+        stored::full(&mut bench);
+    } else if !measure_groups(&mut bench, handle, wanted) {
+        bench.fail(Fault::NoGroup);
     }
-    if check == 0 {
-        return Err(Fault::NoGroup);
-    }
-    Ok(check)
+    bench.end()
 }
 
 fn main(rt: HostRuntime) -> Result<(), Fault> {
     let words = env::args(&rt)?;
     match words.skip(1).next() {
-        None => {
-            table::head(&rt)?;
-            let check = measure(&rt, &rt, "", Rounds::Many)?;
-            println!(rt; "check {check}")?;
-        }
-        Some(word) if word.as_str() == "quick" => {
-            measure(&rt, &rt, "", Rounds::One)?;
-        }
-        Some(word) => {
-            table::head(&rt)?;
-            let check = measure(&rt, &rt, word.as_str(), Rounds::Many)?;
-            println!(rt; "check {check}")?;
-        }
+        None => run(&rt, &rt, ""),
+        Some(word) => run(&rt, &rt, word.as_str()),
     }
-    Ok(())
 }

@@ -1,11 +1,11 @@
 //! The speed of deletion marks. It depends on `tsdb_marks`.
 ghost use Rattle.std.specs.Prelude.{◌<◌, length};
 
-use crate::fault::Fault;
+use crate::bench::Bench;
+use crate::names;
 use crate::numbers::next;
-use crate::table::{Rounds, measured};
-use std::time::Instant;
-use tsdb_base::{Range, Stamp, Time};
+use std::alloc::Global;
+use tsdb_base::{Memory, Range, Stamp, Time};
 use tsdb_marks::{Mark, Marks};
 use tsdb_path::Path;
 
@@ -39,19 +39,16 @@ fn range_of(ranges: Ranges, done: u64, seed: u64) -> Range {
     Range { from, to }
 }
 
-/// The path of a series.
-fn path(rt: &HostRuntime, number: u32) -> Result<Path, Fault> {
-    let text = format!(in rt.alloc(); "root.g.d.s{number:04}")?;
-    Ok(Path::read(rt.alloc(), text.as_bytes())?)
-}
-
 /// The paths of so many series.
-fn paths(rt: &HostRuntime, count: u32) -> Result<Vec<Path>, Fault> {
-    let mut paths = Vec::new(rt.alloc());
+fn paths(bench: &mut Bench, count: u32) -> Vec<Path> {
+    let alloc = bench.alloc();
+    let mut paths = Vec::new(alloc);
     for number in 0..count {
-        paths.push(path(rt, number)?)?;
+        if let Some(path) = names::path(bench, format!(in alloc; "root.g.d.s{number:04}")) {
+            bench.push(&mut paths, path);
+        }
     }
-    Ok(paths)
+    paths
 }
 
 /// One of the paths.
@@ -62,15 +59,15 @@ fn path_of(paths: &[Path], seed: u64) -> &Path
 }
 
 /// So many marks.
-fn add(rt: &HostRuntime, paths: &[Path], ranges: Ranges, count: u64) -> Result<Marks, Fault>
+fn add(alloc: Global, paths: &[Path], ranges: Ranges, count: u64) -> Result<Marks, Memory>
     requires { 0 < length paths.now }
 {
-    let mut marks = Marks::new(rt.alloc());
+    let mut marks = Marks::new(alloc);
     let mut seed = 7u64;
     for done in 0..count {
         seed = next(seed);
         let Ok(path) = path_of(paths, seed).copy() else {
-            return Err(Fault::Memory);
+            return Err(Memory);
         };
         let range = range_of(ranges, done, seed);
         marks.reserve()?;
@@ -102,38 +99,34 @@ fn count_survivors(marks: &Marks, paths: &[Path], count: u64) -> u64
     survivors
 }
 
-/// Adds marks of these series, and asks for points.
-fn measure(
-    rt: &HostRuntime,
-    rounds: Rounds,
-    what: &str,
-    paths: &[Path],
-    ranges: Ranges,
-) -> Result<u64, Fault> {
+/// Adds marks of these series, asks for points, and takes those of one series.
+fn measure(bench: &mut Bench, what: &str, paths: &[Path], ranges: Ranges) {
     if paths.is_empty() {
-        return Err(Fault::NoGroup);
+        return;
     }
-    let count = rounds.of(MARKS);
-    let start = Instant::now(rt);
-    let marks = add(rt, paths, ranges, count)?;
-    measured(rt, rounds, what, "add", count, start, 0)?;
-    let start = Instant::now(rt);
-    let survivors = count_survivors(&marks, paths, count);
-    let check = measured(rt, rounds, what, "survives", count, start, survivors.max(1))?;
-    let start = Instant::now(rt);
-    let only = marks.only(&paths[..1])?;
-    let found = only.marks().len() as u64;
-    measured(rt, rounds, what, "only", found, start, check)
+    let alloc = bench.alloc();
+    let count = bench.rounds(MARKS);
+    bench.start();
+    if let Some(marks) = bench.ok(add(alloc, paths, ranges, count)) {
+        bench.row(what, "add", count);
+        bench.start();
+        bench.add(count_survivors(&marks, paths, count));
+        bench.row(what, "survives", count);
+        bench.start();
+        if let Some(only) = bench.ok(marks.only(&paths[..1])) {
+            bench.row(what, "only", only.marks().len() as u64);
+        }
+    }
 }
 
 /// The rows of the marks.
-pub fn marks(rt: &HostRuntime, rounds: Rounds) -> Result<u64, Fault> {
-    let one = paths(rt, 1)?;
-    let many = paths(rt, SERIES)?;
+pub fn marks(bench: &mut Bench) {
+    let one = paths(bench, 1);
     let what = "1,000,000 marks on one series";
-    let check = measure(rt, rounds, what, one.as_slice(), Ranges::Random)?;
+    measure(bench, what, &one, Ranges::Random);
     let what = "1,000,000 rising marks on one series";
-    let check = check.wrapping_add(measure(rt, rounds, what, one.as_slice(), Ranges::Rising)?);
+    measure(bench, what, &one, Ranges::Rising);
+    let many = paths(bench, SERIES);
     let what = "1,000,000 marks on 10,000 series";
-    Ok(check.wrapping_add(measure(rt, rounds, what, many.as_slice(), Ranges::Random)?))
+    measure(bench, what, &many, Ranges::Random);
 }

@@ -4,13 +4,9 @@
 ghost use Rattle.std.specs.Prelude.{All};
 ghost use Rattle.tsdb_model.specs.Commands.{IsWellFormed};
 
-use crate::fault::Fault;
+use crate::bench::Bench;
 use crate::filled::{Shape, fill, serve_text};
-use crate::served::{InMemory, Served, close, open, serve_all};
-use crate::table::{Rounds, each};
-use std::alloc::Global;
-use std::time::Instant;
-use tsdb_outside::{Files, Journal};
+use crate::served::{InMemory, close, open, serve_all};
 use tsdb_script::{Numbered, read_script};
 
 /// The file of one series.
@@ -42,7 +38,7 @@ struct Query {
     times: u64,
 }
 
-const OF_ONE_SERIES: [Query; 4] = [
+const OF_ONE_SERIES: &[Query] = &[
     Query {
         what: "count, least and greatest of 1,000,000 points",
         text: "1 select count(s000),min_value(s000),max_value(s000) from root.bench.d0\n",
@@ -66,82 +62,48 @@ const OF_ONE_SERIES: [Query; 4] = [
     },
 ];
 
-const OF_MANY_SERIES: [Query; 1] = [Query {
+const OF_MANY_SERIES: &[Query] = &[Query {
     what: "points of one series of 10,000",
     text: "1 select s500 from root.bench.d5\n",
     times: 1_000,
 }];
 
-/// Asks the query of a script so many times.
-fn ask_often<J: Journal, F: Files>(
-    alloc: Global,
-    served: &mut Served<J, F>,
-    script: &[Numbered],
-    times: u64,
-) -> Result<u64, Fault>
+/// The row of a query, whose script is given.
+fn ask_often(bench: &mut Bench, served: &mut InMemory, query: Query, script: &[Numbered])
     requires { All (λ numbered. IsWellFormed numbered.command) script.now }
 {
-    let mut check = 0u64;
+    let times = bench.rounds(query.times);
+    bench.start();
     for _ in 0..times {
-        check = check.wrapping_add(serve_all(alloc, served, script)?);
+        serve_all(bench, served, script);
     }
-    Ok(check)
+    bench.each(query.what, "query", times);
 }
 
 /// The row of a query.
-fn ask(
-    rt: &HostRuntime,
-    rounds: Rounds,
-    served: &mut InMemory,
-    query: Query,
-) -> Result<u64, Fault> {
-    let times = match rounds {
-        Rounds::One => 1,
-        Rounds::Many => query.times,
-    };
-    let script = read_script(rt.alloc(), query.text.as_bytes())?;
-    let start = Instant::now(rt)?;
-    let check = ask_often(rt.alloc(), served, &script, times)?;
-    each(rt, rounds, query.what, "query", times, start)?;
-    Ok(check)
-}
-
-/// Writes a file, and prints the rows of queries.
-fn measure(
-    rt: &HostRuntime,
-    rounds: Rounds,
-    served: &mut InMemory,
-    shape: Shape,
-    queries: &[Query],
-) -> Result<u64, Fault> {
-    fill(rt, served, shape)?;
-    let mut check = serve_text(rt, served, "1 flush\n")?;
-    for query in queries {
-        check = check.wrapping_add(ask(rt, rounds, served, *query)?);
+fn ask(bench: &mut Bench, served: &mut InMemory, query: Query) {
+    match read_script(bench.alloc(), query.text.as_bytes()) {
+        Ok(script) => ask_often(bench, served, query, &script),
+        Err(fault) => bench.fail(fault),
     }
-    Ok(check)
 }
 
 /// The rows of queries of a file of this shape.
-fn of_file(
-    rt: &HostRuntime,
-    rounds: Rounds,
-    shape: Shape,
-    queries: &[Query],
-) -> Result<u64, Fault> {
-    let shape = match rounds {
-        Rounds::One => SMALL,
-        Rounds::Many => shape,
-    };
-    let mut served = open(rt.alloc())?;
-    let measured = measure(rt, rounds, &mut served, shape, queries);
-    close(served);
-    measured
+fn of_file(bench: &mut Bench, shape: Shape, queries: &[Query]) {
+    let shape = if bench.is_quick() { SMALL } else { shape };
+    let opened = open(bench.alloc());
+    if let Some(mut served) = bench.ok(opened) {
+        fill(bench, &mut served, shape);
+        serve_text(bench, &mut served, "1 flush\n");
+        for query in queries {
+            ask(bench, &mut served, *query);
+        }
+        close(served);
+    }
 }
 
 /// The rows of queries.
-pub fn queries(rt: &HostRuntime, rounds: Rounds) -> Result<u64, Fault> {
-    let one = of_file(rt, rounds, ONE_SERIES, &OF_ONE_SERIES)?;
-    let many = of_file(rt, rounds, MANY_SERIES, &OF_MANY_SERIES)?;
-    Ok(one.wrapping_add(many).max(1))
+pub fn queries(bench: &mut Bench) {
+    of_file(bench, ONE_SERIES, OF_ONE_SERIES);
+    of_file(bench, MANY_SERIES, OF_MANY_SERIES);
 }

@@ -1,15 +1,15 @@
-//! The speed of many small files in a store on the disk, beside the bare calls of the system. It depends on `fs_outside`.
+//! The speed of many small files in a store on the disk, beside the bare calls of the system. It depends on `bench` and
+//! `fs_outside`.
 ghost use Rattle.std.specs.Prelude.{◌≡◌, All};
 
-use crate::fault::Fault;
-use crate::table::{Rounds, rated};
+use crate::bench::Bench;
 use fs_outside::FsPlace;
-use std::alloc::{AllocError, AllocFailed, Global};
+use std::alloc::AllocFailed;
 use std::fs::{self, File, OpenOptions};
+use std::io;
 use std::os::unix::fs::FileExt;
-use std::time::Instant;
 use tsdb_base::FileNumber;
-use tsdb_outside::{Files, Journal, Place, Port, Slot};
+use tsdb_outside::{Failed, Files, Journal, Place, Port, Slot, StoreFault};
 
 /// The folder of the store, which is made and removed here.
 const STORE: &str = "bench.stored";
@@ -31,15 +31,13 @@ const LARGE: usize = 300_000;
 
 const TOO_MANY: u64 = 100;
 
+/// How many bytes are appended to the log then.
+const APPENDED: usize = 5_000;
+
 /// How the table calls a row of a store, and one of the bare calls.
 const IN_STORE: &str = "1 kB files, in a store";
 
 const BY_CALLS: &str = "1 kB files, by bare calls";
-
-/// So many bytes of a file.
-fn block(alloc: Global, count: usize) -> Result<Vec<u8>, AllocError> {
-    vec![in alloc; 7; count]
-}
 
 /// Puts files of these bytes with the numbers from 1 on.
 fn put_all<F: Files>(
@@ -47,7 +45,7 @@ fn put_all<F: Files>(
     port: &mut F::Port,
     count: u64,
     bytes: &[u8],
-) -> Result<(), Fault>
+) -> Result<(), StoreFault>
     requires { F.Port.store port.old ≡ F.store files.old }
     ensures files { F.store files.new ≡ F.store files.old }
     ensures port { F.Port.store port.new ≡ F.Port.store port.old }
@@ -59,8 +57,12 @@ fn put_all<F: Files>(
     Ok(())
 }
 
-/// Fetches the files with the numbers from 1 on, and gives their tokens out.
-fn fetch_all<F: Files>(files: &mut F, count: u64, tokens: &mut Vec<F::Sealed>) -> Result<(), Fault>
+/// Fetches the files with the numbers from 1 on, and gives their tokens out. A file that is not there is a fault.
+fn fetch_all<F: Files>(
+    files: &mut F,
+    count: u64,
+    tokens: &mut Vec<F::Sealed>,
+) -> Result<(), StoreFault>
     requires { All (λ sealed. F.Sealed.rights sealed ≡ 0
         × (F.Sealed.file sealed).store ≡ F.store files.old) tokens.old.items }
     ensures tokens { All (λ sealed. F.Sealed.rights sealed ≡ 0
@@ -69,33 +71,35 @@ fn fetch_all<F: Files>(files: &mut F, count: u64, tokens: &mut Vec<F::Sealed>) -
 {
     for number in 1..=count {
         let Some(sealed) = files.fetch(FileNumber(number))? else {
-            return Err(Fault::Unread);
+            return Err(StoreFault::Failed);
         };
         if let Err(full) = tokens.push(sealed) {
             let AllocFailed { value } = full;
             files.keep(value);
-            return Err(Fault::Memory);
+            return Err(StoreFault::Memory);
         }
     }
     Ok(())
 }
 
-/// Reads the whole file of a token.
-fn read_one<P: Port>(port: &mut P, sealed: &mut P::Sealed) -> Result<(), Fault>
+/// Reads the whole file of a token. Whether all went well.
+fn read_one<P: Port>(port: &mut P, sealed: &mut P::Sealed) -> bool
     requires rights { P.Sealed.rights sealed.old ≡ 0 }
     requires store { (P.Sealed.file sealed.old).store ≡ P.store port.old }
     ensures rights { P.Sealed.rights sealed.new ≡ 0 }
     ensures file { P.Sealed.file sealed.new ≡ P.Sealed.file sealed.old }
     ensures port { P.store port.new ≡ P.store port.old }
 {
+    let Ok(right) = P::share(sealed) else {
+        return false;
+    };
     let mut bytes = [0; BYTES];
-    let right = P::share(sealed)?;
-    let read = match port.size(&right) {
-        Ok(size) if size == BYTES as u64 => port.read(&right, 0, &mut bytes),
-        answer => answer.map(|_| ()),
+    let went_well = match port.size(&right) {
+        Ok(size) if size == BYTES as u64 => port.read(&right, 0, &mut bytes).is_ok(),
+        _ => false,
     };
     P::give_back(sealed, right);
-    Ok(read?)
+    went_well
 }
 
 /// Reads the file of each token and keeps it, or removes it. Whether all went well.
@@ -117,7 +121,7 @@ fn end_all<F: Files>(
         if is_removal {
             went_well = port.remove(sealed).is_ok() && went_well;
         } else {
-            went_well = read_one(port, &mut sealed).is_ok() && went_well;
+            went_well = read_one(port, &mut sealed) && went_well;
             files.keep(sealed);
         }
     }
@@ -126,135 +130,96 @@ fn end_all<F: Files>(
 }
 
 /// The row of `put`, and of `list`.
-fn put_and_list<F: Files>(
-    rt: &HostRuntime,
-    rounds: Rounds,
-    files: &mut F,
-    port: &mut F::Port,
-    count: u64,
-) -> Result<(), Fault>
+fn put_and_list<F: Files>(bench: &mut Bench, files: &mut F, port: &mut F::Port, count: u64)
     requires { F.Port.store port.old ≡ F.store files.old }
     ensures files { F.store files.new ≡ F.store files.old }
     ensures port { F.Port.store port.new ≡ F.Port.store port.old }
 {
-    let bytes = block(rt.alloc(), BYTES)?;
-    let start = Instant::now(rt);
-    put_all(files, port, count, &bytes)?;
-    rated(rt, rounds, IN_STORE, "put", count, start)?;
-    let start = Instant::now(rt);
-    if files.list()?.len() as u64 != count {
-        return Err(Fault::Unread);
-    }
-    rated(rt, rounds, IN_STORE, "list", count, start)
+    bench.start();
+    bench.note(put_all(files, port, count, &[7; BYTES]));
+    bench.rate(IN_STORE, "put", count);
+    bench.start();
+    let numbers = bench.list(files.list());
+    bench.rate(IN_STORE, "list", count);
+    bench.require(numbers.len() as u64 == count);
 }
 
 /// Fetches all files, and then reads or removes them. It prints the row of each step, but of a second `fetch`.
 fn fetch_and_end<F: Files>(
-    rt: &HostRuntime,
-    rounds: Rounds,
+    bench: &mut Bench,
     files: &mut F,
     port: &mut F::Port,
     count: u64,
     is_removal: bool,
-) -> Result<(), Fault>
+)
     requires { F.Port.store port.old ≡ F.store files.old }
     ensures files { F.store files.new ≡ F.store files.old }
     ensures port { F.Port.store port.new ≡ F.Port.store port.old }
 {
-    let (step, fetch_rounds) = match is_removal {
-        false => ("read", rounds),
-        true => ("remove", Rounds::One),
-    };
-    let start = Instant::now(rt);
-    let mut tokens = Vec::new(rt.alloc());
-    let fetched = fetch_all(files, count, &mut tokens);
-    let printed = rated(rt, fetch_rounds, IN_STORE, "fetch", count, start);
-    let start = Instant::now(rt);
-    let went_well = end_all(files, port, tokens, is_removal);
-    fetched?;
-    printed?;
-    if !went_well {
-        return Err(Fault::Store);
+    bench.start();
+    let mut tokens = Vec::new(bench.alloc());
+    bench.note(fetch_all(files, count, &mut tokens));
+    if !is_removal {
+        bench.rate(IN_STORE, "fetch", count);
     }
-    rated(rt, rounds, IN_STORE, step, count, start)
+    bench.start();
+    bench.require(end_all(files, port, tokens, is_removal));
+    let step = if is_removal { "remove" } else { "read" };
+    bench.rate(IN_STORE, step, count);
 }
 
-/// The rows of so many files in an open store.
-fn in_store<F: Files>(
-    rt: &HostRuntime,
-    rounds: Rounds,
-    files: &mut F,
-    port: &mut F::Port,
-    count: u64,
-) -> Result<(), Fault>
-    requires { F.Port.store port.old ≡ F.store files.old }
-    ensures files { F.store files.new ≡ F.store files.old }
-    ensures port { F.Port.store port.new ≡ F.Port.store port.old }
-{
-    put_and_list(rt, rounds, files, port, count)?;
-    fetch_and_end(rt, rounds, files, port, count, false)?;
-    fetch_and_end(rt, rounds, files, port, count, true)
-}
-
-/// The same in the store of a place.
-fn at_place<P: Place>(
-    rt: &HostRuntime,
-    rounds: Rounds,
-    place: &mut P,
-    count: u64,
-) -> Result<(), Fault> {
-    let (journal, mut files) = place.take_up(STORE.as_bytes())?;
-    let outcome = match files.port() {
-        Ok(mut port) => {
-            let outcome = in_store(rt, rounds, &mut files, &mut port, count);
-            files.end_port(port);
-            outcome
+/// The rows of so many files in the store of a place.
+fn at_place<P: Place>(bench: &mut Bench, place: &mut P, count: u64) {
+    match place.take_up(STORE.as_bytes()) {
+        Ok((journal, mut files)) => {
+            match files.port() {
+                Ok(mut port) => {
+                    put_and_list(bench, &mut files, &mut port, count);
+                    fetch_and_end(bench, &mut files, &mut port, count, false);
+                    fetch_and_end(bench, &mut files, &mut port, count, true);
+                    files.end_port(port);
+                }
+                Err(fault) => bench.fail(fault),
+            }
+            place.put_down(journal, files);
         }
-        Err(_) => Err(Fault::Memory),
-    };
-    place.put_down(journal, files);
-    outcome
-}
-
-/// The path of a bare file.
-fn bare_path(rt: &HostRuntime, number: u64) -> Result<String, Fault> {
-    Ok(format!(in rt.alloc(); "{BARE}/{number}.tsfile")?)
+        Err(fault) => bench.fail(fault),
+    }
 }
 
 /// Creates a bare file, and makes it and its name durable.
-fn put_bare(rt: &HostRuntime, directory: &File, number: u64) -> Result<(), Fault> {
-    let path = bare_path(rt, number)?;
+fn put_bare(rt: &HostRuntime, directory: &File, path: &str) -> io::Result<()> {
     let file = OpenOptions::new()
         .write(true)
         .create_new(true)
-        .open(rt, path.as_str())?;
+        .open(rt, path)?;
     file.write_all_at(&[7; BYTES], 0)?;
     file.sync_all()?;
-    directory.sync_all()?;
-    Ok(())
-}
-
-/// How many bare files there are.
-fn count_bare(rt: &HostRuntime) -> Result<u64, Fault> {
-    let mut found = 0u64;
-    for entry in fs::read_dir(rt, BARE)? {
-        if entry?.file_type()?.is_file() {
-            found = found.saturating_add(1);
-        }
-    }
-    Ok(found)
+    directory.sync_all()
 }
 
 /// Reads a whole bare file.
-fn read_bare(rt: &HostRuntime, number: u64) -> Result<(), Fault> {
+fn read_bare(rt: &HostRuntime, path: &str) -> io::Result<()> {
     let mut bytes = [0; BYTES];
-    let path = bare_path(rt, number)?;
-    let file = File::open(rt, path.as_str())?;
-    if file.metadata()?.len() != BYTES as u64 {
-        return Err(Fault::Unread);
+    let file = File::open(rt, path)?;
+    match file.metadata() {
+        Ok(metadata) if metadata.len() == BYTES as u64 => file.read_exact_at(&mut bytes, 0),
+        Ok(_) => Err(io::Error::from(io::ErrorKind::InvalidData)),
+        Err(error) => Err(error),
     }
-    file.read_exact_at(&mut bytes, 0)?;
-    Ok(())
+}
+
+/// How many bare files there are. What cannot be read counts as none.
+fn count_bare(rt: &HostRuntime) -> io::Result<u64> {
+    let mut found = 0u64;
+    for entry in fs::read_dir(rt, BARE)? {
+        if let Ok(entry) = entry {
+            if matches!(entry.file_type(), Ok(kind) if kind.is_file()) {
+                found = found.saturating_add(1);
+            }
+        }
+    }
+    Ok(found)
 }
 
 /// What a store asks of the system for one file.
@@ -267,102 +232,104 @@ enum BareCall {
 }
 
 /// Makes the calls of one file.
-fn make_bare(rt: &HostRuntime, directory: &File, call: BareCall, number: u64) -> Result<(), Fault> {
+fn make_bare(rt: &HostRuntime, directory: &File, call: BareCall, number: u64) -> io::Result<()> {
+    let path = format!(in rt.alloc(); "{BARE}/{number}.tsfile")?;
     match call {
-        BareCall::Put => put_bare(rt, directory, number),
-        BareCall::Fetch => {
-            fs::symlink_metadata(rt, bare_path(rt, number)?.as_str())?;
-            Ok(())
-        }
-        BareCall::Read => read_bare(rt, number),
-        BareCall::Remove => Ok(fs::remove_file(rt, bare_path(rt, number)?.as_str())?),
+        BareCall::Put => put_bare(rt, directory, &path),
+        BareCall::Fetch => match fs::symlink_metadata(rt, path.as_str()) {
+            Ok(_) => Ok(()),
+            Err(error) => Err(error),
+        },
+        BareCall::Read => read_bare(rt, &path),
+        BareCall::Remove => fs::remove_file(rt, path.as_str()),
     }
 }
 
 /// The row of one kind of call.
-fn bare_row(
-    rt: &HostRuntime,
-    rounds: Rounds,
-    directory: &File,
-    call: BareCall,
-    step: &str,
-    count: u64,
-) -> Result<(), Fault> {
-    let start = Instant::now(rt);
+fn bare_row(bench: &mut Bench, directory: &File, call: BareCall, step: &str, count: u64) {
+    let rt = bench.rt();
+    bench.start();
     for number in 1..=count {
-        make_bare(rt, directory, call, number)?;
+        bench.note(make_bare(&rt, directory, call, number));
     }
-    rated(rt, rounds, BY_CALLS, step, count, start)
+    bench.rate(BY_CALLS, step, count);
 }
 
 /// The rows of the calls in the folder of the bare files.
-fn bare_rows(rt: &HostRuntime, rounds: Rounds, directory: &File, count: u64) -> Result<(), Fault> {
-    bare_row(rt, rounds, directory, BareCall::Put, "put", count)?;
-    let start = Instant::now(rt);
-    if count_bare(rt)? != count {
-        return Err(Fault::Unread);
-    }
-    rated(rt, rounds, BY_CALLS, "list", count, start)?;
-    bare_row(rt, rounds, directory, BareCall::Fetch, "fetch", count)?;
-    bare_row(rt, rounds, directory, BareCall::Read, "read", count)?;
-    bare_row(rt, rounds, directory, BareCall::Remove, "remove", count)
+fn bare_rows(bench: &mut Bench, directory: &File, count: u64) {
+    bare_row(bench, directory, BareCall::Put, "put", count);
+    let rt = bench.rt();
+    bench.start();
+    let found = count_bare(&rt);
+    bench.rate(BY_CALLS, "list", count);
+    bench.require(matches!(found, Ok(found) if found == count));
+    bare_row(bench, directory, BareCall::Fetch, "fetch", count);
+    bare_row(bench, directory, BareCall::Read, "read", count);
+    bare_row(bench, directory, BareCall::Remove, "remove", count);
 }
 
 /// The rows of the calls that a store makes of the system.
-fn by_calls(rt: &HostRuntime, rounds: Rounds, count: u64) -> Result<(), Fault> {
-    fs::create_dir(rt, BARE)?;
-    let directory = File::open(rt, BARE)?;
-    bare_rows(rt, rounds, &directory, count)?;
-    fs::remove_dir_all(rt, BARE)?;
-    Ok(())
+fn by_calls(bench: &mut Bench, count: u64) {
+    let rt = bench.rt();
+    if bench.ok(fs::create_dir(&rt, BARE)).is_none() {
+        return;
+    }
+    if let Some(directory) = bench.ok(File::open(&rt, BARE)) {
+        bare_rows(bench, &directory, count);
+    }
+    bench.note(fs::remove_dir_all(&rt, BARE));
 }
 
 /// The rows of many small files.
-pub fn stored(rt: &HostRuntime, rounds: Rounds) -> Result<u64, Fault> {
-    let count = rounds.of(FILES);
-    let mut disk = FsPlace::new(rt.clone()?);
-    at_place(rt, rounds, &mut disk, count)?;
-    fs::remove_dir_all(rt, STORE)?;
-    by_calls(rt, rounds, count)?;
-    Ok(count.max(1))
+pub fn stored(bench: &mut Bench) {
+    let count = bench.rounds(FILES);
+    let rt = bench.rt();
+    let mut disk = FsPlace::new(rt);
+    at_place(bench, &mut disk, count);
+    if bench.has_failed() {
+        return;
+    }
+    bench.note(fs::remove_dir_all(&rt, STORE));
+    by_calls(bench, count);
 }
 
 /// Puts large files until the disk is full. They are all whole.
-fn fill_disk<F: Files>(alloc: Global, files: &mut F) -> Result<(), Fault>
+fn fill_disk<F: Files>(bench: &mut Bench, files: &mut F)
     ensures { F.store files.new ≡ F.store files.old }
 {
-    let bytes = block(alloc, LARGE)?;
-    let mut port = files.port()?;
-    let put = put_all(files, &mut port, TOO_MANY, &bytes);
-    files.end_port(port);
-    match put {
-        Err(Fault::Store) => Ok(()),
-        Err(fault) => Err(fault),
-        Ok(()) => Err(Fault::Unread),
+    let alloc = bench.alloc();
+    let bytes = bench.list(vec![in alloc; 7u8; LARGE]);
+    match files.port() {
+        Ok(mut port) => {
+            let put = put_all(files, &mut port, TOO_MANY, &bytes);
+            files.end_port(port);
+            bench.require(matches!(put, Err(StoreFault::Failed)));
+        }
+        Err(fault) => bench.fail(fault),
     }
 }
 
 /// Appends to a slot, as the log does.
-fn append<J: Journal>(alloc: Global, journal: &mut J) -> Result<(), Fault> {
-    let bytes = block(alloc, BYTES * 5)?;
+fn append<J: Journal>(journal: &mut J) -> Result<(), Failed> {
     let length = journal.length(Slot::A)?;
-    journal.write_at(Slot::A, length, &bytes)?;
-    Ok(journal.sync(Slot::A)?)
+    journal.write_at(Slot::A, length, &[7; APPENDED])?;
+    journal.sync(Slot::A)
 }
 
 /// Fills the disk with files, and appends to the log then.
-fn append_when_full<P: Place>(alloc: Global, place: &mut P) -> Result<(), Fault> {
-    let (mut journal, mut files) = place.take_up(FULL.as_bytes())?;
-    let filled = fill_disk(alloc, &mut files);
-    let appended = append(alloc, &mut journal);
-    place.put_down(journal, files);
-    filled?;
-    appended
+fn append_when_full<P: Place>(bench: &mut Bench, place: &mut P) {
+    match place.take_up(FULL.as_bytes()) {
+        Ok((mut journal, mut files)) => {
+            fill_disk(bench, &mut files);
+            bench.note(append(&mut journal));
+            place.put_down(journal, files);
+        }
+        Err(fault) => bench.fail(fault),
+    }
 }
 
 /// Fills the disk with the files of a store, where it is a small one. The log has room all the same.
-pub fn full(rt: &HostRuntime) -> Result<u64, Fault> {
-    let mut disk = FsPlace::new(rt.clone()?);
-    append_when_full(rt.alloc(), &mut disk)?;
-    Ok(1)
+pub fn full(bench: &mut Bench) {
+    let mut disk = FsPlace::new(bench.rt());
+    append_when_full(bench, &mut disk);
 }

@@ -4,13 +4,13 @@
 ghost use Rattle.std.specs.Prelude.{◌<◌, [], All};
 ghost use Rattle.tsdb_turn.specs.Passes.{IsOutside};
 
-use crate::fault::Fault;
-use crate::table::{Rounds, row};
+use crate::bench::Bench;
 use std::alloc::Global;
 use std::sync::{Mutex, Wait};
 use std::thread;
 use std::thread::Threads;
 use std::time::{Clock, Duration, Instant};
+use tsdb_base::Memory;
 use tsdb_turn::{Logged, Pass, Turn};
 
 /// A count, which has no entries.
@@ -113,11 +113,11 @@ fn run_turns<R: Threads + Wait + Clock + Sync>(
     passes: u32,
     times: u64,
     held: Duration,
-) -> Result<u64, Fault>
+) -> Result<u64, Memory>
     requires { 0 < passes }
 {
     let Ok((turn, mut all)) = Turn::new(alloc, Count { value: 0 }, passes) else {
-        return Err(Fault::Memory);
+        return Err(Memory);
     };
     take_turns_in_threads(
         handle,
@@ -133,86 +133,50 @@ fn run_turns<R: Threads + Wait + Clock + Sync>(
 
 /// So many passes, each in a thread, and as many threads at a `Mutex`.
 fn contend<R: Threads + Wait + Clock + Sync>(
-    rt: &HostRuntime,
+    bench: &mut Bench,
     handle: &R,
-    rounds: Rounds,
     passes: u32,
     many: u64,
     what: &str,
-) -> Result<u64, Fault>
+)
     requires some { 0 < passes }
     requires few { passes < 9 }
-    requires times { 0 < many }
-    requires fits { many < 10000000 }
 {
-    let times = rounds.of(many);
+    let times = bench.rounds(many);
+    let done = times.saturating_mul(u64::from(passes));
     let threads = passes as usize;
-    let start = Instant::now(rt)?;
-    let turns = run_turns(rt.alloc(), handle, passes, times, Duration::ZERO)?;
-    row(rt, rounds, what, "turn", times * u64::from(passes), start)?;
+    let alloc = bench.alloc();
+    bench.start();
+    bench.add_result(run_turns(alloc, handle, passes, times, Duration::ZERO));
+    bench.row(what, "turn", done);
     let lock = Mutex::new(0u64);
     let mut each = [0u8; 8];
-    let start = Instant::now(rt)?;
+    bench.start();
     thread::for_each_mut(
         handle,
         &mut each[..threads],
         threads,
         &|_, _| lock_often(handle, &lock, times),
     );
-    row(rt, rounds, what, "Mutex", times * u64::from(passes), start)?;
-    Ok(turns.wrapping_add(lock.into_inner()))
+    bench.row(what, "Mutex", done);
+    bench.add(lock.into_inner());
 }
 
 /// Four passes that hold the turn for 100 microseconds each. The row has the nanoseconds that it was held: a thousand
 /// millions in a second where handing over costs nothing.
-fn hold<R: Threads + Wait + Clock + Sync>(
-    rt: &HostRuntime,
-    handle: &R,
-    rounds: Rounds,
-) -> Result<u64, Fault> {
-    let times = rounds.of(2_500);
-    let start = Instant::now(rt)?;
-    let turns = run_turns(rt.alloc(), handle, 4, times, Duration::from_micros(100))?;
-    let held = times * 400_000;
-    row(
-        rt,
-        rounds,
-        "turns of 100 microseconds, 4 passes in threads",
-        "ns held",
-        held,
-        start,
-    )?;
-    Ok(turns)
+fn hold<R: Threads + Wait + Clock + Sync>(bench: &mut Bench, handle: &R) {
+    let times = bench.rounds(2_500);
+    let alloc = bench.alloc();
+    bench.start();
+    bench.add_result(run_turns(alloc, handle, 4, times, Duration::from_micros(100)));
+    let what = "turns of 100 microseconds, 4 passes in threads";
+    bench.row(what, "ns held", times.saturating_mul(400_000));
 }
 
 /// The rows of the turn.
-pub fn turns<R: Threads + Wait + Clock + Sync>(
-    rt: &HostRuntime,
-    handle: &R,
-    rounds: Rounds,
-) -> Result<u64, Fault> {
-    let one = contend(rt, handle, rounds, 1, 3_000_000, "turn of 1 pass")?;
-    let four = contend(
-        rt,
-        handle,
-        rounds,
-        4,
-        250_000,
-        "turn of 4 passes in threads",
-    )?;
-    let eight = contend(
-        rt,
-        handle,
-        rounds,
-        8,
-        125_000,
-        "turn of 8 passes in threads",
-    )?;
-    let held = hold(rt, handle, rounds)?;
-    Ok(
-        one.wrapping_add(four)
-            .wrapping_add(eight)
-            .wrapping_add(held)
-            .max(1),
-    )
+pub fn turns<R: Threads + Wait + Clock + Sync>(bench: &mut Bench, handle: &R) {
+    contend(bench, handle, 1, 3_000_000, "turn of 1 pass");
+    contend(bench, handle, 4, 250_000, "turn of 4 passes in threads");
+    contend(bench, handle, 8, 125_000, "turn of 8 passes in threads");
+    hold(bench, handle);
 }
