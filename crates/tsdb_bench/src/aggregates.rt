@@ -100,9 +100,8 @@ fn fold(bench: &mut Bench, what: &str, step: &str, case: Case) {
     for source in 0..case.pieces {
         let start = case.layout.start(u64::from(source), case.length);
         let list = even_points(bench, start, 1, case.length);
-        if let Some(piece) = piece(bench, &list, source, case.layout == Layout::Clean) {
-            bench.push(&mut pieces, piece);
-        }
+        let piece = piece(bench, &list, source, case.layout == Layout::Clean);
+        bench.put(&mut pieces, piece);
         bench.push(&mut loader.lists, list);
     }
     if loader.lists.len() == pieces.len() {

@@ -104,6 +104,13 @@ impl Bench {
         }
     }
 
+    /// Appends an item, where there is one.
+    pub fn put<T: Drop>(&mut self, list: &mut Vec<T>, item: Option<T>) {
+        if let Some(item) = item {
+            self.push(list, item);
+        }
+    }
+
     /// Appends a part of a text, and notes where memory ran out.
     pub fn write(&mut self, text: &mut String, part: Result<String, AllocError>) {
         if let Some(part) = self.ok(part) {

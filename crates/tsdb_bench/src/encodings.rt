@@ -37,9 +37,8 @@ fn texts(bench: &mut Bench, different: u64) -> Vec<Text>
         seed = next(seed);
         let place = (seed >> 32).checked_rem(different).unwrap_or(0);
         let bytes = place.wrapping_add(0x3030_3030_3030_3030).to_be_bytes();
-        if let Some(text) = bench.ok(Text::new(alloc, &bytes)) {
-            bench.push(&mut values, text);
-        }
+        let text = bench.ok(Text::new(alloc, &bytes));
+        bench.put(&mut values, text);
     }
     values.truncate(1000);
     values

@@ -105,9 +105,8 @@ fn tree(bench: &mut Bench, device: Path, count: u64) -> Tree {
     let alloc = bench.alloc();
     let mut chunks = Vec::new(alloc);
     for number in 0..count {
-        if let Some(chunk) = chunk(bench, number) {
-            bench.push(&mut chunks, chunk);
-        }
+        let chunk = chunk(bench, number);
+        bench.put(&mut chunks, chunk);
     }
     let group = Group {
         device,

@@ -54,9 +54,8 @@ fn entry(bench: &mut Bench, number: u64) -> Option<IndexEntry> {
 fn entries(bench: &mut Bench, chunks: u64) -> Vec<IndexEntry> {
     let mut entries = Vec::new(bench.alloc());
     for number in 0..chunks {
-        if let Some(entry) = entry(bench, number) {
-            bench.push(&mut entries, entry);
-        }
+        let entry = entry(bench, number);
+        bench.put(&mut entries, entry);
     }
     entries
 }
@@ -64,18 +63,14 @@ fn entries(bench: &mut Bench, chunks: u64) -> Vec<IndexEntry> {
 /// How the table calls the index.
 const NAME: &str = "an index of 100,000 chunks of one page";
 
-/// The row of writing the index of so many chunks. Gives its bytes and the place of its root.
-fn write(bench: &mut Bench, chunks: u64) -> Option<(Vec<u8>, u64)> {
-    let alloc = bench.alloc();
-    let entries = entries(bench, chunks);
-    if entries.is_empty() {
+/// The row of writing an index of so many chunks. Gives its bytes and the place of its root.
+fn write(bench: &mut Bench, index: &Index, chunks: u64) -> Option<(Vec<u8>, u64)> {
+    if index.entries.items().is_empty() {
         return None;
     }
-    let index = Index {
-        entries: List::of(entries),
-    };
+    let alloc = bench.alloc();
     bench.start();
-    let written = bench.ok(write_leaves_and_root(alloc, &index, PLACE));
+    let written = bench.ok(write_leaves_and_root(alloc, index, PLACE));
     bench.row(NAME, "write", chunks);
     written
 }
@@ -97,7 +92,12 @@ fn read(bench: &mut Bench, bytes: &[u8], root: u64, chunks: u64) {
 /// The rows of an index.
 pub fn indexes(bench: &mut Bench) {
     let chunks = bench.rounds(100_000);
-    if let Some((bytes, root)) = write(bench, chunks) {
+    let index = Index {
+        entries: List::of(entries(bench, chunks)),
+    };
+    let written = write(bench, &index, chunks);
+    drop(index);
+    if let Some((bytes, root)) = written {
         bench.add(root);
         read(bench, &bytes, root, chunks);
     }

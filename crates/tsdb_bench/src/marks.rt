@@ -44,9 +44,8 @@ fn paths(bench: &mut Bench, count: u32) -> Vec<Path> {
     let alloc = bench.alloc();
     let mut paths = Vec::new(alloc);
     for number in 0..count {
-        if let Some(path) = names::path(bench, format!(in alloc; "root.g.d.s{number:04}")) {
-            bench.push(&mut paths, path);
-        }
+        let path = names::path(bench, format!(in alloc; "root.g.d.s{number:04}"));
+        bench.put(&mut paths, path);
     }
     paths
 }

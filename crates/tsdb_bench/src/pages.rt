@@ -3,7 +3,7 @@
 use crate::bench::Bench;
 use crate::fault::Fault;
 use crate::points::{Values, points};
-use tsdb_base::{DataType, Encoding, suits};
+use tsdb_base::{DataType, Encoding, Point, suits};
 use tsdb_pages::{are_points, read_page, write_page};
 use tsdb_stats::stats_of;
 
@@ -47,15 +47,9 @@ const PAGES: &[Measured] = &[
 ];
 
 /// The rows of writing a page, and of reading it.
-fn both_rows(bench: &mut Bench, one: Measured) {
-    let Measured {
-        what,
-        values,
-        data_type,
-        encoding,
-    } = one;
-    let points = points(bench, values, PAGE);
-    if !suits(data_type, encoding) || !are_points(&points, data_type) {
+fn both_rows(bench: &mut Bench, one: Measured, points: &[Point]) {
+    let (data_type, encoding) = (one.data_type, one.encoding);
+    if !suits(data_type, encoding) || !are_points(points, data_type) {
         bench.fail(Fault::Unread);
         return;
     }
@@ -63,27 +57,26 @@ fn both_rows(bench: &mut Bench, one: Measured) {
     let many = bench.rounds(2000);
     bench.start();
     for _ in 0..many {
-        bench.add_length(write_page(alloc, &points, data_type, encoding));
+        bench.add_length(write_page(alloc, points, data_type, encoding));
     }
-    bench.row(what, "write", many.saturating_mul(PAGE));
-    let body = bench.list(write_page(alloc, &points, data_type, encoding));
+    bench.row(one.what, "write", many.saturating_mul(PAGE));
+    let body = bench.list(write_page(alloc, points, data_type, encoding));
     bench.start();
     for _ in 0..many {
         bench.add_length(read_page(alloc, &body, data_type, encoding));
     }
-    bench.row(what, "read", many.saturating_mul(PAGE));
+    bench.row(one.what, "read", many.saturating_mul(PAGE));
 }
 
 /// The row of the statistics of a page.
-fn statistics(bench: &mut Bench, what: &str, values: Values) {
-    let points = points(bench, values, PAGE);
+fn statistics(bench: &mut Bench, what: &str, points: &[Point]) {
     if points.is_empty() {
         return;
     }
     let many = bench.rounds(20_000);
     bench.start();
     for _ in 0..many {
-        if let Some(stats) = bench.ok(stats_of(&points)) {
+        if let Some(stats) = bench.ok(stats_of(points)) {
             bench.add(stats.count);
         }
     }
@@ -93,8 +86,11 @@ fn statistics(bench: &mut Bench, what: &str, values: Values) {
 /// The rows of pages and of statistics.
 pub fn pages(bench: &mut Bench) {
     for one in PAGES {
-        both_rows(bench, *one);
+        let points = points(bench, one.values, PAGE);
+        both_rows(bench, *one, &points);
     }
-    statistics(bench, "statistics of INT64", Values::Any);
-    statistics(bench, "statistics of TEXT", Values::Texts);
+    let numbers = points(bench, Values::Any, PAGE);
+    statistics(bench, "statistics of INT64", &numbers);
+    let texts = points(bench, Values::Texts, PAGE);
+    statistics(bench, "statistics of TEXT", &texts);
 }

@@ -19,8 +19,8 @@ pub enum Values {
     Texts,
 }
 
-/// The value at a place, where a step that looks random has come to `seed`.
-fn value(bench: &mut Bench, values: Values, place: u64, seed: u64) -> Option<Value> {
+/// The point at a place, where a step that looks random has come to `seed`.
+fn point(bench: &mut Bench, values: Values, place: u64, time: u64, seed: u64) -> Option<Point> {
     let number = match values {
         Values::Any => seed,
         Values::Growing => place.wrapping_mul(1000).wrapping_add(seed >> 60),
@@ -28,13 +28,15 @@ fn value(bench: &mut Bench, values: Values, place: u64, seed: u64) -> Option<Val
         Values::Runs => place / 100,
         Values::Texts => ((seed >> 32) % 5).wrapping_add(0x3030_3030_3030_3030),
     };
-    match values {
+    let value = match values {
         Values::Texts => {
             let text = Text::new(bench.alloc(), &number.to_be_bytes());
-            Some(Value::Text(bench.ok(text)?))
+            Value::Text(bench.ok(text)?)
         }
-        _ => Some(Value::I64(number.cast_signed())),
-    }
+        _ => Value::I64(number.cast_signed()),
+    };
+    let time = time.cast_signed();
+    Some(Point { time, value })
 }
 
 /// So many points, with times about 1,000 apart.
@@ -45,10 +47,8 @@ pub fn points(bench: &mut Bench, values: Values, count: u64) -> Vec<Point> {
     for place in 0..count {
         seed = next(seed);
         time = time.wrapping_add(1000 + (seed >> 60));
-        if let Some(value) = value(bench, values, place, seed) {
-            let time = time.cast_signed();
-            bench.push(&mut points, Point { time, value });
-        }
+        let point = point(bench, values, place, time, seed);
+        bench.put(&mut points, point);
     }
     points
 }

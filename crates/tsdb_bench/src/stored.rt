@@ -286,11 +286,10 @@ pub fn stored(bench: &mut Bench) {
     let rt = bench.rt();
     let mut disk = FsPlace::new(rt);
     at_place(bench, &mut disk, count);
-    if bench.has_failed() {
-        return;
+    if !bench.has_failed() {
+        bench.note(fs::remove_dir_all(&rt, STORE));
+        by_calls(bench, count);
     }
-    bench.note(fs::remove_dir_all(&rt, STORE));
-    by_calls(bench, count);
 }
 
 /// Puts large files until the disk is full. They are all whole.
