@@ -9,7 +9,7 @@ use std::alloc::Global;
 pub type Time = i64;
 
 /// A value at a time.
-#[derive(Clone, Debug, PartialEq, Eq, Drop)]
+#[derive(Debug, PartialEq, Eq, Drop)]
 pub struct Point {
     pub time: Time,
     pub value: Value,
@@ -47,7 +47,7 @@ pub struct Range {
 
 /// What is kept of a list of points of one type in the order of their times. `least` and
 /// `greatest` are there exactly for numbers.
-#[derive(Clone, Debug, PartialEq, Eq, Drop)]
+#[derive(Debug, PartialEq, Eq, Drop)]
 pub struct Stats {
     pub count: u64,
     pub start: Time,

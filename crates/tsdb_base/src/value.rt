@@ -28,7 +28,7 @@ pub enum Encoding {
 }
 
 /// A value of one of the types.
-#[derive(Clone, Debug, PartialEq, Eq, Drop)]
+#[derive(Debug, PartialEq, Eq, Drop)]
 pub enum Value {
     Bool(bool),
     I32(i32),
