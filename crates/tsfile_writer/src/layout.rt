@@ -160,9 +160,9 @@ impl OpenChunk {
             return Err(Memory);
         }
         let place = into.len() as u64;
+        self.pages.reserve(1)?;
         let stats = stats_of(points)?;
         let all = join_stats(&self.stats, &stats)?;
-        self.pages.reserve(1)?;
         put_page(alloc, points, data_type, encoding, into)?;
         let Ok(()) = self.pages.push(PageEntry { place, stats }) else {
             unreachable!()
