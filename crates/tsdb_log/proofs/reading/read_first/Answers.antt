@@ -1,3 +1,4 @@
+use Rattle.std.proofs.Common.{rules}
 use Rattle.std.proofs.Common.{◌≡◌, ap, arith, length}
 use Rattle.tsdb_log.proofs.Exits.{no_kind}
 use Rattle.tsdb_log.proofs.reading.read_first.Goals as goal
@@ -15,3 +16,6 @@ returns-in_default c = record {
   exact = no_kind c.args.payload.now (λ n more e low high. let none = c.in_default.ensures.cases in
       absurd (omega (arith, none, ap length e)));
 }
+
+pub returns-in-4 : goal.returns-in-4
+returns-in-4 c = search rules

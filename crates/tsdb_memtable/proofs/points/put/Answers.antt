@@ -1,3 +1,4 @@
+use Rattle.std.proofs.lemmas.Grind.{common_steps}
 use Rattle.std.proofs.Common.{rules, ◌≡◌, ◌≢◌, ◌<◌, List, take, drop, get_or, length, subst, sym, ap, set, ◌∙◌, arith}
 use Rattle.std.proofs.lemmas.Int.{to_z-of_z}
 use Rattle.std.proofs.lemmas.Bool.{false≢true}
@@ -62,3 +63,6 @@ returns-clause-items c = inserted c
 
 pub returns-clause-rising : goal.returns-clause-rising
 returns-clause-rising c = subst IsRising (sym (inserted c)) (with_point-rising c.args.point c.args.points.now.items c.requires.rising)
+
+pub returns-then-is_at-clause-bytes : goal.returns-then-is_at-clause-bytes
+returns-then-is_at-clause-bytes c = grind (arith, common_steps)

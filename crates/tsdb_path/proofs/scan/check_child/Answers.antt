@@ -20,3 +20,9 @@ returns-then-count_nodes-clause-as_read c =
 
 pub returns-then-count_nodes-clause-err : goal.returns-then-count_nodes-clause-err
 returns-then-count_nodes-clause-err c = grind (arith, common_steps)
+
+pub returns-then-path-name-gt-MAX_BYTES-clause-err : goal.returns-then-path-name-gt-MAX_BYTES-clause-err
+returns-then-path-name-gt-MAX_BYTES-clause-err c = grind (arith, common_steps)
+
+pub returns-then-path-name-gt-MAX_BYTES-clause-as_read : goal.returns-then-path-name-gt-MAX_BYTES-clause-as_read
+returns-then-path-name-gt-MAX_BYTES-clause-as_read c = grind (arith, common_steps)

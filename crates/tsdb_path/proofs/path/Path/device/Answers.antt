@@ -17,3 +17,6 @@ pub returns-clause-nodes : goal.returns-clause-nodes
 returns-clause-nodes c =
     let e : c.in_ok-bytes.bytes.items ≡ device_of c.args.self.now = search rules in
     ap (λ l. node_count l + 1) e ∙ node_count-device_of c.args.self.now (subst IsPath c.self.view_is c.self.invariant) c.requires
+
+pub returns-clause-value : goal.returns-clause-value
+returns-clause-value c = search rules

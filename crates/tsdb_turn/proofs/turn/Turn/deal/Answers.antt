@@ -57,3 +57,6 @@ loop-own_marks-preserved g c =
           ∙ passes_more loop.passes.items turn.id start n more (vec_len loop.marks) less
           ∙ loop.invariant.passes;
     }
+
+pub loop-own_marks-init : goal.loop-own_marks-init
+loop-own_marks-init c = search rules

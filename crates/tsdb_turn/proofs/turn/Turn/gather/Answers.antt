@@ -1,3 +1,4 @@
+use Rattle.std.proofs.Common.{rules}
 use Rattle.std.proofs.Common.{[], ◌++◌, Some, map, append-nil, ap, sym, ◌∙◌, arith}
 use Rattle.std.proofs.lemmas.List.Elements.{All-pop}
 use Rattle.tsdb_turn.specs.Passes.{TurnState, IsOutside}
@@ -60,3 +61,6 @@ loop-pass-preserved g c =
           ∙ known_more loop.passes.items ys pass loop.seat.me.0.known items
           ∙ loop.invariant.known;
     }
+
+pub returns-clause-seat : goal.returns-clause-seat
+returns-clause-seat c = search rules

@@ -1,3 +1,4 @@
+use Rattle.std.proofs.Common.{rules}
 use Rattle.std.proofs.Common.{IsSomeAnd, option_map, subst, sym}
 use Rattle.tsdb_turn.specs.Passes.{PassState}
 use Rattle.tsdb_turn.specs.Rule.{known}
@@ -12,3 +13,9 @@ put_back-requires-clause-inside g c =
     let owed = subst (λ (q : PassState g.row.V.Denot). IsSomeAnd q.entered (λ e. Extends g.V.Logged q.number q.start e c.args.value)) (sym c.pass.view_is) c.requires.value in
     let h = sits_inside k (option_map (λ s. s.value) p.entered) p.seat.me (λ e. Extends g.V.Logged k.number k.start e c.args.value) c.pass.invariant.sits owed in
     (h.0, k, h.1, h.2, h.3)
+
+pub invariant_of-pass : goal.invariant_of-pass
+invariant_of-pass c = search rules
+
+pub returns : goal.returns
+returns c = search rules
