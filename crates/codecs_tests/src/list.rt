@@ -1,9 +1,9 @@
-//! The numbers that lists begin with, packed numbers, and appends that failed. It depends on `enc_list`.
+//! The numbers that lists begin with, packed numbers, and appends that failed. It depends on `tsdb_bits`.
 use crate::answers::{is_bad, is_read};
-use enc_list::{all_or_none, take_count, take_number, take_packed};
 use std::alloc::{AllocError, Global};
 use std::test::Fail;
 use tsdb_base::{DecodeFault, Memory};
+use tsdb_bits::{all_or_none, take_count, take_number, take_packed};
 
 fn has_count(bytes: &[u8], count: usize, rest: &[u8]) -> bool {
     take_count(bytes) == Ok((count, rest))

@@ -1,9 +1,9 @@
-//! Lists of values of one type. It depends on `enc_values`.
+//! Lists of values of one type. It depends on `tsdb_pages`.
 use crate::answers::{MAX_VALUES, is_bad, is_read, too_many};
-use enc_values::{HasValue, decode, encode_into};
 use std::alloc::Global;
 use std::test::Fail;
 use tsdb_base::{DataType, DecodeFault, Encoding, Memory, Point, Text, Value, suits};
+use tsdb_pages::{HasValue, decode, encode_into};
 
 const ENCODINGS: [Encoding; 4] = [
     Encoding::Plain,

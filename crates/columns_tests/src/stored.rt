@@ -1,16 +1,16 @@
 //! Files of one series in a store in memory, and what streams over them give.
 ghost use Rattle.std.specs.Prelude.{◌≡◌};
-ghost use Rattle.tsdb_columns.specs.Streams.{IsStreamOfStore};
+ghost use Rattle.tsdb_streams.specs.Streams.{IsStreamOfStore};
 
 use mem_outside::{Fails, MemPlace, MemPort};
 use std::alloc::Global;
 use std::test::Fail;
 use tsdb_base::{DataType, Encoding, FileNumber, List, Point, Range, Stamp, Time, Value};
-use tsdb_columns::{Source, Stream, open_column, pull};
 use tsdb_marks::{Mark, Marks};
 use tsdb_outside::{Files, Place, Port, StoreFault};
 use tsdb_pages::{Chunk, Group, Page, Tree, is_tree};
 use tsdb_path::{Name, Path};
+use tsdb_streams::{Source, Stream, open_column, pull};
 use tsfile_writer::write_tree;
 
 /// A time and a value.

@@ -6,8 +6,8 @@ use Rattle.core_support.specs.Ready.{IsReady}
 use Rattle.core_support.specs.declared.led.Held.{Held}
 use Rattle.tsdb_core.specs.Flushes.{IsOut}
 use Rattle.tsdb_core.specs.declared.engine.Core.{Core}
-use Rattle.tsdb_jobs.specs.declared.flush.FlushJob.{FlushJob}
-use Rattle.tsdb_jobs.specs.declared.flush.Flushed.{Flushed}
+use Rattle.tsdb_flush.specs.declared.job.FlushJob.{FlushJob}
+use Rattle.tsdb_flush.specs.declared.job.Flushed.{Flushed}
 use Rattle.tsdb_outside.specs.Files.{NamedFile, Store}
 use Rattle.tsdb_outside.specs.declared.disk.Disk as disk
 use Rattle.tsdb_outside.specs.declared.faults.Counted as counted

@@ -7,8 +7,8 @@ use Rattle.std.specs.Option.{option_map}
 use Rattle.std.specs.Prelude.{IfSome, ◌≤◌}
 use Rattle.core_support.specs.Ready.{IsReady, IsReadyWith, IsTakenOut, flush_of}
 use Rattle.tsdb_base.specs.declared.ids.FileNumber.{FileNumber}
-use Rattle.tsdb_committing.proofs.Coming.{of_each}
-use Rattle.tsdb_committing.specs.Files.{NewFile, all_of, new_file, new_files}
+use Rattle.tsdb_tasks.proofs.Coming.{of_each}
+use Rattle.tsdb_tasks.specs.Files.{NewFile, all_of, new_file, new_files}
 use Rattle.tsdb_core.specs.Commands.{KeepsFiles}
 use Rattle.tsdb_core.specs.Core.{IsAbove, KeepsJobs, files_of}
 use Rattle.tsdb_core.specs.Ending.{drawn_for}
@@ -17,16 +17,16 @@ use Rattle.tsdb_core.specs.Sweeps.{IsSwept}
 use Rattle.tsdb_core.specs.declared.commit.Commit.{Commit}
 use Rattle.tsdb_core.specs.declared.commit.CoreFault.{CoreFault}
 use Rattle.tsdb_core.specs.declared.engine.Core.{Core}
-use Rattle.tsdb_jobs.specs.Built.{IsDone}
-use Rattle.tsdb_jobs.specs.Jobs.{IsJob}
-use Rattle.tsdb_jobs.specs.Parts.{Filled}
-use Rattle.tsdb_jobs.specs.declared.flush.Built.{Built}
-use Rattle.tsdb_jobs.specs.declared.flush.Flushed.{Flushed}
-use Rattle.tsdb_jobs.specs.declared.flush.FlushJob.{FlushJob}
-use Rattle.tsdb_kept.proofs.Taken.{still_all}
-use Rattle.tsdb_kept.specs.Files.{KeptFiles, none_kept}
-use Rattle.tsdb_kept.specs.Places.{AllFiles, KeptFile, OnlyMakesPlaces, Places}
-use Rattle.tsdb_layers.specs.Lists.{IsWithOne, if_some}
+use Rattle.tsdb_flush.specs.Built.{IsDone}
+use Rattle.tsdb_flush.specs.Jobs.{IsJob}
+use Rattle.tsdb_flush.specs.Parts.{Filled}
+use Rattle.tsdb_flush.specs.declared.job.Built.{Built}
+use Rattle.tsdb_flush.specs.declared.job.Flushed.{Flushed}
+use Rattle.tsdb_flush.specs.declared.job.FlushJob.{FlushJob}
+use Rattle.tsdb_fileset.proofs.Taken.{still_all}
+use Rattle.tsdb_fileset.specs.Files.{KeptFiles, none_kept}
+use Rattle.tsdb_fileset.specs.Places.{AllFiles, KeptFile, OnlyMakesPlaces, Places}
+use Rattle.tsdb_base.specs.Lists.{IsWithOne, if_some}
 use Rattle.tsdb_outside.specs.Files.{NamedFile, Store}
 use Rattle.tsdb_outside.specs.declared.disk.Disk as disk
 use Rattle.tsdb_outside.specs.declared.faults.Counted as counted

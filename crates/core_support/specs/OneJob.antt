@@ -3,10 +3,10 @@ use Rattle.std.specs.Prelude.{⊤, ℕ, [], ◌∷◌, List}
 use Rattle.core_support.specs.declared.led.Held.{Held}
 use Rattle.core_support.specs.declared.led.Held.TheVariants.{Nothing, Taken, Written}
 use Rattle.tsdb_base.specs.declared.ids.Space.TheVariants.{Sequence, Unsequence}
-use Rattle.tsdb_jobs.specs.Built.{IsDone}
-use Rattle.tsdb_jobs.specs.Jobs.{IsJob, job_part}
-use Rattle.tsdb_jobs.specs.declared.flush.FlushJob.{FlushJob}
-use Rattle.tsdb_jobs.specs.declared.flush.Flushed.{Flushed}
+use Rattle.tsdb_flush.specs.Built.{IsDone}
+use Rattle.tsdb_flush.specs.Jobs.{IsJob, job_part}
+use Rattle.tsdb_flush.specs.declared.job.FlushJob.{FlushJob}
+use Rattle.tsdb_flush.specs.declared.job.Flushed.{Flushed}
 use Rattle.tsdb_outside.specs.Files.{NamedFile, Store}
 
 -- the jobs that are out

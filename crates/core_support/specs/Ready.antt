@@ -8,9 +8,9 @@ use Rattle.tsdb_core.specs.Core.{KeepsJobs, files_of}
 use Rattle.tsdb_core.specs.Flushes.{IsOut}
 use Rattle.tsdb_core.specs.declared.commit.CoreFault.{CoreFault}
 use Rattle.tsdb_core.specs.declared.engine.Core.{Core}
-use Rattle.tsdb_jobs.specs.Jobs.{IsJob}
-use Rattle.tsdb_jobs.specs.declared.flush.FlushJob.{FlushJob}
-use Rattle.tsdb_kept.specs.Places.{AreOfStore, AreUnread}
+use Rattle.tsdb_flush.specs.Jobs.{IsJob}
+use Rattle.tsdb_flush.specs.declared.job.FlushJob.{FlushJob}
+use Rattle.tsdb_fileset.specs.Places.{AreOfStore, AreUnread}
 use Rattle.tsdb_outside.specs.Files.{Store}
 use Rattle.tsdb_outside.specs.declared.disk.Disk as disk
 use Rattle.tsdb_outside.specs.declared.faults.Counted as counted

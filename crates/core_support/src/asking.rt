@@ -1,20 +1,20 @@
 //! What a core that flushes is asked for, and what it stays ready for then. Depends on nothing here.
 ghost use Rattle.std.specs.Prelude.{[], ◌≤◌, List};
 ghost use Rattle.core_support.specs.Ready.{IsReady, IsReadyWith, IsTakenOut};
-ghost use Rattle.tsdb_committing.specs.Files.{AreDone, new_files};
+ghost use Rattle.tsdb_tasks.specs.Files.{AreDone, new_files};
 ghost use Rattle.tsdb_core.specs.Flushes.{EndsFlush, IsOut};
 ghost use Rattle.tsdb_core.specs.Limits.{IsPairLimit};
 ghost use Rattle.tsdb_core.specs.declared.commit.Commit.{Commit as HowEnded};
-ghost use Rattle.tsdb_jobs.specs.declared.flush.FlushJob.{FlushJob as JobOf};
+ghost use Rattle.tsdb_flush.specs.declared.job.FlushJob.{FlushJob as JobOf};
 ghost use Rattle.tsdb_model.specs.Commands.{IsWellFormed};
 ghost use Rattle.tsdb_outside.specs.Files.{Store};
 
 use std::alloc::Global;
 use tsdb_base::{Answer, FileNumber, Stamp};
 use tsdb_core::{Commit, Core, CoreFault, Options};
-use tsdb_jobs::{FlushJob, Flushed};
-use tsdb_kept::KeptFiles;
-use tsdb_logged::Logged;
+use tsdb_fileset::KeptFiles;
+use tsdb_flush::{FlushJob, Flushed};
+use tsdb_memory::Logged;
 use tsdb_model::Command;
 use tsdb_outside::{Files, Journal};
 

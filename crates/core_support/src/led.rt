@@ -3,8 +3,8 @@ ghost use Rattle.std.specs.Prelude.{◌≡◌, [], ◌∷◌, List};
 ghost use Rattle.core_support.specs.OneJob.{AreWritten, IsHeld, jobs_of};
 ghost use Rattle.core_support.specs.Ready.{IsReady};
 ghost use Rattle.tsdb_core.specs.Flushes.{IsOut};
-ghost use Rattle.tsdb_jobs.specs.Jobs.{IsJob};
-ghost use Rattle.tsdb_jobs.specs.declared.flush.FlushJob.{FlushJob as JobOf};
+ghost use Rattle.tsdb_flush.specs.Jobs.{IsJob};
+ghost use Rattle.tsdb_flush.specs.declared.job.FlushJob.{FlushJob as JobOf};
 ghost use Rattle.tsdb_outside.specs.Files.{Store};
 
 use crate::asking::{ask, end, freeze, new_core, take};
@@ -15,11 +15,9 @@ use std::marker::Model;
 use std::test::Fail;
 use tsdb_base::{Answer, FileNumber};
 use tsdb_core::{Commit, Core, CoreFault};
-use tsdb_engine::{FlushRefused, run_flush};
+use tsdb_flush::{FlushJob, FlushRefused, Flushed, run_flush};
 use tsdb_frames::Frames;
-use tsdb_jobs::{FlushJob, Flushed};
-use tsdb_logged::Logged;
-use tsdb_memory::MemoryStore;
+use tsdb_memory::{Logged, MemoryStore};
 use tsdb_model::Listing;
 use tsdb_outside::{Failed, Files, Journal, Place, Slot};
 

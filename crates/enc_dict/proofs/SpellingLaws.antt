@@ -13,7 +13,7 @@ use Rattle.tsdb_bits.proofs.PackingLaws.{digits_of_number, digits_least, same_fr
 use Rattle.tsdb_base.specs.Plain.{plain_text, IsText}
 use Rattle.tsdb_base.specs.PlainLaws.{plain_text-prefix_free}
 use Rattle.tsdb_base.proofs.PlainLists.{same_values}
-use Rattle.enc_list.specs.Lists.{IsListOf, IsSpelling, HasOneSpelling}
+use Rattle.tsdb_bits.specs.Lists.{IsListOf, IsSpelling, HasOneSpelling}
 use Rattle.enc_dict.specs.Steps.{AreParts, AreUses}
 use Rattle.enc_dict.specs.Spelling.{first_uses, place_in, place_width, parts, spelling}
 use Rattle.enc_dict.proofs.FirstUses.{AreAmong, all_used, place_within, places_within, length-first_uses, texts_back}

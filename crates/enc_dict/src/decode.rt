@@ -1,16 +1,15 @@
-//! From bytes to lists. It depends on `tsdb_base`, `tsdb_bits` and `enc_list`.
+//! From bytes to lists. It depends on `tsdb_base` and `tsdb_bits`.
 ghost use Rattle.std.specs.Prelude.{◌≡◌, ℕ, ◌^◌, ◌<◌, ◌≤◌, List, length, All, IfOk, IsErrOf};
 ghost use Rattle.tsdb_base.specs.Limits.{max_values};
 ghost use Rattle.tsdb_base.specs.Plain.{IsText};
-ghost use Rattle.enc_list.specs.Lists.{HasNone, IsSpelling, IsOnly, SpellNone};
+ghost use Rattle.tsdb_bits.specs.Lists.{HasNone, IsSpelling, IsOnly, SpellNone};
 ghost use Rattle.enc_dict.specs.Spelling.{parts, spelling};
 ghost use Rattle.enc_dict.specs.Steps.{AreParts, AreUses, HaveNoParts};
 
 use crate::encode::{lend, uses_of};
-use enc_list::{take_count, take_number, take_packed};
 use std::alloc::Global;
 use tsdb_base::{DecodeFault, Text, take_all};
-use tsdb_bits::width;
+use tsdb_bits::{take_count, take_number, take_packed, width};
 
 /// What stands behind the number of values.
 #[derive(Drop)]

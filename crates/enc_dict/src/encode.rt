@@ -7,11 +7,10 @@ ghost use Rattle.tsdb_base.specs.Plain.{plain_text};
 ghost use Rattle.enc_dict.specs.Spelling.{first_uses, lent, place_in, spelling};
 
 use crate::dictionary::{HINTS, hint_of, known_place, place_of};
-use enc_list::all_or_none;
 use std::alloc::Global;
 use std::collections::BTreeMap;
 use tsdb_base::{Memory, PlainValue, Text};
-use tsdb_bits::{pack, put_leb, width};
+use tsdb_bits::{all_or_none, pack, put_leb, width};
 
 /// The different texts of a list, in the order of their first use, and the places of its values.
 #[derive(Drop)]

@@ -1,6 +1,6 @@
 //! The laws of the spelling. No body uses them. It depends on the definitions alone.
 ghost use Rattle.tsdb_base.specs.Plain.{IsText};
-ghost use Rattle.enc_list.specs.Lists.{HasOneSpelling, IsShort};
+ghost use Rattle.tsdb_bits.specs.Lists.{HasOneSpelling, IsShort};
 ghost use Rattle.enc_dict.specs.Spelling.{spelling};
 
 /// Two lists of texts with the same bytes are equal.

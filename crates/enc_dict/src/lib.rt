@@ -1,5 +1,5 @@
-//! The DICTIONARY encoding of texts: the different texts in the order of their first use, and the
-//! place of each value among them. It depends on `tsdb_base`, `tsdb_bits` and `enc_list`.
+//! The DICTIONARY encoding of texts: the different texts in the order of their first use, and the place of each value
+//! among them. It depends on `tsdb_base` and `tsdb_bits`.
 #![tactic(auto)]
 
 mod decode;

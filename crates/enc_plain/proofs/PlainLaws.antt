@@ -9,7 +9,7 @@ use Rattle.std.proofs.lemmas.List.{append-nil, length-append}
 use Rattle.tsdb_bits.specs.Leb.{leb}
 use Rattle.tsdb_bits.proofs.LebLaws.{leb_prefix_free, length-leb}
 use Rattle.tsdb_base.proofs.PlainLists.{IsPrefixFree, same_values}
-use Rattle.enc_list.specs.Lists.{HasOneSpelling, IsListOf}
+use Rattle.tsdb_bits.specs.Lists.{HasOneSpelling, IsListOf}
 use Rattle.enc_plain.specs.Spelling.{spelling}
 
 pub same_from_spelling : {A : Type 0} (each : A → List ℕ) (IsValue : A → Type 0) (free : IsPrefixFree each IsValue) → HasOneSpelling (spelling each) IsValue

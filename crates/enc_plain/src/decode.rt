@@ -1,13 +1,13 @@
-//! From bytes to lists. It depends on `tsdb_base` and `enc_list`.
+//! From bytes to lists. It depends on `tsdb_base` and `tsdb_bits`.
 ghost use Rattle.std.specs.Prelude.{IfOk, IsErrOf, FitsSigned};
 ghost use Rattle.std.specs.Int.{w32, w64};
 ghost use Rattle.tsdb_base.specs.Plain.{plain_bool, plain_i32, plain_i64, plain_text, IsText};
-ghost use Rattle.enc_list.specs.Lists.{IsSpelling, IsOnly, SpellNone};
+ghost use Rattle.tsdb_bits.specs.Lists.{IsSpelling, IsOnly, SpellNone};
 ghost use Rattle.enc_plain.specs.Spelling.{spelling};
 
-use enc_list::take_count;
 use std::alloc::Global;
 use tsdb_base::{DecodeFault, PlainValue, Text, take_all};
+use tsdb_bits::take_count;
 
 /// The list of at most 1,000 BOOLEAN values with these bytes. It is `Bad` exactly where there is none.
 pub fn decode_bool(alloc: Global, bytes: &[u8]) -> Result<Vec<bool>, DecodeFault>

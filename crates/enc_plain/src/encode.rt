@@ -4,9 +4,8 @@ ghost use Rattle.tsdb_base.specs.Limits.{max_values};
 ghost use Rattle.tsdb_base.specs.Plain.{plain_bool, plain_i32, plain_i64, plain_text};
 ghost use Rattle.enc_plain.specs.Spelling.{spelling};
 
-use enc_list::all_or_none;
 use tsdb_base::{Memory, PlainValue, Text, put_all};
-use tsdb_bits::put_leb;
+use tsdb_bits::{all_or_none, put_leb};
 
 /// Appends the bytes of at most 1,000 BOOLEAN values. After `Memory` the list is as it was.
 pub fn encode_bool_into(values: &[bool], into: &mut Vec<u8>) -> Result<(), Memory>

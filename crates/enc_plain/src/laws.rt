@@ -2,7 +2,7 @@
 ghost use Rattle.std.specs.Prelude.{FitsSigned};
 ghost use Rattle.std.specs.Int.{w32, w64};
 ghost use Rattle.tsdb_base.specs.Plain.{plain_bool, plain_i32, plain_i64, plain_text, IsText};
-ghost use Rattle.enc_list.specs.Lists.{HasOneSpelling, IsShort};
+ghost use Rattle.tsdb_bits.specs.Lists.{HasOneSpelling, IsShort};
 ghost use Rattle.enc_plain.specs.Spelling.{spelling};
 
 /// Two lists of values of one type with the same bytes are equal.

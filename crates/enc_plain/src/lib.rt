@@ -1,5 +1,5 @@
-//! The PLAIN encoding: how many values there are, and then each value by itself. It depends on
-//! `tsdb_base`, `tsdb_bits` and `enc_list`.
+//! The PLAIN encoding: how many values there are, and then each value by itself. It depends on `tsdb_base` and
+//! `tsdb_bits`.
 #![tactic(auto)]
 
 mod decode;

@@ -9,7 +9,7 @@ use Rattle.std.proofs.lemmas.List.{append-nil, length-append, length-map, length
 use Rattle.std.proofs.lemmas.List.Concat.{flat_map-append}
 use Rattle.std.proofs.lemmas.List.Elements.{All-nil, All-cons, All-head, All-tail, All-append}
 use Rattle.tsdb_bits.specs.Leb.{leb}
-use Rattle.enc_list.specs.Lists.{IsListOf, IsSpelling}
+use Rattle.tsdb_bits.specs.Lists.{IsListOf, IsSpelling}
 use Rattle.enc_rle.specs.Spelling.{Run, runs_of, expand_runs, run_bytes, codes_spelling, spelling, IsJoined}
 use Rattle.enc_rle.specs.Steps.{MayFollow}
 use Rattle.enc_rle.proofs.Runs.{expand_runs-runs_of, joined-runs_of, runs_of-expand_runs, joined_count, run_bytes-some, first_run, spelling_parts}

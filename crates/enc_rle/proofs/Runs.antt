@@ -4,7 +4,7 @@ use Rattle.std.specs.Prelude.{map}
 use Rattle.std.specs.List.{flat_map, AllByRecursion}
 use Rattle.std.proofs.lemmas.List.{length-map, length-append, length-replicate}
 use Rattle.std.proofs.lemmas.List.Elements.{recursion_from_All}
-use Rattle.enc_list.specs.Lists.{IsListOf}
+use Rattle.tsdb_bits.specs.Lists.{IsListOf}
 use Rattle.std.proofs.lemmas.Bool.{cases_eq, eq-eqb, ne_eqb}
 use Rattle.tsdb_bits.specs.Leb.{leb}
 use Rattle.tsdb_bits.proofs.LebLaws.{leb_prefix_free, leb-some, length-leb}

@@ -1,17 +1,17 @@
-//! From bytes to lists. It depends on `enc_list` and on the codes.
+//! From bytes to lists. It depends on `tsdb_bits` and on the codes.
 
 ghost use Rattle.std.specs.Prelude.{◌≡◌, ℕ, ◌≤◌, List, ◌++◌, replicate, IfOk, OnOk, OnErr, IsErrOf, FitsSigned};
 ghost use Rattle.std.specs.Int.{w32, w64};
 ghost use Rattle.tsdb_base.specs.Plain.{BeginsWithNone};
 ghost use Rattle.tsdb_bits.specs.Zigzag.{zigzag};
-ghost use Rattle.enc_list.specs.Lists.{IsSpelling, IsOnly, SpellNone};
+ghost use Rattle.tsdb_bits.specs.Lists.{IsSpelling, IsOnly, SpellNone};
 ghost use Rattle.enc_rle.specs.Spelling.{bool_code, run_bytes, spelling};
 ghost use Rattle.enc_rle.specs.Steps.{MayFollow};
 
 use crate::coded::Coded;
-use enc_list::{take_count, take_number};
 use std::alloc::Global;
 use tsdb_base::DecodeFault;
+use tsdb_bits::{take_count, take_number};
 
 /// The list of at most 1,000 BOOLEAN values with these bytes. It is `Bad` exactly where there is none.
 pub fn decode_bool(alloc: Global, bytes: &[u8]) -> Result<Vec<bool>, DecodeFault>

@@ -7,9 +7,8 @@ ghost use Rattle.tsdb_bits.specs.Zigzag.{zigzag};
 ghost use Rattle.enc_rle.specs.Spelling.{bool_code, spelling};
 
 use crate::coded::Coded;
-use enc_list::all_or_none;
 use tsdb_base::Memory;
-use tsdb_bits::put_leb;
+use tsdb_bits::{all_or_none, put_leb};
 
 /// Appends the bytes of at most 1,000 BOOLEAN values. After `Memory` the list is as it was.
 pub fn encode_bool_into(values: &[bool], into: &mut Vec<u8>) -> Result<(), Memory>

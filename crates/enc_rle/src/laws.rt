@@ -3,7 +3,7 @@
 ghost use Rattle.std.specs.Prelude.{◌≡◌, ℕ, ℤ, Bool, List, FitsSigned};
 ghost use Rattle.std.specs.Int.{w64};
 ghost use Rattle.tsdb_bits.specs.Zigzag.{zigzag};
-ghost use Rattle.enc_list.specs.Lists.{IsShort};
+ghost use Rattle.tsdb_bits.specs.Lists.{IsShort};
 ghost use Rattle.enc_rle.specs.Spelling.{Run, runs_of, expand_runs, spelling, bool_code, IsJoined};
 
 /// The runs of a list expand to it, have at least one value each, and neighbours differ; no other runs do.

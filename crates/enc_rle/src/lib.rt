@@ -1,5 +1,4 @@
-//! Run-length encoding of lists of BOOLEAN, INT32 and INT64 values. It depends on `tsdb_base`,
-//! `tsdb_bits` and `enc_list`.
+//! Run-length encoding of lists of BOOLEAN, INT32 and INT64 values. It depends on `tsdb_base` and `tsdb_bits`.
 #![tactic(auto)]
 
 mod coded;

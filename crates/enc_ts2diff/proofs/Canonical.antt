@@ -14,7 +14,7 @@ use Rattle.tsdb_bits.specs.Faults.{IsPacking}
 use Rattle.tsdb_bits.proofs.LebLaws.{length-leb}
 use Rattle.tsdb_bits.proofs.PackingLaws.{length-pack_bytes}
 use Rattle.tsdb_bits.proofs.ZigzagLaws.{zigzag-unzigzag}
-use Rattle.enc_list.specs.Lists.{IsListOf}
+use Rattle.tsdb_bits.specs.Lists.{IsListOf}
 use Rattle.enc_ts2diff.specs.Spelling.{differences, least, offsets, width_of, at_width, block, content, spelling}
 use Rattle.enc_ts2diff.specs.Steps.{steps_of, AreOffsets, last_of, Restores}
 use Rattle.enc_ts2diff.proofs.Numbers.{length-differences, differences_fit, offsets-lt, width_within, zigzag-lt, least_of_fits, least_bounds, step_from_offset}

@@ -8,7 +8,7 @@ use Rattle.std.proofs.lemmas.Int.{ints, int_wrap_fits, int_wrap-add_right, SFits
 use Rattle.std.proofs.lemmas.List.Elements.{All-head, All-tail, All-nil, All-cons, All-weaker}
 use Rattle.tsdb_bits.specs.Zigzag.{zigzag}
 use Rattle.tsdb_bits.proofs.PackingLaws.{digits_of_number, digits_least}
-use Rattle.enc_list.specs.Lists.{IsListOf}
+use Rattle.tsdb_bits.specs.Lists.{IsListOf}
 use Rattle.enc_ts2diff.specs.Spelling.{differences, least, offsets, width_of}
 use Rattle.enc_ts2diff.specs.Steps.{Continues}
 

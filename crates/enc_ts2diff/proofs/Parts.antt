@@ -11,7 +11,7 @@ use Rattle.tsdb_bits.specs.Faults.{IsPacking}
 use Rattle.tsdb_bits.proofs.LebLaws.{leb_prefix_free}
 use Rattle.tsdb_bits.proofs.ZigzagLaws.{same_from_zigzag}
 use Rattle.tsdb_bits.proofs.PackingLaws.{same_from_packed}
-use Rattle.enc_list.specs.Lists.{IsListOf}
+use Rattle.tsdb_bits.specs.Lists.{IsListOf}
 use Rattle.enc_ts2diff.specs.Spelling.{differences, least, offsets, width_of, at_width, block, content, spelling}
 use Rattle.enc_ts2diff.specs.Steps.{IsBlockOf, Continues}
 use Rattle.enc_ts2diff.proofs.Numbers.{fits_width, width_within, least_of_fits, least_bounds, length-differences, offsets-lt, same_values}

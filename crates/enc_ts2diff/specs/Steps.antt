@@ -3,7 +3,7 @@ use Rattle.std.specs.Prelude.{◌≡◌, ℕ, ℤ, pos, ◌+ℤ◌, ◌≤ℤ◌
 use Rattle.std.specs.Prelude.{All, FitsSigned}
 use Rattle.std.specs.Global.{Global}
 use Rattle.std.specs.Int.{w64}
-use Rattle.enc_list.specs.Lists.{IsListOf}
+use Rattle.tsdb_bits.specs.Lists.{IsListOf}
 use Rattle.enc_ts2diff.specs.Spelling.{differences, least, offsets, width_of, block, spelling}
 use Rattle.tsdb_base.specs.declared.fault.DecodeFault.{DecodeFault}
 use Rattle.tsdb_base.specs.declared.fault.DecodeFault.TheVariants as fault

@@ -1,18 +1,17 @@
-//! From bytes to lists. It depends on `tsdb_bits` and `enc_list`.
+//! From bytes to lists. It depends on `tsdb_bits`.
 
 ghost use Rattle.std.specs.Prelude.{◌≡◌, ◌↔◌, ℕ, ◌+◌, ◌-◌, ◌^◌, ◌<◌, ◌≤◌, ℤ, List, ◌∷◌, ◌++◌, length, min, fold, IfOk};
 ghost use Rattle.std.specs.Prelude.{IsErrOf, IsTrue, All, FitsSigned};
 ghost use Rattle.std.specs.Int.{w32, w64};
 ghost use Rattle.tsdb_base.specs.Limits.{max_values};
-ghost use Rattle.enc_list.specs.Lists.{IsListOf, IsSpelling, IsOnly, SpellNone};
+ghost use Rattle.tsdb_bits.specs.Lists.{IsListOf, IsSpelling, IsOnly, SpellNone};
 ghost use Rattle.enc_ts2diff.specs.Spelling.{block, spelling};
 ghost use Rattle.enc_ts2diff.specs.Steps.{FindsList, FindsBlockOf, FindsRest, Restores, AreOffsets, steps_of};
 
 use crate::encode::greatest_of;
-use enc_list::{take_count, take_number, take_packed};
 use std::alloc::Global;
 use tsdb_base::DecodeFault;
-use tsdb_bits::{unzigzag, width};
+use tsdb_bits::{take_count, take_number, take_packed, unzigzag, width};
 
 /// The list of at most 1,000 INT64 values with these bytes. It is `Bad` exactly where there is none.
 pub fn decode_i64(alloc: Global, bytes: &[u8]) -> Result<Vec<i64>, DecodeFault>

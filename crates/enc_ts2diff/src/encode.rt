@@ -6,10 +6,9 @@ ghost use Rattle.std.specs.Int.{w64};
 ghost use Rattle.tsdb_base.specs.Limits.{max_values};
 ghost use Rattle.enc_ts2diff.specs.Spelling.{differences, least, offsets, block, spelling};
 
-use enc_list::all_or_none;
 use std::alloc::Global;
 use tsdb_base::Memory;
-use tsdb_bits::{pack, put_leb, width, zigzag};
+use tsdb_bits::{all_or_none, pack, put_leb, width, zigzag};
 
 /// Appends the bytes of at most 1,000 INT64 values. After `Memory` the list is as it was.
 pub fn encode_i64_into(alloc: Global, values: &[i64], into: &mut Vec<u8>) -> Result<(), Memory>

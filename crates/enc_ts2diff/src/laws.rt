@@ -2,7 +2,7 @@
 
 ghost use Rattle.std.specs.Prelude.{FitsSigned};
 ghost use Rattle.std.specs.Int.{w64};
-ghost use Rattle.enc_list.specs.Lists.{HasOneSpelling, IsShort};
+ghost use Rattle.tsdb_bits.specs.Lists.{HasOneSpelling, IsShort};
 ghost use Rattle.enc_ts2diff.specs.Spelling.{spelling};
 
 /// Two lists with the same bytes are equal.

@@ -1,5 +1,5 @@
-//! TS_2DIFF: lists of INT32 and INT64 values by the differences of neighbours. It depends on
-//! `tsdb_base`, `tsdb_bits` and `enc_list`.
+//! TS_2DIFF: lists of INT32 and INT64 values by the differences of neighbours. It depends on `tsdb_base` and
+//! `tsdb_bits`.
 #![tactic(auto)]
 
 mod decode;

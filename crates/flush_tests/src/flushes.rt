@@ -1,7 +1,7 @@
 //! Flushes of a pair with points of one series.
 ghost use Rattle.std.specs.Prelude.{◌≡◌, ◌<◌, ◌≤◌, [], None, length, All, IsTrue, IfOk, IfSome};
 ghost use Rattle.tsdb_base.specs.Values.{type_of};
-ghost use Rattle.tsdb_jobs.specs.Jobs.{IsJob};
+ghost use Rattle.tsdb_flush.specs.Jobs.{IsJob};
 ghost use Rattle.tsdb_model.specs.Commands.{IsSchema};
 ghost use Rattle.tsdb_path.specs.Nodes.{node_count};
 
@@ -10,8 +10,7 @@ use std::alloc::Global;
 use std::sync::Arc;
 use std::test::Fail;
 use tsdb_base::{DataType, Encoding, FileNumber, List, Point, SeriesId, Space, Stamp, Time, Value};
-use tsdb_engine::{FlushRefused, run_flush};
-use tsdb_jobs::{Built, FlushJob, Flushed};
+use tsdb_flush::{Built, FlushJob, FlushRefused, Flushed, run_flush};
 use tsdb_memtable::{Pair, Watermarks};
 use tsdb_model::Schema;
 use tsdb_outside::{Files, Place};

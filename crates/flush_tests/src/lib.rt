@@ -1,5 +1,5 @@
-//! Tests of the taking of a flush from memory, and of its running, over files in memory. Depends on tsdb_flushing,
-//! tsdb_engine, tsdb_jobs, and for what a flush is given and gives on tsdb_base, tsdb_path, tsdb_model, tsdb_log,
+//! Tests of the taking of a flush from memory, and of its running, over files in memory. Depends on tsdb_flush,
+//! tsdb_flush, and for what a flush is given and gives on tsdb_base, tsdb_path, tsdb_model, tsdb_log,
 //! tsdb_memtable, tsdb_memory, tsdb_outside and mem_outside.
 #![tactic(auto)]
 

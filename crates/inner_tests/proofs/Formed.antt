@@ -7,8 +7,8 @@ use Rattle.tsdb_compactions.specs.Jobs.{IsFormed, input_file, plain_numbers}
 use Rattle.tsdb_compactions.specs.declared.job.Input.{Input}
 use Rattle.tsdb_compactions.specs.declared.job.Job.{Job}
 use Rattle.tsdb_index.specs.Entries.{AreNamesBefore}
-use Rattle.tsdb_jobs.specs.Parts.{names_of}
-use Rattle.tsdb_layers.specs.Lists.{EachPair}
+use Rattle.tsdb_flush.specs.Parts.{names_of}
+use Rattle.tsdb_base.specs.Lists.{EachPair}
 use Rattle.tsdb_model.specs.Commands.{IsSchema}
 use Rattle.tsdb_model.specs.declared.command.Schema.{Schema}
 use Rattle.tsdb_state.specs.Records.{numbers_of}

@@ -4,8 +4,8 @@ use Rattle.std.specs.List.{AllByRecursion as Each}
 use Rattle.tsdb_base.specs.declared.ids.FileNumber.{FileNumber}
 use Rattle.tsdb_compactions.specs.Jobs.{plain_numbers}
 use Rattle.tsdb_index.specs.Entries.{AreNamesBefore}
-use Rattle.tsdb_jobs.specs.Parts.{names_of}
-use Rattle.tsdb_layers.specs.Lists.{EachPair}
+use Rattle.tsdb_flush.specs.Parts.{names_of}
+use Rattle.tsdb_base.specs.Lists.{EachPair}
 use Rattle.tsdb_model.specs.Commands.{IsSchema}
 use Rattle.tsdb_model.specs.declared.command.Schema.{Schema}
 

@@ -1,16 +1,16 @@
 //! The points of the two series in a file.
 ghost use Rattle.std.specs.Prelude.{◌≡◌, ◌≤◌};
-ghost use Rattle.tsdb_columns.specs.Streams.{IsStreamOfStore};
+ghost use Rattle.tsdb_streams.specs.Streams.{IsStreamOfStore};
 ghost use Rattle.tsdb_path.specs.Nodes.{node_count};
 
 use crate::stored::Pair;
 use std::alloc::Global;
 use std::test::Fail;
 use tsdb_base::{Point, Range, Stamp, Time, Value};
-use tsdb_columns::{Source, Stream, open_column, pull};
 use tsdb_marks::Marks;
 use tsdb_outside::Port;
 use tsdb_path::Path;
+use tsdb_streams::{Source, Stream, open_column, pull};
 
 fn pair_of(point: &Point) -> Pair {
     match &point.value {

@@ -2,8 +2,8 @@
 ghost use Rattle.std.specs.List.{AllByRecursion as Each};
 ghost use Rattle.std.specs.Prelude.{◌≡◌, ◌≤◌, IfOk, IsTrue};
 ghost use Rattle.tsdb_index.specs.Entries.{AreNamesBefore};
-ghost use Rattle.tsdb_jobs.specs.Parts.{names_of};
-ghost use Rattle.tsdb_layers.specs.Lists.{EachPair};
+ghost use Rattle.tsdb_flush.specs.Parts.{names_of};
+ghost use Rattle.tsdb_base.specs.Lists.{EachPair};
 ghost use Rattle.tsdb_model.specs.Commands.{IsSchema};
 ghost use Rattle.tsdb_path.specs.Nodes.{node_count};
 

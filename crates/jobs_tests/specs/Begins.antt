@@ -2,7 +2,7 @@
 use Rattle.std.specs.Prelude.{Option, None, Some, Result}
 use Rattle.std.specs.declared.result.Result.TheVariants.{Ok, Err}
 use Rattle.tsdb_base.specs.declared.ids.Space.{Space}
-use Rattle.tsdb_compacting.specs.declared.finishing.InputRuns.{InputRuns}
+use Rattle.tsdb_tasks.specs.declared.finishing.InputRuns.{InputRuns}
 use Rattle.tsdb_compactions.specs.declared.job.Job.{Job}
 use Rattle.tsdb_core.specs.Beginnings.{IsBegun, IsNotBegun}
 use Rattle.tsdb_core.specs.declared.commit.CoreFault.{CoreFault}

@@ -1,15 +1,14 @@
 //! Calls of a core that begin and end nothing, or begin and end a flush. Depends on the crates that it tests.
 ghost use Rattle.jobs_tests.specs.Out.{AreHandedOn, EndsFlush, HasFlush, IsHandedOn, IsKept, TakesFlush};
 ghost use Rattle.std.specs.Prelude.{◌≡◌, IfSome};
-ghost use Rattle.tsdb_committing.specs.Files.{AreDone, new_files};
+ghost use Rattle.tsdb_tasks.specs.Files.{AreDone, new_files};
 ghost use Rattle.tsdb_core.specs.Flushes as flushes;
 ghost use Rattle.tsdb_model.specs.Commands.{IsWellFormed};
 
 use std::alloc::Global;
 use tsdb_base::{Answer, Stamp, Time};
 use tsdb_core::{Commit, Core};
-use tsdb_engine::{FlushRefused, run_flush};
-use tsdb_jobs::{FlushJob, Flushed};
+use tsdb_flush::{FlushJob, FlushRefused, Flushed, run_flush};
 use tsdb_model::Command;
 use tsdb_outside::{Failed, Files, Journal};
 use tsdb_script::read_script;

@@ -6,7 +6,7 @@ ghost use Rattle.tsdb_compactions.specs.Outputs.{IsOutputOf};
 ghost use Rattle.tsdb_core.specs.Compactions.{IsJobOut};
 ghost use Rattle.tsdb_core.specs.Core.{files_of};
 ghost use Rattle.tsdb_core.specs.Loans.{KeepsLoans};
-ghost use Rattle.tsdb_kept.specs.Places.{AreOfStore};
+ghost use Rattle.tsdb_fileset.specs.Places.{AreOfStore};
 ghost use Rattle.tsdb_model.specs.Commands.{IsWellFormed};
 ghost use Rattle.tsdb_outside.specs.Files.{Store};
 
@@ -20,14 +20,13 @@ use std::test::Fail;
 use tsdb_base::{FileNumber, Time};
 use tsdb_compactions::Job;
 use tsdb_core::{Core, Options};
+use tsdb_fileset::KeptFiles;
+use tsdb_flush::Built;
 use tsdb_frames::Frames;
-use tsdb_jobs::Built;
-use tsdb_kept::KeptFiles;
-use tsdb_logged::Logged;
-use tsdb_memory::MemoryStore;
+use tsdb_memory::{Logged, MemoryStore};
 use tsdb_model::{Command, Reply};
 use tsdb_outside::{Failed, Files, Journal, Place, Slot};
-use tsdb_pinning::Pin;
+use tsdb_pin::Pin;
 use tsdb_print::print_reply;
 
 /// A step that begins and ends nothing, or begins and ends a flush or a compaction.

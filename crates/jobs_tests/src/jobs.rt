@@ -4,7 +4,7 @@ ghost use Rattle.jobs_tests.specs.Begins.{BeginsOrNot};
 ghost use Rattle.jobs_tests.specs.Out.{BeginsJob, EndsJob, EndsPin, HasPin, TakesPin};
 ghost use Rattle.std.specs.List.{AllByRecursion as Each};
 ghost use Rattle.std.specs.Prelude.{◌≡◌, IfOk, IfSome};
-ghost use Rattle.tsdb_compacting.specs.Ending.{IsOutputNumbered};
+ghost use Rattle.tsdb_tasks.specs.Ending.{IsOutputNumbered};
 ghost use Rattle.tsdb_compactions.specs.Jobs.{IsFormed};
 ghost use Rattle.tsdb_compactions.specs.Outputs.{IsOutputOf};
 ghost use Rattle.tsdb_core.specs.Compactions.{IsJobOut};
@@ -16,12 +16,12 @@ use std::alloc::Global;
 use tsdb_base::{Range, Space, Time, Value};
 use tsdb_compactions::Job;
 use tsdb_core::{Core, CoreFault};
+use tsdb_flush::Built;
 use tsdb_inner::{run_cross, run_inner};
-use tsdb_jobs::Built;
 use tsdb_model::{Command, Item, Line};
 use tsdb_outside::{Failed, Files, Journal, StoreFault};
 use tsdb_path::Path;
-use tsdb_pinning::Pin;
+use tsdb_pin::Pin;
 use tsdb_pins::select;
 
 /// Which calls a compaction is made by.

@@ -1,7 +1,7 @@
 -- Kept files that may be given back.
 use Rattle.std.specs.Prelude.{◌≡◌}
-use Rattle.tsdb_kept.specs.Files.{KeptFiles}
-use Rattle.tsdb_kept.specs.Places.{AllFiles}
+use Rattle.tsdb_fileset.specs.Files.{KeptFiles}
+use Rattle.tsdb_fileset.specs.Places.{AllFiles}
 use Rattle.tsdb_outside.specs.Files.{Store}
 
 -- all files are of the store, and no right to read one is out

@@ -2,7 +2,7 @@
 ghost use Rattle.std.specs.Prelude.{◌≡◌, IfOk};
 ghost use Rattle.kept_tests.specs.Ready.{AreReady};
 ghost use Rattle.tsdb_core.specs.Core.{files_of};
-ghost use Rattle.tsdb_kept.specs.Files.{none_kept};
+ghost use Rattle.tsdb_fileset.specs.Files.{none_kept};
 ghost use Rattle.tsdb_model.specs.Commands.{IsSchema};
 
 use mem_outside::{Fails, MemFiles, MemJournal, MemPlace};
@@ -10,10 +10,9 @@ use std::alloc::Global;
 use std::test::Fail;
 use tsdb_base::{Answer, DataType, Encoding, FileNumber, Range, Space};
 use tsdb_core::{Core, Options};
+use tsdb_fileset::KeptFiles;
 use tsdb_frames::Frames;
-use tsdb_kept::KeptFiles;
-use tsdb_logged::Logged;
-use tsdb_memory::MemoryStore;
+use tsdb_memory::{Logged, MemoryStore};
 use tsdb_model::Schema;
 use tsdb_outside::{Files, Journal, Place, Slot};
 use tsdb_path::Path;

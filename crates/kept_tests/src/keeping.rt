@@ -6,8 +6,8 @@ use mem_outside::{Fails, MemPlace};
 use std::alloc::Global;
 use std::test::Fail;
 use tsdb_base::{FileNumber, List, Space, Stamp};
-use tsdb_jobs::Built;
-use tsdb_kept::KeptFiles;
+use tsdb_fileset::KeptFiles;
+use tsdb_flush::Built;
 use tsdb_outside::{Failed, Files, Place, Port};
 use tsdb_plan::FileEntry;
 

@@ -1,10 +1,10 @@
-//! Records as plain data, and their replay. Depends on `tsdb_opening` and `tsdb_log`.
+//! Records as plain data, and their replay. Depends on `tsdb_redo` and `tsdb_log`.
 use std::alloc::Global;
 use std::test::Fail;
 use tsdb_base::{DataType, Encoding, FileNumber, List, Range, SeriesId, Space, Stamp, Time, Value};
 use tsdb_log::{CellRecord, LogRecord};
-use tsdb_opening::{Opening, RedoFault};
 use tsdb_path::Path;
+use tsdb_redo::{Opening, RedoFault};
 
 /// A record as plain data. The values of a row are numbers, or truth values.
 #[derive(Clone, Copy)]

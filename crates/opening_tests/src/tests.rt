@@ -4,7 +4,7 @@ use crate::records::{Item, Outcome, Output, redo, redo_all};
 use std::alloc::Global;
 use std::test::Fail;
 use tsdb_base::{DataType, Encoding, FileNumber, Space};
-use tsdb_opening::Opening;
+use tsdb_redo::Opening;
 
 const S: Item = Item::Create(b"root.g.d.s", DataType::Int64, Encoding::Plain);
 

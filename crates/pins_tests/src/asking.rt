@@ -1,7 +1,7 @@
 //! Pins of one series over a file, and what they answer.
 ghost use Rattle.std.specs.List.{AllByRecursion as Each};
 ghost use Rattle.std.specs.Prelude.{◌≡◌, ◌<◌, ◌≤◌, ◌∷◌, ◌++◌, [], vec_capacity, vec_len};
-ghost use Rattle.tsdb_columns.specs.Streams.{IsStreamOfStore};
+ghost use Rattle.tsdb_streams.specs.Streams.{IsStreamOfStore};
 ghost use Rattle.tsdb_path.specs.Nodes.{node_count};
 ghost use Rattle.tsdb_pins.specs.Reading.{AreColumnsOf, HaveNodes, IsOfStore};
 
@@ -16,7 +16,7 @@ use tsdb_base::{FileNumber, List, Point, Range, Stamp, Steps, Time, Value};
 use tsdb_marks::Marks;
 use tsdb_model::Line;
 use tsdb_outside::{Files, Place, Port, StoreFault};
-use tsdb_pinning::{Column, Pin, PinnedSource};
+use tsdb_pin::{Column, Pin, PinnedSource};
 use tsdb_pins::{Stream, aggregates, open_column, pull, select};
 
 /// What a pin of one column answers.

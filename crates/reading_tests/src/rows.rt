@@ -3,8 +3,8 @@ use crate::pages::{Shape, lists_of};
 use std::alloc::Global;
 use std::test::Fail;
 use tsdb_base::{Point, Value};
-use tsdb_lines::rows_of;
 use tsdb_model::Line;
+use tsdb_pins::rows_of;
 
 /// The times of the lines, and the numbers of the columns at each of them.
 const ROWS: [(i64, [Option<i64>; 3]); 4] = [

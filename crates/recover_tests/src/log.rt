@@ -3,9 +3,9 @@ use mem_outside::{Fails, MemPlace};
 use std::alloc::Global;
 use std::test::Fail;
 use tsdb_base::Space;
-use tsdb_opening::Opening;
 use tsdb_outside::Place;
 use tsdb_recover::{OpenFault, OpenRefused, Part, read_log};
+use tsdb_redo::Opening;
 
 /// The log of a created series and an insert, as its format describes them.
 const WORKED: [u8; 54] = [

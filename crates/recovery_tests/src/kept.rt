@@ -5,8 +5,7 @@ use std::test::Fail;
 use tsdb_base::Space;
 use tsdb_core::{Core, Options};
 use tsdb_outside::{Files, Journal, Place};
-use tsdb_recover::OpenRefused;
-use tsdb_recovery::recover;
+use tsdb_recover::{OpenRefused, recover};
 
 /// The number, born, bytes and points of a file, the first and the last time of its device, and whether it is claimed.
 #[derive(Clone, Copy, Debug, PartialEq, Eq)]

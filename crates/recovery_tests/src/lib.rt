@@ -1,4 +1,4 @@
-//! Tests of the opening of a store with its files, by its public items alone. Depends on `tsdb_recovery`, and on
+//! Tests of the opening of a store with its files, by its public items alone. Depends on `tsdb_recover`, and on
 //! `tsdb_outside` and `mem_outside` for places in memory.
 #![tactic(auto)]
 

@@ -8,8 +8,7 @@ use std::test::Fail;
 use tsdb_base::Space;
 use tsdb_core::{Core, Options};
 use tsdb_outside::{Files, Journal, Place};
-use tsdb_recover::OpenRefused;
-use tsdb_recovery::recover;
+use tsdb_recover::{OpenRefused, recover};
 use tsdb_serving::{FlushFault, flush};
 
 /// Flushes: the next number, where too few are left.

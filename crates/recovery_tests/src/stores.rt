@@ -5,8 +5,7 @@ use std::test::Fail;
 use tsdb_base::{FileNumber, Space};
 use tsdb_core::{Core, Options};
 use tsdb_outside::{Files, Journal, Place};
-use tsdb_recover::{OpenFault, OpenRefused, Part};
-use tsdb_recovery::recover;
+use tsdb_recover::{OpenFault, OpenRefused, Part, recover};
 
 /// The log of a created series and an insert at time 1, but for its last gate.
 const LOG: [u8; 53] = [

@@ -2,8 +2,8 @@
 use Rattle.std.proofs.Common.{◌≡◌, ℕ, ◌≤◌, [], sym, subst}
 use Rattle.tsdb_core.specs.Core.{IsAbove, KeepsJobs, files_of}
 use Rattle.tsdb_core.specs.declared.engine.Core.{Core}
-use Rattle.tsdb_kept.specs.Files.{KeptFiles, none_kept}
-use Rattle.tsdb_kept.specs.Places.{AreOfStore, AreUnread}
+use Rattle.tsdb_fileset.specs.Files.{KeptFiles, none_kept}
+use Rattle.tsdb_fileset.specs.Places.{AreOfStore, AreUnread}
 use Rattle.tsdb_outside.specs.Files.{Store}
 use Rattle.tsdb_outside.specs.declared.disk.Disk as disk
 use Rattle.tsdb_outside.specs.declared.faults.Counted as counted

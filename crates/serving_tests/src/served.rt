@@ -11,11 +11,10 @@ use std::alloc::Global;
 use std::test::Fail;
 use tsdb_base::FileNumber;
 use tsdb_core::{Core, Options};
+use tsdb_fileset::KeptFiles;
 use tsdb_frames::Frames;
 use tsdb_history::serve;
-use tsdb_kept::KeptFiles;
-use tsdb_logged::Logged;
-use tsdb_memory::MemoryStore;
+use tsdb_memory::{Logged, MemoryStore};
 use tsdb_model::{Command, Reply};
 use tsdb_outside::{Files, Journal, Place, Slot};
 

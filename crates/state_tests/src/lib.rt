@@ -1,6 +1,6 @@
 //! A plain slow program of the engine state and its steps, over two series at three times, and its tests: each step
 //! keeps the order and the world, and no part of the order is idle. Depends on no crate: it repeats in code what
-//! tsdb_layers and tsdb_state define and prove.
+//! tsdb_state define and prove.
 #![tactic(auto)]
 
 #[cfg(test)]

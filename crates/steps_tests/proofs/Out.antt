@@ -12,8 +12,8 @@ use Rattle.steps_tests.specs.Out.{AreHandedOn, BeginsJob, EndsFlush, EndsJob, Gi
 use Rattle.steps_tests.specs.Out.{IsQuiet, TakesFlush, TakesPin, compaction_of, flush_of}
 use Rattle.tsdb_base.specs.declared.ids.FileNumber.{FileNumber}
 use Rattle.tsdb_base.specs.declared.ids.Space.{Space}
-use Rattle.tsdb_committing.specs.Files.{NewFile, new_file, new_files}
-use Rattle.tsdb_compacting.specs.declared.finishing.InputRuns.{InputRuns}
+use Rattle.tsdb_tasks.specs.Files.{NewFile, new_file, new_files}
+use Rattle.tsdb_tasks.specs.declared.finishing.InputRuns.{InputRuns}
 use Rattle.tsdb_compactions.specs.Jobs.{IsCompactionOf, input_files, plain_numbers}
 use Rattle.tsdb_compactions.specs.declared.job.Input.{Input}
 use Rattle.tsdb_compactions.specs.declared.job.Job.{Job}
@@ -34,23 +34,23 @@ use Rattle.tsdb_core.specs.declared.commit.Commit.{Commit}
 use Rattle.tsdb_core.specs.declared.commit.CoreFault.{CoreFault}
 use Rattle.tsdb_core.specs.declared.engine.Core.{Core}
 use Rattle.tsdb_inner.specs.Inputs.{IsInputOf}
-use Rattle.tsdb_jobs.specs.Built.{IsDone}
-use Rattle.tsdb_jobs.specs.Parts.{Filled}
-use Rattle.tsdb_jobs.specs.declared.flush.Built.{Built}
-use Rattle.tsdb_jobs.specs.declared.flush.Flushed.{Flushed}
-use Rattle.tsdb_jobs.specs.declared.flush.FlushJob.{FlushJob}
-use Rattle.tsdb_kept.proofs.Taken.{still_all}
-use Rattle.tsdb_kept.specs.Files.{KeptFiles, kept_file, none_kept}
-use Rattle.tsdb_kept.specs.Places.{AllFiles, AreOfStore, AreUnread, KeptFile, OnlyMakesPlaces, Places}
-use Rattle.tsdb_kept.specs.Rights.{IsRightTo}
-use Rattle.tsdb_layers.proofs.Lists.{each_weaker}
-use Rattle.tsdb_layers.specs.Lists.{IsWithOne, if_some}
+use Rattle.tsdb_flush.specs.Built.{IsDone}
+use Rattle.tsdb_flush.specs.Parts.{Filled}
+use Rattle.tsdb_flush.specs.declared.job.Built.{Built}
+use Rattle.tsdb_flush.specs.declared.job.Flushed.{Flushed}
+use Rattle.tsdb_flush.specs.declared.job.FlushJob.{FlushJob}
+use Rattle.tsdb_fileset.proofs.Taken.{still_all}
+use Rattle.tsdb_fileset.specs.Files.{KeptFiles, kept_file, none_kept}
+use Rattle.tsdb_fileset.specs.Places.{AllFiles, AreOfStore, AreUnread, KeptFile, OnlyMakesPlaces, Places}
+use Rattle.tsdb_fileset.specs.Rights.{IsRightTo}
+use Rattle.tsdb_base.proofs.Lists.{each_weaker}
+use Rattle.tsdb_base.specs.Lists.{IsWithOne, if_some}
 use Rattle.tsdb_outside.specs.Files.{NamedFile, Store}
 use Rattle.tsdb_outside.specs.declared.disk.Disk as disk
 use Rattle.tsdb_outside.specs.declared.faults.Counted as counted
 use Rattle.tsdb_outside.specs.declared.faults.Failed.{Failed}
-use Rattle.tsdb_pinning.specs.Pins.{AreColumnsHeld}
-use Rattle.tsdb_pinning.specs.declared.pin.Pin.{Pin}
+use Rattle.tsdb_pin.specs.Pins.{AreColumnsHeld}
+use Rattle.tsdb_pin.specs.declared.pin.Pin.{Pin}
 use Rattle.tsdb_pins.proofs.Held.{columns_of}
 use Rattle.tsdb_pins.specs.Reading.{AreColumnsOf, HaveNodes}
 use Rattle.tsdb_state.specs.State.{File as FileOf}

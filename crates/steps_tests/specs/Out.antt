@@ -10,13 +10,13 @@ use Rattle.tsdb_core.specs.Core.{files_of}
 use Rattle.tsdb_core.specs.Loans.{KeepsLoans, LentRight}
 use Rattle.tsdb_core.specs.Pins.{pin_rights}
 use Rattle.tsdb_core.specs.declared.engine.Core.{Core}
-use Rattle.tsdb_jobs.specs.Jobs.{IsJob}
-use Rattle.tsdb_jobs.specs.declared.flush.FlushJob.{FlushJob}
-use Rattle.tsdb_kept.specs.Places.{AreOfStore}
+use Rattle.tsdb_flush.specs.Jobs.{IsJob}
+use Rattle.tsdb_flush.specs.declared.job.FlushJob.{FlushJob}
+use Rattle.tsdb_fileset.specs.Places.{AreOfStore}
 use Rattle.tsdb_outside.specs.Files.{NamedFile, Store}
 use Rattle.tsdb_outside.specs.declared.disk.Disk as disk
 use Rattle.tsdb_outside.specs.declared.faults.Counted as counted
-use Rattle.tsdb_pinning.specs.declared.pin.Pin.{Pin}
+use Rattle.tsdb_pin.specs.declared.pin.Pin.{Pin}
 use Rattle.tsdb_pins.specs.Reading.{HaveNodes}
 use Rattle.tsdb_state.specs.State as state
 use Rattle.tsdb_state.specs.State.{Compaction}

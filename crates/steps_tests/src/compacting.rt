@@ -13,8 +13,8 @@ use std::alloc::Global;
 use tsdb_base::Space;
 use tsdb_compactions::Job;
 use tsdb_core::{Core, CoreFault};
+use tsdb_flush::Built;
 use tsdb_inner::{run_cross, run_inner};
-use tsdb_jobs::Built;
 use tsdb_outside::{Failed, Files, Journal, StoreFault};
 
 /// Which calls a compaction is made by.

@@ -4,7 +4,7 @@ ghost use Rattle.steps_tests.specs.Out.{HasPin, IsHandedOn, IsQuiet};
 ghost use Rattle.tsdb_core.specs.Core.{files_of};
 ghost use Rattle.tsdb_core.specs.Limits.{IsPairLimit};
 ghost use Rattle.tsdb_core.specs.Loans.{KeepsLoans};
-ghost use Rattle.tsdb_kept.specs.Places.{AreOfStore};
+ghost use Rattle.tsdb_fileset.specs.Places.{AreOfStore};
 ghost use Rattle.tsdb_model.specs.Commands.{IsWellFormed};
 ghost use Rattle.tsdb_outside.specs.Files.{Store};
 
@@ -17,13 +17,12 @@ use std::test::Fail;
 use tests_support::command_of;
 use tsdb_base::FileNumber;
 use tsdb_core::{Core, Options};
+use tsdb_fileset::KeptFiles;
 use tsdb_frames::Frames;
-use tsdb_kept::KeptFiles;
-use tsdb_logged::Logged;
-use tsdb_memory::MemoryStore;
+use tsdb_memory::{Logged, MemoryStore};
 use tsdb_model::Command;
 use tsdb_outside::{Files, Journal, Place, Slot};
-use tsdb_pinning::Pin;
+use tsdb_pin::Pin;
 
 /// Steps, then a pin of a select, then steps behind each of which the pin is read, and then what a new pin reads.
 ///

@@ -12,7 +12,7 @@ use tsdb_core::Core;
 use tsdb_model::{Command, Item, Line};
 use tsdb_outside::{Files, Journal, StoreFault};
 use tsdb_path::Path;
-use tsdb_pinning::Pin;
+use tsdb_pin::Pin;
 use tsdb_pins::{aggregates, select};
 
 /// Takes a pin of items of a device, where it may be taken.

@@ -1,3 +1,4 @@
 pub mod GrowthLemmas
+pub mod Lists
 pub mod PlainLists
 pub mod RisingLemmas

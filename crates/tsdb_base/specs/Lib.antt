@@ -3,6 +3,7 @@ pub mod FieldLaws
 pub mod Fields
 pub mod Growth
 pub mod Limits
+pub mod Lists
 pub mod Notation
 pub mod Plain
 pub mod PlainLaws

@@ -2,7 +2,7 @@
 //! `memory`, on `tsdb_core`, on `tsdb_script` and `tsdb_history` for commands, and on `tsdb_pins` for streams.
 ghost use Rattle.std.specs.Prelude.{◌≡◌, All};
 ghost use Rattle.std.proofs.Props.{props};
-ghost use Rattle.tsdb_columns.specs.Streams.{IsStreamOfStore};
+ghost use Rattle.tsdb_streams.specs.Streams.{IsStreamOfStore};
 ghost use Rattle.tsdb_model.specs.Commands.{IsRow, IsWellFormed};
 ghost use Rattle.tsdb_outside.specs.Files.{Store};
 ghost use Rattle.tsdb_pins.specs.Reading.{AreColumnsOf, HaveNodes};
@@ -16,15 +16,14 @@ use mem_outside::SteadyFiles;
 use std::alloc::Global;
 use tsdb_base::{Answer, FileNumber, Range, Space};
 use tsdb_core::{Core, Options};
+use tsdb_fileset::KeptFiles;
 use tsdb_frames::Frames;
 use tsdb_history::serve;
-use tsdb_kept::KeptFiles;
-use tsdb_logged::Logged;
-use tsdb_memory::MemoryStore;
+use tsdb_memory::{Logged, MemoryStore};
 use tsdb_model::{Command, Item, Reply, Row};
 use tsdb_outside::{Files, Journal, Place, Port, Slot, StoreFault};
 use tsdb_path::Path;
-use tsdb_pinning::Pin;
+use tsdb_pin::Pin;
 use tsdb_pins::{Stream, open_column, pull};
 use tsdb_script::Numbered;
 

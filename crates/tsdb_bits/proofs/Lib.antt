@@ -4,3 +4,4 @@ pub mod PackingLaws
 pub mod Reading
 pub mod Moving
 pub mod BitOrder
+pub mod ListLaws

@@ -2,3 +2,4 @@ pub mod Leb
 pub mod Zigzag
 pub mod Packing
 pub mod Faults
+pub mod Lists

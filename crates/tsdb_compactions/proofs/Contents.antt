@@ -6,12 +6,12 @@ use Rattle.std.specs.FinMap.{empty, get, get-empty}
 use Rattle.std.specs.List.{AllByRecursion as Each}
 use Rattle.tsdb_base.specs.declared.point.Point.{Point}
 use Rattle.tsdb_base.specs.declared.value.Value.{Value}
-use Rattle.tsdb_built.specs.Parts.{HasPartPoint, IsContentOfPart, IsPart, IsSeries}
-use Rattle.tsdb_jobs.specs.Parts.{Filled}
-use Rattle.tsdb_layers.proofs.Lists.{among_left, among_map, among_right, each_among, each_from_among, each_of_map}
-use Rattle.tsdb_layers.proofs.Places.{get_put, is_place, place_itself}
-use Rattle.tsdb_layers.specs.Lists.{Among, EachPair}
-use Rattle.tsdb_layers.specs.Places.{Content, Place, place_cmp, put}
+use Rattle.tsdb_flush.specs.BuiltParts.{HasPartPoint, IsContentOfPart, IsPart, IsSeries}
+use Rattle.tsdb_flush.specs.Parts.{Filled}
+use Rattle.tsdb_base.proofs.Lists.{among_left, among_map, among_right, each_among, each_from_among, each_of_map}
+use Rattle.tsdb_state.proofs.LayerLemmas.Places.{get_put, is_place, place_itself}
+use Rattle.tsdb_base.specs.Lists.{Among, EachPair}
+use Rattle.tsdb_state.specs.Places.{Content, Place, place_cmp, put}
 use Rattle.tsdb_memory.proofs.Counts.{among_either, pairs_append, placed, row_differs}
 use Rattle.tsdb_memory.proofs.Frozen.{image_of}
 

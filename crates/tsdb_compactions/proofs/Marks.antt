@@ -7,11 +7,11 @@ use Rattle.std.specs.FinMap.{get}
 use Rattle.std.specs.List.{filter, list_any}
 use Rattle.std.proofs.lemmas.Bool.{eq-eqb, false≢true}
 use Rattle.tsdb_base.specs.declared.value.Value.{Value}
-use Rattle.tsdb_layers.proofs.Places.{is_path_same}
-use Rattle.tsdb_layers.specs.Layers.{survivor}
-use Rattle.tsdb_layers.specs.Lists.{Among}
-use Rattle.tsdb_layers.specs.Marks.{is_over, survives}
-use Rattle.tsdb_layers.specs.Places.{Content, Place, is_path}
+use Rattle.tsdb_state.proofs.LayerLemmas.Places.{is_path_same}
+use Rattle.tsdb_state.specs.Layers.{survivor}
+use Rattle.tsdb_base.specs.Lists.{Among}
+use Rattle.tsdb_state.specs.Marks.{is_over, survives}
+use Rattle.tsdb_state.specs.Places.{Content, Place, is_path}
 use Rattle.tsdb_marks.specs.Lists.{is_of}
 use Rattle.tsdb_marks.specs.declared.marks.Mark.{Mark}
 use Rattle.tsdb_state.specs.Jobs.{Describes}

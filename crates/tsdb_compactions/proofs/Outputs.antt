@@ -4,16 +4,16 @@ use Rattle.std.specs.FinMap.{get}
 use Rattle.std.specs.Prelude.{IfSome, IsSome}
 use Rattle.std.proofs.lemmas.Bool.{false≢true}
 use Rattle.tsdb_base.specs.declared.value.Value.{Value}
-use Rattle.tsdb_built.proofs.Contents.{tree_of_part}
-use Rattle.tsdb_built.proofs.Entries.{described}
-use Rattle.tsdb_built.specs.Parts.{IsContentOfPart, entry_of}
+use Rattle.tsdb_flush.proofs.Contents.{tree_of_part}
+use Rattle.tsdb_flush.proofs.Entries.{described}
+use Rattle.tsdb_flush.specs.BuiltParts.{IsContentOfPart, entry_of}
 use Rattle.tsdb_compactions.proofs.Contents.{content_of_part, is_content}
 use Rattle.tsdb_compactions.specs.Jobs.{IsCompactionOf}
 use Rattle.tsdb_compactions.specs.Outputs.{HasNoWinner, HasOutput, IsBuiltFor, TellsInputs, winner}
 use Rattle.tsdb_compactions.specs.declared.job.Job.{Job}
-use Rattle.tsdb_jobs.specs.declared.flush.Built.{Built}
-use Rattle.tsdb_layers.specs.Layers.{value_in}
-use Rattle.tsdb_layers.specs.Places.{Content, Place}
+use Rattle.tsdb_flush.specs.declared.job.Built.{Built}
+use Rattle.tsdb_state.specs.Layers.{value_in}
+use Rattle.tsdb_state.specs.Places.{Content, Place}
 use Rattle.tsdb_outside.specs.Files.{NamedFile}
 use Rattle.tsdb_pages.specs.File.{IsFile}
 use Rattle.tsdb_state.specs.Jobs.{Describes, job_inputs}

@@ -5,9 +5,9 @@ use Rattle.tsdb_base.specs.declared.ids.Space.{Space}
 use Rattle.tsdb_base.specs.declared.ids.Space.TheVariants.{Sequence, Unsequence}
 use Rattle.tsdb_compactions.proofs.Marks.{marks_suffice}
 use Rattle.tsdb_compactions.specs.Plans.{IsOfMoment, IsPlanned}
-use Rattle.tsdb_layers.proofs.Lists.{each_all, each_among, each_from_among, each_weaker}
-use Rattle.tsdb_layers.specs.Layers.{survivor}
-use Rattle.tsdb_layers.specs.Lists.{Among}
+use Rattle.tsdb_base.proofs.Lists.{each_all, each_among, each_from_among, each_weaker}
+use Rattle.tsdb_state.specs.Layers.{survivor}
+use Rattle.tsdb_base.specs.Lists.{Among}
 use Rattle.tsdb_state.proofs.OtherJobs.{inputs_listed}
 use Rattle.tsdb_state.proofs.Plans.{apart_of_free, cross_free, cross_gap, inner_free, inner_sequence}
 use Rattle.tsdb_state.proofs.Plans.{inner_unsequence, other_space}

@@ -4,22 +4,22 @@ use Rattle.std.specs.FinMap.{get}
 use Rattle.std.specs.List.{AllByRecursion as Each}
 use Rattle.tsdb_base.specs.Values.{type_of}
 use Rattle.tsdb_base.specs.declared.value.Value.{Value}
-use Rattle.tsdb_built.specs.Parts.{HasPartPoint, IsPart, entry_of}
+use Rattle.tsdb_flush.specs.BuiltParts.{HasPartPoint, IsPart, entry_of}
 use Rattle.tsdb_compactions.specs.Jobs.{input_file, input_files}
 use Rattle.tsdb_compactions.specs.declared.job.Input.{Input}
 use Rattle.tsdb_compactions.specs.declared.job.Job.{Job}
-use Rattle.tsdb_jobs.specs.Built.{IsBuiltOf}
-use Rattle.tsdb_jobs.specs.Parts.{Filled}
-use Rattle.tsdb_jobs.specs.declared.flush.Built.{Built}
-use Rattle.tsdb_layers.specs.Layers.{value_in}
-use Rattle.tsdb_layers.specs.Lists.{Among, EachPair}
-use Rattle.tsdb_layers.specs.Places.{Content, Place}
+use Rattle.tsdb_flush.specs.Built.{IsBuiltOf}
+use Rattle.tsdb_flush.specs.Parts.{Filled}
+use Rattle.tsdb_flush.specs.declared.job.Built.{Built}
+use Rattle.tsdb_state.specs.Layers.{value_in}
+use Rattle.tsdb_base.specs.Lists.{Among, EachPair}
+use Rattle.tsdb_state.specs.Places.{Content, Place}
 use Rattle.tsdb_model.specs.declared.command.Schema.{Schema}
 use Rattle.tsdb_outside.specs.Files.{NamedFile, Store}
 use Rattle.tsdb_pages.specs.File.{IsFile}
 use Rattle.tsdb_pages.specs.Trees.{IsMade, IsTree}
 use Rattle.tsdb_pages.specs.declared.tree.Tree.{Tree}
-use Rattle.tsdb_replay.specs.Stores.{IsContentOf, IsWhole}
+use Rattle.tsdb_state.specs.Stores.{IsContentOf, IsWhole}
 use Rattle.tsdb_state.specs.Jobs.{Describes}
 use Rattle.tsdb_state.specs.State.{Told}
 use Rattle.tsdb_state.specs.Views.{file_layers}

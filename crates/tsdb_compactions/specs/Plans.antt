@@ -1,7 +1,7 @@
 -- Which compaction a plan begins.
 use Rattle.std.specs.Prelude.{◌≡◌, ◌⊎◌, ℕ, ◌+◌, ◌≤◌, Bool, List}
 use Rattle.std.specs.List.{AllByRecursion as Each, filter}
-use Rattle.tsdb_layers.specs.Lists.{Among}
+use Rattle.tsdb_base.specs.Lists.{Among}
 use Rattle.tsdb_marks.specs.Lists.{is_of}
 use Rattle.tsdb_plan.specs.CrossPlan.{IsCrossPlan}
 use Rattle.tsdb_plan.specs.InnerPlan.{IsInnerPlan}

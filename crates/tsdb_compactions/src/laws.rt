@@ -4,9 +4,9 @@ ghost use Rattle.std.specs.List.{filter};
 ghost use Rattle.tsdb_compactions.specs.Jobs.{IsCompactionOf};
 ghost use Rattle.tsdb_compactions.specs.Outputs.{HasNoWinner, HasOutput, IsBuiltFor, TellsInputs};
 ghost use Rattle.tsdb_compactions.specs.Plans.{IsOfMoment, IsPlanned};
-ghost use Rattle.tsdb_layers.specs.Layers.{survivor};
-ghost use Rattle.tsdb_layers.specs.Lists.{Among};
-ghost use Rattle.tsdb_layers.specs.Places.{Content, Place};
+ghost use Rattle.tsdb_state.specs.Layers.{survivor};
+ghost use Rattle.tsdb_base.specs.Lists.{Among};
+ghost use Rattle.tsdb_state.specs.Places.{Content, Place};
 ghost use Rattle.tsdb_marks.specs.Lists.{is_of};
 ghost use Rattle.tsdb_marks.specs.declared.marks.Mark.{Mark};
 ghost use Rattle.tsdb_state.specs.Jobs.{Describes};
@@ -16,7 +16,7 @@ ghost use Rattle.tsdb_state.specs.State.{Compaction, EngineState, Entries, Entry
 ghost use Rattle.tsdb_state.specs.Steps.{Begins, IsOutput};
 
 use crate::job::Job;
-use tsdb_jobs::Built;
+use tsdb_flush::Built;
 use tsdb_outside::Files;
 
 /// A file that was built for a job has the winners of its inputs, where its token and the rights to read them tell

@@ -1,5 +1,5 @@
 //! Compactions that are out, and when a file is the output of one. Depends on tsdb_base, tsdb_model, tsdb_marks,
-//! tsdb_outside, tsdb_layers, tsdb_plan, tsdb_state, tsdb_replay, tsdb_jobs and tsdb_built.
+//! tsdb_outside, tsdb_state, tsdb_plan and tsdb_flush.
 //!
 //! `specs/Outputs.antt` says when a file is the output of a job, `specs/Jobs.antt` which compaction of the engine
 //! state a job is, and `specs/Plans.antt` which one a plan begins.

@@ -8,18 +8,18 @@ use Rattle.std.specs.Option.{option_map}
 use Rattle.std.specs.Prelude.{IfSome, slice_range}
 use Rattle.tsdb_base.specs.declared.ids.Space.{Space}
 use Rattle.tsdb_base.specs.declared.ids.Space.TheVariants.{Sequence, Unsequence}
-use Rattle.tsdb_compacting.proofs.InState.{began_in_state}
-use Rattle.tsdb_compacting.proofs.Moments.{of_moment}
-use Rattle.tsdb_compacting.proofs.Out.{compaction_of, early_list, found, is_compaction, is_formed, is_out, job_of}
-use Rattle.tsdb_compacting.proofs.Out.{late_list, new_room, out_list, output_open, slice_long, stand_so, still_open}
-use Rattle.tsdb_compacting.proofs.Telling.{tell_on}
-use Rattle.tsdb_compacting.proofs.Truth.{tells_truth}
-use Rattle.tsdb_compacting.specs.Beginning.{AreBegun}
-use Rattle.tsdb_compacting.specs.Inputs.{input_numbers}
-use Rattle.tsdb_compacting.specs.Series.{AreOfJob, run_paths}
-use Rattle.tsdb_compacting.specs.declared.beginning.TakenInputs.{TakenInputs}
-use Rattle.tsdb_compacting.specs.declared.finishing.InputRuns.{InputRuns}
-use Rattle.tsdb_compacting.specs.declared.series.JobSeries.{JobSeries}
+use Rattle.tsdb_tasks.proofs.InState.{began_in_state}
+use Rattle.tsdb_tasks.proofs.Moments.{of_moment}
+use Rattle.tsdb_tasks.proofs.Out.{compaction_of, early_list, found, is_compaction, is_formed, is_out, job_of}
+use Rattle.tsdb_tasks.proofs.Out.{late_list, new_room, out_list, output_open, slice_long, stand_so, still_open}
+use Rattle.tsdb_tasks.proofs.Telling.{tell_on}
+use Rattle.tsdb_tasks.proofs.Truth.{tells_truth}
+use Rattle.tsdb_tasks.specs.Beginning.{AreBegun}
+use Rattle.tsdb_tasks.specs.Inputs.{input_numbers}
+use Rattle.tsdb_tasks.specs.Series.{AreOfJob, run_paths}
+use Rattle.tsdb_tasks.specs.declared.beginning.TakenInputs.{TakenInputs}
+use Rattle.tsdb_tasks.specs.declared.finishing.InputRuns.{InputRuns}
+use Rattle.tsdb_tasks.specs.declared.series.JobSeries.{JobSeries}
 use Rattle.tsdb_compactions.proofs.Planned.{planned_begins}
 use Rattle.tsdb_compactions.specs.Jobs.{IsCompactionOf, input_file}
 use Rattle.tsdb_compactions.specs.Plans.{IsOfMoment, IsPlanned}
@@ -34,21 +34,21 @@ use Rattle.tsdb_core.specs.Compactions.{IsJobKept}
 use Rattle.tsdb_core.specs.Core.{AreClaimed, IsSeen, KeepsJobs, is_claimed, next_of}
 use Rattle.tsdb_core.specs.Worlds.{KeepsWorld}
 use Rattle.tsdb_core.specs.declared.engine.Core.{Core}
-use Rattle.tsdb_held.specs.Held.{AreFilesOf, listed}
-use Rattle.tsdb_images.proofs.Storing.{begin_stored}
-use Rattle.tsdb_kept.specs.Files.{AreKept, KeptFiles, kept_file}
-use Rattle.tsdb_kept.specs.Places.{KeptFile}
-use Rattle.tsdb_kept.specs.Replacing.{IsWithin, claim_run, run_length}
-use Rattle.tsdb_layers.proofs.Lists.{each_weaker}
-use Rattle.tsdb_layers.specs.Lists.{Among, count}
-use Rattle.tsdb_logged.specs.Commands.{IsPrepared}
-use Rattle.tsdb_logged.specs.Logged.{IsSound, Outside, memory_of, room_of}
-use Rattle.tsdb_logged.specs.declared.logged.Logged.{Logged}
+use Rattle.tsdb_fileset.specs.Held.{AreFilesOf, listed}
+use Rattle.tsdb_state.proofs.ImageLemmas.Storing.{begin_stored}
+use Rattle.tsdb_fileset.specs.Files.{AreKept, KeptFiles, kept_file}
+use Rattle.tsdb_fileset.specs.Places.{KeptFile}
+use Rattle.tsdb_fileset.specs.Replacing.{IsWithin, claim_run, run_length}
+use Rattle.tsdb_base.proofs.Lists.{each_weaker}
+use Rattle.tsdb_base.specs.Lists.{Among, count}
+use Rattle.tsdb_memory.specs.Commands.{IsPrepared}
+use Rattle.tsdb_memory.specs.Logged.{IsSound, Outside, memory_of, room_of}
+use Rattle.tsdb_memory.specs.declared.logged.Logged.{Logged}
 use Rattle.tsdb_marks.specs.Lists.{is_of}
 use Rattle.tsdb_outside.specs.Files.{NamedFile, Store}
 use Rattle.tsdb_outside.specs.declared.disk.Disk as disk
 use Rattle.tsdb_outside.specs.declared.faults.Counted as counted
-use Rattle.tsdb_pinning.specs.Changes.{more_rights}
+use Rattle.tsdb_pin.specs.Changes.{more_rights}
 use Rattle.tsdb_plan.specs.CrossPlan.{IsCrossPlan}
 use Rattle.tsdb_plan.specs.InnerPlan.{IsInnerPlan}
 use Rattle.tsdb_plan.specs.declared.entry.FileEntry.{FileEntry}

@@ -9,16 +9,16 @@ use Rattle.std.specs.List.{AllByRecursion as Each, list_any}
 use Rattle.std.specs.Prelude.{◌&&◌, ◌||◌, IfSome, IsSome, slice_range}
 use Rattle.tsdb_base.specs.declared.ids.Space.{Space}
 use Rattle.tsdb_base.specs.declared.ids.Space.TheVariants.{Sequence, Unsequence}
-use Rattle.tsdb_compacting.proofs.InState.{IsKnown, counted_among, kept_among}
-use Rattle.tsdb_compacting.proofs.Taken.{all_counted}
+use Rattle.tsdb_tasks.proofs.InState.{IsKnown, counted_among, kept_among}
+use Rattle.tsdb_tasks.proofs.Taken.{all_counted}
 use Rattle.tsdb_core.specs.Core.{is_claimed}
-use Rattle.tsdb_held.specs.Held.{AreFilesOf, entry_of, listed}
-use Rattle.tsdb_kept.proofs.Replaced.{run_parts}
-use Rattle.tsdb_kept.specs.Files.{AreKept, KeptFiles, entries_in, entry_numbers, kept_file, numbers_of}
-use Rattle.tsdb_kept.specs.Places.{KeptFile}
-use Rattle.tsdb_kept.specs.Replacing.{IsWithin, claim_run, with_claim}
-use Rattle.tsdb_layers.proofs.Lists.{among_left, among_right, count_append, each_among}
-use Rattle.tsdb_layers.specs.Lists.{Among, count, if_some}
+use Rattle.tsdb_fileset.specs.Held.{AreFilesOf, entry_of, listed}
+use Rattle.tsdb_fileset.proofs.Replaced.{run_parts}
+use Rattle.tsdb_fileset.specs.Files.{AreKept, KeptFiles, entries_in, entry_numbers, kept_file, numbers_of}
+use Rattle.tsdb_fileset.specs.Places.{KeptFile}
+use Rattle.tsdb_fileset.specs.Replacing.{IsWithin, claim_run, with_claim}
+use Rattle.tsdb_base.proofs.Lists.{among_left, among_right, count_append, each_among}
+use Rattle.tsdb_base.specs.Lists.{Among, count, if_some}
 use Rattle.tsdb_plan.specs.declared.entry.FileEntry.{FileEntry}
 use Rattle.tsdb_plan.specs.declared.entry.Run.{Run}
 use Rattle.tsdb_state.specs.Plans.{file_entries, file_entry}

@@ -1,8 +1,8 @@
 -- How the calls that begin a compaction end.
 use Rattle.std.proofs.Common.{◌≡◌, ℕ, List, Option, None, Some, Result, Ok, Err, arith, refl, subst, sym}
 use Rattle.tsdb_base.specs.declared.ids.Space.{Space}
-use Rattle.tsdb_compacting.specs.Beginning.{IsUntouched}
-use Rattle.tsdb_compacting.specs.declared.finishing.InputRuns.{InputRuns}
+use Rattle.tsdb_tasks.specs.Beginning.{IsUntouched}
+use Rattle.tsdb_tasks.specs.declared.finishing.InputRuns.{InputRuns}
 use Rattle.tsdb_compactions.specs.declared.job.Job.{Job}
 use Rattle.tsdb_core.proofs.Beginnings.{begun_world}
 use Rattle.tsdb_core.proofs.Commits.{not_taken, not_taken_world}
@@ -11,10 +11,10 @@ use Rattle.tsdb_core.specs.Worlds.{KeepsWorld}
 use Rattle.tsdb_core.specs.declared.commit.CoreFault.{CoreFault}
 use Rattle.tsdb_core.specs.declared.commit.CoreFault.TheVariants.{Memory, Full}
 use Rattle.tsdb_core.specs.declared.engine.Core.{Core}
-use Rattle.tsdb_kept.specs.Files.{KeepsLists, KeptFiles}
-use Rattle.tsdb_kept.specs.Places.{OnlyMakesPlaces}
-use Rattle.tsdb_logged.specs.Commands.{IsPrepared}
-use Rattle.tsdb_logged.specs.declared.logged.Logged.{Logged}
+use Rattle.tsdb_fileset.specs.Files.{KeepsLists, KeptFiles}
+use Rattle.tsdb_fileset.specs.Places.{OnlyMakesPlaces}
+use Rattle.tsdb_memory.specs.Commands.{IsPrepared}
+use Rattle.tsdb_memory.specs.declared.logged.Logged.{Logged}
 use Rattle.tsdb_outside.specs.Files.{NamedFile}
 use Rattle.tsdb_outside.specs.declared.disk.Disk as disk
 use Rattle.tsdb_outside.specs.declared.faults.Counted as counted

@@ -5,16 +5,16 @@ use Rattle.std.specs.List.{All, AllByRecursion as Each}
 use Rattle.std.specs.Prelude.{IfSome, IsSome}
 use Rattle.tsdb_base.specs.declared.ids.Space.{Space}
 use Rattle.tsdb_base.specs.declared.ids.Space.TheVariants.{Sequence, Unsequence}
-use Rattle.tsdb_compacting.proofs.InState.{IsKnown, kept_among}
+use Rattle.tsdb_tasks.proofs.InState.{IsKnown, kept_among}
 use Rattle.tsdb_core.specs.Beginnings.{HaveHulls}
 use Rattle.tsdb_core.specs.Core.{IsSeen}
 use Rattle.tsdb_core.specs.declared.engine.Core.{Core}
-use Rattle.tsdb_held.specs.Held.{AreFilesOf, entry_of, listed}
-use Rattle.tsdb_kept.specs.Files.{AreKept, KeptFiles, entries_in, kept_file}
-use Rattle.tsdb_kept.specs.Places.{KeptFile}
-use Rattle.tsdb_layers.proofs.Lists.{among_left, among_map, among_right, each_among, each_from_among}
-use Rattle.tsdb_layers.specs.Lists.{Among}
-use Rattle.tsdb_logged.specs.Logged.{Outside}
+use Rattle.tsdb_fileset.specs.Held.{AreFilesOf, entry_of, listed}
+use Rattle.tsdb_fileset.specs.Files.{AreKept, KeptFiles, entries_in, kept_file}
+use Rattle.tsdb_fileset.specs.Places.{KeptFile}
+use Rattle.tsdb_base.proofs.Lists.{among_left, among_map, among_right, each_among, each_from_among}
+use Rattle.tsdb_base.specs.Lists.{Among}
+use Rattle.tsdb_memory.specs.Logged.{Outside}
 use Rattle.tsdb_outside.specs.declared.disk.Disk as disk
 use Rattle.tsdb_outside.specs.declared.faults.Counted as counted
 use Rattle.tsdb_plan.specs.Files.{AreRising, HaveRisingHulls}

@@ -13,17 +13,17 @@ use Rattle.tsdb_compactions.specs.declared.job.Job.{Job}
 use Rattle.tsdb_core.proofs.Jobs.{is_there}
 use Rattle.tsdb_core.specs.Core.{KeepsJobs, kept_room, next_of}
 use Rattle.tsdb_core.specs.declared.engine.Core.{Core}
-use Rattle.tsdb_kept.specs.Files.{IsOpen, kept_file}
-use Rattle.tsdb_kept.specs.Places.{KeptFile}
-use Rattle.tsdb_kept.specs.Replacing.{compaction_room as places_of}
-use Rattle.tsdb_kept.specs.Room.{more_room}
-use Rattle.tsdb_kept.specs.declared.room.Spare.{Spare}
-use Rattle.tsdb_layers.proofs.Lists.{each_among, each_append, each_left, each_right, each_weaker}
-use Rattle.tsdb_layers.specs.Lists.{count}
-use Rattle.tsdb_logged.specs.Logged.{room_of}
+use Rattle.tsdb_fileset.specs.Files.{IsOpen, kept_file}
+use Rattle.tsdb_fileset.specs.Places.{KeptFile}
+use Rattle.tsdb_fileset.specs.Replacing.{compaction_room as places_of}
+use Rattle.tsdb_fileset.specs.Room.{more_room}
+use Rattle.tsdb_fileset.specs.declared.room.Spare.{Spare}
+use Rattle.tsdb_base.proofs.Lists.{each_among, each_append, each_left, each_right, each_weaker}
+use Rattle.tsdb_base.specs.Lists.{count}
+use Rattle.tsdb_memory.specs.Logged.{room_of}
 use Rattle.tsdb_outside.specs.declared.disk.Disk as disk
 use Rattle.tsdb_outside.specs.declared.faults.Counted as counted_by
-use Rattle.tsdb_pinning.specs.Changes.{more_rights}
+use Rattle.tsdb_pin.specs.Changes.{more_rights}
 use Rattle.tsdb_state.proofs.Holding.{room_with_compaction}
 use Rattle.tsdb_state.proofs.Numbering.{count_drawn}
 use Rattle.tsdb_state.specs.Jobs.{KeepsRoom, drawn_by, drawn_numbers, flushed_bytes, job_inputs, output_places}

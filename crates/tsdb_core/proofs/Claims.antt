@@ -8,10 +8,10 @@ use Rattle.tsdb_core.specs.Ending.{AreAfterCommit}
 use Rattle.tsdb_core.specs.declared.commit.Commit.{Commit}
 use Rattle.tsdb_core.specs.declared.commit.Commit.TheVariants.{Device, Done, Gone}
 use Rattle.tsdb_core.specs.declared.engine.Core.{Core}
-use Rattle.tsdb_committing.specs.Files.{NewFile, NewFiles}
-use Rattle.tsdb_kept.specs.Files.{KeptFiles}
-use Rattle.tsdb_layers.proofs.Lists.{each_weaker}
-use Rattle.tsdb_layers.specs.Lists.{Among, if_some}
+use Rattle.tsdb_tasks.specs.Files.{NewFile, NewFiles}
+use Rattle.tsdb_fileset.specs.Files.{KeptFiles}
+use Rattle.tsdb_base.proofs.Lists.{each_weaker}
+use Rattle.tsdb_base.specs.Lists.{Among, if_some}
 use Rattle.tsdb_outside.specs.declared.disk.Disk as disk
 use Rattle.tsdb_outside.specs.declared.faults.Counted as counted
 use Rattle.tsdb_plan.specs.declared.entry.FileEntry.{FileEntry}

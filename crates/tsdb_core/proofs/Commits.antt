@@ -8,16 +8,16 @@ use Rattle.tsdb_base.specs.declared.answers.Answer.TheVariants as answer
 use Rattle.tsdb_base.specs.declared.ids.FileNumber.{FileNumber}
 use Rattle.tsdb_base.specs.declared.ids.Space.TheVariants.{Sequence, Unsequence}
 use Rattle.tsdb_base.specs.declared.ids.Stamp.{Stamp}
-use Rattle.tsdb_committing.proofs.Coming.{of_store, sent_out, stand_last, tell_on}
-use Rattle.tsdb_committing.proofs.Committing.{all_there, can_commit, drawn_from_one, ended_stored, least_after}
-use Rattle.tsdb_committing.proofs.Stored.{stored_with, worlds_with}
-use Rattle.tsdb_committing.specs.Coming.{AreSentOut, HaveCome, StandLast}
-use Rattle.tsdb_committing.specs.Files.{AreAllThere, AreOfJob, IsOutAs, NewFile, NewFiles, TellBytes, all_of, number_of}
-use Rattle.tsdb_committing.specs.Files.{state_files}
-use Rattle.tsdb_committing.specs.Files.{with_files}
+use Rattle.tsdb_tasks.proofs.Coming.{of_store, sent_out, stand_last, tell_on}
+use Rattle.tsdb_tasks.proofs.Committing.{all_there, can_commit, drawn_from_one, ended_stored, least_after}
+use Rattle.tsdb_tasks.proofs.Stored.{stored_with, worlds_with}
+use Rattle.tsdb_tasks.specs.Coming.{AreSentOut, HaveCome, StandLast}
+use Rattle.tsdb_tasks.specs.Files.{AreAllThere, AreOfJob, IsOutAs, NewFile, NewFiles, TellBytes, all_of, number_of}
+use Rattle.tsdb_tasks.specs.Files.{state_files}
+use Rattle.tsdb_tasks.specs.Files.{with_files}
 use Rattle.tsdb_core.proofs.Claims.{after_commit, claims_stay, same_lists}
 use Rattle.tsdb_core.proofs.Parts.{both_come, both_lists}
-use Rattle.tsdb_core.proofs.Built.{room_first, room_second}
+use Rattle.tsdb_core.proofs.OutputsBuilt.{room_first, room_second}
 use Rattle.tsdb_core.proofs.Loans.{AreUnreadYet, all_same, flush_loans}
 use Rattle.tsdb_core.proofs.Jobs.{drawn_is, is_open, others_kept, parts_apart, places, same_kept}
 use Rattle.tsdb_core.proofs.Seen.{jobs_stay}
@@ -32,26 +32,26 @@ use Rattle.tsdb_core.specs.declared.commit.Commit.{Commit}
 use Rattle.tsdb_core.specs.declared.commit.Commit.TheVariants.{Device, Done, Gone}
 use Rattle.tsdb_core.specs.declared.engine.Core.{Core}
 use Rattle.tsdb_frames.specs.Frames.{faults_of, slot_of}
-use Rattle.tsdb_held.proofs.Joining.{only_places}
-use Rattle.tsdb_held.proofs.Sweeping.{borns_are}
-use Rattle.tsdb_held.specs.Held.{AreFilesOf, TellTheirBytes}
-use Rattle.tsdb_images.specs.Stored.{built_files, kept_bytes}
-use Rattle.tsdb_jobs.specs.declared.flush.FlushJob.{FlushJob}
-use Rattle.tsdb_kept.specs.Files.{IsOpen, KeepsLists, KeptFiles, listed_borns}
-use Rattle.tsdb_kept.specs.Places.{KeptFile, OnlyMakesPlaces}
-use Rattle.tsdb_kept.specs.Room.{HasRoom}
-use Rattle.tsdb_kept.specs.declared.room.Spare.{Spare}
-use Rattle.tsdb_layers.proofs.Lists.{among_left, among_right, with_one_is}
-use Rattle.tsdb_layers.specs.Lists.{Among, if_some}
+use Rattle.tsdb_fileset.proofs.Joining.{only_places}
+use Rattle.tsdb_fileset.proofs.StateSweeps.{borns_are}
+use Rattle.tsdb_fileset.specs.Held.{AreFilesOf, TellTheirBytes}
+use Rattle.tsdb_state.specs.Stored.{built_files, kept_bytes}
+use Rattle.tsdb_flush.specs.declared.job.FlushJob.{FlushJob}
+use Rattle.tsdb_fileset.specs.Files.{IsOpen, KeepsLists, KeptFiles, listed_borns}
+use Rattle.tsdb_fileset.specs.Places.{KeptFile, OnlyMakesPlaces}
+use Rattle.tsdb_fileset.specs.Room.{HasRoom}
+use Rattle.tsdb_fileset.specs.declared.room.Spare.{Spare}
+use Rattle.tsdb_base.proofs.Lists.{among_left, among_right, with_one_is}
+use Rattle.tsdb_base.specs.Lists.{Among, if_some}
 use Rattle.tsdb_model.specs.World.{World}
 use Rattle.tsdb_model.specs.declared.command.Schema.{Schema}
 use Rattle.tsdb_log.specs.declared.record.LogRecord.{LogRecord}
 use Rattle.tsdb_log.specs.declared.record.LogRecord.TheVariants.{Freeze}
-use Rattle.tsdb_logged.proofs.Steps.{no_memory, refuses}
-use Rattle.tsdb_logged.specs.Commands.{IsAny, IsPrepared}
-use Rattle.tsdb_logged.specs.Flushes.{CanCommit, IsFlushed}
-use Rattle.tsdb_logged.specs.Logged.{IsSound, LeavesStates, Outside, log_of, memory_of, room_of, with_record}
-use Rattle.tsdb_logged.specs.declared.logged.Logged.{Logged}
+use Rattle.tsdb_memory.proofs.LogLemmas.Steps.{no_memory, refuses}
+use Rattle.tsdb_memory.specs.Commands.{IsAny, IsPrepared}
+use Rattle.tsdb_memory.specs.Flushes.{CanCommit, IsFlushed}
+use Rattle.tsdb_memory.specs.Logged.{IsSound, LeavesStates, Outside, log_of, memory_of, room_of, with_record}
+use Rattle.tsdb_memory.specs.declared.logged.Logged.{Logged}
 use Rattle.tsdb_memory.specs.Least.{IsLeastOf}
 use Rattle.tsdb_memory.specs.Shown.{IsFrozenOf}
 use Rattle.tsdb_memory.specs.Store.{FrozenPair as FrozenInMemory}

@@ -8,27 +8,27 @@ use Rattle.std.specs.List.{AllByRecursion as Each, flat_map, range_with_len}
 use Rattle.std.specs.Prelude.{◌==◌, IfSome, nat_eq, sum_by}
 use Rattle.tsdb_base.specs.declared.ids.FileNumber.{FileNumber}
 use Rattle.tsdb_base.specs.declared.ids.Space.TheVariants.{Sequence, Unsequence}
-use Rattle.tsdb_committing.proofs.Coming.{of_each}
-use Rattle.tsdb_committing.specs.Coming.{HaveCome}
-use Rattle.tsdb_committing.specs.Files.{NewFiles, all_of, number_of}
+use Rattle.tsdb_tasks.proofs.Coming.{of_each}
+use Rattle.tsdb_tasks.specs.Coming.{HaveCome}
+use Rattle.tsdb_tasks.specs.Files.{NewFiles, all_of, number_of}
 use Rattle.tsdb_core.proofs.Parts.{plain}
 use Rattle.tsdb_core.proofs.Seen.{jobs_stay}
 use Rattle.tsdb_core.specs.Core.{KeepsJobs, kept_room, next_of}
 use Rattle.tsdb_core.specs.Ending.{drawn_for, less_if, numbers_if}
 use Rattle.tsdb_core.specs.Flushes.{HasNumbersOf}
 use Rattle.tsdb_core.specs.declared.engine.Core.{Core}
-use Rattle.tsdb_jobs.specs.declared.flush.FlushJob.{FlushJob}
-use Rattle.tsdb_kept.proofs.Counts.{counted}
-use Rattle.tsdb_kept.specs.Files.{IsOpen, KeptFiles, kept_file}
-use Rattle.tsdb_kept.specs.Places.{ArePlacesMade, KeptFile, OnlyMakesPlaces, file_at, place_at}
-use Rattle.tsdb_kept.specs.Room.{flush_room, more_room}
-use Rattle.tsdb_kept.specs.declared.room.Spare.{Spare}
-use Rattle.tsdb_layers.proofs.Lists.{any_among, count_append, each_among, each_append, each_from_among, each_left}
-use Rattle.tsdb_layers.proofs.Lists.{each_right, each_weaker}
-use Rattle.tsdb_layers.proofs.Lists.{each_map, with_one_each}
-use Rattle.tsdb_layers.specs.Lists.{Among, IsWithOne, count, if_some}
-use Rattle.tsdb_logged.specs.Logged.{room_of}
-use Rattle.tsdb_logged.specs.declared.logged.Logged.{Logged}
+use Rattle.tsdb_flush.specs.declared.job.FlushJob.{FlushJob}
+use Rattle.tsdb_fileset.proofs.Counts.{counted}
+use Rattle.tsdb_fileset.specs.Files.{IsOpen, KeptFiles, kept_file}
+use Rattle.tsdb_fileset.specs.Places.{ArePlacesMade, KeptFile, OnlyMakesPlaces, file_at, place_at}
+use Rattle.tsdb_fileset.specs.Room.{flush_room, more_room}
+use Rattle.tsdb_fileset.specs.declared.room.Spare.{Spare}
+use Rattle.tsdb_base.proofs.Lists.{any_among, count_append, each_among, each_append, each_from_among, each_left}
+use Rattle.tsdb_base.proofs.Lists.{each_right, each_weaker}
+use Rattle.tsdb_base.proofs.Lists.{each_map, with_one_each}
+use Rattle.tsdb_base.specs.Lists.{Among, IsWithOne, count, if_some}
+use Rattle.tsdb_memory.specs.Logged.{room_of}
+use Rattle.tsdb_memory.specs.declared.logged.Logged.{Logged}
 use Rattle.tsdb_outside.specs.declared.disk.Disk as disk
 use Rattle.tsdb_outside.specs.declared.faults.Counted as counted_by
 use Rattle.tsdb_state.proofs.Counting.{numbers_drawn}

@@ -7,11 +7,11 @@ use Rattle.tsdb_base.specs.declared.ids.Space.TheVariants.{Sequence, Unsequence}
 use Rattle.tsdb_core.specs.Core.{IsSeen, files_of, logged_of}
 use Rattle.tsdb_core.specs.Listings.{ListsStore}
 use Rattle.tsdb_core.specs.declared.engine.Core.{Core}
-use Rattle.tsdb_kept.specs.Files.{AreKept}
-use Rattle.tsdb_listing.proofs.Telling.{lines_tell_files}
-use Rattle.tsdb_listing.specs.Lines.{lines_of}
-use Rattle.tsdb_listing.specs.Listings.{TellFiles}
-use Rattle.tsdb_logged.specs.Logged.{Outside, memory_of}
+use Rattle.tsdb_fileset.specs.Files.{AreKept}
+use Rattle.tsdb_fileset.proofs.Telling.{lines_tell_files}
+use Rattle.tsdb_fileset.specs.Lines.{lines_of}
+use Rattle.tsdb_fileset.specs.Listings.{TellFiles}
+use Rattle.tsdb_memory.specs.Logged.{Outside, memory_of}
 use Rattle.tsdb_model.specs.declared.reply.FileLine.{FileLine}
 use Rattle.tsdb_marks.specs.declared.marks.Mark.{Mark}
 use Rattle.tsdb_memory.specs.Model.{frozen_in}

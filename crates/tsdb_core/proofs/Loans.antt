@@ -5,9 +5,9 @@ use Rattle.std.proofs.lemmas.List.{map-append}
 use Rattle.std.specs.List.{AllByRecursion as Each, flat_map}
 use Rattle.std.specs.Option.{IsSomeAnd, option_map}
 use Rattle.tsdb_base.specs.declared.ids.FileNumber.{FileNumber}
-use Rattle.tsdb_committing.specs.Coming.{HaveCome}
-use Rattle.tsdb_committing.proofs.Coming.{of_each}
-use Rattle.tsdb_committing.specs.Files.{NewFile, NewFiles, all_of, new_file, new_files, number_of}
+use Rattle.tsdb_tasks.specs.Coming.{HaveCome}
+use Rattle.tsdb_tasks.proofs.Coming.{of_each}
+use Rattle.tsdb_tasks.specs.Files.{NewFile, NewFiles, all_of, new_file, new_files, number_of}
 use Rattle.tsdb_core.proofs.LoansInputs.{inputs_grown, inputs_same}
 use Rattle.tsdb_core.proofs.LoansRights.{IsNamedIn, fewer_counted, name_same, no_right_on, none_on}
 use Rattle.tsdb_core.proofs.LoansRights.{rights_given, rights_pass, rights_same, rights_swept, rights_taken}
@@ -18,26 +18,26 @@ use Rattle.tsdb_core.specs.Pins.{AreOnColumns, pin_rights, source_rights}
 use Rattle.tsdb_core.specs.declared.commit.Commit.{Commit}
 use Rattle.tsdb_core.specs.declared.commit.Commit.TheVariants.{Device, Done, Gone}
 use Rattle.tsdb_core.specs.declared.engine.Core.{Core}
-use Rattle.tsdb_kept.specs.Files.{IsOpen, KeptFiles, kept_file}
-use Rattle.tsdb_kept.specs.Places.{KeptFile, file_at}
-use Rattle.tsdb_kept.specs.Rights.{IsRightTo}
-use Rattle.tsdb_kept.specs.Sweeps.{LeavesWithout, free_numbers}
-use Rattle.tsdb_kept.specs.declared.files.Outgoing.{Outgoing}
-use Rattle.tsdb_jobs.specs.declared.flush.Built.{Built}
-use Rattle.tsdb_jobs.specs.declared.flush.Flushed.{Flushed}
-use Rattle.tsdb_layers.proofs.Lists.{each_append, each_both}
-use Rattle.tsdb_layers.specs.Lists.{Among, IsWithOne, count, if_some}
+use Rattle.tsdb_fileset.specs.Files.{IsOpen, KeptFiles, kept_file}
+use Rattle.tsdb_fileset.specs.Places.{KeptFile, file_at}
+use Rattle.tsdb_fileset.specs.Rights.{IsRightTo}
+use Rattle.tsdb_fileset.specs.Sweeps.{LeavesWithout, free_numbers}
+use Rattle.tsdb_fileset.specs.declared.files.Outgoing.{Outgoing}
+use Rattle.tsdb_flush.specs.declared.job.Built.{Built}
+use Rattle.tsdb_flush.specs.declared.job.Flushed.{Flushed}
+use Rattle.tsdb_base.proofs.Lists.{each_append, each_both}
+use Rattle.tsdb_base.specs.Lists.{Among, IsWithOne, count, if_some}
 use Rattle.tsdb_outside.specs.Files.{NamedFile}
 use Rattle.tsdb_outside.specs.declared.disk.Disk as disk
 use Rattle.tsdb_outside.specs.declared.faults.Counted as counted_by
-use Rattle.tsdb_pinning.proofs.Changing.{kept_changed}
-use Rattle.tsdb_pinning.specs.Changes.{GivesRights, TakesRights, column_numbers, fewer_rights, more_rights}
-use Rattle.tsdb_pinning.specs.Pins.{AreColumnsHeld}
-use Rattle.tsdb_pinning.specs.Sources.{AreHeldIn, IsHeldIn, numbers_in, source_numbers}
-use Rattle.tsdb_pinning.specs.declared.pin.Column.{Column}
-use Rattle.tsdb_pinning.specs.declared.pin.Pin.{Pin}
-use Rattle.tsdb_pinning.specs.declared.pin.PinnedSource.{PinnedSource}
-use Rattle.tsdb_pinning.specs.declared.pin.PinnedSource.TheVariants.{File, Part}
+use Rattle.tsdb_pin.proofs.Changing.{kept_changed}
+use Rattle.tsdb_pin.specs.Changes.{GivesRights, TakesRights, column_numbers, fewer_rights, more_rights}
+use Rattle.tsdb_pin.specs.Pins.{AreColumnsHeld}
+use Rattle.tsdb_pin.specs.Sources.{AreHeldIn, IsHeldIn, numbers_in, source_numbers}
+use Rattle.tsdb_pin.specs.declared.pin.Column.{Column}
+use Rattle.tsdb_pin.specs.declared.pin.Pin.{Pin}
+use Rattle.tsdb_pin.specs.declared.pin.PinnedSource.{PinnedSource}
+use Rattle.tsdb_pin.specs.declared.pin.PinnedSource.TheVariants.{File, Part}
 use Rattle.tsdb_state.specs.State.{Compaction, FlushJob}
 
 -- a right to the file that is kept, both ways

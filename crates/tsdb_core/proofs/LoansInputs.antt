@@ -10,18 +10,18 @@ use Rattle.std.specs.Prelude.{slice_range}
 use Rattle.tsdb_base.specs.declared.ids.FileNumber.{FileNumber}
 use Rattle.tsdb_base.specs.declared.ids.Space.{Space}
 use Rattle.tsdb_base.specs.declared.ids.Space.TheVariants.{Sequence, Unsequence}
-use Rattle.tsdb_compacting.proofs.InState.{counted_among}
-use Rattle.tsdb_compacting.specs.Finishing.{IsRunOf, StandInSequence}
+use Rattle.tsdb_tasks.proofs.InState.{counted_among}
+use Rattle.tsdb_tasks.specs.Finishing.{IsRunOf, StandInSequence}
 use Rattle.tsdb_compactions.specs.Jobs.{plain_numbers}
 use Rattle.tsdb_core.specs.Loans.{AreApart, KeepsInputs, StandClaimed, StandFrom, StandsIn}
 use Rattle.tsdb_core.specs.Replacements.{without_claim}
-use Rattle.tsdb_kept.proofs.Replaced.{run_parts}
-use Rattle.tsdb_kept.specs.Files.{KeptFiles, entry_numbers}
-use Rattle.tsdb_kept.specs.Replacing.{IsWithin, claim_run, output_in, replace_run, with_claim}
-use Rattle.tsdb_layers.proofs.Lists.{among_left, among_map, among_right, each_all, each_among, each_both}
-use Rattle.tsdb_layers.proofs.Lists.{each_map, each_weaker, runs_apart}
-use Rattle.tsdb_layers.proofs.Lists.{with_one_apart, with_one_each, with_one_pairs}
-use Rattle.tsdb_layers.specs.Lists.{Among, EachPair, IsRun, IsWithOne, count, if_some}
+use Rattle.tsdb_fileset.proofs.Replaced.{run_parts}
+use Rattle.tsdb_fileset.specs.Files.{KeptFiles, entry_numbers}
+use Rattle.tsdb_fileset.specs.Replacing.{IsWithin, claim_run, output_in, replace_run, with_claim}
+use Rattle.tsdb_base.proofs.Lists.{among_left, among_map, among_right, each_all, each_among, each_both}
+use Rattle.tsdb_base.proofs.Lists.{each_map, each_weaker, runs_apart}
+use Rattle.tsdb_base.proofs.Lists.{with_one_apart, with_one_each, with_one_pairs}
+use Rattle.tsdb_base.specs.Lists.{Among, EachPair, IsRun, IsWithOne, count, if_some}
 use Rattle.tsdb_plan.specs.declared.entry.FileEntry.{FileEntry}
 use Rattle.tsdb_plan.specs.declared.entry.Run.{Run}
 use Rattle.tsdb_state.specs.Plans.{IsSequenceFree}

@@ -9,14 +9,14 @@ use Rattle.std.specs.Option.{option_map}
 use Rattle.std.specs.Prelude.{IfSome, slice_range}
 use Rattle.tsdb_base.specs.declared.ids.Space.{Space}
 use Rattle.tsdb_base.specs.declared.ids.Space.TheVariants.{Sequence, Unsequence}
-use Rattle.tsdb_compacting.proofs.Given.{once_late}
-use Rattle.tsdb_compacting.proofs.InState.{OthersGiveRights, file_changed}
-use Rattle.tsdb_compacting.proofs.Out.{plain_is}
-use Rattle.tsdb_compacting.specs.Ending.{GivesUp}
-use Rattle.tsdb_compacting.specs.Finishing.{AreRunsOf, Finishes, StandInSequence}
-use Rattle.tsdb_compacting.specs.Inputs.{AreHeld, input_numbers}
-use Rattle.tsdb_compacting.specs.declared.finishing.InputRuns.{InputRuns}
-use Rattle.tsdb_committing.specs.Files.{NewFile}
+use Rattle.tsdb_tasks.proofs.Given.{once_late}
+use Rattle.tsdb_tasks.proofs.InState.{OthersGiveRights, file_changed}
+use Rattle.tsdb_tasks.proofs.Out.{plain_is}
+use Rattle.tsdb_tasks.specs.Ending.{GivesUp}
+use Rattle.tsdb_tasks.specs.Finishing.{AreRunsOf, Finishes, StandInSequence}
+use Rattle.tsdb_tasks.specs.Inputs.{AreHeld, input_numbers}
+use Rattle.tsdb_tasks.specs.declared.finishing.InputRuns.{InputRuns}
+use Rattle.tsdb_tasks.specs.Files.{NewFile}
 use Rattle.tsdb_compactions.specs.Jobs.{IsCompactionOf, IsFormed, input_file, plain_numbers}
 use Rattle.tsdb_compactions.specs.declared.job.Input.{Input}
 use Rattle.tsdb_compactions.specs.declared.job.Job.{Job}
@@ -32,17 +32,17 @@ use Rattle.tsdb_core.specs.Loans.{AreApart, AreRightsKept, KeepsInputs, LentRigh
 use Rattle.tsdb_core.specs.Loans.{all_lent, lent_numbers}
 use Rattle.tsdb_core.specs.Replacements.{EndsFiles, without_claim}
 use Rattle.tsdb_core.specs.declared.engine.Core.{Core}
-use Rattle.tsdb_kept.proofs.Replaced.{run_parts}
-use Rattle.tsdb_kept.specs.Files.{AreKept, IsOpen, KeptFiles, entry_numbers, kept_file}
-use Rattle.tsdb_kept.specs.Places.{KeptFile, file_at, place_at}
-use Rattle.tsdb_kept.specs.Replacing.{IsWithin, claim_run, output_in, with_claim}
-use Rattle.tsdb_layers.proofs.Lists.{each_among, each_from_among, each_weaker}
-use Rattle.tsdb_layers.specs.Lists.{Among, IsWithOne, count, if_some}
+use Rattle.tsdb_fileset.proofs.Replaced.{run_parts}
+use Rattle.tsdb_fileset.specs.Files.{AreKept, IsOpen, KeptFiles, entry_numbers, kept_file}
+use Rattle.tsdb_fileset.specs.Places.{KeptFile, file_at, place_at}
+use Rattle.tsdb_fileset.specs.Replacing.{IsWithin, claim_run, output_in, with_claim}
+use Rattle.tsdb_base.proofs.Lists.{each_among, each_from_among, each_weaker}
+use Rattle.tsdb_base.specs.Lists.{Among, IsWithOne, count, if_some}
 use Rattle.tsdb_outside.specs.Files.{NamedFile}
 use Rattle.tsdb_outside.specs.declared.disk.Disk as disk
 use Rattle.tsdb_outside.specs.declared.faults.Counted as counted_by
 use Rattle.tsdb_outside.specs.declared.faults.Failed.{Failed}
-use Rattle.tsdb_pinning.specs.Changes.{fewer_rights, more_rights}
+use Rattle.tsdb_pin.specs.Changes.{fewer_rights, more_rights}
 use Rattle.tsdb_plan.specs.declared.entry.FileEntry.{FileEntry}
 use Rattle.tsdb_plan.specs.declared.entry.Run.{Run}
 use Rattle.tsdb_state.specs.Records.{numbers_of}

@@ -7,9 +7,9 @@ use Rattle.std.specs.List.{AllByRecursion as Each, flat_map}
 use Rattle.tsdb_base.specs.declared.ids.FileNumber.{FileNumber}
 use Rattle.tsdb_base.specs.declared.ids.Space.{Space}
 use Rattle.tsdb_base.specs.declared.ids.Space.TheVariants.{Sequence, Unsequence}
-use Rattle.tsdb_compacting.specs.Ending.{IsOutIn}
-use Rattle.tsdb_compacting.specs.Finishing.{StandInSequence}
-use Rattle.tsdb_compacting.specs.Inputs.{AreHeld}
+use Rattle.tsdb_tasks.specs.Ending.{IsOutIn}
+use Rattle.tsdb_tasks.specs.Finishing.{StandInSequence}
+use Rattle.tsdb_tasks.specs.Inputs.{AreHeld}
 use Rattle.tsdb_compactions.specs.Jobs.{IsCompactionOf, input_file, input_files, plain_numbers}
 use Rattle.tsdb_compactions.specs.declared.job.Input.{Input}
 use Rattle.tsdb_compactions.specs.declared.job.Job.{Job}
@@ -23,21 +23,21 @@ use Rattle.tsdb_core.specs.Flushes.{HasNumbersOf, IsOut}
 use Rattle.tsdb_core.specs.Loans.{KeepsLoans, LentRight, StandClaimed, StandFrom, StandsIn}
 use Rattle.tsdb_core.specs.Pins.{pin_rights, source_rights}
 use Rattle.tsdb_core.specs.declared.engine.Core.{Core}
-use Rattle.tsdb_jobs.specs.declared.flush.FlushJob as plain
-use Rattle.tsdb_kept.specs.Files.{IsOpen, KeptFiles, entry_numbers, kept_file}
-use Rattle.tsdb_kept.specs.Places.{AreUnread}
-use Rattle.tsdb_kept.specs.Replacing.{HasListRoom}
-use Rattle.tsdb_layers.proofs.Lists.{each_left, each_of_map, each_right, with_one_is}
-use Rattle.tsdb_layers.specs.Lists.{Among, IsRun, IsWithOne}
+use Rattle.tsdb_flush.specs.declared.job.FlushJob as plain
+use Rattle.tsdb_fileset.specs.Files.{IsOpen, KeptFiles, entry_numbers, kept_file}
+use Rattle.tsdb_fileset.specs.Places.{AreUnread}
+use Rattle.tsdb_fileset.specs.Replacing.{HasListRoom}
+use Rattle.tsdb_base.proofs.Lists.{each_left, each_of_map, each_right, with_one_is}
+use Rattle.tsdb_base.specs.Lists.{Among, IsRun, IsWithOne}
 use Rattle.tsdb_outside.specs.Files.{NamedFile}
 use Rattle.tsdb_outside.specs.declared.disk.Disk as disk
 use Rattle.tsdb_outside.specs.declared.faults.Counted as counted_by
-use Rattle.tsdb_pinning.specs.Pins.{AreColumnsHeld}
-use Rattle.tsdb_pinning.specs.Sources.{AreHeldIn, IsHeldIn}
-use Rattle.tsdb_pinning.specs.declared.pin.Column.{Column}
-use Rattle.tsdb_pinning.specs.declared.pin.Pin.{Pin}
-use Rattle.tsdb_pinning.specs.declared.pin.PinnedSource.{PinnedSource}
-use Rattle.tsdb_pinning.specs.declared.pin.PinnedSource.TheVariants.{File, Part}
+use Rattle.tsdb_pin.specs.Pins.{AreColumnsHeld}
+use Rattle.tsdb_pin.specs.Sources.{AreHeldIn, IsHeldIn}
+use Rattle.tsdb_pin.specs.declared.pin.Column.{Column}
+use Rattle.tsdb_pin.specs.declared.pin.Pin.{Pin}
+use Rattle.tsdb_pin.specs.declared.pin.PinnedSource.{PinnedSource}
+use Rattle.tsdb_pin.specs.declared.pin.PinnedSource.TheVariants.{File, Part}
 use Rattle.tsdb_plan.specs.declared.entry.FileEntry.{FileEntry}
 use Rattle.tsdb_state.specs.Jobs.{drawn_by, outgoing_places, output_places}
 use Rattle.tsdb_state.specs.Records.{numbers_of}

@@ -9,16 +9,16 @@ use Rattle.std.specs.Option.{IsSomeAnd, option_map}
 use Rattle.std.specs.Prelude.{◌&&◌, ◌||◌, IfSome}
 use Rattle.tsdb_base.specs.declared.ids.FileNumber.{FileNumber}
 use Rattle.tsdb_core.specs.Loans.{AreRightsKept, LentRight, all_lent, lent_numbers}
-use Rattle.tsdb_held.proofs.Sweeping.{of_those_that_stay}
-use Rattle.tsdb_kept.proofs.Counts.{counted}
-use Rattle.tsdb_kept.specs.Files.{KeptFiles, kept_file, outgoing_numbers}
-use Rattle.tsdb_kept.specs.Places.{KeptFile, Places, file_at, is_one_of, place_at}
-use Rattle.tsdb_kept.specs.Sweeps.{LeavesWithout, free_numbers, has_no_right, is_free, is_that}
-use Rattle.tsdb_kept.specs.declared.files.Outgoing.{Outgoing}
-use Rattle.tsdb_layers.proofs.Lists.{among_left, among_map, among_right, any_among, count_append, each_among, each_append}
-use Rattle.tsdb_layers.proofs.Lists.{each_from_among, each_weaker, with_one_each}
-use Rattle.tsdb_layers.specs.Lists.{Among, IsWithOne, count}
-use Rattle.tsdb_pinning.specs.Changes.{fewer_rights, more_rights}
+use Rattle.tsdb_fileset.proofs.StateSweeps.{of_those_that_stay}
+use Rattle.tsdb_fileset.proofs.Counts.{counted}
+use Rattle.tsdb_fileset.specs.Files.{KeptFiles, kept_file, outgoing_numbers}
+use Rattle.tsdb_fileset.specs.Places.{KeptFile, Places, file_at, is_one_of, place_at}
+use Rattle.tsdb_fileset.specs.Sweeps.{LeavesWithout, free_numbers, has_no_right, is_free, is_that}
+use Rattle.tsdb_fileset.specs.declared.files.Outgoing.{Outgoing}
+use Rattle.tsdb_base.proofs.Lists.{among_left, among_map, among_right, any_among, count_append, each_among, each_append}
+use Rattle.tsdb_base.proofs.Lists.{each_from_among, each_weaker, with_one_each}
+use Rattle.tsdb_base.specs.Lists.{Among, IsWithOne, count}
+use Rattle.tsdb_pin.specs.Changes.{fewer_rights, more_rights}
 use Rattle.tsdb_state.proofs.Numbering.{count_with_one}
 
 -- the file of the right is kept under its name

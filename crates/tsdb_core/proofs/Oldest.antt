@@ -4,7 +4,7 @@ use Rattle.std.proofs.Common.{Bool, zero, suc, ap, arith, length-append, refl, s
 use Rattle.std.proofs.lemmas.Bool.{eq-eqb, eqb-true, false≢true}
 use Rattle.std.specs.Option.{IsSomeAnd}
 use Rattle.std.specs.Prelude.{◌↔◌, IsTrue, slice_get}
-use Rattle.tsdb_jobs.specs.declared.flush.FlushJob.{FlushJob}
+use Rattle.tsdb_flush.specs.declared.job.FlushJob.{FlushJob}
 use Rattle.tsdb_memory.specs.Model.{frozen_in}
 use Rattle.tsdb_memory.specs.Store.{FrozenPair, Store}
 use Rattle.tsdb_memory.specs.declared.store.FrozenPair as declared
@@ -12,8 +12,8 @@ use Rattle.tsdb_core.specs.Ending.{IsLeastWith, drawn_for, numbers_if}
 use Rattle.tsdb_core.specs.Flushes.{IsDue, IsOldest}
 use Rattle.tsdb_base.specs.declared.ids.FileNumber.{FileNumber}
 use Rattle.tsdb_base.specs.declared.ids.Stamp.{Stamp}
-use Rattle.tsdb_layers.proofs.Lists.{among_left, among_right, each_all, each_append, each_left, each_map, each_right}
-use Rattle.tsdb_layers.specs.Lists.{if_some}
+use Rattle.tsdb_base.proofs.Lists.{among_left, among_right, each_all, each_append, each_left, each_map, each_right}
+use Rattle.tsdb_base.specs.Lists.{if_some}
 use Rattle.tsdb_memory.proofs.Borns.{least_push}
 use Rattle.tsdb_memory.proofs.Counts.{among_either}
 use Rattle.tsdb_memory.specs.Least.{IsLeastOf, lesser}

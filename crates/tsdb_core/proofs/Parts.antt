@@ -8,16 +8,16 @@ use Rattle.std.specs.Prelude.{◌⊎◌}
 use Rattle.tsdb_base.specs.declared.ids.FileNumber.{FileNumber}
 use Rattle.tsdb_base.specs.declared.ids.Space.{Space}
 use Rattle.tsdb_base.specs.declared.ids.Space.TheVariants.{Sequence, Unsequence}
-use Rattle.tsdb_committing.specs.Coming.{AreSentOut, HaveCome, StandLast, outgoing_of}
-use Rattle.tsdb_committing.specs.Files.{NewFile, NewFiles, number_of, numbers_of}
+use Rattle.tsdb_tasks.specs.Coming.{AreSentOut, HaveCome, StandLast, outgoing_of}
+use Rattle.tsdb_tasks.specs.Files.{NewFile, NewFiles, number_of, numbers_of}
 use Rattle.tsdb_core.specs.Ending.{AreAfterCommit, PartEnds, less_if, numbers_if, only}
 use Rattle.tsdb_core.specs.declared.commit.Commit.{Commit}
 use Rattle.tsdb_core.specs.declared.commit.Commit.TheVariants.{Device, Done, Gone}
-use Rattle.tsdb_kept.specs.Files.{Appends, KeepsLists, KeptFiles, kept_file}
-use Rattle.tsdb_kept.specs.Places.{OthersStay, file_at, place_at}
-use Rattle.tsdb_kept.specs.Room.{less_room}
-use Rattle.tsdb_layers.proofs.Lists.{among_left, among_right, each_append, each_among, each_from_among, each_left}
-use Rattle.tsdb_layers.specs.Lists.{Among, if_some}
+use Rattle.tsdb_fileset.specs.Files.{Appends, KeepsLists, KeptFiles, kept_file}
+use Rattle.tsdb_fileset.specs.Places.{OthersStay, file_at, place_at}
+use Rattle.tsdb_fileset.specs.Room.{less_room}
+use Rattle.tsdb_base.proofs.Lists.{among_left, among_right, each_append, each_among, each_from_among, each_left}
+use Rattle.tsdb_base.specs.Lists.{Among, if_some}
 
 abbrev pub plain : Option FileNumber → Option ℕ
 plain number = option_map (λ (n : FileNumber). n.0) number

@@ -8,27 +8,27 @@ use Rattle.tsdb_core.specs.Core.{AreClaimed, IsSeen, KeepsJobs, next_of}
 use Rattle.tsdb_core.specs.Pins.{ChangesRights, IsNotPinned, IsPinStep, IsPinned, IsUnpinned}
 use Rattle.tsdb_core.specs.Worlds.{KeepsWorld}
 use Rattle.tsdb_core.specs.declared.engine.Core.{Core}
-use Rattle.tsdb_held.specs.Held.{TellTheirBytes}
-use Rattle.tsdb_images.proofs.Storing.{pin_stored, unpin_stored}
-use Rattle.tsdb_images.specs.Stored.{kept_bytes}
-use Rattle.tsdb_kept.specs.Files.{IsOpen, KeptFiles, kept_file}
-use Rattle.tsdb_kept.specs.Places.{KeptFile}
-use Rattle.tsdb_kept.specs.declared.room.Spare.{Spare}
-use Rattle.tsdb_layers.proofs.Lists.{each_weaker}
-use Rattle.tsdb_layers.specs.Lists.{IsWithOne, count}
-use Rattle.tsdb_logged.specs.Logged.{Outside, memory_of, room_of}
+use Rattle.tsdb_fileset.specs.Held.{TellTheirBytes}
+use Rattle.tsdb_state.proofs.ImageLemmas.Storing.{pin_stored, unpin_stored}
+use Rattle.tsdb_state.specs.Stored.{kept_bytes}
+use Rattle.tsdb_fileset.specs.Files.{IsOpen, KeptFiles, kept_file}
+use Rattle.tsdb_fileset.specs.Places.{KeptFile}
+use Rattle.tsdb_fileset.specs.declared.room.Spare.{Spare}
+use Rattle.tsdb_base.proofs.Lists.{each_weaker}
+use Rattle.tsdb_base.specs.Lists.{IsWithOne, count}
+use Rattle.tsdb_memory.specs.Logged.{Outside, memory_of, room_of}
 use Rattle.tsdb_memory.specs.Store.{Store}
 use Rattle.tsdb_outside.specs.Files.{NamedFile, StoredFile}
 use Rattle.tsdb_outside.specs.declared.disk.Disk as disk
 use Rattle.tsdb_outside.specs.declared.faults.Counted as counted
-use Rattle.tsdb_pinning.proofs.Changing.{LeavesNames, gives_names, kept_changed, takes_names}
-use Rattle.tsdb_pinning.proofs.Gathered.{columns_stay}
-use Rattle.tsdb_pinning.proofs.Pinned.{files_with}
-use Rattle.tsdb_pinning.specs.Changes.{ChangesFiles, GivesRights, KeepsFiles, TakesRights, column_numbers, fewer_rights, more_rights}
-use Rattle.tsdb_pinning.specs.Pins.{AreColumnsHeld, IsTakenOrNot}
-use Rattle.tsdb_pinning.specs.Shown.{IsPinOf, IsPinOfState, LeavesState}
-use Rattle.tsdb_pinning.specs.declared.pin.Pin.{Pin}
-use Rattle.tsdb_pinning.specs.declared.pin.PinFault.{PinFault}
+use Rattle.tsdb_pin.proofs.Changing.{LeavesNames, gives_names, kept_changed, takes_names}
+use Rattle.tsdb_pin.proofs.Gathered.{columns_stay}
+use Rattle.tsdb_pin.proofs.Pinned.{files_with}
+use Rattle.tsdb_pin.specs.Changes.{ChangesFiles, GivesRights, KeepsFiles, TakesRights, column_numbers, fewer_rights, more_rights}
+use Rattle.tsdb_pin.specs.Pins.{AreColumnsHeld, IsTakenOrNot}
+use Rattle.tsdb_pin.specs.Shown.{IsPinOf, IsPinOfState, LeavesState}
+use Rattle.tsdb_pin.specs.declared.pin.Pin.{Pin}
+use Rattle.tsdb_pin.specs.declared.pin.PinFault.{PinFault}
 use Rattle.tsdb_state.proofs.Pinning.{pin_stands}
 use Rattle.tsdb_state.specs.Jobs.{KeepsRoom, drawn_numbers}
 use Rattle.tsdb_state.specs.State as state

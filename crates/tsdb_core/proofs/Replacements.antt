@@ -8,11 +8,11 @@ use Rattle.std.specs.Prelude.{IfSome}
 use Rattle.tsdb_base.specs.declared.ids.FileNumber.{FileNumber}
 use Rattle.tsdb_base.specs.declared.ids.Space.{Space}
 use Rattle.tsdb_base.specs.declared.ids.Stamp.{Stamp}
-use Rattle.tsdb_committing.specs.Files.{NewFile, new_file}
-use Rattle.tsdb_compacting.specs.Ending.{GivesUp, IsOutputNumbered}
-use Rattle.tsdb_compacting.specs.Finishing.{AreRunsOf, Finishes}
-use Rattle.tsdb_compacting.specs.States.{sent_files}
-use Rattle.tsdb_compacting.specs.declared.finishing.InputRuns.{InputRuns}
+use Rattle.tsdb_tasks.specs.Files.{NewFile, new_file}
+use Rattle.tsdb_tasks.specs.Ending.{GivesUp, IsOutputNumbered}
+use Rattle.tsdb_tasks.specs.Finishing.{AreRunsOf, Finishes}
+use Rattle.tsdb_tasks.specs.States.{sent_files}
+use Rattle.tsdb_tasks.specs.declared.finishing.InputRuns.{InputRuns}
 use Rattle.tsdb_compactions.proofs.Outputs.{no_output}
 use Rattle.tsdb_compactions.specs.Jobs.{IsCompactionOf, IsFormed, input_file, input_files, plain_numbers}
 use Rattle.tsdb_compactions.specs.Outputs.{IsOutputOf, TellsInputs}
@@ -29,18 +29,18 @@ use Rattle.tsdb_core.specs.Replacements.{AppendsEnd, CommitsIn, EndsFiles, EndsJ
 use Rattle.tsdb_core.specs.Replacements.{IsOutputIn, IsSeenAfterEnd, TellsNew, output_place, with_new, without_claim}
 use Rattle.tsdb_core.specs.Worlds.{IsWorldOf}
 use Rattle.tsdb_core.specs.declared.engine.Core.{Core}
-use Rattle.tsdb_held.specs.Held.{AreFilesOf, TellTheirBytes}
-use Rattle.tsdb_jobs.specs.declared.flush.Built.{Built}
-use Rattle.tsdb_kept.specs.Files.{AreKept, KeptFiles, listed_borns}
-use Rattle.tsdb_kept.specs.Replacing.{HasReplaced}
-use Rattle.tsdb_layers.proofs.Lists.{with_one_is}
-use Rattle.tsdb_layers.specs.Lists.{IsWithOne}
-use Rattle.tsdb_layers.specs.Places.{Content}
+use Rattle.tsdb_fileset.specs.Held.{AreFilesOf, TellTheirBytes}
+use Rattle.tsdb_flush.specs.declared.job.Built.{Built}
+use Rattle.tsdb_fileset.specs.Files.{AreKept, KeptFiles, listed_borns}
+use Rattle.tsdb_fileset.specs.Replacing.{HasReplaced}
+use Rattle.tsdb_base.proofs.Lists.{with_one_is}
+use Rattle.tsdb_base.specs.Lists.{IsWithOne}
+use Rattle.tsdb_state.specs.Places.{Content}
 use Rattle.tsdb_log.specs.declared.record.LogRecord.{LogRecord}
 use Rattle.tsdb_log.specs.declared.record.LogRecord.TheVariants.{Replaced}
-use Rattle.tsdb_logged.specs.Logged.{HasLog, IsSound, Outside, room_of, with_record}
-use Rattle.tsdb_logged.specs.Replacing.{CanReplace, IsReplaced, IsReplacement}
-use Rattle.tsdb_logged.specs.declared.logged.Logged.{Logged}
+use Rattle.tsdb_memory.specs.Logged.{HasLog, IsSound, Outside, room_of, with_record}
+use Rattle.tsdb_memory.specs.Replacing.{CanReplace, IsReplaced, IsReplacement}
+use Rattle.tsdb_memory.specs.declared.logged.Logged.{Logged}
 use Rattle.tsdb_model.specs.World.{World}
 use Rattle.tsdb_memory.specs.Least.{IsLeastOf}
 use Rattle.tsdb_outside.specs.Files.{NamedFile}
@@ -48,7 +48,7 @@ use Rattle.tsdb_outside.specs.declared.disk.Disk as disk
 use Rattle.tsdb_outside.specs.declared.faults.Counted as counted
 use Rattle.tsdb_outside.specs.declared.faults.Failed.{Failed}
 use Rattle.tsdb_plan.specs.declared.entry.FileEntry.{FileEntry}
-use Rattle.tsdb_replacing.proofs.Built.{new_output}
+use Rattle.tsdb_tasks.proofs.OutputsBuilt.{new_output}
 use Rattle.tsdb_state.proofs.EngineCompaction.{commit_keeps}
 use Rattle.tsdb_state.specs.Jobs.{replaced_bytes}
 use Rattle.tsdb_state.specs.State.{Compaction, EngineState, FlushJob, Told}

@@ -8,10 +8,10 @@ use Rattle.std.specs.List.{AllByRecursion as Each, list_any}
 use Rattle.std.specs.Prelude.{◌==◌, ◌&&◌, ◌||◌, slice_range}
 use Rattle.tsdb_base.specs.declared.ids.Space.{Space}
 use Rattle.tsdb_base.specs.declared.ids.Space.TheVariants.{Sequence, Unsequence}
-use Rattle.tsdb_committing.specs.Files.{NewFile}
-use Rattle.tsdb_compacting.specs.Ending.{GivesUp}
-use Rattle.tsdb_compacting.specs.Finishing.{AreRunsOf, Finishes}
-use Rattle.tsdb_compacting.specs.declared.finishing.InputRuns.{InputRuns}
+use Rattle.tsdb_tasks.specs.Files.{NewFile}
+use Rattle.tsdb_tasks.specs.Ending.{GivesUp}
+use Rattle.tsdb_tasks.specs.Finishing.{AreRunsOf, Finishes}
+use Rattle.tsdb_tasks.specs.declared.finishing.InputRuns.{InputRuns}
 use Rattle.tsdb_compactions.specs.Jobs.{IsCompactionOf}
 use Rattle.tsdb_compactions.specs.declared.job.Job.{Job}
 use Rattle.tsdb_core.proofs.Claims.{is_claim_of}
@@ -19,12 +19,12 @@ use Rattle.tsdb_core.proofs.Jobs.{is_counted}
 use Rattle.tsdb_core.specs.Core.{AreClaimed, files_of, is_claimed, is_sequence_claimed}
 use Rattle.tsdb_core.specs.Replacements.{without_claim}
 use Rattle.tsdb_core.specs.declared.engine.Core.{Core}
-use Rattle.tsdb_kept.proofs.Replaced.{run_parts}
-use Rattle.tsdb_kept.specs.Files.{KeptFiles, entry_numbers}
-use Rattle.tsdb_kept.specs.Replacing.{IsWithin, replace_run}
-use Rattle.tsdb_layers.proofs.Lists.{among_left, among_map, among_right, each_among, each_from_among, with_one_apart}
-use Rattle.tsdb_layers.proofs.Lists.{with_one_each, with_one_is}
-use Rattle.tsdb_layers.specs.Lists.{Among, IsRun, IsWithOne, count}
+use Rattle.tsdb_fileset.proofs.Replaced.{run_parts}
+use Rattle.tsdb_fileset.specs.Files.{KeptFiles, entry_numbers}
+use Rattle.tsdb_fileset.specs.Replacing.{IsWithin, replace_run}
+use Rattle.tsdb_base.proofs.Lists.{among_left, among_map, among_right, each_among, each_from_among, with_one_apart}
+use Rattle.tsdb_base.proofs.Lists.{with_one_each, with_one_is}
+use Rattle.tsdb_base.specs.Lists.{Among, IsRun, IsWithOne, count}
 use Rattle.tsdb_outside.specs.declared.disk.Disk as disk
 use Rattle.tsdb_outside.specs.declared.faults.Counted as counted
 use Rattle.tsdb_plan.specs.declared.entry.FileEntry.{FileEntry}

@@ -10,45 +10,45 @@ use Rattle.tsdb_base.specs.declared.ids.FileNumber.{FileNumber}
 use Rattle.tsdb_base.specs.declared.ids.Space.{Space}
 use Rattle.tsdb_base.specs.declared.ids.Space.TheVariants.{Sequence, Unsequence}
 use Rattle.tsdb_base.specs.declared.ids.Stamp.{Stamp}
-use Rattle.tsdb_committing.proofs.Numbers.{at_itself, at_other, kept_new, kept_other}
-use Rattle.tsdb_committing.specs.Files.{NewFile, kept_with, known_entry, number_of}
-use Rattle.tsdb_committing.specs.Files as committing
-use Rattle.tsdb_compacting.proofs.InCommit.{committed_in_state}
-use Rattle.tsdb_compacting.proofs.InRuns.{inputs_stand}
-use Rattle.tsdb_compacting.proofs.InState.{ended_in_state, file_changed}
-use Rattle.tsdb_compacting.proofs.Telling.{tell_with}
-use Rattle.tsdb_compacting.specs.Ending.{GivesUp}
-use Rattle.tsdb_compacting.specs.Finishing.{AreRunsOf, Finishes}
-use Rattle.tsdb_compacting.specs.Inputs.{input_numbers}
-use Rattle.tsdb_compacting.specs.States.{AreInputsIn, IsFresh, IsNewOf, IsPlaceOf, TellsOutput, sent_files}
-use Rattle.tsdb_compacting.specs.declared.finishing.InputRuns.{InputRuns}
+use Rattle.tsdb_tasks.proofs.Numbers.{at_itself, at_other, kept_new, kept_other}
+use Rattle.tsdb_tasks.specs.Files.{NewFile, kept_with, known_entry, number_of}
+use Rattle.tsdb_tasks.specs.Files as committing
+use Rattle.tsdb_tasks.proofs.InCommit.{committed_in_state}
+use Rattle.tsdb_tasks.proofs.InRuns.{inputs_stand}
+use Rattle.tsdb_tasks.proofs.InState.{ended_in_state, file_changed}
+use Rattle.tsdb_tasks.proofs.Telling.{tell_with}
+use Rattle.tsdb_tasks.specs.Ending.{GivesUp}
+use Rattle.tsdb_tasks.specs.Finishing.{AreRunsOf, Finishes}
+use Rattle.tsdb_tasks.specs.Inputs.{input_numbers}
+use Rattle.tsdb_tasks.specs.States.{AreInputsIn, IsFresh, IsNewOf, IsPlaceOf, TellsOutput, sent_files}
+use Rattle.tsdb_tasks.specs.declared.finishing.InputRuns.{InputRuns}
 use Rattle.tsdb_compactions.specs.Jobs.{IsCompactionOf, plain_numbers}
 use Rattle.tsdb_compactions.specs.declared.job.Job.{Job}
 use Rattle.tsdb_core.proofs.Jobs.{is_counted}
 use Rattle.tsdb_core.proofs.ReplacementsClaims.{kind, stands}
 use Rattle.tsdb_core.proofs.ReplacementsJobs.{IsGone}
 use Rattle.tsdb_core.specs.Replacements.{IsOutputIn, end_record, output_place, with_new}
-use Rattle.tsdb_held.proofs.Sweeping.{borns_are}
-use Rattle.tsdb_held.specs.Held.{AreFilesOf, TellTheirBytes, entry_of, listed}
-use Rattle.tsdb_images.specs.Stored.{kept_bytes}
-use Rattle.tsdb_kept.proofs.PlaceFacts.{other_number, same_number}
-use Rattle.tsdb_kept.specs.Files.{AreKept, IsOpen, KeptFiles, kept_file, listed_borns}
-use Rattle.tsdb_kept.specs.Places.{KeptFile, Places, file_at, is_number, place_at}
-use Rattle.tsdb_kept.specs.Replacing.{HasReplaced, leaving_run, less_compaction, output_in, replace_run}
-use Rattle.tsdb_layers.proofs.Lists.{among_left, among_map, among_right, each_among, each_from_among}
-use Rattle.tsdb_layers.specs.Lists.{Among, IsWithOne, count, if_some}
-use Rattle.tsdb_layers.specs.Places.{Content}
+use Rattle.tsdb_fileset.proofs.StateSweeps.{borns_are}
+use Rattle.tsdb_fileset.specs.Held.{AreFilesOf, TellTheirBytes, entry_of, listed}
+use Rattle.tsdb_state.specs.Stored.{kept_bytes}
+use Rattle.tsdb_fileset.proofs.PlaceFacts.{other_number, same_number}
+use Rattle.tsdb_fileset.specs.Files.{AreKept, IsOpen, KeptFiles, kept_file, listed_borns}
+use Rattle.tsdb_fileset.specs.Places.{KeptFile, Places, file_at, is_number, place_at}
+use Rattle.tsdb_fileset.specs.Replacing.{HasReplaced, leaving_run, less_compaction, output_in, replace_run}
+use Rattle.tsdb_base.proofs.Lists.{among_left, among_map, among_right, each_among, each_from_among}
+use Rattle.tsdb_base.specs.Lists.{Among, IsWithOne, count, if_some}
+use Rattle.tsdb_state.specs.Places.{Content}
 use Rattle.tsdb_log.specs.declared.record.LogRecord.TheVariants.{Replaced}
-use Rattle.tsdb_logged.specs.Logged.{IsStoredIn, Outside}
-use Rattle.tsdb_logged.specs.Replacing.{CanReplace}
+use Rattle.tsdb_memory.specs.Logged.{IsStoredIn, Outside}
+use Rattle.tsdb_memory.specs.Replacing.{CanReplace}
 use Rattle.tsdb_model.specs.World.{World}
 use Rattle.tsdb_memory.specs.Least.{IsLeastOf}
 use Rattle.tsdb_memory.specs.Shown.{file_borns}
-use Rattle.tsdb_pinning.specs.Changes.{fewer_rights}
+use Rattle.tsdb_pin.specs.Changes.{fewer_rights}
 use Rattle.tsdb_plan.specs.declared.entry.FileEntry.{FileEntry}
-use Rattle.tsdb_replacing.proofs.Ending.{ended_with, ended_without, none_can, output_can}
-use Rattle.tsdb_replacing.proofs.Told.{not_a_file, stored_with, worlds_with}
-use Rattle.tsdb_replacing.specs.Outputs.{only_output}
+use Rattle.tsdb_tasks.proofs.OutputEnds.{ended_with, ended_without, none_can, output_can}
+use Rattle.tsdb_tasks.proofs.OutputsTold.{not_a_file, stored_with, worlds_with}
+use Rattle.tsdb_tasks.specs.Outputs.{only_output}
 use Rattle.tsdb_state.proofs.Numbering.{count_drawn, count_map_one}
 use Rattle.tsdb_state.specs.Jobs.{HasKind, Stands, drawn_numbers, held_numbers}
 use Rattle.tsdb_state.specs.Order.{files_of}

@@ -8,29 +8,29 @@ use Rattle.std.specs.Option.{option_map}
 use Rattle.std.specs.Prelude.{IfSome}
 use Rattle.tsdb_base.specs.declared.ids.Space.{Space}
 use Rattle.tsdb_base.specs.declared.ids.Space.TheVariants.{Sequence, Unsequence}
-use Rattle.tsdb_committing.specs.Files.{NewFile}
-use Rattle.tsdb_compacting.proofs.InState.{OthersGiveRights, file_changed}
-use Rattle.tsdb_compacting.specs.Ending.{GivesUp}
-use Rattle.tsdb_compacting.specs.Finishing.{Finishes}
-use Rattle.tsdb_compacting.specs.Inputs.{input_numbers}
-use Rattle.tsdb_compacting.specs.declared.finishing.InputRuns.{InputRuns}
+use Rattle.tsdb_tasks.specs.Files.{NewFile}
+use Rattle.tsdb_tasks.proofs.InState.{OthersGiveRights, file_changed}
+use Rattle.tsdb_tasks.specs.Ending.{GivesUp}
+use Rattle.tsdb_tasks.specs.Finishing.{Finishes}
+use Rattle.tsdb_tasks.specs.Inputs.{input_numbers}
+use Rattle.tsdb_tasks.specs.declared.finishing.InputRuns.{InputRuns}
 use Rattle.tsdb_compactions.specs.Jobs.{IsCompactionOf, input_file}
 use Rattle.tsdb_compactions.specs.declared.job.Job.{Job}
 use Rattle.tsdb_core.proofs.Jobs.{is_counted, is_there}
 use Rattle.tsdb_core.specs.Core.{KeepsJobs, kept_room, next_of}
 use Rattle.tsdb_core.specs.declared.engine.Core.{Core}
-use Rattle.tsdb_kept.specs.Files.{IsOpen, KeptFiles, kept_file}
-use Rattle.tsdb_kept.specs.Places.{AreOfStore, KeptFile, file_at, place_at}
-use Rattle.tsdb_kept.specs.Replacing.{less_compaction}
-use Rattle.tsdb_kept.specs.declared.room.Spare.{Spare}
-use Rattle.tsdb_layers.proofs.Lists.{each_among, each_from_among, each_weaker, with_one_each}
-use Rattle.tsdb_layers.specs.Lists.{Among, IsWithOne, count}
-use Rattle.tsdb_logged.specs.Logged.{room_of}
-use Rattle.tsdb_logged.specs.declared.logged.Logged.{Logged}
+use Rattle.tsdb_fileset.specs.Files.{IsOpen, KeptFiles, kept_file}
+use Rattle.tsdb_fileset.specs.Places.{AreOfStore, KeptFile, file_at, place_at}
+use Rattle.tsdb_fileset.specs.Replacing.{less_compaction}
+use Rattle.tsdb_fileset.specs.declared.room.Spare.{Spare}
+use Rattle.tsdb_base.proofs.Lists.{each_among, each_from_among, each_weaker, with_one_each}
+use Rattle.tsdb_base.specs.Lists.{Among, IsWithOne, count}
+use Rattle.tsdb_memory.specs.Logged.{room_of}
+use Rattle.tsdb_memory.specs.declared.logged.Logged.{Logged}
 use Rattle.tsdb_outside.specs.Files.{Store}
 use Rattle.tsdb_outside.specs.declared.disk.Disk as disk
 use Rattle.tsdb_outside.specs.declared.faults.Counted as counted_by
-use Rattle.tsdb_pinning.specs.Changes.{fewer_rights}
+use Rattle.tsdb_pin.specs.Changes.{fewer_rights}
 use Rattle.tsdb_state.proofs.Holding.{room_without_compaction}
 use Rattle.tsdb_state.proofs.Numbering.{count_drawn, count_map_one}
 use Rattle.tsdb_state.specs.Jobs.{KeepsRoom, drawn_numbers, flushed_bytes, outgoing_places}

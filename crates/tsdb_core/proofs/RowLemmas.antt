@@ -4,8 +4,8 @@ use Rattle.std.proofs.Common.{Bool, false}
 use Rattle.std.proofs.lemmas.Bool.{false≢true}
 use Rattle.std.specs.Prelude.{◌<◌, ◌≤◌, ◌↔◌, IsTrue}
 use Rattle.std.proofs.lemmas.Slice.Zip.{AllZip-long}
-use Rattle.tsdb_answers.proofs.Following.{row_answers}
-use Rattle.tsdb_answers.specs.Answers.{IsInsertAnswer}
+use Rattle.tsdb_memory.proofs.Following.{row_answers}
+use Rattle.tsdb_memory.specs.MapAnswers.{IsInsertAnswer}
 use Rattle.tsdb_base.specs.declared.answers.Answer.{Answer}
 use Rattle.tsdb_base.specs.declared.answers.Answer.TheVariants as answer
 use Rattle.tsdb_core.proofs.Seen.{core_command}
@@ -20,10 +20,10 @@ use Rattle.tsdb_frames.specs.Frames.{faults_of}
 use Rattle.tsdb_log.specs.declared.record.CellRecord.{CellRecord}
 use Rattle.tsdb_log.specs.declared.record.LogRecord.{LogRecord}
 use Rattle.tsdb_log.specs.declared.record.LogRecord.TheVariants.{Freeze, Insert}
-use Rattle.tsdb_logged.specs.Answers.{IsAccepted, IsFreezeAnswer}
-use Rattle.tsdb_logged.specs.Commands.{CanPut, CanStop, IsAny, IsCommand}
-use Rattle.tsdb_logged.specs.Logged.{Outside, log_of, memory_of}
-use Rattle.tsdb_logged.specs.declared.logged.Logged.{Logged}
+use Rattle.tsdb_memory.specs.Answers.{IsAccepted, IsFreezeAnswer}
+use Rattle.tsdb_memory.specs.Commands.{CanPut, CanStop, IsAny, IsCommand}
+use Rattle.tsdb_memory.specs.Logged.{Outside, log_of, memory_of}
+use Rattle.tsdb_memory.specs.declared.logged.Logged.{Logged}
 use Rattle.tsdb_model.specs.Apply.{after_reply}
 use Rattle.tsdb_model.specs.World.{World}
 use Rattle.tsdb_model.specs.declared.command.Command.TheVariants as command
@@ -37,9 +37,9 @@ use Rattle.tsdb_outside.specs.declared.disk.Disk as disk
 use Rattle.tsdb_outside.specs.declared.faults.Counted as counted
 use Rattle.tsdb_memory.specs.Model.{IsSound}
 use Rattle.tsdb_memtable.specs.Pairs.{HasRisingSeries}
-use Rattle.tsdb_rows.proofs.Counts.{empty_pair, has_counts}
-use Rattle.tsdb_rows.proofs.Putting.{put_within}
-use Rattle.tsdb_rows.specs.Fits.{FitsPair, HasCounts, HasNoPoint}
+use Rattle.tsdb_memory.proofs.RowLemmas.Counts.{empty_pair, has_counts}
+use Rattle.tsdb_memory.proofs.RowLemmas.Putting.{put_within}
+use Rattle.tsdb_memory.specs.Fits.{FitsPair, HasCounts, HasNoPoint}
 use Rattle.tsdb_base.specs.Limits.{end_of_numbers, max_frozen, max_pair_points}
 use Rattle.tsdb_state.specs.Records.{CanFreeze}
 use Rattle.tsdb_state.specs.State.{EngineState, StoreState}

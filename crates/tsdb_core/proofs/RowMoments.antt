@@ -1,6 +1,6 @@
 -- What a stop leaves at the moments of a row.
 use Rattle.std.proofs.Common.{◌≡◌, ◌⊎◌, ◌+◌, ℕ, ap, inl, inr, ⊎_elim, List, Option, Some, None, refl, sym, subst}
-use Rattle.tsdb_answers.proofs.Following.{froze_stands}
+use Rattle.tsdb_memory.proofs.Following.{froze_stands}
 use Rattle.tsdb_base.specs.declared.answers.Answer.{Answer}
 use Rattle.tsdb_base.specs.declared.answers.Answer.TheVariants as answer
 use Rattle.tsdb_core.proofs.Worlds.{order_seen}
@@ -10,10 +10,10 @@ use Rattle.tsdb_core.specs.Rows.{HasPlace, IsFrozenFor, IsPut, IsRowCommand, Lea
 use Rattle.tsdb_core.specs.declared.engine.Core.{Core}
 use Rattle.tsdb_frames.proofs.MomentLemmas.{leaves_on, weaker}
 use Rattle.tsdb_frames.specs.Frames.{disk_of, slot_of}
-use Rattle.tsdb_images.proofs.Leaving.{image_stands}
-use Rattle.tsdb_images.specs.Stored.{LeadsTo, LeavesOneOf}
+use Rattle.tsdb_state.proofs.ImageLemmas.Leaving.{image_stands}
+use Rattle.tsdb_state.specs.Stored.{LeadsTo, LeavesOneOf}
 use Rattle.tsdb_log.specs.declared.record.LogRecord.TheVariants.{Freeze}
-use Rattle.tsdb_logged.specs.Logged.{Outside, log_of, with_record}
+use Rattle.tsdb_memory.specs.Logged.{Outside, log_of, with_record}
 use Rattle.tsdb_model.specs.History.{state_after}
 use Rattle.tsdb_model.specs.State as plain
 use Rattle.tsdb_model.specs.declared.command.Command.TheVariants as command
@@ -26,7 +26,7 @@ use Rattle.tsdb_outside.specs.Moments.{LeavesOnly}
 use Rattle.tsdb_outside.specs.declared.disk.Disk as disk
 use Rattle.tsdb_outside.specs.declared.disk.Slot.{Slot}
 use Rattle.tsdb_outside.specs.declared.faults.Counted as counted
-use Rattle.tsdb_replay.specs.Stores.{IsStateOf}
+use Rattle.tsdb_state.specs.Stores.{IsStateOf}
 use Rattle.tsdb_state.proofs.Inserting.{inserted_stands}
 use Rattle.tsdb_state.specs.Commands.{AreCells}
 use Rattle.tsdb_state.specs.Records.{CanFreeze, froze}

@@ -16,20 +16,20 @@ use Rattle.tsdb_core.specs.Core.{AreClaimed, IsSeen, KeepsJobs, next_of}
 use Rattle.tsdb_core.specs.Sweeps.{IsSwept, IsSweptOf, without_files}
 use Rattle.tsdb_core.specs.declared.engine.Core.{Core}
 use Rattle.tsdb_frames.specs.Frames.{is_aside_in_doubt}
-use Rattle.tsdb_held.proofs.Sweeping.{borns_are, of_those_that_stay, places_stay, sweep_is, tell_on}
-use Rattle.tsdb_held.specs.Held.{AreFilesOf, AreSomeOf, IsDoubtOf, TellTheirBytes, may_go, told_numbers}
-use Rattle.tsdb_images.proofs.Storing.{sweep_stored}
-use Rattle.tsdb_kept.specs.Files.{IsOpen, KeptFiles, kept_file, listed_borns}
-use Rattle.tsdb_kept.specs.Sweeps.{LeavesWithout, StopsAt, tried_numbers}
-use Rattle.tsdb_kept.specs.declared.files.Outgoing.{Outgoing}
-use Rattle.tsdb_kept.specs.declared.room.Spare.{Spare}
-use Rattle.tsdb_layers.proofs.Lists.{among_left, each_weaker}
-use Rattle.tsdb_layers.specs.Lists.{Among, if_some}
+use Rattle.tsdb_fileset.proofs.StateSweeps.{borns_are, of_those_that_stay, places_stay, sweep_is, tell_on}
+use Rattle.tsdb_fileset.specs.Held.{AreFilesOf, AreSomeOf, IsDoubtOf, TellTheirBytes, may_go, told_numbers}
+use Rattle.tsdb_state.proofs.ImageLemmas.Storing.{sweep_stored}
+use Rattle.tsdb_fileset.specs.Files.{IsOpen, KeptFiles, kept_file, listed_borns}
+use Rattle.tsdb_fileset.specs.Sweeps.{LeavesWithout, StopsAt, tried_numbers}
+use Rattle.tsdb_fileset.specs.declared.files.Outgoing.{Outgoing}
+use Rattle.tsdb_fileset.specs.declared.room.Spare.{Spare}
+use Rattle.tsdb_base.proofs.Lists.{among_left, each_weaker}
+use Rattle.tsdb_base.specs.Lists.{Among, if_some}
 use Rattle.tsdb_log.specs.declared.record.LogRecord.{LogRecord}
 use Rattle.tsdb_log.specs.declared.record.LogRecord.TheVariants.{Delete}
-use Rattle.tsdb_logged.specs.Commands.{HasLeast, IsAfter, IsAny, IsCommand}
-use Rattle.tsdb_logged.specs.Logged.{HasLog, IsSound, Outside, log_of, room_of, two_numbers, with_record}
-use Rattle.tsdb_logged.specs.declared.logged.Logged.{Logged}
+use Rattle.tsdb_memory.specs.Commands.{HasLeast, IsAfter, IsAny, IsCommand}
+use Rattle.tsdb_memory.specs.Logged.{HasLog, IsSound, Outside, log_of, room_of, two_numbers, with_record}
+use Rattle.tsdb_memory.specs.declared.logged.Logged.{Logged}
 use Rattle.tsdb_memory.specs.Least.{IsLeastOf}
 use Rattle.tsdb_outside.specs.declared.disk.Disk as disk
 use Rattle.tsdb_outside.specs.declared.faults.Counted as counted

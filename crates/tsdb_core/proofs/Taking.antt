@@ -16,21 +16,21 @@ use Rattle.tsdb_core.specs.Ending.{drawn_for, numbers_if}
 use Rattle.tsdb_core.specs.Flushes.{IsTaken}
 use Rattle.tsdb_core.specs.Worlds.{KeepsWorld}
 use Rattle.tsdb_core.specs.declared.engine.Core.{Core}
-use Rattle.tsdb_flushing.proofs.States.{taken_flush}
-use Rattle.tsdb_flushing.specs.Flushes.{IsFlushOf}
-use Rattle.tsdb_flushing.specs.Taking as flushing
-use Rattle.tsdb_held.proofs.Joining.{only_places}
-use Rattle.tsdb_held.specs.Held.{AreFilesOf}
-use Rattle.tsdb_images.proofs.Storing.{take_flush_stored}
-use Rattle.tsdb_jobs.specs.Jobs.{IsJob}
-use Rattle.tsdb_jobs.specs.declared.flush.FlushJob.{FlushJob}
-use Rattle.tsdb_kept.specs.Files.{KeepsLists, KeptFiles}
-use Rattle.tsdb_kept.specs.Places.{ArePlacesMade, OnlyMakesPlaces}
-use Rattle.tsdb_kept.specs.Room.{flush_room, more_room}
-use Rattle.tsdb_layers.specs.Lists.{if_some}
-use Rattle.tsdb_logged.specs.Commands.{IsPrepared}
-use Rattle.tsdb_logged.specs.Logged.{IsSound, Outside, memory_of, room_of}
-use Rattle.tsdb_logged.specs.declared.logged.Logged.{Logged}
+use Rattle.tsdb_flush.proofs.States.{taken_flush}
+use Rattle.tsdb_flush.specs.Flushes.{IsFlushOf}
+use Rattle.tsdb_flush.specs.Taking as flushing
+use Rattle.tsdb_fileset.proofs.Joining.{only_places}
+use Rattle.tsdb_fileset.specs.Held.{AreFilesOf}
+use Rattle.tsdb_state.proofs.ImageLemmas.Storing.{take_flush_stored}
+use Rattle.tsdb_flush.specs.Jobs.{IsJob}
+use Rattle.tsdb_flush.specs.declared.job.FlushJob.{FlushJob}
+use Rattle.tsdb_fileset.specs.Files.{KeepsLists, KeptFiles}
+use Rattle.tsdb_fileset.specs.Places.{ArePlacesMade, OnlyMakesPlaces}
+use Rattle.tsdb_fileset.specs.Room.{flush_room, more_room}
+use Rattle.tsdb_base.specs.Lists.{if_some}
+use Rattle.tsdb_memory.specs.Commands.{IsPrepared}
+use Rattle.tsdb_memory.specs.Logged.{IsSound, Outside, memory_of, room_of}
+use Rattle.tsdb_memory.specs.declared.logged.Logged.{Logged}
 use Rattle.tsdb_memory.specs.Store.{FrozenPair}
 use Rattle.tsdb_outside.specs.declared.disk.Disk as disk
 use Rattle.tsdb_outside.specs.declared.faults.Counted as counted

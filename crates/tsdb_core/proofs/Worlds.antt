@@ -1,7 +1,7 @@
 -- A command of a core is a step of the plain map.
 use Rattle.std.proofs.Common.{◌≡◌, ℕ, inl, inr, List, map, Result, Ok, Err, refl, subst, sym}
-use Rattle.tsdb_answers.proofs.Following.{froze_stands}
-use Rattle.tsdb_answers.specs.Answers.{FollowsMap as StateFollows, IsTried}
+use Rattle.tsdb_memory.proofs.Following.{froze_stands}
+use Rattle.tsdb_memory.specs.MapAnswers.{FollowsMap as StateFollows, IsTried}
 use Rattle.tsdb_base.specs.declared.answers.Answer.{Answer}
 use Rattle.tsdb_base.specs.declared.answers.Answer.TheVariants as answer
 use Rattle.tsdb_core.specs.Commands.{IsCoreCommand, IsSeenAfter}
@@ -9,13 +9,13 @@ use Rattle.tsdb_core.specs.Core.{IsSeen, files_of, logged_of}
 use Rattle.tsdb_core.specs.Sweeps.{IsSwept, without_files}
 use Rattle.tsdb_core.specs.Worlds.{FollowsMap, IsWorldOf, KeepsWorld}
 use Rattle.tsdb_core.specs.declared.engine.Core.{Core}
-use Rattle.tsdb_held.specs.Held.{may_go}
-use Rattle.tsdb_kept.specs.Sweeps.{tried_numbers}
+use Rattle.tsdb_fileset.specs.Held.{may_go}
+use Rattle.tsdb_fileset.specs.Sweeps.{tried_numbers}
 use Rattle.tsdb_log.specs.declared.record.CellRecord.{CellRecord}
 use Rattle.tsdb_log.specs.declared.record.LogRecord.{LogRecord}
 use Rattle.tsdb_log.specs.declared.record.LogRecord.TheVariants.{Freeze, Insert}
-use Rattle.tsdb_logged.specs.Commands.{CanPut, IsAny}
-use Rattle.tsdb_logged.specs.Logged.{Outside, memory_of, with_record}
+use Rattle.tsdb_memory.specs.Commands.{CanPut, IsAny}
+use Rattle.tsdb_memory.specs.Logged.{Outside, memory_of, with_record}
 use Rattle.tsdb_model.specs.Apply.{accepted, after_reply}
 use Rattle.tsdb_model.specs.World.{World}
 use Rattle.tsdb_model.specs.declared.command.Command.{Command}

@@ -6,10 +6,10 @@ use Rattle.std.specs.Option.{option_map}
 use Rattle.std.specs.declared.result.Result.TheVariants.{Ok, Err}
 use Rattle.tsdb_base.specs.declared.ids.Space.{Space}
 use Rattle.tsdb_base.specs.declared.ids.Space.TheVariants.{Sequence, Unsequence}
-use Rattle.tsdb_compacting.specs.Beginning.{run_files}
-use Rattle.tsdb_compacting.specs.Inputs.{input_numbers}
-use Rattle.tsdb_compacting.specs.Series.{run_paths}
-use Rattle.tsdb_compacting.specs.declared.finishing.InputRuns.{InputRuns}
+use Rattle.tsdb_tasks.specs.Beginning.{run_files}
+use Rattle.tsdb_tasks.specs.Inputs.{input_numbers}
+use Rattle.tsdb_tasks.specs.Series.{run_paths}
+use Rattle.tsdb_tasks.specs.declared.finishing.InputRuns.{InputRuns}
 use Rattle.tsdb_compactions.specs.Jobs.{IsCompactionOf, input_files}
 use Rattle.tsdb_compactions.specs.Outputs.{TellsTruth}
 use Rattle.tsdb_compactions.specs.declared.job.Job.{Job}
@@ -20,18 +20,18 @@ use Rattle.tsdb_core.specs.Loans.{KeepsLoans, LentRight}
 use Rattle.tsdb_core.specs.declared.commit.CoreFault.{CoreFault}
 use Rattle.tsdb_core.specs.declared.commit.CoreFault.TheVariants.{Memory, Full}
 use Rattle.tsdb_core.specs.declared.engine.Core.{Core}
-use Rattle.tsdb_kept.specs.Files.{KeepsLists, kept_file}
-use Rattle.tsdb_kept.specs.Places.{AreOfStore, OnlyMakesPlaces}
-use Rattle.tsdb_kept.specs.Replacing.{claim_run}
-use Rattle.tsdb_logged.specs.Commands.{IsPrepared}
-use Rattle.tsdb_logged.specs.Logged.{Outside, memory_of}
+use Rattle.tsdb_fileset.specs.Files.{KeepsLists, kept_file}
+use Rattle.tsdb_fileset.specs.Places.{AreOfStore, OnlyMakesPlaces}
+use Rattle.tsdb_fileset.specs.Replacing.{claim_run}
+use Rattle.tsdb_memory.specs.Commands.{IsPrepared}
+use Rattle.tsdb_memory.specs.Logged.{Outside, memory_of}
 use Rattle.tsdb_marks.specs.Lists.{is_of}
-use Rattle.tsdb_layers.specs.Lists.{count}
+use Rattle.tsdb_base.specs.Lists.{count}
 use Rattle.tsdb_outside.specs.Files as outside
 use Rattle.tsdb_outside.specs.Files.{NamedFile}
 use Rattle.tsdb_outside.specs.declared.disk.Disk as disk
 use Rattle.tsdb_outside.specs.declared.faults.Counted as counted
-use Rattle.tsdb_pinning.specs.Changes.{more_rights}
+use Rattle.tsdb_pin.specs.Changes.{more_rights}
 use Rattle.tsdb_plan.specs.CrossPlan.{IsCrossPlan}
 use Rattle.tsdb_plan.specs.Files.{HaveRisingHulls}
 use Rattle.tsdb_plan.specs.InnerPlan.{IsInnerPlan}

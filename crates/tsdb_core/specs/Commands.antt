@@ -7,8 +7,8 @@ use Rattle.tsdb_core.specs.Loans.{KeepsAllLoans}
 use Rattle.tsdb_core.specs.declared.engine.Core.{Core}
 use Rattle.tsdb_frames.specs.Frames.{faults_of, slot_of}
 use Rattle.tsdb_log.specs.declared.record.LogRecord.{LogRecord}
-use Rattle.tsdb_logged.specs.Answers.{IsRefusal}
-use Rattle.tsdb_logged.specs.Logged.{LeavesStates, Outside, log_of, with_record}
+use Rattle.tsdb_memory.specs.Answers.{IsRefusal}
+use Rattle.tsdb_memory.specs.Logged.{LeavesStates, Outside, log_of, with_record}
 use Rattle.tsdb_base.specs.Causes.{Rose}
 use Rattle.tsdb_outside.specs.declared.disk.Disk as disk
 use Rattle.tsdb_outside.specs.declared.faults.Counted as counted

@@ -1,15 +1,15 @@
 -- What a core keeps for a compaction that is out.
 use Rattle.std.specs.Prelude.{◌≡◌, ◌≤◌, List, length, map}
-use Rattle.tsdb_compacting.specs.Ending.{IsOutIn}
-use Rattle.tsdb_compacting.specs.Finishing.{StandInSequence}
-use Rattle.tsdb_compacting.specs.Inputs.{input_numbers}
+use Rattle.tsdb_tasks.specs.Ending.{IsOutIn}
+use Rattle.tsdb_tasks.specs.Finishing.{StandInSequence}
+use Rattle.tsdb_tasks.specs.Inputs.{input_numbers}
 use Rattle.tsdb_compactions.specs.Jobs.{IsCompactionOf, IsFormed}
 use Rattle.tsdb_compactions.specs.declared.job.Input.{Input}
 use Rattle.tsdb_compactions.specs.declared.job.Job.{Job}
 use Rattle.tsdb_core.specs.Core.{KeepsJobs, files_of}
 use Rattle.tsdb_core.specs.Loans.{LentRight, lent_numbers}
 use Rattle.tsdb_core.specs.declared.engine.Core.{Core}
-use Rattle.tsdb_layers.specs.Lists.{IsWithOne}
+use Rattle.tsdb_base.specs.Lists.{IsWithOne}
 use Rattle.tsdb_outside.specs.Files.{NamedFile}
 use Rattle.tsdb_outside.specs.declared.disk.Disk as disk
 use Rattle.tsdb_outside.specs.declared.faults.Counted as counted

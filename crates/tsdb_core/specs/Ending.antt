@@ -5,16 +5,16 @@ use Rattle.tsdb_base.specs.declared.ids.FileNumber.{FileNumber}
 use Rattle.tsdb_base.specs.declared.ids.Space.{Space}
 use Rattle.tsdb_base.specs.declared.ids.Space.TheVariants.{Sequence, Unsequence}
 use Rattle.tsdb_base.specs.declared.ids.Stamp.{Stamp}
-use Rattle.tsdb_committing.specs.Coming.{AreSentOut, HaveCome, StandLast}
-use Rattle.tsdb_committing.specs.Files.{NewFile, NewFiles}
+use Rattle.tsdb_tasks.specs.Coming.{AreSentOut, HaveCome, StandLast}
+use Rattle.tsdb_tasks.specs.Files.{NewFile, NewFiles}
 use Rattle.tsdb_core.specs.declared.commit.Commit.{Commit}
 use Rattle.tsdb_core.specs.declared.commit.Commit.TheVariants.{Done, Gone, Device}
-use Rattle.tsdb_jobs.specs.declared.flush.Built.{Built}
-use Rattle.tsdb_jobs.specs.declared.flush.FlushJob.{FlushJob}
-use Rattle.tsdb_kept.specs.Files.{KeptFiles}
-use Rattle.tsdb_kept.specs.Room.{less_room}
-use Rattle.tsdb_kept.specs.declared.room.Spare.{Spare}
-use Rattle.tsdb_layers.specs.Lists.{if_some}
+use Rattle.tsdb_flush.specs.declared.job.Built.{Built}
+use Rattle.tsdb_flush.specs.declared.job.FlushJob.{FlushJob}
+use Rattle.tsdb_fileset.specs.Files.{KeptFiles}
+use Rattle.tsdb_fileset.specs.Room.{less_room}
+use Rattle.tsdb_fileset.specs.declared.room.Spare.{Spare}
+use Rattle.tsdb_base.specs.Lists.{if_some}
 use Rattle.tsdb_memory.specs.Least.{IsLeastOf}
 
 -- the number, where there is one

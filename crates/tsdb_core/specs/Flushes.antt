@@ -7,8 +7,8 @@ use Rattle.std.specs.Option.{IsSomeAnd, option_map}
 use Rattle.std.specs.declared.result.Result.TheVariants.{Ok, Err}
 use Rattle.tsdb_base.specs.declared.ids.FileNumber.{FileNumber}
 use Rattle.tsdb_base.specs.declared.ids.Stamp.{Stamp}
-use Rattle.tsdb_committing.specs.Coming.{HaveCome}
-use Rattle.tsdb_committing.specs.Files.{IsOutAs, NewFiles, TellBytes, all_of, state_files, told_with, with_files}
+use Rattle.tsdb_tasks.specs.Coming.{HaveCome}
+use Rattle.tsdb_tasks.specs.Files.{IsOutAs, NewFiles, TellBytes, all_of, state_files, told_with, with_files}
 use Rattle.tsdb_core.specs.Core.{IsSeen, KeepsJobs, files_of, is_sequence_claimed, limit_of, logged_of, next_of}
 use Rattle.tsdb_core.specs.Core.{working_of}
 use Rattle.tsdb_core.specs.Ending.{AreAfterCommit, IsLeastWith, drawn_for, number_for}
@@ -19,17 +19,17 @@ use Rattle.tsdb_core.specs.declared.commit.Commit.{Commit}
 use Rattle.tsdb_core.specs.declared.commit.Commit.TheVariants.{Done, Gone, Device}
 use Rattle.tsdb_core.specs.declared.commit.CoreFault.{CoreFault}
 use Rattle.tsdb_core.specs.declared.commit.CoreFault.TheVariants.{Memory, Full}
-use Rattle.tsdb_flushing.specs.Flushes.{IsFlushOf}
+use Rattle.tsdb_flush.specs.Flushes.{IsFlushOf}
 use Rattle.tsdb_frames.specs.Frames.{faults_of, slot_of}
-use Rattle.tsdb_images.specs.Stored.{built_files}
-use Rattle.tsdb_jobs.specs.Jobs.{IsJob}
-use Rattle.tsdb_jobs.specs.declared.flush.FlushJob.{FlushJob}
-use Rattle.tsdb_kept.specs.Files.{KeepsLists, listed_borns}
-use Rattle.tsdb_kept.specs.Places.{AreOfStore, OnlyMakesPlaces}
-use Rattle.tsdb_layers.specs.Lists.{IsWithOne}
-use Rattle.tsdb_logged.specs.Commands.{IsPrepared}
-use Rattle.tsdb_logged.specs.Flushes.{IsFlushed}
-use Rattle.tsdb_logged.specs.Logged.{LeavesStates, Outside, log_of, memory_of, with_record}
+use Rattle.tsdb_state.specs.Stored.{built_files}
+use Rattle.tsdb_flush.specs.Jobs.{IsJob}
+use Rattle.tsdb_flush.specs.declared.job.FlushJob.{FlushJob}
+use Rattle.tsdb_fileset.specs.Files.{KeepsLists, listed_borns}
+use Rattle.tsdb_fileset.specs.Places.{AreOfStore, OnlyMakesPlaces}
+use Rattle.tsdb_base.specs.Lists.{IsWithOne}
+use Rattle.tsdb_memory.specs.Commands.{IsPrepared}
+use Rattle.tsdb_memory.specs.Flushes.{IsFlushed}
+use Rattle.tsdb_memory.specs.Logged.{LeavesStates, Outside, log_of, memory_of, with_record}
 use Rattle.tsdb_model.specs.World.{World}
 use Rattle.tsdb_memory.specs.Store.{FrozenPair, Store}
 use Rattle.tsdb_base.specs.Causes.{Rose}

@@ -4,9 +4,9 @@ use Rattle.std.specs.FinMap.{len}
 use Rattle.tsdb_base.specs.declared.ids.Space.TheVariants.{Sequence, Unsequence}
 use Rattle.tsdb_core.specs.Core.{IsSeen, files_of, logged_of}
 use Rattle.tsdb_core.specs.declared.engine.Core.{Core}
-use Rattle.tsdb_listing.specs.Lines.{lines_of}
-use Rattle.tsdb_listing.specs.Listings.{TellFiles}
-use Rattle.tsdb_logged.specs.Logged.{Outside, memory_of}
+use Rattle.tsdb_fileset.specs.Lines.{lines_of}
+use Rattle.tsdb_fileset.specs.Listings.{TellFiles}
+use Rattle.tsdb_memory.specs.Logged.{Outside, memory_of}
 use Rattle.tsdb_model.specs.declared.reply.Listing.{Listing}
 use Rattle.tsdb_outside.specs.declared.disk.Disk as disk
 use Rattle.tsdb_outside.specs.declared.faults.Counted as counted

@@ -6,8 +6,8 @@ use Rattle.tsdb_base.specs.declared.ids.Space.{Space}
 use Rattle.tsdb_base.specs.declared.ids.Space.TheVariants.{Sequence, Unsequence}
 use Rattle.tsdb_core.specs.Core.{KeepsJobs, files_of, is_sequence_claimed}
 use Rattle.tsdb_core.specs.declared.engine.Core.{Core}
-use Rattle.tsdb_kept.specs.Files.{KeptFiles, entry_numbers, kept_file}
-use Rattle.tsdb_layers.specs.Lists.{Among, EachPair, IsRun, count}
+use Rattle.tsdb_fileset.specs.Files.{KeptFiles, entry_numbers, kept_file}
+use Rattle.tsdb_base.specs.Lists.{Among, EachPair, IsRun, count}
 use Rattle.tsdb_outside.specs.Files.{NamedFile}
 use Rattle.tsdb_outside.specs.declared.disk.Disk as disk
 use Rattle.tsdb_outside.specs.declared.faults.Counted as counted

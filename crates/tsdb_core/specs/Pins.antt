@@ -4,20 +4,20 @@ use Rattle.std.specs.List.{flat_map}
 use Rattle.tsdb_core.specs.Core.{IsSeen, KeepsJobs, files_of, is_sequence_claimed, limit_of, logged_of, next_of}
 use Rattle.tsdb_core.specs.Loans.{KeepsAllLoans, KeepsLoans, LentRight, lent_numbers}
 use Rattle.tsdb_core.specs.declared.engine.Core.{Core}
-use Rattle.tsdb_kept.specs.Places.{AreOfStore}
-use Rattle.tsdb_layers.specs.Lists.{IsWithOne}
-use Rattle.tsdb_logged.specs.Logged.{Outside}
+use Rattle.tsdb_fileset.specs.Places.{AreOfStore}
+use Rattle.tsdb_base.specs.Lists.{IsWithOne}
+use Rattle.tsdb_memory.specs.Logged.{Outside}
 use Rattle.tsdb_model.specs.World.{World}
 use Rattle.tsdb_outside.specs.Files as outside
 use Rattle.tsdb_outside.specs.Files.{NamedFile}
 use Rattle.tsdb_outside.specs.declared.disk.Disk as disk
 use Rattle.tsdb_outside.specs.declared.faults.Counted as counted
-use Rattle.tsdb_pinning.specs.Changes.{GivesRights, KeepsFiles, TakesRights, column_numbers}
-use Rattle.tsdb_pinning.specs.Pins.{AreColumnsHeld}
-use Rattle.tsdb_pinning.specs.Shown.{IsPinOf}
-use Rattle.tsdb_pinning.specs.declared.pin.Pin.{Pin}
-use Rattle.tsdb_pinning.specs.declared.pin.PinnedSource.{PinnedSource}
-use Rattle.tsdb_pinning.specs.declared.pin.PinnedSource.TheVariants.{File, Part}
+use Rattle.tsdb_pin.specs.Changes.{GivesRights, KeepsFiles, TakesRights, column_numbers}
+use Rattle.tsdb_pin.specs.Pins.{AreColumnsHeld}
+use Rattle.tsdb_pin.specs.Shown.{IsPinOf}
+use Rattle.tsdb_pin.specs.declared.pin.Pin.{Pin}
+use Rattle.tsdb_pin.specs.declared.pin.PinnedSource.{PinnedSource}
+use Rattle.tsdb_pin.specs.declared.pin.PinnedSource.TheVariants.{File, Part}
 use Rattle.tsdb_state.specs.State as state
 use Rattle.tsdb_state.specs.State.{Compaction, EngineState, FlushJob}
 use Rattle.tsdb_state.specs.Steps.{PinStandsFor, TakesPin, pinned, unpinned}

@@ -6,11 +6,11 @@ use Rattle.tsdb_base.specs.declared.ids.FileNumber.{FileNumber}
 use Rattle.tsdb_base.specs.declared.ids.Space.{Space}
 use Rattle.tsdb_base.specs.declared.ids.Space.TheVariants.{Sequence, Unsequence}
 use Rattle.tsdb_base.specs.declared.ids.Stamp.{Stamp}
-use Rattle.tsdb_committing.specs.Files.{NewFile}
-use Rattle.tsdb_compacting.specs.Ending.{GivesUp}
-use Rattle.tsdb_compacting.specs.Finishing.{AreRunsOf, Finishes}
-use Rattle.tsdb_compacting.specs.States.{sent_files}
-use Rattle.tsdb_compacting.specs.declared.finishing.InputRuns.{InputRuns}
+use Rattle.tsdb_tasks.specs.Files.{NewFile}
+use Rattle.tsdb_tasks.specs.Ending.{GivesUp}
+use Rattle.tsdb_tasks.specs.Finishing.{AreRunsOf, Finishes}
+use Rattle.tsdb_tasks.specs.States.{sent_files}
+use Rattle.tsdb_tasks.specs.declared.finishing.InputRuns.{InputRuns}
 use Rattle.tsdb_compactions.specs.Jobs.{IsCompactionOf}
 use Rattle.tsdb_compactions.specs.Outputs.{TellsInputs}
 use Rattle.tsdb_compactions.specs.declared.job.Job.{Job}
@@ -21,16 +21,16 @@ use Rattle.tsdb_core.specs.Loans.{KeepsLoans, LentRight}
 use Rattle.tsdb_core.specs.Worlds.{IsWorldOf}
 use Rattle.tsdb_core.specs.declared.engine.Core.{Core}
 use Rattle.tsdb_frames.specs.Frames.{faults_of, slot_of}
-use Rattle.tsdb_kept.specs.Files.{KeptFiles, listed_borns}
-use Rattle.tsdb_kept.specs.Places.{AreOfStore}
-use Rattle.tsdb_kept.specs.Replacing.{HasReplaced}
-use Rattle.tsdb_layers.specs.Lists.{IsWithOne}
-use Rattle.tsdb_layers.specs.Places.{Content}
+use Rattle.tsdb_fileset.specs.Files.{KeptFiles, listed_borns}
+use Rattle.tsdb_fileset.specs.Places.{AreOfStore}
+use Rattle.tsdb_fileset.specs.Replacing.{HasReplaced}
+use Rattle.tsdb_base.specs.Lists.{IsWithOne}
+use Rattle.tsdb_state.specs.Places.{Content}
 use Rattle.tsdb_log.specs.declared.record.LogRecord.{LogRecord}
 use Rattle.tsdb_log.specs.declared.record.LogRecord.TheVariants.{Create, Delete, Flushed, Freeze, Insert, Replaced}
 use Rattle.tsdb_log.specs.declared.record.LogRecord.TheVariants.{Snapshot}
-use Rattle.tsdb_logged.specs.Logged.{LeavesStates, Outside, log_of, memory_of, with_record}
-use Rattle.tsdb_logged.specs.Replacing.{IsReplaced}
+use Rattle.tsdb_memory.specs.Logged.{LeavesStates, Outside, log_of, memory_of, with_record}
+use Rattle.tsdb_memory.specs.Replacing.{IsReplaced}
 use Rattle.tsdb_model.specs.World.{World}
 use Rattle.tsdb_memory.specs.Least.{IsLeastOf}
 use Rattle.tsdb_outside.specs.Causes.{HasCause}
@@ -39,7 +39,7 @@ use Rattle.tsdb_outside.specs.Files.{NamedFile}
 use Rattle.tsdb_outside.specs.declared.disk.Disk as disk
 use Rattle.tsdb_outside.specs.declared.faults.Counted as counted
 use Rattle.tsdb_outside.specs.declared.faults.Failed.{Failed}
-use Rattle.tsdb_replacing.specs.Outputs.{IsNewOutput, with_output}
+use Rattle.tsdb_tasks.specs.Outputs.{IsNewOutput, with_output}
 use Rattle.tsdb_state.specs.State.{Compaction, EngineState, File, FlushJob, Told}
 use Rattle.tsdb_state.specs.Steps.{IsOutputPlace, committed, compaction_record, ended, failed, output_number, settled}
 use Rattle.tsdb_state.specs.Worlds.{KeepsWorld, StandsFor}

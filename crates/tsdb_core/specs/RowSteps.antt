@@ -6,7 +6,7 @@ use Rattle.tsdb_core.specs.Core.{IsSeen, logged_of, working_of}
 use Rattle.tsdb_core.specs.Rows.{Fits}
 use Rattle.tsdb_core.specs.declared.engine.Core.{Core}
 use Rattle.tsdb_log.specs.declared.record.CellRecord.{CellRecord}
-use Rattle.tsdb_logged.specs.Logged.{Outside, memory_of}
+use Rattle.tsdb_memory.specs.Logged.{Outside, memory_of}
 use Rattle.tsdb_base.specs.Limits.{max_names}
 use Rattle.tsdb_model.specs.declared.command.Cell.{Cell}
 use Rattle.tsdb_model.specs.declared.command.Row.{Row}
@@ -14,8 +14,8 @@ use Rattle.tsdb_model.specs.declared.command.Schema.{Schema}
 use Rattle.tsdb_memory.specs.Shown.{IsMemoryOf, entry_of}
 use Rattle.tsdb_outside.specs.declared.disk.Disk as disk
 use Rattle.tsdb_outside.specs.declared.faults.Counted as counted
-use Rattle.tsdb_rows.specs.Fits.{HasCounts}
-use Rattle.tsdb_rows.specs.Reading.{AreApart, AreOfDevice}
+use Rattle.tsdb_memory.specs.Fits.{HasCounts}
+use Rattle.tsdb_memory.specs.RowReading.{AreApart, AreOfDevice}
 use Rattle.tsdb_state.specs.Commands.{AreCells}
 use Rattle.tsdb_state.specs.Records.{CanFreeze}
 use Rattle.tsdb_state.specs.State.{EngineState, StoreState}

@@ -6,11 +6,11 @@ use Rattle.tsdb_core.specs.Commands.{IsCoreCommand}
 use Rattle.tsdb_core.specs.Core.{IsSeen, limit_of, logged_of, working_of}
 use Rattle.tsdb_core.specs.declared.engine.Core.{Core}
 use Rattle.tsdb_frames.specs.Frames.{disk_of, slot_of}
-use Rattle.tsdb_images.specs.Stored.{LeadsTo, LeavesOneOf}
+use Rattle.tsdb_state.specs.Stored.{LeadsTo, LeavesOneOf}
 use Rattle.tsdb_log.specs.declared.record.CellRecord.{CellRecord}
 use Rattle.tsdb_log.specs.declared.record.LogRecord.TheVariants.{Freeze, Insert}
-use Rattle.tsdb_logged.specs.Commands.{CanPut, IsAny}
-use Rattle.tsdb_logged.specs.Logged.{Outside, log_of, memory_of}
+use Rattle.tsdb_memory.specs.Commands.{CanPut, IsAny}
+use Rattle.tsdb_memory.specs.Logged.{Outside, log_of, memory_of}
 use Rattle.tsdb_model.specs.History.{state_after}
 use Rattle.tsdb_model.specs.State as plain
 use Rattle.tsdb_model.specs.declared.command.Command.TheVariants as command
@@ -20,8 +20,8 @@ use Rattle.tsdb_memory.specs.Shown.{entry_of}
 use Rattle.tsdb_outside.specs.Moments.{LeavesOnly}
 use Rattle.tsdb_outside.specs.declared.disk.Disk as disk
 use Rattle.tsdb_outside.specs.declared.faults.Counted as counted
-use Rattle.tsdb_replay.specs.Stores.{IsStateOf}
-use Rattle.tsdb_rows.specs.Fits.{FitsPair}
+use Rattle.tsdb_state.specs.Stores.{IsStateOf}
+use Rattle.tsdb_memory.specs.Fits.{FitsPair}
 use Rattle.tsdb_state.specs.Commands.{AreCells}
 use Rattle.tsdb_base.specs.Limits.{max_frozen}
 use Rattle.tsdb_state.specs.Records.{CanFreeze}

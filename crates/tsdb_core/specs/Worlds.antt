@@ -1,9 +1,9 @@
 -- Which world a core stands for, and what its calls make of it.
-use Rattle.tsdb_answers.specs.Answers.{IsMapAnswer}
+use Rattle.tsdb_memory.specs.MapAnswers.{IsMapAnswer}
 use Rattle.tsdb_base.specs.declared.answers.Answer.{Answer}
 use Rattle.tsdb_core.specs.Core.{IsSeen}
 use Rattle.tsdb_core.specs.declared.engine.Core.{Core}
-use Rattle.tsdb_logged.specs.Logged.{Outside}
+use Rattle.tsdb_memory.specs.Logged.{Outside}
 use Rattle.tsdb_model.specs.Apply.{after_reply}
 use Rattle.tsdb_model.specs.World.{World}
 use Rattle.tsdb_model.specs.declared.command.Command.{Command}

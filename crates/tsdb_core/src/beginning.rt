@@ -3,20 +3,20 @@
 ghost use Rattle.std.specs.Prelude.{◌≡◌, ◌+◌, ◌≤◌, ◌↔◌, IfNone, IfOk, IfSome, IsTrue, OnErr};
 ghost use Rattle.std.specs.declared.result.Result.TheVariants.{Err};
 ghost use Rattle.tsdb_base.specs.declared.ids.Space.TheVariants.{Sequence, Unsequence};
-ghost use Rattle.tsdb_compacting.specs.declared.finishing.InputRuns.{InputRuns as RunsOf};
+ghost use Rattle.tsdb_tasks.specs.declared.finishing.InputRuns.{InputRuns as RunsOf};
 ghost use Rattle.tsdb_core.specs.Beginnings.{IsBeginAnswer, claimed_by};
 ghost use Rattle.tsdb_core.specs.declared.commit.CoreFault.TheVariants.{Memory as NoMemory};
-ghost use Rattle.tsdb_kept.specs.Replacing.{run_length};
+ghost use Rattle.tsdb_fileset.specs.Replacing.{run_length};
 ghost use Rattle.tsdb_base.specs.Limits.{end_of_numbers};
 
 use crate::commit::CoreFault;
 use crate::engine::Core;
 use tsdb_base::limits::END_OF_NUMBERS;
 use tsdb_base::{FileNumber, Memory, Space, Stamp};
-use tsdb_compacting::{InputRuns, JobSeries, TakenInputs, job_series, take_job_inputs};
 use tsdb_compactions::Job;
 use tsdb_outside::{Files, Journal};
 use tsdb_plan::{Run, cross, have_rising_hulls, inner};
+use tsdb_tasks::{InputRuns, JobSeries, TakenInputs, job_series, take_job_inputs};
 
 /// No file of a list.
 const NO_FILES: Run = Run { first: 0, end: 0 };
@@ -29,8 +29,8 @@ impl<J: Journal, F: Files> Core<J, F> {
     ghost use Rattle.tsdb_core.specs.Beginnings.{IsInnerRuns, IsNotBegun};
     ghost use Rattle.tsdb_core.specs.Core.{IsSeen, files_of, next_of};
     ghost use Rattle.tsdb_core.specs.Worlds.{KeepsWorld};
-    ghost use Rattle.tsdb_kept.specs.Files.{AreKept};
-    ghost use Rattle.tsdb_logged.specs.Logged.{Outside};
+    ghost use Rattle.tsdb_fileset.specs.Files.{AreKept};
+    ghost use Rattle.tsdb_memory.specs.Logged.{Outside};
     ghost use Rattle.tsdb_state.specs.State.{EngineState};
 
     /// The job of the first files of the list of the space that one job may rewrite: the inner plan of the list. There

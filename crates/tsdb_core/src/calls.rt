@@ -1,14 +1,14 @@
 //! The calls of a core that change it. Depends on `engine`.
 ghost use Rattle.std.specs.Prelude.{◌≡◌, ◌⊎◌, ◌↔◌, ◌<◌, IsTrue, length};
-ghost use Rattle.tsdb_kept.specs.Closing.{ArePutBack, AreRising, names_at};
-ghost use Rattle.tsdb_kept.specs.Places.{AreOfStore, AreUnread};
+ghost use Rattle.tsdb_fileset.specs.Closing.{ArePutBack, AreRising, names_at};
+ghost use Rattle.tsdb_fileset.specs.Places.{AreOfStore, AreUnread};
 ghost use Rattle.tsdb_log.specs.declared.record.LogRecord.{LogRecord};
-ghost use Rattle.tsdb_logged.specs.Answers.{IsCreateAnswer, IsDeleteAnswer, IsFreezeAnswer};
+ghost use Rattle.tsdb_memory.specs.Answers.{IsCreateAnswer, IsDeleteAnswer, IsFreezeAnswer};
 ghost use Rattle.tsdb_model.specs.Commands.{IsSchema};
 ghost use Rattle.tsdb_model.specs.declared.command.Command.{Command};
 ghost use Rattle.tsdb_outside.specs.Causes.{HasCause};
 ghost use Rattle.tsdb_outside.specs.Disk.{WhereTold};
-ghost use Rattle.tsdb_rows.specs.Fits.{HasNoPoint};
+ghost use Rattle.tsdb_memory.specs.Fits.{HasNoPoint};
 ghost use Rattle.tsdb_base.specs.Limits.{max_frozen};
 
 use crate::engine::Core;
@@ -24,9 +24,9 @@ impl<J: Journal, F: Files> Core<J, F> {
     ghost use Rattle.tsdb_core.specs.Rows.{CanFreezeNow};
     ghost use Rattle.tsdb_core.specs.Sweeps.{IsSwept};
     ghost use Rattle.tsdb_core.specs.Worlds.{FollowsMap, KeepsWorld};
-    ghost use Rattle.tsdb_logged.specs.Closing.{IsClosed};
-    ghost use Rattle.tsdb_logged.specs.Commands.{IsAny, create_record};
-    ghost use Rattle.tsdb_logged.specs.Logged.{memory_of};
+    ghost use Rattle.tsdb_memory.specs.Closing.{IsClosed};
+    ghost use Rattle.tsdb_memory.specs.Commands.{IsAny, create_record};
+    ghost use Rattle.tsdb_memory.specs.Logged.{memory_of};
 
     /// Creates a series, which is numbered behind the others.
     pub fn create(&mut self, schema: &Schema) -> Answer

@@ -1,16 +1,16 @@
-//! How one part of a flush ends among the kept files. Depends on tsdb_jobs and tsdb_kept.
+//! How one part of a flush ends among the kept files. Depends on tsdb_flush and tsdb_fileset.
 ghost use Rattle.std.specs.Prelude.{◌≡◌, IfSome, None};
 ghost use Rattle.std.specs.Option.{option_map};
-ghost use Rattle.tsdb_committing.specs.Files.{new_file};
+ghost use Rattle.tsdb_tasks.specs.Files.{new_file};
 ghost use Rattle.tsdb_core.specs.declared.commit.Commit.{Commit as HowEnded};
 ghost use Rattle.tsdb_core.specs.Ending.{IsNumbered, PartEnds};
-ghost use Rattle.tsdb_kept.specs.Files.{IsOpen};
-ghost use Rattle.tsdb_kept.specs.Room.{HasRoom};
+ghost use Rattle.tsdb_fileset.specs.Files.{IsOpen};
+ghost use Rattle.tsdb_fileset.specs.Room.{HasRoom};
 
 use crate::commit::Commit;
 use tsdb_base::{FileNumber, Space};
-use tsdb_jobs::Built;
-use tsdb_kept::KeptFiles;
+use tsdb_fileset::KeptFiles;
+use tsdb_flush::Built;
 use tsdb_outside::Files;
 
 /// Ends one part of a flush: its file is listed, or on its way out; a number without a file is given up.

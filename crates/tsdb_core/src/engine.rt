@@ -1,10 +1,10 @@
-//! The core, and what is read of it. Depends on `options`, tsdb_logged and tsdb_kept.
+//! The core, and what is read of it. Depends on `options`, tsdb_memory and tsdb_fileset.
 ghost use Rattle.std.specs.Prelude.{◌≡◌, [], false, length};
 ghost use Rattle.std.specs.Option.{option_map};
 ghost use Rattle.tsdb_core.specs.Limits.{IsPairLimit};
-ghost use Rattle.tsdb_held.specs.Held.{AreFilesOf, TellTheirBytes};
-ghost use Rattle.tsdb_kept.specs.Files.{AreKept, entries_in};
-ghost use Rattle.tsdb_logged.specs.Logged.{Outside};
+ghost use Rattle.tsdb_fileset.specs.Held.{AreFilesOf, TellTheirBytes};
+ghost use Rattle.tsdb_fileset.specs.Files.{AreKept, entries_in};
+ghost use Rattle.tsdb_memory.specs.Logged.{Outside};
 ghost use Rattle.tsdb_memtable.specs.Pairs.{count};
 ghost use Rattle.tsdb_state.specs.NewStore.{opened};
 ghost use Rattle.tsdb_state.specs.State.{StoreState};
@@ -12,9 +12,8 @@ ghost use Rattle.tsdb_state.specs.State.{StoreState};
 use crate::options::{Options, PairLimit};
 use std::alloc::Global;
 use tsdb_base::{FileNumber, Space, Stamp};
-use tsdb_kept::{KeptFiles, Outgoing};
-use tsdb_logged::Logged;
-use tsdb_memory::MemoryStore;
+use tsdb_fileset::{KeptFiles, Outgoing};
+use tsdb_memory::{Logged, MemoryStore};
 use tsdb_outside::{Files, Journal};
 use tsdb_plan::FileEntry;
 
@@ -32,7 +31,7 @@ pub struct Core<J: Journal, F: Files> {
 impl<J: Journal, F: Files> Core<J, F> {
     ghost use Rattle.tsdb_core.specs.Core.{IsAbove, IsSeen, KeepsJobs, files_of, limit_of, logged_of};
     ghost use Rattle.tsdb_core.specs.Core.{is_sequence_claimed, newest_born, next_of, working_of};
-    ghost use Rattle.tsdb_logged.specs.Logged.{IsSound, memory_of};
+    ghost use Rattle.tsdb_memory.specs.Logged.{IsSound, memory_of};
 
     /// The core of these, where the next file gets this number.
     pub fn new(

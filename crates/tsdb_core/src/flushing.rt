@@ -2,7 +2,7 @@
 ghost use Rattle.std.specs.Prelude.{◌≡◌, ◌<◌, ◌≤◌, ◌+◌, ◌↔◌, ℕ, List, IfOk, IsTrue, OnErr, length, map};
 ghost use Rattle.tsdb_core.specs.Ending.{IsLeastWith, number_for};
 ghost use Rattle.tsdb_core.specs.Flushes.{IsDue};
-ghost use Rattle.tsdb_layers.specs.Lists.{if_some};
+ghost use Rattle.tsdb_base.specs.Lists.{if_some};
 ghost use Rattle.tsdb_memory.specs.Least.{IsLeastOf};
 ghost use Rattle.tsdb_memory.specs.Model.{frozen_in};
 ghost use Rattle.tsdb_base.specs.Limits.{end_of_numbers};
@@ -12,19 +12,18 @@ use crate::ending::end_part;
 use crate::engine::Core;
 use tsdb_base::limits::END_OF_NUMBERS;
 use tsdb_base::{FileNumber, Memory, Space, Stamp};
-use tsdb_flushing::take;
-use tsdb_jobs::{FlushJob, Flushed};
+use tsdb_flush::{FlushJob, Flushed, take};
 use tsdb_memory::{FrozenPair, lesser};
 use tsdb_outside::{Failed, Files, Journal};
 
 impl<J: Journal, F: Files> Core<J, F> {
-    ghost use Rattle.tsdb_committing.specs.Files.{AreDone, AreDoneSoFar, new_files};
+    ghost use Rattle.tsdb_tasks.specs.Files.{AreDone, AreDoneSoFar, new_files};
     ghost use Rattle.tsdb_core.specs.Core.{files_of, logged_of, next_of};
     ghost use Rattle.tsdb_core.specs.Flushes.{EndsFlush, IsAbandoned, IsCommit, IsCommitAnswer, IsLoggedAs};
     ghost use Rattle.tsdb_core.specs.Flushes.{IsNotTaken, IsOldest, IsOut, IsTakeAnswer, IsTaken, IsTakenOrNot};
     ghost use Rattle.tsdb_core.specs.Flushes.{TakesMemory};
     ghost use Rattle.tsdb_core.specs.Worlds.{KeepsWorld};
-    ghost use Rattle.tsdb_logged.specs.Logged.{memory_of};
+    ghost use Rattle.tsdb_memory.specs.Logged.{memory_of};
 
     /// The job of the oldest frozen pair, where it was frozen at this stamp or before it. The pair stays frozen. All
     /// memory that the job's end needs is taken.

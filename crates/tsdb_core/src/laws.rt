@@ -1,6 +1,6 @@
-//! The laws. A function here does nothing; its contract says a law. What a core keeps for jobs and pins that are out, it
-//! keeps until they end, so that their ends can be called. Depends on `engine`, tsdb_compactions, tsdb_jobs and
-//! tsdb_pinning.
+//! The laws. A function here does nothing; its contract says a law. What a core keeps for jobs and pins that are out,
+//! it keeps until they end, so that their ends can be called. Depends on `engine`, tsdb_compactions, tsdb_flush and
+//! tsdb_pin.
 ghost use Rattle.std.specs.Prelude.{[], List};
 ghost use Rattle.tsdb_compactions.specs.Jobs.{IsCompactionOf};
 ghost use Rattle.tsdb_core.specs.Compactions.{AreOnInputs, IsHandedOut, IsJobOut, job_rights};
@@ -8,17 +8,17 @@ ghost use Rattle.tsdb_core.specs.Core.{KeepsJobs, files_of};
 ghost use Rattle.tsdb_core.specs.Flushes.{HasNumbersOf, IsOut};
 ghost use Rattle.tsdb_core.specs.Loans.{KeepsLoans, LentRight};
 ghost use Rattle.tsdb_core.specs.Pins.{AreOnColumns, pin_rights};
-ghost use Rattle.tsdb_kept.specs.Places.{AreUnread};
-ghost use Rattle.tsdb_layers.specs.Lists.{Among, IsWithOne};
-ghost use Rattle.tsdb_pinning.specs.Pins.{AreColumnsHeld};
+ghost use Rattle.tsdb_fileset.specs.Places.{AreUnread};
+ghost use Rattle.tsdb_base.specs.Lists.{Among, IsWithOne};
+ghost use Rattle.tsdb_pin.specs.Pins.{AreColumnsHeld};
 ghost use Rattle.tsdb_state.specs.State as state;
 ghost use Rattle.tsdb_state.specs.State.{Compaction};
 
 use crate::engine::Core;
 use tsdb_compactions::Job;
-use tsdb_jobs::FlushJob;
+use tsdb_flush::FlushJob;
 use tsdb_outside::{Files, Journal};
-use tsdb_pinning::Pin;
+use tsdb_pin::Pin;
 
 /// Where no compaction and no right is out, what is kept for flushes is all.
 pub fn nothing_is_lent<J: Journal, F: Files>(_core: &Core<J, F>)

@@ -1,9 +1,9 @@
-//! The listing of a core. Depends on `engine` and tsdb_listing.
+//! The listing of a core. Depends on `engine` and tsdb_fileset.
 ghost use Rattle.std.specs.Prelude.{IfOk};
 
 use crate::engine::Core;
 use tsdb_base::{Memory, Space};
-use tsdb_listing::file_lines;
+use tsdb_fileset::file_lines;
 use tsdb_model::Listing;
 use tsdb_outside::{Files, Journal};
 

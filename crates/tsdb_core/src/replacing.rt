@@ -1,28 +1,28 @@
 //! The ends of the compactions of a core: a job is committed with its output, or given up. Depends on `engine`,
-//! tsdb_compacting and tsdb_logged.
+//! tsdb_tasks and tsdb_memory.
 ghost use Rattle.std.specs.Option.{option_map};
 ghost use Rattle.std.specs.Prelude.{◌≡◌, ◌+◌, IfSome, length};
-ghost use Rattle.tsdb_committing.specs.Files.{new_file};
-ghost use Rattle.tsdb_compacting.specs.Ending.{IsOutIn, IsOutputNumbered};
-ghost use Rattle.tsdb_compacting.specs.Finishing.{AreRunsOf};
-ghost use Rattle.tsdb_compacting.specs.States.{sent_files};
+ghost use Rattle.tsdb_tasks.specs.Files.{new_file};
+ghost use Rattle.tsdb_tasks.specs.Ending.{IsOutIn, IsOutputNumbered};
+ghost use Rattle.tsdb_tasks.specs.Finishing.{AreRunsOf};
+ghost use Rattle.tsdb_tasks.specs.States.{sent_files};
 ghost use Rattle.tsdb_compactions.specs.Outputs.{IsOutputOf};
 ghost use Rattle.tsdb_core.specs.Replacements.{EndsFiles, output_place, record_inputs, without_claim};
 ghost use Rattle.tsdb_state.specs.Steps.{output_number};
 
 use crate::engine::Core;
 use tsdb_base::{FileNumber, List, Space, Stamp};
-use tsdb_compacting::{InputRuns, finish, give_up, runs_of};
 use tsdb_compactions::Job;
-use tsdb_jobs::Built;
+use tsdb_flush::Built;
 use tsdb_log::LogRecord;
 use tsdb_outside::{Failed, Files, Journal};
+use tsdb_tasks::{InputRuns, finish, give_up, runs_of};
 
 impl<J: Journal, F: Files> Core<J, F> {
     ghost use Rattle.tsdb_core.specs.Compactions.{IsJobOut};
     ghost use Rattle.tsdb_core.specs.Core.{files_of, is_sequence_claimed, logged_of};
     ghost use Rattle.tsdb_core.specs.Replacements.{AppendsEnd, IsJobAbandoned, IsJobCommit};
-    ghost use Rattle.tsdb_kept.specs.Files.{AreKept};
+    ghost use Rattle.tsdb_fileset.specs.Files.{AreKept};
 
     /// Ends an inner compaction that is out: its output stands in the place of its inputs, and these are on their way
     /// out. Where the log could not be written the job is given up. It takes no memory.

@@ -1,10 +1,10 @@
-//! Rows: an insert, and whether a flush has to come before it. Depends on `engine`, tsdb_rows and tsdb_logged.
+//! Rows: an insert, and whether a flush has to come before it. Depends on `engine` and tsdb_memory.
 ghost use Rattle.std.specs.Prelude.{◌≡◌, ◌≢◌, ◌↔◌, ◌<◌, ◌≤◌, IfErr, IfOk, IsTrue, OnOk};
-ghost use Rattle.tsdb_answers.specs.Answers.{IsInsertAnswer};
+ghost use Rattle.tsdb_memory.specs.MapAnswers.{IsInsertAnswer};
 ghost use Rattle.tsdb_core.specs.RowSteps.{AreReadCells, IsUntouched};
 ghost use Rattle.tsdb_base.specs.declared.answers.Answer.{Answer as AnswerOf};
 ghost use Rattle.tsdb_frames.specs.Frames.{faults_of};
-ghost use Rattle.tsdb_logged.specs.Answers.{IsFreezeAnswer};
+ghost use Rattle.tsdb_memory.specs.Answers.{IsFreezeAnswer};
 ghost use Rattle.tsdb_model.specs.Commands.{IsRow};
 ghost use Rattle.tsdb_model.specs.Apply.{after_reply};
 ghost use Rattle.tsdb_model.specs.World.{World};
@@ -17,10 +17,10 @@ use crate::engine::Core;
 use tsdb_base::limits::{END_OF_NUMBERS, MAX_FROZEN};
 use tsdb_base::{Answer, List};
 use tsdb_log::CellRecord;
+use tsdb_memory::{cells_of, fits};
 use tsdb_model::Row;
 use tsdb_outside::{Files, Journal};
 use tsdb_path::Path;
-use tsdb_rows::{cells_of, fits};
 
 /// The last stamp.
 const LAST_STAMP: u64 = END_OF_NUMBERS;
@@ -31,7 +31,7 @@ impl<J: Journal, F: Files> Core<J, F> {
     ghost use Rattle.tsdb_core.specs.Rows.{Fits, HasPlace, IsFrozenFor, IsRowCommand, LeavesRow, NeedsFlush};
     ghost use Rattle.tsdb_core.specs.RowSteps.{CanFreezeFor, HasStateCounts};
     ghost use Rattle.tsdb_core.specs.Worlds.{FollowsMap, IsWorldOf};
-    ghost use Rattle.tsdb_logged.specs.Logged.{log_of, memory_of};
+    ghost use Rattle.tsdb_memory.specs.Logged.{log_of, memory_of};
 
     /// Whether the row does not fit the working pair, and two pairs are frozen: then a flush has to come first.
     pub fn needs_flush(&self, row: &Row) -> bool

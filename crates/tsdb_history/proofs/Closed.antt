@@ -9,22 +9,22 @@ use Rattle.tsdb_core.proofs.Jobs.{is_there}
 use Rattle.tsdb_core.specs.Core.{files_of, logged_of}
 use Rattle.tsdb_core.specs.Listings.{TellsStore}
 use Rattle.tsdb_core.specs.declared.engine.Core.{Core}
-use Rattle.tsdb_held.specs.Held.{AreFilesOf, listed, leaving}
+use Rattle.tsdb_fileset.specs.Held.{AreFilesOf, listed, leaving}
 use Rattle.tsdb_history.proofs.Stored.{IsToldAt, at_place, differing, each_stored, few, found, named, stored_at}
 use Rattle.tsdb_history.specs.Closing.{IsClosed}
 use Rattle.tsdb_history.specs.Listings.{IsListingOf}
-use Rattle.tsdb_images.proofs.Kept.{holds_found, kept_by_number}
-use Rattle.tsdb_images.proofs.Storing.{others_kept}
-use Rattle.tsdb_images.specs.Stored.{LeadsTo, LeavesOneOf, kept_bytes}
-use Rattle.tsdb_kept.specs.Closing.{ArePutBack, AreRising, names_at}
-use Rattle.tsdb_kept.specs.Files.{AreKept, KeptFiles, entry_numbers, kept_file, numbers_of, outgoing_numbers}
-use Rattle.tsdb_kept.specs.Places.{KeptFile, file_at, place_at}
-use Rattle.tsdb_kept.specs.declared.files.Outgoing.{Outgoing}
-use Rattle.tsdb_layers.proofs.Lists.{each_from_among, each_left, among_map}
-use Rattle.tsdb_layers.specs.Lists.{Among, count, if_some}
+use Rattle.tsdb_state.proofs.ImageLemmas.Kept.{holds_found, kept_by_number}
+use Rattle.tsdb_state.proofs.ImageLemmas.Storing.{others_kept}
+use Rattle.tsdb_state.specs.Stored.{LeadsTo, LeavesOneOf, kept_bytes}
+use Rattle.tsdb_fileset.specs.Closing.{ArePutBack, AreRising, names_at}
+use Rattle.tsdb_fileset.specs.Files.{AreKept, KeptFiles, entry_numbers, kept_file, numbers_of, outgoing_numbers}
+use Rattle.tsdb_fileset.specs.Places.{KeptFile, file_at, place_at}
+use Rattle.tsdb_fileset.specs.declared.files.Outgoing.{Outgoing}
+use Rattle.tsdb_base.proofs.Lists.{each_from_among, each_left, among_map}
+use Rattle.tsdb_base.specs.Lists.{Among, count, if_some}
 use Rattle.tsdb_log.specs.declared.record.LogRecord.{LogRecord}
-use Rattle.tsdb_logged.specs.Closing as logged
-use Rattle.tsdb_logged.specs.Logged.{IsSound, Outside}
+use Rattle.tsdb_memory.specs.Closing as logged
+use Rattle.tsdb_memory.specs.Logged.{IsSound, Outside}
 use Rattle.tsdb_model.specs.State as plain
 use Rattle.tsdb_model.specs.declared.reply.Listing.{Listing}
 use Rattle.tsdb_base.specs.Causes.{Rose}
@@ -35,8 +35,8 @@ use Rattle.tsdb_outside.specs.declared.disk.Disk as disk
 use Rattle.tsdb_outside.specs.declared.faults.Counted as counted
 use Rattle.tsdb_plan.specs.declared.entry.FileEntry.{FileEntry}
 use Rattle.tsdb_frames.proofs.MomentLemmas.{weaker}
-use Rattle.tsdb_replay.specs.Stores.{HoldsKept, IsWhole}
-use Rattle.tsdb_replay.specs.Stores as store
+use Rattle.tsdb_state.specs.Stores.{HoldsKept, IsWhole}
+use Rattle.tsdb_state.specs.Stores as store
 use Rattle.tsdb_serving.proofs.Held.{wider}
 use Rattle.tsdb_serving.specs.Flushing.{faults_under}
 use Rattle.tsdb_serving.specs.Serving.{AreHeldWith, IsServing, disk_under, slot_under}

@@ -5,7 +5,7 @@ use Rattle.std.proofs.lemmas.List.Elements.{All-from_recursion, recursion_from_A
 use Rattle.std.specs.List.{AllByRecursion as Each}
 use Rattle.tsdb_history.proofs.Entries.{heads}
 use Rattle.tsdb_history.specs.Prefixes.{EndsDone, EndsListed, IsDone, IsQuery}
-use Rattle.tsdb_layers.proofs.Lists.{each_left, each_right}
+use Rattle.tsdb_base.proofs.Lists.{each_left, each_right}
 use Rattle.tsdb_model.specs.History.{Entry}
 use Rattle.tsdb_model.specs.declared.command.Command.{Command}
 use Rattle.tsdb_model.specs.declared.command.Command.TheVariants.{ShowFiles}

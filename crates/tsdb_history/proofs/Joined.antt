@@ -10,8 +10,8 @@ use Rattle.tsdb_model.specs.State as plain
 use Rattle.tsdb_model.specs.declared.reply.Reply.TheVariants.{Plain}
 use Rattle.tsdb_outside.specs.Disk.{Image, DiskState, in_slot}
 use Rattle.tsdb_outside.specs.declared.disk.Slot.{Slot}
-use Rattle.tsdb_replay.proofs.Stores.{new_log_stands, stands_once}
-use Rattle.tsdb_replay.specs.Stores.{Files, IsSound, StandsFor, no_changes}
+use Rattle.tsdb_state.proofs.ReplayLemmas.Stores.{new_log_stands, stands_once}
+use Rattle.tsdb_state.specs.Stores.{Files, IsSound, StandsFor, no_changes}
 
 pub joined : (files : Files) (bytes : List ℕ) (start middle last : plain.State) (first second : List Entry)
     → StandsAfterPrefix (StandsFor files bytes) start first → StandsFor files bytes middle → IsLegal middle second last

@@ -15,8 +15,8 @@ use Rattle.tsdb_model.specs.declared.command.Command.TheVariants.{Create, Insert
 use Rattle.tsdb_model.specs.declared.command.Command.TheVariants.{CompactCross, ShowFiles}
 use Rattle.tsdb_model.specs.declared.reply.Reply.{Reply}
 use Rattle.tsdb_model.specs.declared.reply.Reply.TheVariants.{Plain, Lines, Values, Files}
-use Rattle.tsdb_replay.specs.Stores.{StandsFor, StandsForOneOf}
-use Rattle.tsdb_replay.specs.Stores as stores
+use Rattle.tsdb_state.specs.Stores.{StandsFor, StandsForOneOf}
+use Rattle.tsdb_state.specs.Stores as stores
 
 -- ---- commands and replies
 

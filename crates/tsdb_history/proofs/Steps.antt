@@ -13,8 +13,8 @@ use Rattle.tsdb_history.specs.Prefixes.{EndsDone, IsDone, IsQuery, StandsAfter, 
 use Rattle.tsdb_history.proofs.Reach.{all_further, within_more}
 use Rattle.tsdb_history.specs.Reach.{AreFullWithin, IsFullWithin}
 use Rattle.tsdb_history.specs.Serves.{HasServed, LeavesPrefix, MayDoubt}
-use Rattle.tsdb_layers.proofs.Lists.{each_append, each_left, each_weaker}
-use Rattle.tsdb_logged.specs.Logged.{memory_of}
+use Rattle.tsdb_base.proofs.Lists.{each_append, each_left, each_weaker}
+use Rattle.tsdb_memory.specs.Logged.{memory_of}
 use Rattle.tsdb_model.specs.Apply.{reply_of}
 use Rattle.tsdb_model.specs.History.{Entry, IsChange, IsLegal, state_after}
 use Rattle.tsdb_model.specs.State as plain
@@ -27,8 +27,8 @@ use Rattle.tsdb_outside.specs.Disk.{Image, IsLawful, in_slot}
 use Rattle.tsdb_outside.specs.Files.{StoredFile}
 use Rattle.tsdb_outside.specs.declared.disk.Disk as disk
 use Rattle.tsdb_outside.specs.declared.faults.Counted as counted
-use Rattle.tsdb_replay.specs.Stores.{HoldsKept, StandsFor, StandsForOneOf}
-use Rattle.tsdb_replay.specs.Stores as stores
+use Rattle.tsdb_state.specs.Stores.{HoldsKept, StandsFor, StandsForOneOf}
+use Rattle.tsdb_state.specs.Stores as stores
 use Rattle.tsdb_serving.proofs.Differing.{differ_on, drawn_apart}
 use Rattle.tsdb_serving.proofs.Parts.{more_files}
 use Rattle.tsdb_serving.proofs.Steps.{idle, image_left}

@@ -8,12 +8,12 @@ use Rattle.std.specs.Ordering.{is_eq}
 use Rattle.std.specs.List.{AllByRecursion as Each, AllZip, find, flat_map}
 use Rattle.std.specs.Option.{option_map}
 use Rattle.std.specs.Prelude.{IfSome}
-use Rattle.tsdb_images.specs.Stored.{kept_bytes}
-use Rattle.tsdb_kept.proofs.PlaceFacts.{other_number, same_number}
-use Rattle.tsdb_kept.specs.Closing.{AreRising, IsNamed, names_at}
-use Rattle.tsdb_kept.specs.Places.{KeptFile, Places, file_at, is_number, place_at}
-use Rattle.tsdb_layers.proofs.Lists.{each_append, each_among, each_weaker}
-use Rattle.tsdb_layers.specs.Lists.{Among, EachPair, if_some}
+use Rattle.tsdb_state.specs.Stored.{kept_bytes}
+use Rattle.tsdb_fileset.proofs.PlaceFacts.{other_number, same_number}
+use Rattle.tsdb_fileset.specs.Closing.{AreRising, IsNamed, names_at}
+use Rattle.tsdb_fileset.specs.Places.{KeptFile, Places, file_at, is_number, place_at}
+use Rattle.tsdb_base.proofs.Lists.{each_append, each_among, each_weaker}
+use Rattle.tsdb_base.specs.Lists.{Among, EachPair, if_some}
 use Rattle.tsdb_outside.specs.Files.{StoredFile}
 
 stored_in : ℕ → Option (List ℕ) → List StoredFile

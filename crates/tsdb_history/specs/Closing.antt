@@ -4,8 +4,8 @@ use Rattle.std.specs.List.{AllByRecursion as Each}
 use Rattle.tsdb_core.specs.Listings.{TellsStore}
 use Rattle.tsdb_core.specs.declared.engine.Core.{Core}
 use Rattle.tsdb_history.specs.Listings.{IsListingOf}
-use Rattle.tsdb_images.specs.Stored.{LeavesOneOf, kept_bytes}
-use Rattle.tsdb_layers.specs.Lists.{EachPair}
+use Rattle.tsdb_state.specs.Stored.{LeavesOneOf, kept_bytes}
+use Rattle.tsdb_base.specs.Lists.{EachPair}
 use Rattle.tsdb_model.specs.State as plain
 use Rattle.tsdb_model.specs.declared.reply.Listing.{Listing}
 use Rattle.tsdb_outside.specs.Disk.{Image, DiskState, in_slot}
@@ -13,7 +13,7 @@ use Rattle.tsdb_outside.specs.Files.{IsFileNumber, StoredFile}
 use Rattle.tsdb_outside.specs.Moments.{LeavesOnly}
 use Rattle.tsdb_outside.specs.declared.disk.Disk as disk
 use Rattle.tsdb_outside.specs.declared.faults.Counted as counted
-use Rattle.tsdb_replay.specs.Stores.{IsSound}
+use Rattle.tsdb_state.specs.Stores.{IsSound}
 use Rattle.tsdb_serving.specs.Serving.{AreHeldWith, disk_under, slot_under}
 
 module _ {J F S R P : Type 0} {means : disk.Ghosts J} {counts : counted.Ghosts J} where

@@ -3,8 +3,8 @@ use Rattle.std.specs.Prelude.{ℕ, List, ◌++◌}
 use Rattle.std.specs.List.{AllByRecursion as Each}
 use Rattle.tsdb_core.specs.Listings.{ListsStore}
 use Rattle.tsdb_model.specs.declared.reply.Listing.{Listing}
-use Rattle.tsdb_replay.specs.Replays.{IsReplayOf}
-use Rattle.tsdb_replay.specs.Stores.{Files, IsWhole, Recorded, store_steps}
+use Rattle.tsdb_state.specs.Replays.{IsReplayOf}
+use Rattle.tsdb_state.specs.Stores.{Files, IsWhole, Recorded, store_steps}
 use Rattle.tsdb_state.specs.State.{Told}
 
 -- The log in these bytes of a slot has a replay, and with the points that these files have the listing is that of its

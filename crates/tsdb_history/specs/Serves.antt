@@ -11,7 +11,7 @@ use Rattle.tsdb_history.specs.History.{IsHistory, IsInLineOrder}
 use Rattle.tsdb_history.specs.Prefixes.{EndsDone, EndsListed, IsInDoubt, StandsAfterPrefix}
 use Rattle.tsdb_history.specs.Reach.{AreFullWithin}
 use Rattle.tsdb_history.specs.declared.told.Told.{Told}
-use Rattle.tsdb_layers.specs.Lists.{EachPair}
+use Rattle.tsdb_base.specs.Lists.{EachPair}
 use Rattle.tsdb_model.specs.History.{Entry, IsLegal, state_after}
 use Rattle.tsdb_model.specs.State as plain
 use Rattle.tsdb_model.specs.declared.command.Command.{Command}
@@ -25,9 +25,9 @@ use Rattle.tsdb_outside.specs.Moments.{LeavesOnly}
 use Rattle.tsdb_outside.specs.declared.disk.Disk as disk
 use Rattle.tsdb_outside.specs.declared.disk.Slot.{Slot}
 use Rattle.tsdb_outside.specs.declared.faults.Counted as counted
-use Rattle.tsdb_replay.specs.Stores.{Files, HoldsKept, StandsFor}
+use Rattle.tsdb_state.specs.Stores.{Files, HoldsKept, StandsFor}
 use Rattle.tsdb_rewriting.specs.Rewriting.{IsCompacted}
-use Rattle.tsdb_rows.specs.Fits.{HasNoPoint}
+use Rattle.tsdb_memory.specs.Fits.{HasNoPoint}
 use Rattle.tsdb_script.specs.declared.numbered.Numbered.{Numbered}
 use Rattle.tsdb_serving.specs.Flushing.{frozen_in}
 use Rattle.tsdb_serving.specs.Serving.{IsDrawn, IsServing, disk_under, slot_under}

@@ -1,4 +1,4 @@
-//! Laws of runs. The functions do nothing; their contracts are the laws. Depends on tsdb_replay.
+//! Laws of runs. The functions do nothing; their contracts are the laws. Depends on tsdb_state.
 ghost use Rattle.std.specs.Prelude.{◌≡◌, ℕ, List, [], ◌∷◌, Some};
 ghost use Rattle.tsdb_history.specs.Joining.{IsJoined};
 ghost use Rattle.tsdb_history.specs.Prefixes.{StandsAfterPrefix};
@@ -6,7 +6,7 @@ ghost use Rattle.tsdb_model.specs.History.{Entry, IsLegal};
 ghost use Rattle.tsdb_model.specs.State as plain;
 ghost use Rattle.tsdb_outside.specs.Disk.{Image, in_slot};
 ghost use Rattle.tsdb_outside.specs.declared.disk.Slot.{Slot};
-ghost use Rattle.tsdb_replay.specs.Stores.{Files, IsSound, StandsFor, no_changes};
+ghost use Rattle.tsdb_state.specs.Stores.{Files, IsSound, StandsFor, no_changes};
 
 use tsdb_outside::Disk;
 

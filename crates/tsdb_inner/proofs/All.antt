@@ -7,27 +7,27 @@ use Rattle.std.proofs.lemmas.Bool.{false≢true}
 use Rattle.std.proofs.lemmas.List.{take-append-drop}
 use Rattle.tsdb_base.specs.declared.point.Point.{Point}
 use Rattle.tsdb_base.specs.declared.value.Value.{Value}
-use Rattle.tsdb_built.specs.Parts.{HasPartPoint, IsSeries}
+use Rattle.tsdb_flush.specs.BuiltParts.{HasPartPoint, IsSeries}
 use Rattle.tsdb_compactions.specs.Outputs.{HasNoWinner, HasWinners, TellsInputs, winner}
 use Rattle.tsdb_compactions.specs.declared.job.Job.{Job}
-use Rattle.tsdb_engine.proofs.Parts.{before_middle}
-use Rattle.tsdb_engine.specs.Making.{IsPart, MayAdd}
-use Rattle.tsdb_engine.specs.Steps.{ComeBefore, filled_with}
-use Rattle.tsdb_engine.specs.declared.part.Part.{Part}
+use Rattle.tsdb_flush.proofs.PartsInMaking.{before_middle}
+use Rattle.tsdb_flush.specs.Making.{IsPart, MayAdd}
+use Rattle.tsdb_flush.specs.MakingSteps.{ComeBefore, filled_with}
+use Rattle.tsdb_flush.specs.declared.part.Part.{Part}
 use Rattle.tsdb_index.proofs.Found.{not_itself}
 use Rattle.tsdb_index.specs.Entries.{AreNamesBefore}
 use Rattle.tsdb_inner.proofs.Lists.{next_taken}
 use Rattle.tsdb_inner.specs.Winners.{AreSeries, CopiesSeries}
-use Rattle.tsdb_jobs.specs.Parts.{Filled, if_any, names_of}
-use Rattle.tsdb_layers.proofs.Lists.{among_left, among_right, each_among, each_append, each_from_among, each_weaker, pairs_left}
-use Rattle.tsdb_layers.specs.Lists.{Among, EachPair}
-use Rattle.tsdb_layers.specs.Places.{Place}
+use Rattle.tsdb_flush.specs.Parts.{Filled, if_any, names_of}
+use Rattle.tsdb_base.proofs.Lists.{among_left, among_right, each_among, each_append, each_from_among, each_weaker, pairs_left}
+use Rattle.tsdb_base.specs.Lists.{Among, EachPair}
+use Rattle.tsdb_state.specs.Places.{Place}
 use Rattle.tsdb_model.specs.declared.command.Schema.{Schema}
 use Rattle.tsdb_memory.proofs.Counts.{among_either, pairs_append}
 use Rattle.tsdb_base.specs.Points.{IsRising}
 use Rattle.tsdb_outside.specs.Files.{NamedFile}
 use Rattle.tsdb_path.specs.Nodes.{device_of, measurement_of, node_count}
-use Rattle.tsdb_sources.specs.Survivors.{place_at}
+use Rattle.tsdb_streams.specs.Survivors.{place_at}
 use Rattle.tsdb_state.specs.State.{Told}
 
 -- ---- lists

@@ -4,18 +4,18 @@ use Rattle.std.specs.Prelude.{All, IfOk, Result, Ok, Err}
 use Rattle.std.proofs.lemmas.List.{append-nil}
 use Rattle.tsdb_base.specs.Values.{type_of}
 use Rattle.tsdb_base.specs.declared.point.Point.{Point}
-use Rattle.tsdb_columns.specs.Files.{FilePages}
-use Rattle.tsdb_columns.specs.Kept.{is_kept}
-use Rattle.tsdb_columns.specs.Lanes.{source_left}
-use Rattle.tsdb_columns.specs.Streams.{AreTrueSources}
-use Rattle.tsdb_columns.specs.declared.source.Source.{Source}
-use Rattle.tsdb_engine.specs.Making.{IsOpen, IsPart, MayAdd, MayPut}
-use Rattle.tsdb_engine.specs.Steps.{ComeBefore}
-use Rattle.tsdb_engine.specs.declared.part.Part.{Part}
+use Rattle.tsdb_streams.specs.Files.{FilePages}
+use Rattle.tsdb_streams.specs.Kept.{is_kept}
+use Rattle.tsdb_streams.specs.Lanes.{source_left}
+use Rattle.tsdb_streams.specs.Streams.{AreTrueSources}
+use Rattle.tsdb_streams.specs.declared.source.Source.{Source}
+use Rattle.tsdb_flush.specs.Making.{IsOpen, IsPart, MayAdd, MayPut}
+use Rattle.tsdb_flush.specs.MakingSteps.{ComeBefore}
+use Rattle.tsdb_flush.specs.declared.part.Part.{Part}
 use Rattle.tsdb_inner.proofs.Putting.{all_taken, drains_none, none_rise, takes_one}
 use Rattle.tsdb_inner.specs.Copies.{Adds, Copies, AreDamaged, IsLeft, all_times}
 use Rattle.tsdb_inner.specs.Steps.{HasBegun, HaveBrokenOrder, Puts}
-use Rattle.tsdb_jobs.specs.Parts.{Filled}
+use Rattle.tsdb_flush.specs.Parts.{Filled}
 use Rattle.tsdb_model.specs.declared.command.Schema.{Schema}
 use Rattle.tsdb_marks.specs.declared.marks.Mark.{Mark}
 use Rattle.tsdb_base.specs.Points.{IsRising}

@@ -3,7 +3,7 @@ use Rattle.std.proofs.Common.{◌≡◌, ℕ, ◌+◌, ◌<◌, ◌≤◌, ◌�
 use Rattle.std.specs.Prelude.{IsSome, Option, None, Some}
 use Rattle.std.specs.List.{AllByRecursion as Each, AllZip}
 use Rattle.std.proofs.lemmas.List.{take_more}
-use Rattle.tsdb_layers.proofs.Lists.{each_append}
+use Rattle.tsdb_base.proofs.Lists.{each_append}
 use Rattle.tsdb_base.specs.Causes.{Rose}
 
 -- ---- pairs of two lists

@@ -3,9 +3,9 @@ use Rattle.std.proofs.Common.{◌≡◌, ◌∙◌, ℕ, ◌≤◌, List, [], �
 use Rattle.std.specs.Prelude.{All, IfOk, IfSome, IsSome, Option, None, Some}
 use Rattle.std.specs.List.{AllByRecursion as Each, AllZip}
 use Rattle.std.proofs.lemmas.List.Elements.{All-cons, All-nil}
-use Rattle.tsdb_columns.specs.Indexed.{IsIndexed, source_of}
-use Rattle.tsdb_columns.specs.declared.source.IndexedFile.{IndexedFile}
-use Rattle.tsdb_columns.specs.Files.{HasReason}
+use Rattle.tsdb_streams.specs.Indexed.{IsIndexed, source_of}
+use Rattle.tsdb_streams.specs.declared.source.IndexedFile.{IndexedFile}
+use Rattle.tsdb_streams.specs.Files.{HasReason}
 use Rattle.tsdb_compactions.specs.Outputs.{IsRead, TellsTruth}
 use Rattle.tsdb_compactions.specs.declared.job.Input.{Input}
 use Rattle.tsdb_compactions.specs.declared.job.Job.{Job}

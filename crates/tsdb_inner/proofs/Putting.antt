@@ -9,14 +9,14 @@ use Rattle.std.proofs.lemmas.List.Quantifiers.{all_pairs_push}
 use Rattle.std.proofs.Math.Seq.{get_or-append_seam}
 use Rattle.tsdb_base.specs.Values.{type_of}
 use Rattle.tsdb_base.specs.declared.point.Point.{Point}
-use Rattle.tsdb_engine.specs.Making.{IsOpen, IsPart, MayPut}
-use Rattle.tsdb_engine.specs.Steps.{AreFrom, filled_with}
-use Rattle.tsdb_engine.specs.declared.part.Part.{Part}
+use Rattle.tsdb_flush.specs.Making.{IsOpen, IsPart, MayPut}
+use Rattle.tsdb_flush.specs.MakingSteps.{AreFrom, filled_with}
+use Rattle.tsdb_flush.specs.declared.part.Part.{Part}
 use Rattle.tsdb_inner.specs.Copies.{AreOfType, IsLeft}
 use Rattle.tsdb_inner.specs.Steps.{HasBegun, HaveBrokenOrder, MayFollow, Puts}
-use Rattle.tsdb_jobs.specs.Parts.{Filled}
-use Rattle.tsdb_layers.proofs.Lists.{among_left, among_right, each_append, each_middle, each_weaker}
-use Rattle.tsdb_layers.specs.Lists.{Among}
+use Rattle.tsdb_flush.specs.Parts.{Filled}
+use Rattle.tsdb_base.proofs.Lists.{among_left, among_right, each_append, each_middle, each_weaker}
+use Rattle.tsdb_base.specs.Lists.{Among}
 use Rattle.tsdb_model.specs.declared.command.Schema.{Schema}
 use Rattle.tsdb_base.specs.Points.{IsRising}
 use Rattle.tsdb_merge.specs.Winners.{TakesTold}

@@ -5,27 +5,27 @@ use Rattle.std.specs.List.{AllByRecursion as Each, AllZip}
 use Rattle.std.proofs.lemmas.List.Elements.{All-from_recursion, recursion_from_All}
 use Rattle.tsdb_base.specs.Values.{type_of}
 use Rattle.tsdb_base.specs.declared.point.Point.{Point}
-use Rattle.tsdb_columns.proofs.OpenedFacts.{zip_all}
-use Rattle.tsdb_columns.proofs.Trees.{among_of, one_alone}
-use Rattle.tsdb_columns.specs.Files.{FilePages, HasReason}
-use Rattle.tsdb_columns.specs.Lanes.{IsSourceOf}
-use Rattle.tsdb_columns.specs.Streams.{AreToldSources, AreTrueSources}
-use Rattle.tsdb_columns.specs.declared.source.Source.{Source}
-use Rattle.tsdb_columns.specs.declared.source.Source.TheVariants as lent
+use Rattle.tsdb_streams.proofs.OpenedFacts.{zip_all}
+use Rattle.tsdb_streams.proofs.Trees.{among_of, one_alone}
+use Rattle.tsdb_streams.specs.Files.{FilePages, HasReason}
+use Rattle.tsdb_streams.specs.Lanes.{IsSourceOf}
+use Rattle.tsdb_streams.specs.Streams.{AreToldSources, AreTrueSources}
+use Rattle.tsdb_streams.specs.declared.source.Source.{Source}
+use Rattle.tsdb_streams.specs.declared.source.Source.TheVariants as lent
 use Rattle.tsdb_compactions.specs.Jobs.{IsFormed, input_files}
 use Rattle.tsdb_compactions.specs.Outputs.{TellsInputs, TellsTruth, winner}
 use Rattle.tsdb_compactions.specs.declared.job.Input.{Input}
 use Rattle.tsdb_compactions.specs.declared.job.Job.{Job}
-use Rattle.tsdb_engine.specs.declared.part.Part.{Part}
+use Rattle.tsdb_flush.specs.declared.part.Part.{Part}
 use Rattle.tsdb_index.proofs.Found.{not_itself}
 use Rattle.tsdb_index.specs.Entries.{AreNamesBefore}
 use Rattle.tsdb_inner.proofs.Sources.{all_survivors, owns, pages_of, told_sources, true_sources}
 use Rattle.tsdb_inner.specs.Copies.{Copies, AreDamaged, Survive}
 use Rattle.tsdb_inner.specs.Inputs.{IsInputOf, IsLentAs, TellsBytes}
 use Rattle.tsdb_inner.specs.Winners.{AreWinners, CopiesSeries}
-use Rattle.tsdb_jobs.specs.Parts.{names_of}
-use Rattle.tsdb_layers.proofs.Lists.{each_weaker}
-use Rattle.tsdb_layers.specs.Lists.{Among, EachPair}
+use Rattle.tsdb_flush.specs.Parts.{names_of}
+use Rattle.tsdb_base.proofs.Lists.{each_weaker}
+use Rattle.tsdb_base.specs.Lists.{Among, EachPair}
 use Rattle.tsdb_model.specs.declared.command.Schema.{Schema}
 use Rattle.tsdb_merge.specs.Winners.{IsMergeOf}
 use Rattle.tsdb_base.specs.Causes.{Rose}
@@ -34,8 +34,8 @@ use Rattle.tsdb_outside.specs.Files.{NamedFile, Store}
 use Rattle.tsdb_outside.specs.declared.faults.StoreFault.{StoreFault}
 use Rattle.tsdb_outside.specs.declared.faults.StoreFault.TheVariants.{Failed, Memory}
 use Rattle.tsdb_path.specs.Nodes.{device_of, measurement_of, node_count}
-use Rattle.tsdb_sources.proofs.Sources.{merge_all, merge_values}
-use Rattle.tsdb_sources.specs.Survivors.{place_at}
+use Rattle.tsdb_streams.proofs.Sources.{merge_all, merge_values}
+use Rattle.tsdb_streams.specs.Survivors.{place_at}
 use Rattle.tsdb_state.specs.State.{Told}
 use Rattle.tsdb_state.specs.Views.{file_layers}
 

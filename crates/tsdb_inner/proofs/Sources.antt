@@ -9,29 +9,29 @@ use Rattle.std.proofs.lemmas.Bool.{eqb-true, false≢true}
 use Rattle.std.proofs.lemmas.List.Elements.{All-cons, All-from_recursion, All-nil}
 use Rattle.std.proofs.lemmas.List.Kept.{AllPairs-filter}
 use Rattle.tsdb_base.specs.declared.point.Point.{Point}
-use Rattle.tsdb_columns.proofs.OpenedFacts.{zip_all}
-use Rattle.tsdb_columns.proofs.Trees.{among_of, contains_of}
-use Rattle.tsdb_columns.specs.Files.{FilePages, HasPages, IsTold, IsTruth}
-use Rattle.tsdb_columns.specs.Kept.{is_kept}
-use Rattle.tsdb_columns.specs.Lanes.{IsToldSource, IsTrueSource, source_left}
-use Rattle.tsdb_columns.specs.declared.source.Source.{Source}
-use Rattle.tsdb_columns.specs.declared.source.Source.TheVariants as lent
+use Rattle.tsdb_streams.proofs.OpenedFacts.{zip_all}
+use Rattle.tsdb_streams.proofs.Trees.{among_of, contains_of}
+use Rattle.tsdb_streams.specs.Files.{FilePages, HasPages, IsTold, IsTruth}
+use Rattle.tsdb_streams.specs.Kept.{is_kept}
+use Rattle.tsdb_streams.specs.Lanes.{IsToldSource, IsTrueSource, source_left}
+use Rattle.tsdb_streams.specs.declared.source.Source.{Source}
+use Rattle.tsdb_streams.specs.declared.source.Source.TheVariants as lent
 use Rattle.tsdb_compactions.specs.Jobs.{input_file}
 use Rattle.tsdb_compactions.specs.Outputs.{IsOneTold, IsRead}
 use Rattle.tsdb_compactions.specs.declared.job.Input.{Input}
 use Rattle.tsdb_inner.proofs.Told.{HasList, has_list}
 use Rattle.tsdb_inner.specs.Copies.{all_times}
 use Rattle.tsdb_inner.specs.Inputs.{IsLentAs, TellsBytes}
-use Rattle.tsdb_layers.proofs.Lists.{each_both}
-use Rattle.tsdb_layers.specs.Lists.{Among, EachPair}
-use Rattle.tsdb_layers.specs.Marks.{survives}
+use Rattle.tsdb_base.proofs.Lists.{each_both}
+use Rattle.tsdb_base.specs.Lists.{Among, EachPair}
+use Rattle.tsdb_state.specs.Marks.{survives}
 use Rattle.tsdb_model.specs.World.{is_in}
 use Rattle.tsdb_marks.specs.declared.marks.Mark.{Mark}
 use Rattle.tsdb_base.specs.Points.{IsRising}
 use Rattle.tsdb_outside.specs.Files.{NamedFile}
 use Rattle.tsdb_path.specs.Nodes.{device_of, measurement_of, node_count}
-use Rattle.tsdb_sources.specs.Pieces.{joined}
-use Rattle.tsdb_sources.specs.Survivors.{AreSurvivors, place_at}
+use Rattle.tsdb_streams.specs.Pieces.{joined}
+use Rattle.tsdb_streams.specs.Survivors.{AreSurvivors, place_at}
 use Rattle.tsdb_state.specs.State.{Told}
 use Rattle.tsdb_state.specs.Views.{file_layer, file_layers}
 

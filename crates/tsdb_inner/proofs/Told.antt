@@ -8,13 +8,13 @@ use Rattle.std.proofs.lemmas.Int.{ints}
 use Rattle.std.proofs.lemmas.List.Elements.{recursion_from_All}
 use Rattle.tsdb_base.specs.declared.point.Point.{Point}
 use Rattle.tsdb_base.specs.declared.value.Value.{Value}
-use Rattle.tsdb_columns.proofs.Trees.{At, Listed, listed_pages, one_chunk, pages_of}
-use Rattle.tsdb_columns.specs.Files.{ArePagesIn, HasPages}
+use Rattle.tsdb_streams.proofs.Trees.{At, Listed, listed_pages, one_chunk, pages_of}
+use Rattle.tsdb_streams.specs.Files.{ArePagesIn, HasPages}
 use Rattle.tsdb_inner.proofs.Putting.{none_rise}
 use Rattle.tsdb_inner.specs.Copies.{all_times}
-use Rattle.tsdb_layers.proofs.Lists.{among_left, among_right, each_among}
-use Rattle.tsdb_layers.specs.Lists.{Among}
-use Rattle.tsdb_layers.specs.Places.{Content}
+use Rattle.tsdb_base.proofs.Lists.{among_left, among_right, each_among}
+use Rattle.tsdb_base.specs.Lists.{Among}
+use Rattle.tsdb_state.specs.Places.{Content}
 use Rattle.tsdb_model.specs.World.{is_in}
 use Rattle.tsdb_base.specs.Points.{IsRising}
 use Rattle.tsdb_outside.specs.Files.{NamedFile}
@@ -27,9 +27,9 @@ use Rattle.tsdb_pages.specs.declared.tree.Tree.{Tree}
 use Rattle.tsdb_path.proofs.Bytes.{IsNode-dotless}
 use Rattle.tsdb_path.proofs.Parts.{child_of-device_of, device_of-child, measurement_of-child}
 use Rattle.tsdb_path.specs.Nodes.{child_of, device_of, measurement_of, node_count}
-use Rattle.tsdb_replay.specs.Stores.{HasTreePoint, IsContentOf, IsWhole}
-use Rattle.tsdb_sources.specs.Pieces.{joined}
-use Rattle.tsdb_sources.specs.Survivors.{place_at}
+use Rattle.tsdb_state.specs.Stores.{HasTreePoint, IsContentOf, IsWhole}
+use Rattle.tsdb_streams.specs.Pieces.{joined}
+use Rattle.tsdb_streams.specs.Survivors.{place_at}
 use Rattle.tsdb_state.specs.State.{File, Told}
 
 -- ---- lists

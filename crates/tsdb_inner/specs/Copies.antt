@@ -4,15 +4,15 @@ use Rattle.std.specs.List.{AllByRecursion as Each}
 use Rattle.tsdb_base.specs.Values.{type_of}
 use Rattle.tsdb_base.specs.declared.point.Point.{Point}
 use Rattle.tsdb_base.specs.declared.point.Range.{Range}
-use Rattle.tsdb_columns.specs.Files.{FilePages}
-use Rattle.tsdb_columns.specs.Kept.{is_kept}
-use Rattle.tsdb_columns.specs.Lanes.{source_left}
-use Rattle.tsdb_columns.specs.Streams.{AreTrueSources}
-use Rattle.tsdb_columns.specs.declared.source.Source.{Source}
-use Rattle.tsdb_engine.specs.Making.{IsPart}
-use Rattle.tsdb_engine.specs.Steps.{ComeBefore}
-use Rattle.tsdb_engine.specs.declared.part.Part.{Part}
-use Rattle.tsdb_jobs.specs.Parts.{Filled, if_any}
+use Rattle.tsdb_streams.specs.Files.{FilePages}
+use Rattle.tsdb_streams.specs.Kept.{is_kept}
+use Rattle.tsdb_streams.specs.Lanes.{source_left}
+use Rattle.tsdb_streams.specs.Streams.{AreTrueSources}
+use Rattle.tsdb_streams.specs.declared.source.Source.{Source}
+use Rattle.tsdb_flush.specs.Making.{IsPart}
+use Rattle.tsdb_flush.specs.MakingSteps.{ComeBefore}
+use Rattle.tsdb_flush.specs.declared.part.Part.{Part}
+use Rattle.tsdb_flush.specs.Parts.{Filled, if_any}
 use Rattle.tsdb_model.specs.declared.command.Schema.{Schema}
 use Rattle.tsdb_marks.specs.declared.marks.Mark.{Mark}
 use Rattle.tsdb_base.specs.Points.{IsRising}

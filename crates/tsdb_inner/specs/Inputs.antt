@@ -1,9 +1,9 @@
 -- The inputs of a job as the sources of a stream.
 use Rattle.std.specs.Prelude.{◌≡◌, IsSome}
-use Rattle.tsdb_columns.specs.Indexed.{IsIndexed, IsWholeFile, source_of}
-use Rattle.tsdb_columns.specs.declared.source.IndexedFile.{IndexedFile}
-use Rattle.tsdb_columns.specs.declared.source.Source.{Source}
-use Rattle.tsdb_columns.specs.declared.source.Source.TheVariants.{File, Part}
+use Rattle.tsdb_streams.specs.Indexed.{IsIndexed, IsWholeFile, source_of}
+use Rattle.tsdb_streams.specs.declared.source.IndexedFile.{IndexedFile}
+use Rattle.tsdb_streams.specs.declared.source.Source.{Source}
+use Rattle.tsdb_streams.specs.declared.source.Source.TheVariants.{File, Part}
 use Rattle.tsdb_compactions.specs.declared.job.Input.{Input}
 use Rattle.tsdb_outside.specs.Files.{NamedFile, Store}
 

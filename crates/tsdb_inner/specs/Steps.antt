@@ -2,11 +2,11 @@
 use Rattle.std.specs.Prelude.{◌≡◌, ℤ, ◌<ℤ◌, List, [], ◌∷◌, ◌++◌, Option, Some}
 use Rattle.tsdb_base.specs.Values.{type_of}
 use Rattle.tsdb_base.specs.declared.point.Point.{Point}
-use Rattle.tsdb_engine.specs.Making.{IsOpen, IsPart}
-use Rattle.tsdb_engine.specs.Steps.{filled_with}
-use Rattle.tsdb_engine.specs.declared.part.Part.{Part}
+use Rattle.tsdb_flush.specs.Making.{IsOpen, IsPart}
+use Rattle.tsdb_flush.specs.MakingSteps.{filled_with}
+use Rattle.tsdb_flush.specs.declared.part.Part.{Part}
 use Rattle.tsdb_inner.specs.Copies.{AreOfType}
-use Rattle.tsdb_jobs.specs.Parts.{Filled}
+use Rattle.tsdb_flush.specs.Parts.{Filled}
 use Rattle.tsdb_model.specs.declared.command.Schema.{Schema}
 use Rattle.tsdb_base.specs.Points.{IsRising}
 

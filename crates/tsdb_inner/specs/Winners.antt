@@ -3,17 +3,17 @@ use Rattle.std.specs.Prelude.{◌≡◌, ◌≢◌, ℕ, ℤ, List, Some}
 use Rattle.std.specs.List.{AllByRecursion as Each}
 use Rattle.tsdb_base.specs.declared.point.Point.{Point}
 use Rattle.tsdb_base.specs.declared.value.Value.{Value}
-use Rattle.tsdb_built.specs.Parts.{IsSeries}
+use Rattle.tsdb_flush.specs.BuiltParts.{IsSeries}
 use Rattle.tsdb_compactions.specs.Outputs.{TellsInputs, winner}
 use Rattle.tsdb_compactions.specs.declared.job.Job.{Job}
-use Rattle.tsdb_engine.specs.declared.part.Part.{Part}
+use Rattle.tsdb_flush.specs.declared.part.Part.{Part}
 use Rattle.tsdb_inner.specs.Copies.{Adds}
-use Rattle.tsdb_jobs.specs.Parts.{Filled}
-use Rattle.tsdb_layers.specs.Lists.{Among, EachPair}
+use Rattle.tsdb_flush.specs.Parts.{Filled}
+use Rattle.tsdb_base.specs.Lists.{Among, EachPair}
 use Rattle.tsdb_model.specs.declared.command.Schema.{Schema}
 use Rattle.tsdb_base.specs.Points.{IsRising}
 use Rattle.tsdb_outside.specs.Files.{NamedFile}
-use Rattle.tsdb_sources.specs.Survivors.{place_at}
+use Rattle.tsdb_streams.specs.Survivors.{place_at}
 use Rattle.tsdb_state.specs.State.{Told}
 
 -- each series has a device and points in order of time, and no two have one path

@@ -1,12 +1,12 @@
-//! The points of one series, into a file in the making. Depends on tsdb_columns and tsdb_engine.
+//! The points of one series, into a file in the making. Depends on tsdb_streams and tsdb_flush.
 ghost use Rattle.std.specs.Prelude.{◌≡◌, ◌↔◌, ◌≤◌, All, IfOk, IsTrue, List, None, Some, false, map, true};
 ghost use Rattle.tsdb_base.specs.declared.point.Point.{Point as PointOf};
-ghost use Rattle.tsdb_columns.specs.Files.{FilePages, HasReason};
-ghost use Rattle.tsdb_columns.specs.Indexed.{IsIndexed, source_of};
-ghost use Rattle.tsdb_columns.specs.Lanes.{IsSourceOf};
-ghost use Rattle.tsdb_columns.specs.Streams.{AreToldSources, AreTrueSources, IsStreamOfStore, IsToldStream};
-ghost use Rattle.tsdb_columns.specs.Streams.{IsTrueStream, stream_left};
-ghost use Rattle.tsdb_engine.specs.Making.{MayAdd};
+ghost use Rattle.tsdb_streams.specs.Files.{FilePages, HasReason};
+ghost use Rattle.tsdb_streams.specs.Indexed.{IsIndexed, source_of};
+ghost use Rattle.tsdb_streams.specs.Lanes.{IsSourceOf};
+ghost use Rattle.tsdb_streams.specs.Streams.{AreToldSources, AreTrueSources, IsStreamOfStore, IsToldStream};
+ghost use Rattle.tsdb_streams.specs.Streams.{IsTrueStream, stream_left};
+ghost use Rattle.tsdb_flush.specs.Making.{MayAdd};
 ghost use Rattle.tsdb_inner.specs.Copies.{Copies, AreDamaged, IsLeft};
 ghost use Rattle.tsdb_inner.specs.Steps.{HasBegun, HaveBrokenOrder, MayFollow, Puts};
 ghost use Rattle.tsdb_model.specs.Commands.{IsSchema};
@@ -14,11 +14,11 @@ ghost use Rattle.tsdb_path.specs.Nodes.{node_count};
 
 use std::alloc::Global;
 use tsdb_base::{Point, Range, Time};
-use tsdb_columns::{IndexedFile, Stream, open_indexed, pull};
-use tsdb_engine::Part;
+use tsdb_flush::Part;
 use tsdb_marks::Marks;
 use tsdb_model::Schema;
 use tsdb_outside::{Port, StoreFault};
+use tsdb_streams::{IndexedFile, Stream, open_indexed, pull};
 
 /// All times.
 const ALL_TIMES: Range = Range {

@@ -1,14 +1,14 @@
-//! The inputs of a job as the sources of streams. Depends on tsdb_compactions and tsdb_columns.
+//! The inputs of a job as the sources of streams. Depends on tsdb_compactions and tsdb_streams.
 ghost use Rattle.std.specs.List.{AllByRecursion as Each, AllZip};
 ghost use Rattle.std.specs.Prelude.{◌≡◌, ◌≤◌, ◌⊎◌, IfOk};
 ghost use Rattle.tsdb_base.specs.Causes.{Rose};
-ghost use Rattle.tsdb_columns.specs.Files.{HasReason};
+ghost use Rattle.tsdb_streams.specs.Files.{HasReason};
 ghost use Rattle.tsdb_inner.specs.Inputs.{IsInputOf, IsOpenedAs, IsWhole, TellsBytes};
 
 use std::alloc::Global;
-use tsdb_columns::{IndexedFile, open_index};
 use tsdb_compactions::Input;
 use tsdb_outside::{Files, Port, StoreFault};
+use tsdb_streams::{IndexedFile, open_index};
 
 /// Reads the index of an input.
 fn open_input<'a, F: Files>(

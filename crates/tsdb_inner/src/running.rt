@@ -3,23 +3,22 @@ ghost use Rattle.std.specs.List.{AllByRecursion as Each, AllZip};
 ghost use Rattle.std.specs.Prelude.{◌≡◌, ◌↔◌, ◌≤◌, ◌<◌, IfOk, IfSome, IsTrue, List, OnOk, length};
 ghost use Rattle.tsdb_compactions.specs.Jobs.{IsFormed};
 ghost use Rattle.tsdb_compactions.specs.Outputs.{HasWinners, IsBuiltFor, IsOutputOf, TellsTruth};
-ghost use Rattle.tsdb_engine.specs.Making.{IsPart, MayAdd};
+ghost use Rattle.tsdb_flush.specs.Making.{IsPart, MayAdd};
 ghost use Rattle.tsdb_inner.specs.Inputs.{IsInputOf, IsOpenedAs};
 ghost use Rattle.tsdb_inner.specs.Winners.{AreSeries, CopiesSeries};
-ghost use Rattle.tsdb_jobs.specs.Parts.{Filled};
-ghost use Rattle.tsdb_layers.specs.Lists.{Among};
+ghost use Rattle.tsdb_flush.specs.Parts.{Filled};
+ghost use Rattle.tsdb_base.specs.Lists.{Among};
 ghost use Rattle.tsdb_outside.specs.Causes.{HasStoreCause};
 ghost use Rattle.tsdb_state.specs.State.{Told};
 
 use crate::copying::copy_series;
 use crate::inputs::{count_damage, open_inputs};
 use std::alloc::Global;
-use tsdb_columns::IndexedFile;
 use tsdb_compactions::Job;
-use tsdb_engine::{Part, Whole};
-use tsdb_jobs::Built;
+use tsdb_flush::{Built, Part, Whole};
 use tsdb_model::Schema;
 use tsdb_outside::{Files, Port, StoreFault};
+use tsdb_streams::IndexedFile;
 
 /// Adds a series of the job with its surviving winners. The files are its inputs.
 fn copy_one<F: Files>(

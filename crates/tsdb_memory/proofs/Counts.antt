@@ -16,10 +16,10 @@ use Rattle.tsdb_base.specs.declared.ids.Space.{Space}
 use Rattle.tsdb_base.specs.declared.ids.Space.TheVariants.{Sequence, Unsequence}
 use Rattle.tsdb_base.specs.declared.point.Point.{Point}
 use Rattle.tsdb_base.specs.declared.value.Value.{Value}
-use Rattle.tsdb_layers.proofs.Lists.{among_left, among_map, among_right, each_among, each_from_among}
-use Rattle.tsdb_layers.proofs.Places.{is_place, place_cmp_total, place_itself, same_content}
-use Rattle.tsdb_layers.specs.Lists.{Among, EachPair}
-use Rattle.tsdb_layers.specs.Places.{Content, Place, place_cmp}
+use Rattle.tsdb_base.proofs.Lists.{among_left, among_map, among_right, each_among, each_from_among}
+use Rattle.tsdb_state.proofs.LayerLemmas.Places.{is_place, place_cmp_total, place_itself, same_content}
+use Rattle.tsdb_base.specs.Lists.{Among, EachPair}
+use Rattle.tsdb_state.specs.Places.{Content, Place, place_cmp}
 use Rattle.tsdb_model.specs.declared.command.Schema.{Schema}
 use Rattle.tsdb_memory.proofs.Emptiness.{not_less, parted, total}
 use Rattle.tsdb_memory.proofs.Frozen.{image_of, point_at, value_there}

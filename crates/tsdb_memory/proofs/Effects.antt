@@ -14,8 +14,8 @@ use Rattle.tsdb_base.specs.declared.ids.Space.{Space}
 use Rattle.tsdb_base.specs.declared.ids.Space.TheVariants.{Sequence, Unsequence}
 use Rattle.tsdb_base.specs.declared.ids.Stamp.{Stamp}
 use Rattle.tsdb_base.specs.declared.point.Range.{Range}
-use Rattle.tsdb_layers.specs.Marks.{purge}
-use Rattle.tsdb_layers.specs.Places.{Place, place_cmp}
+use Rattle.tsdb_state.specs.Marks.{purge}
+use Rattle.tsdb_state.specs.Places.{Place, place_cmp}
 use Rattle.tsdb_model.specs.declared.command.Schema.{Schema}
 use Rattle.tsdb_marks.specs.Lists.{Marks, is_newer_than, purge_list}
 use Rattle.tsdb_marks.specs.declared.marks.Mark.{Mark}

@@ -16,10 +16,10 @@ use Rattle.std.proofs.lemmas.List.Sums.{sum_by-cons}
 use Rattle.tsdb_base.specs.declared.ids.Space.{Space}
 use Rattle.tsdb_base.specs.declared.ids.Space.TheVariants.{Sequence, Unsequence}
 use Rattle.tsdb_base.specs.declared.point.Point.{Point}
-use Rattle.tsdb_layers.proofs.Lists.{each_among}
-use Rattle.tsdb_layers.proofs.Places.{same_content}
-use Rattle.tsdb_layers.specs.Lists.{Among}
-use Rattle.tsdb_layers.specs.Places.{Content, Place, place_cmp}
+use Rattle.tsdb_base.proofs.Lists.{each_among}
+use Rattle.tsdb_state.proofs.LayerLemmas.Places.{same_content}
+use Rattle.tsdb_base.specs.Lists.{Among}
+use Rattle.tsdb_state.specs.Places.{Content, Place, place_cmp}
 use Rattle.tsdb_model.specs.declared.command.Schema.{Schema}
 use Rattle.tsdb_memory.proofs.Frozen.{value_there}
 use Rattle.tsdb_memory.proofs.Raises.{beyond}

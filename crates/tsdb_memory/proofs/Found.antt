@@ -13,8 +13,8 @@ use Rattle.tsdb_base.specs.declared.ids.Space.TheVariants.{Sequence, Unsequence}
 use Rattle.tsdb_base.specs.declared.point.Point.{Point}
 use Rattle.tsdb_base.specs.declared.point.Range.{Range}
 use Rattle.tsdb_base.specs.declared.value.Value.{Value}
-use Rattle.tsdb_layers.proofs.Places.{get_cut, is_path_same, path_itself}
-use Rattle.tsdb_layers.specs.Places.{Place, is_path, is_within}
+use Rattle.tsdb_state.proofs.LayerLemmas.Places.{get_cut, is_path_same, path_itself}
+use Rattle.tsdb_state.specs.Places.{Place, is_path, is_within}
 use Rattle.tsdb_model.specs.World.{is_in}
 use Rattle.tsdb_model.specs.declared.command.Schema.{Schema}
 use Rattle.tsdb_memory.proofs.Numbers.{number_push, one_path, some_same}

@@ -15,10 +15,10 @@ use Rattle.tsdb_base.specs.declared.ids.Space.{Space}
 use Rattle.tsdb_base.specs.declared.ids.Space.TheVariants.{Sequence, Unsequence}
 use Rattle.tsdb_base.specs.declared.point.Point.{Point}
 use Rattle.tsdb_base.specs.declared.value.Value.{Value}
-use Rattle.tsdb_layers.proofs.Lists.{among_map}
-use Rattle.tsdb_layers.proofs.Places.{is_place, place_itself}
-use Rattle.tsdb_layers.specs.Lists.{Among}
-use Rattle.tsdb_layers.specs.Places.{Content, Place, place_cmp}
+use Rattle.tsdb_base.proofs.Lists.{among_map}
+use Rattle.tsdb_state.proofs.LayerLemmas.Places.{is_place, place_itself}
+use Rattle.tsdb_base.specs.Lists.{Among}
+use Rattle.tsdb_state.specs.Places.{Content, Place, place_cmp}
 use Rattle.tsdb_model.specs.declared.command.Schema.{Schema}
 use Rattle.tsdb_memory.proofs.Effects.{nothing_rises}
 use Rattle.tsdb_memory.proofs.Numbers.{length_push, schema_at}

@@ -13,3 +13,6 @@ pub mod Emptiness
 pub mod Counts
 pub mod Types
 pub mod Typing
+pub mod RowLemmas
+pub mod LogLemmas
+pub mod Following

@@ -16,8 +16,8 @@ use Rattle.indexmap.proofs.CallerLemmas.{insert_entry-new}
 use Rattle.indexmap.specs.IndexMap.{IndexMap, insert_entry}
 use Rattle.tsdb_base.specs.declared.value.DataType.{DataType}
 use Rattle.tsdb_base.specs.declared.value.Encoding.{Encoding}
-use Rattle.tsdb_layers.proofs.Places.{is_path_same, path_itself}
-use Rattle.tsdb_layers.specs.Places.{is_path}
+use Rattle.tsdb_state.proofs.LayerLemmas.Places.{is_path_same, path_itself}
+use Rattle.tsdb_state.specs.Places.{is_path}
 use Rattle.tsdb_model.specs.declared.command.Schema.{Schema}
 use Rattle.tsdb_memory.specs.Model.{schema_of}
 use Rattle.tsdb_memory.specs.Shown.{number_of}

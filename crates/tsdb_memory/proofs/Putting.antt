@@ -12,8 +12,8 @@ use Rattle.tsdb_base.specs.declared.ids.Space.{Space}
 use Rattle.tsdb_base.specs.declared.ids.Space.TheVariants.{Sequence, Unsequence}
 use Rattle.tsdb_base.specs.declared.point.Point.{Point}
 use Rattle.tsdb_base.specs.declared.value.Value.{Value}
-use Rattle.tsdb_layers.proofs.Places.{get_put, is_place, place_itself}
-use Rattle.tsdb_layers.specs.Places.{Place, place_cmp}
+use Rattle.tsdb_state.proofs.LayerLemmas.Places.{get_put, is_place, place_itself}
+use Rattle.tsdb_state.specs.Places.{Place, place_cmp}
 use Rattle.tsdb_model.specs.declared.command.Schema.{Schema}
 use Rattle.tsdb_memory.proofs.Numbers.{one_path, some_same}
 use Rattle.tsdb_memory.proofs.Series.{changed_here, changed_there, itself, one_number}

@@ -14,10 +14,10 @@ use Rattle.std.proofs.lemmas.List.Elements.{All-head, All-more, All-tail, All-we
 use Rattle.tsdb_base.specs.declared.ids.SeriesId.{SeriesId}
 use Rattle.tsdb_base.specs.declared.ids.Space.TheVariants.{Sequence}
 use Rattle.tsdb_base.specs.declared.point.Point.{Point}
-use Rattle.tsdb_layers.proofs.Lists.{among_left, among_right}
-use Rattle.tsdb_layers.proofs.Places.{is_path_same, path_itself}
-use Rattle.tsdb_layers.specs.Lists.{Among}
-use Rattle.tsdb_layers.specs.Places.{is_path}
+use Rattle.tsdb_base.proofs.Lists.{among_left, among_right}
+use Rattle.tsdb_state.proofs.LayerLemmas.Places.{is_path_same, path_itself}
+use Rattle.tsdb_base.specs.Lists.{Among}
+use Rattle.tsdb_state.specs.Places.{is_path}
 use Rattle.tsdb_model.specs.declared.command.Schema.{Schema}
 use Rattle.tsdb_memory.proofs.Frozen.{image_of}
 use Rattle.tsdb_memory.proofs.Numbers.{some_same}

@@ -7,10 +7,10 @@ use Rattle.std.specs.FinMap.{get, get-insert}
 use Rattle.std.specs.Option.{IsSomeAnd, unwrap_or}
 use Rattle.std.proofs.lemmas.Int.{ints}
 use Rattle.tsdb_base.specs.declared.value.Value.{Value}
-use Rattle.tsdb_layers.proofs.Places.{is_path_same, path_itself}
-use Rattle.tsdb_layers.specs.Lists.{Among}
-use Rattle.tsdb_layers.specs.Order.{Watermarks}
-use Rattle.tsdb_layers.specs.Places.{Place, is_path}
+use Rattle.tsdb_state.proofs.LayerLemmas.Places.{is_path_same, path_itself}
+use Rattle.tsdb_base.specs.Lists.{Among}
+use Rattle.tsdb_state.specs.LayerOrder.{Watermarks}
+use Rattle.tsdb_state.specs.Places.{Place, is_path}
 use Rattle.tsdb_memory.specs.Freezing.{raised_by}
 use Rattle.tsdb_memory.specs.declared.freezing.Raise.{Raise}
 use Rattle.tsdb_memtable.specs.Watermarks.{later_time}

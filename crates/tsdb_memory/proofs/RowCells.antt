@@ -7,7 +7,7 @@ use Rattle.std.specs.Option.{IsSomeAnd, option_map, unwrap_or}
 use Rattle.std.proofs.lemmas.List.Elements.{All-cons, All-from_get_or, All-head, All-more, All-nil, All-tail, All-weaker}
 use Rattle.tsdb_base.specs.declared.ids.Space.{Space}
 use Rattle.tsdb_base.specs.declared.point.Point.{Point}
-use Rattle.tsdb_layers.specs.Order.{Watermarks}
+use Rattle.tsdb_state.specs.LayerOrder.{Watermarks}
 use Rattle.tsdb_log.specs.declared.record.CellRecord.{CellRecord}
 use Rattle.tsdb_model.specs.declared.command.Schema.{Schema}
 use Rattle.tsdb_memory.proofs.Putting.{in_pair, pair_put, rising_put}

@@ -2,7 +2,7 @@
 use Rattle.std.specs.Prelude.{◌≡◌, ℕ, ℤ, ◌≤ℤ◌, cond, List, [], ◌∷◌, Option, Some, All, slice_get}
 use Rattle.tsdb_base.specs.declared.ids.Space.TheVariants.{Sequence}
 use Rattle.tsdb_base.specs.declared.point.Point.{Point}
-use Rattle.tsdb_layers.specs.Lists.{Among}
+use Rattle.tsdb_base.specs.Lists.{Among}
 use Rattle.tsdb_model.specs.declared.command.Schema.{Schema}
 use Rattle.tsdb_memory.specs.Store.{Store}
 use Rattle.tsdb_memory.specs.declared.freezing.Freezing.{Freezing}

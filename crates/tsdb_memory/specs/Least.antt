@@ -2,7 +2,7 @@
 use Rattle.std.specs.Prelude.{◌≡◌, ℕ, ◌≤◌, cond, nat_lt, List, [], ◌∷◌, Option, Some, None}
 use Rattle.std.specs.List.{AllByRecursion as Each}
 use Rattle.tsdb_base.specs.declared.ids.Stamp.{Stamp}
-use Rattle.tsdb_layers.specs.Lists.{Among}
+use Rattle.tsdb_base.specs.Lists.{Among}
 
 -- it is the least of these borns; there is none where there are none of these
 abbrev pub IsLeastOf : Option Stamp → List ℕ → Type 0

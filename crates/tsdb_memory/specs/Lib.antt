@@ -5,3 +5,14 @@ pub mod Rows
 pub mod Shared
 pub mod Freezing
 pub mod Model
+pub mod RowReading
+pub mod Fits
+pub mod RowSteps
+pub mod Logged
+pub mod Appends
+pub mod Answers
+pub mod Commands
+pub mod Flushes
+pub mod Closing
+pub mod Replacing
+pub mod MapAnswers

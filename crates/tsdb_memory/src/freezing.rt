@@ -2,7 +2,7 @@
 ghost use Rattle.std.specs.Prelude.{◌≡◌, ◌<◌, ◌≤◌, ℕ, List, [], IfOk, IfSome, None, OnOk, length};
 ghost use Rattle.tsdb_base.specs.declared.ids.Space.TheVariants.{Sequence};
 ghost use Rattle.tsdb_base.specs.declared.point.Point.{Point as PointOf};
-ghost use Rattle.tsdb_layers.specs.Lists.{Among};
+ghost use Rattle.tsdb_base.specs.Lists.{Among};
 ghost use Rattle.tsdb_memory.specs.Freezing.{AreRaises, HasPlaces, IsFreezeOf, IsRaiseOf, raised_by};
 ghost use Rattle.tsdb_memory.specs.Rows.{ChangesRoom};
 ghost use Rattle.tsdb_memory.specs.Shown.{IsMemoryOf};

@@ -15,12 +15,12 @@ use Rattle.tsdb_base.specs.FieldLaws.{number32-prefix_free}
 use Rattle.tsdb_base.specs.PlainLaws.{same_front}
 use Rattle.tsdb_base.specs.Limits.{max_values}
 use Rattle.tsdb_base.specs.Values.{is_suitable, IsValueOf}
-use Rattle.enc_list.specs.Lists.{IsListOf, IsSpelling, SpellNone}
+use Rattle.tsdb_bits.specs.Lists.{IsListOf, IsSpelling, SpellNone}
 use Rattle.enc_ts2diff.specs.Spelling as ts2diff
 use Rattle.enc_ts2diff.proofs.Canonical as sizes
 use Rattle.enc_ts2diff.proofs.Parts as times_laws
-use Rattle.enc_values.specs.Spelling.{spelling}
-use Rattle.enc_values.proofs.SuitablePairs.{laws_of}
+use Rattle.tsdb_pages.specs.ListSpelling.{spelling}
+use Rattle.tsdb_pages.proofs.SuitablePairs.{laws_of}
 use Rattle.tsdb_pages.specs.declared.fault.PageFault.{PageFault}
 use Rattle.tsdb_pages.specs.declared.fault.PageFault.TheVariants as page
 use Rattle.tsdb_base.specs.Points.{IsRising}

@@ -14,8 +14,8 @@ use Rattle.tsdb_base.specs.PlainLaws.{plain_text-prefix_free, same_front}
 use Rattle.tsdb_base.specs.Values.{is_suitable}
 use Rattle.tsdb_path.specs.Nodes.{IsName, IsPath}
 use Rattle.enc_ts2diff.proofs.Parts as times_laws
-use Rattle.enc_values.specs.Spelling.{spelling}
-use Rattle.enc_values.proofs.SuitablePairs.{laws_of}
+use Rattle.tsdb_pages.specs.ListSpelling.{spelling}
+use Rattle.tsdb_pages.proofs.SuitablePairs.{laws_of}
 use Rattle.tsdb_index.specs.Spelling as index
 use Rattle.tsdb_index.specs.declared.index.IndexEntry.{IndexEntry}
 use Rattle.tsdb_pages.specs.declared.tree.Page.{Page}

@@ -7,3 +7,6 @@ pub mod OneFile
 pub mod Places
 pub mod Statistics
 pub mod TreeIndex
+pub mod ValueLists
+pub mod OneType
+pub mod SuitablePairs

@@ -10,7 +10,7 @@ use Rattle.tsdb_base.specs.Fields.{number32}
 use Rattle.tsdb_base.specs.Limits.{max_values}
 use Rattle.tsdb_base.specs.Values.{type_of, IsValue}
 use Rattle.enc_ts2diff.specs.Spelling as ts2diff
-use Rattle.enc_values.specs.Spelling.{spelling}
+use Rattle.tsdb_pages.specs.ListSpelling.{spelling}
 
 -- the points of one page of this type: 1 to 1,000, in order of time
 pub record ArePoints (data_type : DataType) (points : List Point) : Type 0 where

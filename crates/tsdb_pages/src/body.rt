@@ -1,4 +1,4 @@
-//! The body of a page: the length of its times, its times, and its values. Depends on `rising` and `fault`.
+//! The body of a page: the length of its times, its times, and its values. Depends on `fault` and `rising`.
 ghost use Rattle.std.specs.Prelude.{◌≡◌, ℕ, ◌<◌, ◌≤◌, ◌^◌, List, ◌++◌, All, FitsSigned, length, drop, true};
 ghost use Rattle.std.specs.Prelude.{IfOk, IsErrOf};
 ghost use Rattle.std.specs.Int.{w64};
@@ -7,8 +7,9 @@ ghost use Rattle.tsdb_base.specs.Values.{is_suitable};
 ghost use Rattle.tsdb_pages.specs.Pages.{ArePoints, body as body_field, times_of as times_in, values_of as values_in};
 ghost use Rattle.tsdb_pages.specs.Reading.{IsBody, IsNoBody};
 
+use crate::decoder::decode;
+use crate::encoder::encode_into;
 use crate::fault::PageFault;
-use enc_values::{decode, encode_into};
 use std::alloc::Global;
 use tsdb_base::{DataType, Encoding, Memory, Point, Time, Value, is_rising, suits};
 

@@ -7,16 +7,16 @@ use Rattle.std.proofs.lemmas.List.{take_more}
 use Rattle.std.proofs.lemmas.List.Sums.{sum_by-cons, sum_by-take-le, sum_by_push}
 use Rattle.tsdb_base.specs.declared.point.Point.{Point}
 use Rattle.tsdb_base.specs.declared.point.Range.{Range}
-use Rattle.tsdb_columns.specs.Clean.{count_read, hull_of, others, source_hulls, source_read, sources_read}
-use Rattle.tsdb_columns.specs.declared.source.Source.{Source}
-use Rattle.tsdb_columns.specs.declared.source.Source.TheVariants as lent
+use Rattle.tsdb_streams.specs.Clean.{count_read, hull_of, others, source_hulls, source_read, sources_read}
+use Rattle.tsdb_streams.specs.declared.source.Source.{Source}
+use Rattle.tsdb_streams.specs.declared.source.Source.TheVariants as lent
 use Rattle.tsdb_marks.specs.declared.marks.Mark.{Mark}
 use Rattle.tsdb_outside.specs.Files.{NamedFile}
-use Rattle.tsdb_pinning.specs.declared.pin.PinnedSource.{PinnedSource}
-use Rattle.tsdb_pinning.specs.declared.pin.PinnedSource.TheVariants.{File, Part}
+use Rattle.tsdb_pin.specs.declared.pin.PinnedSource.{PinnedSource}
+use Rattle.tsdb_pin.specs.declared.pin.PinnedSource.TheVariants.{File, Part}
 use Rattle.tsdb_pins.specs.Clean.{TellsPages, hulls_of, read_of}
 use Rattle.tsdb_pins.specs.Reading.{HasTold, IsLentAs, SeriesPages}
-use Rattle.tsdb_sources.specs.Pieces.{joined}
+use Rattle.tsdb_streams.specs.Pieces.{joined}
 
 module _ {F S R P : Type 0} (name : R → NamedFile) (pages : SeriesPages) (path : List ℕ) where
   -- the points of sources whose pages are told

@@ -2,16 +2,16 @@
 use Rattle.std.proofs.Common.{◌≡◌, List, Option, None, Some, ap, ◌∙◌}
 use Rattle.std.specs.Prelude.{IfSome}
 use Rattle.std.specs.List.{AllByRecursion as Each}
-use Rattle.tsdb_kept.specs.Files.{KeptFiles, kept_file}
-use Rattle.tsdb_kept.specs.Places.{AreOfStore, KeptFile}
-use Rattle.tsdb_kept.specs.Rights.{IsRightTo}
-use Rattle.tsdb_layers.proofs.Lists.{each_weaker}
+use Rattle.tsdb_fileset.specs.Files.{KeptFiles, kept_file}
+use Rattle.tsdb_fileset.specs.Places.{AreOfStore, KeptFile}
+use Rattle.tsdb_fileset.specs.Rights.{IsRightTo}
+use Rattle.tsdb_base.proofs.Lists.{each_weaker}
 use Rattle.tsdb_outside.specs.Files.{NamedFile, Store}
-use Rattle.tsdb_pinning.specs.Pins.{AreColumnsHeld}
-use Rattle.tsdb_pinning.specs.Sources.{AreHeldIn, IsHeldIn}
-use Rattle.tsdb_pinning.specs.declared.pin.Column.{Column}
-use Rattle.tsdb_pinning.specs.declared.pin.PinnedSource.{PinnedSource}
-use Rattle.tsdb_pinning.specs.declared.pin.PinnedSource.TheVariants.{File, Part}
+use Rattle.tsdb_pin.specs.Pins.{AreColumnsHeld}
+use Rattle.tsdb_pin.specs.Sources.{AreHeldIn, IsHeldIn}
+use Rattle.tsdb_pin.specs.declared.pin.Column.{Column}
+use Rattle.tsdb_pin.specs.declared.pin.PinnedSource.{PinnedSource}
+use Rattle.tsdb_pin.specs.declared.pin.PinnedSource.TheVariants.{File, Part}
 use Rattle.tsdb_pins.specs.Reading.{AreColumnsOf, IsOfStore}
 
 right_of : {R : Type 0} (name : R → NamedFile) (store : Store) (right : R) (kept : Option KeptFile) → IfSome kept (λ file. file.name.store ≡ store) → IsRightTo name kept (Some right) → (name right).store ≡ store

@@ -8,20 +8,20 @@ use Rattle.std.proofs.lemmas.List.Elements.{All-cons, All-nil}
 use Rattle.std.proofs.lemmas.List.Kept.{AllPairs-filter}
 use Rattle.tsdb_base.specs.declared.point.Point.{Point}
 use Rattle.tsdb_base.specs.declared.point.Range.{Range}
-use Rattle.tsdb_columns.specs.Kept as columns
-use Rattle.tsdb_columns.specs.Lanes.{IsSourceOf, IsToldSource, IsTrueSource, source_all, source_left}
-use Rattle.tsdb_columns.specs.declared.source.Source.{Source}
-use Rattle.tsdb_columns.specs.declared.source.Source.TheVariants as lent
-use Rattle.tsdb_columns.specs.Files.{IsTold, IsTruth}
+use Rattle.tsdb_streams.specs.Kept as columns
+use Rattle.tsdb_streams.specs.Lanes.{IsSourceOf, IsToldSource, IsTrueSource, source_all, source_left}
+use Rattle.tsdb_streams.specs.declared.source.Source.{Source}
+use Rattle.tsdb_streams.specs.declared.source.Source.TheVariants as lent
+use Rattle.tsdb_streams.specs.Files.{IsTold, IsTruth}
 use Rattle.tsdb_marks.specs.declared.marks.Mark.{Mark}
 use Rattle.tsdb_base.specs.Points.{IsRising}
 use Rattle.tsdb_outside.specs.Files.{NamedFile, Store}
 use Rattle.tsdb_path.specs.Nodes.{device_of, measurement_of}
-use Rattle.tsdb_pinned.specs.Worlds.{born_of, is_kept, kept_of}
-use Rattle.tsdb_pinning.specs.declared.pin.PinnedSource.{PinnedSource}
-use Rattle.tsdb_pinning.specs.declared.pin.PinnedSource.TheVariants.{File, Part}
+use Rattle.tsdb_pins.specs.Worlds.{born_of, is_kept, kept_of}
+use Rattle.tsdb_pin.specs.declared.pin.PinnedSource.{PinnedSource}
+use Rattle.tsdb_pin.specs.declared.pin.PinnedSource.TheVariants.{File, Part}
 use Rattle.tsdb_pins.specs.Reading.{HasTold, IsLentAs, IsOfStore, IsToldIn, IsTrueIn, SeriesPages}
-use Rattle.tsdb_sources.specs.Pieces.{joined}
+use Rattle.tsdb_streams.specs.Pieces.{joined}
 
 -- ---- pairs of two lists
 

@@ -1,3 +1,6 @@
+pub mod Items
+pub mod Points
+pub mod Replies
 pub mod Lent
 pub mod Draining
 pub mod Tallied
@@ -7,3 +10,6 @@ pub mod Selected
 pub mod Told
 pub mod Held
 pub mod Named
+pub mod Columns
+pub mod RowLemmas
+pub mod Lines

@@ -3,14 +3,14 @@ use Rattle.std.proofs.Common.{◌≡◌, ℕ, ◌≤◌, true, false, eqb, List,
 use Rattle.std.specs.List.{AllZip, onto_first}
 use Rattle.std.proofs.lemmas.List.Splits.{slice_split-cons_no, slice_split-cons_yes}
 use Rattle.tsdb_base.specs.declared.point.Range.{Range}
-use Rattle.tsdb_kept.specs.Files.{KeptFiles}
+use Rattle.tsdb_fileset.specs.Files.{KeptFiles}
 use Rattle.tsdb_model.specs.declared.command.Item.{Item}
 use Rattle.tsdb_memory.specs.Store.{Store}
 use Rattle.tsdb_outside.specs.Files.{NamedFile}
 use Rattle.tsdb_path.proofs.Parts.{parts_some}
 use Rattle.tsdb_path.specs.Nodes.{child_of, dot, node_count, parts}
-use Rattle.tsdb_pinning.specs.Pins.{IsColumnFor}
-use Rattle.tsdb_pinning.specs.declared.pin.Column.{Column}
+use Rattle.tsdb_pin.specs.Pins.{IsColumnFor}
+use Rattle.tsdb_pin.specs.declared.pin.Column.{Column}
 use Rattle.tsdb_pins.specs.Reading.{HaveNodes}
 
 no_fewer : (byte : ℕ) (nodes : List (List ℕ)) → length nodes ≤ length (onto_first byte nodes)

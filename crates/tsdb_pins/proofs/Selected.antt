@@ -8,26 +8,26 @@ use Rattle.tsdb_base.specs.declared.answers.Aggregate.{Aggregate}
 use Rattle.tsdb_base.specs.declared.point.Point.{Point}
 use Rattle.tsdb_base.specs.declared.point.Range.{Range}
 use Rattle.tsdb_base.specs.declared.value.Value.{Value}
-use Rattle.tsdb_lines.specs.Rows.{vec_lists}
+use Rattle.tsdb_pins.specs.Rows.{vec_lists}
 use Rattle.tsdb_model.specs.Apply.{item_value}
 use Rattle.tsdb_model.specs.Folds.{aggregate_of, in_order}
 use Rattle.tsdb_model.specs.World.{Points, World}
 use Rattle.tsdb_marks.specs.declared.marks.Mark.{Mark}
-use Rattle.tsdb_columns.specs.Streams.{stream_left}
-use Rattle.tsdb_columns.specs.declared.stream.Stream.{Stream}
+use Rattle.tsdb_streams.specs.Streams.{stream_left}
+use Rattle.tsdb_streams.specs.declared.stream.Stream.{Stream}
 use Rattle.tsdb_base.specs.Points.{IsRising}
 use Rattle.tsdb_merge.specs.Winners.{IsMergeOf, IsToldMergeOf}
 use Rattle.tsdb_outside.specs.Files.{NamedFile}
-use Rattle.tsdb_pinned.proofs.Points.{pin_has}
-use Rattle.tsdb_pinned.specs.Worlds.{HasPointsOf, IsSourceOf, columns_in, kept_of, series_points, values_in}
-use Rattle.tsdb_pinning.specs.Shown.{IsColumnOf, IsPinOf, IsShownAs}
-use Rattle.tsdb_pinning.specs.declared.pin.Column.{Column}
-use Rattle.tsdb_pinning.specs.declared.pin.Pin.{Pin}
-use Rattle.tsdb_pinning.specs.declared.pin.PinnedSource.{PinnedSource}
-use Rattle.tsdb_pinning.specs.declared.pin.PinnedSource.TheVariants.{File, Part}
+use Rattle.tsdb_pins.proofs.Points.{pin_has}
+use Rattle.tsdb_pins.specs.Worlds.{HasPointsOf, IsSourceOf, columns_in, kept_of, series_points, values_in}
+use Rattle.tsdb_pin.specs.Shown.{IsColumnOf, IsPinOf, IsShownAs}
+use Rattle.tsdb_pin.specs.declared.pin.Column.{Column}
+use Rattle.tsdb_pin.specs.declared.pin.Pin.{Pin}
+use Rattle.tsdb_pin.specs.declared.pin.PinnedSource.{PinnedSource}
+use Rattle.tsdb_pin.specs.declared.pin.PinnedSource.TheVariants.{File, Part}
 use Rattle.tsdb_pins.specs.Reading.{HasTold, IsColumnRead, IsColumnValue, IsValueRead, SeriesPages, TellPoints, TellsPoints}
 use Rattle.tsdb_pins.specs.Streams.{HasColumnLeft, IsColumnOpened}
-use Rattle.tsdb_sources.specs.Pieces.{joined}
+use Rattle.tsdb_streams.specs.Pieces.{joined}
 use Rattle.tsdb_state.specs.State as state
 use Rattle.tsdb_state.specs.State.{FromFile, FromPart, Told}
 use Rattle.tsdb_state.specs.Steps.{PinStandsFor}

@@ -7,10 +7,10 @@ use Rattle.std.proofs.lemmas.Int.{ints}
 use Rattle.std.proofs.lemmas.List.Elements.{All-contains}
 use Rattle.tsdb_base.specs.declared.point.Point.{Point}
 use Rattle.tsdb_base.specs.declared.value.Value.{Value}
-use Rattle.tsdb_columns.specs.Files.{ArePagesIn, HasPages, IsChunkOf}
+use Rattle.tsdb_streams.specs.Files.{ArePagesIn, HasPages, IsChunkOf}
 use Rattle.tsdb_merge.proofs.MergeLemmas.{Contains-cases, Contains-head, Contains-nil, Contains-tail}
-use Rattle.tsdb_layers.specs.Lists.{Among}
-use Rattle.tsdb_layers.specs.Places.{Content}
+use Rattle.tsdb_base.specs.Lists.{Among}
+use Rattle.tsdb_state.specs.Places.{Content}
 use Rattle.tsdb_memory.specs.Shown.{value_at}
 use Rattle.tsdb_outside.specs.Files.{NamedFile}
 use Rattle.tsdb_pages.proofs.Files.{one_tree}
@@ -23,11 +23,11 @@ use Rattle.tsdb_pages.specs.declared.tree.Tree.{Tree}
 use Rattle.tsdb_path.proofs.Bytes.{IsNode-dotless}
 use Rattle.tsdb_path.proofs.Parts.{child_of-device_of, device_of-child, measurement_of-child}
 use Rattle.tsdb_path.specs.Nodes.{child_of, device_of, measurement_of, node_count}
-use Rattle.tsdb_pinned.proofs.Points.{has_value, of_value}
-use Rattle.tsdb_pinning.specs.Shown.{ArePointsOf}
+use Rattle.tsdb_pins.proofs.Points.{has_value, of_value}
+use Rattle.tsdb_pin.specs.Shown.{ArePointsOf}
 use Rattle.tsdb_base.specs.Points.{IsRising}
-use Rattle.tsdb_replay.specs.Stores.{Files, HasTreePoint, IsContentOf, IsWhole}
-use Rattle.tsdb_sources.specs.Pieces.{joined}
+use Rattle.tsdb_state.specs.Stores.{Files, HasTreePoint, IsContentOf, IsWhole}
+use Rattle.tsdb_streams.specs.Pieces.{joined}
 use Rattle.tsdb_state.specs.State.{File, Told}
 
 contained : {X : Type 0} (xs : List X) (x : X) → Among x xs → Contains xs x

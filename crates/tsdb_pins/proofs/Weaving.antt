@@ -14,13 +14,13 @@ use Rattle.tsdb_base.specs.declared.answers.Aggregate.{Aggregate}
 use Rattle.tsdb_base.specs.declared.point.Point.{Point}
 use Rattle.tsdb_base.specs.declared.point.Stats.{Stats}
 use Rattle.tsdb_base.specs.declared.value.Value.{Value}
-use Rattle.tsdb_columns.proofs.CleanFacts.{inside}
+use Rattle.tsdb_streams.proofs.CleanFacts.{inside}
 use Rattle.std.proofs.Math.Seq.{drop-cons}
 use Rattle.tsdb_pins.proofs.Draining.{takes_none, takes_one}
 use Rattle.tsdb_pins.specs.Reading.{IsFoldOf}
 use Rattle.tsdb_pins.specs.Weaving.{AreLater, IsNext, Weaves, ends_before}
-use Rattle.tsdb_columns.specs.Kept.{times_of}
-use Rattle.tsdb_columns.specs.Parted.{AreTaken, IsParted, is_between, within}
+use Rattle.tsdb_streams.specs.Kept.{times_of}
+use Rattle.tsdb_streams.specs.Parted.{AreTaken, IsParted, is_between, within}
 use Rattle.tsdb_model.specs.Folds.{aggregate_of}
 use Rattle.tsdb_model.specs.World.{is_in}
 use Rattle.tsdb_base.specs.Points.{IsRising}

@@ -7,21 +7,21 @@ use Rattle.tsdb_base.specs.declared.answers.Aggregate.{Aggregate}
 use Rattle.tsdb_base.specs.declared.point.Point.{Point}
 use Rattle.tsdb_base.specs.declared.point.Range.{Range}
 use Rattle.tsdb_base.specs.declared.value.Value.{Value}
-use Rattle.tsdb_columns.specs.Files.{FilePages, IsTold, IsTruth}
-use Rattle.tsdb_columns.specs.declared.source.Source.{Source}
-use Rattle.tsdb_columns.specs.declared.source.Source.TheVariants as lent
+use Rattle.tsdb_streams.specs.Files.{FilePages, IsTold, IsTruth}
+use Rattle.tsdb_streams.specs.declared.source.Source.{Source}
+use Rattle.tsdb_streams.specs.declared.source.Source.TheVariants as lent
 use Rattle.tsdb_model.specs.Folds.{aggregate_of}
 use Rattle.tsdb_marks.specs.declared.marks.Mark.{Mark}
 use Rattle.tsdb_base.specs.Points.{IsRising}
 use Rattle.tsdb_merge.specs.Winners.{IsMergeOf}
 use Rattle.tsdb_outside.specs.Files.{NamedFile, Store}
 use Rattle.tsdb_path.specs.Nodes.{device_of, measurement_of, node_count}
-use Rattle.tsdb_pinned.specs.Worlds.{kept_of}
-use Rattle.tsdb_pinning.specs.Shown.{ArePointsOf}
-use Rattle.tsdb_pinning.specs.declared.pin.Column.{Column}
-use Rattle.tsdb_pinning.specs.declared.pin.PinnedSource.{PinnedSource}
-use Rattle.tsdb_pinning.specs.declared.pin.PinnedSource.TheVariants.{File, Part}
-use Rattle.tsdb_sources.specs.Pieces.{joined}
+use Rattle.tsdb_pins.specs.Worlds.{kept_of}
+use Rattle.tsdb_pin.specs.Shown.{ArePointsOf}
+use Rattle.tsdb_pin.specs.declared.pin.Column.{Column}
+use Rattle.tsdb_pin.specs.declared.pin.PinnedSource.{PinnedSource}
+use Rattle.tsdb_pin.specs.declared.pin.PinnedSource.TheVariants.{File, Part}
+use Rattle.tsdb_streams.specs.Pieces.{joined}
 use Rattle.tsdb_state.specs.State.{Told}
 
 module _ {F S R P : Type 0} where

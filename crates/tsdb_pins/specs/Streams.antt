@@ -3,16 +3,16 @@ use Rattle.std.specs.Prelude.{◌≡◌, ℕ, List, Some, slice_get}
 use Rattle.std.specs.List.{AllByRecursion as Each, AllZip}
 use Rattle.tsdb_base.specs.declared.point.Point.{Point}
 use Rattle.tsdb_base.specs.declared.point.Range.{Range}
-use Rattle.tsdb_columns.specs.Streams.{IsToldStream, IsTrueStream, stream_left}
-use Rattle.tsdb_columns.specs.declared.stream.Stream.{Stream}
+use Rattle.tsdb_streams.specs.Streams.{IsToldStream, IsTrueStream, stream_left}
+use Rattle.tsdb_streams.specs.declared.stream.Stream.{Stream}
 use Rattle.tsdb_model.specs.Folds.{in_order}
 use Rattle.tsdb_model.specs.World.{World}
 use Rattle.tsdb_marks.specs.declared.marks.Mark.{Mark}
 use Rattle.tsdb_base.specs.Points.{IsRising}
 use Rattle.tsdb_merge.specs.Winners.{IsToldMergeOf}
 use Rattle.tsdb_outside.specs.Files.{NamedFile}
-use Rattle.tsdb_pinned.specs.Worlds.{kept_of, series_points}
-use Rattle.tsdb_pinning.specs.declared.pin.Column.{Column}
+use Rattle.tsdb_pins.specs.Worlds.{kept_of, series_points}
+use Rattle.tsdb_pin.specs.declared.pin.Column.{Column}
 use Rattle.tsdb_pins.specs.Reading.{HasTold, SeriesPages}
 
 module _ {F S R P : Type 0} (name : R → NamedFile) (pages : SeriesPages) where

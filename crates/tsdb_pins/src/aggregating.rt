@@ -1,9 +1,9 @@
 //! The aggregates of a pin. Depends on `folding` and tsdb_aggregate.
 ghost use Rattle.std.specs.Prelude.{◌≡◌, ◌+◌, ◌≤◌, IfOk};
-ghost use Rattle.tsdb_columns.specs.Files.{HasReason};
+ghost use Rattle.tsdb_streams.specs.Files.{HasReason};
 ghost use Rattle.tsdb_model.specs.World.{World};
-ghost use Rattle.tsdb_pinned.specs.Worlds.{values_in};
-ghost use Rattle.tsdb_pinning.specs.Shown.{IsPinOf};
+ghost use Rattle.tsdb_pins.specs.Worlds.{values_in};
+ghost use Rattle.tsdb_pin.specs.Shown.{IsPinOf};
 ghost use Rattle.tsdb_pins.specs.Clean.{TellPages, columns_read};
 ghost use Rattle.tsdb_pins.specs.Reading.{AreColumnsOf, AreColumnsTold, AreColumnsTrue, HaveNodes, SeriesPages};
 ghost use Rattle.tsdb_pins.specs.Reading.{TellPoints};
@@ -15,7 +15,7 @@ use std::alloc::Global;
 use std::sync::ledger::Ledger;
 use tsdb_base::{Steps, Value};
 use tsdb_outside::{Files, StoreFault};
-use tsdb_pinning::Pin;
+use tsdb_pin::Pin;
 
 /// The aggregates of a pin, one for each column. Where it is told what the pin's files have, these are the values of
 /// the plain map in each world that the pin stands for. A page that lies in the range, and that no newer mark and nothing

@@ -1,25 +1,25 @@
-//! The points of one column. Depends on `lending` and tsdb_columns.
+//! The points of one column. Depends on `lending` and tsdb_streams.
 ghost use Rattle.std.specs.List.{AllByRecursion as Each, AllZip};
 ghost use Rattle.std.specs.Prelude.{◌≡◌, ◌≤◌, All, IfOk, List, Some, map};
 ghost use Rattle.tsdb_base.specs.declared.point.Point.{Point as PointModel};
-ghost use Rattle.tsdb_columns.specs.Files.{FilePages, HasReason};
-ghost use Rattle.tsdb_columns.specs.Kept.{is_kept};
-ghost use Rattle.tsdb_columns.specs.Lanes.{IsSourceOf, source_left};
-ghost use Rattle.tsdb_columns.specs.Streams.{AreToldSources, AreTrueSources};
+ghost use Rattle.tsdb_streams.specs.Files.{FilePages, HasReason};
+ghost use Rattle.tsdb_streams.specs.Kept.{is_kept};
+ghost use Rattle.tsdb_streams.specs.Lanes.{IsSourceOf, source_left};
+ghost use Rattle.tsdb_streams.specs.Streams.{AreToldSources, AreTrueSources};
 ghost use Rattle.tsdb_base.specs.Points.{IsRising};
 ghost use Rattle.tsdb_merge.specs.Winners.{IsMergeOf};
 ghost use Rattle.tsdb_path.specs.Nodes.{node_count};
-ghost use Rattle.tsdb_pinned.specs.Worlds.{kept_of};
+ghost use Rattle.tsdb_pins.specs.Worlds.{kept_of};
 ghost use Rattle.tsdb_pins.specs.Reading.{HasTold, IsOfStore, IsToldIn, IsTrueIn, SeriesPages};
 
 use crate::lending::lend;
 use std::alloc::Global;
 use tsdb_base::{Point, Range};
-use tsdb_columns::{Source, open_column, pull};
 use tsdb_marks::Marks;
 use tsdb_outside::{Files, Port, StoreFault};
 use tsdb_path::Path;
-use tsdb_pinning::{Column, Pin};
+use tsdb_pin::{Column, Pin};
+use tsdb_streams::{Source, open_column, pull};
 
 /// The points of a series in a range that no mark deletes, from these sources.
 fn read_points<'a, P: Port>(

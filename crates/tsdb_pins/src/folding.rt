@@ -1,14 +1,14 @@
-//! The aggregate of one column. Depends on `lending`, tsdb_columns and tsdb_aggregate.
+//! The aggregate of one column. Depends on `lending`, tsdb_streams and tsdb_aggregate.
 ghost use Rattle.std.specs.List.{AllByRecursion as Each};
 ghost use Rattle.std.specs.Prelude.{◌≡◌, ◌+◌, ◌≤◌, All, IfOk, List, None, Some, drop, filter, map};
 ghost use Rattle.tsdb_base.specs.declared.point.Point.{Point as PointModel};
-ghost use Rattle.tsdb_columns.specs.Clean.{sources_read};
-ghost use Rattle.tsdb_columns.specs.Files.{FilePages, HasReason};
-ghost use Rattle.tsdb_columns.specs.Kept.{is_kept};
-ghost use Rattle.tsdb_columns.specs.Lanes.{IsSourceOf, source_all, source_left};
-ghost use Rattle.tsdb_columns.specs.Parted.{AreTaken, is_between};
-ghost use Rattle.tsdb_columns.specs.Streams.{AreToldSources, AreTrueSources, IsStreamOfStore, IsToldStream};
-ghost use Rattle.tsdb_columns.specs.Streams.{IsTrueStream, stream_due, stream_left};
+ghost use Rattle.tsdb_streams.specs.Clean.{sources_read};
+ghost use Rattle.tsdb_streams.specs.Files.{FilePages, HasReason};
+ghost use Rattle.tsdb_streams.specs.Kept.{is_kept};
+ghost use Rattle.tsdb_streams.specs.Lanes.{IsSourceOf, source_all, source_left};
+ghost use Rattle.tsdb_streams.specs.Parted.{AreTaken, is_between};
+ghost use Rattle.tsdb_streams.specs.Streams.{AreToldSources, AreTrueSources, IsStreamOfStore, IsToldStream};
+ghost use Rattle.tsdb_streams.specs.Streams.{IsTrueStream, stream_due, stream_left};
 ghost use Rattle.tsdb_model.specs.Folds.{aggregate_of};
 ghost use Rattle.tsdb_base.specs.Points.{IsRising};
 ghost use Rattle.tsdb_path.specs.Nodes.{node_count};
@@ -21,11 +21,11 @@ use std::alloc::Global;
 use std::sync::ledger::Ledger;
 use tsdb_aggregate::Tally;
 use tsdb_base::{Aggregate, Memory, Point, Range, Stats, Steps, Value};
-use tsdb_columns::{Source, Stream, open_parted, pull};
 use tsdb_marks::Marks;
 use tsdb_outside::{Files, Port, StoreFault};
 use tsdb_path::Path;
-use tsdb_pinning::{Column, Pin};
+use tsdb_pin::{Column, Pin};
+use tsdb_streams::{Source, Stream, open_parted, pull};
 
 /// Whether statistics end before a point, if there is one.
 fn ends_before(stats: &Stats, point: &Option<Point>) -> bool

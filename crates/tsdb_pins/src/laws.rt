@@ -2,22 +2,22 @@
 ghost use Rattle.std.specs.Prelude.{◌≡◌, ◌≤◌, ℕ, List, Some};
 ghost use Rattle.tsdb_base.specs.declared.point.Point.{Point};
 ghost use Rattle.tsdb_base.specs.declared.point.Range.{Range as RangeSeen};
-ghost use Rattle.tsdb_columns.specs.Files.{HasPages};
-ghost use Rattle.tsdb_kept.specs.Files.{KeptFiles};
-ghost use Rattle.tsdb_kept.specs.Places.{AreOfStore};
+ghost use Rattle.tsdb_streams.specs.Files.{HasPages};
+ghost use Rattle.tsdb_fileset.specs.Files.{KeptFiles};
+ghost use Rattle.tsdb_fileset.specs.Places.{AreOfStore};
 ghost use Rattle.tsdb_model.specs.declared.command.Item.{Item};
 ghost use Rattle.tsdb_memory.specs.Store.{Store as MemorySeen};
 ghost use Rattle.tsdb_outside.specs.Files.{NamedFile, Store};
 ghost use Rattle.tsdb_path.specs.Nodes.{device_of, measurement_of, node_count};
-ghost use Rattle.tsdb_pinning.specs.Pins.{AreColumnsHeld, IsPinFor};
-ghost use Rattle.tsdb_pinning.specs.Shown.{ArePointsOf};
+ghost use Rattle.tsdb_pin.specs.Pins.{AreColumnsHeld, IsPinFor};
+ghost use Rattle.tsdb_pin.specs.Shown.{ArePointsOf};
 ghost use Rattle.tsdb_pins.specs.Reading.{AreColumnsOf, HaveNodes};
-ghost use Rattle.tsdb_replay.specs.Stores.{Files as Kept, IsWhole};
-ghost use Rattle.tsdb_sources.specs.Pieces.{joined};
+ghost use Rattle.tsdb_state.specs.Stores.{Files as Kept, IsWhole};
+ghost use Rattle.tsdb_streams.specs.Pieces.{joined};
 ghost use Rattle.tsdb_state.specs.State.{File, Told};
 
 use tsdb_outside::Files;
-use tsdb_pinning::Pin;
+use tsdb_pin::Pin;
 
 /// The pages of a series in a whole file have the points that are told of the file.
 pub fn pages_have_the_points_of_their_file()

@@ -5,9 +5,9 @@ ghost use Rattle.tsdb_pins.specs.Reading.{IsLentAs};
 
 use std::alloc::Global;
 use tsdb_base::Memory;
-use tsdb_columns::Source;
 use tsdb_outside::Files;
-use tsdb_pinning::PinnedSource;
+use tsdb_pin::PinnedSource;
+use tsdb_streams::Source;
 
 /// A source, lent.
 fn lend_one<F: Files>(source: &PinnedSource<F>) -> Source<'_, F::Right>

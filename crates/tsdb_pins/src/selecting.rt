@@ -1,23 +1,23 @@
-//! The rows of a pin. Depends on `column` and tsdb_lines.
+//! The rows of a pin. Depends on `column` and `rows`.
 ghost use Rattle.std.specs.List.{AllZip};
 ghost use Rattle.std.specs.Prelude.{◌≡◌, ◌≤◌, IfOk};
-ghost use Rattle.tsdb_columns.specs.Files.{HasReason};
+ghost use Rattle.tsdb_streams.specs.Files.{HasReason};
 ghost use Rattle.tsdb_model.specs.Folds.{rows};
 ghost use Rattle.tsdb_model.specs.World.{World};
-ghost use Rattle.tsdb_pinned.specs.Worlds.{columns_in};
-ghost use Rattle.tsdb_pinning.specs.Shown.{IsPinOf};
+ghost use Rattle.tsdb_pins.specs.Worlds.{columns_in};
+ghost use Rattle.tsdb_pin.specs.Shown.{IsPinOf};
 ghost use Rattle.tsdb_pins.specs.Reading.{AreColumnsOf, AreColumnsTold, AreColumnsTrue, HaveNodes, IsColumnRead};
 ghost use Rattle.tsdb_pins.specs.Reading.{SeriesPages, TellPoints};
 ghost use Rattle.tsdb_state.specs.State as state;
 ghost use Rattle.tsdb_state.specs.Steps.{PinStandsFor};
 
 use crate::column::read_column;
+use crate::rows::rows_of;
 use std::alloc::Global;
 use tsdb_base::Point;
-use tsdb_lines::rows_of;
 use tsdb_model::Line;
 use tsdb_outside::{Files, StoreFault};
-use tsdb_pinning::Pin;
+use tsdb_pin::Pin;
 
 /// The points of each column, in their order.
 fn read_columns<F: Files>(

@@ -1,11 +1,11 @@
-//! The stream of one column of a pin. Depends on `lending` and tsdb_columns.
+//! The stream of one column of a pin. Depends on `lending` and tsdb_streams.
 ghost use Rattle.std.specs.List.{AllByRecursion as Each};
 ghost use Rattle.std.specs.Prelude.{◌≡◌, ◌<◌, ◌≤◌, IfOk, None, length};
-ghost use Rattle.tsdb_columns.specs.Files.{HasReason};
-ghost use Rattle.tsdb_columns.specs.Streams.{IsStreamOfStore, IsToldStream, IsTrueStream, stream_held};
+ghost use Rattle.tsdb_streams.specs.Files.{HasReason};
+ghost use Rattle.tsdb_streams.specs.Streams.{IsStreamOfStore, IsToldStream, IsTrueStream, stream_held};
 ghost use Rattle.tsdb_model.specs.World.{World};
 ghost use Rattle.tsdb_path.specs.Nodes.{node_count};
-ghost use Rattle.tsdb_pinning.specs.Shown.{IsPinOf};
+ghost use Rattle.tsdb_pin.specs.Shown.{IsPinOf};
 ghost use Rattle.tsdb_pins.specs.Reading.{AreColumnsOf, AreColumnsTold, AreColumnsTrue, HaveNodes, IsOfStore};
 ghost use Rattle.tsdb_pins.specs.Reading.{IsToldIn, IsTrueIn, SeriesPages, TellPoints};
 ghost use Rattle.tsdb_pins.specs.Streams.{HasColumnLeft, IsColumnOpened, IsToldColumn, IsTrueColumn};
@@ -14,9 +14,9 @@ ghost use Rattle.tsdb_state.specs.Steps.{PinStandsFor};
 
 use crate::lending::lend;
 use std::alloc::Global;
-use tsdb_columns::Stream;
 use tsdb_outside::{Files, Port, StoreFault};
-use tsdb_pinning::{Column, Pin};
+use tsdb_pin::{Column, Pin};
+use tsdb_streams::Stream;
 
 /// Opens the stream of a column.
 fn open_one<'a, F: Files>(
@@ -47,7 +47,7 @@ fn open_one<'a, F: Files>(
     ensures same_store { F.Port.store port.new ≡ F.Port.store port.old }
 {
     let sources = lend(alloc, column.sources.items())?;
-    tsdb_columns::open_column(
+    tsdb_streams::open_column(
         alloc,
         &column.schema.path,
         &pin.range,

@@ -6,15 +6,15 @@ use Rattle.tsdb_base.specs.declared.answers.Answer.TheVariants as answer
 use Rattle.tsdb_base.specs.declared.point.Range.{Range}
 use Rattle.tsdb_base.specs.declared.value.Value.{Value}
 use Rattle.std.specs.Prelude.{IsErrOf, Result}
-use Rattle.tsdb_columns.specs.Files.{HasReason}
+use Rattle.tsdb_streams.specs.Files.{HasReason}
 use Rattle.tsdb_core.specs.Core.{files_of, logged_of}
 use Rattle.tsdb_core.specs.Pins.{IsNotPinned, IsPinStep, IsPinned, IsUnpinned}
 use Rattle.tsdb_core.specs.declared.engine.Core.{Core}
 use Rattle.tsdb_frames.specs.Frames.{disk_of}
 use Rattle.tsdb_frames.specs.declared.frames.Frames.{Frames}
-use Rattle.tsdb_images.specs.Stored.{IsKeptWhole}
-use Rattle.tsdb_layers.proofs.Lists.{among_left}
-use Rattle.tsdb_logged.specs.Logged.{log_of, memory_of}
+use Rattle.tsdb_state.specs.Stored.{IsKeptWhole}
+use Rattle.tsdb_base.proofs.Lists.{among_left}
+use Rattle.tsdb_memory.specs.Logged.{log_of, memory_of}
 use Rattle.tsdb_model.specs.Apply.{ask_aggregates, reply_of}
 use Rattle.tsdb_model.specs.Folds.{rows}
 use Rattle.tsdb_model.specs.History.{IsAllowed, IsChange, IsMapReply, state_after}
@@ -35,15 +35,15 @@ use Rattle.tsdb_outside.specs.declared.faults.StoreFault.{StoreFault}
 use Rattle.tsdb_outside.specs.declared.faults.StoreFault.TheVariants as store
 use Rattle.tsdb_base.specs.Causes.{Rose}
 use Rattle.tsdb_memory.specs.Shown.{entry_of}
-use Rattle.tsdb_pinned.proofs.Items.{pin_columns, pin_values}
-use Rattle.tsdb_pinned.proofs.Replies.{fault_replied, rows_replied, types_of, values_replied}
-use Rattle.tsdb_pinned.specs.Replies.{IsMapFault}
-use Rattle.tsdb_pinned.specs.Worlds.{columns_in, values_in}
-use Rattle.tsdb_pinning.specs.Items.{AreFit, IsRefused}
-use Rattle.tsdb_pinning.specs.Pins.{IsPinFor}
-use Rattle.tsdb_pinning.specs.Shown.{IsPinOf}
-use Rattle.tsdb_pinning.specs.declared.pin.Pin.{Pin}
-use Rattle.tsdb_pinning.specs.declared.pin.PinFault.{PinFault}
+use Rattle.tsdb_pins.proofs.Items.{pin_columns, pin_values}
+use Rattle.tsdb_pins.proofs.Replies.{fault_replied, rows_replied, types_of, values_replied}
+use Rattle.tsdb_pins.specs.Replies.{IsMapFault}
+use Rattle.tsdb_pins.specs.Worlds.{columns_in, values_in}
+use Rattle.tsdb_pin.specs.Items.{AreFit, IsRefused}
+use Rattle.tsdb_pin.specs.Pins.{IsPinFor}
+use Rattle.tsdb_pin.specs.Shown.{IsPinOf}
+use Rattle.tsdb_pin.specs.declared.pin.Pin.{Pin}
+use Rattle.tsdb_pin.specs.declared.pin.PinFault.{PinFault}
 use Rattle.tsdb_pins.specs.Reading.{AreColumnsTold, AreColumnsTrue, HaveNodes, SeriesPages, TellPoints}
 use Rattle.tsdb_querying.specs.Answers.{answer_to}
 use Rattle.tsdb_querying.proofs.Pinned.{same_log, serves_still, serves_unpinned}

@@ -6,15 +6,15 @@ use Rattle.tsdb_core.specs.Core.{files_of, logged_of, next_of}
 use Rattle.tsdb_core.specs.Pins.{IsNotPinned, IsPinned, IsUnpinned}
 use Rattle.tsdb_core.specs.declared.engine.Core.{Core}
 use Rattle.tsdb_frames.specs.Frames.{slot_of}
-use Rattle.tsdb_kept.specs.Places.{KeptFile, file_at, place_at}
-use Rattle.tsdb_layers.specs.Lists.{count}
-use Rattle.tsdb_logged.specs.Logged.{log_of}
+use Rattle.tsdb_fileset.specs.Places.{KeptFile, file_at, place_at}
+use Rattle.tsdb_base.specs.Lists.{count}
+use Rattle.tsdb_memory.specs.Logged.{log_of}
 use Rattle.tsdb_model.specs.State as plain
 use Rattle.tsdb_outside.specs.Files.{NamedFile, Store, StoredFile}
 use Rattle.tsdb_outside.specs.declared.disk.Disk as disk
 use Rattle.tsdb_outside.specs.declared.faults.Counted as counted
-use Rattle.tsdb_pinning.specs.Changes.{column_numbers, fewer_rights, more_rights}
-use Rattle.tsdb_pinning.specs.declared.pin.Pin.{Pin}
+use Rattle.tsdb_pin.specs.Changes.{column_numbers, fewer_rights, more_rights}
+use Rattle.tsdb_pin.specs.declared.pin.Pin.{Pin}
 use Rattle.tsdb_serving.specs.Flushing.{IsReady}
 use Rattle.tsdb_serving.specs.Serving.{IsServing, StaysInPlace}
 use Rattle.tsdb_state.specs.Steps.{pinned, unpinned}

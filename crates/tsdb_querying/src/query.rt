@@ -18,7 +18,7 @@ use tsdb_core::Core;
 use tsdb_model::{Item, Reply};
 use tsdb_outside::{Files, Journal, StoreFault};
 use tsdb_path::Path;
-use tsdb_pinning::PinFault;
+use tsdb_pin::PinFault;
 
 /// Reads the rows of items of a device over a range, of which none asks for an aggregate.
 ///

@@ -1,7 +1,7 @@
 //! The aggregates of a query. Depends on `query`, tsdb_core and tsdb_pins.
 ghost use Rattle.std.specs.Prelude.{◌≡◌, ◌≢◌, ℕ, ◌≤◌, false, true, IfOk, List, Option};
 ghost use Rattle.tsdb_base.specs.declared.answers.Answer.{Answer as AnswerOf};
-ghost use Rattle.tsdb_columns.specs.Files.{HasReason};
+ghost use Rattle.tsdb_streams.specs.Files.{HasReason};
 ghost use Rattle.tsdb_core.specs.Core.{next_of};
 ghost use Rattle.tsdb_model.specs.Apply.{ask_aggregates};
 ghost use Rattle.tsdb_model.specs.State as plain;
@@ -10,8 +10,8 @@ ghost use Rattle.tsdb_model.specs.declared.command.Command.{Command};
 ghost use Rattle.tsdb_model.specs.declared.reply.Reply.{Reply as ReplyOf};
 ghost use Rattle.tsdb_base.specs.Causes.{Rose};
 ghost use Rattle.tsdb_outside.specs.Files.{StoredFile};
-ghost use Rattle.tsdb_pinned.specs.Worlds.{values_in};
-ghost use Rattle.tsdb_pinning.specs.Shown.{IsPinOf};
+ghost use Rattle.tsdb_pins.specs.Worlds.{values_in};
+ghost use Rattle.tsdb_pin.specs.Shown.{IsPinOf};
 ghost use Rattle.tsdb_pins.specs.Reading.{AreColumnsOf, AreColumnsTold, AreColumnsTrue, HaveNodes, SeriesPages};
 ghost use Rattle.tsdb_pins.specs.Reading.{TellPoints};
 ghost use Rattle.tsdb_serving.specs.Flushing.{IsReady, faults_under};
@@ -28,7 +28,7 @@ use tsdb_core::Core;
 use tsdb_model::{Item, Reply};
 use tsdb_outside::{Files, Journal, StoreFault};
 use tsdb_path::Path;
-use tsdb_pinning::{Pin, PinFault};
+use tsdb_pin::{Pin, PinFault};
 
 /// The aggregates of a pin, read with a count of pages that nobody looks at.
 fn read_values<F: Files, L: Ledger>(

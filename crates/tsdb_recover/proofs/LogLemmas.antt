@@ -20,18 +20,18 @@ use Rattle.tsdb_frames.proofs.ReaderLemmas.{goes_on}
 use Rattle.tsdb_frames.proofs.RecordLemmas.{open_records_more}
 use Rattle.tsdb_log.specs.Spelling.{IsRecord, spelling}
 use Rattle.tsdb_log.specs.declared.record.LogRecord.{LogRecord}
-use Rattle.tsdb_opening.specs.Opening.{IsOpeningOf}
-use Rattle.tsdb_opening.specs.declared.opening.Opening.{Opening}
+use Rattle.tsdb_redo.specs.Opening.{IsOpeningOf}
+use Rattle.tsdb_redo.specs.declared.opening.Opening.{Opening}
 use Rattle.tsdb_recover.specs.Causes.{AnswersDamage}
 use Rattle.tsdb_recover.specs.Replaying.{AreReplayedTo, IsFrameRedone, IsFrameRefused, IsReadFrom, IsReplaying, of_scan}
 use Rattle.tsdb_recover.specs.declared.fault.OpenFault.{OpenFault}
 use Rattle.tsdb_recover.specs.declared.fault.OpenFault.TheVariants.{Failed, Damaged, Memory}
 use Rattle.tsdb_recover.specs.declared.fault.Part.{Part}
 use Rattle.tsdb_recover.specs.declared.fault.Part.TheVariants.{Log}
-use Rattle.tsdb_replay.specs.Damage.{IsDamaged}
-use Rattle.tsdb_replay.specs.Stores.{Recorded, store_steps, store_steps_determinate}
-use Rattle.tsdb_replay.proofs.Doubts.{replays_more}
-use Rattle.tsdb_replay.proofs.Parted as parted
+use Rattle.tsdb_state.specs.Damage.{IsDamaged}
+use Rattle.tsdb_state.specs.Stores.{Recorded, store_steps, store_steps_determinate}
+use Rattle.tsdb_state.proofs.ReplayLemmas.Doubts.{replays_more}
+use Rattle.tsdb_state.proofs.ReplayLemmas.Parted as parted
 
 -- one record more
 one_replayed : (frames : List Frame) (frame : Frame) (item : LogRecord) (old new : Recorded)

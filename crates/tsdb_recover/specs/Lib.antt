@@ -2,3 +2,13 @@ pub mod Causes
 pub mod Files
 pub mod Log
 pub mod Replaying
+pub mod DescribedSteps
+pub mod DescribedTrees
+pub mod Adopting
+pub mod Known
+pub mod Steps
+pub mod Damage
+pub mod Opened
+pub mod Left
+pub mod Stored
+pub mod Taking

@@ -7,14 +7,14 @@ use Rattle.tsdb_frames.specs.Slots.{HasRecords}
 use Rattle.tsdb_frames.specs.declared.frames.Frames.{Frames}
 use Rattle.tsdb_log.specs.Spelling.{IsRecord, spelling}
 use Rattle.tsdb_log.specs.declared.record.LogRecord.{LogRecord}
-use Rattle.tsdb_opening.specs.Opening.{IsOpeningOf}
-use Rattle.tsdb_opening.specs.declared.opening.Opening.{Opening}
+use Rattle.tsdb_redo.specs.Opening.{IsOpeningOf}
+use Rattle.tsdb_redo.specs.declared.opening.Opening.{Opening}
 use Rattle.tsdb_outside.specs.Disk.{Keeps}
 use Rattle.tsdb_outside.specs.declared.disk.Disk as disk
 use Rattle.tsdb_outside.specs.declared.disk.Slot.TheVariants.{A}
 use Rattle.tsdb_outside.specs.declared.faults.Counted as counted
-use Rattle.tsdb_replay.specs.Replays.{Replays}
-use Rattle.tsdb_replay.specs.Stores.{Recorded, store_steps}
+use Rattle.tsdb_state.specs.Replays.{Replays}
+use Rattle.tsdb_state.specs.Stores.{Recorded, store_steps}
 
 module _ {J : Type 0} {means : disk.Ghosts J} {counts : counted.Ghosts J} where
   -- The log in slot A of a journal is read: it has these records, which lead to a state that the opening shows.

@@ -9,18 +9,18 @@ use Rattle.tsdb_frames.specs.declared.reader.FrameReader.{FrameReader}
 use Rattle.tsdb_frames.specs.declared.record.Frame.{Frame}
 use Rattle.tsdb_log.specs.Spelling.{IsRecord, spelling}
 use Rattle.tsdb_log.specs.declared.record.LogRecord.{LogRecord}
-use Rattle.tsdb_opening.specs.Opening.{IsOpeningOf}
-use Rattle.tsdb_opening.specs.Redone.{IsReplayed, IsWithoutReplay}
-use Rattle.tsdb_opening.specs.declared.opening.Opening.{Opening}
+use Rattle.tsdb_redo.specs.Opening.{IsOpeningOf}
+use Rattle.tsdb_redo.specs.Redone.{IsReplayed, IsWithoutReplay}
+use Rattle.tsdb_redo.specs.declared.opening.Opening.{Opening}
 use Rattle.tsdb_outside.specs.declared.disk.Disk as disk
 use Rattle.tsdb_outside.specs.declared.disk.Slot.TheVariants.{A}
 use Rattle.tsdb_outside.specs.declared.faults.Counted as counted
 use Rattle.tsdb_recover.specs.declared.fault.OpenFault.{OpenFault}
 use Rattle.tsdb_recover.specs.declared.fault.OpenFault.TheVariants as fault
 use Rattle.tsdb_recover.specs.declared.fault.Part.TheVariants.{Log}
-use Rattle.tsdb_replay.specs.Damage.{IsDamaged}
-use Rattle.tsdb_replay.specs.Replays.{Replays}
-use Rattle.tsdb_replay.specs.Stores.{Recorded, store_steps}
+use Rattle.tsdb_state.specs.Damage.{IsDamaged}
+use Rattle.tsdb_state.specs.Replays.{Replays}
+use Rattle.tsdb_state.specs.Stores.{Recorded, store_steps}
 
 -- the records of frames lead to this state
 pub record AreReplayedTo (frames : List Frame) (recorded : Recorded) : Type 0 where

@@ -13,7 +13,7 @@ ghost use Rattle.tsfile_reader.specs.Answers.{Answers, HasReadCause, IfDamaged, 
 ghost use Rattle.tsfile_reader.specs.Blame.{IsBlamed, IsMetaOfTree, IsNoFile};
 ghost use Rattle.tsfile_reader.specs.Meta.{IsMetaOf};
 
-use crate::{OpenFault, Part};
+use crate::fault::{OpenFault, Part};
 use std::alloc::Global;
 use tsdb_base::FileNumber;
 use tsdb_index::FileMeta;

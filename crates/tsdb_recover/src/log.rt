@@ -8,15 +8,15 @@ ghost use Rattle.tsdb_recover.specs.Log.{IsLogRead};
 ghost use Rattle.tsdb_recover.specs.Replaying.{HasReplayed, IsDamagedLog, IsFrameRedone, IsFrameRefused, IsUnread, of_scan};
 ghost use Rattle.tsdb_recover.specs.declared.fault.Part as store_part;
 ghost use Rattle.tsdb_recover.specs.declared.fault.Part.TheVariants as parts;
-ghost use Rattle.tsdb_replay.specs.Damage.{IsDamaged};
-ghost use Rattle.tsdb_replay.specs.Stores.{store_steps};
+ghost use Rattle.tsdb_state.specs.Damage.{IsDamaged};
+ghost use Rattle.tsdb_state.specs.Stores.{store_steps};
 
-use crate::{OpenFault, OpenRefused, Part};
+use crate::fault::{OpenFault, OpenRefused, Part};
 use std::alloc::Global;
 use tsdb_frames::{Frame, FrameReader, Frames, ScanFault};
 use tsdb_log::{LogFault, read_record};
-use tsdb_opening::{Opening, RedoFault};
 use tsdb_outside::{Journal, Slot};
+use tsdb_redo::{Opening, RedoFault};
 
 /// Reads the log in slot A of a journal record by record, and replays each as it is read. It writes nothing. It takes the
 /// memory of what the records lead to, and of one piece of the log.

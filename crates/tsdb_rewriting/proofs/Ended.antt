@@ -2,19 +2,19 @@
 use Rattle.std.proofs.Common.{◌≡◌, ℕ, ◌≤◌, true, List, ◌++◌, Option, None, Some, Result, Ok, Err, refl, sym, ap, arith, subst, ◌∙◌}
 use Rattle.std.specs.Option.{option_map}
 use Rattle.std.specs.Prelude.{IfSome, IsSome, OnOk}
-use Rattle.tsdb_committing.specs.Files.{NewFile}
-use Rattle.tsdb_compacting.specs.Ending.{GivesUp}
-use Rattle.tsdb_compacting.specs.declared.finishing.InputRuns.{InputRuns}
+use Rattle.tsdb_tasks.specs.Files.{NewFile}
+use Rattle.tsdb_tasks.specs.Ending.{GivesUp}
+use Rattle.tsdb_tasks.specs.declared.finishing.InputRuns.{InputRuns}
 use Rattle.tsdb_compactions.specs.declared.job.Job.{Job}
 use Rattle.tsdb_core.specs.Core.{files_of, logged_of}
 use Rattle.tsdb_core.specs.Replacements.{EndsFiles, EndsJob, IsJobAbandoned, IsJobCommit, TellsNew}
 use Rattle.tsdb_core.specs.Sweeps.{IsSwept}
 use Rattle.tsdb_core.specs.declared.engine.Core.{Core}
 use Rattle.tsdb_frames.specs.Frames.{faults_of, slot_of}
-use Rattle.tsdb_kept.specs.Files.{KeptFiles}
-use Rattle.tsdb_layers.specs.Places.{Content}
-use Rattle.tsdb_logged.specs.Logged.{log_of}
-use Rattle.tsdb_logged.specs.declared.logged.Logged.{Logged}
+use Rattle.tsdb_fileset.specs.Files.{KeptFiles}
+use Rattle.tsdb_state.specs.Places.{Content}
+use Rattle.tsdb_memory.specs.Logged.{log_of}
+use Rattle.tsdb_memory.specs.declared.logged.Logged.{Logged}
 use Rattle.tsdb_model.specs.State as plain
 use Rattle.tsdb_base.specs.Causes.{Rose}
 use Rattle.tsdb_outside.specs.Causes.{HasCause}

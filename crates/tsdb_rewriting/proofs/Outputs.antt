@@ -5,9 +5,9 @@ use Rattle.std.proofs.lemmas.Bool.{false≢true}
 use Rattle.std.proofs.lemmas.Bool.Decides.{nat_tests}
 use Rattle.std.specs.Option.{option_map}
 use Rattle.std.specs.Prelude.{IfErr, IfSome, IsErrOf, IsSome, is_some}
-use Rattle.tsdb_committing.specs.Files.{new_file}
-use Rattle.tsdb_compacting.specs.Finishing.{AreRunsOf}
-use Rattle.tsdb_compacting.specs.declared.finishing.InputRuns.{InputRuns}
+use Rattle.tsdb_tasks.specs.Files.{new_file}
+use Rattle.tsdb_tasks.specs.Finishing.{AreRunsOf}
+use Rattle.tsdb_tasks.specs.declared.finishing.InputRuns.{InputRuns}
 use Rattle.tsdb_core.specs.Beginnings.{IsBeginAnswer}
 use Rattle.tsdb_core.specs.Core.{files_of, next_of}
 use Rattle.tsdb_core.specs.Replacements.{EndsFiles, TellsNew}
@@ -17,8 +17,8 @@ use Rattle.tsdb_core.specs.declared.commit.CoreFault.TheVariants as core_fault
 use Rattle.tsdb_core.specs.declared.engine.Core.{Core}
 use Rattle.tsdb_compactions.specs.Outputs.{IsOutputOf}
 use Rattle.tsdb_compactions.specs.declared.job.Job.{Job}
-use Rattle.tsdb_committing.specs.Files.{NewFile}
-use Rattle.tsdb_jobs.specs.declared.flush.Built.{Built}
+use Rattle.tsdb_tasks.specs.Files.{NewFile}
+use Rattle.tsdb_flush.specs.declared.job.Built.{Built}
 use Rattle.tsdb_base.specs.Causes.{Rose}
 use Rattle.tsdb_outside.specs.Causes.{HasStoreCause}
 use Rattle.tsdb_outside.specs.Files.{NamedFile, Store, Tells}

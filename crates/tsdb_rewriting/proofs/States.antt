@@ -4,28 +4,28 @@ use Rattle.std.proofs.Common.{ap, subst, ◌∙◌}
 use Rattle.std.specs.List.{AllByRecursion as Each, flat_map}
 use Rattle.tsdb_base.specs.declared.ids.Space.{Space}
 use Rattle.tsdb_base.specs.declared.ids.Space.TheVariants.{Sequence, Unsequence}
-use Rattle.tsdb_committing.specs.Files.{NewFile, all_of, number_of, stored_of}
-use Rattle.tsdb_compacting.specs.States.{sent_files}
+use Rattle.tsdb_tasks.specs.Files.{NewFile, all_of, number_of, stored_of}
+use Rattle.tsdb_tasks.specs.States.{sent_files}
 use Rattle.tsdb_compactions.specs.declared.job.Job.{Job}
 use Rattle.tsdb_core.specs.Core.{IsSeen, logged_of}
 use Rattle.tsdb_core.specs.Replacements.{CommitsIn, IsJobAbandoned, IsOutputIn, IsSeenAfterEnd, with_new}
 use Rattle.tsdb_core.specs.declared.engine.Core.{Core}
 use Rattle.tsdb_frames.proofs.MomentLemmas.{weaker}
-use Rattle.tsdb_images.specs.Stored.{LeadsTo}
-use Rattle.tsdb_layers.proofs.Lists.{each_from_among}
-use Rattle.tsdb_layers.specs.Places.{Content}
+use Rattle.tsdb_state.specs.Stored.{LeadsTo}
+use Rattle.tsdb_base.proofs.Lists.{each_from_among}
+use Rattle.tsdb_state.specs.Places.{Content}
 use Rattle.tsdb_log.specs.declared.record.LogRecord.{LogRecord}
 use Rattle.tsdb_log.specs.declared.record.LogRecord.TheVariants.{Replaced}
-use Rattle.tsdb_logged.specs.Logged.{Outside, log_of, with_record}
+use Rattle.tsdb_memory.specs.Logged.{Outside, log_of, with_record}
 use Rattle.tsdb_model.specs.State as plain
 use Rattle.tsdb_outside.specs.Disk.{IsLawful}
 use Rattle.tsdb_outside.specs.Files.{NamedFile, StoredFile}
 use Rattle.tsdb_outside.specs.declared.disk.Disk as disk
 use Rattle.tsdb_outside.specs.declared.faults.Counted as counted
 use Rattle.tsdb_outside.specs.declared.faults.Failed.{Failed}
-use Rattle.tsdb_replacing.proofs.Told.{told_same, worlds_with}
-use Rattle.tsdb_replacing.specs.Outputs.{only_output}
-use Rattle.tsdb_replay.specs.Stores.{IsStateOf}
+use Rattle.tsdb_tasks.proofs.OutputsTold.{told_same, worlds_with}
+use Rattle.tsdb_tasks.specs.Outputs.{only_output}
+use Rattle.tsdb_state.specs.Stores.{IsStateOf}
 use Rattle.tsdb_rewriting.specs.Rewriting.{IsServingRewrite}
 use Rattle.tsdb_serving.proofs.Differing.{Differ, stored_differ}
 use Rattle.tsdb_serving.proofs.Held.{either_wider, held_more, held_with}

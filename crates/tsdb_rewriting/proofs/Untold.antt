@@ -11,11 +11,11 @@ use Rattle.tsdb_compactions.specs.Jobs.{input_files}
 use Rattle.tsdb_compactions.specs.declared.job.Input.{Input}
 use Rattle.tsdb_compactions.specs.declared.job.Job.{Job}
 use Rattle.tsdb_inner.specs.Inputs.{IsInputOf}
-use Rattle.tsdb_layers.proofs.Lists.{each_weaker}
-use Rattle.tsdb_layers.specs.Layers.{survivor, value_in}
-use Rattle.tsdb_layers.specs.Lists.{EachPair}
-use Rattle.tsdb_layers.specs.Marks.{survives}
-use Rattle.tsdb_layers.specs.Places.{Content, Place, place_cmp}
+use Rattle.tsdb_base.proofs.Lists.{each_weaker}
+use Rattle.tsdb_state.specs.Layers.{survivor, value_in}
+use Rattle.tsdb_base.specs.Lists.{EachPair}
+use Rattle.tsdb_state.specs.Marks.{survives}
+use Rattle.tsdb_state.specs.Places.{Content, Place, place_cmp}
 use Rattle.tsdb_marks.specs.declared.marks.Mark.{Mark}
 use Rattle.tsdb_outside.specs.Files.{NamedFile, Store, Tells}
 use Rattle.tsdb_state.specs.State.{File, Told}

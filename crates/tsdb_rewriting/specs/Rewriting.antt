@@ -2,27 +2,27 @@
 use Rattle.std.specs.Prelude.{◌≡◌, ◌⊎◌, ℕ, ◌≤◌, List, [], ◌∷◌, IfSome, Option, true}
 use Rattle.tsdb_base.specs.declared.ids.Space.{Space}
 use Rattle.tsdb_base.specs.declared.ids.Space.TheVariants.{Sequence, Unsequence}
-use Rattle.tsdb_compacting.specs.Inputs.{input_numbers}
-use Rattle.tsdb_compacting.specs.Finishing.{AreRunsOf}
-use Rattle.tsdb_compacting.specs.declared.finishing.InputRuns.{InputRuns}
+use Rattle.tsdb_tasks.specs.Inputs.{input_numbers}
+use Rattle.tsdb_tasks.specs.Finishing.{AreRunsOf}
+use Rattle.tsdb_tasks.specs.declared.finishing.InputRuns.{InputRuns}
 use Rattle.tsdb_compactions.specs.Jobs.{IsCompactionOf}
 use Rattle.tsdb_compactions.specs.Outputs.{TellsInputs}
 use Rattle.tsdb_compactions.specs.declared.job.Job.{Job}
 use Rattle.tsdb_core.specs.Compactions.{IsJobKept}
 use Rattle.tsdb_core.specs.Core.{IsSeen, KeepsJobs, files_of, limit_of, next_of}
 use Rattle.tsdb_core.specs.declared.engine.Core.{Core}
-use Rattle.tsdb_images.specs.Stored.{LeadsTo}
-use Rattle.tsdb_kept.specs.Files.{KeptFiles, kept_file}
-use Rattle.tsdb_kept.specs.Places.{AreOfStore}
-use Rattle.tsdb_kept.specs.Replacing.{output_in, replace_run}
-use Rattle.tsdb_layers.specs.Lists.{IsWithOne, count, if_some}
-use Rattle.tsdb_logged.specs.Logged.{Outside}
+use Rattle.tsdb_state.specs.Stored.{LeadsTo}
+use Rattle.tsdb_fileset.specs.Files.{KeptFiles, kept_file}
+use Rattle.tsdb_fileset.specs.Places.{AreOfStore}
+use Rattle.tsdb_fileset.specs.Replacing.{output_in, replace_run}
+use Rattle.tsdb_base.specs.Lists.{IsWithOne, count, if_some}
+use Rattle.tsdb_memory.specs.Logged.{Outside}
 use Rattle.tsdb_model.specs.State as plain
 use Rattle.tsdb_outside.specs.Files.{NamedFile, Store, StoredFile}
 use Rattle.tsdb_outside.specs.declared.disk.Disk as disk
 use Rattle.tsdb_outside.specs.declared.faults.Counted as counted
 use Rattle.tsdb_plan.specs.declared.entry.FileEntry.{FileEntry}
-use Rattle.tsdb_replay.specs.Stores.{IsStateOf}
+use Rattle.tsdb_state.specs.Stores.{IsStateOf}
 use Rattle.tsdb_serving.specs.Flushing.{IsReady, faults_under}
 use Rattle.tsdb_serving.specs.Serving.{AreHeldWith, IsServedBy, slot_under}
 use Rattle.tsdb_state.specs.State.{Compaction, EngineState}

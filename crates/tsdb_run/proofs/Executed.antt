@@ -13,12 +13,12 @@ use Rattle.tsdb_history.specs.Closing.{IsClosed}
 use Rattle.tsdb_history.specs.Listings.{IsListingOf}
 use Rattle.tsdb_history.specs.Prefixes.{EndsDone, StandsAfter, StandsAfterPrefix}
 use Rattle.tsdb_history.specs.Serves.{HasServed, LeavesPrefix}
-use Rattle.tsdb_images.specs.Stored.{LeavesOneOf, kept_bytes}
-use Rattle.tsdb_layers.proofs.Lists.{each_weaker}
-use Rattle.tsdb_layers.specs.Lists.{EachPair}
+use Rattle.tsdb_state.specs.Stored.{LeavesOneOf, kept_bytes}
+use Rattle.tsdb_base.proofs.Lists.{each_weaker}
+use Rattle.tsdb_base.specs.Lists.{EachPair}
 use Rattle.tsdb_model.specs.History.{Entry}
 use Rattle.tsdb_model.specs.State as plain
-use Rattle.tsdb_opening.specs.Opening.{greatest}
+use Rattle.tsdb_redo.specs.Opening.{greatest}
 use Rattle.tsdb_base.specs.Causes.{Rose}
 use Rattle.tsdb_outside.specs.Disk.{Image, IsLawful, Keeps, DiskState, in_slot}
 use Rattle.tsdb_outside.specs.Files.{StoredFile, numbers_of}
@@ -27,9 +27,9 @@ use Rattle.tsdb_outside.specs.declared.disk.Disk as disk
 use Rattle.tsdb_outside.specs.declared.disk.Slot.{Slot}
 use Rattle.tsdb_outside.specs.declared.disk.Slot.TheVariants.{A}
 use Rattle.tsdb_outside.specs.declared.faults.Counted as counted
-use Rattle.tsdb_recovery.specs.Stored.{AreStored}
-use Rattle.tsdb_replay.specs.Stores as stores
-use Rattle.tsdb_replay.specs.Stores.{StandsForOneOf}
+use Rattle.tsdb_recover.specs.Stored.{AreStored}
+use Rattle.tsdb_state.specs.Stores as stores
+use Rattle.tsdb_state.specs.Stores.{StandsForOneOf}
 use Rattle.tsdb_run.specs.Headline.{AreNewer, HasRun}
 use Rattle.tsdb_history.specs.declared.told.Told.{Told}
 use Rattle.tsdb_run.proofs.Standing.{all_stand, one_prefix, stands_with_put}

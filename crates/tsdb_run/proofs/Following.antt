@@ -4,13 +4,13 @@ use Rattle.std.proofs.lemmas.Option.{same_Some}
 use Rattle.tsdb_history.proofs.Joined.{followed}
 use Rattle.tsdb_history.proofs.Prefixes.{after_wider}
 use Rattle.tsdb_history.specs.Joining.{IsFollowed}
-use Rattle.tsdb_images.specs.Stored.{kept_bytes}
+use Rattle.tsdb_state.specs.Stored.{kept_bytes}
 use Rattle.tsdb_model.specs.History.{Entry, IsLegal}
 use Rattle.tsdb_model.specs.State as plain
 use Rattle.tsdb_outside.specs.Disk.{IsLawful, DiskState}
 use Rattle.tsdb_outside.specs.Files.{StoredFile}
-use Rattle.tsdb_recovery.proofs.Rest.{holds_itself}
-use Rattle.tsdb_replay.specs.Stores as replay
+use Rattle.tsdb_recover.proofs.Rest.{holds_itself}
+use Rattle.tsdb_state.specs.Stores as replay
 use Rattle.tsdb_run.proofs.Whole.{tells_sound}
 use Rattle.tsdb_run.specs.Headline.{HasRun}
 use Rattle.tsdb_run.specs.Store.{IsSound, StandsFor, contents}

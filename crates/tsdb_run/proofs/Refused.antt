@@ -6,9 +6,9 @@ use Rattle.std.specs.Io.KnownBytes.{Keeps as KeepsBytes}
 use Rattle.std.proofs.lemmas.Option.{same_Some}
 use Rattle.std.proofs.KnownBytes.{Keeps-refl}
 use Rattle.std.specs.Option.{IsSomeAnd}
-use Rattle.tsdb_images.specs.Stored.{kept_bytes}
-use Rattle.tsdb_layers.proofs.Lists.{among_map, each_among, each_from_among}
-use Rattle.tsdb_layers.specs.Lists.{Among}
+use Rattle.tsdb_state.specs.Stored.{kept_bytes}
+use Rattle.tsdb_base.proofs.Lists.{among_map, each_among, each_from_among}
+use Rattle.tsdb_base.specs.Lists.{Among}
 use Rattle.tsdb_history.specs.declared.told.Told.{Told as Answered}
 use Rattle.tsdb_model.specs.State as plain
 use Rattle.tsdb_outside.proofs.DiskLemmas.{Keeps-same}
@@ -16,18 +16,18 @@ use Rattle.tsdb_frames.proofs.FirstLemmas.{keeps_on}
 use Rattle.tsdb_outside.specs.Disk.{Image, IsLawful, Keeps, DiskState}
 use Rattle.tsdb_outside.specs.Files.{StoredFile}
 use Rattle.tsdb_outside.specs.declared.disk.Slot.TheVariants.{A}
-use Rattle.tsdb_recovery.specs.Left.{AreLeft, IsStray}
-use Rattle.tsdb_replay.proofs.Parted.{replay_once}
-use Rattle.tsdb_replay.proofs.Stores.{sound_kept}
-use Rattle.tsdb_replay.specs.Stores.{IsWhole, Recorded, StandsFor, store_steps, store_steps_determinate}
+use Rattle.tsdb_recover.specs.Left.{AreLeft, IsStray}
+use Rattle.tsdb_state.proofs.ReplayLemmas.Parted.{replay_once}
+use Rattle.tsdb_state.proofs.ReplayLemmas.Stores.{sound_kept}
+use Rattle.tsdb_state.specs.Stores.{IsWhole, Recorded, StandsFor, store_steps, store_steps_determinate}
 use Rattle.tsdb_run.proofs.Executed.{some_and}
 use Rattle.tsdb_run.proofs.Whole.{tells_sound, told_both}
 use Rattle.tsdb_recover.specs.declared.fault.OpenFault.{OpenFault}
 use Rattle.tsdb_recover.specs.declared.fault.OpenFault.TheVariants as fault
 use Rattle.tsdb_recover.specs.declared.fault.Part.{Part}
-use Rattle.tsdb_recovery.specs.Damage.{AnswersDamageIn, IsDamagedIn}
-use Rattle.tsdb_recovery.specs.Stored.{AreStored}
-use Rattle.tsdb_recovery.specs.Taking.{HaveLengths}
+use Rattle.tsdb_recover.specs.Damage.{AnswersDamageIn, IsDamagedIn}
+use Rattle.tsdb_recover.specs.Stored.{AreStored}
+use Rattle.tsdb_recover.specs.Taking.{HaveLengths}
 use Rattle.tsdb_run.specs.Causes.{ReportsDamage}
 use Rattle.tsdb_run.specs.Headline.{Headline, IsWithoutCommands, Run}
 use Rattle.tsdb_run.specs.Steps.{IsOpeningStatus, IsRefused, opening_status, run_of}

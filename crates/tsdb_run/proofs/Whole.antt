@@ -4,25 +4,25 @@ use Rattle.std.specs.Prelude.{IfSome, IsSome}
 use Rattle.std.proofs.lemmas.Bool.{false≢true}
 use Rattle.tsdb_core.specs.Core.{next_of}
 use Rattle.tsdb_core.specs.declared.engine.Core.{Core}
-use Rattle.tsdb_images.specs.Stored.{kept_bytes}
+use Rattle.tsdb_state.specs.Stored.{kept_bytes}
 use Rattle.tsdb_outside.specs.declared.disk.Disk as disk
 use Rattle.tsdb_outside.specs.declared.faults.Counted as counted
-use Rattle.tsdb_recovery.specs.Opened.{IsNextNumber, IsRecovered}
-use Rattle.tsdb_replay.specs.Replays.{IsReplayOf}
-use Rattle.tsdb_replay.specs.Stores as replay
+use Rattle.tsdb_recover.specs.Opened.{IsNextNumber, IsRecovered}
+use Rattle.tsdb_state.specs.Replays.{IsReplayOf}
+use Rattle.tsdb_state.specs.Stores as replay
 use Rattle.tsdb_model.specs.State as plain
 use Rattle.tsdb_outside.specs.Disk.{Image, Keeps, DiskState}
 use Rattle.tsdb_outside.specs.Files.{StoredFile}
 use Rattle.tsdb_outside.specs.declared.disk.Slot.TheVariants.{A}
 use Rattle.tsdb_recover.specs.declared.fault.Part.{Part}
 use Rattle.tsdb_recover.specs.declared.fault.Part.TheVariants as part
-use Rattle.tsdb_recovery.proofs.Once.{none_damaged}
-use Rattle.tsdb_recovery.specs.Damage.{IsDamagedFile, IsDamagedIn, IsTreeFile}
-use Rattle.tsdb_layers.proofs.Lists.{each_weaker}
-use Rattle.tsdb_replay.proofs.Parted.{damaged_none, replay_once}
-use Rattle.tsdb_replay.proofs.Stores.{sound_images, sound_kept}
-use Rattle.tsdb_recovery.specs.Stored.{AreStored}
-use Rattle.tsdb_replay.specs.Stores.{Files, IsWhole, Recorded, StandsFor, store_steps, store_steps_determinate}
+use Rattle.tsdb_recover.proofs.Once.{none_damaged}
+use Rattle.tsdb_recover.specs.Damage.{IsDamagedFile, IsDamagedIn, IsTreeFile}
+use Rattle.tsdb_base.proofs.Lists.{each_weaker}
+use Rattle.tsdb_state.proofs.ReplayLemmas.Parted.{damaged_none, replay_once}
+use Rattle.tsdb_state.proofs.ReplayLemmas.Stores.{sound_images, sound_kept}
+use Rattle.tsdb_recover.specs.Stored.{AreStored}
+use Rattle.tsdb_state.specs.Stores.{Files, IsWhole, Recorded, StandsFor, store_steps, store_steps_determinate}
 use Rattle.tsdb_run.specs.Store.{IsDamaged, IsSound, Tells, contents}
 use Rattle.tsdb_run.specs.Store.{IsNextNumber as IsNextNumberOf}
 use Rattle.tsdb_state.specs.State.{File, Told}

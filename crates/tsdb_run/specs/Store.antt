@@ -4,20 +4,20 @@
 use Rattle.std.specs.Prelude.{◌≡◌, ◌⊎◌, ℕ, List, Option, None, Some}
 use Rattle.std.specs.Option.{IsSomeAnd}
 use Rattle.tsdb_history.specs.Listings.{IsListingOf}
-use Rattle.tsdb_images.specs.Stored.{kept_bytes}
+use Rattle.tsdb_state.specs.Stored.{kept_bytes}
 use Rattle.tsdb_model.specs.State as plain
 use Rattle.tsdb_model.specs.declared.reply.Listing.{Listing}
 use Rattle.tsdb_outside.specs.Disk.{Image, Keeps, DiskState}
 use Rattle.tsdb_outside.specs.Files.{StoredFile}
 use Rattle.tsdb_outside.specs.declared.disk.Slot.TheVariants.{A}
 use Rattle.tsdb_recover.specs.declared.fault.Part.{Part}
-use Rattle.tsdb_recovery.specs.Damage.{IsDamagedIn}
-use Rattle.tsdb_recovery.specs.Left.{AreLeft, IsStray}
-use Rattle.tsdb_recovery.specs.Opened as recovery
-use Rattle.tsdb_recovery.specs.Stored.{AreStored}
-use Rattle.tsdb_recovery.specs.Taking.{HaveLengths}
-use Rattle.tsdb_replay.specs.Replays.{IsReplayOf}
-use Rattle.tsdb_replay.specs.Stores as store
+use Rattle.tsdb_recover.specs.Damage.{IsDamagedIn}
+use Rattle.tsdb_recover.specs.Left.{AreLeft, IsStray}
+use Rattle.tsdb_recover.specs.Opened as recovery
+use Rattle.tsdb_recover.specs.Stored.{AreStored}
+use Rattle.tsdb_recover.specs.Taking.{HaveLengths}
+use Rattle.tsdb_state.specs.Replays.{IsReplayOf}
+use Rattle.tsdb_state.specs.Stores as store
 use Rattle.tsdb_serving.specs.Serving.{AreHeldWith}
 
 -- What a place has: what its disk means, and the files of its store where it tells them.

@@ -1,4 +1,4 @@
-//! Executes the commands of a script on a store. Depends on tsdb_recovery, tsdb_history and tsdb_core.
+//! Executes the commands of a script on a store. Depends on tsdb_recover, tsdb_history and tsdb_core.
 ghost use Rattle.std.specs.Prelude.{◌≡◌, ℕ, ◌+◌, ◌-◌, ◌^◌, ◌<◌, ◌≤◌, min, Some, IfErr, IfOk, IsErrAnd, OnOk};
 ghost use Rattle.std.specs.Prelude.{count_by, length};
 ghost use Rattle.tsdb_core.specs.Limits.{IsPairLimit};
@@ -19,8 +19,7 @@ use tsdb_base::List;
 use tsdb_core::{Core, Options};
 use tsdb_history::{Room, Told, close, execute};
 use tsdb_outside::{Files, Journal, Place, StoreFault};
-use tsdb_recover::{OpenFault, OpenRefused};
-use tsdb_recovery::{a_recovered_core_serves, recover};
+use tsdb_recover::{OpenFault, OpenRefused, a_recovered_core_serves, recover};
 use tsdb_script::Numbered;
 use tsdb_words::Asked;
 

@@ -1,7 +1,7 @@
 -- Changes of a user: what each answers, and which states it leads to.
 use Rattle.std.proofs.Common.{◌≡◌, ◌≢◌, ◌⊎◌, ℕ, ◌+◌, ◌<◌, List, [], ◌++◌, Option, None, Some, inl, inr, refl, sym, ap, arith}
 use Rattle.std.proofs.Common.{subst, ◌∙◌}
-use Rattle.tsdb_answers.specs.Answers.{IsInsertAnswer, IsMapAnswer, IsTried}
+use Rattle.tsdb_memory.specs.MapAnswers.{IsInsertAnswer, IsMapAnswer, IsTried}
 use Rattle.tsdb_base.specs.declared.answers.Answer.{Answer}
 use Rattle.tsdb_base.specs.declared.answers.Answer.TheVariants as answer
 use Rattle.tsdb_core.specs.Commands.{IsCoreCommand, IsSeenAfter}
@@ -12,9 +12,9 @@ use Rattle.tsdb_core.specs.declared.engine.Core.{Core}
 use Rattle.tsdb_frames.proofs.MomentLemmas.{weaker}
 use Rattle.tsdb_log.specs.declared.record.LogRecord.{LogRecord}
 use Rattle.tsdb_log.specs.declared.record.LogRecord.TheVariants as item
-use Rattle.tsdb_logged.specs.Answers.{IsCreateAnswer, IsDeleteAnswer}
-use Rattle.tsdb_logged.specs.Commands.{IsAny}
-use Rattle.tsdb_logged.specs.Logged.{Outside, log_of, memory_of, with_record}
+use Rattle.tsdb_memory.specs.Answers.{IsCreateAnswer, IsDeleteAnswer}
+use Rattle.tsdb_memory.specs.Commands.{IsAny}
+use Rattle.tsdb_memory.specs.Logged.{Outside, log_of, memory_of, with_record}
 use Rattle.tsdb_model.specs.Apply.{accepted, reply_of}
 use Rattle.tsdb_model.specs.History.{IsAllowed, IsChange, raise, state_after}
 use Rattle.tsdb_model.specs.State as plain
@@ -29,7 +29,7 @@ use Rattle.tsdb_outside.specs.Disk.{Image, IsLawful}
 use Rattle.tsdb_outside.specs.Files.{StoredFile}
 use Rattle.tsdb_outside.specs.declared.disk.Disk as disk
 use Rattle.tsdb_outside.specs.declared.faults.Counted as counted
-use Rattle.tsdb_replay.specs.Stores.{IsStateOf}
+use Rattle.tsdb_state.specs.Stores.{IsStateOf}
 use Rattle.tsdb_serving.proofs.Differing.{NoNumber, drawn_apart}
 use Rattle.tsdb_serving.proofs.Held.{either_wider, held_more, same_state}
 use Rattle.tsdb_serving.proofs.Parts.{froze, unchanged}

@@ -7,7 +7,7 @@ use Rattle.std.specs.Option.{IsSomeAnd, option_map}
 use Rattle.std.specs.Prelude.{None, OnOk, Some, slice_get}
 use Rattle.tsdb_base.specs.declared.ids.Stamp.{Stamp}
 use Rattle.tsdb_base.specs.declared.answers.Answer.{Answer}
-use Rattle.tsdb_committing.specs.Files.{AreOfJob, NewFile, NewFiles, TellBytes, all_of}
+use Rattle.tsdb_tasks.specs.Files.{AreOfJob, NewFile, NewFiles, TellBytes, all_of}
 use Rattle.tsdb_core.specs.Commands.{IsCoreCommand}
 use Rattle.tsdb_core.specs.Core.{logged_of, next_of, working_of}
 use Rattle.tsdb_core.specs.Ending.{drawn_for}
@@ -19,15 +19,15 @@ use Rattle.tsdb_core.specs.declared.commit.Commit.TheVariants.{Gone}
 use Rattle.tsdb_core.specs.declared.engine.Core.{Core}
 use Rattle.tsdb_frames.specs.Frames.{disk_of, faults_of, slot_of}
 use Rattle.tsdb_frames.specs.declared.frames.Frames.{Frames}
-use Rattle.tsdb_jobs.specs.declared.flush.FlushJob.{FlushJob}
-use Rattle.tsdb_kept.specs.Files.{KeptFiles}
-use Rattle.tsdb_kept.specs.Places.{AreOfStore, AreUnread}
-use Rattle.tsdb_layers.proofs.Lists.{each_weaker}
-use Rattle.tsdb_layers.specs.Lists.{Among}
+use Rattle.tsdb_flush.specs.declared.job.FlushJob.{FlushJob}
+use Rattle.tsdb_fileset.specs.Files.{KeptFiles}
+use Rattle.tsdb_fileset.specs.Places.{AreOfStore, AreUnread}
+use Rattle.tsdb_base.proofs.Lists.{each_weaker}
+use Rattle.tsdb_base.specs.Lists.{Among}
 use Rattle.tsdb_log.specs.declared.record.LogRecord.TheVariants.{Freeze}
-use Rattle.tsdb_logged.specs.Commands.{IsAny}
-use Rattle.tsdb_logged.specs.Logged.{log_of, memory_of}
-use Rattle.tsdb_logged.specs.declared.logged.Logged.{Logged}
+use Rattle.tsdb_memory.specs.Commands.{IsAny}
+use Rattle.tsdb_memory.specs.Logged.{log_of, memory_of}
+use Rattle.tsdb_memory.specs.declared.logged.Logged.{Logged}
 use Rattle.tsdb_model.specs.State as plain
 use Rattle.tsdb_base.specs.Causes.{Rose}
 use Rattle.tsdb_outside.specs.Disk.{IsLawful}
@@ -42,7 +42,7 @@ use Rattle.tsdb_serving.proofs.Parts as parts
 use Rattle.tsdb_serving.proofs.Steps.{then}
 use Rattle.tsdb_model.specs.declared.command.Row.{Row}
 use Rattle.tsdb_memory.specs.Store.{FrozenPair, Store as MemoryStore}
-use Rattle.tsdb_rows.specs.Fits.{HasNoPoint}
+use Rattle.tsdb_memory.specs.Fits.{HasNoPoint}
 use Rattle.tsdb_serving.specs.Flushing.{EndsJob, GoesOn, IsBusy, IsOfJob, IsReady, faults_under, frozen_in}
 use Rattle.tsdb_serving.specs.declared.fault.FlushFault.{FlushFault}
 use Rattle.tsdb_serving.specs.Serving.{IsDrawn, IsServed, IsServedBy, LeavesEither, disk_under}

@@ -1,15 +1,15 @@
 -- Files that are held wherever others are, and what a stop leaves with more of them.
 use Rattle.std.proofs.Common.{◌≡◌, ◌⊎◌, ℕ, List, ◌++◌, Option, None, Some, inl, inr, subst}
 use Rattle.std.specs.List.{flat_map}
-use Rattle.tsdb_committing.specs.Files.{NewFiles, all_of, kept_with, numbers_of, stored_of}
-use Rattle.tsdb_images.proofs.Kept.{each_passed}
-use Rattle.tsdb_images.specs.Stored.{LeavesOneOf, without_numbers}
-use Rattle.tsdb_layers.proofs.Lists.{each_append, each_left, each_right}
+use Rattle.tsdb_tasks.specs.Files.{NewFiles, all_of, kept_with, numbers_of, stored_of}
+use Rattle.tsdb_state.proofs.ImageLemmas.Kept.{each_passed}
+use Rattle.tsdb_state.specs.Stored.{LeavesOneOf, without_numbers}
+use Rattle.tsdb_base.proofs.Lists.{each_append, each_left, each_right}
 use Rattle.tsdb_model.specs.State as plain
 use Rattle.tsdb_outside.specs.Disk.{Image, in_slot}
 use Rattle.tsdb_outside.specs.Files.{StoredFile}
 use Rattle.tsdb_outside.specs.declared.disk.Slot.{Slot}
-use Rattle.tsdb_replay.specs.Stores.{Files, StandsForOneOf}
+use Rattle.tsdb_state.specs.Stores.{Files, StandsForOneOf}
 use Rattle.tsdb_serving.specs.Serving.{AreHeldWith, LeavesEither, MayDoubt}
 
 -- this is held of a file

@@ -3,12 +3,12 @@ use Rattle.std.proofs.Common.{◌≡◌, ℕ, List, [], ◌∷◌, ◌++◌, Opt
 use Rattle.std.proofs.Common.{ap, subst, ◌∙◌}
 use Rattle.std.specs.List.{AllByRecursion as Each, flat_map}
 use Rattle.std.specs.Prelude.{IfSome}
-use Rattle.tsdb_answers.proofs.Following.{froze_stands}
+use Rattle.tsdb_memory.proofs.Following.{froze_stands}
 use Rattle.tsdb_base.specs.declared.answers.Answer.{Answer}
 use Rattle.tsdb_base.specs.declared.answers.Answer.TheVariants as answer
-use Rattle.tsdb_committing.proofs.Stored.{numbers_differ, one_at_most, told_same, worlds_with}
-use Rattle.tsdb_committing.specs.Files.{AreOfJob, IsOutAs, NewFiles, TellBytes, all_of, state_files}
-use Rattle.tsdb_committing.specs.Files.{stored_of, told_with, with_files}
+use Rattle.tsdb_tasks.proofs.Stored.{numbers_differ, one_at_most, told_same, worlds_with}
+use Rattle.tsdb_tasks.specs.Files.{AreOfJob, IsOutAs, NewFiles, TellBytes, all_of, state_files}
+use Rattle.tsdb_tasks.specs.Files.{stored_of, told_with, with_files}
 use Rattle.tsdb_core.specs.Commands.{IsCoreCommand, IsSeenAfter}
 use Rattle.tsdb_core.specs.Core.{IsSeen, files_of, logged_of}
 use Rattle.tsdb_core.specs.Flushes.{IsAbandoned, IsCommit, IsCommitAnswer, IsOldest, IsSeenAfterCommit}
@@ -19,17 +19,17 @@ use Rattle.tsdb_core.specs.declared.commit.Commit.{Commit}
 use Rattle.tsdb_core.specs.declared.commit.Commit.TheVariants.{Device, Done, Gone}
 use Rattle.tsdb_core.specs.declared.engine.Core.{Core}
 use Rattle.tsdb_frames.proofs.MomentLemmas.{weaker}
-use Rattle.tsdb_held.specs.Held.{may_go}
-use Rattle.tsdb_images.proofs.After.{listed_after}
-use Rattle.tsdb_images.specs.Stored.{LeadsTo, built_files}
-use Rattle.tsdb_jobs.specs.declared.flush.FlushJob.{FlushJob}
-use Rattle.tsdb_kept.specs.Sweeps.{tried_numbers}
-use Rattle.tsdb_layers.proofs.Lists.{each_among, each_from_among, each_left, each_right}
-use Rattle.tsdb_layers.specs.Lists.{Among}
+use Rattle.tsdb_fileset.specs.Held.{may_go}
+use Rattle.tsdb_state.proofs.ImageLemmas.After.{listed_after}
+use Rattle.tsdb_state.specs.Stored.{LeadsTo, built_files}
+use Rattle.tsdb_flush.specs.declared.job.FlushJob.{FlushJob}
+use Rattle.tsdb_fileset.specs.Sweeps.{tried_numbers}
+use Rattle.tsdb_base.proofs.Lists.{each_among, each_from_among, each_left, each_right}
+use Rattle.tsdb_base.specs.Lists.{Among}
 use Rattle.tsdb_log.specs.declared.record.LogRecord.{LogRecord}
 use Rattle.tsdb_log.specs.declared.record.LogRecord.TheVariants.{Freeze}
-use Rattle.tsdb_logged.specs.Commands.{IsAny}
-use Rattle.tsdb_logged.specs.Logged.{IsStoredIn, Outside, log_of, memory_of, with_record}
+use Rattle.tsdb_memory.specs.Commands.{IsAny}
+use Rattle.tsdb_memory.specs.Logged.{IsStoredIn, Outside, log_of, memory_of, with_record}
 use Rattle.tsdb_model.specs.State as plain
 use Rattle.tsdb_model.specs.World.{World}
 use Rattle.tsdb_outside.specs.Disk.{IsLawful}
@@ -37,7 +37,7 @@ use Rattle.tsdb_outside.specs.Files.{Store, StoredFile}
 use Rattle.tsdb_outside.specs.declared.disk.Disk as disk
 use Rattle.tsdb_outside.specs.declared.faults.Counted as counted
 use Rattle.tsdb_outside.specs.declared.faults.Failed.{Failed}
-use Rattle.tsdb_replay.specs.Stores.{IsStateOf}
+use Rattle.tsdb_state.specs.Stores.{IsStateOf}
 use Rattle.tsdb_serving.proofs.Differing.{Differ, stored_differ}
 use Rattle.tsdb_serving.proofs.Held.{either_wider, held_more, held_with, held_without}
 use Rattle.tsdb_serving.proofs.Steps.{quiet_left, quiet}

@@ -11,13 +11,13 @@ use Rattle.tsdb_base.specs.declared.ids.Space.{Space}
 use Rattle.tsdb_base.specs.declared.ids.Space.TheVariants.{Sequence, Unsequence}
 use Rattle.tsdb_base.specs.declared.value.Value.{Value}
 use Rattle.tsdb_core.specs.Listings.{ListsStore}
-use Rattle.tsdb_layers.proofs.Lists.{count_append, each_append, each_left, each_right}
-use Rattle.tsdb_layers.proofs.Places.{place_cmp_total}
-use Rattle.tsdb_layers.specs.Layers.{Layer, survivor, value_in}
-use Rattle.tsdb_layers.specs.Lists.{count}
-use Rattle.tsdb_layers.specs.Marks.{survives}
-use Rattle.tsdb_layers.specs.Places.{Content, Place}
-use Rattle.tsdb_listing.specs.Listings.{TellsFile}
+use Rattle.tsdb_base.proofs.Lists.{count_append, each_append, each_left, each_right}
+use Rattle.tsdb_state.proofs.LayerLemmas.Places.{place_cmp_total}
+use Rattle.tsdb_state.specs.Layers.{Layer, survivor, value_in}
+use Rattle.tsdb_base.specs.Lists.{count}
+use Rattle.tsdb_state.specs.Marks.{survives}
+use Rattle.tsdb_state.specs.Places.{Content, Place}
+use Rattle.tsdb_fileset.specs.Listings.{TellsFile}
 use Rattle.tsdb_model.specs.Commands.{AreDifferent}
 use Rattle.tsdb_model.specs.State as plain
 use Rattle.tsdb_model.specs.State.{IsFileLine, IsPossible, ListsNothing}

@@ -1,23 +1,23 @@
 -- What the parts of a flush ask for and leave.
 use Rattle.std.specs.Prelude.{◌≡◌, ◌≤◌, ℕ, List, [], ◌∷◌, Option, true}
-use Rattle.tsdb_committing.specs.Files.{IsOutAs}
+use Rattle.tsdb_tasks.specs.Files.{IsOutAs}
 use Rattle.tsdb_core.specs.Core.{IsSeen, KeepsJobs, files_of, limit_of, logged_of, next_of}
 use Rattle.tsdb_core.specs.Ending.{drawn_for}
 use Rattle.tsdb_core.specs.Flushes.{HasNumbersOf}
 use Rattle.tsdb_core.specs.declared.engine.Core.{Core}
 use Rattle.tsdb_frames.specs.Frames.{faults_of}
-use Rattle.tsdb_images.specs.Stored.{LeadsTo}
-use Rattle.tsdb_jobs.specs.declared.flush.FlushJob.{FlushJob}
-use Rattle.tsdb_kept.specs.Places.{AreOfStore, AreUnread}
-use Rattle.tsdb_layers.specs.Lists.{Among}
-use Rattle.tsdb_logged.specs.Logged.{Outside, log_of, memory_of}
+use Rattle.tsdb_state.specs.Stored.{LeadsTo}
+use Rattle.tsdb_flush.specs.declared.job.FlushJob.{FlushJob}
+use Rattle.tsdb_fileset.specs.Places.{AreOfStore, AreUnread}
+use Rattle.tsdb_base.specs.Lists.{Among}
+use Rattle.tsdb_memory.specs.Logged.{Outside, log_of, memory_of}
 use Rattle.tsdb_model.specs.State as plain
 use Rattle.tsdb_memory.specs.Store.{FrozenPair}
 use Rattle.tsdb_outside.specs.Files.{Store, StoredFile}
 use Rattle.tsdb_outside.specs.declared.disk.Disk as disk
 use Rattle.tsdb_outside.specs.declared.faults.Counted as counted
 use Rattle.tsdb_serving.specs.Serving.{AreHeldWith, IsServedBy, KeepsServing, slot_under}
-use Rattle.tsdb_replay.specs.Stores.{IsStateOf}
+use Rattle.tsdb_state.specs.Stores.{IsStateOf}
 use Rattle.tsdb_state.specs.State.{EngineState, FlushJob as StateFlush}
 
 -- a number that was drawn for the job

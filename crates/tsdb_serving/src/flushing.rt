@@ -1,14 +1,14 @@
-//! A flush: the working pair and all frozen pairs become files. Depends on `fault`, tsdb_core and tsdb_engine.
+//! A flush: the working pair and all frozen pairs become files. Depends on `fault`, tsdb_core and tsdb_flush.
 ghost use Rattle.std.specs.Prelude.{◌≡◌, ◌≢◌, ◌⊎◌, ◌+◌, ◌<◌, ◌≤◌, ◌↔◌, ℕ, [], None, IfErr, IfOk, IsTrue, OnErr, OnOk, drop};
 ghost use Rattle.std.specs.Prelude.{length, slice_get};
 ghost use Rattle.std.specs.Option.{option_map};
 ghost use Rattle.tsdb_core.specs.Core.{logged_of, next_of, working_of};
 ghost use Rattle.tsdb_core.specs.Flushes.{IsDue, IsOldest};
-ghost use Rattle.tsdb_jobs.specs.Jobs.{IsJob};
-ghost use Rattle.tsdb_logged.specs.Logged.{memory_of};
+ghost use Rattle.tsdb_flush.specs.Jobs.{IsJob};
+ghost use Rattle.tsdb_memory.specs.Logged.{memory_of};
 ghost use Rattle.tsdb_outside.specs.Files.{Store};
 ghost use Rattle.tsdb_base.specs.Causes.{Rose};
-ghost use Rattle.tsdb_rows.specs.Fits.{HasNoPoint};
+ghost use Rattle.tsdb_memory.specs.Fits.{HasNoPoint};
 ghost use Rattle.tsdb_serving.specs.declared.fault.FlushFault.{FlushFault as FaultOf};
 ghost use Rattle.tsdb_serving.specs.Faults.{HasFlushCause};
 ghost use Rattle.tsdb_serving.specs.Files.{AreDone, AreDoneSoFar};
@@ -19,8 +19,7 @@ use crate::fault::FlushFault;
 use std::alloc::Global;
 use tsdb_base::{Answer, Space, Stamp, limits};
 use tsdb_core::{Commit, Core};
-use tsdb_engine::{FlushRefused, run_flush};
-use tsdb_jobs::{FlushJob, Flushed};
+use tsdb_flush::{FlushJob, FlushRefused, Flushed, run_flush};
 use tsdb_outside::{Files, Journal, Port};
 
 /// How many pairs can be frozen.

@@ -1,11 +1,11 @@
 -- Files and frozen pairs that are arranged anew, without a point that was not there: the order and the values stay.
 use Rattle.std.proofs.Common.{◌≡◌, List, ◌++◌, refl, sym, ◌∙◌, append_assoc, arith, map, ⊎_elim}
 use mathlib.Core.List.{map-append}
-use Rattle.tsdb_layers.proofs.Rising.{IsPartOf, below_both, below_part, part_append, part_itself}
-use Rattle.tsdb_layers.proofs.Values.{has_cases, has_left, has_right}
-use Rattle.tsdb_layers.specs.Layers.{Layer}
-use Rattle.tsdb_layers.specs.Order.{Rises}
-use Rattle.tsdb_layers.specs.Places.{Place}
+use Rattle.tsdb_state.proofs.LayerLemmas.Rising.{IsPartOf, below_both, below_part, part_append, part_itself}
+use Rattle.tsdb_state.proofs.LayerLemmas.Values.{has_cases, has_left, has_right}
+use Rattle.tsdb_state.specs.Layers.{Layer}
+use Rattle.tsdb_state.specs.LayerOrder.{Rises}
+use Rattle.tsdb_state.specs.Places.{Place}
 use Rattle.tsdb_state.proofs.Purges.{stamps_purged, value_purged}
 use Rattle.tsdb_state.proofs.Values.{stored, stored_late}
 use Rattle.tsdb_state.specs.Records.{purged}

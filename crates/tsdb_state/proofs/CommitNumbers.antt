@@ -2,8 +2,8 @@
 use Rattle.std.proofs.Common.{◌≡◌, ℕ, ◌+◌, ◌≤◌, ◌==◌, Bool, true, false, cond, List, [], ◌∷◌, ◌++◌}
 use Rattle.std.proofs.Common.{Option, None, Some, refl, ap, arith, inl, inr}
 use Rattle.std.specs.Prelude.{◌⊎◌}
-use Rattle.tsdb_layers.specs.Lists.{IsWithOne, count, if_some}
-use Rattle.tsdb_layers.proofs.Lists.{count_append}
+use Rattle.tsdb_base.specs.Lists.{IsWithOne, count, if_some}
+use Rattle.tsdb_base.proofs.Lists.{count_append}
 use Rattle.tsdb_state.specs.Jobs.{drawn_by, drawn_numbers, job_inputs}
 use Rattle.tsdb_state.specs.Order.{files_of}
 use Rattle.tsdb_state.specs.Records.{after, flush_oldest, flushed, names, new_file, new_numbers, numbers_of}

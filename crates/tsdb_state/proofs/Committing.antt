@@ -6,16 +6,16 @@ use Rattle.std.specs.List.{AllByRecursion as Each}
 use mathlib.Core.List.{map-append}
 use Rattle.tsdb_base.specs.declared.ids.Space.{Space}
 use Rattle.tsdb_base.specs.declared.ids.Space.TheVariants.{Sequence, Unsequence}
-use Rattle.tsdb_layers.proofs.JobMarks.{output_value}
-use Rattle.tsdb_layers.proofs.Lists.{each_map}
-use Rattle.tsdb_layers.proofs.Rising.{IsPartOf}
-use Rattle.tsdb_layers.proofs.Values.{value_is_point}
-use Rattle.tsdb_layers.specs.Layers.{HasPoint, Layer, value_in}
-use Rattle.tsdb_layers.specs.Order.{Rises}
-use Rattle.tsdb_layers.specs.Places.{Place}
+use Rattle.tsdb_state.proofs.LayerLemmas.JobMarks.{output_value}
+use Rattle.tsdb_base.proofs.Lists.{each_map}
+use Rattle.tsdb_state.proofs.LayerLemmas.Rising.{IsPartOf}
+use Rattle.tsdb_state.proofs.LayerLemmas.Values.{value_is_point}
+use Rattle.tsdb_state.specs.Layers.{HasPoint, Layer, value_in}
+use Rattle.tsdb_state.specs.LayerOrder.{Rises}
+use Rattle.tsdb_state.specs.Places.{Place}
 use Rattle.tsdb_state.proofs.Replacing.{crossed_both, merged_both}
 use Rattle.tsdb_state.proofs.Runs.{dropped_first, output_is, replaced_run}
-use Rattle.tsdb_layers.specs.Lists.{IsRun}
+use Rattle.tsdb_base.specs.Lists.{IsRun}
 use Rattle.tsdb_state.specs.Jobs.{HasGap, HasKind, KeepsItsMarks, Stands, job_inputs}
 use Rattle.tsdb_state.specs.Records.{new_file, numbers_of, purged, replace, replace_in, replaced}
 use Rattle.tsdb_state.specs.State.{Compaction, File, StoreState, Told}

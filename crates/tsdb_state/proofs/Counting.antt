@@ -4,8 +4,8 @@ use Rattle.std.proofs.Common.{◌++◌}
 use Rattle.std.proofs.Common.{refl, arith, inl, inr}
 use Rattle.std.specs.Prelude.{◌⊎◌}
 use Rattle.std.specs.List.{range_with_len}
-use Rattle.tsdb_layers.specs.Lists.{count}
-use Rattle.tsdb_layers.proofs.Lists.{count_append}
+use Rattle.tsdb_base.specs.Lists.{count}
+use Rattle.tsdb_base.proofs.Lists.{count_append}
 use Rattle.tsdb_state.specs.Jobs.{NumbersInOrder, RightsMatch}
 use Rattle.tsdb_base.specs.Limits.{end_of_numbers}
 use Rattle.tsdb_state.specs.Records.{numbers_of}

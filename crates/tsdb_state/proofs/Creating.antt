@@ -6,10 +6,10 @@ use Rattle.std.specs.FinMap.{get, get-empty, get-insert}
 use Rattle.std.specs.Option.{option_or}
 use Rattle.std.specs.Ordering.{int_cmp}
 use Rattle.tsdb_base.specs.declared.answers.Answer.TheVariants.{Done, Exists}
-use Rattle.tsdb_layers.proofs.Lists.{each_append, pairs_push}
-use Rattle.tsdb_layers.proofs.Places.{is_path_same}
-use Rattle.tsdb_layers.proofs.Values.{or_none}
-use Rattle.tsdb_layers.specs.Places.{Place, is_path}
+use Rattle.tsdb_base.proofs.Lists.{each_append, pairs_push}
+use Rattle.tsdb_state.proofs.LayerLemmas.Places.{is_path_same}
+use Rattle.tsdb_state.proofs.LayerLemmas.Values.{or_none}
+use Rattle.tsdb_state.specs.Places.{Place, is_path}
 use Rattle.tsdb_model.specs.Apply.{accepted, reply_of}
 use Rattle.tsdb_model.specs.World.{Series, World, new_series, points_of, value_at}
 use Rattle.tsdb_model.specs.declared.command.Command.TheVariants.{Create}

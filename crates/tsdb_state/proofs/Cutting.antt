@@ -15,12 +15,12 @@ use Rattle.std.proofs.lemmas.Int.{ints}
 use Rattle.std.proofs.lemmas.List.Sums.{sum_by-cons}
 use Rattle.tsdb_base.specs.declared.point.Range.{Range}
 use Rattle.tsdb_base.specs.declared.value.Value.{Value}
-use Rattle.tsdb_layers.proofs.JobMarks.{none_by}
-use Rattle.tsdb_layers.proofs.Places.{get_cut, place_cmp-IsAntisymmetric, same_content}
-use Rattle.tsdb_layers.proofs.Tests.{clear_append}
-use Rattle.tsdb_layers.specs.Layers.{HasPoint, Layer, value_in}
-use Rattle.tsdb_layers.specs.Marks.{is_over, survives}
-use Rattle.tsdb_layers.specs.Places.{Content, Place, cut, is_path, is_within, place_cmp}
+use Rattle.tsdb_state.proofs.LayerLemmas.JobMarks.{none_by}
+use Rattle.tsdb_state.proofs.LayerLemmas.Places.{get_cut, place_cmp-IsAntisymmetric, same_content}
+use Rattle.tsdb_state.proofs.LayerLemmas.Tests.{clear_append}
+use Rattle.tsdb_state.specs.Layers.{HasPoint, Layer, value_in}
+use Rattle.tsdb_state.specs.Marks.{is_over, survives}
+use Rattle.tsdb_state.specs.Places.{Content, Place, cut, is_path, is_within, place_cmp}
 use Rattle.tsdb_model.specs.World.{is_in}
 use Rattle.tsdb_marks.specs.declared.marks.Mark.{Mark}
 use Rattle.tsdb_memtable.specs.Points.{value_bytes}

@@ -10,11 +10,11 @@ use Rattle.tsdb_base.specs.declared.answers.Answer.TheVariants.{Done, NoPath}
 use Rattle.tsdb_base.specs.declared.point.Range.{Range}
 use Rattle.tsdb_base.specs.declared.value.DataType.{DataType}
 use Rattle.tsdb_base.specs.declared.value.Value.{Value}
-use Rattle.tsdb_layers.proofs.Lists.{each_append, each_map, each_weaker, pairs_push}
-use Rattle.tsdb_layers.proofs.Places.{get_cut}
-use Rattle.tsdb_layers.specs.Layers.{HasPoint, Layer, value_in}
-use Rattle.tsdb_layers.specs.Lists.{EachPair}
-use Rattle.tsdb_layers.specs.Places.{Content, Place, cut as cut_content, is_within}
+use Rattle.tsdb_base.proofs.Lists.{each_append, each_map, each_weaker, pairs_push}
+use Rattle.tsdb_state.proofs.LayerLemmas.Places.{get_cut}
+use Rattle.tsdb_state.specs.Layers.{HasPoint, Layer, value_in}
+use Rattle.tsdb_base.specs.Lists.{EachPair}
+use Rattle.tsdb_state.specs.Places.{Content, Place, cut as cut_content, is_within}
 use Rattle.tsdb_model.specs.Apply.{accepted, reply_of}
 use Rattle.tsdb_model.specs.World.{Series, World}
 use Rattle.tsdb_model.specs.declared.command.Command.TheVariants.{Delete}
@@ -30,7 +30,7 @@ use Rattle.tsdb_state.specs.State.{File, FrozenPair, StoreState, Told}
 use Rattle.tsdb_state.specs.StoreOrder.{StampsInOrder, StoreInOrder}
 use Rattle.tsdb_state.specs.Views.{file_layers, pair_layers, layer_of, sequence_layer, unsequence_layer}
 use Rattle.tsdb_state.specs.Worlds.{StandsFor, type_at, value_of}
-use Rattle.tsdb_layers.proofs.Rising.{part_append, part_itself}
+use Rattle.tsdb_state.proofs.LayerLemmas.Rising.{part_append, part_itself}
 
 older_files : (told : Told) (stamp : ℕ) (files : List File) → Each (λ file. file.born ≤ stamp) files
     → Each (λ layer. layer.born < stamp + 1) (file_layers told files)

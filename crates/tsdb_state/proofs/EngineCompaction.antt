@@ -7,11 +7,11 @@ use Rattle.std.proofs.Math.Seq.{drop-append_seam, take-append_seam}
 use Rattle.std.proofs.lemmas.Bool.Decides.{nat_tests}
 use Rattle.tsdb_base.specs.declared.ids.Space.{Space}
 use Rattle.tsdb_base.specs.declared.ids.Space.TheVariants.{Sequence, Unsequence}
-use Rattle.tsdb_layers.proofs.Lists.{each_among, each_append, each_left, each_right, each_weaker, with_one_apart}
-use Rattle.tsdb_layers.proofs.Lists.{with_one_each, with_one_is, with_one_pairs}
-use Rattle.tsdb_layers.specs.Layers.{survivor}
-use Rattle.tsdb_layers.specs.Lists.{Among, IsRun, IsWithOne, count}
-use Rattle.tsdb_layers.specs.Marks.{marks_up_to, purge}
+use Rattle.tsdb_base.proofs.Lists.{each_among, each_append, each_left, each_right, each_weaker, with_one_apart}
+use Rattle.tsdb_base.proofs.Lists.{with_one_each, with_one_is, with_one_pairs}
+use Rattle.tsdb_state.specs.Layers.{survivor}
+use Rattle.tsdb_base.specs.Lists.{Among, IsRun, IsWithOne, count}
+use Rattle.tsdb_state.specs.Marks.{marks_up_to, purge}
 use Rattle.tsdb_marks.specs.declared.marks.Mark.{Mark}
 use Rattle.tsdb_state.proofs.CommitNumbers.{IsFileOrNone, committed_numbers, count_output}
 use Rattle.tsdb_state.proofs.Committing.{committed_in_order, committed_keeps, crossed_is, merged_is}

@@ -4,8 +4,8 @@ use Rattle.std.proofs.Common.{subst}
 use Rattle.std.specs.Prelude.{◌==◌, Some, IfSome}
 use Rattle.std.specs.List.{AllByRecursion as Each}
 use mathlib.Core.List.{map-append}
-use Rattle.tsdb_layers.proofs.Lists.{among_right, each_weaker}
-use Rattle.tsdb_layers.specs.Lists.{Among}
+use Rattle.tsdb_base.proofs.Lists.{among_right, each_weaker}
+use Rattle.tsdb_base.specs.Lists.{Among}
 use Rattle.tsdb_log.specs.declared.record.LogRecord.{LogRecord}
 use Rattle.tsdb_state.proofs.CommitNumbers.{IsFileOrNone, count_output}
 use Rattle.tsdb_state.proofs.EngineCompaction.{commit_can, commit_doubt, end_step, file}

@@ -2,12 +2,12 @@
 use Rattle.std.proofs.Common.{◌≡◌, ℕ, ◌+◌, ◌<◌, ◌≤◌, List, ◌∷◌, ◌++◌, refl, sym, ap, subst, arith, []}
 use Rattle.std.specs.Prelude.{◌≢◌, Option, Some, None}
 use Rattle.std.specs.List.{AllByRecursion as Each}
-use Rattle.tsdb_layers.proofs.Lists.{count_append, each_append, each_left, each_right, each_weaker, with_one_each}
-use Rattle.tsdb_layers.proofs.Lists.{with_one_is}
-use Rattle.tsdb_layers.proofs.Rising.{before_part, part_left}
-use Rattle.tsdb_layers.specs.Lists.{Among, EachPair, count, if_some}
-use Rattle.tsdb_layers.specs.Order.{IsBeforeInTime}
-use Rattle.tsdb_layers.specs.Places.{Content}
+use Rattle.tsdb_base.proofs.Lists.{count_append, each_append, each_left, each_right, each_weaker, with_one_each}
+use Rattle.tsdb_base.proofs.Lists.{with_one_is}
+use Rattle.tsdb_state.proofs.LayerLemmas.Rising.{before_part, part_left}
+use Rattle.tsdb_base.specs.Lists.{Among, EachPair, count, if_some}
+use Rattle.tsdb_state.specs.LayerOrder.{IsBeforeInTime}
+use Rattle.tsdb_state.specs.Places.{Content}
 use Rattle.tsdb_state.proofs.CommitNumbers.{committed_flush_numbers, count_new_two, count_number}
 use Rattle.tsdb_state.proofs.EngineRecords.{jobs_moved, purge_kept}
 use Rattle.tsdb_state.proofs.Flushing.{first_points, flushed_in_order, flushed_keeps, for_new_file}

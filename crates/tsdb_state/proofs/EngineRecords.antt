@@ -3,8 +3,8 @@ use Rattle.std.proofs.Common.{ℕ, ℤ, ◌+◌, ◌<◌, ◌≤◌, List, ◌�
 use Rattle.std.specs.Prelude.{None}
 use Rattle.std.specs.List.{AllByRecursion as Each}
 use Rattle.tsdb_base.specs.declared.point.Range.{Range}
-use Rattle.tsdb_layers.proofs.Lists.{each_append, each_weaker}
-use Rattle.tsdb_layers.specs.Marks.{purge}
+use Rattle.tsdb_base.proofs.Lists.{each_append, each_weaker}
+use Rattle.tsdb_state.specs.Marks.{purge}
 use Rattle.tsdb_log.specs.declared.record.CellRecord.{CellRecord}
 use Rattle.tsdb_log.specs.declared.record.LogRecord.{LogRecord}
 use Rattle.tsdb_log.specs.declared.record.LogRecord.TheVariants.{Create, Delete, Freeze, Insert}

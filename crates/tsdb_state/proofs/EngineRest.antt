@@ -6,10 +6,10 @@ use Rattle.std.specs.Prelude.{◌||◌, nat_eq, nat_lt, not, Option, Some, None,
 use Rattle.std.specs.List.{AllByRecursion as Each, filter, flat_map, list_any}
 use Rattle.std.proofs.lemmas.Bool.Decides.{nat_tests}
 use Rattle.tsdb_base.specs.declared.point.Range.{Range}
-use Rattle.tsdb_layers.proofs.Lists.{count_append, each_among, each_from_among, each_weaker}
-use Rattle.tsdb_layers.specs.Layers.{Layer}
-use Rattle.tsdb_layers.specs.Places.{is_within}
-use Rattle.tsdb_layers.specs.Lists.{Among, IsWithOne, count}
+use Rattle.tsdb_base.proofs.Lists.{count_append, each_among, each_from_among, each_weaker}
+use Rattle.tsdb_state.specs.Layers.{Layer}
+use Rattle.tsdb_state.specs.Places.{is_within}
+use Rattle.tsdb_base.specs.Lists.{Among, IsWithOne, count}
 use Rattle.tsdb_log.specs.declared.record.LogRecord.{LogRecord}
 use Rattle.tsdb_state.proofs.Counting.{some_of_sum}
 use Rattle.tsdb_state.proofs.Holding.{held_by_pin, held_with_pin, rights_returned, rights_taken, swept_rights}

@@ -6,12 +6,12 @@ use Rattle.std.specs.FinMap.{get, get-empty}
 use Rattle.std.specs.List.{AllByRecursion as Each}
 use Rattle.std.proofs.lemmas.Bool.Decides.{nat_tests}
 use mathlib.Core.List.{map-append}
-use Rattle.tsdb_layers.proofs.Lists.{each_append}
-use Rattle.tsdb_layers.proofs.Rising.{IsPartOf, part_append, part_itself, part_middle, rises_middle}
-use Rattle.tsdb_layers.proofs.Values.{has_left, no_survivor, or_assoc, value_append}
-use Rattle.tsdb_layers.specs.Layers.{Layer, survivor, value_in}
-use Rattle.tsdb_layers.specs.Order.{Rises}
-use Rattle.tsdb_layers.specs.Places.{Content, Place, place_cmp}
+use Rattle.tsdb_base.proofs.Lists.{each_append}
+use Rattle.tsdb_state.proofs.LayerLemmas.Rising.{IsPartOf, part_append, part_itself, part_middle, rises_middle}
+use Rattle.tsdb_state.proofs.LayerLemmas.Values.{has_left, no_survivor, or_assoc, value_append}
+use Rattle.tsdb_state.specs.Layers.{Layer, survivor, value_in}
+use Rattle.tsdb_state.specs.LayerOrder.{Rises}
+use Rattle.tsdb_state.specs.Places.{Content, Place, place_cmp}
 use Rattle.tsdb_marks.specs.declared.marks.Mark.{Mark}
 use Rattle.tsdb_state.proofs.Arranged.{arranged_in_order, arranged_keeps, two_parts}
 use Rattle.tsdb_state.proofs.Typed.{late_part}

@@ -9,13 +9,13 @@ use Rattle.std.specs.Ordering.{is_eq}
 use Rattle.std.proofs.lemmas.Int.{ints}
 use mathlib.Core.List.{map-append}
 use Rattle.tsdb_base.specs.declared.value.Value.{Value}
-use Rattle.tsdb_layers.proofs.Lists.{each_append, pairs_push}
-use Rattle.tsdb_layers.proofs.Places.{is_path_same, is_place, path_itself}
-use Rattle.tsdb_layers.proofs.Rising.{IsPartOf, below_both, part_append, part_itself, rises_append}
-use Rattle.tsdb_layers.specs.Layers.{Layer, survivor}
-use Rattle.tsdb_layers.specs.Lists.{Among}
-use Rattle.tsdb_layers.specs.Order.{IsAbove, IsBeforeInTime, IsBelow, Watermarks}
-use Rattle.tsdb_layers.specs.Places.{Content, Place, is_path, place_cmp}
+use Rattle.tsdb_base.proofs.Lists.{each_append, pairs_push}
+use Rattle.tsdb_state.proofs.LayerLemmas.Places.{is_path_same, is_place, path_itself}
+use Rattle.tsdb_state.proofs.LayerLemmas.Rising.{IsPartOf, below_both, part_append, part_itself, rises_append}
+use Rattle.tsdb_state.specs.Layers.{Layer, survivor}
+use Rattle.tsdb_base.specs.Lists.{Among}
+use Rattle.tsdb_state.specs.LayerOrder.{IsAbove, IsBeforeInTime, IsBelow, Watermarks}
+use Rattle.tsdb_state.specs.Places.{Content, Place, is_path, place_cmp}
 use Rattle.tsdb_memtable.specs.Watermarks.{later_time}
 use Rattle.tsdb_path.specs.Nodes.{device_of}
 use Rattle.tsdb_state.proofs.Values.{none_in, none_in_pair}
@@ -25,7 +25,7 @@ use Rattle.tsdb_state.specs.State.{FrozenPair, StoreState, Told}
 use Rattle.tsdb_state.specs.StoreOrder.{LateIsBelow, StoreInOrder}
 use Rattle.tsdb_state.specs.Views.{file_layers, layer_of, pair_layers, sequence_layer, unsequence_layer, working_pair}
 use Rattle.tsdb_state.specs.Worlds.{KeepsWorld, value_of}
-use Rattle.tsdb_layers.proofs.Values.{has_cases, has_left, has_right, no_survivor, or_assoc, value_append}
+use Rattle.tsdb_state.proofs.LayerLemmas.Values.{has_cases, has_left, has_right, no_survivor, or_assoc, value_append}
 use Rattle.std.proofs.lemmas.List.{length-append}
 
 -- watermarks that rise

@@ -6,8 +6,8 @@ use Rattle.std.specs.Prelude.{◌≢◌, ◌==◌, Option, Some, None, IfSome}
 use Rattle.std.specs.List.{AllByRecursion as Each}
 use Rattle.std.proofs.lemmas.Bool.Decides.{nat_tests}
 use mathlib.Core.List.{map-append}
-use Rattle.tsdb_layers.proofs.Lists.{among_left, each_weaker}
-use Rattle.tsdb_layers.specs.Lists.{Among, EachPair, count}
+use Rattle.tsdb_base.proofs.Lists.{among_left, each_weaker}
+use Rattle.tsdb_base.specs.Lists.{Among, EachPair, count}
 use Rattle.tsdb_log.specs.declared.record.LogRecord.{LogRecord}
 use Rattle.tsdb_state.proofs.Counting.{rights_match}
 use Rattle.tsdb_state.specs.Jobs.{NumbersInOrder, RightsMatch}

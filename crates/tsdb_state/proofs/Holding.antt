@@ -7,8 +7,8 @@ use Rattle.std.specs.List.{AllByRecursion as Each, filter, flat_map, list_any}
 use Rattle.std.proofs.lemmas.Bool.{false≢true}
 use Rattle.std.proofs.lemmas.List.Sums.{sum_by-append, sum_by-cons}
 use Rattle.tsdb_base.specs.declared.ids.Space.TheVariants.{Sequence, Unsequence}
-use Rattle.tsdb_layers.specs.Lists.{IsWithOne, count, if_some}
-use Rattle.tsdb_layers.proofs.Lists.{count_append, each_weaker, with_one_each}
+use Rattle.tsdb_base.specs.Lists.{IsWithOne, count, if_some}
+use Rattle.tsdb_base.proofs.Lists.{count_append, each_weaker, with_one_each}
 use Rattle.tsdb_state.specs.Jobs.{KeepsRoom, RightsMatch, drawn_by, held_numbers, job_inputs}
 use Rattle.tsdb_state.specs.Jobs.{outgoing_places, output_places, pin_numbers}
 use Rattle.tsdb_state.specs.Order.{files_of}

@@ -11,11 +11,11 @@ use Rattle.tsdb_base.specs.Values.{type_of}
 use Rattle.tsdb_base.specs.declared.answers.Answer.TheVariants.{Done, NoPath, WrongType}
 use Rattle.tsdb_base.specs.declared.value.DataType.{DataType}
 use Rattle.tsdb_base.specs.declared.value.Value.{Value}
-use Rattle.tsdb_layers.proofs.Lists.{each_weaker}
-use Rattle.tsdb_layers.proofs.Places.{is_place}
-use Rattle.tsdb_layers.specs.Layers.{HasPoint}
-use Rattle.tsdb_layers.specs.Lists.{EachPair}
-use Rattle.tsdb_layers.specs.Places.{Place, place_cmp}
+use Rattle.tsdb_base.proofs.Lists.{each_weaker}
+use Rattle.tsdb_state.proofs.LayerLemmas.Places.{is_place}
+use Rattle.tsdb_state.specs.Layers.{HasPoint}
+use Rattle.tsdb_base.specs.Lists.{EachPair}
+use Rattle.tsdb_state.specs.Places.{Place, place_cmp}
 use Rattle.tsdb_log.specs.declared.record.CellRecord.{CellRecord}
 use Rattle.tsdb_model.specs.Apply.{accepted, all_fit, are_there, fits_series, put_cells as map_cells, put_literal}
 use Rattle.tsdb_model.specs.Apply.{put_value as put_in, reply_of, value_of as literal_value}

@@ -1,3 +1,4 @@
+pub mod LayerLemmas
 pub mod Values
 pub mod Purges
 pub mod Arranged
@@ -33,3 +34,5 @@ pub mod Parts
 pub mod Winning
 pub mod Told
 pub mod Plans
+pub mod ReplayLemmas
+pub mod ImageLemmas

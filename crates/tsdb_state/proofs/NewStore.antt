@@ -4,8 +4,8 @@ use Rattle.std.specs.Cmp.Lexicographic.{slice_cmp}
 use Rattle.std.specs.FinMap.{empty, get, get-empty}
 use Rattle.std.specs.Option.{option_map}
 use Rattle.std.specs.Ordering.{int_cmp, nat_cmp}
-use Rattle.tsdb_layers.proofs.Values.{value_none}
-use Rattle.tsdb_layers.specs.Places.{Place}
+use Rattle.tsdb_state.proofs.LayerLemmas.Values.{value_none}
+use Rattle.tsdb_state.specs.Places.{Place}
 use Rattle.tsdb_model.specs.World.{Series, points_of}
 use Rattle.tsdb_state.proofs.Values.{none_in, none_in_pair}
 use Rattle.tsdb_state.specs.NewStore.{new_store}

@@ -4,8 +4,8 @@ use Rattle.std.proofs.Common.{map}
 use Rattle.std.proofs.Common.{Option, None, Some, ap, ◌∙◌, arith, length-append}
 use Rattle.std.specs.List.{filter, flat_map, list_any}
 use Rattle.std.proofs.lemmas.List.{map-append}
-use Rattle.tsdb_layers.specs.Lists.{IsWithOne, count, if_some}
-use Rattle.tsdb_layers.proofs.Lists.{count_append}
+use Rattle.tsdb_base.specs.Lists.{IsWithOne, count, if_some}
+use Rattle.tsdb_base.proofs.Lists.{count_append}
 use Rattle.tsdb_state.specs.Jobs.{NumbersInOrder, drawn_by, drawn_numbers}
 use Rattle.tsdb_state.specs.Order.{files_of}
 use Rattle.tsdb_state.specs.Records.{numbers_of}

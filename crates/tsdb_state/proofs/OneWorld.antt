@@ -11,13 +11,13 @@ use Rattle.std.specs.List.{flat_map, list_any}
 use Rattle.std.specs.Option.{option_map, option_or}
 use Rattle.std.specs.Ordering.{eq_by_cmp, int_cmp, nat_cmp}
 use Rattle.tsdb_base.specs.declared.value.Value.{Value}
-use Rattle.tsdb_layers.proofs.Lists.{among_left, among_right, any_among}
-use Rattle.tsdb_layers.proofs.JobMarks.{none_by}
-use Rattle.tsdb_layers.proofs.Places.{is_path_same, place_itself, tied}
-use Rattle.tsdb_layers.proofs.Values.{value_is_point}
-use Rattle.tsdb_layers.specs.Layers.{HasPoint, Layer}
-use Rattle.tsdb_layers.specs.Lists.{Among}
-use Rattle.tsdb_layers.specs.Places.{Place, is_path, place_cmp}
+use Rattle.tsdb_base.proofs.Lists.{among_left, among_right, any_among}
+use Rattle.tsdb_state.proofs.LayerLemmas.JobMarks.{none_by}
+use Rattle.tsdb_state.proofs.LayerLemmas.Places.{is_path_same, place_itself, tied}
+use Rattle.tsdb_state.proofs.LayerLemmas.Values.{value_is_point}
+use Rattle.tsdb_state.specs.Layers.{HasPoint, Layer}
+use Rattle.tsdb_base.specs.Lists.{Among}
+use Rattle.tsdb_state.specs.Places.{Place, is_path, place_cmp}
 use Rattle.tsdb_model.specs.World.{Series, World, points_of, value_at}
 use Rattle.tsdb_model.specs.declared.command.Schema.{Schema}
 use Rattle.tsdb_state.proofs.Freezing.{find_among}

@@ -9,13 +9,13 @@ use mathlib.Core.List.{append-nil, map-append}
 use Rattle.tsdb_base.specs.declared.ids.Space.{Space}
 use Rattle.tsdb_base.specs.declared.ids.Space.TheVariants.{Sequence, Unsequence}
 use Rattle.tsdb_base.specs.declared.point.Range.{Range}
-use Rattle.tsdb_layers.proofs.JobMarks.{survivor_purged_up_to}
-use Rattle.tsdb_layers.proofs.Lists.{among_left, among_map, among_right, each_append, each_both, each_from_among}
-use Rattle.tsdb_layers.proofs.Lists.{ends_before, filter_append, first_apart, runs_apart}
-use Rattle.tsdb_layers.proofs.Rising.{IsPartOf, before_each, before_part, part_itself, part_left}
-use Rattle.tsdb_layers.specs.Lists.{Among, IsRun}
-use Rattle.tsdb_layers.specs.Marks.{marks_up_to, purge}
-use Rattle.tsdb_layers.specs.Order.{IsBeforeInTime}
+use Rattle.tsdb_state.proofs.LayerLemmas.JobMarks.{survivor_purged_up_to}
+use Rattle.tsdb_base.proofs.Lists.{among_left, among_map, among_right, each_append, each_both, each_from_among}
+use Rattle.tsdb_base.proofs.Lists.{ends_before, filter_append, first_apart, runs_apart}
+use Rattle.tsdb_state.proofs.LayerLemmas.Rising.{IsPartOf, before_each, before_part, part_itself, part_left}
+use Rattle.tsdb_base.specs.Lists.{Among, IsRun}
+use Rattle.tsdb_state.specs.Marks.{marks_up_to, purge}
+use Rattle.tsdb_state.specs.LayerOrder.{IsBeforeInTime}
 use Rattle.tsdb_marks.specs.declared.marks.Mark.{Mark}
 use Rattle.tsdb_state.proofs.Cutting.{mark_of}
 use Rattle.tsdb_state.specs.Jobs.{AreApart, HasKind, KeepsItsMarks, Stands, job_inputs}

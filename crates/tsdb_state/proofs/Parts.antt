@@ -2,12 +2,12 @@
 use Rattle.std.proofs.Common.{◌≡◌, ℕ, ◌≤◌, List, ◌∷◌, ◌++◌, append_assoc, map, sym, subst, []}
 use Rattle.std.specs.Prelude.{◌≢◌}
 use mathlib.Core.List.{map-append}
-use Rattle.tsdb_layers.proofs.Lists.{count_append}
-use Rattle.tsdb_layers.proofs.Rising.{IsPartOf, before_each, before_part, below_both, below_part, part_itself}
-use Rattle.tsdb_layers.proofs.Rising.{part_left, part_right, rises_append, rises_left}
-use Rattle.tsdb_layers.specs.Layers.{HasPoint, Layer}
-use Rattle.tsdb_layers.specs.Lists.{EachPair}
-use Rattle.tsdb_layers.specs.Order.{IsBeforeInTime, IsBelow, Rises}
+use Rattle.tsdb_base.proofs.Lists.{count_append}
+use Rattle.tsdb_state.proofs.LayerLemmas.Rising.{IsPartOf, before_each, before_part, below_both, below_part, part_itself}
+use Rattle.tsdb_state.proofs.LayerLemmas.Rising.{part_left, part_right, rises_append, rises_left}
+use Rattle.tsdb_state.specs.Layers.{HasPoint, Layer}
+use Rattle.tsdb_base.specs.Lists.{EachPair}
+use Rattle.tsdb_state.specs.LayerOrder.{IsBeforeInTime, IsBelow, Rises}
 use Rattle.tsdb_state.proofs.Freezing.{below_above}
 use Rattle.tsdb_state.proofs.Fresh.{pairs_counted}
 use Rattle.tsdb_state.proofs.Typed.{late_before}

@@ -11,12 +11,12 @@ use Rattle.std.proofs.lemmas.Bool.Decides.{nat_tests}
 use mathlib.Core.List.{map-append}
 use Rattle.tsdb_base.specs.declared.point.Range.{Range}
 use Rattle.tsdb_base.specs.declared.value.Value.{Value}
-use Rattle.tsdb_layers.proofs.Lists.{any_among, each_left, each_right}
-use Rattle.tsdb_layers.proofs.Places.{path_itself, place_cmp-IsAntisymmetric}
-use Rattle.tsdb_layers.proofs.Values.{no_survivor, or_none, value_append}
-use Rattle.tsdb_layers.specs.Layers.{Layer, survivor, value_in}
-use Rattle.tsdb_layers.specs.Marks.{survives}
-use Rattle.tsdb_layers.specs.Places.{Content, Place, is_within, place_cmp}
+use Rattle.tsdb_base.proofs.Lists.{any_among, each_left, each_right}
+use Rattle.tsdb_state.proofs.LayerLemmas.Places.{path_itself, place_cmp-IsAntisymmetric}
+use Rattle.tsdb_state.proofs.LayerLemmas.Values.{no_survivor, or_none, value_append}
+use Rattle.tsdb_state.specs.Layers.{Layer, survivor, value_in}
+use Rattle.tsdb_state.specs.Marks.{survives}
+use Rattle.tsdb_state.specs.Places.{Content, Place, is_within, place_cmp}
 use Rattle.tsdb_model.specs.World.{World, is_in, value_at}
 use Rattle.tsdb_marks.specs.declared.marks.Mark.{Mark}
 use Rattle.tsdb_state.specs.Jobs.{Describes, EntriesMatch}

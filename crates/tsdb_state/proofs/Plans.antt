@@ -11,11 +11,11 @@ use Rattle.std.proofs.lemmas.List.{length-drop, length-take, take-append-drop}
 use Rattle.std.proofs.lemmas.List.Elements.{recursion_from_All}
 use Rattle.tsdb_base.specs.declared.ids.Space.TheVariants.{Sequence, Unsequence}
 use Rattle.tsdb_base.specs.declared.value.Value.{Value}
-use Rattle.tsdb_layers.proofs.Lists.{each_among, each_left, each_of_map, each_right}
-use Rattle.tsdb_layers.specs.Layers.{HasPoint}
-use Rattle.tsdb_layers.specs.Lists.{Among, IsRun}
-use Rattle.tsdb_layers.specs.Order.{IsBeforeInTime}
-use Rattle.tsdb_layers.specs.Places.{Place}
+use Rattle.tsdb_base.proofs.Lists.{each_among, each_left, each_of_map, each_right}
+use Rattle.tsdb_state.specs.Layers.{HasPoint}
+use Rattle.tsdb_base.specs.Lists.{Among, IsRun}
+use Rattle.tsdb_state.specs.LayerOrder.{IsBeforeInTime}
+use Rattle.tsdb_state.specs.Places.{Place}
 use Rattle.tsdb_path.specs.Nodes.{device_of}
 use Rattle.tsdb_plan.proofs.Hulls.{to_end, to_start}
 use Rattle.tsdb_plan.proofs.ListFacts.{Any-head, Any-left, Any-right, Any-tail}

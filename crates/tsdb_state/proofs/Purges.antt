@@ -1,13 +1,13 @@
 -- A purge leaves the values of a state, and its order.
 use Rattle.std.proofs.Common.{◌≡◌, ℕ, ◌++◌, map, refl, List, subst}
 use Rattle.std.specs.List.{AllByRecursion as Each}
-use Rattle.tsdb_layers.proofs.Lists.{among_left, among_map, among_right, each_append, each_filter, each_from_among}
-use Rattle.tsdb_layers.proofs.Lists.{each_map, pairs_filter}
-use Rattle.tsdb_layers.proofs.Moves.{value_purge}
-use Rattle.tsdb_layers.specs.Layers.{Layer}
-use Rattle.tsdb_layers.specs.Lists.{Among}
-use Rattle.tsdb_layers.specs.Marks.{is_any_older, purge}
-use Rattle.tsdb_layers.specs.Places.{Place}
+use Rattle.tsdb_base.proofs.Lists.{among_left, among_map, among_right, each_append, each_filter, each_from_among}
+use Rattle.tsdb_base.proofs.Lists.{each_map, pairs_filter}
+use Rattle.tsdb_state.proofs.LayerLemmas.Moves.{value_purge}
+use Rattle.tsdb_state.specs.Layers.{Layer}
+use Rattle.tsdb_base.specs.Lists.{Among}
+use Rattle.tsdb_state.specs.Marks.{is_any_older, purge}
+use Rattle.tsdb_state.specs.Places.{Place}
 use Rattle.tsdb_state.proofs.Values.{AreReached, stored, stored_late, value_by_parts}
 use Rattle.tsdb_state.specs.Records.{purged}
 use Rattle.tsdb_state.specs.State.{File, FrozenPair, StoreState, Told}

@@ -8,11 +8,11 @@ use Rattle.std.specs.Ordering.{eq_by_cmp}
 use Rattle.std.proofs.lemmas.Int.{ints}
 use Rattle.tsdb_base.specs.declared.ids.Space.TheVariants.{Sequence, Unsequence}
 use Rattle.tsdb_base.specs.declared.value.Value.{Value}
-use Rattle.tsdb_layers.proofs.Places.{get_put, is_place}
-use Rattle.tsdb_layers.proofs.Values.{value_none}
-use Rattle.tsdb_layers.specs.Layers.{HasPoint, Layer, value_in}
-use Rattle.tsdb_layers.specs.Order.{IsAbove, IsBelow, Watermarks}
-use Rattle.tsdb_layers.specs.Places.{Content, Place, place_cmp, put}
+use Rattle.tsdb_state.proofs.LayerLemmas.Places.{get_put, is_place}
+use Rattle.tsdb_state.proofs.LayerLemmas.Values.{value_none}
+use Rattle.tsdb_state.specs.Layers.{HasPoint, Layer, value_in}
+use Rattle.tsdb_state.specs.LayerOrder.{IsAbove, IsBelow, Watermarks}
+use Rattle.tsdb_state.specs.Places.{Content, Place, place_cmp, put}
 use Rattle.tsdb_memtable.specs.Watermarks.{space_by}
 use Rattle.tsdb_path.specs.Nodes.{device_of}
 use Rattle.tsdb_state.proofs.Values.{AreReached, joined, stored, stored_late, value_is}

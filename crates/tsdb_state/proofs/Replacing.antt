@@ -3,15 +3,15 @@ use Rattle.std.proofs.Common.{◌≡◌, ℕ, ◌≤◌, List, ◌∷◌, ◌++�
 use Rattle.std.specs.Prelude.{◌⊎◌, None}
 use Rattle.std.specs.List.{AllByRecursion as Each}
 use mathlib.Core.List.{map-append}
-use Rattle.tsdb_layers.proofs.Lists.{each_append, each_left, each_right}
-use Rattle.tsdb_layers.proofs.Moves.{before_none}
-use Rattle.tsdb_layers.proofs.Rising.{IsPartOf, before_both, before_each, before_part, below_part, part_append}
-use Rattle.tsdb_layers.proofs.Rising.{part_itself, part_left, part_middle, part_right, rises_across, rises_append}
-use Rattle.tsdb_layers.proofs.Rising.{rises_left, rises_right}
-use Rattle.tsdb_layers.proofs.Values.{has_cases, has_left, has_right, or_assoc, or_none, value_append}
-use Rattle.tsdb_layers.specs.Layers.{Layer, value_in}
-use Rattle.tsdb_layers.specs.Order.{IsBeforeInTime, Rises}
-use Rattle.tsdb_layers.specs.Places.{Place}
+use Rattle.tsdb_base.proofs.Lists.{each_append, each_left, each_right}
+use Rattle.tsdb_state.proofs.LayerLemmas.Moves.{before_none}
+use Rattle.tsdb_state.proofs.LayerLemmas.Rising.{IsPartOf, before_both, before_each, before_part, below_part, part_append}
+use Rattle.tsdb_state.proofs.LayerLemmas.Rising.{part_itself, part_left, part_middle, part_right, rises_across, rises_append}
+use Rattle.tsdb_state.proofs.LayerLemmas.Rising.{rises_left, rises_right}
+use Rattle.tsdb_state.proofs.LayerLemmas.Values.{has_cases, has_left, has_right, or_assoc, or_none, value_append}
+use Rattle.tsdb_state.specs.Layers.{Layer, value_in}
+use Rattle.tsdb_state.specs.LayerOrder.{IsBeforeInTime, Rises}
+use Rattle.tsdb_state.specs.Places.{Place}
 use Rattle.tsdb_marks.specs.declared.marks.Mark.{Mark}
 use Rattle.tsdb_state.proofs.Arranged.{arranged_in_order, arranged_keeps, regroup, two_parts}
 use Rattle.tsdb_state.proofs.Freezing.{below_above}

@@ -6,10 +6,10 @@ use Rattle.std.specs.List.{AllByRecursion as Each}
 use Rattle.std.specs.Option.{option_map, option_or, unwrap_or}
 use Rattle.std.proofs.lemmas.Bool.{false≢true}
 use Rattle.tsdb_base.specs.declared.value.DataType.{DataType}
-use Rattle.tsdb_layers.proofs.Lists.{each_among}
-use Rattle.tsdb_layers.proofs.Places.{is_path_same, path_itself}
-use Rattle.tsdb_layers.specs.Lists.{Among, EachPair}
-use Rattle.tsdb_layers.specs.Places.{is_path}
+use Rattle.tsdb_base.proofs.Lists.{each_among}
+use Rattle.tsdb_state.proofs.LayerLemmas.Places.{is_path_same, path_itself}
+use Rattle.tsdb_base.specs.Lists.{Among, EachPair}
+use Rattle.tsdb_state.specs.Places.{is_path}
 use Rattle.tsdb_state.specs.Records.{path_of}
 use Rattle.tsdb_state.specs.State.{SeriesEntry}
 use Rattle.tsdb_state.specs.StoreOrder.{IsOfSeries}

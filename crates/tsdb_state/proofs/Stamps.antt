@@ -1,9 +1,9 @@
 -- Borns and versions where the stamp rises.
 use Rattle.std.proofs.Common.{◌≡◌, ℕ, ◌+◌, List, refl, arith}
-use Rattle.tsdb_layers.proofs.Lists.{each_weaker}
+use Rattle.tsdb_base.proofs.Lists.{each_weaker}
 use Rattle.tsdb_marks.specs.declared.marks.Mark.{Mark}
 use Rattle.tsdb_state.proofs.Values.{AreReached, reached_more, value_by_parts}
-use Rattle.tsdb_layers.specs.Places.{Place}
+use Rattle.tsdb_state.specs.Places.{Place}
 use Rattle.tsdb_state.specs.State.{File, FrozenPair, PairContent, StoreState, Told}
 use Rattle.tsdb_state.specs.StoreOrder.{StampsInOrder}
 use Rattle.tsdb_state.specs.Worlds.{value_of}

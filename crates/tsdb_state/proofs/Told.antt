@@ -4,12 +4,12 @@ use Rattle.std.specs.List.{AllByRecursion as Each}
 use Rattle.std.specs.Prelude.{IfSome, None}
 use Rattle.tsdb_base.specs.declared.ids.Space.{Space}
 use Rattle.tsdb_base.specs.declared.ids.Space.TheVariants.{Sequence, Unsequence}
-use Rattle.tsdb_layers.proofs.Lists.{each_among, each_append, each_both, each_from_among, each_left, each_right}
-use Rattle.tsdb_layers.specs.Layers.{Layer, survivor, value_in}
-use Rattle.tsdb_layers.specs.Lists.{Among}
-use Rattle.tsdb_layers.specs.Marks.{marks_up_to}
-use Rattle.tsdb_layers.specs.Order.{IsBelow, Rises}
-use Rattle.tsdb_layers.specs.Places.{Content, Place}
+use Rattle.tsdb_base.proofs.Lists.{each_among, each_append, each_both, each_from_among, each_left, each_right}
+use Rattle.tsdb_state.specs.Layers.{Layer, survivor, value_in}
+use Rattle.tsdb_base.specs.Lists.{Among}
+use Rattle.tsdb_state.specs.Marks.{marks_up_to}
+use Rattle.tsdb_state.specs.LayerOrder.{IsBelow, Rises}
+use Rattle.tsdb_state.specs.Places.{Content, Place}
 use Rattle.tsdb_marks.specs.declared.marks.Mark.{Mark}
 use Rattle.tsdb_state.proofs.OtherJobs.{inputs_listed}
 use Rattle.tsdb_state.proofs.Typed.{AreTyped}

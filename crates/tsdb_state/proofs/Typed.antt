@@ -2,14 +2,14 @@
 use Rattle.std.proofs.Common.{List, ◌∷◌, ◌++◌, map, ⊎_elim, []}
 use Rattle.tsdb_base.specs.Values.{type_of}
 use Rattle.tsdb_base.specs.declared.value.Value.{Value}
-use Rattle.tsdb_layers.proofs.Rising.{IsPartOf, before_each, before_part, part_append, part_itself, part_left}
-use Rattle.tsdb_layers.proofs.Values.{has_cases, has_left, has_right}
-use Rattle.tsdb_layers.specs.Layers.{HasPoint, Layer}
-use Rattle.tsdb_layers.specs.Places.{Place}
+use Rattle.tsdb_state.proofs.LayerLemmas.Rising.{IsPartOf, before_each, before_part, part_append, part_itself, part_left}
+use Rattle.tsdb_state.proofs.LayerLemmas.Values.{has_cases, has_left, has_right}
+use Rattle.tsdb_state.specs.Layers.{HasPoint, Layer}
+use Rattle.tsdb_state.specs.Places.{Place}
 use Rattle.tsdb_state.specs.State.{FrozenPair, SeriesEntry}
 use Rattle.tsdb_state.specs.StoreOrder.{IsOfSeries, LateIsBelow}
 use Rattle.tsdb_state.specs.Views.{sequence_layer, unsequence_layer}
-use Rattle.tsdb_layers.specs.Order.{IsBeforeInTime}
+use Rattle.tsdb_state.specs.LayerOrder.{IsBeforeInTime}
 
 abbrev pub AreTyped : List SeriesEntry → List Layer → Type 0
 AreTyped schemas layers =

@@ -6,10 +6,10 @@ use Rattle.std.specs.FinMap.{empty, get, get-empty}
 use Rattle.std.specs.List.{AllByRecursion as Each}
 use Rattle.std.specs.Option.{option_or}
 use Rattle.tsdb_base.specs.declared.value.Value.{Value}
-use Rattle.tsdb_layers.proofs.Tests.{newest_survivor}
-use Rattle.tsdb_layers.proofs.Values.{value_append}
-use Rattle.tsdb_layers.specs.Layers.{HasPoint, Layer, value_in}
-use Rattle.tsdb_layers.specs.Places.{Place, place_cmp}
+use Rattle.tsdb_state.proofs.LayerLemmas.Tests.{newest_survivor}
+use Rattle.tsdb_state.proofs.LayerLemmas.Values.{value_append}
+use Rattle.tsdb_state.specs.Layers.{HasPoint, Layer, value_in}
+use Rattle.tsdb_state.specs.Places.{Place, place_cmp}
 use Rattle.tsdb_marks.specs.declared.marks.Mark.{Mark}
 use Rattle.tsdb_state.specs.Limit.{empty_pair}
 use Rattle.tsdb_state.specs.State.{File, FrozenPair, StoreState, Told}

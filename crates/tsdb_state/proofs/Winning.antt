@@ -7,10 +7,10 @@ use Rattle.std.specs.List.{AllByRecursion as Each}
 use Rattle.std.specs.Option.{IsSomeAnd}
 use Rattle.std.specs.Ordering.{eq_by_cmp}
 use Rattle.tsdb_base.specs.declared.value.Value.{Value}
-use Rattle.tsdb_layers.proofs.Lists.{each_among, each_both}
-use Rattle.tsdb_layers.proofs.Places.{is_place, place_itself}
-use Rattle.tsdb_layers.specs.Lists.{Among, EachPair}
-use Rattle.tsdb_layers.specs.Places.{Place, place_cmp}
+use Rattle.tsdb_base.proofs.Lists.{each_among, each_both}
+use Rattle.tsdb_state.proofs.LayerLemmas.Places.{is_place, place_itself}
+use Rattle.tsdb_base.specs.Lists.{Among, EachPair}
+use Rattle.tsdb_state.specs.Places.{Place, place_cmp}
 use Rattle.tsdb_log.specs.declared.record.CellRecord.{CellRecord}
 use Rattle.tsdb_state.proofs.Inserting.{Found, IsReady, Theres, cell_type, found_in, inserted_value, ready_state}
 use Rattle.tsdb_state.proofs.Inserting.{value_ready}

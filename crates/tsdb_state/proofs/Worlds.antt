@@ -11,9 +11,9 @@ use Rattle.std.specs.declared.cmp.Ordering.TheVariants.{Less, Equal, Greater}
 use Rattle.tsdb_base.specs.declared.point.Range.{Range}
 use Rattle.tsdb_base.specs.declared.value.DataType.{DataType}
 use Rattle.tsdb_base.specs.declared.value.Value.{Value}
-use Rattle.tsdb_layers.proofs.JobMarks.{none_by}
-use Rattle.tsdb_layers.proofs.Places.{is_path_same}
-use Rattle.tsdb_layers.specs.Places.{Place, is_path, is_within, place_cmp}
+use Rattle.tsdb_state.proofs.LayerLemmas.JobMarks.{none_by}
+use Rattle.tsdb_state.proofs.LayerLemmas.Places.{is_path_same}
+use Rattle.tsdb_state.specs.Places.{Place, is_path, is_within, place_cmp}
 use Rattle.tsdb_model.specs.World.{Series, World, change, change_series, cut, is_in, points_of, put, value_at}
 
 abbrev pub type_in : Option Series → Option DataType

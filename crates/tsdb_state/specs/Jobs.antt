@@ -8,17 +8,17 @@ use Rattle.std.specs.List.{AllByRecursion as Each, flat_map}
 use Rattle.tsdb_base.specs.declared.ids.Space.{Space}
 use Rattle.tsdb_base.specs.declared.ids.Space.TheVariants.{Sequence, Unsequence}
 use Rattle.tsdb_base.specs.declared.value.Value.{Value}
-use Rattle.tsdb_layers.specs.Layers.{survivor}
-use Rattle.tsdb_layers.specs.Marks.{marks_up_to}
-use Rattle.tsdb_layers.specs.Order.{IsBeforeInTime}
-use Rattle.tsdb_layers.specs.Places.{Content, Place}
+use Rattle.tsdb_state.specs.Layers.{survivor}
+use Rattle.tsdb_state.specs.Marks.{marks_up_to}
+use Rattle.tsdb_state.specs.LayerOrder.{IsBeforeInTime}
+use Rattle.tsdb_state.specs.Places.{Content, Place}
 use Rattle.tsdb_marks.specs.declared.marks.Mark.{Mark}
 use Rattle.tsdb_path.specs.Nodes.{device_of}
 use Rattle.tsdb_plan.specs.Files.{AreRising}
 use Rattle.tsdb_plan.specs.declared.entry.Hull.{Hull}
 use Rattle.tsdb_state.specs.Limit.{IsEmptyPair}
 use Rattle.tsdb_base.specs.Limits.{end_of_numbers}
-use Rattle.tsdb_layers.specs.Lists.{Among, EachPair, IsRun, count, if_some}
+use Rattle.tsdb_base.specs.Lists.{Among, EachPair, IsRun, count, if_some}
 use Rattle.tsdb_state.specs.Records.{numbers_of}
 use Rattle.tsdb_state.specs.State.{Compaction, Entries, Entry, File, FlushJob, FrozenPair, PairContent, Pin, Room, Source}
 use Rattle.tsdb_state.specs.State.{FromFile, FromPart, Told}

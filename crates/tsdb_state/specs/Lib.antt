@@ -1,3 +1,7 @@
+pub mod Places
+pub mod Marks
+pub mod Layers
+pub mod LayerOrder
 pub mod State
 pub mod Views
 pub mod Worlds
@@ -10,3 +14,7 @@ pub mod Order
 pub mod Plans
 pub mod Steps
 pub mod NewStore
+pub mod Replays
+pub mod Damage
+pub mod Stores
+pub mod Stored

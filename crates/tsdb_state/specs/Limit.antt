@@ -2,8 +2,8 @@
 use Rattle.std.specs.Prelude.{◌≡◌, ◌⊎◌, ℕ, ◌+◌, ◌≤◌, ℤ, List, sum_by}
 use Rattle.std.specs.FinMap.{empty, entries, len}
 use Rattle.tsdb_base.specs.declared.value.Value.{Value}
-use Rattle.tsdb_layers.specs.Layers.{HasPoint}
-use Rattle.tsdb_layers.specs.Places.{Content, Place}
+use Rattle.tsdb_state.specs.Layers.{HasPoint}
+use Rattle.tsdb_state.specs.Places.{Content, Place}
 use Rattle.tsdb_memtable.specs.Points.{value_bytes}
 use Rattle.tsdb_path.specs.Nodes.{device_of}
 use Rattle.tsdb_base.specs.Limits.{max_pair_bytes, max_pair_points}

@@ -5,7 +5,7 @@ use Rattle.tsdb_log.specs.declared.record.LogRecord.{LogRecord}
 use Rattle.tsdb_log.specs.declared.record.LogRecord.TheVariants.{Create, Delete, Flushed, Freeze, Insert, Replaced, Snapshot}
 use Rattle.tsdb_state.specs.Jobs.{CompactionsInOrder, EntriesMatch, IsFlushOut, KeepsRoom, NumbersInOrder, RightsMatch}
 use Rattle.tsdb_state.specs.Jobs.{drawn_numbers, held_numbers}
-use Rattle.tsdb_layers.specs.Lists.{Among}
+use Rattle.tsdb_base.specs.Lists.{Among}
 use Rattle.tsdb_state.specs.Records.{CanFollow, after, names, numbers_of}
 use Rattle.tsdb_state.specs.State.{EngineState, Entries, File, StoreState, Told}
 use Rattle.tsdb_state.specs.StoreOrder.{StoreInOrder}

@@ -2,7 +2,7 @@
 use Rattle.std.specs.Prelude.{◌≡◌, Bool, true, List, [], map, slice_range, take}
 use Rattle.std.specs.List.{AllByRecursion as Each}
 use Rattle.tsdb_base.specs.declared.ids.Space.TheVariants.{Sequence, Unsequence}
-use Rattle.tsdb_layers.specs.Lists.{Among}
+use Rattle.tsdb_base.specs.Lists.{Among}
 use Rattle.tsdb_plan.specs.declared.entry.CrossRun.{CrossRun}
 use Rattle.tsdb_plan.specs.declared.entry.FileEntry.{FileEntry}
 use Rattle.tsdb_plan.specs.declared.entry.Run.{Run}

@@ -10,9 +10,9 @@ use Rattle.tsdb_base.specs.declared.ids.Space.{Space}
 use Rattle.tsdb_base.specs.declared.ids.Space.TheVariants.{Sequence, Unsequence}
 use Rattle.tsdb_base.specs.declared.point.Range.{Range}
 use Rattle.tsdb_base.specs.declared.value.Value.{Value}
-use Rattle.tsdb_layers.specs.Marks.{purge}
-use Rattle.tsdb_layers.specs.Order.{Watermarks}
-use Rattle.tsdb_layers.specs.Places.{Content, Place, cut, put}
+use Rattle.tsdb_state.specs.Marks.{purge}
+use Rattle.tsdb_state.specs.LayerOrder.{Watermarks}
+use Rattle.tsdb_state.specs.Places.{Content, Place, cut, put}
 use Rattle.tsdb_log.specs.declared.record.CellRecord.{CellRecord}
 use Rattle.tsdb_log.specs.declared.record.LogRecord.{LogRecord}
 use Rattle.tsdb_log.specs.declared.record.LogRecord.TheVariants.{Create, Delete, Flushed, Freeze, Insert, Replaced, Snapshot}
@@ -23,7 +23,7 @@ use Rattle.tsdb_memtable.specs.Watermarks.{later_time, space_by}
 use Rattle.tsdb_path.specs.Nodes.{device_of}
 use Rattle.tsdb_state.specs.Limit.{IsEmptyPair, empty_pair, point_count}
 use Rattle.tsdb_base.specs.Limits.{end_of_numbers, max_frozen, max_pair_points}
-use Rattle.tsdb_layers.specs.Lists.{EachPair, count}
+use Rattle.tsdb_base.specs.Lists.{EachPair, count}
 use Rattle.tsdb_state.specs.State.{File, FrozenPair, PairContent, SeriesEntry, StoreState}
 use Rattle.tsdb_state.specs.Views.{borns_of, working_pair}
 use Rattle.tsdb_state.specs.Worlds.{type_at}

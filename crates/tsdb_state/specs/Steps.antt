@@ -4,10 +4,10 @@ use Rattle.std.specs.Prelude.{Option}
 use Rattle.std.specs.Prelude.{Some, None, IfSome, nat_lt, true, ℤ}
 use Rattle.std.specs.FinMap.{len, retain_keys}
 use Rattle.tsdb_base.specs.declared.point.Range.{Range}
-use Rattle.tsdb_layers.specs.Layers.{Layer}
-use Rattle.tsdb_layers.specs.Marks.{survives}
-use Rattle.tsdb_layers.specs.Places.{is_path, is_within}
-use Rattle.tsdb_layers.specs.Lists.{IsRun}
+use Rattle.tsdb_state.specs.Layers.{Layer}
+use Rattle.tsdb_state.specs.Marks.{survives}
+use Rattle.tsdb_state.specs.Places.{is_path, is_within}
+use Rattle.tsdb_base.specs.Lists.{IsRun}
 use Rattle.tsdb_state.specs.Records.{Replacement}
 use Rattle.tsdb_state.specs.State.{StoreState}
 use Rattle.tsdb_state.specs.Views.{sequence_layer, unsequence_layer, working_pair}
@@ -15,15 +15,15 @@ use Rattle.std.specs.List.{AllByRecursion as Each, filter, list_any, range_with_
 use Rattle.tsdb_base.specs.declared.ids.FileNumber.{FileNumber}
 use Rattle.tsdb_base.specs.declared.ids.Space.TheVariants.{Sequence, Unsequence}
 use Rattle.tsdb_base.specs.declared.ids.Space.{Space}
-use Rattle.tsdb_layers.specs.Layers.{survivor, value_in}
-use Rattle.tsdb_layers.specs.Places.{Content, Place}
+use Rattle.tsdb_state.specs.Layers.{survivor, value_in}
+use Rattle.tsdb_state.specs.Places.{Content, Place}
 use Rattle.tsdb_log.specs.declared.record.LogRecord.{LogRecord}
 use Rattle.tsdb_log.specs.declared.record.LogRecord.TheVariants.{Flushed, Replaced}
 use Rattle.tsdb_model.specs.World.{World, is_in, value_at}
 use Rattle.tsdb_state.specs.Jobs.{AreApart, Describes, HasKind, IsDrawnFor, Stands, drawn_by, flushed_bytes, job_inputs}
 use Rattle.tsdb_state.specs.Jobs.{outgoing_places, output_places, pin_numbers, replaced_bytes}
 use Rattle.tsdb_base.specs.Limits.{end_of_numbers}
-use Rattle.tsdb_layers.specs.Lists.{Among, IsWithOne, count, if_some}
+use Rattle.tsdb_base.specs.Lists.{Among, IsWithOne, count, if_some}
 use Rattle.tsdb_state.specs.Records.{after, names, numbers_of}
 use Rattle.tsdb_state.specs.State.{Compaction, EngineState, Entries, File, FlushJob, FrozenPair, Pin, Room}
 use Rattle.tsdb_state.specs.State.{Source, FromFile, FromPart, Told}

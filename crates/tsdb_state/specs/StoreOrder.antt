@@ -5,14 +5,14 @@ use Rattle.std.specs.List.{AllByRecursion as Each}
 use Rattle.tsdb_base.specs.Values.{type_of}
 use Rattle.tsdb_base.specs.declared.value.DataType.{DataType}
 use Rattle.tsdb_base.specs.declared.value.Value.{Value}
-use Rattle.tsdb_layers.specs.Layers.{HasPoint, Layer}
-use Rattle.tsdb_layers.specs.Order.{IsAbove, IsBeforeInTime, IsBelow, Rises, Watermarks}
-use Rattle.tsdb_layers.specs.Places.{Place}
+use Rattle.tsdb_state.specs.Layers.{HasPoint, Layer}
+use Rattle.tsdb_state.specs.LayerOrder.{IsAbove, IsBeforeInTime, IsBelow, Rises, Watermarks}
+use Rattle.tsdb_state.specs.Places.{Place}
 use Rattle.tsdb_model.specs.Commands.{IsSchema}
 use Rattle.tsdb_marks.specs.declared.marks.Mark.{Mark}
 use Rattle.tsdb_state.specs.Limit.{IsEmptyPair, IsWithinPairLimit}
 use Rattle.tsdb_base.specs.Limits.{max_frozen}
-use Rattle.tsdb_layers.specs.Lists.{EachPair}
+use Rattle.tsdb_base.specs.Lists.{EachPair}
 use Rattle.tsdb_state.specs.State.{File, FrozenPair, PairContent, SeriesEntry, StoreState, Told}
 use Rattle.tsdb_state.specs.Views.{file_layers, layer_of, pair_layers, sequence_layer, unsequence_layer}
 use Rattle.tsdb_state.specs.Worlds.{type_at, value_of}

@@ -1,7 +1,7 @@
 -- The layers of a state, from the lowest to the highest priority.
 use Rattle.std.specs.Prelude.{ℕ, List, [], ◌∷◌, ◌++◌, map}
-use Rattle.tsdb_layers.specs.Layers.{Layer}
-use Rattle.tsdb_layers.specs.Places.{Content}
+use Rattle.tsdb_state.specs.Layers.{Layer}
+use Rattle.tsdb_state.specs.Places.{Content}
 use Rattle.tsdb_state.specs.State.{File, FrozenPair, PairContent, StoreState, Told}
 
 -- the points of a file

@@ -4,8 +4,8 @@ use Rattle.std.specs.FinMap.{get}
 use Rattle.std.specs.Option.{option_map}
 use Rattle.tsdb_base.specs.declared.value.DataType.{DataType}
 use Rattle.tsdb_base.specs.declared.value.Value.{Value}
-use Rattle.tsdb_layers.specs.Layers.{value_in}
-use Rattle.tsdb_layers.specs.Places.{Place, is_path}
+use Rattle.tsdb_state.specs.Layers.{value_in}
+use Rattle.tsdb_state.specs.Places.{Place, is_path}
 use Rattle.tsdb_model.specs.World.{World, value_at}
 use Rattle.tsdb_state.specs.State.{SeriesEntry, StoreState, Told}
 use Rattle.tsdb_state.specs.Views.{all_layers}

@@ -3,7 +3,7 @@
 ghost use Rattle.std.specs.List.{AllByRecursion};
 ghost use Rattle.std.specs.Prelude.{◌≡◌, ◌++◌, ℕ, ℤ, List, Some};
 ghost use Rattle.tsdb_base.specs.declared.point.Range.{Range};
-ghost use Rattle.tsdb_layers.specs.Lists.{Among, IsWithOne, count};
+ghost use Rattle.tsdb_base.specs.Lists.{Among, IsWithOne, count};
 ghost use Rattle.tsdb_log.specs.declared.record.CellRecord.{CellRecord};
 ghost use Rattle.tsdb_log.specs.declared.record.LogRecord.{LogRecord};
 ghost use Rattle.tsdb_model.specs.declared.command.Schema.{Schema};

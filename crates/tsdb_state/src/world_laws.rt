@@ -3,7 +3,7 @@ ghost use Rattle.std.specs.List.{AllByRecursion};
 ghost use Rattle.std.specs.Prelude.{◌≡◌, ◌++◌, ℕ, List, [], None};
 ghost use Rattle.std.specs.FinMap.{empty};
 ghost use Rattle.tsdb_model.specs.World.{World};
-ghost use Rattle.tsdb_layers.specs.Places.{Place};
+ghost use Rattle.tsdb_state.specs.Places.{Place};
 ghost use Rattle.tsdb_state.specs.Jobs.{EntriesMatch, NumbersInOrder};
 ghost use Rattle.tsdb_state.specs.NewStore.{new_store, opened};
 ghost use Rattle.tsdb_state.specs.Order.{IsInOrder};

@@ -9,10 +9,10 @@ ghost use Rattle.tsdb_pages.specs.File.{chunk_start, group_start, magic, page_by
 ghost use Rattle.tsdb_pages.specs.Pages.{ArePoints};
 ghost use Rattle.tsfile_writer.specs.Steps.{AreStatsOfBoth, IsBegun, IsLonger, SameChunk};
 
-use enc_list::all_or_none;
 use std::alloc::Global;
 use tsdb_base::limits::MAX_PAGES;
 use tsdb_base::{DataType, Encoding, List, Memory, PlainValue, Point, Stats};
+use tsdb_bits::all_or_none;
 use tsdb_fields::{write_name, write_path};
 use tsdb_index::marks::{CHUNK, GROUP, MAGIC, PAGE};
 use tsdb_index::{Index, IndexEntry, PageEntry, write_leaves_and_root};

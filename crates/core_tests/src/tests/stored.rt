@@ -3,9 +3,9 @@ ghost use Rattle.std.specs.Prelude.{◌≡◌, [], ◌∷◌, List, IfOk, IfSome
 ghost use Rattle.std.proofs.Props.{props};
 ghost use Rattle.core_support.specs.Ready.{IsReady};
 ghost use Rattle.tsdb_core.specs.Flushes.{IsOut};
-ghost use Rattle.tsdb_jobs.specs.Jobs.{IsJob};
-ghost use Rattle.tsdb_jobs.specs.declared.flush.FlushJob.{FlushJob as JobOf};
-ghost use Rattle.tsdb_layers.specs.Lists.{IsWithOne};
+ghost use Rattle.tsdb_flush.specs.Jobs.{IsJob};
+ghost use Rattle.tsdb_flush.specs.declared.job.FlushJob.{FlushJob as JobOf};
+ghost use Rattle.tsdb_base.specs.Lists.{IsWithOne};
 ghost use Rattle.tsdb_model.specs.Commands.{IsWellFormed};
 
 use core_support::{ask, command_of, end, freeze, new_core, take};
@@ -15,11 +15,9 @@ use std::test::Fail;
 use tests_support as lines;
 use tsdb_base::{Answer, Space, Stamp, Time};
 use tsdb_core::{Commit, Core, CoreFault};
-use tsdb_engine::{FlushRefused, run_flush};
+use tsdb_flush::{FlushJob, FlushRefused, run_flush};
 use tsdb_frames::Frames;
-use tsdb_jobs::FlushJob;
-use tsdb_logged::Logged;
-use tsdb_memory::MemoryStore;
+use tsdb_memory::{Logged, MemoryStore};
 use tsdb_model::{Command, Reply};
 use tsdb_outside::{Failed, Files, Journal, Place, Slot};
 use tsdb_print::print_reply;

@@ -12,8 +12,7 @@ use tsdb_base::{
 };
 use tsdb_frames::Frames;
 use tsdb_log::CellRecord;
-use tsdb_logged::Logged;
-use tsdb_memory::MemoryStore;
+use tsdb_memory::{Logged, MemoryStore};
 use tsdb_memtable::Pair;
 use tsdb_model::Schema;
 use tsdb_outside::{Journal, Place, Slot};

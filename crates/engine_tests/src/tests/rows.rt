@@ -9,10 +9,9 @@ use std::test::Fail;
 use tests_support::command_of;
 use tsdb_base::{Answer, List, Time};
 use tsdb_log::CellRecord;
-use tsdb_logged::Logged;
+use tsdb_memory::{Logged, cells_of, fits};
 use tsdb_model::Command;
 use tsdb_path::Path;
-use tsdb_rows::{cells_of, fits};
 
 /// One series of each type, numbered from 0.
 const SERIES: [&str; 4] = [

@@ -1,5 +1,5 @@
 use Rattle.std.proofs.Common.{◌≡◌}
-use Rattle.tsdb_columns.specs.Streams.{IsStreamOfStore}
+use Rattle.tsdb_streams.specs.Streams.{IsStreamOfStore}
 use Rattle.columns_tests.proofs.stored.pull_all.Given as goal
 
 abbrev pub invariant-loop : goal.invariant-loop

@@ -1,6 +1,6 @@
 use Rattle.std.proofs.Common.{[], ◌∷◌, inr, refl}
 use Rattle.tsdb_base.specs.declared.ids.Space.TheVariants.{Sequence, Unsequence}
-use Rattle.tsdb_jobs.specs.Jobs.{job_part}
+use Rattle.tsdb_flush.specs.Jobs.{job_part}
 use Rattle.core_support.proofs.Ready.{ended, first_of}
 use Rattle.core_support.proofs.led.end_written.Goals as goal
 

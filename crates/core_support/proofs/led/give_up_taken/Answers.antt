@@ -1,7 +1,7 @@
 use Rattle.std.proofs.Common.{[], ◌∷◌, None, inl, refl}
 use Rattle.tsdb_base.specs.declared.ids.Space.TheVariants.{Sequence, Unsequence}
 use Rattle.tsdb_core.specs.declared.commit.Commit.TheVariants.{Gone}
-use Rattle.tsdb_jobs.specs.Jobs.{job_part}
+use Rattle.tsdb_flush.specs.Jobs.{job_part}
 use Rattle.core_support.proofs.Ready.{ended, first_of}
 use Rattle.core_support.proofs.led.give_up_taken.Goals as goal
 

@@ -5,8 +5,8 @@ use Rattle.std.proofs.lemmas.Result.{err_from_is_err_and, IfOk-weaker}
 use Rattle.tsdb_base.specs.declared.fault.DecodeFault.TheVariants.{Bad}
 use Rattle.tsdb_base.specs.Plain.{IsText}
 use Rattle.tsdb_bits.specs.Leb.{leb}
-use Rattle.enc_list.specs.Lists.{IsSpelling, IsOnly}
-use Rattle.enc_list.proofs.ListLaws.{only_found}
+use Rattle.tsdb_bits.specs.Lists.{IsSpelling, IsOnly}
+use Rattle.tsdb_bits.proofs.ListLaws.{only_found}
 use Rattle.enc_dict.specs.Spelling.{spelling}
 use Rattle.enc_dict.specs.Steps.{AreUses}
 use Rattle.enc_dict.proofs.SpellingLaws.{tail_of, spelling-tail, nothing_behind, no_parts, uses_back, is_spelling, same_from_spelling}

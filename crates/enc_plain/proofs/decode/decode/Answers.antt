@@ -4,7 +4,7 @@ use Rattle.std.proofs.lemmas.List.{append-nil, nil_from_length}
 use Rattle.std.proofs.lemmas.Result.{err_from_is_err_and}
 use Rattle.tsdb_base.specs.declared.fault.DecodeFault.TheVariants.{Bad}
 use Rattle.tsdb_bits.specs.Leb.{leb}
-use Rattle.enc_list.proofs.ListLaws.{only_found}
+use Rattle.tsdb_bits.proofs.ListLaws.{only_found}
 use Rattle.enc_plain.specs.Spelling.{spelling}
 use Rattle.enc_plain.proofs.PlainLaws.{behind_count, nothing_behind, same_from_spelling}
 use Rattle.enc_plain.proofs.decode.decode.Goals as goal

@@ -4,7 +4,7 @@ use Rattle.std.specs.Prelude.{map}
 use Rattle.std.specs.List.{flat_map}
 use Rattle.std.proofs.lemmas.Bool.{ne_eqb}
 use Rattle.std.proofs.lemmas.List.{nil_from_length}
-use Rattle.enc_list.proofs.ListLaws.{only_found}
+use Rattle.tsdb_bits.proofs.ListLaws.{only_found}
 use Rattle.enc_rle.specs.Spelling.{run_bytes, spelling}
 use Rattle.enc_rle.proofs.Runs.{first_run, run_split, same_from_spelling}
 use Rattle.enc_rle.proofs.Progress.{no_progress, one_run_more, all_read, next_run_of, nothing_left, no_count, first_or_not}

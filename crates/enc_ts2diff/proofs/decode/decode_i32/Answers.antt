@@ -6,7 +6,7 @@ use Rattle.std.proofs.lemmas.Grind.{common_steps}
 use Rattle.std.proofs.lemmas.Int.{to_z-of_z}
 use Rattle.std.proofs.lemmas.List.{take_all}
 use Rattle.std.proofs.lemmas.List.Elements.{All-push}
-use Rattle.enc_list.specs.Lists.{IsListOf, IsSpelling}
+use Rattle.tsdb_bits.specs.Lists.{IsListOf, IsSpelling}
 use Rattle.enc_ts2diff.specs.Spelling.{spelling}
 use Rattle.enc_ts2diff.proofs.Numbers.{wider_list}
 use Rattle.enc_ts2diff.proofs.decode.decode_i32.Goals as goal

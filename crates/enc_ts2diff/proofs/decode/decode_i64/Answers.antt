@@ -1,8 +1,8 @@
 use Rattle.std.proofs.Common.{sym, subst, FitsSigned}
 use Rattle.std.specs.Int.{w64}
 use Rattle.std.proofs.lemmas.Result.{IfOk-weaker}
-use Rattle.enc_list.specs.Lists.{IsSpelling, IsOnly}
-use Rattle.enc_list.proofs.ListLaws.{only_found}
+use Rattle.tsdb_bits.specs.Lists.{IsSpelling, IsOnly}
+use Rattle.tsdb_bits.proofs.ListLaws.{only_found}
 use Rattle.enc_ts2diff.specs.Spelling.{spelling}
 use Rattle.enc_ts2diff.specs.Steps.{Finds}
 use Rattle.enc_ts2diff.proofs.Parts.{same_from_spelling}

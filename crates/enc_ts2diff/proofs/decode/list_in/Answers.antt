@@ -13,7 +13,7 @@ use Rattle.tsdb_base.specs.Plain.{BeginsWithNone}
 use Rattle.tsdb_bits.specs.Leb.{leb}
 use Rattle.tsdb_bits.specs.Zigzag.{zigzag, unzigzag}
 use Rattle.tsdb_bits.proofs.ZigzagLaws.{unzigzag-zigzag}
-use Rattle.enc_list.specs.Lists.{IsListOf, IsSpelling}
+use Rattle.tsdb_bits.specs.Lists.{IsListOf, IsSpelling}
 use Rattle.enc_ts2diff.specs.Spelling.{differences, block, content, spelling}
 use Rattle.enc_ts2diff.specs.Steps.{Finds, FindsBlock, Continues, Restores, steps_of}
 use Rattle.enc_ts2diff.proofs.Numbers.{zigzag-lt, differences_fit, length-differences}

@@ -1,5 +1,5 @@
 use Rattle.std.specs.Option.{option_map}
-use Rattle.tsdb_committing.specs.Files.{new_file}
+use Rattle.tsdb_tasks.specs.Files.{new_file}
 use Rattle.jobs_tests.proofs.Out.{job_ended, new_in}
 use Rattle.jobs_tests.proofs.jobs.give_up.Goals as goal
 

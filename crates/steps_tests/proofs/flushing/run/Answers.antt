@@ -1,7 +1,7 @@
 use Rattle.std.proofs.Common.{inl, inr}
 use Rattle.tsdb_base.specs.declared.ids.Space.TheVariants.{Sequence, Unsequence}
 use Rattle.tsdb_core.specs.declared.commit.Commit.TheVariants.{Gone}
-use Rattle.tsdb_jobs.specs.Jobs.{job_part}
+use Rattle.tsdb_flush.specs.Jobs.{job_part}
 use Rattle.steps_tests.proofs.Out.{flush_ended, flush_is_out}
 use Rattle.steps_tests.proofs.flushing.run.Goals as goal
 

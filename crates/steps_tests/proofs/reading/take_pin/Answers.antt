@@ -1,5 +1,5 @@
 use Rattle.tsdb_core.specs.Core.{files_of, logged_of}
-use Rattle.tsdb_logged.specs.Logged.{memory_of}
+use Rattle.tsdb_memory.specs.Logged.{memory_of}
 use Rattle.tsdb_pins.proofs.Named.{have_nodes}
 use Rattle.steps_tests.proofs.Out.{pin_refused, pin_taken}
 use Rattle.steps_tests.proofs.reading.take_pin.Goals as goal

@@ -1,5 +1,5 @@
 use Rattle.std.proofs.Common.{◌≡◌}
-use Rattle.tsdb_columns.specs.Streams.{IsStreamOfStore}
+use Rattle.tsdb_streams.specs.Streams.{IsStreamOfStore}
 use Rattle.tsdb_bench.proofs.served.pull_all.Given as goal
 
 abbrev pub invariant-loop-taken : goal.invariant-loop-taken

@@ -1,5 +1,5 @@
 use Rattle.tsdb_core.specs.Core.{files_of, logged_of}
-use Rattle.tsdb_logged.specs.Logged.{memory_of}
+use Rattle.tsdb_memory.specs.Logged.{memory_of}
 use Rattle.tsdb_pins.proofs.Held.{columns_of}
 use Rattle.tsdb_pins.proofs.Named.{have_nodes}
 use Rattle.tsdb_querying.proofs.Pinned.{ready_still}

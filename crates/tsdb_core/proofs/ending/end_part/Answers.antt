@@ -1,10 +1,10 @@
 use Rattle.std.proofs.Common.{subst, sym}
 use Rattle.std.specs.Option.{option_map}
-use Rattle.tsdb_committing.specs.Files.{new_file}
-use Rattle.tsdb_core.proofs.Built.{listed_as, of_number, sent_as, unread}
+use Rattle.tsdb_tasks.specs.Files.{new_file}
+use Rattle.tsdb_core.proofs.OutputsBuilt.{listed_as, of_number, sent_as, unread}
 use Rattle.tsdb_core.specs.Ending.{PartEnds}
-use Rattle.tsdb_kept.specs.Files.{IsOpen}
-use Rattle.tsdb_kept.specs.Room.{HasRoom}
+use Rattle.tsdb_fileset.specs.Files.{IsOpen}
+use Rattle.tsdb_fileset.specs.Room.{HasRoom}
 use Rattle.tsdb_core.proofs.ending.end_part.Goals as goal
 
 pub returns-in-Done : goal.returns-in-Done

@@ -3,8 +3,8 @@ use Rattle.std.specs.Prelude.{IfSome}
 use Rattle.tsdb_base.specs.declared.ids.FileNumber.{FileNumber}
 use Rattle.tsdb_core.proofs.Parts.{no_part, part_given_up}
 use Rattle.tsdb_core.specs.Ending.{PartEnds}
-use Rattle.tsdb_kept.specs.Files.{IsOpen}
-use Rattle.tsdb_kept.specs.Room.{HasRoom}
+use Rattle.tsdb_fileset.specs.Files.{IsOpen}
+use Rattle.tsdb_fileset.specs.Room.{HasRoom}
 use Rattle.tsdb_core.proofs.ending.give_up.Goals as goal
 
 pub returns-in-Some : goal.returns-in-Some

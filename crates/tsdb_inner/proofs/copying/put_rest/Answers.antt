@@ -3,7 +3,7 @@ use Rattle.std.specs.Int.{w64}
 use Rattle.std.proofs.lemmas.Bool.{false≢true}
 use Rattle.std.proofs.lemmas.Int.{to_z-of_z}
 use Rattle.std.proofs.lemmas.Result.{err_from_is_err_and}
-use Rattle.tsdb_columns.proofs.Reasons.{reason_memory, reason_ok, reason_then, same_reason}
+use Rattle.tsdb_streams.proofs.Reasons.{reason_memory, reason_ok, reason_then, same_reason}
 use Rattle.tsdb_inner.proofs.Putting.{all_taken, broken, drains_more, drains_none, is_whole, may_put, putting_more, putting_none, puts}
 use Rattle.tsdb_inner.proofs.copying.put_rest.Goals as goal
 

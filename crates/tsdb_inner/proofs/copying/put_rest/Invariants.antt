@@ -1,7 +1,7 @@
 use Rattle.std.proofs.Common.{◌≡◌, ◌≤◌, List, None}
 use Rattle.tsdb_base.specs.declared.point.Point.{Point}
-use Rattle.tsdb_columns.specs.Files.{FilePages}
-use Rattle.tsdb_columns.specs.Streams.{IsStreamOfStore, IsToldStream, IsTrueStream, stream_left}
+use Rattle.tsdb_streams.specs.Files.{FilePages}
+use Rattle.tsdb_streams.specs.Streams.{IsStreamOfStore, IsToldStream, IsTrueStream, stream_left}
 use Rattle.tsdb_inner.proofs.Putting.{Drains, IsPutting}
 use Rattle.tsdb_inner.proofs.copying.put_rest.Given as goal
 

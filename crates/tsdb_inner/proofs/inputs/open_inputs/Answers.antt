@@ -2,11 +2,11 @@ use Rattle.std.proofs.Common.{rules, ◌∙◌, Err, refl, sym, subst, arith}
 use Rattle.std.specs.List.{AllByRecursion as Each, AllZip}
 use Rattle.std.proofs.lemmas.List.{take_all}
 use Rattle.std.proofs.lemmas.Result.{err_from_is_err_and}
-use Rattle.tsdb_columns.proofs.Reasons.{reason_memory, reason_ok, reason_then, same_reason}
+use Rattle.tsdb_streams.proofs.Reasons.{reason_memory, reason_ok, reason_then, same_reason}
 use Rattle.tsdb_inner.proofs.All.{among_at}
 use Rattle.tsdb_inner.proofs.Lists.{zip_more}
 use Rattle.tsdb_inner.specs.Inputs.{IsInputOf, IsOpenedAs, IsWhole}
-use Rattle.tsdb_layers.proofs.Lists.{each_among}
+use Rattle.tsdb_base.proofs.Lists.{each_among}
 use Rattle.tsdb_inner.proofs.inputs.open_inputs.Goals as goal
 
 pub loop-input-init : goal.loop-input-init

@@ -5,7 +5,7 @@ use Rattle.std.proofs.lemmas.Result.{err_from_is_err_and}
 use Rattle.tsdb_inner.proofs.All.{HasCopied, copied_all, copied_more, copied_none, may_add, schema_among}
 use Rattle.tsdb_inner.proofs.Series.{cause_ok, cause_then, same_cause}
 use Rattle.tsdb_inner.specs.Inputs.{IsInputOf}
-use Rattle.tsdb_layers.proofs.Lists.{each_among}
+use Rattle.tsdb_base.proofs.Lists.{each_among}
 use Rattle.tsdb_model.specs.Commands.{IsSchema}
 use Rattle.tsdb_inner.proofs.running.copy_all.Goals as goal
 

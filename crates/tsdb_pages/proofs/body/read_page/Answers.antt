@@ -4,7 +4,7 @@ use Rattle.std.proofs.lemmas.Result.{err_from_is_err_and}
 use Rattle.tsdb_base.specs.Values.{is_suitable}
 use Rattle.tsdb_pages.specs.declared.fault.PageFault.TheVariants as page
 use Rattle.tsdb_pages.specs.Pages.{times_field, values_of}
-use Rattle.enc_values.specs.Spelling.{spelling}
+use Rattle.tsdb_pages.specs.ListSpelling.{spelling}
 use Rattle.tsdb_pages.proofs.Bodies.{bad_there, no_rise, is_body, no_times, no_values, short_times, no_pairing}
 use Rattle.tsdb_pages.proofs.body.read_page.Goals as goal
 use Rattle.tsdb_pages.proofs.body.read_page.Goals.{then-is_empty-via-then-is_empty, then-is_empty-via-else-is_empty+then-len}

@@ -2,7 +2,7 @@ use Rattle.std.proofs.Common.{rules, ◌∙◌, ◌+◌, ◌≤◌, Err, sym, su
 use Rattle.std.specs.List.{AllByRecursion as Each, AllZip}
 use Rattle.std.proofs.lemmas.List.{take_all}
 use Rattle.std.proofs.lemmas.Result.{err_from_is_err_and}
-use Rattle.tsdb_columns.proofs.Reasons.{reason_memory, reason_ok, reason_then, same_reason}
+use Rattle.tsdb_streams.proofs.Reasons.{reason_memory, reason_ok, reason_then, same_reason}
 use Rattle.tsdb_path.specs.Nodes.{node_count}
 use Rattle.tsdb_pins.proofs.Counted.{read_all, read_more}
 use Rattle.tsdb_pins.proofs.Draining.{each_at, later_then}

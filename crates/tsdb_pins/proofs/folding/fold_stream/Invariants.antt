@@ -1,9 +1,9 @@
 use Rattle.std.proofs.Common.{◌≡◌, ◌≤◌, List, None, Some}
 use Rattle.std.specs.Prelude.{filter}
 use Rattle.tsdb_base.specs.declared.point.Point.{Point}
-use Rattle.tsdb_columns.specs.Files.{FilePages}
-use Rattle.tsdb_columns.specs.Parted.{AreTaken, is_between}
-use Rattle.tsdb_columns.specs.Streams.{IsStreamOfStore, IsToldStream, IsTrueStream, stream_due, stream_left}
+use Rattle.tsdb_streams.specs.Files.{FilePages}
+use Rattle.tsdb_streams.specs.Parted.{AreTaken, is_between}
+use Rattle.tsdb_streams.specs.Streams.{IsStreamOfStore, IsToldStream, IsTrueStream, stream_due, stream_left}
 use Rattle.tsdb_base.specs.Points.{IsRising}
 use Rattle.tsdb_pins.proofs.Weaving.{Woven}
 use Rattle.tsdb_pins.proofs.folding.fold_stream.Given as goal

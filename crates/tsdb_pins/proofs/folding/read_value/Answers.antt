@@ -3,7 +3,7 @@ use Rattle.std.specs.List.{AllZip}
 use Rattle.std.proofs.lemmas.List.Elements.{All-from_recursion}
 use Rattle.tsdb_base.specs.Points.{IsRising}
 use Rattle.std.proofs.lemmas.Result.{err_from_is_err_and}
-use Rattle.tsdb_columns.proofs.Reasons.{reason_memory, reason_ok, reason_then}
+use Rattle.tsdb_streams.proofs.Reasons.{reason_memory, reason_ok, reason_then}
 use Rattle.tsdb_pins.proofs.Counted.{lent_read, most_then, told_lists}
 use Rattle.tsdb_pins.proofs.Draining.{ok_then}
 use Rattle.tsdb_pins.proofs.Tallied.{value_none, value_of}

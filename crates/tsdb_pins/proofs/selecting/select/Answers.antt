@@ -1,5 +1,5 @@
 use Rattle.std.proofs.lemmas.Result.{err_from_is_err_and}
-use Rattle.tsdb_columns.proofs.Reasons.{reason_memory, reason_ok, same_reason}
+use Rattle.tsdb_streams.proofs.Reasons.{reason_memory, reason_ok, same_reason}
 use Rattle.tsdb_pins.proofs.Selected.{columns_read}
 use Rattle.tsdb_pins.proofs.selecting.select.Goals as goal
 

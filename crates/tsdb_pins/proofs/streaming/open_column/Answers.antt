@@ -1,7 +1,7 @@
 use Rattle.std.proofs.Common.{◌≤◌, subst, arith}
 use Rattle.std.specs.List.{AllByRecursion as Each}
-use Rattle.tsdb_columns.proofs.Reasons.{reason_then}
-use Rattle.tsdb_columns.specs.Streams.{IsToldStream, IsTrueStream}
+use Rattle.tsdb_streams.proofs.Reasons.{reason_then}
+use Rattle.tsdb_streams.specs.Streams.{IsToldStream, IsTrueStream}
 use Rattle.tsdb_path.specs.Nodes.{node_count}
 use Rattle.tsdb_pins.proofs.Draining.{each_found, found_at, ok_then, one_found}
 use Rattle.tsdb_pins.proofs.Selected.{column_left}

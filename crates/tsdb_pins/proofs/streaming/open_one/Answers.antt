@@ -1,7 +1,7 @@
 use Rattle.std.proofs.Common.{subst, arith}
 use Rattle.std.specs.List.{AllZip}
 use Rattle.std.proofs.lemmas.Result.{err_from_is_err_and}
-use Rattle.tsdb_columns.proofs.Reasons.{reason_memory, reason_then}
+use Rattle.tsdb_streams.proofs.Reasons.{reason_memory, reason_then}
 use Rattle.tsdb_pins.proofs.Draining.{ok_then}
 use Rattle.tsdb_pins.proofs.Lent.{all_left, kept_rising, of_store_lent, told_lent, true_lent}
 use Rattle.tsdb_pins.specs.Reading.{IsLentAs}

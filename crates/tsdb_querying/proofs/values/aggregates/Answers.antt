@@ -2,11 +2,11 @@ use Rattle.std.proofs.Common.{Err, ap, map, refl, subst, sym, ◌∙◌}
 use Rattle.tsdb_base.specs.declared.answers.Answer.TheVariants as answer
 use Rattle.tsdb_core.specs.Core.{files_of, logged_of}
 use Rattle.tsdb_frames.specs.Frames.{faults_of}
-use Rattle.tsdb_logged.specs.Logged.{log_of, memory_of}
+use Rattle.tsdb_memory.specs.Logged.{log_of, memory_of}
 use Rattle.tsdb_model.specs.declared.reply.Reply.TheVariants.{Plain, Values}
 use Rattle.tsdb_memory.specs.Shown.{entry_of}
-use Rattle.tsdb_pinning.specs.Items.{IsRefused}
-use Rattle.tsdb_pinning.specs.declared.pin.PinFault.TheVariants as fault
+use Rattle.tsdb_pin.specs.Items.{IsRefused}
+use Rattle.tsdb_pin.specs.declared.pin.PinFault.TheVariants as fault
 use Rattle.tsdb_pins.proofs.Held.{columns_of}
 use Rattle.tsdb_pins.proofs.Named.{have_nodes}
 use Rattle.tsdb_querying.proofs.Answered.{allowed_reply, fault_allowed, fault_stays, has_risen, is_failed, not_taken, refused, taken, values_allowed}

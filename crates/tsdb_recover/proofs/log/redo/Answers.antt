@@ -1,7 +1,7 @@
 use Rattle.std.proofs.Common.{◌≡◌, ◌∙◌, ℕ, Err, rules, subst}
 use Rattle.std.specs.Result.{IsErrOf}
 use Rattle.tsdb_log.specs.declared.record.LogRecord.{LogRecord}
-use Rattle.tsdb_opening.specs.Redone.{IsWithoutReplay}
+use Rattle.tsdb_redo.specs.Redone.{IsWithoutReplay}
 use Rattle.tsdb_recover.specs.declared.fault.OpenFault.TheVariants.{Damaged}
 use Rattle.tsdb_recover.specs.declared.fault.Part.{Part}
 use Rattle.tsdb_recover.specs.declared.fault.Part.TheVariants.{Log}

@@ -1,13 +1,13 @@
 use Rattle.std.proofs.Common.{arith, refl, subst, sym}
-use Rattle.tsdb_answers.proofs.Following.{creation_follows}
+use Rattle.tsdb_memory.proofs.Following.{creation_follows}
 use Rattle.tsdb_core.specs.Core.{logged_of}
-use Rattle.tsdb_logged.specs.Commands.{create_record}
-use Rattle.tsdb_logged.specs.Logged.{memory_of}
+use Rattle.tsdb_memory.specs.Commands.{create_record}
+use Rattle.tsdb_memory.specs.Logged.{memory_of}
 use Rattle.tsdb_model.specs.declared.command.Command.TheVariants.{Create}
 use Rattle.tsdb_serving.proofs.Answered.{HasStamp, allowed, answered, create_stamp, stamp_is, world_is}
 use Rattle.tsdb_serving.proofs.Jobs.{kept_ready}
 use Rattle.tsdb_serving.specs.Serving.{IsDrawn}
-use Rattle.tsdb_logged.specs.Answers.{IsRefusal}
+use Rattle.tsdb_memory.specs.Answers.{IsRefusal}
 use Rattle.tsdb_serving.proofs.Full.{by_stamp}
 use Rattle.tsdb_serving.proofs.changes.create.Goals as goal
 

@@ -1,9 +1,9 @@
 use Rattle.std.proofs.Common.{inl, ap, subst, ◌∙◌}
-use Rattle.tsdb_committing.specs.Files.{new_files}
-use Rattle.tsdb_core.proofs.Built.{of_job_done}
+use Rattle.tsdb_tasks.specs.Files.{new_files}
+use Rattle.tsdb_core.proofs.OutputsBuilt.{of_job_done}
 use Rattle.tsdb_core.specs.Core.{logged_of}
 use Rattle.tsdb_core.specs.Flushes.{IsCommitAnswer}
-use Rattle.tsdb_logged.specs.Logged.{memory_of}
+use Rattle.tsdb_memory.specs.Logged.{memory_of}
 use Rattle.tsdb_serving.proofs.Flushes.{commit_ends, later_rose}
 use Rattle.tsdb_serving.proofs.Jobs.{all_in_store, done_so_far, is_out, tell_bytes}
 use Rattle.tsdb_serving.proofs.flushing.commit.Goals as goal

@@ -1,7 +1,7 @@
 use Rattle.std.proofs.Common.{sym, ◌∙◌}
 use Rattle.std.proofs.lemmas.Bool.{false≢true}
 use Rattle.tsdb_core.specs.Core.{working_of}
-use Rattle.tsdb_rows.specs.Fits.{HasNoPoint}
+use Rattle.tsdb_memory.specs.Fits.{HasNoPoint}
 use Rattle.tsdb_serving.proofs.Flushes.{froze, nothing}
 use Rattle.tsdb_serving.proofs.flushing.freeze.Goals as goal
 

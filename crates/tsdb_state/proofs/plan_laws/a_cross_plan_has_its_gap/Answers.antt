@@ -1,6 +1,6 @@
 use Rattle.std.proofs.Common.{◌≡◌}
 use Rattle.tsdb_base.specs.declared.ids.Space.TheVariants.{Sequence}
-use Rattle.tsdb_layers.proofs.Lists.{each_weaker}
+use Rattle.tsdb_base.proofs.Lists.{each_weaker}
 use Rattle.tsdb_state.specs.State.{Compaction}
 use Rattle.tsdb_state.proofs.Plans.{apart_of_free, cross_free, cross_gap}
 use Rattle.tsdb_state.proofs.plan_laws.a_cross_plan_has_its_gap.Goals as goal

@@ -1,7 +1,7 @@
 use Rattle.std.proofs.Common.{◌≡◌, false, subst, sym}
 use Rattle.std.specs.List.{AllByRecursion as Each}
 use Rattle.tsdb_base.specs.declared.ids.Space.TheVariants.{Sequence}
-use Rattle.tsdb_layers.proofs.Lists.{each_weaker}
+use Rattle.tsdb_base.proofs.Lists.{each_weaker}
 use Rattle.tsdb_state.specs.State.{Compaction}
 use Rattle.tsdb_state.proofs.Plans.{apart_of_free, inner_sequence}
 use Rattle.tsdb_state.proofs.plan_laws.an_inner_sequence_plan_stands.Goals as goal

@@ -1,6 +1,6 @@
 use Rattle.std.proofs.Common.{◌≡◌, ◌∙◌, sym}
 use Rattle.tsdb_base.specs.declared.ids.Space.TheVariants.{Sequence}
-use Rattle.tsdb_layers.proofs.Lists.{each_all}
+use Rattle.tsdb_base.proofs.Lists.{each_all}
 use Rattle.tsdb_state.proofs.Plans.{apart_of_free, inner_free, inner_unsequence, other_space}
 use Rattle.tsdb_state.specs.State.{Compaction}
 use Rattle.tsdb_state.proofs.plan_laws.an_inner_unsequence_plan_stands.Goals as goal

@@ -1,5 +1,5 @@
 use Rattle.std.proofs.Common.{ap, refl, subst, sym}
-use Rattle.tsdb_compacting.specs.Ending.{IsOutIn}
+use Rattle.tsdb_tasks.specs.Ending.{IsOutIn}
 use Rattle.tsdb_core.proofs.Replacements.{abandoned_from}
 use Rattle.tsdb_core.specs.Core.{files_of}
 use Rattle.tsdb_core.proofs.engine.Core.abandon.Goals as goal

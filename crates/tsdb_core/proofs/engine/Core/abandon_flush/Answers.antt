@@ -1,5 +1,5 @@
-use Rattle.tsdb_committing.specs.Files.{new_files}
-use Rattle.tsdb_core.proofs.Built.{of_job}
+use Rattle.tsdb_tasks.specs.Files.{new_files}
+use Rattle.tsdb_core.proofs.OutputsBuilt.{of_job}
 use Rattle.tsdb_core.proofs.Commits.{abandoned_from}
 use Rattle.tsdb_core.proofs.engine.Core.abandon_flush.Goals as goal
 

@@ -1,5 +1,5 @@
-use Rattle.tsdb_committing.specs.Files.{new_files}
-use Rattle.tsdb_core.proofs.Built.{all_there, of_job_done, so_far}
+use Rattle.tsdb_tasks.specs.Files.{new_files}
+use Rattle.tsdb_core.proofs.OutputsBuilt.{all_there, of_job_done, so_far}
 use Rattle.tsdb_core.proofs.Commits.{committed_from, still_out}
 use Rattle.tsdb_core.proofs.engine.Core.commit_flush.Goals as goal
 

@@ -1,6 +1,6 @@
 use Rattle.std.proofs.Common.{◌≡◌, ◌+◌, length, subst, sym}
 use Rattle.std.specs.Option.{option_map}
-use Rattle.tsdb_committing.specs.Files.{new_file}
+use Rattle.tsdb_tasks.specs.Files.{new_file}
 use Rattle.tsdb_core.proofs.Replacements.{all_inputs, committed_from}
 use Rattle.tsdb_core.specs.Replacements.{EndsFiles, without_claim}
 use Rattle.tsdb_core.proofs.engine.Core.commit_job.Goals as goal

@@ -1,6 +1,6 @@
-use Rattle.tsdb_committing.specs.Files.{new_file, new_files}
+use Rattle.tsdb_tasks.specs.Files.{new_file, new_files}
 use Rattle.std.specs.Option.{option_map}
-use Rattle.tsdb_core.proofs.Built.{all_drawn, drawn_part, sequence_numbered, unsequence_numbered}
+use Rattle.tsdb_core.proofs.OutputsBuilt.{all_drawn, drawn_part, sequence_numbered, unsequence_numbered}
 use Rattle.tsdb_core.proofs.Commits.{ends_flush, first_place, first_room, second_place, second_room}
 use Rattle.tsdb_core.proofs.Loans.{unread_yet}
 use Rattle.tsdb_core.proofs.engine.Core.end_flush.Goals as goal

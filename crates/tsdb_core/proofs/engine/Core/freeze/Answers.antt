@@ -2,7 +2,7 @@ use Rattle.std.proofs.Common.{refl, subst, sym, ◌∙◌}
 use Rattle.std.proofs.lemmas.Bool.{false≢true}
 use Rattle.tsdb_core.proofs.RowLemmas.{can_freeze_now, freeze_command}
 use Rattle.tsdb_core.proofs.Worlds.{freeze_keeps}
-use Rattle.tsdb_rows.specs.Fits.{HasNoPoint}
+use Rattle.tsdb_memory.specs.Fits.{HasNoPoint}
 use Rattle.tsdb_core.proofs.engine.Core.freeze.Goals as goal
 
 pub returns-clause-idle : goal.returns-clause-idle

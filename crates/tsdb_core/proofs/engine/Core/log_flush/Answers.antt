@@ -1,5 +1,5 @@
 use Rattle.tsdb_core.proofs.Commits.{appended, record_room}
-use Rattle.tsdb_kept.specs.Files.{listed_borns}
+use Rattle.tsdb_fileset.specs.Files.{listed_borns}
 use Rattle.tsdb_core.proofs.engine.Core.log_flush.Goals as goal
 
 pub flushed-requires-clause-room : goal.flushed-requires-clause-room

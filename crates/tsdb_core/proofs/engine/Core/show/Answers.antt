@@ -1,7 +1,7 @@
 use Rattle.std.proofs.Common.{◌++◌, ap, ◌∙◌}
 use Rattle.tsdb_base.specs.declared.ids.Space.TheVariants.{Sequence, Unsequence}
 use Rattle.tsdb_core.proofs.ListingLemmas.{lists_store}
-use Rattle.tsdb_listing.specs.Lines.{lines_of}
+use Rattle.tsdb_fileset.specs.Lines.{lines_of}
 use Rattle.tsdb_core.proofs.engine.Core.show.Goals as goal
 
 pub returns-clause-tells : goal.returns-clause-tells

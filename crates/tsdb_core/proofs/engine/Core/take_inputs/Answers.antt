@@ -1,5 +1,5 @@
 use Rattle.std.proofs.Common.{◌+◌, ap, refl, subst, ◌∙◌}
-use Rattle.tsdb_compacting.specs.Series.{AreOfJob, run_paths}
+use Rattle.tsdb_tasks.specs.Series.{AreOfJob, run_paths}
 use Rattle.tsdb_core.proofs.Beginnings.{job_begun, plan_fits}
 use Rattle.tsdb_core.proofs.BeginningsExits.{memory_taken, untouched}
 use Rattle.tsdb_core.proofs.Commits.{on_err}

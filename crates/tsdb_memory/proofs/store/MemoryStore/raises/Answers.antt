@@ -1,7 +1,7 @@
 use Rattle.std.proofs.Common.{◌≡◌, ◌+◌, ◌++◌, ◌∷◌, [], List, Option, get_or, refl, subst, sym, take}
 use Rattle.std.specs.Prelude.{IfSome}
 use Rattle.tsdb_base.specs.declared.ids.SeriesId.{SeriesId}
-use Rattle.tsdb_layers.specs.Lists.{Among}
+use Rattle.tsdb_base.specs.Lists.{Among}
 use Rattle.tsdb_memory.proofs.Raises.{AreRaisesOf, all_raises, no_raises, none_joins, raise_joins}
 use Rattle.tsdb_memory.specs.Freezing.{IsRaiseOf}
 use Rattle.tsdb_memory.specs.declared.freezing.Raise.{Raise}

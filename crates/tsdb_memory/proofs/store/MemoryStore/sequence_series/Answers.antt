@@ -4,7 +4,7 @@ use Rattle.std.specs.Global.{Vec as Items}
 use Rattle.tsdb_base.specs.declared.ids.SeriesId.{SeriesId}
 use Rattle.tsdb_base.specs.declared.ids.Space.TheVariants.{Sequence}
 use Rattle.tsdb_base.specs.declared.point.Point.{Point}
-use Rattle.tsdb_layers.specs.Lists.{Among}
+use Rattle.tsdb_base.specs.Lists.{Among}
 use Rattle.tsdb_memory.proofs.Raises.{if_ok, lists_ids}
 use Rattle.tsdb_memory.specs.Store.{Store}
 use Rattle.tsdb_memtable.specs.Pairs.{points_of, table}

@@ -1,6 +1,0 @@
-use Rattle.std.proofs.Common.{◌≡◌, map, take}
-use Rattle.enc_values.specs.Spelling.{integer_of}
-use Rattle.enc_values.proofs.encoder.integers_of.Given as goal
-
-abbrev pub invariant-loop-item : goal.invariant-loop-item
-invariant-loop-item g l = l.integers.items ≡ map (λ item. integer_of (g.T.HasValue.value_of item)) (take l.item-index l.items)

@@ -1,8 +1,0 @@
-pub mod Adopted
-pub mod Counting
-pub mod First
-pub mod Known
-pub mod Numbers
-pub mod Opened
-pub mod Paths
-pub mod Taking

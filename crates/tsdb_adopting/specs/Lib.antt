@@ -1,3 +1,0 @@
-pub mod Adopting
-pub mod Known
-pub mod Steps

@@ -1,5 +1,0 @@
-use Rattle.tsdb_answers.proofs.Following.{froze_stands}
-use Rattle.tsdb_answers.proofs.laws.a_freeze_keeps_the_world.Goals as goal
-
-pub returns : goal.returns
-returns c = froze_stands

@@ -1,7 +1,0 @@
-use Rattle.std.proofs.Common.{◌≡◌, map, take}
-use Rattle.tsdb_columns.specs.Clean.{others}
-use Rattle.tsdb_columns.specs.Cleaning.{is_clean_page, lane_hulls}
-use Rattle.tsdb_columns.proofs.cleaning.clean_pages.Given as goal
-
-abbrev pub invariant-loop-page : goal.invariant-loop-page
-invariant-loop-page g l = l.flags.items ≡ map (is_clean_page l.kept (others l.place (map lane_hulls l.lanes)) l.pages.born.0) (take l.page-index l.page-items)

@@ -1,5 +1,0 @@
-use Rattle.tsdb_columns.proofs.CleanFacts.{IsPassing}
-use Rattle.tsdb_columns.proofs.cleaning.pass_clean.Given as goal
-
-abbrev pub invariant-loop-place : goal.invariant-loop-place
-invariant-loop-place g l = IsPassing l.kept l.initial.lanes.items l.lanes.items l.place

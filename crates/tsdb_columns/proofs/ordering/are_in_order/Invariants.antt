@@ -1,6 +1,0 @@
-use Rattle.std.proofs.Common.{take}
-use Rattle.tsdb_columns.specs.Order.{AreInOrder}
-use Rattle.tsdb_columns.proofs.ordering.are_in_order.Given as goal
-
-abbrev pub invariant-loop-place : goal.invariant-loop-place
-invariant-loop-place l = AreInOrder (take l.place l.pages)

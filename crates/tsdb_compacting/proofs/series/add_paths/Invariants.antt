@@ -1,6 +1,0 @@
-use Rattle.std.proofs.Common.{◌++◌, map, take}
-use Rattle.tsdb_compacting.specs.Series.{AreOfPaths, path_in}
-use Rattle.tsdb_compacting.proofs.series.add_paths.Given as goal
-
-abbrev pub invariant-loop-path : goal.invariant-loop-path
-invariant-loop-path l = AreOfPaths (map path_in l.initial.all.items ++ take l.path-index l.paths) l.all.items

@@ -1,6 +1,0 @@
-use Rattle.std.proofs.Common.{◌≡◌, map, take}
-use Rattle.tsdb_compacting.specs.Series.{path_in}
-use Rattle.tsdb_compacting.proofs.series.paths_of.Given as goal
-
-abbrev pub invariant-loop-one : goal.invariant-loop-one
-invariant-loop-one l = l.paths.items ≡ map path_in (take l.one-index l.series)

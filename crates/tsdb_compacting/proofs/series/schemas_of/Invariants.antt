@@ -1,9 +1,0 @@
-use Rattle.std.proofs.Common.{◌≡◌, take}
-use Rattle.std.specs.List.{flat_map}
-use Rattle.tsdb_compacting.specs.Series.{path_in, schemas_at}
-use Rattle.tsdb_compacting.specs.declared.series.InputSeries.{InputSeries}
-use Rattle.tsdb_compacting.proofs.series.schemas_of.Given as goal
-
-abbrev pub invariant-loop-one : goal.invariant-loop-one
-invariant-loop-one l = l.schemas.items
-    ≡ flat_map (λ (one : InputSeries). schemas_at l.memory.series (path_in one)) (take l.one-index l.series)

@@ -1,4 +1,0 @@
-pub mod Order
-pub mod Says
-pub mod Summaries
-pub mod Parts

@@ -1,4 +1,0 @@
-pub mod Filling
-pub mod Widening
-pub mod Parts
-pub mod Trees

@@ -1,5 +1,0 @@
-use Rattle.tsdb_engine.proofs.Filling.{IsFilling}
-use Rattle.tsdb_engine.proofs.building.put_points.Given as goal
-
-abbrev pub invariant-loop-point : goal.invariant-loop-point
-invariant-loop-point l = IsFilling l.initial.builder l.points l.point-index l.builder

@@ -1,6 +1,0 @@
-use Rattle.std.specs.Arc.{arc_value}
-use Rattle.tsdb_engine.proofs.Parts.{HasGathered}
-use Rattle.tsdb_engine.proofs.flush.gather.Given as goal
-
-abbrev pub invariant-loop-place : goal.invariant-loop-place
-invariant-loop-place l = HasGathered l.fn.space (arc_value l.fn.job.pair) l.fn.job.schemas l.fn.job.series l.place l.part

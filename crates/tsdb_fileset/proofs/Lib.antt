@@ -1,0 +1,14 @@
+pub mod PlaceFacts
+pub mod PutBack
+pub mod Numbers
+pub mod Leasts
+pub mod Changes
+pub mod Counts
+pub mod Taken
+pub mod Swept
+pub mod Replaced
+pub mod Searched
+pub mod StateSweeps
+pub mod Joining
+pub mod Spans
+pub mod Telling

@@ -1,0 +1,78 @@
+-- What stands at a place once another place has changed.
+use Rattle.std.proofs.Common.{◌≡◌, ◌≢◌, ℕ, Bool, true, false, cond, [], ◌∷◌, Some, None, refl, sym, ap, ◌∙◌}
+use Rattle.std.proofs.Common.{arith, nat_eq, ◌<◌, Option, subst, Less}
+use Rattle.std.specs.Prelude.{◌||◌}
+use Rattle.std.specs.Cmp.{Equal-is, ranks}
+use Rattle.std.specs.Ordering.{MatchOrdering, is_eq, nat_cmp}
+use Rattle.std.specs.List.{All, AllByRecursion as Each}
+use Rattle.std.specs.BTreeMap.Range.{IsLtBy}
+use Rattle.std.specs.Map.{keys_of}
+use Rattle.std.proofs.lemmas.List.Elements.{recursion_from_All}
+use Rattle.std.proofs.lemmas.Bool.{false≢true}
+use Rattle.std.proofs.lemmas.Bool.Decides.{nat_tests}
+use Rattle.std.proofs.lemmas.Cmp.{nat_cmp_total, tied_itself}
+use Rattle.std.proofs.lemmas.Bool.{false_from_ne_true}
+use Rattle.std.proofs.lemmas.Map.Lookups.{exact_unsigned}
+use Rattle.tsdb_fileset.specs.Places.{KeptFile, OnlyMakesPlaces, Places, TakesAway, file_at, is_number, is_one_of, place_at}
+
+pub same_number : (number other : ℕ) → is_number number other ≡ true → number ≡ other
+same_number number other is = exact_unsigned number other ((Equal-is (nat_cmp number other)).0 is)
+
+pub other_number : (number other : ℕ) → number ≢ other → is_number number other ≡ false
+other_number number other apart = false_from_ne_true _ (λ is. apart (same_number number other is))
+
+-- a place is made where there was none
+pub place_made : (number : ℕ) (old new : Places) → place_at number old ≡ None
+    → ((other : ℕ) → place_at other new ≡ cond (is_number number other) (Some None) (place_at other old))
+    → OnlyMakesPlaces old new
+place_made number old new none set = record {
+  files = λ other. ap file_at (set other) ∙ file other (is_number number other) refl;
+  places = λ other empty. set other ∙ place other empty (is_number number other);
+}
+  where
+    file : (other : ℕ) (b : Bool) → is_number number other ≡ b
+        → file_at (cond b (Some None) (place_at other old)) ≡ file_at (place_at other old)
+    file other true is = sym (ap file_at (ap (λ n. place_at n old) (sym (same_number number other is)) ∙ none))
+    file other false is = refl
+
+    place : (other : ℕ) → place_at other old ≡ Some None → (b : Bool)
+        → cond b (Some None) (place_at other old) ≡ Some None
+    place other empty true = refl
+    place other empty false = empty
+
+-- one place goes
+pub one_taken : (number : ℕ) (old new : Places)
+    → ((other : ℕ) → place_at other new ≡ cond (is_number number other) None (place_at other old))
+    → TakesAway (number ∷ []) old new
+one_taken number old new set other =
+    set other ∙ ap (λ b. cond b None (place_at other old)) (same_test (is_number number other) refl)
+  where
+    same : (a b : ℕ) → a ≡ b → nat_eq b a ≡ true
+    same a b e = grind (arith, nat_tests)
+
+    equal : (a b : ℕ) → nat_eq b a ≡ true → a ≡ b
+    equal a b e = grind (arith, nat_tests)
+
+    is_same : (a b : ℕ) → a ≡ b → is_number a b ≡ true
+    is_same a b e = ap (is_number a) (sym e) ∙ ap is_eq (tied_itself nat_cmp_total a)
+
+    same_test : (b : Bool) → is_number number other ≡ b → is_number number other ≡ is_one_of (number ∷ []) other
+    same_test true is = is ∙ sym (ap (λ b. b || false) (same number other (same_number number other is)))
+    same_test false is = is ∙ by (nat_eq other number) refl
+      where
+        by : (b : Bool) → nat_eq other number ≡ b → false ≡ (nat_eq other number || false)
+        by false e = sym (ap (λ b. b || false) e)
+        by true e = absurd (false≢true (sym is ∙ is_same number other (equal number other e)))
+
+-- the numbers behind the first are above it
+pub all_above : (number : ℕ) (places : Places) → All (IsLtBy nat_cmp number) (keys_of places)
+    → Each (λ (other : ℕ × Option KeptFile). number < other.0) places
+all_above number places above = over places (recursion_from_All (IsLtBy nat_cmp number) (keys_of places) above)
+  where
+    less_from : (a b : ℕ) → nat_cmp a b ≡ Less → a < b
+    less_from a b is = subst (λ order. MatchOrdering order (a < b) (a ≡ b) (b < a)) is (ranks a b)
+
+    over : (places : Places) → Each (IsLtBy nat_cmp number) (keys_of places)
+        → Each (λ (other : ℕ × Option KeptFile). number < other.0) places
+    over [] above = tt
+    over (place ∷ places) above = (less_from number place.0 above.0, over places above.1)

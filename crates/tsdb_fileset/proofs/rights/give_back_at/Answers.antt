@@ -1,0 +1,11 @@
+use Rattle.std.proofs.Common.{Option, Some, refl, subst}
+use Rattle.std.specs.Prelude.{IsSome}
+use Rattle.tsdb_fileset.specs.Places.{KeptFile}
+use Rattle.tsdb_fileset.proofs.PlaceFacts.{other_number}
+use Rattle.tsdb_fileset.proofs.rights.give_back_at.Goals as goal
+
+pub returns-clause-others : goal.returns-clause-others
+returns-clause-others g c = λ other apart.
+    let Found : Option (Option KeptFile) → Type 0 = λ place. IsSome place in
+    let updates = (c.get_mut.follows.holds (Some c.give_back.new.self)).3 (subst Found c.in-Some.ensures.value refl) in
+    updates.2 other (other_number c.args.number.0 other apart)

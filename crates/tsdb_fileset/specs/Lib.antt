@@ -1,0 +1,13 @@
+pub mod Closing
+pub mod Files
+pub mod Growth
+pub mod Kept
+pub mod Order
+pub mod Places
+pub mod Replacing
+pub mod Rights
+pub mod Room
+pub mod Sweeps
+pub mod Held
+pub mod Lines
+pub mod Listings

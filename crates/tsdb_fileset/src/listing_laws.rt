@@ -1,0 +1,16 @@
+//! The laws. The functions do nothing; their contracts say them.
+ghost use Rattle.std.specs.Prelude.{◌++◌};
+ghost use Rattle.tsdb_base.specs.declared.ids.Space.TheVariants.{Sequence, Unsequence};
+ghost use Rattle.tsdb_fileset.specs.Held.{AreFilesOf};
+ghost use Rattle.tsdb_fileset.specs.Files.{AreKept, KeptFiles};
+ghost use Rattle.tsdb_fileset.specs.Lines.{lines_of};
+ghost use Rattle.tsdb_fileset.specs.Listings.{TellFiles};
+ghost use Rattle.tsdb_state.specs.Jobs.{EntriesMatch};
+ghost use Rattle.tsdb_state.specs.State.{EngineState, Entries, Told};
+
+/// The lines of the files that a core keeps tell the files of the state that they are of.
+pub fn the_lines_tell_the_files_of_the_state()
+    ensures { (files : KeptFiles) (told : Told) (known : Entries) (state : EngineState) → AreKept files
+        → AreFilesOf files known state → EntriesMatch told known (state.store.sequence ++ state.store.unsequence)
+        → TellFiles told state.store (lines_of Sequence files.sequence ++ lines_of Unsequence files.unsequence) }
+{}

@@ -1,0 +1,13 @@
+pub mod Filling
+pub mod Widening
+pub mod PartsInMaking
+pub mod Trees
+pub mod Contents
+pub mod Entries
+pub mod Memory
+pub mod Members
+pub mod Numbers
+pub mod Sorting
+pub mod TakenParts
+pub mod Jobs
+pub mod States

@@ -1,0 +1,9 @@
+pub mod Built
+pub mod Jobs
+pub mod Parts
+pub mod MakingSteps
+pub mod Making
+pub mod BuiltParts
+pub mod Flushes
+pub mod Taking
+pub mod TakingSteps

@@ -1,5 +1,0 @@
-use Rattle.tsdb_flushing.proofs.States.{taken_flush}
-use Rattle.tsdb_flushing.proofs.laws.a_taken_job_is_a_flush_of_the_state.Goals as goal
-
-pub returns : goal.returns
-returns c = taken_flush

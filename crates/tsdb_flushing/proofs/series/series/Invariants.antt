@@ -1,8 +1,0 @@
-use Rattle.std.proofs.Common.{◌≡◌, map, take}
-use Rattle.std.specs.List.{AllByRecursion as Each}
-use Rattle.tsdb_flushing.specs.Steps.{IsSeriesOf}
-use Rattle.tsdb_flushing.specs.declared.series.PairSeries.{PairSeries}
-use Rattle.tsdb_flushing.proofs.series.series.Given as goal
-
-abbrev pub invariant-loop-id : goal.invariant-loop-id
-invariant-loop-id l = (map (λ (one : PairSeries). one.id) l.all.items ≡ take l.id-index l.id-items) × Each (IsSeriesOf l.memory.series l.pair) l.all.items

@@ -1,3 +1,0 @@
-pub mod Flushes
-pub mod Taking
-pub mod Steps

@@ -1,5 +1,0 @@
-use Rattle.tsdb_held.proofs.Joining.{only_places}
-use Rattle.tsdb_held.proofs.laws.places_alone_change_no_file.Goals as goal
-
-pub returns : goal.returns
-returns c = only_places

@@ -1,6 +1,0 @@
-use Rattle.tsdb_images.proofs.Storing.{others_told}
-use Rattle.tsdb_images.proofs.laws.what_is_told_of_other_files_is_free.Goals as goal
-
-pub returns : goal.returns
-returns c = λ items kept told other known entries state stored none same as_known.
-    others_told items kept told known state stored other entries none same as_known

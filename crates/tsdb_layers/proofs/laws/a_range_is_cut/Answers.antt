@@ -1,5 +1,0 @@
-use Rattle.tsdb_layers.proofs.Places.{get_cut}
-use Rattle.tsdb_layers.proofs.laws.a_range_is_cut.Goals as goal
-
-pub returns : goal.returns
-returns c path range content place = get_cut content path range place

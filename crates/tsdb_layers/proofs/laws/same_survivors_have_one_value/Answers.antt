@@ -1,5 +1,0 @@
-use Rattle.tsdb_layers.proofs.Values.{value_of_survivors}
-use Rattle.tsdb_layers.proofs.laws.same_survivors_have_one_value.Goals as goal
-
-pub returns : goal.returns
-returns c = value_of_survivors

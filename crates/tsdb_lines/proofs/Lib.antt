@@ -1,3 +1,0 @@
-pub mod Columns
-pub mod RowLemmas
-pub mod Lines

@@ -1,6 +1,0 @@
-use Rattle.std.proofs.Common.{◌≡◌, ◌++◌, take}
-use Rattle.tsdb_listing.specs.Lines.{lines_of}
-use Rattle.tsdb_listing.proofs.lines.add_lines.Given as goal
-
-abbrev pub invariant-loop-entry : goal.invariant-loop-entry
-invariant-loop-entry l = l.lines.items ≡ l.initial.lines.items ++ lines_of l.space (take l.entry-index l.entries)

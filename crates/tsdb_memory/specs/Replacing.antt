@@ -1,0 +1,69 @@
+-- What the commit of a compaction leaves.
+use Rattle.std.specs.Prelude.{◌≡◌, ℕ, ◌+◌, ◌*◌, ◌≤◌, List, Option, Result, OnErr, OnOk, length}
+use Rattle.std.specs.List.{AllByRecursion as Each}
+use Rattle.tsdb_base.specs.declared.ids.Stamp.{Stamp}
+use Rattle.tsdb_frames.specs.Frames.{faults_of, slot_of}
+use Rattle.tsdb_state.specs.Stored.{IsKeptWhole}
+use Rattle.tsdb_log.specs.declared.record.LogRecord.{LogRecord}
+use Rattle.tsdb_log.specs.declared.record.LogRecord.TheVariants.{Create, Delete, Flushed, Freeze, Insert, Replaced}
+use Rattle.tsdb_log.specs.declared.record.LogRecord.TheVariants.{Snapshot}
+use Rattle.tsdb_memory.specs.Logged.{IsFaulted, IsSound, LeavesStates, Outside, log_of, memory_of, room_of, with_record}
+use Rattle.tsdb_memory.specs.declared.logged.Logged.{Logged}
+use Rattle.tsdb_memory.specs.Least.{IsLeastOf}
+use Rattle.tsdb_memory.specs.Shown.{file_borns}
+use Rattle.tsdb_outside.specs.Causes.{HasCause}
+use Rattle.tsdb_outside.specs.declared.disk.Disk as disk
+use Rattle.tsdb_outside.specs.declared.faults.Counted as counted
+use Rattle.tsdb_outside.specs.declared.faults.Failed.{Failed}
+use Rattle.tsdb_state.specs.State.{Compaction, EngineState, File}
+use Rattle.tsdb_state.specs.Steps.{CommitsCompaction, committed, compaction_record, ended}
+
+-- how many bytes the record of so many inputs has with its length and a gate
+abbrev pub replacement_bytes : ℕ → ℕ
+replacement_bytes inputs = 39 + 8 * inputs
+
+-- the record replaces files, few enough for one frame, and its bytes are no more than these
+abbrev pub IsReplacement : ℕ → LogRecord → Type 0
+IsReplacement room (Replaced born space place output sequence unsequence) = (length sequence ≤ 100000000)
+    × (length unsequence ≤ 100000000) × (replacement_bytes (length sequence + length unsequence) ≤ room)
+IsReplacement room (Create path data_type encoding) = ⊥
+IsReplacement room (Insert time cells) = ⊥
+IsReplacement room (Delete path range) = ⊥
+IsReplacement room Freeze = ⊥
+IsReplacement room (Flushed sequence unsequence) = ⊥
+IsReplacement room (Snapshot snapshot) = ⊥
+
+-- The job can be committed with this record and this output, which is kept; and this is the least stamp at which a file
+-- was frozen that is listed then.
+pub record CanReplace (item : LogRecord) (listed : Option Stamp) (outside : Outside) (state : EngineState)
+    (job : Compaction) (others : List Compaction) (output : List File) (place : ℕ)
+    : Type 0 where
+  pub commits : CommitsCompaction outside.told outside.known job others output place state
+  pub is_record : compaction_record job output place ≡ item
+  pub kept : Each (IsKeptWhole outside.kept outside.told) output
+  pub least : IsLeastOf listed (file_borns (committed job others output place state).store)
+
+module _ {J : Type 0} {means : disk.Ghosts J} {counts : counted.Ghosts J} where
+  -- The output of a job that can be committed stands at its place, and its inputs are on their way out. Where the
+  -- append failed the output is, the lists are as before, and the record may be in doubt.
+  pub record IsReplaced (old new : Logged J means counts) (item : LogRecord) (listed : Option Stamp)
+      (outcome : Result (Unit {0}) Failed)
+      : Type 0 where
+    pub done : OnOk outcome ((outside : Outside) (state : EngineState) (job : Compaction) (others : List Compaction)
+        (output : List File) (place : ℕ)
+        → IsSound old outside state → CanReplace item listed outside state job others output place
+        → IsSound new (with_record item outside) (committed job others output place state))
+    pub failed : OnErr outcome ((outside : Outside) (state : EngineState) (job : Compaction) (others : List Compaction)
+        (output : List File) (place : ℕ)
+        → IsSound old outside state → CanReplace item listed outside state job others output place
+        → IsFaulted new outside (ended job others output state) item)
+    pub memory : OnErr outcome (memory_of new ≡ memory_of old)
+    pub moments : (outside : Outside) (state : EngineState) (job : Compaction) (others : List Compaction)
+        (output : List File) (place : ℕ)
+        → IsSound old outside state → CanReplace item listed outside state job others output place
+        → LeavesStates old new outside state item
+    pub frozen : (memory_of new).frozen ≡ (memory_of old).frozen
+    pub working : (memory_of new).working ≡ (memory_of old).working
+    pub room : room_of old ≤ room_of new
+    pub slot : slot_of (log_of new) ≡ slot_of (log_of old)
+    pub cause : HasCause (faults_of (log_of old)) (faults_of (log_of new)) outcome

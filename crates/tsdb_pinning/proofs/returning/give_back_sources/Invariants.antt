@@ -1,7 +1,0 @@
-use Rattle.std.proofs.Common.{◌≡◌, ◌+◌, length}
-use Rattle.tsdb_pinning.proofs.Gathered.{AreReturned}
-use Rattle.tsdb_pinning.proofs.returning.give_back_sources.Given as goal
-
-abbrev pub invariant-loop : goal.invariant-loop
-invariant-loop g l = (l.counter + length l.sources.items ≡ l.end)
-    × AreReturned g.F.Right.ReadRight.file l.initial.sources.items l.sources.items l.initial.files l.files

@@ -1,6 +1,0 @@
-use Rattle.std.proofs.Common.{◌≡◌, map, take}
-use Rattle.tsdb_pinning.specs.declared.items.Asked.{Asked}
-use Rattle.tsdb_pinning.proofs.taking.marks_of.Given as goal
-
-abbrev pub invariant-loop-asked : goal.invariant-loop-asked
-invariant-loop-asked l = l.paths.items ≡ map (λ (asked : Asked). asked.schema.path) (take l.asked-index l.all)

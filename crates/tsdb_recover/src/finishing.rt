@@ -1,0 +1,111 @@
+//! What becomes of the files that were taken up: a core, or each token goes back to its store. Depends on `adopting`,
+//! tsdb_memory and tsdb_core.
+ghost use Rattle.std.specs.Prelude.{◌≡◌, ◌<◌, ◌↔◌, ◌++◌, [], List, All, IfSome, IsTrue, IsSome, None, map};
+ghost use Rattle.std.specs.List.{AllByRecursion as Each};
+ghost use Rattle.tsdb_recover.specs.Adopting.{AreDescribed, wanted_file};
+ghost use Rattle.tsdb_recover.specs.Known.{known_of};
+ghost use Rattle.tsdb_core.specs.Core.{IsSeen, KeepsJobs, files_of as core_files, limit_of, logged_of, next_of};
+ghost use Rattle.tsdb_core.specs.Limits.{IsPairLimit};
+ghost use Rattle.tsdb_frames.specs.Frames.{IsLog};
+ghost use Rattle.tsdb_fileset.specs.Held.{TellTheirBytes};
+ghost use Rattle.tsdb_state.specs.Stored.{IsKeptWhole};
+ghost use Rattle.tsdb_fileset.specs.Closing.{ArePutBack, AreRising, names_at};
+ghost use Rattle.tsdb_fileset.specs.Files.{AreKept, kept_file};
+ghost use Rattle.tsdb_fileset.specs.Places.{AreOfStore, AreUnread};
+ghost use Rattle.tsdb_base.specs.Lists.{Among};
+ghost use Rattle.tsdb_log.specs.Spelling.{IsRecord, spelling};
+ghost use Rattle.tsdb_log.specs.declared.record.LogRecord.{LogRecord};
+ghost use Rattle.tsdb_memory.specs.Logged.{log_of, memory_of};
+ghost use Rattle.tsdb_memory.specs.Shown.{IsMemoryOf};
+ghost use Rattle.tsdb_redo.specs.Opening.{IsOpeningOf, next_number};
+ghost use Rattle.tsdb_outside.specs.Disk.{WhereTold};
+ghost use Rattle.tsdb_outside.specs.Files.{StoredFile};
+ghost use Rattle.tsdb_state.specs.Replays.{Replays};
+ghost use Rattle.tsdb_state.specs.Stores.{Recorded, store_steps};
+ghost use Rattle.tsdb_base.specs.Limits.{end_of_numbers};
+ghost use Rattle.tsdb_state.specs.NewStore.{opened};
+ghost use Rattle.tsdb_state.specs.Records.{numbers_of};
+ghost use Rattle.tsdb_state.specs.State.{Told};
+ghost use Rattle.tsdb_state.specs.StoreOrder.{StoreInOrder};
+
+use crate::adopting::Adopting;
+use tsdb_base::FileNumber;
+use tsdb_core::{Core, Options};
+use tsdb_frames::Frames;
+use tsdb_memory::Logged;
+use tsdb_outside::{Files, Journal};
+
+impl<F: Files> Adopting<F> {
+    ghost use Rattle.tsdb_recover.specs.Adopting.{HasAdoptedAll, IsAdoptingOf, files_of, opening_of};
+
+    /// Whether the file of the number is kept. Once all listed files are, whether it is listed.
+    pub fn is_kept(&self, number: FileNumber) -> bool
+        ensures kept { IsTrue result ↔ IsSome (kept_file number.0 (files_of self.now)) }
+        ensures listed { (recorded : Recorded) → IsAdoptingOf self.now recorded
+            → wanted_file (files_of self.now) recorded.store ≡ None
+            → IsTrue result ↔ Among number.0 (numbers_of (recorded.store.sequence ++ recorded.store.unsequence)) }
+    {
+        self.tell_kept();
+        self.files.series(number).is_some()
+    }
+
+    /// The core of the replay over its log, with all listed files. `stored` is the greatest number in the store: the
+    /// number of the next file is one more than that, and than each number that a record has named.
+    pub fn finish<J: Journal>(
+        self,
+        frames: Frames<J>,
+        stored: Option<FileNumber>,
+        options: Options,
+    ) -> Core<J, F>
+        requires all { HasAdoptedAll self }
+        requires stored { IfSome stored (λ number. number.0 < end_of_numbers) }
+        requires limit { IsPairLimit options.pair_points }
+        ensures log { log_of (logged_of result) ≡ frames }
+        ensures memory { (recorded : Recorded) → IsOpeningOf (opening_of self) recorded
+            → IsMemoryOf (memory_of (logged_of result)) recorded.store }
+        ensures files { core_files result ≡ files_of self }
+        ensures next { (recorded : Recorded) → IsOpeningOf (opening_of self) recorded
+            → next_of result ≡ next_number stored recorded.named }
+        ensures limit { limit_of result ≡ options.pair_points }
+        ensures quiet { KeepsJobs result [] [] }
+        ensures seen { (items : List LogRecord) (recorded : Recorded) (kept : List StoredFile) (told : Told)
+            → IsLog frames (map spelling items) None → All IsRecord items
+            → Replays store_steps store_steps.new_store items recorded → IsAdoptingOf self recorded
+            → StoreInOrder told recorded.store
+            → Each (IsKeptWhole kept told) (recorded.store.sequence ++ recorded.store.unsequence)
+            → AreDescribed told (files_of self) → TellTheirBytes (files_of self) kept
+            → IsSeen result (record { items = items; kept = kept; told = told; known = known_of (files_of self) })
+            (opened (next_of result) recorded.store) }
+    {
+        self.tell_kept();
+        let next_file = self.opening.next_file(stored);
+        let Adopting {
+            alloc,
+            opening,
+            files,
+        } = self;
+        let logged = Logged::new(alloc, frames, opening.into_memory());
+        Core::new(alloc, logged, files, options, next_file)
+    }
+
+    /// Gives each token back to its store; no other file comes to be at rest. It tells what always holds of the kept
+    /// files.
+    pub fn end(self, files: &mut F)
+        requires no_rights { AreUnread (files_of self).places }
+        requires store { AreOfStore (F.store files.old) (files_of self).places }
+        ensures at_rest { WhereTold (ArePutBack (names_at (files_of self).places)) (F.at_rest files.old)
+            (F.at_rest files.new) }
+        ensures rising { AreRising (files_of self).places }
+        ensures kept { AreKept (files_of self) }
+        ensures same_store { F.store files.new ≡ F.store files.old }
+        ensures faults { F.faults files.new ≡ F.faults files.old }
+    {
+        self.tell_kept();
+        let Adopting {
+            alloc: _,
+            opening: _,
+            files: kept,
+        } = self;
+        kept.close(files);
+    }
+}

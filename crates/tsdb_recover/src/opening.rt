@@ -1,0 +1,228 @@
+//! The opening of a store. Depends on `taking`, `strays`, `fault`, `log`, `adopting` and tsdb_core.
+ghost use Rattle.std.specs.Prelude.{◌≡◌, ◌⊎◌, ◌≤◌, [], ℕ, IfErr, IfOk, IfSome, IsErrAnd, IsErrOf, List, OnErr, OnOk};
+ghost use Rattle.std.specs.Prelude.{Some};
+ghost use Rattle.std.specs.declared.option.Option.{Option};
+ghost use Rattle.std.specs.List.Sorted.{IsStrictlyIncreasing};
+ghost use Rattle.std.specs.Option.{IsSomeAnd};
+ghost use Rattle.tsdb_recover.specs.Adopting.{HasAdoptedAll, IsAdoptingOf, files_of};
+ghost use Rattle.tsdb_core.specs.Core.{KeepsJobs, files_of as core_files, limit_of, logged_of, next_of};
+ghost use Rattle.tsdb_core.specs.Limits.{IsPairLimit};
+ghost use Rattle.tsdb_frames.specs.Frames.{disk_of, faults_of, journal_of, slot_of};
+ghost use Rattle.tsdb_state.specs.Stored.{kept_bytes};
+ghost use Rattle.tsdb_fileset.specs.Files.{none_kept};
+ghost use Rattle.tsdb_fileset.specs.Places.{AreOfStore, AreUnread};
+ghost use Rattle.tsdb_log.specs.declared.record.LogRecord.{LogRecord};
+ghost use Rattle.tsdb_memory.specs.Logged.{log_of};
+ghost use Rattle.tsdb_model.specs.State as plain;
+ghost use Rattle.tsdb_base.specs.Causes.{Rose};
+ghost use Rattle.tsdb_outside.specs.Disk.{Keeps};
+ghost use Rattle.tsdb_outside.specs.Files.{StoredFile, plain_numbers};
+ghost use Rattle.tsdb_outside.specs.declared.disk.Slot.TheVariants as slots;
+ghost use Rattle.tsdb_recover.specs.Files.{HasFilesCause};
+ghost use Rattle.tsdb_recover.specs.declared.fault.Part as store_part;
+ghost use Rattle.tsdb_recover.specs.Damage.{AnswersDamageIn, IsDamagedIn, IsFileDamaged};
+ghost use Rattle.tsdb_recover.specs.Opened.{HasOpened, IsNextNumber, IsRecovered, IsReplay};
+ghost use Rattle.tsdb_recover.specs.Left.{AreLeft, IsStray, IsUnlisted};
+ghost use Rattle.tsdb_recover.specs.Taking.{AreGoneIn, GoesOn, HasLeft, HasOpenCause, HasTaken, HasTakenUp};
+ghost use Rattle.tsdb_recover.specs.Taking.{HaveLengths, IsGreatest, IsTakingUp};
+ghost use Rattle.tsdb_state.specs.Replays.{IsReplayOf};
+ghost use Rattle.tsdb_state.specs.Stores.{IsSound, Recorded, store_steps};
+ghost use Rattle.tsdb_recover.specs.Stored.{AreStored};
+
+use crate::adopting::Adopting;
+use crate::fault::{OpenFault, OpenRefused};
+use crate::log::read_log;
+use crate::strays::remove_strays;
+use crate::taking::adopt_all;
+use std::alloc::Global;
+use tsdb_base::{FileNumber, Memory};
+use tsdb_core::{Core, Options};
+use tsdb_frames::Frames;
+use tsdb_outside::{Files, Journal, Port, StoreFault};
+use tsdb_redo::Opening;
+
+/// Opens the store of a journal and its files: replays the log, takes up each listed file, and removes all others. It
+/// writes nothing to the journal. A store that is not opened is left as it was, but for files that no list has.
+pub fn recover<J: Journal, F: Files>(
+    alloc: Global,
+    journal: J,
+    files: &mut F,
+    options: Options,
+) -> Result<Core<J, F>, OpenRefused<J>>
+    requires limit { IsPairLimit options.pair_points }
+    ensures seen { IfOk result (λ core. IfSome (J.state journal).seen (λ image. IfSome (F.at_rest files.old) (λ stored.
+        (at : plain.State) → AreStored stored → IsSound slots.A (J.state journal) (kept_bytes stored) at
+        → IsRecovered core image.a stored at))) }
+    ensures next { IfOk result (λ core. IfSome (J.state journal).seen (λ image. (recorded : Recorded)
+        → IsReplayOf store_steps image.a recorded → IfSome (F.at_rest files.old) (λ stored. AreStored stored
+        → IsNextNumber (next_of core) stored recorded.named))) }
+    ensures strays { IfOk result (λ core. IfSome (F.at_rest files.old) (λ stored. AreStored stored
+        → F.at_rest files.new ≡ Some [])) }
+    ensures damaged { IfErr result (λ refused. IfSome (J.state journal).seen (λ image. IfSome (F.at_rest files.old)
+        (λ stored. (part : store_part.Part) (at : ℕ) → AreStored stored
+        → refused.fault ≡ OpenFault.Damaged part at → IsDamagedIn (kept_bytes stored) image.a part at))) }
+    ensures each { IfSome (J.state journal).seen (λ image. IfSome (F.at_rest files.old) (λ stored.
+        (part : store_part.Part) (at : ℕ) → AreStored stored → HaveLengths stored
+        → IsDamagedIn (kept_bytes stored) image.a part at
+        → IsErrAnd result (λ refused. AnswersDamageIn part at refused.fault))) }
+    ensures left { IfErr result (λ refused. IfSome (J.state journal).seen (λ image. IfSome (F.at_rest files.old)
+        (λ stored. AreStored stored → IsSomeAnd (F.at_rest files.new) (AreLeft (IsStray image.a) stored)))) }
+
+    // Nothing is out, and all files are of the store.
+    ensures quiet { IfOk result (λ core. KeepsJobs core [] []) }
+    ensures no_rights { IfOk result (λ core. AreUnread (core_files core).places) }
+    ensures of_store { IfOk result (λ core. AreOfStore (F.store files.old) (core_files core).places) }
+    ensures limit { IfOk result (λ core. limit_of core ≡ options.pair_points) }
+
+    // It writes nothing.
+    ensures slot { IfOk result (λ core. slot_of (log_of (logged_of core)) ≡ slots.A) }
+    ensures keeps { IfOk result (λ core. Keeps (J.state journal) (disk_of (log_of (logged_of core)))) }
+    ensures later { IfOk result (λ core. J.faults journal ≤ faults_of (log_of (logged_of core))) }
+    ensures returns { IfErr result (λ refused. Keeps (J.state journal) (J.state refused.journal)) }
+    ensures returns_later { IfErr result (λ refused. J.faults journal ≤ J.faults refused.journal) }
+    ensures same_store { F.store files.new ≡ F.store files.old }
+    ensures files_later { F.faults files.old ≤ F.faults files.new }
+    ensures cause { IfErr result (λ refused. refused.fault ≡ OpenFault.Failed
+        → Rose (J.faults journal) (J.faults refused.journal) ⊎ Rose (F.faults files.old) (F.faults files.new)) }
+{
+    match read_log(alloc, journal) {
+        Ok((log, opening)) => open_files(alloc, log, opening, files, options),
+        Err(refused) => Err(refused),
+    }
+}
+
+/// Opens the store of a log that was read, with its files.
+fn open_files<J: Journal, F: Files>(
+    alloc: Global,
+    log: Frames<J>,
+    opening: Opening,
+    files: &mut F,
+    options: Options,
+) -> Result<Core<J, F>, OpenRefused<J>>
+    requires some { (items : List LogRecord) × (recorded : Recorded) × IsReplay opening items recorded }
+    requires limit { IsPairLimit options.pair_points }
+    ensures opened { IfOk result (λ core. IfSome (F.at_rest files.old) (λ stored. (items : List LogRecord)
+        (recorded : Recorded) → IsReplay opening items recorded → AreStored stored
+        → HasOpened core log stored (F.at_rest files.new) items recorded)) }
+    ensures damaged { IfErr result (λ refused. IfSome (F.at_rest files.old) (λ stored. (items : List LogRecord)
+        (recorded : Recorded) → IsReplay opening items recorded → AreStored stored → (part : store_part.Part) (at : ℕ)
+        → refused.fault ≡ OpenFault.Damaged part at → IsFileDamaged (kept_bytes stored) recorded.store part at)) }
+    ensures left { IfErr result (λ refused. IfSome (F.at_rest files.old) (λ stored. (items : List LogRecord)
+        (recorded : Recorded) → IsReplay opening items recorded → AreStored stored
+        → IsSomeAnd (F.at_rest files.new) (AreLeft (IsUnlisted recorded.store) stored))) }
+    ensures log { IfOk result (λ core. log_of (logged_of core) ≡ log) }
+    ensures quiet { IfOk result (λ core. KeepsJobs core [] []) }
+    ensures no_rights { IfOk result (λ core. AreUnread (core_files core).places) }
+    ensures of_store { IfOk result (λ core. AreOfStore (F.store files.old) (core_files core).places) }
+    ensures limit { IfOk result (λ core. limit_of core ≡ options.pair_points) }
+    ensures journal { IfErr result (λ refused. refused.journal ≡ journal_of log) }
+    ensures same_store { F.store files.new ≡ F.store files.old }
+    ensures files_later { F.faults files.old ≤ F.faults files.new }
+    ensures cause { IfErr result (λ refused. refused.fault ≡ OpenFault.Failed
+        → Rose (F.faults files.old) (F.faults files.new)) }
+{
+    let mut adopting = Adopting::new(alloc, opening);
+    match take_up(alloc, &mut adopting, files) {
+        Ok(stored) => Ok(adopting.finish(log, stored, options)),
+        Err(fault) => {
+            adopting.end(files);
+            Err(OpenRefused {
+                journal: log.end(),
+                fault,
+            })
+        }
+    }
+}
+
+/// Takes up the listed files and removes all others: the greatest number of a file that was there.
+fn take_up<F: Files>(
+    alloc: Global,
+    adopting: &mut Adopting<F>,
+    files: &mut F,
+) -> Result<Option<FileNumber>, OpenFault>
+    requires some { (recorded : Recorded) × IsAdoptingOf adopting.old recorded }
+    requires none { files_of adopting.old ≡ none_kept }
+    ensures takes { HasTakenUp (F.store files.old) adopting.old adopting.new (F.at_rest files.old) (F.at_rest files.new)
+        result }
+    ensures same_store { F.store files.new ≡ F.store files.old }
+    ensures cause { HasOpenCause (F.faults files.old) (F.faults files.new) result }
+{
+    match files.port() {
+        Ok(port) => {
+            let mut port = port;
+            let outcome = take_up_through(alloc, adopting, files, &mut port);
+            files.end_port(port);
+            outcome
+        }
+        Err(Memory) => Err(OpenFault::Memory),
+    }
+}
+
+/// The same through a port.
+fn take_up_through<F: Files>(
+    alloc: Global,
+    adopting: &mut Adopting<F>,
+    files: &mut F,
+    port: &mut F::Port,
+) -> Result<Option<FileNumber>, OpenFault>
+    requires some { (recorded : Recorded) × IsAdoptingOf adopting.old recorded }
+    requires none { files_of adopting.old ≡ none_kept }
+    requires port { F.Port.store port.old ≡ F.store files.old }
+    ensures takes { HasTakenUp (F.store files.old) adopting.old adopting.new (F.at_rest files.old) (F.at_rest files.new)
+        result }
+    ensures same_store { F.store files.new ≡ F.store files.old }
+    ensures same_port { F.Port.store port.new ≡ F.Port.store port.old }
+    ensures cause { HasFilesCause (F.faults files.old) (F.faults files.new) (F.Port.faults port.old)
+        (F.Port.faults port.new) result }
+{
+    match files.list() {
+        Ok(numbers) => {
+            let last = greatest_of(&numbers);
+            match take_listed(alloc, adopting, files, port, &numbers) {
+                Ok(()) => Ok(last),
+                Err(fault) => Err(fault),
+            }
+        }
+        Err(StoreFault::Failed) => Err(OpenFault::Failed),
+        Err(StoreFault::Memory) => Err(OpenFault::Memory),
+    }
+}
+
+/// The same, once the numbers of the files are known that are there.
+fn take_listed<F: Files>(
+    alloc: Global,
+    adopting: &mut Adopting<F>,
+    files: &mut F,
+    port: &mut F::Port,
+    numbers: &[FileNumber],
+) -> Result<(), OpenFault>
+    requires some { (recorded : Recorded) × IsAdoptingOf adopting.old recorded }
+    requires port { F.Port.store port.old ≡ F.store files.old }
+    ensures goes_on { GoesOn (F.store files.old) adopting.old adopting.new }
+    ensures all { OnOk result (HasAdoptedAll adopting.new) }
+    ensures taken { OnOk result ((rest : Option (List StoredFile)) × HasTaken adopting.old adopting.new
+        (F.at_rest files.old) rest × AreGoneIn (plain_numbers numbers.now) (files_of adopting.new) rest
+        (F.at_rest files.new)) }
+    ensures left { OnErr result (HasLeft adopting.old adopting.new (F.at_rest files.old) (F.at_rest files.new)) }
+    ensures damaged { (part : store_part.Part) (at : ℕ) → IsErrOf result (OpenFault.Damaged part at)
+        → (stored : List StoredFile) (recorded : Recorded) → IsAdoptingOf adopting.old recorded
+        → IsTakingUp stored recorded.store (files_of adopting.old) (F.at_rest files.old)
+        → IsFileDamaged (kept_bytes stored) recorded.store part at }
+    ensures same_store { F.store files.new ≡ F.store files.old }
+    ensures same_port { F.Port.store port.new ≡ F.Port.store port.old }
+    ensures cause { HasFilesCause (F.faults files.old) (F.faults files.new) (F.Port.faults port.old)
+        (F.Port.faults port.new) result }
+{
+    match adopt_all(alloc, adopting, files, port) {
+        Ok(()) => remove_strays(adopting, files, port, numbers),
+        Err(fault) => Err(fault),
+    }
+}
+
+/// The last of numbers that rise, where there is one.
+fn greatest_of(numbers: &[FileNumber]) -> Option<FileNumber>
+    requires { IsStrictlyIncreasing (plain_numbers numbers.now) }
+    ensures { IsGreatest result (plain_numbers numbers.now) }
+{
+    numbers.last().copied()
+}

@@ -1,5 +1,0 @@
-use Rattle.tsdb_replay.proofs.Stores.{new_log_stands}
-use Rattle.tsdb_replay.proofs.laws.a_new_log_stands_for_no_series.Goals as goal
-
-pub returns : goal.returns
-returns c = λ files. new_log_stands files

@@ -1,6 +1,0 @@
-use Rattle.tsdb_replay.proofs.Doubts.{one_or_more}
-use Rattle.tsdb_replay.proofs.laws.record_in_doubt_leads_on.Goals as goal
-
-pub returns : goal.returns
-returns g c = λ items doubt state bytes good replayed follows has. one_or_more g.R.Replayed.steps items doubt state
-    bytes good replayed follows has

@@ -1,9 +1,0 @@
-use Rattle.std.proofs.Common.{◌≡◌, ◌*◌, ◌≤◌, take}
-use Rattle.tsdb_rows.specs.Fits.{row_bytes}
-use Rattle.tsdb_rows.proofs.fitting.row_bytes.Given as goal
-
-abbrev pub invariant-loop-cell : goal.invariant-loop-cell
-invariant-loop-cell l = record {
-  value : l.bytes ≡ row_bytes (take l.cell-index l.cells);
-  most : l.bytes ≤ l.cell-index * 65543;
-}

@@ -1,5 +1,0 @@
-use Rattle.tsdb_rows.proofs.Counts.{empty_pair}
-use Rattle.tsdb_rows.proofs.laws.a_pair_without_points_is_empty.Goals as goal
-
-pub returns : goal.returns
-returns c pair shown counts = empty_pair pair shown counts

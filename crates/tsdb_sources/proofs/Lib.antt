@@ -1,2 +1,0 @@
-pub mod PieceMerges
-pub mod Sources

@@ -1,5 +1,0 @@
-use Rattle.tsdb_sources.proofs.Sources.{merge_values}
-use Rattle.tsdb_sources.proofs.laws.merged_survivors_are_the_values.Goals as goal
-
-pub returns : goal.returns
-returns c = merge_values

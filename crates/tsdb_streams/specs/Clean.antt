@@ -1,0 +1,64 @@
+-- Which pages of a series are clean.
+use Rattle.std.specs.Prelude.{ℕ, ◌+◌, Bool, not, ◌&&◌, nat_lt, List, [], ◌∷◌, ◌++◌, drop, filter, length}
+use Rattle.std.specs.Prelude.{flat_map, map, slice_get, sum_by, take}
+use Rattle.std.specs.List.{enumerate_from, list_any}
+use Rattle.std.specs.Option.{option_map, unwrap_or}
+use Rattle.tsdb_aggregate.specs.Pieces.{overlap}
+use Rattle.tsdb_base.specs.declared.point.Point.{Point}
+use Rattle.tsdb_base.specs.declared.point.Range.{Range}
+use Rattle.tsdb_streams.specs.Files.{FilePages}
+use Rattle.tsdb_streams.specs.declared.source.Source.{Source}
+use Rattle.tsdb_streams.specs.declared.source.Source.TheVariants as source
+use Rattle.tsdb_state.specs.Places.{is_path}
+use Rattle.tsdb_model.specs.World.{is_in}
+use Rattle.tsdb_marks.specs.declared.marks.Mark.{Mark}
+use Rattle.tsdb_outside.specs.Files.{NamedFile}
+
+-- the times from the first point to the last one, where there is one
+abbrev pub hull_of : List Point → List Range
+hull_of [] = []
+hull_of (point ∷ points) = record {
+  from = point.time;
+  to = unwrap_or (option_map (λ last. last.time) (slice_get (point ∷ points) (length points))) point.time;
+} ∷ []
+
+-- one of these meets the times
+abbrev pub any_meets : Range → List Range → Bool
+any_meets times hulls = list_any (λ hull. overlap hull times) hulls
+
+-- all but the one with this number
+abbrev pub others : {T : Type 0} → ℕ → List T → List T
+others number list = take number list ++ drop (number + 1) list
+
+-- a mark of the series is newer than the source and meets the times
+abbrev pub is_marked : List ℕ → List Mark → ℕ → Range → Bool
+is_marked path marks born times = list_any (λ mark. is_path mark.path path
+    && (nat_lt born mark.version.0 && overlap (record { from = mark.from; to = mark.to }) times)) marks
+
+-- CLEAN: the times lie in the range, and no mark meets them, and no page or part of another source. `hulls` has the
+-- times of the pages and parts of each of the other sources.
+abbrev pub is_clean : List ℕ → Range → List Mark → List (List Range) → ℕ → Range → Bool
+is_clean path range marks hulls born times = (is_in range times.from && is_in range times.to)
+    && (not (is_marked path marks born times) && not (list_any (any_meets times) hulls))
+
+-- how many pages with these times meet the range and are not clean
+abbrev pub count_read : List ℕ → Range → List Mark → List (List Range) → ℕ → List Range → ℕ
+count_read path range marks hulls born pages =
+    length (filter (λ times. not (is_clean path range marks hulls born times) && overlap range times) pages)
+
+module _ {R : Type 0} (file : R → NamedFile) (pages : FilePages) where
+  -- the times of each page of a source, as its points are told, or of the part
+  abbrev pub source_hulls : Source R → List Range
+  source_hulls (source.File right born) = flat_map hull_of (unwrap_or (pages (file right.now).number) [])
+  source_hulls (source.Part points born) = hull_of points.now
+
+  -- how many pages of the source with this number meet the range and are not clean; `hulls` has the times of each
+  abbrev pub source_read : List ℕ → Range → List Mark → List (List Range) → ℕ → Source R → ℕ
+  source_read path range marks hulls number (source.File right born) =
+      count_read path range marks (others number hulls) born.0 (source_hulls (source.File right born))
+  source_read path range marks hulls number (source.Part points born) = 0
+
+  -- how many pages of the sources meet the range and are not clean
+  abbrev pub sources_read : List ℕ → Range → List Mark → List (Source R) → ℕ
+  sources_read path range marks sources = sum_by
+      (λ entry. source_read path range marks (map source_hulls sources) entry.0 entry.1) (enumerate_from 0 sources)

@@ -1,0 +1,13 @@
+pub mod Kept
+pub mod Clean
+pub mod Cleaning
+pub mod Files
+pub mod Lanes
+pub mod Order
+pub mod Props
+pub mod Walking
+pub mod Streams
+pub mod Parted
+pub mod Indexed
+pub mod Pieces
+pub mod Survivors

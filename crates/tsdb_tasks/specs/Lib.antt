@@ -1,0 +1,9 @@
+pub mod Coming
+pub mod Files
+pub mod Beginning
+pub mod Ending
+pub mod Finishing
+pub mod Inputs
+pub mod Series
+pub mod States
+pub mod Outputs
