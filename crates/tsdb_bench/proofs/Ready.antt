@@ -1,13 +1,13 @@
 -- A new core is ready to serve.
 use Rattle.std.proofs.Common.{◌≡◌, ℕ, ◌≤◌, [], sym, subst}
-use Rattle.tsdb_core.specs.Core.{IsAbove, KeepsJobs, files_of}
-use Rattle.tsdb_core.specs.declared.engine.Core.{Core}
+use Rattle.tsdb_history.specs.Core.{IsAbove, KeepsJobs, files_of}
+use Rattle.tsdb_history.specs.CoreType.{Core}
 use Rattle.tsdb_fileset.specs.Files.{KeptFiles, none_kept}
 use Rattle.tsdb_fileset.specs.Places.{AreOfStore, AreUnread}
 use Rattle.tsdb_outside.specs.Files.{Store}
 use Rattle.tsdb_outside.specs.declared.disk.Disk as disk
 use Rattle.tsdb_outside.specs.declared.faults.Counted as counted
-use Rattle.tsdb_serving.specs.Flushing.{IsReady}
+use Rattle.tsdb_history.specs.Flushing.{IsReady}
 
 pub none_above : (next : ℕ) → 1 ≤ next → IsAbove next none_kept
 none_above next some = record { from_one = some; below = λ n. tt }

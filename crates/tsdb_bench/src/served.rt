@@ -5,8 +5,8 @@ ghost use Rattle.std.proofs.Props.{props};
 ghost use Rattle.tsdb_streams.specs.Streams.{IsStreamOfStore};
 ghost use Rattle.tsdb_model.specs.Commands.{IsRow, IsWellFormed};
 ghost use Rattle.tsdb_outside.specs.Files.{Store};
-ghost use Rattle.tsdb_pins.specs.Reading.{AreColumnsOf, HaveNodes};
-ghost use Rattle.tsdb_serving.specs.Flushing.{IsReady};
+ghost use Rattle.tsdb_history.specs.Reading.{AreColumnsOf, HaveNodes};
+ghost use Rattle.tsdb_history.specs.Flushing.{IsReady};
 
 use crate::bench::Bench;
 use crate::fault::Fault;
@@ -15,16 +15,14 @@ use crate::memory::new_place;
 use mem_outside::SteadyFiles;
 use std::alloc::Global;
 use tsdb_base::{Answer, FileNumber, Range, Space};
-use tsdb_core::{Core, Options};
 use tsdb_fileset::KeptFiles;
 use tsdb_frames::Frames;
-use tsdb_history::serve;
+use tsdb_history::{Core, Options, Stream, open_column, pull, serve};
 use tsdb_memory::{Logged, MemoryStore};
 use tsdb_model::{Command, Item, Reply, Row};
 use tsdb_outside::{Files, Journal, Place, Port, Slot, StoreFault};
 use tsdb_path::Path;
 use tsdb_pin::Pin;
-use tsdb_pins::{Stream, open_column, pull};
 use tsdb_script::Numbered;
 
 /// A core that is ready, with its files and a port of theirs.
@@ -49,14 +47,14 @@ impl<J: Journal, F: Files> Served<J, F> {
 
     /// Deletes the points of a series in a range.
     pub fn delete(&mut self, series: &Path, range: &Range) -> Answer {
-        tsdb_serving::delete::<J, F>(&mut self.core, series, range)
+        tsdb_history::delete::<J, F>(&mut self.core, series, range)
     }
 
     /// Writes a row of a device.
     pub fn insert(&mut self, alloc: Global, device: &Path, row: &Row) -> Answer
         requires { IsRow row.now }
     {
-        tsdb_serving::insert::<J, F>(alloc, &mut self.core, &mut self.port, device, row)
+        tsdb_history::insert::<J, F>(alloc, &mut self.core, &mut self.port, device, row)
     }
 
     /// How many sequence points the working pair has.

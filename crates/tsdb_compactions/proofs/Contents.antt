@@ -12,8 +12,8 @@ use Rattle.tsdb_base.proofs.Lists.{among_left, among_map, among_right, each_amon
 use Rattle.tsdb_state.proofs.LayerLemmas.Places.{get_put, is_place, place_itself}
 use Rattle.tsdb_base.specs.Lists.{Among, EachPair}
 use Rattle.tsdb_state.specs.Places.{Content, Place, place_cmp, put}
-use Rattle.tsdb_memory.proofs.Counts.{among_either, pairs_append, placed, row_differs}
-use Rattle.tsdb_memory.proofs.Frozen.{image_of}
+use Rattle.tsdb_flush.proofs.Counts.{among_either, pairs_append, placed, row_differs}
+use Rattle.tsdb_flush.proofs.Frozen.{image_of}
 
 -- ---- a content of points at different places
 

@@ -15,7 +15,7 @@ use Rattle.tsdb_flush.specs.declared.job.Built.{Built}
 use Rattle.tsdb_state.specs.Layers.{value_in}
 use Rattle.tsdb_state.specs.Places.{Content, Place}
 use Rattle.tsdb_outside.specs.Files.{NamedFile}
-use Rattle.tsdb_pages.specs.File.{IsFile}
+use Rattle.tsdb_state.specs.File.{IsFile}
 use Rattle.tsdb_state.specs.Jobs.{Describes, job_inputs}
 use Rattle.tsdb_state.specs.State.{Compaction, Told}
 use Rattle.tsdb_state.specs.Steps.{IsOutput}

@@ -16,9 +16,9 @@ use Rattle.tsdb_base.specs.Lists.{Among, EachPair}
 use Rattle.tsdb_state.specs.Places.{Content, Place}
 use Rattle.tsdb_model.specs.declared.command.Schema.{Schema}
 use Rattle.tsdb_outside.specs.Files.{NamedFile, Store}
-use Rattle.tsdb_pages.specs.File.{IsFile}
-use Rattle.tsdb_pages.specs.Trees.{IsMade, IsTree}
-use Rattle.tsdb_pages.specs.declared.tree.Tree.{Tree}
+use Rattle.tsdb_state.specs.File.{IsFile}
+use Rattle.tsdb_state.specs.Trees.{IsMade, IsTree}
+use Rattle.tsdb_state.specs.Tree.{Tree}
 use Rattle.tsdb_state.specs.Stores.{IsContentOf, IsWhole}
 use Rattle.tsdb_state.specs.Jobs.{Describes}
 use Rattle.tsdb_state.specs.State.{Told}

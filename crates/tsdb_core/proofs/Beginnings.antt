@@ -20,10 +20,10 @@ use Rattle.tsdb_tasks.specs.Series.{AreOfJob, run_paths}
 use Rattle.tsdb_tasks.specs.declared.beginning.TakenInputs.{TakenInputs}
 use Rattle.tsdb_tasks.specs.declared.finishing.InputRuns.{InputRuns}
 use Rattle.tsdb_tasks.specs.declared.series.JobSeries.{JobSeries}
-use Rattle.tsdb_compactions.proofs.Planned.{planned_begins}
-use Rattle.tsdb_compactions.specs.Jobs.{IsCompactionOf, input_file}
-use Rattle.tsdb_compactions.specs.Plans.{IsOfMoment, IsPlanned}
-use Rattle.tsdb_compactions.specs.declared.job.Job.{Job}
+use Rattle.tsdb_tasks.proofs.Planned.{planned_begins}
+use Rattle.tsdb_tasks.specs.Jobs.{IsCompactionOf, input_file}
+use Rattle.tsdb_tasks.specs.Plans.{IsOfMoment, IsPlanned}
+use Rattle.tsdb_tasks.specs.Job.{Job}
 use Rattle.tsdb_core.proofs.LoansJobs.{begun_inputs, job_rights_taken, planned_free, planned_unclaimed}
 use Rattle.tsdb_core.proofs.BeginningsClaims.{claims_stay, in_sequence, in_unsequence, run_claimed}
 use Rattle.tsdb_core.proofs.BeginningsKept.{begun_kept, none_next}
@@ -48,7 +48,7 @@ use Rattle.tsdb_marks.specs.Lists.{is_of}
 use Rattle.tsdb_outside.specs.Files.{NamedFile, Store}
 use Rattle.tsdb_outside.specs.declared.disk.Disk as disk
 use Rattle.tsdb_outside.specs.declared.faults.Counted as counted
-use Rattle.tsdb_pin.specs.Changes.{more_rights}
+use Rattle.tsdb_tasks.specs.Changes.{more_rights}
 use Rattle.tsdb_plan.specs.CrossPlan.{IsCrossPlan}
 use Rattle.tsdb_plan.specs.InnerPlan.{IsInnerPlan}
 use Rattle.tsdb_plan.specs.declared.entry.FileEntry.{FileEntry}

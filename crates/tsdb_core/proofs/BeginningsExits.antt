@@ -3,7 +3,7 @@ use Rattle.std.proofs.Common.{◌≡◌, ℕ, List, Option, None, Some, Result, 
 use Rattle.tsdb_base.specs.declared.ids.Space.{Space}
 use Rattle.tsdb_tasks.specs.Beginning.{IsUntouched}
 use Rattle.tsdb_tasks.specs.declared.finishing.InputRuns.{InputRuns}
-use Rattle.tsdb_compactions.specs.declared.job.Job.{Job}
+use Rattle.tsdb_tasks.specs.Job.{Job}
 use Rattle.tsdb_core.proofs.Beginnings.{begun_world}
 use Rattle.tsdb_core.proofs.Commits.{not_taken, not_taken_world}
 use Rattle.tsdb_core.specs.Beginnings.{IsBeginAnswer, IsBegun, IsBegunOrNot, IsCrossRuns, IsNotBegun, cross_run}

@@ -8,8 +8,8 @@ use Rattle.std.specs.Option.{option_map}
 use Rattle.std.specs.Prelude.{IfSome}
 use Rattle.tsdb_base.specs.declared.ids.Space.{Space}
 use Rattle.tsdb_base.specs.declared.ids.Space.TheVariants.{Sequence, Unsequence}
-use Rattle.tsdb_compactions.specs.Jobs.{IsCompactionOf, input_file}
-use Rattle.tsdb_compactions.specs.declared.job.Job.{Job}
+use Rattle.tsdb_tasks.specs.Jobs.{IsCompactionOf, input_file}
+use Rattle.tsdb_tasks.specs.Job.{Job}
 use Rattle.tsdb_core.proofs.Jobs.{is_there}
 use Rattle.tsdb_core.specs.Core.{KeepsJobs, kept_room, next_of}
 use Rattle.tsdb_core.specs.declared.engine.Core.{Core}
@@ -23,7 +23,7 @@ use Rattle.tsdb_base.specs.Lists.{count}
 use Rattle.tsdb_memory.specs.Logged.{room_of}
 use Rattle.tsdb_outside.specs.declared.disk.Disk as disk
 use Rattle.tsdb_outside.specs.declared.faults.Counted as counted_by
-use Rattle.tsdb_pin.specs.Changes.{more_rights}
+use Rattle.tsdb_tasks.specs.Changes.{more_rights}
 use Rattle.tsdb_state.proofs.Holding.{room_with_compaction}
 use Rattle.tsdb_state.proofs.Numbering.{count_drawn}
 use Rattle.tsdb_state.specs.Jobs.{KeepsRoom, drawn_by, drawn_numbers, flushed_bytes, job_inputs, output_places}

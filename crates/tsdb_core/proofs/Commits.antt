@@ -36,7 +36,7 @@ use Rattle.tsdb_fileset.proofs.Joining.{only_places}
 use Rattle.tsdb_fileset.proofs.StateSweeps.{borns_are}
 use Rattle.tsdb_fileset.specs.Held.{AreFilesOf, TellTheirBytes}
 use Rattle.tsdb_state.specs.Stored.{built_files, kept_bytes}
-use Rattle.tsdb_flush.specs.declared.job.FlushJob.{FlushJob}
+use Rattle.tsdb_fileset.specs.FlushJob.{FlushJob}
 use Rattle.tsdb_fileset.specs.Files.{IsOpen, KeepsLists, KeptFiles, listed_borns}
 use Rattle.tsdb_fileset.specs.Places.{KeptFile, OnlyMakesPlaces}
 use Rattle.tsdb_fileset.specs.Room.{HasRoom}

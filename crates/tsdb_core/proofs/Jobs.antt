@@ -17,7 +17,7 @@ use Rattle.tsdb_core.specs.Core.{KeepsJobs, kept_room, next_of}
 use Rattle.tsdb_core.specs.Ending.{drawn_for, less_if, numbers_if}
 use Rattle.tsdb_core.specs.Flushes.{HasNumbersOf}
 use Rattle.tsdb_core.specs.declared.engine.Core.{Core}
-use Rattle.tsdb_flush.specs.declared.job.FlushJob.{FlushJob}
+use Rattle.tsdb_fileset.specs.FlushJob.{FlushJob}
 use Rattle.tsdb_fileset.proofs.Counts.{counted}
 use Rattle.tsdb_fileset.specs.Files.{IsOpen, KeptFiles, kept_file}
 use Rattle.tsdb_fileset.specs.Places.{ArePlacesMade, KeptFile, OnlyMakesPlaces, file_at, place_at}

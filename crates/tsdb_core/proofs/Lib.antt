@@ -26,3 +26,11 @@ pub mod RowMoments
 pub mod Seen
 pub mod Taking
 pub mod Worlds
+pub use Rattle.tsdb_tasks.proofs.Coming
+pub use Rattle.tsdb_tasks.proofs.Stored
+pub use Rattle.tsdb_fileset.proofs.Taken
+pub use Rattle.tsdb_tasks.proofs.Finished
+pub use Rattle.tsdb_tasks.proofs.Given
+pub use Rattle.tsdb_tasks.proofs.InRuns
+pub use Rattle.tsdb_tasks.proofs.InState
+pub use Rattle.tsdb_tasks.proofs.OutputsTold

@@ -23,21 +23,21 @@ use Rattle.tsdb_fileset.specs.Places.{KeptFile, file_at}
 use Rattle.tsdb_fileset.specs.Rights.{IsRightTo}
 use Rattle.tsdb_fileset.specs.Sweeps.{LeavesWithout, free_numbers}
 use Rattle.tsdb_fileset.specs.declared.files.Outgoing.{Outgoing}
-use Rattle.tsdb_flush.specs.declared.job.Built.{Built}
-use Rattle.tsdb_flush.specs.declared.job.Flushed.{Flushed}
+use Rattle.tsdb_fileset.specs.Built.{Built}
+use Rattle.tsdb_fileset.specs.Flushed.{Flushed}
 use Rattle.tsdb_base.proofs.Lists.{each_append, each_both}
 use Rattle.tsdb_base.specs.Lists.{Among, IsWithOne, count, if_some}
 use Rattle.tsdb_outside.specs.Files.{NamedFile}
 use Rattle.tsdb_outside.specs.declared.disk.Disk as disk
 use Rattle.tsdb_outside.specs.declared.faults.Counted as counted_by
-use Rattle.tsdb_pin.proofs.Changing.{kept_changed}
-use Rattle.tsdb_pin.specs.Changes.{GivesRights, TakesRights, column_numbers, fewer_rights, more_rights}
-use Rattle.tsdb_pin.specs.Pins.{AreColumnsHeld}
-use Rattle.tsdb_pin.specs.Sources.{AreHeldIn, IsHeldIn, numbers_in, source_numbers}
-use Rattle.tsdb_pin.specs.declared.pin.Column.{Column}
-use Rattle.tsdb_pin.specs.declared.pin.Pin.{Pin}
-use Rattle.tsdb_pin.specs.declared.pin.PinnedSource.{PinnedSource}
-use Rattle.tsdb_pin.specs.declared.pin.PinnedSource.TheVariants.{File, Part}
+use Rattle.tsdb_tasks.proofs.Changing.{kept_changed}
+use Rattle.tsdb_tasks.specs.Changes.{GivesRights, TakesRights, column_numbers, fewer_rights, more_rights}
+use Rattle.tsdb_tasks.specs.Pins.{AreColumnsHeld}
+use Rattle.tsdb_tasks.specs.Sources.{AreHeldIn, IsHeldIn, numbers_in, source_numbers}
+use Rattle.tsdb_tasks.specs.Column.{Column}
+use Rattle.tsdb_tasks.specs.Pin.{Pin}
+use Rattle.tsdb_tasks.specs.PinnedSource.{PinnedSource}
+use Rattle.tsdb_tasks.specs.TheVariants.{File, Part}
 use Rattle.tsdb_state.specs.State.{Compaction, FlushJob}
 
 -- a right to the file that is kept, both ways

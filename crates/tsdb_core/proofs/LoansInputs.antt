@@ -12,7 +12,7 @@ use Rattle.tsdb_base.specs.declared.ids.Space.{Space}
 use Rattle.tsdb_base.specs.declared.ids.Space.TheVariants.{Sequence, Unsequence}
 use Rattle.tsdb_tasks.proofs.InState.{counted_among}
 use Rattle.tsdb_tasks.specs.Finishing.{IsRunOf, StandInSequence}
-use Rattle.tsdb_compactions.specs.Jobs.{plain_numbers}
+use Rattle.tsdb_tasks.specs.Jobs.{plain_numbers}
 use Rattle.tsdb_core.specs.Loans.{AreApart, KeepsInputs, StandClaimed, StandFrom, StandsIn}
 use Rattle.tsdb_core.specs.Replacements.{without_claim}
 use Rattle.tsdb_fileset.proofs.Replaced.{run_parts}

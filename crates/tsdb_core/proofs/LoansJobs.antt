@@ -17,9 +17,9 @@ use Rattle.tsdb_tasks.specs.Finishing.{AreRunsOf, Finishes, StandInSequence}
 use Rattle.tsdb_tasks.specs.Inputs.{AreHeld, input_numbers}
 use Rattle.tsdb_tasks.specs.declared.finishing.InputRuns.{InputRuns}
 use Rattle.tsdb_tasks.specs.Files.{NewFile}
-use Rattle.tsdb_compactions.specs.Jobs.{IsCompactionOf, IsFormed, input_file, plain_numbers}
-use Rattle.tsdb_compactions.specs.declared.job.Input.{Input}
-use Rattle.tsdb_compactions.specs.declared.job.Job.{Job}
+use Rattle.tsdb_tasks.specs.Jobs.{IsCompactionOf, IsFormed, input_file, plain_numbers}
+use Rattle.tsdb_tasks.specs.Input.{Input}
+use Rattle.tsdb_tasks.specs.Job.{Job}
 use Rattle.tsdb_core.proofs.Loans.{named_right}
 use Rattle.tsdb_core.proofs.LoansInputs.{free_apart, from_stands, inputs_left, late_beside, none_there, run_stands_claimed}
 use Rattle.tsdb_core.proofs.LoansInputs.{sequence_beside}
@@ -42,7 +42,7 @@ use Rattle.tsdb_outside.specs.Files.{NamedFile}
 use Rattle.tsdb_outside.specs.declared.disk.Disk as disk
 use Rattle.tsdb_outside.specs.declared.faults.Counted as counted_by
 use Rattle.tsdb_outside.specs.declared.faults.Failed.{Failed}
-use Rattle.tsdb_pin.specs.Changes.{fewer_rights, more_rights}
+use Rattle.tsdb_tasks.specs.Changes.{fewer_rights, more_rights}
 use Rattle.tsdb_plan.specs.declared.entry.FileEntry.{FileEntry}
 use Rattle.tsdb_plan.specs.declared.entry.Run.{Run}
 use Rattle.tsdb_state.specs.Records.{numbers_of}

@@ -10,9 +10,9 @@ use Rattle.tsdb_base.specs.declared.ids.Space.TheVariants.{Sequence, Unsequence}
 use Rattle.tsdb_tasks.specs.Ending.{IsOutIn}
 use Rattle.tsdb_tasks.specs.Finishing.{StandInSequence}
 use Rattle.tsdb_tasks.specs.Inputs.{AreHeld}
-use Rattle.tsdb_compactions.specs.Jobs.{IsCompactionOf, input_file, input_files, plain_numbers}
-use Rattle.tsdb_compactions.specs.declared.job.Input.{Input}
-use Rattle.tsdb_compactions.specs.declared.job.Job.{Job}
+use Rattle.tsdb_tasks.specs.Jobs.{IsCompactionOf, input_file, input_files, plain_numbers}
+use Rattle.tsdb_tasks.specs.Input.{Input}
+use Rattle.tsdb_tasks.specs.Job.{Job}
 use Rattle.tsdb_core.proofs.Jobs.{one_of}
 use Rattle.tsdb_core.proofs.Loans.{right_named}
 use Rattle.tsdb_core.proofs.LoansInputs.{stands_from}
@@ -23,7 +23,7 @@ use Rattle.tsdb_core.specs.Flushes.{HasNumbersOf, IsOut}
 use Rattle.tsdb_core.specs.Loans.{KeepsLoans, LentRight, StandClaimed, StandFrom, StandsIn}
 use Rattle.tsdb_core.specs.Pins.{pin_rights, source_rights}
 use Rattle.tsdb_core.specs.declared.engine.Core.{Core}
-use Rattle.tsdb_flush.specs.declared.job.FlushJob as plain
+use Rattle.tsdb_fileset.specs.FlushJob as plain
 use Rattle.tsdb_fileset.specs.Files.{IsOpen, KeptFiles, entry_numbers, kept_file}
 use Rattle.tsdb_fileset.specs.Places.{AreUnread}
 use Rattle.tsdb_fileset.specs.Replacing.{HasListRoom}
@@ -32,12 +32,12 @@ use Rattle.tsdb_base.specs.Lists.{Among, IsRun, IsWithOne}
 use Rattle.tsdb_outside.specs.Files.{NamedFile}
 use Rattle.tsdb_outside.specs.declared.disk.Disk as disk
 use Rattle.tsdb_outside.specs.declared.faults.Counted as counted_by
-use Rattle.tsdb_pin.specs.Pins.{AreColumnsHeld}
-use Rattle.tsdb_pin.specs.Sources.{AreHeldIn, IsHeldIn}
-use Rattle.tsdb_pin.specs.declared.pin.Column.{Column}
-use Rattle.tsdb_pin.specs.declared.pin.Pin.{Pin}
-use Rattle.tsdb_pin.specs.declared.pin.PinnedSource.{PinnedSource}
-use Rattle.tsdb_pin.specs.declared.pin.PinnedSource.TheVariants.{File, Part}
+use Rattle.tsdb_tasks.specs.Pins.{AreColumnsHeld}
+use Rattle.tsdb_tasks.specs.Sources.{AreHeldIn, IsHeldIn}
+use Rattle.tsdb_tasks.specs.Column.{Column}
+use Rattle.tsdb_tasks.specs.Pin.{Pin}
+use Rattle.tsdb_tasks.specs.PinnedSource.{PinnedSource}
+use Rattle.tsdb_tasks.specs.TheVariants.{File, Part}
 use Rattle.tsdb_plan.specs.declared.entry.FileEntry.{FileEntry}
 use Rattle.tsdb_state.specs.Jobs.{drawn_by, outgoing_places, output_places}
 use Rattle.tsdb_state.specs.Records.{numbers_of}

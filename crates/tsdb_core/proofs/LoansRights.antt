@@ -18,7 +18,7 @@ use Rattle.tsdb_fileset.specs.declared.files.Outgoing.{Outgoing}
 use Rattle.tsdb_base.proofs.Lists.{among_left, among_map, among_right, any_among, count_append, each_among, each_append}
 use Rattle.tsdb_base.proofs.Lists.{each_from_among, each_weaker, with_one_each}
 use Rattle.tsdb_base.specs.Lists.{Among, IsWithOne, count}
-use Rattle.tsdb_pin.specs.Changes.{fewer_rights, more_rights}
+use Rattle.tsdb_tasks.specs.Changes.{fewer_rights, more_rights}
 use Rattle.tsdb_state.proofs.Numbering.{count_with_one}
 
 -- the file of the right is kept under its name

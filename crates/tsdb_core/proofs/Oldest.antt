@@ -4,7 +4,7 @@ use Rattle.std.proofs.Common.{Bool, zero, suc, ap, arith, length-append, refl, s
 use Rattle.std.proofs.lemmas.Bool.{eq-eqb, eqb-true, false≢true}
 use Rattle.std.specs.Option.{IsSomeAnd}
 use Rattle.std.specs.Prelude.{◌↔◌, IsTrue, slice_get}
-use Rattle.tsdb_flush.specs.declared.job.FlushJob.{FlushJob}
+use Rattle.tsdb_fileset.specs.FlushJob.{FlushJob}
 use Rattle.tsdb_memory.specs.Model.{frozen_in}
 use Rattle.tsdb_memory.specs.Store.{FrozenPair, Store}
 use Rattle.tsdb_memory.specs.declared.store.FrozenPair as declared

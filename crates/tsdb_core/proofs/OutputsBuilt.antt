@@ -15,12 +15,12 @@ use Rattle.tsdb_core.proofs.Parts.{part_listed, part_sent, some_is}
 use Rattle.tsdb_core.specs.Ending.{IsNumbered, PartEnds, drawn_for, less_if, numbers_if}
 use Rattle.tsdb_core.specs.declared.commit.Commit.{Commit}
 use Rattle.tsdb_core.specs.declared.commit.Commit.TheVariants.{Device, Done, Gone}
-use Rattle.tsdb_flush.specs.Built.{IsDone}
-use Rattle.tsdb_flush.specs.Jobs.{job_part}
-use Rattle.tsdb_flush.specs.Parts.{Filled}
-use Rattle.tsdb_flush.specs.declared.job.Built.{Built}
-use Rattle.tsdb_flush.specs.declared.job.FlushJob.{FlushJob}
-use Rattle.tsdb_flush.specs.declared.job.Flushed.{Flushed}
+use Rattle.tsdb_fileset.specs.FlushBuilt.{IsDone}
+use Rattle.tsdb_fileset.specs.Jobs.{job_part}
+use Rattle.tsdb_fileset.specs.Parts.{Filled}
+use Rattle.tsdb_fileset.specs.Built.{Built}
+use Rattle.tsdb_fileset.specs.FlushJob.{FlushJob}
+use Rattle.tsdb_fileset.specs.Flushed.{Flushed}
 use Rattle.tsdb_fileset.specs.Files.{Appends, KeptFiles, kept_file}
 use Rattle.tsdb_fileset.specs.Places.{OthersStay}
 use Rattle.tsdb_fileset.specs.Room.{HasRoom, less_room}

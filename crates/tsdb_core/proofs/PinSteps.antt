@@ -21,14 +21,14 @@ use Rattle.tsdb_memory.specs.Store.{Store}
 use Rattle.tsdb_outside.specs.Files.{NamedFile, StoredFile}
 use Rattle.tsdb_outside.specs.declared.disk.Disk as disk
 use Rattle.tsdb_outside.specs.declared.faults.Counted as counted
-use Rattle.tsdb_pin.proofs.Changing.{LeavesNames, gives_names, kept_changed, takes_names}
-use Rattle.tsdb_pin.proofs.Gathered.{columns_stay}
-use Rattle.tsdb_pin.proofs.Pinned.{files_with}
-use Rattle.tsdb_pin.specs.Changes.{ChangesFiles, GivesRights, KeepsFiles, TakesRights, column_numbers, fewer_rights, more_rights}
-use Rattle.tsdb_pin.specs.Pins.{AreColumnsHeld, IsTakenOrNot}
-use Rattle.tsdb_pin.specs.Shown.{IsPinOf, IsPinOfState, LeavesState}
-use Rattle.tsdb_pin.specs.declared.pin.Pin.{Pin}
-use Rattle.tsdb_pin.specs.declared.pin.PinFault.{PinFault}
+use Rattle.tsdb_tasks.proofs.Changing.{LeavesNames, gives_names, kept_changed, takes_names}
+use Rattle.tsdb_tasks.proofs.Gathered.{columns_stay}
+use Rattle.tsdb_tasks.proofs.Pinned.{files_with}
+use Rattle.tsdb_tasks.specs.Changes.{ChangesFiles, GivesRights, KeepsFiles, TakesRights, column_numbers, fewer_rights, more_rights}
+use Rattle.tsdb_tasks.specs.Pins.{AreColumnsHeld, IsTakenOrNot}
+use Rattle.tsdb_tasks.specs.Shown.{IsPinOf, IsPinOfState, LeavesState}
+use Rattle.tsdb_tasks.specs.Pin.{Pin}
+use Rattle.tsdb_tasks.specs.PinFault.{PinFault}
 use Rattle.tsdb_state.proofs.Pinning.{pin_stands}
 use Rattle.tsdb_state.specs.Jobs.{KeepsRoom, drawn_numbers}
 use Rattle.tsdb_state.specs.State as state

@@ -13,10 +13,10 @@ use Rattle.tsdb_tasks.specs.Ending.{GivesUp, IsOutputNumbered}
 use Rattle.tsdb_tasks.specs.Finishing.{AreRunsOf, Finishes}
 use Rattle.tsdb_tasks.specs.States.{sent_files}
 use Rattle.tsdb_tasks.specs.declared.finishing.InputRuns.{InputRuns}
-use Rattle.tsdb_compactions.proofs.Outputs.{no_output}
-use Rattle.tsdb_compactions.specs.Jobs.{IsCompactionOf, IsFormed, input_file, input_files, plain_numbers}
-use Rattle.tsdb_compactions.specs.Outputs.{IsOutputOf, TellsInputs}
-use Rattle.tsdb_compactions.specs.declared.job.Job.{Job}
+use Rattle.tsdb_tasks.proofs.Outputs.{no_output}
+use Rattle.tsdb_tasks.specs.Jobs.{IsCompactionOf, IsFormed, input_file, input_files, plain_numbers}
+use Rattle.tsdb_tasks.specs.CompactionsOutputs.{IsOutputOf, TellsInputs}
+use Rattle.tsdb_tasks.specs.Job.{Job}
 use Rattle.tsdb_core.proofs.LoansJobs.{LeavesInputs, given_up_inputs, job_rights_given, left_as}
 use Rattle.tsdb_core.proofs.ReplacementsClaims.{claims_without, over_finished, over_given_up}
 use Rattle.tsdb_core.proofs.ReplacementsFiles.{can_replace, ended_later, files_finished, files_given_up, items_later}
@@ -30,7 +30,7 @@ use Rattle.tsdb_core.specs.Replacements.{IsOutputIn, IsSeenAfterEnd, TellsNew, o
 use Rattle.tsdb_core.specs.Worlds.{IsWorldOf}
 use Rattle.tsdb_core.specs.declared.engine.Core.{Core}
 use Rattle.tsdb_fileset.specs.Held.{AreFilesOf, TellTheirBytes}
-use Rattle.tsdb_flush.specs.declared.job.Built.{Built}
+use Rattle.tsdb_fileset.specs.Built.{Built}
 use Rattle.tsdb_fileset.specs.Files.{AreKept, KeptFiles, listed_borns}
 use Rattle.tsdb_fileset.specs.Replacing.{HasReplaced}
 use Rattle.tsdb_base.proofs.Lists.{with_one_is}

@@ -12,8 +12,8 @@ use Rattle.tsdb_tasks.specs.Files.{NewFile}
 use Rattle.tsdb_tasks.specs.Ending.{GivesUp}
 use Rattle.tsdb_tasks.specs.Finishing.{AreRunsOf, Finishes}
 use Rattle.tsdb_tasks.specs.declared.finishing.InputRuns.{InputRuns}
-use Rattle.tsdb_compactions.specs.Jobs.{IsCompactionOf}
-use Rattle.tsdb_compactions.specs.declared.job.Job.{Job}
+use Rattle.tsdb_tasks.specs.Jobs.{IsCompactionOf}
+use Rattle.tsdb_tasks.specs.Job.{Job}
 use Rattle.tsdb_core.proofs.Claims.{is_claim_of}
 use Rattle.tsdb_core.proofs.Jobs.{is_counted}
 use Rattle.tsdb_core.specs.Core.{AreClaimed, files_of, is_claimed, is_sequence_claimed}

@@ -22,8 +22,8 @@ use Rattle.tsdb_tasks.specs.Finishing.{AreRunsOf, Finishes}
 use Rattle.tsdb_tasks.specs.Inputs.{input_numbers}
 use Rattle.tsdb_tasks.specs.States.{AreInputsIn, IsFresh, IsNewOf, IsPlaceOf, TellsOutput, sent_files}
 use Rattle.tsdb_tasks.specs.declared.finishing.InputRuns.{InputRuns}
-use Rattle.tsdb_compactions.specs.Jobs.{IsCompactionOf, plain_numbers}
-use Rattle.tsdb_compactions.specs.declared.job.Job.{Job}
+use Rattle.tsdb_tasks.specs.Jobs.{IsCompactionOf, plain_numbers}
+use Rattle.tsdb_tasks.specs.Job.{Job}
 use Rattle.tsdb_core.proofs.Jobs.{is_counted}
 use Rattle.tsdb_core.proofs.ReplacementsClaims.{kind, stands}
 use Rattle.tsdb_core.proofs.ReplacementsJobs.{IsGone}
@@ -44,7 +44,7 @@ use Rattle.tsdb_memory.specs.Replacing.{CanReplace}
 use Rattle.tsdb_model.specs.World.{World}
 use Rattle.tsdb_memory.specs.Least.{IsLeastOf}
 use Rattle.tsdb_memory.specs.Shown.{file_borns}
-use Rattle.tsdb_pin.specs.Changes.{fewer_rights}
+use Rattle.tsdb_tasks.specs.Changes.{fewer_rights}
 use Rattle.tsdb_plan.specs.declared.entry.FileEntry.{FileEntry}
 use Rattle.tsdb_tasks.proofs.OutputEnds.{ended_with, ended_without, none_can, output_can}
 use Rattle.tsdb_tasks.proofs.OutputsTold.{not_a_file, stored_with, worlds_with}

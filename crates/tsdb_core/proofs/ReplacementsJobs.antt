@@ -14,8 +14,8 @@ use Rattle.tsdb_tasks.specs.Ending.{GivesUp}
 use Rattle.tsdb_tasks.specs.Finishing.{Finishes}
 use Rattle.tsdb_tasks.specs.Inputs.{input_numbers}
 use Rattle.tsdb_tasks.specs.declared.finishing.InputRuns.{InputRuns}
-use Rattle.tsdb_compactions.specs.Jobs.{IsCompactionOf, input_file}
-use Rattle.tsdb_compactions.specs.declared.job.Job.{Job}
+use Rattle.tsdb_tasks.specs.Jobs.{IsCompactionOf, input_file}
+use Rattle.tsdb_tasks.specs.Job.{Job}
 use Rattle.tsdb_core.proofs.Jobs.{is_counted, is_there}
 use Rattle.tsdb_core.specs.Core.{KeepsJobs, kept_room, next_of}
 use Rattle.tsdb_core.specs.declared.engine.Core.{Core}
@@ -30,7 +30,7 @@ use Rattle.tsdb_memory.specs.declared.logged.Logged.{Logged}
 use Rattle.tsdb_outside.specs.Files.{Store}
 use Rattle.tsdb_outside.specs.declared.disk.Disk as disk
 use Rattle.tsdb_outside.specs.declared.faults.Counted as counted_by
-use Rattle.tsdb_pin.specs.Changes.{fewer_rights}
+use Rattle.tsdb_tasks.specs.Changes.{fewer_rights}
 use Rattle.tsdb_state.proofs.Holding.{room_without_compaction}
 use Rattle.tsdb_state.proofs.Numbering.{count_drawn, count_map_one}
 use Rattle.tsdb_state.specs.Jobs.{KeepsRoom, drawn_numbers, flushed_bytes, outgoing_places}

@@ -16,14 +16,14 @@ use Rattle.tsdb_core.specs.Ending.{drawn_for, numbers_if}
 use Rattle.tsdb_core.specs.Flushes.{IsTaken}
 use Rattle.tsdb_core.specs.Worlds.{KeepsWorld}
 use Rattle.tsdb_core.specs.declared.engine.Core.{Core}
-use Rattle.tsdb_flush.proofs.States.{taken_flush}
-use Rattle.tsdb_flush.specs.Flushes.{IsFlushOf}
-use Rattle.tsdb_flush.specs.Taking as flushing
+use Rattle.tsdb_fileset.proofs.States.{taken_flush}
+use Rattle.tsdb_fileset.specs.Flushes.{IsFlushOf}
+use Rattle.tsdb_fileset.specs.Taking as flushing
 use Rattle.tsdb_fileset.proofs.Joining.{only_places}
 use Rattle.tsdb_fileset.specs.Held.{AreFilesOf}
 use Rattle.tsdb_state.proofs.ImageLemmas.Storing.{take_flush_stored}
-use Rattle.tsdb_flush.specs.Jobs.{IsJob}
-use Rattle.tsdb_flush.specs.declared.job.FlushJob.{FlushJob}
+use Rattle.tsdb_fileset.specs.Jobs.{IsJob}
+use Rattle.tsdb_fileset.specs.FlushJob.{FlushJob}
 use Rattle.tsdb_fileset.specs.Files.{KeepsLists, KeptFiles}
 use Rattle.tsdb_fileset.specs.Places.{ArePlacesMade, OnlyMakesPlaces}
 use Rattle.tsdb_fileset.specs.Room.{flush_room, more_room}

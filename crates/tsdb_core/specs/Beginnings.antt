@@ -10,9 +10,9 @@ use Rattle.tsdb_tasks.specs.Beginning.{run_files}
 use Rattle.tsdb_tasks.specs.Inputs.{input_numbers}
 use Rattle.tsdb_tasks.specs.Series.{run_paths}
 use Rattle.tsdb_tasks.specs.declared.finishing.InputRuns.{InputRuns}
-use Rattle.tsdb_compactions.specs.Jobs.{IsCompactionOf, input_files}
-use Rattle.tsdb_compactions.specs.Outputs.{TellsTruth}
-use Rattle.tsdb_compactions.specs.declared.job.Job.{Job}
+use Rattle.tsdb_tasks.specs.Jobs.{IsCompactionOf, input_files}
+use Rattle.tsdb_tasks.specs.CompactionsOutputs.{TellsTruth}
+use Rattle.tsdb_tasks.specs.Job.{Job}
 use Rattle.tsdb_core.specs.Compactions.{IsJobKept, job_rights}
 use Rattle.tsdb_core.specs.Core.{IsSeen, KeepsJobs, files_of, is_sequence_claimed, limit_of, logged_of, next_of}
 use Rattle.tsdb_core.specs.Flushes.{IsNotTaken}
@@ -31,7 +31,7 @@ use Rattle.tsdb_outside.specs.Files as outside
 use Rattle.tsdb_outside.specs.Files.{NamedFile}
 use Rattle.tsdb_outside.specs.declared.disk.Disk as disk
 use Rattle.tsdb_outside.specs.declared.faults.Counted as counted
-use Rattle.tsdb_pin.specs.Changes.{more_rights}
+use Rattle.tsdb_tasks.specs.Changes.{more_rights}
 use Rattle.tsdb_plan.specs.CrossPlan.{IsCrossPlan}
 use Rattle.tsdb_plan.specs.Files.{HaveRisingHulls}
 use Rattle.tsdb_plan.specs.InnerPlan.{IsInnerPlan}

@@ -3,9 +3,9 @@ use Rattle.std.specs.Prelude.{◌≡◌, ◌≤◌, List, length, map}
 use Rattle.tsdb_tasks.specs.Ending.{IsOutIn}
 use Rattle.tsdb_tasks.specs.Finishing.{StandInSequence}
 use Rattle.tsdb_tasks.specs.Inputs.{input_numbers}
-use Rattle.tsdb_compactions.specs.Jobs.{IsCompactionOf, IsFormed}
-use Rattle.tsdb_compactions.specs.declared.job.Input.{Input}
-use Rattle.tsdb_compactions.specs.declared.job.Job.{Job}
+use Rattle.tsdb_tasks.specs.Jobs.{IsCompactionOf, IsFormed}
+use Rattle.tsdb_tasks.specs.Input.{Input}
+use Rattle.tsdb_tasks.specs.Job.{Job}
 use Rattle.tsdb_core.specs.Core.{KeepsJobs, files_of}
 use Rattle.tsdb_core.specs.Loans.{LentRight, lent_numbers}
 use Rattle.tsdb_core.specs.declared.engine.Core.{Core}

@@ -9,8 +9,8 @@ use Rattle.tsdb_tasks.specs.Coming.{AreSentOut, HaveCome, StandLast}
 use Rattle.tsdb_tasks.specs.Files.{NewFile, NewFiles}
 use Rattle.tsdb_core.specs.declared.commit.Commit.{Commit}
 use Rattle.tsdb_core.specs.declared.commit.Commit.TheVariants.{Done, Gone, Device}
-use Rattle.tsdb_flush.specs.declared.job.Built.{Built}
-use Rattle.tsdb_flush.specs.declared.job.FlushJob.{FlushJob}
+use Rattle.tsdb_fileset.specs.Built.{Built}
+use Rattle.tsdb_fileset.specs.FlushJob.{FlushJob}
 use Rattle.tsdb_fileset.specs.Files.{KeptFiles}
 use Rattle.tsdb_fileset.specs.Room.{less_room}
 use Rattle.tsdb_fileset.specs.declared.room.Spare.{Spare}

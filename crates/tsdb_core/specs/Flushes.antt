@@ -19,11 +19,11 @@ use Rattle.tsdb_core.specs.declared.commit.Commit.{Commit}
 use Rattle.tsdb_core.specs.declared.commit.Commit.TheVariants.{Done, Gone, Device}
 use Rattle.tsdb_core.specs.declared.commit.CoreFault.{CoreFault}
 use Rattle.tsdb_core.specs.declared.commit.CoreFault.TheVariants.{Memory, Full}
-use Rattle.tsdb_flush.specs.Flushes.{IsFlushOf}
+use Rattle.tsdb_fileset.specs.Flushes.{IsFlushOf}
 use Rattle.tsdb_frames.specs.Frames.{faults_of, slot_of}
 use Rattle.tsdb_state.specs.Stored.{built_files}
-use Rattle.tsdb_flush.specs.Jobs.{IsJob}
-use Rattle.tsdb_flush.specs.declared.job.FlushJob.{FlushJob}
+use Rattle.tsdb_fileset.specs.Jobs.{IsJob}
+use Rattle.tsdb_fileset.specs.FlushJob.{FlushJob}
 use Rattle.tsdb_fileset.specs.Files.{KeepsLists, listed_borns}
 use Rattle.tsdb_fileset.specs.Places.{AreOfStore, OnlyMakesPlaces}
 use Rattle.tsdb_base.specs.Lists.{IsWithOne}

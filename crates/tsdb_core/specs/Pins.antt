@@ -12,12 +12,12 @@ use Rattle.tsdb_outside.specs.Files as outside
 use Rattle.tsdb_outside.specs.Files.{NamedFile}
 use Rattle.tsdb_outside.specs.declared.disk.Disk as disk
 use Rattle.tsdb_outside.specs.declared.faults.Counted as counted
-use Rattle.tsdb_pin.specs.Changes.{GivesRights, KeepsFiles, TakesRights, column_numbers}
-use Rattle.tsdb_pin.specs.Pins.{AreColumnsHeld}
-use Rattle.tsdb_pin.specs.Shown.{IsPinOf}
-use Rattle.tsdb_pin.specs.declared.pin.Pin.{Pin}
-use Rattle.tsdb_pin.specs.declared.pin.PinnedSource.{PinnedSource}
-use Rattle.tsdb_pin.specs.declared.pin.PinnedSource.TheVariants.{File, Part}
+use Rattle.tsdb_tasks.specs.Changes.{GivesRights, KeepsFiles, TakesRights, column_numbers}
+use Rattle.tsdb_tasks.specs.Pins.{AreColumnsHeld}
+use Rattle.tsdb_tasks.specs.Shown.{IsPinOf}
+use Rattle.tsdb_tasks.specs.Pin.{Pin}
+use Rattle.tsdb_tasks.specs.PinnedSource.{PinnedSource}
+use Rattle.tsdb_tasks.specs.TheVariants.{File, Part}
 use Rattle.tsdb_state.specs.State as state
 use Rattle.tsdb_state.specs.State.{Compaction, EngineState, FlushJob}
 use Rattle.tsdb_state.specs.Steps.{PinStandsFor, TakesPin, pinned, unpinned}

@@ -11,9 +11,9 @@ use Rattle.tsdb_tasks.specs.Ending.{GivesUp}
 use Rattle.tsdb_tasks.specs.Finishing.{AreRunsOf, Finishes}
 use Rattle.tsdb_tasks.specs.States.{sent_files}
 use Rattle.tsdb_tasks.specs.declared.finishing.InputRuns.{InputRuns}
-use Rattle.tsdb_compactions.specs.Jobs.{IsCompactionOf}
-use Rattle.tsdb_compactions.specs.Outputs.{TellsInputs}
-use Rattle.tsdb_compactions.specs.declared.job.Job.{Job}
+use Rattle.tsdb_tasks.specs.Jobs.{IsCompactionOf}
+use Rattle.tsdb_tasks.specs.CompactionsOutputs.{TellsInputs}
+use Rattle.tsdb_tasks.specs.Job.{Job}
 use Rattle.tsdb_core.specs.Compactions.{AreOnInputs}
 use Rattle.tsdb_core.specs.Core.{IsSeen, KeepsJobs, files_of, is_sequence_claimed, limit_of, logged_of, next_of}
 use Rattle.tsdb_core.specs.Core.{working_of}

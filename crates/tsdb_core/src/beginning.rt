@@ -13,10 +13,9 @@ use crate::commit::CoreFault;
 use crate::engine::Core;
 use tsdb_base::limits::END_OF_NUMBERS;
 use tsdb_base::{FileNumber, Memory, Space, Stamp};
-use tsdb_compactions::Job;
 use tsdb_outside::{Files, Journal};
 use tsdb_plan::{Run, cross, have_rising_hulls, inner};
-use tsdb_tasks::{InputRuns, JobSeries, TakenInputs, job_series, take_job_inputs};
+use tsdb_tasks::{InputRuns, Job, JobSeries, TakenInputs, job_series, take_job_inputs};
 
 /// No file of a list.
 const NO_FILES: Run = Run { first: 0, end: 0 };

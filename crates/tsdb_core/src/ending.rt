@@ -9,8 +9,7 @@ ghost use Rattle.tsdb_fileset.specs.Room.{HasRoom};
 
 use crate::commit::Commit;
 use tsdb_base::{FileNumber, Space};
-use tsdb_fileset::KeptFiles;
-use tsdb_flush::Built;
+use tsdb_fileset::{Built, KeptFiles};
 use tsdb_outside::Files;
 
 /// Ends one part of a flush: its file is listed, or on its way out; a number without a file is given up.

@@ -12,7 +12,7 @@ use crate::ending::end_part;
 use crate::engine::Core;
 use tsdb_base::limits::END_OF_NUMBERS;
 use tsdb_base::{FileNumber, Memory, Space, Stamp};
-use tsdb_flush::{FlushJob, Flushed, take};
+use tsdb_fileset::{FlushJob, Flushed, take};
 use tsdb_memory::{FrozenPair, lesser};
 use tsdb_outside::{Failed, Files, Journal};
 

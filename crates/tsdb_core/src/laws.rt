@@ -2,7 +2,7 @@
 //! it keeps until they end, so that their ends can be called. Depends on `engine`, tsdb_compactions, tsdb_flush and
 //! tsdb_pin.
 ghost use Rattle.std.specs.Prelude.{[], List};
-ghost use Rattle.tsdb_compactions.specs.Jobs.{IsCompactionOf};
+ghost use Rattle.tsdb_tasks.specs.Jobs.{IsCompactionOf};
 ghost use Rattle.tsdb_core.specs.Compactions.{AreOnInputs, IsHandedOut, IsJobOut, job_rights};
 ghost use Rattle.tsdb_core.specs.Core.{KeepsJobs, files_of};
 ghost use Rattle.tsdb_core.specs.Flushes.{HasNumbersOf, IsOut};
@@ -10,15 +10,14 @@ ghost use Rattle.tsdb_core.specs.Loans.{KeepsLoans, LentRight};
 ghost use Rattle.tsdb_core.specs.Pins.{AreOnColumns, pin_rights};
 ghost use Rattle.tsdb_fileset.specs.Places.{AreUnread};
 ghost use Rattle.tsdb_base.specs.Lists.{Among, IsWithOne};
-ghost use Rattle.tsdb_pin.specs.Pins.{AreColumnsHeld};
+ghost use Rattle.tsdb_tasks.specs.Pins.{AreColumnsHeld};
 ghost use Rattle.tsdb_state.specs.State as state;
 ghost use Rattle.tsdb_state.specs.State.{Compaction};
 
 use crate::engine::Core;
-use tsdb_compactions::Job;
-use tsdb_flush::FlushJob;
+use tsdb_fileset::FlushJob;
 use tsdb_outside::{Files, Journal};
-use tsdb_pin::Pin;
+use tsdb_tasks::{Job, Pin};
 
 /// Where no compaction and no right is out, what is kept for flushes is all.
 pub fn nothing_is_lent<J: Journal, F: Files>(_core: &Core<J, F>)

@@ -6,14 +6,14 @@ use tsdb_base::Range;
 use tsdb_model::Item;
 use tsdb_outside::{Files, Journal};
 use tsdb_path::Path;
-use tsdb_pin::{Pin, PinFault, give_back, take_pin};
+use tsdb_tasks::{Pin, PinFault, give_back, take_pin};
 
 impl<J: Journal, F: Files> Core<J, F> {
     ghost use Rattle.tsdb_core.specs.Core.{files_of, logged_of};
     ghost use Rattle.tsdb_core.specs.Pins.{IsNotPinned, IsPinned, IsUnpinned};
     ghost use Rattle.tsdb_core.specs.Worlds.{KeepsWorld};
     ghost use Rattle.tsdb_memory.specs.Logged.{memory_of};
-    ghost use Rattle.tsdb_pin.specs.Pins.{AreColumnsHeld, IsPinAnswer, IsPinFor};
+    ghost use Rattle.tsdb_tasks.specs.Pins.{AreColumnsHeld, IsPinAnswer, IsPinFor};
 
     /// Takes a pin of the items of the device in the range, which reads this state whatever comes later. It has rights on
     /// the listed files that have their series, copies of the points in memory that are in the range, and the marks of

@@ -6,17 +6,16 @@ ghost use Rattle.tsdb_tasks.specs.Files.{new_file};
 ghost use Rattle.tsdb_tasks.specs.Ending.{IsOutIn, IsOutputNumbered};
 ghost use Rattle.tsdb_tasks.specs.Finishing.{AreRunsOf};
 ghost use Rattle.tsdb_tasks.specs.States.{sent_files};
-ghost use Rattle.tsdb_compactions.specs.Outputs.{IsOutputOf};
+ghost use Rattle.tsdb_tasks.specs.CompactionsOutputs.{IsOutputOf};
 ghost use Rattle.tsdb_core.specs.Replacements.{EndsFiles, output_place, record_inputs, without_claim};
 ghost use Rattle.tsdb_state.specs.Steps.{output_number};
 
 use crate::engine::Core;
 use tsdb_base::{FileNumber, List, Space, Stamp};
-use tsdb_compactions::Job;
-use tsdb_flush::Built;
+use tsdb_fileset::Built;
 use tsdb_log::LogRecord;
 use tsdb_outside::{Failed, Files, Journal};
-use tsdb_tasks::{InputRuns, finish, give_up, runs_of};
+use tsdb_tasks::{InputRuns, Job, finish, give_up, runs_of};
 
 impl<J: Journal, F: Files> Core<J, F> {
     ghost use Rattle.tsdb_core.specs.Compactions.{IsJobOut};

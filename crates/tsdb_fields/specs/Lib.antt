@@ -1,2 +1,3 @@
 pub mod Reading
 pub mod Statistics
+pub use Rattle.tsdb_path.specs.Nodes

@@ -15,7 +15,7 @@ use Rattle.tsdb_fileset.specs.Places.{KeptFile, OthersStay, place_at}
 use Rattle.tsdb_fileset.specs.Room.{HasRoom, less_room}
 use Rattle.tsdb_fileset.proofs.Leasts.{least_appended}
 use Rattle.tsdb_fileset.proofs.Numbers.{appended, kept_more, sent_out}
-use Rattle.tsdb_memory.specs.Least.{IsLeastOf, lesser}
+use Rattle.tsdb_flush.specs.Least.{IsLeastOf, lesser}
 use Rattle.tsdb_plan.specs.declared.entry.FileEntry.{FileEntry}
 
 -- the other promised places are there once one of them is used

@@ -15,7 +15,7 @@ use Rattle.tsdb_fileset.specs.declared.files.Outgoing.{Outgoing}
 use Rattle.tsdb_base.proofs.Lists.{among_left, among_map, among_right, any_among, each_append, each_from_among, each_among}
 use Rattle.tsdb_base.specs.Lists.{Among, if_some}
 use Rattle.tsdb_plan.specs.declared.entry.FileEntry.{FileEntry}
-use Rattle.tsdb_state.specs.State.{EngineState, Entries}
+use Rattle.tsdb_flush.specs.State.{EngineState, Entries}
 
 -- a number is the one, or another
 data IsThat (a b : ℕ) : Type 0 where

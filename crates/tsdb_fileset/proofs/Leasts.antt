@@ -8,8 +8,8 @@ use Rattle.tsdb_base.specs.declared.ids.Stamp.{Stamp}
 use Rattle.tsdb_fileset.specs.Files.{Appends, KeptFiles, listed_borns}
 use Rattle.tsdb_base.specs.Lists.{Among}
 use Rattle.tsdb_base.proofs.Lists.{each_append, each_left, each_right}
-use Rattle.tsdb_memory.specs.Least.{IsLeastOf, lesser}
-use Rattle.tsdb_memory.proofs.Borns.{least_push}
+use Rattle.tsdb_flush.specs.Least.{IsLeastOf, lesser}
+use Rattle.tsdb_flush.proofs.Borns.{least_push}
 use Rattle.tsdb_plan.specs.declared.entry.FileEntry.{FileEntry}
 
 among_moved : (n x : ℕ) (front back : List ℕ) → Among n ((front ++ back) ++ x ∷ [])

@@ -12,3 +12,10 @@ pub mod StateSweeps
 pub mod Joining
 pub mod Spans
 pub mod Telling
+pub use Rattle.tsdb_flush.proofs.Types
+pub use Rattle.tsdb_flush.proofs.Emptiness
+pub use Rattle.tsdb_flush.proofs.RowCells
+pub use Rattle.tsdb_flush.proofs.MemoryNumbers
+pub use Rattle.tsdb_flush.proofs.RowLemmas
+pub use Rattle.tsdb_flush.proofs.LayerLemmas
+pub use Rattle.tsdb_flush.proofs.States

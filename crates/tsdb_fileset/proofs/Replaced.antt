@@ -26,8 +26,8 @@ use Rattle.tsdb_fileset.specs.Replacing.{HasReplaced, borns_of, leaving_run, les
 use Rattle.tsdb_fileset.specs.Replacing.{run_length, stamps_of, with_claim}
 use Rattle.tsdb_base.proofs.Lists.{count_append}
 use Rattle.tsdb_base.specs.Lists.{count, if_some}
-use Rattle.tsdb_memory.proofs.Borns.{least_all}
-use Rattle.tsdb_memory.specs.Least.{IsLeastOf, least_with, lesser}
+use Rattle.tsdb_flush.proofs.Borns.{least_all}
+use Rattle.tsdb_flush.specs.Least.{IsLeastOf, least_with, lesser}
 use Rattle.tsdb_plan.specs.declared.entry.FileEntry.{FileEntry}
 use Rattle.tsdb_plan.specs.declared.entry.Run.{Run}
 

@@ -13,11 +13,11 @@ use Rattle.std.proofs.lemmas.Cmp.{nat_list_cmp_total, on_total, then_total, tied
 use Rattle.std.proofs.lemmas.List.{get_or_default}
 use Rattle.std.proofs.lemmas.List.Folds.{list_any_at, list_any_none}
 use Rattle.std.proofs.lemmas.List.Sorted.{searchable_from_sorted}
-use Rattle.tsdb_index.proofs.Found.{pairs_in_order}
-use Rattle.tsdb_index.proofs.Orders.{in_order}
+use Rattle.tsdb_flush.proofs.Found.{pairs_in_order}
+use Rattle.tsdb_flush.proofs.Orders.{in_order}
 use Rattle.tsdb_fileset.specs.Order.{AreInTreeOrder, tree_cmp, tree_names}
-use Rattle.tsdb_state.proofs.LayerLemmas.Places.{is_path_same, path_itself}
-use Rattle.tsdb_state.specs.Places.{is_path}
+use Rattle.tsdb_flush.proofs.LayerLemmas.Places.{is_path_same, path_itself}
+use Rattle.tsdb_flush.specs.Places.{is_path}
 
 abbrev Paths : Type 0
 Paths = List (List ℕ)

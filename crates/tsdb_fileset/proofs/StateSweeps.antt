@@ -8,19 +8,19 @@ use Rattle.std.proofs.lemmas.Bool.{eq-eqb, eqb-true}
 use Rattle.std.proofs.lemmas.List.{map-append}
 use Rattle.tsdb_base.specs.declared.ids.FileNumber.{FileNumber}
 use Rattle.tsdb_fileset.specs.Held.{AreFilesOf, AreSomeOf, IsDoubtOf, IsSweep, TellTheirBytes, entry_of, leaving, listed, may_go}
-use Rattle.tsdb_state.proofs.ImageLemmas.Kept.{found_without}
-use Rattle.tsdb_state.specs.Stored.{kept_bytes, without_numbers}
+use Rattle.tsdb_flush.proofs.ImageLemmas.Kept.{found_without}
+use Rattle.tsdb_flush.specs.Stored.{kept_bytes, without_numbers}
 use Rattle.tsdb_fileset.specs.Files.{IsOpen, KeptFiles, kept_file}
 use Rattle.tsdb_fileset.specs.Places.{KeptFile, Places, file_at, is_one_of, place_at}
 use Rattle.tsdb_fileset.specs.Sweeps.{LeavesWithout, free_numbers, has_no_right, is_free, is_that}
 use Rattle.tsdb_fileset.specs.declared.files.Outgoing.{Outgoing}
 use Rattle.tsdb_base.proofs.Lists.{among_map, each_from_among, each_weaker}
 use Rattle.tsdb_base.specs.Lists.{Among, if_some}
-use Rattle.tsdb_log.specs.declared.record.LogRecord.{LogRecord}
+use Rattle.tsdb_flush.specs.LogRecord.{LogRecord}
 use Rattle.tsdb_outside.specs.Files.{StoredFile}
 use Rattle.tsdb_plan.specs.declared.entry.FileEntry.{FileEntry}
-use Rattle.tsdb_state.specs.Records.{names, numbers_of}
-use Rattle.tsdb_state.specs.State.{EngineState, Entries, File}
+use Rattle.tsdb_flush.specs.Records.{names, numbers_of}
+use Rattle.tsdb_flush.specs.State.{EngineState, Entries, File}
 
 -- what holds of each kept file holds of those that stay
 pub of_those_that_stay : (P : ℕ → KeptFile → Type 0) (numbers : List ℕ) (old new : Places)

@@ -17,7 +17,7 @@ use Rattle.tsdb_fileset.proofs.Counts.{among_counted, count_fewer, count_left, c
 use Rattle.tsdb_fileset.proofs.Numbers.{all_counted}
 use Rattle.tsdb_base.specs.Lists.{count, if_some}
 use Rattle.tsdb_base.proofs.Lists.{count_append, each_from_among}
-use Rattle.tsdb_memory.specs.Least.{IsLeastOf}
+use Rattle.tsdb_flush.specs.Least.{IsLeastOf}
 use Rattle.tsdb_outside.specs.declared.faults.Failed.{Failed}
 
 at_most_one : (file : Option KeptFile) → length (if_some file) ≤ 1

@@ -14,16 +14,16 @@ use Rattle.tsdb_fileset.proofs.Counts.{counted}
 use Rattle.tsdb_fileset.specs.Files.{AreKept, KeptFiles, entry_numbers, kept_file, numbers_of, outgoing_numbers}
 use Rattle.tsdb_fileset.specs.Places.{KeptFile}
 use Rattle.tsdb_base.proofs.Lists.{among_left, among_map, among_right, any_among, each_among, each_left, each_right}
-use Rattle.tsdb_state.proofs.LayerLemmas.Places.{same_content}
+use Rattle.tsdb_flush.proofs.LayerLemmas.Places.{same_content}
 use Rattle.tsdb_base.specs.Lists.{Among, if_some}
-use Rattle.tsdb_state.specs.Places.{Content, Place, place_cmp}
+use Rattle.tsdb_flush.specs.Places.{Content, Place, place_cmp}
 use Rattle.tsdb_fileset.proofs.Spans.{greatest_each, greatest_is, least_each, least_is}
 use Rattle.tsdb_fileset.specs.Lines.{greatest_time, least_time, line_of, lines_of}
 use Rattle.tsdb_fileset.specs.Listings.{HasPointAt, TellFiles, TellsFile}
 use Rattle.tsdb_plan.specs.declared.entry.FileEntry.{FileEntry}
 use Rattle.tsdb_plan.specs.declared.entry.Hull.{Hull}
-use Rattle.tsdb_state.specs.Jobs.{Describes, EntriesMatch, HasTime}
-use Rattle.tsdb_state.specs.State.{EngineState, Entries, Entry, File, Told}
+use Rattle.tsdb_flush.specs.StateJobs.{Describes, EntriesMatch, HasTime}
+use Rattle.tsdb_flush.specs.State.{EngineState, Entries, Entry, File, Told}
 
 -- the hulls of a file span its points
 record Span (content : Content) (hulls : List Hull) : Type 0 where

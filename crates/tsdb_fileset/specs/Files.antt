@@ -9,7 +9,7 @@ use Rattle.tsdb_fileset.specs.declared.room.Spare.{Spare}
 use Rattle.tsdb_fileset.specs.Places.{KeptFile, Places, file_at, place_at}
 use Rattle.tsdb_fileset.specs.Room.{no_room}
 use Rattle.tsdb_base.specs.Lists.{count, if_some}
-use Rattle.tsdb_state.specs.Places.{is_path}
+use Rattle.tsdb_flush.specs.Places.{is_path}
 use Rattle.tsdb_plan.specs.declared.entry.FileEntry.{FileEntry}
 
 -- the places, the two lists, the files on their way out, and the places promised to jobs that are out

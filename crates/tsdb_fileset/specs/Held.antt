@@ -4,7 +4,7 @@ use Rattle.std.specs.List.{AllByRecursion as Each, flat_map}
 use Rattle.tsdb_base.specs.declared.ids.FileNumber.{FileNumber}
 use Rattle.tsdb_base.specs.declared.ids.Space.{Space}
 use Rattle.tsdb_base.specs.declared.ids.Space.TheVariants.{Sequence, Unsequence}
-use Rattle.tsdb_state.specs.Stored.{AreOutgoing, kept_bytes}
+use Rattle.tsdb_flush.specs.Stored.{AreOutgoing, kept_bytes}
 use Rattle.tsdb_fileset.specs.Files.{Appends, KeptFiles, kept_file}
 use Rattle.tsdb_fileset.specs.Places.{KeptFile, OthersStay}
 use Rattle.tsdb_fileset.specs.Sweeps.{free_numbers}
@@ -12,9 +12,9 @@ use Rattle.tsdb_fileset.specs.declared.files.Outgoing.{Outgoing}
 use Rattle.tsdb_base.specs.Lists.{Among, if_some}
 use Rattle.tsdb_outside.specs.Files.{StoredFile}
 use Rattle.tsdb_plan.specs.declared.entry.FileEntry.{FileEntry}
-use Rattle.tsdb_state.specs.Records.{names}
-use Rattle.tsdb_state.specs.State.{EngineState, Entries, Entry, File}
-use Rattle.tsdb_state.specs.Steps.{Sweeps, swept}
+use Rattle.tsdb_flush.specs.Records.{names}
+use Rattle.tsdb_flush.specs.State.{EngineState, Entries, Entry, File}
+use Rattle.tsdb_flush.specs.Steps.{Sweeps, swept}
 
 -- a listed file, and one on its way out, as the state has them
 abbrev pub listed : FileEntry → File

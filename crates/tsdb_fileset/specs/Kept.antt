@@ -2,7 +2,7 @@
 use Rattle.tsdb_fileset.specs.declared.files.KeptFiles.TheInside.{Inside}
 use Rattle.tsdb_fileset.specs.Files.{AreKept, KeptFiles, listed_borns}
 use Rattle.tsdb_fileset.specs.Growth.{HasRoomLeft}
-use Rattle.tsdb_memory.specs.Least.{IsLeastOf}
+use Rattle.tsdb_flush.specs.Least.{IsLeastOf}
 
 module _ {F S R P : Type 0} where
   abbrev pub view_of : Inside F S R P → KeptFiles

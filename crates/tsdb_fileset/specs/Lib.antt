@@ -11,3 +11,24 @@ pub mod Sweeps
 pub mod Held
 pub mod Lines
 pub mod Listings
+pub use Rattle.tsdb_flush.specs.Model
+pub use Rattle.tsdb_flush.specs.Shown
+pub use Rattle.tsdb_flush.specs.Store
+pub use Rattle.tsdb_flush.specs.FrozenPair
+pub use Rattle.tsdb_flush.specs.Numbered
+pub use Rattle.tsdb_flush.specs.State
+pub use Rattle.tsdb_flush.specs.Worlds
+pub use Rattle.tsdb_flush.specs.Places as StatePlaces
+pub use Rattle.tsdb_flush.specs.Steps
+pub use Rattle.tsdb_flush.specs.Marks
+pub use Rattle.tsdb_flush.specs.StateJobs
+pub use Rattle.tsdb_flush.specs.Layers
+pub use Rattle.tsdb_flush.specs.Views
+pub use Rattle.tsdb_flush.specs.declared.job.Built
+pub use Rattle.tsdb_flush.specs.declared.job.FlushJob
+pub use Rattle.tsdb_flush.specs.Flushes
+pub use Rattle.tsdb_flush.specs.Jobs
+pub use Rattle.tsdb_flush.specs.declared.job.Flushed
+pub use Rattle.tsdb_flush.specs.Built as FlushBuilt
+pub use Rattle.tsdb_flush.specs.Parts
+pub use Rattle.tsdb_flush.specs.Taking

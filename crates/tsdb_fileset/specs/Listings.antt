@@ -5,9 +5,9 @@ use Rattle.std.specs.List.{AllZip}
 use Rattle.tsdb_base.specs.declared.ids.Space.{Space}
 use Rattle.tsdb_base.specs.declared.ids.Space.TheVariants.{Sequence, Unsequence}
 use Rattle.tsdb_base.specs.declared.value.Value.{Value}
-use Rattle.tsdb_state.specs.Places.{Content, Place}
+use Rattle.tsdb_flush.specs.Places.{Content, Place}
 use Rattle.tsdb_model.specs.declared.reply.FileLine.{FileLine}
-use Rattle.tsdb_state.specs.State.{File, StoreState, Told}
+use Rattle.tsdb_flush.specs.State.{File, StoreState, Told}
 
 -- the content has a point at the time
 pub record HasPointAt (content : Content) (time : ℤ) : Type 0 where

@@ -2,7 +2,7 @@
 ghost use Rattle.std.specs.Prelude.{◌≡◌, IfOk, OnErr, OnOk};
 ghost use Rattle.std.specs.List.{list_any};
 ghost use Rattle.tsdb_fileset.specs.Rights.{one_less, one_more};
-ghost use Rattle.tsdb_state.specs.Places.{is_path};
+ghost use Rattle.tsdb_flush.specs.Places.{is_path};
 
 use crate::series::SeriesPaths;
 use std::marker::Model;

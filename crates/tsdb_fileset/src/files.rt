@@ -2,7 +2,7 @@
 ghost use Rattle.std.specs.Prelude.{◌≡◌, ◌+◌, ◌-◌, ◌≤◌, ◌∷◌, [], ◌++◌, None, Some, length, IfOk, IfSome, OnOk, OnErr};
 ghost use Rattle.std.specs.Option.{option_map};
 ghost use Rattle.tsdb_base.specs.Lists.{if_some};
-ghost use Rattle.tsdb_memory.specs.Least.{IsLeastOf};
+ghost use Rattle.tsdb_flush.specs.Least.{IsLeastOf};
 ghost use Rattle.tsdb_outside.specs.Causes.{HasCause};
 ghost use Rattle.tsdb_outside.specs.Disk.{WhereTold};
 ghost use Rattle.std.specs.Prelude.{Option};
@@ -22,8 +22,7 @@ use std::alloc::Global;
 use std::collections::BTreeMap;
 use std::marker::Model;
 use tsdb_base::{FileNumber, Memory, Space, Stamp};
-use tsdb_flush::Built;
-use tsdb_memory::lesser;
+use tsdb_flush::{Built, lesser};
 use tsdb_outside::{Failed, Files};
 use tsdb_path::Path;
 use tsdb_plan::{FileEntry, Run};

@@ -4,15 +4,15 @@ ghost use Rattle.tsdb_base.specs.declared.ids.FileNumber.{FileNumber};
 ghost use Rattle.tsdb_base.specs.declared.ids.Space.{Space};
 ghost use Rattle.tsdb_fileset.specs.Held.{AreFilesOf, AreSomeOf, IsDoubtOf, IsEnlisted, IsSentOut, IsSweep, IsUnread};
 ghost use Rattle.tsdb_fileset.specs.Held.{TellTheirBytes, entry_of, may_go, with_listed, with_outgoing};
-ghost use Rattle.tsdb_state.specs.Stored.{without_numbers};
+ghost use Rattle.tsdb_flush.specs.Stored.{without_numbers};
 ghost use Rattle.tsdb_fileset.specs.Files.{AreKept, IsOpen, KeepsLists, KeptFiles, kept_file, listed_borns};
 ghost use Rattle.tsdb_fileset.specs.Places.{KeptFile, OnlyMakesPlaces};
 ghost use Rattle.tsdb_fileset.specs.Sweeps.{LeavesWithout};
 ghost use Rattle.tsdb_fileset.specs.declared.files.Outgoing.{Outgoing};
-ghost use Rattle.tsdb_memory.specs.Shown.{file_borns};
+ghost use Rattle.tsdb_flush.specs.Shown.{file_borns};
 ghost use Rattle.tsdb_outside.specs.Files.{StoredFile};
 ghost use Rattle.tsdb_plan.specs.declared.entry.FileEntry.{FileEntry};
-ghost use Rattle.tsdb_state.specs.State.{EngineState, Entries};
+ghost use Rattle.tsdb_flush.specs.State.{EngineState, Entries};
 
 /// The stamps of the listed files are those of the state, of which a deletion asks the least.
 pub fn the_listed_borns_are_those_of_the_state()

@@ -1,5 +1,5 @@
 //! The files that a core keeps, what they are to the engine state, and the lines of their listing. Depends on
-//! tsdb_base, tsdb_path, tsdb_plan, tsdb_outside, tsdb_state, tsdb_flush, tsdb_memory, tsdb_log and tsdb_model.
+//! tsdb_base, tsdb_path, tsdb_model, tsdb_outside, tsdb_plan and tsdb_flush.
 //!
 //! The files that a core keeps: their tokens by number, the two lists of files, and the files on their way out.
 //!
@@ -36,3 +36,4 @@ pub use laws::{
 pub use lines::file_lines;
 pub use listing_laws::the_lines_tell_the_files_of_the_state;
 pub use room::Spare;
+pub use tsdb_flush::{Built, FlushJob, FlushRefused, Flushed, MemoryStore, run_flush, take};

@@ -5,8 +5,8 @@ ghost use Rattle.tsdb_fileset.specs.Held.{AreFilesOf};
 ghost use Rattle.tsdb_fileset.specs.Files.{AreKept, KeptFiles};
 ghost use Rattle.tsdb_fileset.specs.Lines.{lines_of};
 ghost use Rattle.tsdb_fileset.specs.Listings.{TellFiles};
-ghost use Rattle.tsdb_state.specs.Jobs.{EntriesMatch};
-ghost use Rattle.tsdb_state.specs.State.{EngineState, Entries, Told};
+ghost use Rattle.tsdb_flush.specs.StateJobs.{EntriesMatch};
+ghost use Rattle.tsdb_flush.specs.State.{EngineState, Entries, Told};
 
 /// The lines of the files that a core keeps tell the files of the state that they are of.
 pub fn the_lines_tell_the_files_of_the_state()

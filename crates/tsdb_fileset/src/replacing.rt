@@ -9,7 +9,7 @@ ghost use Rattle.tsdb_fileset.specs.Replacing.{compaction_room as room_of, leavi
 ghost use Rattle.tsdb_fileset.specs.Replacing.{output_in, run_length, stamps_of, with_claim};
 ghost use Rattle.tsdb_base.specs.declared.ids.Space.TheVariants.{Sequence, Unsequence};
 ghost use Rattle.tsdb_base.specs.Lists.{if_some};
-ghost use Rattle.tsdb_memory.specs.Least.{least_with};
+ghost use Rattle.tsdb_flush.specs.Least.{least_with};
 ghost use Rattle.tsdb_plan.specs.declared.entry.FileEntry.{FileEntry as EntryOf};
 
 use crate::file::KeptFile;
@@ -17,8 +17,7 @@ use crate::files::Outgoing;
 use crate::places::{Places, fill_place, free_place};
 use crate::room::{Spare, push};
 use tsdb_base::{FileNumber, Space, Stamp};
-use tsdb_flush::Built;
-use tsdb_memory::lesser;
+use tsdb_flush::{Built, lesser};
 use tsdb_outside::Files;
 use tsdb_plan::{FileEntry, Run};
 

@@ -2,7 +2,7 @@
 ghost use Rattle.std.specs.Prelude.{◌≡◌, ◌↔◌, IsTrue};
 ghost use Rattle.std.specs.List.{list_any};
 ghost use Rattle.tsdb_fileset.specs.Order.{AreInTreeOrder, tree_cmp, tree_names};
-ghost use Rattle.tsdb_state.specs.Places.{is_path};
+ghost use Rattle.tsdb_flush.specs.Places.{is_path};
 
 use std::cmp::Ordering;
 use std::marker::Model;

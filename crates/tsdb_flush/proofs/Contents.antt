@@ -7,17 +7,17 @@ use Rattle.tsdb_flush.specs.Built.{IsFileOf}
 use Rattle.tsdb_flush.specs.Parts.{Filled, series_of}
 use Rattle.tsdb_base.proofs.Lists.{among_left, among_map, among_right, each_among}
 use Rattle.tsdb_base.specs.Lists.{Among}
-use Rattle.tsdb_state.specs.Places.{Content, Place}
+use Rattle.tsdb_memory.specs.Places.{Content, Place}
 use Rattle.tsdb_memory.proofs.Counts.{among_either}
 use Rattle.tsdb_memory.proofs.Frozen.{image_of}
-use Rattle.tsdb_pages.specs.File.{IsFile}
-use Rattle.tsdb_pages.specs.Trees.{IsMade, IsTree}
-use Rattle.tsdb_pages.specs.declared.tree.Chunk.{Chunk}
-use Rattle.tsdb_pages.specs.declared.tree.Group.{Group}
-use Rattle.tsdb_pages.specs.declared.tree.Tree.{Tree}
+use Rattle.tsfile_writer.specs.File.{IsFile}
+use Rattle.tsfile_writer.specs.Trees.{IsMade, IsTree}
+use Rattle.tsfile_writer.specs.Chunk.{Chunk}
+use Rattle.tsfile_writer.specs.Group.{Group}
+use Rattle.tsfile_writer.specs.Tree.{Tree}
 use Rattle.tsdb_path.proofs.Parts.{child_of-device_of}
 use Rattle.tsdb_path.specs.Nodes.{child_of, device_of, measurement_of}
-use Rattle.tsdb_state.specs.Stores.{HasTreePoint, IsContentOf}
+use Rattle.tsdb_memory.specs.Stores.{HasTreePoint, IsContentOf}
 use Rattle.tsfile_writer.specs.Given.{AreChunksOf, IsChunkOf, IsTreeOf, Series, placed}
 
 -- ---- chunks and series side by side

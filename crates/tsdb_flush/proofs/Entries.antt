@@ -13,13 +13,13 @@ use Rattle.tsdb_flush.specs.Built.{AreHullsOf, HasHullOver, HasTime, IsEntryOf, 
 use Rattle.tsdb_flush.specs.Parts.{Filled}
 use Rattle.tsdb_base.proofs.Lists.{among_left, among_map, among_right, each_among, each_weaker}
 use Rattle.tsdb_base.specs.Lists.{Among, EachPair}
-use Rattle.tsdb_state.specs.Places.{Content, Place}
+use Rattle.tsdb_memory.specs.Places.{Content, Place}
 use Rattle.tsdb_memory.proofs.Counts.{among_either, len_of, pairs_append, placed, row_differs}
 use Rattle.tsdb_memory.proofs.Frozen.{image_of}
 use Rattle.tsdb_path.specs.Nodes.{device_of}
 use Rattle.tsdb_plan.specs.declared.entry.FileEntry.{FileEntry}
 use Rattle.tsdb_plan.specs.declared.entry.Hull.{Hull}
-use Rattle.tsdb_state.specs.Jobs as state
+use Rattle.tsdb_memory.specs.Jobs as state
 
 -- ---- the places of a part
 

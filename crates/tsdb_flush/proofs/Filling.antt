@@ -12,7 +12,7 @@ use Rattle.tsdb_flush.specs.Parts.{Filled, series_of}
 use Rattle.tsdb_base.proofs.Lists.{each_append}
 use Rattle.tsdb_model.specs.declared.command.Schema.{Schema}
 use Rattle.tsdb_base.specs.Points.{IsRising}
-use Rattle.tsdb_pages.specs.Pages.{IsInRange}
+use Rattle.tsfile_writer.specs.Pages.{IsInRange}
 use Rattle.tsfile_writer.specs.Building.{WasGiven}
 use Rattle.tsfile_writer.specs.Given.{MayTake, Series, with_last_point}
 use Rattle.tsfile_writer.specs.declared.builder.Builder.{Builder}

@@ -11,3 +11,15 @@ pub mod Sorting
 pub mod TakenParts
 pub mod Jobs
 pub mod States
+pub use Rattle.tsdb_memory.proofs.Counts
+pub use Rattle.tsdb_memory.proofs.Frozen
+pub use Rattle.tsdb_memory.proofs.Borns
+pub use Rattle.tsdb_memory.proofs.LayerLemmas
+pub use Rattle.tsdb_memory.proofs.ImageLemmas
+pub use Rattle.tsdb_memory.proofs.Types
+pub use Rattle.tsdb_memory.proofs.Emptiness
+pub use Rattle.tsdb_memory.proofs.RowCells
+pub use Rattle.tsdb_memory.proofs.Numbers as MemoryNumbers
+pub use Rattle.tsdb_memory.proofs.RowLemmas
+pub use Rattle.tsdb_index.proofs.Found
+pub use Rattle.tsdb_index.proofs.Orders

@@ -14,7 +14,7 @@ use Rattle.tsdb_flush.specs.BuiltParts.{HasPartPoint, IsContentOfPart, IsJobOf}
 use Rattle.tsdb_flush.specs.Parts.{Filled, if_any, part_of}
 use Rattle.tsdb_base.proofs.Lists.{among_left, among_right}
 use Rattle.tsdb_base.specs.Lists.{Among}
-use Rattle.tsdb_state.specs.Places.{Content, Place}
+use Rattle.tsdb_memory.specs.Places.{Content, Place}
 use Rattle.tsdb_model.specs.declared.command.Schema.{Schema}
 use Rattle.tsdb_memory.proofs.Counts.{among_either}
 use Rattle.tsdb_memory.proofs.Frozen.{point_at}

@@ -18,7 +18,7 @@ use Rattle.tsdb_flush.specs.Taking.{HasPoint}
 use Rattle.tsdb_flush.specs.declared.series.PairSeries.{PairSeries}
 use Rattle.tsdb_index.specs.Entries.{AreNamesBefore}
 use Rattle.tsdb_base.proofs.Lists.{among_map, each_among, each_from_among}
-use Rattle.tsdb_state.proofs.LayerLemmas.Places.{paths_same}
+use Rattle.tsdb_memory.proofs.LayerLemmas.Places.{paths_same}
 use Rattle.tsdb_base.specs.Lists.{Among}
 use Rattle.tsdb_model.specs.declared.command.Schema.{Schema}
 use Rattle.tsdb_memory.proofs.Frozen.{image_of}

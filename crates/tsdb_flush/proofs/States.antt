@@ -17,17 +17,17 @@ use Rattle.tsdb_flush.specs.Taking.{IsTaken, drawn_numbers}
 use Rattle.tsdb_flush.specs.Jobs.{IsJob}
 use Rattle.tsdb_flush.specs.Parts as jobs
 use Rattle.tsdb_flush.specs.declared.job.FlushJob.{FlushJob}
-use Rattle.tsdb_state.proofs.LayerLemmas.Places.{same_content}
+use Rattle.tsdb_memory.proofs.LayerLemmas.Places.{same_content}
 use Rattle.tsdb_base.specs.Lists.{Among, if_some}
-use Rattle.tsdb_state.specs.Places.{Content, Place, place_cmp}
+use Rattle.tsdb_memory.specs.Places.{Content, Place, place_cmp}
 use Rattle.tsdb_model.specs.declared.command.Schema.{Schema}
 use Rattle.tsdb_memory.specs.Shown.{IsContentOf, IsFrozenOf, IsMemoryOf, IsPairOf}
 use Rattle.tsdb_memory.specs.Store as memory
 use Rattle.tsdb_memtable.specs.Pairs.{Pair}
-use Rattle.tsdb_state.specs.Jobs.{IsDrawnFor, drawn_by}
+use Rattle.tsdb_memory.specs.Jobs.{IsDrawnFor, drawn_by}
 use Rattle.tsdb_base.specs.Limits.{end_of_numbers}
-use Rattle.tsdb_state.specs.State as state
-use Rattle.tsdb_state.specs.Steps.{TakesFlush}
+use Rattle.tsdb_memory.specs.State as state
+use Rattle.tsdb_memory.specs.Steps.{TakesFlush}
 
 abbrev number_of : FileNumber → ℕ
 number_of file = file.0

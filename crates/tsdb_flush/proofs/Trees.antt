@@ -9,12 +9,12 @@ use Rattle.tsdb_flush.specs.Built.{IsFileOf}
 use Rattle.tsdb_flush.specs.Parts.{Filled, names_of, series_of}
 use Rattle.tsdb_base.proofs.Lists.{each_append, each_left, each_middle, each_of_map, each_right, each_weaker}
 use Rattle.tsdb_model.specs.declared.command.Schema.{Schema}
-use Rattle.tsdb_pages.specs.File.{IsFile}
-use Rattle.tsdb_pages.specs.Pages.{IsInRange}
-use Rattle.tsdb_pages.specs.Trees.{HasParts, IsGroup, chunks_of}
-use Rattle.tsdb_pages.specs.declared.tree.Chunk.{Chunk}
-use Rattle.tsdb_pages.specs.declared.tree.Group.{Group}
-use Rattle.tsdb_pages.specs.declared.tree.Tree.{Tree}
+use Rattle.tsfile_writer.specs.File.{IsFile}
+use Rattle.tsfile_writer.specs.Pages.{IsInRange}
+use Rattle.tsfile_writer.specs.Trees.{HasParts, IsGroup, chunks_of}
+use Rattle.tsfile_writer.specs.Chunk.{Chunk}
+use Rattle.tsfile_writer.specs.Group.{Group}
+use Rattle.tsfile_writer.specs.Tree.{Tree}
 use Rattle.tsdb_path.specs.Nodes.{IsName, IsPath, device_of, measurement_of}
 use Rattle.tsfile_writer.specs.Building.{WasGiven}
 use Rattle.tsfile_writer.specs.Given.{AreChunksOf, IsChunkOf, IsTreeOf, MayBeFollowedBy, Series, placed}

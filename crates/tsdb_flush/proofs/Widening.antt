@@ -21,7 +21,7 @@ use Rattle.tsdb_flush.specs.Parts.{Filled, names_of}
 use Rattle.tsdb_base.proofs.Lists.{among_left, among_right, each_among, each_append, each_from_among, each_left, each_right, each_weaker}
 use Rattle.tsdb_base.specs.Lists.{Among}
 use Rattle.tsdb_model.specs.declared.command.Schema.{Schema}
-use Rattle.tsdb_pages.proofs.Order.{pairs_across, pairs_push}
+use Rattle.tsfile_writer.proofs.Order.{pairs_across, pairs_push}
 use Rattle.tsdb_path.specs.Nodes.{device_of}
 use Rattle.tsdb_plan.specs.declared.entry.Hull.{Hull}
 

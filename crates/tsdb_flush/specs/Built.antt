@@ -7,9 +7,9 @@ use Rattle.tsdb_flush.specs.Parts.{Filled, series_of}
 use Rattle.tsdb_flush.specs.declared.job.Built.{Built}
 use Rattle.tsdb_base.specs.Lists.{Among}
 use Rattle.tsdb_outside.specs.Files.{NamedFile, Names, Store}
-use Rattle.tsdb_pages.specs.File.{IsFile}
-use Rattle.tsdb_pages.specs.Trees.{IsMade}
-use Rattle.tsdb_pages.specs.declared.tree.Tree.{Tree}
+use Rattle.tsfile_writer.specs.File.{IsFile}
+use Rattle.tsfile_writer.specs.Trees.{IsMade}
+use Rattle.tsfile_writer.specs.Tree.{Tree}
 use Rattle.tsdb_path.specs.Nodes.{device_of}
 use Rattle.tsdb_plan.specs.Files.{AreRising}
 use Rattle.tsdb_plan.specs.declared.entry.FileEntry.{FileEntry}

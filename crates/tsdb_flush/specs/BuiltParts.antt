@@ -8,14 +8,14 @@ use Rattle.tsdb_base.specs.declared.point.Point.{Point}
 use Rattle.tsdb_base.specs.declared.value.Value.{Value}
 use Rattle.tsdb_flush.specs.Parts.{Filled}
 use Rattle.tsdb_base.specs.Lists.{Among, EachPair}
-use Rattle.tsdb_state.specs.Places.{Content, Place}
+use Rattle.tsdb_memory.specs.Places.{Content, Place}
 use Rattle.tsdb_model.specs.declared.command.Schema.{Schema}
 use Rattle.tsdb_memory.specs.Shown.{number_of}
 use Rattle.tsdb_memtable.specs.Pairs.{Pair, points_of}
 use Rattle.tsdb_base.specs.Points.{IsRising}
 use Rattle.tsdb_path.specs.Nodes.{node_count}
 use Rattle.tsdb_plan.specs.declared.entry.FileEntry.{FileEntry}
-use Rattle.tsdb_state.specs.State.{Entry}
+use Rattle.tsdb_memory.specs.State.{Entry}
 
 -- a series of the part has a point of this value at the place
 pub record HasPartPoint (part : List Filled) (place : Place) (value : Value) : Type 0 where

@@ -7,3 +7,20 @@ pub mod BuiltParts
 pub mod Flushes
 pub mod Taking
 pub mod TakingSteps
+pub use Rattle.tsdb_memory.specs.Least
+pub use Rattle.tsdb_memory.specs.Shown
+pub use Rattle.tsdb_memory.specs.Places
+pub use Rattle.tsdb_memory.specs.Stored
+pub use Rattle.tsdb_memory.specs.State
+pub use Rattle.tsdb_memory.specs.Jobs as StateJobs
+pub use Rattle.tsdb_memory.specs.Records
+pub use Rattle.tsdb_memory.specs.Steps
+pub use Rattle.tsdb_memory.specs.Model
+pub use Rattle.tsdb_memory.specs.Store
+pub use Rattle.tsdb_memory.specs.declared.store.FrozenPair
+pub use Rattle.tsdb_memory.specs.declared.reading.Numbered
+pub use Rattle.tsdb_memory.specs.LogRecord
+pub use Rattle.tsdb_memory.specs.Worlds
+pub use Rattle.tsdb_memory.specs.Marks
+pub use Rattle.tsdb_memory.specs.Layers
+pub use Rattle.tsdb_memory.specs.Views

@@ -7,7 +7,7 @@ use Rattle.tsdb_flush.specs.declared.part.Part.{Part}
 use Rattle.tsdb_flush.specs.Built.{AreHullsOf, paths_of}
 use Rattle.tsdb_flush.specs.Parts.{Filled, series_of}
 use Rattle.tsdb_model.specs.declared.command.Schema.{Schema}
-use Rattle.tsdb_pages.specs.Pages.{IsInRange}
+use Rattle.tsfile_writer.specs.Pages.{IsInRange}
 use Rattle.tsfile_writer.specs.Building.{WasGiven}
 use Rattle.tsfile_writer.specs.Given.{MayTake}
 

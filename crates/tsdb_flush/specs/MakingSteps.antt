@@ -8,7 +8,7 @@ use Rattle.tsdb_flush.specs.Built.{AreHullsOf}
 use Rattle.tsdb_flush.specs.Parts.{Filled, names_of, series_of}
 use Rattle.tsdb_base.specs.Lists.{Among}
 use Rattle.tsdb_model.specs.declared.command.Schema.{Schema}
-use Rattle.tsdb_pages.specs.Pages.{IsInRange}
+use Rattle.tsfile_writer.specs.Pages.{IsInRange}
 use Rattle.tsdb_path.specs.Nodes.{IsName, IsPath, device_of, measurement_of}
 use Rattle.tsdb_plan.specs.declared.entry.Hull.{Hull}
 use Rattle.tsfile_writer.specs.Building.{WasGiven}

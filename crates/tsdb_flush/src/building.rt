@@ -7,7 +7,7 @@ ghost use Rattle.tsdb_flush.specs.Built.{IsFileOf};
 ghost use Rattle.tsdb_flush.specs.Parts.{Filled, series_of};
 ghost use Rattle.tsdb_model.specs.declared.command.Schema.{Schema as SchemaOf};
 ghost use Rattle.tsdb_base.specs.Points.{IsRising};
-ghost use Rattle.tsdb_pages.specs.Pages.{IsInRange};
+ghost use Rattle.tsfile_writer.specs.Pages.{IsInRange};
 ghost use Rattle.tsdb_path.specs.Nodes.{node_count};
 ghost use Rattle.tsfile_writer.specs.Building.{WasGiven};
 ghost use Rattle.tsfile_writer.specs.Given.{MayTake, Series, with_last_point};

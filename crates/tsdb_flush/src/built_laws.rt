@@ -5,16 +5,16 @@ ghost use Rattle.tsdb_base.specs.declared.ids.Space.{Space};
 ghost use Rattle.tsdb_flush.specs.BuiltParts.{IsContentOfPart, IsJobOf, IsPart, entry_of};
 ghost use Rattle.tsdb_flush.specs.Built.{IsEntryOf, IsFileOf, paths_of};
 ghost use Rattle.tsdb_flush.specs.Parts.{Filled, part_of};
-ghost use Rattle.tsdb_state.specs.Places.{Content};
+ghost use Rattle.tsdb_memory.specs.Places.{Content};
 ghost use Rattle.tsdb_model.specs.declared.command.Schema.{Schema};
 ghost use Rattle.tsdb_memory.specs.Shown.{IsContentOf as IsShownAs};
 ghost use Rattle.tsdb_memtable.specs.Pairs.{Pair};
-ghost use Rattle.tsdb_pages.specs.File.{IsFile};
-ghost use Rattle.tsdb_pages.specs.Trees.{IsMade, IsTree};
-ghost use Rattle.tsdb_pages.specs.declared.tree.Tree.{Tree};
+ghost use Rattle.tsfile_writer.specs.File.{IsFile};
+ghost use Rattle.tsfile_writer.specs.Trees.{IsMade, IsTree};
+ghost use Rattle.tsfile_writer.specs.Tree.{Tree};
 ghost use Rattle.tsdb_plan.specs.declared.entry.FileEntry.{FileEntry};
-ghost use Rattle.tsdb_state.specs.Stores.{IsContentOf};
-ghost use Rattle.tsdb_state.specs.Jobs.{Describes};
+ghost use Rattle.tsdb_memory.specs.Stores.{IsContentOf};
+ghost use Rattle.tsdb_memory.specs.Jobs.{Describes};
 
 /// The bytes of a built file are those of a tree that has the points of the part.
 pub fn a_built_file_has_the_points_of_its_part()

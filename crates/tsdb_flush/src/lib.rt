@@ -1,5 +1,5 @@
 //! The job of a flush: taken and run, and what its files are to the engine state. Depends on tsdb_base, tsdb_path,
-//! tsdb_model, tsdb_memtable, tsdb_plan, tsdb_pages, tsfile_writer, tsdb_state, tsdb_outside and tsdb_memory.
+//! tsdb_model, tsdb_outside, tsdb_index, tsfile_writer, tsdb_memtable, tsdb_plan and tsdb_memory.
 //!
 //! The jobs that a core hands out, and the files that come of them.
 //!
@@ -40,3 +40,4 @@ pub use job::{Built, FlushJob, Flushed};
 pub use part::{Part, Whole};
 pub use taking::take;
 pub use taking_laws::a_taken_job_is_a_flush_of_the_state;
+pub use tsdb_memory::{MemoryStore, lesser};

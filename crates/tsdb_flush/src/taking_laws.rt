@@ -6,10 +6,10 @@ ghost use Rattle.tsdb_flush.specs.Jobs.{IsJob};
 ghost use Rattle.tsdb_flush.specs.declared.job.FlushJob.{FlushJob as JobOf};
 ghost use Rattle.tsdb_memory.specs.Shown.{IsMemoryOf};
 ghost use Rattle.tsdb_memory.specs.Store.{Store};
-ghost use Rattle.tsdb_state.specs.Jobs.{drawn_by};
+ghost use Rattle.tsdb_memory.specs.Jobs.{drawn_by};
 ghost use Rattle.tsdb_base.specs.Limits.{end_of_numbers};
-ghost use Rattle.tsdb_state.specs.State.{EngineState, FlushJob};
-ghost use Rattle.tsdb_state.specs.Steps.{TakesFlush};
+ghost use Rattle.tsdb_memory.specs.State.{EngineState, FlushJob};
+ghost use Rattle.tsdb_memory.specs.Steps.{TakesFlush};
 
 /// A job that was taken from memory is a flush that the engine takes, with the numbers that the job has drawn.
 pub fn a_taken_job_is_a_flush_of_the_state()

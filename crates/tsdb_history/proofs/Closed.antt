@@ -5,10 +5,10 @@ use Rattle.std.proofs.lemmas.List.{map-append}
 use Rattle.std.specs.List.{AllByRecursion as Each}
 use Rattle.std.specs.Option.{IsSomeAnd}
 use Rattle.std.specs.Prelude.{IfSome}
-use Rattle.tsdb_core.proofs.Jobs.{is_there}
-use Rattle.tsdb_core.specs.Core.{files_of, logged_of}
-use Rattle.tsdb_core.specs.Listings.{TellsStore}
-use Rattle.tsdb_core.specs.declared.engine.Core.{Core}
+use Rattle.tsdb_querying.proofs.CoreJobs.{is_there}
+use Rattle.tsdb_querying.specs.Core.{files_of, logged_of}
+use Rattle.tsdb_querying.specs.Listings.{TellsStore}
+use Rattle.tsdb_querying.specs.CoreType.{Core}
 use Rattle.tsdb_fileset.specs.Held.{AreFilesOf, listed, leaving}
 use Rattle.tsdb_history.proofs.Stored.{IsToldAt, at_place, differing, each_stored, few, found, named, stored_at}
 use Rattle.tsdb_history.specs.Closing.{IsClosed}
@@ -37,9 +37,9 @@ use Rattle.tsdb_plan.specs.declared.entry.FileEntry.{FileEntry}
 use Rattle.tsdb_frames.proofs.MomentLemmas.{weaker}
 use Rattle.tsdb_state.specs.Stores.{HoldsKept, IsWhole}
 use Rattle.tsdb_state.specs.Stores as store
-use Rattle.tsdb_serving.proofs.Held.{wider}
-use Rattle.tsdb_serving.specs.Flushing.{faults_under}
-use Rattle.tsdb_serving.specs.Serving.{AreHeldWith, IsServing, disk_under, slot_under}
+use Rattle.tsdb_querying.proofs.Held.{wider}
+use Rattle.tsdb_querying.specs.Flushing.{faults_under}
+use Rattle.tsdb_querying.specs.Serving.{AreHeldWith, IsServing, disk_under, slot_under}
 use Rattle.tsdb_state.specs.Order.{files_of as state_files}
 use Rattle.tsdb_state.specs.Records.{numbers_of as state_numbers}
 use Rattle.tsdb_state.specs.State.{EngineState, Entries, File}

@@ -4,7 +4,7 @@ use Rattle.std.proofs.Common.{subst}
 use Rattle.tsdb_base.specs.declared.answers.Answer.{Answer}
 use Rattle.tsdb_base.specs.declared.answers.Answer.TheVariants as answer
 use Rattle.tsdb_base.specs.declared.ids.Space.{Space}
-use Rattle.tsdb_core.specs.declared.engine.Core.{Core}
+use Rattle.tsdb_querying.specs.CoreType.{Core}
 use Rattle.tsdb_frames.proofs.MomentLemmas.{weaker}
 use Rattle.tsdb_history.proofs.Prefixes.{no_change}
 use Rattle.tsdb_model.specs.Apply.{reply_of}
@@ -19,12 +19,12 @@ use Rattle.tsdb_outside.specs.Files.{Store, StoredFile}
 use Rattle.tsdb_outside.specs.declared.disk.Disk as disk
 use Rattle.tsdb_outside.specs.declared.faults.Counted as counted
 use Rattle.tsdb_querying.proofs.Answered.{unmoved}
-use Rattle.tsdb_serving.proofs.Held.{same_state}
-use Rattle.tsdb_serving.specs.Faults.{answer_of}
-use Rattle.tsdb_serving.specs.Serving.{Answers, IsAnsweredBy, IsDrawn, IsServedBy, IsServing, IsSure, KeepsServing}
-use Rattle.tsdb_serving.specs.Serving.{LeavesDoubt, LeavesEither, MayDoubt, disk_under, slot_under}
-use Rattle.tsdb_serving.specs.declared.fault.FlushFault.{FlushFault}
-use Rattle.tsdb_serving.specs.declared.fault.FlushFault.TheVariants as fault
+use Rattle.tsdb_querying.proofs.Held.{same_state}
+use Rattle.tsdb_querying.specs.Faults.{answer_of}
+use Rattle.tsdb_querying.specs.Serving.{Answers, IsAnsweredBy, IsDrawn, IsServedBy, IsServing, IsSure, KeepsServing}
+use Rattle.tsdb_querying.specs.Serving.{LeavesDoubt, LeavesEither, MayDoubt, disk_under, slot_under}
+use Rattle.tsdb_querying.specs.FlushFault.{FlushFault}
+use Rattle.tsdb_querying.specs.TheVariants as fault
 use Rattle.tsdb_base.specs.Limits.{end_of_numbers}
 
 -- A command that writes files, and changes no state.

@@ -2,9 +2,9 @@
 use Rattle.std.proofs.Common.{◌≡◌, ◌≢◌, ◌⊎◌, ℕ, List, [], ◌∷◌, ◌++◌, Option, None, Some, inl, inr, ⊎_elim, refl, sym, ap}
 use Rattle.std.proofs.Common.{append_assoc, arith, subst, ◌∙◌}
 use Rattle.tsdb_base.specs.declared.answers.Answer.TheVariants as answer
-use Rattle.tsdb_core.specs.Core.{logged_of, next_of}
-use Rattle.tsdb_core.specs.Listings.{TellsStore}
-use Rattle.tsdb_core.specs.declared.engine.Core.{Core}
+use Rattle.tsdb_querying.specs.Core.{logged_of, next_of}
+use Rattle.tsdb_querying.specs.Listings.{TellsStore}
+use Rattle.tsdb_querying.specs.CoreType.{Core}
 use Rattle.tsdb_frames.proofs.MomentLemmas.{leaves_on, weaker}
 use Rattle.tsdb_history.proofs.Ends.{last_ends, last_listed, none_listed}
 use Rattle.tsdb_history.proofs.Prefixes.{done_or_not, entry_of, is_change, is_reply, last_doubt, legal_more, may_stay}
@@ -29,13 +29,13 @@ use Rattle.tsdb_outside.specs.declared.disk.Disk as disk
 use Rattle.tsdb_outside.specs.declared.faults.Counted as counted
 use Rattle.tsdb_state.specs.Stores.{HoldsKept, StandsFor, StandsForOneOf}
 use Rattle.tsdb_state.specs.Stores as stores
-use Rattle.tsdb_serving.proofs.Differing.{differ_on, drawn_apart}
-use Rattle.tsdb_serving.proofs.Parts.{more_files}
-use Rattle.tsdb_serving.proofs.Steps.{idle, image_left}
-use Rattle.tsdb_serving.proofs.Answered.{stamp_is}
-use Rattle.tsdb_serving.specs.Serving as serving
-use Rattle.tsdb_serving.specs.Serving.{Answers, HasFullCause, IsAnsweredBy, IsDrawn, IsServedBy, IsServing, IsWritten}
-use Rattle.tsdb_serving.specs.Serving.{LeavesDoubt, LeavesEither, StaysInPlace, disk_under, slot_under}
+use Rattle.tsdb_querying.proofs.Differing.{differ_on, drawn_apart}
+use Rattle.tsdb_querying.proofs.Parts.{more_files}
+use Rattle.tsdb_querying.proofs.Steps.{idle, image_left}
+use Rattle.tsdb_querying.proofs.ServingAnswered.{stamp_is}
+use Rattle.tsdb_querying.specs.Serving as serving
+use Rattle.tsdb_querying.specs.Serving.{Answers, HasFullCause, IsAnsweredBy, IsDrawn, IsServedBy, IsServing, IsWritten}
+use Rattle.tsdb_querying.specs.Serving.{LeavesDoubt, LeavesEither, StaysInPlace, disk_under, slot_under}
 
 -- this is held of a file
 abbrev Held : stores.Files → StoredFile → Type 0

@@ -1,8 +1,8 @@
 -- What a core leaves that is closed.
 use Rattle.std.specs.Prelude.{◌≡◌, ◌≢◌, ◌⊎◌, List, Option, None}
 use Rattle.std.specs.List.{AllByRecursion as Each}
-use Rattle.tsdb_core.specs.Listings.{TellsStore}
-use Rattle.tsdb_core.specs.declared.engine.Core.{Core}
+use Rattle.tsdb_querying.specs.Listings.{TellsStore}
+use Rattle.tsdb_querying.specs.CoreType.{Core}
 use Rattle.tsdb_history.specs.Listings.{IsListingOf}
 use Rattle.tsdb_state.specs.Stored.{LeavesOneOf, kept_bytes}
 use Rattle.tsdb_base.specs.Lists.{EachPair}
@@ -14,7 +14,7 @@ use Rattle.tsdb_outside.specs.Moments.{LeavesOnly}
 use Rattle.tsdb_outside.specs.declared.disk.Disk as disk
 use Rattle.tsdb_outside.specs.declared.faults.Counted as counted
 use Rattle.tsdb_state.specs.Stores.{IsSound}
-use Rattle.tsdb_serving.specs.Serving.{AreHeldWith, disk_under, slot_under}
+use Rattle.tsdb_querying.specs.Serving.{AreHeldWith, disk_under, slot_under}
 
 module _ {J F S R P : Type 0} {means : disk.Ghosts J} {counts : counted.Ghosts J} where
   -- A core was closed that is in the state; these files are stored then, of different numbers that files may have. `rose`

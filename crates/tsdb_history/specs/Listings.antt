@@ -1,7 +1,7 @@
 -- The store that a listing lists.
 use Rattle.std.specs.Prelude.{ℕ, List, ◌++◌}
 use Rattle.std.specs.List.{AllByRecursion as Each}
-use Rattle.tsdb_core.specs.Listings.{ListsStore}
+use Rattle.tsdb_querying.specs.Listings.{ListsStore}
 use Rattle.tsdb_model.specs.declared.reply.Listing.{Listing}
 use Rattle.tsdb_state.specs.Replays.{IsReplayOf}
 use Rattle.tsdb_state.specs.Stores.{Files, IsWhole, Recorded, store_steps}

@@ -3,10 +3,10 @@ use Rattle.std.specs.Prelude.{◌≡◌, ◌≢◌, ◌⊎◌, Bool, true, List,
 use Rattle.std.specs.List.{AllByRecursion as Each}
 use Rattle.tsdb_base.specs.declared.answers.Answer.TheVariants as answer
 use Rattle.tsdb_base.specs.declared.ids.Space.TheVariants.{Sequence}
-use Rattle.tsdb_core.specs.Beginnings.{IsCrossRuns, IsInnerRuns}
-use Rattle.tsdb_core.specs.Core.{next_of, working_of}
-use Rattle.tsdb_core.specs.Listings.{TellsStore}
-use Rattle.tsdb_core.specs.declared.engine.Core.{Core}
+use Rattle.tsdb_querying.specs.Beginnings.{IsCrossRuns, IsInnerRuns}
+use Rattle.tsdb_querying.specs.Core.{next_of, working_of}
+use Rattle.tsdb_querying.specs.Listings.{TellsStore}
+use Rattle.tsdb_querying.specs.CoreType.{Core}
 use Rattle.tsdb_history.specs.History.{IsHistory, IsInLineOrder}
 use Rattle.tsdb_history.specs.Prefixes.{EndsDone, EndsListed, IsInDoubt, StandsAfterPrefix}
 use Rattle.tsdb_history.specs.Reach.{AreFullWithin}
@@ -29,8 +29,8 @@ use Rattle.tsdb_state.specs.Stores.{Files, HoldsKept, StandsFor}
 use Rattle.tsdb_rewriting.specs.Rewriting.{IsCompacted}
 use Rattle.tsdb_memory.specs.Fits.{HasNoPoint}
 use Rattle.tsdb_script.specs.declared.numbered.Numbered.{Numbered}
-use Rattle.tsdb_serving.specs.Flushing.{frozen_in}
-use Rattle.tsdb_serving.specs.Serving.{IsDrawn, IsServing, disk_under, slot_under}
+use Rattle.tsdb_querying.specs.Flushing.{frozen_in}
+use Rattle.tsdb_querying.specs.Serving.{IsDrawn, IsServing, disk_under, slot_under}
 
 -- What may be in doubt after these entries: nothing, a record that changes no state, or one change.
 abbrev pub MayDoubt : List Entry → plain.State → Option plain.State → Type 0

@@ -5,11 +5,11 @@ ghost use Rattle.tsdb_history.specs.Closing.{IsClosed};
 ghost use Rattle.tsdb_model.specs.State as plain;
 ghost use Rattle.tsdb_base.specs.Causes.{Rose};
 ghost use Rattle.tsdb_outside.specs.Files.{StoredFile};
-ghost use Rattle.tsdb_serving.specs.Flushing.{IsReady, faults_under};
-ghost use Rattle.tsdb_serving.specs.Serving.{IsServing};
+ghost use Rattle.tsdb_querying.specs.Flushing.{IsReady, faults_under};
+ghost use Rattle.tsdb_querying.specs.Serving.{IsServing};
 
-use tsdb_core::Core;
 use tsdb_outside::{Files, Journal};
+use tsdb_querying::Core;
 
 /// Closes a core: settles what is in doubt of its log, and puts its files to rest. Where no other file is at rest, those
 /// that it kept are stored then.

@@ -1,21 +1,21 @@
 //! The commands of a script. Depends on `room`, `serving` and `told`.
 ghost use Rattle.std.specs.Prelude.{◌≡◌, ◌+◌, ◌-◌, ◌*◌, ◌^◌, ◌<◌, ◌≤◌, min, count_by, length, slice_index, slice_set};
 ghost use Rattle.tsdb_history.specs.History.{CanExecute, is_device, session_numbers};
-ghost use Rattle.tsdb_core.specs.Core.{next_of};
+ghost use Rattle.tsdb_querying.specs.Core.{next_of};
 ghost use Rattle.tsdb_history.specs.Reach.{max_drawn};
 ghost use Rattle.tsdb_history.specs.Rooms.{IsRoomFor};
 ghost use Rattle.tsdb_history.specs.Serves.{HasExecuted};
 ghost use Rattle.tsdb_base.specs.Limits.{max_commands};
-ghost use Rattle.tsdb_serving.specs.Flushing.{IsReady, faults_under};
-ghost use Rattle.tsdb_serving.specs.Serving.{IsSure, StaysInPlace};
+ghost use Rattle.tsdb_querying.specs.Flushing.{IsReady, faults_under};
+ghost use Rattle.tsdb_querying.specs.Serving.{IsSure, StaysInPlace};
 
 use crate::room::Room;
 use crate::serving::serve;
 use crate::told::Told;
 use std::alloc::Global;
 use tsdb_base::List;
-use tsdb_core::Core;
 use tsdb_outside::{Files, Journal};
+use tsdb_querying::Core;
 use tsdb_script::Numbered;
 
 /// Serves the commands of a script, in the order of its lines, and returns their replies.

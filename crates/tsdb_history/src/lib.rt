@@ -1,5 +1,6 @@
 //! The commands of a script, served one behind another from one core, and the core's end. Depends on tsdb_base,
-//! tsdb_model, tsdb_script, tsdb_outside, tsdb_core, tsdb_serving and tsdb_querying.
+//! tsdb_path, tsdb_model, tsdb_outside, tsdb_frames, tsdb_log, tsdb_plan, tsdb_state, tsdb_memory, tsdb_fileset,
+//! tsdb_querying, tsdb_rewriting and tsdb_script.
 #![tactic(auto)]
 
 mod closing;
@@ -15,3 +16,4 @@ pub use laws::{a_new_store_is_sound, runs_join};
 pub use room::Room;
 pub use serving::serve;
 pub use told::Told;
+pub use tsdb_querying::{Core, Options, Stream, delete, insert, open_column, pull};

@@ -2,9 +2,9 @@
 ghost use Rattle.std.specs.Prelude.{◌≡◌, ◌≢◌, ◌⊎◌, ◌+◌, ◌≤◌, ℕ, true};
 ghost use Rattle.tsdb_base.specs.declared.answers.Answer.{Answer as AnswerOf};
 ghost use Rattle.tsdb_base.specs.declared.ids.Space.TheVariants.{Sequence as SequenceSpace};
-ghost use Rattle.tsdb_core.specs.Beginnings.{IsCrossRuns, IsInnerRuns};
-ghost use Rattle.tsdb_core.specs.Core.{next_of};
-ghost use Rattle.tsdb_core.specs.Listings.{TellsStore};
+ghost use Rattle.tsdb_querying.specs.Beginnings.{IsCrossRuns, IsInnerRuns};
+ghost use Rattle.tsdb_querying.specs.Core.{next_of};
+ghost use Rattle.tsdb_querying.specs.Listings.{TellsStore};
 ghost use Rattle.tsdb_history.specs.Reach.{max_drawn};
 ghost use Rattle.tsdb_history.specs.Serves.{HasCompacted, HasFlushed};
 ghost use Rattle.tsdb_model.specs.Commands.{IsWellFormed};
@@ -13,18 +13,16 @@ ghost use Rattle.tsdb_model.specs.declared.reply.Listing.{Listing};
 ghost use Rattle.tsdb_model.specs.declared.reply.Reply.{Reply as ReplyOf};
 ghost use Rattle.tsdb_base.specs.Causes.{Rose};
 ghost use Rattle.tsdb_rewriting.specs.Rewriting.{IsCompacted};
-ghost use Rattle.tsdb_serving.specs.Flushing.{IsReady, faults_under};
-ghost use Rattle.tsdb_serving.specs.Serving.{Answers, HasFullCause, IsSure, StaysInPlace};
+ghost use Rattle.tsdb_querying.specs.Flushing.{IsReady, faults_under};
+ghost use Rattle.tsdb_querying.specs.Serving.{Answers, HasFullCause, IsSure, StaysInPlace};
 
 use std::alloc::Global;
 use tsdb_base::{Answer, Range, Space};
-use tsdb_core::Core;
 use tsdb_model::{Command, Item, Reply, ask_aggregates};
 use tsdb_outside::{Files, Journal};
 use tsdb_path::Path;
-use tsdb_querying::{aggregates, select};
+use tsdb_querying::{Core, aggregates, create, delete, flush, insert, select, show};
 use tsdb_rewriting::{compact_cross, compact_inner};
-use tsdb_serving::{create, delete, flush, insert, show};
 
 /// Serves a command: the core makes one step of the plain map, whatever it does for it.
 pub fn serve<J: Journal, F: Files>(

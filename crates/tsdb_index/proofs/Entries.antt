@@ -10,7 +10,7 @@ use Rattle.tsdb_base.specs.Fields.{number32, number64, type_field, encoding_fiel
 use Rattle.tsdb_base.specs.Plain.{AreValues, BeginsWithNone, plain_text}
 use Rattle.tsdb_base.specs.Values.{is_suitable}
 use Rattle.tsdb_base.proofs.PlainLists.{IsPrefixFree, same_values}
-use Rattle.tsdb_path.specs.Nodes.{IsName, IsPath}
+use Rattle.tsdb_fields.specs.Nodes.{IsName, IsPath}
 use Rattle.tsdb_fields.specs.Statistics.{stats_field, IsStatsOf}
 use Rattle.tsdb_index.specs.declared.index.IndexEntry.{IndexEntry}
 use Rattle.tsdb_index.specs.declared.index.PageEntry.{PageEntry}

@@ -11,7 +11,7 @@ use Rattle.tsdb_base.specs.Fields.{pair_field, IsPair}
 use Rattle.tsdb_base.specs.Plain.{AreValues, BeginsWithNone, plain_text, IsText}
 use Rattle.tsdb_base.specs.PlainLaws.{plain_text-prefix_free}
 use Rattle.tsdb_base.proofs.PlainLists.{IsPrefixFree, same_values}
-use Rattle.tsdb_path.specs.Nodes.{IsName, IsPath}
+use Rattle.tsdb_fields.specs.Nodes.{IsName, IsPath}
 use Rattle.tsdb_fields.specs.declared.fault.FieldFault.{FieldFault}
 use Rattle.tsdb_fields.specs.declared.fault.FieldFault.TheVariants.{Bad, Memory}
 use Rattle.tsdb_fields.specs.declared.rest.Rest.{Rest}

@@ -5,7 +5,7 @@ use Rattle.std.specs.declared.cmp.Ordering.TheVariants.{Less}
 use Rattle.std.specs.Ordering.{nat_cmp}
 use Rattle.tsdb_base.specs.Values.{is_suitable}
 use Rattle.tsdb_fields.specs.Statistics.{IsStatsOf}
-use Rattle.tsdb_path.specs.Nodes.{IsName, IsPath}
+use Rattle.tsdb_fields.specs.Nodes.{IsName, IsPath}
 use Rattle.tsdb_base.specs.declared.value.DataType.{DataType}
 use Rattle.tsdb_index.specs.declared.index.IndexEntry.{IndexEntry}
 use Rattle.tsdb_index.specs.declared.index.PageEntry.{PageEntry}

@@ -4,3 +4,4 @@ pub mod Parts
 pub mod Finding
 pub mod Steps
 pub mod Faults
+pub use Rattle.tsdb_fields.specs.Statistics

@@ -3,7 +3,7 @@ use Rattle.std.specs.Prelude.{◌≡◌, ◌⊎◌, ℕ, ◌-◌, ◌<◌, ◌�
 use Rattle.std.specs.List.{flat_map}
 use Rattle.tsdb_base.specs.Fields.{number32, number64}
 use Rattle.tsdb_base.specs.Plain.{plain_text}
-use Rattle.tsdb_path.specs.Nodes.{IsName, IsPath}
+use Rattle.tsdb_fields.specs.Nodes.{IsName, IsPath}
 use Rattle.tsdb_index.specs.declared.marks.TheConstants.{ROOT}
 use Rattle.tsdb_index.specs.declared.index.IndexEntry.{IndexEntry}
 use Rattle.tsdb_index.specs.declared.pointer.Pointer.{Pointer}

@@ -9,7 +9,7 @@ ghost use Rattle.tsdb_index.specs.Steps.{IsLastFor, names_cmp};
 use crate::index::IndexEntry;
 use crate::pointer::Pointer;
 use std::cmp::Ordering;
-use tsdb_path::{Name, Path};
+use tsdb_fields::{Name, Path};
 
 /// How names stand to other names, the devices first.
 fn compare(device: &Path, measurement: &Name, other_device: &Path, other: &Name) -> Ordering

@@ -1,7 +1,7 @@
 //! What the index of a file has. Depends on tsdb_base and tsdb_path.
 
 use tsdb_base::{DataType, Encoding, List, Stats};
-use tsdb_path::{Name, Path};
+use tsdb_fields::{Name, Path};
 
 /// What the index says of a page.
 #[derive(PartialEq, Eq, Drop)]

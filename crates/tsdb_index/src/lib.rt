@@ -1,6 +1,5 @@
 //! The index of a TsFile: what it says of each chunk and each page of the file, its bytes, reading these exactly, and
-//! finding one entry.
-//! Depends on tsdb_fields, tsdb_path and tsdb_base.
+//! finding one entry. Depends on tsdb_base and tsdb_fields.
 //!
 //! ```text
 //! index      = leaf{1..} root                   the root behind the last leaf

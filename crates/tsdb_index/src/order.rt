@@ -7,7 +7,7 @@ use crate::index::IndexEntry;
 use crate::pointer::Pointer;
 use std::cmp::Ordering;
 use tsdb_base::limits::MAX_LEAF_ENTRIES;
-use tsdb_path::{Name, Path};
+use tsdb_fields::{Name, Path};
 
 /// Whether the first names come before the second.
 fn is_before(device: &Path, measurement: &Name, next_device: &Path, next: &Name) -> bool

@@ -1,6 +1,6 @@
 //! Where a leaf stands, as the root says. Depends on tsdb_path.
 
-use tsdb_path::{Name, Path};
+use tsdb_fields::{Name, Path};
 
 /// Where a leaf stands, and the names of its first entry.
 #[derive(Drop)]

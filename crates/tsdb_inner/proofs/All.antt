@@ -23,7 +23,7 @@ use Rattle.tsdb_base.proofs.Lists.{among_left, among_right, each_among, each_app
 use Rattle.tsdb_base.specs.Lists.{Among, EachPair}
 use Rattle.tsdb_state.specs.Places.{Place}
 use Rattle.tsdb_model.specs.declared.command.Schema.{Schema}
-use Rattle.tsdb_memory.proofs.Counts.{among_either, pairs_append}
+use Rattle.tsdb_flush.proofs.Counts.{among_either, pairs_append}
 use Rattle.tsdb_base.specs.Points.{IsRising}
 use Rattle.tsdb_outside.specs.Files.{NamedFile}
 use Rattle.tsdb_path.specs.Nodes.{device_of, measurement_of, node_count}

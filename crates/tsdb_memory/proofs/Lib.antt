@@ -16,3 +16,5 @@ pub mod Typing
 pub mod RowLemmas
 pub mod LogLemmas
 pub mod Following
+pub use Rattle.tsdb_state.proofs.LayerLemmas
+pub use Rattle.tsdb_state.proofs.ImageLemmas

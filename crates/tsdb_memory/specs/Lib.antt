@@ -16,3 +16,15 @@ pub mod Flushes
 pub mod Closing
 pub mod Replacing
 pub mod MapAnswers
+pub use Rattle.tsdb_state.specs.Places
+pub use Rattle.tsdb_state.specs.Stores
+pub use Rattle.tsdb_state.specs.Jobs
+pub use Rattle.tsdb_state.specs.State
+pub use Rattle.tsdb_state.specs.Steps
+pub use Rattle.tsdb_state.specs.Stored
+pub use Rattle.tsdb_state.specs.Records
+pub use Rattle.tsdb_log.specs.declared.record.LogRecord
+pub use Rattle.tsdb_state.specs.Worlds
+pub use Rattle.tsdb_state.specs.Marks
+pub use Rattle.tsdb_state.specs.Layers
+pub use Rattle.tsdb_state.specs.Views

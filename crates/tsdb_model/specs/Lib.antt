@@ -4,3 +4,4 @@ pub mod Folds
 pub mod History
 pub mod State
 pub mod World
+pub use Rattle.tsdb_path.specs.Nodes

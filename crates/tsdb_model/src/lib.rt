@@ -11,3 +11,4 @@ pub use asking::ask_aggregates;
 pub use command::{Cell, Command, Item, Literal, Row, Schema};
 pub use literal::{fits, value_of};
 pub use reply::{FileLine, Line, Listing, Reply};
+pub use tsdb_path::{Name, Path};

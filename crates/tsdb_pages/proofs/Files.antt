@@ -12,7 +12,7 @@ use Rattle.tsdb_base.specs.FieldLaws.{type_field-prefix_free, encoding_field-pre
 use Rattle.tsdb_base.specs.Plain.{plain_text, IsText}
 use Rattle.tsdb_base.specs.PlainLaws.{plain_text-prefix_free, same_front}
 use Rattle.tsdb_base.specs.Values.{is_suitable}
-use Rattle.tsdb_path.specs.Nodes.{IsName, IsPath}
+use Rattle.tsdb_stats.specs.Nodes.{IsName, IsPath}
 use Rattle.enc_ts2diff.proofs.Parts as times_laws
 use Rattle.tsdb_pages.specs.ListSpelling.{spelling}
 use Rattle.tsdb_pages.proofs.SuitablePairs.{laws_of}

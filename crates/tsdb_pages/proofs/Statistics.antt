@@ -12,8 +12,8 @@ use Rattle.tsdb_base.specs.declared.value.DataType.{DataType}
 use Rattle.tsdb_base.specs.declared.value.Value.{Value}
 use Rattle.tsdb_base.specs.declared.value.Value.TheVariants as value
 use Rattle.tsdb_base.specs.Values.{type_of, IsValue, IsValueOf}
-use Rattle.tsdb_model.specs.Folds.{greater, if_number, is_less, lesser, number_of, numbers}
-use Rattle.tsdb_fields.specs.Statistics.{IsExtremeOf, IsStatsOf, is_numeric}
+use Rattle.tsdb_stats.specs.Folds.{greater, if_number, is_less, lesser, number_of, numbers}
+use Rattle.tsdb_index.specs.Statistics.{IsExtremeOf, IsStatsOf, is_numeric}
 use Rattle.tsdb_stats.specs.Statistics.{AreStatsOf}
 use Rattle.tsdb_pages.specs.Pages.{IsInRange}
 

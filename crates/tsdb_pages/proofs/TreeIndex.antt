@@ -11,8 +11,8 @@ use Rattle.tsdb_base.specs.declared.point.Point.{Point}
 use Rattle.tsdb_base.specs.declared.value.DataType.{DataType}
 use Rattle.tsdb_base.specs.declared.value.Encoding.{Encoding}
 use Rattle.tsdb_base.specs.Values.{is_suitable, type_of}
-use Rattle.tsdb_path.specs.Nodes.{IsName, IsPath}
-use Rattle.tsdb_fields.specs.Statistics.{IsStatsOf}
+use Rattle.tsdb_stats.specs.Nodes.{IsName, IsPath}
+use Rattle.tsdb_index.specs.Statistics.{IsStatsOf}
 use Rattle.tsdb_index.specs.declared.index.IndexEntry.{IndexEntry}
 use Rattle.tsdb_index.specs.declared.index.PageEntry.{PageEntry}
 use Rattle.tsdb_index.specs.Entries.{AreInOrder, AreNamesBefore, IsIndex, IsPageOf, names_of}

@@ -1,5 +1,5 @@
 //! The pages of a TsFile, the lists of values in them, and the tree that a file is written from. Depends on tsdb_base,
-//! tsdb_path, enc_ts2diff, tsdb_fields, tsdb_stats and tsdb_index.
+//! tsdb_bits, enc_plain, enc_dict, enc_ts2diff, enc_rle, tsdb_stats and tsdb_index.
 //!
 //! The pages of a TsFile, and the tree of groups, chunks and pages that a file is written from: the body of a page,
 //! written and read exactly, the conditions on a tree, and in specs/ the bytes of the file of a tree.

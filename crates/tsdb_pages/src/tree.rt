@@ -1,7 +1,7 @@
 //! The tree that a file is written from. Depends on tsdb_base and tsdb_path.
 
 use tsdb_base::{DataType, Encoding, List, Point};
-use tsdb_path::{Name, Path};
+use tsdb_stats::{Name, Path};
 
 /// Points that are written together: 1 to 1,000, in order of time.
 #[derive(PartialEq, Eq, Drop)]

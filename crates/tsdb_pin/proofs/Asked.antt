@@ -12,15 +12,15 @@ use Rattle.tsdb_base.specs.declared.value.Encoding.{Encoding}
 use Rattle.tsdb_base.proofs.Lists.{each_append}
 use Rattle.tsdb_model.specs.declared.command.Item.{Item}
 use Rattle.tsdb_model.specs.declared.command.Schema.{Schema}
-use Rattle.tsdb_memory.specs.Shown.{entry_of, number_of}
+use Rattle.tsdb_fileset.specs.Shown.{entry_of, number_of}
 use Rattle.tsdb_path.specs.Nodes.{child_of}
 use Rattle.tsdb_pin.proofs.Listed.{zip_append}
 use Rattle.tsdb_pin.specs.Items.{AreFit, are_fit_with, IsAsked, IsFit, IsItemFound, IsThere, IsUnfit, OneOf, is_unfit_for, item_type}
 use Rattle.tsdb_pin.specs.declared.items.Asked.{Asked}
 use Rattle.tsdb_pin.specs.declared.items.ItemFound.{ItemFound}
 use Rattle.tsdb_pin.specs.declared.items.ItemFound.TheVariants.{Missing, Series}
-use Rattle.tsdb_memory.proofs.Types.{type_found, type_of_number}
-use Rattle.tsdb_state.specs.Worlds.{type_at}
+use Rattle.tsdb_fileset.proofs.Types.{type_found, type_of_number}
+use Rattle.tsdb_fileset.specs.Worlds.{type_at}
 
 none_some : {X : Type 0} (o : Option X) → o ≡ None → ¬ IsSome o
 none_some None e some = false≢true some

@@ -8,10 +8,10 @@ use Rattle.tsdb_base.specs.declared.ids.Stamp.{Stamp}
 use Rattle.tsdb_base.specs.declared.point.Point.{Point}
 use Rattle.tsdb_base.specs.declared.point.Range.{Range}
 use Rattle.tsdb_base.proofs.Lists.{each_append, filter_append}
-use Rattle.tsdb_memory.specs.Model.{frozen_in}
-use Rattle.tsdb_memory.specs.Store as memory
-use Rattle.tsdb_memory.specs.Store.{Store}
-use Rattle.tsdb_memory.specs.declared.store.FrozenPair.{FrozenPair}
+use Rattle.tsdb_fileset.specs.Model.{frozen_in}
+use Rattle.tsdb_fileset.specs.Store as memory
+use Rattle.tsdb_fileset.specs.Store.{Store}
+use Rattle.tsdb_fileset.specs.FrozenPair.{FrozenPair}
 use Rattle.tsdb_memtable.specs.Pairs.{Pair, points_of}
 use Rattle.tsdb_base.specs.Points.{IsRising}
 use Rattle.tsdb_outside.specs.Files.{NamedFile}

@@ -8,7 +8,7 @@ use Rattle.tsdb_fileset.specs.Files.{KeptFiles, entries_in}
 use Rattle.tsdb_fileset.specs.Places.{KeptFile}
 use Rattle.tsdb_base.proofs.Lists.{count_append, each_append, each_left, each_right, each_weaker}
 use Rattle.tsdb_base.specs.Lists.{count}
-use Rattle.tsdb_memory.specs.Store.{Store}
+use Rattle.tsdb_fileset.specs.Store.{Store}
 use Rattle.tsdb_outside.specs.Files.{NamedFile}
 use Rattle.tsdb_pin.proofs.Changing.{LeavesNames, given_back, gives_names, gives_none, gives_then, nothing_changed}
 use Rattle.tsdb_pin.proofs.Changing.{takes_names, takes_none, takes_then}

@@ -16,7 +16,7 @@ use Rattle.tsdb_fileset.specs.Rights.{HasChanged, IsRightTo, one_more}
 use Rattle.tsdb_fileset.specs.Places.{OthersStay}
 use Rattle.tsdb_base.proofs.Lists.{each_append, each_weaker, filter_append}
 use Rattle.tsdb_base.specs.Lists.{count}
-use Rattle.tsdb_state.specs.Places.{is_path}
+use Rattle.tsdb_fileset.specs.StatePlaces.{is_path}
 use Rattle.tsdb_outside.specs.Files.{NamedFile}
 use Rattle.tsdb_pin.proofs.Changing.{LeavesNames, kept_changed, none_shared, right_stays, right_was, takes_names}
 use Rattle.tsdb_pin.proofs.Changing.{takes_none, takes_one, takes_then, nothing_changed}

@@ -11,16 +11,16 @@ use Rattle.tsdb_fileset.specs.Held.{AreFilesOf, entry_of, leaving, listed}
 use Rattle.tsdb_fileset.specs.Files.{AreKept, KeptFiles, kept_file}
 use Rattle.tsdb_fileset.specs.Places.{KeptFile}
 use Rattle.tsdb_base.proofs.Lists.{each_weaker}
-use Rattle.tsdb_state.proofs.LayerLemmas.Places.{is_path_same}
+use Rattle.tsdb_fileset.proofs.LayerLemmas.Places.{is_path_same}
 use Rattle.tsdb_base.specs.Lists.{Among, count}
-use Rattle.tsdb_state.specs.Marks.{is_over, survives}
-use Rattle.tsdb_state.specs.Places.{Place, is_path}
+use Rattle.tsdb_fileset.specs.Marks.{is_over, survives}
+use Rattle.tsdb_fileset.specs.StatePlaces.{Place, is_path}
 use Rattle.tsdb_model.specs.declared.command.Item.{Item}
 use Rattle.tsdb_model.specs.declared.command.Schema.{Schema}
 use Rattle.tsdb_marks.specs.Lists.{is_of}
 use Rattle.tsdb_marks.specs.declared.marks.Mark.{Mark}
-use Rattle.tsdb_memory.specs.Shown.{IsMemoryOf, number_of}
-use Rattle.tsdb_memory.specs.Store.{Store}
+use Rattle.tsdb_fileset.specs.Shown.{IsMemoryOf, number_of}
+use Rattle.tsdb_fileset.specs.Store.{Store}
 use Rattle.tsdb_outside.specs.Files.{NamedFile}
 use Rattle.tsdb_pin.proofs.Changing.{LeavesNames, gives_names, kept_changed, takes_names}
 use Rattle.tsdb_pin.proofs.Stated.{sources_shown}
@@ -35,10 +35,10 @@ use Rattle.tsdb_pin.specs.declared.pin.Pin.{Pin}
 use Rattle.tsdb_pin.specs.declared.pin.PinnedSource.{PinnedSource}
 use Rattle.tsdb_pin.specs.declared.pin.PinnedSource.TheVariants as source
 use Rattle.tsdb_plan.specs.declared.entry.FileEntry.{FileEntry}
-use Rattle.tsdb_state.specs.Jobs.{pin_numbers, source_numbers}
-use Rattle.tsdb_state.specs.State as states
-use Rattle.tsdb_state.specs.State.{Entries, EngineState, FromFile, FromPart}
-use Rattle.tsdb_state.specs.Steps.{pinned, sources_of, with_rights, without_rights}
+use Rattle.tsdb_fileset.specs.StateJobs.{pin_numbers, source_numbers}
+use Rattle.tsdb_fileset.specs.State as states
+use Rattle.tsdb_fileset.specs.State.{Entries, EngineState, FromFile, FromPart}
+use Rattle.tsdb_fileset.specs.Steps.{pinned, sources_of, with_rights, without_rights}
 
 -- ---- marks
 

@@ -20,16 +20,16 @@ use Rattle.tsdb_fileset.specs.Files.{AreKept, KeptFiles, entries_in, entry_numbe
 use Rattle.tsdb_fileset.specs.Files.{outgoing_numbers}
 use Rattle.tsdb_fileset.specs.Places.{KeptFile}
 use Rattle.tsdb_base.proofs.Lists.{count_append, each_from_among, each_both}
-use Rattle.tsdb_state.proofs.LayerLemmas.Places.{is_path_same, path_itself, place_cmp-IsAntisymmetric, same_content}
-use Rattle.tsdb_state.specs.Layers.{Layer}
+use Rattle.tsdb_fileset.proofs.LayerLemmas.Places.{is_path_same, path_itself, place_cmp-IsAntisymmetric, same_content}
+use Rattle.tsdb_fileset.specs.Layers.{Layer}
 use Rattle.tsdb_base.specs.Lists.{Among, count, if_some}
-use Rattle.tsdb_state.specs.Places.{Content, Place, is_path, is_within as is_within_place, place_cmp}
+use Rattle.tsdb_fileset.specs.StatePlaces.{Content, Place, is_path, is_within as is_within_place, place_cmp}
 use Rattle.tsdb_model.specs.World.{is_in}
 use Rattle.tsdb_model.specs.declared.command.Schema.{Schema}
-use Rattle.tsdb_memory.proofs.Emptiness.{part_is}
-use Rattle.tsdb_memory.specs.Shown.{IsFrozenOf, IsMemoryOf, number_of, part_of, value_at}
-use Rattle.tsdb_memory.specs.Store as memory
-use Rattle.tsdb_memory.specs.Store.{Store}
+use Rattle.tsdb_fileset.proofs.Emptiness.{part_is}
+use Rattle.tsdb_fileset.specs.Shown.{IsFrozenOf, IsMemoryOf, number_of, part_of, value_at}
+use Rattle.tsdb_fileset.specs.Store as memory
+use Rattle.tsdb_fileset.specs.Store.{Store}
 use Rattle.tsdb_memtable.specs.Pairs.{points_of}
 use Rattle.tsdb_base.specs.Points.{IsRising}
 use Rattle.tsdb_memtable.specs.Points.{is_within}
@@ -41,10 +41,10 @@ use Rattle.tsdb_pin.specs.Sources.{parts_in, slice_of}
 use Rattle.tsdb_pin.specs.declared.pin.PinnedSource.{PinnedSource}
 use Rattle.tsdb_pin.specs.declared.pin.PinnedSource.TheVariants as source
 use Rattle.tsdb_plan.specs.declared.entry.FileEntry.{FileEntry}
-use Rattle.tsdb_state.specs.State as states
-use Rattle.tsdb_state.specs.State.{Entries, EngineState, File, FromFile, FromPart, Source, StoreState}
-use Rattle.tsdb_state.specs.Steps.{file_sources, has_series, part_sources, part_within, sources_of}
-use Rattle.tsdb_state.specs.Views.{sequence_layer, unsequence_layer, working_pair}
+use Rattle.tsdb_fileset.specs.State as states
+use Rattle.tsdb_fileset.specs.State.{Entries, EngineState, File, FromFile, FromPart, Source, StoreState}
+use Rattle.tsdb_fileset.specs.Steps.{file_sources, has_series, part_sources, part_within, sources_of}
+use Rattle.tsdb_fileset.specs.Views.{sequence_layer, unsequence_layer, working_pair}
 
 -- ---- listed files
 

@@ -12,15 +12,15 @@ use Rattle.tsdb_model.specs.Apply.{is_unfit}
 use Rattle.tsdb_model.specs.World.{new_series}
 use Rattle.tsdb_model.specs.declared.command.Item.{Item}
 use Rattle.tsdb_model.specs.declared.command.Schema.{Schema}
-use Rattle.tsdb_memory.specs.Shown.{entry_of, number_of}
+use Rattle.tsdb_fileset.specs.Shown.{entry_of, number_of}
 use Rattle.tsdb_path.specs.Nodes.{child_of}
 use Rattle.tsdb_pin.specs.declared.items.Asked.{Asked}
 use Rattle.tsdb_pin.specs.declared.items.ItemFound.{ItemFound}
 use Rattle.tsdb_pin.specs.declared.items.ItemFound.TheVariants.{Missing, Series}
 use Rattle.tsdb_pin.specs.declared.pin.PinFault.{PinFault}
 use Rattle.tsdb_pin.specs.declared.pin.PinFault.TheVariants.{NoPath, WrongType, Memory}
-use Rattle.tsdb_state.specs.State.{SeriesEntry}
-use Rattle.tsdb_state.specs.Worlds.{type_at}
+use Rattle.tsdb_fileset.specs.State.{SeriesEntry}
+use Rattle.tsdb_fileset.specs.Worlds.{type_at}
 
 -- whether the least or the greatest value is asked of a type without numbers
 abbrev pub is_unfit_for : Option Aggregate → DataType → Bool

@@ -3,3 +3,7 @@ pub mod Sources
 pub mod Changes
 pub mod Pins
 pub mod Shown
+pub use Rattle.tsdb_fileset.specs.Files
+pub use Rattle.tsdb_fileset.specs.Places
+pub use Rattle.tsdb_fileset.specs.Rights
+pub use Rattle.tsdb_fileset.specs.Held

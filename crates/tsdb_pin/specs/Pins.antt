@@ -6,8 +6,8 @@ use Rattle.tsdb_base.specs.declared.point.Range.{Range}
 use Rattle.tsdb_fileset.specs.Files.{KeptFiles}
 use Rattle.tsdb_model.specs.declared.command.Item.{Item}
 use Rattle.tsdb_marks.specs.Lists.{is_of}
-use Rattle.tsdb_memory.specs.Shown.{entry_of, number_of}
-use Rattle.tsdb_memory.specs.Store.{Store}
+use Rattle.tsdb_fileset.specs.Shown.{entry_of, number_of}
+use Rattle.tsdb_fileset.specs.Store.{Store}
 use Rattle.tsdb_outside.specs.Files.{NamedFile}
 use Rattle.tsdb_path.specs.Nodes.{child_of}
 use Rattle.tsdb_pin.specs.Items.{AreFit, IsRefused}

@@ -5,17 +5,17 @@ use Rattle.std.specs.List.{AllZip}
 use Rattle.tsdb_base.specs.declared.point.Point.{Point}
 use Rattle.tsdb_fileset.specs.Held.{AreFilesOf}
 use Rattle.tsdb_fileset.specs.Files.{KeptFiles}
-use Rattle.tsdb_state.specs.Places.{Content}
-use Rattle.tsdb_memory.specs.Shown.{IsMemoryOf, value_at}
-use Rattle.tsdb_memory.specs.Store.{Store}
+use Rattle.tsdb_fileset.specs.StatePlaces.{Content}
+use Rattle.tsdb_fileset.specs.Shown.{IsMemoryOf, value_at}
+use Rattle.tsdb_fileset.specs.Store.{Store}
 use Rattle.tsdb_base.specs.Points.{IsRising}
 use Rattle.tsdb_pin.specs.declared.pin.Column.{Column}
 use Rattle.tsdb_pin.specs.declared.pin.Pin.{Pin}
 use Rattle.tsdb_pin.specs.declared.pin.PinnedSource.{PinnedSource}
 use Rattle.tsdb_pin.specs.declared.pin.PinnedSource.TheVariants.{File, Part}
-use Rattle.tsdb_state.specs.State as state
-use Rattle.tsdb_state.specs.State.{Entries, EngineState, Source, FromFile, FromPart}
-use Rattle.tsdb_state.specs.Steps.{TakesPin, pinned, unpinned}
+use Rattle.tsdb_fileset.specs.State as state
+use Rattle.tsdb_fileset.specs.State.{Entries, EngineState, Source, FromFile, FromPart}
+use Rattle.tsdb_fileset.specs.Steps.{TakesPin, pinned, unpinned}
 
 -- the points rise in time, and are those that the content has of the series
 pub record ArePointsOf (path : List ℕ) (points : List Point) (content : Content) : Type 0 where

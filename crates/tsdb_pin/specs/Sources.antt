@@ -9,7 +9,7 @@ use Rattle.tsdb_base.specs.declared.point.Point.{Point}
 use Rattle.tsdb_base.specs.declared.point.Range.{Range}
 use Rattle.tsdb_fileset.specs.Files.{KeptFiles, entries_in, has_path, kept_file}
 use Rattle.tsdb_fileset.specs.Rights.{IsRightTo}
-use Rattle.tsdb_memory.specs.Store.{FrozenPair, Store}
+use Rattle.tsdb_fileset.specs.Store.{FrozenPair, Store}
 use Rattle.tsdb_memtable.specs.Pairs.{points_of}
 use Rattle.tsdb_base.specs.Points.{IsRising}
 use Rattle.tsdb_memtable.specs.Points.{is_within}

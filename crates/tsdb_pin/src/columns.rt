@@ -11,8 +11,7 @@ use crate::returning::give_back_sources;
 use crate::sources::{push, take_files};
 use std::alloc::Global;
 use tsdb_base::{List, Memory, Range, Space};
-use tsdb_fileset::KeptFiles;
-use tsdb_memory::MemoryStore;
+use tsdb_fileset::{KeptFiles, MemoryStore};
 use tsdb_outside::Files;
 
 /// Adds the sources of a series in one space: the listed files that have it, and then the parts in memory.

@@ -1,12 +1,12 @@
 //! The series of the items of a select. Depends on `pin`.
 ghost use Rattle.std.specs.Prelude.{◌≡◌, IfOk};
-ghost use Rattle.tsdb_memory.specs.Model.{IsSound};
+ghost use Rattle.tsdb_fileset.specs.Model.{IsSound};
 ghost use Rattle.tsdb_pin.specs.Items.{AreRead, IsItemFound, are_fit_with, is_unfit_for};
 
 use crate::pin::PinFault;
 use std::alloc::Global;
 use tsdb_base::{Aggregate, DataType, Memory, SeriesId};
-use tsdb_memory::MemoryStore;
+use tsdb_fileset::MemoryStore;
 use tsdb_model::{Item, Schema};
 use tsdb_path::{Path, PathFault};
 

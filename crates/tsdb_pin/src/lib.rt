@@ -1,5 +1,5 @@
 //! A pin: what a query reads, taken at one moment and given back later. Depends on tsdb_base, tsdb_path, tsdb_model,
-//! tsdb_marks, tsdb_memtable, tsdb_outside, tsdb_plan, tsdb_state, tsdb_memory and tsdb_fileset.
+//! tsdb_outside, tsdb_marks, tsdb_memtable, tsdb_plan and tsdb_fileset.
 //!
 //! Pins: what a query reads, taken at one moment and given back later.
 //!

@@ -8,7 +8,7 @@ use crate::pin::PinnedSource;
 use crate::sources::push;
 use std::alloc::Global;
 use tsdb_base::{List, Memory, Range, SeriesId, Space, Stamp, copy_points};
-use tsdb_memory::MemoryStore;
+use tsdb_fileset::MemoryStore;
 use tsdb_memtable::Pair;
 use tsdb_outside::Files;
 

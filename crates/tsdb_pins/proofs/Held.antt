@@ -2,9 +2,9 @@
 use Rattle.std.proofs.Common.{◌≡◌, List, Option, None, Some, ap, ◌∙◌}
 use Rattle.std.specs.Prelude.{IfSome}
 use Rattle.std.specs.List.{AllByRecursion as Each}
-use Rattle.tsdb_fileset.specs.Files.{KeptFiles, kept_file}
-use Rattle.tsdb_fileset.specs.Places.{AreOfStore, KeptFile}
-use Rattle.tsdb_fileset.specs.Rights.{IsRightTo}
+use Rattle.tsdb_pin.specs.Files.{KeptFiles, kept_file}
+use Rattle.tsdb_pin.specs.Places.{AreOfStore, KeptFile}
+use Rattle.tsdb_pin.specs.Rights.{IsRightTo}
 use Rattle.tsdb_base.proofs.Lists.{each_weaker}
 use Rattle.tsdb_outside.specs.Files.{NamedFile, Store}
 use Rattle.tsdb_pin.specs.Pins.{AreColumnsHeld}

@@ -2,7 +2,7 @@
 use Rattle.std.proofs.Common.{◌≡◌, ℕ, List, [], ◌∷◌, refl, ap, ◌∙◌}
 use Rattle.std.specs.List.{AllZip}
 use Rattle.tsdb_base.specs.declared.point.Range.{Range}
-use Rattle.tsdb_fileset.specs.Files.{KeptFiles}
+use Rattle.tsdb_pin.specs.Files.{KeptFiles}
 use Rattle.tsdb_model.specs.Apply.{columns_of, item_value, item_values, series_of}
 use Rattle.tsdb_model.specs.Folds.{within}
 use Rattle.tsdb_model.specs.World.{World, points_of}

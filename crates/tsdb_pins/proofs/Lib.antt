@@ -13,3 +13,4 @@ pub mod Named
 pub mod Columns
 pub mod RowLemmas
 pub mod Lines
+pub use Rattle.tsdb_streams.proofs.Trees

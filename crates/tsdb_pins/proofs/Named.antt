@@ -3,7 +3,7 @@ use Rattle.std.proofs.Common.{◌≡◌, ℕ, ◌≤◌, true, false, eqb, List,
 use Rattle.std.specs.List.{AllZip, onto_first}
 use Rattle.std.proofs.lemmas.List.Splits.{slice_split-cons_no, slice_split-cons_yes}
 use Rattle.tsdb_base.specs.declared.point.Range.{Range}
-use Rattle.tsdb_fileset.specs.Files.{KeptFiles}
+use Rattle.tsdb_pin.specs.Files.{KeptFiles}
 use Rattle.tsdb_model.specs.declared.command.Item.{Item}
 use Rattle.tsdb_memory.specs.Store.{Store}
 use Rattle.tsdb_outside.specs.Files.{NamedFile}

@@ -5,3 +5,5 @@ pub mod Clean
 pub mod Weaving
 pub mod Streams
 pub mod Rows
+pub use Rattle.tsdb_streams.specs.Files
+pub use Rattle.tsdb_streams.specs.Pieces

@@ -1,6 +1,6 @@
 //! What a query reads of its pin: rows, aggregates and streams, and that these are those of its worlds. Depends on
-//! tsdb_base, tsdb_model, tsdb_memory, tsdb_fileset, tsdb_pin, tsdb_state, tsdb_merge, tsdb_streams, tsdb_path,
-//! tsdb_outside and tsdb_aggregate.
+//! tsdb_base, tsdb_path, tsdb_model, tsdb_outside, tsdb_stats, tsdb_pages, tsdb_marks, tsdb_merge, tsdb_aggregate,
+//! tsdb_state, tsdb_streams, tsdb_memory and tsdb_pin.
 //!
 //! What a pin has in the worlds that it stands for.
 //!

@@ -2,7 +2,7 @@
 ghost use Rattle.std.specs.List.{AllByRecursion as Each};
 ghost use Rattle.std.specs.Prelude.{◌≡◌, ℕ, List, map};
 ghost use Rattle.tsdb_base.specs.declared.point.Range.{Range as RangeSeen};
-ghost use Rattle.tsdb_fileset.specs.Files.{KeptFiles};
+ghost use Rattle.tsdb_pin.specs.Files.{KeptFiles};
 ghost use Rattle.tsdb_model.specs.Apply.{columns_of, item_values};
 ghost use Rattle.tsdb_model.specs.World.{World};
 ghost use Rattle.tsdb_model.specs.declared.command.Item.{Item};

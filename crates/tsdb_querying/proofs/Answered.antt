@@ -6,10 +6,10 @@ use Rattle.tsdb_base.specs.declared.answers.Answer.TheVariants as answer
 use Rattle.tsdb_base.specs.declared.point.Range.{Range}
 use Rattle.tsdb_base.specs.declared.value.Value.{Value}
 use Rattle.std.specs.Prelude.{IsErrOf, Result}
-use Rattle.tsdb_streams.specs.Files.{HasReason}
-use Rattle.tsdb_core.specs.Core.{files_of, logged_of}
-use Rattle.tsdb_core.specs.Pins.{IsNotPinned, IsPinStep, IsPinned, IsUnpinned}
-use Rattle.tsdb_core.specs.declared.engine.Core.{Core}
+use Rattle.tsdb_pins.specs.Files.{HasReason}
+use Rattle.tsdb_serving.specs.Core.{files_of, logged_of}
+use Rattle.tsdb_serving.specs.Pins.{IsNotPinned, IsPinStep, IsPinned, IsUnpinned}
+use Rattle.tsdb_serving.specs.CoreType.{Core}
 use Rattle.tsdb_frames.specs.Frames.{disk_of}
 use Rattle.tsdb_frames.specs.declared.frames.Frames.{Frames}
 use Rattle.tsdb_state.specs.Stored.{IsKeptWhole}

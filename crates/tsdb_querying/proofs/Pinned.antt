@@ -2,11 +2,11 @@
 use Rattle.std.proofs.Common.{◌≡◌, ℕ, List, [], Option, None, Some, arith, refl, sym, subst, ap, ◌∙◌}
 use Rattle.std.specs.Option.{option_map}
 use Rattle.std.specs.Prelude.{IfSome}
-use Rattle.tsdb_core.specs.Core.{files_of, logged_of, next_of}
-use Rattle.tsdb_core.specs.Pins.{IsNotPinned, IsPinned, IsUnpinned}
-use Rattle.tsdb_core.specs.declared.engine.Core.{Core}
+use Rattle.tsdb_serving.specs.Core.{files_of, logged_of, next_of}
+use Rattle.tsdb_serving.specs.Pins.{IsNotPinned, IsPinned, IsUnpinned}
+use Rattle.tsdb_serving.specs.CoreType.{Core}
 use Rattle.tsdb_frames.specs.Frames.{slot_of}
-use Rattle.tsdb_fileset.specs.Places.{KeptFile, file_at, place_at}
+use Rattle.tsdb_pin.specs.Places.{KeptFile, file_at, place_at}
 use Rattle.tsdb_base.specs.Lists.{count}
 use Rattle.tsdb_memory.specs.Logged.{log_of}
 use Rattle.tsdb_model.specs.State as plain

@@ -6,13 +6,13 @@ use Rattle.std.specs.List.{AllByRecursion as Each, AllZip}
 use Rattle.std.proofs.lemmas.Bool.{eqb-true, false≢true}
 use Rattle.tsdb_base.specs.declared.point.Point.{Point}
 use Rattle.tsdb_base.specs.declared.point.Range.{Range}
-use Rattle.tsdb_streams.proofs.Trees.{Listed, listed_pages}
-use Rattle.tsdb_streams.specs.Files.{HasPages}
-use Rattle.tsdb_fileset.specs.Held.{TellTheirBytes}
+use Rattle.tsdb_pins.proofs.Trees.{Listed, listed_pages}
+use Rattle.tsdb_pins.specs.Files.{HasPages}
+use Rattle.tsdb_pin.specs.Held.{TellTheirBytes}
 use Rattle.tsdb_state.specs.Stored.{IsKeptWhole, kept_bytes}
-use Rattle.tsdb_fileset.specs.Files.{KeptFiles, kept_file}
-use Rattle.tsdb_fileset.specs.Places.{KeptFile}
-use Rattle.tsdb_fileset.specs.Rights.{IsRightTo}
+use Rattle.tsdb_pin.specs.Files.{KeptFiles, kept_file}
+use Rattle.tsdb_pin.specs.Places.{KeptFile}
+use Rattle.tsdb_pin.specs.Rights.{IsRightTo}
 use Rattle.tsdb_base.proofs.Lists.{among_left, among_map, among_right, each_append}
 use Rattle.tsdb_state.specs.Layers.{Layer}
 use Rattle.tsdb_base.specs.Lists.{Among}
@@ -26,7 +26,7 @@ use Rattle.tsdb_pin.specs.declared.pin.PinnedSource.{PinnedSource}
 use Rattle.tsdb_pin.specs.declared.pin.PinnedSource.TheVariants as pinned
 use Rattle.tsdb_pins.proofs.Told.{told_points}
 use Rattle.tsdb_pins.specs.Reading.{AreColumnsTold, AreColumnsTrue, HaveNodes, IsToldIn, IsTrueIn, TellPoints, TellsPoints}
-use Rattle.tsdb_streams.specs.Pieces.{joined}
+use Rattle.tsdb_pins.specs.Pieces.{joined}
 use Rattle.tsdb_state.specs.Records.{numbers_of}
 use Rattle.tsdb_state.specs.State as state
 use Rattle.tsdb_state.specs.State.{Entries, File, FromFile, FromPart, Source, StoreState, Told}

@@ -3,7 +3,7 @@ use Rattle.std.proofs.Common.{◌≡◌, ℕ, false, List, [], ◌∷◌, None, 
 use Rattle.std.specs.List.{AllByRecursion as Each}
 use Rattle.std.specs.Prelude.{IsErrOf, Result, is_some}
 use Rattle.std.proofs.lemmas.Bool.{false≢true}
-use Rattle.tsdb_streams.specs.Files.{HasReason}
+use Rattle.tsdb_pins.specs.Files.{HasReason}
 use Rattle.tsdb_base.specs.Causes.{Rose}
 use Rattle.tsdb_outside.specs.Files.{NamedFile, Store, Tells}
 use Rattle.tsdb_outside.specs.declared.faults.StoreFault.{StoreFault}

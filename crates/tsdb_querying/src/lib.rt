@@ -1,5 +1,5 @@
 //! Queries on one thread, from a core and the port of its files. Depends on tsdb_base, tsdb_path, tsdb_model,
-//! tsdb_outside, tsdb_core, tsdb_pin, tsdb_pins and tsdb_serving.
+//! tsdb_outside, tsdb_frames, tsdb_state, tsdb_memory, tsdb_pin, tsdb_pins and tsdb_serving.
 //!
 //! A query takes a pin of the core, reads what the pin has through the port, and gives the pin back, whatever came of
 //! the reading.
@@ -9,4 +9,6 @@ mod query;
 mod values;
 
 pub use query::select;
+pub use tsdb_pins::{Stream, open_column, pull};
+pub use tsdb_serving::{Core, Options, create, delete, flush, insert, show};
 pub use values::aggregates;

@@ -1,7 +1,7 @@
 //! The rows of a query. Depends on tsdb_core and tsdb_pins.
 ghost use Rattle.std.specs.Prelude.{◌≡◌, ◌≢◌, ℕ, ◌≤◌, false, List, Option};
 ghost use Rattle.tsdb_base.specs.declared.answers.Answer.{Answer as AnswerOf};
-ghost use Rattle.tsdb_core.specs.Core.{next_of};
+ghost use Rattle.tsdb_serving.specs.Core.{next_of};
 ghost use Rattle.tsdb_model.specs.Apply.{ask_aggregates};
 ghost use Rattle.tsdb_model.specs.State as plain;
 ghost use Rattle.tsdb_model.specs.declared.command.Command.{Command};
@@ -14,11 +14,11 @@ ghost use Rattle.tsdb_serving.specs.Serving.{Answers as AreAnswered, IsServing, 
 
 use std::alloc::Global;
 use tsdb_base::{Answer, List, Range};
-use tsdb_core::Core;
 use tsdb_model::{Item, Reply};
 use tsdb_outside::{Files, Journal, StoreFault};
 use tsdb_path::Path;
 use tsdb_pin::PinFault;
+use tsdb_serving::Core;
 
 /// Reads the rows of items of a device over a range, of which none asks for an aggregate.
 ///

@@ -1,8 +1,8 @@
 //! The aggregates of a query. Depends on `query`, tsdb_core and tsdb_pins.
 ghost use Rattle.std.specs.Prelude.{◌≡◌, ◌≢◌, ℕ, ◌≤◌, false, true, IfOk, List, Option};
 ghost use Rattle.tsdb_base.specs.declared.answers.Answer.{Answer as AnswerOf};
-ghost use Rattle.tsdb_streams.specs.Files.{HasReason};
-ghost use Rattle.tsdb_core.specs.Core.{next_of};
+ghost use Rattle.tsdb_pins.specs.Files.{HasReason};
+ghost use Rattle.tsdb_serving.specs.Core.{next_of};
 ghost use Rattle.tsdb_model.specs.Apply.{ask_aggregates};
 ghost use Rattle.tsdb_model.specs.State as plain;
 ghost use Rattle.tsdb_model.specs.World.{World};
@@ -24,11 +24,11 @@ use std::alloc::Global;
 use std::marker::Brand;
 use std::sync::ledger::{Blank, Ledger};
 use tsdb_base::{Answer, List, Range, Steps, Value};
-use tsdb_core::Core;
 use tsdb_model::{Item, Reply};
 use tsdb_outside::{Files, Journal, StoreFault};
 use tsdb_path::Path;
 use tsdb_pin::{Pin, PinFault};
+use tsdb_serving::Core;
 
 /// The aggregates of a pin, read with a count of pages that nobody looks at.
 fn read_values<F: Files, L: Ledger>(

@@ -1,8 +1,8 @@
 -- What a store shows that was opened.
 use Rattle.std.specs.Prelude.{◌≡◌, ℕ, ◌+◌, List, [], ◌++◌, map, Option, None, Some}
 use Rattle.std.specs.List.{All, AllByRecursion as Each}
-use Rattle.tsdb_core.specs.Core.{IsSeen, next_of}
-use Rattle.tsdb_core.specs.declared.engine.Core.{Core}
+use Rattle.tsdb_serving.specs.Core.{IsSeen, next_of}
+use Rattle.tsdb_serving.specs.CoreType.{Core}
 use Rattle.tsdb_frames.specs.Frames.{IsLog}
 use Rattle.tsdb_frames.specs.declared.frames.Frames.{Frames}
 use Rattle.tsdb_state.specs.Stored.{IsKeptWhole, kept_bytes}

@@ -5,8 +5,8 @@ ghost use Rattle.tsdb_outside.specs.Files.{StoredFile};
 ghost use Rattle.tsdb_recover.specs.Opened.{IsRecovered};
 ghost use Rattle.tsdb_serving.specs.Serving.{IsServing};
 
-use tsdb_core::Core;
 use tsdb_outside::{Files, Journal};
+use tsdb_serving::Core;
 
 /// A recovered core is in the state of its store, beside the stored files. So it can serve commands.
 pub fn a_recovered_core_serves<J: Journal, F: Files>(_core: &Core<J, F>)

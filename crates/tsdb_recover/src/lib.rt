@@ -1,6 +1,6 @@
-//! The opening of a store by its log and its files. Depends on tsdb_base, tsdb_outside, tsdb_frames, tsdb_log,
-//! tsdb_state, tsdb_redo, tsdb_index, tsfile_reader, tsdb_path, tsdb_pages, tsdb_plan, tsdb_flush, tsdb_memory,
-//! tsdb_fileset, tsdb_core and tsdb_serving.
+//! The opening of a store by its log and its files. Depends on tsdb_base, tsdb_path, tsdb_model, tsdb_outside,
+//! tsdb_frames, tsdb_stats, tsdb_index, tsdb_log, tsdb_pages, tsfile_reader, tsdb_plan, tsdb_state, tsdb_memory,
+//! tsdb_flush, tsdb_redo, tsdb_fileset and tsdb_serving.
 //!
 //! Recovery: a store is opened by its log.
 //!
@@ -50,3 +50,4 @@ pub use files::fetch_whole;
 pub use laws::a_recovered_core_serves;
 pub use log::read_log;
 pub use opening::recover;
+pub use tsdb_serving::{Core, Options};

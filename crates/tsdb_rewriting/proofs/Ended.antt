@@ -2,14 +2,14 @@
 use Rattle.std.proofs.Common.{◌≡◌, ℕ, ◌≤◌, true, List, ◌++◌, Option, None, Some, Result, Ok, Err, refl, sym, ap, arith, subst, ◌∙◌}
 use Rattle.std.specs.Option.{option_map}
 use Rattle.std.specs.Prelude.{IfSome, IsSome, OnOk}
-use Rattle.tsdb_tasks.specs.Files.{NewFile}
-use Rattle.tsdb_tasks.specs.Ending.{GivesUp}
-use Rattle.tsdb_tasks.specs.declared.finishing.InputRuns.{InputRuns}
+use Rattle.tsdb_serving.specs.TasksFiles.{NewFile}
+use Rattle.tsdb_serving.specs.TasksEnding.{GivesUp}
+use Rattle.tsdb_serving.specs.InputRuns.{InputRuns}
 use Rattle.tsdb_compactions.specs.declared.job.Job.{Job}
-use Rattle.tsdb_core.specs.Core.{files_of, logged_of}
-use Rattle.tsdb_core.specs.Replacements.{EndsFiles, EndsJob, IsJobAbandoned, IsJobCommit, TellsNew}
-use Rattle.tsdb_core.specs.Sweeps.{IsSwept}
-use Rattle.tsdb_core.specs.declared.engine.Core.{Core}
+use Rattle.tsdb_serving.specs.Core.{files_of, logged_of}
+use Rattle.tsdb_serving.specs.Replacements.{EndsFiles, EndsJob, IsJobAbandoned, IsJobCommit, TellsNew}
+use Rattle.tsdb_serving.specs.Sweeps.{IsSwept}
+use Rattle.tsdb_serving.specs.CoreType.{Core}
 use Rattle.tsdb_frames.specs.Frames.{faults_of, slot_of}
 use Rattle.tsdb_fileset.specs.Files.{KeptFiles}
 use Rattle.tsdb_state.specs.Places.{Content}

@@ -5,17 +5,17 @@ use Rattle.std.proofs.lemmas.List.{length-drop, length-map, length-take-le, map-
 use Rattle.std.specs.Prelude.{IfSome, slice_range}
 use Rattle.tsdb_base.specs.declared.ids.Space.{Space}
 use Rattle.tsdb_base.specs.declared.ids.Space.TheVariants.{Sequence, Unsequence}
-use Rattle.tsdb_tasks.proofs.Finished.{run_long}
-use Rattle.tsdb_tasks.proofs.Given.{once_late}
-use Rattle.tsdb_tasks.proofs.InRuns.{begins_at, listed_numbers}
-use Rattle.tsdb_tasks.specs.Finishing.{AreRunsOf, IsRunOf}
-use Rattle.tsdb_tasks.specs.declared.finishing.InputRuns.{InputRuns}
+use Rattle.tsdb_serving.proofs.Finished.{run_long}
+use Rattle.tsdb_serving.proofs.Given.{once_late}
+use Rattle.tsdb_serving.proofs.InRuns.{begins_at, listed_numbers}
+use Rattle.tsdb_serving.specs.Finishing.{AreRunsOf, IsRunOf}
+use Rattle.tsdb_serving.specs.InputRuns.{InputRuns}
 use Rattle.tsdb_compactions.specs.Jobs.{plain_numbers}
 use Rattle.tsdb_compactions.specs.declared.job.Job.{Job}
-use Rattle.tsdb_core.proofs.Beginnings.{Fit}
-use Rattle.tsdb_core.specs.Beginnings.{IsBegun}
-use Rattle.tsdb_core.specs.Core.{files_of, next_of}
-use Rattle.tsdb_core.specs.declared.engine.Core.{Core}
+use Rattle.tsdb_serving.proofs.Beginnings.{Fit}
+use Rattle.tsdb_serving.specs.Beginnings.{IsBegun}
+use Rattle.tsdb_serving.specs.Core.{files_of, next_of}
+use Rattle.tsdb_serving.specs.CoreType.{Core}
 use Rattle.tsdb_fileset.specs.Held.{listed}
 use Rattle.tsdb_fileset.specs.Files.{AreKept, entry_numbers}
 use Rattle.tsdb_fileset.specs.Replacing.{IsWithin, claim_run, output_in, replace_run, run_length, with_claim}

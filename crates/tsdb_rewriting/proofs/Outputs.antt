@@ -5,20 +5,20 @@ use Rattle.std.proofs.lemmas.Bool.{false≢true}
 use Rattle.std.proofs.lemmas.Bool.Decides.{nat_tests}
 use Rattle.std.specs.Option.{option_map}
 use Rattle.std.specs.Prelude.{IfErr, IfSome, IsErrOf, IsSome, is_some}
-use Rattle.tsdb_tasks.specs.Files.{new_file}
-use Rattle.tsdb_tasks.specs.Finishing.{AreRunsOf}
-use Rattle.tsdb_tasks.specs.declared.finishing.InputRuns.{InputRuns}
-use Rattle.tsdb_core.specs.Beginnings.{IsBeginAnswer}
-use Rattle.tsdb_core.specs.Core.{files_of, next_of}
-use Rattle.tsdb_core.specs.Replacements.{EndsFiles, TellsNew}
-use Rattle.tsdb_core.specs.Sweeps.{IsSwept}
-use Rattle.tsdb_core.specs.declared.commit.CoreFault.{CoreFault}
-use Rattle.tsdb_core.specs.declared.commit.CoreFault.TheVariants as core_fault
-use Rattle.tsdb_core.specs.declared.engine.Core.{Core}
+use Rattle.tsdb_serving.specs.TasksFiles.{new_file}
+use Rattle.tsdb_serving.specs.Finishing.{AreRunsOf}
+use Rattle.tsdb_serving.specs.InputRuns.{InputRuns}
+use Rattle.tsdb_serving.specs.Beginnings.{IsBeginAnswer}
+use Rattle.tsdb_serving.specs.Core.{files_of, next_of}
+use Rattle.tsdb_serving.specs.Replacements.{EndsFiles, TellsNew}
+use Rattle.tsdb_serving.specs.Sweeps.{IsSwept}
+use Rattle.tsdb_serving.specs.CoreFault.{CoreFault}
+use Rattle.tsdb_serving.specs.TheVariants as core_fault
+use Rattle.tsdb_serving.specs.CoreType.{Core}
 use Rattle.tsdb_compactions.specs.Outputs.{IsOutputOf}
 use Rattle.tsdb_compactions.specs.declared.job.Job.{Job}
-use Rattle.tsdb_tasks.specs.Files.{NewFile}
-use Rattle.tsdb_flush.specs.declared.job.Built.{Built}
+use Rattle.tsdb_serving.specs.TasksFiles.{NewFile}
+use Rattle.tsdb_compactions.specs.Built.{Built}
 use Rattle.tsdb_base.specs.Causes.{Rose}
 use Rattle.tsdb_outside.specs.Causes.{HasStoreCause}
 use Rattle.tsdb_outside.specs.Files.{NamedFile, Store, Tells}

@@ -7,24 +7,24 @@ use Rattle.std.proofs.lemmas.List.{drop-map, length-map, take-append-drop, take-
 use Rattle.tsdb_base.specs.declared.ids.FileNumber.{FileNumber}
 use Rattle.std.specs.Option.{option_map}
 use Rattle.std.specs.Prelude.{IfSome, nat_eq}
-use Rattle.tsdb_tasks.specs.Files.{NewFile}
-use Rattle.tsdb_tasks.proofs.InState.{file_changed}
-use Rattle.tsdb_tasks.specs.Inputs.{input_numbers}
-use Rattle.tsdb_tasks.specs.declared.finishing.InputRuns.{InputRuns}
+use Rattle.tsdb_serving.specs.TasksFiles.{NewFile}
+use Rattle.tsdb_serving.proofs.InState.{file_changed}
+use Rattle.tsdb_serving.specs.Inputs.{input_numbers}
+use Rattle.tsdb_serving.specs.InputRuns.{InputRuns}
 use Rattle.tsdb_compactions.specs.Jobs.{IsCompactionOf, IsFormed, input_files, plain_numbers}
 use Rattle.tsdb_compactions.specs.declared.job.Job.{Job}
-use Rattle.tsdb_core.specs.Beginnings.{IsBegun}
-use Rattle.tsdb_core.specs.Compactions.{IsJobOut}
-use Rattle.tsdb_core.specs.Core.{files_of}
-use Rattle.tsdb_core.specs.Replacements.{EndsJob}
-use Rattle.tsdb_core.specs.declared.engine.Core.{Core}
+use Rattle.tsdb_serving.specs.Beginnings.{IsBegun}
+use Rattle.tsdb_serving.specs.Compactions.{IsJobOut}
+use Rattle.tsdb_serving.specs.Core.{files_of}
+use Rattle.tsdb_serving.specs.Replacements.{EndsJob}
+use Rattle.tsdb_serving.specs.CoreType.{Core}
 use Rattle.tsdb_fileset.specs.Files.{KeptFiles, kept_file}
 use Rattle.tsdb_fileset.specs.Places.{AreUnread, KeptFile, file_at, place_at}
 use Rattle.tsdb_base.specs.Lists.{IsWithOne, count}
 use Rattle.tsdb_outside.specs.Files.{NamedFile, Store}
 use Rattle.tsdb_outside.specs.declared.disk.Disk as disk
 use Rattle.tsdb_outside.specs.declared.faults.Counted as counted
-use Rattle.tsdb_pin.specs.Changes.{fewer_rights, more_rights}
+use Rattle.tsdb_serving.specs.Changes.{fewer_rights, more_rights}
 use Rattle.tsdb_rewriting.specs.Rewriting.{IsRewriting}
 use Rattle.tsdb_base.specs.declared.ids.Space.{Space}
 use Rattle.tsdb_serving.specs.Flushing.{IsReady}

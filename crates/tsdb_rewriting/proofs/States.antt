@@ -4,12 +4,12 @@ use Rattle.std.proofs.Common.{ap, subst, ◌∙◌}
 use Rattle.std.specs.List.{AllByRecursion as Each, flat_map}
 use Rattle.tsdb_base.specs.declared.ids.Space.{Space}
 use Rattle.tsdb_base.specs.declared.ids.Space.TheVariants.{Sequence, Unsequence}
-use Rattle.tsdb_tasks.specs.Files.{NewFile, all_of, number_of, stored_of}
-use Rattle.tsdb_tasks.specs.States.{sent_files}
+use Rattle.tsdb_serving.specs.TasksFiles.{NewFile, all_of, number_of, stored_of}
+use Rattle.tsdb_serving.specs.States.{sent_files}
 use Rattle.tsdb_compactions.specs.declared.job.Job.{Job}
-use Rattle.tsdb_core.specs.Core.{IsSeen, logged_of}
-use Rattle.tsdb_core.specs.Replacements.{CommitsIn, IsJobAbandoned, IsOutputIn, IsSeenAfterEnd, with_new}
-use Rattle.tsdb_core.specs.declared.engine.Core.{Core}
+use Rattle.tsdb_serving.specs.Core.{IsSeen, logged_of}
+use Rattle.tsdb_serving.specs.Replacements.{CommitsIn, IsJobAbandoned, IsOutputIn, IsSeenAfterEnd, with_new}
+use Rattle.tsdb_serving.specs.CoreType.{Core}
 use Rattle.tsdb_frames.proofs.MomentLemmas.{weaker}
 use Rattle.tsdb_state.specs.Stored.{LeadsTo}
 use Rattle.tsdb_base.proofs.Lists.{each_from_among}
@@ -23,8 +23,8 @@ use Rattle.tsdb_outside.specs.Files.{NamedFile, StoredFile}
 use Rattle.tsdb_outside.specs.declared.disk.Disk as disk
 use Rattle.tsdb_outside.specs.declared.faults.Counted as counted
 use Rattle.tsdb_outside.specs.declared.faults.Failed.{Failed}
-use Rattle.tsdb_tasks.proofs.OutputsTold.{told_same, worlds_with}
-use Rattle.tsdb_tasks.specs.Outputs.{only_output}
+use Rattle.tsdb_serving.proofs.OutputsTold.{told_same, worlds_with}
+use Rattle.tsdb_serving.specs.Outputs.{only_output}
 use Rattle.tsdb_state.specs.Stores.{IsStateOf}
 use Rattle.tsdb_rewriting.specs.Rewriting.{IsServingRewrite}
 use Rattle.tsdb_serving.proofs.Differing.{Differ, stored_differ}

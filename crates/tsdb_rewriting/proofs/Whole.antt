@@ -2,13 +2,13 @@
 use Rattle.std.proofs.Common.{◌≡◌, ◌≢◌, ◌⊎◌, ℕ, ◌+◌, ◌<◌, Option, None, Result, Ok, Err, inl, inr, sym, ◌∙◌}
 use Rattle.std.specs.Prelude.{IfErr, OnOk}
 use Rattle.tsdb_base.specs.declared.ids.Space.{Space}
-use Rattle.tsdb_tasks.specs.declared.finishing.InputRuns.{InputRuns}
+use Rattle.tsdb_serving.specs.InputRuns.{InputRuns}
 use Rattle.tsdb_compactions.specs.declared.job.Job.{Job}
-use Rattle.tsdb_core.proofs.Beginnings.{Fit}
-use Rattle.tsdb_core.specs.Beginnings.{IsBegun}
-use Rattle.tsdb_core.specs.Core.{files_of}
-use Rattle.tsdb_core.specs.declared.commit.CoreFault.{CoreFault}
-use Rattle.tsdb_core.specs.declared.engine.Core.{Core}
+use Rattle.tsdb_serving.proofs.Beginnings.{Fit}
+use Rattle.tsdb_serving.specs.Beginnings.{IsBegun}
+use Rattle.tsdb_serving.specs.Core.{files_of}
+use Rattle.tsdb_serving.specs.CoreFault.{CoreFault}
+use Rattle.tsdb_serving.specs.CoreType.{Core}
 use Rattle.tsdb_fileset.specs.Files.{AreKept}
 use Rattle.tsdb_outside.specs.Files.{NamedFile}
 use Rattle.tsdb_outside.specs.declared.disk.Disk as disk

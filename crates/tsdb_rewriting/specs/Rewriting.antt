@@ -2,15 +2,15 @@
 use Rattle.std.specs.Prelude.{◌≡◌, ◌⊎◌, ℕ, ◌≤◌, List, [], ◌∷◌, IfSome, Option, true}
 use Rattle.tsdb_base.specs.declared.ids.Space.{Space}
 use Rattle.tsdb_base.specs.declared.ids.Space.TheVariants.{Sequence, Unsequence}
-use Rattle.tsdb_tasks.specs.Inputs.{input_numbers}
-use Rattle.tsdb_tasks.specs.Finishing.{AreRunsOf}
-use Rattle.tsdb_tasks.specs.declared.finishing.InputRuns.{InputRuns}
+use Rattle.tsdb_serving.specs.Inputs.{input_numbers}
+use Rattle.tsdb_serving.specs.Finishing.{AreRunsOf}
+use Rattle.tsdb_serving.specs.InputRuns.{InputRuns}
 use Rattle.tsdb_compactions.specs.Jobs.{IsCompactionOf}
 use Rattle.tsdb_compactions.specs.Outputs.{TellsInputs}
 use Rattle.tsdb_compactions.specs.declared.job.Job.{Job}
-use Rattle.tsdb_core.specs.Compactions.{IsJobKept}
-use Rattle.tsdb_core.specs.Core.{IsSeen, KeepsJobs, files_of, limit_of, next_of}
-use Rattle.tsdb_core.specs.declared.engine.Core.{Core}
+use Rattle.tsdb_serving.specs.Compactions.{IsJobKept}
+use Rattle.tsdb_serving.specs.Core.{IsSeen, KeepsJobs, files_of, limit_of, next_of}
+use Rattle.tsdb_serving.specs.CoreType.{Core}
 use Rattle.tsdb_state.specs.Stored.{LeadsTo}
 use Rattle.tsdb_fileset.specs.Files.{KeptFiles, kept_file}
 use Rattle.tsdb_fileset.specs.Places.{AreOfStore}

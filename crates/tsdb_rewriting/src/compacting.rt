@@ -3,13 +3,13 @@ ghost use Rattle.std.specs.List.{AllByRecursion as Each};
 ghost use Rattle.std.specs.Option.{option_map};
 ghost use Rattle.std.specs.Prelude.{◌≡◌, ◌≢◌, ◌⊎◌, ◌≤◌, ◌<◌, ◌+◌, ℕ, IfErr, IfOk, IfSome, OnOk};
 ghost use Rattle.tsdb_base.specs.declared.ids.Space.TheVariants.{Sequence as SequenceSpace};
-ghost use Rattle.tsdb_tasks.specs.Files.{new_file};
+ghost use Rattle.tsdb_serving.specs.TasksFiles.{new_file};
 ghost use Rattle.tsdb_compactions.specs.Jobs.{IsFormed};
 ghost use Rattle.tsdb_compactions.specs.Outputs.{IsOutputOf, TellsTruth};
-ghost use Rattle.tsdb_core.specs.Beginnings.{IsCrossRuns, IsInnerRuns};
-ghost use Rattle.tsdb_core.specs.Compactions.{IsJobOut};
-ghost use Rattle.tsdb_core.specs.Core.{files_of, next_of};
-ghost use Rattle.tsdb_core.specs.Replacements.{IsJobCommit};
+ghost use Rattle.tsdb_serving.specs.Beginnings.{IsCrossRuns, IsInnerRuns};
+ghost use Rattle.tsdb_serving.specs.Compactions.{IsJobOut};
+ghost use Rattle.tsdb_serving.specs.Core.{files_of, next_of};
+ghost use Rattle.tsdb_serving.specs.Replacements.{IsJobCommit};
 ghost use Rattle.tsdb_inner.specs.Inputs.{IsInputOf};
 ghost use Rattle.tsdb_fileset.specs.Files.{AreKept};
 ghost use Rattle.tsdb_base.specs.Causes.{Rose};
@@ -23,12 +23,10 @@ ghost use Rattle.tsdb_state.specs.State.{Told};
 
 use std::alloc::Global;
 use tsdb_base::Space;
-use tsdb_compactions::Job;
-use tsdb_core::Core;
-use tsdb_flush::Built;
+use tsdb_compactions::{Built, Job};
 use tsdb_inner::{run_cross, run_inner};
 use tsdb_outside::{Failed, Files, Journal, Port, StoreFault};
-use tsdb_serving::FlushFault;
+use tsdb_serving::{Core, FlushFault};
 
 /// Replaces the files of the inner plan of a list by one, where there is a plan, and removes files on their way out.
 ///

@@ -4,8 +4,8 @@ use Rattle.std.proofs.Common.{Result, Ok, Err, zero, suc, ap, refl, subst, sym, 
 use Rattle.std.specs.Prelude.{◌-◌, ◌^◌, min, slice_get, IfOk}
 use Rattle.std.specs.List.{AllByRecursion as Each}
 use Rattle.std.specs.Option.{IsSomeAnd}
-use Rattle.tsdb_core.specs.Core.{next_of}
-use Rattle.tsdb_core.specs.declared.engine.Core.{Core}
+use Rattle.tsdb_recover.specs.Core.{next_of}
+use Rattle.tsdb_recover.specs.CoreType.{Core}
 use Rattle.tsdb_frames.proofs.MomentLemmas.{leaves_on, weaker}
 use Rattle.std.proofs.lemmas.Option.{same_Some}
 use Rattle.tsdb_history.proofs.Prefixes.{after_wider, no_prefix, stands_after, whole_prefix}
@@ -37,7 +37,7 @@ use Rattle.tsdb_run.proofs.Whole.{sound_after, sound_left}
 use Rattle.tsdb_run.specs.Steps.{IsNewerThan, IsRunOn}
 use Rattle.tsdb_run.specs.Store.{IsSoundOrSilent, StandsFor, contents}
 use Rattle.tsdb_script.specs.declared.numbered.Numbered.{Numbered}
-use Rattle.tsdb_serving.specs.Serving.{IsDrawn, disk_under, slot_under}
+use Rattle.tsdb_recover.specs.Serving.{IsDrawn, disk_under, slot_under}
 
 -- a call that writes nothing leaves what the disk might leave
 keeps_leaves : (old new : DiskState) (P : Image → Type 0) → IsLawful old → IsLawful new → Keeps old new

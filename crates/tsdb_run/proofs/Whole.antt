@@ -2,8 +2,8 @@
 use Rattle.std.proofs.Common.{◌≡◌, ◌∙◌, ℕ, List, [], ◌++◌, Option, None, Some, refl, subst, sym}
 use Rattle.std.specs.Prelude.{IfSome, IsSome}
 use Rattle.std.proofs.lemmas.Bool.{false≢true}
-use Rattle.tsdb_core.specs.Core.{next_of}
-use Rattle.tsdb_core.specs.declared.engine.Core.{Core}
+use Rattle.tsdb_recover.specs.Core.{next_of}
+use Rattle.tsdb_recover.specs.CoreType.{Core}
 use Rattle.tsdb_state.specs.Stored.{kept_bytes}
 use Rattle.tsdb_outside.specs.declared.disk.Disk as disk
 use Rattle.tsdb_outside.specs.declared.faults.Counted as counted

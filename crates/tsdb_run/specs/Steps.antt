@@ -3,8 +3,8 @@ use Rattle.std.specs.Prelude.{◌≡◌, ◌==◌, ℕ, ◌+◌, ◌*◌, ◌<�
 use Rattle.std.specs.Prelude.{IfSome}
 use Rattle.std.specs.List.{AllByRecursion as Each, list_any}
 use Rattle.std.specs.Io.KnownBytes.{Appends}
-use Rattle.tsdb_core.specs.Core.{next_of}
-use Rattle.tsdb_core.specs.declared.engine.Core.{Core}
+use Rattle.tsdb_recover.specs.Core.{next_of}
+use Rattle.tsdb_recover.specs.CoreType.{Core}
 use Rattle.tsdb_history.specs.History.{IsHistory, IsInLineOrder}
 use Rattle.tsdb_history.specs.Reach.{AreFullWithin, max_drawn}
 use Rattle.tsdb_history.specs.declared.told.Told.{Told}
@@ -30,7 +30,7 @@ use Rattle.tsdb_script.specs.Reading.{IsFirstBad, IsScript}
 use Rattle.tsdb_script.specs.declared.fault.ScriptFault.{ScriptFault}
 use Rattle.tsdb_script.specs.declared.fault.ScriptFault.TheVariants as script_fault
 use Rattle.tsdb_script.specs.declared.numbered.Numbered.{Numbered}
-use Rattle.tsdb_serving.specs.Serving.{IsServing, disk_under}
+use Rattle.tsdb_recover.specs.Serving.{IsServing, disk_under}
 
 -- the run of these words and this source, with what it left
 abbrev pub run_of : List (List ℕ) → Option (List ℕ) → Contents → Contents → Type 0 → Option (List ℕ) → List Told

@@ -1,7 +1,7 @@
 //! What a run reads before it touches the store: its words, and the script from its source. Depends on `status`.
 ghost use Rattle.std.specs.Prelude.{◌≡◌, IfErr, IfOk, Err, OnOk};
 ghost use Rattle.std.specs.Result.{IsErrOf};
-ghost use Rattle.tsdb_core.specs.Limits.{IsPairLimit};
+ghost use Rattle.tsdb_recover.specs.Limits.{IsPairLimit};
 ghost use Rattle.tsdb_outside.specs.Causes.{HasStoreCause};
 ghost use Rattle.tsdb_run.specs.Causes.{TellsFaults};
 ghost use Rattle.tsdb_run.specs.Input.{TakesPrefix, TakesScript};

@@ -1,6 +1,6 @@
 //! The top call of the engine: it takes the words of the command line and a script, executes the script's commands in
-//! the order of its lines on a store, and writes the replies. Depends on tsdb_base, tsdb_outside, tsdb_words,
-//! tsdb_script, tsdb_recover, tsdb_history, tsdb_core and tsdb_print.
+//! the order of its lines on a store, and writes the replies. Depends on tsdb_base, tsdb_model, tsdb_outside,
+//! tsdb_frames, tsdb_state, tsdb_memory, tsdb_redo, tsdb_recover, tsdb_words, tsdb_script, tsdb_history and tsdb_print.
 #![tactic(auto)]
 
 mod input;

@@ -1,7 +1,7 @@
 //! Executes the commands of a script on a store. Depends on tsdb_recover, tsdb_history and tsdb_core.
 ghost use Rattle.std.specs.Prelude.{◌≡◌, ℕ, ◌+◌, ◌-◌, ◌^◌, ◌<◌, ◌≤◌, min, Some, IfErr, IfOk, IsErrAnd, OnOk};
 ghost use Rattle.std.specs.Prelude.{count_by, length};
-ghost use Rattle.tsdb_core.specs.Limits.{IsPairLimit};
+ghost use Rattle.tsdb_recover.specs.Limits.{IsPairLimit};
 ghost use Rattle.tsdb_history.specs.History.{CanExecute, is_device};
 ghost use Rattle.tsdb_history.specs.Rooms.{IsRoomFor};
 ghost use Rattle.tsdb_base.specs.Causes.{Rose};
@@ -10,16 +10,15 @@ ghost use Rattle.tsdb_recover.specs.declared.fault.Part as store_part;
 ghost use Rattle.tsdb_run.specs.Causes.{ReportsDamage, TellsDevice};
 ghost use Rattle.tsdb_run.specs.Steps.{IsRefused, IsRunOn, IsServedFrom, opening_status};
 ghost use Rattle.tsdb_run.specs.Store.{HasDamage, IsSoundOrSilent, contents};
-ghost use Rattle.tsdb_serving.specs.Flushing.{IsReady, faults_under};
-ghost use Rattle.tsdb_serving.specs.Serving.{IsSure, slot_under};
+ghost use Rattle.tsdb_recover.specs.Flushing.{IsReady, faults_under};
+ghost use Rattle.tsdb_recover.specs.Serving.{IsSure, slot_under};
 
 use crate::status::Status;
 use std::alloc::Global;
 use tsdb_base::List;
-use tsdb_core::{Core, Options};
 use tsdb_history::{Room, Told, close, execute};
 use tsdb_outside::{Files, Journal, Place, StoreFault};
-use tsdb_recover::{OpenFault, OpenRefused, a_recovered_core_serves, recover};
+use tsdb_recover::{Core, OpenFault, OpenRefused, Options, a_recovered_core_serves, recover};
 use tsdb_script::Numbered;
 use tsdb_words::Asked;
 

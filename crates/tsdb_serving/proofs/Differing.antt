@@ -1,7 +1,7 @@
 -- Files that are put have different numbers: those of one job, and those of calls one behind another.
 use Rattle.std.proofs.Common.{◌≢◌, ℕ, List, [], ◌∷◌, ◌++◌, map, Option, None, Some, arith}
 use Rattle.std.specs.List.{AllByRecursion as Each, flat_map}
-use Rattle.tsdb_tasks.specs.Files.{NewFile, number_of, stored_of}
+use Rattle.tsdb_core.specs.Files.{NewFile, number_of, stored_of}
 use Rattle.tsdb_core.specs.declared.engine.Core.{Core}
 use Rattle.tsdb_base.proofs.Lists.{each_append, each_weaker}
 use Rattle.tsdb_base.specs.Lists.{EachPair, if_some}

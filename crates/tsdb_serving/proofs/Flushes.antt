@@ -7,7 +7,7 @@ use Rattle.std.specs.Option.{IsSomeAnd, option_map}
 use Rattle.std.specs.Prelude.{None, OnOk, Some, slice_get}
 use Rattle.tsdb_base.specs.declared.ids.Stamp.{Stamp}
 use Rattle.tsdb_base.specs.declared.answers.Answer.{Answer}
-use Rattle.tsdb_tasks.specs.Files.{AreOfJob, NewFile, NewFiles, TellBytes, all_of}
+use Rattle.tsdb_core.specs.Files.{AreOfJob, NewFile, NewFiles, TellBytes, all_of}
 use Rattle.tsdb_core.specs.Commands.{IsCoreCommand}
 use Rattle.tsdb_core.specs.Core.{logged_of, next_of, working_of}
 use Rattle.tsdb_core.specs.Ending.{drawn_for}
@@ -19,9 +19,9 @@ use Rattle.tsdb_core.specs.declared.commit.Commit.TheVariants.{Gone}
 use Rattle.tsdb_core.specs.declared.engine.Core.{Core}
 use Rattle.tsdb_frames.specs.Frames.{disk_of, faults_of, slot_of}
 use Rattle.tsdb_frames.specs.declared.frames.Frames.{Frames}
-use Rattle.tsdb_flush.specs.declared.job.FlushJob.{FlushJob}
-use Rattle.tsdb_fileset.specs.Files.{KeptFiles}
-use Rattle.tsdb_fileset.specs.Places.{AreOfStore, AreUnread}
+use Rattle.tsdb_core.specs.FlushJob.{FlushJob}
+use Rattle.tsdb_core.specs.FilesetFiles.{KeptFiles}
+use Rattle.tsdb_core.specs.Places.{AreOfStore, AreUnread}
 use Rattle.tsdb_base.proofs.Lists.{each_weaker}
 use Rattle.tsdb_base.specs.Lists.{Among}
 use Rattle.tsdb_log.specs.declared.record.LogRecord.TheVariants.{Freeze}

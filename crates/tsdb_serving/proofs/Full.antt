@@ -6,7 +6,7 @@ use Rattle.tsdb_base.specs.declared.ids.FileNumber.{FileNumber}
 use Rattle.tsdb_core.specs.Core.{logged_of, next_of}
 use Rattle.tsdb_core.specs.Ending.{drawn_for, numbers_if}
 use Rattle.tsdb_core.specs.declared.engine.Core.{Core}
-use Rattle.tsdb_flush.specs.declared.job.FlushJob.{FlushJob}
+use Rattle.tsdb_core.specs.FlushJob.{FlushJob}
 use Rattle.tsdb_memory.specs.Logged.{memory_of}
 use Rattle.tsdb_model.specs.declared.reply.Reply.{Reply}
 use Rattle.tsdb_model.specs.declared.reply.Reply.TheVariants.{Plain}

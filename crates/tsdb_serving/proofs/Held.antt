@@ -1,7 +1,7 @@
 -- Files that are held wherever others are, and what a stop leaves with more of them.
 use Rattle.std.proofs.Common.{◌≡◌, ◌⊎◌, ℕ, List, ◌++◌, Option, None, Some, inl, inr, subst}
 use Rattle.std.specs.List.{flat_map}
-use Rattle.tsdb_tasks.specs.Files.{NewFiles, all_of, kept_with, numbers_of, stored_of}
+use Rattle.tsdb_core.specs.Files.{NewFiles, all_of, kept_with, numbers_of, stored_of}
 use Rattle.tsdb_state.proofs.ImageLemmas.Kept.{each_passed}
 use Rattle.tsdb_state.specs.Stored.{LeavesOneOf, without_numbers}
 use Rattle.tsdb_base.proofs.Lists.{each_append, each_left, each_right}

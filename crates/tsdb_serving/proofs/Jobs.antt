@@ -6,9 +6,9 @@ use Rattle.std.specs.Option.{option_map}
 use Rattle.std.specs.Prelude.{IfSome, IsSome, is_some}
 use Rattle.tsdb_base.specs.declared.ids.FileNumber.{FileNumber}
 use Rattle.tsdb_base.specs.declared.ids.Space.TheVariants.{Sequence, Unsequence}
-use Rattle.tsdb_tasks.proofs.Coming.{of_each}
-use Rattle.tsdb_tasks.specs.Files.{AreOfJob, IsOfPart, NewFile, NewFiles, TellBytes, all_of, new_file, new_files}
-use Rattle.tsdb_tasks.specs.Files.{number_of, stored_of}
+use Rattle.tsdb_core.proofs.Coming.{of_each}
+use Rattle.tsdb_core.specs.Files.{AreOfJob, IsOfPart, NewFile, NewFiles, TellBytes, all_of, new_file, new_files}
+use Rattle.tsdb_core.specs.Files.{number_of, stored_of}
 use Rattle.tsdb_core.specs.Commands.{KeepsFiles}
 use Rattle.tsdb_core.specs.Core.{files_of, next_of}
 use Rattle.tsdb_core.specs.Ending.{drawn_for, numbers_if}
@@ -16,15 +16,15 @@ use Rattle.tsdb_core.specs.Flushes.{EndsFlush, IsNotTaken, IsOut, IsTaken, Takes
 use Rattle.tsdb_core.specs.Sweeps.{IsSwept}
 use Rattle.tsdb_core.specs.declared.commit.Commit.{Commit}
 use Rattle.tsdb_core.specs.declared.engine.Core.{Core}
-use Rattle.tsdb_flush.specs.Built.{IsDone}
-use Rattle.tsdb_flush.specs.Jobs.{job_part}
-use Rattle.tsdb_flush.specs.Parts.{Filled}
-use Rattle.tsdb_flush.specs.declared.job.Built.{Built}
-use Rattle.tsdb_flush.specs.declared.job.FlushJob.{FlushJob}
-use Rattle.tsdb_flush.specs.declared.job.Flushed.{Flushed}
-use Rattle.tsdb_fileset.proofs.Taken.{still_all}
-use Rattle.tsdb_fileset.specs.Files.{KeptFiles}
-use Rattle.tsdb_fileset.specs.Places.{AllFiles, AreOfStore, AreUnread, KeptFile, OnlyMakesPlaces, Places}
+use Rattle.tsdb_core.specs.Built.{IsDone}
+use Rattle.tsdb_core.specs.Jobs.{job_part}
+use Rattle.tsdb_core.specs.Parts.{Filled}
+use Rattle.tsdb_core.specs.BuiltType.{Built}
+use Rattle.tsdb_core.specs.FlushJob.{FlushJob}
+use Rattle.tsdb_core.specs.Flushed.{Flushed}
+use Rattle.tsdb_core.proofs.Taken.{still_all}
+use Rattle.tsdb_core.specs.FilesetFiles.{KeptFiles}
+use Rattle.tsdb_core.specs.Places.{AllFiles, AreOfStore, AreUnread, KeptFile, OnlyMakesPlaces, Places}
 use Rattle.tsdb_base.proofs.Lists.{among_left, among_right, each_append}
 use Rattle.tsdb_base.specs.Lists.{Among, IsWithOne, if_some}
 use Rattle.tsdb_outside.specs.Files.{NamedFile, Store, StoredFile, Tells}

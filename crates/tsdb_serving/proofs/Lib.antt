@@ -11,3 +11,10 @@ pub mod Shown
 pub mod Slots
 pub mod Steps
 pub mod Full
+pub use Rattle.tsdb_core.proofs.Jobs as CoreJobs
+pub use Rattle.tsdb_core.proofs.Beginnings
+pub use Rattle.tsdb_core.proofs.Finished
+pub use Rattle.tsdb_core.proofs.Given
+pub use Rattle.tsdb_core.proofs.InRuns
+pub use Rattle.tsdb_core.proofs.InState
+pub use Rattle.tsdb_core.proofs.OutputsTold

@@ -6,9 +6,9 @@ use Rattle.std.specs.Prelude.{IfSome}
 use Rattle.tsdb_memory.proofs.Following.{froze_stands}
 use Rattle.tsdb_base.specs.declared.answers.Answer.{Answer}
 use Rattle.tsdb_base.specs.declared.answers.Answer.TheVariants as answer
-use Rattle.tsdb_tasks.proofs.Stored.{numbers_differ, one_at_most, told_same, worlds_with}
-use Rattle.tsdb_tasks.specs.Files.{AreOfJob, IsOutAs, NewFiles, TellBytes, all_of, state_files}
-use Rattle.tsdb_tasks.specs.Files.{stored_of, told_with, with_files}
+use Rattle.tsdb_core.proofs.Stored.{numbers_differ, one_at_most, told_same, worlds_with}
+use Rattle.tsdb_core.specs.Files.{AreOfJob, IsOutAs, NewFiles, TellBytes, all_of, state_files}
+use Rattle.tsdb_core.specs.Files.{stored_of, told_with, with_files}
 use Rattle.tsdb_core.specs.Commands.{IsCoreCommand, IsSeenAfter}
 use Rattle.tsdb_core.specs.Core.{IsSeen, files_of, logged_of}
 use Rattle.tsdb_core.specs.Flushes.{IsAbandoned, IsCommit, IsCommitAnswer, IsOldest, IsSeenAfterCommit}
@@ -19,11 +19,11 @@ use Rattle.tsdb_core.specs.declared.commit.Commit.{Commit}
 use Rattle.tsdb_core.specs.declared.commit.Commit.TheVariants.{Device, Done, Gone}
 use Rattle.tsdb_core.specs.declared.engine.Core.{Core}
 use Rattle.tsdb_frames.proofs.MomentLemmas.{weaker}
-use Rattle.tsdb_fileset.specs.Held.{may_go}
+use Rattle.tsdb_core.specs.Held.{may_go}
 use Rattle.tsdb_state.proofs.ImageLemmas.After.{listed_after}
 use Rattle.tsdb_state.specs.Stored.{LeadsTo, built_files}
-use Rattle.tsdb_flush.specs.declared.job.FlushJob.{FlushJob}
-use Rattle.tsdb_fileset.specs.Sweeps.{tried_numbers}
+use Rattle.tsdb_core.specs.FlushJob.{FlushJob}
+use Rattle.tsdb_core.specs.FilesetSweeps.{tried_numbers}
 use Rattle.tsdb_base.proofs.Lists.{each_among, each_from_among, each_left, each_right}
 use Rattle.tsdb_base.specs.Lists.{Among}
 use Rattle.tsdb_log.specs.declared.record.LogRecord.{LogRecord}

@@ -17,7 +17,7 @@ use Rattle.tsdb_state.specs.Layers.{Layer, survivor, value_in}
 use Rattle.tsdb_base.specs.Lists.{count}
 use Rattle.tsdb_state.specs.Marks.{survives}
 use Rattle.tsdb_state.specs.Places.{Content, Place}
-use Rattle.tsdb_fileset.specs.Listings.{TellsFile}
+use Rattle.tsdb_core.specs.FilesetListings.{TellsFile}
 use Rattle.tsdb_model.specs.Commands.{AreDifferent}
 use Rattle.tsdb_model.specs.State as plain
 use Rattle.tsdb_model.specs.State.{IsFileLine, IsPossible, ListsNothing}

@@ -1,8 +1,8 @@
 -- The files of a job, in the store of a port.
 use Rattle.std.specs.Prelude.{◌≡◌, ℕ}
-use Rattle.tsdb_tasks.specs.Files as committing
-use Rattle.tsdb_flush.specs.declared.job.FlushJob.{FlushJob}
-use Rattle.tsdb_flush.specs.declared.job.Flushed.{Flushed}
+use Rattle.tsdb_core.specs.Files as committing
+use Rattle.tsdb_core.specs.FlushJob.{FlushJob}
+use Rattle.tsdb_core.specs.Flushed.{Flushed}
 use Rattle.tsdb_outside.specs.Files.{NamedFile, Store}
 
 module _ {F S R P : Type 0} (file : S → NamedFile) (rights : S → ℕ) (store : Store) where

@@ -1,14 +1,14 @@
 -- What the parts of a flush ask for and leave.
 use Rattle.std.specs.Prelude.{◌≡◌, ◌≤◌, ℕ, List, [], ◌∷◌, Option, true}
-use Rattle.tsdb_tasks.specs.Files.{IsOutAs}
+use Rattle.tsdb_core.specs.Files.{IsOutAs}
 use Rattle.tsdb_core.specs.Core.{IsSeen, KeepsJobs, files_of, limit_of, logged_of, next_of}
 use Rattle.tsdb_core.specs.Ending.{drawn_for}
 use Rattle.tsdb_core.specs.Flushes.{HasNumbersOf}
 use Rattle.tsdb_core.specs.declared.engine.Core.{Core}
 use Rattle.tsdb_frames.specs.Frames.{faults_of}
 use Rattle.tsdb_state.specs.Stored.{LeadsTo}
-use Rattle.tsdb_flush.specs.declared.job.FlushJob.{FlushJob}
-use Rattle.tsdb_fileset.specs.Places.{AreOfStore, AreUnread}
+use Rattle.tsdb_core.specs.FlushJob.{FlushJob}
+use Rattle.tsdb_core.specs.Places.{AreOfStore, AreUnread}
 use Rattle.tsdb_base.specs.Lists.{Among}
 use Rattle.tsdb_memory.specs.Logged.{Outside, log_of, memory_of}
 use Rattle.tsdb_model.specs.State as plain

@@ -4,7 +4,7 @@ ghost use Rattle.std.specs.Prelude.{length, slice_get};
 ghost use Rattle.std.specs.Option.{option_map};
 ghost use Rattle.tsdb_core.specs.Core.{logged_of, next_of, working_of};
 ghost use Rattle.tsdb_core.specs.Flushes.{IsDue, IsOldest};
-ghost use Rattle.tsdb_flush.specs.Jobs.{IsJob};
+ghost use Rattle.tsdb_core.specs.Jobs.{IsJob};
 ghost use Rattle.tsdb_memory.specs.Logged.{memory_of};
 ghost use Rattle.tsdb_outside.specs.Files.{Store};
 ghost use Rattle.tsdb_base.specs.Causes.{Rose};
@@ -18,8 +18,7 @@ ghost use Rattle.tsdb_base.specs.Limits.{max_frozen};
 use crate::fault::FlushFault;
 use std::alloc::Global;
 use tsdb_base::{Answer, Space, Stamp, limits};
-use tsdb_core::{Commit, Core};
-use tsdb_flush::{FlushJob, FlushRefused, Flushed, run_flush};
+use tsdb_core::{Commit, Core, FlushJob, FlushRefused, Flushed, run_flush};
 use tsdb_outside::{Files, Journal, Port};
 
 /// How many pairs can be frozen.

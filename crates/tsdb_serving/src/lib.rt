@@ -1,5 +1,5 @@
 //! Serving commands on one thread, from a core and the port of its files. Depends on tsdb_base, tsdb_path, tsdb_model,
-//! tsdb_outside, tsdb_flush, tsdb_tasks and tsdb_core.
+//! tsdb_outside, tsdb_frames, tsdb_log, tsdb_marks, tsdb_state, tsdb_memory and tsdb_core.
 //!
 //! A command is one step of the plain map, whatever the core does for it. `IsAnswered` says which worlds a core stands for
 //! before and after it, and what a stop leaves meanwhile.
@@ -14,3 +14,4 @@ pub use changes::{create, delete, insert};
 pub use fault::FlushFault;
 pub use flushing::flush;
 pub use showing::show;
+pub use tsdb_core::{Core, Options};

@@ -18,3 +18,6 @@ pub mod Replays
 pub mod Damage
 pub mod Stores
 pub mod Stored
+pub use Rattle.tsdb_pages.specs.File
+pub use Rattle.tsdb_pages.specs.Trees
+pub use Rattle.tsdb_pages.specs.declared.tree.Tree

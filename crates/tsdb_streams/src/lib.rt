@@ -1,5 +1,6 @@
 //! One series as a stream of points over files and parts in memory. Depends on tsdb_base, tsdb_path, tsdb_model,
-//! tsdb_index, tsdb_pages, tsfile_reader, tsdb_marks, tsdb_state, tsdb_merge, tsdb_aggregate and tsdb_outside.
+//! tsdb_outside, tsdb_stats, tsdb_index, tsdb_pages, tsfile_reader, tsdb_marks, tsdb_merge, tsdb_aggregate and
+//! tsdb_state.
 //!
 //! One series as a stream of points over files and points in memory, read page by page.
 //!

@@ -6,16 +6,16 @@ use Rattle.std.specs.Prelude.{IfSome, IsSome}
 use Rattle.std.proofs.lemmas.Bool.{false≢true}
 use Rattle.tsdb_base.specs.declared.ids.FileNumber.{FileNumber}
 use Rattle.tsdb_base.specs.declared.ids.Space.{Space}
-use Rattle.tsdb_flush.proofs.Contents.{tree_of_part}
-use Rattle.tsdb_flush.proofs.Entries.{described}
-use Rattle.tsdb_flush.proofs.Memory.{content_of_part}
-use Rattle.tsdb_flush.specs.BuiltParts.{IsContentOfPart, IsJobOf, IsPart}
+use Rattle.tsdb_compactions.proofs.FlushContents.{tree_of_part}
+use Rattle.tsdb_compactions.proofs.Entries.{described}
+use Rattle.tsdb_compactions.proofs.Memory.{content_of_part}
+use Rattle.tsdb_compactions.specs.BuiltParts.{IsContentOfPart, IsJobOf, IsPart}
 use Rattle.tsdb_tasks.proofs.Parts.{is_part}
 use Rattle.tsdb_tasks.specs.Files.{IsOfPart, NewFile, known_entry, number_of}
 use Rattle.tsdb_fileset.specs.Held.{entry_of}
-use Rattle.tsdb_flush.specs.Jobs.{IsJob, job_part}
-use Rattle.tsdb_flush.specs.Parts.{Filled, IsDrawnFor}
-use Rattle.tsdb_flush.specs.declared.job.FlushJob.{FlushJob}
+use Rattle.tsdb_compactions.specs.FlushJobs.{IsJob, job_part}
+use Rattle.tsdb_compactions.specs.Parts.{Filled, IsDrawnFor}
+use Rattle.tsdb_compactions.specs.FlushJob.{FlushJob}
 use Rattle.tsdb_state.specs.Places.{Content}
 use Rattle.tsdb_model.specs.declared.command.Schema.{Schema}
 use Rattle.tsdb_memory.specs.Shown.{IsContentOf as IsShownAs}

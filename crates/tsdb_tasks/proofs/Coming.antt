@@ -16,7 +16,7 @@ use Rattle.tsdb_tasks.specs.Files.{AreAllThere, AreOfJob, IsOutAs, NewFile, NewF
 use Rattle.tsdb_tasks.specs.Files.{known_entry, known_with, number_of, numbers_of, state_files, told_with}
 use Rattle.tsdb_fileset.specs.Held.{AreFilesOf, TellTheirBytes, entry_of, leaving, listed}
 use Rattle.tsdb_state.specs.Stored.{kept_bytes}
-use Rattle.tsdb_flush.specs.declared.job.FlushJob.{FlushJob}
+use Rattle.tsdb_compactions.specs.FlushJob.{FlushJob}
 use Rattle.tsdb_fileset.proofs.Counts.{counted}
 use Rattle.tsdb_fileset.specs.Files.{KeptFiles, kept_file}
 use Rattle.tsdb_fileset.specs.Places.{AreOfStore, KeptFile, file_at, place_at}

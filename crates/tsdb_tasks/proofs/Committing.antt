@@ -18,7 +18,7 @@ use Rattle.tsdb_tasks.specs.Files.{kept_with, known_with, number_of, state_files
 use Rattle.tsdb_fileset.specs.Held.{listed}
 use Rattle.tsdb_state.proofs.ImageLemmas.Storing.{end_flush_stored}
 use Rattle.tsdb_state.specs.Stored.{IsKeptWhole, built_files}
-use Rattle.tsdb_flush.specs.declared.job.FlushJob.{FlushJob}
+use Rattle.tsdb_compactions.specs.FlushJob.{FlushJob}
 use Rattle.tsdb_fileset.proofs.Counts.{counted}
 use Rattle.tsdb_base.proofs.Lists.{among_left, among_right, any_among, count_append, each_among, each_append}
 use Rattle.tsdb_base.proofs.Lists.{each_left}

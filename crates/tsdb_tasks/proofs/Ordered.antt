@@ -13,7 +13,7 @@ use Rattle.std.proofs.lemmas.List.Kept.{Any-dedup, Contains-from_dedup, IsStrict
 use Rattle.std.proofs.lemmas.List.Sorted.{Contains-permutation, IsPermutation-sym}
 use Rattle.tsdb_tasks.specs.Series.{AreInTreeOrder, AreOfPaths, HavePaths, IsNamed, joined_names, names_in, path_in}
 use Rattle.tsdb_tasks.specs.declared.series.InputSeries.{InputSeries}
-use Rattle.tsdb_flush.proofs.Members.{among, among_at, contained}
+use Rattle.tsdb_compactions.proofs.Members.{among, among_at, contained}
 use Rattle.tsdb_index.specs.Entries.{AreNamesBefore}
 use Rattle.tsdb_base.proofs.Lists.{among_map, each_among, each_from_among}
 use Rattle.tsdb_state.proofs.LayerLemmas.Places.{paths_same}

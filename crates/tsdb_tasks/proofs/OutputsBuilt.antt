@@ -6,7 +6,7 @@ use Rattle.tsdb_compactions.proofs.Outputs.{has_output, same_winner}
 use Rattle.tsdb_compactions.specs.Jobs.{IsCompactionOf}
 use Rattle.tsdb_compactions.specs.Outputs.{IsBuiltFor, TellsInputs}
 use Rattle.tsdb_compactions.specs.declared.job.Job.{Job}
-use Rattle.tsdb_flush.specs.declared.job.Built.{Built}
+use Rattle.tsdb_compactions.specs.Built.{Built}
 use Rattle.tsdb_state.specs.Places.{Content}
 use Rattle.tsdb_outside.specs.Files.{NamedFile}
 use Rattle.tsdb_tasks.specs.Outputs.{IsNewOutput}

@@ -4,10 +4,10 @@ use Rattle.std.specs.List.{AllByRecursion as Each}
 use Rattle.tsdb_base.specs.declared.ids.SeriesId.{SeriesId}
 use Rattle.tsdb_base.specs.declared.ids.Space.{Space}
 use Rattle.tsdb_base.specs.declared.point.Point.{Point}
-use Rattle.tsdb_flush.specs.BuiltParts.{IsPart, IsSeries}
+use Rattle.tsdb_compactions.specs.BuiltParts.{IsPart, IsSeries}
 use Rattle.tsdb_index.proofs.Found.{not_itself}
 use Rattle.tsdb_index.specs.Entries.{AreNamesBefore}
-use Rattle.tsdb_flush.specs.Parts.{Filled, if_any, names_of, part_of}
+use Rattle.tsdb_compactions.specs.Parts.{Filled, if_any, names_of, part_of}
 use Rattle.tsdb_base.proofs.Lists.{each_among, each_append, each_from_among, each_weaker}
 use Rattle.tsdb_base.specs.Lists.{Among, EachPair}
 use Rattle.tsdb_model.specs.Commands.{IsSchema}

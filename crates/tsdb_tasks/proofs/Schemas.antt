@@ -9,9 +9,9 @@ use Rattle.tsdb_tasks.proofs.Ordered.{text_same}
 use Rattle.tsdb_tasks.specs.Series.{AreInTreeOrder, AreOfJob, HavePaths, IsNamed, names_in, path_in, schemas_at}
 use Rattle.tsdb_tasks.specs.declared.series.InputSeries.{InputSeries}
 use Rattle.tsdb_tasks.specs.declared.series.JobSeries.{JobSeries}
-use Rattle.tsdb_flush.specs.TakingSteps.{HasNumbers}
+use Rattle.tsdb_compactions.specs.TakingSteps.{HasNumbers}
 use Rattle.tsdb_index.specs.Entries.{AreNamesBefore}
-use Rattle.tsdb_flush.specs.Parts.{names_of}
+use Rattle.tsdb_compactions.specs.Parts.{names_of}
 use Rattle.tsdb_base.proofs.Lists.{among_left, among_map, among_right, any_among, each_among, each_from_among}
 use Rattle.tsdb_state.proofs.LayerLemmas.Places.{path_itself}
 use Rattle.tsdb_base.specs.Lists.{Among, EachPair, if_some}

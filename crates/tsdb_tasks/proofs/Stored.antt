@@ -19,8 +19,8 @@ use Rattle.tsdb_tasks.specs.Files.{with_files}
 use Rattle.tsdb_fileset.specs.Held.{listed}
 use Rattle.tsdb_state.proofs.ImageLemmas.Kept.{whole_as}
 use Rattle.tsdb_state.specs.Stored.{IsKeptWhole, kept_bytes}
-use Rattle.tsdb_flush.specs.Jobs.{job_part}
-use Rattle.tsdb_flush.specs.declared.job.FlushJob.{FlushJob}
+use Rattle.tsdb_compactions.specs.FlushJobs.{job_part}
+use Rattle.tsdb_compactions.specs.FlushJob.{FlushJob}
 use Rattle.tsdb_fileset.proofs.Counts.{counted}
 use Rattle.tsdb_base.proofs.Lists.{among_left, among_map, among_right, any_among, count_append, each_among}
 use Rattle.tsdb_base.proofs.Lists.{each_append}

@@ -7,7 +7,7 @@ use Rattle.tsdb_tasks.specs.Files.{NewFile}
 use Rattle.tsdb_tasks.specs.Inputs.{AreHeld, input_numbers}
 use Rattle.tsdb_compactions.specs.Jobs.{plain_numbers}
 use Rattle.tsdb_compactions.specs.declared.job.Job.{Job}
-use Rattle.tsdb_flush.specs.declared.job.Built.{Built}
+use Rattle.tsdb_compactions.specs.Built.{Built}
 use Rattle.tsdb_fileset.specs.Files.{IsOpen, KeptFiles, entry_numbers, kept_file}
 use Rattle.tsdb_fileset.specs.Places.{OthersStay, place_at}
 use Rattle.tsdb_fileset.specs.Replacing.{HasListRoom, IsWithin, claim_run, less_compaction}

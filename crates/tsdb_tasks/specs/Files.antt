@@ -4,15 +4,15 @@ use Rattle.std.specs.List.{AllByRecursion as Each, flat_map}
 use Rattle.std.specs.Option.{option_map}
 use Rattle.tsdb_base.specs.declared.ids.FileNumber.{FileNumber}
 use Rattle.tsdb_base.specs.declared.ids.Space.TheVariants.{Sequence, Unsequence}
-use Rattle.tsdb_flush.specs.Flushes.{IsFlushOf}
+use Rattle.tsdb_compactions.specs.Flushes.{IsFlushOf}
 use Rattle.tsdb_fileset.specs.Held.{entry_of, listed}
 use Rattle.tsdb_state.specs.Stored.{without_numbers}
-use Rattle.tsdb_flush.specs.Built.{IsBuiltOf, IsDone}
-use Rattle.tsdb_flush.specs.Jobs.{IsJob, job_part}
-use Rattle.tsdb_flush.specs.Parts.{Filled}
-use Rattle.tsdb_flush.specs.declared.job.Built.{Built}
-use Rattle.tsdb_flush.specs.declared.job.FlushJob.{FlushJob}
-use Rattle.tsdb_flush.specs.declared.job.Flushed.{Flushed}
+use Rattle.tsdb_compactions.specs.FlushBuilt.{IsBuiltOf, IsDone}
+use Rattle.tsdb_compactions.specs.FlushJobs.{IsJob, job_part}
+use Rattle.tsdb_compactions.specs.Parts.{Filled}
+use Rattle.tsdb_compactions.specs.Built.{Built}
+use Rattle.tsdb_compactions.specs.FlushJob.{FlushJob}
+use Rattle.tsdb_compactions.specs.Flushed.{Flushed}
 use Rattle.tsdb_fileset.specs.Places.{KeptFile}
 use Rattle.tsdb_base.specs.Lists.{IsWithOne, if_some}
 use Rattle.tsdb_memory.specs.Logged.{Outside}

@@ -7,3 +7,17 @@ pub mod Inputs
 pub mod Series
 pub mod States
 pub mod Outputs
+pub use Rattle.tsdb_pin.specs.Changes
+pub use Rattle.tsdb_compactions.specs.Jobs
+pub use Rattle.tsdb_compactions.specs.Outputs as CompactionsOutputs
+pub use Rattle.tsdb_compactions.specs.declared.job.Job
+pub use Rattle.tsdb_compactions.specs.declared.job.Input
+pub use Rattle.tsdb_compactions.specs.Plans
+pub use Rattle.tsdb_pin.specs.Pins
+pub use Rattle.tsdb_pin.specs.Shown
+pub use Rattle.tsdb_pin.specs.declared.pin.Pin
+pub use Rattle.tsdb_pin.specs.declared.pin.PinnedSource
+pub use Rattle.tsdb_pin.specs.declared.pin.PinnedSource.TheVariants
+pub use Rattle.tsdb_pin.specs.Sources
+pub use Rattle.tsdb_pin.specs.declared.pin.Column
+pub use Rattle.tsdb_pin.specs.declared.pin.PinFault

@@ -7,7 +7,7 @@ use Rattle.tsdb_tasks.specs.declared.finishing.InputRuns.{InputRuns}
 use Rattle.tsdb_tasks.specs.declared.series.InputSeries.{InputSeries}
 use Rattle.tsdb_tasks.specs.declared.series.JobSeries.{JobSeries}
 use Rattle.tsdb_index.specs.Entries.{AreNamesBefore}
-use Rattle.tsdb_flush.specs.Parts.{names_of}
+use Rattle.tsdb_compactions.specs.Parts.{names_of}
 use Rattle.tsdb_fileset.specs.Files.{KeptFiles, kept_file}
 use Rattle.tsdb_base.specs.Lists.{Among, EachPair, if_some}
 use Rattle.tsdb_model.specs.Commands.{IsSchema}

@@ -11,9 +11,8 @@ ghost use Rattle.tsdb_base.specs.Lists.{IsRun};
 use crate::inputs::give_back_inputs;
 use crate::runs::run_of;
 use tsdb_base::{FileNumber, Space};
-use tsdb_compactions::Job;
+use tsdb_compactions::{Built, Job};
 use tsdb_fileset::KeptFiles;
-use tsdb_flush::Built;
 use tsdb_outside::Files;
 
 /// Frees the late files with these numbers, which stand side by side.

@@ -8,7 +8,7 @@ ghost use Rattle.tsdb_tasks.specs.Files.{AreAllThere, AreOfJob, IsOutAs, NewFile
 ghost use Rattle.tsdb_tasks.specs.Files.{with_files};
 ghost use Rattle.tsdb_fileset.specs.Held.{AreFilesOf, TellTheirBytes};
 ghost use Rattle.tsdb_state.specs.Stored.{IsKeptWhole, built_files};
-ghost use Rattle.tsdb_flush.specs.declared.job.FlushJob.{FlushJob};
+ghost use Rattle.tsdb_compactions.specs.FlushJob.{FlushJob};
 ghost use Rattle.tsdb_fileset.specs.Files.{KeptFiles};
 ghost use Rattle.tsdb_fileset.specs.Places.{AreOfStore};
 ghost use Rattle.tsdb_base.specs.Lists.{Among, IsWithOne};

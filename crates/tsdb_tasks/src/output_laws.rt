@@ -19,8 +19,7 @@ ghost use Rattle.tsdb_state.specs.State.{Compaction, EngineState, Told};
 ghost use Rattle.tsdb_state.specs.Steps.{EndsCompaction, IsOutput, IsOutputPlace, committed, compaction_record, ended};
 ghost use Rattle.tsdb_state.specs.Worlds.{StandsFor};
 
-use tsdb_compactions::Job;
-use tsdb_flush::Built;
+use tsdb_compactions::{Built, Job};
 use tsdb_outside::Files;
 
 /// The output of a compaction that is out can be told: the engine is stored in the same state with it, it is kept, and

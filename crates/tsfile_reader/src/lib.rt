@@ -1,6 +1,6 @@
 //! Reading a TsFile through a port: what its tail, head, root and leaves say, the points of one page, and the check of
-//! the whole file, which names the first part that is not as defined. Depends on tsdb_outside, tsdb_index, tsdb_pages,
-//! tsdb_stats, tsdb_fields and tsdb_path.
+//! the whole file, which names the first part that is not as defined. Depends on tsdb_base, tsdb_path, tsdb_stats,
+//! tsdb_fields, tsdb_index, tsdb_pages and tsdb_outside.
 //!
 //! The parts of a file in the order in which they are checked:
 //!

@@ -5,3 +5,4 @@ pub mod Waiting
 pub mod Closing
 pub mod Same
 pub mod Driving
+pub use Rattle.tsdb_pages.proofs.Order

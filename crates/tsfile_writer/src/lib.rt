@@ -1,6 +1,6 @@
 //! Writing a TsFile: of a tree at once, or series by series with pages filled in turn. Both put parts one behind
-//! another at the end of the bytes, and keep beside them what the index says of each chunk.
-//! Depends on tsdb_base, tsdb_path, tsdb_fields, tsdb_stats, tsdb_pages and tsdb_index.
+//! another at the end of the bytes, and keep beside them what the index says of each chunk. Depends on tsdb_base,
+//! tsdb_path, tsdb_bits, tsdb_stats, tsdb_fields, tsdb_index and tsdb_pages.
 #![tactic(auto)]
 
 mod builder;

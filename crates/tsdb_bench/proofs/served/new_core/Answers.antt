@@ -1,6 +1,6 @@
 use Rattle.std.proofs.Common.{subst, sym, ◌∙◌, arith}
 use Rattle.tsdb_bench.proofs.Ready.{new_ready, none_above}
-use Rattle.tsdb_core.specs.Core.{IsAbove}
+use Rattle.tsdb_history.specs.Core.{IsAbove}
 use Rattle.tsdb_bench.proofs.served.new_core.Goals as goal
 
 pub returns : goal.returns

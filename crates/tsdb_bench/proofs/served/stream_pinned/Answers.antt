@@ -1,8 +1,8 @@
-use Rattle.tsdb_core.specs.Core.{files_of, logged_of}
+use Rattle.tsdb_history.specs.Core.{files_of, logged_of}
 use Rattle.tsdb_memory.specs.Logged.{memory_of}
-use Rattle.tsdb_pins.proofs.Held.{columns_of}
-use Rattle.tsdb_pins.proofs.Named.{have_nodes}
-use Rattle.tsdb_querying.proofs.Pinned.{ready_still}
+use Rattle.tsdb_history.proofs.PinsHeld.{columns_of}
+use Rattle.tsdb_history.proofs.Named.{have_nodes}
+use Rattle.tsdb_history.proofs.Pinned.{ready_still}
 use Rattle.tsdb_bench.proofs.served.stream_pinned.Goals as goal
 
 pub stream_of-read-requires-clause-nodes : goal.stream_of-read-requires-clause-nodes

@@ -1,7 +1,7 @@
 use Rattle.std.proofs.Common.{drop, sym, ap, ◌∙◌}
 use Rattle.tsdb_fileset.proofs.Replaced.{least_put, rest_of}
 use Rattle.tsdb_fileset.specs.Replacing.{borns_of, stamps_of}
-use Rattle.tsdb_memory.specs.Least.{least_with}
+use Rattle.tsdb_flush.specs.Least.{least_with}
 use Rattle.tsdb_fileset.proofs.replacing.least_in.Goals as goal
 
 pub returns : goal.returns

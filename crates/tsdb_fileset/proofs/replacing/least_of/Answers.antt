@@ -1,6 +1,6 @@
 use Rattle.std.proofs.Common.{◌+◌, ◌∙◌, Some, drop, map, refl, sym, ap}
 use Rattle.tsdb_fileset.proofs.Replaced.{least_end, least_next}
-use Rattle.tsdb_memory.specs.Least.{least_with}
+use Rattle.tsdb_flush.specs.Least.{least_with}
 use Rattle.tsdb_plan.specs.declared.entry.FileEntry.{FileEntry}
 use Rattle.tsdb_fileset.proofs.replacing.least_of.Goals as goal
 

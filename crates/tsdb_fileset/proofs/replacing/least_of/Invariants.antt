@@ -1,5 +1,5 @@
 use Rattle.std.proofs.Common.{◌≡◌, drop, map}
-use Rattle.tsdb_memory.specs.Least.{least_with}
+use Rattle.tsdb_flush.specs.Least.{least_with}
 use Rattle.tsdb_plan.specs.declared.entry.FileEntry.{FileEntry}
 use Rattle.tsdb_fileset.proofs.replacing.least_of.Given as goal
 

@@ -8,10 +8,10 @@ use Rattle.tsdb_history.proofs.Replies.{sure_still}
 use Rattle.tsdb_history.proofs.SoFar.{SoFar, devices_more, few_of, nothing_so_far, one_more, whole_slice}
 use Rattle.tsdb_history.proofs.Steps.{none_served, one_more_served, stays_on}
 use Rattle.tsdb_history.specs.History.{IsHistory, IsInLineOrder, is_device, session_numbers}
-use Rattle.tsdb_serving.specs.Serving.{IsSure}
+use Rattle.tsdb_querying.specs.Serving.{IsSure}
 use Rattle.tsdb_history.specs.declared.told.Told.{Told}
 use Rattle.tsdb_script.specs.declared.numbered.Numbered.{Numbered}
-use Rattle.tsdb_serving.specs.Flushing.{IsReady, faults_under}
+use Rattle.tsdb_querying.specs.Flushing.{IsReady, faults_under}
 use Rattle.tsdb_history.proofs.executing.execute.Goals as goal
 
 pub next_index-index-requires-clause-few : goal.next_index-index-requires-clause-few

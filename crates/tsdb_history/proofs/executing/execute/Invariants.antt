@@ -3,14 +3,14 @@ use Rattle.std.proofs.Common.{◌≡◌, ◌+◌, ◌≤◌, length, take, true,
 use Rattle.std.specs.Prelude.{◌-◌, ◌*◌, ◌^◌, count_by, min, vec_len, vec_capacity}
 use Rattle.tsdb_history.proofs.SoFar.{SoFar}
 use Rattle.tsdb_history.specs.History.{is_device, session_numbers}
-use Rattle.tsdb_core.specs.Core.{next_of}
+use Rattle.tsdb_querying.specs.Core.{next_of}
 use Rattle.tsdb_history.specs.Reach.{max_drawn}
 use Rattle.tsdb_history.specs.Serves.{HasServed}
 use Rattle.tsdb_model.specs.History.{Entry}
 use Rattle.tsdb_model.specs.State as plain
 use Rattle.tsdb_outside.specs.Files.{StoredFile}
-use Rattle.tsdb_serving.specs.Flushing.{IsReady, faults_under}
-use Rattle.tsdb_serving.specs.Serving.{IsServing, IsSure, StaysInPlace}
+use Rattle.tsdb_querying.specs.Flushing.{IsReady, faults_under}
+use Rattle.tsdb_querying.specs.Serving.{IsServing, IsSure, StaysInPlace}
 use Rattle.tsdb_history.proofs.executing.execute.Given as goal
 
 abbrev pub invariant-loop-numbered : goal.invariant-loop-numbered

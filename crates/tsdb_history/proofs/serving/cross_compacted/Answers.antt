@@ -2,7 +2,7 @@ use Rattle.std.proofs.Common.{◌∙◌, sym}
 use Rattle.tsdb_history.proofs.Replies.{fault_is_device, fault_is_not_done, writes_cross, writing_done, writing_failed}
 use Rattle.tsdb_model.specs.declared.reply.Reply.TheVariants.{Plain}
 use Rattle.tsdb_base.specs.declared.answers.Answer.TheVariants.{Done}
-use Rattle.tsdb_serving.proofs.Full.{by_number, full_fault, no_full}
+use Rattle.tsdb_querying.proofs.ServingFull.{by_number, full_fault, no_full}
 use Rattle.tsdb_history.proofs.serving.cross_compacted.Goals as goal
 
 pub returns-in-Ok-clause-answers : goal.returns-in-Ok-clause-answers

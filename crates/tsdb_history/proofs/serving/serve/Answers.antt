@@ -1,8 +1,8 @@
 use Rattle.std.proofs.Common.{◌∙◌, subst, sym}
 use Rattle.tsdb_model.specs.declared.command.Command.TheVariants.{Select}
 use Rattle.tsdb_model.specs.declared.reply.Reply.TheVariants.{Plain}
-use Rattle.tsdb_serving.specs.Serving.{Answers}
-use Rattle.tsdb_serving.proofs.Full.{no_full}
+use Rattle.tsdb_querying.specs.Serving.{Answers}
+use Rattle.tsdb_querying.proofs.ServingFull.{no_full}
 use Rattle.tsdb_history.proofs.serving.serve.Goals as goal
 
 pub returns-in-Create-clause-answers : goal.returns-in-Create-clause-answers

@@ -1,5 +1,5 @@
 use Rattle.std.proofs.Common.{subst}
-use Rattle.tsdb_core.specs.Listings.{TellsStore}
+use Rattle.tsdb_querying.specs.Listings.{TellsStore}
 use Rattle.tsdb_history.proofs.Replies.{not_shown}
 use Rattle.tsdb_history.proofs.serving.shown.Goals as goal
 

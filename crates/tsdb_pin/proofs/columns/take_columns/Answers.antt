@@ -1,6 +1,6 @@
 use Rattle.std.proofs.Common.{[], sym, ◌≡◌, ◌∙◌}
 use Rattle.std.specs.Vec.Iter.{into_iter_items}
-use Rattle.tsdb_memory.proofs.RowCells.{no_length}
+use Rattle.tsdb_fileset.proofs.RowCells.{no_length}
 use Rattle.tsdb_pin.proofs.Gathered.{all_gathered, gathered_some, none_gathered, one_gathered}
 use Rattle.tsdb_pin.proofs.Listed.{on_err}
 use Rattle.tsdb_pin.proofs.columns.take_columns.Goals as goal

@@ -1,9 +1,9 @@
 use Rattle.std.proofs.Common.{refl, sym}
-use Rattle.tsdb_memory.proofs.Numbers.{none_first}
-use Rattle.tsdb_memory.specs.declared.reading.Numbered.{Numbered}
+use Rattle.tsdb_fileset.proofs.MemoryNumbers.{none_first}
+use Rattle.tsdb_fileset.specs.Numbered.{Numbered}
 use Rattle.tsdb_path.specs.Nodes.{child_of}
 use Rattle.tsdb_pin.proofs.Asked.{missing_item, unnumbered}
-use Rattle.tsdb_memory.proofs.RowLemmas.Types.{no_path}
+use Rattle.tsdb_fileset.proofs.RowLemmas.Types.{no_path}
 use Rattle.tsdb_pin.proofs.items.find_item.Goals as goal
 
 pub returns-in_default : goal.returns-in_default

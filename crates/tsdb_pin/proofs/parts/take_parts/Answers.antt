@@ -1,5 +1,5 @@
 use Rattle.std.proofs.Common.{map, take}
-use Rattle.tsdb_memory.specs.Model.{frozen_in}
+use Rattle.tsdb_fileset.specs.Model.{frozen_in}
 use Rattle.tsdb_pin.proofs.Copied.{all_copied, copied_so_far, frozen_step, none_copied}
 use Rattle.tsdb_pin.proofs.Listed.{on_err, when_err, when_ok}
 use Rattle.tsdb_pin.proofs.parts.take_parts.Goals as goal

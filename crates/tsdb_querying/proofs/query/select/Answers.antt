@@ -1,6 +1,6 @@
 use Rattle.std.proofs.Common.{Err, ap, map, refl, subst, sym, ◌∙◌}
 use Rattle.tsdb_base.specs.declared.answers.Answer.TheVariants as answer
-use Rattle.tsdb_core.specs.Core.{files_of, logged_of}
+use Rattle.tsdb_serving.specs.Core.{files_of, logged_of}
 use Rattle.tsdb_frames.specs.Frames.{faults_of}
 use Rattle.tsdb_memory.specs.Logged.{log_of, memory_of}
 use Rattle.tsdb_model.specs.declared.reply.Reply.TheVariants.{Lines, Plain}

@@ -1,5 +1,5 @@
 use Rattle.std.proofs.Common.{subst, sym}
-use Rattle.tsdb_core.specs.Core.{next_of}
+use Rattle.tsdb_serving.specs.Core.{next_of}
 use Rattle.tsdb_state.specs.Stores.{HoldsKept}
 use Rattle.tsdb_state.specs.NewStore.{opened}
 use Rattle.tsdb_recover.proofs.laws.a_recovered_core_serves.Goals as goal

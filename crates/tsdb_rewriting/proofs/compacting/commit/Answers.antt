@@ -1,7 +1,7 @@
 use Rattle.std.proofs.Common.{Err, Ok, refl, subst}
 use Rattle.std.specs.Option.{option_map}
-use Rattle.tsdb_tasks.specs.Files.{new_file}
-use Rattle.tsdb_core.specs.Replacements.{IsJobCommit}
+use Rattle.tsdb_serving.specs.TasksFiles.{new_file}
+use Rattle.tsdb_serving.specs.Replacements.{IsJobCommit}
 use Rattle.tsdb_rewriting.proofs.Ended.{commit_ends, rose_swept}
 use Rattle.tsdb_rewriting.proofs.Outputs.{finished, output_in, output_numbered, output_tells, output_unread, swept_lists}
 use Rattle.tsdb_rewriting.proofs.Ready.{is_job_out}

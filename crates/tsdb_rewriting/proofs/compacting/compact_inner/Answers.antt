@@ -1,9 +1,9 @@
 use Rattle.std.proofs.Common.{◌≡◌, Ok, ap, arith, inl, inr, refl, subst, sym, ◌∙◌}
 use Rattle.tsdb_base.specs.declared.ids.Space.TheVariants.{Sequence}
-use Rattle.tsdb_core.proofs.Beginnings.{plan_fits}
-use Rattle.tsdb_core.specs.Beginnings.{HaveHulls, IsBeginAnswer, IsBegunOrNot, IsCrossRuns, IsInnerRuns}
-use Rattle.tsdb_core.specs.Core.{next_of}
-use Rattle.tsdb_core.specs.declared.commit.CoreFault.TheVariants.{Memory as NoMemory}
+use Rattle.tsdb_serving.proofs.Beginnings.{plan_fits}
+use Rattle.tsdb_serving.specs.Beginnings.{HaveHulls, IsBeginAnswer, IsBegunOrNot, IsCrossRuns, IsInnerRuns}
+use Rattle.tsdb_serving.specs.Core.{next_of}
+use Rattle.tsdb_serving.specs.TheVariants.{Memory as NoMemory}
 use Rattle.tsdb_rewriting.proofs.Begun.{cause_of, not_begun, rewritten, sure_truth}
 use Rattle.tsdb_rewriting.proofs.Outputs.{counter_is, full_counter, not_device}
 use Rattle.tsdb_rewriting.proofs.Ready.{is_rewriting}

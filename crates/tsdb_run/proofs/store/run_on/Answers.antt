@@ -2,17 +2,17 @@ use Rattle.std.proofs.Common.{◌≡◌, ◌∙◌, ◌+◌, inl, inr, ap, lengt
 use Rattle.std.specs.Prelude.{◌*◌}
 use Rattle.tsdb_history.specs.Reach.{AreFullWithin, max_drawn}
 use Rattle.std.specs.Prelude.{is_some}
-use Rattle.tsdb_core.specs.declared.engine.Core.{Core}
+use Rattle.tsdb_recover.specs.CoreType.{Core}
 use Rattle.tsdb_frames.specs.Frames.{journal_of}
 use Rattle.tsdb_memory.specs.Logged.{log_of}
-use Rattle.tsdb_core.specs.Core.{logged_of}
+use Rattle.tsdb_recover.specs.Core.{logged_of}
 use Rattle.tsdb_base.specs.Causes.{Rose}
 use Rattle.tsdb_outside.specs.Files.{Store}
 use Rattle.tsdb_run.proofs.Executed.{above_stored, rose_before, run_before}
 use Rattle.tsdb_run.proofs.Whole.{gone, image, next_is, next_same, opened, sound_left}
 use Rattle.tsdb_run.specs.Store.{IsSoundOrSilent, contents}
-use Rattle.tsdb_serving.specs.Flushing.{faults_under}
-use Rattle.tsdb_serving.specs.Serving.{IsSure, disk_under}
+use Rattle.tsdb_recover.specs.Flushing.{faults_under}
+use Rattle.tsdb_recover.specs.Serving.{IsSure, disk_under}
 use Rattle.tsdb_outside.proofs.DiskLemmas.{Keeps-same}
 use Rattle.tsdb_run.proofs.Refused.{never_opened, opening_refused, reports, same_refused}
 use Rattle.tsdb_run.specs.Causes.{ReportsDamage}

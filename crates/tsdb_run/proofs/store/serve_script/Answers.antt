@@ -1,13 +1,13 @@
 use Rattle.std.proofs.Common.{◌∙◌, ◌+◌, ◌++◌, ap, length}
 use Rattle.std.specs.Prelude.{◌*◌}
-use Rattle.tsdb_core.specs.Core.{next_of}
+use Rattle.tsdb_recover.specs.Core.{next_of}
 use Rattle.tsdb_history.proofs.Reach.{all_further}
 use Rattle.tsdb_history.specs.Reach.{max_drawn}
 use Rattle.std.specs.Prelude.{is_some}
 use Rattle.tsdb_base.specs.Causes.{Rose}
 use Rattle.tsdb_outside.specs.Files.{Store}
 use Rattle.tsdb_run.proofs.Executed.{has_run, rose_before, some_and}
-use Rattle.tsdb_serving.specs.Flushing.{faults_under}
+use Rattle.tsdb_recover.specs.Flushing.{faults_under}
 use Rattle.tsdb_run.proofs.store.serve_script.Goals as goal
 
 pub returns-clause-served : goal.returns-clause-served

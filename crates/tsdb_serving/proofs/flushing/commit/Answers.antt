@@ -1,5 +1,5 @@
 use Rattle.std.proofs.Common.{inl, ap, subst, ◌∙◌}
-use Rattle.tsdb_tasks.specs.Files.{new_files}
+use Rattle.tsdb_core.specs.Files.{new_files}
 use Rattle.tsdb_core.proofs.OutputsBuilt.{of_job_done}
 use Rattle.tsdb_core.specs.Core.{logged_of}
 use Rattle.tsdb_core.specs.Flushes.{IsCommitAnswer}

@@ -1,5 +1,5 @@
 use Rattle.std.proofs.Common.{ap, ◌∙◌}
-use Rattle.tsdb_tasks.specs.Files.{new_files}
+use Rattle.tsdb_core.specs.Files.{new_files}
 use Rattle.tsdb_core.proofs.OutputsBuilt.{of_job}
 use Rattle.tsdb_memory.specs.Logged.{memory_of}
 use Rattle.tsdb_serving.proofs.Flushes.{abandon_ends}

@@ -2,7 +2,7 @@ use Rattle.std.proofs.Common.{◌+◌, ap, refl, subst, sym, ◌∙◌}
 use Rattle.tsdb_core.proofs.Commits.{not_taken, not_taken_world, on_err}
 use Rattle.tsdb_core.proofs.Oldest.{count_is}
 use Rattle.tsdb_core.proofs.Taking.{flush_taken, taken_world}
-use Rattle.tsdb_flush.specs.Taking.{IsTaken}
+use Rattle.tsdb_fileset.specs.Taking.{IsTaken}
 use Rattle.tsdb_core.proofs.engine.Core.take_oldest.Goals as goal
 
 pub returns-in_err-reserve_flushed-clause-not : goal.returns-in_err-reserve_flushed-clause-not

@@ -2,7 +2,7 @@ use Rattle.std.proofs.Common.{List, None, ap, ◌∙◌}
 use Rattle.tsdb_fileset.proofs.Replaced.{least_after}
 use Rattle.tsdb_fileset.specs.Files.{KeptFiles}
 use Rattle.tsdb_fileset.specs.Replacing.{borns_of, replace_run}
-use Rattle.tsdb_memory.specs.Least.{least_with}
+use Rattle.tsdb_flush.specs.Least.{least_with}
 use Rattle.tsdb_plan.specs.declared.entry.FileEntry.{FileEntry}
 use Rattle.tsdb_fileset.proofs.files.KeptFiles.least_replaced.Goals as goal
 

@@ -3,7 +3,7 @@ use Rattle.tsdb_fileset.specs.Files.{KeptFiles}
 use Rattle.tsdb_fileset.specs.Places.{file_at, place_at}
 use Rattle.tsdb_fileset.specs.Replacing.{IsReplacedIn}
 use Rattle.tsdb_fileset.proofs.Replaced.{CanReplace, entry_of_output, replaced_sound}
-use Rattle.tsdb_memory.specs.Least.{least_with}
+use Rattle.tsdb_flush.specs.Least.{least_with}
 use Rattle.tsdb_plan.specs.declared.entry.FileEntry.{FileEntry}
 use Rattle.tsdb_fileset.proofs.files.KeptFiles.replace.Goals as goal
 

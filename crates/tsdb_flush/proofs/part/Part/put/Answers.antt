@@ -3,7 +3,7 @@ use Rattle.tsdb_flush.proofs.Trees.{given_last, given_more}
 use Rattle.tsdb_flush.specs.MakingSteps.{filled_with}
 use Rattle.tsdb_flush.specs.Parts.{series_of}
 use Rattle.tsdb_base.proofs.Lists.{each_append}
-use Rattle.tsdb_pages.specs.Pages.{IsInRange}
+use Rattle.tsfile_writer.specs.Pages.{IsInRange}
 use Rattle.tsdb_flush.proofs.part.Part.put.Goals as goal
 
 pub put_point-requires : goal.put_point-requires

@@ -8,7 +8,7 @@ use Rattle.tsdb_index.specs.declared.index.PageEntry.{PageEntry}
 use Rattle.tsdb_base.specs.Fields.{number32}
 use Rattle.tsdb_base.specs.Plain.{AreValues, plain_text}
 use Rattle.tsdb_base.specs.Values.{is_suitable}
-use Rattle.tsdb_path.specs.Nodes.{IsName, IsPath}
+use Rattle.tsdb_fields.specs.Nodes.{IsName, IsPath}
 use Rattle.tsdb_fields.specs.Statistics.{stats_field, IsStatsOf}
 use Rattle.tsdb_fields.proofs.Parts.{part_fault, parts_of}
 use Rattle.tsdb_fields.proofs.Taken.{no_fields, takes_both, takes_same}

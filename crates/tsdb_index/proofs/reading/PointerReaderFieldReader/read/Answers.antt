@@ -2,7 +2,7 @@ use Rattle.std.proofs.Common.{◌++◌}
 use Rattle.std.proofs.lemmas.Result.{err_from_is_err_and}
 use Rattle.tsdb_base.specs.Fields.{number64}
 use Rattle.tsdb_base.specs.Plain.{plain_text}
-use Rattle.tsdb_path.specs.Nodes.{IsName, IsPath}
+use Rattle.tsdb_fields.specs.Nodes.{IsName, IsPath}
 use Rattle.tsdb_fields.proofs.Parts.{part_fault, parts_of}
 use Rattle.tsdb_fields.proofs.Taken.{takes_both}
 use Rattle.tsdb_index.specs.Parts.{IsPointer, pointer_bytes}

@@ -2,7 +2,7 @@ use Rattle.std.proofs.Common.{map, None, sym, subst}
 use Rattle.tsdb_recover.proofs.AdoptedCore.{above_kept, opened_files, same_wanted, stored_opened}
 use Rattle.tsdb_recover.specs.Adopting.{files_of, opening_of}
 use Rattle.tsdb_recover.specs.Known.{known_of}
-use Rattle.tsdb_core.specs.Core.{IsSeen}
+use Rattle.tsdb_serving.specs.Core.{IsSeen}
 use Rattle.tsdb_frames.specs.Frames.{IsLog}
 use Rattle.tsdb_log.specs.Spelling.{spelling}
 use Rattle.tsdb_memory.specs.Logged.{Outside}
