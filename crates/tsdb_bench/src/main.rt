@@ -4,29 +4,18 @@
 //! depends on the crates that it measures.
 #![tactic(auto)]
 
-mod aggregates;
 mod bench;
-mod columns;
 mod encodings;
 mod fault;
 mod files;
-mod filled;
-mod flushes;
 mod indexes;
-mod inserts;
-mod journal;
 mod marks;
 mod memory;
 mod memtable;
-mod merges;
 mod names;
 mod numbers;
 mod pages;
-mod pieces;
-mod plans;
 mod points;
-mod queries;
-mod served;
 mod stored;
 mod turns;
 
@@ -44,16 +33,9 @@ enum Group {
     Memtable,
     Marks,
     Turns,
-    Merges,
-    Aggregates,
-    Columns,
-    Plans,
     Pages,
     Indexes,
     Files,
-    Inserts,
-    Flushes,
-    Queries,
     Stored,
 }
 
@@ -83,22 +65,6 @@ const GROUPS: &[Named] = &[
         group: Group::Turns,
     },
     Named {
-        name: "merges",
-        group: Group::Merges,
-    },
-    Named {
-        name: "aggregates",
-        group: Group::Aggregates,
-    },
-    Named {
-        name: "columns",
-        group: Group::Columns,
-    },
-    Named {
-        name: "plans",
-        group: Group::Plans,
-    },
-    Named {
         name: "pages",
         group: Group::Pages,
     },
@@ -109,18 +75,6 @@ const GROUPS: &[Named] = &[
     Named {
         name: "files",
         group: Group::Files,
-    },
-    Named {
-        name: "inserts",
-        group: Group::Inserts,
-    },
-    Named {
-        name: "flushes",
-        group: Group::Flushes,
-    },
-    Named {
-        name: "queries",
-        group: Group::Queries,
     },
     Named {
         name: "stored",
@@ -135,16 +89,9 @@ fn measure_group<R: Threads + Wait + Clock + Sync>(bench: &mut Bench, handle: &R
         Group::Memtable => memtable::memtable(bench),
         Group::Marks => marks::marks(bench),
         Group::Turns => turns::turns(bench, handle),
-        Group::Merges => merges::merges(bench),
-        Group::Aggregates => aggregates::aggregates(bench),
-        Group::Columns => columns::columns(bench),
-        Group::Plans => plans::plans(bench),
         Group::Pages => pages::pages(bench),
         Group::Indexes => indexes::indexes(bench),
         Group::Files => files::files(bench),
-        Group::Inserts => inserts::inserts(bench),
-        Group::Flushes => flushes::flushes(bench),
-        Group::Queries => queries::queries(bench),
         Group::Stored => stored::stored(bench),
     }
 }

@@ -52,16 +52,3 @@ pub fn points(bench: &mut Bench, values: Values, count: u64) -> Vec<Point> {
     }
     points
 }
-
-/// So many points whose times are `step` apart, each with its time as its value.
-pub fn even_points(bench: &mut Bench, first: u64, step: u64, count: u64) -> Vec<Point> {
-    let mut points = Vec::new(bench.alloc());
-    let mut at = first;
-    for _ in 0..count {
-        let time = at.cast_signed();
-        let value = Value::I64(time);
-        bench.push(&mut points, Point { time, value });
-        at = at.wrapping_add(step);
-    }
-    points
-}
