@@ -5,7 +5,8 @@
 #                   with a flush and a compaction; compares short scripts with a plain slow store; stores many files, and
 #                   fills a small disk
 # make test   proves every crate and runs every test and program
-.PHONY: demo build bench check-disk test
+# make wrong-bodies   tries the wrong bodies in must-fail/ and wrong-bodies/ of all crates, or of those of CRATE="name .."
+.PHONY: demo build bench check-disk test wrong-bodies
 
 demo:
 	@echo 'Building the program without proofs, and running examples/plant.tsdb and then examples/later.tsdb ...' >&2
@@ -42,3 +43,6 @@ check-disk: build
 
 test:
 	@rt ci
+
+wrong-bodies:
+	@checks/try_wrong_bodies $(CRATE)
