@@ -20,8 +20,8 @@ use tsdb_tasks::{InputRuns, Job, JobSeries, TakenInputs, job_series, take_job_in
 /// No file of a list.
 const NO_FILES: Run = Run { first: 0, end: 0 };
 
-/// The most inputs of a job from one list: a record names no more.
-const MAX_INPUTS: usize = 100_000_000;
+/// The most inputs of a job from one list that a record names.
+const MAX_RECORD_INPUTS: usize = 100_000_000;
 
 impl<J: Journal, F: Files> Core<J, F> {
     ghost use Rattle.tsdb_core.specs.Beginnings.{ArePlanned, HaveHulls, IsBegun, IsBegunOrNot, IsCrossRuns};
@@ -210,7 +210,7 @@ fn input_count(runs: InputRuns) -> Result<usize, Memory>
 {
     let sequence = runs.sequence.end - runs.sequence.first;
     let unsequence = runs.unsequence.end - runs.unsequence.first;
-    if sequence > MAX_INPUTS || unsequence > MAX_INPUTS {
+    if sequence > MAX_RECORD_INPUTS || unsequence > MAX_RECORD_INPUTS {
         return Err(Memory);
     }
     Ok(sequence + unsequence)

@@ -5,6 +5,7 @@ use Rattle.std.specs.Prelude.{All, AllPairs, IsSomeAnd, slice_get}
 use Rattle.std.specs.Cmp.Lexicographic.{slice_cmp}
 use Rattle.std.specs.declared.cmp.Ordering.TheVariants.{Less}
 use Rattle.std.specs.Ordering.{nat_cmp}
+use Rattle.tsdb_base.specs.Limits.{max_pair_points}
 use Rattle.tsdb_base.specs.Values.{is_suitable, type_of}
 use Rattle.tsdb_path.specs.Nodes.{device_of, node_count}
 use Rattle.tsdb_log.specs.declared.snapshot.FileRecord.{FileRecord}
@@ -12,10 +13,6 @@ use Rattle.tsdb_log.specs.declared.snapshot.PairRecord.{PairRecord}
 use Rattle.tsdb_log.specs.declared.snapshot.SchemaRecord.{SchemaRecord}
 use Rattle.tsdb_log.specs.declared.snapshot.Snapshot.{Snapshot}
 use Rattle.tsdb_log.specs.declared.snapshot.TableRecord.{TableRecord}
-
--- the most points of a working pair of several rows, whatever the options say
-abbrev pub max_pair_points : ℕ
-max_pair_points = 1000000
 
 -- a series has a path of at least 3 nodes, and an encoding that suits its type
 pub record IsFormedSchema (schema : SchemaRecord) : Type 0 where
