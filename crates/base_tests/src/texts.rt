@@ -41,19 +41,6 @@ fn is_printed(alloc: Global, text: Option<Text>, wanted: &str) -> bool {
     }
 }
 
-/// Whether a map finds the mixed text, and gives it before `b`.
-fn are_keys(alloc: Global) -> bool {
-    is_found(alloc, text(alloc, MIXED), text(alloc, MIXED))
-        && is_first(alloc, text(alloc, MIXED), text(alloc, b"b"))
-}
-
-#[test]
-fn texts_are_printed_and_keys(rt: HostRuntime) {
-    let alloc = rt.alloc();
-    assert!(rt; is_printed(alloc, text(alloc, MIXED), "\"a\\xff\\x0a\" memory"));
-    assert!(rt; are_keys(alloc));
-}
-
 /// Whether a text of the first bytes is less than one of the second.
 fn is_less(alloc: Global, first: &[u8], second: &[u8]) -> bool {
     match (Text::new(alloc, first), Text::new(alloc, second)) {
@@ -62,7 +49,16 @@ fn is_less(alloc: Global, first: &[u8], second: &[u8]) -> bool {
     }
 }
 
+/// Whether a map finds the mixed text, and gives it before `b`, as texts are in order.
+fn are_keys(alloc: Global) -> bool {
+    is_found(alloc, text(alloc, MIXED), text(alloc, MIXED))
+        && is_first(alloc, text(alloc, MIXED), text(alloc, b"b"))
+        && is_less(alloc, b"ab", b"b")
+}
+
 #[test]
-fn texts_are_in_order(rt: HostRuntime) {
-    assert!(rt; is_less(rt.alloc(), b"ab", b"b"));
+fn texts_are_printed_and_keys(rt: HostRuntime) {
+    let alloc = rt.alloc();
+    assert!(rt; is_printed(alloc, text(alloc, MIXED), "\"a\\xff\\x0a\" memory"));
+    assert!(rt; are_keys(alloc));
 }

@@ -1,8 +1,11 @@
-//! LEB128, zigzag and packing. It depends on `tsdb_bits`.
-use crate::answers::is_written;
-use std::alloc::Global;
-use tsdb_base::Memory;
-use tsdb_bits::{BitFault, UnpackFault, get_leb, pack, put_leb, unpack, unzigzag, width, zigzag};
+//! LEB128, zigzag and packing, the numbers that lists begin with, and appends that failed. It depends on `tsdb_bits`.
+use std::alloc::{AllocError, Global};
+use std::test::Fail;
+use tsdb_base::{DecodeFault, Memory};
+use tsdb_bits::{
+    BitFault, UnpackFault, all_or_none, get_leb, pack, put_leb, take_count, take_number,
+    take_packed, unpack, unzigzag, width, zigzag,
+};
 
 /// Numbers and their LEB128 bytes.
 static LEBS: [(u64, &[u8]); 5] = [
@@ -13,16 +16,16 @@ static LEBS: [(u64, &[u8]); 5] = [
     (u64::MAX, &[255, 255, 255, 255, 255, 255, 255, 255, 255, 1]),
 ];
 
-fn leb_of(alloc: Global, value: u64) -> Result<Vec<u8>, Memory> {
-    let mut bytes = Vec::new(alloc);
-    put_leb(value, &mut bytes)?;
-    Ok(bytes)
+fn is_leb(alloc: Global, value: u64, bytes: &[u8]) -> bool {
+    let mut into = Vec::new(alloc);
+    put_leb(value, &mut into).is_ok()
+        && into.as_slice() == bytes
+        && get_leb(bytes, 0) == Ok((value, bytes.len() as u64))
 }
 
 fn first_wrong_leb(alloc: Global, lebs: &[(u64, &[u8])]) -> Option<usize> {
     for (place, (value, bytes)) in lebs.iter().enumerate() {
-        let read = get_leb(bytes, 0);
-        if read != Ok((*value, bytes.len() as u64)) || !is_written(leb_of(alloc, *value), bytes) {
+        if !is_leb(alloc, *value, bytes) {
             return Some(place);
         }
     }
@@ -111,17 +114,25 @@ fn zigzag_and_width_examples(rt: HostRuntime) {
     assert_eq!(rt; first_wrong_width(&WIDTHS), None);
 }
 
-/// A byte, and behind it 0, 1 and 2 at the width 2.
-fn packed(alloc: Global) -> Result<Vec<u8>, Memory> {
-    let mut bytes = Vec::new(alloc);
-    bytes.push(9)?;
-    pack(&[0, 1, 2], 2, &mut bytes)?;
-    Ok(bytes)
+/// Whether 0, 1 and 2 at the width 2 are packed as this byte behind another.
+fn is_packed(alloc: Global, byte: u8) -> bool {
+    let mut into = Vec::new(alloc);
+    into.push(9).is_ok()
+        && pack(&[0, 1, 2], 2, &mut into).is_ok()
+        && into.as_slice() == [9, byte].as_slice()
 }
 
 /// Whether the bytes are the packing of three values at the width 2, and of which.
 fn unpacks_to(alloc: Global, bytes: &[u8], values: &[u64]) -> bool {
     match unpack(alloc, bytes, 3, 2) {
+        Ok(read) => read.as_slice() == values,
+        Err(_) => false,
+    }
+}
+
+/// The same where a list has them at its end.
+fn ends_with(alloc: Global, bytes: &[u8], values: &[u64]) -> bool {
+    match take_packed(alloc, bytes, 3, 2) {
         Ok(read) => read.as_slice() == values,
         Err(_) => false,
     }
@@ -151,7 +162,41 @@ fn first_wrong_packing(alloc: Global, cases: &[(&[u8], u64, u8, UnpackFault)]) -
 
 #[test]
 fn packing_examples(rt: HostRuntime) {
-    assert!(rt; is_written(packed(rt.alloc()), &[9, 0x24]));
-    assert!(rt; unpacks_to(rt.alloc(), &[0x24], &[0, 1, 2]));
-    assert_eq!(rt; first_wrong_packing(rt.alloc(), &NO_PACKINGS), None);
+    let alloc = rt.alloc();
+    assert!(rt; is_packed(alloc, 0x24) && unpacks_to(alloc, &[0x24], &[0, 1, 2]));
+    assert_eq!(rt; first_wrong_packing(alloc, &NO_PACKINGS), None);
+}
+
+#[test]
+fn packed_numbers(rt: HostRuntime) {
+    let alloc = rt.alloc();
+    assert!(rt; ends_with(alloc, &[0x24], &[0, 1, 2]));
+    assert!(rt; take_packed(alloc, &[0x64], 3, 2).err() == Some(DecodeFault::Bad));
+}
+
+#[test]
+fn counts_and_numbers(rt: HostRuntime) {
+    let rest: &[u8] = &[7];
+    assert!(rt; take_count(&[0xe8, 7, 7]) == Ok((1000, rest)));
+    assert!(rt; take_count(&[0xe9, 7]) == Err(DecodeFault::Bad));
+    assert!(rt; take_number(&[0xe9, 7, 7]) == Ok((1001, rest)));
+    assert!(rt; take_number(&[0x80, 0]) == Err(DecodeFault::Bad));
+}
+
+/// The bytes that are left of three, the last of which a call with this answer appended.
+fn left_of(alloc: Global, appended: Result<(), Memory>) -> Result<Vec<u8>, AllocError> {
+    let mut bytes = Vec::new(alloc);
+    bytes.extend_from_slice(&[1, 2, 3])?;
+    let is_same = all_or_none(appended, 2, &mut bytes) == appended;
+    if !is_same {
+        bytes.clear();
+    }
+    Ok(bytes)
+}
+
+#[test]
+fn an_append_that_failed_is_undone(rt: HostRuntime) -> Result<(), Fail> {
+    assert!(rt; left_of(rt.alloc(), Ok(()))?.as_slice() == [1, 2, 3].as_slice());
+    assert!(rt; left_of(rt.alloc(), Err(Memory))?.as_slice() == [1, 2].as_slice());
+    Ok(())
 }

@@ -1,20 +1,13 @@
-//! The tests of the codecs: worked examples, what is refused, and a comparison with a plain program on all short
-//! inputs. It has no code of its own. It depends on the crates that it tests.
+//! The tests of the codecs: the worked examples and the refused bytes of docs/FORMATS.md, the limit of a list and one
+//! value past it. Each list is written and read by its own encoding, and as values by `tsdb_pages`. It has no code of
+//! its own. It depends on the crates that it tests.
 #![tactic(auto)]
 
 #[cfg(test)]
-mod answers;
-#[cfg(test)]
 mod bits;
 #[cfg(test)]
-mod dict;
+mod examples;
 #[cfg(test)]
-mod list;
-#[cfg(test)]
-mod plain;
-#[cfg(test)]
-mod rle;
-#[cfg(test)]
-mod ts2diff;
+mod lists;
 #[cfg(test)]
 mod values;

@@ -1,9 +1,38 @@
-//! Tests of the core: its answers and counts, the limits of a pair at their edges, a journal that fails at each call in
-//! turn, flushes with their listings, and all short lists of commands beside a plain slow state and the plain map.
-//! Depends on `tsdb_core` and `core_support`, and for what it is given on `tsdb_base`, `tsdb_model`, `tsdb_map`,
-//! `tsdb_outside`, `tsdb_frames`, `tsdb_memory`, `tsdb_flush`, `tsdb_print`, `mem_outside`
-//! and `tests_support`. The proofs of the flushes speak of `tsdb_state` too.
+//! Tests of the core, of what it holds in memory and of the files that it keeps: answers and counts, limits of a pair
+//! at their edges, flushes with their listings, calls of the journal and of the files that fail, and what a stop at
+//! each moment leaves, as a plain slow replay reads it. Depends on `tsdb_core`, `tsdb_memory` and `tsdb_fileset`, and
+//! for what these are given and leave on `tsdb_base`, `tsdb_path`, `tsdb_model`, `tsdb_outside`, `mem_outside`,
+//! `tsdb_frames`, `tsdb_log`, `tsdb_index`, `tsfile_reader`, `tsdb_plan`, `tsdb_flush`, `tsdb_print` and
+//! `tests_support`. The specs and proofs speak of `tsdb_state` and `tsdb_tasks` too.
 #![tactic(auto)]
 
 #[cfg(test)]
-mod tests;
+mod answers;
+#[cfg(test)]
+mod asking;
+#[cfg(test)]
+mod cases;
+#[cfg(test)]
+mod failing;
+#[cfg(test)]
+mod flushes;
+#[cfg(test)]
+mod keeping;
+#[cfg(test)]
+mod memory;
+#[cfg(test)]
+mod places;
+#[cfg(test)]
+mod replay;
+#[cfg(test)]
+mod room;
+#[cfg(test)]
+mod rows;
+#[cfg(test)]
+mod slow_state;
+#[cfg(test)]
+mod stops;
+#[cfg(test)]
+mod stored;
+#[cfg(test)]
+mod words;

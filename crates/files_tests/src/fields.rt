@@ -69,18 +69,25 @@ fn behind<'a, T: PartialEq + Drop>(
     }
 }
 
-/// A path, a name, two fields of one value each in pairs, and a value.
-const FIELDS: [Field; 5] = [
+/// A path, a name, each type and each encoding with a place behind them, two numbers, and a value.
+const FIELDS: [Field; 8] = [
     Field::Path(b"root.g.d"),
     Field::Name(b"s"),
     Field::Kind(DataType::Int64, Encoding::Plain, 18),
+    Field::Kind(DataType::Boolean, Encoding::Rle, 1),
+    Field::Kind(DataType::Int32, Encoding::Ts2diff, 2),
+    Field::Kind(DataType::Text, Encoding::Dictionary, 3),
     Field::Numbers(1, 7),
     Field::Value(-2),
 ];
 
 /// What these fields are written as, one behind another.
-const BYTES: [u8; 33] =
-    *b"\x00\x08root.g.d\x00\x01s\x02\x00\x00\x00\x00\x00\x00\x00\x00\x12\x00\x00\x00\x01\x00\x07\xff\xff\xff\xfe";
+const BYTES: [u8; 63] = *b"\x00\x08root.g.d\x00\x01s\
+\x02\x00\x00\x00\x00\x00\x00\x00\x00\x12\
+\x00\x02\x00\x00\x00\x00\x00\x00\x00\x01\
+\x01\x04\x00\x00\x00\x00\x00\x00\x00\x02\
+\x05\x01\x00\x00\x00\x00\x00\x00\x00\x03\
+\x00\x00\x00\x01\x00\x07\xff\xff\xff\xfe";
 
 impl Field {
     /// Appends the field, and says whether it is there.
@@ -156,13 +163,9 @@ fn are_read(alloc: Global, fields: &[Field], bytes: &[u8]) -> bool {
 }
 
 #[test]
-fn fields_written_one_behind_another(rt: HostRuntime) {
-    assert!(rt; are_written(rt.alloc(), &FIELDS, &BYTES));
-}
-
-#[test]
-fn fields_read_one_behind_another(rt: HostRuntime) {
-    assert!(rt; are_read(rt.alloc(), &FIELDS, &BYTES));
+fn fields_one_behind_another(rt: HostRuntime) {
+    let alloc = rt.alloc();
+    assert!(rt; are_written(alloc, &FIELDS, &BYTES) && are_read(alloc, &FIELDS, &BYTES));
 }
 
 /// The bytes of the statistics of the one point 1, 5: the number, both times, and four times the value.
@@ -178,13 +181,10 @@ const TEXTS: [u8; 29] = [
 ];
 
 #[test]
-fn bytes_of_statistics(rt: HostRuntime) {
-    assert!(rt; are_written(rt.alloc(), &[Field::Five], &NUMBERS));
-}
-
-#[test]
 fn statistics_of_numbers(rt: HostRuntime) {
-    assert!(rt; are_read(rt.alloc(), &[Field::Five], &NUMBERS));
+    let alloc = rt.alloc();
+    let five = [Field::Five];
+    assert!(rt; are_written(alloc, &five, &NUMBERS) && are_read(alloc, &five, &NUMBERS));
 }
 
 #[test]
@@ -194,62 +194,14 @@ fn statistics_of_texts(rt: HostRuntime) {
     assert!(rt; are_written(alloc, &texts, &TEXTS) && are_read(alloc, &texts, &TEXTS));
 }
 
-/// A byte, and the type or the encoding that it is, if it is one.
-#[derive(Clone, Copy)]
-enum Coded {
-    Type(u8, Option<DataType>),
-    Encoding(u8, Option<Encoding>),
-}
-
-/// Whether the byte is read as this.
-fn is_read_as<T: PlainValue + PartialEq + Copy>(
-    alloc: Global,
-    byte: u8,
-    wanted: Option<T>,
-) -> bool {
-    let bytes = [byte];
-    match read_field::<T>(alloc, rest(&bytes)) {
-        Ok((found, _)) => wanted == Some(found),
-        Err(fault) => wanted.is_none() && fault == FieldFault::Bad { at: 70 },
-    }
-}
-
-impl Row for Coded {
-    fn is_right(&self, alloc: Global) -> bool {
-        match *self {
-            Coded::Type(byte, wanted) => is_read_as(alloc, byte, wanted),
-            Coded::Encoding(byte, wanted) => is_read_as(alloc, byte, wanted),
-        }
-    }
-}
-
-const CODED: &[Coded] = &[
-    Coded::Type(0, Some(DataType::Boolean)),
-    Coded::Type(1, Some(DataType::Int32)),
-    Coded::Type(2, Some(DataType::Int64)),
-    Coded::Type(3, None),
-    Coded::Type(4, None),
-    Coded::Type(5, Some(DataType::Text)),
-    Coded::Type(6, None),
-    Coded::Encoding(0, Some(Encoding::Plain)),
-    Coded::Encoding(1, Some(Encoding::Dictionary)),
-    Coded::Encoding(2, Some(Encoding::Rle)),
-    Coded::Encoding(3, None),
-    Coded::Encoding(4, Some(Encoding::Ts2diff)),
-    Coded::Encoding(5, None),
-];
-
-#[test]
-fn bytes_of_types_and_encodings(rt: HostRuntime) -> Result<(), Fail> {
-    expect_none(first_wrong(rt.alloc(), CODED))
-}
-
 #[derive(Clone, Copy)]
 enum Kind {
     Path,
     Name,
     Boolean,
     Number,
+    Type,
+    Encoding,
     Stats,
 }
 
@@ -261,24 +213,10 @@ fn is_refused(alloc: Global, kind: Kind, bytes: &[u8]) -> bool {
         Kind::Name => is_bad(read_name(alloc, field)),
         Kind::Boolean => is_bad(read_value(alloc, DataType::Boolean, field)),
         Kind::Number => is_bad(read_field::<u64>(alloc, field)),
+        Kind::Type => is_bad(read_field::<DataType>(alloc, field)),
+        Kind::Encoding => is_bad(read_field::<Encoding>(alloc, field)),
         Kind::Stats => is_bad(read_stats(alloc, DataType::Int64, field)),
     }
-}
-
-/// The first cut of statistics that is not bad at their first byte.
-fn first_read_cut(alloc: Global) -> Option<usize> {
-    for cut in 0..56usize {
-        if !is_refused(alloc, Kind::Stats, &NUMBERS[..cut]) {
-            return Some(cut);
-        }
-    }
-    None
-}
-
-/// A field that is cut is bad at its first byte.
-#[test]
-fn cut_statistics(rt: HostRuntime) -> Result<(), Fail> {
-    expect_none(first_read_cut(rt.alloc()))
 }
 
 /// Bytes that begin with no field of a kind.
@@ -293,17 +231,18 @@ impl Row for NoField {
 
 const REFUSED: &[NoField] = &[
     NoField(Kind::Path, b""),
-    NoField(Kind::Path, b"\x00"),
     NoField(Kind::Path, b"\x00\x00"),
     NoField(Kind::Path, b"\x00\x04roo"),
     NoField(Kind::Path, b"\x00\x04roo."),
-    NoField(Kind::Name, b""),
     NoField(Kind::Name, b"\x00"),
     NoField(Kind::Name, b"\x00\x00"),
     NoField(Kind::Name, b"\x00\x04roo"),
     NoField(Kind::Name, b"\x00\x04roo."),
     NoField(Kind::Boolean, &[2]),
     NoField(Kind::Number, &[0; 7]),
+    NoField(Kind::Type, &[3]),
+    NoField(Kind::Encoding, &[3]),
+    NoField(Kind::Stats, &[0; 55]),
 ];
 
 #[test]

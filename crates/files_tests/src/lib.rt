@@ -1,16 +1,25 @@
-//! Tests of the parts of files: tsdb_stats, tsdb_fields, tsdb_index and tsdb_pages, by their public items alone. A
-//! plain slow reader of indexes stands beside them to compare with. The library itself is empty. Depends on these
-//! crates, tsdb_base, tsdb_path and the codecs of pages.
+//! Tests of files, by the public items of their crates alone: statistics, fields, the index, pages and trees; and whole
+//! files, as `write_tree` and a builder write them, and as they are read, checked and looked up, in memory and on a
+//! disk. The library itself is empty. Depends on these crates, tsdb_base, tsdb_path, tsdb_outside, mem_outside and
+//! fs_outside.
 #![tactic(auto)]
 
 #[cfg(test)]
+mod built;
+#[cfg(test)]
+mod disk;
+#[cfg(test)]
 mod fields;
+#[cfg(test)]
+mod finding;
 #[cfg(test)]
 mod index;
 #[cfg(test)]
 mod pages;
 #[cfg(test)]
-mod plain_index;
+mod reader;
+#[cfg(test)]
+mod reading;
 #[cfg(test)]
 mod samples;
 #[cfg(test)]

@@ -1,6 +1,6 @@
 //! Tests of tsdb_stats. Depends on `samples`.
 
-use super::samples::{Row, Sample, expect_none, first_wrong, is_same, points, push};
+use super::samples::{Row, expect_none, first_wrong, is_same, points, push};
 use std::alloc::Global;
 use std::test::Fail;
 use tsdb_base::{DataType, Point, Stats, Value};
@@ -24,76 +24,43 @@ fn each_stats(alloc: Global, lists: &[&[Point]]) -> Vec<Stats> {
     all
 }
 
-/// So many points, and the first and the last, the least and the greatest of their numbers.
+/// INT64 values at the times 1, 2 and on, and the first and the last, the least and the greatest of them.
 #[derive(Clone, Copy)]
-struct Summary(Sample, u16, [i64; 4]);
+struct Summary(&'static [i64], [i64; 4]);
 
-/// Whether this is the number as a value of the type.
-fn is_value(found: &Value, data_type: DataType, number: i64) -> bool {
-    found.data_type() == data_type
-        && match found {
-            Value::Bool(found) => *found == (number % 2 == 1),
-            Value::I32(found) => i64::from(*found) == number,
-            Value::I64(found) => *found == number,
-            Value::Text(found) => found.bytes() == &number.to_be_bytes()[6..],
-        }
-}
-
-/// Whether this is the number as a value of a type of numbers, and no value for another type.
-fn is_extreme(found: &Option<Value>, data_type: DataType, number: i64) -> bool {
-    let is_number = matches!(data_type, DataType::Int32 | DataType::Int64);
-    match found {
-        Some(found) => is_number && is_value(found, data_type, number),
-        None => !is_number,
+/// The points of such values.
+fn points_of(alloc: Global, numbers: &[i64]) -> Vec<Point> {
+    let mut points = Vec::new(alloc);
+    let mut time = 1i64;
+    for number in numbers {
+        let value = Value::I64(*number);
+        push(&mut points, Some(Point { time, value }));
+        time = time.wrapping_add(1);
     }
-}
-
-impl Summary {
-    /// Whether these are the statistics of the points, at the times 1, 2 and on.
-    fn is_of(self, stats: &Stats) -> bool {
-        let Summary(sample, count, [first, last, least, greatest]) = self;
-        let data_type = sample.data_type();
-        stats.count == u64::from(count)
-            && stats.start == 1
-            && stats.end == i64::from(count)
-            && is_value(&stats.first, data_type, first)
-            && is_value(&stats.last, data_type, last)
-            && is_extreme(&stats.least, data_type, least)
-            && is_extreme(&stats.greatest, data_type, greatest)
-    }
-
-    fn is_found(self, alloc: Global, points: &[Point]) -> bool {
-        let all = each_stats(alloc, &[points]);
-        match all.as_slice() {
-            [stats] => self.is_of(stats),
-            _ => false,
-        }
-    }
+    points
 }
 
 impl Row for Summary {
     fn is_right(&self, alloc: Global) -> bool {
-        let Summary(sample, count, _) = *self;
-        match points(alloc, sample, count) {
-            Some(points) => self.is_found(alloc, &points),
-            None => false,
-        }
+        let Summary(numbers, [first, last, least, greatest]) = *self;
+        let wanted = Stats {
+            count: numbers.len() as u64,
+            start: 1,
+            end: numbers.len() as i64,
+            first: Value::I64(first),
+            last: Value::I64(last),
+            least: Some(Value::I64(least)),
+            greatest: Some(Value::I64(greatest)),
+        };
+        is_same(stats(&points_of(alloc, numbers)), &wanted)
     }
 }
 
 const LISTS: &[Summary] = &[
-    Summary(Sample::Numbers(&[5]), 1, [5, 5, 5, 5]),
-    Summary(
-        Sample::Numbers(&[3, i64::MIN, 7, 7]),
-        4,
-        [3, 7, i64::MIN, 7],
-    ),
-    Summary(
-        Sample::Numbers(&[0, i64::MAX, -1]),
-        3,
-        [0, -1, -1, i64::MAX],
-    ),
-    Summary(Sample::Numbers(&[7, 6, 6, 8, 7]), 5, [7, 7, 6, 8]),
+    Summary(&[5], [5, 5, 5, 5]),
+    Summary(&[3, i64::MIN, 7, 7], [3, 7, i64::MIN, 7]),
+    Summary(&[0, i64::MAX, -1], [0, -1, -1, i64::MAX]),
+    Summary(&[7, 6, 6, 8, 7], [7, 7, 6, 8]),
 ];
 
 #[test]
@@ -101,58 +68,49 @@ fn statistics_of_numbers(rt: HostRuntime) -> Result<(), Fail> {
     expect_none(first_wrong(rt.alloc(), LISTS))
 }
 
-const WALKS: &[Summary] = &[
-    Summary(Sample::Walk(DataType::Boolean), 1, [0, 0, 0, 0]),
-    Summary(Sample::Walk(DataType::Boolean), 2, [0, 37, 0, 37]),
-    Summary(Sample::Walk(DataType::Boolean), 1000, [0, 98, 0, 100]),
-    Summary(Sample::Walk(DataType::Int32), 1, [0, 0, 0, 0]),
-    Summary(Sample::Walk(DataType::Int32), 2, [0, 37, 0, 37]),
-    Summary(Sample::Walk(DataType::Int32), 1000, [0, 98, 0, 100]),
-    Summary(Sample::Walk(DataType::Int64), 1, [0, 0, 0, 0]),
-    Summary(Sample::Walk(DataType::Int64), 2, [0, 37, 0, 37]),
-    Summary(Sample::Walk(DataType::Int64), 1000, [0, 98, 0, 100]),
-    Summary(Sample::Walk(DataType::Text), 1, [0, 0, 0, 0]),
-    Summary(Sample::Walk(DataType::Text), 2, [0, 37, 0, 37]),
-    Summary(Sample::Walk(DataType::Text), 1000, [0, 98, 0, 100]),
-];
-
-#[test]
-fn statistics_of_each_type(rt: HostRuntime) -> Result<(), Fail> {
-    expect_none(first_wrong(rt.alloc(), WALKS))
-}
-
-/// Whether the whole is both joined, of which each has 1,000 points at most.
-fn is_joined(left: &Stats, right: &Stats, whole: &Stats) -> bool {
-    left.count <= 1000 && right.count <= 1000 && is_same(join(left, right).ok(), whole)
-}
-
-/// Whether the statistics of the points before a cut and behind it, joined, are those of all.
-fn are_joined(alloc: Global, points: &[Point], cut: usize) -> bool {
-    let (before, behind) = points.split_at(cut.min(points.len()));
-    let all = each_stats(alloc, &[before, behind, points]);
-    match all.as_slice() {
-        [left, right, whole] => is_joined(left, right, whole),
-        _ => false,
-    }
-}
-
-/// A place at which 1,000 points are cut in two.
-#[derive(Clone, Copy)]
-struct Cut(usize);
-
-impl Row for Cut {
+/// A type, and whether it has a least and a greatest value.
+impl Row for (DataType, bool) {
     fn is_right(&self, alloc: Global) -> bool {
-        match points(alloc, Sample::Walk(DataType::Int64), 1000) {
-            Some(points) => are_joined(alloc, &points, self.0),
-            None => false,
+        let points = points(alloc, self.0, 1, 1000);
+        let all = each_stats(alloc, &[points.as_slice()]);
+        match all.as_slice() {
+            [stats] => {
+                stats.count == 1000
+                    && stats.first.data_type() == self.0
+                    && stats.least.is_some() == self.1
+                    && stats.greatest.is_some() == self.1
+            }
+            _ => false,
         }
     }
 }
 
-const CUTS: &[Cut] = &[Cut(1), Cut(2), Cut(500), Cut(999)];
+const TYPES: &[(DataType, bool)] = &[
+    (DataType::Boolean, false),
+    (DataType::Int32, true),
+    (DataType::Int64, true),
+    (DataType::Text, false),
+];
 
-/// Of 1,000 points, cut in two at each place, the joined statistics are those of the whole, which a table gives.
 #[test]
-fn joined_statistics_are_those_of_the_whole(rt: HostRuntime) -> Result<(), Fail> {
-    expect_none(first_wrong(rt.alloc(), CUTS))
+fn statistics_of_each_type(rt: HostRuntime) -> Result<(), Fail> {
+    expect_none(first_wrong(rt.alloc(), TYPES))
+}
+
+/// Whether the statistics of 1,000 points before a cut and behind it, joined, are those of all.
+fn are_joined(alloc: Global, cut: usize) -> bool {
+    let points = points(alloc, DataType::Int64, 1, 1000);
+    let (before, behind) = points.split_at(cut.min(points.len()));
+    let all = each_stats(alloc, &[before, behind, points.as_slice()]);
+    match all.as_slice() {
+        [left, right, whole] => {
+            left.count <= 1000 && right.count <= 1000 && is_same(join(left, right).ok(), whole)
+        }
+        _ => false,
+    }
+}
+
+#[test]
+fn joined_statistics_are_those_of_the_whole(rt: HostRuntime) {
+    assert!(rt; are_joined(rt.alloc(), 500));
 }

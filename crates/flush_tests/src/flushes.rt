@@ -5,6 +5,7 @@ ghost use Rattle.tsdb_flush.specs.Jobs.{IsJob};
 ghost use Rattle.tsdb_model.specs.Commands.{IsSchema};
 ghost use Rattle.tsdb_path.specs.Nodes.{node_count};
 
+use crate::files::schema_at;
 use mem_outside::{SteadyFiles, SteadyPlace};
 use std::alloc::Global;
 use std::sync::Arc;
@@ -18,21 +19,6 @@ use tsdb_path::Path;
 
 /// The one series.
 const SERIES: SeriesId = SeriesId(4);
-
-/// `root.plant.pump.speed`, of whole numbers.
-fn speed(alloc: Global) -> Result<Schema, Fail>
-    ensures { IfOk result IsSchema }
-{
-    let path = Path::read(alloc, b"root.plant.pump.speed")?;
-    if path.nodes() < 3 {
-        return Err("no series".into());
-    }
-    Ok(Schema {
-        path,
-        data_type: DataType::Int64,
-        encoding: Encoding::Ts2diff,
-    })
-}
 
 /// Whether the points are of the type.
 fn are_of(points: &[Point], data_type: DataType) -> bool
@@ -199,7 +185,12 @@ fn said_after(
     let slots = [vec![in alloc; 0]?, vec![in alloc; 0]?];
     let mut place = SteadyPlace::new(alloc, slots, Vec::new(alloc))?;
     let (_journal, mut files) = place.take_up(b"store")?;
-    let schema = speed(alloc)?;
+    let schema = schema_at(
+        alloc,
+        b"root.plant.pump.speed",
+        DataType::Int64,
+        Encoding::Ts2diff,
+    )?;
     let pair = pair_at(alloc, &schema, times)?;
     let job = job_of(alloc, pair, schema)?;
     flushed(alloc, &mut files, &job)

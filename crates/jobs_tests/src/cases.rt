@@ -1,6 +1,8 @@
 //! Courses whose values are worked out by hand. Depends on `course`.
-use crate::course::{Case, Compacted, Course, Seen, Step, first_wrong};
-use crate::jobs::{Began, Kind, Rows, Told};
+use crate::course::Step::{Compact, Create, Delete, Flush, Put, Sweep};
+use crate::course::{Case, Compacted, Course, Seen, first_wrong};
+use crate::jobs::Began::{Job, NoPlan, Not};
+use crate::jobs::{Kind, Rows};
 use std::alloc::Global;
 use std::test::Fail;
 use tsdb_base::Space;
@@ -9,17 +11,13 @@ use tsdb_outside::Failed;
 
 const INNER: Kind = Kind::Inner(Space::Sequence);
 
-pub const LATE: Kind = Kind::Inner(Space::Unsequence);
+const LATE: Kind = Kind::Inner(Space::Unsequence);
+
+const COMMITTED: Option<Result<(), Failed>> = Some(Ok(()));
 
 /// A compaction of two sequence files.
 const COURSE: Course<'static> = Course {
-    before: &[
-        Step::Create,
-        Step::Put(1, 1),
-        Step::Flush,
-        Step::Put(2, 2),
-        Step::Flush,
-    ],
+    before: &[Create, Put(1, 1), Flush, Put(2, 2), Flush],
     kind: INNER,
     meanwhile: &[],
     second: None,
@@ -30,370 +28,248 @@ const COURSE: Course<'static> = Course {
 };
 
 /// Its rows, under a pin and behind it.
-const BOTH: Option<Rows> = Some(Rows {
-    at: [Some(1), Some(2), None],
-    count: 2,
-});
-
-const COMPACTED: Compacted = Compacted {
-    began: Began::Job(Told {
-        born: 3,
-        inputs: [1, 2, 0, 0],
-        output: 3,
-    }),
-    points: Some(2),
-    ended: Some(Ok(())),
-};
+const BOTH: Option<Rows> = Some(Rows([Some(1), Some(2), None], 2));
 
 /// What is seen of it.
 const SEEN: Seen = Seen {
-    compacted: COMPACTED,
+    compacted: Compacted(Job(3, [1, 2, 0, 0], 3), Some(2), COMMITTED),
     pinned: BOTH,
     swept: [Ok(0), Ok(2)],
     rows: BOTH,
 };
 
-/// A deletion while a compaction is out: the output is as old as its beginning, so the mark of the deletion covers it.
-const DELETED_MEANWHILE: Case<'static> = Case {
-    course: Course {
-        before: &[
-            Step::Create,
-            Step::Put(10, 1),
-            Step::Flush,
-            Step::Put(5, 2),
-            Step::Flush,
-        ],
-        kind: Kind::Cross,
-        meanwhile: &[Step::Delete(5, 5)],
-        second: None,
-        written: &[],
-        commits: true,
-        behind: &[],
-        times: [5, 10, 0],
-    },
-    seen: Seen {
-        compacted: Compacted {
-            began: Began::Job(Told {
-                born: 3,
-                inputs: [2, 0, 0, 0],
-                output: 3,
-            }),
-            points: Some(1),
-            ended: Some(Ok(())),
-        },
-        pinned: Some(Rows {
-            at: [Some(2), Some(1), None],
-            count: 2,
-        }),
-        swept: [Ok(0), Ok(1)],
-        rows: Some(Rows {
-            at: [None, Some(1), None],
-            count: 1,
-        }),
-    },
-    listing: "sequence 3 born 3 points 1 from 5 to 5\nsequence 1 born 2 points 1 from 10 to 10\nfrozen 0\nworking 0 0\nmarks 1\n",
-};
-
-/// A pin stays over a compaction, a row and a sweep, and its files stay with it.
-const PINNED_MEANWHILE: Case<'static> = Case {
-    course: Course {
-        before: &[
-            Step::Create,
-            Step::Put(10, 1),
-            Step::Flush,
-            Step::Put(10, 2),
-            Step::Flush,
-        ],
-        kind: Kind::Cross,
-        meanwhile: &[],
-        second: None,
-        written: &[],
-        commits: true,
-        behind: &[Step::Put(10, 3)],
-        times: [10, 0, 0],
-    },
-    seen: Seen {
-        compacted: Compacted {
-            began: Began::Job(Told {
-                born: 3,
-                inputs: [1, 2, 0, 0],
-                output: 3,
-            }),
-            points: Some(1),
-            ended: Some(Ok(())),
-        },
-        pinned: Some(Rows {
-            at: [Some(2), None, None],
-            count: 1,
-        }),
-        swept: [Ok(0), Ok(2)],
-        rows: Some(Rows {
-            at: [Some(3), None, None],
-            count: 1,
-        }),
-    },
-    listing: "sequence 3 born 3 points 1 from 10 to 10\nfrozen 0\nworking 0 1\nmarks 0\n",
-};
-
-/// A job of sequence files has the whole list, so no other is planned of it. Late files that are not its inputs are
-/// compacted meanwhile. Given up, it leaves its files, and its output goes.
-const SEQUENCE_CLAIMED: Case<'static> = Case {
-    course: Course {
-        before: &[
-            Step::Create,
-            Step::Put(10, 1),
-            Step::Flush,
-            Step::Put(20, 2),
-            Step::Flush,
-            Step::Put(5, 3),
-            Step::Flush,
-        ],
-        kind: INNER,
-        meanwhile: &[
-            Step::Compact(Kind::Cross),
-            Step::Compact(INNER),
-            Step::Put(6, 4),
-            Step::Flush,
-            Step::Compact(LATE),
-        ],
-        second: None,
-        written: &[],
-        commits: false,
-        behind: &[],
-        times: [5, 10, 20],
-    },
-    seen: Seen {
-        compacted: Compacted {
-            began: Began::Job(Told {
-                born: 4,
-                inputs: [1, 2, 0, 0],
-                output: 4,
-            }),
-            points: Some(2),
-            ended: None,
-        },
-        pinned: Some(Rows {
-            at: [Some(3), Some(1), Some(2)],
-            count: 3,
-        }),
-        swept: [Ok(2), Ok(1)],
-        rows: Some(Rows {
-            at: [Some(3), Some(1), Some(2)],
-            count: 4,
-        }),
-    },
-    listing: "sequence 1 born 2 points 1 from 10 to 10\n\
-        sequence 2 born 3 points 1 from 20 to 20\n\
-        unsequence 6 born 5 points 2 from 5 to 6\n\
-        frozen 0\n\
-        working 0 0\n\
-        marks 0\n",
-};
-
-/// Late files that a job has claimed are in no other plan, and end one. A file that is flushed meanwhile stands behind
-/// the output.
-const LATE_CLAIMED: Case<'static> = Case {
-    course: Course {
-        before: &[
-            Step::Create,
-            Step::Put(10, 1),
-            Step::Flush,
-            Step::Put(5, 2),
-            Step::Flush,
-            Step::Put(6, 3),
-            Step::Flush,
-        ],
-        kind: LATE,
-        meanwhile: &[
-            Step::Compact(Kind::Cross),
-            Step::Compact(LATE),
-            Step::Put(7, 4),
-            Step::Flush,
-            Step::Compact(Kind::Cross),
-            Step::Compact(LATE),
-        ],
-        second: None,
-        written: &[],
-        commits: true,
-        behind: &[],
-        times: [5, 6, 10],
-    },
-    seen: Seen {
-        compacted: Compacted {
-            began: Began::Job(Told {
-                born: 4,
-                inputs: [2, 3, 0, 0],
-                output: 4,
-            }),
-            points: Some(2),
-            ended: Some(Ok(())),
-        },
-        pinned: Some(Rows {
-            at: [Some(2), Some(3), Some(1)],
-            count: 3,
-        }),
-        swept: [Ok(0), Ok(2)],
-        rows: Some(Rows {
-            at: [Some(2), Some(3), Some(1)],
-            count: 4,
-        }),
-    },
-    listing: "sequence 1 born 2 points 1 from 10 to 10\n\
-        unsequence 4 born 4 points 2 from 5 to 6\n\
-        unsequence 5 born 5 points 1 from 7 to 7\n\
-        frozen 0\n\
-        working 0 0\n\
-        marks 0\n",
-};
-
-/// Deletions before the output is written and behind that are in no output, and are not undone by the commit.
-const DELETED_TWICE: Case<'static> = Case {
-    course: Course {
-        before: &[
-            Step::Create,
-            Step::Put(1, 1),
-            Step::Flush,
-            Step::Put(2, 2),
-            Step::Flush,
-            Step::Put(3, 3),
-            Step::Flush,
-        ],
-        meanwhile: &[Step::Delete(1, 1)],
-        written: &[Step::Delete(3, 3)],
-        ..COURSE
-    },
-    seen: Seen {
-        compacted: Compacted {
-            began: Began::Job(Told {
-                born: 4,
-                inputs: [1, 2, 3, 0],
-                output: 4,
-            }),
-            points: Some(3),
-            ended: Some(Ok(())),
-        },
-        pinned: Some(Rows {
-            at: [Some(1), Some(2), Some(3)],
-            count: 3,
-        }),
-        swept: [Ok(0), Ok(3)],
-        rows: Some(Rows {
-            at: [None, Some(2), None],
-            count: 1,
-        }),
-    },
-    listing: "sequence 4 born 4 points 3 from 1 to 3\nfrozen 0\nworking 0 0\nmarks 2\n",
-};
-
-const NO_ROWS: Option<Rows> = Some(Rows {
-    at: [None; 3],
-    count: 0,
-});
-
-/// No point survives, so there is no output. The marks go with the last file.
-const NO_OUTPUT: Case<'static> = Case {
-    course: Course {
-        before: &[
-            Step::Create,
-            Step::Put(1, 1),
-            Step::Flush,
-            Step::Put(2, 2),
-            Step::Flush,
-            Step::Delete(1, 2),
-        ],
-        ..COURSE
-    },
-    seen: Seen {
-        compacted: Compacted {
-            began: Began::Job(Told {
-                born: 4,
-                inputs: [1, 2, 0, 0],
-                output: 3,
-            }),
-            points: Some(0),
-            ended: Some(Ok(())),
-        },
-        pinned: NO_ROWS,
-        swept: [Ok(0), Ok(2)],
-        rows: NO_ROWS,
-    },
-    listing: "frozen 0\nworking 0 0\nmarks 0\n",
-};
-
-/// The mark of a file that is older than an output stays.
-const MARK_STAYS: Case<'static> = Case {
-    course: Course {
-        before: &[
-            Step::Create,
-            Step::Put(10, 1),
-            Step::Flush,
-            Step::Delete(10, 10),
-            Step::Put(5, 2),
-            Step::Flush,
-            Step::Put(6, 3),
-            Step::Flush,
-        ],
-        kind: LATE,
-        times: [5, 6, 10],
-        ..COURSE
-    },
-    seen: Seen {
-        compacted: Compacted {
-            began: Began::Job(Told {
-                born: 5,
-                inputs: [2, 3, 0, 0],
-                output: 4,
-            }),
-            points: Some(2),
-            ended: Some(Ok(())),
-        },
-        pinned: Some(Rows {
-            at: [Some(2), Some(3), None],
-            count: 2,
-        }),
-        swept: [Ok(0), Ok(2)],
-        rows: Some(Rows {
-            at: [Some(2), Some(3), None],
-            count: 2,
-        }),
-    },
-    listing: "sequence 1 born 2 points 1 from 10 to 10\nunsequence 4 born 5 points 2 from 5 to 6\nfrozen 0\nworking 0 0\nmarks 1\n",
-};
-
 const TWO_FILES: &str =
     "sequence 1 born 2 points 1 from 1 to 1\nsequence 2 born 3 points 1 from 2 to 2\nfrozen 0\nworking 0 0\nmarks 0\n";
 
-/// An output that was written is on its way out where its job is given up.
-const GIVEN_UP: Case<'static> = Case {
-    course: Course {
-        commits: false,
-        ..COURSE
-    },
-    seen: Seen {
-        compacted: Compacted {
-            ended: None,
-            ..COMPACTED
-        },
-        swept: [Ok(1), Ok(0)],
-        ..SEEN
-    },
-    listing: TWO_FILES,
+const NO_ROWS: Option<Rows> = Some(Rows([None; 3], 0));
+
+/// A cross job has the one late file, 2, whose time lies before all sequence files. Then 4 and 5 are flushed, and the
+/// late job has these. File 7 is flushed while both are out.
+///
+/// The end of the job that began first moves the inputs of the second one in the late list. Behind them stands a file
+/// that was flushed while both were out, with another value at a time of theirs. An output at the old place would stand
+/// behind that file, and its value would win.
+const CROSS_FIRST: Course<'static> = Course {
+    before: &[Create, Put(10, 1), Flush, Put(5, 2), Flush],
+    kind: Kind::Cross,
+    meanwhile: &[Put(6, 3), Flush, Put(7, 4), Flush],
+    second: Some(LATE),
+    written: &[Put(7, 5), Flush],
+    times: [5, 7, 10],
+    ..COURSE
 };
 
 /// Each of these runs on a store of its own.
-const CASES: [Case<'static>; 8] = [
-    DELETED_MEANWHILE,
-    PINNED_MEANWHILE,
-    SEQUENCE_CLAIMED,
-    LATE_CLAIMED,
-    DELETED_TWICE,
-    NO_OUTPUT,
-    MARK_STAYS,
-    GIVEN_UP,
+const CASES: [Case<'static>; 9] = [
+    // A deletion while a compaction is out: the output is as old as its beginning, so the mark of the deletion covers
+    // it. The late file lies before all sequence files, so the run of these is empty.
+    Case {
+        course: Course {
+            before: &[Create, Put(10, 1), Flush, Put(5, 2), Flush],
+            kind: Kind::Cross,
+            meanwhile: &[Delete(5, 5)],
+            times: [5, 10, 0],
+            ..COURSE
+        },
+        seen: Seen {
+            compacted: Compacted(Job(3, [2, 0, 0, 0], 3), Some(1), COMMITTED),
+            pinned: Some(Rows([Some(2), Some(1), None], 2)),
+            swept: [Ok(0), Ok(1)],
+            rows: Some(Rows([None, Some(1), None], 1)),
+        },
+        listing: "sequence 3 born 3 points 1 from 5 to 5\nsequence 1 born 2 points 1 from 10 to 10\n\
+            frozen 0\nworking 0 0\nmarks 1\n",
+    },
+    // A pin stays over a compaction, a row and a sweep, and its files stay with it.
+    Case {
+        course: Course {
+            before: &[Create, Put(10, 1), Flush, Put(10, 2), Flush],
+            kind: Kind::Cross,
+            behind: &[Put(10, 3)],
+            times: [10, 0, 0],
+            ..COURSE
+        },
+        seen: Seen {
+            compacted: Compacted(Job(3, [1, 2, 0, 0], 3), Some(1), COMMITTED),
+            pinned: Some(Rows([Some(2), None, None], 1)),
+            swept: [Ok(0), Ok(2)],
+            rows: Some(Rows([Some(3), None, None], 1)),
+        },
+        listing: "sequence 3 born 3 points 1 from 10 to 10\nfrozen 0\nworking 0 1\nmarks 0\n",
+    },
+    // A pin of two files, a frozen pair and a working one stays over each kind of step: its value at 10 is written
+    // anew, a row freezes its pair, its points from 5 to 20 are deleted, its pairs are flushed, and its files go into a
+    // cross compaction, whose output goes with two newer files into an inner one. That one drops what is deleted, and a
+    // sweep leaves the files of the pin alone.
+    Case {
+        course: Course {
+            before: &[
+                Create,
+                Put(10, 1),
+                Put(3, 6),
+                Flush,
+                Put(5, 2),
+                Flush,
+                Put(15, 3),
+                Put(40, 8),
+                Put(20, 4),
+            ],
+            kind: Kind::Cross,
+            meanwhile: &[Put(10, 7), Put(50, 9), Delete(5, 20), Flush, Flush, Flush],
+            behind: &[Compact(INNER), Sweep],
+            times: [10, 20, 40],
+            ..COURSE
+        },
+        seen: Seen {
+            compacted: Compacted(Job(7, [1, 2, 0, 0], 3), Some(3), COMMITTED),
+            pinned: Some(Rows([Some(1), Some(4), Some(8)], 6)),
+            swept: [Ok(0), Ok(2)],
+            rows: Some(Rows([None, None, Some(8)], 3)),
+        },
+        listing: "sequence 7 born 10 points 3 from 3 to 50\nunsequence 5 born 8 points 2 from 10 to 20\n\
+            frozen 0\nworking 0 0\nmarks 1\n",
+    },
+    // A job of sequence files has the whole list, so no other is planned of it. Late files that are not its inputs are
+    // compacted meanwhile. Given up, it leaves its files, and its output goes.
+    Case {
+        course: Course {
+            before: &[
+                Create,
+                Put(10, 1),
+                Flush,
+                Put(20, 2),
+                Flush,
+                Put(5, 3),
+                Flush,
+            ],
+            meanwhile: &[
+                Compact(Kind::Cross),
+                Compact(INNER),
+                Put(6, 4),
+                Flush,
+                Compact(LATE),
+            ],
+            commits: false,
+            times: [5, 10, 20],
+            ..COURSE
+        },
+        seen: Seen {
+            compacted: Compacted(Job(4, [1, 2, 0, 0], 4), Some(2), None),
+            pinned: Some(Rows([Some(3), Some(1), Some(2)], 3)),
+            swept: [Ok(2), Ok(1)],
+            rows: Some(Rows([Some(3), Some(1), Some(2)], 4)),
+        },
+        listing: "sequence 1 born 2 points 1 from 10 to 10\nsequence 2 born 3 points 1 from 20 to 20\n\
+            unsequence 6 born 5 points 2 from 5 to 6\nfrozen 0\nworking 0 0\nmarks 0\n",
+    },
+    // Late files that a job has claimed are in no other plan, and end one. A file that is flushed meanwhile stands
+    // behind the output.
+    Case {
+        course: Course {
+            before: &[
+                Create,
+                Put(10, 1),
+                Flush,
+                Put(5, 2),
+                Flush,
+                Put(6, 3),
+                Flush,
+            ],
+            kind: LATE,
+            meanwhile: &[
+                Compact(Kind::Cross),
+                Compact(LATE),
+                Put(7, 4),
+                Flush,
+                Compact(Kind::Cross),
+                Compact(LATE),
+            ],
+            times: [5, 6, 10],
+            ..COURSE
+        },
+        seen: Seen {
+            compacted: Compacted(Job(4, [2, 3, 0, 0], 4), Some(2), COMMITTED),
+            pinned: Some(Rows([Some(2), Some(3), Some(1)], 3)),
+            swept: [Ok(0), Ok(2)],
+            rows: Some(Rows([Some(2), Some(3), Some(1)], 4)),
+        },
+        listing: "sequence 1 born 2 points 1 from 10 to 10\nunsequence 4 born 4 points 2 from 5 to 6\n\
+            unsequence 5 born 5 points 1 from 7 to 7\nfrozen 0\nworking 0 0\nmarks 0\n",
+    },
+    // Deletions before the output is written and behind that are in no output, and are not undone by the commit.
+    Case {
+        course: Course {
+            before: &[Create, Put(1, 1), Flush, Put(2, 2), Flush, Put(3, 3), Flush],
+            meanwhile: &[Delete(1, 1)],
+            written: &[Delete(3, 3)],
+            ..COURSE
+        },
+        seen: Seen {
+            compacted: Compacted(Job(4, [1, 2, 3, 0], 4), Some(3), COMMITTED),
+            pinned: Some(Rows([Some(1), Some(2), Some(3)], 3)),
+            swept: [Ok(0), Ok(3)],
+            rows: Some(Rows([None, Some(2), None], 1)),
+        },
+        listing: "sequence 4 born 4 points 3 from 1 to 3\nfrozen 0\nworking 0 0\nmarks 2\n",
+    },
+    // No point survives, so there is no output. The marks go with the last file.
+    Case {
+        course: Course {
+            before: &[Create, Put(1, 1), Flush, Put(2, 2), Flush, Delete(1, 2)],
+            ..COURSE
+        },
+        seen: Seen {
+            compacted: Compacted(Job(4, [1, 2, 0, 0], 3), Some(0), COMMITTED),
+            pinned: NO_ROWS,
+            rows: NO_ROWS,
+            ..SEEN
+        },
+        listing: "frozen 0\nworking 0 0\nmarks 0\n",
+    },
+    // The late list is 2, 4, 5, 7, then 4, 5, 7, and then 6, 7. The pin still has file 2.
+    Case {
+        course: CROSS_FIRST,
+        seen: Seen {
+            compacted: Compacted(Job(3, [2, 0, 0, 0], 3), Some(1), COMMITTED),
+            pinned: Some(Rows([Some(2), None, Some(1)], 2)),
+            swept: [Ok(2), Ok(1)],
+            rows: Some(Rows([Some(2), Some(5), Some(1)], 4)),
+        },
+        listing: "sequence 3 born 3 points 1 from 5 to 5\nsequence 1 born 2 points 1 from 10 to 10\n\
+            unsequence 6 born 5 points 2 from 6 to 7\nunsequence 7 born 6 points 1 from 7 to 7\n\
+            frozen 0\nworking 0 0\nmarks 0\n",
+    },
+    // Two late jobs: the first one has 2 and 3, the second one 5 and 6. The late list is 2, 3, 5, 6, 8, then 4, 5, 6,
+    // 8, and then 4, 7, 8.
+    Case {
+        course: Course {
+            before: &[
+                Create,
+                Put(10, 1),
+                Flush,
+                Put(5, 2),
+                Flush,
+                Put(5, 3),
+                Flush,
+            ],
+            kind: LATE,
+            written: &[Put(7, 6), Flush],
+            ..CROSS_FIRST
+        },
+        seen: Seen {
+            compacted: Compacted(Job(4, [2, 3, 0, 0], 4), Some(1), COMMITTED),
+            pinned: Some(Rows([Some(3), None, Some(1)], 2)),
+            swept: [Ok(2), Ok(2)],
+            rows: Some(Rows([Some(3), Some(6), Some(1)], 4)),
+        },
+        listing: "sequence 1 born 2 points 1 from 10 to 10\nunsequence 4 born 4 points 1 from 5 to 5\n\
+            unsequence 7 born 6 points 2 from 6 to 7\nunsequence 8 born 7 points 1 from 7 to 7\n\
+            frozen 0\nworking 0 0\nmarks 0\n",
+    },
 ];
 
 /// The first of the cases that is not as it says.
-pub fn first_apart(alloc: Global, cases: &[Case<'_>]) -> Result<Option<usize>, Fail> {
+fn first_apart(alloc: Global, cases: &[Case<'_>]) -> Result<Option<usize>, Fail> {
     for (index, case) in cases.iter().enumerate() {
         if first_wrong(alloc, 1, &[*case], &[], &[])?.is_some() {
             return Ok(Some(index));
@@ -412,23 +288,20 @@ fn compactions_under_pins(rt: HostRuntime) -> Result<(), Fail> {
 const LAST_NUMBER: u64 = 0x7fff_ffff_ffff_ffff;
 
 const LAST_FILES: &str = "sequence 9223372036854775805 born 2 points 1 from 1 to 1\n\
-        sequence 9223372036854775806 born 3 points 1 from 2 to 2\n\
-        frozen 0\n\
-        working 0 0\n\
-        marks 0\n";
+    sequence 9223372036854775806 born 3 points 1 from 2 to 2\nfrozen 0\nworking 0 0\nmarks 0\n";
 
 /// No two numbers are left. A list without a plan is not full.
 const FULL: [Case<'static>; 2] = [
     Case {
         course: COURSE,
         seen: Seen {
-            compacted: Compacted {
-                began: Began::Not(CoreFault::Full {
+            compacted: Compacted(
+                Not(CoreFault::Full {
                     counter: LAST_NUMBER,
                 }),
-                points: None,
-                ended: None,
-            },
+                None,
+                None,
+            ),
             swept: [Ok(0), Ok(0)],
             ..SEEN
         },
@@ -441,11 +314,7 @@ const FULL: [Case<'static>; 2] = [
             ..COURSE
         },
         seen: Seen {
-            compacted: Compacted {
-                began: Began::NoPlan,
-                points: None,
-                ended: None,
-            },
+            compacted: Compacted(NoPlan, None, None),
             swept: [Ok(0), Ok(0)],
             ..SEEN
         },
@@ -454,31 +323,24 @@ const FULL: [Case<'static>; 2] = [
 ];
 
 /// The last number that may be drawn is left.
-const LAST: Case<'static> = Case {
+const LAST: [Case<'static>; 1] = [Case {
     course: COURSE,
     seen: Seen {
-        compacted: Compacted {
-            began: Began::Job(Told {
-                born: 3,
-                inputs: [LAST_NUMBER - 3, LAST_NUMBER - 2, 0, 0],
-                output: LAST_NUMBER - 1,
-            }),
-            points: Some(2),
-            ended: Some(Ok(())),
-        },
+        compacted: Compacted(
+            Job(3, [LAST_NUMBER - 3, LAST_NUMBER - 2, 0, 0], LAST_NUMBER - 1),
+            Some(2),
+            COMMITTED,
+        ),
         ..SEEN
     },
     listing: "sequence 9223372036854775806 born 3 points 2 from 1 to 2\nfrozen 0\nworking 0 0\nmarks 0\n",
-};
+}];
 
 #[test]
 fn numbers_at_their_end(rt: HostRuntime) -> Result<(), Fail> {
     let alloc = rt.alloc();
     assert_eq!(rt; first_wrong(alloc, LAST_NUMBER - 2, &FULL, &[], &[])?, None);
-    assert_eq!(rt;
-        first_wrong(alloc, LAST_NUMBER - 3, &[LAST], &[], &[])?,
-        None
-    );
+    assert_eq!(rt; first_wrong(alloc, LAST_NUMBER - 3, &LAST, &[], &[])?, None);
     Ok(())
 }
 
@@ -489,29 +351,21 @@ const AGAIN: Case<'static> = Case {
         ..COURSE
     },
     seen: Seen {
-        compacted: Compacted {
-            began: Began::Job(Told {
-                born: 3,
-                inputs: [1, 2, 0, 0],
-                output: 4,
-            }),
-            points: Some(2),
-            ended: Some(Ok(())),
-        },
+        compacted: Compacted(Job(3, [1, 2, 0, 0], 4), Some(2), COMMITTED),
         ..SEEN
     },
     listing: "sequence 4 born 3 points 2 from 1 to 2\nfrozen 0\nworking 0 0\nmarks 0\n",
 };
 
-/// A commit that failed leaves the lists as they were, and the output on its way out.
+/// A commit that failed.
+const NOT_COMMITTED: Compacted = Compacted(Job(3, [1, 2, 0, 0], 3), Some(2), Some(Err(Failed)));
+
+/// It leaves the lists as they were, and the output on its way out.
 const RETRIED: [Case<'static>; 2] = [
     Case {
         course: COURSE,
         seen: Seen {
-            compacted: Compacted {
-                ended: Some(Err(Failed)),
-                ..COMPACTED
-            },
+            compacted: NOT_COMMITTED,
             swept: [Ok(1), Ok(0)],
             ..SEEN
         },
@@ -525,10 +379,7 @@ const DOUBTED: [Case<'static>; 2] = [
     Case {
         course: COURSE,
         seen: Seen {
-            compacted: Compacted {
-                ended: Some(Err(Failed)),
-                ..COMPACTED
-            },
+            compacted: NOT_COMMITTED,
             swept: [Ok(0), Ok(0)],
             ..SEEN
         },
@@ -536,59 +387,27 @@ const DOUBTED: [Case<'static>; 2] = [
     },
     Case {
         course: Course {
-            before: &[Step::Put(4, 4)],
+            before: &[Put(4, 4)],
             kind: LATE,
             ..COURSE
         },
         seen: Seen {
-            compacted: Compacted {
-                began: Began::NoPlan,
-                points: None,
-                ended: None,
-            },
-            pinned: Some(Rows {
-                at: [Some(1), Some(2), None],
-                count: 3,
-            }),
+            compacted: Compacted(NoPlan, None, None),
+            pinned: Some(Rows([Some(1), Some(2), None], 3)),
             swept: [Ok(1), Ok(0)],
-            rows: Some(Rows {
-                at: [Some(1), Some(2), None],
-                count: 3,
-            }),
+            rows: Some(Rows([Some(1), Some(2), None], 3)),
         },
-        listing: "sequence 1 born 2 points 1 from 1 to 1\nsequence 2 born 3 points 1 from 2 to 2\nfrozen 0\nworking 1 0\nmarks 0\n",
+        listing: "sequence 1 born 2 points 1 from 1 to 1\nsequence 2 born 3 points 1 from 2 to 2\n\
+            frozen 0\nworking 1 0\nmarks 0\n",
     },
 ];
-
-/// The first call of the journal, of those from one to before another, at whose failure the cases are not as they say.
-fn first_call(alloc: Global, cases: &[Case<'_>], from: u64, to: u64) -> Result<Option<u64>, Fail> {
-    for call in from..to {
-        if first_wrong(alloc, 1, cases, &[call], &[])?.is_some() {
-            return Ok(Some(call));
-        }
-    }
-    Ok(None)
-}
-
-// The seven records before it are 28 calls, and its own are four, of which the two that open its gate leave it in doubt.
-#[test]
-fn journal_that_fails_at_a_commit(rt: HostRuntime) -> Result<(), Fail> {
-    let alloc = rt.alloc();
-    assert_eq!(rt; first_call(alloc, &RETRIED, 29, 31)?, None);
-    assert_eq!(rt; first_call(alloc, &DOUBTED, 31, 33)?, None);
-    Ok(())
-}
 
 /// An output that cannot be written is none, and its job is given up.
 const NOT_WRITTEN: [Case<'static>; 2] = [
     Case {
         course: COURSE,
         seen: Seen {
-            compacted: Compacted {
-                points: None,
-                ended: None,
-                ..COMPACTED
-            },
+            compacted: Compacted(Job(3, [1, 2, 0, 0], 3), None, None),
             swept: [Ok(0), Ok(0)],
             ..SEEN
         },
@@ -597,24 +416,55 @@ const NOT_WRITTEN: [Case<'static>; 2] = [
     AGAIN,
 ];
 
-/// The first call of the files, of those from one to before another, at whose failure the cases are not as they say.
-fn first_file_call(
+/// Which calls fail.
+#[derive(Clone, Copy, PartialEq, Eq)]
+enum Failing {
+    Journal,
+    Files,
+}
+
+/// The first call, of those from one to before another, at whose failure the cases are not as they say.
+fn first_call(
     alloc: Global,
     cases: &[Case<'_>],
+    failing: Failing,
     from: u64,
     to: u64,
 ) -> Result<Option<u64>, Fail> {
     for call in from..to {
-        if first_wrong(alloc, 1, cases, &[], &[call])?.is_some() {
+        let other = match failing {
+            Failing::Journal => first_wrong(alloc, 1, cases, &[call], &[]),
+            Failing::Files => first_wrong(alloc, 1, cases, &[], &[call]),
+        };
+        if other?.is_some() {
             return Ok(Some(call));
         }
     }
     Ok(None)
 }
 
+// The seven records before it are 28 calls, and its own are four, of which the two that open its gate leave it in
+// doubt.
+#[test]
+fn journal_that_fails_at_a_commit(rt: HostRuntime) -> Result<(), Fail> {
+    let alloc = rt.alloc();
+    assert_eq!(rt;
+        first_call(alloc, &RETRIED, Failing::Journal, 29, 31)?,
+        None
+    );
+    assert_eq!(rt;
+        first_call(alloc, &DOUBTED, Failing::Journal, 31, 33)?,
+        None
+    );
+    Ok(())
+}
+
 // The two files before it are two calls; the run reads both and puts its output by fifteen.
 #[test]
 fn files_that_fail_at_a_run(rt: HostRuntime) -> Result<(), Fail> {
-    assert_eq!(rt; first_file_call(rt.alloc(), &NOT_WRITTEN, 3, 18)?, None);
+    assert_eq!(rt;
+        first_call(rt.alloc(), &NOT_WRITTEN, Failing::Files, 3, 18)?,
+        None
+    );
     Ok(())
 }

@@ -1,5 +1,5 @@
-//! A course of a core: a compaction under a pin, with steps before it, while it is out, and behind it. Depends on `calls`
-//! and `jobs`.
+//! A course of a core: a compaction under a pin, with steps before it, while it is out, and behind it. Depends on
+//! `calls`, `jobs` and `served`.
 ghost use Rattle.jobs_tests.specs.Out.{AreHandedOn, EndsJob, EndsPin, HasJob, HasPin, IsHandedOn, IsKept};
 ghost use Rattle.std.specs.Prelude.{◌≡◌, [], ◌≤◌, IfSome};
 ghost use Rattle.tsdb_compactions.specs.Outputs.{IsOutputOf};
@@ -14,7 +14,8 @@ use crate::calls::{command_of, delete_command, flush, is_done, put_command, swee
 use crate::jobs::{
     Began, Kind, Rows, begin, commit, give_up, pin, points_of, read, run_job, unpin,
 };
-use mem_outside::{Fails, MemFiles, MemJournal, MemPlace};
+use crate::served::new_place;
+use mem_outside::{MemFiles, MemJournal};
 use std::alloc::Global;
 use std::test::Fail;
 use tsdb_base::{FileNumber, Time};
@@ -61,14 +62,10 @@ pub struct Course<'a> {
 /// What came of a compaction: how it began, how many points its output has, where it could be written, and how its
 /// commit went, where it was not given up.
 #[derive(Clone, Copy, Debug, PartialEq, Eq)]
-pub struct Compacted {
-    pub began: Began,
-    pub points: Option<u64>,
-    pub ended: Option<Result<(), Failed>>,
-}
+pub struct Compacted(pub Began, pub Option<u64>, pub Option<Result<(), Failed>>);
 
-/// What is seen of a course: the compaction; what the pin reads behind it; how many files a sweep removes before the pin
-/// is given back, and one behind that; and what a new pin reads then.
+/// What is seen of a course: the compaction; what the pin reads behind it; how many files a sweep removes before the
+/// pin is given back, and one behind that; and what a new pin reads then.
 #[derive(Clone, Copy, Debug, PartialEq, Eq)]
 pub struct Seen {
     pub compacted: Compacted,
@@ -191,11 +188,7 @@ fn take_steps<J: Journal, F: Files>(
 
 /// A compaction that could not be written, and was given up, or none.
 fn nothing(began: Began) -> Compacted {
-    Compacted {
-        began,
-        points: None,
-        ended: None,
-    }
+    Compacted(began, None, None)
 }
 
 /// Takes steps once the output of a job is written, and ends the job.
@@ -235,11 +228,7 @@ fn write<J: Journal, F: Files>(
         Ok(output) => {
             let points = Some(points_of(&output));
             let ended = finish::<J, F>(alloc, core, port, job, output, course);
-            ended.map(|ended| Compacted {
-                began,
-                points,
-                ended,
-            })
+            ended.map(|ended| Compacted(began, points, ended))
         }
         Err(_) => {
             give_up(core, job, None);
@@ -523,7 +512,7 @@ fn new_core<J: Journal, F: Files>(alloc: Global, logged: Logged<J>, next: u64) -
     ensures of_store { (store : Store) → AreOfStore store (files_of result).places }
 {
     let kept = KeptFiles::new(alloc);
-    let options = Options { pair_points: 9 };
+    let options = Options { pair_points: 2 };
     Core::new(alloc, logged, kept, options, FileNumber(next))
 }
 
@@ -554,12 +543,7 @@ pub fn first_wrong(
     journal: &[u64],
     files: &[u64],
 ) -> Result<Option<usize>, Fail> {
-    let fails = Fails {
-        journal: journal.to_vec(alloc)?,
-        files: files.to_vec(alloc)?,
-    };
-    let slots = [vec![in alloc; 0u8]?, vec![in alloc; 0u8]?];
-    let mut place = MemPlace::new(alloc, slots, Vec::new(alloc), fails)?;
+    let mut place = new_place(alloc, journal, files)?;
     let (journal, mut files) = place.take_up(b"d")?;
     let mut port = files.port()?;
     let Ok((frames, _)) = Frames::scan(alloc, journal, Slot::A) else {

@@ -1,5 +1,5 @@
-//! The calls of a core that begin and end compactions and pins, and what is run between them. Depends on the crates that
-//! it tests.
+//! The calls of a core that begin and end compactions and pins, and what is run between them. Depends on the crates
+//! that it tests.
 ghost use Rattle.jobs_tests.specs.Begins.{BeginsOrNot};
 ghost use Rattle.jobs_tests.specs.Out.{BeginsJob, EndsJob, EndsPin, HasPin, TakesPin};
 ghost use Rattle.std.specs.List.{AllByRecursion as Each};
@@ -31,33 +31,21 @@ pub enum Kind {
     Cross,
 }
 
-/// What is told of a job: its born, its first four inputs, 0 for none, and the number of its output.
-#[derive(Clone, Copy, Debug, PartialEq, Eq)]
-pub struct Told {
-    pub born: u64,
-    pub inputs: [u64; 4],
-    pub output: u64,
-}
-
-/// What is told of a job.
-fn told_of<F: Files>(job: &Job<F>) -> Told {
-    let mut inputs = [0; 4];
-    for (place, input) in inputs.iter_mut().zip(job.inputs.items()) {
-        *place = input.number.0;
-    }
-    Told {
-        born: job.born.0,
-        inputs,
-        output: job.output.0,
-    }
-}
-
-/// How a compaction began.
+/// How a compaction began. A job is told by its born, its first four inputs, 0 for none, and the number of its output.
 #[derive(Clone, Copy, Debug, PartialEq, Eq)]
 pub enum Began {
     NoPlan,
     Not(CoreFault),
-    Job(Told),
+    Job(u64, [u64; 4], u64),
+}
+
+/// What is told of a job.
+fn told_of<F: Files>(job: &Job<F>) -> Began {
+    let mut inputs = [0; 4];
+    for (place, input) in inputs.iter_mut().zip(job.inputs.items()) {
+        *place = input.number.0;
+    }
+    Began::Job(job.born.0, inputs, job.output.0)
 }
 
 /// Begins a compaction, by the call of its kind.
@@ -76,7 +64,7 @@ fn call<J: Journal, F: Files>(
 /// How a compaction began whose job this is.
 fn beginning_of<F: Files>(job: &Option<Job<F>>) -> Began {
     match job {
-        Some(job) => Began::Job(told_of(job)),
+        Some(job) => told_of(job),
         None => Began::NoPlan,
     }
 }
@@ -186,10 +174,7 @@ pub fn unpin<J: Journal, F: Files>(core: &mut Core<J, F>, pin: Pin<F>)
 
 /// What the rows of a pin have at three times, and how many rows there are.
 #[derive(Clone, Copy, Debug, PartialEq, Eq)]
-pub struct Rows {
-    pub at: [Option<i64>; 3],
-    pub count: usize,
-}
+pub struct Rows(pub [Option<i64>; 3], pub usize);
 
 /// The value of `s` in a row.
 fn value_of(line: &Line) -> Option<i64> {
@@ -209,14 +194,12 @@ fn value_at(lines: &[Line], time: Time) -> Option<i64> {
 
 /// What the rows have at these times.
 fn rows_at(lines: &[Line], times: [Time; 3]) -> Rows {
-    Rows {
-        at: [
-            value_at(lines, times[0]),
-            value_at(lines, times[1]),
-            value_at(lines, times[2]),
-        ],
-        count: lines.len(),
-    }
+    let at = [
+        value_at(lines, times[0]),
+        value_at(lines, times[1]),
+        value_at(lines, times[2]),
+    ];
+    Rows(at, lines.len())
 }
 
 /// The rows of a pin, where its files can be read.

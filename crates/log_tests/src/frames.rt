@@ -32,32 +32,25 @@ const THREE: [u8; 22] = [
     0,
 ];
 
-static CUTS: [Reading; 4] = [
+static SLOTS: [Reading; 14] = [
+    (Bytes(&[]), WHOLE, Torn),
+    (Bytes(&[0]), WHOLE, Closed),
+    // What stands behind a closed gate is nothing, be it open or torn.
+    (Bytes(&[2, 0, 0, 0, 1, 7, 0]), WHOLE, Closed),
+    (Bytes(&[0, 1, 1]), WHOLE, Closed),
+    (Bytes(&[1, 0, 0, 0, 1, 7, 255, 1, 9]), WHOLE, Records(1, 1)),
+    // A length of 0, one that leaves the slot, and one that leaves no gate in it.
+    (Bytes(&[1, 0, 0, 0, 0, 0, 0]), WHOLE, Torn),
+    (Bytes(&[1, 255, 255, 255, 255, 7, 0]), WHOLE, Torn),
+    (Bytes(&[1, 0, 0, 0, 1, 7]), WHOLE, Torn),
+    // A last record that cannot be read is no end of the log.
+    (Bytes(&[1, 0, 0, 0, 1, 7, 1, 0]), WHOLE, TornAt(1, 6)),
+    (Bytes(&WORKED), (40, 40), TornAt(15, 20)),
+    // A log that is cut is torn at its last open gate.
     (Bytes(&THREE), (0, 6), Torn),
     (Bytes(&THREE), (7, 13), TornAt(1, 6)),
     (Bytes(&THREE), (14, 21), TornAt(1, 13)),
     (Bytes(&THREE), (22, 22), Records(1, 3)),
-];
-
-#[test]
-fn every_cut_of_a_log_is_torn_at_its_last_open_gate(rt: HostRuntime) {
-    assert_eq!(rt; first_misread(rt.alloc(), &CUTS), None);
-}
-
-static SLOTS: [Reading; 9] = [
-    (Bytes(&[0]), WHOLE, Closed),
-    (Bytes(&[2]), WHOLE, Closed),
-    // What stands behind a closed gate is nothing, be it open or torn.
-    (Bytes(&[0, 1, 1]), WHOLE, Closed),
-    (Bytes(&[1, 0, 0, 0, 1, 7, 255, 1, 9]), WHOLE, Records(1, 1)),
-    // A length of 0.
-    (Bytes(&[1, 0, 0, 0, 0, 0, 0]), WHOLE, Torn),
-    // A length that leaves the slot, and one that leaves no gate in it.
-    (Bytes(&[1, 255, 255, 255, 255, 7, 0]), WHOLE, Torn),
-    (Bytes(&[1, 0, 0, 0, 1, 0]), WHOLE, Torn),
-    // A last record that cannot be read is no end of the log.
-    (Bytes(&[1, 0, 0, 0, 1, 7, 1, 0]), WHOLE, TornAt(1, 6)),
-    (Bytes(&WORKED), (40, 40), TornAt(15, 20)),
 ];
 
 #[test]

@@ -1,5 +1,5 @@
-//! Logs around 65,536 bytes, where a slot begins to grow ahead and where a piece ends that is read, and around the end of
-//! what a slot grew by, over places in memory.
+//! Logs around 65,536 bytes, where a slot begins to grow ahead and where a piece ends that is read, and around the end
+//! of what a slot grew by, over places in memory.
 use crate::courses::{Course, EACH, STILL, Step, first_wrong, is_right};
 use crate::slots::Content::Record;
 use crate::slots::Seen::{Records, Torn, TornAt};
@@ -15,7 +15,7 @@ const ADDED: Course = Course {
     ..STILL
 };
 
-static GROWS: [Course; 6] = [
+static GROWS: [Course; 4] = [
     Course {
         a: Record(65_529, &[0]),
         moments: 5,
@@ -29,12 +29,6 @@ static GROWS: [Course; 6] = [
         ..ADDED
     },
     Course {
-        a: Record(65_531, &[0]),
-        moments: 21,
-        length: 65_537 + BLOCK,
-        ..ADDED
-    },
-    Course {
         a: Record(65_600, &[0; 6]),
         moments: 21,
         length: 65_611 + BLOCK,
@@ -44,12 +38,6 @@ static GROWS: [Course; 6] = [
         a: Record(65_600, &[0; 7]),
         moments: 5,
         length: 65_612,
-        ..ADDED
-    },
-    Course {
-        a: Record(65_600, &[0; 8]),
-        moments: 5,
-        length: 65_613,
         ..ADDED
     },
 ];
@@ -131,32 +119,33 @@ fn a_turn_knows_how_long_its_slot_is(rt: HostRuntime) {
 // The bytes of a record of ten, with its gate and the closed one behind it.
 const SECOND: [u8; 16] = [1, 0, 0, 0, 10, 8, 8, 8, 8, 8, 8, 8, 8, 8, 8, 0];
 
-// A piece ends before the second record, at each kind of its bytes, and behind it.
-static CUTS: [Reading; 21] = [
-    (Record(65_515, &SECOND), (0, 0), Torn),
+// A piece has 65,536 bytes, of which a gate, a length and the next gate take 6, and the next piece twice as many. A
+// record is read with its gate behind it, and torn without. Then a piece ends before a second record, at its gate, in
+// it and behind it.
+static PIECES: [Reading; 20] = [
+    (Record(65_530, &[0]), (0, 0), Torn),
+    (Record(65_530, &[0]), (1, 1), Records(65_530, 1)),
+    (Record(65_531, &[0]), (0, 0), Torn),
+    (Record(65_531, &[0]), (1, 1), Records(65_531, 1)),
+    (Record(131_066, &[0]), (0, 0), Torn),
+    (Record(131_066, &[0]), (1, 1), Records(131_066, 1)),
+    (Record(131_067, &[0]), (0, 0), Torn),
+    (Record(131_067, &[0]), (1, 1), Records(131_067, 1)),
     (Record(65_515, &SECOND), (1, 15), TornAt(65_515, 65_520)),
     (Record(65_515, &SECOND), (16, 16), Records(65_515, 2)),
-    (Record(65_516, &SECOND), (0, 0), Torn),
     (Record(65_516, &SECOND), (1, 15), TornAt(65_516, 65_521)),
     (Record(65_516, &SECOND), (16, 16), Records(65_516, 2)),
-    (Record(65_520, &SECOND), (0, 0), Torn),
-    (Record(65_520, &SECOND), (1, 15), TornAt(65_520, 65_525)),
-    (Record(65_520, &SECOND), (16, 16), Records(65_520, 2)),
-    (Record(65_526, &SECOND), (0, 0), Torn),
     (Record(65_526, &SECOND), (1, 15), TornAt(65_526, 65_531)),
     (Record(65_526, &SECOND), (16, 16), Records(65_526, 2)),
-    (Record(65_530, &SECOND), (0, 0), Torn),
     (Record(65_530, &SECOND), (1, 15), TornAt(65_530, 65_535)),
     (Record(65_530, &SECOND), (16, 16), Records(65_530, 2)),
-    (Record(65_531, &SECOND), (0, 0), Torn),
     (Record(65_531, &SECOND), (1, 15), TornAt(65_531, 65_536)),
     (Record(65_531, &SECOND), (16, 16), Records(65_531, 2)),
-    (Record(131_055, &SECOND), (0, 0), Torn),
     (Record(131_055, &SECOND), (1, 15), TornAt(131_055, 131_060)),
     (Record(131_055, &SECOND), (16, 16), Records(131_055, 2)),
 ];
 
 #[test]
-fn cuts_around_the_end_of_a_piece(rt: HostRuntime) {
-    assert_eq!(rt; first_misread(rt.alloc(), &CUTS), None);
+fn records_around_the_end_of_a_piece(rt: HostRuntime) {
+    assert_eq!(rt; first_misread(rt.alloc(), &PIECES), None);
 }

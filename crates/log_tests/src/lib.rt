@@ -5,8 +5,6 @@
 #[cfg(test)]
 mod courses;
 #[cfg(test)]
-mod firsts;
-#[cfg(test)]
 mod frames;
 #[cfg(test)]
 mod growing;

@@ -1,4 +1,4 @@
-//! Records and their bytes, each of them cut and inverted.
+//! Records of each kind and their bytes, and bytes that are no record.
 ghost use Rattle.tsdb_log.specs.Spelling.{HasFewParts, IsRecord};
 
 use std::alloc::Global;
@@ -22,84 +22,37 @@ enum Said {
     Snapshot,
 }
 
-/// A payload. By hand: the places of its fields, and the bytes that give no record when they are inverted, from the first
-/// to the last of a row of them, with the place that is bad then. Any other byte gives another record.
-#[derive(Clone, Copy)]
-struct Payload {
-    says: Said,
-    bytes: &'static [u8],
-    starts: &'static [u64],
-    blames: &'static [(usize, usize, u64)],
-}
+/// What a payload says, and its bytes.
+type Payload = (Said, &'static [u8]);
 
-static CREATE: Payload = Payload {
-    says: Said::Create,
-    bytes: b"\x01\x00\x0aroot.g.d.s\x02\x00",
-    starts: &[0, 1, 13, 14],
-    blames: &[(0, 0, 0), (1, 12, 1), (13, 13, 13), (14, 14, 14)],
-};
-
-/// One INT64 cell. With an inverted byte of the number of cells the second cell is missing.
-static INSERT: Payload = Payload {
-    says: Said::Insert,
-    bytes: b"\x02\0\0\0\0\0\0\0\x01\x00\x01\0\0\0\0\0\0\0\0\x02\0\0\0\0\0\0\0\x05",
-    starts: &[0, 1, 9, 11, 19, 20],
-    blames: &[(0, 0, 0), (9, 10, 28), (19, 19, 19)],
-};
-
-/// A BOOLEAN, an INT32 and a TEXT cell.
-static ROW: Payload = Payload {
-    says: Said::Row,
-    bytes: b"\x02\xff\xff\xff\xff\xff\xff\xff\xfe\x00\x03\0\0\0\0\0\0\0\x07\x00\x01\
+/// A row of one INT64 cell, and one of a BOOLEAN, an INT32 and a TEXT cell. The replacement has two sequence inputs and
+/// none of the other space. The snapshot has parts of each kind: a series, a watermark, a mark, a file, a frozen pair
+/// with an INT32 point, and a working pair with a BOOLEAN and a TEXT point.
+static PAYLOADS: [Payload; 8] = [
+    (Said::Create, b"\x01\x00\x0aroot.g.d.s\x02\x00"),
+    (
+        Said::Insert,
+        b"\x02\0\0\0\0\0\0\0\x01\x00\x01\0\0\0\0\0\0\0\0\x02\0\0\0\0\0\0\0\x05",
+    ),
+    (
+        Said::Row,
+        b"\x02\xff\xff\xff\xff\xff\xff\xff\xfe\x00\x03\0\0\0\0\0\0\0\x07\x00\x01\
 \0\0\0\0\0\0\x01\0\x01\xff\xff\xff\xfe\0\0\0\0\0\0\0\0\x05\x00\x02hi",
-    starts: &[0, 1, 9, 11, 19, 20, 21, 29, 30, 34, 42, 43],
-    blames: &[
-        (0, 0, 0),
-        (9, 10, 47),
-        (19, 19, 19),
-        (20, 20, 20),
-        (29, 29, 29),
-        (42, 42, 42),
-        (43, 44, 43),
-    ],
-};
-
-static DELETE: Payload = Payload {
-    says: Said::Delete,
-    bytes: b"\x03\x00\x04root\xff\xff\xff\xff\xff\xff\xff\xff\0\0\0\0\0\0\0\x02",
-    starts: &[0, 1, 7, 15],
-    blames: &[(0, 0, 0), (1, 6, 1)],
-};
-
-static FREEZE: Payload = Payload {
-    says: Said::Freeze,
-    bytes: b"\x04",
-    starts: &[0],
-    blames: &[(0, 0, 0)],
-};
-
-static FLUSHED: Payload = Payload {
-    says: Said::Flushed,
-    bytes: b"\x05\0\0\0\0\0\0\0\x03\0\0\0\0\0\0\0\0",
-    starts: &[0, 1, 9],
-    blames: &[(0, 0, 0)],
-};
-
-/// Two sequence inputs and none of the other space. With more of the first kind the third is missing.
-static REPLACED: Payload = Payload {
-    says: Said::Replaced,
-    bytes: b"\x06\0\0\0\0\0\0\0\x09\x01\0\0\0\0\0\0\0\x02\0\0\0\0\0\0\0\x08\
+    ),
+    (
+        Said::Delete,
+        b"\x03\x00\x04root\xff\xff\xff\xff\xff\xff\xff\xff\0\0\0\0\0\0\0\x02",
+    ),
+    (Said::Freeze, b"\x04"),
+    (Said::Flushed, b"\x05\0\0\0\0\0\0\0\x03\0\0\0\0\0\0\0\0"),
+    (
+        Said::Replaced,
+        b"\x06\0\0\0\0\0\0\0\x09\x01\0\0\0\0\0\0\0\x02\0\0\0\0\0\0\0\x08\
 \0\0\0\x02\0\0\0\0\0\0\0\x06\0\0\0\0\0\0\0\x07\0\0\0\0",
-    starts: &[0, 1, 9, 10, 18, 26, 30, 38, 46],
-    blames: &[(0, 0, 0), (9, 9, 9), (26, 29, 46), (46, 49, 50)],
-};
-
-/// A snapshot with parts of each kind: a series, a watermark, a mark, a file, a frozen pair with an INT32 point, and a
-/// working pair with a BOOLEAN and a TEXT point. With another number of parts the next part begins in the bytes behind
-/// them: 00 00 is no path, 02 no BOOLEAN value, and of the last number five bytes are left at 253.
-static SNAPSHOT: Payload = Payload {
-    says: Said::Snapshot,
-    bytes: b"\x07\0\0\0\0\0\0\0\x02\0\0\0\0\0\0\0\x09\0\0\0\0\0\0\0\x04\
+    ),
+    (
+        Said::Snapshot,
+        b"\x07\0\0\0\0\0\0\0\x02\0\0\0\0\0\0\0\x09\0\0\0\0\0\0\0\x04\
 \0\0\0\0\0\0\0\x01\x00\x0aroot.g.d.s\x02\x00\
 \0\0\0\0\0\0\0\x01\x00\x08root.g.d\0\0\0\0\0\0\0\x07\
 \0\0\0\0\0\0\0\x01\x00\x0aroot.g.d.s\xff\xff\xff\xff\xff\xff\xff\xff\0\0\0\0\0\0\0\x03\0\0\0\0\0\0\0\x08\
@@ -108,36 +61,8 @@ static SNAPSHOT: Payload = Payload {
 \0\0\0\0\0\0\0\x04\x01\xff\xff\xff\xfe\0\0\0\0\0\0\0\0\
 \0\0\0\0\0\0\0\x01\0\0\0\0\0\0\0\0\0\0\0\0\0\0\0\x02\
 \0\0\0\0\0\0\0\x01\x00\x01\0\0\0\0\0\0\0\x02\x05\x00\x02hi\0\0\0\0\0\0\0\0",
-    starts: &[
-        0, 1, 9, 17, 25, 33, 45, 46, 47, 55, 65, 73, 81, 93, 101, 109, 117, 125, 133, 141, 149,
-        150, 158, 166, 174, 182, 190, 191, 195, 203, 211, 219, 227, 235, 236, 237, 245, 246, 250,
-    ],
-    blames: &[
-        (0, 0, 0),
-        (25, 32, 47),
-        (33, 44, 33),
-        (45, 45, 45),
-        (46, 46, 46),
-        (47, 54, 73),
-        (55, 64, 55),
-        (73, 80, 117),
-        (81, 92, 81),
-        (117, 124, 253),
-        (141, 148, 253),
-        (149, 149, 253),
-        (158, 165, 258),
-        (174, 181, 244),
-        (190, 190, 190),
-        (195, 202, 244),
-        (203, 210, 258),
-        (219, 226, 258),
-        (235, 235, 235),
-        (236, 236, 236),
-        (245, 245, 245),
-        (246, 247, 246),
-        (250, 257, 258),
-    ],
-};
+    ),
+];
 
 fn is_series(path: &Path) -> bool {
     path.bytes() == b"root.g.d.s".as_slice()
@@ -294,117 +219,35 @@ fn is_written(alloc: Global, item: &LogRecord, bytes: &[u8]) -> bool
     }
 }
 
-/// What is read of bytes with this one at this place, or behind the last of them.
-fn read_with(alloc: Global, bytes: &[u8], at: usize, byte: u8) -> Result<LogRecord, LogFault> {
-    let mut changed = Vec::from_slice(alloc, bytes)?;
-    changed.resize(bytes.len().max(at.saturating_add(1)), 0)?;
-    if let Some(place) = changed.get_mut(at) {
-        *place = byte;
-    }
-    read_record(alloc, &changed)
-}
-
 /// Whether bytes are bad at this place.
 fn is_bad(read: Result<LogRecord, LogFault>, at: u64) -> bool {
     read.err() == Some(LogFault::Bad { at })
 }
 
-/// Whether bytes are another record than this one.
-fn is_other(read: Result<LogRecord, LogFault>, item: &LogRecord) -> bool {
-    let is_other = matches!(&read, Ok(other) if *other != *item);
-    drop(read);
-    is_other
-}
-
-/// The last field that begins in a payload of this length.
-fn last_start(payload: &Payload, length: usize) -> u64 {
-    let mut last = 0;
-    for start in payload.starts {
-        if *start <= length as u64 {
-            last = *start;
-        }
-    }
-    last
-}
-
-/// The place that is bad in a payload with this byte inverted, or None where that is another record.
-fn blame_of(payload: &Payload, index: usize) -> Option<u64> {
-    let mut blame = None;
-    for (first, last, at) in payload.blames {
-        if *first <= index && index <= *last {
-            blame = Some(*at);
-        }
-    }
-    blame
-}
-
-/// Whether the payload with this byte inverted is bad at its place, or is another record.
-fn is_inverted(alloc: Global, payload: &Payload, index: usize, item: &LogRecord) -> bool {
-    let byte = payload.bytes.get(index).map_or(0, |byte| !*byte);
-    let read = read_with(alloc, payload.bytes, index, byte);
-    match blame_of(payload, index) {
-        Some(at) => is_bad(read, at),
-        None => is_other(read, item),
-    }
-}
-
-/// The first byte before which a cut is not bad at the last field that begins in it, or that is not bad at its place
-/// where it is inverted.
-fn first_wrong_byte(alloc: Global, payload: &Payload, item: &LogRecord) -> Option<usize> {
-    for index in 0..payload.bytes.len() {
-        let cut = read_record(alloc, &payload.bytes[..index]);
-        if !is_bad(cut, last_start(payload, index)) || !is_inverted(alloc, payload, index, item) {
-            return Some(index);
-        }
-    }
-    None
-}
-
-/// Whether a payload and its record are one another's, each cut and each inverted byte is bad at its place, and a byte
-/// behind the last field is bad itself.
-fn is_exactly(alloc: Global, payload: &Payload, item: &LogRecord) -> bool
-    requires { IsRecord item.now }
-{
-    let bytes = payload.bytes;
-    is_said(payload.says, item)
-        && is_written(alloc, item, bytes)
-        && first_wrong_byte(alloc, payload, item).is_none()
-        && is_bad(read_with(alloc, bytes, bytes.len(), 0), bytes.len() as u64)
-}
-
-fn is_exact(alloc: Global, payload: &Payload) -> bool {
-    let read = read_record(alloc, payload.bytes);
+/// Whether the payload says so, and its record is written as its bytes.
+fn is_exact(alloc: Global, (says, bytes): Payload) -> bool {
+    let read = read_record(alloc, bytes);
     let is_exact = match &read {
-        Ok(item) => is_exactly(alloc, payload, item),
+        Ok(item) => is_said(says, item) && is_written(alloc, item, bytes),
         Err(_) => false,
     };
     drop(read);
     is_exact
 }
 
-#[test]
-fn records_without_cells(rt: HostRuntime) {
-    let alloc = rt.alloc();
-    assert!(rt; is_exact(alloc, &CREATE));
-    assert!(rt; is_exact(alloc, &DELETE));
-    assert!(rt; is_exact(alloc, &FREEZE));
+/// The first payload that is not its record's.
+fn first_inexact(alloc: Global, payloads: &[Payload]) -> Option<usize> {
+    for (index, payload) in payloads.iter().enumerate() {
+        if !is_exact(alloc, *payload) {
+            return Some(index);
+        }
+    }
+    None
 }
 
 #[test]
-fn rows_of_each_type(rt: HostRuntime) {
-    assert!(rt; is_exact(rt.alloc(), &INSERT));
-    assert!(rt; is_exact(rt.alloc(), &ROW));
-}
-
-#[test]
-fn records_of_files(rt: HostRuntime) {
-    assert!(rt; is_exact(rt.alloc(), &FLUSHED));
-    assert!(rt; is_exact(rt.alloc(), &REPLACED));
-}
-
-#[test]
-fn a_snapshot_of_each_kind_of_part(rt: HostRuntime) {
-    assert!(rt; is_exact(rt.alloc(), &SNAPSHOT));
+fn records_of_each_kind(rt: HostRuntime) {
+    assert_eq!(rt; first_inexact(rt.alloc(), &PAYLOADS), None);
 }
 
 /// Whether a record of 17 bytes is appended behind what stands in room for 22, and the room is no larger then.
@@ -439,17 +282,63 @@ fn appended_to_lent_room(rt: HostRuntime) {
     assert!(rt; is_appended_to_room(rt.alloc()));
 }
 
-const CELLS: &[u8] = b"\x02\0\0\0\0\0\0\0\x01\xff\xff";
+/// Bytes that are no record, and where they are bad: those of the format's table, a type and an encoding that there are
+/// not, a BOOLEAN value of 2, a TEXT value, a range and a number of a file that are cut, a space of 2, and numbers of
+/// files and of series that no payload could hold.
+static BAD: [(&[u8], u64); 16] = [
+    (b"", 0),
+    (b"\x08", 0),
+    (b"\x07", 1),
+    (b"\x04\x00", 1),
+    (b"\x01\x00\x0aroot", 1),
+    (b"\x02\0\0\0\0\0\0\0\x01\xff\xff", 11),
+    (b"\x01\x00\x0aroot.g.d.s\xfd\x00", 13),
+    (b"\x01\x00\x0aroot.g.d.s\x02\xff", 14),
+    (
+        b"\x02\0\0\0\0\0\0\0\x01\x00\x01\0\0\0\0\0\0\0\0\x00\x02",
+        20,
+    ),
+    (
+        b"\x02\0\0\0\0\0\0\0\x01\x00\x01\0\0\0\0\0\0\0\0\x05\x00\x02h",
+        20,
+    ),
+    (
+        b"\x03\x00\x04root\xff\xff\xff\xff\xff\xff\xff\xff\0\0\0\0\0\0\0",
+        15,
+    ),
+    (b"\x05\0\0\0\0\0\0\0\x03\0\0\0\0\0\0\0", 9),
+    (
+        b"\x06\0\0\0\0\0\0\0\x09\x02\0\0\0\0\0\0\0\0\0\0\0\0\0\0\0\0",
+        9,
+    ),
+    (
+        b"\x06\0\0\0\0\0\0\0\x09\0\0\0\0\0\0\0\0\0\0\0\0\0\0\0\0\0\xff\xff\xff\xff",
+        30,
+    ),
+    (
+        b"\x07\0\0\0\0\0\0\0\x02\0\0\0\0\0\0\0\x09\0\0\0\0\0\0\0\x04\
+\xff\xff\xff\xff\xff\xff\xff\xff",
+        33,
+    ),
+    // An INT32 cell with the type byte of INT64: its value takes four bytes of the next cell, whose type is then `i`.
+    (
+        b"\x02\xff\xff\xff\xff\xff\xff\xff\xfe\x00\x03\0\0\0\0\0\0\0\x07\x00\x01\
+\0\0\0\0\0\0\x01\0\x02\xff\xff\xff\xfe\0\0\0\0\0\0\0\0\x05\x00\x02hi",
+        46,
+    ),
+];
 
-const FILES: &[u8] = b"\x06\0\0\0\0\0\0\0\x09\0\0\0\0\0\0\0\0\0\0\0\0\0\0\0\0\0\xff\xff\xff\xff";
+/// The first row that is bad elsewhere or not bad.
+fn first_not_bad(alloc: Global, rows: &[(&[u8], u64)]) -> Option<usize> {
+    for (index, (bytes, at)) in rows.iter().enumerate() {
+        if !is_bad(read_record(alloc, bytes), *at) {
+            return Some(index);
+        }
+    }
+    None
+}
 
-/// The INT32 cell of the row with the type byte of INT64: its value takes four bytes of the next cell, whose type is
-/// then `i`. And numbers of cells and of files that no payload could hold.
 #[test]
-fn types_and_counts_of_others(rt: HostRuntime) {
-    let alloc = rt.alloc();
-    assert!(rt; is_bad(read_with(alloc, ROW.bytes, 29, 2), 46));
-    assert!(rt; is_bad(read_record(alloc, CELLS), 11));
-    assert!(rt; is_bad(read_record(alloc, FILES), 30));
-    assert!(rt; is_bad(read_record(alloc, b"\x08"), 0));
+fn bytes_that_are_no_record(rt: HostRuntime) {
+    assert_eq!(rt; first_not_bad(rt.alloc(), &BAD), None);
 }

@@ -1,4 +1,5 @@
-//! Logs that turn over to the other slot, with stops at each moment and each call failing in turn, over places in memory.
+//! Logs that turn over to the other slot, with stops at each moment and each call failing in turn, over places in
+//! memory.
 use crate::courses::{Course, EACH, STILL, Step, Stops, first_wrong, is_right};
 use crate::slots::Content::Bytes;
 use crate::slots::EMPTY;

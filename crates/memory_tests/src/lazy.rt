@@ -1,8 +1,8 @@
-//! Merges over a supply of pages that tells nothing: beside the plain slow merge, and with a supply that fails at each
-//! of its fills in turn. It depends on `merge`.
+//! A merge over a supply of pages that tells nothing: in pages of one and of two points, and with a supply that fails
+//! at each of its fills in turn. It depends on `merge`.
 ghost use Rattle.std.specs.Prelude.{◌≡◌, ◌≤◌, ◌∷◌, [], None, replicate};
 
-use crate::merge::{FAULTS, Pulled, is_pulled, point, slow_merge, table_of};
+use crate::merge::{FAULTS, Pulled, is_pulled, point};
 use std::alloc::{AllocError, Global};
 use tsdb_base::Point;
 use tsdb_merge::{LazyMerge, PullFault, Supply};
@@ -150,63 +150,6 @@ fn gives(
     Ok(true)
 }
 
-/// Whether the merge of a table's pages is the slow one, with at most one page of each source in memory, or the fault.
-fn is_slow_merge(
-    alloc: Global,
-    table: &[(u8, i64)],
-    count: u8,
-    page: u8,
-    (before, fault): Fault,
-) -> Result<bool, PullFault> {
-    let mut supply = Pages {
-        reader: Reader {
-            alloc,
-            table,
-            page: usize::from(page),
-            taken: [0; 4],
-        },
-        count: usize::from(count),
-        room: table.len() as u64,
-        before,
-        fault,
-        failures: 0,
-        damages: 0,
-    };
-    let most = u64::from(page).saturating_mul(u64::from(count));
-    match LazyMerge::new(alloc, supply.count) {
-        Ok(mut merge) => gives(&mut merge, &mut supply, &slow_merge(table, count), most),
-        Err(_) => Ok(false),
-    }
-}
-
-/// Whether the pages of a table are merged as its lists, in pages of one and of two points.
-fn is_merged(alloc: Global, table: &[(u8, i64)], count: u8) -> bool {
-    is_slow_merge(alloc, table, count, 1, NEVER) == Ok(true)
-        && is_slow_merge(alloc, table, count, 2, NEVER) == Ok(true)
-}
-
-/// Numbers of sources and of times.
-const SIZES: &[(u8, u8)] = &[(0, 1), (1, 4), (2, 4), (3, 4), (4, 3)];
-
-/// The first of these numbers, so many sources each with any of the times, of which a table is merged otherwise.
-fn first_wrong_size(alloc: Global) -> Option<usize> {
-    for (place, (count, times)) in SIZES.iter().enumerate() {
-        let bits = count.saturating_mul(*times).min(12);
-        for chosen in 0..1u32 << bits {
-            if !is_merged(alloc, &table_of(chosen, *times), *count) {
-                return Some(place);
-            }
-        }
-    }
-    None
-}
-
-#[test]
-fn pages_are_merged_as_lists(rt: HostRuntime) {
-    let wrong = first_wrong_size(rt.alloc());
-    assert_eq!(rt; wrong, None);
-}
-
 /// Late pages: the points of source 1 span those of source 0, and source 2 has the last word at one time.
 const LATE: &[(u8, i64)] = &[
     (0, 0),
@@ -219,12 +162,45 @@ const LATE: &[(u8, i64)] = &[
     (2, 3),
 ];
 
+/// The last source of each time, and then the end.
+const MERGED: &[Pulled] = &[Some((0, 1)), Some((1, 0)), Some((2, 2)), Some((3, 2)), None];
+
+/// Whether the merge of three sources in pages of so many points gives this, with at most one page of each source in
+/// memory, or its fault.
+fn is_merged(alloc: Global, page: usize, (before, fault): Fault) -> Result<bool, PullFault> {
+    let mut supply = Pages {
+        reader: Reader {
+            alloc,
+            table: LATE,
+            page,
+            taken: [0; 4],
+        },
+        count: 3,
+        room: LATE.len() as u64,
+        before,
+        fault,
+        failures: 0,
+        damages: 0,
+    };
+    let most = (page as u64).saturating_mul(3);
+    match LazyMerge::new(alloc, supply.count) {
+        Ok(mut merge) => gives(&mut merge, &mut supply, MERGED, most),
+        Err(_) => Ok(false),
+    }
+}
+
+#[test]
+fn pages_are_merged_as_lists(rt: HostRuntime) {
+    let alloc = rt.alloc();
+    assert!(rt; is_merged(alloc, 1, NEVER) == Ok(true) && is_merged(alloc, 2, NEVER) == Ok(true));
+}
+
 /// The first of these faults that does not end the merge as it should, for each of the first ten fills. There are eight
 /// pages, and three sources end.
 fn first_wrong_fault(alloc: Global) -> Option<usize> {
     for (place, fault) in FAULTS.iter().enumerate() {
         for before in 0..10 {
-            if is_slow_merge(alloc, LATE, 3, 1, (before, *fault)) != Err(*fault) {
+            if is_merged(alloc, 1, (before, *fault)) != Err(*fault) {
                 return Some(place);
             }
         }

@@ -1,5 +1,5 @@
-//! What no clause says of the parts that work in memory: marks, memtables, plans and merges beside plain slow programs.
-//! It depends on the crates that it tests.
+//! What no clause says of the parts that work in memory: worked marks, memtables, plans and merges, their limits, and
+//! sources that fail. Depends on `tsdb_marks`, `tsdb_memtable`, `tsdb_plan`, `tsdb_merge`, `tsdb_path` and `tsdb_base`.
 #![tactic(auto)]
 
 #[cfg(test)]

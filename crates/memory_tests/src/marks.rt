@@ -1,4 +1,4 @@
-//! Marks beside a slow list.
+//! Marks of a series among those of others, step by step.
 
 use std::alloc::Global;
 use tsdb_base::{Range, Stamp, Time};
@@ -44,47 +44,6 @@ fn add_at(
     }
 }
 
-/// Whether no mark of the list covers the point, by a look at each.
-fn survives_slowly(marks: &[Mark], series: &Path, time: Time, born: u64) -> bool {
-    for mark in marks {
-        let is_of = mark.path.bytes() == series.bytes();
-        if is_of && mark.from <= time && time <= mark.to && born < mark.version.0 {
-            return false;
-        }
-    }
-    true
-}
-
-const TIMES: &[Time] = &[MIN, MIN + 1, -1, 0, 1, 2, 3, 4, 5, 6, 7, 8, 9, MAX - 1, MAX];
-
-/// Whether the marks answer as the slow look at each, for each of these times and for versions below 13.
-fn answers_as_list(marks: &Marks, path: &Path) -> bool {
-    for time in TIMES {
-        for born in 0..13 {
-            let slow = survives_slowly(marks.marks(), path, *time, born);
-            let at = Range {
-                from: *time,
-                to: *time,
-            };
-            if marks.survives(path, *time, Stamp(born)) != slow
-                || marks.meets(path, &at, Stamp(born)) == slow
-            {
-                return false;
-            }
-        }
-    }
-    true
-}
-
-fn answers_for_all(marks: &Marks, paths: &[Path]) -> bool {
-    for path in paths {
-        if !answers_as_list(marks, path) {
-            return false;
-        }
-    }
-    true
-}
-
 /// Whether the marks have these versions.
 fn have_versions(marks: &[Mark], versions: &[u64]) -> bool {
     for (place, mark) in marks.iter().enumerate() {
@@ -95,10 +54,10 @@ fn have_versions(marks: &[Mark], versions: &[u64]) -> bool {
     marks.len() == versions.len()
 }
 
-/// Whether the marks of these series alone have these versions, and answer as the list of them does.
-fn keeps(marks: &Marks, series: &[Path], paths: &[Path], versions: &[u64]) -> bool {
+/// Whether the marks of these series alone have these versions.
+fn keeps(marks: &Marks, series: &[Path], versions: &[u64]) -> bool {
     match marks.only(series) {
-        Ok(only) => have_versions(only.marks(), versions) && answers_for_all(&only, paths),
+        Ok(only) => have_versions(only.marks(), versions),
         Err(_) => false,
     }
 }
@@ -130,7 +89,7 @@ fn is_right(alloc: Global, marks: &mut Marks, series: &Path, paths: &[Path], ste
         }
         Step::Has(versions) => have_versions(marks.marks(), versions),
         Step::Only((first, end), versions) => match paths.get(first..end) {
-            Some(asked) => keeps(marks, asked, paths, versions),
+            Some(asked) => keeps(marks, asked, versions),
             None => false,
         },
         Step::Survives(time, born, wanted) => marks.survives(series, time, born) == wanted,
@@ -140,7 +99,7 @@ fn is_right(alloc: Global, marks: &mut Marks, series: &Path, paths: &[Path], ste
     }
 }
 
-/// The first of the steps that comes out otherwise, or after which the marks do not answer as the list.
+/// The first of the steps that comes out otherwise.
 fn first_wrong_step(
     alloc: Global,
     marks: &mut Marks,
@@ -149,7 +108,7 @@ fn first_wrong_step(
     steps: &[Step],
 ) -> Option<usize> {
     for (place, step) in steps.iter().enumerate() {
-        if !is_right(alloc, marks, series, paths, *step) || !answers_for_all(marks, paths) {
+        if !is_right(alloc, marks, series, paths, *step) {
             return Some(place);
         }
     }
@@ -190,6 +149,10 @@ const ONE_MARK: &[Step] = &[
     Step::Add(b"root.g.d.s", (1, 5), 4),
     Step::Survives(3, Stamp(3), false),
     Step::Survives(3, Stamp(4), true),
+    Step::Survives(0, Stamp(3), true),
+    Step::Survives(1, Stamp(3), false),
+    Step::Survives(5, Stamp(3), false),
+    Step::Survives(6, Stamp(3), true),
     Step::Only((1, 2), &[4]),
     Step::Purge(Some(Stamp(4))),
     Step::Has(&[]),
@@ -208,20 +171,32 @@ const MANY_MARKS: &[Step] = &[
     Step::Add(b"root.g.d.s", (1, 5), 1),
     Step::Add(b"root.g.d.s", (6, 9), 2),
     Step::Add(b"root.g.d.s", (3, 7), 3),
+    Step::Survives(7, Stamp(2), false),
+    Step::Survives(8, Stamp(2), true),
     Step::Add(b"root.g.d.st", (2, 8), 4),
+    Step::Survives(8, Stamp(2), true),
     Step::Add(b"root.g.d.s", (4, 4), 5),
     Step::Add(b"root.g.d.s", (4, 4), 6),
+    Step::Survives(4, Stamp(5), false),
+    Step::Survives(4, Stamp(6), true),
     Step::Add(b"root.g.d.s", (9, 2), 7),
+    Step::Survives(5, Stamp(3), true),
     Step::Add(b"root.g.d.s", (MIN, 0), 8),
     Step::Add(b"root.g.d.st", (MIN, MAX), 9),
     Step::Purge(Some(Stamp(3))),
+    Step::Survives(1, Stamp(0), true),
     Step::Add(b"root.g.d.s", (8, MAX), 10),
     Step::Add(b"root.g.d.s", (MAX, MAX), 11),
     Step::Add(b"root.g.d.s", (MIN, MIN), 12),
     Step::Has(&[4, 5, 6, 7, 8, 9, 10, 11, 12]),
+    Step::Survives(MIN, Stamp(11), false),
+    Step::Survives(MIN + 1, Stamp(8), true),
+    Step::Survives(MAX, Stamp(10), false),
+    Step::Survives(MAX - 1, Stamp(10), true),
     Step::Meets((0, 3), Stamp(7), true),
     Step::Meets((1, 3), Stamp(7), false),
     Step::Meets((3, 0), Stamp(0), false),
+    Step::Meets((1, 8), Stamp(9), true),
     Step::Only((2, 4), &[4, 9]),
     Step::Only((0, 3), &[4, 5, 6, 7, 8, 9, 10, 11, 12]),
     Step::Purge(None),
@@ -229,7 +204,7 @@ const MANY_MARKS: &[Step] = &[
 ];
 
 #[test]
-fn marks_beside_a_slow_list(rt: HostRuntime) {
+fn many_marks(rt: HostRuntime) {
     let wrong = first_wrong(rt.alloc(), MANY_MARKS);
     assert_eq!(rt; wrong, None);
 }

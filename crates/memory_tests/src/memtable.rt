@@ -1,4 +1,4 @@
-//! Memtables beside a slow list.
+//! Watermarks, and a pair of memtables with worked points.
 
 use std::alloc::Global;
 use tsdb_base::{Memory, Point, Range, SeriesId, Space, Text, Time, Value};
@@ -84,218 +84,124 @@ fn spaces_by_the_watermark(rt: HostRuntime) {
 
 fn crosses_threads<T: Send + Sync>(_value: &T) {}
 
-/// Series, time and value of a point.
-type Put = (u64, Time, i64);
+/// Time and value of a point.
+type Worked = (Time, i64);
 
-/// Points that are put one after another, where the watermark is 20: in order, late, at a time that has one, at the
-/// watermark, next to it, and at both ends of time.
-const PUTS: &[Put] = &[
-    (7, 21, 1),
-    (7, 22, 2),
-    (7, 30, 3),
-    (7, 25, 4),
-    (7, 22, 5),
-    (3, 20, 6),
-    (7, 20, 7),
-    (7, MIN, 8),
-    (3, MAX, 9),
-    (7, MAX, 10),
-    (7, 19, 11),
-    (7, MIN, 12),
-    (3, 5, 13),
-    (3, 21, 14),
-    (7, MAX, 15),
-    (7, 0, 16),
-    (7, -1, 17),
-    (3, 20, 18),
+/// Points of series 7 that are put one after another, where the watermark is 20: in order, late, at a time that has
+/// one, at the watermark, next to it, and at both ends of time.
+const PUTS: &[Worked] = &[
+    (21, 1),
+    (30, 2),
+    (25, 3),
+    (21, 4),
+    (20, 5),
+    (MIN, 6),
+    (MAX, 7),
+    (19, 8),
+    (MIN, 9),
 ];
-
-/// The times of these points, in order.
-const TIMES: &[Time] = &[MIN, -1, 0, 5, 19, 20, 21, 22, 25, 30, MAX];
-
-/// Ranges that are looked at and erased: an empty one, a time with and one without a point, one that begins or ends at
-/// a point, one across the watermark, one end, and last all times.
-const RANGES: &[(Time, Time)] = &[
-    (25, 20),
-    (23, 24),
-    (MIN, MIN),
-    (22, 25),
-    (19, 21),
-    (MAX, MAX),
-    (26, MAX),
-    (MIN, 5),
-    (MIN, MAX),
-];
-
-/// Two series with points, and one without.
-const SERIES: &[u64] = &[3, 7, 8];
-
-/// The slow list: points that were put one after another, and the times at which series 7 was then erased.
-type Slow<'a> = (&'a [Put], (Time, Time));
-
-/// No time is erased.
-const NOTHING: (Time, Time) = (1, 0);
 
 fn range((from, to): (Time, Time)) -> Range {
     Range { from, to }
 }
 
-fn is_within(time: Time, (from, to): (Time, Time)) -> bool {
-    from <= time && time <= to
-}
-
-/// The space of a point at this time, where the watermark is 20.
-fn slow_space(time: Time) -> Space {
-    if time <= 20 {
-        Space::Unsequence
-    } else {
-        Space::Sequence
-    }
-}
-
-/// The value that the list has there: the last one that was put, where it was not erased.
-fn slow_value((puts, erased): Slow, series: u64, time: Time) -> Option<i64> {
-    let mut found = None;
-    for (of, at, value) in puts {
-        if *of == series && *at == time {
-            found = Some(*value);
-        }
-    }
-    if series == 7 && is_within(time, erased) {
-        None
-    } else {
-        found
-    }
-}
-
-fn is_point(found: Option<&Point>, time: Time, value: i64) -> bool {
-    match found {
-        Some(point) => point.time == time && matches!(point.value, Value::I64(of) if of == value),
-        None => false,
-    }
-}
-
-/// How many points the list has in this range, where these are its points there and no other, in order of time.
-fn count_alike(
-    points: &[Point],
-    slow: Slow,
-    (space, series): (Space, u64),
-    ends: (Time, Time),
-) -> Option<usize> {
-    let mut count = 0usize;
-    for time in TIMES {
-        if is_within(*time, ends)
-            && slow_space(*time) == space
-            && let Some(value) = slow_value(slow, series, *time)
-        {
-            if !is_point(points.get(count), *time, value) {
-                return None;
-            }
-            count = count.saturating_add(1);
-        }
-    }
-    if count == points.len() {
-        Some(count)
-    } else {
-        None
-    }
-}
-
-/// How many points the list has in the space, where the pair has them in each range of each series.
-fn count_in(pair: &Pair, slow: Slow, space: Space) -> Option<u64> {
-    let mut total = 0u64;
-    for series in SERIES {
-        let mut count = 0;
-        for ends in RANGES {
-            let points = pair.slice(space, SeriesId(*series), &range(*ends));
-            count = count_alike(points, slow, (space, *series), *ends)?;
-        }
-        // The last range is that of all times.
-        total = total.saturating_add(count as u64);
-    }
-    if pair.points(space) == total {
-        Some(total)
-    } else {
-        None
-    }
-}
-
-/// Whether the pair answers as the list does.
-fn answers_as_list(pair: &Pair, slow: Slow) -> bool {
-    let early = count_in(pair, slow, Space::Sequence);
-    match (early, count_in(pair, slow, Space::Unsequence)) {
-        (Some(early), Some(late)) => pair.bytes() == early.saturating_add(late).saturating_mul(16),
-        _ => false,
-    }
-}
-
-/// Puts the point, which is the last of these, and says whether the pair then answers as the list of them does.
-fn puts_alike(
-    pair: &mut Pair,
-    watermarks: &Watermarks,
-    device: &Path,
-    (series, time, value): Put,
-    puts: &[Put],
-) -> bool {
-    match pair.provide(SeriesId(series)) {
+/// Puts a point. Whether it goes where its time says: late ones, up to 20, to the space out of order.
+fn puts(pair: &mut Pair, watermarks: &Watermarks, device: &Path, (time, value): Worked) -> bool {
+    match pair.provide(SeriesId(7)) {
         Ok(()) => {
             let value = Value::I64(value);
-            let space = pair.put(watermarks, device, SeriesId(series), Point { time, value });
-            space == slow_space(time) && answers_as_list(pair, (puts, NOTHING))
+            let space = pair.put(watermarks, device, SeriesId(7), Point { time, value });
+            (space == Space::Unsequence) == (time <= 20)
         }
         Err(_) => false,
     }
 }
 
-/// Erases a range of one series that has points and of one that has none, and says whether both answer alike.
-fn erases_alike(pair: &mut Pair, puts: &[Put], erased: (Time, Time)) -> bool {
-    pair.erase(SeriesId(7), &range(erased));
-    pair.erase(SeriesId(8), &range(erased));
-    answers_as_list(pair, (puts, erased))
-}
-
-/// Whether the pair and the list answer alike after each put, and after this range is erased.
-fn is_alike(
-    pair: &mut Pair,
-    watermarks: &Watermarks,
-    device: &Path,
-    puts: &[Put],
-    erased: (Time, Time),
-) -> bool {
-    for place in 0..puts.len() {
-        if !puts_alike(pair, watermarks, device, puts[place], &puts[..place + 1]) {
+fn puts_all(pair: &mut Pair, watermarks: &Watermarks, device: &Path) -> bool {
+    for worked in PUTS {
+        if !puts(pair, watermarks, device, *worked) {
             return false;
         }
     }
-    erases_alike(pair, puts, erased)
+    true
 }
 
-/// The first erasure at which a pair and the list do not answer alike.
-fn first_wrong_erasure(alloc: Global, watermarks: &Watermarks, device: &Path) -> Option<usize> {
-    for (place, erased) in RANGES.iter().enumerate() {
-        if !is_alike(&mut Pair::new(alloc), watermarks, device, PUTS, *erased) {
-            return Some(place);
+/// A space, a range, and the points of series 7 there.
+type Slice = (Space, (Time, Time), &'static [Worked]);
+
+/// An empty range, a time with and one without a point, ranges that begin or end at a point, and all times.
+const SLICES: &[Slice] = &[
+    (Space::Sequence, (25, 20), &[]),
+    (Space::Sequence, (22, 24), &[]),
+    (Space::Sequence, (25, 25), &[(25, 3)]),
+    (Space::Sequence, (21, 25), &[(21, 4), (25, 3)]),
+    (Space::Sequence, (26, MAX), &[(30, 2), (MAX, 7)]),
+    (
+        Space::Sequence,
+        (MIN, MAX),
+        &[(21, 4), (25, 3), (30, 2), (MAX, 7)],
+    ),
+    (Space::Unsequence, (MIN, MAX), &[(MIN, 9), (19, 8), (20, 5)]),
+    (Space::Unsequence, (MIN, 19), &[(MIN, 9), (19, 8)]),
+];
+
+/// What is there once the times from 20 to 25 are erased.
+const ERASED: &[Slice] = &[
+    (Space::Sequence, (MIN, MAX), &[(30, 2), (MAX, 7)]),
+    (Space::Unsequence, (MIN, MAX), &[(MIN, 9), (19, 8)]),
+];
+
+fn are_points(points: &[Point], wanted: &[Worked]) -> bool {
+    for (place, point) in points.iter().enumerate() {
+        let is_wanted = match (&point.value, wanted.get(place)) {
+            (Value::I64(found), Some((time, value))) => point.time == *time && *found == *value,
+            _ => false,
+        };
+        if !is_wanted {
+            return false;
         }
     }
-    None
+    points.len() == wanted.len()
+}
+
+/// Whether the pair has all these points of series 7, none of series 8, and so many of them in its spaces.
+fn has(pair: &Pair, slices: &[Slice], (early, late): (u64, u64)) -> bool {
+    for (space, ends, wanted) in slices {
+        if !are_points(pair.slice(*space, SeriesId(7), &range(*ends)), wanted)
+            || !pair.slice(*space, SeriesId(8), &range(*ends)).is_empty()
+        {
+            return false;
+        }
+    }
+    pair.points(Space::Sequence) == early
+        && pair.points(Space::Unsequence) == late
+        && pair.bytes() == early.saturating_add(late).saturating_mul(16)
+}
+
+/// Whether a new pair has the points, and those that are not erased of a series that has some and of one that has none.
+fn is_as_worked(alloc: Global, watermarks: &Watermarks, device: &Path) -> bool {
+    let mut pair = Pair::new(alloc);
+    let is_put = puts_all(&mut pair, watermarks, device) && has(&pair, SLICES, (4, 3));
+    pair.erase(SeriesId(7), &range((20, 25)));
+    pair.erase(SeriesId(8), &range((20, 25)));
+    is_put && has(&pair, ERASED, (2, 2))
 }
 
 /// The same for a device whose watermark is 20.
-fn first_wrong(alloc: Global) -> Option<usize> {
+fn is_worked(alloc: Global) -> bool {
     let mut watermarks = Watermarks::new(alloc);
     match Path::read(alloc, b"root.g.d") {
         Ok(device) => {
             raise(&mut watermarks, &device, Some(20));
-            first_wrong_erasure(alloc, &watermarks, &device)
+            is_as_worked(alloc, &watermarks, &device)
         }
-        Err(_) => Some(0),
+        Err(_) => false,
     }
 }
 
 #[test]
-fn pair_beside_a_slow_list(rt: HostRuntime) {
-    let wrong = first_wrong(rt.alloc());
-    assert_eq!(rt; wrong, None);
+fn pair_of_worked_points(rt: HostRuntime) {
+    assert!(rt; is_worked(rt.alloc()));
 }
 
 /// A value as the table of bytes has it.

@@ -1,4 +1,4 @@
-//! Merges beside a plain slow one, and sources that fail.
+//! Worked merges, and sources that fail.
 ghost use Rattle.std.specs.Prelude.{None};
 
 use std::alloc::Global;
@@ -134,72 +134,6 @@ fn the_last_source_wins(rt: HostRuntime) {
     assert_eq!(rt; wrong, None);
 }
 
-/// The last source that has the time.
-fn last_source(table: &[(u8, i64)], count: u8, time: i64) -> Option<u8> {
-    let mut last = None;
-    for source in 0..count {
-        if table.contains(&(source, time)) {
-            last = Some(source);
-        }
-    }
-    last
-}
-
-/// The last source of each time, from the least to the greatest, and then the end.
-pub fn slow_merge(table: &[(u8, i64)], count: u8) -> [Pulled; 5] {
-    let mut merged = [None; 5];
-    let mut place = 0usize;
-    for time in 0..4i64 {
-        if let Some(source) = last_source(table, count, time)
-            && let Some(next) = merged.get_mut(place)
-        {
-            *next = Some((time, source));
-            place = place.saturating_add(1);
-        }
-    }
-    merged
-}
-
-/// A pair of no source.
-const NONE: (u8, i64) = (u8::MAX, 0);
-
-/// The pairs of a source and a time whose bits are chosen.
-pub fn table_of(chosen: u32, times: u8) -> [(u8, i64); 16] {
-    let mut table = [NONE; 16];
-    for bit in 0..16u8 {
-        if chosen >> bit & 1 == 1
-            && let Some(pair) = table.get_mut(usize::from(bit))
-        {
-            let source = bit.checked_div(times).unwrap_or(0);
-            *pair = (source, i64::from(bit.checked_rem(times).unwrap_or(0)));
-        }
-    }
-    table
-}
-
-/// Numbers of sources and of times.
-const SIZES: &[(u8, u8)] = &[(1, 4), (2, 4), (3, 4), (4, 3), (5, 2)];
-
-/// The first of these numbers, so many sources each with any of the times, of which a merge is not the slow one.
-fn first_wrong_size(alloc: Global) -> Option<usize> {
-    for (place, (count, times)) in SIZES.iter().enumerate() {
-        let bits = count.saturating_mul(*times).min(16);
-        for chosen in 0..1u32 << bits {
-            let table = table_of(chosen, *times);
-            if !merges(alloc, &table, *count, &slow_merge(&table, *count)) {
-                return Some(place);
-            }
-        }
-    }
-    None
-}
-
-#[test]
-fn all_small_tables(rt: HostRuntime) {
-    let wrong = first_wrong_size(rt.alloc());
-    assert_eq!(rt; wrong, None);
-}
-
 /// Each kind of fault.
 pub const FAULTS: &[PullFault] = &[
     PullFault::Failed,
@@ -207,11 +141,10 @@ pub const FAULTS: &[PullFault] = &[
     PullFault::Memory,
 ];
 
-/// Three points of a source, in order of time. It answers a fault behind some of them, and then goes on. No contract is
+/// Two points of a source, in order of time. It answers a fault behind some of them, and then goes on. No contract is
 /// told what is in it.
 #[derive(Clone, Copy)]
 struct Failing {
-    source: u8,
     /// How many points are left.
     left: u64,
     before: u64,
@@ -242,7 +175,7 @@ impl Points for Failing {
         match self.left.checked_sub(1) {
             Some(left) => {
                 self.left = left;
-                Ok(Some(point(time_of(self.source, left), self.source)))
+                Ok(Some(point(if left == 2 { 0 } else { 1 }, 0)))
             }
             None => Ok(None),
         }
@@ -251,33 +184,23 @@ impl Points for Failing {
     ghost rising = { λ _. tt };
 }
 
-/// The time of the point of a source behind which so many are left.
-fn time_of(source: u8, left: u64) -> i64 {
-    match left {
-        2 => i64::from(source),
-        1 => 10,
-        _ => i64::from(source).saturating_add(20),
-    }
-}
-
-/// A source that fails behind some points if it is this one.
-fn source(source: u8, (which, before): (u8, u64), fault: PullFault) -> Failing {
+/// A source that fails behind so many points.
+fn source(before: u64, fault: PullFault) -> Failing {
     Failing {
-        source,
-        left: 3,
-        before: if source == which { before } else { 100 },
+        left: 2,
+        before,
         fault,
         failures: 0,
         damages: 0,
     }
 }
 
-/// Whether the merge meets this fault within eleven pulls and answers it from then on, or meets none where none is
+/// Whether the merge meets this fault within four pulls and answers it from then on, or meets none where none is
 /// wanted.
 fn meets(merge: &mut Merge<Failing>, wanted: Option<PullFault>) -> bool {
     let mut met = None;
     let mut is_repeated = true;
-    for _ in 0..11 {
+    for _ in 0..4 {
         let fault = merge.pull().err();
         is_repeated = is_repeated && (met.is_none() || fault == met);
         met = met.or(fault);
@@ -285,19 +208,9 @@ fn meets(merge: &mut Merge<Failing>, wanted: Option<PullFault>) -> bool {
     is_repeated && met == wanted
 }
 
-/// Whether the merge of three sources, of which one fails behind some points, meets this.
-fn merge_meets(
-    alloc: Global,
-    place: (u8, u64),
-    fault: PullFault,
-    wanted: Option<PullFault>,
-) -> bool {
-    let sources = [
-        source(0, place, fault),
-        source(1, place, fault),
-        source(2, place, fault),
-    ];
-    match Vec::from_slice(alloc, &sources) {
+/// Whether the merge of two sources, of which the second fails behind so many points, meets this.
+fn merge_meets(alloc: Global, before: u64, fault: PullFault, wanted: Option<PullFault>) -> bool {
+    match Vec::from_slice(alloc, &[source(100, fault), source(before, fault)]) {
         Ok(sources) => match Merge::new(alloc, sources) {
             Ok(mut merge) => meets(&mut merge, wanted),
             Err(_) => false,
@@ -306,23 +219,14 @@ fn merge_meets(
     }
 }
 
-/// Whether the fault is repeated whichever source has it, and behind however many points. A source that would fail at
-/// its fifth pull is never asked for it.
-fn is_repeated(alloc: Global, fault: PullFault) -> bool {
-    for which in 0..3 {
-        for before in 0..4 {
-            if !merge_meets(alloc, (which, before), fault, Some(fault)) {
-                return false;
-            }
-        }
-    }
-    merge_meets(alloc, (2, 4), fault, None)
-}
-
-/// The first of these faults that is not repeated.
+/// The first of these faults that is not repeated, behind however many points it comes. A source that would fail at its
+/// fourth pull is never asked for it.
 fn first_wrong_fault(alloc: Global) -> Option<usize> {
     for (place, fault) in FAULTS.iter().enumerate() {
-        if !is_repeated(alloc, *fault) {
+        if !merge_meets(alloc, 0, *fault, Some(*fault))
+            || !merge_meets(alloc, 2, *fault, Some(*fault))
+            || !merge_meets(alloc, 3, *fault, None)
+        {
             return Some(place);
         }
     }

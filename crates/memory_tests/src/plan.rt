@@ -1,4 +1,4 @@
-//! Plans beside slow ones, and at the limits.
+//! Worked plans, and plans at the limits.
 
 use std::alloc::Global;
 use tsdb_base::{FileNumber, List, Stamp};
@@ -59,13 +59,11 @@ fn add_files(alloc: Global, list: &mut Vec<FileEntry>, files: &[File]) -> bool {
     true
 }
 
-/// The plan that is wanted: a worked one, or the one of a slow program.
+/// The plan that is wanted.
 #[derive(Clone, Copy)]
 enum Wanted {
     Inner(Option<Inner>),
     Cross(Option<Cross>),
-    SlowInner,
-    SlowCross,
 }
 
 /// Files in time order, late files, and their plan.
@@ -94,8 +92,6 @@ fn is_plan(early: &[FileEntry], late: &[FileEntry], wanted: Wanted) -> bool {
     match wanted {
         Wanted::Inner(run) => is_inner_plan(early, run),
         Wanted::Cross(run) => is_cross_plan(early, late, run),
-        Wanted::SlowInner => is_inner_plan(early, slow_inner(early)),
-        Wanted::SlowCross => is_cross_plan(early, late, slow_cross(early, late)),
     }
 }
 
@@ -172,87 +168,6 @@ const INNER: &[Row] = &[
 #[test]
 fn inner_plans_at_the_limits(rt: HostRuntime) {
     let wrong = first_wrong(rt.alloc(), INNER);
-    assert_eq!(rt; wrong, None);
-}
-
-fn bytes_of(files: &[FileEntry]) -> u128 {
-    let mut bytes = 0u128;
-    for file in files {
-        bytes = bytes.saturating_add(u128::from(file.size));
-    }
-    bytes
-}
-
-fn are_free(files: &[FileEntry]) -> bool {
-    for file in files {
-        if file.claimed {
-            return false;
-        }
-    }
-    true
-}
-
-fn is_row(files: &[FileEntry]) -> bool {
-    files.len() <= 10 && are_free(files) && bytes_of(files) <= 268_435_456
-}
-
-/// Looks at every part of the list.
-fn slow_inner(files: &[FileEntry]) -> Option<Inner> {
-    for first in 0..files.len() {
-        let mut longest = None;
-        for end in first..files.len() + 1 {
-            if end - first >= 2 && is_row(&files[first..end]) {
-                longest = Some((first, end));
-            }
-        }
-        if longest.is_some() {
-            return longest;
-        }
-    }
-    None
-}
-
-/// Length and claim of a file, by a digit.
-fn kind(digit: u32) -> File {
-    match digit {
-        0 => (1, false, None, None),
-        1 => (HALF, false, None, None),
-        2 => (HALF + 1, false, None, None),
-        3 => (2 * HALF, false, None, None),
-        _ => (1, true, None, None),
-    }
-}
-
-/// So many of the files, from the first on.
-fn first_of(files: &[File], count: usize) -> &[File] {
-    files.get(..count).unwrap_or(files)
-}
-
-/// The last digits of a code to base 5, the lowest first.
-fn digits(code: u32) -> [u32; 4] {
-    [code % 5, code / 5 % 5, code / 25 % 5, code / 125 % 5]
-}
-
-/// Numbers of files, and how many codes they have.
-const COUNTS: &[(usize, u32)] = &[(0, 1), (1, 5), (2, 25), (3, 125), (4, 625)];
-
-/// The first of these numbers of files of which an inner plan is not the slow one. The digits of a code are the kinds.
-fn first_wrong_count(alloc: Global) -> Option<usize> {
-    for (place, (count, codes)) in COUNTS.iter().enumerate() {
-        for code in 0..*codes {
-            let [a, b, c, d] = digits(code);
-            let files = [kind(a), kind(b), kind(c), kind(d)];
-            if !is_planned(alloc, (first_of(&files, *count), &[], Wanted::SlowInner)) {
-                return Some(place);
-            }
-        }
-    }
-    None
-}
-
-#[test]
-fn inner_plans_of_all_small_lists(rt: HostRuntime) {
-    let wrong = first_wrong_count(rt.alloc());
     assert_eq!(rt; wrong, None);
 }
 
@@ -334,126 +249,6 @@ const BY_BYTES_AND_CLAIMS: &[Row] = &[
 #[test]
 fn cross_plans_by_bytes_and_claims(rt: HostRuntime) {
     let wrong = first_wrong(rt.alloc(), BY_BYTES_AND_CLAIMS);
-    assert_eq!(rt; wrong, None);
-}
-
-/// The least and the greatest time of a device in the files.
-fn hull_of(files: &[FileEntry], device: &Path) -> Times {
-    let mut hull = None;
-    for file in files {
-        for part in file.hulls.items() {
-            if part.device == *device {
-                let (from, to) = hull.unwrap_or((part.from, part.to));
-                hull = Some((part.from.min(from), part.to.max(to)));
-            }
-        }
-    }
-    hull
-}
-
-/// Whether a device of the file ends where its hull in the late files begins or above it, or begins where that ends or
-/// below it.
-fn meets(late: &[FileEntry], file: &FileEntry, above: bool) -> bool {
-    for part in file.hulls.items() {
-        if let Some((from, to)) = hull_of(late, &part.device) {
-            let met = if above {
-                part.to >= from
-            } else {
-                part.from <= to
-            };
-            if met {
-                return true;
-            }
-        }
-    }
-    false
-}
-
-/// The first file that meets the late ones from above, and the end of those from it on that meet them from below.
-fn slow_run(early: &[FileEntry], late: &[FileEntry]) -> Inner {
-    let mut first = early.len();
-    let mut end = 0;
-    for (place, file) in early.iter().enumerate() {
-        if meets(late, file, true) {
-            first = first.min(place);
-        }
-        if meets(late, file, false) {
-            end = place.saturating_add(1);
-        }
-    }
-    (first, end.max(first))
-}
-
-/// Computes each device's hull anew for each prefix, and looks at every file.
-fn slow_cross(early: &[FileEntry], late: &[FileEntry]) -> Option<Cross> {
-    let mut plan = None;
-    for prefix in 1..late.len() + 1 {
-        let late = &late[..prefix];
-        let (first, end) = slow_run(early, late);
-        let met = early.get(first..end).unwrap_or(&[]);
-        let bytes = bytes_of(late).saturating_add(bytes_of(met));
-        if are_free(late) && bytes <= 268_435_456 {
-            plan = Some((prefix, first, end));
-        }
-    }
-    plan
-}
-
-/// A file with the times of its shape, by a digit.
-fn shaped(size: u64, claimed: bool, digit: u32) -> File {
-    match digit {
-        0 => (size, claimed, None, None),
-        1 => (size, claimed, Some((0, 1)), None),
-        2 => (size, claimed, Some((2, 3)), None),
-        3 => (size, claimed, None, Some((1, 2))),
-        _ => (size, claimed, Some((1, 2)), Some((0, 3))),
-    }
-}
-
-/// Files whose shapes are the digits of the code: small ones, large ones, or ones that grow, of which the last is
-/// claimed.
-fn shapes(code: u32, kind: u32) -> [File; 3] {
-    let [a, b, c, _] = digits(code);
-    let sizes = match kind {
-        0 => [1, 1, 1],
-        1 => [60_000_000, 60_000_000, 60_000_000],
-        _ => [0, 100_000_000, 200_000_000],
-    };
-    [
-        shaped(sizes[0], false, a),
-        shaped(sizes[1], false, b),
-        shaped(sizes[2], kind == 2, c),
-    ]
-}
-
-/// How many early and late files there are, and the unit of the digits of the late ones in a code. Its lowest digit, to
-/// base 3, is the kind; then come the shapes of the early files, and then those of the late ones.
-const SMALL: &[(usize, usize, u32)] = &[(3, 2, 3 * 125), (2, 3, 3 * 25)];
-
-const CODES: u32 = 3 * 125 * 25;
-
-/// The first of these numbers of files, and the first code, at which a cross plan is not the slow one.
-fn first_wrong_small(alloc: Global) -> Option<(usize, u32)> {
-    for (place, (many, few, unit)) in SMALL.iter().enumerate() {
-        for code in 0..CODES {
-            let early = shapes(code / 3, code % 3);
-            let late = shapes(code.checked_div(*unit).unwrap_or(0), code % 3);
-            let row = (
-                first_of(&early, *many),
-                first_of(&late, *few),
-                Wanted::SlowCross,
-            );
-            if !is_planned(alloc, row) {
-                return Some((place, code));
-            }
-        }
-    }
-    None
-}
-
-#[test]
-fn cross_plans_of_all_small_lists(rt: HostRuntime) {
-    let wrong = first_wrong_small(rt.alloc());
     assert_eq!(rt; wrong, None);
     firsts_are_least();
     ends_are_greatest();

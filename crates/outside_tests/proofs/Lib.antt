@@ -1,2 +1,1 @@
-mod ToldFiles
-mod ToldSlots
+mod SilentFiles

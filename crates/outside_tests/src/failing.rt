@@ -3,7 +3,6 @@
 ghost use Rattle.std.specs.Prelude.{None, ◌-◌, ◌^◌, IsTrue, IsErr};
 
 use crate::steps::{FileStep, files_answer};
-use crate::told::files_over;
 use fs_outside::{FileDirectory, FsFiles, NumberedFile};
 use std::alloc::{AllocError, Global};
 use std::io::{self, ErrorKind};
@@ -168,7 +167,9 @@ fn files_of(alloc: Global, failing: [u64; 2]) -> Result<FsFiles<FailingDirectory
         shared,
         sync_failed: false,
     };
-    files_over(alloc, directory)
+    // A directory in memory has no path.
+    let path = Arc::new(alloc, String::new(alloc))?;
+    Ok(FsFiles::new(alloc, path, directory))
 }
 
 // Two calls that fail, and steps then. A put makes four calls, and a fifth where it takes its file away.
@@ -213,6 +214,22 @@ static THERE: [Row; 1] = [(
     ],
 )];
 
+const UNREAD: FileStep = FileStep::Read(1, 0, Err(StoreFault::Failed));
+
+const REMOVED: FileStep = FileStep::Remove(1, Ok(true));
+
+const NONE: FileStep = FileStep::List(&[]);
+
+static UNREAD_OR_STUCK: [Row; 5] = [
+    // The file 1 could not be looked for, opened, measured or read. It is removed all the same.
+    ([1, 0], &[UNREAD, REMOVED, NONE]),
+    ([2, 0], &[UNREAD, REMOVED, NONE]),
+    ([3, 0], &[UNREAD, REMOVED, NONE]),
+    ([4, 0], &[UNREAD, REMOVED, NONE]),
+    // It could not be removed.
+    ([2, 0], &[FileStep::Remove(1, Err(StoreFault::Failed)), ONE]),
+];
+
 fn holds(alloc: Global, row: &Row) -> bool {
     match files_of(alloc, row.0) {
         Ok(mut files) => files_answer(&mut files, row.1),
@@ -238,4 +255,9 @@ fn failed_put_takes_its_file_away(rt: HostRuntime) {
 #[test]
 fn file_that_is_there_stays_and_is_not_taken_for_missing(rt: HostRuntime) {
     assert_eq!(rt; first_wrong(rt.alloc(), &THERE), None);
+}
+
+#[test]
+fn each_call_on_a_file_fails_in_turn(rt: HostRuntime) {
+    assert_eq!(rt; first_wrong(rt.alloc(), &UNREAD_OR_STUCK), None);
 }

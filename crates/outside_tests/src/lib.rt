@@ -1,6 +1,6 @@
 //! Tests of what is outside the engine, through its public items: sources, sinks and places in memory, and those of the
-//! system. `told_directory` and `told_slots` are directories in memory that tell what they have, and `copying` copies a
-//! small file from one store into another. Depends on `mem_outside`, `fs_outside`, `tsdb_outside` and `tsdb_base`.
+//! system. `copying` copies a small file from one store into another. Depends on `mem_outside`, `fs_outside`,
+//! `tsdb_outside` and `tsdb_base`.
 #![tactic(auto)]
 
 pub mod copying;
@@ -17,8 +17,6 @@ mod many;
 #[cfg(test)]
 mod memory;
 #[cfg(test)]
-mod openings;
-#[cfg(test)]
 mod slot_files;
 #[cfg(test)]
 mod steps;
@@ -26,9 +24,3 @@ mod steps;
 mod stops;
 #[cfg(test)]
 mod streams;
-#[cfg(test)]
-mod told;
-#[cfg(test)]
-mod told_directory;
-#[cfg(test)]
-mod told_slots;

@@ -4,7 +4,7 @@ use crate::copying::fetch_and_read;
 use crate::folders::{Item, are_made};
 use crate::many::serves_many;
 use crate::steps::{FileStep, SlotStep, files_answer, rights_read, slots_answer};
-use crate::stops::{Stop, has_left};
+use crate::stops::{Left, has_left};
 use std::mem::swap;
 use tsdb_base::Memory;
 use tsdb_outside::{Files, Journal, Place, StoreFault};
@@ -16,7 +16,7 @@ pub enum Look<'a> {
     Files(&'a [FileStep]),
     Rights,
     /// What a stop left.
-    Left(Stop<'a>),
+    Left(&'a Left),
     /// A file, once something else was put where the directory of the store was.
     OutOfReach(&'a HostRuntime, &'a [Item]),
     ManyFiles(&'a HostRuntime),
@@ -27,7 +27,7 @@ fn look_at<J: Journal, F: Files>(journal: &mut J, files: &mut F, look: &Look) ->
         Look::Slots(steps) => slots_answer(journal, steps),
         Look::Files(steps) => files_answer(files, steps),
         Look::Rights => rights_read(files),
-        Look::Left(stop) => has_left(journal, files, &stop),
+        Look::Left(left) => has_left(journal, files, left),
         Look::OutOfReach(rt, items) => {
             are_made(rt, items) && fetch_and_read(files, 1, 0) == Err(StoreFault::Failed)
         }

@@ -1,9 +1,10 @@
-//! Places in memory as their callers meet them, and stops beside a plain model.
+//! Places in memory as their callers meet them, and what stops leave of them.
 use crate::copying::{FileBytes, copy_file};
 use crate::looks::{Look, new_place_has};
 use crate::steps::{FileStep, SlotStep, has_file, put_and_keep, put_read_remove};
-use crate::stops::{Call, FIRST, Stop, one_fails_in};
-use mem_outside::{Fails, MemFiles, MemPlace, SteadyPlace, StopKind};
+use crate::stops::{Call, FIRST, Left, one_fails_in};
+use mem_outside::StopKind::{Scrambled, Unwritten, Written};
+use mem_outside::{Fails, MemFiles, MemPlace, SteadyPlace};
 use std::alloc::{AllocError, Global};
 use std::thread::{Threads, join_mut};
 use tsdb_base::{FileNumber, Memory};
@@ -40,10 +41,16 @@ fn new_steady_place(alloc: Global) -> Result<SteadyPlace, Memory> {
     SteadyPlace::new(alloc, slots, files)
 }
 
-// Calls of which the one with this index fails, as it has these numbers among those on slots and those on files, and
-// how many moments the place has then: one before the first call, and one behind each up to the last that changed
-// something.
-type Run = (&'static [Call], Option<usize>, [u64; 2], u64);
+// Calls of which the one with this index fails, as it has these numbers among those on slots and those on files, how
+// many moments the place has then, one before the first call and one behind each up to the last that changed something,
+// and what stops leave.
+type Run = (
+    &'static [Call],
+    Option<usize>,
+    [u64; 2],
+    u64,
+    &'static [Left],
+);
 
 const ON_SLOTS: [Call; 6] = [
     Call::Write(Slot::A, 1, [5, 6]),
@@ -54,14 +61,78 @@ const ON_SLOTS: [Call; 6] = [
     Call::Sync(Slot::B),
 ];
 
+const NO_FAULT: &[Left] = &[
+    (Written, 0, &[1, 2], &[9], b"--w"),
+    (Written, 1, &[1, 5, 6], &[9], b"--w"),
+    (Written, 3, &[1, 5, 6], &[7, 8], b"--w"),
+    (Written, 4, &[3, 4, 6], &[7, 8], b"--w"),
+    (Written, 6, &[3, 4, 6], &[7, 8], b"--w"),
+    (Unwritten, 0, &[1, 2], &[9], b"--w"),
+    (Unwritten, 1, &[1, 2], &[9], b"--w"),
+    (Unwritten, 2, &[1, 5, 6], &[9], b"--w"),
+    (Unwritten, 4, &[1, 5, 6], &[9], b"--w"),
+    (Unwritten, 5, &[3, 4, 6], &[9], b"--w"),
+    (Unwritten, 6, &[3, 4, 6], &[7, 8], b"--w"),
+    (Scrambled, 0, &[1, 2], &[9], b"--w"),
+    (Scrambled, 1, &[1, 250, 249], &[9], b"--w"),
+    (Scrambled, 2, &[1, 5, 6], &[9], b"--w"),
+    (Scrambled, 3, &[1, 5, 6], &[248, 247], b"--w"),
+    (Scrambled, 4, &[252, 251, 6], &[248, 247], b"--w"),
+    (Scrambled, 5, &[3, 4, 6], &[248, 247], b"--w"),
+    (Scrambled, 6, &[3, 4, 6], &[7, 8], b"--w"),
+];
+
+// A write that failed is pending until the next sync of its slot, which leaves what reads give.
+const FIRST_WRITE_FAILED: &[Left] = &[
+    (Written, 1, &[1, 5, 6], &[9], b"--w"),
+    (Written, 2, &[1, 2], &[9], b"--w"),
+    (Unwritten, 1, &[1, 2], &[9], b"--w"),
+    (Scrambled, 1, &[1, 250, 249], &[9], b"--w"),
+    (Scrambled, 2, &[1, 2], &[9], b"--w"),
+    (Scrambled, 6, &[3, 4], &[7, 8], b"--w"),
+];
+
+const FIRST_SYNC_FAILED: &[Left] = &[
+    (Written, 2, &[1, 5, 6], &[9], b"--w"),
+    (Unwritten, 4, &[1, 2], &[9], b"--w"),
+    (Unwritten, 5, &[3, 4, 6], &[9], b"--w"),
+    (Scrambled, 2, &[1, 250, 249], &[9], b"--w"),
+    (Scrambled, 4, &[252, 251, 249], &[248, 247], b"--w"),
+    (Scrambled, 5, &[3, 4, 6], &[248, 247], b"--w"),
+];
+
+const LAST_SYNC_FAILED: &[Left] = &[
+    (Written, 6, &[3, 4, 6], &[7, 8], b"--w"),
+    (Unwritten, 6, &[3, 4, 6], &[9], b"--w"),
+    (Scrambled, 6, &[3, 4, 6], &[248, 247], b"--w"),
+];
+
 static SLOT_RUNS: [Run; 7] = [
-    (&ON_SLOTS, None, [0, 0], 7),
-    (&ON_SLOTS, Some(0), [1, 0], 7),
-    (&ON_SLOTS, Some(1), [2, 0], 7),
-    (&ON_SLOTS, Some(2), [3, 0], 7),
-    (&ON_SLOTS, Some(3), [4, 0], 7),
-    (&ON_SLOTS, Some(4), [5, 0], 7),
-    (&ON_SLOTS, Some(5), [6, 0], 7),
+    (&ON_SLOTS, None, [0, 0], 7, NO_FAULT),
+    (&ON_SLOTS, Some(0), [1, 0], 7, FIRST_WRITE_FAILED),
+    (&ON_SLOTS, Some(1), [2, 0], 7, FIRST_SYNC_FAILED),
+    (
+        &ON_SLOTS,
+        Some(2),
+        [3, 0],
+        7,
+        &[(Unwritten, 6, &[3, 4, 6], &[9], b"--w")],
+    ),
+    (
+        &ON_SLOTS,
+        Some(3),
+        [4, 0],
+        7,
+        &[(Scrambled, 4, &[252, 251, 6], &[248, 247], b"--w")],
+    ),
+    (
+        &ON_SLOTS,
+        Some(4),
+        [5, 0],
+        7,
+        &[(Unwritten, 6, &[1, 5, 6], &[7, 8], b"--w")],
+    ),
+    (&ON_SLOTS, Some(5), [6, 0], 7, LAST_SYNC_FAILED),
 ];
 
 const BOTH_REMOVED: [Call; 8] = [
@@ -95,44 +166,75 @@ const FIRST_REMOVED: [Call; 7] = [
     Call::FetchAlone(2),
 ];
 
-static FILE_RUNS: [Run; 7] = [
-    (&BOTH_REMOVED, None, [0, 0], 9),
-    // A file whose put failed is not found.
-    (&SECOND_REMOVED, Some(1), [0, 1], 8),
-    (&FIRST_REMOVED, Some(3), [0, 2], 7),
-    // One whose fetch failed stays. One whose removal failed is gone.
-    (&SECOND_REMOVED, Some(4), [0, 3], 8),
-    (&BOTH_REMOVED, Some(5), [0, 4], 9),
-    (&FIRST_REMOVED, Some(6), [0, 5], 7),
-    (&BOTH_REMOVED, Some(7), [0, 6], 9),
+// While a file is put, a stop may leave half of it. One that was handed to `remove` is left by an `Unwritten` stop.
+const PUT_AND_REMOVED: &[Left] = &[
+    (Written, 1, &[5, 6], &[9], b"--w"),
+    (Written, 2, &[5, 6], &[9], b"w-w"),
+    (Written, 4, &[5, 6], &[9], b"www"),
+    (Written, 6, &[5, 6], &[9], b"-ww"),
+    (Written, 8, &[5, 6], &[9], b"--w"),
+    (Unwritten, 1, &[1, 2], &[9], b"--w"),
+    (Unwritten, 2, &[1, 2], &[9], b"w-w"),
+    (Unwritten, 3, &[5, 6], &[9], b"w-w"),
+    (Unwritten, 8, &[5, 6], &[9], b"www"),
+    (Scrambled, 0, &[1, 2], &[9], b"--w"),
+    (Scrambled, 1, &[250, 249], &[9], b"h-w"),
+    (Scrambled, 2, &[250, 249], &[9], b"w-w"),
+    (Scrambled, 3, &[5, 6], &[9], b"whw"),
+    (Scrambled, 4, &[5, 6], &[9], b"www"),
+    (Scrambled, 6, &[5, 6], &[9], b"-ww"),
+    (Scrambled, 8, &[5, 6], &[9], b"--w"),
 ];
 
-// Whether a stop behind the first of these calls leaves what it should.
-fn stop_holds(
-    place: &MemPlace,
-    calls: &[Call],
-    failed: Option<usize>,
-    moment: usize,
-    kind: StopKind,
-) -> bool {
-    let stop = Stop {
-        calls,
-        failed,
-        moment,
-        kind,
-    };
-    place.moments() > 0 && new_place_has(place.after_stop(moment as u64, kind), &[Look::Left(stop)])
+const FIRST_PUT_FAILED: &[Left] = &[
+    (Written, 2, &[5, 6], &[9], b"--w"),
+    (Unwritten, 2, &[1, 2], &[9], b"w-w"),
+    (Scrambled, 2, &[250, 249], &[9], b"h-w"),
+    (Written, 7, &[5, 6], &[9], b"--w"),
+    (Unwritten, 7, &[5, 6], &[9], b"www"),
+    (Scrambled, 7, &[5, 6], &[9], b"h-w"),
+];
+
+const SECOND_PUT_FAILED: &[Left] = &[
+    (Written, 6, &[5, 6], &[9], b"--w"),
+    (Unwritten, 6, &[5, 6], &[9], b"www"),
+    (Scrambled, 6, &[5, 6], &[9], b"-hw"),
+];
+
+const FIRST_STAYS: &[Left] = &[
+    (Written, 7, &[5, 6], &[9], b"w-w"),
+    (Unwritten, 7, &[5, 6], &[9], b"www"),
+    (Scrambled, 7, &[5, 6], &[9], b"w-w"),
+];
+
+const SECOND_STAYS: &[Left] = &[
+    (Written, 6, &[5, 6], &[9], b"-ww"),
+    (Unwritten, 6, &[5, 6], &[9], b"www"),
+];
+
+static FILE_RUNS: [Run; 7] = [
+    (&BOTH_REMOVED, None, [0, 0], 9, PUT_AND_REMOVED),
+    // A file whose put failed is not found.
+    (&SECOND_REMOVED, Some(1), [0, 1], 8, FIRST_PUT_FAILED),
+    (&FIRST_REMOVED, Some(3), [0, 2], 7, SECOND_PUT_FAILED),
+    // One whose fetch failed stays. One whose removal failed is gone.
+    (&SECOND_REMOVED, Some(4), [0, 3], 8, FIRST_STAYS),
+    (&BOTH_REMOVED, Some(5), [0, 4], 9, PUT_AND_REMOVED),
+    (&FIRST_REMOVED, Some(6), [0, 5], 7, SECOND_STAYS),
+    (&BOTH_REMOVED, Some(7), [0, 6], 9, PUT_AND_REMOVED),
+];
+
+// Whether a stop leaves what it should.
+fn stop_holds(place: &MemPlace, left: &Left) -> bool {
+    place.moments() > 0 && new_place_has(place.after_stop(left.1, left.0), &[Look::Left(left)])
 }
 
-// Whether a run is as it should be, and what each kind of stop leaves at each moment.
+// Whether a run is as it should be, and what stops leave of it.
 fn run_holds(place: &mut MemPlace, run: &Run) -> bool {
-    let (calls, failed, _, moments) = *run;
+    let (calls, failed, _, moments, stops) = *run;
     let mut holds = one_fails_in(place, calls, failed) && place.moments() == moments;
-    for moment in 0..9 {
-        holds = holds
-            && stop_holds(place, calls, failed, moment, StopKind::Written)
-            && stop_holds(place, calls, failed, moment, StopKind::Unwritten)
-            && stop_holds(place, calls, failed, moment, StopKind::Scrambled);
+    for left in stops {
+        holds = holds && stop_holds(place, left);
     }
     holds
 }

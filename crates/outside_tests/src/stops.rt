@@ -1,4 +1,4 @@
-//! What a stop leaves of a store in memory, by a plain model of its slots and files. Depends on `steps`.
+//! Calls on a store in memory, of which one may fail, and what a stop leaves of it. Depends on `steps`.
 use crate::copying::FileBytes;
 use crate::steps::{SlotBytes, fetch_and_remove, has_file, put_and_keep, read_slot, write};
 use mem_outside::StopKind;
@@ -18,14 +18,15 @@ pub enum Call {
     Remove(u64),
 }
 
-/// A stop behind the first of these calls, of which one fails.
-#[derive(Clone, Copy)]
-pub struct Stop<'a> {
-    pub calls: &'a [Call],
-    pub failed: Option<usize>,
-    pub moment: usize,
-    pub kind: StopKind,
-}
+/// A stop of this kind behind so many calls, and what it leaves: the bytes of both slots, and of the files 1, 2 and 7
+/// whether each is whole (`w`), half (`h`) or missing (`-`).
+pub type Left = (
+    StopKind,
+    u64,
+    &'static [u8],
+    &'static [u8],
+    &'static [u8; 3],
+);
 
 /// What the slots have before the first call. There is the file 7 then.
 pub const FIRST: [&[u8]; 2] = [&[1, 2], &[9]];
@@ -71,125 +72,27 @@ pub fn one_fails_in<P: Place>(place: &mut P, calls: &[Call], failed: Option<usiz
     }
 }
 
-// The byte that a call puts at this place of a slot, if it puts one there.
-fn byte_put(call: Call, slot: Slot, at: u64) -> Option<u8> {
-    match call {
-        Call::Write(of, from, bytes) if of == slot => match at.checked_sub(from) {
-            Some(0) => Some(bytes[0]),
-            Some(1) => Some(bytes[1]),
-            _ => None,
-        },
+// Whether a slot has these bytes, which are at most four.
+fn slot_has(found: Result<SlotBytes, Failed>, bytes: &[u8]) -> bool {
+    let Ok(found) = found else {
+        return false;
+    };
+    found.1 == bytes.len() as u64 && found.0.get(..bytes.len()) == Some(bytes)
+}
+
+fn file_of(letter: u8) -> Option<FileBytes> {
+    match letter {
+        b'w' => WHOLE,
+        b'h' => HALF,
         _ => None,
     }
 }
 
-// What a stop of this kind leaves where this byte was written over what it would have left.
-fn byte_pending(left: Option<u8>, written: u8, kind: StopKind) -> Option<u8> {
-    match kind {
-        StopKind::Written => Some(written),
-        StopKind::Unwritten => left,
-        StopKind::Scrambled => Some(!written),
-    }
-}
-
-// What is seen of the byte at one place of a slot, and what a stop would leave of it.
-type Byte = (Option<u8>, Option<u8>);
-
-// The same behind one more call.
-fn byte_behind(byte: Byte, slot: Slot, at: u64, call: Call, done: bool, kind: StopKind) -> Byte {
-    let (seen, left) = byte;
-    match call {
-        Call::Sync(of) if of == slot && done => (seen, seen),
-        _ => match byte_put(call, slot, at) {
-            Some(written) if done => (Some(written), byte_pending(left, written, kind)),
-            Some(written) => (seen, byte_pending(left, written, kind)),
-            None => byte,
-        },
-    }
-}
-
-// The byte at one place of a slot that a stop leaves, looked at alone.
-fn byte_left(stop: &Stop, slot: Slot, at: u64) -> Option<u8> {
-    let first = match slot {
-        Slot::A => FIRST[0].get(at as usize).copied(),
-        Slot::B => FIRST[1].get(at as usize).copied(),
-    };
-    let mut byte = (first, first);
-    for (index, call) in stop.calls.iter().enumerate() {
-        if index < stop.moment {
-            let done = stop.failed != Some(index);
-            byte = byte_behind(byte, slot, at, *call, done, stop.kind);
-        }
-    }
-    byte.1
-}
-
-// Whether a slot has what a stop leaves of it.
-fn slot_has_left(found: Result<SlotBytes, Failed>, stop: &Stop, slot: Slot) -> bool {
-    let Ok(found) = found else {
-        return false;
-    };
-    let mut same = true;
-    for (at, byte) in found.0.iter().enumerate() {
-        let there = (at as u64) < found.1;
-        let byte = if there { Some(*byte) } else { None };
-        same = same && byte == byte_left(stop, slot, at as u64);
-    }
-    same
-}
-
-// What is left of a file behind one more call, of which what was left before is known.
-fn left_behind(
-    left: Option<FileBytes>,
-    number: u64,
-    call: Call,
-    done: bool,
-    kind: StopKind,
-) -> Option<FileBytes> {
-    match call {
-        Call::Put(put) if put == number && done => WHOLE,
-        Call::Put(put) if put == number => match kind {
-            StopKind::Written => left,
-            StopKind::Unwritten => WHOLE,
-            StopKind::Scrambled => HALF,
-        },
-        Call::Remove(removed) if removed == number && kind != StopKind::Unwritten => None,
-        _ => left,
-    }
-}
-
-// What is left of it where this call is under way.
-fn left_within(
-    left: Option<FileBytes>,
-    number: u64,
-    call: Call,
-    kind: StopKind,
-) -> Option<FileBytes> {
-    match call {
-        Call::Put(put) if put == number && kind == StopKind::Scrambled => HALF,
-        _ => left,
-    }
-}
-
-// What a stop leaves of a file.
-fn file_left(stop: &Stop, number: u64) -> Option<FileBytes> {
-    let mut left = if number == 7 { WHOLE } else { None };
-    for (index, call) in stop.calls.iter().enumerate() {
-        if index < stop.moment {
-            let done = stop.failed != Some(index);
-            left = left_behind(left, number, *call, done, stop.kind);
-        } else if index == stop.moment {
-            left = left_within(left, number, *call, stop.kind);
-        }
-    }
-    left
-}
-
 /// Whether there is of each slot and of each file what the stop leaves.
-pub fn has_left<J: Journal, F: Files>(journal: &mut J, files: &mut F, stop: &Stop) -> bool {
-    slot_has_left(read_slot(journal, Slot::A), stop, Slot::A)
-        && slot_has_left(read_slot(journal, Slot::B), stop, Slot::B)
-        && has_file(files, 1, file_left(stop, 1))
-        && has_file(files, 2, file_left(stop, 2))
-        && has_file(files, 7, file_left(stop, 7))
+pub fn has_left<J: Journal, F: Files>(journal: &mut J, files: &mut F, left: &Left) -> bool {
+    slot_has(read_slot(journal, Slot::A), left.2)
+        && slot_has(read_slot(journal, Slot::B), left.3)
+        && has_file(files, 1, file_of(left.4[0]))
+        && has_file(files, 2, file_of(left.4[1]))
+        && has_file(files, 7, file_of(left.4[2]))
 }

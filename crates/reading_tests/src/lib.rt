@@ -1,18 +1,25 @@
-//! What no clause says of reading a series: aggregates beside a plain slow fold, which pages are loaded and loads that
-//! fail, over lists in memory and over the pages of a stored file; and rows of several series. It depends on the crates
-//! that it tests, on `tsfile_writer` and `tsdb_pages` for the files, and on `mem_outside` and `tsdb_outside` for the
-//! ports.
+//! What no clause says of reading a series: streams over two files and a part in memory, pins that are asked for rows,
+//! aggregates and streams, how many bytes are read for these, and calls of a port that fail; a file on a real disk
+//! whose pages are spoiled; which pages an aggregate over pages loads; and rows of several series. Depends on
+//! tsdb_base, tsdb_path, tsdb_model, tsdb_outside, mem_outside, fs_outside, tsdb_stats, tsdb_pages, tsfile_writer,
+//! tsdb_marks, tsdb_merge, tsdb_aggregate, tsdb_streams, tsdb_pin and tsdb_pins.
 #![tactic(auto)]
 
 #[cfg(test)]
-mod aggregates;
+mod asking;
+#[cfg(test)]
+mod columns;
+#[cfg(test)]
+mod files;
 #[cfg(test)]
 mod loads;
 #[cfg(test)]
-mod paged;
+mod pins;
 #[cfg(test)]
-mod pages;
+mod queries;
 #[cfg(test)]
 mod rows;
 #[cfg(test)]
-mod stored;
+mod spoiled;
+#[cfg(test)]
+mod streams;

@@ -1,139 +1,350 @@
-//! Which pages are loaded, and loads that fail.
-use crate::pages::{Fault, NEVER, Shape, answer, lists_of, mark_clean, pieces_of};
+//! Pages of which nothing is told, as those of a real file, and aggregates over them: which pages are loaded, and loads
+//! that fail. The program folds the pages of a pin by another body.
+ghost use Rattle.std.specs.Prelude.{◌≡◌, replicate};
+ghost use Rattle.tsdb_merge.specs.Causes.{HasPullCause};
+ghost use Rattle.reading_tests.specs.Pages.{page};
+
 use std::alloc::{AllocError, Global};
+use std::marker::Brand;
+use std::sync::ledger::{Blank, Ledger};
 use std::test::Fail;
-use tsdb_aggregate::Piece;
-use tsdb_base::{Aggregate, Point, Range, Value};
+use tsdb_aggregate::{Loader, Piece, aggregate};
+use tsdb_base::{Aggregate, Memory, Point, Range, Steps, Value};
 use tsdb_merge::PullFault;
+use tsdb_stats::stats_of;
 
-/// What is asked, over which times, the answer, and how often a page is loaded.
-pub type Wanted = (Aggregate, i64, i64, Option<i64>, u64);
-
-/// What is asked of two pages of 1,000 points each.
-pub static OF_PAGES: [Wanted; 4] = [
-    (Aggregate::Count, 1, 2000, Some(2000), 0),
-    (Aggregate::Count, 1, 1999, Some(1999), 1),
-    (Aggregate::MaxTime, 1, 1999, Some(1999), 1),
-    (Aggregate::MinTime, 2, 2000, Some(2), 1),
-];
-
-/// What is asked of the pages and of a late point at time 1, which the first page meets.
-pub static OF_PAGES_AND_LATE_POINT: [Wanted; 5] = [
-    (Aggregate::Count, 1, 2000, Some(2000), 2),
-    (Aggregate::MinValue, 1, 2000, Some(-7), 2),
-    (Aggregate::FirstValue, 1, 2000, Some(-7), 2),
-    (Aggregate::Count, 5, 4, Some(0), 0),
-    (Aggregate::MaxTime, 5, 4, None, 0),
-];
-
-/// Whether the answer and the number of loads are as wanted.
-fn is_answered(alloc: Global, pieces: &mut [Piece], lists: &[Vec<Point>], asked: &Wanted) -> bool {
-    let (name, from, to, wanted, calls) = asked;
-    let range = Range {
-        from: *from,
-        to: *to,
-    };
-    mark_clean(pieces, &range);
-    let found = answer(alloc, *name, pieces, lists, &range, NEVER);
-    found.answer == Ok(wanted.map(|number| Value::I64(number))) && found.calls == *calls
+/// The fault of a load, and how many loads come before it.
+#[derive(Clone, Copy)]
+struct Fault {
+    before: u64,
+    fault: PullFault,
 }
 
-/// The first of the questions that is answered otherwise.
-fn wrong_answer(
+/// No load fails.
+const NEVER: Fault = Fault {
+    before: u64::MAX,
+    fault: PullFault::Memory,
+};
+
+/// How many loads there were, and the faults that they met.
+#[derive(Drop)]
+struct Calls {
+    count: u64,
+    fault: Fault,
+    failures: u64,
+    damages: u64,
+}
+
+impl Calls {
+    /// One call more, which may be the one that fails.
+    fn next(&mut self) -> Result<(), PullFault>
+        ensures { HasPullCause self.old.failures self.new.failures self.old.damages self.new.damages result }
+    {
+        let before = self.count;
+        self.count = before.saturating_add(1);
+        if before != self.fault.before {
+            return Ok(());
+        }
+        match self.fault.fault {
+            PullFault::Failed => self.failures = self.failures.saturating_add(1),
+            PullFault::Damaged { at: _ } => self.damages = self.damages.saturating_add(1),
+            PullFault::Memory => {}
+        }
+        Err(self.fault.fault)
+    }
+}
+
+/// Pages in memory of which no contract is told what is in them. Each load ticks, also where it fails.
+#[derive(Drop)]
+struct Pages<'a, K: Ledger> {
+    lists: &'a [Vec<Point>],
+    count: usize,
+    loads: Steps<K>,
+    calls: Calls,
+}
+
+/// The same points once more, if there is such a list.
+fn copy_points(alloc: Global, lists: &[Vec<Point>], place: usize) -> Result<Vec<Point>, Memory> {
+    let mut copy = Vec::new(alloc);
+    if let Some(points) = lists.get(place) {
+        for point in points {
+            copy.push(Point {
+                time: point.time,
+                value: point.value.copy()?,
+            })?;
+        }
+    }
+    Ok(copy)
+}
+
+/// The points of a page, where the call does not fail.
+fn read(
     alloc: Global,
     lists: &[Vec<Point>],
-    sources: &[u32],
-    asked: &[Wanted],
-) -> Result<Option<usize>, Fail> {
-    let mut pieces = pieces_of(alloc, lists, sources)?;
-    for (at, asked) in asked.iter().enumerate() {
-        if !is_answered(alloc, &mut pieces, lists, asked) {
-            return Ok(Some(at));
+    place: usize,
+    calls: &mut Calls,
+) -> Result<Vec<Point>, PullFault>
+    ensures { HasPullCause calls.old.failures calls.new.failures calls.old.damages calls.new.damages result }
+{
+    calls.next()?;
+    Ok(copy_points(alloc, lists, place)?)
+}
+
+impl<K: Ledger> Loader for Pages<'_, K> {
+    ghost state = { λ pages. record {
+      held = replicate pages.count page;
+      failures = pages.calls.failures;
+      damages = pages.calls.damages;
+      loads = pages.loads;
+    } };
+
+    fn load<L: Ledger>(
+        &mut self,
+        alloc: Global,
+        piece: usize,
+        pages: &mut Steps<L>,
+    ) -> Result<Vec<Point>, PullFault> {
+        self.loads.tick();
+        pages.tick();
+        read(alloc, self.lists, piece, &mut self.calls)
+    }
+}
+
+/// An answer, and how often a page was loaded for it.
+#[derive(Drop)]
+struct Answered {
+    answer: Result<Option<Value>, PullFault>,
+    calls: u64,
+}
+
+fn answer_with<K: Ledger, L: Ledger>(
+    alloc: Global,
+    name: Aggregate,
+    pieces: &[Piece],
+    lists: &[Vec<Point>],
+    range: &Range,
+    fault: Fault,
+    own: Blank,
+    blank: Blank,
+) -> Answered
+    requires own_name { own.name ≡ K.name }
+    requires own_parts { own.parts ≡ K.parts }
+    requires own_one { own.parts ≡ 1 }
+    requires name { blank.name ≡ L.name }
+    requires parts { blank.parts ≡ L.parts }
+    requires one { blank.parts ≡ 1 }
+{
+    let mut steps = Steps::<L>::new(blank);
+    let mut loader = Pages {
+        lists,
+        count: pieces.len(),
+        loads: Steps::<K>::new(own),
+        calls: Calls {
+            count: 0,
+            fault,
+            failures: 0,
+            damages: 0,
+        },
+    };
+    let answer = aggregate(alloc, name, pieces, range, &mut loader, &mut steps);
+    Answered {
+        answer,
+        calls: loader.calls.count,
+    }
+}
+
+/// The aggregate of pages, each with the piece at its place.
+fn answer(
+    alloc: Global,
+    name: Aggregate,
+    pieces: &[Piece],
+    lists: &[Vec<Point>],
+    range: &Range,
+    fault: Fault,
+) -> Answered {
+    answer_with::<Brand, Brand>(
+        alloc,
+        name,
+        pieces,
+        lists,
+        range,
+        fault,
+        Blank::new(1),
+        Blank::new(1),
+    )
+}
+
+/// Points at the times from `from` to `to`, `step` apart.
+fn points(alloc: Global, from: i64, to: i64, step: i64, source: i64) -> Result<Vec<Point>, Fail> {
+    let mut list = Vec::new(alloc);
+    let mut time = from;
+    for _ in 0..2000u32 {
+        if time > to {
+            return Ok(list);
+        }
+        let value = Value::I64(time.wrapping_mul(7).wrapping_add(source.wrapping_mul(5)) & 15);
+        list.push(Point { time, value }).map_err(AllocError::from)?;
+        time = time.wrapping_add(step);
+    }
+    Ok(list)
+}
+
+/// First time, last time and step of a list of points, and the source that its values tell.
+pub type Shape = (i64, i64, i64, i64);
+
+/// A list for each shape.
+pub fn lists_of(alloc: Global, shapes: &[Shape]) -> Result<Vec<Vec<Point>>, Fail> {
+    let mut lists = Vec::new(alloc);
+    for (from, to, step, source) in shapes {
+        lists
+            .push(points(alloc, *from, *to, *step, *source)?)
+            .map_err(AllocError::from)?;
+    }
+    Ok(lists)
+}
+
+/// The shapes of pages, the source of each, and which of them no other page meets.
+type Of = (&'static [Shape], &'static [u32], &'static [bool]);
+
+/// Pages, what is asked of them, over which times, the answer, and how often a page is loaded. Where the answer is a
+/// fault, the last of these loads meets it.
+type Case = (Of, Aggregate, i64, i64, Result<Option<i64>, PullFault>, u64);
+
+/// A piece for each list. It is clean where no other one meets it and the range has it.
+fn pieces_of(
+    alloc: Global,
+    lists: &[Vec<Point>],
+    of: Of,
+    range: &Range,
+) -> Result<Vec<Piece>, Fail> {
+    let (_, sources, alone) = of;
+    let mut pieces = Vec::new(alloc);
+    for (place, list) in lists.iter().enumerate() {
+        if list.is_empty() {
+            return Err("no points".into());
+        }
+        let mut piece = Piece {
+            stats: stats_of(list)?,
+            source: sources.get(place).copied().unwrap_or(0),
+            clean: alone.get(place).copied().unwrap_or(false),
+        };
+        let hull = piece.hull();
+        piece.clean = piece.clean && range.from <= hull.from && hull.to <= range.to;
+        pieces.push(piece)?;
+    }
+    Ok(pieces)
+}
+
+/// Two pages of 1,000 points each.
+const TWO: Of = (
+    &[(1, 1000, 1, 0), (1001, 2000, 1, 0)],
+    &[0, 0],
+    &[true, true],
+);
+
+/// The same, and a late point, which the first page meets. Its value is 12.
+const POINT: Of = (
+    &[(1, 1000, 1, 0), (1001, 2000, 1, 0), (1, 1, 1, 1)],
+    &[0, 0, 1],
+    &[false, true, false],
+);
+
+/// Three pages of one source under two late ones of another, which span the series.
+const LATE: Of = (
+    &[
+        (0, 9, 1, 0),
+        (10, 19, 1, 0),
+        (20, 29, 1, 0),
+        (0, 14, 2, 1),
+        (16, 28, 2, 1),
+    ],
+    &[0, 0, 0, 1, 1],
+    &[],
+);
+
+/// Two pages of one source that have no time in common, though their hulls meet, and a page of a later source.
+const WOVEN: Of = (
+    &[(0, 8, 2, 0), (1, 11, 2, 0), (3, 6, 3, 1)],
+    &[0, 0, 1],
+    &[],
+);
+
+const FAILED: Result<Option<i64>, PullFault> = Err(PullFault::Failed);
+
+const DAMAGED: Result<Option<i64>, PullFault> = Err(PullFault::Damaged { at: 7 });
+
+const MEMORY: Result<Option<i64>, PullFault> = Err(PullFault::Memory);
+
+const CASES: &[Case] = &[
+    (TWO, Aggregate::Count, 1, 2000, Ok(Some(2000)), 0),
+    (TWO, Aggregate::Count, 1, 1999, Ok(Some(1999)), 1),
+    (TWO, Aggregate::MaxTime, 1, 1999, Ok(Some(1999)), 1),
+    (TWO, Aggregate::MinTime, 2, 2000, Ok(Some(2)), 1),
+    (POINT, Aggregate::Count, 1, 2000, Ok(Some(2000)), 2),
+    (POINT, Aggregate::FirstValue, 1, 2000, Ok(Some(12)), 2),
+    (POINT, Aggregate::MinValue, 1, 2000, Ok(Some(0)), 2),
+    (POINT, Aggregate::Count, 5, 4, Ok(Some(0)), 0),
+    (POINT, Aggregate::MaxTime, 5, 4, Ok(None), 0),
+    // The first value needs one page of each source.
+    (LATE, Aggregate::Count, 0, 29, Ok(Some(30)), 5),
+    (LATE, Aggregate::MinTime, 0, 29, Ok(Some(0)), 2),
+    (LATE, Aggregate::FirstValue, 0, 29, Ok(Some(5)), 2),
+    (LATE, Aggregate::MinTime, 15, 29, Ok(Some(15)), 2),
+    (LATE, Aggregate::MaxTime, 0, 12, Ok(Some(12)), 3),
+    (LATE, Aggregate::LastValue, 0, 29, Ok(Some(11)), 5),
+    (LATE, Aggregate::MaxValue, 0, 29, Ok(Some(15)), 5),
+    (LATE, Aggregate::Count, 0, 29, FAILED, 1),
+    (LATE, Aggregate::Count, 0, 29, DAMAGED, 3),
+    (LATE, Aggregate::Count, 0, 29, MEMORY, 5),
+    (WOVEN, Aggregate::Count, 0, 11, Ok(Some(11)), 3),
+];
+
+/// The fault of the case's last load, if the answer is one.
+fn fault_of(case: &Case) -> Fault {
+    match case.4 {
+        Ok(_) => NEVER,
+        Err(fault) => Fault {
+            before: case.5.saturating_sub(1),
+            fault,
+        },
+    }
+}
+
+fn is_wanted(found: &Answered, case: &Case) -> bool {
+    let same = match (&found.answer, case.4) {
+        (Ok(Some(Value::I64(found))), Ok(Some(wanted))) => *found == wanted,
+        (Ok(None), Ok(None)) => true,
+        (Err(found), Err(wanted)) => *found == wanted,
+        _ => false,
+    };
+    same && found.calls == case.5
+}
+
+/// Whether the answer and the number of loads are as wanted.
+fn is_answered(alloc: Global, case: &Case) -> Result<bool, Fail> {
+    let range = Range {
+        from: case.2,
+        to: case.3,
+    };
+    let (shapes, _, _) = case.0;
+    let lists = lists_of(alloc, shapes)?;
+    let pieces = pieces_of(alloc, &lists, case.0, &range)?;
+    let found = answer(alloc, case.1, &pieces, &lists, &range, fault_of(case));
+    Ok(is_wanted(&found, case))
+}
+
+/// The place of the first case in which something else comes.
+fn first_wrong(alloc: Global, cases: &[Case]) -> Result<Option<usize>, Fail> {
+    for (place, case) in cases.iter().enumerate() {
+        if !is_answered(alloc, case)? {
+            return Ok(Some(place));
         }
     }
     Ok(None)
-}
-
-static PAGES: [Shape; 2] = [(1, 1000, 1, 0), (1001, 2000, 1, 0)];
-
-/// The two pages, and a late point.
-fn pages_and_late_point(alloc: Global) -> Result<Vec<Vec<Point>>, Fail> {
-    let mut lists = lists_of(alloc, &PAGES)?;
-    let value = Value::I64(-7);
-    let late = vec![in alloc; Point { time: 1, value }]?;
-    lists.push(late).map_err(AllocError::from)?;
-    Ok(lists)
 }
 
 #[test]
 fn pages_are_loaded_only_where_they_must_be(rt: HostRuntime) -> Result<(), Fail> {
-    let alloc = rt.alloc();
-    let lists = pages_and_late_point(alloc)?;
-    let pages = wrong_answer(alloc, lists.get(..2).unwrap_or(&[]), &[0, 0], &OF_PAGES)?;
-    let late = wrong_answer(alloc, &lists, &[0, 0, 1], &OF_PAGES_AND_LATE_POINT)?;
-    assert_eq!(rt; (pages, late), (None, None));
-    Ok(())
-}
-
-/// Late pages that span the series: three pages of one source under two of another.
-static LATE_PAGES: [Shape; 5] = [
-    (0, 9, 1, 0),
-    (10, 19, 1, 0),
-    (20, 29, 1, 0),
-    (0, 14, 2, 1),
-    (16, 28, 2, 1),
-];
-
-/// Their sources.
-static LATE_SOURCES: [u32; 5] = [0, 0, 0, 1, 1];
-
-const LATE_RANGE: Range = Range { from: 0, to: 29 };
-
-/// What is asked of late pages. The first value needs one page of each source.
-pub static OF_LATE_PAGES: [Wanted; 5] = [
-    (Aggregate::Count, 0, 29, Some(30), 5),
-    (Aggregate::MinTime, 0, 29, Some(0), 2),
-    (Aggregate::FirstValue, 0, 29, Some(5), 2),
-    (Aggregate::MinTime, 15, 29, Some(15), 2),
-    (Aggregate::MaxTime, 0, 12, Some(12), 3),
-];
-
-#[test]
-fn a_page_is_loaded_when_the_merge_comes_to_it(rt: HostRuntime) -> Result<(), Fail> {
-    let lists = lists_of(rt.alloc(), &LATE_PAGES)?;
-    let wrong = wrong_answer(rt.alloc(), &lists, &LATE_SOURCES, &OF_LATE_PAGES)?;
-    assert_eq!(rt; wrong, None);
-    Ok(())
-}
-
-/// Whether a fault of one load is the answer, and no load comes behind it.
-fn ends_at_fault(alloc: Global, pieces: &[Piece], lists: &[Vec<Point>], fault: Fault) -> bool {
-    let found = answer(alloc, Aggregate::Count, pieces, lists, &LATE_RANGE, fault);
-    found.answer == Err(fault.fault) && found.calls == fault.before.saturating_add(1)
-}
-
-const KINDS: [PullFault; 3] = [
-    PullFault::Failed,
-    PullFault::Damaged { at: 7 },
-    PullFault::Memory,
-];
-
-/// The first fault that is not the answer, and how many loads come before it.
-fn wrong_fault(alloc: Global) -> Result<Option<(PullFault, u64)>, Fail> {
-    let lists = lists_of(alloc, &LATE_PAGES)?;
-    let pieces = pieces_of(alloc, &lists, &LATE_SOURCES)?;
-    for fault in KINDS {
-        for before in 0..5 {
-            if !ends_at_fault(alloc, &pieces, &lists, Fault { before, fault }) {
-                return Ok(Some((fault, before)));
-            }
-        }
-    }
-    Ok(None)
-}
-
-#[test]
-fn each_load_may_fail(rt: HostRuntime) -> Result<(), Fail> {
-    assert_eq!(rt; wrong_fault(rt.alloc())?, None);
+    assert_eq!(rt; first_wrong(rt.alloc(), CASES)?, None);
     Ok(())
 }

@@ -4,13 +4,11 @@ mod cut;
 mod examples;
 mod pages;
 mod places;
-mod plain_program;
 mod runs;
 mod stores;
 mod text;
-mod types;
 
-use courses::{Course, expect, expect_each, prints_anew};
+use courses::{Course, expect, expect_each};
 use places::NEW;
 use runs::{CREATE, EMPTY, NO_CALL, Run, SELECT, SILENT, Script, is_said};
 use std::alloc::Global;
@@ -122,37 +120,13 @@ const UNKNOWN: Script = Script {
     ..SILENT
 };
 
-static BAD_WORDS: [Run; 8] = [
+static BAD_WORDS: [Run; 2] = [
     Run::Script(Script {
         words: &[],
         ..UNKNOWN
     }),
     Run::Script(Script {
-        words: &["run"],
-        ..UNKNOWN
-    }),
-    Run::Script(Script {
-        words: &["run", "d", "e"],
-        ..UNKNOWN
-    }),
-    Run::Script(Script {
-        words: &["run", "-x"],
-        ..UNKNOWN
-    }),
-    Run::Script(Script {
         words: &["run", "d", "--pair", "0"],
-        ..UNKNOWN
-    }),
-    Run::Script(Script {
-        words: &["run", "d", "--pair", "4", "--pair", "4"],
-        ..UNKNOWN
-    }),
-    Run::Script(Script {
-        words: &["run", ""],
-        ..UNKNOWN
-    }),
-    Run::Script(Script {
-        words: &["walk", "d"],
         ..UNKNOWN
     }),
 ];
@@ -181,18 +155,16 @@ static STATUSES: [(Status, u8, &str); 8] = [
 ];
 
 #[test]
-fn words_and_statuses(rt: HostRuntime) {
+fn unknown_words(rt: HostRuntime) {
     expect_each(&rt, rt.alloc(), &BAD_WORDS);
-    for (at, (status, code, text)) in STATUSES.iter().enumerate() {
-        assert!(rt; is_said(rt.alloc(), status, *code, text), "status {at}");
-    }
 }
 
-/// Whether the status says this on standard error, and returns this code.
+/// Whether the status has this code and this text, says the text on standard error, and returns the code.
 fn reports(alloc: Global, status: Status, code: u8, text: &str) -> bool {
+    let is_said = is_said(alloc, &status, code, text);
     let mut err = Vec::new(alloc);
     let returned = status.report(alloc, &mut err);
-    returned == code && err.as_slice() == text.as_bytes()
+    is_said && returned == code && err.as_slice() == text.as_bytes()
 }
 
 #[test]
@@ -203,7 +175,7 @@ fn codes_and_their_texts(rt: HostRuntime) {
 }
 
 /// The first bad line is reported by its number and kind, and nothing is written.
-static BAD_LINES: [Run; 5] = [
+static BAD_LINES: [Run; 2] = [
     Run::Script(Script {
         lines: &[
             CREATE,
@@ -213,23 +185,8 @@ static BAD_LINES: [Run; 5] = [
         ..SILENT
     }),
     Run::Script(Script {
-        lines: &[CREATE, "1 compact outer\n1 walk\n"],
-        status: Status::Script { line: 2, kind: 3 },
-        ..SILENT
-    }),
-    Run::Script(Script {
-        lines: &[CREATE, "0 select s from root.g.d\n1 walk\n"],
-        status: Status::Script { line: 2, kind: 1 },
-        ..SILENT
-    }),
-    Run::Script(Script {
         lines: &[CREATE, "1 walk\n1 walk\n"],
         status: Status::Script { line: 2, kind: 2 },
-        ..SILENT
-    }),
-    Run::Script(Script {
-        lines: &[CREATE, "1 select s\n1 walk\n"],
-        status: Status::Script { line: 2, kind: 3 },
         ..SILENT
     }),
 ];
@@ -268,17 +225,4 @@ static FAULTY: [Course<'static>; 1] = [(
 #[test]
 fn faults_of_source_and_sink(rt: HostRuntime) {
     expect(&rt, rt.alloc(), &FAULTY);
-}
-
-/// Whether the script with this number prints what the plain program says.
-fn is_same(alloc: Global, number: usize) -> bool {
-    let (script, printed) = plain_program::output_of(alloc, number);
-    prints_anew(alloc, script, &printed)
-}
-
-#[test]
-fn all_short_scripts_against_the_plain_program(rt: HostRuntime) {
-    for number in 0..plain_program::SCRIPTS {
-        assert!(rt; is_same(rt.alloc(), number), "script {number}");
-    }
 }

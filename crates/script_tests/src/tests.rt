@@ -3,12 +3,7 @@ mod byte_sink;
 mod commands;
 mod limits;
 mod lines;
-mod plain_forms;
-mod plain_reader;
-mod plain_tokens;
-mod plain_words;
 mod scripts;
-mod short_scripts;
 
 use std::alloc::Global;
 use tsdb_script::{ScriptFault, read_script};

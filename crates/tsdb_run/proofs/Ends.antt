@@ -20,7 +20,7 @@ use Rattle.tsdb_script.specs.Reading.{IsFirstBad, IsScript, RefusesScript}
 use Rattle.tsdb_script.specs.declared.fault.ScriptFault.{ScriptFault}
 use Rattle.tsdb_script.specs.declared.fault.ScriptFault.TheVariants as script_fault
 use Rattle.tsdb_script.specs.declared.numbered.Numbered.{Numbered}
-use Rattle.tsdb_words.specs.Words.{AreWords, Asked}
+use Rattle.tsdb_run.specs.Words.{AreWords, Asked}
 
 pub some_always : {X : Type 0} (P : X → Type 0) (o : Option X) → ((x : X) → P x) → IfSome o P
 some_always P None each = tt

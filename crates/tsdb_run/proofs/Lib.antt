@@ -1,3 +1,8 @@
+pub mod NumberLemmas
+pub mod PartLemmas
+pub mod OneReading
+pub mod SeenLemmas
+pub mod ReadLemmas
 pub mod InputLemmas
 pub mod PutLemmas
 pub mod LineOrder

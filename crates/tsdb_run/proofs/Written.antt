@@ -13,7 +13,7 @@ use Rattle.tsdb_run.specs.declared.status.Status.TheVariants.{Done, Memory, Word
 use Rattle.tsdb_script.proofs.ReadingLemmas.{within_limits}
 use Rattle.tsdb_script.specs.Reading.{IsScript}
 use Rattle.tsdb_script.specs.declared.numbered.Numbered.{Numbered}
-use Rattle.tsdb_words.specs.Words.{AreWords, Asked}
+use Rattle.tsdb_run.specs.Words.{AreWords, Asked}
 
 -- the sessions of a script have such numbers
 pub small_sessions : (bytes : List ℕ) (script : List Numbered) → IsScript bytes script

@@ -7,7 +7,7 @@ use Rattle.tsdb_run.specs.declared.status.Status.{Status}
 use Rattle.tsdb_run.specs.declared.status.Status.TheVariants.{Done, Memory, Words, Script, Source, Device, Damaged}
 use Rattle.tsdb_script.specs.Reading.{IsScript}
 use Rattle.tsdb_script.specs.declared.numbered.Numbered.{Numbered}
-use Rattle.tsdb_words.specs.Words.{AreWords, Asked}
+use Rattle.tsdb_run.specs.Words.{AreWords, Asked}
 
 -- the bytes are a script
 abbrev pub IsGoodScript : List ℕ → Type 0

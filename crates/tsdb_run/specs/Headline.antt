@@ -22,7 +22,7 @@ use Rattle.tsdb_run.specs.declared.status.Status.TheVariants.{Done, Memory, Word
 use Rattle.tsdb_run.specs.declared.status.Status.TheVariants.{Damaged}
 use Rattle.tsdb_script.specs.Reading.{IsScript, IsFirstBad}
 use Rattle.tsdb_script.specs.declared.numbered.Numbered.{Numbered}
-use Rattle.tsdb_words.specs.Words.{AreWords, Asked}
+use Rattle.tsdb_run.specs.Words.{AreWords, Asked}
 
 -- What a run was given, and what it left.
 pub record Run : Type 1 where

@@ -1,3 +1,6 @@
+pub mod Limits
+pub mod Words
+pub mod WordSteps
 pub mod Input
 pub mod Output
 pub mod Status

@@ -6,14 +6,16 @@ ghost use Rattle.tsdb_outside.specs.Causes.{HasStoreCause};
 ghost use Rattle.tsdb_run.specs.Causes.{TellsFaults};
 ghost use Rattle.tsdb_run.specs.Input.{TakesPrefix, TakesScript};
 ghost use Rattle.tsdb_run.specs.Steps.{EndsInput, IsReadFrom, script_status};
-ghost use Rattle.tsdb_words.specs.Words.{AreWords};
+ghost use Rattle.tsdb_run.specs.Words.{AreWords};
 
+use crate::asked::Asked;
+use crate::read::read_words;
 use crate::status::Status;
+use crate::word::Word;
 use std::alloc::Global;
 use tsdb_base::limits::MAX_SCRIPT_BYTES;
 use tsdb_outside::{Source, StoreFault};
 use tsdb_script::{Numbered, ScriptFault, read_script};
-use tsdb_words::{Asked, Word, read_words};
 
 /// The bytes that are asked for at a time.
 const PIECE_BYTES: usize = 65_536;

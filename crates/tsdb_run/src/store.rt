@@ -13,6 +13,7 @@ ghost use Rattle.tsdb_run.specs.Store.{HasDamage, IsSoundOrSilent, contents};
 ghost use Rattle.tsdb_recover.specs.Flushing.{IsReady, faults_under};
 ghost use Rattle.tsdb_recover.specs.Serving.{IsSure, slot_under};
 
+use crate::asked::Asked;
 use crate::status::Status;
 use std::alloc::Global;
 use tsdb_base::List;
@@ -20,7 +21,6 @@ use tsdb_history::{Room, Told, close, execute};
 use tsdb_outside::{Files, Journal, Place, StoreFault};
 use tsdb_recover::{Core, OpenFault, OpenRefused, Options, a_recovered_core_serves, recover};
 use tsdb_script::Numbered;
-use tsdb_words::Asked;
 
 /// Executes the commands of a script on the store that is asked for. Where the store cannot be opened, its log is as it
 /// was, and so is each file that it lists.

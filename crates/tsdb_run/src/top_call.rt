@@ -14,18 +14,19 @@ ghost use Rattle.tsdb_run.specs.Output.{output_text};
 ghost use Rattle.tsdb_run.specs.Steps.{IsAnswered, IsServedStatus, IsWritten, run_of};
 ghost use Rattle.tsdb_run.specs.Store.{IsSound, IsSoundOrSilent, contents};
 ghost use Rattle.tsdb_script.specs.Reading.{IsFirstBad, IsScript};
-ghost use Rattle.tsdb_words.specs.Words.{AreWords};
+ghost use Rattle.tsdb_run.specs.Words.{AreWords};
 
+use crate::asked::Asked;
 use crate::input::read_input;
 use crate::output::put_output;
 use crate::status::{Ended, Status};
 use crate::store::run_commands;
+use crate::word::Word;
 use std::alloc::Global;
 use tsdb_base::List;
 use tsdb_history::Told;
 use tsdb_outside::{Place, Sink, Source, StoreFault};
 use tsdb_script::Numbered;
-use tsdb_words::{Asked, Word};
 
 /// Executes the script that the source gives on the store in the directory, and writes the output into the sink.
 ///

@@ -1,8 +1,7 @@
 //! Runs one behind another on a store, and what stops leave of it, as tables that one walker reads. Depends on `runs`
 //! and `places`.
 use super::places::{NEW, Store, place_of};
-use super::runs::{Left, Run, is_done, is_right, left_by, prints, script_of};
-use super::text::Text;
+use super::runs::{Left, Run, is_done, is_right, left_by, script_of};
 use mem_outside::{MemPlace, StopKind};
 use std::alloc::Global;
 use std::process::Abort;
@@ -52,14 +51,6 @@ pub fn expect_each(rt: &impl Abort, alloc: Global, runs: &[Run]) {
     for (at, run) in runs.iter().enumerate() {
         let course = (NEW, slice::from_ref(run));
         assert!(rt; wrong_run(alloc, &course).is_none(), "run {at}");
-    }
-}
-
-/// Whether a run of the script on a new store ends well and prints this.
-pub fn prints_anew(alloc: Global, script: Text, printed: &Text) -> bool {
-    match place_of(alloc, &NEW) {
-        Ok(mut place) => prints(alloc, &mut place, script, printed),
-        Err(_) => false,
     }
 }
 

@@ -1,10 +1,8 @@
-//! A file that a run left and that is cut then, and what the next run says of it and of a log that is cut.
+//! A file that a run left and that is cut then, and what the next run says of it.
 ghost use Rattle.std.specs.Prelude.{◌≡◌};
 
-use super::courses::{Course, expect};
 use super::places::{NEW, place_of};
 use super::runs::{Run, is_right};
-use super::stores::TORN;
 use std::alloc::Global;
 use tsdb_base::FileNumber;
 use tsdb_outside::{Files, Place, Port, StoreFault};
@@ -82,13 +80,6 @@ fn cut_in<P: Place>(alloc: Global, place: &mut P) -> Option<usize> {
     let had = cut_file(alloc, &mut files);
     place.put_down(journal, files);
     had
-}
-
-static TORN_LOG: [Course<'static>; 1] = [(TORN, &[Run::Ends("S", 7, "damaged log at 20\n")])];
-
-#[test]
-fn damage_is_said_with_its_part_and_place(rt: HostRuntime) {
-    expect(&rt, rt.alloc(), &TORN_LOG);
 }
 
 /// The run that makes the store, and the one behind the cut.

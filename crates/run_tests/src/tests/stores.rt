@@ -22,7 +22,7 @@ const INSERTED: Store = Store {
 };
 
 /// The same, of which the last bytes are lost.
-pub const TORN: Store = Store {
+const TORN: Store = Store {
     slot: &[
         1, 0, 0, 0, 15, 1, 0, 10, 114, 111, 111, 116, 46, 103, 46, 100, 46, 115, 2, 0, // at 0
         1, 0, 0, 0, 28, 2, 0, 0, 0, 0, 0, 0, 0, 1, 0, 1, 0, 0, 0, 0, // at 20
@@ -145,8 +145,8 @@ pub fn expect_answered(rt: &impl Abort, alloc: Global, commands: &str, calls: u6
     }
 }
 
-/// Whichever call of the device fails, at most one command is answered `device`, and the next run finds what this one
-/// showed last.
+/// Whichever call of the journal fails, one command is answered `device`, and the next run finds what this one showed
+/// last.
 #[test]
 fn each_call_fails_in_turn(rt: HostRuntime) {
     expect_answered(&rt, rt.alloc(), COMMANDS, 24);
@@ -183,14 +183,17 @@ fn command_in_doubt(rt: HostRuntime) {
 static NOT_OPENED: [Course<'static>; 2] = [
     (
         TORN,
-        &[Run::Script(Script {
-            lines: &[SELECT],
-            status: Status::Damaged {
-                part: Part::Log,
-                at: 20,
-            },
-            ..SILENT
-        })],
+        &[
+            Run::Script(Script {
+                lines: &[SELECT],
+                status: Status::Damaged {
+                    part: Part::Log,
+                    at: 20,
+                },
+                ..SILENT
+            }),
+            Run::Ends("S", 7, "damaged log at 20\n"),
+        ],
     ),
     (CLOSED, &[Run::Replies("S", "time,s / rows 0")]),
 ];

@@ -18,14 +18,9 @@ impl ByteSink {
         }
     }
 
-    /// Notes that memory ran out for what the bytes are made of.
-    pub fn lack_memory(&mut self) {
-        self.lacks_memory = true;
-    }
-
     pub fn put(&mut self, bytes: &[u8]) {
         if self.bytes.extend_from_slice(bytes).is_err() {
-            self.lack_memory();
+            self.lacks_memory = true;
         }
     }
 
@@ -39,7 +34,7 @@ impl ByteSink {
     pub fn put_digits(&mut self, number: i64) {
         match format!(in self.alloc; "{number}") {
             Ok(digits) => self.put(digits.as_bytes()),
-            Err(_) => self.lack_memory(),
+            Err(_) => self.lacks_memory = true,
         }
     }
 

@@ -111,7 +111,7 @@ fn write_command(command: &Command, said: &mut ByteSink) {
 }
 
 /// The commands of a script, a line of text for each.
-pub fn text_of(alloc: Global, script: &[Numbered]) -> ByteSink {
+fn text_of(alloc: Global, script: &[Numbered]) -> ByteSink {
     let mut said = ByteSink::new(alloc);
     for numbered in script {
         said.put_digits(i64::from(numbered.session));
@@ -122,10 +122,21 @@ pub fn text_of(alloc: Global, script: &[Numbered]) -> ByteSink {
 }
 
 /// Scripts, and what their commands say.
-const SAID: [(&[u8], &[u8]); 8] = [
+const SAID: [(&[u8], &[u8]); 11] = [
     (
         b"12 CREATE timeseries root.g.d.Ts WITH datatype=int32, encoding=ts_2diff\n",
         b"12 create root.g.d.Ts int32 ts_2diff\n",
+    ),
+    (
+        b"\
+1 create timeseries root.g.b with datatype=BOOLEAN,encoding=rle
+1 create timeseries root.g.i with datatype=Int64,encoding=PLAIN
+1 create timeseries root.g.t with datatype=TEXT,encoding=Dictionary",
+        b"\
+1 create root.g.b boolean rle
+1 create root.g.i int64 plain
+1 create root.g.t text dictionary
+",
     ),
     (
         b"999 insert into root.g.d(timestamp,s,t,u) values(-5,TRUE,'it''s',+07);",
@@ -140,6 +151,15 @@ const SAID: [(&[u8], &[u8]); 8] = [
     (
         b"12 delete from root.g.d.s where time>5 and time<5",
         b"12 delete root.g.d.s 9223372036854775807 -9223372036854775808\n",
+    ),
+    // no time is behind the last one
+    (
+        b"1 delete from root.g.s where time>9223372036854775807 and time<=4",
+        b"1 delete root.g.s 9223372036854775807 -9223372036854775808\n",
+    ),
+    (
+        b"1 select first_value(s),Last_Value(s),MIN_VALUE(s),min_time(s),max_time(s) from root.g where time>+5",
+        b"1 select first_value s last_value s min_value s min_time s max_time s root.g 6 9223372036854775807\n",
     ),
     (
         b"3 select max_value(s),COUNT(t) from root.g where time>=-1 and time<=9",

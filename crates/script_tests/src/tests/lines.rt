@@ -87,40 +87,27 @@ fn what_begins_no_statement(rt: HostRuntime) {
     expect(&rt, rt.alloc(), 2, &NO_STATEMENT);
 }
 
-/// The tokens fit no form.
-const NO_FORM: [&[u8]; 40] = [
-    b"1 create timeseries root.g.d.s with datatype=INT64",
+/// The tokens fit no form. Most have a word that is no path either, which comes later.
+const NO_FORM: [&[u8]; 27] = [
     b"1 create timeseries p with datatype=INT64",
     b"1 create timeseries p with encoding=PLAIN,datatype=INT64",
     b"1 create timeseries p with datatype=INT64,encoding='PLAIN'",
-    b"1 insert into root.g.d(time) values(1)",
     b"1 insert into d(time) values(1)",
-    b"1 insert into root.g.d(time,s) values(1)",
     b"1 insert into d(time,s) values(1)",
-    b"1 insert into root.g.d(time,s,) values(1,2)",
     b"1 insert into d(time,s,) values(1,2)",
-    b"1 insert into root.g.d(s,time) values(1,2)",
     b"1 insert into d(s,time) values(1,2)",
-    b"1 insert into root.g.d(time,s) values('1',2)",
     b"1 insert into d(time,s) values('1',2)",
     b"1 insert into d(time,s) values(1,2",
     b"1 insert into d(time,s) values(1,2));",
-    b"1 delete timeseries root.g.d.s",
     b"1 delete timeseries p",
-    b"1 delete from root.g.d.s where timestamp>1",
     b"1 delete from p where timestamp>1",
     b"1 delete from p where",
-    b"1 delete from root.g.d.s where time>1 or time<3",
     b"1 delete from p where time>1 or time<3",
     b"1 delete from p where time=>1",
-    b"1 select s from root.d;;",
     b"1 select s from d;;",
-    b"1 select s, from root.d",
     b"1 select s, from d",
     b"1 select from d",
-    b"1 select count(s from root.d",
     b"1 select count(s from d",
-    b"1 select s from root.d last",
     b"1 select s from d last",
     b"1 compact",
     b"1 compact inner",

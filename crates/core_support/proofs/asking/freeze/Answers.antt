@@ -1,5 +1,0 @@
-use Rattle.core_support.proofs.Ready.{kept_ready}
-use Rattle.core_support.proofs.asking.freeze.Goals as goal
-
-pub returns-then-frozen-lt2 : goal.returns-then-frozen-lt2
-returns-then-frozen-lt2 g c = kept_ready c.args.core.now c.freeze.new.self c.freeze.ensures.kept

@@ -1,2 +1,0 @@
-pub mod OneJob
-pub mod Ready

@@ -1,0 +1,4 @@
+use Rattle.core_tests.proofs.stored.open_stored.Goals as goal
+
+pub invariant_of-result-clause-ready : goal.invariant_of-result-clause-ready
+invariant_of-result-clause-ready c = c.new_core-core.ensures _

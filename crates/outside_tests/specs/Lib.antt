@@ -1,3 +1,0 @@
-pub mod ToldDirectory
-pub mod ToldFile
-pub mod ToldSlots

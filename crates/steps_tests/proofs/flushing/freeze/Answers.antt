@@ -1,8 +1,0 @@
-use Rattle.steps_tests.proofs.Out.{files_handed, same_core}
-use Rattle.steps_tests.proofs.flushing.freeze.Goals as goal
-
-pub returns-then-frozen-lt2 : goal.returns-then-frozen-lt2
-returns-then-frozen-lt2 g c = files_handed c.args.core.now c.freeze.new.self c.freeze.ensures.kept
-
-pub returns : goal.returns
-returns g c store = same_core store c.args.core.now

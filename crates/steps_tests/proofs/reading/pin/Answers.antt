@@ -1,5 +1,0 @@
-use Rattle.steps_tests.proofs.Out.{same_core}
-use Rattle.steps_tests.proofs.reading.pin.Goals as goal
-
-pub returns-in_default : goal.returns-in_default
-returns-in_default g c store = same_core store c.args.core.now
