@@ -1,20 +1,25 @@
 # make demo   runs two example scripts on one store, by a program that is built without proofs
+# make try SCRIPT=my.tsdb STORE=store   runs a script of your own on a store of your own, by such a program
 # make build  proves the program and leaves it at bin/tsdb
 # make bench  proves the programs and prints what they take; GROUP=name measures one group
-# make check-disk   kills the program in the middle of its writes, and looks at what the next run finds; runs a plant's day
-#                   with a flush and a compaction; compares short scripts with a plain slow store; stores many files, and
-#                   fills a small disk
-# make test   proves every crate and runs every test and program
+# make check  looks in seconds at what the documents, the headline and the wrong bodies name, and at the layout of the crates
+# make check-disk   kills the program in the middle of its writes on a disk, refuses it memory, lets each call of the system
+#                   fail in turn, cuts the power by a model of a disk, and looks at what the next run finds; compares every
+#                   end of a run with the documents, and many scripts with a plain slow store and a plain reader; runs a
+#                   plant's day with a flush and a compaction; stores many files, and fills a small disk
 # make wrong-bodies   tries the wrong bodies in must-fail/ and wrong-bodies/ of all crates, or of those of CRATE="name .."
-.PHONY: demo build bench check-disk test wrong-bodies
+# make proofs   proves every crate, tries the wrong bodies, and runs every test and program
+# make test   is the gate: the proofs, and what is behind them
+.PHONY: demo build bench check-disk check wrong-bodies proofs test
 
 demo:
-	@echo 'Building the program without proofs, and running examples/plant.tsdb and then examples/later.tsdb ...' >&2
-	@folder=$$(mktemp -d) && trap 'rm -rf "$$folder"' EXIT && cd crates/tsdb_cli && \
-	for script in plant later; do \
-	    if rt try -- run "$$folder/store" < "../../examples/$$script.tsdb" 2> "$$folder/notes"; \
-	    then :; else status=$$?; cat "$$folder/notes" >&2; exit $$status; fi; \
-	done
+	@folder=$$(mktemp -d) && trap 'rm -rf "$$folder"' EXIT && \
+	examples/run_unproved "$$folder/store" examples/plant.tsdb examples/later.tsdb
+
+.PHONY: try
+try:
+	@[ -n "$(SCRIPT)" ] && [ -n "$(STORE)" ] || { echo 'make try SCRIPT=my.tsdb STORE=store' >&2; exit 2; }
+	@examples/run_unproved "$(STORE)" "$(SCRIPT)"
 
 build:
 	@mkdir -p bin
@@ -24,7 +29,7 @@ build:
 bench: build
 	@echo 'Proving and building the program tsdb_bench ...' >&2
 	@cd crates/tsdb_bench && rt run -- quick >&2
-	@case " scripts durable compactions sizes openings " in *" $(or $(GROUP),none) "*) ;; \
+	@case " scripts durable compactions queries sizes openings " in *" $(or $(GROUP),none) "*) ;; \
 	    *) crates/tsdb_bench/out/tsdb_bench $(GROUP);; esac
 	@[ -n "$(GROUP)" ] && [ "$(GROUP)" != scripts ] || bench/scripts.py bin/tsdb
 	@[ -n "$(GROUP)" ] && [ "$(GROUP)" != durable ] || bench/durable.py bin/tsdb
@@ -35,14 +40,35 @@ bench: build
 	@[ -n "$(GROUP)" ] && [ "$(GROUP)" != openings ] || bench/openings.py bin/tsdb
 
 check-disk: build
-	@checks/kill bin/tsdb
+	@checks/kill bin/tsdb --kills 50 --disk
+	@checks/statuses bin/tsdb --known
+	@checks/memory bin/tsdb --known
+	@checks/faults bin/tsdb
+	@checks/power bin/tsdb
 	@checks/plants bin/tsdb
-	@checks/scripts bin/tsdb
+	@checks/scripts bin/tsdb --first 5001 --count 20000
+	@checks/lines bin/tsdb --first 5001 --count 20000
 	@cd crates/tsdb_bench && rt run -- quick >&2
 	@checks/files crates/tsdb_bench/out/tsdb_bench
 
-test:
+check:
+	@checks/docs
+	@checks/wrong_bodies
+	@checks/headline > /dev/null
+	@checks/layout
+
+proofs:
 	@rt ci
 
 wrong-bodies:
 	@checks/try_wrong_bodies $(CRATE)
+
+test:
+	@.ci/run
+
+.PHONY: definitions clauses
+definitions:
+	@checks/definitions $(CRATE)
+
+clauses:
+	@checks/definitions --clauses $(CRATE)
