@@ -1,5 +1,6 @@
 # make demo   runs two example scripts on one store, by a program that is built without proofs
-# make try SCRIPT=my.tsdb STORE=store   runs a script of your own on a store of your own, by such a program
+# make try SCRIPT=my.tsdb STORE=store   runs a script of your own on a store of your own, by such a program; several scripts,
+#             one after another by one build: SCRIPT="my-1.tsdb my-2.tsdb"
 # make build  proves the program and leaves it at bin/tsdb
 # make bench  proves the programs and prints what they take; GROUP=name measures one group
 # make check  looks in seconds at what the documents, the headline and the wrong bodies name, and at the layout of the crates
@@ -19,7 +20,7 @@ demo:
 .PHONY: try
 try:
 	@[ -n "$(SCRIPT)" ] && [ -n "$(STORE)" ] || { echo 'make try SCRIPT=my.tsdb STORE=store' >&2; exit 2; }
-	@examples/run_unproved "$(STORE)" "$(SCRIPT)"
+	@examples/run_unproved "$(STORE)" $(SCRIPT)
 
 build:
 	@mkdir -p bin
