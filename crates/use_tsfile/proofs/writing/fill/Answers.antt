@@ -1,0 +1,28 @@
+use Rattle.std.proofs.Common.{◌≡◌, ◌<◌, List, true, length, subst, rules}
+use Rattle.std.specs.Prelude.{All, IsTrue}
+use Rattle.std.specs.Vec.Iter.{into_iter_items}
+use Rattle.tsdb_base.specs.declared.point.Point.{Point}
+use Rattle.tsdb_base.specs.declared.value.DataType.TheVariants.{Int64}
+use Rattle.tsdb_base.specs.Values.{type_of}
+use Rattle.tsdb_base.specs.Points.{IsRising}
+use Rattle.tsfile_writer.proofs.Driving.{filled_more, takes}
+use Rattle.use_tsfile.proofs.writing.fill.Goals as goal
+
+pub point-requires : goal.point-requires
+point-requires c =
+    let filling = c.loop-point.invariant.filling in
+    let all = c.args.points.items in
+    let is : IsTrue c.are_numbers.result = search rules in
+    let good = c.are_numbers.ensures.0 is in
+    let typed : All (λ (p : Point). type_of p.value ≡ Int64) c.args.points.items = subst (λ (l : List Point). All (λ (p : Point). type_of p.value ≡ Int64) l) c.deref.ensures.value good.1 in
+    let rising : IsRising c.args.points.items = subst IsRising c.deref.ensures.value good.2 in
+    (filling.front, filling.last, filling.was, takes c.args.path.now Int64 c.loop-point.builder all (into_iter_items c.loop-point.point-iterator) (into_iter_items c.next.new.self) c.in-Some.point filling c.in-Some.ensures.steps.0 typed rising)
+
+pub loop-point-preserved : goal.loop-point-preserved
+loop-point-preserved c =
+    let filling = c.loop-point.invariant.filling in
+    record {
+      finite = search rules;
+      filling = filled_more c.args.path.now Int64 c.loop-point.builder c.point.new.self c.args.points.items (into_iter_items c.loop-point.point-iterator) (into_iter_items c.next.new.self) c.in-Some.point
+          filling c.in-Some.ensures.steps.0 (c.in_ok-point.ensures.ok filling.front filling.last filling.was);
+    }
