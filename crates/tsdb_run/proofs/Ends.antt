@@ -132,21 +132,21 @@ module _ (words : List (List ℕ)) (left : Option (List ℕ)) where
   ends_unrefused status is (inl same) = subst (EndsInput words left) same is
   ends_unrefused status is (inr (part, at, same)) = subst (EndsInput words left) same is
 
-  pub ends_headline : (place : Contents) (rose : Type 0) (directory : Option (List ℕ)) (status : Status)
+  pub ends_headline : (place : Contents) (before now : ℕ) (directory : Option (List ℕ)) (status : Status)
       (history : List Told) (held : Option (List ℕ)) → EndsInput words left status → history ≡ []
-      → Headline status (idle words left place rose directory history held)
-  ends_headline place rose directory Words history held is none =
-      without_any words left place rose directory history held none
-  ends_headline place rose directory Memory history held is none =
-      inr (without_any words left place rose directory history held none)
-  ends_headline place rose directory (Script line kind) history held is none =
-      (is.1, without_any words left place rose directory history held none)
-  ends_headline place rose directory Source history held is none =
-      without_any words left place rose directory history held none
-  ends_headline place rose directory Done history held is none = absurd is
-  ends_headline place rose directory Sink history held is none = absurd is
-  ends_headline place rose directory Device history held is none = absurd is
-  ends_headline place rose directory (Damaged part at) history held is none = absurd is
+      → Headline status (idle words left place before now directory history held)
+  ends_headline place before now directory Words history held is none =
+      without_any words left place before now directory history held none
+  ends_headline place before now directory Memory history held is none =
+      inr (without_any words left place before now directory history held none)
+  ends_headline place before now directory (Script line kind) history held is none =
+      (is.1, without_any words left place before now directory history held none)
+  ends_headline place before now directory Source history held is none =
+      without_any words left place before now directory history held none
+  ends_headline place before now directory Done history held is none = absurd is
+  ends_headline place before now directory Sink history held is none = absurd is
+  ends_headline place before now directory Device history held is none = absurd is
+  ends_headline place before now directory (Damaged part at) history held is none = absurd is
 
   same_line : (at which line kind : ℕ) → (at ≡ line) × (which ≡ kind) → Script at which ≡ Script line kind
   same_line at which line kind same = ap (λ n. Script n which) same.0 ∙ ap (Script line) same.1

@@ -11,7 +11,7 @@ use Rattle.std.proofs.lemmas.Option.{same_Some}
 use Rattle.tsdb_history.proofs.Prefixes.{after_wider, no_prefix, stands_after, whole_prefix}
 use Rattle.tsdb_history.specs.Closing.{IsClosed}
 use Rattle.tsdb_history.specs.Listings.{IsListingOf}
-use Rattle.tsdb_history.specs.Prefixes.{EndsDone, StandsAfter, StandsAfterPrefix}
+use Rattle.tsdb_history.specs.Prefixes.{StandsAfter, StandsAfterPrefix}
 use Rattle.tsdb_history.specs.Serves.{HasServed, LeavesPrefix}
 use Rattle.tsdb_state.specs.Stored.{LeavesOneOf, kept_bytes}
 use Rattle.tsdb_base.proofs.Lists.{each_weaker}
@@ -28,11 +28,12 @@ use Rattle.tsdb_outside.specs.declared.disk.Slot.{Slot}
 use Rattle.tsdb_outside.specs.declared.disk.Slot.TheVariants.{A}
 use Rattle.tsdb_outside.specs.declared.faults.Counted as counted
 use Rattle.tsdb_recover.specs.Stored.{AreStored}
+use Rattle.tsdb_state.proofs.ReplayLemmas.Stores.{sound_images}
 use Rattle.tsdb_state.specs.Stores as stores
 use Rattle.tsdb_state.specs.Stores.{StandsForOneOf}
-use Rattle.tsdb_run.specs.Headline.{AreNewer, HasRun}
+use Rattle.tsdb_run.specs.Headline.{AreNewer, EndsSettled, HasRun}
 use Rattle.tsdb_history.specs.declared.told.Told.{Told}
-use Rattle.tsdb_run.proofs.Standing.{all_stand, one_prefix, stands_with_put}
+use Rattle.tsdb_run.proofs.Standing.{all_stand, one_prefix, stands_with, stands_with_put}
 use Rattle.tsdb_run.proofs.Whole.{sound_after, sound_left}
 use Rattle.tsdb_run.specs.Steps.{IsNewerThan, IsRunOn}
 use Rattle.tsdb_run.specs.Store.{IsSoundOrSilent, StandsFor, contents}
@@ -129,12 +130,9 @@ module _ {J F S R P : Type 0} {means : disk.Ghosts J} {counts : counted.Ghosts J
     at_rest = record { told = told; are_stored = are_stored; held = closed.held };
     holds = λ image left. all_stand stored image served.after entries are_stored
         (λ kept holds. after_all image kept (closed.holds image left kept holds));
-    sound = λ calm. record {
-      files = stored;
-      told = told;
-      are_stored = are_stored;
-      sound = subst (λ (s : Slot). stores.IsSound s new (kept_bytes stored) served.after) in_a (closed.sound (by calm));
-    };
+    sound = λ calm. record { files = stored; told = told; are_stored = are_stored; sound = is_sound calm };
+    alone = λ calm image left. stands_with stored image served.after
+        (sound_images A new (kept_bytes stored) served.after image (is_sound calm) left);
     listed = λ calm listing ends files image there left.
         subst (λ l. IsListingOf (kept_bytes l) image.a listing) (same_Some stored files (sym told ∙ there))
         (subst (λ (s : Slot). IsListingOf (kept_bytes stored) (in_slot s image) listing) in_a
@@ -144,22 +142,28 @@ module _ {J F S R P : Type 0} {means : disk.Ghosts J} {counts : counted.Ghosts J
       are_stored : AreStored stored
       are_stored = record { differ = closed.differ; each = closed.numbers }
 
-      by : (¬ more) ⊎ EndsDone entries → (¬ rose) ⊎ (served.doubt ≡ None)
+      by : EndsSettled more entries → (¬ rose) ⊎ (served.doubt ≡ None)
       by (inl calm) = inl (λ is. calm (wider is))
       by (inr ends) = inr (served.settled ends)
+
+      is_sound : EndsSettled more entries → stores.IsSound A new (kept_bytes stored) served.after
+      is_sound calm = subst (λ (s : Slot). stores.IsSound s new (kept_bytes stored) served.after) in_a (closed.sound (by calm))
 
 pub some_and : {X : Type 0} (P : X → Type 0) (o : Option X) → IsSomeAnd o P → (x : X) × (o ≡ Some x) × P x
 some_and P None is = absurd is
 some_and P (Some x) is = (x, refl, is)
 
--- a fault behind a call that lowered no count
-pub rose_before : (old mid new : ℕ) → old ≤ mid → Rose mid new → Rose old new
-rose_before old mid new less rose = omega (arith, less, rose)
+-- a fault of the journal at its end is one that no command was answered
+pub one_more_fault : (first last journal at_first port old files count : ℕ)
+    → min ((first + at_first) + count) (2 ^ 64 - 1) ≤ last + port → min (old + port) (2 ^ 64 - 1) ≤ files
+    → Rose last journal → Rose count (journal + files)
+one_more_fault first last journal at_first port old files count answered counts rose =
+    omega (arith, answered, counts, rose)
 
--- a fault of the journal is one of the place that takes it back
-pub rose_down : (old mid new journal files : ℕ) → old ≤ mid → min (mid + journal + files) (2 ^ 64 - 1) ≤ new
-    → Rose 0 journal → Rose old new
-rose_down old mid new journal files later counts rose = omega (arith, later, counts, rose)
+-- where more faults of both parts were counted than were answered, so were more of the place that takes them back
+pub more_down : (old mid new journal files count : ℕ) → old ≤ mid → min (mid + journal + files) (2 ^ 64 - 1) ≤ new
+    → Rose count (journal + files) → Rose (old + count) new
+more_down old mid new journal files count later counts rose = omega (arith, later, counts, rose)
 
 -- what was answered of the faults of both parts is one of the place's faults
 pub counted_down : (old mid new journal files count : ℕ) → old ≤ mid → min (mid + journal + files) (2 ^ 64 - 1) ≤ new
@@ -180,7 +184,7 @@ module _ (files : List StoredFile) (start : plain.State) (entries : List Entry) 
   abbrev prefixed : List StoredFile → Image → Type 0
   prefixed put image = StandsAfterPrefix (StandsFor (files ++ put) image) start entries
 
-  calmer : (more : Type 0) → (rose → more) → (¬ more) ⊎ EndsDone entries → (¬ rose) ⊎ EndsDone entries
+  calmer : (more : Type 0) → (rose → more) → EndsSettled more entries → EndsSettled rose entries
   calmer more wider (inl calm) = inl (λ is. calm (wider is))
   calmer more wider (inr ends) = inr ends
 
@@ -202,6 +206,7 @@ module _ (files : List StoredFile) (start : plain.State) (entries : List Entry) 
     at_rest = run.at_rest;
     holds = run.holds;
     sound = λ calm. run.sound (calmer more wider calm);
+    alone = λ calm. run.alone (calmer more wider calm);
     listed = λ calm. run.listed (calmer more wider calm);
   }
 
@@ -227,6 +232,7 @@ module _ (files : List StoredFile) (start : plain.State) (entries : List Entry) 
     };
     holds = λ image left. run.holds image (keeps.crash image left);
     sound = λ calm. sound_after mid new now then run.after keeps same (run.sound (calmer more wider calm));
+    alone = λ calm image left. run.alone (calmer more wider calm) image (keeps.crash image left);
     listed = λ calm listing ends stored image there left.
         run.listed (calmer more wider calm) listing ends stored image (sym same ∙ there) (keeps.crash image left);
   }

@@ -257,15 +257,16 @@ err_again P Q (Err fault) step holds = step fault holds
 -- ---- what is said by the status
 
 -- the run of these words and this source that left place and sink as they were
-abbrev pub idle : List (List ℕ) → Option (List ℕ) → Contents → Type 0 → Option (List ℕ) → List Answered
+abbrev pub idle : List (List ℕ) → Option (List ℕ) → Contents → ℕ → ℕ → Option (List ℕ) → List Answered
     → Option (List ℕ) → Run
-idle words left place rose directory history held = run_of words left place place rose directory history held held
+idle words left place before now directory history held =
+    run_of words left place place before now directory history held held
 
-pub without_any : (words : List (List ℕ)) (left : Option (List ℕ)) (place : Contents) (rose : Type 0)
+pub without_any : (words : List (List ℕ)) (left : Option (List ℕ)) (place : Contents) (before now : ℕ)
     (directory : Option (List ℕ)) (history : List Answered) (held : Option (List ℕ)) → history ≡ []
-    → IsWithoutCommands (idle words left place rose directory history held)
-without_any words left place rose directory history held none =
-    without (idle words left place rose directory history held) none (Keeps-refl held)
+    → IsWithoutCommands (idle words left place before now directory history held)
+without_any words left place before now directory history held none =
+    without (idle words left place before now directory history held) none (Keeps-refl held)
     (same_left place.disk place.disk place.stored place.stored (Keeps-same place.disk) refl)
 
 pub headline_refused : (run : Run) (status : Status) → IsOpeningStatus run.old status → IsWithoutCommands run

@@ -5,7 +5,7 @@ use Rattle.std.specs.Io.KnownBytes.{Appends}
 use Rattle.std.proofs.Math.ListN.{get_or-map}
 use Rattle.std.proofs.lemmas.List.{length-map}
 use Rattle.tsdb_history.specs.History.{session_numbers}
-use Rattle.tsdb_run.specs.Headline.{Headline, IsExecuted, Run}
+use Rattle.tsdb_run.specs.Headline.{HasUnanswered, Headline, IsExecuted, Run}
 use Rattle.tsdb_run.specs.Output.{AppendsPrefix, output_text}
 use Rattle.tsdb_run.specs.Steps.{IsRunOn, IsWritten}
 use Rattle.tsdb_run.specs.declared.status.Status.{Status}
@@ -25,7 +25,7 @@ small_sessions bytes script is = λ k numbered lt.
 -- a script that was executed, and what was written of its output
 module _ (run : Run) (script : List Numbered) (asked : Asked) (words : AreWords run.words asked)
     (directory : run.directory ≡ Some asked.directory) (read : IfSome run.left (λ bytes. IsScript bytes script))
-    (done : IsRunOn script run.history run.old run.new run.rose) where
+    (done : IsRunOn script run.history run.old run.new (HasUnanswered run)) where
   executed : (puts : List ℕ → Type 0) → puts (output_text script run.history) → IsExecuted run puts
   executed puts printed = record {
     taken_up = (asked, words, directory);

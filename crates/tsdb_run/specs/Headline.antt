@@ -1,10 +1,11 @@
 -- The headline: every reply is the one that a last-write-wins map per series returns at that command's place in the
 -- printed order, which keeps each session's order, whatever is flushed in between; and whenever the machine stops,
 -- within any write too, the next run finds the map after a prefix of that order that has every acknowledged command.
-use Rattle.std.specs.Prelude.{◌≡◌, ◌⊎◌, ℕ, ◌+◌, ◌*◌, ◌<◌, List, [], ◌++◌, length, map, Option, Some, IfSome}
+use Rattle.std.specs.Prelude.{◌≡◌, ◌⊎◌, ℕ, ◌+◌, ◌*◌, ◌<◌, List, [], ◌++◌, count_by, length, map, Option, Some, IfSome}
 use Rattle.std.specs.Io.KnownBytes.{Appends, Keeps as KeepsBytes}
 use Rattle.std.specs.List.{AllByRecursion as Each}
-use Rattle.tsdb_history.specs.History.{IsHistory, IsInLineOrder}
+use Rattle.tsdb_base.specs.Causes.{Rose}
+use Rattle.tsdb_history.specs.History.{IsHistory, IsInLineOrder, is_device}
 use Rattle.tsdb_history.specs.Prefixes.{EndsDone, EndsListed, StandsAfter, StandsAfterPrefix}
 use Rattle.tsdb_history.specs.Reach.{AreFullWithin, max_drawn}
 use Rattle.tsdb_history.specs.declared.told.Told.{Told}
@@ -30,10 +31,11 @@ pub record Run : Type 1 where
   pub words : List (List ℕ)
   -- what was left of the source, where the source tells that
   pub left : Option (List ℕ)
-  -- the place before and after, and whether its count of faults rose
+  -- the place before and after, and how often something of it had failed then
   pub old : Contents
   pub new : Contents
-  pub rose : Type 0
+  pub faults_before : ℕ
+  pub faults_after : ℕ
   -- the directory whose store was taken up last
   pub directory : Option (List ℕ)
   -- the replies
@@ -47,10 +49,19 @@ abbrev pub AreNewer : List StoredFile → List StoredFile → Type 0
 AreNewer files others =
     Each (λ (file : StoredFile). Each (λ (other : StoredFile). other.number < file.number) others) files
 
--- The entries took place on a sound store with these files, from a start. `rose` says that something of the place
--- failed.
+-- More faults of the place were counted in the run than commands were answered `device`.
+abbrev pub HasUnanswered : Run → Type 0
+HasUnanswered run = Rose (run.faults_before + count_by is_device run.history) run.faults_after
+
+-- Nothing is in doubt at the end: each fault was answered, or the last of the entries that is no query is a change that
+-- was done.
+abbrev pub EndsSettled : Type 0 → List Entry → Type 0
+EndsSettled unanswered entries = (¬ unanswered) ⊎ EndsDone entries
+
+-- The entries took place on a sound store with these files, from a start. `unanswered` says that more faults of the place
+-- were counted than commands were answered `device`.
 pub record HasRun (files : List StoredFile) (start : plain.State) (entries : List Entry) (old : DiskState) (new : Contents)
-    (rose : Type 0) : Type 0 where
+    (unanswered : Type 0) : Type 0 where
   pub after : plain.State
   -- each reply is allowed in the state at its place
   pub legal : IsLegal start entries after
@@ -65,10 +76,12 @@ pub record HasRun (files : List StoredFile) (start : plain.State) (entries : Lis
   pub at_rest : Stores new stored (files ++ put)
   -- what is left stands with them for the state after all entries
   pub holds : (image : Image) → new.disk.may_leave image → StandsAfter (StandsFor stored image) after entries
-  -- and it is a sound store, on which the next run begins, unless something failed and no later change was done
-  pub sound : (¬ rose) ⊎ EndsDone entries → IsSound new after
-  -- and then a listing that is the last reply is that of this store
-  pub listed : (¬ rose) ⊎ EndsDone entries → (listing : Listing) → EndsListed entries listing → IsListed new listing
+  -- where nothing is in doubt it is a sound store, on which the next run begins,
+  pub sound : EndsSettled unanswered entries → IsSound new after
+  -- whatever a stop leaves of it stands for that state alone,
+  pub alone : EndsSettled unanswered entries → (image : Image) → new.disk.may_leave image → StandsFor stored image after
+  -- and a listing that is the last reply is that of this store
+  pub listed : EndsSettled unanswered entries → (listing : Listing) → EndsListed entries listing → IsListed new listing
 
 -- A reply is `full` only where the stamp at its place can rise no further, or with a counter up to the number that the
 -- commands of the script can have drawn, from the next number of the store on.
@@ -90,7 +103,7 @@ pub record IsExecuted (run : Run) (puts : List ℕ → Type 0) : Type 0 where
   pub history_of : IsHistory script run.history entries
   -- from a state for which the store stood
   pub served : (start : plain.State) (sound : IsSound run.old start)
-      → HasRun sound.files start entries run.old.disk run.new run.rose
+      → HasRun sound.files start entries run.old.disk run.new (HasUnanswered run)
   -- and none is `full` before a counter is at its end, or the numbers of files can have come so far in this run
   pub within : HaveReach run.old script entries
   pub printed : puts (output_text script run.history)

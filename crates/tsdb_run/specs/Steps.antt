@@ -33,14 +33,15 @@ use Rattle.tsdb_script.specs.declared.numbered.Numbered.{Numbered}
 use Rattle.tsdb_recover.specs.Serving.{IsServing, disk_under}
 
 -- the run of these words and this source, with what it left
-abbrev pub run_of : List (List ℕ) → Option (List ℕ) → Contents → Contents → Type 0 → Option (List ℕ) → List Told
+abbrev pub run_of : List (List ℕ) → Option (List ℕ) → Contents → Contents → ℕ → ℕ → Option (List ℕ) → List Told
     → Option (List ℕ) → Option (List ℕ) → Run
-run_of words left old new rose directory history held holds = record {
+run_of words left old new faults_before faults_after directory history held holds = record {
   words = words;
   left = left;
   old = old;
   new = new;
-  rose = rose;
+  faults_before = faults_before;
+  faults_after = faults_after;
   directory = directory;
   history = history;
   held = held;
@@ -53,13 +54,15 @@ pub record IsAnswered (script : List Numbered) (history : List Told) : Type 0 wh
   pub history_of : IsHistory script history entries
   pub in_line_order : IsInLineOrder script history
 
--- The script was executed on the store of a place. `rose` says that something of it failed.
-pub record IsRunOn (script : List Numbered) (history : List Told) (old new : Contents) (rose : Type 0) : Type 0 where
+-- The script was executed on the store of a place. `unanswered` says that more of its faults were counted than commands
+-- were answered `device`.
+pub record IsRunOn (script : List Numbered) (history : List Told) (old new : Contents) (unanswered : Type 0)
+    : Type 0 where
   pub entries : List Entry
   pub history_of : IsHistory script history entries
   pub in_line_order : IsInLineOrder script history
   pub served : (start : plain.State) (sound : IsSound old start)
-      → HasRun sound.files start entries old.disk new rose
+      → HasRun sound.files start entries old.disk new unanswered
   pub within : HaveReach old script entries
 
 module _ {J F S R P : Type 0} {means : disk.Ghosts J} {counts : counted.Ghosts J} where
@@ -67,16 +70,16 @@ module _ {J F S R P : Type 0} {means : disk.Ghosts J} {counts : counted.Ghosts J
   abbrev pub IsNewerThan : List StoredFile → Core J F S R P means counts → Type 0
   IsNewerThan files core = Each (λ (file : StoredFile). file.number < next_of core) files
 
-  -- The script was executed on a core, which was closed, with no other file at rest. `rose` says that its journal
-  -- failed meanwhile.
+  -- The script was executed on a core, which was closed, with no other file at rest. `unanswered` says that more faults
+  -- were counted meanwhile than commands were answered `device`.
   pub record IsServedFrom (script : List Numbered) (history : List Told) (at_rest : Option (List StoredFile))
-      (core : Core J F S R P means counts) (new : Contents) (rose : Type 0) : Type 0 where
+      (core : Core J F S R P means counts) (new : Contents) (unanswered : Type 0) : Type 0 where
     pub entries : List Entry
     pub history_of : IsHistory script history entries
     pub in_line_order : IsInLineOrder script history
     pub served : at_rest ≡ Some [] → (files : List StoredFile) (start : plain.State)
         → IsServing core files start None → IsNewerThan files core
-        → HasRun files start entries (disk_under core) new rose
+        → HasRun files start entries (disk_under core) new unanswered
     pub within : at_rest ≡ Some [] → (files : List StoredFile) (start : plain.State)
         → IsServing core files start None → AreFullWithin (next_of core + max_drawn * length script) start entries
 

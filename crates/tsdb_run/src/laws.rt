@@ -13,9 +13,9 @@ use tsdb_outside::Place;
 /// Where a second run begins on the sound store that a first one left, its entries follow those of the first, with the
 /// one change in doubt or without.
 pub fn a_run_follows_another<P: Place>(_before: &P, _between: &P)
-    ensures { (files : List StoredFile) (start middle last : plain.State) (first second : List Entry) (count now : ℕ)
+    ensures { (files : List StoredFile) (start middle last : plain.State) (first second : List Entry) (before now : ℕ)
         → HasRun files start first (P.state _before.now)
-        (contents (P.state _between.now) (P.stored _between.now)) (Rose count now)
+        (contents (P.state _between.now) (P.stored _between.now)) (Rose before now)
         → IsSound (contents (P.state _between.now) (P.stored _between.now)) middle → IsLegal middle second last
         → IsFollowed start first second last }
 {}

@@ -10,7 +10,7 @@ ghost use Rattle.tsdb_recover.specs.declared.fault.Part as store_part;
 ghost use Rattle.tsdb_run.specs.Causes.{ReportsDamage, TellsDevice};
 ghost use Rattle.tsdb_run.specs.Steps.{IsRefused, IsRunOn, IsServedFrom, opening_status};
 ghost use Rattle.tsdb_run.specs.Store.{HasDamage, IsSoundOrSilent, contents};
-ghost use Rattle.tsdb_recover.specs.Flushing.{IsReady, faults_under};
+ghost use Rattle.tsdb_recover.specs.Flushing.{IsReady};
 ghost use Rattle.tsdb_recover.specs.Serving.{IsSure, slot_under};
 
 use crate::asked::Asked;
@@ -34,7 +34,7 @@ pub fn run_commands<P: Place>(
     requires script { CanExecute script.now }
     ensures executed { IfOk result (λ history. IsRunOn script.now history
         (contents (P.state place.old) (P.stored place.old)) (contents (P.state place.new) (P.stored place.new))
-        (Rose (P.faults place.old) (P.faults place.new))) }
+        (Rose (P.faults place.old + count_by is_device history) (P.faults place.new))) }
     ensures directory { OnOk result (P.asked place.new ≡ Some asked.now.directory) }
     ensures devices { IfOk result (λ history. IsSoundOrSilent (contents (P.state place.old) (P.stored place.old))
         → min (P.faults place.old + count_by is_device history) (2 ^ 64 - 1) ≤ P.faults place.new) }
@@ -78,7 +78,8 @@ fn run_on<J: Journal, F: Files>(
     requires room { IsRoomFor (length script.now) room }
     requires no_faults { (J.faults journal ≡ 0) × (F.faults files.old ≡ 0) }
     ensures executed { IfOk result.1 (λ history. IsRunOn script.now history (contents (J.state journal)
-        (F.at_rest files.old)) (contents (J.state result.0) (F.at_rest files.new)) (Rose 0 (J.faults result.0))) }
+        (F.at_rest files.old)) (contents (J.state result.0) (F.at_rest files.new))
+        (Rose (count_by is_device history) (J.faults result.0 + F.faults files.new))) }
     ensures devices { IfOk result.1 (λ history. IsSoundOrSilent (contents (J.state journal) (F.at_rest files.old))
         → min (count_by is_device history) (2 ^ 64 - 1) ≤ J.faults result.0 + F.faults files.new) }
     ensures refused { IfErr result.1 (IsRefused (contents (J.state journal) (F.at_rest files.old))
@@ -119,7 +120,8 @@ fn serve_script<J: Journal, F: Files>(
     requires port { F.Port.store port ≡ F.store files.old }
     requires slot { slot_under core ≡ slots.A }
     ensures served { IsServedFrom script.now result.1 (F.at_rest files.old) core
-        (contents (J.state result.0) (F.at_rest files.new)) (Rose (faults_under core) (J.faults result.0)) }
+        (contents (J.state result.0) (F.at_rest files.new))
+        (Rose (count_by is_device result.1) (J.faults result.0 + F.faults files.new)) }
     ensures devices { IsSure (F.store files.old) core
         → min (count_by is_device result.1) (2 ^ 64 - 1) ≤ J.faults result.0 + F.faults files.new }
 {

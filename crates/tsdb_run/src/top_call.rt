@@ -50,7 +50,8 @@ pub fn run<S: Source, K: Sink, P: Place>(
       left = S.left script.old;
       old = contents (P.state place.old) (P.stored place.old);
       new = contents (P.state place.new) (P.stored place.new);
-      rose = Rose (P.faults place.old) (P.faults place.new);
+      faults_before = P.faults place.old;
+      faults_after = P.faults place.new;
       directory = P.asked place.new;
       history = result.history;
       held = K.held out.old;
@@ -99,8 +100,8 @@ fn run_script<K: Sink, P: Place>(
     ensures headline { (words : List (List ℕ)) (left : Option (List ℕ)) → AreWords words asked.now
         → IfSome left (λ bytes. IsScript bytes script.now) → Headline result.status (run_of words left
         (contents (P.state place.old) (P.stored place.old)) (contents (P.state place.new) (P.stored place.new))
-        (Rose (P.faults place.old) (P.faults place.new)) (P.asked place.new) result.history
-        (K.held out.old) (K.held out.new)) }
+        (P.faults place.old) (P.faults place.new) (P.asked place.new) result.history (K.held out.old)
+        (K.held out.new)) }
     ensures in_line_order { (result.history ≡ []) ⊎ IsInLineOrder script.now result.history }
     ensures statuses { IsServedStatus result.status }
     ensures sink { TellsFaults Status.Sink result.status (K.faults out.old) (K.faults out.new) }

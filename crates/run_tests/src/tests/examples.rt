@@ -340,3 +340,19 @@ fn each_call_on_files_fails_in_turn(rt: HostRuntime) {
         assert_eq!(rt; wrong_run_at(rt.alloc(), call), None, "call {call}");
     }
 }
+
+/// A query that cannot read its file, and a flush behind it.
+static UNREAD: [Run; 2] = [
+    Run::Replies(
+        "C; I 1 5; flush; S; I 2 6; flush",
+        "ok / ok / ok / device / ok / ok",
+    ),
+    Run::Replies("S", "time,s / 1,5 / 2,6 / rows 2"),
+];
+
+/// The fault was answered, so the run leaves a sound store all the same, and the next run finds all.
+#[test]
+fn a_fault_that_was_answered(rt: HostRuntime) {
+    let course = (failing(NO_CALL, 3), UNREAD.as_slice());
+    assert_eq!(rt; wrong_run(rt.alloc(), &course), None);
+}

@@ -1,5 +1,6 @@
-use Rattle.std.proofs.Common.{◌≡◌, ◌∙◌, ◌+◌, inl, inr, ap, length, refl, subst, sym, None, arith}
-use Rattle.std.specs.Prelude.{◌*◌}
+use Rattle.std.proofs.Common.{◌≡◌, ◌∙◌, ◌+◌, inl, inr, ap, length, refl, subst, sym, None}
+use Rattle.std.specs.Prelude.{◌*◌, count_by}
+use Rattle.tsdb_history.specs.History.{is_device}
 use Rattle.tsdb_history.specs.Reach.{AreFullWithin, max_drawn}
 use Rattle.std.specs.Prelude.{is_some}
 use Rattle.tsdb_recover.specs.CoreType.{Core}
@@ -8,10 +9,9 @@ use Rattle.tsdb_memory.specs.Logged.{log_of}
 use Rattle.tsdb_recover.specs.Core.{logged_of}
 use Rattle.tsdb_base.specs.Causes.{Rose}
 use Rattle.tsdb_outside.specs.Files.{Store}
-use Rattle.tsdb_run.proofs.Executed.{above_stored, rose_before, run_before}
+use Rattle.tsdb_run.proofs.Executed.{above_stored, run_before}
 use Rattle.tsdb_run.proofs.Whole.{gone, image, next_is, next_same, opened, sound_left}
 use Rattle.tsdb_run.specs.Store.{IsSoundOrSilent, contents}
-use Rattle.tsdb_recover.specs.Flushing.{faults_under}
 use Rattle.tsdb_recover.specs.Serving.{IsSure, disk_under}
 use Rattle.tsdb_outside.proofs.DiskLemmas.{Keeps-same}
 use Rattle.tsdb_run.proofs.Refused.{never_opened, opening_refused, reports, same_refused}
@@ -30,6 +30,8 @@ returns-in-Ok-recover-clause-executed g c =
     let journal = c.serve_script-journal.result.0 in
     let left = g.F.Files.at_rest c.serve_script-journal.new.files in
     let served = c.serve_script-journal.ensures.served in
+    let more = Rose (count_by is_device c.serve_script-journal.result.1)
+    (g.J.Counted.faults journal + g.F.Counted.faults c.serve_script-journal.new.files) in
     record {
       entries = served.entries;
       history_of = served.history_of;
@@ -43,11 +45,9 @@ returns-in-Ok-recover-clause-executed g c =
           let none = gone core state stored now start sound same (g.F.Files.at_rest c.recover.new.files)
           c.in-Ok-recover.ensures.strays in
           run_before sound.files start served.entries state (disk_under core) (g.J.Disk.state journal) left
-          (Rose (faults_under core) (g.J.Counted.faults journal)) (g.J.Disk.lawful c.args.journal)
-          (g.J.Disk.lawful (journal_of (log_of (logged_of core)))) (g.J.Disk.lawful journal)
-          (Rose 0 (g.J.Counted.faults journal)) c.in-Ok-recover.ensures.keeps
-          (λ image left. sound_left state stored start image sound left)
-          (rose_before 0 (faults_under core) (g.J.Counted.faults journal) (omega arith))
+          more (g.J.Disk.lawful c.args.journal) (g.J.Disk.lawful (journal_of (log_of (logged_of core))))
+          (g.J.Disk.lawful journal) more c.in-Ok-recover.ensures.keeps
+          (λ image left. sound_left state stored start image sound left) (λ is. is)
           (served.served none sound.files start serving
           (above_stored core sound.files recovered.recorded.named next));
       within = λ start sound next is.

@@ -1,12 +1,13 @@
-use Rattle.std.proofs.Common.{◌∙◌, ◌+◌, ◌++◌, ap, length}
-use Rattle.std.specs.Prelude.{◌*◌}
+use Rattle.std.proofs.Common.{◌∙◌, ◌+◌, ◌++◌, ◌≤◌, None, ap, inr, length, sym, subst}
+use Rattle.std.specs.Prelude.{◌*◌, ◌-◌, ◌^◌, count_by, min}
+use Rattle.tsdb_history.specs.History.{is_device}
 use Rattle.tsdb_recover.specs.Core.{next_of}
 use Rattle.tsdb_history.proofs.Reach.{all_further}
 use Rattle.tsdb_history.specs.Reach.{max_drawn}
 use Rattle.std.specs.Prelude.{is_some}
 use Rattle.tsdb_base.specs.Causes.{Rose}
 use Rattle.tsdb_outside.specs.Files.{Store}
-use Rattle.tsdb_run.proofs.Executed.{has_run, rose_before, some_and}
+use Rattle.tsdb_run.proofs.Executed.{has_run, one_more_fault, some_and}
 use Rattle.tsdb_recover.specs.Flushing.{faults_under}
 use Rattle.tsdb_run.proofs.store.serve_script.Goals as goal
 
@@ -29,9 +30,15 @@ returns-clause-served g c =
           has_run core last files start executed.entries served c.requires.slot c.execute-history.ensures.stays.slot
           (g.J.Disk.state journal) (g.J.Disk.lawful journal) closed.0
           (Rose (faults_under last) (g.J.Counted.faults journal)) closed.2 left
-          (Rose (faults_under core) (g.J.Counted.faults journal)) closed.1 below
-          (rose_before (faults_under core) (faults_under last) (g.J.Counted.faults journal)
-          c.execute-history.ensures.later.0);
+          (Rose (count_by is_device c.execute-history.result)
+          (g.J.Counted.faults journal + g.F.Counted.faults c.close.new.files)) closed.1 below
+          (one_more_fault (faults_under core) (faults_under last) (g.J.Counted.faults journal)
+          (g.F.Port.Counted.faults c.args.port) (g.F.Port.Counted.faults c.execute-history.new.port)
+          (g.F.Counted.faults c.args.files.now) (g.F.Counted.faults c.close.new.files)
+          (count_by is_device c.execute-history.result)
+          (c.execute-history.ensures.devices (inr (files, start, None, serving)))
+          (subst (λ n. min (g.F.Counted.faults c.args.files.now + g.F.Port.Counted.faults c.execute-history.new.port)
+          (2 ^ 64 - 1) ≤ n) (sym c.close.ensures.faults) c.end_port.ensures.faults));
       within = λ none files start serving.
           let tells = ap (λ (s : Store). s.tells) c.requires.port ∙ g.F.Files.tells c.args.files.now ∙ ap is_some none in
           let served = executed.served tells files start serving in

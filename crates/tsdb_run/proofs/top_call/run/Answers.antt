@@ -107,7 +107,7 @@ returns-in-Err-clause-headline g c =
     let left = g.S.Source.left c.args.script.now in
     let is = subst (EndsInput c.args.words.now left) (sym c.end_without_commands.ensures.status) c.in-Err.ensures.status in
     ends_headline c.args.words.now left (contents (g.P.Disk.state c.args.place.now) (g.P.Place.stored c.args.place.now))
-    (Rose (g.P.Counted.faults c.args.place.now) (g.P.Counted.faults c.args.place.now)) (g.P.Place.asked c.args.place.now)
+    (g.P.Counted.faults c.args.place.now) (g.P.Counted.faults c.args.place.now) (g.P.Place.asked c.args.place.now)
     c.end_without_commands.result.status c.end_without_commands.result.history (g.K.Sink.held c.args.out.now) is
     c.end_without_commands.ensures.history
 

@@ -49,7 +49,7 @@ returns-in-Ok-clause-headline g c = λ words left are read.
     let new = g.K.Sink.held c.write_output-status.new.out in
     let run = run_of words left (contents (g.P.Disk.state c.args.place.now) (g.P.Place.stored c.args.place.now))
     (contents (g.P.Disk.state c.run_commands.new.place) (g.P.Place.stored c.run_commands.new.place))
-    (Rose (g.P.Counted.faults c.args.place.now) (g.P.Counted.faults c.run_commands.new.place))
+    (g.P.Counted.faults c.args.place.now) (g.P.Counted.faults c.run_commands.new.place)
     (g.P.Place.asked c.run_commands.new.place) history old new in
     headline_written run script c.args.asked.now are c.in-Ok.ensures.directory read c.in-Ok.ensures.executed status
     (subst (λ h. IsWritten status old new (output_text script h)) c.items.ensures c.write_output-status.ensures.written)
@@ -75,7 +75,7 @@ returns-in-Err-clause-headline g c = λ words left are read.
     let held = g.K.Sink.held c.args.out.now in
     let run = run_of words left (contents (g.P.Disk.state c.args.place.now) (g.P.Place.stored c.args.place.now))
     (contents (g.P.Disk.state c.run_commands.new.place) (g.P.Place.stored c.run_commands.new.place))
-    (Rose (g.P.Counted.faults c.args.place.now) (g.P.Counted.faults c.run_commands.new.place))
+    (g.P.Counted.faults c.args.place.now) (g.P.Counted.faults c.run_commands.new.place)
     (g.P.Place.asked c.run_commands.new.place) c.end_without_commands.result.history held held in
     subst (λ status. Headline status run) (sym c.end_without_commands.ensures.status)
     (headline_refused run c.in-Err.refused c.in-Err.ensures.refused.why
