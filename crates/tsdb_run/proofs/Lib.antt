@@ -16,3 +16,4 @@ pub mod Opening
 pub mod Refused
 pub mod Ends
 pub mod Following
+pub mod Stopped

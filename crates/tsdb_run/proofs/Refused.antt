@@ -69,7 +69,7 @@ module _ (files now : List StoredFile) (bytes : List ℕ) (left : AreLeft (IsStr
     content = whole.content;
   }
 
-  stands_left : StandsFor (kept_bytes now) bytes at
+  pub stands_left : StandsFor (kept_bytes now) bytes at
   stands_left = record {
     recorded = stands.recorded;
     replayed = stands.replayed;

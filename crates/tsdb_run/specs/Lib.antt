@@ -6,5 +6,6 @@ pub mod Output
 pub mod Status
 pub mod Store
 pub mod Headline
+pub mod Stops
 pub mod Causes
 pub mod Steps

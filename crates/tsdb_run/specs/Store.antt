@@ -2,6 +2,7 @@
 -- is left of it. Replay, the state of the engine, and the bytes of logs and files stand behind these words alone;
 -- docs/DEFINITIONS.md says why they need not be read.
 use Rattle.std.specs.Prelude.{◌≡◌, ◌⊎◌, ℕ, List, Option, None, Some}
+use Rattle.std.specs.FinMap.{empty}
 use Rattle.std.specs.Option.{IsSomeAnd}
 use Rattle.tsdb_history.specs.Listings.{IsListingOf}
 use Rattle.tsdb_state.specs.Stored.{kept_bytes}
@@ -33,6 +34,10 @@ pub record Tells (place : Contents) (image : Image) (files : List StoredFile) : 
   pub slots : place.disk.seen ≡ Some image
   pub told : place.stored ≡ Some files
   pub are_stored : AreStored files
+
+-- the state of a new store: there is no series, and nothing was changed
+abbrev pub new_state : plain.State
+new_state = record { world = empty; stamp = 0 }
 
 -- ---- what a store stands for
 
@@ -92,10 +97,13 @@ abbrev pub IsListed : Contents → Listing → Type 0
 IsListed place listing = (stored : List StoredFile) (image : Image) → place.stored ≡ Some stored
     → place.disk.may_leave image → IsListingOf (kept_bytes stored) image.a listing
 
--- each file of the store is as it was, or it is gone, and the log does not list it
+-- each of these files is stored as it was, or it is gone, and the log in slot A does not list it
+abbrev pub KeepsAllListed : Image → List StoredFile → Contents → Type 0
+KeepsAllListed image files new = IsSomeAnd new.stored (AreLeft (IsStray image.a) files)
+
+-- so is each file of the store
 abbrev pub KeepsListed : Contents → Contents → Type 0
-KeepsListed old new = (image : Image) (files : List StoredFile) → Tells old image files
-    → IsSomeAnd new.stored (AreLeft (IsStray image.a) files)
+KeepsListed old new = (image : Image) (files : List StoredFile) → Tells old image files → KeepsAllListed image files new
 
 -- The store was left alone: its log means what it meant, and each file is as it was, but that some which the log does not
 -- list may be gone.

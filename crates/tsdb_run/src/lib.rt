@@ -21,7 +21,7 @@ mod word;
 mod word_laws;
 
 pub use asked::Asked;
-pub use laws::a_run_follows_another;
+pub use laws::{a_new_place_is_sound, a_run_follows_another, a_stop_leaves_a_sound_store};
 pub use read::read_words;
 pub use status::{Ended, Status};
 pub use top_call::run;
