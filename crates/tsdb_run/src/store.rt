@@ -1,6 +1,7 @@
 //! Executes the commands of a script on a store. Depends on tsdb_recover, tsdb_history and tsdb_core.
 ghost use Rattle.std.specs.Prelude.{◌≡◌, ℕ, ◌+◌, ◌-◌, ◌^◌, ◌<◌, ◌≤◌, min, Some, IfErr, IfOk, IsErrAnd, OnOk};
 ghost use Rattle.std.specs.Prelude.{count_by, length};
+ghost use Rattle.tsdb_recover.specs.Core.{limit_of};
 ghost use Rattle.tsdb_recover.specs.Limits.{IsPairLimit};
 ghost use Rattle.tsdb_history.specs.History.{CanExecute, is_device};
 ghost use Rattle.tsdb_history.specs.Rooms.{IsRoomFor};
@@ -53,8 +54,7 @@ pub fn run_commands<P: Place>(
     match place.take_up(asked.directory()) {
         Ok((journal, files)) => {
             let mut files = files;
-            let limit = asked.pair_points();
-            let (journal, outcome) = run_on(alloc, journal, &mut files, limit, script, room);
+            let (journal, outcome) = run_on(alloc, journal, &mut files, asked, script, room);
             place.put_down(journal, files);
             outcome
         }
@@ -69,11 +69,11 @@ fn run_on<J: Journal, F: Files>(
     alloc: Global,
     journal: J,
     files: &mut F,
-    pair_points: u64,
+    asked: &Asked,
     script: &[Numbered],
     room: Room,
 ) -> (J, Result<List<Told>, Status>)
-    requires limit { IsPairLimit pair_points }
+    requires limit { IsPairLimit asked.now.pair_points }
     requires script { CanExecute script.now }
     requires room { IsRoomFor (length script.now) room }
     requires no_faults { (J.faults journal ≡ 0) × (F.faults files.old ≡ 0) }
@@ -92,10 +92,11 @@ fn run_on<J: Journal, F: Files>(
     let Ok(port) = files.port() else {
         return (journal, Err(Status::Memory));
     };
+    let pair_points = asked.pair_points();
     match recover(alloc, journal, files, Options { pair_points }) {
         Ok(core) => {
             a_recovered_core_serves(&core);
-            let (journal, history) = serve_script(alloc, core, files, port, script, room);
+            let (journal, history) = serve_script(alloc, core, files, port, asked, script, room);
             (journal, Ok(history))
         }
         Err(OpenRefused { journal, fault }) => {
@@ -105,15 +106,18 @@ fn run_on<J: Journal, F: Files>(
     }
 }
 
-/// Executes the commands of a script on a store that is open, and closes it.
+/// Executes the commands of a script on a store that is open, and closes it. A pair of the core has as many points at most
+/// as the words ask for.
 fn serve_script<J: Journal, F: Files>(
     alloc: Global,
     core: Core<J, F>,
     files: &mut F,
     port: F::Port,
+    _asked: &Asked,
     script: &[Numbered],
     room: Room,
 ) -> (J, List<Told>)
+    requires limit { limit_of core ≡ _asked.now.pair_points }
     requires script { CanExecute script.now }
     requires room { IsRoomFor (length script.now) room }
     requires ready { IsReady (F.Port.store port) core }
