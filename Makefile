@@ -42,7 +42,7 @@ bench: build
 
 check-disk: build
 	@checks/kill bin/tsdb --kills 50 --disk
-	@checks/statuses bin/tsdb --known
+	@checks/statuses bin/tsdb
 	@checks/memory bin/tsdb --known
 	@checks/faults bin/tsdb
 	@checks/power bin/tsdb

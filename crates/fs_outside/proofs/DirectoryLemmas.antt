@@ -182,13 +182,13 @@ away_after_removal (Err e) n before made filled now a b c then later rose cause 
     let again : Rose filled now = cause.failed in
     taken_away n before now a b c then (inr (omega (arith, later, rose, again)))
 
--- a list of numbers that are those of the files
-pub list_is_exact : (told : Option (List DirectoryFile)) (list numbers : List ℕ)
-    → IfSome told (λ files. (n : ℕ) → IsFileNumber n → (Contains numbers n ↔ Contains (numbers_in files) n))
+-- a list of numbers that are those of the files and of what else is there
+pub list_is_exact : (told : Option (List DirectoryFile)) (others list numbers : List ℕ)
+    → IfSome told (λ files. (n : ℕ) → IsFileNumber n → (Contains numbers n ↔ (Contains (numbers_in files) n ⊎ Contains others n)))
     → ((n : ℕ) → IsFileNumber n → (Contains list n ↔ Contains numbers n))
-    → IfSome told (λ files. (n : ℕ) → IsFileNumber n → (Contains list n ↔ Contains (numbers_in files) n))
-list_is_exact None list numbers there same = tt
-list_is_exact (Some files) list numbers there same = λ n fits.
+    → IfSome told (λ files. (n : ℕ) → IsFileNumber n → (Contains list n ↔ (Contains (numbers_in files) n ⊎ Contains others n)))
+list_is_exact None others list numbers there same = tt
+list_is_exact (Some files) others list numbers there same = λ n fits.
     (λ h. (there n fits).0 ((same n fits).0 h), λ h. (same n fits).1 ((there n fits).1 h))
 
 -- what is told goes on to be told behind a call that only counts

@@ -12,8 +12,8 @@ use Rattle.fs_outside.specs.Directory.{Becomes}
 use Rattle.fs_outside.specs.SlotDirectory.{DirectoryImage, DirectoryView, DirectoryState, AreNamesDurable, ElapsesBy, HasNames}
 use Rattle.fs_outside.specs.SlotDirectory.{HasSlots, IsLawfulDirectory, IsLeft, IsOneZero, IsRenamed, IsUnfinished, KeepsDirectory}
 use Rattle.fs_outside.specs.SlotDirectory.{MayRename, StaysDurable, new_store, silent_directory, slot_in, with_own_name, with_slot_file}
-use Rattle.fs_outside.specs.SlotDirectory.{with_synced_slot, with_unfinished}
-use Rattle.fs_outside.specs.Opening.{HasLostSlot, HasNewSlot, HasOwnName, IsDurableAs, IsMadeNew, IsNewOrUnfinished, KeepsStore}
+use Rattle.fs_outside.specs.SlotDirectory.{with_locked_slots, with_synced_slot, with_unfinished}
+use Rattle.fs_outside.specs.Opening.{AreSlotsLocked, HasLostSlot, HasNewSlot, HasOwnName, IsDurableAs, IsMadeNew, IsNewOrUnfinished, KeepsStore}
 use Rattle.fs_outside.specs.Opening.{LeavesUnfinished, MakesStore, with_new_slot}
 use Rattle.fs_outside.proofs.DirectoryLemmas.{becomes_twice}
 
@@ -63,16 +63,68 @@ name_of_synced : (x : Slot) (view : DirectoryView) → (with_synced_slot x view)
 name_of_synced A view = refl
 name_of_synced B view = refl
 
-still_named : (x : Slot) (a b : Option DirectoryView) → Becomes (with_synced_slot x) a b → IsSomeAnd a (λ view. IsTrue view.is_named)
-    → IsSomeAnd b (λ view. IsTrue view.is_named)
-still_named x None b synced named = absurd named
-still_named x (Some view) b synced named =
-    subst (λ (o : Option DirectoryView). IsSomeAnd o (λ v. IsTrue v.is_named)) (sym synced) (name_of_synced x view ∙ named)
+-- what a view says of other things than its slots' bytes
+abbrev KeptBySyncs : (DirectoryView → Bool) → Type 0
+KeptBySyncs p = (x : Slot) (view : DirectoryView) → p (with_synced_slot x view) ≡ p view
+
+still_so : (p : DirectoryView → Bool) → KeptBySyncs p → (x : Slot) (a b : Option DirectoryView) → Becomes (with_synced_slot x) a b
+    → IsSomeAnd a (λ view. IsTrue (p view)) → IsSomeAnd b (λ view. IsTrue (p view))
+still_so p keeps x None b synced so = absurd so
+still_so p keeps x (Some view) b synced so =
+    subst (λ (o : Option DirectoryView). IsSomeAnd o (λ v. IsTrue (p v))) (sym synced) (keeps x view ∙ so)
+
+stays_so : (p : DirectoryView → Bool) → KeptBySyncs p → (x y : Slot) (a b c d : Option DirectoryView) → Becomes (with_synced_slot x) a b
+    → Becomes (with_synced_slot y) b c → d ≡ c → IsSomeAnd a (λ view. IsTrue (p view)) → IsSomeAnd d (λ view. IsTrue (p view))
+stays_so p keeps x y a b c d one two same so = subst (λ (o : Option DirectoryView). IsSomeAnd o (λ view. IsTrue (p view))) (sym same)
+    (still_so p keeps y b c two (still_so p keeps x a b one so))
 
 pub stays_named : (x y : Slot) (a b c d : Option DirectoryView) → Becomes (with_synced_slot x) a b → Becomes (with_synced_slot y) b c
     → d ≡ c → IsSomeAnd a (λ view. IsTrue view.is_named) → IsSomeAnd d (λ view. IsTrue view.is_named)
-stays_named x y a b c d one two same named = subst (λ (o : Option DirectoryView). IsSomeAnd o (λ view. IsTrue view.is_named)) (sym same)
-    (still_named y b c two (still_named x a b one named))
+stays_named = stays_so (λ (view : DirectoryView). view.is_named) name_of_synced
+
+-- and the slots are still locked
+lock_of_synced : (x : Slot) (view : DirectoryView) → (with_synced_slot x view).is_locked ≡ view.is_locked
+lock_of_synced A view = refl
+lock_of_synced B view = refl
+
+pub stays_locked : (x y : Slot) (a b c d : Option DirectoryView) → Becomes (with_synced_slot x) a b → Becomes (with_synced_slot y) b c
+    → d ≡ c → IsSomeAnd a (λ view. IsTrue view.is_locked) → IsSomeAnd d (λ view. IsTrue view.is_locked)
+stays_locked = stays_so (λ (view : DirectoryView). view.is_locked) lock_of_synced
+
+-- what is locked has the bytes and the name that it had
+image_of_locked : (x y : Slot) (view : DirectoryView) → (with_locked_slots x y view).image ≡ view.image
+image_of_locked A A view = refl
+image_of_locked A B view = refl
+image_of_locked B y view = refl
+
+name_of_locked : (x y : Slot) (view : DirectoryView) → (with_locked_slots x y view).is_named ≡ view.is_named
+name_of_locked A A view = refl
+name_of_locked A B view = refl
+name_of_locked B y view = refl
+
+pub durable_locked : (x y : Slot) (a b : Option DirectoryView) (d : DirectoryState) → Becomes (with_locked_slots x y) a b
+    → IfSome b (λ view. IsDurableAs view.image d) → IfSome a (λ view. IsDurableAs view.image d)
+durable_locked x y None b d locked durable = tt
+durable_locked x y (Some view) b d locked durable =
+    let here : IsDurableAs (with_locked_slots x y view).image d =
+    subst (λ (o : Option DirectoryView). IfSome o (λ v. IsDurableAs v.image d)) locked durable in
+    subst (λ (image : DirectoryImage). IsDurableAs image d) (image_of_locked x y view) here
+
+pub named_locked : (x y : Slot) (a b : Option DirectoryView) → Becomes (with_locked_slots x y) a b
+    → IsSomeAnd a (λ view. IsTrue view.is_named) → IsSomeAnd b (λ view. IsTrue view.is_named)
+named_locked x y None b locked named = absurd named
+named_locked x y (Some view) b locked named =
+    subst (λ (o : Option DirectoryView). IsSomeAnd o (λ v. IsTrue v.is_named)) (sym locked) (name_of_locked x y view ∙ named)
+
+pub locked_then : {P : Type 0} (x y : Slot) (a b : Option DirectoryView) → x ≡ A → y ≡ B → Becomes (with_locked_slots x y) a b
+    → (IsSomeAnd b (λ view. IsTrue view.is_locked) → P) → IfSome a (λ _. P)
+locked_then x y None b first second locked then = tt
+locked_then x y (Some view) b first second locked then =
+    let of_a : b ≡ Some (with_locked_slots A y view) =
+    subst (λ (s : Slot). b ≡ Some (with_locked_slots s y view)) first locked in
+    let both : b ≡ Some (with_locked_slots A B view) =
+    subst (λ (s : Slot). b ≡ Some (with_locked_slots A s view)) second of_a in
+    then (subst (λ (o : Option DirectoryView). IsSomeAnd o (λ v. IsTrue v.is_locked)) (sym both) refl)
 
 -- behind a making comes a call that makes nothing else possible
 pub makes_then_stays : (a b c : DirectoryState) → MakesStore a b → StaysDurable b c → MakesStore a c
@@ -358,6 +410,20 @@ opens_store (Some view) b c d (inr old) same slots durable named = inr (
   subst (λ (o : Option DirectoryView). IfSome o (λ v. HasSlots v.image)) old.1 slots,
   subst (λ (o : Option DirectoryView). IfSome o (λ v. IsDurableAs v.image d)) (same ∙ old.1) durable,
 )
+
+-- a directory that tells goes on to tell
+locked_of_told : (b : Option DirectoryView) (d : DirectoryState) → IsSomeAnd b (λ v. (v.image ≡ new_store) × IsTrue v.is_named)
+    → IfSome b (λ view. AreSlotsLocked d) → AreSlotsLocked d
+locked_of_told None d told locked = absurd told
+locked_of_told (Some v) d told locked = locked
+
+pub locked_opened : (before b c : Option DirectoryView) (d : DirectoryState) → IsFinished before b → c ≡ b
+    → IfSome c (λ view. AreSlotsLocked d) → IfSome before (λ view. AreSlotsLocked d)
+locked_opened None b c d finished same locked = tt
+locked_opened (Some view) b c d (inl new) same locked =
+    locked_of_told b d new.1 (subst (λ (o : Option DirectoryView). IfSome o (λ v. AreSlotsLocked d)) same locked)
+locked_opened (Some view) b c d (inr old) same locked =
+    subst (λ (o : Option DirectoryView). IfSome o (λ v. AreSlotsLocked d)) (same ∙ old.1) locked
 
 new_has_slots : (b : Option DirectoryView) → IsSomeAnd b (λ v. (v.image ≡ new_store) × IsTrue v.is_named)
     → IfSome b (λ view. ¬ HasSlots view.image) → ⊥

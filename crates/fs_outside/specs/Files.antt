@@ -1,5 +1,5 @@
 -- The files of a real store, and their ports and tokens.
-use Rattle.std.specs.Prelude.{ℕ}
+use Rattle.std.specs.Prelude.{ℕ, List}
 use Rattle.std.specs.Arc.{arc_value}
 use Rattle.std.specs.String.{string_bytes}
 use Rattle.tsdb_outside.specs.Files.{NamedFile, Store}
@@ -12,6 +12,10 @@ use Rattle.fs_outside.specs.Directory.{numbered, store_in}
 -- the calls on the directory of a port
 abbrev pub port_directory : {D F : Type 0} → FsPort D F → D
 port_directory port = port.directory
+
+-- the files that the port has open
+abbrev pub port_open : {D F : Type 0} → FsPort D F → List F
+port_open port = port.open.files.items
 
 -- the store that the port belongs to
 abbrev pub port_store : {D F : Type 0} → FsPort D F → Store

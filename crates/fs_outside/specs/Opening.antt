@@ -32,6 +32,10 @@ MakesStore old new = IfSome old.seen (λ _. LeavesUnfinished old → ElapsesBy I
 abbrev pub HasOwnName : DirectoryState → Type 0
 HasOwnName directory = IsSomeAnd directory.seen (λ view. IsTrue view.is_named)
 
+-- no other opening has the first slot, and the second is another file
+abbrev pub AreSlotsLocked : DirectoryState → Type 0
+AreSlotsLocked directory = IsSomeAnd directory.seen (λ view. IsTrue view.is_locked)
+
 -- a new store was made, and a stop leaves its directory
 abbrev pub IsMadeNew : DirectoryState → Type 0
 IsMadeNew directory = IsSomeAnd directory.seen (λ view. view.image ≡ new_store × IsTrue view.is_named)

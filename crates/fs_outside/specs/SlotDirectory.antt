@@ -51,6 +51,8 @@ pub record DirectoryView : Type 0 where
   pub is_synced : Bool
   -- a stop leaves the directory itself
   pub is_named : Bool
+  -- no other opening has the file of the first slot, and that of the second is another one
+  pub is_locked : Bool
 
 -- what a directory means at one moment
 pub record DirectoryState : Type 1 where
@@ -100,6 +102,12 @@ with_synced_unfinished view = record view { is_synced = true }
 -- the directory's own name is durable
 abbrev pub with_own_name : DirectoryView → DirectoryView
 with_own_name view = record view { is_named = true }
+
+-- The first slot is locked, and the second is another file. Files in another order are not the slots of a store.
+abbrev pub with_locked_slots : Slot → Slot → DirectoryView → DirectoryView
+with_locked_slots A A view = view
+with_locked_slots A B view = record view { is_locked = true }
+with_locked_slots B other view = view
 
 -- the bytes of the slot's file are durable
 abbrev pub with_synced_slot : Slot → DirectoryView → DirectoryView

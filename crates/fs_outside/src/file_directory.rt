@@ -4,8 +4,8 @@
 //! sync of the names has failed no file is created any more: the system may have forgotten what it could not write.
 //! The files and ports are proved over directories that tell. A directory of the system tells nothing. Depends on
 //! `locked_directory` and `file_name`.
-ghost use Rattle.std.specs.Prelude.{◌≡◌, ◌↔◌, ℕ, ◌^◌, ◌-◌, Bool, List, map, Contains, None, IfOk, IfSome, IsErr};
-ghost use Rattle.std.specs.Prelude.{IsTrue, MatchOption, OnErr, OnOk, is_err};
+ghost use Rattle.std.specs.Prelude.{◌≡◌, ◌↔◌, ◌⊎◌, ℕ, ◌^◌, ◌-◌, Bool, List, [], map, Contains, None, IfOk, IfSome};
+ghost use Rattle.std.specs.Prelude.{IsErr, IsTrue, MatchOption, OnErr, OnOk, is_err};
 ghost use Rattle.std.specs.declared.option.Option.{Option};
 ghost use Rattle.tsdb_outside.specs.Causes.{HasCause};
 ghost use Rattle.tsdb_outside.specs.Files.{IsFileNumber};
@@ -15,6 +15,7 @@ ghost use Rattle.fs_outside.specs.Directory.{HasBytesOf, HasLengthOf};
 
 use crate::file_name::{name_of_number, number_of_name, path_in};
 use crate::locked_directory::LockedDirectory;
+use crate::slot_directory::create_private;
 use std::alloc::{AllocError, Global};
 use std::fs::{self, File};
 use std::io::{self, ErrorKind};
@@ -37,6 +38,9 @@ pub trait FileDirectory: Drop {
 
     /// The files that are there, or none where it does not tell.
     ghost told: { Self → Option (List DirectoryFile) };
+
+    /// The numbers whose names lead to what is no file of the store, as a folder or a link.
+    ghost others: { Self → List ℕ };
 
     /// Whether a sync of the names has failed.
     ghost sync_failed: { Self → Bool };
@@ -116,10 +120,10 @@ pub trait FileDirectory: Drop {
         ensures same { sync_failed self.new ≡ sync_failed self.old }
         ensures cause { HasCause (faults self.old) (faults self.new) result };
 
-    /// The numbers of the files, in any order.
+    /// The numbers of the files, and those that others have, in any order.
     fn numbers(&mut self) -> io::Result<Vec<u64>>
         ensures exact { IfOk result (λ list. IfSome (told self.old) (λ files. (n : ℕ) → IsFileNumber n
-            → (Contains list.items n ↔ Contains (numbers_in files) n))) }
+            → (Contains list.items n ↔ (Contains (numbers_in files) n ⊎ Contains (others self.old) n)))) }
         ensures same { told self.new ≡ told self.old × sync_failed self.new ≡ sync_failed self.old }
         ensures cause { HasCause (faults self.old) (faults self.new) result };
 }
@@ -139,23 +143,22 @@ impl NumberedFile for FileOnDisk {
     }
 }
 
-/// A directory of the system, which holds the lock of the store. What is no regular file is no file of the store. A
-/// handle opens the directory for itself before it creates its first file, so that the system reports to it each name
-/// from then on that it could not write.
+/// A directory of the system, which holds the lock of the store. Its files are reached through the open directory, so
+/// that one which is renamed goes on to be used. What is no regular file is no file of the store, but it has the number
+/// of its name, which no new file can have. A handle opens the directory for itself before it creates its first file,
+/// so that the system reports to it each name from then on that it could not write.
 #[derive(Drop)]
 pub struct StoreDirectory<R> {
     rt: R,
-    path: Arc<String>,
     directory: Arc<LockedDirectory>,
     own: Option<File>,
     sync_failed: bool,
 }
 
 impl<R: Files<File = File> + AllocGlobal + Clone + Drop> StoreDirectory<R> {
-    pub(crate) fn new(rt: R, path: Arc<String>, directory: Arc<LockedDirectory>) -> Self {
+    pub(crate) fn new(rt: R, directory: Arc<LockedDirectory>) -> Self {
         StoreDirectory {
             rt,
-            path,
             directory,
             own: None,
             sync_failed: false,
@@ -164,7 +167,7 @@ impl<R: Files<File = File> + AllocGlobal + Clone + Drop> StoreDirectory<R> {
 
     fn path(&self, number: u64) -> Result<String, AllocError> {
         let name = name_of_number(self.rt.alloc(), number)?;
-        path_in(self.rt.alloc(), self.path.as_str(), name.as_str())
+        path_in(self.rt.alloc(), self.directory.path(), name.as_str())
     }
 }
 
@@ -182,6 +185,8 @@ impl<R: Files<File = File> + AllocGlobal + Clone + Drop> FileDirectory for Store
 
     ghost told = { λ _. None };
 
+    ghost others = { λ _. [] };
+
     ghost sync_failed = { λ directory. directory.sync_failed };
 
     ghost faults = { λ _. 2 ^ 64 - 1 };
@@ -189,7 +194,6 @@ impl<R: Files<File = File> + AllocGlobal + Clone + Drop> FileDirectory for Store
     fn another(&self) -> Result<Self, AllocError> {
         Ok(StoreDirectory {
             rt: self.rt.clone()?,
-            path: Arc::try_clone(&self.path)?,
             directory: Arc::try_clone(&self.directory)?,
             own: None,
             sync_failed: self.sync_failed,
@@ -201,10 +205,10 @@ impl<R: Files<File = File> + AllocGlobal + Clone + Drop> FileDirectory for Store
             return Err(io::Error::from(ErrorKind::Other));
         }
         if self.own.is_none() {
-            self.own = Some(File::open(&self.rt, self.path.as_str())?);
+            self.own = Some(File::open(&self.rt, self.directory.path())?);
         }
         let path = self.path(number)?;
-        let file = File::create_new(&self.rt, path.as_str())?;
+        let file = create_private(&self.rt, path.as_str())?;
         Ok(FileOnDisk { file, number })
     }
 
@@ -256,13 +260,11 @@ impl<R: Files<File = File> + AllocGlobal + Clone + Drop> FileDirectory for Store
     fn numbers(&mut self) -> io::Result<Vec<u64>> {
         let alloc = self.rt.alloc();
         let mut numbers = Vec::new(alloc);
-        for entry in fs::read_dir(&self.rt, self.path.as_str())? {
+        for entry in fs::read_dir(&self.rt, self.directory.path())? {
             match entry {
                 Ok(entry) => {
                     let number = number_of_name(alloc, entry.file_name())?;
-                    if let Some(number) = number
-                        && entry.file_type()?.is_file()
-                    {
+                    if let Some(number) = number {
                         numbers.push(number)?;
                     }
                 }

@@ -1,8 +1,8 @@
 //! The files of a real store, and their ports, over the calls of a directory. They tell no bytes as `Files` and `Port`;
 //! their clauses say what each call does to a directory that tells. A token holds the name of its file, and a port has
 //! a few files open, so a store of many files needs few descriptors. Depends on `file_directory` and `open_files`.
-ghost use Rattle.std.specs.Prelude.{◌≡◌, ◌↔◌, ℕ, ◌+◌, ◌-◌, ◌^◌, ◌≤◌, min, map, All, Contains, None, IfOk, IfSome};
-ghost use Rattle.std.specs.Prelude.{IsErr, IsErrOf, IsTrue, MatchOption, OnErr, OnOk};
+ghost use Rattle.std.specs.Prelude.{◌≡◌, ◌↔◌, ◌⊎◌, ℕ, ◌+◌, ◌-◌, ◌^◌, ◌≤◌, min, map, All, Contains, None, IfOk};
+ghost use Rattle.std.specs.Prelude.{IfSome, IsErr, IsErrOf, IsTrue, MatchOption, OnErr, OnOk};
 ghost use Rattle.std.specs.Arc.{arc_value};
 ghost use Rattle.std.specs.String.{string_bytes};
 ghost use Rattle.std.specs.List.Sorted.{IsStrictlyIncreasing};
@@ -14,8 +14,9 @@ ghost use Rattle.tsdb_outside.specs.declared.faults.StoreFault.TheVariants as fa
 ghost use Rattle.fs_outside.specs.Directory.{IsFreeIn, IsTakenIn, IsTakenAway, StaysTaken, SameBut, Becomes};
 ghost use Rattle.fs_outside.specs.Directory.{put_durable, without, numbers_in, HasBytesOf, HasLengthOf, Fills, ReadFails};
 ghost use Rattle.fs_outside.specs.Directory.{SizeFails, store_in};
-ghost use Rattle.fs_outside.specs.Files.{port_directory, port_faults, port_store, files_directory, files_faults};
-ghost use Rattle.fs_outside.specs.Files.{files_store, sealed_file, sealed_rights, right_file};
+ghost use Rattle.fs_outside.specs.Files.{port_directory, port_faults, port_open, port_store, files_directory};
+ghost use Rattle.fs_outside.specs.Files.{files_faults, files_store, sealed_file, sealed_rights, right_file};
+ghost use Rattle.fs_outside.specs.OpenFiles.{without_number};
 
 use crate::file_directory::{FileDirectory, NumberedFile};
 use crate::journal::MAX_LENGTH;
@@ -73,6 +74,7 @@ impl<D, F> FsPort<D, F> {
     // Counts a fault.
     fn fail(&mut self) -> Failed
         ensures directory { port_directory self.new ≡ port_directory self.old }
+        ensures open { port_open self.new ≡ port_open self.old }
         ensures store { port_store self.new ≡ port_store self.old }
         ensures later { port_faults self.old ≤ port_faults self.new }
         ensures rose { Rose (port_faults self.old) (port_faults self.new) }
@@ -278,6 +280,10 @@ impl<D: FileDirectory<File = F> + Send, F: NumberedFile + Send> Port for FsPort<
         ensures same_store { port_store self.new ≡ port_store self.old }
         ensures cause { HasCause (port_faults self.old) (port_faults self.new) result }
 
+        // The port holds no file with this number open, so that its room is given back.
+        ensures closed { port_open self.new
+            ≡ without_number F.number (sealed_file sealed).number (port_open self.old) }
+
         // What the directory tells.
         ensures removed { OnOk result (Becomes (without (sealed_file sealed).number)
             (D.told (port_directory self.old)) (D.told (port_directory self.new))) }
@@ -290,7 +296,7 @@ impl<D: FileDirectory<File = F> + Send, F: NumberedFile + Send> Port for FsPort<
             number,
             rights: _,
         } = sealed;
-        drop(self.open.take(number));
+        self.open.close(number);
         if self.directory.remove(number).is_err() {
             return Err(self.fail());
         }
@@ -384,7 +390,8 @@ impl<D: FileDirectory<File = F> + Send, F: NumberedFile + Send> Files for FsFile
 
     ghost tells = { λ _. refl };
 
-    /// Other names in the directory are left alone, and so is what is no regular file.
+    /// Other names in the directory are left alone, and so is what is no regular file; but its number is listed, since
+    /// no new file can have it.
     fn list(&mut self) -> Result<Vec<FileNumber>, StoreFault>
         ensures numbers { IfOk result (λ list. All IsFileNumber (plain_numbers list.items)) }
         ensures rising { IfOk result (λ list. IsStrictlyIncreasing (plain_numbers list.items)) }
@@ -393,8 +400,8 @@ impl<D: FileDirectory<File = F> + Send, F: NumberedFile + Send> Files for FsFile
 
         // What the directory tells.
         ensures exact { IfOk result (λ list. IfSome (D.told (files_directory self.old))
-            (λ files. (n : ℕ) → IsFileNumber n
-            → (Contains (plain_numbers list.items) n ↔ Contains (numbers_in files) n))) }
+            (λ files. (n : ℕ) → IsFileNumber n → (Contains (plain_numbers list.items) n
+            ↔ (Contains (numbers_in files) n ⊎ Contains (D.others (files_directory self.old)) n)))) }
         ensures same { D.told (files_directory self.new) ≡ D.told (files_directory self.old) }
         ensures reason { IsErrOf result fault.Failed
             → Rose (D.faults (files_directory self.old)) (D.faults (files_directory self.new)) }

@@ -4,11 +4,14 @@
 //! - The slots are the files `slot0` and `slot1`, and the files of the store end in `.tsfile`. Other names are left
 //!   alone.
 //! - An exclusive advisory lock on the directory is taken first, and held as long as the store is open. Nothing in a
-//!   directory that another program holds is touched.
+//!   directory that another program holds is touched. `slot0` is locked too, before anything is written to it, so two
+//!   directories that share it by a link are not open at once. The two slots are two files.
+//! - From then on all is reached through the open directory, and not by its name.
 //! - Without a `slot0` the store is not finished. It is made where the directory has no file of a store, and no
 //!   `slot1` but one of a single byte 0. Otherwise a log was lost, and that is a fault.
 //! - A new slot is written under another name, synced and renamed, and then the directory is synced: first `slot1`,
-//!   then `slot0`. The parent of the directory is synced before, so that its name is on the disk.
+//!   then `slot0`. The parent of the directory is synced before, so that its name is on the disk; not where the
+//!   directory was there and its parent may not be read.
 //! - Every opening syncs both slots and the directory: what a killed program left may be in the system's memory alone,
 //!   and the entries may be those of an opening that was stopped.
 //!
@@ -21,7 +24,7 @@ ghost use Rattle.fs_outside.specs.Directory.{Becomes};
 ghost use Rattle.fs_outside.specs.SlotDirectory.{AreNamesDurable, ElapsesBy, HasSlots, IsUnfinished};
 ghost use Rattle.fs_outside.specs.SlotDirectory.{KeepsDirectory, StaysDurable, with_unfinished};
 ghost use Rattle.fs_outside.specs.Opening.{HasLostSlot, HasNewSlot, HasOwnName, IsDurableAs, IsMadeNew, KeepsStore};
-ghost use Rattle.fs_outside.specs.Opening.{MakesStore, OpensStore, with_new_slot};
+ghost use Rattle.fs_outside.specs.Opening.{AreSlotsLocked, MakesStore, OpensStore, with_new_slot};
 
 use crate::locked_directory::{LockedDirectory, lock_directory};
 use crate::slot_directory::{SlotDirectory, SlotsOnDisk};
@@ -109,12 +112,27 @@ fn sync_slots<D: SlotDirectory>(directory: &mut D, a: &D::File, b: &D::File) -> 
     ensures durable { OnOk result (D.File.slot a.now ≡ A → D.File.slot b.now ≡ B
         → IfSome (D.state directory.old).seen (λ view. IsDurableAs view.image (D.state directory.new))) }
     ensures named { OnOk result (HasOwnName (D.state directory.old) → HasOwnName (D.state directory.new)) }
+    ensures locked { OnOk result (AreSlotsLocked (D.state directory.old) → AreSlotsLocked (D.state directory.new)) }
     ensures stays { StaysDurable (D.state directory.old) (D.state directory.new) }
     ensures cause { HasCause (D.state directory.old).faults (D.state directory.new).faults result }
 {
     directory.sync_slot(a)?;
     directory.sync_slot(b)?;
     directory.sync_names()
+}
+
+// Takes the lock of the slots, and makes both durable.
+fn hold_slots<D: SlotDirectory>(directory: &mut D, a: &D::File, b: &D::File) -> io::Result<()>
+    ensures durable { OnOk result (D.File.slot a.now ≡ A → D.File.slot b.now ≡ B
+        → IfSome (D.state directory.old).seen (λ view. IsDurableAs view.image (D.state directory.new))) }
+    ensures named { OnOk result (HasOwnName (D.state directory.old) → HasOwnName (D.state directory.new)) }
+    ensures locked { OnOk result (D.File.slot a.now ≡ A → D.File.slot b.now ≡ B
+        → IfSome (D.state directory.old).seen (λ _. AreSlotsLocked (D.state directory.new))) }
+    ensures stays { StaysDurable (D.state directory.old) (D.state directory.new) }
+    ensures cause { HasCause (D.state directory.old).faults (D.state directory.new).faults result }
+{
+    directory.lock_slots(a, b)?;
+    sync_slots(directory, a, b)
 }
 
 // Opens both slots.
@@ -135,6 +153,7 @@ fn open_both<D: SlotDirectory>(directory: &mut D) -> io::Result<(D::File, D::Fil
 pub fn open_slots<D: SlotDirectory>(directory: &mut D) -> io::Result<(D::File, D::File)>
     ensures slots { IfOk result (λ files. D.File.slot files.0 ≡ A × D.File.slot files.1 ≡ B) }
     ensures opened { OnOk result (OpensStore (D.state directory.old) (D.state directory.new)) }
+    ensures locked { OnOk result (IfSome (D.state directory.old).seen (λ _. AreSlotsLocked (D.state directory.new))) }
 
     // At each moment a stop leaves what is opened as a new store, or as the store that was there.
     ensures made { MakesStore (D.state directory.old) (D.state directory.new) }
@@ -145,7 +164,7 @@ pub fn open_slots<D: SlotDirectory>(directory: &mut D) -> io::Result<(D::File, D
 {
     finish_store(directory)?;
     let (a, b) = open_both(directory)?;
-    sync_slots(directory, &a, &b)?;
+    hold_slots(directory, &a, &b)?;
     Ok((a, b))
 }
 
@@ -167,6 +186,6 @@ pub fn open_store<R: Files<File = File> + AllocGlobal + Clone + Drop>(
     Ok(OpenStore {
         a: a.file,
         b: b.file,
-        directory: LockedDirectory::new(slots.directory),
+        directory: slots.directory,
     })
 }

@@ -120,7 +120,7 @@ fn open_parts<R: Files<File = File> + AllocGlobal + Clone + Drop>(
     let store = open_store(rt, dir)?;
     let directory = Arc::new(alloc, store.directory)?;
     let guard = Arc::try_clone(&directory)?;
-    let calls = StoreDirectory::new(rt.clone()?, Arc::try_clone(&path)?, directory);
+    let calls = StoreDirectory::new(rt.clone()?, directory);
     let files = FsFiles::new(alloc, Arc::try_clone(&path)?, calls);
     Ok((path, (FsJournal::new(store.a, store.b, guard), files)))
 }

@@ -10,13 +10,14 @@ ghost use Rattle.fs_outside.specs.Directory.{Becomes};
 ghost use Rattle.fs_outside.specs.SlotDirectory.{DirectoryState, IsLawfulDirectory, silent_directory, slot_in};
 ghost use Rattle.fs_outside.specs.SlotDirectory.{IsOneZero, KeepsDirectory, StaysDurable, MayRename, AreNamesDurable};
 ghost use Rattle.fs_outside.specs.SlotDirectory.{with_unfinished, with_synced_unfinished, with_own_name, with_renamed};
-ghost use Rattle.fs_outside.specs.SlotDirectory.{with_synced_slot};
+ghost use Rattle.fs_outside.specs.SlotDirectory.{with_locked_slots, with_synced_slot};
 
 use crate::file_name::path_in;
+use crate::locked_directory::LockedDirectory;
 use std::alloc::AllocError;
 use std::fs::{self, File, OpenOptions};
 use std::io::{self, ErrorKind, Write};
-use std::os::unix::fs::FileExt;
+use std::os::unix::fs::{FileExt, MetadataExt, OpenOptionsExt};
 use std::rt::Files;
 use tsdb_outside::Slot;
 
@@ -56,7 +57,8 @@ pub trait SlotDirectory {
         ensures keeps { KeepsDirectory (state self.old) (state self.new) }
         ensures cause { HasCause (state self.old).faults (state self.new).faults result };
 
-    /// Makes the name of the directory itself durable.
+    /// Makes the name of the directory itself durable. That of one that was there before, in a parent that may not be
+    /// read, is taken to be so.
     fn sync_parent(&mut self) -> io::Result<()>
         ensures ok { OnOk result (Becomes with_own_name (state self.old).seen (state self.new).seen) }
         ensures stays { StaysDurable (state self.old) (state self.new) }
@@ -102,6 +104,13 @@ pub trait SlotDirectory {
             ⊎ IfSome (state self.old).seen (λ view. slot_in slot view.image ≡ None)) }
         ensures later { (state self.old).faults ≤ (state self.new).faults };
 
+    /// Takes the lock of the first slot, and looks whether the second is another file.
+    fn lock_slots(&mut self, a: &Self::File, b: &Self::File) -> io::Result<()>
+        ensures ok { OnOk result (Becomes (with_locked_slots (Self.File.slot a.now) (Self.File.slot b.now))
+            (state self.old).seen (state self.new).seen) }
+        ensures stays { StaysDurable (state self.old) (state self.new) }
+        ensures cause { HasCause (state self.old).faults (state self.new).faults result };
+
     /// Makes the bytes of a slot durable.
     fn sync_slot(&mut self, file: &Self::File) -> io::Result<()>
         ensures ok { OnOk result (Becomes (with_synced_slot (Self.File.slot file.now))
@@ -126,12 +135,12 @@ impl OpenSlot for SlotOnDisk {
 pub struct SlotsOnDisk<'a, R> {
     rt: &'a R,
     dir: &'a str,
-    pub directory: File,
+    pub directory: LockedDirectory,
     unfinished: Option<File>,
 }
 
 impl<'a, R: Files<File = File> + AllocGlobal> SlotsOnDisk<'a, R> {
-    pub fn new(rt: &'a R, dir: &'a str, directory: File) -> Self {
+    pub fn new(rt: &'a R, dir: &'a str, directory: LockedDirectory) -> Self {
         SlotsOnDisk {
             rt,
             dir,
@@ -142,7 +151,7 @@ impl<'a, R: Files<File = File> + AllocGlobal> SlotsOnDisk<'a, R> {
 
     // The path of a name in the directory.
     fn path(&self, name: &str) -> Result<String, AllocError> {
-        path_in(self.rt.alloc(), self.dir, name)
+        path_in(self.rt.alloc(), self.directory.path(), name)
     }
 
     fn open_file(&self, name: &str) -> io::Result<File> {
@@ -166,6 +175,22 @@ fn unfinished_name(slot: Slot) -> &'static str {
         Slot::A => "slot0.new",
         Slot::B => "slot1.new",
     }
+}
+
+/// Creates a file that only its owner may read and write. One that is there is left alone, and the call fails.
+pub(crate) fn create_private<R: Files<File = File>>(rt: &R, path: &str) -> io::Result<File> {
+    OpenOptions::new()
+        .read(true)
+        .write(true)
+        .create_new(true)
+        .mode(0o600)
+        .open(rt, path)
+}
+
+// Whether two open files are one.
+fn is_same_file(one: &File, other: &File) -> io::Result<bool> {
+    let (one, other) = (one.metadata()?, other.metadata()?);
+    Ok(one.dev() == other.dev() && one.ino() == other.ino())
 }
 
 // The file that is being made, if there is one.
@@ -207,7 +232,7 @@ impl<R: Files<File = File> + AllocGlobal + Clone + Drop> SlotDirectory for Slots
 
     // A name that is not UTF-8 is none of a file.
     fn has_files(&mut self) -> io::Result<bool> {
-        for entry in fs::read_dir(self.rt, self.dir)? {
+        for entry in fs::read_dir(self.rt, self.directory.path())? {
             match entry {
                 Ok(entry) if entry.file_name().ends_with(".tsfile") => return Ok(true),
                 Ok(_) => {}
@@ -218,8 +243,17 @@ impl<R: Files<File = File> + AllocGlobal + Clone + Drop> SlotDirectory for Slots
         Ok(false)
     }
 
+    // Where the parent of a new directory may not be read, the directory is removed: a stop might lose it with its store.
     fn sync_parent(&mut self) -> io::Result<()> {
-        File::open(self.rt, self.path("..")?.as_str())?.sync_all()
+        match File::open(self.rt, self.path("..")?.as_str()) {
+            Ok(parent) => parent.sync_all(),
+            Err(error) if self.directory.is_new() => {
+                let _ = fs::remove_dir(self.rt, self.dir);
+                Err(error)
+            }
+            Err(error) if error.kind() == ErrorKind::PermissionDenied => Ok(()),
+            Err(error) => Err(error),
+        }
     }
 
     // What is there is removed first, so that no link is followed.
@@ -229,7 +263,7 @@ impl<R: Files<File = File> + AllocGlobal + Clone + Drop> SlotDirectory for Slots
             Err(error) if error.kind() != ErrorKind::NotFound => return Err(error),
             _ => {}
         }
-        self.unfinished = Some(File::create_new(self.rt, path.as_str())?);
+        self.unfinished = Some(create_private(self.rt, path.as_str())?);
         Ok(())
     }
 
@@ -248,12 +282,20 @@ impl<R: Files<File = File> + AllocGlobal + Clone + Drop> SlotDirectory for Slots
     }
 
     fn sync_names(&mut self) -> io::Result<()> {
-        self.directory.sync_all()
+        self.directory.sync_first()
     }
 
     fn open(&mut self, slot: Slot) -> io::Result<SlotOnDisk> {
         let file = self.open_file(name_of_slot(slot))?;
         Ok(SlotOnDisk { file, slot })
+    }
+
+    // A slot that another directory has too, by a hard link or a symbolic one, is locked there.
+    fn lock_slots(&mut self, a: &SlotOnDisk, b: &SlotOnDisk) -> io::Result<()> {
+        if is_same_file(&a.file, &b.file)? {
+            return Err(io::Error::from(ErrorKind::InvalidInput));
+        }
+        Ok(a.file.try_lock()?)
     }
 
     fn sync_slot(&mut self, file: &SlotOnDisk) -> io::Result<()> {

@@ -1,5 +1,5 @@
 //! The stores and files of real directories.
-use crate::folders::{Item, are_made, has_text};
+use crate::folders::{Item, are_made, are_private, has_text};
 use crate::looks::{Look, has_all};
 use crate::steps::{FileStep, SlotStep};
 use fs_outside::FsPlace;
@@ -80,7 +80,7 @@ fn unfinished_store_is_opened_as_new(rt: HostRuntime) {
 }
 
 // Directories whose log was lost, or whose slots are none.
-static WITHOUT_LOG: [Item; 17] = [
+static WITHOUT_LOG: [Item; 25] = [
     Item::Folder("whole"),
     Item::File("whole/slot0", "0"),
     Item::Folder("folder"),
@@ -98,9 +98,18 @@ static WITHOUT_LOG: [Item; 17] = [
     Item::Folder("away"),
     Item::File("away/slot1", "\0"),
     Item::Link("away/slot0", "nowhere"),
+    Item::File("plain", ""),
+    Item::Link("to_nothing", "nowhere"),
+    // One file under the names of both slots.
+    Item::Folder("same"),
+    Item::File("same/slot0", "\0"),
+    Item::Same("same/slot1", "same/slot0"),
+    Item::Folder("round"),
+    Item::File("round/slot0", "\0"),
+    Item::Link("round/slot1", "slot0"),
 ];
 
-static REFUSED: [&[u8]; 11] = [
+static REFUSED: [&[u8]; 18] = [
     b"whole",
     b"folder",
     b"files",
@@ -112,6 +121,14 @@ static REFUSED: [&[u8]; 11] = [
     b"\xff",
     b"no/parent",
     b"",
+    // What is no directory, and slots that are one file.
+    b"plain",
+    b"plain/in_it",
+    b"to_nothing",
+    b"/dev/null",
+    b"/dev/zero",
+    b"same",
+    b"round",
 ];
 
 #[test]
@@ -138,6 +155,45 @@ fn one_program_has_a_store_at_a_time(rt: HostRuntime) {
     assert!(rt; matches!(store_has(&rt, b"twice", &looks), Ok(true)));
 }
 
+// A copy of a store by hard links has its first slot, and another one by a symbolic link.
+static SHARED: [Item; 6] = [
+    Item::Folder("copied"),
+    Item::Same("copied/slot0", "shared/slot0"),
+    Item::File("copied/slot1", "\0"),
+    Item::Folder("led"),
+    Item::Link("led/slot0", "../shared/slot0"),
+    Item::File("led/slot1", "\0"),
+];
+
+static SHARED_WITH: [Look; 2] = [Look::SharedWith(b"copied"), Look::SharedWith(b"led")];
+
+#[test]
+fn stores_that_share_a_slot_are_not_open_at_once(rt: HostRuntime) {
+    assert!(rt; matches!(opened(&rt, b"shared"), Ok(true)) && are_made(&rt, &SHARED));
+    assert!(rt; matches!(store_has(&rt, b"shared", &SHARED_WITH), Ok(true)));
+    assert_eq!(rt; first_other(&rt, &[b"copied", b"led"], Ok(true)), None);
+}
+
+static ONE_FILE: [FileStep; 1] = [FileStep::Put(1, b"abcd", Ok(()))];
+
+static PRIVATE: [&str; 4] = [
+    "private",
+    "private/slot0",
+    "private/slot1",
+    "private/1.tsfile",
+];
+
+#[test]
+fn what_a_store_makes_is_private(rt: HostRuntime) {
+    assert!(rt;
+        matches!(
+            store_has(&rt, b"private", &[Look::Files(&ONE_FILE)]),
+            Ok(true)
+        )
+    );
+    assert!(rt; are_private(&rt, &PRIVATE));
+}
+
 // A file, and a folder, a link and others that are no stored files, in the folder of a store.
 static STORED: [Item; 10] = [
     Item::Folder("store/7.tsfile"),
@@ -152,9 +208,11 @@ static STORED: [Item; 10] = [
     Item::File("store/one", "other"),
 ];
 
-// Files are stored, found again and removed. What has the number 0, 7 or 8 is none.
-static SERVED: [FileStep; 13] = [
-    FileStep::List(&[FileNumber(12)]),
+// Files are stored, found again and removed. What has the number 0, 7 or 8 is none; no new file can have the number 7
+// or 8, so these are listed.
+static SERVED: [FileStep; 14] = [
+    FileStep::List(&[FileNumber(7), FileNumber(8), FileNumber(12)]),
+    FileStep::Put(7, b"", Err(StoreFault::Failed)),
     FileStep::Put(3, b"abcd", Ok(())),
     FileStep::Put(12, b"", Err(StoreFault::Failed)),
     FileStep::Read(12, 0, Ok(Some((*b"xyz\0", 3)))),
@@ -162,7 +220,7 @@ static SERVED: [FileStep; 13] = [
     FileStep::Read(3, 4, Ok(Some(([0; 4], 4)))),
     FileStep::Read(2, 0, Ok(None)),
     FileStep::Remove(12, Ok(true)),
-    FileStep::List(&[FileNumber(3)]),
+    FileStep::List(&[FileNumber(3), FileNumber(7), FileNumber(8)]),
     FileStep::Remove(0, Ok(false)),
     FileStep::Remove(7, Ok(false)),
     FileStep::Remove(8, Ok(false)),
@@ -181,10 +239,29 @@ fn folder_serves_files_and_leaves_others_alone(rt: HostRuntime) {
     assert!(rt; has_text(&rt, "store/3.tsfile", "abcd") && has_others(&rt));
 }
 
-static MOVED_AWAY: [Item; 2] = [Item::Renamed("moved", "gone"), Item::File("gone", "other")];
+// The directory of a store is renamed, and another store stands where it was.
+static MOVED_AWAY: [Item; 4] = [
+    Item::Renamed("moved", "gone"),
+    Item::Folder("gone"),
+    Item::File("gone/1.tsfile", "other"),
+    Item::File("gone/2.tsfile", "other"),
+];
+
+// The files are those of the store, wherever it is.
+static MOVED_FILES: [FileStep; 5] = [
+    FileStep::List(&[]),
+    FileStep::Put(1, b"abcd", Ok(())),
+    FileStep::Read(1, 0, Ok(Some((*b"abcd", 4)))),
+    FileStep::Put(3, b"efgh", Ok(())),
+    FileStep::Remove(1, Ok(true)),
+];
+
+static OTHER_FILES: [&str; 2] = ["gone/1.tsfile", "gone/2.tsfile"];
 
 #[test]
-fn file_out_of_reach_is_not_taken_for_missing(rt: HostRuntime) {
-    let look = Look::OutOfReach(&rt, &MOVED_AWAY);
+fn store_that_is_renamed_touches_no_other(rt: HostRuntime) {
+    let look = Look::Moved(&rt, &MOVED_AWAY, &MOVED_FILES);
     assert!(rt; matches!(store_has(&rt, b"gone", &[look]), Ok(true)));
+    assert!(rt; has_text(&rt, "moved/3.tsfile", "efgh") && has_text(&rt, OTHER_FILES[0], "other"));
+    assert!(rt; has_text(&rt, OTHER_FILES[1], "other") && !has_text(&rt, "gone/3.tsfile", "efgh"));
 }

@@ -1,6 +1,6 @@
 //! The files of a real store over a directory in memory, some of whose calls fail. It has two handles and tells
 //! nothing.
-ghost use Rattle.std.specs.Prelude.{None, ◌-◌, ◌^◌, IsTrue, IsErr};
+ghost use Rattle.std.specs.Prelude.{[], None, ◌-◌, ◌^◌, IsTrue, IsErr};
 
 use crate::steps::{FileStep, files_answer};
 use fs_outside::{FileDirectory, FsFiles, NumberedFile};
@@ -71,6 +71,8 @@ impl FileDirectory for FailingDirectory {
     type File = OpenFile;
 
     ghost told = { λ _. None };
+
+    ghost others = { λ _. [] };
 
     ghost sync_failed = { λ directory. directory.sync_failed };
 

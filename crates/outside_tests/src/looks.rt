@@ -1,6 +1,5 @@
 //! What is looked at in a store while its parts are taken up, in memory and in a directory of the system. Depends on
 //! `steps`, `stops`, `folders` and `many`.
-use crate::copying::fetch_and_read;
 use crate::folders::{Item, are_made};
 use crate::many::serves_many;
 use crate::steps::{FileStep, SlotStep, files_answer, rights_read, slots_answer};
@@ -17,8 +16,10 @@ pub enum Look<'a> {
     Rights,
     /// What a stop left.
     Left(&'a Left),
-    /// A file, once something else was put where the directory of the store was.
-    OutOfReach(&'a HostRuntime, &'a [Item]),
+    /// Files, once something else was put where the directory of the store was.
+    Moved(&'a HostRuntime, &'a [Item], &'a [FileStep]),
+    /// Nothing, while the store of another directory is refused.
+    SharedWith(&'a [u8]),
     ManyFiles(&'a HostRuntime),
 }
 
@@ -28,9 +29,8 @@ fn look_at<J: Journal, F: Files>(journal: &mut J, files: &mut F, look: &Look) ->
         Look::Files(steps) => files_answer(files, steps),
         Look::Rights => rights_read(files),
         Look::Left(left) => has_left(journal, files, left),
-        Look::OutOfReach(rt, items) => {
-            are_made(rt, items) && fetch_and_read(files, 1, 0) == Err(StoreFault::Failed)
-        }
+        Look::Moved(rt, items, steps) => are_made(rt, items) && files_answer(files, steps),
+        Look::SharedWith(_) => true,
         Look::ManyFiles(rt) => serves_many(rt, files),
     }
 }
@@ -46,6 +46,14 @@ fn is_refused<P: Place>(place: &mut P, dir: &[u8]) -> bool {
     }
 }
 
+// The directory that is refused while this one is looked at: the same, or one that shares a slot with it.
+fn refused_meanwhile<'a>(dir: &'a [u8], look: &Look<'a>) -> &'a [u8] {
+    match *look {
+        Look::SharedWith(other) => other,
+        _ => dir,
+    }
+}
+
 // Whether a store has what is looked for. Meanwhile it is refused to the other place, or else to this one.
 fn has<P: Place>(
     place: &mut P,
@@ -54,9 +62,10 @@ fn has<P: Place>(
     look: &Look,
 ) -> Result<bool, StoreFault> {
     let (mut journal, mut files) = place.take_up(dir)?;
+    let also = refused_meanwhile(dir, look);
     let alone = match other {
-        Some(other) => is_refused(other, dir),
-        None => is_refused(place, dir),
+        Some(other) => is_refused(other, also),
+        None => is_refused(place, also),
     };
     let holds = look_at(&mut journal, &mut files, look);
     place.put_down(journal, files);

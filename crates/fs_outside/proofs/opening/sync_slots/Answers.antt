@@ -1,7 +1,7 @@
 use Rattle.std.proofs.lemmas.Result.{IfOk-from_err}
 use Rattle.fs_outside.proofs.CauseLemmas.{always_on_ok, cause_passed, cause_then, same_count}
 use Rattle.fs_outside.proofs.DirectoryLemmas.{where_ok}
-use Rattle.fs_outside.proofs.OpeningLemmas.{slots_are_durable, stays_named, stays_twice}
+use Rattle.fs_outside.proofs.OpeningLemmas.{slots_are_durable, stays_locked, stays_named, stays_twice}
 use Rattle.fs_outside.proofs.opening.sync_slots.Goals as goal
 
 pub returns-clause-durable : goal.returns-clause-durable
@@ -33,6 +33,13 @@ returns-clause-named g c = always_on_ok c.sync_names.result (λ named. stays_nam
     (g.D.SlotDirectory.state c.sync_names.new.self).seen c.in_ok-sync_slot.ensures.ok c.in_ok-sync_slot-2.ensures.ok
     c.sync_names.ensures.keeps.seen named)
 
+pub returns-clause-locked : goal.returns-clause-locked
+returns-clause-locked g c = always_on_ok c.sync_names.result (λ locked. stays_locked (g.D.File.OpenSlot.slot c.args.a.now)
+    (g.D.File.OpenSlot.slot c.args.b.now) (g.D.SlotDirectory.state c.args.directory.now).seen
+    (g.D.SlotDirectory.state c.sync_slot.new.self).seen (g.D.SlotDirectory.state c.sync_slot-2.new.self).seen
+    (g.D.SlotDirectory.state c.sync_names.new.self).seen c.in_ok-sync_slot.ensures.ok c.in_ok-sync_slot-2.ensures.ok
+    c.sync_names.ensures.keeps.seen locked)
+
 pub returns-clause-stays : goal.returns-clause-stays
 returns-clause-stays g c =
     stays_twice _ _ _ (stays_twice _ _ _ c.sync_slot.ensures.stays c.sync_slot-2.ensures.stays) c.sync_names.ensures.keeps.stays
@@ -52,3 +59,9 @@ returns-in_err-sync_slot-2-clause-durable g c = IfOk-from_err c.from_residual-in
 
 pub returns-in_err-sync_slot-2-clause-named : goal.returns-in_err-sync_slot-2-clause-named
 returns-in_err-sync_slot-2-clause-named g c = IfOk-from_err c.from_residual-in_err-sync_slot-2.result _ c.from_residual-in_err-sync_slot-2.ensures.0
+
+pub returns-in_err-sync_slot-clause-locked : goal.returns-in_err-sync_slot-clause-locked
+returns-in_err-sync_slot-clause-locked g c = IfOk-from_err c.from_residual.result _ c.from_residual.ensures.0
+
+pub returns-in_err-sync_slot-2-clause-locked : goal.returns-in_err-sync_slot-2-clause-locked
+returns-in_err-sync_slot-2-clause-locked g c = IfOk-from_err c.from_residual-in_err-sync_slot-2.result _ c.from_residual-in_err-sync_slot-2.ensures.0

@@ -85,15 +85,6 @@ returns-in_err-try_clone-clause-store g c = IfOk-from_err c.from_residual-in_err
 pub returns-in_err-try_clone-clause-faults : goal.returns-in_err-try_clone-clause-faults
 returns-in_err-try_clone-clause-faults g c = IfOk-from_err c.from_residual-in_err-try_clone.result _ c.from_residual-in_err-try_clone.ensures.0
 
-pub returns-in_err-try_clone-2-clause-path : goal.returns-in_err-try_clone-2-clause-path
-returns-in_err-try_clone-2-clause-path g c = IfOk-from_err c.from_residual-in_err-try_clone-2.result _ c.from_residual-in_err-try_clone-2.ensures.0
-
-pub returns-in_err-try_clone-2-clause-store : goal.returns-in_err-try_clone-2-clause-store
-returns-in_err-try_clone-2-clause-store g c = IfOk-from_err c.from_residual-in_err-try_clone-2.result _ c.from_residual-in_err-try_clone-2.ensures.0
-
-pub returns-in_err-try_clone-2-clause-faults : goal.returns-in_err-try_clone-2-clause-faults
-returns-in_err-try_clone-2-clause-faults g c = IfOk-from_err c.from_residual-in_err-try_clone-2.result _ c.from_residual-in_err-try_clone-2.ensures.0
-
 pub returns-clause-path : goal.returns-clause-path
 returns-clause-path g c = rw c.in_ok-path.ensures.ok (c.in_ok-from_str.ensures.ok ∙ c.in-Ok.ensures.cases.0)
 
@@ -101,7 +92,7 @@ pub returns-clause-store : goal.returns-clause-store
 returns-clause-store g c =
     let path : string_bytes (arc_value c.in_ok-path.path) ≡ c.args.dir.now =
     rw c.in_ok-path.ensures.ok (c.in_ok-from_str.ensures.ok ∙ c.in-Ok.ensures.cases.0) in
-    c.new-files.ensures.store ∙ rw (c.in_ok-try_clone-2.ensures, path) refl
+    c.new-files.ensures.store ∙ rw (c.in_ok-try_clone.ensures, path) refl
 
 pub returns-clause-faults : goal.returns-clause-faults
 returns-clause-faults g c = (c.new-3.ensures.faults, c.new-files.ensures.faults)

@@ -22,16 +22,6 @@ returns-in_err-number-in-Ok-clause-same g c = (refl, refl)
 pub returns-in_err-number-in-Ok-clause-cause : goal.returns-in_err-number-in-Ok-clause-cause
 returns-in_err-number-in-Ok-clause-cause g c = silent_cause _
 
-pub returns-in_err-file_type-in-Ok-clause-exact : goal.returns-in_err-file_type-in-Ok-clause-exact
-returns-in_err-file_type-in-Ok-clause-exact g c =
-    IfOk-from_err c.from_residual-in_err-file_type-in-Ok.result _ c.from_residual-in_err-file_type-in-Ok.ensures.0
-
-pub returns-in_err-file_type-in-Ok-clause-same : goal.returns-in_err-file_type-in-Ok-clause-same
-returns-in_err-file_type-in-Ok-clause-same g c = (refl, refl)
-
-pub returns-in_err-file_type-in-Ok-clause-cause : goal.returns-in_err-file_type-in-Ok-clause-cause
-returns-in_err-file_type-in-Ok-clause-cause g c = silent_cause _
-
 pub returns-in_err-push-in-Ok-clause-exact : goal.returns-in_err-push-in-Ok-clause-exact
 returns-in_err-push-in-Ok-clause-exact g c = IfOk-from_err c.from_residual-in_err-push-in-Ok.result _ c.from_residual-in_err-push-in-Ok.ensures.0
 

@@ -8,7 +8,7 @@ use Rattle.fs_outside.proofs.files.FsFilesFiles.list.Goals as goal
 
 pub returns-in_ok-list_of_numbers-in-Ok-clause-exact : goal.returns-in_ok-list_of_numbers-in-Ok-clause-exact
 returns-in_ok-list_of_numbers-in-Ok-clause-exact g c =
-    list_is_exact (g.D.FileDirectory.told (files_directory c.args.self.now))
+    list_is_exact (g.D.FileDirectory.told (files_directory c.args.self.now)) (g.D.FileDirectory.others (files_directory c.args.self.now))
     (plain_numbers c.in_ok-list_of_numbers-in-Ok.field-0.items) c.in-Ok.numbers.items
     c.in-Ok.ensures.exact c.in_ok-list_of_numbers-in-Ok.ensures.exact
 
