@@ -4,7 +4,7 @@ ghost use Rattle.std.specs.Prelude.{IsOk};
 use fs_outside::{StdSink, StdSource};
 use mem_outside::{MemSink, MemSource, SteadySink, SteadySource};
 use std::alloc::{AllocError, Global};
-use std::io;
+use std::io::{self, ErrorKind, Read, Write};
 use tsdb_outside::{Failed, Sink, Source, Steady, StoreFault};
 
 // What a call of a source returns and moves, with room for four bytes.
@@ -143,4 +143,52 @@ fn writes_output(rt: &HostRuntime) -> bool {
 #[test]
 fn sink_writes_and_fails_where_its_writer_takes_nothing(rt: HostRuntime) {
     assert!(rt; fills_three_bytes() && writes_output(&rt));
+}
+
+// A stream whose first calls a signal interrupts; then it gives one byte, or takes all.
+#[derive(Drop)]
+struct Interrupted {
+    left: u32,
+}
+
+impl Interrupted {
+    fn call(&mut self) -> io::Result<()> {
+        if self.left == 0 {
+            return Ok(());
+        }
+        self.left -= 1;
+        Err(io::Error::from(ErrorKind::Interrupted))
+    }
+}
+
+impl Read for Interrupted {
+    fn read(&mut self, buf: &mut [u8]) -> io::Result<usize> {
+        self.call()?;
+        if buf.is_empty() {
+            return Ok(0);
+        }
+        buf[0] = 7;
+        Ok(1)
+    }
+}
+
+impl Write for Interrupted {
+    fn write(&mut self, buf: &[u8]) -> io::Result<usize> {
+        self.call()?;
+        Ok(buf.len())
+    }
+
+    fn flush(&mut self) -> io::Result<()> {
+        Ok(())
+    }
+}
+
+static BEHIND_SIGNALS: [Put; 1] = [(b"ab", Ok(2))];
+
+#[test]
+fn interrupted_calls_of_streams_are_made_again(rt: HostRuntime) {
+    let mut source = StdSource::new(Interrupted { left: 3 });
+    let mut sink = StdSink::new(Interrupted { left: 3 });
+    assert_eq!(rt; take_four(&mut source), (Ok(1), [7, 0, 0, 0]));
+    assert_eq!(rt; wrong_put(&mut sink, &BEHIND_SIGNALS), None);
 }
