@@ -5,6 +5,7 @@
 
 use fs_outside::{FsPlace, StdSink, StdSource};
 use std::alloc::Global;
+use std::io::ErrorKind;
 use std::process::ExitCode;
 use std::rt::Env;
 use std::{env, io};
@@ -12,8 +13,10 @@ use tsdb_run::{Status, Word, run};
 
 /// The words behind the program's name. Words that are no text are a faulty command line.
 fn words<R: Env + Alloc<A = Global>>(rt: &R) -> Result<Vec<Word>, Status> {
-    let Ok(arguments) = env::args(rt) else {
-        return Err(Status::Words);
+    let arguments = match env::args(rt) {
+        Ok(arguments) => arguments,
+        Err(error) if error.kind() == ErrorKind::OutOfMemory => return Err(Status::Memory),
+        Err(_) => return Err(Status::Words),
     };
     let mut words = Vec::new(rt.alloc());
     for argument in arguments.skip(1) {
