@@ -60,7 +60,7 @@ const CROSS_FIRST: Course<'static> = Course {
 };
 
 /// Each of these runs on a store of its own.
-const CASES: [Case<'static>; 9] = [
+const CASES: [Case<'static>; 6] = [
     // A deletion while a compaction is out: the output is as old as its beginning, so the mark of the deletion covers
     // it. The late file lies before all sequence files, so the run of these is empty.
     Case {
@@ -162,56 +162,6 @@ const CASES: [Case<'static>; 9] = [
         listing: "sequence 1 born 2 points 1 from 10 to 10\nsequence 2 born 3 points 1 from 20 to 20\n\
             unsequence 6 born 5 points 2 from 5 to 6\nfrozen 0\nworking 0 0\nmarks 0\n",
     },
-    // Late files that a job has claimed are in no other plan, and end one. A file that is flushed meanwhile stands
-    // behind the output.
-    Case {
-        course: Course {
-            before: &[
-                Create,
-                Put(10, 1),
-                Flush,
-                Put(5, 2),
-                Flush,
-                Put(6, 3),
-                Flush,
-            ],
-            kind: LATE,
-            meanwhile: &[
-                Compact(Kind::Cross),
-                Compact(LATE),
-                Put(7, 4),
-                Flush,
-                Compact(Kind::Cross),
-                Compact(LATE),
-            ],
-            times: [5, 6, 10],
-            ..COURSE
-        },
-        seen: Seen {
-            compacted: Compacted(Job(4, [2, 3, 0, 0], 4), Some(2), COMMITTED),
-            pinned: Some(Rows([Some(2), Some(3), Some(1)], 3)),
-            swept: [Ok(0), Ok(2)],
-            rows: Some(Rows([Some(2), Some(3), Some(1)], 4)),
-        },
-        listing: "sequence 1 born 2 points 1 from 10 to 10\nunsequence 4 born 4 points 2 from 5 to 6\n\
-            unsequence 5 born 5 points 1 from 7 to 7\nfrozen 0\nworking 0 0\nmarks 0\n",
-    },
-    // Deletions before the output is written and behind that are in no output, and are not undone by the commit.
-    Case {
-        course: Course {
-            before: &[Create, Put(1, 1), Flush, Put(2, 2), Flush, Put(3, 3), Flush],
-            meanwhile: &[Delete(1, 1)],
-            written: &[Delete(3, 3)],
-            ..COURSE
-        },
-        seen: Seen {
-            compacted: Compacted(Job(4, [1, 2, 3, 0], 4), Some(3), COMMITTED),
-            pinned: Some(Rows([Some(1), Some(2), Some(3)], 3)),
-            swept: [Ok(0), Ok(3)],
-            rows: Some(Rows([None, Some(2), None], 1)),
-        },
-        listing: "sequence 4 born 4 points 3 from 1 to 3\nfrozen 0\nworking 0 0\nmarks 2\n",
-    },
     // No point survives, so there is no output. The marks go with the last file.
     Case {
         course: Course {
@@ -237,33 +187,6 @@ const CASES: [Case<'static>; 9] = [
         },
         listing: "sequence 3 born 3 points 1 from 5 to 5\nsequence 1 born 2 points 1 from 10 to 10\n\
             unsequence 6 born 5 points 2 from 6 to 7\nunsequence 7 born 6 points 1 from 7 to 7\n\
-            frozen 0\nworking 0 0\nmarks 0\n",
-    },
-    // Two late jobs: the first one has 2 and 3, the second one 5 and 6. The late list is 2, 3, 5, 6, 8, then 4, 5, 6,
-    // 8, and then 4, 7, 8.
-    Case {
-        course: Course {
-            before: &[
-                Create,
-                Put(10, 1),
-                Flush,
-                Put(5, 2),
-                Flush,
-                Put(5, 3),
-                Flush,
-            ],
-            kind: LATE,
-            written: &[Put(7, 6), Flush],
-            ..CROSS_FIRST
-        },
-        seen: Seen {
-            compacted: Compacted(Job(4, [2, 3, 0, 0], 4), Some(1), COMMITTED),
-            pinned: Some(Rows([Some(3), None, Some(1)], 2)),
-            swept: [Ok(2), Ok(2)],
-            rows: Some(Rows([Some(3), Some(6), Some(1)], 4)),
-        },
-        listing: "sequence 1 born 2 points 1 from 10 to 10\nunsequence 4 born 4 points 1 from 5 to 5\n\
-            unsequence 7 born 6 points 2 from 6 to 7\nunsequence 8 born 7 points 1 from 7 to 7\n\
             frozen 0\nworking 0 0\nmarks 0\n",
     },
 ];

@@ -1,11 +1,11 @@
 //! Tests of compactions and pins that are out of a core, with other calls between their beginning and their end, and of
-//! commands that are served on one thread: worked examples, refusals, calls that fail, numbers at their end. Depends on
-//! the crates that it tests.
+//! commands that are served on one thread: worked examples, calls that fail, numbers at their end, bytes that are read.
+//! Depends on the crates that it tests.
 //!
 //! A course is a compaction under a pin, with steps before it, while it is out, and behind it, and maybe a second
 //! compaction that begins while it is out and ends behind it. `calls` and `jobs` are the calls of a core, `course`
-//! leads a core through a course, and `cases` has the courses. `served` is a core that serves commands, `served_cases`
-//! has lists of them, and `small` asks small states beside the plain map.
+//! leads a core through a course, and `cases` has the courses. `served` is a core that serves commands, and
+//! `served_cases` asks it.
 #![tactic(auto)]
 
 #[cfg(test)]
@@ -20,5 +20,3 @@ mod jobs;
 mod served;
 #[cfg(test)]
 mod served_cases;
-#[cfg(test)]
-mod small;

@@ -1,4 +1,4 @@
-//! Lists of commands with the text of each reply. Depends on `served`.
+//! Commands whose replies need files: reads that fail, and how many bytes are read. Depends on `served`.
 use crate::served::{Served, close, new_place, open};
 use mem_outside::{MemFiles, MemJournal};
 use std::alloc::Global;
@@ -7,163 +7,9 @@ use tests_support::command_of;
 use tsdb_model::{Command, Reply};
 use tsdb_print::print_reply;
 
-/// A core with this pair limit, whose next file has this number, and commands with the text of each reply.
-#[derive(Clone, Copy)]
-struct Case {
-    limit: u64,
-    next: u64,
-    steps: &'static [(&'static str, &'static str)],
-}
-
 const CREATE: &str = "create timeseries root.g.d.s with datatype=INT64,encoding=PLAIN";
 
 const SELECT: &str = "select s from root.g.d";
-
-const CASES: &[Case] = &[
-    // A tie at the watermark is late.
-    Case {
-        limit: 10_000,
-        next: 1,
-        steps: &[
-            (CREATE, "ok\n"),
-            ("insert into root.g.d(timestamp,s) values(1,5)", "ok\n"),
-            ("flush", "ok\n"),
-            ("insert into root.g.d(timestamp,s) values(1,6)", "ok\n"),
-            (
-                "show files",
-                "sequence 1 born 2 points 1 from 1 to 1\nfrozen 0\nworking 0 1\nmarks 0\n",
-            ),
-        ],
-    },
-    // A mark stays while an older file is listed. Refusals change nothing.
-    Case {
-        limit: 10_000,
-        next: 1,
-        steps: &[
-            (CREATE, "ok\n"),
-            (CREATE, "exists\n"),
-            ("delete from root.g.d.t where time<=1", "path\n"),
-            ("insert into root.g.d(timestamp,s) values(10,1)", "ok\n"),
-            ("flush", "ok\n"),
-            ("insert into root.g.d(timestamp,s) values(5,2)", "ok\n"),
-            ("flush", "ok\n"),
-            ("delete from root.g.d.s where time=5", "ok\n"),
-            ("flush", "ok\n"),
-            (
-                "show files",
-                "sequence 1 born 2 points 1 from 10 to 10\nunsequence 2 born 3 points 1 from 5 to 5\n\
-                 frozen 0\nworking 0 0\nmarks 1\n",
-            ),
-        ],
-    },
-    // A row that finds two frozen pairs flushes the oldest first.
-    Case {
-        limit: 1,
-        next: 1,
-        steps: &[
-            (CREATE, "ok\n"),
-            ("insert into root.g.d(timestamp,s) values(1,1)", "ok\n"),
-            ("insert into root.g.d(timestamp,s) values(2,1)", "ok\n"),
-            ("insert into root.g.d(timestamp,s) values(3,1)", "ok\n"),
-            ("insert into root.g.d(timestamp,s) values(4,1)", "ok\n"),
-            (
-                "show files",
-                "sequence 1 born 2 points 1 from 1 to 1\nfrozen 2\nworking 1 0\nmarks 0\n",
-            ),
-        ],
-    },
-    // Whatever was flushed, a select answers the last value of a time, with a late point and a delete.
-    Case {
-        limit: 10_000,
-        next: 1,
-        steps: &[
-            (CREATE, "ok\n"),
-            (SELECT, "time,s\nrows 0\n"),
-            ("insert into root.g.d(timestamp,s) values(10,1)", "ok\n"),
-            (SELECT, "time,s\n10,1\nrows 1\n"),
-            ("flush", "ok\n"),
-            (SELECT, "time,s\n10,1\nrows 1\n"),
-            ("insert into root.g.d(timestamp,s) values(5,2)", "ok\n"),
-            ("insert into root.g.d(timestamp,s) values(10,3)", "ok\n"),
-            (SELECT, "time,s\n5,2\n10,3\nrows 2\n"),
-            ("flush", "ok\n"),
-            (SELECT, "time,s\n5,2\n10,3\nrows 2\n"),
-            ("delete from root.g.d.s where time=5", "ok\n"),
-            (SELECT, "time,s\n10,3\nrows 1\n"),
-            ("select x from root.g.d", "path\n"),
-            (
-                "select count(s),max_value(s) from root.g.d",
-                "count(s),max_value(s)\n1,3\n",
-            ),
-            (
-                "select count(s) from root.g.d where time<10",
-                "count(s)\n0\n",
-            ),
-        ],
-    },
-    // An inner compaction leaves what survives. One without a plan changes nothing.
-    Case {
-        limit: 10_000,
-        next: 1,
-        steps: &[
-            ("compact inner sequence", "ok\n"),
-            (CREATE, "ok\n"),
-            ("insert into root.g.d(timestamp,s) values(10,1)", "ok\n"),
-            ("flush", "ok\n"),
-            ("compact inner unsequence", "ok\n"),
-            ("insert into root.g.d(timestamp,s) values(20,1)", "ok\n"),
-            ("flush", "ok\n"),
-            ("insert into root.g.d(timestamp,s) values(15,1)", "ok\n"),
-            ("flush", "ok\n"),
-            ("delete from root.g.d.s where time=20", "ok\n"),
-            ("compact inner sequence", "ok\n"),
-            (SELECT, "time,s\n10,1\n15,1\nrows 2\n"),
-            (
-                "show files",
-                "sequence 4 born 5 points 1 from 10 to 10\nunsequence 3 born 4 points 1 from 15 to 15\n\
-                 frozen 0\nworking 0 0\nmarks 1\n",
-            ),
-        ],
-    },
-    // A cross compaction whose run of sequence files is empty puts its output between two files.
-    Case {
-        limit: 10_000,
-        next: 1,
-        steps: &[
-            (CREATE, "ok\n"),
-            (
-                "create timeseries root.g.e.s with datatype=INT64,encoding=PLAIN",
-                "ok\n",
-            ),
-            ("insert into root.g.d(timestamp,s) values(10,1)", "ok\n"),
-            ("insert into root.g.e(timestamp,s) values(100,1)", "ok\n"),
-            ("flush", "ok\n"),
-            ("insert into root.g.d(timestamp,s) values(30,1)", "ok\n"),
-            ("insert into root.g.e(timestamp,s) values(200,1)", "ok\n"),
-            ("flush", "ok\n"),
-            ("insert into root.g.d(timestamp,s) values(20,1)", "ok\n"),
-            ("flush", "ok\n"),
-            ("compact cross", "ok\n"),
-            (
-                "show files",
-                "sequence 1 born 4 points 2 from 10 to 100\nsequence 4 born 7 points 1 from 20 to 20\n\
-                 sequence 2 born 6 points 2 from 30 to 200\nfrozen 0\nworking 0 0\nmarks 0\n",
-            ),
-            (SELECT, "time,s\n10,1\n20,1\n30,1\nrows 3\n"),
-        ],
-    },
-    // No number is left for a file: the pair stays frozen.
-    Case {
-        limit: 10_000,
-        next: 9_223_372_036_854_775_808,
-        steps: &[
-            (CREATE, "ok\n"),
-            ("insert into root.g.d(timestamp,s) values(1,5)", "ok\n"),
-            ("flush", "full\n"),
-            ("show files", "frozen 1\nworking 0 0\nmarks 0\n"),
-        ],
-    },
-];
 
 /// The reply to the command of a line, with the command.
 fn take(
@@ -174,38 +20,6 @@ fn take(
     let command = command_of(alloc, line)?;
     let reply = served.serve(alloc, &command);
     Ok((command, reply))
-}
-
-/// The first step whose reply has another text.
-fn first_wrong(
-    alloc: Global,
-    served: &mut Served<MemJournal, MemFiles>,
-    steps: &[(&'static str, &'static str)],
-) -> Result<Option<usize>, Fail> {
-    for (at, (line, text)) in steps.iter().enumerate() {
-        let (command, reply) = take(alloc, served, line)?;
-        if print_reply(alloc, &command, &reply)?.as_slice() != text.as_bytes() {
-            return Ok(Some(at));
-        }
-    }
-    Ok(None)
-}
-
-/// The first wrong step of a case.
-fn run(alloc: Global, case: &Case) -> Result<Option<usize>, Fail> {
-    let mut place = new_place(alloc, &[], &[])?;
-    let mut served = open(alloc, &mut place, case.limit, case.next)?;
-    let wrong = first_wrong(alloc, &mut served, case.steps);
-    close(&mut place, served);
-    wrong
-}
-
-#[test]
-fn cases(rt: HostRuntime) -> Result<(), Fail> {
-    for (number, case) in CASES.iter().enumerate() {
-        assert_eq!(rt; (number, run(rt.alloc(), case)?), (number, None));
-    }
-    Ok(())
 }
 
 /// What a query answers while a call on the files fails.
@@ -236,9 +50,7 @@ fn answered_twice(
     alloc: Global,
     served: &mut Served<MemJournal, MemFiles>,
 ) -> Result<(Answered, Answered), Fail> {
-    for line in [CREATE, POINT, "flush"] {
-        take(alloc, served, line)?;
-    }
+    take_all(alloc, served, &[CREATE, POINT, "flush"])?;
     let first = query_point(alloc, served)?;
     let second = query_point(alloc, served)?;
     Ok((first, second))
@@ -269,18 +81,43 @@ fn failing_reads(rt: HostRuntime) -> Result<(), Fail> {
     Ok(())
 }
 
-/// Inserts points at the times from 1, and flushes them.
-fn flush_many(
+/// Creates a series of `root.g.d`.
+fn create(
     alloc: Global,
     served: &mut Served<MemJournal, MemFiles>,
-    count: u64,
+    name: &str,
 ) -> Result<(), Fail> {
-    take(alloc, served, CREATE)?;
-    for time in 1..=count {
-        let line = format!(in alloc; "insert into root.g.d(timestamp,s) values({time},1)")?;
+    let line = format!(in alloc;
+        "create timeseries root.g.d.{name} with datatype=INT64,encoding=PLAIN"
+    )?;
+    take(alloc, served, &line)?;
+    Ok(())
+}
+
+/// Inserts a point of a series at each time from the first to the last.
+fn insert(
+    alloc: Global,
+    served: &mut Served<MemJournal, MemFiles>,
+    name: &str,
+    first: u64,
+    last: u64,
+) -> Result<(), Fail> {
+    for time in first..=last {
+        let line = format!(in alloc; "insert into root.g.d(timestamp,{name}) values({time},1)")?;
         take(alloc, served, &line)?;
     }
-    take(alloc, served, "flush")?;
+    Ok(())
+}
+
+/// Takes lines, whatever their replies.
+fn take_all(
+    alloc: Global,
+    served: &mut Served<MemJournal, MemFiles>,
+    lines: &[&str],
+) -> Result<(), Fail> {
+    for line in lines {
+        take(alloc, served, line)?;
+    }
     Ok(())
 }
 
@@ -290,7 +127,9 @@ fn select_one(
     served: &mut Served<MemJournal, MemFiles>,
     count: u64,
 ) -> Result<bool, Fail> {
-    flush_many(alloc, served, count)?;
+    create(alloc, served, "s")?;
+    insert(alloc, served, "s", 1, count)?;
+    take(alloc, served, "flush")?;
     let one = "select s from root.g.d where time=50";
     let (command, reply) = take(alloc, served, one)?;
     let text = print_reply(alloc, &command, &reply)?;
@@ -307,5 +146,72 @@ fn one_time_of_many(rt: HostRuntime) -> Result<(), Fail> {
     close(&mut place, served);
     assert!(rt; is_right?);
     assert!(rt; 0 < bytes && bytes < 20_000);
+    Ok(())
+}
+
+/// The names of a series in the index: `root.g.d` and `a`, each behind its length in two bytes.
+const NAMES: u64 = 2 + 8 + 2 + 1;
+
+/// Statistics of INT64: the count, the first and the last time, and four values.
+const STATISTICS: u64 = 7 * 8;
+
+/// A page in the index: its place and its statistics.
+const PAGE: u64 = 8 + STATISTICS;
+
+/// A series of one page in the index: names, type, encoding and place, and the statistics of all points and of the
+/// page.
+const SERIES: u64 = NAMES + 1 + 1 + 8 + STATISTICS + 4 + PAGE;
+
+/// What is read of the index of two series of one page each: the tail, the head of 7 bytes, the root with its one
+/// pointer, and the leaf.
+const INDEX: u64 = (8 + 6) + 7 + (1 + 4 + NAMES + 8) + (1 + 2 + 2 * SERIES);
+
+/// A page of 1,000 points in PLAIN at times that rise by 1 from 1. Its end is where the next one begins.
+const WHOLE: u64 = 1 + 4 + 4 + (2 + 1 + 1 + 1) + (2 + 1000 * 8);
+
+/// What is read of the last page of a series, whose end the index does not say: 24 bytes for each point, and 64.
+const LAST_OF_ONE: u64 = 24 + 64;
+
+const LAST_OF_THREE: u64 = 3 * 24 + 64;
+
+/// Flushes two files of two series, and deletes all their points.
+fn fill(alloc: Global, served: &mut Served<MemJournal, MemFiles>) -> Result<(), Fail> {
+    create(alloc, served, "a")?;
+    create(alloc, served, "b")?;
+    insert(alloc, served, "a", 1, 1_001)?;
+    insert(alloc, served, "b", 5, 5)?;
+    take(alloc, served, "flush")?;
+    insert(alloc, served, "a", 1_002, 1_004)?;
+    insert(alloc, served, "b", 1_005, 1_005)?;
+    let rest = ["flush", "delete from root.g.d.a", "delete from root.g.d.b"];
+    take_all(alloc, served, &rest)
+}
+
+/// How many bytes the compaction of these files reads, and the printed files behind it.
+fn read_by_compaction(
+    alloc: Global,
+    served: &mut Served<MemJournal, MemFiles>,
+) -> Result<(u64, Vec<u8>), Fail> {
+    fill(alloc, served)?;
+    let before = served.bytes_read();
+    take(alloc, served, "compact inner sequence")?;
+    let bytes = served.bytes_read().saturating_sub(before);
+    let (command, reply) = take(alloc, served, "show files")?;
+    Ok((bytes, print_reply(alloc, &command, &reply)?))
+}
+
+/// The index of an input is read once for both of its series, and each page once. No point is left, so no output is
+/// written.
+#[test]
+fn the_index_of_an_input_is_read_once(rt: HostRuntime) -> Result<(), Fail> {
+    let older = INDEX + PAGE + WHOLE + 2 * LAST_OF_ONE;
+    let newer = INDEX + LAST_OF_THREE + LAST_OF_ONE;
+    let mut place = new_place(rt.alloc(), &[], &[])?;
+    let mut served = open(rt.alloc(), &mut place, 1_000_000, 1)?;
+    let read = read_by_compaction(rt.alloc(), &mut served);
+    close(&mut place, served);
+    let (bytes, files) = read?;
+    assert_eq!(rt; bytes, older + newer);
+    assert!(rt; files.as_slice() == "frozen 0\nworking 0 0\nmarks 0\n".as_bytes());
     Ok(())
 }
