@@ -44,14 +44,14 @@ fn failures<J: Journal, F: Files>(
 }
 
 /// Whether some step fails while these calls fail, all come as they should the second time, and a stop at the end
-/// leaves the world.
+/// leaves all records.
 fn is_right(alloc: Global, journal: &[u64], files: &[u64]) -> Result<bool, Fail> {
     let mut place = place_that_fails(alloc, journal, files)?;
     let mut core = open_stored(alloc, &mut place, LIMIT, 1)?;
     let count = failures(alloc, &mut core, STEPS);
     close_stored(&mut place, core);
     let last = place.moments().saturating_sub(1);
-    Ok(count?.is_some_and(|count| count > 0) && leaves(alloc, &place, last, &[LAST])?)
+    Ok(count?.is_some_and(|count| count > 0) && leaves(alloc, &place, last, LAST, LAST)?)
 }
 
 /// The first call of the journal, and of the files, at whose failure something is not as it should be.

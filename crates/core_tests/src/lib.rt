@@ -1,9 +1,8 @@
-//! Tests of the core, of what it holds in memory and of the files that it keeps: answers and counts, limits of a pair
-//! at their edges, flushes with their listings, calls of the journal and of the files that fail, and what a stop at
-//! each moment leaves, as a plain slow replay reads it. Depends on `tsdb_core`, `tsdb_memory` and `tsdb_fileset`, and
-//! for what these are given and leave on `tsdb_base`, `tsdb_path`, `tsdb_model`, `tsdb_outside`, `mem_outside`,
-//! `tsdb_frames`, `tsdb_log`, `tsdb_index`, `tsfile_reader`, `tsdb_plan`, `tsdb_flush`, `tsdb_print` and
-//! `tests_support`. The specs and proofs speak of `tsdb_state` and `tsdb_tasks` too.
+//! Tests of the core: answers and counts, limits of a pair at their edges, flushes with their listings, calls of the
+//! journal and of the files that fail, and what a stop at each moment leaves of the log. Depends on `tsdb_core`,
+//! `tsdb_memory` and `tsdb_fileset`, and for what these are given and leave on `tsdb_base`, `tsdb_path`, `tsdb_model`,
+//! `tsdb_outside`, `mem_outside`, `tsdb_frames`, `tsdb_log`, `tsdb_flush`, `tsdb_print` and `tests_support`. The specs
+//! and proofs speak of `tsdb_state` and `tsdb_tasks` too.
 #![tactic(auto)]
 
 #[cfg(test)]
@@ -17,19 +16,11 @@ mod failing;
 #[cfg(test)]
 mod flushes;
 #[cfg(test)]
-mod keeping;
-#[cfg(test)]
-mod memory;
-#[cfg(test)]
 mod places;
-#[cfg(test)]
-mod replay;
 #[cfg(test)]
 mod room;
 #[cfg(test)]
 mod rows;
-#[cfg(test)]
-mod slow_state;
 #[cfg(test)]
 mod stops;
 #[cfg(test)]

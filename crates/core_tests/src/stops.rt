@@ -1,67 +1,42 @@
-//! Each moment of each step of a list stopped in each way: what is left stands for the world before the step or after
-//! it. Depends on `stored` and `replay`.
+//! Each moment of each step of a list stopped in each way: the records that are left are those before the step, or
+//! those behind it, or some between. Depends on `stored`.
 use crate::cases::{DONE, FLUSH, FREEZE, OK};
 use crate::places::place_of;
-use crate::replay::{World, replayed};
 use crate::stored::{Came, Step, Stored, close_stored, open_stored};
 use mem_outside::{MemPlace, StopKind};
 use std::alloc::Global;
 use std::test::Fail;
-use tsdb_outside::{Files, Journal};
+use tsdb_frames::{Frame, Frames};
+use tsdb_outside::{Files, Journal, Place, Slot};
 
 /// The most points of a pair.
 pub const LIMIT: u64 = 2;
 
-/// A step, what comes of it, and the world behind it.
-pub type Row = (Step, Came, World);
-
-/// The world of a new store.
-const EMPTY: World = [[0, 0, 0], [0, 0, 0]];
+/// A step, what comes of it, and how many records the log has behind it.
+pub type Row = (Step, Came, usize);
 
 /// Steps that all change something: files of one part and of two, a flush that is given up, a mark over a file, and a
 /// row that freezes the pair before it.
 pub const STEPS: &[Row] = &[
-    (Step::Ask("Cs"), OK, EMPTY),
-    (Step::Ask("Ct"), OK, EMPTY),
-    (Step::Write("I2s", 3), OK, [[0, 3, 0], [0, 0, 0]]),
-    (FREEZE, OK, [[0, 3, 0], [0, 0, 0]]),
-    (FLUSH, DONE, [[0, 3, 0], [0, 0, 0]]),
-    (Step::Write("I1s", 8), OK, [[8, 3, 0], [0, 0, 0]]),
-    (Step::Write("I3t", 9), OK, [[8, 3, 0], [0, 0, 9]]),
-    (Step::Write("I3s", 10), OK, [[8, 3, 10], [0, 0, 9]]),
-    (Step::Ask("D12s"), OK, [[0, 0, 10], [0, 0, 9]]),
-    (FREEZE, OK, [[0, 0, 10], [0, 0, 9]]),
-    (Step::GiveUp, Came::Ended(None), [[0, 0, 10], [0, 0, 9]]),
-    (Step::Sweep, Came::Swept(Ok(2)), [[0, 0, 10], [0, 0, 9]]),
-    (FLUSH, DONE, [[0, 0, 10], [0, 0, 9]]),
-    (FLUSH, DONE, [[0, 0, 10], [0, 0, 9]]),
+    (Step::Ask("Cs"), OK, 1),
+    (Step::Ask("Ct"), OK, 2),
+    (Step::Write("I2s", 3), OK, 3),
+    (FREEZE, OK, 4),
+    (FLUSH, DONE, 5),
+    (Step::Write("I1s", 8), OK, 6),
+    (Step::Write("I3t", 9), OK, 7),
+    (Step::Write("I3s", 10), OK, 9),
+    (Step::Ask("D12s"), OK, 10),
+    (FREEZE, OK, 11),
+    (Step::GiveUp, Came::Ended(None), 11),
+    (Step::Sweep, Came::Swept(Ok(2)), 11),
+    (FLUSH, DONE, 12),
+    (FLUSH, DONE, 13),
     (Step::Ask("D13t"), OK, LAST),
 ];
 
-/// The world behind these steps.
-pub const LAST: World = [[0, 0, 10], [0, 0, 0]];
-
-/// A tie at the watermark goes to the unsequence part, and wins.
-const TIE: &[Row] = &[
-    (Step::Ask("Cs"), OK, EMPTY),
-    (Step::Write("I1s", 5), OK, [[5, 0, 0], [0, 0, 0]]),
-    (FREEZE, OK, [[5, 0, 0], [0, 0, 0]]),
-    (FLUSH, DONE, [[5, 0, 0], [0, 0, 0]]),
-    (Step::Write("I1s", 6), OK, [[6, 0, 0], [0, 0, 0]]),
-];
-
-/// A deletion between a flush and a late point, and one behind both.
-const DELETED: &[Row] = &[
-    (Step::Ask("Cs"), OK, EMPTY),
-    (Step::Write("I1s", 5), OK, [[5, 0, 0], [0, 0, 0]]),
-    (FREEZE, OK, [[5, 0, 0], [0, 0, 0]]),
-    (FLUSH, DONE, [[5, 0, 0], [0, 0, 0]]),
-    (Step::Ask("D01s"), OK, EMPTY),
-    (Step::Write("I1s", 6), OK, [[6, 0, 0], [0, 0, 0]]),
-    (FREEZE, OK, [[6, 0, 0], [0, 0, 0]]),
-    (FLUSH, DONE, [[6, 0, 0], [0, 0, 0]]),
-    (Step::Ask("D01s"), OK, EMPTY),
-];
+/// How many records the log has behind these steps.
+pub const LAST: usize = 14;
 
 const KINDS: [StopKind; 3] = [StopKind::Written, StopKind::Unwritten, StopKind::Scrambled];
 
@@ -89,47 +64,79 @@ fn led_through(alloc: Global, rows: &[Row], count: usize) -> Result<Option<MemPl
     Ok(came?.then_some(place))
 }
 
-/// Whether a stop at this moment, of each kind, leaves one of the worlds.
+/// The records of the log that a stop leaves, where it can be read.
+fn left_by(
+    alloc: Global,
+    place: &MemPlace,
+    moment: u64,
+    kind: StopKind,
+) -> Result<Option<Vec<Frame>>, Fail> {
+    if place.moments() == 0 {
+        return Ok(None);
+    }
+    let mut left = place.after_stop(moment, kind)?;
+    let (journal, _files) = left.take_up(b"d")?;
+    let Ok((_, records)) = Frames::scan(alloc, journal, Slot::A) else {
+        return Ok(None);
+    };
+    Ok(Some(records))
+}
+
+/// Whether these are the first of the records.
+fn are_first(left: &[Frame], records: &[Frame]) -> bool {
+    for (place, frame) in left.iter().enumerate() {
+        match records.get(place) {
+            Some(record) if record.payload.items() == frame.payload.items() => (),
+            _ => return false,
+        }
+    }
+    true
+}
+
+/// Whether a stop at this moment, of each kind, leaves the first of the records that the log has at last, from the
+/// least number of them to the most.
 pub fn leaves(
     alloc: Global,
     place: &MemPlace,
     moment: u64,
-    worlds: &[World],
+    least: usize,
+    most: usize,
 ) -> Result<bool, Fail> {
-    if place.moments() == 0 {
+    let last = place.moments().saturating_sub(1);
+    let Some(records) = left_by(alloc, place, last, StopKind::Written)? else {
         return Ok(false);
-    }
+    };
     for kind in &KINDS {
-        let mut left = place.after_stop(moment, *kind)?;
-        match replayed(alloc, &mut left)? {
-            Some(world) if worlds.contains(&world) => (),
+        match left_by(alloc, place, moment, *kind)? {
+            Some(left) if least <= left.len() && left.len() <= most && are_first(&left, &records) =>
+                (),
             _ => return Ok(false),
         }
     }
     Ok(true)
 }
 
-/// The first moment from this one on at which a stop leaves neither of the worlds, or the last, if a stop leaves the
-/// world before the step there.
+/// The first moment from this one on at which a stop leaves fewer records than before the step or more than behind it,
+/// or the last, if a stop leaves other ones than those behind the step there.
 fn first_other(
     alloc: Global,
     place: &MemPlace,
     from: u64,
-    before: World,
-    after: World,
+    before: usize,
+    after: usize,
 ) -> Result<Option<u64>, Fail> {
     let last = place.moments().saturating_sub(1);
     for moment in from..last {
-        if !leaves(alloc, place, moment, &[before, after])? {
+        if !leaves(alloc, place, moment, before, after)? {
             return Ok(Some(moment));
         }
     }
-    Ok((!leaves(alloc, place, last, &[after])?).then_some(last))
+    Ok((!leaves(alloc, place, last, after, after)?).then_some(last))
 }
 
 /// The first step, counted from 1, in which a stop leaves what it should not, with the moment of the stop.
 fn first_wrong_step(alloc: Global, rows: &[Row]) -> Result<Option<(usize, u64)>, Fail> {
-    let mut before = EMPTY;
+    let mut before = 0;
     let mut from = 0u64;
     for (at, (_, _, after)) in rows.iter().enumerate() {
         let count = at.saturating_add(1);
@@ -147,12 +154,10 @@ fn first_wrong_step(alloc: Global, rows: &[Row]) -> Result<Option<(usize, u64)>,
 
 #[test]
 fn stops_at_each_moment(rt: HostRuntime) -> Result<(), Fail> {
-    for (place, rows) in [STEPS, TIE, DELETED].iter().enumerate() {
-        assert_eq!(&rt;
-            first_wrong_step(rt.alloc(), rows)?,
-            None,
-            "the step and moment of list {place}"
-        );
-    }
+    assert_eq!(&rt;
+        first_wrong_step(rt.alloc(), STEPS)?,
+        None,
+        "the step and its moment"
+    );
     Ok(())
 }
