@@ -175,36 +175,16 @@ fn worked_file(rt: HostRuntime) {
 /// A pair of type and encoding, and how many points each page of three series has.
 type Case = (DataType, Encoding, [&'static [u16]; 3]);
 
-static CASES: [Case; 10] = [
-    (
-        DataType::Boolean,
-        Encoding::Plain,
-        [&[1], &[1000], &[1000, 1]],
-    ),
+static CASES: [Case; 2] = [
     (
         DataType::Boolean,
         Encoding::Rle,
         [&[1000, 1000], &[1000, 1000, 1], &[1]],
     ),
-    (DataType::Int32, Encoding::Plain, [&[999], &[2], &[1000]]),
-    (DataType::Int32, Encoding::Rle, [&[1000, 1], &[1], &[1000]]),
-    (DataType::Int32, Encoding::Ts2diff, [&[1], &[1000, 1], &[3]]),
-    (
-        DataType::Int64,
-        Encoding::Plain,
-        [&[1000, 1], &[1000], &[1]],
-    ),
-    (DataType::Int64, Encoding::Rle, [&[3], &[1000, 1], &[1000]]),
-    (
-        DataType::Int64,
-        Encoding::Ts2diff,
-        [&[1000], &[1000, 1], &[1]],
-    ),
-    (DataType::Text, Encoding::Plain, [&[1], &[1000, 1], &[2]]),
     (
         DataType::Text,
         Encoding::Dictionary,
-        [&[1000, 1], &[1000], &[1]],
+        [&[1000, 1], &[999], &[1]],
     ),
 ];
 

@@ -1,8 +1,7 @@
 //! Tests of tsdb_fields. Depends on `samples`.
 
-use super::samples::{Row, expect_none, first_wrong, five, push, text};
+use super::samples::{five, push, text};
 use std::alloc::Global;
-use std::test::Fail;
 use tsdb_base::{DataType, Encoding, PlainValue, Stats, Value};
 use tsdb_fields::{
     FieldFault, Rest, read_field, read_name, read_path, read_stats, read_value, write_name,
@@ -13,11 +12,6 @@ use tsdb_path::{Name, Path};
 /// These bytes, of which the first stands at 70.
 fn rest(bytes: &[u8]) -> Rest<'_> {
     Rest { at: 70, bytes }
-}
-
-/// Whether the field is bad at its first byte.
-fn is_bad<T: Drop>(outcome: Result<T, FieldFault>) -> bool {
-    matches!(outcome, Err(FieldFault::Bad { at: 70 }))
 }
 
 #[derive(Clone, Copy)]
@@ -192,60 +186,4 @@ fn statistics_of_texts(rt: HostRuntime) {
     let alloc = rt.alloc();
     let texts = [Field::Texts];
     assert!(rt; are_written(alloc, &texts, &TEXTS) && are_read(alloc, &texts, &TEXTS));
-}
-
-#[derive(Clone, Copy)]
-enum Kind {
-    Path,
-    Name,
-    Boolean,
-    Number,
-    Type,
-    Encoding,
-    Stats,
-}
-
-/// Whether these bytes begin with no field of the kind.
-fn is_refused(alloc: Global, kind: Kind, bytes: &[u8]) -> bool {
-    let field = rest(bytes);
-    match kind {
-        Kind::Path => is_bad(read_path(alloc, field)),
-        Kind::Name => is_bad(read_name(alloc, field)),
-        Kind::Boolean => is_bad(read_value(alloc, DataType::Boolean, field)),
-        Kind::Number => is_bad(read_field::<u64>(alloc, field)),
-        Kind::Type => is_bad(read_field::<DataType>(alloc, field)),
-        Kind::Encoding => is_bad(read_field::<Encoding>(alloc, field)),
-        Kind::Stats => is_bad(read_stats(alloc, DataType::Int64, field)),
-    }
-}
-
-/// Bytes that begin with no field of a kind.
-#[derive(Clone, Copy)]
-struct NoField(Kind, &'static [u8]);
-
-impl Row for NoField {
-    fn is_right(&self, alloc: Global) -> bool {
-        is_refused(alloc, self.0, self.1)
-    }
-}
-
-const REFUSED: &[NoField] = &[
-    NoField(Kind::Path, b""),
-    NoField(Kind::Path, b"\x00\x00"),
-    NoField(Kind::Path, b"\x00\x04roo"),
-    NoField(Kind::Path, b"\x00\x04roo."),
-    NoField(Kind::Name, b"\x00"),
-    NoField(Kind::Name, b"\x00\x00"),
-    NoField(Kind::Name, b"\x00\x04roo"),
-    NoField(Kind::Name, b"\x00\x04roo."),
-    NoField(Kind::Boolean, &[2]),
-    NoField(Kind::Number, &[0; 7]),
-    NoField(Kind::Type, &[3]),
-    NoField(Kind::Encoding, &[3]),
-    NoField(Kind::Stats, &[0; 55]),
-];
-
-#[test]
-fn refused_fields(rt: HostRuntime) -> Result<(), Fail> {
-    expect_none(first_wrong(rt.alloc(), REFUSED))
 }

@@ -1,6 +1,5 @@
-//! Tests of `find_entry`: names at the ends of leaves and names that no series has, how much of a large index is read,
-//! leaves that are not read, faults of the port, and damage. Depends on tsfile_reader, tsdb_index, tsdb_outside,
-//! tsdb_path and tsdb_base.
+//! Tests of `find_entry`: how much of a large index is read, and calls of the port that fail. Depends on tsfile_reader,
+//! tsdb_index, tsdb_outside, tsdb_path and tsdb_base.
 
 use super::built::file_of;
 use super::reader::{Call, NO_CALL, meta_of, port_failing_at, read_bytes};
@@ -16,67 +15,6 @@ use tsfile_reader::{ReadFault, find_entry};
 /// The most bytes of a file that a look-up may read.
 const MOST_READ: u64 = 100_000;
 
-/// How many bytes a pointer of the root has: `root.g.d`, a name of four bytes, and a place.
-const POINTER: usize = 24;
-
-/// The place that stands in the eight bytes from here on, or the greatest one where they are not there.
-fn place_at(bytes: &[u8], at: usize) -> u64 {
-    match bytes.get(at..) {
-        Some([a, b, c, d, e, f, g, h, ..]) => {
-            u64::from_be_bytes([*a, *b, *c, *d, *e, *f, *g, *h])
-        }
-        _ => u64::MAX,
-    }
-}
-
-/// The place of the root.
-fn root_of(bytes: &[u8]) -> usize {
-    place_at(bytes, bytes.len().saturating_sub(14)) as usize
-}
-
-/// The place of the leaf with this number, as the root says.
-fn leaf_of(bytes: &[u8], number: usize) -> usize {
-    let pointer = number.wrapping_mul(POINTER).wrapping_add(5 + 16);
-    place_at(bytes, root_of(bytes).wrapping_add(pointer)) as usize
-}
-
-/// A part of the file.
-#[derive(Clone, Copy)]
-enum Part {
-    Head,
-    /// The first byte of the first group.
-    Group,
-    Leaf(usize),
-    Root,
-    /// The order of the root's pointers: the place of the first leaf.
-    FirstPlace,
-    Tail,
-}
-
-impl Part {
-    /// The place of its byte that is spoiled.
-    fn spot(self, bytes: &[u8]) -> usize {
-        match self {
-            Part::Head => 3,
-            Part::Group => 7,
-            Part::Leaf(number) => leaf_of(bytes, number),
-            Part::Root => root_of(bytes),
-            Part::FirstPlace => root_of(bytes).wrapping_add(5 + 16),
-            Part::Tail => bytes.len().saturating_sub(1),
-        }
-    }
-
-    /// The place at which it is blamed.
-    fn place(self, bytes: &[u8]) -> usize {
-        match self {
-            Part::Head => 0,
-            Part::FirstPlace => root_of(bytes),
-            Part::Tail => bytes.len().saturating_sub(14),
-            part => part.spot(bytes),
-        }
-    }
-}
-
 /// What is asked of a file, and what has to come of it.
 #[derive(Clone, Copy)]
 enum Row {
@@ -85,24 +23,9 @@ enum Row {
     /// The series of this device and measurement has the entry with this number in the index, or none, and less than
     /// 100 kB of the file is read to find it.
     Series(&'static str, &'static str, Option<usize>),
-    /// A bit of this part is changed. Where this measurement of `root.g.d` is looked up, this part is blamed, or none.
-    Spoiled(Part, &'static str, Option<Part>),
     /// Looking `s300` of `root.g.d` up fails where this call of the port does, or not.
     Calls(u64, bool),
 }
-
-/// The first and the last entry of a leaf, and names before, between and behind.
-static ROWS: [Row; 9] = [
-    Row::Series("root.g.d", "s000", Some(0)),
-    Row::Series("root.g.d", "s255", Some(255)),
-    Row::Series("root.g.d", "s256", Some(256)),
-    Row::Series("root.g.d", "s599", Some(599)),
-    Row::Series("root.g.d", "s", None),
-    Row::Series("root.g.d", "s2555", None),
-    Row::Series("root.g.d", "t", None),
-    Row::Series("root.g", "s256", None),
-    Row::Series("root.g.e", "a", None),
-];
 
 /// The index of 10,000 series has over 2 MB. The first of them, one in the middle, the last, and a name between.
 static FEW_OF_MANY: [Row; 5] = [
@@ -113,18 +36,8 @@ static FEW_OF_MANY: [Row; 5] = [
     Row::Series(LONG_DEVICE, "s150000", None),
 ];
 
-/// Groups and the other leaves are not read. A name before all leaves needs none. The port makes a call for the file,
-/// its length, the tail, the head, the root and the leaf.
-static SPOILED: [Row; 16] = [
-    Row::Spoiled(Part::Head, "s300", Some(Part::Head)),
-    Row::Spoiled(Part::Tail, "s300", Some(Part::Tail)),
-    Row::Spoiled(Part::Root, "s300", Some(Part::Root)),
-    Row::Spoiled(Part::FirstPlace, "s300", Some(Part::FirstPlace)),
-    Row::Spoiled(Part::Group, "s300", None),
-    Row::Spoiled(Part::Leaf(0), "s300", None),
-    Row::Spoiled(Part::Leaf(2), "s300", None),
-    Row::Spoiled(Part::Leaf(1), "s300", Some(Part::Leaf(1))),
-    Row::Spoiled(Part::Leaf(0), "r", None),
+/// The port makes a call for the file, its length, the tail, the head, the root and the leaf.
+static FAILING: [Row; 7] = [
     Row::Calls(1, true),
     Row::Calls(2, true),
     Row::Calls(3, true),
@@ -229,25 +142,6 @@ fn is_series(
     is_found(&look_up, entries, number)
 }
 
-/// These bytes with a bit of the byte at this place changed, or none where memory ran out.
-fn changed(alloc: Global, bytes: &[u8], place: usize) -> Vec<u8> {
-    let mut changed = Vec::new(alloc);
-    let _ = changed.extend_from_slice(bytes);
-    if let Some(byte) = changed.get_mut(place) {
-        *byte ^= 1;
-    }
-    changed
-}
-
-/// Whether looking this measurement of `root.g.d` up blames a part, or none, where a bit of another is changed.
-fn is_blamed(alloc: Global, bytes: &[u8], part: Part, name: &str, blamed: Option<Part>) -> bool {
-    let changed = changed(alloc, bytes, part.spot(bytes));
-    let wanted = blamed.map(|part| ReadFault::Damaged {
-        at: part.place(bytes) as u64,
-    });
-    fault_of(alloc, &changed, name, NO_CALL) == wanted
-}
-
 /// Whether what comes of it is as the row says, in a file with these entries in its index.
 fn is_right(alloc: Global, bytes: &[u8], entries: &[IndexEntry], row: Row) -> bool {
     match row {
@@ -255,7 +149,6 @@ fn is_right(alloc: Global, bytes: &[u8], entries: &[IndexEntry], row: Row) -> bo
         Row::Series(device, measurement, number) => {
             is_series(alloc, bytes, entries, (device, measurement), number)
         }
-        Row::Spoiled(part, name, blamed) => is_blamed(alloc, bytes, part, name, blamed),
         Row::Calls(number, fails) => {
             let fault = fault_of(alloc, bytes, "s300", number);
             (fault == Some(ReadFault::Failed)) == fails
@@ -307,11 +200,6 @@ fn wrong_row(alloc: Global, numbered: Numbered, rows: &[Row]) -> Option<usize> {
     }
 }
 
-#[test]
-fn each_series_is_found(rt: HostRuntime) -> Result<(), Fail> {
-    expect_none(wrong_row(rt.alloc(), SMALL, &ROWS))
-}
-
 /// Looking up one of 10,000 series reads under 100 kB.
 #[test]
 fn one_of_many_series(rt: HostRuntime) -> Result<(), Fail> {
@@ -319,6 +207,6 @@ fn one_of_many_series(rt: HostRuntime) -> Result<(), Fail> {
 }
 
 #[test]
-fn parts_that_are_read(rt: HostRuntime) -> Result<(), Fail> {
-    expect_none(wrong_row(rt.alloc(), SMALL, &SPOILED))
+fn calls_that_fail(rt: HostRuntime) -> Result<(), Fail> {
+    expect_none(wrong_row(rt.alloc(), SMALL, &FAILING))
 }

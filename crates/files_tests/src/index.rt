@@ -111,8 +111,6 @@ enum Asked {
     IsTooFar,
     /// So many entries take so many leaves, and are read as they were written.
     HasLeaves(u16, u8),
-    /// Its leaf is bad.
-    IsBad,
 }
 
 /// Whether these are the bytes of so many entries in so many leaves: a leaf takes 3 bytes and 151 for each entry, the
@@ -141,10 +139,6 @@ fn are_right(
             have_leaves(bytes, root, count, leaves)
                 && is_same(read(alloc, bytes, place, root).ok(), index)
         }
-        Asked::IsBad => {
-            let found = read(alloc, bytes, place, root);
-            matches!(found, Err(IndexFault::Bad { at }) if at == place)
-        }
     }
 }
 
@@ -168,7 +162,7 @@ impl Row for Case {
     }
 }
 
-/// The index of the worked file, one too far, up to three leaves, and names that do not rise.
+/// The index of the worked file, one too far, and up to three leaves.
 const CASES: &[Case] = &[
     (Entries::Named(&[(b"root.g.d", b"s")]), 44, Asked::IsWorked),
     (Entries::Numbered(1), u64::MAX, Asked::IsTooFar),
@@ -176,21 +170,6 @@ const CASES: &[Case] = &[
     (Entries::Numbered(256), 1000, Asked::HasLeaves(256, 1)),
     (Entries::Numbered(257), 1000, Asked::HasLeaves(257, 2)),
     (Entries::Numbered(513), 1000, Asked::HasLeaves(513, 3)),
-    (
-        Entries::Named(&[(b"root.a", b"s"), (b"root.a", b"s")]),
-        7,
-        Asked::IsBad,
-    ),
-    (
-        Entries::Named(&[(b"root.a", b"t"), (b"root.a", b"s")]),
-        7,
-        Asked::IsBad,
-    ),
-    (
-        Entries::Named(&[(b"root.b", b"s"), (b"root.a", b"t")]),
-        7,
-        Asked::IsBad,
-    ),
 ];
 
 #[test]

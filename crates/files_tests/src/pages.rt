@@ -1,10 +1,10 @@
 //! Tests of tsdb_pages. Depends on `samples`.
 
-use super::samples::{ChunkRow, Device, Row, expect_none, first_wrong, points, tree};
+use super::samples::{Row, expect_none, first_wrong, points};
 use std::alloc::Global;
 use std::test::Fail;
 use tsdb_base::{DataType, Encoding, Point, Value, suits};
-use tsdb_pages::{PageFault, are_points, is_tree, read_page, write_page};
+use tsdb_pages::{PageFault, are_points, read_page, write_page};
 
 /// The body of the page of the one point 1, 5 as INT64 PLAIN.
 const WORKED_BODY: [u8; 15] = *b"\x00\x00\x00\x02\x01\x02\x01\x00\x00\x00\x00\x00\x00\x00\x05";
@@ -142,51 +142,6 @@ fn refused_bodies(rt: HostRuntime) -> Result<(), Fail> {
 #[test]
 fn texts_in_runs_are_refused(rt: HostRuntime) {
     assert!(rt; is_refused(rt.alloc(), &WORKED_BODY, DataType::Text, Encoding::Rle));
-}
-
-/// Why these devices are no tree, or nothing where they are one.
-type Form = (&'static str, &'static [Device<'static>]);
-
-impl Row for Form {
-    fn is_right(&self, alloc: Global) -> bool {
-        match tree(alloc, self.1) {
-            Some(tree) => is_tree(&tree) == self.0.is_empty(),
-            None => false,
-        }
-    }
-}
-
-const S: ChunkRow<'static> = (b"s", DataType::Int64, Encoding::Plain, &[1, 1000]);
-
-const T: ChunkRow<'static> = (b"t", DataType::Int64, Encoding::Plain, &[1]);
-
-const WITHOUT_PAGES: ChunkRow<'static> = (b"s", DataType::Int64, Encoding::Plain, &[]);
-
-const WITHOUT_POINTS: ChunkRow<'static> = (b"s", DataType::Int64, Encoding::Plain, &[0]);
-
-const OVERFULL: ChunkRow<'static> = (b"s", DataType::Int64, Encoding::Plain, &[1001]);
-
-const UNSUITED: ChunkRow<'static> = (b"s", DataType::Int64, Encoding::Dictionary, &[1]);
-
-const FORMS: &[Form] = &[
-    ("", &[(b"root.a", &[S, T]), (b"root.b", &[S])]),
-    ("no device", &[]),
-    ("no measurement", &[(b"root.a", &[])]),
-    ("no page", &[(b"root.a", &[WITHOUT_PAGES])]),
-    ("no point", &[(b"root.a", &[WITHOUT_POINTS])]),
-    ("1,001 points", &[(b"root.a", &[OVERFULL])]),
-    (
-        "an encoding that does not suit",
-        &[(b"root.a", &[UNSUITED])],
-    ),
-    ("devices that fall", &[(b"root.b", &[S]), (b"root.a", &[S])]),
-    ("measurements that fall", &[(b"root.a", &[T, S])]),
-    ("a measurement twice", &[(b"root.a", &[S, S])]),
-];
-
-#[test]
-fn trees(rt: HostRuntime) -> Result<(), Fail> {
-    expect_none(first_wrong(rt.alloc(), FORMS))
 }
 
 const STILL: [Point; 2] = [

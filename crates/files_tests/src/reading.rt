@@ -1,5 +1,4 @@
-//! Tests of tsfile_reader on the worked file: whole, cut, with inverted bytes, with other parts, and through ports that
-//! fail.
+//! Tests of tsfile_reader on the worked file: whole, cut, with inverted bytes, and through ports that fail.
 
 use super::reader::{Call, NO_CALL, fault_of, is_worked_point, meta_of, page_of};
 use super::samples::{WORKED, expect_none, worked_but};
@@ -88,16 +87,6 @@ fn page_fault(alloc: Global, bytes: &[u8], number: u64) -> Option<ReadFault> {
     }
 }
 
-/// Whether this byte of the page, inverted, is looked at where it has to be: all but those of the value are.
-fn is_inverted_found_at_page(alloc: Global, place: usize) -> bool {
-    let wanted = if place < 36 {
-        Some(ReadFault::Damaged { at: 24 })
-    } else {
-        None
-    };
-    page_fault(alloc, &worked_but(place), NO_CALL) == wanted
-}
-
 /// How often the port is called up to the last call that matters: for the file, its length, the tail, the head, the
 /// root and the leaves, for the check also for the groups, and for a page, besides the file and its length, once.
 const CALLS_OF_INDEX: u64 = 6;
@@ -115,49 +104,6 @@ fn is_fault_of_call(fault: Option<ReadFault>, number: u64, last: u64) -> bool {
     }
 }
 
-/// What stands between the head and the leaf, as a prefix of the worked file and bytes behind it, and the place of the
-/// part that is blamed.
-type Data = (usize, &'static [u8], u64);
-
-static DATA: [Data; 5] = [
-    // no group, a group without a chunk, a chunk without a page
-    (7, b"", 7),
-    (18, b"", 18),
-    (24, b"", 24),
-    // a byte between the page and the leaf, and a group of the same device
-    (44, b"\x00", 44),
-    (44, b"\x47\x00\x08root.g.d", 44),
-];
-
-/// The file whose data is that of the row. The root and the tail say where the leaf and the root are then.
-fn with_data(alloc: Global, row: Data) -> Vec<u8> {
-    let (size, behind, _) = row;
-    let data = WORKED.get(..size).unwrap_or(&[]);
-    let leaf = (data.len() as u64).saturating_add(behind.len() as u64);
-    let root = leaf.saturating_add(150);
-    let places = [leaf.to_be_bytes(), root.to_be_bytes()];
-    let mut file = Vec::new(alloc);
-    for part in [
-        data,
-        behind,
-        &WORKED[44..212],
-        places[0].as_slice(),
-        places[1].as_slice(),
-        &WORKED[228..],
-    ] {
-        if file.extend_from_slice(part).is_err() {
-            file.clear();
-        }
-    }
-    file
-}
-
-/// Whether the check finds damage in the file of the row at its place, and its index is read.
-fn is_data_found(alloc: Global, row: Data) -> bool {
-    let damage = Some(ReadFault::Damaged { at: row.2 });
-    has_faults(alloc, &with_data(alloc, row), damage, None)
-}
-
 /// What is done with the worked file, in each case for one number.
 #[derive(Clone, Copy)]
 enum Trial {
@@ -165,14 +111,10 @@ enum Trial {
     Cut,
     /// This byte is inverted.
     Inverted,
-    /// This byte is inverted, and the page is read.
-    InvertedAtPage,
     /// This call of the port fails: the index, the whole file or the page is read.
     IndexFails,
     CheckFails,
     PageFails,
-    /// The data of this row stands in it.
-    Data,
 }
 
 /// Whether what is read is as it has to be.
@@ -181,7 +123,6 @@ fn is_right(alloc: Global, trial: Trial, number: usize) -> bool {
     match trial {
         Trial::Cut => is_cut_found(alloc, number),
         Trial::Inverted => is_inverted_found(alloc, number),
-        Trial::InvertedAtPage => is_inverted_found_at_page(alloc, number),
         Trial::IndexFails => {
             let fault = meta_of(alloc, &WORKED, Call::Meta, call).err();
             is_fault_of_call(fault, call, CALLS_OF_INDEX)
@@ -191,10 +132,6 @@ fn is_right(alloc: Global, trial: Trial, number: usize) -> bool {
             is_fault_of_call(fault, call, CALLS_OF_CHECK)
         }
         Trial::PageFails => is_fault_of_call(page_fault(alloc, &WORKED, call), call, CALLS_OF_PAGE),
-        Trial::Data => match DATA.get(number) {
-            Some(row) => is_data_found(alloc, *row),
-            None => false,
-        },
     }
 }
 
@@ -219,19 +156,9 @@ fn inverted_bytes(rt: HostRuntime) -> Result<(), Fail> {
 }
 
 #[test]
-fn inverted_bytes_of_a_page(rt: HostRuntime) -> Result<(), Fail> {
-    expect_none(first_wrong(rt.alloc(), Trial::InvertedAtPage, 24, 44))
-}
-
-#[test]
 fn calls_that_fail(rt: HostRuntime) {
     let alloc = rt.alloc();
     assert_eq!(rt; first_wrong(alloc, Trial::IndexFails, 1, 9), None);
     assert_eq!(rt; first_wrong(alloc, Trial::CheckFails, 1, 9), None);
     assert_eq!(rt; first_wrong(alloc, Trial::PageFails, 1, 6), None);
-}
-
-#[test]
-fn other_data(rt: HostRuntime) -> Result<(), Fail> {
-    expect_none(first_wrong(rt.alloc(), Trial::Data, 0, DATA.len()))
 }

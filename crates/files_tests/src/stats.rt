@@ -68,35 +68,6 @@ fn statistics_of_numbers(rt: HostRuntime) -> Result<(), Fail> {
     expect_none(first_wrong(rt.alloc(), LISTS))
 }
 
-/// A type, and whether it has a least and a greatest value.
-impl Row for (DataType, bool) {
-    fn is_right(&self, alloc: Global) -> bool {
-        let points = points(alloc, self.0, 1, 1000);
-        let all = each_stats(alloc, &[points.as_slice()]);
-        match all.as_slice() {
-            [stats] => {
-                stats.count == 1000
-                    && stats.first.data_type() == self.0
-                    && stats.least.is_some() == self.1
-                    && stats.greatest.is_some() == self.1
-            }
-            _ => false,
-        }
-    }
-}
-
-const TYPES: &[(DataType, bool)] = &[
-    (DataType::Boolean, false),
-    (DataType::Int32, true),
-    (DataType::Int64, true),
-    (DataType::Text, false),
-];
-
-#[test]
-fn statistics_of_each_type(rt: HostRuntime) -> Result<(), Fail> {
-    expect_none(first_wrong(rt.alloc(), TYPES))
-}
-
 /// Whether the statistics of 1,000 points before a cut and behind it, joined, are those of all.
 fn are_joined(alloc: Global, cut: usize) -> bool {
     let points = points(alloc, DataType::Int64, 1, 1000);
