@@ -5,21 +5,16 @@ use tsdb_run::{Asked, Word, one_meaning, read_words};
 
 /// Lists of words, with a bar between each two, that ask for a directory, a number of points of a pair and a number of
 /// workers.
-const GOOD: [(&str, &str, u64, u64); 20] = [
+const GOOD: [(&str, &str, u64, u64); 13] = [
     ("run|d", "d", 10_000, 1),
-    ("run|a/b c=--pair", "a/b c=--pair", 10_000, 1),
     // The first lone `--` is dropped, before the directory or behind it.
     ("run|--|d", "d", 10_000, 1),
     ("run|d|--", "d", 10_000, 1),
-    ("run|--pair|4|--|d", "d", 4, 1),
     ("run|d|--workers=0|--", "d", 10_000, 0),
     // The options in both forms and in any order.
     ("run|d|--pair=4|--workers|0", "d", 4, 0),
     ("run|--workers=4|d|--pair|5", "d", 5, 4),
-    ("run|--pair|4|--workers|3|d", "d", 4, 3),
-    ("run|--workers|3|--pair|4|d", "d", 4, 3),
     ("run|--pair=4|--workers=2|d", "d", 4, 2),
-    ("run|d|--workers|1", "d", 10_000, 1),
     // The least and greatest numbers, and leading zeros.
     ("run|d|--pair|1", "d", 1, 1),
     ("run|d|--pair|1000000", "d", 1_000_000, 1),
@@ -28,56 +23,34 @@ const GOOD: [(&str, &str, u64, u64); 20] = [
     ("run|d|--workers|04", "d", 10_000, 4),
     // A directory that looks like something else.
     ("run|run", "run", 10_000, 1),
-    ("run|4|--pair|4", "4", 4, 1),
-    ("run|=|--pair|9", "=", 9, 1),
 ];
 
 /// Lists of words that ask for nothing, the first of them without words.
-const BAD: [&str; 47] = [
+const BAD: [&str; 27] = [
     "",
     "run",
     "d",
-    "d|run",
     "RUN|d",
-    "runs|d",
-    "|d",
-    "--|run|d",
     "--help",
-    "run|--help",
-    "run|d|--help",
     "run|--pair",
     // No directory, two directories, or none that a word can name.
     "run|",
-    "run|-",
     "run|-d",
-    "run|--d",
-    "run|--",
     "run|--|-d",
-    "run|--|--",
     "run|--|--|d",
-    "run|d|--|--",
     "run|d|e",
-    "run|d|",
-    "run|d|--|e",
-    "run|--|d|e",
     "run|--pair|4",
     // An option behind `--`, or twice.
     "run|--|d|--pair|4",
-    "run|--|--pair=4|d",
     "run|d|--|--workers=1",
     "run|d|--pair|4|--pair|4",
-    "run|d|--pair=4|--pair|4",
     "run|d|--workers=1|--workers=1",
     // No number behind an option.
     "run|d|--pair",
     "run|d|--pair=",
-    "run|d|--pair|",
     "run|--pair|--|4|d",
-    "run|--pair|d",
     "run|d|--workers|-1",
     "run|d|--pair|+4",
-    "run|d|--pair| 4",
-    "run|d|--pair==4",
     "run|d|--pair4",
     // A number that is too small, too great or too long.
     "run|d|--pair|0",
