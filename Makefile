@@ -9,6 +9,7 @@
 #                   end of a run with the documents, and many scripts with a plain slow store and a plain reader; runs a
 #                   plant's day with a flush and a compaction; stores many files, and fills a small disk
 # make wrong-bodies   tries the wrong bodies in must-fail/ and wrong-bodies/ of all crates, or of those of CRATE="name .."
+# make crates  prints the list of crates of docs/ARCHITECTURE.md; checks/crates --write puts it there
 # make proofs   proves every crate, tries the wrong bodies, and runs every test and program
 # make test   is the gate: the proofs, and what is behind them
 .PHONY: demo build bench check-disk check wrong-bodies proofs test
@@ -67,7 +68,10 @@ wrong-bodies:
 test:
 	@.ci/run
 
-.PHONY: definitions clauses
+.PHONY: crates definitions clauses
+crates:
+	@checks/crates
+
 definitions:
 	@checks/definitions $(CRATE)
 
