@@ -6,16 +6,19 @@ use crate::slots::Seen::{Records, Torn, TornAt};
 use crate::slots::{Reading, first_misread};
 use tsdb_outside::Slot;
 
-const BLOCK: u64 = 1_048_576;
+// A quarter of 65,536 bytes.
+const QUARTER: u64 = 16_384;
 
-// A record of one byte, whose frame has 6, is added behind a long one: four calls add it, and sixteen write the zeros.
+const PIECE: u64 = 65_536;
+
+// A record of one byte, whose frame has 6, is added behind a long one: four calls add it, and one or more write zeros.
 const ADDED: Course = Course {
     steps: &[Step::Added(&[7])],
     records: &[3, 7],
     ..STILL
 };
 
-static GROWS: [Course; 4] = [
+static GROWS: [Course; 6] = [
     Course {
         a: Record(65_529, &[0]),
         moments: 5,
@@ -24,14 +27,14 @@ static GROWS: [Course; 4] = [
     },
     Course {
         a: Record(65_530, &[0]),
-        moments: 21,
-        length: 65_536 + BLOCK,
+        moments: 6,
+        length: 65_536 + QUARTER,
         ..ADDED
     },
     Course {
         a: Record(65_600, &[0; 6]),
-        moments: 21,
-        length: 65_611 + BLOCK,
+        moments: 6,
+        length: 65_611 + 16_402,
         ..ADDED
     },
     Course {
@@ -40,57 +43,66 @@ static GROWS: [Course; 4] = [
         length: 65_612,
         ..ADDED
     },
+    // From 262,144 bytes on the zeros are whole pieces.
+    Course {
+        a: Record(524_281, &[0]),
+        moments: 6,
+        length: 524_287 + PIECE,
+        ..ADDED
+    },
+    Course {
+        a: Record(524_282, &[0]),
+        moments: 7,
+        length: 524_288 + 2 * PIECE,
+        ..ADDED
+    },
 ];
 
 #[test]
-fn slots_of_65_536_bytes_grow_ahead(rt: HostRuntime) {
+fn slots_of_65_536_bytes_grow_ahead_by_a_quarter(rt: HostRuntime) {
     assert_eq!(rt; first_wrong(rt.alloc(), &GROWS), None);
 }
 
-// The first record fails with a call that writes zeros, with no gate in doubt, and is added then. What was written of
-// the zeros is there.
-const ADDED_THEN: Course = Course {
-    a: Record(65_530, &[0]),
-    steps: &[Step::Refused(&[7]), Step::Added(&[7])],
+// Where a call that writes zeros fails, the record is added all the same, and no zeros are written before the next one.
+const ADDED_ALL_THE_SAME: Course = Course {
+    steps: &[Step::Added(&[7]), Step::Added(&[8])],
+    records: &[3, 7, 8],
     ..ADDED
 };
 
-static FAULTS: [Course; 3] = [
+static FAULTS: [Course; 2] = [
     Course {
+        a: Record(65_530, &[0]),
         fails: &[1],
-        moments: 22,
-        length: 65_536 + BLOCK,
-        ..ADDED_THEN
+        moments: 10,
+        length: 65_548,
+        ..ADDED_ALL_THE_SAME
     },
+    // What was written of the zeros is there.
     Course {
+        a: Record(600_000, &[0]),
         fails: &[2],
-        moments: 7,
-        length: 65_536 + 65_536,
-        ..ADDED_THEN
-    },
-    Course {
-        fails: &[16],
-        moments: 21,
-        length: 65_536 + 15 * 65_536,
-        ..ADDED_THEN
+        moments: 11,
+        length: 600_006 + PIECE,
+        ..ADDED_ALL_THE_SAME
     },
 ];
 
 #[test]
-fn a_fault_of_growing_leaves_no_doubt(rt: HostRuntime) {
+fn a_fault_of_growing_is_none_of_the_record_and_ends_it(rt: HostRuntime) {
     assert_eq!(rt; first_wrong(rt.alloc(), &FAULTS), None);
 }
 
-// The zeros are the first sixteen calls, the frame is synced by the eighteenth, and its gate by the twentieth.
+// The zeros are the first call, the frame is synced by the third, and its gate by the fifth.
 static STOPPED: Course = Course {
     a: Record(65_530, &[0]),
-    moments: 21,
-    length: 65_536 + BLOCK,
-    at: &[0, 1, 9, 16, 17, 18, 19, 20],
+    moments: 6,
+    length: 65_536 + QUARTER,
+    at: &[0, 1, 2, 3, 4, 5],
     stops: &[(
         EACH,
         Slot::A,
-        &[(0, &[&[3]]), (19, &[&[3], &[3, 7]]), (20, &[&[3, 7]])],
+        &[(0, &[&[3]]), (4, &[&[3], &[3, 7]]), (5, &[&[3, 7]])],
     )],
     ..ADDED
 };

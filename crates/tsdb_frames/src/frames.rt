@@ -14,7 +14,7 @@ ghost use Rattle.tsdb_frames.specs.declared.aside.Aside.TheVariants as aside;
 ghost use Rattle.tsdb_outside.specs.declared.disk.Slot.{Slot};
 
 use crate::aside::{Aside, is_closed, other_slot};
-use crate::growing::{BLOCK_PIECES, passes_end, zeros_behind};
+use crate::growing::{Block, block_of, passes_end, zeros_behind};
 use crate::reader::{FrameReader, first_after};
 use crate::reading::read_first_record;
 use crate::writing::{Unopened, write_and_sync, write_record};
@@ -35,6 +35,8 @@ pub struct Frames<J: Journal> {
     aside: Aside,
     // The slot has this many bytes at least.
     end: u64,
+    // No growing ahead has failed.
+    grows: bool,
     ghost within: { HasGateAt (J.state journal) slot gate end },
 }
 
@@ -109,6 +111,7 @@ impl<J: Journal> Frames<J> {
             first: reader.first,
             aside: Aside::Settled,
             end: reader.end,
+            grows: true,
             journal: reader.journal,
         }
     }
@@ -116,8 +119,10 @@ impl<J: Journal> Frames<J> {
     /// Adds the record of a frame that `frame` made, after a gate in doubt is closed. After `Failed` a gate may be in
     /// doubt: one that was in doubt before, or that of this record. It takes no memory.
     ///
-    /// Where the frame would pass the end of a slot of 65,536 bytes or more, 1,048,576 zeros are written behind the end
-    /// first, or as many as the limit of a slot leaves. They say nothing, as all that stands behind a closed gate.
+    /// Where the frame would pass the end of a slot of 65,536 bytes or more, zeros are written behind the end first: a
+    /// quarter of what the slot has, at most 1,048,576, or as many as the limit of a slot leaves. They say nothing, as
+    /// all that stands behind a closed gate. Where they cannot be written the record is added all the same, and no zeros
+    /// are written any more.
     pub fn append(&mut self, framed: &[u8]) -> Result<(), Failed>
         requires { IsFrame framed.now }
         ensures added { OnOk result ((acknowledged : List (List ℕ)) (in_doubt : Option (List ℕ))
@@ -162,7 +167,7 @@ impl<J: Journal> Frames<J> {
         ensures aside { KeepsAside self.old self.new }
         ensures cause { HasCause (faults_of self.old) (faults_of self.new) result }
     {
-        self.grow(framed.len() as u64)?;
+        self.grow(framed.len() as u64);
         match write_record(&mut self.journal, self.slot, self.gate, framed) {
             Ok(()) => {
                 let end = self.gate + 1 + framed.len() as u64;
@@ -179,25 +184,33 @@ impl<J: Journal> Frames<J> {
         }
     }
 
-    // Lengthens a long slot, where a frame of this many bytes would pass its end.
-    fn grow(&mut self, bytes: u64) -> Result<(), Failed>
+    // Lengthens a long slot, where a frame of this many bytes would pass its end, until that has failed once.
+    fn grow(&mut self, bytes: u64)
+        ensures lengthens { Lengthens self.old self.new }
+        ensures later { faults_of self.old ≤ faults_of self.new }
+    {
+        if self.grows && passes_end(self.end, self.gate, bytes) {
+            self.grows = self.write_block(block_of(self.end)).is_ok();
+        }
+    }
+
+    // Writes pieces of zeros behind the end of the slot.
+    fn write_block(&mut self, block: Block) -> Result<(), Failed>
         ensures lengthens { Lengthens self.old self.new }
         ensures cause { HasCause (faults_of self.old) (faults_of self.new) result }
     {
-        if passes_end(self.end, self.gate, bytes) {
-            for _ in 0..BLOCK_PIECES {
-                self.write_zeros()?;
-            }
+        for _ in 0..block.pieces {
+            self.write_zeros(block.bytes)?;
         }
         Ok(())
     }
 
     // Writes a piece of zeros behind the end of the slot.
-    fn write_zeros(&mut self) -> Result<(), Failed>
+    fn write_zeros(&mut self, bytes: u64) -> Result<(), Failed>
         ensures lengthens { Lengthens self.old self.new }
         ensures cause { HasCause (faults_of self.old) (faults_of self.new) result }
     {
-        let zeros = zeros_behind(self.end);
+        let zeros = zeros_behind(self.end, bytes);
         self.journal.write_at(self.slot, self.end, zeros)?;
         self.end += zeros.len() as u64;
         Ok(())

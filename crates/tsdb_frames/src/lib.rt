@@ -14,9 +14,10 @@
 //! it open or closed. Before anything else is written, 00 is written at g and synced, since nothing may be torn behind
 //! a gate that a stop may leave open.
 //!
-//! A slot of 65,536 bytes or more grows ahead: where a frame would pass its end, 1,048,576 zeros are first written behind
-//! the end, or as many as the limit of a slot leaves. They say nothing, as all that stands behind a closed gate, and a
-//! fault of their write is one of the first step.
+//! A slot of 65,536 bytes or more grows ahead: where a frame would pass its end, zeros are first written behind the end:
+//! a quarter of what the slot has, at most 1,048,576, or as many as the limit of a slot leaves. They say nothing, as all
+//! that stands behind a closed gate. Where they cannot be written the record is added all the same, and this log does
+//! not grow ahead any more.
 //!
 //! A log turns over to the other slot with one record: byte 0 there is made closed and synced, where it may be open; the
 //! frame is written at 1; the slot is synced; 01 is written at 0; the slot is synced. Until the last step the log is in

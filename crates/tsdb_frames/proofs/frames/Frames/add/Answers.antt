@@ -7,7 +7,6 @@ use Rattle.tsdb_frames.specs.Frames.{disk_of}
 use Rattle.tsdb_frames.specs.Log.{HasRecordsOrOneMore, IsFrame, first_bytes, payload_of}
 use Rattle.tsdb_frames.specs.Slots.{HasRecords, open_records, with_length}
 use Rattle.tsdb_frames.proofs.CallLemmas.{either_same, keeps_aside_on, moved_moments}
-use Rattle.tsdb_frames.proofs.LogLemmas.{always_on_err}
 use Rattle.tsdb_frames.proofs.MomentLemmas.{leaves_on, weaker}
 use Rattle.tsdb_frames.proofs.StepLemmas.{cause_of_fault}
 use Rattle.tsdb_frames.proofs.frames.Frames.add.Goals as goal
@@ -41,25 +40,6 @@ grown_then_added first mid last slot place acknowledged payload laws same growin
     (moved_moments mid last slot place same (HasRecordsOrOneMore acknowledged (Some payload))
     (then_only mid last (λ image. HasRecords acknowledged (in_slot slot image))
     (λ image. HasRecordsOrOneMore acknowledged (Some payload) (in_slot slot image)) (λ image has. inl has) adding))
-
-pub returns-in_err-grow-clause-failed : goal.returns-in_err-grow-clause-failed
-returns-in_err-grow-clause-failed g c =
-    always_on_err c.from_residual.result (λ acknowledged log. inl (c.grow.ensures.lengthens.log acknowledged log))
-
-pub returns-in_err-grow-clause-moments : goal.returns-in_err-grow-clause-moments
-returns-in_err-grow-clause-moments g c acknowledged log =
-    weaker (disk_of c.args.self.now) (disk_of c.grow.new.self) (λ image. HasRecords acknowledged (in_slot c.args.self.now.slot image))
-    (λ image. HasRecordsOrOneMore acknowledged (Some (payload_of c.args.framed.now)) (in_slot c.args.self.now.slot image))
-    (λ image has. inl has) (c.grow.ensures.lengthens.moments acknowledged log)
-
-pub returns-in_err-grow-clause-aside : goal.returns-in_err-grow-clause-aside
-returns-in_err-grow-clause-aside g c = c.grow.ensures.lengthens.aside
-
-pub returns-in_err-grow-clause-cause : goal.returns-in_err-grow-clause-cause
-returns-in_err-grow-clause-cause g c = record {
-  later = c.grow.ensures.cause.later;
-  failed = always_on_err c.from_residual.result c.in_err-grow.ensures.cause.failed;
-}
 
 pub write_record-requires-clause-frame : goal.write_record-requires-clause-frame
 write_record-requires-clause-frame g c κs lives = c.requires
@@ -139,7 +119,7 @@ returns-in-Ok-clause-aside g c =
 
 pub returns-in-Ok-clause-cause : goal.returns-in-Ok-clause-cause
 returns-in-Ok-clause-cause g c = record {
-  later = omega (arith, c.grow.ensures.cause.later, c.write_record.ensures.cause.later);
+  later = omega (arith, c.grow.ensures.later, c.write_record.ensures.cause.later);
   failed = tt;
 }
 
@@ -166,7 +146,7 @@ returns-in-Err-Closed-clause-aside g c =
 
 pub returns-in-Err-Closed-clause-cause : goal.returns-in-Err-Closed-clause-cause
 returns-in-Err-Closed-clause-cause g c =
-    cause_of_fault _ _ _ _ c.grow.ensures.cause.later c.write_record.ensures.cause.later c.in-Err-Closed.ensures.cause.failed
+    cause_of_fault _ _ _ _ c.grow.ensures.later c.write_record.ensures.cause.later c.in-Err-Closed.ensures.cause.failed
 
 pub returns-in-Err-Doubted-clause-failed : goal.returns-in-Err-Doubted-clause-failed
 returns-in-Err-Doubted-clause-failed g c acknowledged log =
@@ -191,4 +171,4 @@ returns-in-Err-Doubted-clause-aside g c =
 
 pub returns-in-Err-Doubted-clause-cause : goal.returns-in-Err-Doubted-clause-cause
 returns-in-Err-Doubted-clause-cause g c =
-    cause_of_fault _ _ _ _ c.grow.ensures.cause.later c.write_record.ensures.cause.later c.in-Err-Doubted.ensures.cause.failed
+    cause_of_fault _ _ _ _ c.grow.ensures.later c.write_record.ensures.cause.later c.in-Err-Doubted.ensures.cause.failed

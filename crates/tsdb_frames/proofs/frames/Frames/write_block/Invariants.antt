@@ -1,6 +1,6 @@
 use Rattle.std.proofs.Common.{◌≤◌}
 use Rattle.tsdb_frames.specs.Calls.{Lengthens}
-use Rattle.tsdb_frames.proofs.frames.Frames.grow.Given as goal
+use Rattle.tsdb_frames.proofs.frames.Frames.write_block.Given as goal
 
 abbrev pub invariant-loop : goal.invariant-loop
 invariant-loop g l = record {

@@ -1,7 +1,7 @@
 use Rattle.std.proofs.Common.{arith}
 use Rattle.tsdb_frames.proofs.CallLemmas.{lengthens_idle, lengthens_on}
 use Rattle.tsdb_frames.proofs.StepLemmas.{cause_of_fault}
-use Rattle.tsdb_frames.proofs.frames.Frames.grow.Goals as goal
+use Rattle.tsdb_frames.proofs.frames.Frames.write_block.Goals as goal
 
 pub loop-init : goal.loop-init
 loop-init g c = record {
@@ -25,14 +25,8 @@ pub returns-in_err-write_zeros-clause-cause : goal.returns-in_err-write_zeros-cl
 returns-in_err-write_zeros-clause-cause g c =
     cause_of_fault _ _ _ c.from_residual.result c.loop.invariant.later c.write_zeros.ensures.cause.later c.in_err-write_zeros.ensures.cause.failed
 
-pub returns-after-loop-clause-lengthens : goal.returns-after-loop-clause-lengthens
-returns-after-loop-clause-lengthens g c = c.loop.invariant.lengthens
+pub returns-clause-lengthens : goal.returns-clause-lengthens
+returns-clause-lengthens g c = c.loop.invariant.lengthens
 
-pub returns-after-loop-clause-cause : goal.returns-after-loop-clause-cause
-returns-after-loop-clause-cause g c = record { later = c.loop.invariant.later; failed = tt }
-
-pub returns-else-passes_end-clause-lengthens : goal.returns-else-passes_end-clause-lengthens
-returns-else-passes_end-clause-lengthens g c = lengthens_idle c.args.self.now (g.J.Disk.lawful c.args.self.now.journal)
-
-pub returns-else-passes_end-clause-cause : goal.returns-else-passes_end-clause-cause
-returns-else-passes_end-clause-cause g c = record { later = omega arith; failed = tt }
+pub returns-clause-cause : goal.returns-clause-cause
+returns-clause-cause g c = record { later = c.loop.invariant.later; failed = tt }
