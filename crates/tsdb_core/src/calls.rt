@@ -100,7 +100,7 @@ impl<J: Journal, F: Files> Core<J, F> {
         self.files.sweep(port, [first, second])
     }
 
-    /// Closes a gate in doubt, gives each token back to its store, and the journal to the caller.
+    /// Closes a gate in doubt, then gives each token back to its store, and the journal to the caller.
     pub fn close(self, files: &mut F) -> J
         requires no_rights { AreUnread (files_of self).places }
         requires store { AreOfStore (F.store files.old) (files_of self).places }
@@ -119,7 +119,8 @@ impl<J: Journal, F: Files> Core<J, F> {
             next_file: _,
             sequence_claimed: _,
         } = self;
+        let journal = logged.close();
         kept.close(files);
-        logged.close()
+        journal
     }
 }
