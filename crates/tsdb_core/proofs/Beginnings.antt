@@ -5,7 +5,7 @@ use Rattle.std.proofs.lemmas.Bool.{false≢true}
 use Rattle.std.proofs.lemmas.List.{drop-map, length-append, length-map, take-map}
 use Rattle.std.specs.List.{filter}
 use Rattle.std.specs.Option.{option_map}
-use Rattle.std.specs.Prelude.{IfSome, slice_range}
+use Rattle.std.specs.Prelude.{◌↔◌, IfSome, slice_range}
 use Rattle.tsdb_base.specs.declared.ids.Space.{Space}
 use Rattle.tsdb_base.specs.declared.ids.Space.TheVariants.{Sequence, Unsequence}
 use Rattle.tsdb_tasks.proofs.InState.{began_in_state}
@@ -45,6 +45,7 @@ use Rattle.tsdb_memory.specs.Commands.{IsPrepared}
 use Rattle.tsdb_memory.specs.Logged.{IsSound, Outside, memory_of, room_of}
 use Rattle.tsdb_memory.specs.declared.logged.Logged.{Logged}
 use Rattle.tsdb_marks.specs.Lists.{is_of}
+use Rattle.tsdb_model.specs.declared.command.Schema.{Schema}
 use Rattle.tsdb_outside.specs.Files.{NamedFile, Store}
 use Rattle.tsdb_outside.specs.declared.disk.Disk as disk
 use Rattle.tsdb_outside.specs.declared.faults.Counted as counted
@@ -334,6 +335,16 @@ module _ {J F S R P : Type 0} {means : disk.Ghosts J} {counts : counted.Ghosts J
     names_stay store k None same = tt
     names_stay store k (Some file) same = same
 
+    -- the marks and the schemas of its series, memory had before
+    of_before : AreOfJob (run_paths runs old.files) (memory_of old.logged) series
+    of_before = record {
+      marks = of.marks ∙ ap (filter (is_of (run_paths runs old.files))) prepared.room.marks;
+      schemas = subst (λ (all : List Schema). (schema : Schema) → Among schema series.schemas
+          ↔ (Among schema all × Among schema.path (run_paths runs old.files))) prepared.room.series of.schemas;
+      formed = of.formed;
+      rising = of.rising;
+    }
+
     pub job_begun : IsBegun name space runs old new job
     job_begun = record {
       is_new = record {
@@ -344,6 +355,7 @@ module _ {J F S R P : Type 0} {means : disk.Ghosts J} {counts : counted.Ghosts J
         sequence = begun.sequence;
         unsequence = begun.unsequence;
         marks = of.marks ∙ ap (filter (is_of (run_paths runs old.files))) prepared.room.marks;
+        series = of_before;
         output = refl;
       };
       kept = is_kept;

@@ -3,10 +3,11 @@ use Rattle.std.proofs.Common.{◌∷◌, ◌≡◌, ℕ, ◌+◌, ◌≤◌, Lis
 use Rattle.std.proofs.Common.{ap, arith, length-append, refl, sym, subst, ◌∙◌}
 use Rattle.std.proofs.lemmas.List.{map-append}
 use Rattle.std.specs.Arc.{arc_value}
-use Rattle.std.specs.List.{range_with_len}
+use Rattle.std.specs.List.{AllZip, range_with_len}
 use Rattle.std.specs.Option.{IsSomeAnd}
 use Rattle.std.specs.Prelude.{slice_get}
 use Rattle.tsdb_base.specs.declared.ids.FileNumber.{FileNumber}
+use Rattle.tsdb_base.specs.declared.ids.SeriesId.{SeriesId}
 use Rattle.tsdb_core.proofs.Claims.{claims_stay, same_lists}
 use Rattle.tsdb_core.proofs.Commits.{places_told, prepared_sound}
 use Rattle.tsdb_core.proofs.Loans.{same_but_jobs}
@@ -31,7 +32,9 @@ use Rattle.tsdb_base.specs.Lists.{if_some}
 use Rattle.tsdb_memory.specs.Commands.{IsPrepared}
 use Rattle.tsdb_memory.specs.Logged.{IsSound, Outside, memory_of, room_of}
 use Rattle.tsdb_memory.specs.declared.logged.Logged.{Logged}
+use Rattle.tsdb_memory.specs.Shown.{number_of}
 use Rattle.tsdb_memory.specs.Store.{FrozenPair}
+use Rattle.tsdb_model.specs.declared.command.Schema.{Schema}
 use Rattle.tsdb_outside.specs.declared.disk.Disk as disk
 use Rattle.tsdb_outside.specs.declared.faults.Counted as counted
 use Rattle.tsdb_state.specs.Jobs.{drawn_by, flushed_bytes}
@@ -125,9 +128,30 @@ module _ {J F S R P : Type 0} {means : disk.Ghosts J} {counts : counted.Ghosts J
         same_drawn : drawn_for job ≡ drawn_by flush.0
         same_drawn = one_list job ∙ sym flush.3
 
+    -- what it takes of memory, memory had before
+    of_memory : flushing.IsTaken (memory_of old.logged) (next_of old) job
+    of_memory = record {
+      oldest = taken.oldest;
+      newer = taken.newer;
+      are = sym prepared.room.frozen ∙ taken.are;
+      born = taken.born;
+      pair = taken.pair;
+      of = record {
+        numbered = subst (λ (series : List Schema). AllZip (λ (schema : Schema) (number : SeriesId).
+            number_of series schema.path ≡ Some number.0) job.schemas job.series) prepared.room.series taken.of.numbered;
+        whole = taken.of.whole;
+        rising = taken.of.rising;
+      };
+      schemas = subst (λ (series : List Schema). AllZip (λ (schema : Schema) (number : SeriesId).
+          slice_get series number.0 ≡ Some schema) job.schemas job.series) prepared.room.series taken.schemas;
+      filled = taken.filled;
+      numbers = taken.numbers;
+    }
+
     pub flush_taken : IsTaken old new job
     flush_taken = record {
       is_job = is_job;
+      of_memory = of_memory;
       oldest = subst (λ (frozen : List FrozenPair). IsSomeAnd (slice_get frozen 0)
           (λ pair. (pair.born ≡ job.born.0) × (pair.pair ≡ arc_value job.pair)))
           (sym taken.are ∙ prepared.room.frozen) (sym taken.born, sym taken.pair);

@@ -8,7 +8,7 @@ use Rattle.tsdb_base.specs.declared.ids.Space.{Space}
 use Rattle.tsdb_base.specs.declared.ids.Space.TheVariants.{Sequence, Unsequence}
 use Rattle.tsdb_tasks.specs.Beginning.{run_files}
 use Rattle.tsdb_tasks.specs.Inputs.{input_numbers}
-use Rattle.tsdb_tasks.specs.Series.{run_paths}
+use Rattle.tsdb_tasks.specs.Series.{AreOfJob, run_paths}
 use Rattle.tsdb_tasks.specs.declared.finishing.InputRuns.{InputRuns}
 use Rattle.tsdb_tasks.specs.Jobs.{IsCompactionOf, input_files}
 use Rattle.tsdb_tasks.specs.CompactionsOutputs.{TellsTruth}
@@ -100,8 +100,8 @@ module _ {J F S R P : Type 0} {means : disk.Ghosts J} {counts : counted.Ghosts J
     pub sequence : HaveRisingHulls (files_of core).sequence
     pub unsequence : HaveRisingHulls (files_of core).unsequence
 
-  -- The job is for an output of the space, and has the files of the runs, the stamp, the marks of their series, and the
-  -- next number.
+  -- The job is for an output of the space, and has the files of the runs, the stamp, the marks of their series and their
+  -- schemas as memory has them, and the next number.
   pub record IsNewJob (space_of : Space) (runs : InputRuns) (core : Core J F S R P means counts) (job : Job F S R P)
       : Type 0 where
     pub space : job.space ≡ space_of
@@ -114,6 +114,8 @@ module _ {J F S R P : Type 0} {means : disk.Ghosts J} {counts : counted.Ghosts J
         (slice_range (files_of core).unsequence runs.unsequence.first runs.unsequence.end)
     pub marks : job.marks.marks
         ≡ filter (is_of (run_paths runs (files_of core))) (memory_of (logged_of core)).marks.marks
+    pub series : AreOfJob (run_paths runs (files_of core)) (memory_of (logged_of core))
+        (record { marks = job.marks; schemas = job.schemas })
     pub output : job.output.0 ≡ next_of core
 
   -- The late files of the run are claimed, and the lists stay else; memory may have been taken.

@@ -23,6 +23,7 @@ use Rattle.tsdb_fileset.specs.Flushes.{IsFlushOf}
 use Rattle.tsdb_frames.specs.Frames.{faults_of, slot_of}
 use Rattle.tsdb_state.specs.Stored.{built_files}
 use Rattle.tsdb_fileset.specs.Jobs.{IsJob}
+use Rattle.tsdb_fileset.specs.Taking as taking
 use Rattle.tsdb_fileset.specs.FlushJob.{FlushJob}
 use Rattle.tsdb_fileset.specs.Files.{KeepsLists, listed_borns}
 use Rattle.tsdb_fileset.specs.Places.{AreOfStore, OnlyMakesPlaces}
@@ -53,8 +54,7 @@ abbrev pub IsDue : ℕ → List FrozenPair → Type 0
 IsDue upto frozen = IsSomeAnd (slice_get frozen 0) (λ pair. pair.born ≤ upto)
 
 -- What taking a flush up to a stamp answers: none exactly where no pair is due; full exactly where one is, and two
--- numbers
--- more are too many, with the next number.
+-- numbers more are too many, with the next number.
 abbrev pub IsTakeAnswer : ℕ → ℕ → Store → Result (Option FlushJob) CoreFault → Type 0
 IsTakeAnswer upto next store (Ok None) = ¬ IsDue upto store.frozen
 IsTakeAnswer upto next store (Ok (Some job)) = IsDue upto store.frozen × (next + 2 ≤ end_of_numbers)
@@ -101,10 +101,11 @@ module _ {J F S R P : Type 0} {means : disk.Ghosts J} {counts : counted.Ghosts J
     pub step : (outside : Outside) (engine : EngineState) → IsSeen old outside engine → IsSeen new outside engine
 
   -- The job of the oldest frozen pair was taken, with the next numbers for its parts that have a point. What its end
-  -- needs
-  -- is kept from now on.
+  -- needs is kept from now on. It has each series that has a point in the pair and no other, with its schema as memory
+  -- has it.
   pub record IsTaken (old new : Core J F S R P means counts) (job : FlushJob) : Type 0 where
     pub is_job : IsJob job
+    pub of_memory : taking.IsTaken (memory_of (logged_of old)) (next_of old) job
     pub oldest : IsSomeAnd (slice_get (memory_of (logged_of old)).frozen 0)
         (λ pair. (pair.born ≡ job.born.0) × (pair.pair ≡ arc_value job.pair))
     pub numbers : drawn_for job ≡ range_with_len (next_of old) (length (drawn_for job))
@@ -140,8 +141,7 @@ module _ {J F S R P : Type 0} {means : disk.Ghosts J} {counts : counted.Ghosts J
   IsLoggedAs old new job Device = (failed : Failed) × AppendsFlush old new job (Err failed)
 
   -- What each end of a flush leaves: its files are where the commit says, their tokens are kept, and so is what the
-  -- other
-  -- jobs need.
+  -- other jobs need.
   pub record EndsFlush (old new : Core J F S R P means counts) (job : FlushJob) (files : NewFiles) (commit : Commit)
       : Type 0 where
     pub lists : AreAfterCommit commit files (files_of old) (files_of new)
