@@ -47,7 +47,9 @@ use Rattle.tsdb_model.specs.World.{World}
 use Rattle.tsdb_model.specs.declared.command.Schema.{Schema}
 use Rattle.tsdb_log.specs.declared.record.LogRecord.{LogRecord}
 use Rattle.tsdb_log.specs.declared.record.LogRecord.TheVariants.{Freeze}
+use Rattle.tsdb_memory.proofs.LogLemmas.Changed.{series_kept}
 use Rattle.tsdb_memory.proofs.LogLemmas.Steps.{no_memory, refuses}
+use Rattle.tsdb_memory.specs.Changes.{KeepsSeries}
 use Rattle.tsdb_memory.specs.Commands.{IsAny, IsPrepared}
 use Rattle.tsdb_memory.specs.Flushes.{CanCommit, IsFlushed}
 use Rattle.tsdb_memory.specs.Logged.{IsSound, LeavesStates, Outside, log_of, memory_of, room_of, with_record}
@@ -441,6 +443,8 @@ module _ {J F S R P : Type 0} {means : disk.Ghosts J} {counts : counted.Ghosts J
           ends outside engine flush others seen out tells logs.flushed.room all logs.listed oldest logs.least;
       left = λ is. logs.flushed.pair;
       working = logs.flushed.working;
+      kept = logs.flushed.kept;
+      memory = λ is. absurd cc;
       gone = λ is. absurd cc;
       slot = logs.flushed.slot;
       cause = λ is. absurd cc;
@@ -472,6 +476,9 @@ module _ {J F S R P : Type 0} {means : disk.Ghosts J} {counts : counted.Ghosts J
       keeps = λ outside engine flush others seen out tells oldest. absurd (answered oldest);
       left = λ is. absurd cc;
       working = ap (λ log. (memory_of log).working) logs;
+      kept = subst (λ log. KeepsSeries (memory_of old.logged) (memory_of log)) (sym logs)
+          (series_kept (memory_of old.logged));
+      memory = λ is. absurd cc;
       gone = λ is. logs;
       slot = ap (λ log. slot_of (log_of log)) logs;
       cause = λ is. absurd cc;
@@ -504,6 +511,8 @@ module _ {J F S R P : Type 0} {means : disk.Ghosts J} {counts : counted.Ghosts J
           ends outside engine flush others seen out tells logs.flushed.room all logs.listed oldest logs.least;
       left = λ is. absurd cc;
       working = logs.flushed.working;
+      kept = logs.flushed.kept;
+      memory = λ is. logs.flushed.memory;
       gone = λ is. absurd cc;
       slot = logs.flushed.slot;
       cause = λ is. logs.flushed.cause.failed;

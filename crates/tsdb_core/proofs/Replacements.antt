@@ -371,6 +371,7 @@ module _ {J F S R P : Type 0} {means : disk.Ghosts J} {counts : counted.Ghosts J
           (no_output_in name sealed rights job outside.told compaction is tells built of) outcome appends up;
       frozen = appends.replaced.frozen;
       working = appends.replaced.working;
+      kept = appends.replaced.kept;
       memory = appends.replaced.memory;
       slot = appends.replaced.slot;
       cause = appends.replaced.cause;

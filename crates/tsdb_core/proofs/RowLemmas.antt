@@ -1,5 +1,6 @@
 -- A row: what its private calls leave, put together.
-use Rattle.std.proofs.Common.{◌≡◌, ◌≢◌, ◌⊎◌, ℕ, zero, suc, ℤ, inl, inr, List, length, refl, sym, subst, ◌∙◌, arith}
+use Rattle.std.proofs.Common.{◌≡◌, ◌≢◌, ◌⊎◌, ℕ, zero, suc, ◌+◌, ℤ, inl, inr, List, length, ap, refl, sym, subst, ◌∙◌}
+use Rattle.std.proofs.Common.{arith}
 use Rattle.std.proofs.Common.{Bool, false}
 use Rattle.std.proofs.lemmas.Bool.{false≢true}
 use Rattle.std.specs.Prelude.{◌<◌, ◌≤◌, ◌↔◌, IsTrue}
@@ -13,7 +14,7 @@ use Rattle.tsdb_core.proofs.Worlds.{freeze_keeps, order_seen, row_step}
 use Rattle.tsdb_core.specs.Commands.{IsCoreCommand, KeepsFiles}
 use Rattle.tsdb_core.specs.Core.{IsSeen, limit_of, logged_of, working_of}
 use Rattle.tsdb_core.specs.RowSteps.{AreReadCells, CanFreezeFor, HasStateCounts, IsUntouched}
-use Rattle.tsdb_core.specs.Rows.{Fits, HasPlace, IsFrozenFor, IsPut, IsRowCommand, NeedsFlush}
+use Rattle.tsdb_core.specs.Rows.{CountsRow, Fits, HasPlace, IsFrozenFor, IsPut, IsRowCommand, NeedsFlush}
 use Rattle.tsdb_core.specs.Worlds.{FollowsMap, IsWorldOf, KeepsWorld}
 use Rattle.tsdb_core.specs.declared.engine.Core.{Core}
 use Rattle.tsdb_frames.specs.Frames.{faults_of}
@@ -21,6 +22,7 @@ use Rattle.tsdb_log.specs.declared.record.CellRecord.{CellRecord}
 use Rattle.tsdb_log.specs.declared.record.LogRecord.{LogRecord}
 use Rattle.tsdb_log.specs.declared.record.LogRecord.TheVariants.{Freeze, Insert}
 use Rattle.tsdb_memory.specs.Answers.{IsAccepted, IsFreezeAnswer}
+use Rattle.tsdb_memory.specs.Changes.{HasFrozen, HasInserted, MemoryAfter}
 use Rattle.tsdb_memory.specs.Commands.{CanPut, CanStop, IsAny, IsCommand}
 use Rattle.tsdb_memory.specs.Logged.{Outside, log_of, memory_of}
 use Rattle.tsdb_memory.specs.declared.logged.Logged.{Logged}
@@ -30,6 +32,7 @@ use Rattle.tsdb_model.specs.declared.command.Command.TheVariants as command
 use Rattle.tsdb_model.specs.declared.command.Row.{Row}
 use Rattle.tsdb_model.specs.declared.command.Schema.{Schema}
 use Rattle.tsdb_model.specs.declared.reply.Reply.TheVariants.{Plain}
+use Rattle.tsdb_memory.specs.Rows.{ChangesRoom}
 use Rattle.tsdb_memory.specs.Shown.{IsFrozenOf, IsMemoryOf}
 use Rattle.tsdb_memory.specs.Store.{Store}
 use Rattle.tsdb_base.specs.Causes.{Rose}
@@ -148,8 +151,10 @@ module _ {J F S R P : Type 0} {means : disk.Ghosts J} {counts : counted.Ghosts J
       → AreReadCells (memory_of (logged_of old)).series device row.cells cells
       → (memory_of (logged_of old)).stamp < end_of_numbers
       → (time : ℤ) → time ≡ row.time → IsCommand between.logged logged (Insert time cells) (CanPut time cells) result
+      → MemoryAfter (HasInserted device time cells) (memory_of (logged_of between)) (memory_of logged) result
       → IsPut device row old (record between { logged = logged }) result
-  put_of old between logged device row cells result place fit counted most series stamp read below time same command =
+  put_of old between logged device row cells result place fit counted most series stamp read below time same command
+      made =
       let here = subst (λ (s : List Schema). AreReadCells s device row.cells cells) (sym series) read in
       let can = row_can between device row cells here fit counted most
       (subst (λ n. n < end_of_numbers) (sym stamp) below) in
@@ -161,6 +166,8 @@ module _ {J F S R P : Type 0} {means : disk.Ghosts J} {counts : counted.Ghosts J
         can = can;
         put = put_command between logged row.time cells result
             (subst (λ t. IsCommand between.logged logged (Insert t cells) (CanPut t cells) result) same command) can;
+        memory = subst (λ (t : ℤ). MemoryAfter (HasInserted device t cells) (memory_of (logged_of between))
+            (memory_of logged) result) same made;
       }
 
   -- files and jobs stay over two commands
@@ -268,6 +275,77 @@ module _ {J F S R P : Type 0} {means : disk.Ghosts J} {counts : counted.Ghosts J
   row_cause device row old new result is failed =
       row_device device row old new (subst (IsRowCommand device row old new) failed is)
 
+  -- the series and the stamp after a row
+
+  counts_itself : (core : Core J F S R P means counts) (result : Answer) → result ≢ answer.Done
+      → CountsRow core core result
+  counts_itself core result not = record { series = refl; done = λ is. absurd (not is); not_done = λ is. refl }
+
+  -- nothing but room has changed
+  counts_room : (old new : Core J F S R P means counts) (result : Answer) → result ≢ answer.Done
+      → ChangesRoom (memory_of (logged_of old)) (memory_of (logged_of new)) → CountsRow old new result
+  counts_room old new result not room = record {
+    series = room.series;
+    done = λ is. absurd (not is);
+    not_done = λ is. room.stamp;
+  }
+
+  -- the series and the stamp are as before the freeze
+  record StaysAs (old new : Core J F S R P means counts) : Type 0 where
+    pub series : (memory_of (logged_of new)).series ≡ (memory_of (logged_of old)).series
+    pub stamp : (memory_of (logged_of new)).stamp ≡ (memory_of (logged_of old)).stamp
+
+  place_stays : (row : Row) (old between : Core J F S R P means counts) → HasPlace row old between
+      → StaysAs old between
+  place_stays row old between (inl same) = record {
+    series = ap (λ (core : Core J F S R P means counts). (memory_of (logged_of core)).series) same.1;
+    stamp = ap (λ (core : Core J F S R P means counts). (memory_of (logged_of core)).stamp) same.1;
+  }
+  place_stays row old between (inr frozen) = record { series = frozen.memory.series; stamp = frozen.memory.stamp }
+
+  counts_over : (old between new : Core J F S R P means counts) (result : Answer) → StaysAs old between
+      → CountsRow between new result → CountsRow old new result
+  counts_over old between new result stays counts = record {
+    series = counts.series ∙ stays.series;
+    done = λ is. counts.done is ∙ ap (λ n. n + 1) stays.stamp;
+    not_done = λ is. counts.not_done is ∙ stays.stamp;
+  }
+
+  put_done_counts : (device : List ℕ) (row : Row) (old new : Core J F S R P means counts)
+      → IsPut device row old new answer.Done → CountsRow old new answer.Done
+  put_done_counts device row old new put = counts_over old put.between new answer.Done
+      (place_stays row old put.between put.place)
+      (record { series = put.memory.series; done = λ is. put.memory.stamp; not_done = λ not. absurd (not refl) })
+
+  pub row_counts : (device : List ℕ) (row : Row) (old new : Core J F S R P means counts) (result : Answer)
+      → IsRowCommand device row old new result → CountsRow old new result
+  row_counts device row old new answer.Done put = put_done_counts device row old new put
+  row_counts device row old new answer.NoPath same = subst (λ core. CountsRow old core answer.NoPath) (sym same)
+      (counts_itself old answer.NoPath (λ is. cc))
+  row_counts device row old new answer.WrongType same = subst (λ core. CountsRow old core answer.WrongType) (sym same)
+      (counts_itself old answer.WrongType (λ is. cc))
+  row_counts device row old new answer.Exists same = subst (λ core. CountsRow old core answer.Exists) (sym same)
+      (counts_itself old answer.Exists (λ is. cc))
+  row_counts device row old new answer.Device (inl put) = counts_over old put.between new answer.Device
+      (place_stays row old put.between put.place)
+      (counts_room put.between new answer.Device (λ is. cc) put.memory)
+  row_counts device row old new answer.Device (inr frozen) = counts_room old new answer.Device (λ is. cc) frozen.memory
+  row_counts device row old new answer.Memory (inl same) = subst (λ core. CountsRow old core answer.Memory) (sym same)
+      (counts_itself old answer.Memory (λ is. cc))
+  row_counts device row old new answer.Memory (inr (inl put)) = counts_over old put.between new answer.Memory
+      (place_stays row old put.between put.place)
+      (counts_room put.between new answer.Memory (λ is. cc) put.memory)
+  row_counts device row old new answer.Memory (inr (inr frozen)) =
+      counts_room old new answer.Memory (λ is. cc) frozen.memory
+  row_counts device row old new (answer.Full counter) same =
+      subst (λ core. CountsRow old core (answer.Full counter)) (sym same)
+      (counts_itself old (answer.Full counter) (λ is. cc))
+
+  pub untouched_counts : (core : Core J F S R P means counts) (result : Answer) → IsUntouched result
+      → CountsRow core core result
+  untouched_counts core result is = counts_itself core result
+      (λ done. subst IsUntouched done is)
+
   -- the world
 
   module _ (old : Core J F S R P means counts) (row : Row) (can : CanFreezeFor row old) where
@@ -370,11 +448,13 @@ module _ {J F S R P : Type 0} {means : disk.Ghosts J} {counts : counted.Ghosts J
 
   pub frozen_for : (old : Core J F S R P means counts) (logged : Logged J means counts) (row : Row) (result : Answer)
       → ¬ Fits row old → CanFreezeFor row old → IsCommand old.logged logged Freeze CanStop result
+      → MemoryAfter HasFrozen (memory_of (logged_of old)) (memory_of logged) result
       → IsFrozenFor row old (record old { logged = logged }) result
-  frozen_for old logged row result full can command = record {
+  frozen_for old logged row result full can command made = record {
     full = full;
     can = λ outside state seen. can outside state seen full;
     freeze = freeze_command old logged result command (λ outside state seen. can outside state seen full);
+    memory = made;
   }
 
   -- a working pair that is not idle can be frozen

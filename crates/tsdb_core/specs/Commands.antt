@@ -1,14 +1,19 @@
 -- What the commands of a core leave.
-use Rattle.std.specs.Prelude.{◌≡◌, ◌≤◌, ◌⊎◌, List}
+use Rattle.std.specs.Prelude.{◌≡◌, ◌≤◌, ◌⊎◌, ℕ, List, Option}
 use Rattle.tsdb_base.specs.declared.answers.Answer.{Answer}
 use Rattle.tsdb_base.specs.declared.answers.Answer.TheVariants.{Done, NoPath, WrongType, Exists, Device, Memory, Full}
+use Rattle.tsdb_base.specs.declared.ids.Stamp.{Stamp}
+use Rattle.tsdb_base.specs.declared.point.Range.{Range}
 use Rattle.tsdb_core.specs.Core.{IsSeen, KeepsJobs, files_of, is_sequence_claimed, limit_of, logged_of, next_of}
 use Rattle.tsdb_core.specs.Loans.{KeepsAllLoans}
 use Rattle.tsdb_core.specs.declared.engine.Core.{Core}
 use Rattle.tsdb_frames.specs.Frames.{faults_of, slot_of}
+use Rattle.tsdb_fileset.specs.Files.{listed_borns}
 use Rattle.tsdb_log.specs.declared.record.LogRecord.{LogRecord}
 use Rattle.tsdb_memory.specs.Answers.{IsRefusal}
-use Rattle.tsdb_memory.specs.Logged.{LeavesStates, Outside, log_of, with_record}
+use Rattle.tsdb_memory.specs.Changes.{HasDeleted, MemoryAfter}
+use Rattle.tsdb_memory.specs.Least.{IsLeastOf}
+use Rattle.tsdb_memory.specs.Logged.{LeavesStates, Outside, log_of, memory_of, with_record}
 use Rattle.tsdb_base.specs.Causes.{Rose}
 use Rattle.tsdb_outside.specs.declared.disk.Disk as disk
 use Rattle.tsdb_outside.specs.declared.faults.Counted as counted
@@ -55,3 +60,10 @@ module _ {J F S R P : Type 0} {means : disk.Ghosts J} {counts : counted.Ghosts J
     pub slot : slot_of (log_of (logged_of new)) ≡ slot_of (log_of (logged_of old))
     pub cause : answer ≡ Device → Rose (faults_of (log_of (logged_of old))) (faults_of (log_of (logged_of new)))
     pub later : faults_of (log_of (logged_of old)) ≤ faults_of (log_of (logged_of new))
+
+  -- What a deletion makes of what is in memory, by the least born of the listed files.
+  pub record DeletesPoints (path : List ℕ) (range : Range) (old new : Core J F S R P means counts) (answer : Answer)
+      : Type 0 where
+    pub listed : Option Stamp
+    pub least : IsLeastOf listed (listed_borns (files_of old))
+    pub memory : MemoryAfter (HasDeleted path range listed) (memory_of (logged_of old)) (memory_of (logged_of new)) answer

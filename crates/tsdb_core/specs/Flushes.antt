@@ -28,6 +28,7 @@ use Rattle.tsdb_fileset.specs.FlushJob.{FlushJob}
 use Rattle.tsdb_fileset.specs.Files.{KeepsLists, listed_borns}
 use Rattle.tsdb_fileset.specs.Places.{AreOfStore, OnlyMakesPlaces}
 use Rattle.tsdb_base.specs.Lists.{IsWithOne}
+use Rattle.tsdb_memory.specs.Changes.{KeepsSeries}
 use Rattle.tsdb_memory.specs.Commands.{IsPrepared}
 use Rattle.tsdb_memory.specs.Flushes.{IsFlushed}
 use Rattle.tsdb_memory.specs.Logged.{LeavesStates, Outside, log_of, memory_of, with_record}
@@ -192,6 +193,8 @@ module _ {J F S R P : Type 0} {means : disk.Ghosts J} {counts : counted.Ghosts J
         → KeepsWorld (told_with flush files outside.told) engine.store (committed_flush flush others engine).store
     pub left : commit ≡ Done → (memory_of (logged_of new)).frozen ≡ drop 1 (memory_of (logged_of old)).frozen
     pub working : working_of new ≡ working_of old
+    pub kept : KeepsSeries (memory_of (logged_of old)) (memory_of (logged_of new))
+    pub memory : commit ≡ Device → memory_of (logged_of new) ≡ memory_of (logged_of old)
     pub gone : commit ≡ Gone → logged_of new ≡ logged_of old
     pub slot : slot_of (log_of (logged_of new)) ≡ slot_of (log_of (logged_of old))
     pub cause : commit ≡ Device → Rose (faults_of (log_of (logged_of old))) (faults_of (log_of (logged_of new)))

@@ -29,6 +29,7 @@ use Rattle.tsdb_state.specs.Places.{Content}
 use Rattle.tsdb_log.specs.declared.record.LogRecord.{LogRecord}
 use Rattle.tsdb_log.specs.declared.record.LogRecord.TheVariants.{Create, Delete, Flushed, Freeze, Insert, Replaced}
 use Rattle.tsdb_log.specs.declared.record.LogRecord.TheVariants.{Snapshot}
+use Rattle.tsdb_memory.specs.Changes.{KeepsSeries}
 use Rattle.tsdb_memory.specs.Logged.{LeavesStates, Outside, log_of, memory_of, with_record}
 use Rattle.tsdb_memory.specs.Replacing.{IsReplaced}
 use Rattle.tsdb_model.specs.World.{World}
@@ -160,6 +161,7 @@ module _ {J F S R P : Type 0} {means : disk.Ghosts J} {counts : counted.Ghosts J
         → CommitsIn old new outside engine compaction others file outcome
     pub frozen : (memory_of (logged_of new)).frozen ≡ (memory_of (logged_of old)).frozen
     pub working : working_of new ≡ working_of old
+    pub kept : KeepsSeries (memory_of (logged_of old)) (memory_of (logged_of new))
     pub memory : OnErr outcome (memory_of (logged_of new) ≡ memory_of (logged_of old))
     pub slot : slot_of (log_of (logged_of new)) ≡ slot_of (log_of (logged_of old))
     pub cause : HasCause (faults_of (log_of (logged_of old))) (faults_of (log_of (logged_of new))) outcome

@@ -1,5 +1,5 @@
 -- What a row leaves: the working pair is frozen before it, exactly where it does not fit.
-use Rattle.std.specs.Prelude.{◌≡◌, ◌⊎◌, ℕ, List, Option, Some, length, map}
+use Rattle.std.specs.Prelude.{◌≡◌, ◌≢◌, ◌⊎◌, ℕ, ◌+◌, List, Option, Some, length, map}
 use Rattle.tsdb_base.specs.declared.answers.Answer.{Answer}
 use Rattle.tsdb_base.specs.declared.answers.Answer.TheVariants.{Done, NoPath, WrongType, Exists, Device, Memory, Full}
 use Rattle.tsdb_core.specs.Commands.{IsCoreCommand}
@@ -9,6 +9,7 @@ use Rattle.tsdb_frames.specs.Frames.{disk_of, slot_of}
 use Rattle.tsdb_state.specs.Stored.{LeadsTo, LeavesOneOf}
 use Rattle.tsdb_log.specs.declared.record.CellRecord.{CellRecord}
 use Rattle.tsdb_log.specs.declared.record.LogRecord.TheVariants.{Freeze, Insert}
+use Rattle.tsdb_memory.specs.Changes.{HasFrozen, HasInserted, MemoryAfter}
 use Rattle.tsdb_memory.specs.Commands.{CanPut, IsAny}
 use Rattle.tsdb_memory.specs.Logged.{Outside, log_of, memory_of}
 use Rattle.tsdb_model.specs.History.{state_after}
@@ -45,6 +46,7 @@ module _ {J F S R P : Type 0} {means : disk.Ghosts J} {counts : counted.Ghosts J
     pub full : ¬ Fits row old
     pub can : CanFreezeNow old
     pub freeze : IsCoreCommand old new Freeze IsAny answer
+    pub memory : MemoryAfter HasFrozen (memory_of (logged_of old)) (memory_of (logged_of new)) answer
 
   -- a row finds the core as it is, where it fits, or with its working pair frozen
   abbrev pub HasPlace : Row → Core J F S R P means counts → Core J F S R P means counts → Type 0
@@ -60,6 +62,8 @@ module _ {J F S R P : Type 0} {means : disk.Ghosts J} {counts : counted.Ghosts J
     pub can : (outside : Outside) (state : EngineState) → IsSeen between outside state
         → CanPut row.time cells state
     pub put : IsCoreCommand between new (Insert row.time cells) IsAny answer
+    pub memory : MemoryAfter (HasInserted device row.time cells) (memory_of (logged_of between))
+        (memory_of (logged_of new)) answer
 
   -- What a row leaves, by its answer.
   abbrev pub IsRowCommand : List ℕ → Row → Core J F S R P means counts → Core J F S R P means counts → Answer → Type 0
@@ -71,6 +75,12 @@ module _ {J F S R P : Type 0} {means : disk.Ghosts J} {counts : counted.Ghosts J
   IsRowCommand device row old new Memory =
       (new ≡ old) ⊎ (IsPut device row old new Memory ⊎ IsFrozenFor row old new Memory)
   IsRowCommand device row old new (Full counter) = new ≡ old
+
+  -- The series stay, and one change more is counted exactly where the row is done, whatever store it is.
+  pub record CountsRow (old new : Core J F S R P means counts) (answer : Answer) : Type 0 where
+    pub series : (memory_of (logged_of new)).series ≡ (memory_of (logged_of old)).series
+    pub done : answer ≡ Done → (memory_of (logged_of new)).stamp ≡ (memory_of (logged_of old)).stamp + 1
+    pub not_done : answer ≢ Done → (memory_of (logged_of new)).stamp ≡ (memory_of (logged_of old)).stamp
 
   -- At each moment of the call a stop leaves the state, or that of the record that was in doubt, or the one after the
   -- row.

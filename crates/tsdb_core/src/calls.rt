@@ -4,6 +4,7 @@ ghost use Rattle.tsdb_fileset.specs.Closing.{ArePutBack, AreRising, names_at};
 ghost use Rattle.tsdb_fileset.specs.Places.{AreOfStore, AreUnread};
 ghost use Rattle.tsdb_log.specs.declared.record.LogRecord.{LogRecord};
 ghost use Rattle.tsdb_memory.specs.Answers.{IsCreateAnswer, IsDeleteAnswer, IsFreezeAnswer};
+ghost use Rattle.tsdb_memory.specs.Changes.{HasCreated, HasFrozen, MemoryAfter};
 ghost use Rattle.tsdb_model.specs.Commands.{IsSchema};
 ghost use Rattle.tsdb_model.specs.declared.command.Command.{Command};
 ghost use Rattle.tsdb_outside.specs.Causes.{HasCause};
@@ -18,7 +19,7 @@ use tsdb_outside::{Failed, Files, Journal};
 use tsdb_path::Path;
 
 impl<J: Journal, F: Files> Core<J, F> {
-    ghost use Rattle.tsdb_core.specs.Commands.{IsCoreCommand, KeepsFiles};
+    ghost use Rattle.tsdb_core.specs.Commands.{DeletesPoints, IsCoreCommand, KeepsFiles};
     ghost use Rattle.tsdb_core.specs.Core.{files_of, logged_of, working_of};
     ghost use Rattle.tsdb_core.specs.RowSteps.{HasStateCounts};
     ghost use Rattle.tsdb_core.specs.Rows.{CanFreezeNow};
@@ -33,6 +34,8 @@ impl<J: Journal, F: Files> Core<J, F> {
         requires { IsSchema schema.now }
         ensures answer { IsCreateAnswer (memory_of (logged_of self.old)) schema.now.path result }
         ensures command { IsCoreCommand self.old self.new (create_record schema.now) IsAny result }
+        ensures memory { MemoryAfter (HasCreated schema.now) (memory_of (logged_of self.old))
+            (memory_of (logged_of self.new)) result }
         ensures map { FollowsMap self.old self.new (Command.Create schema.now) result }
     {
         self.logged.create(schema)
@@ -42,6 +45,7 @@ impl<J: Journal, F: Files> Core<J, F> {
     pub fn delete(&mut self, series: &Path, range: &Range) -> Answer
         ensures answer { IsDeleteAnswer (memory_of (logged_of self.old)) series.now result }
         ensures command { IsCoreCommand self.old self.new (LogRecord.Delete series.now range.now) IsAny result }
+        ensures memory { DeletesPoints series.now range.now self.old self.new result }
         ensures map { FollowsMap self.old self.new (Command.Delete series.now range.now) result }
     {
         let listed = self.files.least_born();
@@ -55,6 +59,8 @@ impl<J: Journal, F: Files> Core<J, F> {
         ensures idle { HasNoPoint (working_of self.old) → (result ≡ Answer.Done) × (self.new ≡ self.old) }
         ensures command { ¬ HasNoPoint (working_of self.old)
             → IsCoreCommand self.old self.new LogRecord.Freeze IsAny result }
+        ensures memory { ¬ HasNoPoint (working_of self.old) → MemoryAfter HasFrozen (memory_of (logged_of self.old))
+            (memory_of (logged_of self.new)) result }
         ensures emptied { result ≡ Answer.Done → HasNoPoint (working_of self.new) }
         ensures can { ¬ HasNoPoint (working_of self.old) → CanFreezeNow self.old }
         ensures world { KeepsWorld self.old self.new }

@@ -28,7 +28,8 @@ const LAST_STAMP: u64 = END_OF_NUMBERS;
 impl<J: Journal, F: Files> Core<J, F> {
     ghost use Rattle.tsdb_core.specs.Commands.{KeepsFiles};
     ghost use Rattle.tsdb_core.specs.Core.{limit_of, logged_of};
-    ghost use Rattle.tsdb_core.specs.Rows.{Fits, HasPlace, IsFrozenFor, IsRowCommand, LeavesRow, NeedsFlush};
+    ghost use Rattle.tsdb_core.specs.Rows.{CountsRow, Fits, HasPlace, IsFrozenFor, IsRowCommand, LeavesRow};
+    ghost use Rattle.tsdb_core.specs.Rows.{NeedsFlush};
     ghost use Rattle.tsdb_core.specs.RowSteps.{CanFreezeFor, HasStateCounts};
     ghost use Rattle.tsdb_core.specs.Worlds.{FollowsMap, IsWorldOf};
     ghost use Rattle.tsdb_memory.specs.Logged.{log_of, memory_of};
@@ -50,6 +51,7 @@ impl<J: Journal, F: Files> Core<J, F> {
         requires place { ¬ NeedsFlush row.now self.old }
         ensures answer { IsInsertAnswer (memory_of (logged_of self.old)) device.now row.now.cells result }
         ensures row { IsRowCommand device.now row.now self.old self.new result }
+        ensures memory { CountsRow self.old self.new result }
         ensures map { FollowsMap self.old self.new (Command.Insert device.now row.now) result }
         ensures moments { LeavesRow device.now row.now self.old self.new }
         ensures kept { KeepsFiles self.old self.new }

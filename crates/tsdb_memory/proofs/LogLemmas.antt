@@ -5,4 +5,5 @@ pub mod Flushing
 pub mod Closing
 pub mod Commanding
 pub mod Answering
+pub mod Changed
 pub mod Replacements

@@ -17,6 +17,7 @@ use Rattle.tsdb_state.specs.Places.{Place, place_cmp}
 use Rattle.tsdb_model.specs.declared.command.Schema.{Schema}
 use Rattle.tsdb_memory.proofs.Numbers.{one_path, some_same}
 use Rattle.tsdb_memory.proofs.Series.{changed_here, changed_there, itself, one_number}
+use Rattle.tsdb_memory.specs.Changes.{is_space}
 use Rattle.tsdb_memory.specs.Model.{HasRisingPoints}
 use Rattle.tsdb_memory.specs.Shown.{IsPairOf, number_of, value_at, value_found}
 use Rattle.tsdb_memtable.specs.Pairs.{Pair, SeriesPoints, blank, change_points, is_series, points_in, points_of, put_in}
@@ -133,12 +134,6 @@ in_pair pair n room = cases (lookup (is_series n) pair) refl
     cases : (o : Option SeriesPoints) → lookup (is_series n) pair ≡ o → IsSome o
     cases None e = absurd (none (subst (λ o. 0 < (unwrap_or o blank).spare) e room))
     cases (Some v) e = refl
-
-abbrev pub is_space : Space → Space → Bool
-is_space Sequence Sequence = true
-is_space Sequence Unsequence = false
-is_space Unsequence Sequence = false
-is_space Unsequence Unsequence = true
 
 -- the points of a series in a space after a put
 pub put_here : (space other : Space) (n : ℕ) (point : Point) (pair : Pair) → 0 < spare_of n pair

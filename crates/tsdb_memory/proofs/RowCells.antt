@@ -1,7 +1,9 @@
 -- The cells of a row, one after another.
-use Rattle.std.proofs.Common.{◌≡◌, ◌≢◌, ℕ, ℤ, zero, suc, ◌+◌, ◌<◌, ◌≤◌, inl, inr, ⊎_elim, List, [], ◌∷◌}
+use Rattle.std.proofs.Common.{◌≡◌, ◌≢◌, ℕ, ℤ, zero, suc, ◌+◌, ◌<◌, ◌≤◌, Bool, true, false, cond, inl, inr, ⊎_elim, List}
+use Rattle.std.proofs.Common.{[], ◌∷◌}
 use Rattle.std.proofs.Common.{length, map, take, get_or, Option, Some, None, refl, sym, ap, subst, ◌∙◌, arith, slice_get}
-use Rattle.std.specs.Prelude.{All, AllPairs}
+use Rattle.std.specs.Prelude.{◌&&◌, All, AllPairs}
+use Rattle.std.proofs.lemmas.Bool.{false≢true}
 use Rattle.std.specs.FinMap.{get}
 use Rattle.std.specs.Option.{IsSomeAnd, option_map, unwrap_or}
 use Rattle.std.proofs.lemmas.List.Elements.{All-cons, All-from_get_or, All-head, All-more, All-nil, All-tail, All-weaker}
@@ -10,13 +12,16 @@ use Rattle.tsdb_base.specs.declared.point.Point.{Point}
 use Rattle.tsdb_state.specs.LayerOrder.{Watermarks}
 use Rattle.tsdb_log.specs.declared.record.CellRecord.{CellRecord}
 use Rattle.tsdb_model.specs.declared.command.Schema.{Schema}
-use Rattle.tsdb_memory.proofs.Putting.{in_pair, pair_put, rising_put}
-use Rattle.tsdb_memory.proofs.Series.{changed_there}
+use Rattle.tsdb_memory.proofs.Putting.{in_pair, pair_put, put_here, put_there, rising_put}
+use Rattle.tsdb_memory.proofs.Series.{changed_there, itself, one_number}
+use Rattle.tsdb_memory.specs.Changes.{is_space, points_with_row}
 use Rattle.tsdb_memory.specs.Model.{HasKnownSeries, HasRisingPoints, HasTypedPoints, IsFitting, IsSound}
 use Rattle.tsdb_memory.specs.Rows.{put_all}
 use Rattle.tsdb_memory.specs.Shown.{IsMemoryOf, IsPairOf, entry_of, number_of}
 use Rattle.tsdb_memory.specs.Store.{Store}
-use Rattle.tsdb_memtable.specs.Pairs.{Pair, SeriesPoints, UsesSpareRoom, change_points, points_in, put_in, spare_of}
+use Rattle.tsdb_memtable.specs.Pairs.{Pair, SeriesPoints, UsesSpareRoom, change_points, is_series, points_in, points_of}
+use Rattle.tsdb_memtable.specs.Pairs.{put_in, spare_of}
+use Rattle.tsdb_memtable.specs.Points.{with_point}
 use Rattle.tsdb_memtable.specs.Watermarks.{space_by, watermark}
 use Rattle.tsdb_path.specs.Nodes.{device_of}
 use Rattle.tsdb_base.specs.Limits.{end_of_numbers}
@@ -52,6 +57,36 @@ room_left space point n pair room (cell ∷ cells) differ all =
     (All-head (HasRoom pair) cell cells all))
     (room_left space point n pair room cells (All-tail (λ (c : CellRecord). n ≢ c.series.0) cell cells differ)
     (All-tail (HasRoom pair) cell cells all))
+
+-- the points of each series after a row, where there is room for its cells
+pub row_points : (into : Space) (time : ℤ) (cells : List CellRecord) (pair : Pair) → All (HasRoom pair) cells
+    → AllPairs Differs cells → (space : Space) (number : ℕ)
+    → points_of space number (put_all into time cells pair)
+    ≡ points_with_row into time cells space number (points_of space number pair)
+row_points into time [] pair room differ space number = refl
+row_points into time (cell ∷ cells) pair room differ space number =
+    row_points into time cells (change_points n (put_in into point) pair)
+    (room_left into point n pair here cells (pairs_first Differs cell cells differ)
+    (All-tail (HasRoom pair) cell cells room)) (pairs_rest Differs cell cells differ) space number
+    ∙ ap (points_with_row into time cells space number) (by (is_series n number) refl)
+  where
+    n : ℕ
+    n = cell.series.0
+
+    point : Point
+    point = record { time = time; value = cell.value }
+
+    here : HasRoom pair cell
+    here = All-head (HasRoom pair) cell cells room
+
+    by : (b : Bool) → is_series n number ≡ b → points_of space number (change_points n (put_in into point) pair)
+        ≡ cond (b && is_space into space) (with_point point (points_of space number pair))
+        (points_of space number pair)
+    by true e = subst (λ k. points_of space k (change_points n (put_in into point) pair)
+        ≡ cond (is_space into space) (with_point point (points_of space k pair)) (points_of space k pair))
+        (one_number n number e) (put_here into space n point pair here)
+    by false e = put_there into space n point pair number here
+        (λ same. false≢true (sym e ∙ ap (is_series n) (sym same) ∙ itself n))
 
 -- the path of a series that is there
 

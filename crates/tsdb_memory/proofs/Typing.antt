@@ -14,7 +14,8 @@ use Rattle.tsdb_base.proofs.Lists.{each_append, each_filter}
 use Rattle.tsdb_log.specs.declared.record.CellRecord.{CellRecord}
 use Rattle.tsdb_model.specs.declared.command.Schema.{Schema}
 use Rattle.tsdb_memory.proofs.Numbers.{get_push, some_same}
-use Rattle.tsdb_memory.proofs.Putting.{is_space, put_here, put_there}
+use Rattle.tsdb_memory.proofs.Putting.{put_here, put_there}
+use Rattle.tsdb_memory.specs.Changes.{is_space}
 use Rattle.tsdb_memory.proofs.RowCells.{Differs, HasRoom, IsThere, at_number, pairs_first, pairs_rest, room_left}
 use Rattle.tsdb_memory.proofs.Series.{erased_here, erased_there, itself, one_number}
 use Rattle.tsdb_memory.specs.Model.{HasKnownSeries, HasTypedPoints, IsFitting}

@@ -6,6 +6,7 @@ use Rattle.tsdb_base.specs.declared.ids.Stamp.{Stamp}
 use Rattle.tsdb_frames.specs.Frames.{faults_of, slot_of}
 use Rattle.tsdb_state.specs.Stored.{IsKeptWhole, built_files}
 use Rattle.tsdb_log.specs.declared.record.LogRecord.TheVariants.{Flushed}
+use Rattle.tsdb_memory.specs.Changes.{KeepsSeries}
 use Rattle.tsdb_memory.specs.Logged.{IsFaulted, IsSound, LeavesStates, Outside, log_of, memory_of, room_of, with_record}
 use Rattle.tsdb_memory.specs.declared.logged.Logged.{Logged}
 use Rattle.tsdb_memory.specs.Least.{IsLeastOf}
@@ -45,6 +46,8 @@ module _ {J : Type 0} {means : disk.Ghosts J} {counts : counted.Ghosts J} where
     pub pair : OnOk outcome ((memory_of new).frozen ≡ drop 1 (memory_of old).frozen)
     pub no_pair : OnErr outcome ((memory_of new).frozen ≡ (memory_of old).frozen)
     pub working : (memory_of new).working ≡ (memory_of old).working
+    pub kept : KeepsSeries (memory_of old) (memory_of new)
+    pub memory : OnErr outcome (memory_of new ≡ memory_of old)
     pub room : room_of old ≤ room_of new
     pub slot : slot_of (log_of new) ≡ slot_of (log_of old)
     pub cause : HasCause (faults_of (log_of old)) (faults_of (log_of new)) outcome

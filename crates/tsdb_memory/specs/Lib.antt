@@ -2,6 +2,7 @@ pub mod Store
 pub mod Shown
 pub mod Least
 pub mod Rows
+pub mod Changes
 pub mod Shared
 pub mod Freezing
 pub mod Model

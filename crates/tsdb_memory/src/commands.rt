@@ -5,6 +5,7 @@ ghost use Rattle.tsdb_log.specs.declared.record.LogRecord.{LogRecord};
 ghost use Rattle.tsdb_memory.specs.Answers.{IsAccepted, IsCreateAnswer, IsDeleteAnswer, answer_by};
 ghost use Rattle.tsdb_base.specs.declared.point.Range.{Range as RangeOf};
 ghost use Rattle.tsdb_log.specs.declared.record.CellRecord.{CellRecord as CellOf};
+ghost use Rattle.tsdb_memory.specs.Changes.{HasCreated, HasDeleted, HasInserted, MemoryAfter};
 ghost use Rattle.tsdb_memory.specs.Commands.{IsCreation, IsDeletion, IsInsertion, create_record as record_of};
 ghost use Rattle.tsdb_model.specs.Commands.{IsSchema};
 ghost use Rattle.tsdb_memory.specs.Model.{IsFitting};
@@ -32,6 +33,7 @@ impl<J: Journal> Logged<J> {
         requires { IsSchema schema.now }
         ensures answer { IsCreateAnswer (memory_of self.old) schema.now.path result }
         ensures command { IsCommand self.old self.new (create_record schema.now) IsAny result }
+        ensures memory { MemoryAfter (HasCreated schema.now) (memory_of self.old) (memory_of self.new) result }
     {
         let counter = self.memory.stamp();
         if self.memory.series(&schema.path).is_some() {
@@ -47,7 +49,9 @@ impl<J: Journal> Logged<J> {
         requires formed { IsSchema schema.now }
         requires free { number_of (memory_of self.old).series schema.now.path ≡ None }
         requires stamp { (memory_of self.old).stamp < end_of_numbers }
-        ensures { IsCommand self.old self.new (create_record schema.now) IsAny (answer_by result) }
+        ensures command { IsCommand self.old self.new (create_record schema.now) IsAny (answer_by result) }
+        ensures memory { MemoryAfter (HasCreated schema.now) (memory_of self.old) (memory_of self.new)
+            (answer_by result) }
     {
         let item = self.prepare_create(schema)?;
         let item = self.log_record(item)?;
@@ -78,6 +82,8 @@ impl<J: Journal> Logged<J> {
     pub fn delete(&mut self, series: &Path, range: &Range, listed: Option<Stamp>) -> Answer
         ensures answer { IsDeleteAnswer (memory_of self.old) series.now result }
         ensures command { IsCommand self.old self.new (LogRecord.Delete series.now range.now) (HasLeast listed) result }
+        ensures memory { MemoryAfter (HasDeleted series.now range.now listed) (memory_of self.old) (memory_of self.new)
+            result }
     {
         let counter = self.memory.stamp();
         if self.memory.series(series).is_none() {
@@ -97,7 +103,9 @@ impl<J: Journal> Logged<J> {
     ) -> Result<(), StoreFault>
         requires there { IsSome (number_of (memory_of self.old).series series.now) }
         requires stamp { (memory_of self.old).stamp < end_of_numbers }
-        ensures { IsCommand self.old self.new (LogRecord.Delete series.now range.now) (HasLeast listed)
+        ensures command { IsCommand self.old self.new (LogRecord.Delete series.now range.now) (HasLeast listed)
+            (answer_by result) }
+        ensures memory { MemoryAfter (HasDeleted series.now range.now listed) (memory_of self.old) (memory_of self.new)
             (answer_by result) }
     {
         let item = self.prepare_delete(series, range)?;
@@ -132,6 +140,7 @@ impl<J: Journal> Logged<J> {
             (IsFitting device.now cell)) cells }
         ensures answer { IsAccepted (memory_of self.old).stamp result }
         ensures command { IsCommand self.old self.new (LogRecord.Insert time cells) (CanPut time cells) result }
+        ensures memory { MemoryAfter (HasInserted device.now time cells) (memory_of self.old) (memory_of self.new) result }
     {
         let counter = self.memory.stamp();
         if counter == LAST_STAMP {
@@ -151,7 +160,10 @@ impl<J: Journal> Logged<J> {
         requires there { All (λ cell. IsSomeAnd (slice_get (memory_of self.old).series cell.series.0)
             (IsFitting device.now cell)) cells }
         requires stamp { (memory_of self.old).stamp < end_of_numbers }
-        ensures { IsCommand self.old self.new (LogRecord.Insert time cells) (CanPut time cells) (answer_by result) }
+        ensures command { IsCommand self.old self.new (LogRecord.Insert time cells) (CanPut time cells)
+            (answer_by result) }
+        ensures memory { MemoryAfter (HasInserted device.now time cells) (memory_of self.old) (memory_of self.new)
+            (answer_by result) }
     {
         let item = self.prepare_insert(time, cells)?;
         let item = self.log_record(item)?;

@@ -1,6 +1,7 @@
 //! The effect of a creation. Depends on the store's fields.
 ghost use Rattle.std.specs.Prelude.{◌≡◌, ◌<◌, None, OnOk};
 ghost use Rattle.tsdb_model.specs.Commands.{IsSchema};
+ghost use Rattle.tsdb_memory.specs.Changes.{HasCreated};
 ghost use Rattle.tsdb_memory.specs.Rows.{ChangesRoom};
 ghost use Rattle.tsdb_memory.specs.Shown.{IsMemoryOf, number_of};
 ghost use Rattle.tsdb_base.specs.Limits.{end_of_numbers};
@@ -29,6 +30,7 @@ impl MemoryStore {
         requires free { number_of self.old.series schema.path ≡ None }
         requires stamp { self.old.stamp < end_of_numbers }
         ensures effect { (state : StoreState) → IsMemoryOf self.old state → IsMemoryOf self.new (created schema state) }
+        ensures made { HasCreated schema self.old self.new }
     {
         // (a call of the path tells that it is one)
         let _ = schema.path.bytes();

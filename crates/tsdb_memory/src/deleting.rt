@@ -1,5 +1,6 @@
 //! The effect of a deletion. Depends on the store's fields, and on `purging`.
 ghost use Rattle.std.specs.Prelude.{◌≡◌, ◌<◌, ◌≤◌, ◌≤ℤ◌, ◌<ℤ◌, ◌+◌, All, IsSome, OnOk};
+ghost use Rattle.tsdb_memory.specs.Changes.{HasDeleted};
 ghost use Rattle.tsdb_memory.specs.Least.{IsLeastOf};
 ghost use Rattle.tsdb_memory.specs.Rows.{ChangesRoom};
 ghost use Rattle.tsdb_memory.specs.Shown.{IsMemoryOf, file_borns, number_of};
@@ -39,6 +40,7 @@ impl MemoryStore {
         requires place { range.now.from ≤ℤ range.now.to → 0 < self.old.marks.spare }
         ensures effect { (state : StoreState) → IsMemoryOf self.old state → IsLeastOf listed (file_borns state)
             → IsMemoryOf self.new (deleted path range.now state) }
+        ensures made { HasDeleted path range.now listed self.old self.new }
     {
         let Some(number) = self.series.get_index_of(&path) else {
             unreachable!()

@@ -1,6 +1,7 @@
 //! What the records on files do to memory: a flush ends a frozen pair, and marks that cover nothing any more go. Depends
 //! on the store's fields, and on `purging`.
 ghost use Rattle.std.specs.Prelude.{◌≡◌, ◌<◌, ℕ, drop, length};
+ghost use Rattle.tsdb_memory.specs.Changes.{KeepsSeries};
 ghost use Rattle.tsdb_memory.specs.Least.{IsLeastOf};
 ghost use Rattle.tsdb_memory.specs.Shown.{IsMemoryOf, file_borns};
 ghost use Rattle.tsdb_state.specs.Records.{Replacement, flushed, replaced};
@@ -17,6 +18,7 @@ impl MemoryStore {
         requires some { 0 < length self.old.frozen }
         ensures frozen { self.new.frozen ≡ drop 1 self.old.frozen }
         ensures working { self.new.working ≡ self.old.working }
+        ensures kept { KeepsSeries self.old self.new }
         ensures effect { (state : StoreState) (sequence unsequence : ℕ) → IsMemoryOf self.old state
             → IsLeastOf listed (file_borns (flushed sequence unsequence state))
             → IsMemoryOf self.new (flushed sequence unsequence state) }
@@ -30,6 +32,7 @@ impl MemoryStore {
     pub fn finish_replaced(&mut self, listed: Option<Stamp>)
         ensures frozen { self.new.frozen ≡ self.old.frozen }
         ensures working { self.new.working ≡ self.old.working }
+        ensures kept { KeepsSeries self.old self.new }
         ensures effect { (state : StoreState) (item : Replacement) → IsMemoryOf self.old state
             → IsLeastOf listed (file_borns (replaced item state))
             → IsMemoryOf self.new (replaced item state) }

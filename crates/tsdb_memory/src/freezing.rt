@@ -3,6 +3,7 @@ ghost use Rattle.std.specs.Prelude.{◌≡◌, ◌<◌, ◌≤◌, ℕ, List, []
 ghost use Rattle.tsdb_base.specs.declared.ids.Space.TheVariants.{Sequence};
 ghost use Rattle.tsdb_base.specs.declared.point.Point.{Point as PointOf};
 ghost use Rattle.tsdb_base.specs.Lists.{Among};
+ghost use Rattle.tsdb_memory.specs.Changes.{HasFrozen};
 ghost use Rattle.tsdb_memory.specs.Freezing.{AreRaises, HasPlaces, IsFreezeOf, IsRaiseOf, raised_by};
 ghost use Rattle.tsdb_memory.specs.Rows.{ChangesRoom};
 ghost use Rattle.tsdb_memory.specs.Shown.{IsMemoryOf};
@@ -63,6 +64,7 @@ impl MemoryStore {
         ensures stamp { self.new.stamp ≡ self.old.stamp }
         ensures frozen { self.new.frozen ≡ frozen_with_working self.old }
         ensures working { self.new.working ≡ [] }
+        ensures made { HasFrozen self.old self.new }
     {
         let Freezing { raises, place } = freezing;
         raise_all(&mut self.watermarks, &raises);

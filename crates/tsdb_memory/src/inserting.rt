@@ -2,6 +2,7 @@
 ghost use Rattle.std.specs.Prelude.{◌≡◌, ◌≢◌, ◌<◌, ℕ, All, AllPairs, OnOk, slice_get};
 ghost use Rattle.std.specs.Option.{IsSomeAnd};
 ghost use Rattle.tsdb_base.specs.declared.ids.Space.{Space as SpaceOf};
+ghost use Rattle.tsdb_memory.specs.Changes.{HasInserted};
 ghost use Rattle.tsdb_memory.specs.Model.{IsFitting};
 ghost use Rattle.tsdb_memory.specs.Shown.{IsMemoryOf};
 ghost use Rattle.tsdb_memory.specs.Rows.{ChangesRoom, put_all};
@@ -36,6 +37,7 @@ impl MemoryStore {
         requires stamp { self.old.stamp < end_of_numbers }
         ensures effect { (state : StoreState) → IsMemoryOf self.old state
             → IsMemoryOf self.new (inserted time cells state) }
+        ensures made { HasInserted device.now time cells self.old self.new }
     {
         let space = space_of(self.watermarks.get(device), time);
         put_cells(&mut self.working, space, time, cells);

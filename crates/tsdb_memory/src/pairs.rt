@@ -1,6 +1,7 @@
 //! What becomes of a pair of points: it is frozen, and then in files. Depends on `logged`.
 ghost use Rattle.std.specs.Prelude.{◌≡◌, ◌≢◌, ◌<◌, ◌≤◌, [], OnOk, length};
 ghost use Rattle.tsdb_memory.specs.Answers.{IsFreezeAnswer, answer_by};
+ghost use Rattle.tsdb_memory.specs.Changes.{HasFrozen, MemoryAfter};
 ghost use Rattle.tsdb_log.specs.declared.record.LogRecord.{LogRecord};
 ghost use Rattle.tsdb_memory.specs.Store.{frozen_with_working};
 ghost use Rattle.tsdb_state.specs.Jobs.{flushed_bytes};
@@ -30,6 +31,7 @@ impl<J: Journal> Logged<J> {
         ensures frozen { result ≡ Answer.Done → (memory_of self.new).frozen ≡ frozen_with_working (memory_of self.old) }
         ensures unfrozen { result ≢ Answer.Done → (memory_of self.new).frozen ≡ (memory_of self.old).frozen }
         ensures working { result ≡ Answer.Done → (memory_of self.new).working ≡ [] }
+        ensures memory { MemoryAfter HasFrozen (memory_of self.old) (memory_of self.new) result }
     {
         answer_of(self.write_freeze())
     }
@@ -44,6 +46,7 @@ impl<J: Journal> Logged<J> {
         ensures unfrozen { answer_by result ≢ Answer.Done
             → (memory_of self.new).frozen ≡ (memory_of self.old).frozen }
         ensures working { answer_by result ≡ Answer.Done → (memory_of self.new).working ≡ [] }
+        ensures memory { MemoryAfter HasFrozen (memory_of self.old) (memory_of self.new) (answer_by result) }
     {
         let freezing = self.memory.prepare_freeze()?;
         self.append(&LogRecord::Freeze)?;

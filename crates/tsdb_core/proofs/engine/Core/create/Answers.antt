@@ -23,3 +23,6 @@ returns-clause-map g c =
     (λ outside state seen. creation_follows outside.told (memory_of old.logged) state.store
     (memory_seen old outside state seen) (order_seen old outside state seen) c.args.schema.now c.create.result c.requires
     c.create.ensures.answer)
+
+pub returns-clause-memory : goal.returns-clause-memory
+returns-clause-memory g c = c.create.ensures.memory

@@ -20,3 +20,10 @@ returns-clause-map g c =
     (λ outside state seen. deletion_follows outside.told (memory_of old.logged) state.store
     (memory_seen old outside state seen) (order_seen old outside state seen) c.args.series.now c.args.range.now
     c.delete.result c.delete.ensures.answer)
+
+pub returns-clause-memory : goal.returns-clause-memory
+returns-clause-memory g c = record {
+  listed = c.least_born-listed.result;
+  least = c.least_born-listed.ensures;
+  memory = c.delete.ensures.memory;
+}

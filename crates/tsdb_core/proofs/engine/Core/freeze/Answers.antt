@@ -34,3 +34,9 @@ pub returns-clause-kept : goal.returns-clause-kept
 returns-clause-kept g c = (freeze_command c.args.self.now c.freeze.new.self c.freeze.result c.freeze.ensures.command
     (can_freeze_now c.args.self.now c.is_idle.result c.if-is_idle.false c.is_idle.ensures.idle c.is_idle.ensures.counts
     c.requires)).kept
+
+pub returns-clause-memory : goal.returns-clause-memory
+returns-clause-memory g c = λ filled. c.freeze.ensures.memory
+
+pub returns-then-is_idle-clause-memory : goal.returns-then-is_idle-clause-memory
+returns-then-is_idle-clause-memory g c = λ filled. absurd (filled (c.is_idle.ensures.idle.0 c.if-is_idle.true))

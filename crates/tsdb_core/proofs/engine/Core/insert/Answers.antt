@@ -1,4 +1,4 @@
-use Rattle.tsdb_core.proofs.RowLemmas.{row_follows, row_kept, tried_answer, untouched_follows}
+use Rattle.tsdb_core.proofs.RowLemmas.{row_counts, row_follows, row_kept, tried_answer, untouched_counts, untouched_follows}
 use Rattle.tsdb_core.proofs.RowMoments.{still_leaves}
 use Rattle.tsdb_memory.specs.Logged.{memory_of}
 use Rattle.tsdb_core.proofs.engine.Core.insert.Goals as goal
@@ -19,3 +19,10 @@ returns-in-Err-clause-map g c = untouched_follows c.args.device.now c.args.row.n
 
 pub returns-in-Err-clause-moments : goal.returns-in-Err-clause-moments
 returns-in-Err-clause-moments g c = still_leaves c.args.device.now c.args.row.now c.args.self.now
+
+pub returns-in-Ok-clause-memory : goal.returns-in-Ok-clause-memory
+returns-in-Ok-clause-memory g c = row_counts c.args.device.now c.args.row.now c.args.self.now c.put_row.new.self
+    c.put_row.result c.put_row.ensures.row
+
+pub returns-in-Err-clause-memory : goal.returns-in-Err-clause-memory
+returns-in-Err-clause-memory g c = untouched_counts c.args.self.now c.in-Err.answer c.in-Err.ensures.untouched

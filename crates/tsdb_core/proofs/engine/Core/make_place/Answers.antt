@@ -12,7 +12,7 @@ returns-clause-done g c =
     λ done. inr (subst (IsFrozenFor c.args.row.now old (record old { logged = c.freeze-answer.new.self })) done
     (frozen_for old c.freeze-answer.new.self c.args.row.now c.freeze-answer.result full
     (can_freeze_for old c.args.row.now c.memory-memory.result.now c.memory-memory.ensures c.fits.ensures.counts
-    c.sound.ensures.two c.requires.place) c.freeze-answer.ensures.command))
+    c.sound.ensures.two c.requires.place) c.freeze-answer.ensures.command c.freeze-answer.ensures.memory))
 
 pub returns-clause-failed : goal.returns-clause-failed
 returns-clause-failed g c =
@@ -21,7 +21,7 @@ returns-clause-failed g c =
     c.fits.result c.if-fits.false c.points.ensures.value c.memory-memory.ensures c.fits.ensures.fits in
     λ failed. frozen_for old c.freeze-answer.new.self c.args.row.now c.freeze-answer.result full
     (can_freeze_for old c.args.row.now c.memory-memory.result.now c.memory-memory.ensures c.fits.ensures.counts
-    c.sound.ensures.two c.requires.place) c.freeze-answer.ensures.command
+    c.sound.ensures.two c.requires.place) c.freeze-answer.ensures.command c.freeze-answer.ensures.memory
 
 pub returns-clause-can : goal.returns-clause-can
 returns-clause-can g c = can_freeze_for c.args.self.now c.args.row.now c.memory-memory.result.now

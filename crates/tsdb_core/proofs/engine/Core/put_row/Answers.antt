@@ -16,7 +16,7 @@ returns-in-Done-clause-row g c =
     (c.in-Done.ensures.done refl) (c.in-Done.ensures.fits refl) c.in-Done.ensures.counts c.in-Done.ensures.limit
     c.in-Done.ensures.series c.in-Done.ensures.stamp c.requires.cells c.requires.stamp
     (to_z w64 (of_z w64 c.args.row.now.time)) (to_z-of_z w64 c.args.row.now.time (search rules))
-    c.insert.ensures.command in
+    c.insert.ensures.command c.insert.ensures.memory in
     (put_row c.args.device.now c.args.row.now old (record between { logged = c.insert.new.self })
     (memory_of between.logged).stamp c.insert.result c.insert.ensures.answer
     (subst (λ n. n < end_of_numbers) (sym c.in-Done.ensures.stamp) c.requires.stamp) put).0
@@ -29,7 +29,7 @@ returns-in-Done-clause-world g c =
     (c.in-Done.ensures.done refl) (c.in-Done.ensures.fits refl) c.in-Done.ensures.counts c.in-Done.ensures.limit
     c.in-Done.ensures.series c.in-Done.ensures.stamp c.requires.cells c.requires.stamp
     (to_z w64 (of_z w64 c.args.row.now.time)) (to_z-of_z w64 c.args.row.now.time (search rules))
-    c.insert.ensures.command in
+    c.insert.ensures.command c.insert.ensures.memory in
     row_world old c.args.row.now c.in-Done.ensures.can c.args.device.now (record between { logged = c.insert.new.self })
     c.insert.result
     (put_row c.args.device.now c.args.row.now old (record between { logged = c.insert.new.self })
@@ -44,7 +44,7 @@ returns-in-Done-clause-moments g c =
     (c.in-Done.ensures.done refl) (c.in-Done.ensures.fits refl) c.in-Done.ensures.counts c.in-Done.ensures.limit
     c.in-Done.ensures.series c.in-Done.ensures.stamp c.requires.cells c.requires.stamp
     (to_z w64 (of_z w64 c.args.row.now.time)) (to_z-of_z w64 c.args.row.now.time (search rules))
-    c.insert.ensures.command in
+    c.insert.ensures.command c.insert.ensures.memory in
     row_leaves c.args.device.now c.args.row.now old c.in-Done.ensures.can (record between { logged = c.insert.new.self })
     c.insert.result
     (put_row c.args.device.now c.args.row.now old (record between { logged = c.insert.new.self })

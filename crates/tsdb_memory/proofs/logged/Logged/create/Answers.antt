@@ -4,7 +4,9 @@ use Rattle.tsdb_base.specs.declared.answers.Answer.TheVariants as answer
 use Rattle.tsdb_memory.proofs.LogLemmas.Answering.{create_answered}
 use Rattle.tsdb_memory.specs.Answers.{IsCreateAnswer}
 use Rattle.tsdb_memory.specs.Commands.{IsAny, create_record}
+use Rattle.tsdb_memory.proofs.LogLemmas.Changed.{room_itself}
 use Rattle.tsdb_memory.proofs.LogLemmas.Steps.{refuses}
+use Rattle.tsdb_memory.specs.Changes.{HasCreated, MemoryAfter}
 use Rattle.tsdb_memory.specs.Commands.{IsCommand}
 use Rattle.tsdb_memory.specs.Logged.{memory_of}
 use Rattle.tsdb_memory.specs.Shown.{number_of}
@@ -13,7 +15,7 @@ use Rattle.tsdb_memory.proofs.logged.Logged.create.Goals as goal
 
 pub returns-clause-command : goal.returns-clause-command
 returns-clause-command g c = subst (IsCommand c.args.self.now c.write_create.new.self (create_record c.args.schema.now) IsAny)
-    (sym c.answer_of.ensures) c.write_create.ensures
+    (sym c.answer_of.ensures) c.write_create.ensures.command
 
 pub returns-clause-answer : goal.returns-clause-answer
 returns-clause-answer g c =
@@ -27,3 +29,13 @@ returns-then-is_some-clause-command g c = refuses c.args.self.now (create_record
 
 pub returns-then-counter-clause-command : goal.returns-then-counter-clause-command
 returns-then-counter-clause-command g c = refuses c.args.self.now (create_record c.args.schema.now) IsAny (answer.Full c.stamp-counter.result) tt
+
+pub returns-clause-memory : goal.returns-clause-memory
+returns-clause-memory g c = subst (MemoryAfter (HasCreated c.args.schema.now) (memory_of c.args.self.now)
+    (memory_of c.write_create.new.self)) (sym c.answer_of.ensures) c.write_create.ensures.memory
+
+pub returns-then-is_some-clause-memory : goal.returns-then-is_some-clause-memory
+returns-then-is_some-clause-memory g c = room_itself (memory_of c.args.self.now)
+
+pub returns-then-counter-clause-memory : goal.returns-then-counter-clause-memory
+returns-then-counter-clause-memory g c = room_itself (memory_of c.args.self.now)

@@ -1,8 +1,11 @@
 use Rattle.std.proofs.Common.{◌∙◌, Err, Ok, ap, drop, subst, sym}
 use Rattle.tsdb_log.specs.declared.record.LogRecord.TheVariants.{Flushed}
+use Rattle.tsdb_memory.proofs.LogLemmas.Changed.{series_kept}
 use Rattle.tsdb_memory.proofs.LogLemmas.Commanding.{other_memory}
 use Rattle.tsdb_memory.proofs.LogLemmas.Flushing.{flush_done, flush_faulted, flush_moments}
 use Rattle.tsdb_memory.specs.Appends.{HasStopped}
+use Rattle.tsdb_memory.specs.Changes.{KeepsSeries}
+use Rattle.tsdb_memory.specs.Logged.{memory_of}
 use Rattle.tsdb_memory.specs.Shown.{IsMemoryOf}
 use Rattle.tsdb_memory.specs.Store.{Store}
 use Rattle.tsdb_memory.proofs.logged.Logged.flushed.Goals as goal
@@ -23,6 +26,9 @@ returns-in-Err-Failed g c =
       pair = tt;
       no_pair = ap (λ (s : Store). s.frozen) c.in-Err-Failed.ensures.memory;
       working = ap (λ (s : Store). s.working) c.in-Err-Failed.ensures.memory;
+      kept = subst (λ (s : Store). KeepsSeries (memory_of c.args.self.now) s) (sym c.in-Err-Failed.ensures.memory)
+          (series_kept (memory_of c.args.self.now));
+      memory = c.in-Err-Failed.ensures.memory;
       room = c.in-Err-Failed.ensures.capacity;
       slot = append.slot;
       cause = append.cause;
@@ -46,6 +52,9 @@ returns g c =
       pair = c.finish_flushed.ensures.frozen ∙ ap (λ (s : Store). drop 1 s.frozen) c.in-Ok.ensures.memory;
       no_pair = tt;
       working = c.finish_flushed.ensures.working ∙ ap (λ (s : Store). s.working) c.in-Ok.ensures.memory;
+      kept = subst (λ (s : Store). KeepsSeries s c.finish_flushed.new.self) c.in-Ok.ensures.memory
+          c.finish_flushed.ensures.kept;
+      memory = tt;
       room = c.in-Ok.ensures.capacity;
       slot = append.slot;
       cause = append.cause;

@@ -7,7 +7,9 @@ use Rattle.tsdb_log.specs.declared.record.LogRecord.TheVariants.{Insert}
 use Rattle.tsdb_memory.proofs.LogLemmas.Answering.{insert_answered}
 use Rattle.tsdb_memory.specs.Answers.{IsAccepted, answer_by}
 use Rattle.tsdb_memory.specs.Commands.{CanPut}
+use Rattle.tsdb_memory.proofs.LogLemmas.Changed.{room_itself}
 use Rattle.tsdb_memory.proofs.LogLemmas.Steps.{refuses}
+use Rattle.tsdb_memory.specs.Changes.{HasInserted, MemoryAfter}
 use Rattle.tsdb_memory.specs.Commands.{IsCommand}
 use Rattle.tsdb_memory.specs.Logged.{memory_of}
 use Rattle.tsdb_base.specs.Limits.{end_of_numbers}
@@ -19,7 +21,7 @@ returns-clause-command g c =
     subst (IsCommand c.args.self.now c.write_insert.new.self (Insert c.args.time c.args.cells)
     (CanPut c.args.time c.args.cells)) (sym c.answer_of.ensures)
     (subst (λ (t : ℤ). IsCommand c.args.self.now c.write_insert.new.self (Insert t c.args.cells) (CanPut t c.args.cells)
-    (answer_by c.write_insert.result)) time c.write_insert.ensures)
+    (answer_by c.write_insert.result)) time c.write_insert.ensures.command)
 
 pub returns-clause-answer : goal.returns-clause-answer
 returns-clause-answer g c =
@@ -29,3 +31,14 @@ returns-clause-answer g c =
 
 pub returns-then-counter-clause-command : goal.returns-then-counter-clause-command
 returns-then-counter-clause-command g c = refuses c.args.self.now (Insert c.args.time c.args.cells) (CanPut c.args.time c.args.cells) (answer.Full c.stamp-counter.result) tt
+
+pub returns-clause-memory : goal.returns-clause-memory
+returns-clause-memory g c =
+    let time : to_z w64 (of_z w64 c.args.time) ≡ c.args.time = to_z-of_z w64 c.args.time (search rules) in
+    subst (MemoryAfter (HasInserted c.args.device.now c.args.time c.args.cells) (memory_of c.args.self.now)
+    (memory_of c.write_insert.new.self)) (sym c.answer_of.ensures)
+    (subst (λ (t : ℤ). MemoryAfter (HasInserted c.args.device.now t c.args.cells) (memory_of c.args.self.now)
+    (memory_of c.write_insert.new.self) (answer_by c.write_insert.result)) time c.write_insert.ensures.memory)
+
+pub returns-then-counter-clause-memory : goal.returns-then-counter-clause-memory
+returns-then-counter-clause-memory g c = room_itself (memory_of c.args.self.now)

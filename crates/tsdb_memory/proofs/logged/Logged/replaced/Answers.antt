@@ -1,8 +1,11 @@
 use Rattle.std.proofs.Common.{◌∙◌, Err, Ok, ap, subst, sym}
+use Rattle.tsdb_memory.proofs.LogLemmas.Changed.{series_kept}
 use Rattle.tsdb_memory.proofs.LogLemmas.Commanding.{other_memory}
 use Rattle.tsdb_memory.proofs.LogLemmas.Replacements.{few_parts, fits_frame, has_room, replaced_done, replaced_faulted}
 use Rattle.tsdb_memory.proofs.LogLemmas.Replacements.{replaced_moments}
 use Rattle.tsdb_memory.specs.Appends.{HasStopped}
+use Rattle.tsdb_memory.specs.Changes.{KeepsSeries}
+use Rattle.tsdb_memory.specs.Logged.{memory_of}
 use Rattle.tsdb_memory.specs.Shown.{IsMemoryOf}
 use Rattle.tsdb_memory.specs.Store.{Store}
 use Rattle.tsdb_memory.proofs.logged.Logged.replaced.Goals as goal
@@ -33,6 +36,8 @@ returns-in-Err-Failed g c =
           (Err record {}) append;
       frozen = ap (λ (s : Store). s.frozen) c.in-Err-Failed.ensures.memory;
       working = ap (λ (s : Store). s.working) c.in-Err-Failed.ensures.memory;
+      kept = subst (λ (s : Store). KeepsSeries (memory_of c.args.self.now) s) (sym c.in-Err-Failed.ensures.memory)
+          (series_kept (memory_of c.args.self.now));
       room = c.in-Err-Failed.ensures.capacity;
       slot = append.slot;
       cause = append.cause;
@@ -55,6 +60,8 @@ returns g c =
           c.in-Ok.ensures.end.0 outside state job others output place sound can (Ok tt) append;
       frozen = c.finish_replaced.ensures.frozen ∙ ap (λ (s : Store). s.frozen) c.in-Ok.ensures.memory;
       working = c.finish_replaced.ensures.working ∙ ap (λ (s : Store). s.working) c.in-Ok.ensures.memory;
+      kept = subst (λ (s : Store). KeepsSeries s c.finish_replaced.new.self) c.in-Ok.ensures.memory
+          c.finish_replaced.ensures.kept;
       room = c.in-Ok.ensures.capacity;
       slot = append.slot;
       cause = append.cause;

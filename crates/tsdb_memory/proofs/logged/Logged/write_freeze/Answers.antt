@@ -2,8 +2,10 @@ use Rattle.std.proofs.Common.{◌∙◌, ap, arith, refl}
 use Rattle.std.proofs.lemmas.Result.{err_from_is_err_and}
 use Rattle.tsdb_log.specs.declared.record.LogRecord.TheVariants.{Freeze}
 use Rattle.tsdb_memory.proofs.LogLemmas.Answering.{err_not_done, same_frozen}
+use Rattle.tsdb_memory.proofs.LogLemmas.Changed.{frozen_after, over_append, unchanged}
 use Rattle.tsdb_memory.proofs.LogLemmas.Commanding.{logs_freeze, stops, takes_effect}
 use Rattle.tsdb_memory.proofs.LogLemmas.Steps.{out_of_memory}
+use Rattle.tsdb_memory.specs.Changes.{HasFrozen}
 use Rattle.tsdb_memory.specs.Commands.{CanStop}
 use Rattle.tsdb_memory.specs.Logged.{memory_of}
 use Rattle.tsdb_memory.specs.Store.{Store, frozen_with_working}
@@ -105,3 +107,22 @@ returns-in_err-append-clause-unfrozen g c = λ not_done.
 
 pub returns-clause-unfrozen : goal.returns-clause-unfrozen
 returns-clause-unfrozen g c = λ not_done. absurd (not_done refl)
+
+-- what is in memory
+
+pub returns-in_err-freezing-clause-memory : goal.returns-in_err-freezing-clause-memory
+returns-in_err-freezing-clause-memory g c = unchanged HasFrozen (memory_of c.args.self.now) c.prepare_freeze.new.self
+    c.from_residual.result c.from_residual.ensures.0 c.in_err-freezing.ensures.kept
+
+pub returns-in_err-append-clause-memory : goal.returns-in_err-append-clause-memory
+returns-in_err-append-clause-memory g c = unchanged HasFrozen (memory_of c.args.self.now) (memory_of c.append.new.self)
+    c.from_residual-in_err-append.result c.from_residual-in_err-append.ensures.0
+    (over_append (memory_of c.args.self.now) c.prepare_freeze.new.self (memory_of c.append.new.self)
+    c.in_err-append.ensures.memory c.in_ok-freezing.ensures.kept)
+
+pub returns-clause-memory : goal.returns-clause-memory
+returns-clause-memory g c = frozen_after (memory_of c.args.self.now) (memory_of c.append.new.self)
+    c.finish_freeze.new.self
+    (ap (λ (s : Store). s.working) c.in_ok-append.ensures.memory ∙ c.in_ok-freezing.ensures.working)
+    (over_append (memory_of c.args.self.now) c.prepare_freeze.new.self (memory_of c.append.new.self)
+    c.in_ok-append.ensures.memory c.in_ok-freezing.ensures.kept) c.finish_freeze.ensures.made

@@ -1,6 +1,7 @@
-use Rattle.std.proofs.Common.{◌≡◌, ◌+◌, ◌<◌, None, map, subst, sym}
+use Rattle.std.proofs.Common.{◌≡◌, ◌+◌, ◌<◌, None, map, refl, subst, sym}
 use Rattle.tsdb_memory.proofs.Effects.{created_shown, created_sound}
 use Rattle.tsdb_memory.proofs.Numbers.{joined}
+use Rattle.tsdb_memory.specs.Changes.{HasCreated}
 use Rattle.tsdb_memory.specs.Model.{schema_of, store_in}
 use Rattle.tsdb_memory.specs.Shown.{IsMemoryOf, number_of}
 use Rattle.tsdb_memory.specs.Store.{Store}
@@ -21,6 +22,24 @@ returns c = record {
       (joined old.series c.insert.new.self schema c.insert.result free (c.insert.ensures.succeeds place)
       c.insert.ensures.entries) c.self.invariant
       (subst (λ (s : Store). IsMemoryOf s state) (sym c.self.view_is) is);
+  made =
+      let old = c.self.inside in
+      let new = record old { series = c.insert.new.self; stamp = old.stamp + 1 } in
+      let schema = c.args.schema in
+      let free : number_of (map schema_of old.series.entries) schema.path ≡ None =
+      subst (λ (s : Store). number_of s.series schema.path ≡ None) (sym c.self.view_is) c.requires.free in
+      let place : 0 < (store_in old).places.series =
+      subst (λ (s : Store). 0 < s.places.series) (sym c.self.view_is) c.requires.place in
+      let made : HasCreated schema (store_in old) (store_in new) = record {
+        series = joined old.series c.insert.new.self schema c.insert.result free (c.insert.ensures.succeeds place)
+            c.insert.ensures.entries;
+        stamp = refl;
+        watermarks = λ device. refl;
+        marks = refl;
+        frozen = refl;
+        working = λ space number. refl;
+      } in
+      subst (λ (s : Store). HasCreated schema s (store_in new)) c.self.view_is made;
 }
 
 pub invariant_of-self : goal.invariant_of-self

@@ -1,15 +1,19 @@
-use Rattle.std.proofs.Common.{◌+◌, ◌<◌, ◌≤◌, ◌≤ℤ◌, ◌∙◌, ℕ, List, is_some, map, subst, sym, ap, arith}
+use Rattle.std.proofs.Common.{◌≡◌, ◌+◌, ◌<◌, ◌≤◌, ◌≤ℤ◌, ◌∙◌, ℕ, List, Option, Some, is_some, map, refl, subst, sym, ap}
+use Rattle.std.proofs.Common.{arith}
 use Rattle.std.specs.Prelude.{IsSome}
 use Rattle.std.proofs.lemmas.Bool.{false≢true}
 use Rattle.std.proofs.lemmas.List.Elements.{All-weaker}
+use Rattle.tsdb_marks.specs.Lists.{purge_list}
 use Rattle.tsdb_marks.specs.declared.marks.Mark.{Mark}
 use Rattle.tsdb_memory.proofs.Later.{borns_kept, deleted_shown, deleted_sound}
 use Rattle.tsdb_memory.proofs.Numbers.{number_found}
+use Rattle.tsdb_memory.specs.Changes.{HasDeleted, cut_series}
 use Rattle.tsdb_memory.specs.Least.{least_with}
 use Rattle.tsdb_memory.specs.Model.{schema_of, store_in}
 use Rattle.tsdb_memory.specs.Shown.{IsMemoryOf, number_of}
 use Rattle.tsdb_memory.specs.Store as value
 use Rattle.tsdb_memory.specs.declared.store.FrozenPair.{FrozenPair}
+use Rattle.tsdb_memtable.specs.Pairs.{points_of}
 use Rattle.tsdb_base.specs.Limits.{end_of_numbers}
 use Rattle.tsdb_memory.proofs.store.MemoryStore.finish_delete.Goals as goal
 
@@ -45,6 +49,25 @@ returns c = record {
       pairs)) c.as_slice.ensures.value ∙ borns_kept c.args.listed old.frozen.items)
       (number_found old.series.entries c.args.path ∙ sym c.get_index_of.ensures.index ∙ c.in-Some.is)
       (subst (λ (s : value.Store). IsMemoryOf s state) (sym c.self.view_is) is) low;
+  made =
+      let old = c.self.inside in
+      let new = record old { stamp = old.stamp + 1; marks = c.purge.new.self; working = c.erase.new.self } in
+      let least : c.least_born.result ≡ least_with c.args.listed (map (λ pair. pair.born) (store_in old).frozen) =
+      c.least_born.ensures ∙ ap (λ (pairs : List FrozenPair). least_with c.args.listed (map (λ (p : FrozenPair). p.born.0)
+      pairs)) c.as_slice.ensures.value ∙ borns_kept c.args.listed old.frozen.items in
+      let number : number_of (store_in old).series c.args.path ≡ Some c.in-Some.number =
+      number_found old.series.entries c.args.path ∙ sym c.get_index_of.ensures.index ∙ c.in-Some.is in
+      let made : HasDeleted c.args.path c.args.range.now c.args.listed (store_in old) (store_in new) = record {
+        series = refl;
+        stamp = refl;
+        watermarks = λ device. refl;
+        marks = c.purge.ensures.marks ∙ (λ i. purge_list (least i) (c.add_mark.ensures i));
+        frozen = refl;
+        working = λ space number_of_other. ap (points_of space number_of_other)
+            (c.erase.ensures ∙ ap (λ (o : Option ℕ). cut_series o c.args.range.now old.working) (sym number));
+      } in
+      subst (λ (s : value.Store). HasDeleted c.args.path c.args.range.now c.args.listed s (store_in new))
+      c.self.view_is made;
 }
 
 pub invariant_of-self : goal.invariant_of-self

@@ -1,7 +1,8 @@
-use Rattle.std.proofs.Common.{◌<◌, ◌∙◌, List, drop, length, map, subst, sym, ap}
+use Rattle.std.proofs.Common.{◌<◌, ◌∙◌, List, drop, length, map, refl, subst, sym, ap}
 use Rattle.tsdb_marks.specs.Lists.{purge_list}
 use Rattle.tsdb_memory.proofs.Effects.{flushed_shown, flushed_sound}
 use Rattle.tsdb_memory.proofs.Later.{borns_kept, first_of}
+use Rattle.tsdb_memory.specs.Changes.{KeepsSeries}
 use Rattle.tsdb_memory.specs.Least.{least_with}
 use Rattle.tsdb_memory.specs.Model.{frozen_in, store_in}
 use Rattle.tsdb_memory.specs.Shown.{IsMemoryOf}
@@ -18,6 +19,14 @@ returns-clause-frozen c =
 
 pub returns-clause-working : goal.returns-clause-working
 returns-clause-working c = ap (λ (s : value.Store). s.working) c.self.view_is
+
+pub returns-clause-kept : goal.returns-clause-kept
+returns-clause-kept c =
+    let old = c.self.inside in
+    let new = record old { frozen = c.remove.new.self; marks = c.purge.new.self } in
+    let kept : KeepsSeries (store_in old) (store_in new) =
+    record { series = refl; stamp = refl; watermarks = λ device. refl; working = refl } in
+    subst (λ (s : value.Store). KeepsSeries s (store_in new)) c.self.view_is kept
 
 pub returns-clause-effect : goal.returns-clause-effect
 returns-clause-effect c = λ state sequence unsequence is low.

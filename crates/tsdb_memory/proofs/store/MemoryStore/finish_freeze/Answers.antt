@@ -50,6 +50,19 @@ returns-clause-frozen c =
 pub returns-clause-working : goal.returns-clause-working
 returns-clause-working c = c.replace-working.ensures.after ∙ c.new.ensures
 
+pub returns-clause-made : goal.returns-clause-made
+returns-clause-made c =
+    let old = c.self.inside in
+    record {
+      series = ap (λ (s : value.Store). s.series) c.self.view_is;
+      stamp = ap (λ (s : value.Store). s.stamp) c.self.view_is;
+      marks = ap (λ (s : value.Store). s.marks.marks) c.self.view_is;
+      frozen = pushed_frozen old.frozen.items c.push.new.self.items old.stamp c.in_place-pair.result old.working
+          c.in-Ok.ensures.items (c.in_place-pair.ensures ∙ c.replace-working.ensures.value)
+          ∙ ap value.frozen_with_working c.self.view_is;
+      working = c.replace-working.ensures.after ∙ c.new.ensures;
+    }
+
 pub invariant_of-self : goal.invariant_of-self
 invariant_of-self c =
     let old = c.self.inside in

@@ -1,7 +1,8 @@
-use Rattle.std.proofs.Common.{◌∙◌, List, map, subst, sym, ap}
+use Rattle.std.proofs.Common.{◌∙◌, List, map, refl, subst, sym, ap}
 use Rattle.tsdb_marks.specs.Lists.{purge_list}
 use Rattle.tsdb_memory.proofs.Effects.{purged_sound, replaced_shown}
 use Rattle.tsdb_memory.proofs.Later.{borns_kept}
+use Rattle.tsdb_memory.specs.Changes.{KeepsSeries}
 use Rattle.tsdb_memory.specs.Least.{least_with}
 use Rattle.tsdb_memory.specs.Model.{store_in}
 use Rattle.tsdb_memory.specs.Shown.{IsMemoryOf}
@@ -13,6 +14,12 @@ pub returns : goal.returns
 returns c = record {
   frozen = ap (λ (s : value.Store). s.frozen) c.self.view_is;
   working = ap (λ (s : value.Store). s.working) c.self.view_is;
+  kept =
+      let old = c.self.inside in
+      let new = record old { marks = c.purge.new.self } in
+      let kept : KeepsSeries (store_in old) (store_in new) =
+      record { series = refl; stamp = refl; watermarks = λ device. refl; working = refl } in
+      subst (λ (s : value.Store). KeepsSeries s (store_in new)) c.self.view_is kept;
   effect = λ state item is low.
       let old = c.self.inside in
       replaced_shown (store_in old) c.purge.new.self c.args.listed state item
