@@ -92,10 +92,13 @@ fn leave(memory: &mut MemoryStore) -> Result<(), Fail> {
     Ok(())
 }
 
-/// Freezes the working pair.
+/// Freezes the working pair, which has a point.
 fn freeze(memory: &mut MemoryStore) -> Result<(), Fail> {
     if memory.frozen().len() >= 2 {
         return Err("two are frozen".into());
+    }
+    if memory.is_idle() {
+        return Err("nothing to freeze".into());
     }
     let freezing = memory.prepare_freeze()?;
     memory.finish_freeze(freezing);

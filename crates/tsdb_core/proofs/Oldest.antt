@@ -1,11 +1,13 @@
 -- The oldest frozen pair in memory, by the first of them.
-use Rattle.std.proofs.Common.{◌≡◌, ℕ, ◌+◌, ◌≤◌, false, List, [], ◌∷◌, ◌++◌, length, map, Option, None, Some, ⊎_elim}
-use Rattle.std.proofs.Common.{Bool, zero, suc, ap, arith, length-append, refl, sym, subst, ◌∙◌, nat_eq}
+use Rattle.std.proofs.Common.{◌≡◌, ℕ, ◌+◌, ◌<◌, ◌≤◌, true, false, List, [], ◌∷◌, ◌++◌, length, map, Option, None, Some, ⊎_elim}
+use Rattle.std.proofs.Common.{Bool, zero, suc, ap, arith, length-append, refl, sym, subst, ◌∙◌, nat_eq, nat_lt}
 use Rattle.std.proofs.lemmas.Bool.{eq-eqb, eqb-true, false≢true}
+use Rattle.std.proofs.lemmas.Bool.Decides.{nat_tests}
+use Rattle.std.specs.List.{AllByRecursion as Each}
 use Rattle.std.specs.Option.{IsSomeAnd}
 use Rattle.std.specs.Prelude.{◌↔◌, IsTrue, slice_get}
 use Rattle.tsdb_fileset.specs.FlushJob.{FlushJob}
-use Rattle.tsdb_memory.specs.Model.{frozen_in}
+use Rattle.tsdb_memory.specs.Model.{AreFrozenInTurn, frozen_in}
 use Rattle.tsdb_memory.specs.Store.{FrozenPair, Store}
 use Rattle.tsdb_memory.specs.declared.store.FrozenPair as declared
 use Rattle.tsdb_core.specs.Ending.{IsLeastWith, drawn_for, numbers_if}
@@ -13,6 +15,7 @@ use Rattle.tsdb_core.specs.Flushes.{IsDue, IsOldest}
 use Rattle.tsdb_base.specs.declared.ids.FileNumber.{FileNumber}
 use Rattle.tsdb_base.specs.declared.ids.Stamp.{Stamp}
 use Rattle.tsdb_base.proofs.Lists.{among_left, among_right, each_all, each_append, each_left, each_map, each_right}
+use Rattle.tsdb_base.proofs.Lists.{each_weaker}
 use Rattle.tsdb_base.specs.Lists.{if_some}
 use Rattle.tsdb_memory.proofs.Borns.{least_push}
 use Rattle.tsdb_memory.proofs.Counts.{among_either}
@@ -66,6 +69,26 @@ pub none_due : (pairs : List declared.FrozenPair) (upto : ℕ) → None ≡ slic
     → IsTrue false ↔ IsDue upto (map frozen_in pairs)
 none_due [] upto none = ((λ is. absurd (false≢true is)), λ due. absurd due)
 none_due (other ∷ pairs) upto none = absurd cc
+
+not_reached : (a b : ℕ) → ¬ (a ≤ b) → b < a
+not_reached a b not = by (nat_lt b a) refl
+  where
+    by : (t : Bool) → nat_lt b a ≡ t → b < a
+    by true e = grind (arith, nat_tests)
+    by false e = absurd (not (grind (arith, nat_tests)))
+
+-- where the oldest is not due, no pair is: the others were not frozen before it
+pub none_reached : (upto stamp : ℕ) (frozen : List FrozenPair) → AreFrozenInTurn stamp frozen → ¬ IsDue upto frozen
+    → Each (λ pair. upto < pair.born) frozen
+none_reached upto stamp [] are not = tt
+none_reached upto stamp (oldest ∷ newer) are not = (
+  first,
+  each_weaker (λ (pair : FrozenPair). oldest.born ≤ pair.born) (λ pair. upto < pair.born)
+      (λ pair h. omega (arith, first, h)) newer are.rising.0,
+)
+  where
+    first : upto < oldest.born
+    first = not_reached oldest.born upto not
 
 -- ---- the least born with those of a job
 

@@ -5,7 +5,7 @@ use Rattle.std.proofs.lemmas.List.{map-append}
 use Rattle.std.specs.Arc.{arc_value}
 use Rattle.std.specs.List.{AllZip, range_with_len}
 use Rattle.std.specs.Option.{IsSomeAnd}
-use Rattle.std.specs.Prelude.{slice_get}
+use Rattle.std.specs.Prelude.{◌<◌, slice_get}
 use Rattle.tsdb_base.specs.declared.ids.FileNumber.{FileNumber}
 use Rattle.tsdb_base.specs.declared.ids.SeriesId.{SeriesId}
 use Rattle.tsdb_core.proofs.Claims.{claims_stay, same_lists}
@@ -67,7 +67,8 @@ module _ {J F S R P : Type 0} {means : disk.Ghosts J} {counts : counted.Ghosts J
   module _ (old : Core J F S R P means counts) (logged : Logged J means counts) (files : KeptFiles) (job : FlushJob)
       (next : ℕ) (prepared : IsPrepared old.logged logged) (enough : flushed_bytes ≤ room_of logged) (is_job : IsJob
       job)
-      (taken : flushing.IsTaken (memory_of logged) (next_of old) job) (left : next_of old + 2 ≤ end_of_numbers)
+      (taken : flushing.IsTaken (memory_of logged) (next_of old) job)
+      (drawn : 0 < length (flushing.drawn_numbers job)) (left : next_of old + 2 ≤ end_of_numbers)
       (lists : KeepsLists old.files files) (made : OnlyMakesPlaces old.files.places files.places)
       (placed : ArePlacesMade (if_some job.sequence ++ if_some job.unsequence) old.files.places files.places)
       (room : files.spare ≡ more_room old.files.spare (flush_room job.sequence job.unsequence))
@@ -156,6 +157,7 @@ module _ {J F S R P : Type 0} {means : disk.Ghosts J} {counts : counted.Ghosts J
           (λ pair. (pair.born ≡ job.born.0) × (pair.pair ≡ arc_value job.pair)))
           (sym taken.are ∙ prepared.room.frozen) (sym taken.born, sym taken.pair);
       numbers = numbers;
+      some = subst (λ (list : List ℕ). 0 < length list) (sym (one_list job)) drawn;
       next = is_next;
       jobs = λ flush flushes compactions has keeps. one_more_kept old job flush flushes compactions has keeps files
           (length (drawn_for job)) numbers (omega (arith, left, two_at_most job)) made placed room logged next is_next

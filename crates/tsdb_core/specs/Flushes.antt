@@ -110,6 +110,7 @@ module _ {J F S R P : Type 0} {means : disk.Ghosts J} {counts : counted.Ghosts J
     pub oldest : IsSomeAnd (slice_get (memory_of (logged_of old)).frozen 0)
         (λ pair. (pair.born ≡ job.born.0) × (pair.pair ≡ arc_value job.pair))
     pub numbers : drawn_for job ≡ range_with_len (next_of old) (length (drawn_for job))
+    pub some : 0 < length (drawn_for job)
     pub next : next_of new ≡ next_of old + length (drawn_for job)
     pub jobs : (flush : state.FlushJob) (flushes : List state.FlushJob) (compactions : List Compaction)
         → HasNumbersOf job flush → KeepsJobs old flushes compactions → KeepsJobs new (flush ∷ flushes) compactions

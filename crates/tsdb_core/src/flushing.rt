@@ -1,5 +1,8 @@
 //! The flushes of a core: one is taken, and then committed or given up. Depends on `engine`, `commit` and `ending`.
 ghost use Rattle.std.specs.Prelude.{◌≡◌, ◌<◌, ◌≤◌, ◌+◌, ◌↔◌, ℕ, List, IfOk, IsTrue, OnErr, length, map};
+ghost use Rattle.std.specs.List.{AllByRecursion as Each};
+ghost use Rattle.std.specs.declared.option.Option.TheVariants.{None};
+ghost use Rattle.std.specs.declared.result.Result.TheVariants.{Ok};
 ghost use Rattle.tsdb_core.specs.Ending.{IsLeastWith, number_for};
 ghost use Rattle.tsdb_core.specs.Flushes.{IsDue};
 ghost use Rattle.tsdb_base.specs.Lists.{if_some};
@@ -29,10 +32,13 @@ impl<J: Journal, F: Files> Core<J, F> {
     /// memory that the job's end needs is taken.
     pub fn take_flush(&mut self, upto: Stamp) -> Result<Option<FlushJob>, CoreFault>
         ensures answer { IsTakeAnswer upto.0 (next_of self.old) (memory_of (logged_of self.old)) result }
+        ensures none { result ≡ Ok None → Each (λ pair. upto.0 < pair.born) (memory_of (logged_of self.old)).frozen }
         ensures memory { TakesMemory self.old self.new }
         ensures taken { IsTakenOrNot self.old self.new result }
         ensures world { KeepsWorld self.old self.new }
     {
+        // (it tells that borns of frozen pairs do not fall)
+        self.logged.memory().sound();
         if !has_due(self.logged.memory().frozen(), upto) {
             return Ok(None);
         }

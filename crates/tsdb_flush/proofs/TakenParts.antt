@@ -1,17 +1,25 @@
 -- Whether a part of a job has a point.
-use Rattle.std.proofs.Common.{◌≡◌, ◌≢◌, ◌⊎◌, ⊎_elim, suc, ◌<◌, ◌==◌, Bool, true, false, not, ne_eqb, List, [], ◌∷◌, ◌++◌, length, map, refl, sym, ap, subst, ◌∙◌, inl, inr, arith}
+use Rattle.std.proofs.Common.{◌≡◌, ◌≢◌, ◌⊎◌, ⊎_elim, ℕ, suc, ◌<◌, ◌==◌, Bool, true, false, nat_lt, not, ne_eqb, List, [], ◌∷◌}
+use Rattle.std.proofs.Common.{◌++◌, length, map, None, Option, Some, refl, sym, ap, subst, ◌∙◌, inl, inr, arith}
 use Rattle.std.specs.Prelude.{◌||◌}
-use Rattle.std.specs.List.{AllByRecursion as Each, list_any}
+use Rattle.std.specs.List.{AllByRecursion as Each, AllZip, list_any}
 use Rattle.std.proofs.lemmas.Bool.{false≢true}
+use Rattle.std.proofs.lemmas.Bool.Decides.{nat_tests}
+use Rattle.tsdb_base.specs.declared.ids.FileNumber.{FileNumber}
 use Rattle.tsdb_base.specs.declared.ids.SeriesId.{SeriesId}
 use Rattle.tsdb_base.specs.declared.ids.Space.{Space}
+use Rattle.tsdb_base.specs.declared.ids.Space.TheVariants.{Sequence, Unsequence}
 use Rattle.tsdb_base.specs.declared.point.Point.{Point}
 use Rattle.tsdb_flush.specs.TakingSteps.{IsSeriesOf, has_points, points_in, schema_in}
 use Rattle.tsdb_flush.specs.declared.series.PairSeries.{PairSeries}
-use Rattle.tsdb_flush.specs.Parts.{Filled, if_any, part_of}
-use Rattle.tsdb_base.specs.Lists.{Among}
+use Rattle.tsdb_flush.specs.BuiltParts.{IsJobOf}
+use Rattle.tsdb_flush.specs.Parts.{Filled, IsDrawnFor, if_any, part_of}
+use Rattle.tsdb_base.specs.Lists.{Among, if_some}
+use Rattle.tsdb_memory.proofs.Emptiness.{filled_by}
+use Rattle.tsdb_memory.specs.Fits.{HasNoPoint}
+use Rattle.tsdb_memory.specs.Shown.{IsFilled, number_of}
 use Rattle.tsdb_model.specs.declared.command.Schema.{Schema}
-use Rattle.tsdb_memtable.specs.Pairs.{Pair, points_of}
+use Rattle.tsdb_memtable.specs.Pairs.{HasRisingSeries, Pair, count, points_of}
 
 neither : (a b : Bool) → (a || b) ≡ false → (a ≡ false) × (b ≡ false)
 neither true b is = absurd (false≢true (sym is))
@@ -75,3 +83,50 @@ point_of space pair [] numbers some = absurd (some refl)
 point_of space pair (schema ∷ schemas) [] some = absurd (some refl)
 point_of space pair (schema ∷ schemas) (id ∷ numbers) some =
     first schema (points_of space id.0 pair) (part_of space pair schemas numbers) (point_of space pair schemas numbers) some
+
+-- a series of the job with a point is in the part
+part_there : (all : List Schema) (space : Space) (pair : Pair) (schemas : List Schema) (numbers : List SeriesId)
+    → AllZip (λ (schema : Schema) (number : SeriesId). number_of all schema.path ≡ Some number.0) schemas numbers
+    → (n : ℕ) → Among n (map (λ (id : SeriesId). id.0) numbers) → 0 < length (points_of space n pair) → part_of space pair schemas numbers ≡ [] → ⊥
+part_there all space pair [] [] zip n among some empty = absurd among
+part_there all space pair [] (id ∷ numbers) zip n among some empty = absurd zip
+part_there all space pair (schema ∷ schemas) [] zip n among some empty = absurd zip
+part_there all space pair (schema ∷ schemas) (id ∷ numbers) zip n (inl is) some empty =
+    here schema (points_of space id.0 pair) (part_of space pair schemas numbers)
+    (subst (λ k. 0 < length (points_of space k pair)) (sym is) some) empty
+part_there all space pair (schema ∷ schemas) (id ∷ numbers) zip n (inr among) some empty =
+    part_there all space pair schemas numbers zip.1 n among some
+    (behind schema (points_of space id.0 pair) (part_of space pair schemas numbers) empty)
+
+some_among : (point : Point) (points : List Point) → Among point points → 0 < length points
+some_among point [] among = absurd among
+some_among point (p ∷ points) among = omega arith
+
+nothing : (n : ℕ) → nat_lt 0 n ≡ false → n ≡ 0
+nothing n e = grind (arith, nat_tests)
+
+-- where a space has no part, the pair has no point there
+none_there : (all : List Schema) (space : Space) (pair : Pair) (schemas : List Schema) (numbers : List SeriesId)
+    → HasRisingSeries pair → IsJobOf all pair schemas numbers → part_of space pair schemas numbers ≡ []
+    → count space pair ≡ 0
+none_there all space pair schemas numbers rising is empty =
+    by (nat_lt 0 (count space pair)) refl (filled_by space pair (count space pair) rising refl)
+  where
+    by : (b : Bool) → nat_lt 0 (count space pair) ≡ b → IsFilled b space pair → count space pair ≡ 0
+    by true e some =
+        let points = some_among some.point (points_of space some.number pair) some.among in
+        absurd (part_there all space pair schemas numbers is.numbered some.number (is.whole space some.number points) points
+        empty)
+    by false e none = nothing (count space pair) e
+
+-- a pair with a point has a part, for which a number is drawn
+pub some_drawn : (all : List Schema) (pair : Pair) (schemas : List Schema) (numbers : List SeriesId)
+    → HasRisingSeries pair → ¬ HasNoPoint pair → IsJobOf all pair schemas numbers → (s u : Option FileNumber)
+    → IsDrawnFor s (part_of Sequence pair schemas numbers) → IsDrawnFor u (part_of Unsequence pair schemas numbers)
+    → 0 < length (map (λ (file : FileNumber). file.0) (if_some s ++ if_some u))
+some_drawn all pair schemas numbers rising some is (Some s) u first second = omega arith
+some_drawn all pair schemas numbers rising some is None (Some u) first second = omega arith
+some_drawn all pair schemas numbers rising some is None None first second = absurd (some (
+  none_there all Sequence pair schemas numbers rising is first,
+  none_there all Unsequence pair schemas numbers rising is second,
+))

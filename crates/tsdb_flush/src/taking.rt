@@ -1,7 +1,7 @@
 //! Taking the job. Depends on `series`.
 ghost use Rattle.std.specs.Prelude.{◌<◌, ◌+◌, ◌≤◌, IfOk, length};
 ghost use Rattle.tsdb_flush.specs.TakingSteps.{IsDraw, IsOldest};
-ghost use Rattle.tsdb_flush.specs.Taking.{IsTaken};
+ghost use Rattle.tsdb_flush.specs.Taking.{IsTaken, drawn_numbers};
 ghost use Rattle.tsdb_flush.specs.Jobs.{IsJob};
 ghost use Rattle.tsdb_base.specs.Limits.{end_of_numbers};
 
@@ -32,17 +32,20 @@ fn draw(series: &[PairSeries<'_>], space: Space, next: &mut u64) -> Option<FileN
 }
 
 /// The job of a flush of the oldest frozen pair. Its files get the numbers from `next` on: one for each part that has a
-/// point, sequence before unsequence.
+/// point, sequence before unsequence. One of them has.
 pub fn take(memory: &MemoryStore, next: u64) -> Result<FlushJob, Memory>
     requires frozen { 0 < length memory.now.frozen }
     requires left { next + 2 ≤ end_of_numbers }
     ensures job { IfOk result IsJob }
     ensures taken { IfOk result (IsTaken memory.now next) }
+    ensures some { IfOk result (λ job. 0 < length (drawn_numbers job)) }
 {
     // (a call that tells what always holds of memory)
     memory.sound();
     let oldest = oldest(memory);
     let in_order = series_in_order(memory, oldest.pair())?;
+    // (a call of the pair tells that its series rise)
+    let _ = oldest.pair().points(Space::Sequence);
     let alloc = *in_order.allocator();
     let all = in_order.as_slice();
     let series = numbers_of(alloc, all)?;

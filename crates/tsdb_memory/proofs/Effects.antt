@@ -24,7 +24,8 @@ use Rattle.tsdb_memory.proofs.Found.{frozen_push, known_cut, pair_cut, pair_push
 use Rattle.tsdb_memory.proofs.Numbers.{length_push, once_push}
 use Rattle.tsdb_memory.specs.Least.{IsLeastOf, least_with}
 use Rattle.tsdb_memory.proofs.Typing.{all_both, typed_cut, typed_push}
-use Rattle.tsdb_memory.specs.Model.{HasKnownSeries, HasRisingPoints, HasTypedPoints, IsFormed, IsSound}
+use Rattle.tsdb_memory.proofs.InTurn.{later_in_turn, left_in_turn, none_in_turn}
+use Rattle.tsdb_memory.specs.Model.{AreFrozenInTurn, HasKnownSeries, HasRisingPoints, HasTypedPoints, IsFormed, IsSound}
 use Rattle.tsdb_memory.specs.Rows.{ChangesRoom}
 use Rattle.tsdb_memory.specs.Shown.{IsFrozenOf, IsMemoryOf, IsPairOf, entry_of, file_borns, number_of, value_at}
 use Rattle.tsdb_memory.specs.Store.{FrozenPair, Places, Store}
@@ -89,6 +90,7 @@ created_sound store series places schema joins formed free stamp sound =
           sound.frozen_typed;
       frozen_rising = sound.frozen_rising;
       two = sound.two;
+      in_turn = later_in_turn store.stamp store.frozen sound.in_turn;
       versions = All-weaker (UpTo store.stamp) (UpTo (store.stamp + 1))
           (λ m h. at_most_next m.version.0 store.stamp h) store.marks.marks sound.versions;
       ends = next_within store.stamp stamp;
@@ -134,6 +136,7 @@ purged_sound store marks least sound after = record {
   frozen_typed = sound.frozen_typed;
   frozen_rising = sound.frozen_rising;
   two = sound.two;
+  in_turn = sound.in_turn;
   versions = subst (All (UpTo store.stamp)) (sym after)
       (purged_versions store.stamp least store.marks.marks sound.versions);
   ends = sound.ends;
@@ -205,6 +208,7 @@ module _ (store : Store) (n : ℕ) (path : List ℕ) (range : Range) (added : Ma
     frozen_typed = sound.frozen_typed;
     frozen_rising = sound.frozen_rising;
     two = sound.two;
+    in_turn = later_in_turn store.stamp store.frozen sound.in_turn;
     versions = subst (All (UpTo (store.stamp + 1))) (sym after) (added_versions sound.versions);
     ends = next_within store.stamp stamp;
   }
@@ -324,6 +328,7 @@ new_sound places = record {
   frozen_typed = All-nil (λ (f : FrozenPair). HasTypedPoints [] f.pair);
   frozen_rising = All-nil (λ (f : FrozenPair). HasRisingPoints f.pair);
   two = omega arith;
+  in_turn = none_in_turn;
   versions = All-nil (UpTo 0);
   ends = omega arith;
 }
@@ -379,6 +384,8 @@ roomy_sound old new room sound = record {
       (subst (λ s. All (λ (f : FrozenPair). HasTypedPoints s f.pair) old.frozen) (sym room.series) sound.frozen_typed);
   frozen_rising = subst (All (λ (f : FrozenPair). HasRisingPoints f.pair)) (sym room.frozen) sound.frozen_rising;
   two = subst (λ (l : List FrozenPair). length l ≤ max_frozen) (sym room.frozen) sound.two;
+  in_turn = subst (λ (l : List FrozenPair). AreFrozenInTurn new.stamp l) (sym room.frozen)
+      (subst (λ n. AreFrozenInTurn n old.frozen) (sym room.stamp) sound.in_turn);
   versions = subst (λ n. All (UpTo n) new.marks.marks) (sym room.stamp)
       (subst (All (UpTo old.stamp)) (sym room.marks) sound.versions);
   ends = subst (λ n. n ≤ end_of_numbers) (sym room.stamp) sound.ends;
@@ -401,6 +408,7 @@ flushed_sound store frozen oldest places marks least had sound after = record {
   frozen_rising = All-tail (λ (f : FrozenPair). HasRisingPoints f.pair) oldest frozen
       (subst (All (λ (f : FrozenPair). HasRisingPoints f.pair)) had sound.frozen_rising);
   two = fewer (length frozen) (subst (λ (l : List FrozenPair). length l ≤ max_frozen) had sound.two);
+  in_turn = left_in_turn store.stamp oldest frozen (subst (AreFrozenInTurn store.stamp) had sound.in_turn);
   versions = subst (All (UpTo store.stamp)) (sym after)
       (purged_versions store.stamp least store.marks.marks sound.versions);
   ends = sound.ends;

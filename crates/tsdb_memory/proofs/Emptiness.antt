@@ -24,6 +24,7 @@ use Rattle.tsdb_model.specs.declared.command.Schema.{Schema}
 use Rattle.tsdb_memory.proofs.Frozen.{value_there}
 use Rattle.tsdb_memory.proofs.Raises.{beyond}
 use Rattle.tsdb_memory.proofs.Series.{itself, one_number}
+use Rattle.tsdb_memory.specs.Fits.{HasNoPoint}
 use Rattle.tsdb_memory.specs.Model.{HasKnownSeries, IsSound}
 use Rattle.tsdb_memory.specs.Shown.{IsContentOf, IsFilled, IsFrozenOf, IsMemoryOf, IsPairOf, SomePoint, number_of, part_of}
 use Rattle.tsdb_memory.specs.Shown.{value_at, value_found}
@@ -141,6 +142,23 @@ filled_by space pair n rising is = by (nat_lt 0 n) refl
           among = subst (λ o. Among found.point (points_in space (unwrap_or o blank))) (sym found.at) found.among;
         }
     by false e = none_counted space pair (sym is ∙ nothing n e)
+
+-- a pair with a point in a space has one
+pub some_point : (space : Space) (pair : Pair) → SomePoint space pair → ¬ HasNoPoint pair
+some_point space pair some none = nowhere some.point
+    (subst (λ l. Among some.point l) (none_counted space pair (by space) some.number) some.among)
+  where
+    nowhere : (point : Point) → Among point [] → ⊥
+    nowhere point among = absurd among
+
+    by : (space : Space) → count space pair ≡ 0
+    by Sequence = none.0
+    by Unsequence = none.1
+
+pub late_point : (filled : Bool) (pair : Pair) → IsFilled filled Unsequence pair → not filled ≡ false
+    → ¬ HasNoPoint pair
+late_point true pair filled busy = some_point Unsequence pair filled
+late_point false pair filled busy = absurd (false≢true (sym busy))
 
 -- the content of a part
 

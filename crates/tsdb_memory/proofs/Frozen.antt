@@ -25,7 +25,9 @@ use Rattle.tsdb_memory.proofs.Numbers.{length_push, schema_at}
 use Rattle.tsdb_memory.proofs.Raising.{IsRaisedTo, Rise, code_risen, one_raised, rise_in, rise_of, risen}
 use Rattle.tsdb_memory.proofs.Raising.{rises_raise, state_risen, through}
 use Rattle.tsdb_memory.specs.Freezing.{AreRaises, HasTime, raised_by}
-use Rattle.tsdb_memory.specs.Model.{HasKnownSeries, HasRisingPoints, HasTypedPoints, IsSound, frozen_in}
+use Rattle.tsdb_memory.proofs.InTurn.{pushed_in_turn}
+use Rattle.tsdb_memory.specs.Fits.{HasNoPoint}
+use Rattle.tsdb_memory.specs.Model.{AreFrozenInTurn, HasKnownSeries, HasRisingPoints, HasTypedPoints, IsSound, frozen_in}
 use Rattle.tsdb_memory.specs.Shared.{pair_in}
 use Rattle.tsdb_memory.specs.Shown.{IsContentOf, IsFrozenOf, IsMemoryOf, number_of, value_at, value_found}
 use Rattle.tsdb_memory.specs.Store.{FrozenPair, Places, Store}
@@ -292,8 +294,9 @@ module _ (store : Store) (raises : List Raise) (watermarks : Watermarks) (frozen
     };
   }
 
-  pub froze_sound : length store.frozen < max_frozen → IsSound store → IsSound frozen_store
-  froze_sound room sound = record {
+  pub froze_sound : length store.frozen < max_frozen → ¬ HasNoPoint store.working → IsSound store
+      → IsSound frozen_store
+  froze_sound room some sound = record {
     formed = sound.formed;
     once = sound.once;
     known = nothing_known store.series;
@@ -311,6 +314,8 @@ module _ (store : Store) (raises : List Raise) (watermarks : Watermarks) (frozen
     two = subst (λ (l : List FrozenPair). length l ≤ max_frozen) (sym pushed)
         (fits (length (store.frozen ++ record { born = store.stamp; pair = store.working } ∷ [])) (length store.frozen)
         (length_push store.frozen (record { born = store.stamp; pair = store.working })) room);
+    in_turn = subst (λ (l : List FrozenPair). AreFrozenInTurn store.stamp l) (sym pushed)
+        (pushed_in_turn store.stamp store.frozen store.working some sound.in_turn);
     versions = sound.versions;
     ends = sound.ends;
   }

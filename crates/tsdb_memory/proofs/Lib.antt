@@ -3,6 +3,7 @@ pub mod Series
 pub mod Found
 pub mod Borns
 pub mod Putting
+pub mod InTurn
 pub mod Effects
 pub mod RowCells
 pub mod Later

@@ -12,6 +12,7 @@ use Rattle.tsdb_base.specs.declared.point.Point.{Point}
 use Rattle.tsdb_state.specs.LayerOrder.{Watermarks}
 use Rattle.tsdb_log.specs.declared.record.CellRecord.{CellRecord}
 use Rattle.tsdb_model.specs.declared.command.Schema.{Schema}
+use Rattle.tsdb_memory.proofs.InTurn.{later_in_turn}
 use Rattle.tsdb_memory.proofs.Putting.{in_pair, pair_put, put_here, put_there, rising_put}
 use Rattle.tsdb_memory.proofs.Series.{changed_there, itself, one_number}
 use Rattle.tsdb_memory.specs.Changes.{is_space, points_with_row}
@@ -224,6 +225,7 @@ module _ (store : Store) (device : List ℕ) (space : Space) (time : ℤ) (cells
     frozen_typed = sound.frozen_typed;
     frozen_rising = sound.frozen_rising;
     two = sound.two;
+    in_turn = later_in_turn store.stamp store.frozen sound.in_turn;
     versions = All-weaker (λ mark. mark.version.0 ≤ store.stamp) (λ mark. mark.version.0 ≤ store.stamp + 1)
         (λ m h. at_most_next m.version.0 store.stamp h) store.marks.marks sound.versions;
     ends = next_within store.stamp stamp;

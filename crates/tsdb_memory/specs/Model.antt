@@ -10,12 +10,14 @@ use Rattle.tsdb_base.specs.declared.value.Encoding.{Encoding}
 use Rattle.tsdb_log.specs.declared.record.CellRecord.{CellRecord}
 use Rattle.tsdb_model.specs.Commands.{IsSchema}
 use Rattle.tsdb_model.specs.declared.command.Schema.{Schema}
+use Rattle.tsdb_memory.specs.Fits.{HasNoPoint}
 use Rattle.tsdb_memory.specs.Shared.{pair_in}
 use Rattle.tsdb_memory.specs.Shown.{number_of}
 use Rattle.tsdb_memory.specs.Store as value
 use Rattle.tsdb_memory.specs.declared.store.FrozenPair.{FrozenPair}
 use Rattle.tsdb_memory.specs.declared.store.MemoryStore.TheInside.{Inside}
 use Rattle.tsdb_memtable.specs.Pairs.{Pair, points_of}
+use Rattle.tsdb_base.specs.Lists.{EachPair}
 use Rattle.tsdb_base.specs.Points.{IsRising}
 use Rattle.tsdb_path.specs.Nodes.{IsPath, device_of}
 use Rattle.tsdb_base.specs.Limits.{end_of_numbers, max_frozen}
@@ -60,8 +62,14 @@ pub record IsFormed (schema : Schema) : Type 0 where
   pub suits : IsSchema schema
   pub path : IsPath schema.path
 
+-- each frozen pair has a point; the stamps at their freezes do not fall, and none is above this one
+pub record AreFrozenInTurn (stamp : ℕ) (frozen : List value.FrozenPair) : Type 0 where
+  pub filled : Each (λ pair. ¬ HasNoPoint pair.pair) frozen
+  pub rising : EachPair (λ a b. a.born ≤ b.born) frozen
+  pub reached : Each (λ pair. pair.born ≤ stamp) frozen
+
 -- series are well-formed, and each has its path alone; points are of series that are there, and of their types, and
--- rise in time; versions and the stamp are within their bounds
+-- rise in time; frozen pairs were frozen one after another; versions and the stamp are within their bounds
 pub record IsSound (store : value.Store) : Type 0 where
   pub formed : All IsFormed store.series
   pub once : (number : ℕ) (schema : Schema) → slice_get store.series number ≡ Some schema
@@ -73,6 +81,7 @@ pub record IsSound (store : value.Store) : Type 0 where
   pub frozen_typed : All (λ frozen. HasTypedPoints store.series frozen.pair) store.frozen
   pub frozen_rising : All (λ frozen. HasRisingPoints frozen.pair) store.frozen
   pub two : length store.frozen ≤ max_frozen
+  pub in_turn : AreFrozenInTurn store.stamp store.frozen
   pub versions : All (λ mark. mark.version.0 ≤ store.stamp) store.marks.marks
   pub ends : store.stamp ≤ end_of_numbers
 

@@ -4,6 +4,7 @@ ghost use Rattle.tsdb_base.specs.declared.ids.Space.TheVariants.{Sequence};
 ghost use Rattle.tsdb_base.specs.declared.point.Point.{Point as PointOf};
 ghost use Rattle.tsdb_base.specs.Lists.{Among};
 ghost use Rattle.tsdb_memory.specs.Changes.{HasFrozen};
+ghost use Rattle.tsdb_memory.specs.Fits.{HasNoPoint};
 ghost use Rattle.tsdb_memory.specs.Freezing.{AreRaises, HasPlaces, IsFreezeOf, IsRaiseOf, raised_by};
 ghost use Rattle.tsdb_memory.specs.Rows.{ChangesRoom};
 ghost use Rattle.tsdb_memory.specs.Shown.{IsMemoryOf};
@@ -53,11 +54,12 @@ impl MemoryStore {
         Ok(Freezing { raises, place })
     }
 
-    /// The working pair goes behind the frozen ones, with the stamp as its born, and watermarks rise to its last
-    /// sequence times. It takes no memory.
+    /// The working pair, which has a point, goes behind the frozen ones, with the stamp as its born, and watermarks rise
+    /// to its last sequence times. It takes no memory.
     pub fn finish_freeze(&mut self, freezing: Freezing)
         requires place { 0 < self.old.places.frozen }
         requires room { length self.old.frozen < max_frozen }
+        requires some { ¬ HasNoPoint self.old.working }
         requires freezing { IsFreezeOf self.old freezing }
         ensures effect { (state : StoreState) → IsMemoryOf self.old state → IsMemoryOf self.new (froze state) }
         ensures series { self.new.series ≡ self.old.series }

@@ -2,6 +2,7 @@
 ghost use Rattle.std.specs.Prelude.{◌≡◌, ◌≢◌, ◌<◌, ◌≤◌, [], OnOk, length};
 ghost use Rattle.tsdb_memory.specs.Answers.{IsFreezeAnswer, answer_by};
 ghost use Rattle.tsdb_memory.specs.Changes.{HasFrozen, MemoryAfter};
+ghost use Rattle.tsdb_memory.specs.Fits.{HasNoPoint};
 ghost use Rattle.tsdb_log.specs.declared.record.LogRecord.{LogRecord};
 ghost use Rattle.tsdb_memory.specs.Store.{frozen_with_working};
 ghost use Rattle.tsdb_state.specs.Jobs.{flushed_bytes};
@@ -20,10 +21,11 @@ impl<J: Journal> Logged<J> {
     ghost use Rattle.tsdb_memory.specs.Flushes.{IsFlushed};
     ghost use Rattle.tsdb_memory.specs.Logged.{memory_of, room_of};
 
-    /// Freezes the working pair: it stands behind the frozen ones, of which at most one may be there before. The series
-    /// and the stamp stay, and a new working pair has no point.
+    /// Freezes the working pair, which has a point: it stands behind the frozen ones, of which at most one may be there
+    /// before. The series and the stamp stay, and a new working pair has no point.
     pub fn freeze(&mut self) -> Answer
         requires room { length (memory_of self.old).frozen < max_frozen }
+        requires some { ¬ HasNoPoint (memory_of self.old).working }
         ensures answer { IsFreezeAnswer result }
         ensures command { IsCommand self.old self.new LogRecord.Freeze CanStop result }
         ensures series { (memory_of self.new).series ≡ (memory_of self.old).series }
@@ -38,6 +40,7 @@ impl<J: Journal> Logged<J> {
 
     fn write_freeze(&mut self) -> Result<(), StoreFault>
         requires room { length (memory_of self.old).frozen < max_frozen }
+        requires some { ¬ HasNoPoint (memory_of self.old).working }
         ensures command { IsCommand self.old self.new LogRecord.Freeze CanStop (answer_by result) }
         ensures series { (memory_of self.new).series ≡ (memory_of self.old).series }
         ensures stamp { (memory_of self.new).stamp ≡ (memory_of self.old).stamp }

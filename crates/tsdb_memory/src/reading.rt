@@ -1,8 +1,10 @@
 //! What is read of memory. Depends on the store's fields.
-ghost use Rattle.std.specs.Prelude.{◌≡◌, ◌≢◌, ◌≤◌, ◌↔◌, List, ◌∷◌, IfSome, IsTrue, None, Some, length, map, slice_get};
+ghost use Rattle.std.specs.Prelude.{◌≡◌, ◌≢◌, ◌≤◌, ◌↔◌, List, ◌∷◌, IfSome, IsTrue, None, Some, false, length, map};
+ghost use Rattle.std.specs.Prelude.{slice_get};
 ghost use Rattle.std.specs.FinMap.{empty, len};
 ghost use Rattle.std.specs.Arc.{arc_value};
 ghost use Rattle.std.specs.Option.{option_map};
+ghost use Rattle.tsdb_memory.specs.Fits.{HasNoPoint};
 ghost use Rattle.tsdb_memory.specs.Model.{IsSound, frozen_in};
 ghost use Rattle.tsdb_memory.specs.Shown.{IsFilled, IsMemoryOf, number_of, part_of};
 ghost use Rattle.tsdb_state.specs.Limit.{IsEmptyPair};
@@ -71,7 +73,8 @@ impl MemoryStore {
 
     /// Whether the working pair has no point.
     pub fn is_idle(&self) -> bool
-        ensures { (state : StoreState) → IsMemoryOf self.now state → (IsTrue result ↔ IsEmptyPair state.working) }
+        ensures state { (state : StoreState) → IsMemoryOf self.now state → (IsTrue result ↔ IsEmptyPair state.working) }
+        ensures some { result ≡ false → ¬ HasNoPoint self.now.working }
     {
         if has_points(&self.working, Space::Sequence) {
             return false;

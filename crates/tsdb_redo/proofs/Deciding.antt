@@ -8,6 +8,7 @@ use Rattle.std.specs.Prelude.{◌↔◌, IsSome, IsTrue}
 use Rattle.tsdb_state.specs.Places.{is_path}
 use Rattle.tsdb_model.specs.declared.command.Schema.{Schema}
 use Rattle.tsdb_memory.proofs.Types.{there_alike}
+use Rattle.tsdb_memory.specs.Fits.{HasNoPoint}
 use Rattle.tsdb_memory.specs.Shown.{IsFrozenOf, IsMemoryOf, entry_of, number_of}
 use Rattle.tsdb_memory.specs.Store as value
 use Rattle.tsdb_redo.specs.Changes.{IsCreation, IsDeletion, IsFreezing}
@@ -60,6 +61,7 @@ as_many_frozen store state is = zip_lengths (IsFrozenOf store.series) store.froz
 pub no_place : (store : value.Store) (count : ℕ) → count ≡ length store.frozen → 2 ≤ count → IsFreezing store false
 no_place store count same full = record {
   room = λ yes. absurd (false≢true yes);
+  some = λ yes. absurd (false≢true yes);
   decides = λ state is. (
     λ yes. absurd (false≢true yes),
     λ can. absurd (omega (arith, can.room, as_many_frozen store state is, same, full)),
@@ -68,12 +70,17 @@ no_place store count same full = record {
 
 pub unless_idle : (store : value.Store) (count : ℕ) → count ≡ length store.frozen → count < 2 → (idle : Bool)
     → ((state : StoreState) → IsMemoryOf store state → IsTrue idle ↔ IsEmptyPair state.working)
-    → IsFreezing store (not idle)
-unless_idle store count same few idle empty = record {
+    → (idle ≡ false → ¬ HasNoPoint store.working) → IsFreezing store (not idle)
+unless_idle store count same few idle empty some = record {
   room = λ yes. omega (arith, same, few);
+  some = λ yes. some (busy idle yes);
   decides = λ state is. by idle state is (empty state is);
 }
   where
+    busy : (idle : Bool) → not idle ≡ true → idle ≡ false
+    busy true yes = absurd (false≢true yes)
+    busy false yes = refl
+
     by : (idle : Bool) (state : StoreState) → IsMemoryOf store state → (IsTrue idle ↔ IsEmptyPair state.working)
         → IsTrue (not idle) ↔ CanFreeze state
     by true state is none = (λ yes. absurd (false≢true yes), λ can. absurd (can.some (none.0 refl)))

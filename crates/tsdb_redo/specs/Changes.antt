@@ -2,6 +2,7 @@
 use Rattle.std.specs.Prelude.{◌≡◌, ◌↔◌, ℕ, ◌<◌, Bool, true, IsTrue, IsSome, List, None, length}
 use Rattle.tsdb_model.specs.Commands.{IsSchema}
 use Rattle.tsdb_model.specs.declared.command.Schema.{Schema}
+use Rattle.tsdb_memory.specs.Fits.{HasNoPoint}
 use Rattle.tsdb_memory.specs.Shown.{IsMemoryOf, number_of}
 use Rattle.tsdb_memory.specs.Store.{Store}
 use Rattle.tsdb_base.specs.Limits.{end_of_numbers, max_frozen}
@@ -22,4 +23,5 @@ pub record IsDeletion (store : Store) (path : List ℕ) : Type 0 where
 -- it is true where each state that is shown can be frozen, and else none of them can
 pub record IsFreezing (store : Store) (can : Bool) : Type 0 where
   pub room : can ≡ true → length store.frozen < max_frozen
+  pub some : can ≡ true → ¬ HasNoPoint store.working
   pub decides : (state : StoreState) → IsMemoryOf store state → IsTrue can ↔ CanFreeze state

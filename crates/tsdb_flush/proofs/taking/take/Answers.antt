@@ -1,13 +1,16 @@
 use Rattle.std.proofs.Common.{ap, map, sym, subst, ◌∙◌}
+use Rattle.std.specs.Arc.{arc_value}
 use Rattle.std.specs.Prelude.{All}
 use Rattle.std.proofs.lemmas.List.Elements.{All-head}
 use Rattle.tsdb_flush.proofs.Jobs.{Has, IsFound, is_job, is_taken}
+use Rattle.tsdb_flush.proofs.TakenParts.{some_drawn}
 use Rattle.tsdb_flush.specs.TakingSteps.{AreSeriesOf, schema_in}
 use Rattle.tsdb_flush.specs.declared.series.PairSeries.{PairSeries}
 use Rattle.tsdb_flush.specs.declared.job.FlushJob.{FlushJob}
-use Rattle.tsdb_memory.specs.Model.{HasKnownSeries, frozen_in}
+use Rattle.tsdb_memory.specs.Fits.{HasNoPoint}
+use Rattle.tsdb_memory.specs.Model.{AreFrozenInTurn, HasKnownSeries, frozen_in}
 use Rattle.tsdb_memory.specs.Store.{FrozenPair}
-use Rattle.tsdb_memtable.specs.Pairs.{Pair}
+use Rattle.tsdb_memtable.specs.Pairs.{HasRisingSeries, Pair}
 use Rattle.tsdb_flush.proofs.taking.take.Goals as goal
 
 pub series_in_order-requires-clause-known : goal.series_in_order-requires-clause-known
@@ -45,7 +48,15 @@ returns-in-Some c =
       numbers = c.in_ok-series.ensures ∙ ap (map (λ (one : PairSeries). one.id)) c.as_slice-all.ensures.value;
       schemas = c.in_ok-schemas.ensures ∙ ap (map schema_in) c.as_slice-all.ensures.value;
     } in
+    let taken = is_taken store c.args.next oldest series job c.sound.ensures found has in
+    let is = is_job store c.args.next oldest series job c.sound.ensures found has in
+    let filled : ¬ HasNoPoint oldest.pair =
+    (subst (AreFrozenInTurn store.stamp) found.are c.sound.ensures.in_turn).filled.0 in
     record {
-      job = is_job store c.args.next oldest series job c.sound.ensures found has;
-      taken = is_taken store c.args.next oldest series job c.sound.ensures found has;
+      job = is;
+      taken = taken;
+      some = some_drawn store.series (arc_value job.pair) job.schemas job.series
+          (subst HasRisingSeries (c.pair-2.ensures ∙ sym has.pair) c.points.ensures.rising)
+          (subst (λ (p : Pair). ¬ HasNoPoint p) (sym has.pair) filled) taken.of job.sequence job.unsequence
+          is.sequence_drawn is.unsequence_drawn;
     }

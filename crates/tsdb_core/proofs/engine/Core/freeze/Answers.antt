@@ -40,3 +40,7 @@ returns-clause-memory g c = λ filled. c.freeze.ensures.memory
 
 pub returns-then-is_idle-clause-memory : goal.returns-then-is_idle-clause-memory
 returns-then-is_idle-clause-memory g c = λ filled. absurd (filled (c.is_idle.ensures.idle.0 c.if-is_idle.true))
+
+pub freeze-requires-clause-some : goal.freeze-requires-clause-some
+freeze-requires-clause-some g c = λ lifetimes lives none.
+    false≢true (sym c.if-is_idle.false ∙ c.is_idle.ensures.idle.1 none)

@@ -1,4 +1,4 @@
-use Rattle.std.proofs.Common.{inr, subst}
+use Rattle.std.proofs.Common.{inl, inr, subst}
 use Rattle.tsdb_core.proofs.RowLemmas.{can_freeze_for, frozen_for, not_fit}
 use Rattle.tsdb_core.specs.Rows.{IsFrozenFor}
 use Rattle.tsdb_memory.specs.Logged.{memory_of}
@@ -26,3 +26,9 @@ returns-clause-failed g c =
 pub returns-clause-can : goal.returns-clause-can
 returns-clause-can g c = can_freeze_for c.args.self.now c.args.row.now c.memory-memory.result.now
     c.memory-memory.ensures c.fits.ensures.counts c.sound.ensures.two c.requires.place
+
+pub freeze-answer-requires-clause-some : goal.freeze-answer-requires-clause-some
+freeze-answer-requires-clause-some g c = λ lifetimes lives none.
+    not_fit c.points.result c.args.self.now.limit.points c.args.row.now c.memory-memory.result.now
+    (memory_of c.args.self.now.logged) c.fits.result c.if-fits.false c.points.ensures.value c.memory-memory.ensures
+    c.fits.ensures.fits (inl none)

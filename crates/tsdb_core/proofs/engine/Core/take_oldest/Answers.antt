@@ -28,7 +28,7 @@ returns-clause-taken g c = flush_taken c.args.self.now c.reserve_flushed.new.sel
     (c.args.self.now.next_file + c.drawn.result) c.in_ok-reserve_flushed.ensures.kept
     c.in_ok-reserve_flushed.ensures.room c.in_ok-job.ensures.job
     (subst (λ store. IsTaken store c.args.self.now.next_file c.in_ok-job.job) c.memory.ensures
-    c.in_ok-job.ensures.taken)
+    c.in_ok-job.ensures.taken) c.in_ok-job.ensures.some
     c.requires.left c.in_ok-prepare_flush.ensures.lists c.in_ok-prepare_flush.ensures.files
     c.in_ok-prepare_flush.ensures.places c.in_ok-prepare_flush.ensures.room
     (ap (λ n. c.args.self.now.next_file + n) (c.drawn.ensures ∙ sym (count_is c.in_ok-job.job)))
@@ -56,7 +56,7 @@ returns-clause-world g c = taken_world c.args.self.now _ c.in_ok-job.job
     (c.args.self.now.next_file + c.drawn.result) c.in_ok-reserve_flushed.ensures.kept
     c.in_ok-reserve_flushed.ensures.room c.in_ok-job.ensures.job
     (subst (λ store. IsTaken store c.args.self.now.next_file c.in_ok-job.job) c.memory.ensures
-    c.in_ok-job.ensures.taken)
+    c.in_ok-job.ensures.taken) c.in_ok-job.ensures.some
     c.requires.left c.in_ok-prepare_flush.ensures.lists c.in_ok-prepare_flush.ensures.files
     c.in_ok-prepare_flush.ensures.places c.in_ok-prepare_flush.ensures.room
     (ap (λ n. c.args.self.now.next_file + n) (c.drawn.ensures ∙ sym (count_is c.in_ok-job.job))))

@@ -1,4 +1,4 @@
-use Rattle.std.proofs.Common.{◌∙◌, ap, arith, refl}
+use Rattle.std.proofs.Common.{◌∙◌, ap, arith, refl, subst, sym}
 use Rattle.std.proofs.lemmas.Result.{err_from_is_err_and}
 use Rattle.tsdb_log.specs.declared.record.LogRecord.TheVariants.{Freeze}
 use Rattle.tsdb_memory.proofs.LogLemmas.Answering.{err_not_done, same_frozen}
@@ -7,8 +7,10 @@ use Rattle.tsdb_memory.proofs.LogLemmas.Commanding.{logs_freeze, stops, takes_ef
 use Rattle.tsdb_memory.proofs.LogLemmas.Steps.{out_of_memory}
 use Rattle.tsdb_memory.specs.Changes.{HasFrozen}
 use Rattle.tsdb_memory.specs.Commands.{CanStop}
+use Rattle.tsdb_memory.specs.Fits.{HasNoPoint}
 use Rattle.tsdb_memory.specs.Logged.{memory_of}
 use Rattle.tsdb_memory.specs.Store.{Store, frozen_with_working}
+use Rattle.tsdb_memtable.specs.Pairs.{Pair}
 use Rattle.tsdb_memory.proofs.logged.Logged.write_freeze.Goals as goal
 
 pub returns-in_err-freezing-clause-command : goal.returns-in_err-freezing-clause-command
@@ -126,3 +128,8 @@ returns-clause-memory g c = frozen_after (memory_of c.args.self.now) (memory_of 
     (ap (λ (s : Store). s.working) c.in_ok-append.ensures.memory ∙ c.in_ok-freezing.ensures.working)
     (over_append (memory_of c.args.self.now) c.prepare_freeze.new.self (memory_of c.append.new.self)
     c.in_ok-append.ensures.memory c.in_ok-freezing.ensures.kept) c.finish_freeze.ensures.made
+
+pub finish_freeze-requires-clause-some : goal.finish_freeze-requires-clause-some
+finish_freeze-requires-clause-some g c = λ lifetimes lives.
+    subst (λ (p : Pair). ¬ HasNoPoint p)
+    (sym (ap (λ (s : Store). s.working) c.in_ok-append.ensures.memory ∙ c.in_ok-freezing.ensures.working)) c.requires.some

@@ -1,5 +1,6 @@
 use Rattle.std.proofs.Common.{◌≡◌, ◌∙◌, ◌++◌, ◌∷◌, ◌<◌, [], List, ap, length, map, subst, sym}
 use Rattle.tsdb_memory.proofs.Frozen.{froze_shown, froze_sound, frozen_store, pushed_frozen}
+use Rattle.tsdb_memory.specs.Fits.{HasNoPoint}
 use Rattle.tsdb_memory.specs.Freezing.{AreRaises, raised_by}
 use Rattle.tsdb_memory.specs.Model.{IsSound, frozen_in, store_in}
 use Rattle.tsdb_memory.specs.Shown.{IsMemoryOf}
@@ -80,4 +81,5 @@ invariant_of-self c =
     (store_in new).places pushed) { working = p }))
     (sym (c.replace-working.ensures.after ∙ c.new.ensures))
     (froze_sound (store_in old) raises c.raise_all.new.watermarks frozen (store_in new).places pushed
-    (subst (λ (s : value.Store). length s.frozen < max_frozen) (sym c.self.view_is) c.requires.room) c.self.invariant)
+    (subst (λ (s : value.Store). length s.frozen < max_frozen) (sym c.self.view_is) c.requires.room)
+    (subst (λ (s : value.Store). ¬ HasNoPoint s.working) (sym c.self.view_is) c.requires.some) c.self.invariant)

@@ -11,4 +11,4 @@ returns-then-frozen-ge-MAX_FROZEN c = no_place c.args.self.now.memory (length c.
 pub returns : goal.returns
 returns c = unless_idle c.args.self.now.memory (length c.frozen.result.now)
     (sym (length-map c.frozen.result.now frozen_in) ∙ ap length c.frozen.ensures.value) c.if-frozen-ge-MAX_FROZEN.false
-    c.is_idle.result c.is_idle.ensures
+    c.is_idle.result c.is_idle.ensures.state c.is_idle.ensures.some

@@ -23,7 +23,7 @@ returns c =
     c.space_of-space.result
     (c.space_of-space.ensures ∙ ap (λ t. space_by c.get.result t) time ∙ ap (λ o. space_by o c.args.time)
     (c.get.ensures ∙ ap (λ w. watermark w c.args.device.now) c.watermarks.ensures))
-    (λ state is empty. false≢true (sym c.if-is_idle.false ∙ (c.is_idle.ensures state is).1 empty))
+    (λ state is empty. false≢true (sym c.if-is_idle.false ∙ (c.is_idle.ensures.state state is).1 empty))
     _
     (le_at (c.from.result + c.from-2.result) c.new_points.result _ 1000000
     (c.new_points.ensures ∙ ap (λ t. new_points c.space_of-space.result t c.working.result.now c.args.cells.now) time
