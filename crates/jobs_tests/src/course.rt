@@ -77,7 +77,6 @@ pub struct Seen {
 /// Ends a job with its output.
 fn end<J: Journal, F: Files>(
     core: &mut Core<J, F>,
-    kind: Kind,
     job: Job<F>,
     output: Option<Built<F>>,
     commits: bool,
@@ -88,7 +87,7 @@ fn end<J: Journal, F: Files>(
         → EndsJob F.Right.file store core.old core.new job }
 {
     if commits {
-        return Some(commit(core, kind, job, output));
+        return Some(commit(core, job, output));
     }
     give_up(core, job, output);
     None
@@ -107,7 +106,7 @@ fn rewrite<J: Journal, F: Files>(
     ensures same_store { F.Port.store port.new ≡ F.Port.store port.old }
 {
     match run_job::<F>(alloc, kind, &job, port) {
-        Ok(output) => commit(core, kind, job, output).is_ok(),
+        Ok(output) => commit(core, job, output).is_ok(),
         Err(_) => {
             give_up(core, job, None);
             false
@@ -207,7 +206,7 @@ fn finish<J: Journal, F: Files>(
     ensures same_store { F.Port.store port.new ≡ F.Port.store port.old }
 {
     let done = take_steps::<J, F>(alloc, core, port, course.written);
-    let ended = end(core, course.kind, job, output, course.commits);
+    let ended = end(core, job, output, course.commits);
     done.then_some(ended)
 }
 

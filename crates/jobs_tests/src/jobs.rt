@@ -110,7 +110,6 @@ pub fn points_of<F: Files>(output: &Option<Built<F>>) -> u64 {
 /// Commits a job with its output.
 pub fn commit<J: Journal, F: Files>(
     core: &mut Core<J, F>,
-    kind: Kind,
     job: Job<F>,
     output: Option<Built<F>>,
 ) -> Result<(), Failed>
@@ -119,9 +118,10 @@ pub fn commit<J: Journal, F: Files>(
     ensures { (store : Store) → IfSome output (λ built. (F.Sealed.file built.sealed).store ≡ store)
         → EndsJob F.Right.file store core.old core.new job }
 {
-    match kind {
-        Kind::Inner(_) => core.commit_inner(job, output),
-        Kind::Cross => core.commit_cross(job, output),
+    if job.is_cross() {
+        core.commit_cross(job, output)
+    } else {
+        core.commit_inner(job, output)
     }
 }
 

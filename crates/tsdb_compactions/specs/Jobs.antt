@@ -1,7 +1,9 @@
 -- Which compaction of the engine state a job is, and what holds of one that a core hands out.
-use Rattle.std.specs.Prelude.{◌≡◌, ◌≢◌, ℕ, List, [], ◌++◌, map}
+use Rattle.std.specs.Prelude.{◌≡◌, ◌≢◌, ℕ, Bool, true, false, List, [], ◌∷◌, ◌++◌, map}
 use Rattle.std.specs.List.{AllByRecursion as Each}
 use Rattle.tsdb_base.specs.declared.ids.FileNumber.{FileNumber}
+use Rattle.tsdb_base.specs.declared.ids.Space.{Space}
+use Rattle.tsdb_base.specs.declared.ids.Space.TheVariants.{Sequence, Unsequence}
 use Rattle.tsdb_compactions.specs.declared.job.Input.{Input}
 use Rattle.tsdb_compactions.specs.declared.job.Job.{Job}
 use Rattle.tsdb_index.specs.Entries.{AreNamesBefore}
@@ -16,7 +18,17 @@ use Rattle.tsdb_state.specs.State.{Compaction, File}
 abbrev pub plain_numbers : List FileNumber → List ℕ
 plain_numbers numbers = map (λ (number : FileNumber). number.0) numbers
 
+-- an output of this space and these late inputs make a cross job
+abbrev pub crosses : Space → List FileNumber → Bool
+crosses Sequence [] = false
+crosses Sequence (late ∷ others) = true
+crosses Unsequence late = false
+
 module _ {F S R P : Type 0} where
+  -- The job is a cross job: its output stands in the sequence list, and it has late inputs. Every other is an inner one.
+  abbrev pub is_cross : Job F S R P → Bool
+  is_cross job = crosses job.space job.unsequence
+
   -- an input as the engine state has it
   abbrev pub input_file : Input F S R P → File
   input_file input = record { number = input.number.0; born = input.born.0 }

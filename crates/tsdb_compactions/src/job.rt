@@ -1,4 +1,7 @@
 //! A compaction that is out. Depends on tsdb_base, tsdb_model, tsdb_marks and tsdb_outside.
+ghost use Rattle.std.specs.Prelude.{◌≡◌};
+ghost use Rattle.tsdb_base.specs.declared.ids.Space.{Space as SpaceOf};
+ghost use Rattle.tsdb_compactions.specs.Jobs.{crosses};
 
 use tsdb_base::{FileNumber, List, Space, Stamp};
 use tsdb_marks::Marks;
@@ -33,4 +36,24 @@ pub struct Job<F: Files> {
     pub schemas: List<Schema>,
     /// The number drawn for its output.
     pub output: FileNumber,
+}
+
+impl<F: Files> Job<F> {
+    /// Whether it is a cross job: its output stands in the sequence list, and it has late inputs. Every other is an
+    /// inner one.
+    pub fn is_cross(&self) -> bool
+        ensures { result ≡ crosses self.now.space self.now.unsequence }
+    {
+        match self.space {
+            Space::Sequence => has_some(self.unsequence.items()),
+            Space::Unsequence => false,
+        }
+    }
+}
+
+/// Whether there are late inputs.
+fn has_some(late: &[FileNumber]) -> bool
+    ensures { result ≡ crosses SpaceOf.Sequence late.now }
+{
+    !late.is_empty()
 }

@@ -1,11 +1,12 @@
 -- What beginning a compaction makes of a core, and of the states that it shows.
 use Rattle.std.proofs.Common.{◌≡◌, ◌≢◌, ℕ, ◌+◌, ◌-◌, ◌*◌, ◌≤◌, Bool, true, false, List, [], ◌∷◌, length, map}
-use Rattle.std.proofs.Common.{Option, None, Some, inl, inr, ap, arith, drop, take, refl, sym, subst, ◌∙◌}
+use Rattle.std.proofs.Common.{Option, None, Some, Result, Ok, Err, inl, inr, ap, arith, drop, take, refl, sym, subst, ◌∙◌}
 use Rattle.std.proofs.lemmas.Bool.{false≢true}
 use Rattle.std.proofs.lemmas.List.{drop-map, length-append, length-map, take-map}
 use Rattle.std.specs.List.{filter}
 use Rattle.std.specs.Option.{option_map}
-use Rattle.std.specs.Prelude.{◌↔◌, IfSome, slice_range}
+use Rattle.std.specs.Prelude.{◌↔◌, IfOk, IfSome, slice_range}
+use Rattle.tsdb_base.specs.declared.ids.FileNumber.{FileNumber}
 use Rattle.tsdb_base.specs.declared.ids.Space.{Space}
 use Rattle.tsdb_base.specs.declared.ids.Space.TheVariants.{Sequence, Unsequence}
 use Rattle.tsdb_tasks.proofs.InState.{began_in_state}
@@ -21,18 +22,20 @@ use Rattle.tsdb_tasks.specs.declared.beginning.TakenInputs.{TakenInputs}
 use Rattle.tsdb_tasks.specs.declared.finishing.InputRuns.{InputRuns}
 use Rattle.tsdb_tasks.specs.declared.series.JobSeries.{JobSeries}
 use Rattle.tsdb_tasks.proofs.Planned.{planned_begins}
-use Rattle.tsdb_tasks.specs.Jobs.{IsCompactionOf, input_file}
+use Rattle.tsdb_tasks.specs.Jobs.{IsCompactionOf, crosses, input_file, is_cross}
 use Rattle.tsdb_tasks.specs.Plans.{IsOfMoment, IsPlanned}
 use Rattle.tsdb_tasks.specs.Job.{Job}
 use Rattle.tsdb_core.proofs.LoansJobs.{begun_inputs, job_rights_taken, planned_free, planned_unclaimed}
 use Rattle.tsdb_core.proofs.BeginningsClaims.{claims_stay, in_sequence, in_unsequence, run_claimed}
 use Rattle.tsdb_core.proofs.BeginningsKept.{begun_kept, none_next}
 use Rattle.tsdb_core.proofs.Commits.{prepared_sound}
-use Rattle.tsdb_core.specs.Beginnings.{ArePlanned, IsBegun, claimed_by, cross_run}
+use Rattle.tsdb_core.specs.Beginnings.{ArePlanned, IsBegun, IsBegunOrNot, IsCrossRuns, IsInnerRuns, IsNewJob, claimed_by}
+use Rattle.tsdb_core.specs.Beginnings.{cross_run}
 use Rattle.tsdb_core.specs.Beginnings.{no_files}
 use Rattle.tsdb_core.specs.Compactions.{IsJobKept}
 use Rattle.tsdb_core.specs.Core.{AreClaimed, IsSeen, KeepsJobs, is_claimed, next_of}
 use Rattle.tsdb_core.specs.Worlds.{KeepsWorld}
+use Rattle.tsdb_core.specs.declared.commit.CoreFault.{CoreFault}
 use Rattle.tsdb_core.specs.declared.engine.Core.{Core}
 use Rattle.tsdb_fileset.specs.Held.{AreFilesOf, listed}
 use Rattle.tsdb_state.proofs.ImageLemmas.Storing.{begin_stored}
@@ -91,6 +94,10 @@ empty_run : (run : Run) (entries : List FileEntry) → run ≡ no_files
     → map listed (slice_range entries run.first run.end) ≡ []
 empty_run run entries is = ap (λ (r : Run). map listed (slice_range entries r.first r.end)) is
 
+some_crosses : (late : List FileNumber) → 1 ≤ length late → crosses Sequence late ≡ true
+some_crosses [] some = absurd (omega (arith, some))
+some_crosses (file ∷ files) some = refl
+
 module _ {J F S R P : Type 0} {means : disk.Ghosts J} {counts : counted.Ghosts J} where
   pub plan_fits : (space : Space) (core : Core J F S R P means counts) (runs : InputRuns) → ArePlanned space core runs
       → Fit space runs core.files
@@ -120,6 +127,48 @@ module _ {J F S R P : Type 0} {means : disk.Ghosts J} {counts : counted.Ghosts J
         some = omega (arith, plan.first, plan.plan.eligible.some);
         none = λ late. absurd (no_space (sym is ∙ late));
       }
+
+  -- a job of an inner plan is an inner one, and that of a cross plan a cross one
+
+  inner_job : (space : Space) (core : Core J F S R P means counts) (runs : InputRuns) (job : Job F S R P)
+      → IsInnerRuns space core runs → IsNewJob space runs core job → is_cross job ≡ false
+  inner_job Sequence core runs job plan is =
+      let late : job.unsequence ≡ [] = is.unsequence
+      ∙ ap (λ (r : Run). map (λ (entry : FileEntry). entry.number) (slice_range core.files.unsequence r.first r.end))
+      plan.none in
+      λ i. crosses (is.space i) (late i)
+  inner_job Unsequence core runs job plan is = λ i. crosses (is.space i) job.unsequence
+
+  cross_job : (core : Core J F S R P means counts) (runs : InputRuns) (job : Job F S R P) → IsCrossRuns core runs
+      → IsNewJob Sequence runs core job → is_cross job ≡ true
+  cross_job core runs job plan is =
+      let fit = plan_fits Sequence core runs (inr (refl, plan)) in
+      let late = slice_range core.files.unsequence runs.unsequence.first runs.unsequence.end in
+      (λ i. crosses (is.space i) (is.unsequence i))
+      ∙ some_crosses (map (λ (entry : FileEntry). entry.number) late)
+      (omega (
+        arith,
+        plan.first,
+        plan.plan.eligible.some,
+        slice_long runs.unsequence core.files.unsequence fit.unsequence,
+        length-map late (λ (entry : FileEntry). entry.number),
+      ))
+
+  pub inner_kind : (name : R → NamedFile) (space : Space) (core after : Core J F S R P means counts)
+      (result : Result (Option (Job F S R P)) CoreFault)
+      → IsBegunOrNot name space (IsInnerRuns space core) core after result
+      → IfOk result (λ begun. IfSome begun (λ job. is_cross job ≡ false))
+  inner_kind name space core after (Ok None) is = tt
+  inner_kind name space core after (Ok (Some job)) (runs, plan, begun) = inner_job space core runs job plan begun.is_new
+  inner_kind name space core after (Err fault) is = tt
+
+  pub cross_kind : (name : R → NamedFile) (core after : Core J F S R P means counts)
+      (result : Result (Option (Job F S R P)) CoreFault)
+      → IsBegunOrNot name Sequence (IsCrossRuns core) core after result
+      → IfOk result (λ begun. IfSome begun (λ job. is_cross job ≡ true))
+  cross_kind name core after (Ok None) is = tt
+  cross_kind name core after (Ok (Some job)) (runs, plan, begun) = cross_job core runs job plan begun.is_new
+  cross_kind name core after (Err fault) is = tt
 
   -- they are those of a plan of the state, where the files are its files
   pub planned_in : (space : Space) (core : Core J F S R P means counts) (runs : InputRuns) (known : Entries)

@@ -1,9 +1,10 @@
 //! The compactions of a core that begin. Depends on `engine` and `commit`, and on `tsdb_base` for the limit of
 //! numbers.
-ghost use Rattle.std.specs.Prelude.{◌≡◌, ◌+◌, ◌≤◌, ◌↔◌, IfNone, IfOk, IfSome, IsTrue, OnErr};
+ghost use Rattle.std.specs.Prelude.{◌≡◌, ◌+◌, ◌≤◌, ◌↔◌, IfNone, IfOk, IfSome, IsTrue, OnErr, false, true};
 ghost use Rattle.std.specs.declared.result.Result.TheVariants.{Err};
 ghost use Rattle.tsdb_base.specs.declared.ids.Space.TheVariants.{Sequence, Unsequence};
 ghost use Rattle.tsdb_tasks.specs.declared.finishing.InputRuns.{InputRuns as RunsOf};
+ghost use Rattle.tsdb_tasks.specs.Jobs.{is_cross};
 ghost use Rattle.tsdb_core.specs.Beginnings.{IsBeginAnswer, claimed_by};
 ghost use Rattle.tsdb_core.specs.declared.commit.CoreFault.TheVariants.{Memory as NoMemory};
 ghost use Rattle.tsdb_fileset.specs.Replacing.{run_length};
@@ -37,6 +38,7 @@ impl<J: Journal, F: Files> Core<J, F> {
     pub fn begin_inner(&mut self, space: Space) -> Result<Option<Job<F>>, CoreFault>
         ensures answer { IsBeginAnswer (IsInnerRuns space self.old) (next_of self.old) result }
         ensures begun { IsBegunOrNot F.Right.file space (IsInnerRuns space self.old) self.old self.new result }
+        ensures kind { IfOk result (λ begun. IfSome begun (λ job. is_cross job ≡ false)) }
         ensures world { KeepsWorld self.old self.new }
     {
         match self.inner_runs(space) {
@@ -53,6 +55,7 @@ impl<J: Journal, F: Files> Core<J, F> {
     pub fn begin_cross(&mut self) -> Result<Option<Job<F>>, CoreFault>
         ensures answer { HaveHulls self.old → IsBeginAnswer (IsCrossRuns self.old) (next_of self.old) result }
         ensures begun { IsBegunOrNot F.Right.file Sequence (IsCrossRuns self.old) self.old self.new result }
+        ensures kind { IfOk result (λ begun. IfSome begun (λ job. is_cross job ≡ true)) }
         ensures disorder { ¬ HaveHulls self.old → result ≡ Err NoMemory }
         ensures order { (outside : Outside) (engine : EngineState) → IsSeen self.old outside engine
             → HaveHulls self.old }

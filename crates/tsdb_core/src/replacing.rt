@@ -1,12 +1,13 @@
 //! The ends of the compactions of a core: a job is committed with its output, or given up. Depends on `engine`,
 //! tsdb_tasks and tsdb_memory.
 ghost use Rattle.std.specs.Option.{option_map};
-ghost use Rattle.std.specs.Prelude.{◌≡◌, ◌+◌, IfSome, length};
+ghost use Rattle.std.specs.Prelude.{◌≡◌, ◌+◌, IfSome, false, length, true};
 ghost use Rattle.tsdb_tasks.specs.Files.{new_file};
 ghost use Rattle.tsdb_tasks.specs.Ending.{IsOutIn, IsOutputNumbered};
 ghost use Rattle.tsdb_tasks.specs.Finishing.{AreRunsOf};
 ghost use Rattle.tsdb_tasks.specs.States.{sent_files};
 ghost use Rattle.tsdb_tasks.specs.CompactionsOutputs.{IsOutputOf};
+ghost use Rattle.tsdb_tasks.specs.Jobs.{is_cross};
 ghost use Rattle.tsdb_core.specs.Replacements.{EndsFiles, output_place, record_inputs, without_claim};
 ghost use Rattle.tsdb_state.specs.Steps.{output_number};
 
@@ -26,6 +27,7 @@ impl<J: Journal, F: Files> Core<J, F> {
     /// Ends an inner compaction that is out: its output stands in the place of its inputs, and these are on their way
     /// out. Where the log could not be written the job is given up. It takes no memory.
     pub fn commit_inner(&mut self, job: Job<F>, output: Option<Built<F>>) -> Result<(), Failed>
+        requires kind { is_cross job ≡ false }
         requires out { IsJobOut F.Right.file self.old job }
         requires output { IsOutputOf F.Right.file F.Sealed.file F.Sealed.rights job output }
         ensures { IsJobCommit F.Right.file self.old self.new job (option_map (new_file F.Sealed.file) output) result }
@@ -35,6 +37,7 @@ impl<J: Journal, F: Files> Core<J, F> {
 
     /// Ends a cross compaction that is out, as `commit_inner` does.
     pub fn commit_cross(&mut self, job: Job<F>, output: Option<Built<F>>) -> Result<(), Failed>
+        requires kind { is_cross job ≡ true }
         requires out { IsJobOut F.Right.file self.old job }
         requires output { IsOutputOf F.Right.file F.Sealed.file F.Sealed.rights job output }
         ensures { IsJobCommit F.Right.file self.old self.new job (option_map (new_file F.Sealed.file) output) result }

@@ -131,7 +131,7 @@ fn rewrite<J: Journal, F: Files>(
 {
     tell_kept(core);
     match run(alloc, kind, &job, port) {
-        Ok(output) => commit(core, port, kind, job, output),
+        Ok(output) => commit(core, port, job, output),
         Err(fault) => {
             give_up(core, port, job);
             Err(FlushFault::of_file(fault))
@@ -173,7 +173,6 @@ fn run<F: Files>(
 fn commit<J: Journal, F: Files>(
     core: &mut Core<J, F>,
     port: &mut F::Port,
-    kind: Kind,
     job: Job<F>,
     output: Option<Built<F>>,
 ) -> Result<(), FlushFault>
@@ -187,7 +186,7 @@ fn commit<J: Journal, F: Files>(
         × Rose (faults_under core.old) (faults_under core.new)) }
     ensures later { F.Port.faults port.old ≤ F.Port.faults port.new }
 {
-    let committed = list(core, kind, job, output);
+    let committed = list(core, job, output);
     let _ = core.sweep(port);
     match committed {
         Ok(()) => Ok(()),
@@ -198,7 +197,6 @@ fn commit<J: Journal, F: Files>(
 /// Lists the output of a job, by the call of its kind.
 fn list<J: Journal, F: Files>(
     core: &mut Core<J, F>,
-    kind: Kind,
     job: Job<F>,
     output: Option<Built<F>>,
 ) -> Result<(), Failed>
@@ -206,9 +204,10 @@ fn list<J: Journal, F: Files>(
     requires output { IsOutputOf F.Right.file F.Sealed.file F.Sealed.rights job output }
     ensures { IsJobCommit F.Right.file core.old core.new job (option_map (new_file F.Sealed.file) output) result }
 {
-    match kind {
-        Kind::Inner => core.commit_inner(job, output),
-        Kind::Cross => core.commit_cross(job, output),
+    if job.is_cross() {
+        core.commit_cross(job, output)
+    } else {
+        core.commit_inner(job, output)
     }
 }
 

@@ -1,5 +1,6 @@
 use Rattle.std.proofs.Common.{◌≡◌}
 use Rattle.tsdb_base.specs.declared.ids.Space.TheVariants.{Sequence}
+use Rattle.tsdb_core.proofs.Beginnings.{cross_kind}
 use Rattle.tsdb_core.proofs.BeginningsExits.{answer_of, begun_of, same_world}
 use Rattle.tsdb_core.proofs.BeginningsHulls.{hulls_in_order}
 use Rattle.tsdb_core.specs.Beginnings.{IsCrossRuns}
@@ -19,3 +20,8 @@ returns-in-Some-clause-begun g c = begun_of g.F.Right.ReadRight.file Sequence (I
 pub returns-in-Some-clause-world : goal.returns-in-Some-clause-world
 returns-in-Some-clause-world g c = same_world g.F.Right.ReadRight.file Sequence (λ these. these ≡ c.in-Some.runs)
     c.args.self.now c.begin.new.self c.begin.result c.begin.ensures.begun
+
+pub returns-in-Some-clause-kind : goal.returns-in-Some-clause-kind
+returns-in-Some-clause-kind g c = cross_kind g.F.Right.ReadRight.file c.args.self.now c.begin.new.self c.begin.result
+    (begun_of g.F.Right.ReadRight.file Sequence (IsCrossRuns c.args.self.now) c.in-Some.runs c.args.self.now
+    c.begin.new.self c.begin.result c.in-Some.ensures.found c.begin.ensures.begun)
