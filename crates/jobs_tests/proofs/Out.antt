@@ -1,36 +1,33 @@
 -- What each call of a core hands on of the rights that are out.
-use Rattle.std.proofs.Common.{◌≡◌, ◌∙◌, ◌⊎◌, List, [], ◌∷◌, ◌++◌, Option, None, Some, Result, Ok, Err, inl, inr}
-use Rattle.std.proofs.Common.{ap, drop, length, refl, sym, subst, take}
-use Rattle.std.proofs.Math.Seq.{drop-append_seam, take-append_seam}
-use Rattle.std.proofs.lemmas.List.{drop-map, length-map, take-append-drop, take-map}
+use Rattle.std.proofs.Common.{◌≡◌, ◌∙◌, ◌⊎◌, List, [], ◌++◌, Option, None, Some, Result, Ok, Err, inl, inr}
+use Rattle.std.proofs.Common.{ap, sym, subst}
 use Rattle.std.specs.List.{AllByRecursion as Each}
 use Rattle.std.specs.Option.{option_map}
 use Rattle.std.specs.Prelude.{ℕ, ◌≤◌, IfSome}
 use Rattle.jobs_tests.specs.Begins.{BeginsOrNot}
 use Rattle.jobs_tests.specs.Out.{AreHandedOn, BeginsJob, EndsFlush, EndsJob, EndsPin, HasFlush, HasJob, HasPin, IsHandedOn, IsKept}
-use Rattle.jobs_tests.specs.Out.{IsWithJob, Loans, TakesFlush, TakesPin, compaction_of, flush_of, with_job, with_pin}
+use Rattle.jobs_tests.specs.Out.{TakesFlush, TakesPin}
 use Rattle.tsdb_base.specs.declared.ids.FileNumber.{FileNumber}
 use Rattle.tsdb_base.specs.declared.ids.Space.{Space}
 use Rattle.tsdb_tasks.specs.Files.{NewFile, new_file, new_files}
 use Rattle.tsdb_tasks.specs.Ending.{IsOutputNumbered}
 use Rattle.tsdb_tasks.specs.declared.finishing.InputRuns.{InputRuns}
-use Rattle.tsdb_compactions.specs.Jobs.{IsCompactionOf, input_files, plain_numbers}
 use Rattle.tsdb_compactions.specs.Outputs.{IsOutputOf}
 use Rattle.tsdb_compactions.specs.declared.job.Input.{Input}
 use Rattle.tsdb_compactions.specs.declared.job.Job.{Job}
-use Rattle.tsdb_core.proofs.Loans.{on_columns}
-use Rattle.tsdb_core.proofs.LoansJobs.{on_inputs}
-use Rattle.tsdb_core.proofs.LoansOut.{job_out, none_lent, nothing_lent, pin_held}
-use Rattle.tsdb_core.specs.Beginnings.{IsBegunOrNot, IsNotBegun}
-use Rattle.tsdb_core.specs.Commands.{KeepsFiles}
-use Rattle.tsdb_core.specs.Compactions.{IsHandedOut, IsJobKept, IsJobOut, job_rights}
+use Rattle.tsdb_core.proofs.LoansOut.{none_lent, nothing_lent}
+use Rattle.tsdb_core.proofs.Out.{first_job, behind_job, flush_can_end, flush_joins, flush_leaves, job_can_end, job_joins}
+use Rattle.tsdb_core.proofs.Out.{job_leaves, no_flush, no_job, pin_is_held, pin_joins, pin_leaves}
+use Rattle.tsdb_core.proofs.Out.{no_pin as not_pinned}
+use Rattle.tsdb_core.specs.Out.{nothing_out, with_job, with_pin}
+use Rattle.tsdb_core.specs.Beginnings.{IsBegunOrNot}
+use Rattle.tsdb_core.specs.Compactions.{IsHandedOut, IsJobOut}
 use Rattle.tsdb_core.specs.Core.{IsAbove, KeepsJobs, files_of}
 use Rattle.tsdb_core.specs.Flushes as flushes
-use Rattle.tsdb_core.specs.Flushes.{HasNumbersOf, IsOut, IsTakenOrNot, TakesMemory}
+use Rattle.tsdb_core.specs.Flushes.{IsOut, IsTakenOrNot, TakesMemory}
 use Rattle.tsdb_core.specs.Loans.{KeepsLoans}
-use Rattle.tsdb_core.specs.Pins.{IsNotPinned, IsPinned, IsUnpinned, pin_rights}
+use Rattle.tsdb_core.specs.Pins.{IsNotPinned, IsPinned, IsUnpinned}
 use Rattle.tsdb_core.specs.Replacements as ends
-use Rattle.tsdb_core.specs.Sweeps.{IsSwept}
 use Rattle.tsdb_core.specs.declared.commit.Commit.{Commit}
 use Rattle.tsdb_core.specs.declared.commit.CoreFault.{CoreFault}
 use Rattle.tsdb_core.specs.declared.engine.Core.{Core}
@@ -40,26 +37,20 @@ use Rattle.tsdb_flush.specs.Parts.{Filled}
 use Rattle.tsdb_flush.specs.declared.job.Built.{Built}
 use Rattle.tsdb_flush.specs.declared.job.Flushed.{Flushed}
 use Rattle.tsdb_flush.specs.declared.job.FlushJob.{FlushJob}
-use Rattle.tsdb_fileset.proofs.Taken.{still_all}
 use Rattle.tsdb_fileset.specs.Files.{KeptFiles, kept_file, none_kept}
-use Rattle.tsdb_fileset.specs.Places.{AllFiles, AreOfStore, AreUnread, KeptFile, OnlyMakesPlaces, Places}
+use Rattle.tsdb_fileset.specs.Places.{AreOfStore, AreUnread, KeptFile}
 use Rattle.tsdb_fileset.specs.Rights.{IsRightTo}
-use Rattle.tsdb_base.proofs.Lists.{among_right, each_weaker}
-use Rattle.tsdb_base.specs.Lists.{Among, IsWithOne, if_some}
+use Rattle.tsdb_base.proofs.Lists.{each_weaker}
+use Rattle.tsdb_base.specs.Lists.{if_some}
 use Rattle.tsdb_outside.specs.Files.{NamedFile, Store}
 use Rattle.tsdb_outside.specs.declared.disk.Disk as disk
 use Rattle.tsdb_outside.specs.declared.faults.Counted as counted
-use Rattle.tsdb_outside.specs.declared.faults.Failed.{Failed}
 use Rattle.tsdb_pin.specs.Pins.{AreColumnsHeld}
 use Rattle.tsdb_pin.specs.declared.pin.Pin.{Pin}
 use Rattle.tsdb_pins.proofs.Held.{columns_of}
 use Rattle.tsdb_pins.specs.Reading.{AreColumnsOf, HaveNodes}
-use Rattle.tsdb_state.specs.State.{File as FileOf}
 
 -- ---- files
-
-still_made : (Q : KeptFile → Type 0) (old new : Places) → OnlyMakesPlaces old new → AllFiles Q old → AllFiles Q new
-still_made Q old new made all n = subst (λ found. IfSome found Q) (sym (made.files n)) (all n)
 
 each_of : (Q : NewFile → Type 0) (a b : Option NewFile) → IfSome a Q → IfSome b Q → Each Q (if_some a ++ if_some b)
 each_of Q None None p q = tt
@@ -102,68 +93,6 @@ module _ {F S R P : Type 0} (file : S → NamedFile) (rights : S → ℕ) (store
       subst (λ (b : Option (Built F S R P)). IfSome (option_map (new_file file) b) (λ one. one.token.name.store ≡ store)) (sym none) tt
   of_part_so_far born part number built (inr done) = of_part born part number built done
 
-has_numbers : (job : FlushJob) → HasNumbersOf job (flush_of job)
-has_numbers job = record { sequence = refl; unsequence = refl }
-
-first_one : {X : Type 0} (x : X) (xs : List X) → IsWithOne x xs (x ∷ xs)
-first_one x xs = record { before = []; behind = xs; with_it = refl; without = refl }
-
-behind_one : {X : Type 0} (x y : X) (others all : List X) → IsWithOne x others all → IsWithOne x (y ∷ others) (y ∷ all)
-behind_one x y others all is = record {
-  before = y ∷ is.before;
-  behind = is.behind;
-  with_it = ap (λ xs. y ∷ xs) is.with_it;
-  without = ap (λ xs. y ∷ xs) is.without;
-}
-
-one_among : {X : Type 0} (x : X) (others all : List X) → IsWithOne x others all → Among x all
-one_among x others all is =
-    subst (Among x) (sym is.with_it) (among_right is.before (x ∷ is.behind) x (inl refl))
-
-module _ {F S R P : Type 0} (job : Job F S R P) where
-  long : length (plain_numbers job.sequence) ≡ length job.sequence
-  long = length-map job.sequence (λ (n : FileNumber). n.0)
-
-  is_compaction : IsHandedOut job → IsCompactionOf job (compaction_of job)
-  is_compaction handed = record {
-    space = refl;
-    place = refl;
-    born = refl;
-    inputs = take-append-drop (length job.sequence) (input_files job);
-    sequence = sym (take-map (λ (file : FileOf). file.number) (length job.sequence) (input_files job))
-        ∙ ap (take (length job.sequence)) handed.formed.numbers
-        ∙ subst (λ n. take n (plain_numbers job.sequence ++ plain_numbers job.unsequence) ≡ plain_numbers job.sequence)
-        long (take-append_seam (plain_numbers job.sequence) (plain_numbers job.unsequence));
-    unsequence = sym (drop-map (λ (file : FileOf). file.number) (length job.sequence) (input_files job))
-        ∙ ap (drop (length job.sequence)) handed.formed.numbers
-        ∙ subst (λ n. drop n (plain_numbers job.sequence ++ plain_numbers job.unsequence)
-        ≡ plain_numbers job.unsequence) long
-        (drop-append_seam (plain_numbers job.sequence) (plain_numbers job.unsequence));
-    marks = refl;
-    output = refl;
-  }
-
-module _ {F S R P : Type 0} (name : R → NamedFile) where
-  first_job : (job : Job F S R P) (out : Loans) → IsWithJob name job out (with_job name job out)
-  first_job job out = record {
-    flushes = refl;
-    compactions = first_one (compaction_of job) out.compactions;
-    lent = first_one (job_rights name job) out.lent;
-  }
-
-  -- and so it is among these and one more
-  behind_job : (job second : Job F S R P) (others all : Loans) → IsWithJob name job others all
-      → IsWithJob name job (with_job name second others) (with_job name second all)
-  behind_job job second others all is = record {
-    flushes = is.flushes;
-    compactions = behind_one (compaction_of job) (compaction_of second) others.compactions all.compactions is.compactions;
-    lent = behind_one (job_rights name job) (job_rights name second) others.lent all.lent is.lent;
-  }
-
--- nothing is out
-abbrev pub nothing : Loans
-nothing = record { flushes = []; compactions = []; lent = [] }
-
 module _ {J F S R P : Type 0} {means : disk.Ghosts J} {counts : counted.Ghosts J} where
   -- ---- one call and then another
 
@@ -191,66 +120,20 @@ module _ {J F S R P : Type 0} {means : disk.Ghosts J} {counts : counted.Ghosts J
   pub same_core : (store : Store) (core : Core J F S R P means counts) → IsHandedOn store core core
   same_core store core out kept = kept
 
-  -- ---- commands, freezes and sweeps
-
-  pub files_handed : (old new : Core J F S R P means counts) → KeepsFiles old new → AreHandedOn old new
-  files_handed old new keeps store out kept = record {
-    loans = keeps.loans out.flushes out.compactions out.lent kept.loans;
-    of_store = subst (λ (files : KeptFiles). AreOfStore store files.places) (sym keeps.files) kept.of_store;
-  }
-
-  pub swept_handed : (old new : Core J F S R P means counts) (result : Result ℕ Failed) → IsSwept old new result
-      → AreHandedOn old new
-  swept_handed old new (Ok count) swept store out kept = record {
-    loans = swept.all.loans out.flushes out.compactions out.lent kept.loans;
-    of_store = still_all (λ file. file.name.store ≡ store) _ (files_of old).places (files_of new).places
-        swept.all.left.places kept.of_store;
-  }
-  swept_handed old new (Err failed) swept store out kept = record {
-    loans = swept.stopped.1.loans out.flushes out.compactions out.lent kept.loans;
-    of_store = still_all (λ file. file.name.store ≡ store) _ (files_of old).places (files_of new).places
-        swept.stopped.1.left.places kept.of_store;
-  }
-
   -- ---- flushes
-
-  takes_store : (old new : Core J F S R P means counts) → TakesMemory old new → (store : Store)
-      → AreOfStore store (files_of old).places → AreOfStore store (files_of new).places
-  takes_store old new takes store of =
-      still_made (λ file. file.name.store ≡ store) (files_of old).places (files_of new).places takes.places of
 
   pub flush_taken : (old new : Core J F S R P means counts) (job : Option FlushJob) → TakesMemory old new
       → IsTakenOrNot old new (Ok job) → TakesFlush old new job
-  flush_taken old new None takes taken = λ store out kept. record {
-    loans = taken.loans out.flushes out.compactions out.lent kept.loans;
-    of_store = takes_store old new takes store kept.of_store;
-  }
-  flush_taken old new (Some job) takes taken = (
-    taken.is_job,
-    λ store out kept. record {
-      loans = taken.loans (flush_of job) out.flushes out.compactions out.lent (has_numbers job) kept.loans;
-      of_store = takes_store old new takes store kept.of_store;
-    },
-  )
+  flush_taken old new None takes taken = no_flush old new takes taken
+  flush_taken old new (Some job) takes taken = (taken.is_job, flush_joins old new job takes taken)
 
   pub flush_refused : (old new : Core J F S R P means counts) (fault : CoreFault) → TakesMemory old new
       → IsTakenOrNot old new (Err fault) → AreHandedOn old new
-  flush_refused old new fault takes taken store out kept = record {
-    loans = taken.loans out.flushes out.compactions out.lent kept.loans;
-    of_store = takes_store old new takes store kept.of_store;
-  }
+  flush_refused old new fault takes taken = no_flush old new takes taken
 
   pub flush_is_out : (store : Store) (core : Core J F S R P means counts) (job : FlushJob) → HasFlush store core job
       → IsOut core job
-  flush_is_out store core job has = record {
-    flush = flush_of job;
-    others = has.1.flushes;
-    flushes = flush_of job ∷ has.1.flushes;
-    compactions = has.1.compactions;
-    numbers = has_numbers job;
-    out = first_one (flush_of job) has.1.flushes;
-    keeps = has.2.loans.jobs;
-  }
+  flush_is_out store core job has = flush_can_end core job store has.1 has.2
 
   pub flush_ended : (file : S → NamedFile) (rights : S → ℕ) (store : Store) (old new : Core J F S R P means counts)
       (job : FlushJob) (files : Flushed F S R P) (commit : Commit) (first second : List Filled)
@@ -258,14 +141,12 @@ module _ {J F S R P : Type 0} {means : disk.Ghosts J} {counts : counted.Ghosts J
       → (files.sequence ≡ None) ⊎ IsDone file rights store job.born.0 first job.sequence files.sequence
       → (files.unsequence ≡ None) ⊎ IsDone file rights store job.born.0 second job.unsequence files.unsequence
       → EndsFlush store old new job
-  flush_ended file rights store old new job files commit first second ended sequence unsequence out kept = record {
-    loans = ended.loans (flush_of job) out.flushes (flush_of job ∷ out.flushes) out.compactions out.lent (has_numbers job)
-        (first_one (flush_of job) out.flushes) kept.loans;
-    of_store = ended.of_store store kept.of_store (each_of (λ one. one.token.name.store ≡ store)
-        (option_map (new_file file) files.sequence) (option_map (new_file file) files.unsequence)
-        (of_part_so_far file rights store job.born.0 first job.sequence files.sequence sequence)
-        (of_part_so_far file rights store job.born.0 second job.unsequence files.unsequence unsequence));
-  }
+  flush_ended file rights store old new job files commit first second ended sequence unsequence out kept =
+      flush_leaves old new job (new_files file files) commit ended store out
+      (each_of (λ one. one.token.name.store ≡ store)
+      (option_map (new_file file) files.sequence) (option_map (new_file file) files.unsequence)
+      (of_part_so_far file rights store job.born.0 first job.sequence files.sequence sequence)
+      (of_part_so_far file rights store job.born.0 second job.unsequence files.unsequence unsequence)) kept
 
   pub takes_and_ends : (store : Store) (a b c : Core J F S R P means counts) (job : FlushJob) → TakesFlush a b (Some job)
       → EndsFlush store b c job → IsHandedOn store a c
@@ -293,32 +174,15 @@ module _ {J F S R P : Type 0} {means : disk.Ghosts J} {counts : counted.Ghosts J
     begins_or_not space IsPlan old new (Ok (Some job)) begun = (space, begun.0, begun.2)
     begins_or_not space IsPlan old new (Err fault) begun = begun
 
-    not_begun : (old new : Core J F S R P means counts) → IsNotBegun old new → AreHandedOn old new
-    not_begun old new not store out kept = record {
-      loans = not.same.loans out.flushes out.compactions out.lent kept.loans;
-      of_store = still_made (λ file. file.name.store ≡ store) (files_of old).places (files_of new).places not.places
-          kept.of_store;
-    }
-
-    handed_of : (core : Core J F S R P means counts) (job : Job F S R P) → IsJobKept name core job → IsHandedOut job
-    handed_of core job kept = record { formed = kept.formed; few_sequence = kept.few_sequence; few_late = kept.few_late }
-
     pub job_begun : (old new : Core J F S R P means counts) (job : Option (Job F S R P)) → BeginsOrNot name old new (Ok job)
         → BeginsJob name old new job
-    job_begun old new None begun = not_begun old new begun
-    job_begun old new (Some job) begun = λ store out kept.
-        let handed : IsHandedOut job = handed_of new job (begun.2.kept out.flushes out.compactions kept.loans.jobs) in (
-          handed,
-          record {
-            loans = begun.2.loans (compaction_of job) out.flushes out.compactions out.lent (is_compaction job handed)
-                kept.loans;
-            of_store = begun.2.lists.store store kept.of_store;
-          },
-        )
+    job_begun old new None begun = no_job old new begun
+    job_begun old new (Some job) begun = λ store out kept. job_joins name begun.0 begun.1 old new job begun.2 store out
+        kept
 
     pub fault_begun : (old new : Core J F S R P means counts) (fault : CoreFault) → BeginsOrNot name old new (Err fault)
         → AreHandedOn old new
-    fault_begun old new fault begun = not_begun old new begun
+    fault_begun old new fault begun = no_job old new begun
 
     pub some_begun : (a b : Core J F S R P means counts) (begun : Option (Job F S R P)) (job : Job F S R P)
         → begun ≡ Some job → BeginsJob name a b begun → BeginsJob name a b (Some job)
@@ -330,9 +194,7 @@ module _ {J F S R P : Type 0} {means : disk.Ghosts J} {counts : counted.Ghosts J
 
     module _ (store : Store) (core : Core J F S R P means counts) (job : Job F S R P) (has : HasJob name store core job) where
       pub job_is_out : IsJobOut name core job
-      job_is_out = job_out name core job (compaction_of job) has.1.compactions has.2.compactions has.2.flushes has.2.lent
-          has.0 (is_compaction job has.0) has.3.compactions
-          (one_among (job_rights name job) has.1.lent has.2.lent has.3.lent) has.4.loans
+      job_is_out = job_can_end name core job store has.1 has.2 has.0 has.3 has.4
 
       pub inputs_in_store : Each (IsInputOf name store) job.inputs
       inputs_in_store = each_weaker
@@ -352,13 +214,15 @@ module _ {J F S R P : Type 0} {means : disk.Ghosts J} {counts : counted.Ghosts J
     pub job_ended : (store : Store) (old new : Core J F S R P means counts) (job : Job F S R P) (file : Option NewFile)
         → ends.EndsJob old new job file → IsJobOut name old job → IfSome file (λ one. one.token.name.store ≡ store)
         → EndsJob name store old new job
-    job_ended store old new job file ended is_out in_store others all is kept = record {
-      loans = ended.loans (compaction_of job) others.compactions all.compactions others.flushes
-          (job_rights name job) others.lent all.lent (is_compaction job (handed_of old job is_out.kept))
-          is.compactions (on_inputs name job) is.lent
-          (subst (λ them. KeepsLoans old them all.compactions all.lent) is.flushes kept.loans);
-      of_store = ended.of_store store kept.of_store in_store;
-    }
+    job_ended store old new job file ended is_out in_store others all is kept = job_leaves name old new job file ended
+        store others all handed in_store is kept
+      where
+        handed : IsHandedOut job
+        handed = record {
+          formed = is_out.kept.formed;
+          few_sequence = is_out.kept.few_sequence;
+          few_late = is_out.kept.few_late;
+        }
 
     pub begins_and_ends : (store : Store) (a b c : Core J F S R P means counts) (job : Job F S R P)
         → BeginsJob name a b (Some job) → EndsJob name store b c job → IsHandedOn store a c
@@ -413,19 +277,10 @@ module _ {J F S R P : Type 0} {means : disk.Ghosts J} {counts : counted.Ghosts J
 
     pub pin_taken : (old new : Core J F S R P means counts) (pin : Pin F S R P) → IsPinned name old new pin
         → HaveNodes pin.columns → TakesPin name old new (Some pin)
-    pin_taken old new pin pinned nodes = (
-      nodes,
-      λ store out kept. record {
-        loans = pinned.loans out.flushes out.compactions out.lent kept.loans;
-        of_store = pinned.rest.store store kept.of_store;
-      },
-    )
+    pin_taken old new pin pinned nodes = (nodes, pin_joins name old new pin pinned)
 
     pub pin_refused : (old new : Core J F S R P means counts) → IsNotPinned old new → AreHandedOn old new
-    pin_refused old new not store out kept = record {
-      loans = not.loans out.flushes out.compactions out.lent kept.loans;
-      of_store = not.rest.store store kept.of_store;
-    }
+    pin_refused old new not = not_pinned old new not
 
     pub some_pin : (a b : Core J F S R P means counts) (taken : Option (Pin F S R P)) (pin : Pin F S R P)
         → taken ≡ Some pin → TakesPin name a b taken → TakesPin name a b (Some pin)
@@ -441,8 +296,7 @@ module _ {J F S R P : Type 0} {means : disk.Ghosts J} {counts : counted.Ghosts J
 
     module _ (store : Store) (core : Core J F S R P means counts) (pin : Pin F S R P) (has : HasPin name store core pin) where
       pub columns_held : AreColumnsHeld name (files_of core) pin.columns
-      columns_held = pin_held name core pin has.1.flushes has.1.compactions (pin_rights name pin ∷ has.1.lent) (inl refl)
-          has.2.loans
+      columns_held = pin_is_held name core pin store has.1 has.2
 
       pub columns_in_store : AreColumnsOf name store pin.columns
       columns_in_store = columns_of name (files_of core) store has.2.of_store pin.columns columns_held
@@ -457,11 +311,7 @@ module _ {J F S R P : Type 0} {means : disk.Ghosts J} {counts : counted.Ghosts J
 
     pub pin_given : (old new : Core J F S R P means counts) (pin : Pin F S R P) → IsUnpinned old new pin → (store : Store)
         → EndsPin name store old new pin
-    pin_given old new pin unpinned store out kept = record {
-      loans = unpinned.loans out.flushes out.compactions (pin_rights name pin) out.lent (pin_rights name pin ∷ out.lent)
-          (on_columns name pin) (first_one (pin_rights name pin) out.lent) kept.loans;
-      of_store = unpinned.rest.store store kept.of_store;
-    }
+    pin_given old new pin unpinned = pin_leaves name old new pin unpinned
 
     -- steps come, and then the pin is given back
     pub then_gives : (store : Store) (a b c : Core J F S R P means counts) (pin : Pin F S R P) → IsHandedOn store a b
@@ -485,18 +335,18 @@ module _ {J F S R P : Type 0} {means : disk.Ghosts J} {counts : counted.Ghosts J
 
   pub new_kept : (core : Core J F S R P means counts) (store : Store) → KeepsLoans core [] [] []
       → AreOfStore store (files_of core).places → IsKept store core
-  new_kept core store loans of_store = (nothing, record { loans = loans; of_store = of_store })
+  new_kept core store loans of_store = (nothing_out, record { loans = loans; of_store = of_store })
 
   pub unread : (store : Store) (old new : Core J F S R P means counts) → IsHandedOn store old new
       → KeepsLoans old [] [] [] → AreOfStore store (files_of old).places → AreUnread (files_of new).places
   unread store old new hands loans of_store =
-      none_lent new [] [] (hands nothing (record { loans = loans; of_store = of_store })).loans
+      none_lent new [] [] (hands nothing_out (record { loans = loans; of_store = of_store })).loans
 
   pub stays_in : (store other : Store) (old new : Core J F S R P means counts) → other ≡ store → IsHandedOn store old new
       → KeepsLoans old [] [] [] → AreOfStore store (files_of old).places → AreOfStore other (files_of new).places
   stays_in store other old new same hands loans of_store =
       subst (λ (s : Store). AreOfStore s (files_of new).places) (sym same)
-      (hands nothing (record { loans = loans; of_store = of_store })).of_store
+      (hands nothing_out (record { loans = loans; of_store = of_store })).of_store
 
 pub none_above : (next : ℕ) → 1 ≤ next → IsAbove next none_kept
 none_above next from = record { from_one = from; below = λ n. tt }

@@ -14,6 +14,7 @@ pub mod LoansOut
 pub mod LoansRights
 pub mod Oldest
 pub mod Opened
+pub mod Out
 pub mod OutputsBuilt
 pub mod Parts
 pub mod PinSteps

@@ -21,6 +21,7 @@ use Rattle.tsdb_core.specs.Compactions.{IsHandedOut, IsJobOut, job_rights}
 use Rattle.tsdb_core.specs.Core.{KeepsJobs, files_of}
 use Rattle.tsdb_core.specs.Flushes.{HasNumbersOf, IsOut}
 use Rattle.tsdb_core.specs.Loans.{KeepsLoans, LentRight, StandClaimed, StandFrom, StandsIn}
+use Rattle.tsdb_core.specs.Out.{compaction_of}
 use Rattle.tsdb_core.specs.Pins.{pin_rights, source_rights}
 use Rattle.tsdb_core.specs.declared.engine.Core.{Core}
 use Rattle.tsdb_fileset.specs.FlushJob as plain
@@ -60,42 +61,31 @@ late_run numbers entries stand = record {
 }
 
 module _ {F S R P : Type 0} (job : Job F S R P) where
-  abbrev compaction_of : Compaction
-  compaction_of = record {
-    space = job.space;
-    place = job.place;
-    born = job.born.0;
-    sequence = take (length job.sequence) (input_files job);
-    unsequence = drop (length job.sequence) (input_files job);
-    marks = job.marks.marks;
-    output = job.output.0;
-  }
-
   long : length (plain_numbers job.sequence) ≡ length job.sequence
   long = length-map job.sequence (λ (n : FileNumber). n.0)
 
   -- a job is one of a compaction
+  pub is_compaction : IsHandedOut job → IsCompactionOf job (compaction_of job)
+  is_compaction handed = record {
+    space = refl;
+    place = refl;
+    born = refl;
+    inputs = take-append-drop (length job.sequence) (input_files job);
+    sequence = sym (take-map (λ (file : FileOf). file.number) (length job.sequence) (input_files job))
+        ∙ ap (take (length job.sequence)) handed.formed.numbers
+        ∙ subst (λ n. take n (plain_numbers job.sequence ++ plain_numbers job.unsequence) ≡ plain_numbers job.sequence)
+        long (take-append_seam (plain_numbers job.sequence) (plain_numbers job.unsequence));
+    unsequence = sym (drop-map (λ (file : FileOf). file.number) (length job.sequence) (input_files job))
+        ∙ ap (drop (length job.sequence)) handed.formed.numbers
+        ∙ subst (λ n. drop n (plain_numbers job.sequence ++ plain_numbers job.unsequence)
+        ≡ plain_numbers job.unsequence) long
+        (drop-append_seam (plain_numbers job.sequence) (plain_numbers job.unsequence));
+    marks = refl;
+    output = refl;
+  }
+
   pub has_compaction : IsHandedOut job → (compaction : Compaction) × IsCompactionOf job compaction
-  has_compaction handed = (
-    compaction_of,
-    record {
-      space = refl;
-      place = refl;
-      born = refl;
-      inputs = take-append-drop (length job.sequence) (input_files job);
-      sequence = sym (take-map (λ (file : FileOf). file.number) (length job.sequence) (input_files job))
-          ∙ ap (take (length job.sequence)) handed.formed.numbers
-          ∙ subst (λ n. take n (plain_numbers job.sequence ++ plain_numbers job.unsequence) ≡ plain_numbers job.sequence)
-          long (take-append_seam (plain_numbers job.sequence) (plain_numbers job.unsequence));
-      unsequence = sym (drop-map (λ (file : FileOf). file.number) (length job.sequence) (input_files job))
-          ∙ ap (drop (length job.sequence)) handed.formed.numbers
-          ∙ subst (λ n. drop n (plain_numbers job.sequence ++ plain_numbers job.unsequence)
-          ≡ plain_numbers job.unsequence) long
-          (drop-append_seam (plain_numbers job.sequence) (plain_numbers job.unsequence));
-      marks = refl;
-      output = refl;
-    },
-  )
+  has_compaction handed = (compaction_of job, is_compaction handed)
 
 module _ {F S R P : Type 0} (name : R → NamedFile) where
   held_inputs : (files : KeptFiles) (inputs : List (Input F S R P)) → Each (IsNamedIn files)

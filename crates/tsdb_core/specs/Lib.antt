@@ -13,6 +13,7 @@ pub mod Pins
 pub mod Listings
 pub mod Beginnings
 pub mod Replacements
+pub mod Out
 pub use Rattle.tsdb_tasks.specs.Files
 pub use Rattle.tsdb_fileset.specs.Places
 pub use Rattle.tsdb_fileset.specs.Files as FilesetFiles

@@ -29,11 +29,12 @@ module _ {F S R P : Type 0} where
   AreOnColumns pin rights = lent_numbers rights ≡ column_numbers pin.columns
 
 module _ {F S R P : Type 0} (name : R → NamedFile) where
-  -- the right that a source has, where it is a file, and those of the pin
+  -- the right that a source has, where it is a file
   abbrev pub source_rights : PinnedSource F S R P → List LentRight
   source_rights (File number born right) = record { number = number.0; name = name right } ∷ []
   source_rights (Part born points) = []
 
+  -- the rights of the pin, in the order of its columns and their sources
   abbrev pub pin_rights : Pin F S R P → List LentRight
   pin_rights pin = flat_map (λ column. flat_map source_rights column.sources) pin.columns
 

@@ -14,12 +14,23 @@ mod flushing;
 mod laws;
 mod listing;
 mod options;
+mod out_laws;
 mod pins;
 mod replacing;
 mod rows;
 
 pub use commit::{Commit, CoreFault};
 pub use engine::Core;
+pub use laws::{
+    a_job_is_of_a_compaction, a_kept_compaction_is_out, a_kept_flush_is_out, a_kept_pin_is_held,
+    nothing_is_lent, nothing_lent_is_unread,
+};
 pub use options::Options;
+pub use out_laws::{
+    a_begun_job_is_out, a_flush_that_is_out_can_end, a_job_that_is_out_can_end,
+    a_pin_given_back_is_out_no_longer, a_pin_that_is_out_is_held, a_taken_flush_is_out,
+    a_taken_pin_is_out, an_ended_flush_is_out_no_longer, an_ended_job_is_out_no_longer,
+    nothing_is_out, what_is_out_is_handed_on,
+};
 pub use tsdb_fileset::{Built, FlushJob, FlushRefused, Flushed, run_flush};
 pub use tsdb_tasks::{Column, Input, Job, Pin, PinFault, PinnedSource};

@@ -1,4 +1,5 @@
-use Rattle.jobs_tests.proofs.Out.{files_handed, same_core}
+use Rattle.jobs_tests.proofs.Out.{same_core}
+use Rattle.tsdb_core.proofs.Out.{files_handed}
 use Rattle.jobs_tests.proofs.calls.freeze.Goals as goal
 
 pub returns-then-frozen-lt2 : goal.returns-then-frozen-lt2

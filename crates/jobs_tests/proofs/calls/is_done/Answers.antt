@@ -1,4 +1,5 @@
-use Rattle.jobs_tests.proofs.Out.{files_handed, same_core}
+use Rattle.jobs_tests.proofs.Out.{same_core}
+use Rattle.tsdb_core.proofs.Out.{files_handed}
 use Rattle.jobs_tests.proofs.calls.is_done.Goals as goal
 
 pub returns-in-Create : goal.returns-in-Create

@@ -1,4 +1,4 @@
-use Rattle.jobs_tests.proofs.Out.{swept_handed}
+use Rattle.tsdb_core.proofs.Out.{swept_handed}
 use Rattle.jobs_tests.proofs.calls.sweep.Goals as goal
 
 pub sweep-requires-clause-store : goal.sweep-requires-clause-store
