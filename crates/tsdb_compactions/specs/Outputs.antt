@@ -28,6 +28,10 @@ use Rattle.tsdb_state.specs.Views.{file_layers}
 abbrev pub winner : {F S R P : Type 0} → Told → Job F S R P → Place → Option Value
 winner told job place = value_in job.marks.marks place (file_layers told (input_files job))
 
+-- later the input is told as it was
+abbrev pub IsToldAs : {F S R P : Type 0} → Told → Told → Input F S R P → Type 0
+IsToldAs told later input = later input.number.0 ≡ told input.number.0
+
 -- the series at the place has a schema, and the value is of its type
 pub record HasSchema (schemas : List Schema) (place : Place) (value : Value) : Type 0 where
   pub schema : Schema

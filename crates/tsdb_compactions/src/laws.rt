@@ -1,8 +1,9 @@
 //! The laws. The functions do nothing; their contracts say them.
 ghost use Rattle.std.specs.Prelude.{◌≡◌, ℕ, [], Bool, IsSome, List};
-ghost use Rattle.std.specs.List.{filter};
+ghost use Rattle.std.specs.List.{AllByRecursion as Each, filter};
 ghost use Rattle.tsdb_compactions.specs.Jobs.{IsCompactionOf};
-ghost use Rattle.tsdb_compactions.specs.Outputs.{HasNoWinner, HasOutput, IsBuiltFor, TellsInputs};
+ghost use Rattle.tsdb_compactions.specs.Outputs.{HasNoWinner, HasOutput, IsBuiltFor, IsToldAs, TellsInputs};
+ghost use Rattle.tsdb_compactions.specs.Outputs.{TellsTruth};
 ghost use Rattle.tsdb_compactions.specs.Plans.{IsOfMoment, IsPlanned};
 ghost use Rattle.tsdb_state.specs.Layers.{survivor};
 ghost use Rattle.tsdb_base.specs.Lists.{Among};
@@ -47,4 +48,13 @@ pub fn a_planned_compaction_begins()
     ensures { (told : Told) (known : Entries) (named : List ℕ) (engine : EngineState) (claimed : File → Bool)
         (job : Compaction) → IsInOrder told known named engine → ClaimLate claimed engine.compactions
         → IsPlanned known claimed engine job → IsOfMoment known engine job → Begins told job engine }
+{}
+
+/// What is told of a job stays the truth while its inputs are told as they were, whatever comes to be told beside them:
+/// so a job can be committed with what was told at its beginning.
+pub fn the_truth_of_a_job_stays<F: Files>(_job: &Job<F>)
+    ensures truth { (told later : Told) → Each (IsToldAs told later) _job.now.inputs
+        → TellsTruth F.Right.file told _job.now → TellsTruth F.Right.file later _job.now }
+    ensures inputs { (told later : Told) → Each (IsToldAs told later) _job.now.inputs
+        → TellsInputs F.Right.file told _job.now → TellsInputs F.Right.file later _job.now }
 {}

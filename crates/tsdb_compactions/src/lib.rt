@@ -12,5 +12,6 @@ pub use job::{Input, Job};
 pub use laws::{
     a_job_without_a_point_has_no_output, a_planned_compaction_begins,
     an_output_has_the_winners_of_its_job, the_marks_of_its_series_are_enough,
+    the_truth_of_a_job_stays,
 };
 pub use tsdb_flush::Built;
