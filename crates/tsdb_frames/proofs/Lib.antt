@@ -1,5 +1,6 @@
 pub mod AsideLemmas
 pub mod CallLemmas
+pub mod Counted
 pub mod LogLemmas
 pub mod MomentLemmas
 mod StepLemmas

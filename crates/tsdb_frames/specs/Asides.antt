@@ -1,5 +1,5 @@
 -- The slot aside, that a log is not in: which records a stop leaves there.
-use Rattle.std.specs.Prelude.{◌≡◌, ◌⊎◌, ℕ, Bool, true, false, List, [], ◌∷◌, None, Some}
+use Rattle.std.specs.Prelude.{◌≡◌, ◌⊎◌, ℕ, ◌≤◌, Bool, ◌||◌, true, false, List, [], ◌∷◌, None, Some}
 use Rattle.std.specs.declared.option.Option.{Option}
 use Rattle.tsdb_outside.specs.Disk.{Image, DiskState, in_slot}
 use Rattle.tsdb_outside.specs.declared.disk.Slot.{Slot}
@@ -37,6 +37,10 @@ is_doubted Settled = false
 is_doubted Closed = false
 is_doubted Unsettled = false
 is_doubted Doubted = true
+
+-- A gate is in doubt, that of the log or that of the slot aside, only where its journal has counted a fault.
+abbrev pub IsCounted : Bool → Aside → ℕ → Type 0
+IsCounted doubt aside faults = (doubt || is_doubted aside) ≡ true → 1 ≤ faults
 
 -- the records once a byte 0 in doubt is closed
 abbrev pub records_settled : Aside → Option (List (List ℕ)) → Option (List (List ℕ))

@@ -8,6 +8,7 @@ ghost use Rattle.tsdb_base.specs.Causes.{Rose};
 ghost use Rattle.tsdb_outside.specs.Causes.{HasCause};
 ghost use Rattle.tsdb_outside.specs.Disk.{in_slot, Keeps};
 ghost use Rattle.tsdb_outside.specs.Limits.{FitsSlot};
+ghost use Rattle.tsdb_frames.specs.Asides.{IsCounted};
 ghost use Rattle.tsdb_frames.specs.Causes.{AnswersTorn, HasScanCause};
 ghost use Rattle.tsdb_frames.specs.Log.{HasGateAt, first_bytes};
 ghost use Rattle.tsdb_frames.specs.declared.aside.Aside.TheVariants as aside;
@@ -38,6 +39,8 @@ pub struct Frames<J: Journal> {
     // No growing ahead has failed.
     grows: bool,
     ghost within: { HasGateAt (J.state journal) slot gate end },
+    // A gate is in doubt only where the journal has failed.
+    ghost counted: { IsCounted doubt aside (J.faults journal) },
 }
 
 /// A journal whose slot could not be read, and why.

@@ -1,4 +1,4 @@
-use Rattle.std.proofs.Common.{◌≡◌, ◌≢◌, ℕ, List, [], ◌∷◌, ◌++◌, length, Some, Err, inl, inr, ⊎_elim, ◌∙◌, ap, arith, refl, length-append}
+use Rattle.std.proofs.Common.{◌≡◌, ◌≢◌, ℕ, true, List, [], ◌∷◌, ◌++◌, length, Some, Err, inl, inr, ⊎_elim, ◌∙◌, ap, arith, refl, length-append}
 use Rattle.tsdb_outside.specs.Disk.{DiskState, Image, IsLawful, in_slot}
 use Rattle.tsdb_outside.specs.Moments.{LeavesFirstThen, LeavesOnly}
 use Rattle.tsdb_outside.specs.declared.disk.Slot.{Slot}
@@ -9,6 +9,7 @@ use Rattle.tsdb_frames.specs.Slots.{HasRecords, open_records, with_length}
 use Rattle.tsdb_frames.proofs.CallLemmas.{either_same, keeps_aside_on, moved_moments}
 use Rattle.tsdb_frames.proofs.MomentLemmas.{leaves_on, weaker}
 use Rattle.tsdb_frames.proofs.StepLemmas.{cause_of_fault}
+use Rattle.tsdb_frames.proofs.Counted.{counted_later, counted_risen}
 use Rattle.tsdb_frames.proofs.frames.Frames.add.Goals as goal
 
 -- the bytes of the first frame, once one more is written
@@ -67,6 +68,8 @@ invariant_of-self g c =
             );
         limit = omega (arith, c.max-self.ensures, within.limit, c.in-Ok.ensures.limit);
       };
+      counted = counted_later c.grow.new.self.doubt c.grow.new.self.aside (g.J.Counted.faults c.grow.new.self.journal)
+          (g.J.Counted.faults c.write_record.new.journal) c.grow.new.self.counted c.write_record.ensures.cause.later;
     }
 
 pub invariant_of-self-in-Err-Closed : goal.invariant_of-self-in-Err-Closed
@@ -78,6 +81,8 @@ invariant_of-self-in-Err-Closed g c =
         long = c.write_record.ensures.no_shorter c.grow.new.self.end within.long;
         limit = within.limit;
       };
+      counted = counted_later c.grow.new.self.doubt c.grow.new.self.aside (g.J.Counted.faults c.grow.new.self.journal)
+          (g.J.Counted.faults c.write_record.new.journal) c.grow.new.self.counted c.write_record.ensures.cause.later;
     }
 
 pub invariant_of-self-in-Err-Doubted : goal.invariant_of-self-in-Err-Doubted
@@ -89,6 +94,8 @@ invariant_of-self-in-Err-Doubted g c =
         long = c.write_record.ensures.no_shorter c.grow.new.self.end within.long;
         limit = within.limit;
       };
+      counted = counted_risen true c.grow.new.self.aside (g.J.Counted.faults c.grow.new.self.journal)
+          (g.J.Counted.faults c.write_record.new.journal) c.in-Err-Doubted.ensures.cause.failed;
     }
 
 pub returns-in-Ok-clause-added : goal.returns-in-Ok-clause-added

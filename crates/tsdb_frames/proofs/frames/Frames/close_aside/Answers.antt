@@ -8,6 +8,7 @@ use Rattle.tsdb_frames.specs.declared.aside.Aside.{Aside}
 use Rattle.tsdb_frames.proofs.AsideLemmas.{inside_on, keeps_leaves, leaves_slot_on, looked_closed, looked_moments, looked_on, looked_open, tells_on}
 use Rattle.tsdb_frames.proofs.LogLemmas.{always_on_err}
 use Rattle.tsdb_frames.proofs.MomentLemmas.{leaves_on}
+use Rattle.tsdb_frames.proofs.Counted.{counted_later}
 use Rattle.tsdb_frames.proofs.frames.Frames.close_aside.Goals as goal
 
 pub returns-in_err-closed-clause-log : goal.returns-in_err-closed-clause-log
@@ -169,4 +170,6 @@ invariant_of-self g c = record {
   within = inside_on c.args.self.now.slot c.args.self.now.gate c.args.self.now.end (g.J.Disk.state c.args.self.now.journal) (g.J.Disk.state c.is_closed.new.journal)
       (keeps_leaves c.args.self.now.slot (g.J.Disk.state c.args.self.now.journal) (g.J.Disk.state c.is_closed.new.journal)
       (g.J.Disk.lawful c.args.self.now.journal) (g.J.Disk.lawful c.is_closed.new.journal) c.is_closed.ensures.keeps) c.args.self.now.within;
+  counted = counted_later c.args.self.now.doubt c.args.self.now.aside (g.J.Counted.faults c.args.self.now.journal)
+      (g.J.Counted.faults c.is_closed.new.journal) c.args.self.now.counted c.is_closed.ensures.cause.later;
 }

@@ -3,6 +3,7 @@ use Rattle.tsdb_frames.proofs.LogLemmas.{always_on_err, settle_fails, settle_clo
 use Rattle.tsdb_outside.specs.Moments.{other}
 use Rattle.tsdb_frames.proofs.AsideLemmas.{idle_leaves, write_leaves}
 use Rattle.tsdb_frames.proofs.StepLemmas.{end_stays}
+use Rattle.tsdb_frames.proofs.Counted.{counted_closed, counted_later}
 use Rattle.tsdb_frames.proofs.frames.Frames.settle_gate.Goals as goal
 
 pub returns-in_err-write_and_sync-clause-failed : goal.returns-in_err-write_and_sync-clause-failed
@@ -62,6 +63,8 @@ invariant_of-self g c = record {
         (g.J.Disk.state c.write_and_sync.new.journal).seen c.write_and_sync.ensures.torn c.args.self.now.within.long;
     limit = c.args.self.now.within.limit;
   };
+  counted = counted_later c.args.self.now.doubt c.args.self.now.aside (g.J.Counted.faults c.args.self.now.journal)
+      (g.J.Counted.faults c.write_and_sync.new.journal) c.args.self.now.counted c.write_and_sync.ensures.cause.later;
 }
 
 pub invariant_of-self-then-self : goal.invariant_of-self-then-self
@@ -72,4 +75,6 @@ invariant_of-self-then-self g c = record {
         (g.J.Disk.state c.write_and_sync.new.journal).seen c.write_and_sync.ensures.torn c.args.self.now.within.long;
     limit = c.args.self.now.within.limit;
   };
+  counted = counted_closed c.args.self.now.doubt c.args.self.now.aside (g.J.Counted.faults c.args.self.now.journal)
+      (g.J.Counted.faults c.write_and_sync.new.journal) c.args.self.now.counted c.write_and_sync.ensures.cause.later;
 }

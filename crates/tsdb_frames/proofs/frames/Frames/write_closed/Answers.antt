@@ -1,9 +1,11 @@
 use Rattle.std.proofs.Common.{refl, subst, length, ◌≤◌}
+use Rattle.tsdb_frames.specs.declared.aside.Aside.TheVariants.{Closed}
 use Rattle.std.specs.Option.{ForSome}
 use Rattle.tsdb_outside.specs.Disk.{in_slot}
 use Rattle.tsdb_outside.specs.declared.disk.Slot.{Slot}
 use Rattle.tsdb_frames.proofs.AsideLemmas.{closing_closes_at, closing_fails_at, closing_moments_at, inside_on, tells_on, write_at_other}
 use Rattle.tsdb_frames.proofs.LogLemmas.{always_on_err}
+use Rattle.tsdb_frames.proofs.Counted.{counted_aside, counted_later}
 use Rattle.tsdb_frames.proofs.frames.Frames.write_closed.Goals as goal
 
 pub returns-in_err-write_and_sync-clause-log : goal.returns-in_err-write_and_sync-clause-log
@@ -64,6 +66,8 @@ invariant_of-self g c = record {
       (write_at_other c.args.self.now.slot c.other_slot.result 0 1 (g.J.Disk.state c.args.self.now.journal)
       (g.J.Disk.state c.write_and_sync.new.journal) c.other_slot.ensures c.write_and_sync.ensures.torn c.write_and_sync.ensures.moments)
       c.args.self.now.within;
+  counted = counted_later c.args.self.now.doubt c.args.self.now.aside (g.J.Counted.faults c.args.self.now.journal)
+      (g.J.Counted.faults c.write_and_sync.new.journal) c.args.self.now.counted c.write_and_sync.ensures.cause.later;
 }
 
 pub invariant_of-self-2 : goal.invariant_of-self-2
@@ -72,4 +76,6 @@ invariant_of-self-2 g c = record {
       (write_at_other c.args.self.now.slot c.other_slot.result 0 1 (g.J.Disk.state c.args.self.now.journal)
       (g.J.Disk.state c.write_and_sync.new.journal) c.other_slot.ensures c.write_and_sync.ensures.torn c.write_and_sync.ensures.moments)
       c.args.self.now.within;
+  counted = counted_aside c.args.self.now.doubt c.args.self.now.aside Closed (g.J.Counted.faults c.args.self.now.journal)
+      (g.J.Counted.faults c.write_and_sync.new.journal) refl c.args.self.now.counted c.write_and_sync.ensures.cause.later;
 }

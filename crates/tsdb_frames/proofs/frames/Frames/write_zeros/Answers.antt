@@ -1,6 +1,7 @@
 use Rattle.std.proofs.Common.{length, refl, arith}
 use Rattle.tsdb_frames.proofs.CallLemmas.{write_lengthens}
 use Rattle.tsdb_frames.proofs.StepLemmas.{end_stays, reaches}
+use Rattle.tsdb_frames.proofs.Counted.{counted_later}
 use Rattle.tsdb_frames.proofs.frames.Frames.write_zeros.Goals as goal
 
 pub returns-in_err-write_at-clause-lengthens : goal.returns-in_err-write_at-clause-lengthens
@@ -23,6 +24,8 @@ invariant_of-self g c =
             (g.J.Disk.state c.write_at.new.self).seen c.write_at.ensures.writes.torn self.within.long;
         limit = self.within.limit;
       };
+      counted = counted_later self.doubt self.aside (g.J.Counted.faults self.journal)
+          (g.J.Counted.faults c.write_at.new.self) self.counted c.write_at.ensures.cause.later;
     }
 
 pub invariant_of-self-2 : goal.invariant_of-self-2
@@ -35,4 +38,6 @@ invariant_of-self-2 g c =
             c.in_ok-write_at.ensures.bytes self.within.long;
         limit = c.in_ok-write_at.ensures.limit;
       };
+      counted = counted_later self.doubt self.aside (g.J.Counted.faults self.journal)
+          (g.J.Counted.faults c.write_at.new.self) self.counted c.write_at.ensures.cause.later;
     }
