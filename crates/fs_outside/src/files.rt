@@ -278,6 +278,7 @@ impl<D: FileDirectory<File = F> + Send, F: NumberedFile + Send> Port for FsPort<
         requires rights { sealed_rights sealed ≡ 0 }
         requires store { (sealed_file sealed).store ≡ port_store self.old }
         ensures same_store { port_store self.new ≡ port_store self.old }
+        ensures no_fault { OnOk result (port_faults self.new ≡ port_faults self.old) }
         ensures cause { HasCause (port_faults self.old) (port_faults self.new) result }
 
         // The port holds no file with this number open, so that its room is given back.

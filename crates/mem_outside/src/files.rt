@@ -179,7 +179,8 @@ impl Port for MemPort {
         ensures row { port_row self.new ≡ port_row self.old }
         ensures same_store { port_store self.new ≡ port_store self.old }
         ensures never { never_fails (port_row self.old) → IsOk result }
-        ensures no_fault { never_fails (port_row self.old) → port_faults self.new ≡ port_faults self.old }
+        ensures no_fault { OnOk result (port_faults self.new ≡ port_faults self.old) }
+        ensures steady { never_fails (port_row self.old) → port_faults self.new ≡ port_faults self.old }
     {
         let answer = self.call();
         put_removed(&mut self.gone, sealed.into_node(), self.last.place);

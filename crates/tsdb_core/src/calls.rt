@@ -1,5 +1,5 @@
 //! The calls of a core that change it. Depends on `engine`.
-ghost use Rattle.std.specs.Prelude.{◌≡◌, ◌⊎◌, ◌↔◌, ◌<◌, IsTrue, length};
+ghost use Rattle.std.specs.Prelude.{◌≡◌, ◌⊎◌, ◌↔◌, ◌<◌, IsTrue, OnOk, length};
 ghost use Rattle.tsdb_fileset.specs.Closing.{ArePutBack, AreRising, names_at};
 ghost use Rattle.tsdb_fileset.specs.Places.{AreOfStore, AreUnread};
 ghost use Rattle.tsdb_log.specs.declared.record.LogRecord.{LogRecord};
@@ -93,13 +93,14 @@ impl<J: Journal, F: Files> Core<J, F> {
     }
 
     /// Removes from the store each file on its way out of which no right is out, and that no record in doubt names, in
-    /// their order, and returns how many. After `Failed` the file that could not be removed is spent too, and those behind
+    /// their order, and returns how many. After `Ok` no removal has failed. After `Failed` the file that could not be removed is spent too, and those behind
     /// it were not tried.
     pub fn sweep(&mut self, port: &mut F::Port) -> Result<u64, Failed>
         requires store { AreOfStore (F.Port.store port.old) (files_of self.old).places }
         ensures swept { IsSwept self.old self.new result }
         ensures world { KeepsWorld self.old self.new }
         ensures same_store { F.Port.store port.new ≡ F.Port.store port.old }
+        ensures no_fault { OnOk result (F.Port.faults port.new ≡ F.Port.faults port.old) }
         ensures cause { HasCause (F.Port.faults port.old) (F.Port.faults port.new) result }
     {
         let (first, second) = self.logged.doubted();

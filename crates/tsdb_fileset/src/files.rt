@@ -329,7 +329,7 @@ impl<F: Files> KeptFiles<F> {
     }
 
     /// Removes from the store each outgoing file of which no right is out, and that is none of those in doubt, in their
-    /// order, and returns how many. After `Failed` the file that could not be removed is spent too, and those behind it
+    /// order, and returns how many. After `Ok` no removal has failed. After `Failed` the file that could not be removed is spent too, and those behind it
     /// were not tried.
     pub fn sweep(
         &mut self,
@@ -344,6 +344,7 @@ impl<F: Files> KeptFiles<F> {
         ensures failed { OnErr result ((stop : StopsAt doubted self.old.places self.old.outgoing)
             × LeavesWithout (tried_numbers doubted self.old.places stop) self.old self.new) }
         ensures same_store { F.Port.store port.new ≡ F.Port.store port.old }
+        ensures no_fault { OnOk result (F.Port.faults port.new ≡ F.Port.faults port.old) }
         ensures cause { HasCause (F.Port.faults port.old) (F.Port.faults port.new) result }
     {
         let swept = remove_free::<F>(&mut self.tokens, &self.outgoing, port, &doubted);

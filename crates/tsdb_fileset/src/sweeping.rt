@@ -52,13 +52,14 @@ fn remove_file<F: Files>(
     requires no_rights { has_no_right (file_at (place_at number.0 places.old.entries)) ≡ true }
     ensures places { TakesAway (number.0 ∷ []) places.old.entries places.new.entries }
     ensures same_store { F.Port.store port.new ≡ F.Port.store port.old }
+    ensures no_fault { OnOk result (F.Port.faults port.new ≡ F.Port.faults port.old) }
     ensures cause { HasCause (F.Port.faults port.old) (F.Port.faults port.new) result }
 {
     port.remove(take_file::<F>(places, number).into_sealed())
 }
 
 /// Removes each of the files of which no right is out, and that is not in doubt, in their order, and returns how many.
-/// It stops at the first that could not be removed.
+/// It stops at the first that could not be removed: after `Ok` no removal has failed.
 pub(crate) fn remove_free<F: Files>(
     places: &mut Places<F>,
     outgoing: &[Outgoing],
@@ -74,6 +75,7 @@ pub(crate) fn remove_free<F: Files>(
     ensures failed { OnErr result ((stop : StopsAt doubted.now places.old.entries outgoing.now)
         × TakesAway (tried_numbers doubted.now places.old.entries stop) places.old.entries places.new.entries) }
     ensures same_store { F.Port.store port.new ≡ F.Port.store port.old }
+    ensures no_fault { OnOk result (F.Port.faults port.new ≡ F.Port.faults port.old) }
     ensures cause { HasCause (F.Port.faults port.old) (F.Port.faults port.new) result }
 {
     let mut removed = 0;

@@ -90,11 +90,12 @@ pub trait Port: Counted + Send {
         ensures same_store { store self.new ≡ store self.old }
         ensures cause { HasCause (Self.faults self.old) (Self.faults self.new) result };
 
-    /// Removes a file of its store of which no right is out.
+    /// Removes a file of its store of which no right is out. Where it returns `Ok` its count of faults is as before.
     fn remove(&mut self, sealed: Self::Sealed) -> Result<(), Failed>
         requires rights { Self.Sealed.rights sealed ≡ 0 }
         requires store { (Self.Sealed.file sealed).store ≡ store self.old }
         ensures same_store { store self.new ≡ store self.old }
+        ensures no_fault { OnOk result (Self.faults self.new ≡ Self.faults self.old) }
         ensures cause { HasCause (Self.faults self.old) (Self.faults self.new) result };
 
     /// Gives a right to read the file out. Without memory all is as before.

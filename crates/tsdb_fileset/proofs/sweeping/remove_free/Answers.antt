@@ -32,7 +32,7 @@ loop-file-preserved g c = elim c.if-is_free.branch [
         c.loop-file.file-index c.loop-file.removed _ c.loop-file-test.true c.requires.once c.loop-file.invariant.0
         w.remove_file.new.places.entries (sym w.if-is_free.ensures) w.remove_file.ensures.places,
     w.remove_file.ensures.same_store ∙ c.loop-file.invariant.1,
-    omega (arith, c.loop-file.invariant.2, w.remove_file.ensures.cause.later),
+    w.in_ok-remove_file.ensures.no_fault ∙ c.loop-file.invariant.2,
   )
   | else-is_free w ↦ rw (w.places-is, w.port-is, w.removed-is) (
     sweep_passes c.args.doubted.now c.args.places.now.entries c.loop-file.places.entries c.args.outgoing.now
