@@ -1,11 +1,8 @@
--- What stored files mean, and the images of a place that keeps some of them. The rules stand at the head of
--- src/files.rt.
-use Rattle.std.specs.Prelude.{◌≡◌, ℕ, ◌+◌, ◌^◌, ◌<◌, ◌≤◌, List, [], ◌∷◌, ◌++◌, length, map, Bool, ◌&&◌, nat_eq, nat_le}
-use Rattle.std.specs.Prelude.{nat_lt, Contains, IfSome, is_some}
+-- What stored files mean. The rules stand at the head of src/files.rt.
+use Rattle.std.specs.Prelude.{◌≡◌, ℕ, ◌+◌, ◌^◌, ◌<◌, ◌≤◌, List, [], ◌∷◌, ◌++◌, length, map, Bool, ◌&&◌, nat_le}
+use Rattle.std.specs.Prelude.{nat_lt, IfSome, is_some}
 use Rattle.std.specs.declared.option.Option.{Option}
-use Rattle.std.specs.List.{IsDistinct}
 use Rattle.tsdb_base.specs.declared.ids.FileNumber.{FileNumber}
-use Rattle.tsdb_outside.specs.Disk.{Image}
 
 -- a stored file
 pub record StoredFile : Type 0 where
@@ -49,12 +46,6 @@ pub record Names (number : ℕ) (bytes : List ℕ) (name : NamedFile) : Type 0 w
   pub number_is : name.number ≡ number
   pub bytes_are : IfSome name.bytes (λ told. told ≡ bytes)
 
--- the file that a token names is among these
-pub record IsAmong (files : List StoredFile) (name : NamedFile) : Type 0 where
-  pub file : StoredFile
-  pub names : Names file.number file.bytes name
-  pub there : Contains files file
-
 -- one file is taken out, which the token names, and the others stay in their order
 pub record TakesOut (name : NamedFile) (old new : List StoredFile) : Type 0 where
   pub before : List StoredFile
@@ -68,15 +59,3 @@ pub record TakesOut (name : NamedFile) (old new : List StoredFile) : Type 0 wher
 abbrev pub PutsBack : NamedFile → List StoredFile → List StoredFile → Type 0
 PutsBack name old new = IfSome name.bytes (λ bytes. length old + 1 < 2 ^ 63
     → new ≡ old ++ record { number = name.number; bytes = bytes } ∷ [])
-
--- The bytes of both slots, with the files.
-pub record StoreImage : Type 0 where
-  pub slots : Image
-  pub files : List StoredFile
-
--- An image of a place that keeps these files: what a stop may leave of the slots, with any files of different numbers
--- that hold at least each kept one.
-pub record IsStoreImage (may_leave : Image → Type 0) (kept : List NamedFile) (image : StoreImage) : Type 0 where
-  pub slots : may_leave image.slots
-  pub numbers : IsDistinct nat_eq (numbers_of image.files)
-  pub each : (name : NamedFile) → Contains kept name → IsAmong image.files name
