@@ -38,6 +38,7 @@ pub begun : (files : KeptFiles) (store : StoreState) → files ≡ none_kept →
 begun files store is = subst (λ f. AreFirstOf f store) (sym is) (record {
   sequence = record { others = store.sequence; is = refl };
   unsequence = record { others = store.unsequence; is = refl };
+  free = record { sequence = tt; unsequence = tt };
   outgoing = refl;
   unread = λ n. tt;
 })
@@ -87,7 +88,7 @@ module _ (name : NamedFile) (meta : FileMeta) (store : StoreState) (old new : Ke
 
   pub still_first : AreFirstOf old store → AreFirstOf new store
   still_first first = first_with store adopted.space adopted.file adopted.entry token old new adopted.taken adopted.wanted
-      adopted.kept.number adopted.kept.born refl first
+      adopted.kept.number adopted.kept.born adopted.kept.free refl first
 
   pub of_store : (directory : Store) → AreOfStore directory old.places → name.store ≡ directory
       → AreOfStore directory new.places

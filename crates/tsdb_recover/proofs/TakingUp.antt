@@ -6,7 +6,8 @@ use Rattle.std.specs.List.{AllByRecursion as Each}
 use Rattle.tsdb_recover.proofs.Counting.{differ, not_kept}
 use Rattle.tsdb_recover.proofs.First.{first_more, wanted_is}
 use Rattle.tsdb_recover.proofs.Numbers.{replay_numbers}
-use Rattle.tsdb_recover.specs.Adopting.{AreDescribed, AreFirst, AreFirstOf, Describe, TakesUp, next_in, wanted_file}
+use Rattle.tsdb_recover.specs.Adopting.{AreDescribed, AreFirst, AreFirstOf, Describe, IsFree, TakesUp, next_in}
+use Rattle.tsdb_recover.specs.Adopting.{wanted_file}
 use Rattle.tsdb_recover.specs.Steps.{KeepsFiles}
 use Rattle.tsdb_base.specs.declared.ids.Space.{Space}
 use Rattle.tsdb_base.specs.declared.ids.Space.TheVariants.{Sequence, Unsequence}
@@ -105,23 +106,33 @@ listed_is entry file number born = λ i. record { number = number i; born = born
 -- the kept files are the first of the lists, with one more
 pub first_with : (store : StoreState) (space : Space) (file : File) (entry : FileEntry) (token : KeptFile)
     (old new : KeptFiles) → TakesUp space entry token old new → wanted_file old store ≡ Some (space, file)
-    → entry.number.0 ≡ file.number → entry.born.0 ≡ file.born → token.rights ≡ 0 → AreFirstOf old store
+    → entry.number.0 ≡ file.number → entry.born.0 ≡ file.born → IsFree entry → token.rights ≡ 0 → AreFirstOf old store
     → AreFirstOf new store
-first_with store Sequence file entry token old new taken wanted number born unread first = record {
+first_with store Sequence file entry token old new taken wanted number born free unread first = record {
   sequence = subst (λ l. AreFirst (map listed l) store.sequence) (sym taken.list.0)
       (first_more old.sequence entry store.sequence file first.sequence
       (wanted_is (next_in Sequence old store) (next_in Unsequence old store) Sequence file wanted)
       (listed_is entry file number born));
   unsequence = subst (λ l. AreFirst (map listed l) store.unsequence) (sym taken.list.1) first.unsequence;
+  free = record {
+    sequence = subst (Each IsFree) (sym taken.list.0)
+        (each_append IsFree old.sequence (entry ∷ []) first.free.sequence (free, tt));
+    unsequence = subst (Each IsFree) (sym taken.list.1) first.free.unsequence;
+  };
   outgoing = taken.outgoing ∙ first.outgoing;
   unread = of_each Sequence entry token old new taken (λ n (f : KeptFile). f.rights ≡ 0) first.unread unread;
 }
-first_with store Unsequence file entry token old new taken wanted number born unread first = record {
+first_with store Unsequence file entry token old new taken wanted number born free unread first = record {
   sequence = subst (λ l. AreFirst (map listed l) store.sequence) (sym taken.list.0) first.sequence;
   unsequence = subst (λ l. AreFirst (map listed l) store.unsequence) (sym taken.list.1)
       (first_more old.unsequence entry store.unsequence file first.unsequence
       (wanted_is (next_in Sequence old store) (next_in Unsequence old store) Unsequence file wanted)
       (listed_is entry file number born));
+  free = record {
+    sequence = subst (Each IsFree) (sym taken.list.0) first.free.sequence;
+    unsequence = subst (Each IsFree) (sym taken.list.1)
+        (each_append IsFree old.unsequence (entry ∷ []) first.free.unsequence (free, tt));
+  };
   outgoing = taken.outgoing ∙ first.outgoing;
   unread = of_each Unsequence entry token old new taken (λ n (f : KeptFile). f.rights ≡ 0) first.unread unread;
 }
@@ -132,6 +143,10 @@ pub first_same : (store : StoreState) (old new : KeptFiles) → KeepsFiles old n
 first_same store old new keeps first = record {
   sequence = subst (λ l. AreFirst (map listed l) store.sequence) (sym keeps.lists.sequence) first.sequence;
   unsequence = subst (λ l. AreFirst (map listed l) store.unsequence) (sym keeps.lists.unsequence) first.unsequence;
+  free = record {
+    sequence = subst (Each IsFree) (sym keeps.lists.sequence) first.free.sequence;
+    unsequence = subst (Each IsFree) (sym keeps.lists.unsequence) first.free.unsequence;
+  };
   outgoing = keeps.lists.outgoing ∙ first.outgoing;
   unread = λ n. subst (λ found. IfSome found (λ (f : KeptFile). f.rights ≡ 0)) (sym (keeps.places.files n)) (first.unread n);
 }

@@ -1,5 +1,5 @@
 -- How far the files of a replayed log are taken up, and what is kept of them.
-use Rattle.std.specs.Prelude.{◌≡◌, ◌≢◌, ℕ, List, [], ◌++◌, length, map, Option, None, Some, IfSome, slice_get}
+use Rattle.std.specs.Prelude.{◌≡◌, ◌≢◌, ℕ, List, [], ◌++◌, false, length, map, Option, None, Some, IfSome, slice_get}
 use Rattle.std.specs.List.{AllByRecursion as Each}
 use Rattle.std.specs.Option.{IsSomeAnd, option_map}
 use Rattle.tsdb_recover.specs.declared.adopting.Adopting.{Adopting}
@@ -41,10 +41,20 @@ pub record AreFirst (files list : List File) : Type 0 where
   pub others : List File
   pub is : list ≡ files ++ others
 
--- the files that are kept are the first of each list; none is on its way out, and no right to read one is out
+-- no job has claimed the file
+abbrev pub IsFree : FileEntry → Type 0
+IsFree entry = entry.claimed ≡ false
+
+-- the same of all listed files
+pub record AreFree (files : KeptFiles) : Type 0 where
+  pub sequence : Each IsFree files.sequence
+  pub unsequence : Each IsFree files.unsequence
+
+-- the files that are kept are the first of each list; none is claimed or on its way out, and no right to read one is out
 pub record AreFirstOf (files : KeptFiles) (store : StoreState) : Type 0 where
   pub sequence : AreFirst (map listed files.sequence) store.sequence
   pub unsequence : AreFirst (map listed files.unsequence) store.unsequence
+  pub free : AreFree files
   pub outgoing : files.outgoing ≡ []
   pub unread : AreUnread files.places
 
@@ -87,6 +97,7 @@ pub record TakesUp (space : Space) (entry : FileEntry) (token : KeptFile) (old n
 pub record IsKeptOf (meta : FileMeta) (file : File) (entry : FileEntry) (series : List (List ℕ)) : Type 0 where
   pub number : entry.number.0 ≡ file.number
   pub born : entry.born.0 ≡ file.born
+  pub free : IsFree entry
   pub entry_is : (bytes : List ℕ) (whole : IsMetaOfTree bytes meta)
       → IsEntryOf file.number file.born bytes (tree_part whole.tree) entry
   pub series_are : (bytes : List ℕ) (whole : IsMetaOfTree bytes meta) → HavePaths whole.tree

@@ -1,7 +1,8 @@
 -- What a store shows that was opened.
-use Rattle.std.specs.Prelude.{◌≡◌, ℕ, ◌+◌, List, [], ◌++◌, map, Option, None, Some}
+use Rattle.std.specs.Prelude.{◌≡◌, ℕ, ◌+◌, List, [], ◌++◌, false, map, Option, None, Some}
 use Rattle.std.specs.List.{All, AllByRecursion as Each}
-use Rattle.tsdb_serving.specs.Core.{IsSeen, next_of}
+use Rattle.tsdb_recover.specs.Adopting.{AreFree}
+use Rattle.tsdb_serving.specs.Core.{IsSeen, files_of, is_sequence_claimed, next_of}
 use Rattle.tsdb_serving.specs.CoreType.{Core}
 use Rattle.tsdb_frames.specs.Frames.{IsLog}
 use Rattle.tsdb_frames.specs.declared.frames.Frames.{Frames}
@@ -23,6 +24,11 @@ use Rattle.tsdb_state.specs.State.{StoreState, Told}
 use Rattle.tsdb_state.specs.StoreOrder.{StoreInOrder}
 
 module _ {J F S R P : Type 0} {means : disk.Ghosts J} {counts : counted.Ghosts J} where
+  -- no job has claimed the sequence list or a listed file
+  pub record IsUnclaimed (core : Core J F S R P means counts) : Type 0 where
+    pub list : is_sequence_claimed core ≡ false
+    pub files : AreFree (files_of core)
+
   -- the core shows the replay of the log, in order, with these stored files, and it is in the state of the plain model
   pub record IsRecovered (core : Core J F S R P means counts) (bytes : List ℕ) (stored : List StoredFile)
       (at : plain.State)

@@ -1,5 +1,5 @@
 //! What is kept of a file. Depends on `summary`.
-ghost use Rattle.std.specs.Prelude.{◌≡◌, ℕ, List as ListOf, IfOk};
+ghost use Rattle.std.specs.Prelude.{◌≡◌, ℕ, List as ListOf, IfOk, false};
 ghost use Rattle.tsdb_recover.specs.DescribedSteps.{IsSummary};
 ghost use Rattle.tsdb_recover.specs.DescribedTrees.{HavePaths, tree_part};
 ghost use Rattle.tsdb_flush.specs.Built.{IsEntryOf, paths_of};
@@ -32,6 +32,7 @@ pub fn describe(
 ) -> Result<Described, Memory>
     ensures number { IfOk result (λ file. file.entry.number ≡ number) }
     ensures born { IfOk result (λ file. file.entry.born ≡ born) }
+    ensures free { IfOk result (λ file. file.entry.claimed ≡ false) }
     ensures entry { IfOk result (λ file. (bytes : ListOf ℕ) (whole : IsMetaOfTree bytes meta.now)
         → IsEntryOf number.0 born.0 bytes (tree_part whole.tree) file.entry) }
     ensures series { IfOk result (λ file. (bytes : ListOf ℕ) (whole : IsMetaOfTree bytes meta.now)

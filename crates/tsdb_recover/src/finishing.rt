@@ -4,6 +4,7 @@ ghost use Rattle.std.specs.Prelude.{◌≡◌, ◌<◌, ◌↔◌, ◌++◌, [],
 ghost use Rattle.std.specs.List.{AllByRecursion as Each};
 ghost use Rattle.tsdb_recover.specs.Adopting.{AreDescribed, wanted_file};
 ghost use Rattle.tsdb_recover.specs.Known.{known_of};
+ghost use Rattle.tsdb_recover.specs.Opened.{IsUnclaimed};
 ghost use Rattle.tsdb_serving.specs.Core.{IsSeen, KeepsJobs, files_of as core_files, limit_of, logged_of, next_of};
 ghost use Rattle.tsdb_serving.specs.Limits.{IsPairLimit};
 ghost use Rattle.tsdb_frames.specs.Frames.{IsLog};
@@ -68,6 +69,8 @@ impl<F: Files> Adopting<F> {
             → next_of result ≡ next_number stored recorded.named }
         ensures limit { limit_of result ≡ options.pair_points }
         ensures quiet { KeepsJobs result [] [] }
+        ensures unclaimed { IsUnclaimed result }
+        ensures none_leaving { (core_files result).outgoing ≡ [] }
         ensures seen { (items : List LogRecord) (recorded : Recorded) (kept : List StoredFile) (told : Told)
             → IsLog frames (map spelling items) None → All IsRecord items
             → Replays store_steps store_steps.new_store items recorded → IsAdoptingOf self recorded

@@ -1,13 +1,13 @@
 //! The opening of a store. Depends on `taking`, `strays`, `fault`, `log`, `adopting` and tsdb_core.
 ghost use Rattle.std.specs.Prelude.{◌≡◌, ◌⊎◌, ◌≤◌, [], ℕ, IfErr, IfOk, IfSome, IsErrAnd, IsErrOf, List, OnErr, OnOk};
-ghost use Rattle.std.specs.Prelude.{Some};
+ghost use Rattle.std.specs.Prelude.{Some, false};
 ghost use Rattle.std.specs.declared.option.Option.{Option};
 ghost use Rattle.std.specs.List.Sorted.{IsStrictlyIncreasing};
 ghost use Rattle.std.specs.Option.{IsSomeAnd};
 ghost use Rattle.tsdb_recover.specs.Adopting.{HasAdoptedAll, IsAdoptingOf, files_of};
 ghost use Rattle.tsdb_serving.specs.Core.{KeepsJobs, files_of as core_files, limit_of, logged_of, next_of};
 ghost use Rattle.tsdb_serving.specs.Limits.{IsPairLimit};
-ghost use Rattle.tsdb_frames.specs.Frames.{disk_of, faults_of, journal_of, slot_of};
+ghost use Rattle.tsdb_frames.specs.Frames.{disk_of, faults_of, is_in_doubt, journal_of, slot_of};
 ghost use Rattle.tsdb_state.specs.Stored.{kept_bytes};
 ghost use Rattle.tsdb_fileset.specs.Files.{none_kept};
 ghost use Rattle.tsdb_fileset.specs.Places.{AreOfStore, AreUnread};
@@ -21,7 +21,7 @@ ghost use Rattle.tsdb_outside.specs.declared.disk.Slot.TheVariants as slots;
 ghost use Rattle.tsdb_recover.specs.Files.{HasFilesCause};
 ghost use Rattle.tsdb_recover.specs.declared.fault.Part as store_part;
 ghost use Rattle.tsdb_recover.specs.Damage.{AnswersDamageIn, IsDamagedIn, IsFileDamaged};
-ghost use Rattle.tsdb_recover.specs.Opened.{HasOpened, IsNextNumber, IsRecovered, IsReplay};
+ghost use Rattle.tsdb_recover.specs.Opened.{HasOpened, IsNextNumber, IsRecovered, IsReplay, IsUnclaimed};
 ghost use Rattle.tsdb_recover.specs.Left.{AreLeft, IsStray, IsUnlisted};
 ghost use Rattle.tsdb_recover.specs.Taking.{AreGoneIn, GoesOn, HasLeft, HasOpenCause, HasTaken, HasTakenUp};
 ghost use Rattle.tsdb_recover.specs.Taking.{HaveLengths, IsGreatest, IsTakingUp};
@@ -68,8 +68,11 @@ pub fn recover<J: Journal, F: Files>(
     ensures left { IfErr result (λ refused. IfSome (J.state journal).seen (λ image. IfSome (F.at_rest files.old)
         (λ stored. AreStored stored → IsSomeAnd (F.at_rest files.new) (AreLeft (IsStray image.a) stored)))) }
 
-    // Nothing is out, and all files are of the store.
+    // Nothing is in doubt, nothing is out, claimed or on its way out, and all files are of the store.
+    ensures no_doubt { IfOk result (λ core. is_in_doubt (log_of (logged_of core)) ≡ false) }
     ensures quiet { IfOk result (λ core. KeepsJobs core [] []) }
+    ensures unclaimed { IfOk result (λ core. IsUnclaimed core) }
+    ensures none_leaving { IfOk result (λ core. (core_files core).outgoing ≡ []) }
     ensures no_rights { IfOk result (λ core. AreUnread (core_files core).places) }
     ensures of_store { IfOk result (λ core. AreOfStore (F.store files.old) (core_files core).places) }
     ensures limit { IfOk result (λ core. limit_of core ≡ options.pair_points) }
@@ -112,6 +115,8 @@ fn open_files<J: Journal, F: Files>(
         → IsSomeAnd (F.at_rest files.new) (AreLeft (IsUnlisted recorded.store) stored))) }
     ensures log { IfOk result (λ core. log_of (logged_of core) ≡ log) }
     ensures quiet { IfOk result (λ core. KeepsJobs core [] []) }
+    ensures unclaimed { IfOk result (λ core. IsUnclaimed core) }
+    ensures none_leaving { IfOk result (λ core. (core_files core).outgoing ≡ []) }
     ensures no_rights { IfOk result (λ core. AreUnread (core_files core).places) }
     ensures of_store { IfOk result (λ core. AreOfStore (F.store files.old) (core_files core).places) }
     ensures limit { IfOk result (λ core. limit_of core ≡ options.pair_points) }

@@ -2,7 +2,8 @@ use Rattle.tsdb_recover.proofs.Recovered.{each_answered, file_damage, if_err, if
 use Rattle.tsdb_recover.proofs.Recovered.{log_answered}
 use Rattle.tsdb_recover.proofs.Recovered.{no_stray, none_gone, strays_gone}
 use Rattle.tsdb_recover.proofs.opening.recover.Goals as goal
-use Rattle.std.proofs.Common.{refl}
+use Rattle.std.proofs.Common.{ap, refl, ◌∙◌}
+use Rattle.tsdb_frames.specs.Frames.{is_in_doubt}
 
 pub open_files-requires-clause-some : goal.open_files-requires-clause-some
 open_files-requires-clause-some g c κs within =
@@ -65,3 +66,7 @@ returns-in-Ok-clause-left g c =
 pub returns-in-Err-clause-left : goal.returns-in-Err-clause-left
 returns-in-Err-clause-left g c =
     none_gone (g.F.Files.at_rest c.args.files.now) (g.J.Disk.state c.args.journal).seen
+
+pub returns-in-Ok-clause-no_doubt : goal.returns-in-Ok-clause-no_doubt
+returns-in-Ok-clause-no_doubt g c = if_ok c.open_files.result _ _ (λ core same.
+    ap (λ log. is_in_doubt log) same ∙ c.in-Ok.ensures.read.no_doubt) c.open_files.ensures.log

@@ -1,6 +1,7 @@
-use Rattle.std.proofs.Common.{map, None, sym, subst}
+use Rattle.std.proofs.Common.{◌≡◌, [], map, None, sym, subst}
 use Rattle.tsdb_recover.proofs.AdoptedCore.{above_kept, opened_files, same_wanted, stored_opened}
-use Rattle.tsdb_recover.specs.Adopting.{files_of, opening_of}
+use Rattle.tsdb_fileset.specs.Files.{KeptFiles}
+use Rattle.tsdb_recover.specs.Adopting.{AreFree, files_of, opening_of}
 use Rattle.tsdb_recover.specs.Known.{known_of}
 use Rattle.tsdb_serving.specs.Core.{IsSeen}
 use Rattle.tsdb_frames.specs.Frames.{IsLog}
@@ -40,3 +41,13 @@ returns-clause-seen g c = λ items recorded kept told log good replayed is order
           c.tell_kept.ensures is.first none says;
     })
     (opened_files files recorded.store next c.tell_kept.ensures is.first none) tell)
+
+pub returns-clause-unclaimed : goal.returns-clause-unclaimed
+returns-clause-unclaimed g c = record {
+  list = c.new.ensures.claims;
+  files = subst AreFree (sym c.new.ensures.files) c.requires.all.is.first.free;
+}
+
+pub returns-clause-none_leaving : goal.returns-clause-none_leaving
+returns-clause-none_leaving g c = subst (λ (files : KeptFiles). files.outgoing ≡ []) (sym c.new.ensures.files)
+    c.requires.all.is.first.outgoing
