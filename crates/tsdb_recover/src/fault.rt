@@ -13,7 +13,7 @@ pub enum Part {
 /// Why a store was not opened.
 #[derive(Clone, Copy, Debug, PartialEq, Eq)]
 pub enum OpenFault {
-    /// The journal failed, and its count of faults has risen.
+    /// The journal or the files failed, and a count of faults has risen.
     Failed,
     /// The part is damaged at this place, counted in bytes from its beginning. The place in a log is that of the gate
     /// of the first record that is torn, cannot be read, or has no replay.
