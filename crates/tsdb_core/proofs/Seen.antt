@@ -15,7 +15,7 @@ use Rattle.tsdb_core.specs.Commands.{IsCoreCommand, IsSeenAfter}
 use Rattle.tsdb_core.specs.Core.{AreClaimed, IsSeen, KeepsJobs, next_of}
 use Rattle.tsdb_core.specs.Sweeps.{IsSwept, IsSweptOf, without_files}
 use Rattle.tsdb_core.specs.declared.engine.Core.{Core}
-use Rattle.tsdb_frames.specs.Frames.{is_aside_in_doubt}
+use Rattle.tsdb_frames.specs.Frames.{is_in_doubt}
 use Rattle.tsdb_fileset.proofs.StateSweeps.{borns_are, of_those_that_stay, places_stay, sweep_is, tell_on}
 use Rattle.tsdb_fileset.specs.Held.{AreFilesOf, AreSomeOf, IsDoubtOf, TellTheirBytes, may_go, told_numbers}
 use Rattle.tsdb_state.proofs.ImageLemmas.Storing.{sweep_stored}
@@ -180,11 +180,9 @@ module _ {J F S R P : Type 0} {means : disk.Ghosts J} {counts : counted.Ghosts J
       by (Some item) log = sym (named outside.items item log) ∙ two_told first second
 
   pub none_told : (core : Core J F S R P means counts) (first second : Option FileNumber)
-      → ((items : List LogRecord) → HasLog core.logged items None → two_numbers (first, second) ≡ [])
-      → (outside : Outside) (state : EngineState) → IsSeen core outside state → state.doubt ≡ None
-      → told_numbers (first ∷ second ∷ []) ≡ []
-  none_told core first second none outside state seen is = sym (two_told first second)
-      ∙ none outside.items (subst (HasLog core.logged outside.items) is seen.sound.log)
+      → (is_in_doubt (log_of core.logged) ≡ false → two_numbers (first, second) ≡ [])
+      → is_in_doubt (log_of core.logged) ≡ false → told_numbers (first ∷ second ∷ []) ≡ []
+  none_told core first second none is = sym (two_told first second) ∙ none is
 
   -- what is left of the files after a sweep are those of the state that is swept
   pub swept_of : (old : Core J F S R P means counts) (files : KeptFiles) (doubted : List (Option FileNumber))
@@ -242,8 +240,7 @@ module _ {J F S R P : Type 0} {means : disk.Ghosts J} {counts : counted.Ghosts J
   pub is_swept : (old : Core J F S R P means counts) (files : KeptFiles) (doubted : List (Option FileNumber))
       (outcome : Result ℕ Failed)
       → ((outside : Outside) (state : EngineState) → IsSeen old outside state → IsDoubtOf doubted state)
-      → (is_aside_in_doubt (log_of old.logged) ≡ false → (outside : Outside) (state : EngineState)
-      → IsSeen old outside state → state.doubt ≡ None → told_numbers doubted ≡ [])
+      → (is_in_doubt (log_of old.logged) ≡ false → told_numbers doubted ≡ [])
       → IfOk outcome (λ count. count ≡ length (may_go doubted old.files old.files.outgoing))
       → OnOk outcome (LeavesWithout (may_go doubted old.files old.files.outgoing) old.files files)
       → OnErr outcome ((stop : StopsAt doubted old.files.places old.files.outgoing)

@@ -4,7 +4,7 @@ use Rattle.tsdb_base.specs.declared.ids.FileNumber.{FileNumber}
 use Rattle.tsdb_core.specs.Core.{IsSeen, KeepsJobs, files_of, is_sequence_claimed, limit_of, logged_of, next_of}
 use Rattle.tsdb_core.specs.Loans.{KeepsAllLoans}
 use Rattle.tsdb_core.specs.declared.engine.Core.{Core}
-use Rattle.tsdb_frames.specs.Frames.{is_aside_in_doubt}
+use Rattle.tsdb_frames.specs.Frames.{is_in_doubt}
 use Rattle.tsdb_fileset.specs.Held.{IsDoubtOf, may_go, told_numbers}
 use Rattle.tsdb_state.specs.Stored.{without_numbers}
 use Rattle.tsdb_fileset.specs.Sweeps.{LeavesWithout, StopsAt, tried_numbers}
@@ -31,12 +31,11 @@ module _ {J F S R P : Type 0} {means : disk.Ghosts J} {counts : counted.Ghosts J
         → IsSeen new (without_files numbers outside) (swept numbers state)
 
   -- What a sweep leaves. All outgoing files that may go are removed, and counted; or one of them could not be, and those
-  -- behind it were not tried. `doubted` are the files that a record in doubt names, and none where none is in doubt.
+  -- behind it were not tried. `doubted` are the files that a record in doubt names, and none where no gate is in doubt.
   pub record IsSwept (old new : Core J F S R P means counts) (outcome : Result ℕ Failed) : Type 0 where
     pub doubted : List (Option FileNumber)
     pub named : (outside : Outside) (state : EngineState) → IsSeen old outside state → IsDoubtOf doubted state
-    pub none : is_aside_in_doubt (log_of (logged_of old)) ≡ false → (outside : Outside) (state : EngineState)
-        → IsSeen old outside state → state.doubt ≡ None → told_numbers doubted ≡ []
+    pub none : is_in_doubt (log_of (logged_of old)) ≡ false → told_numbers doubted ≡ []
     pub logged : logged_of new ≡ logged_of old
     pub next : next_of new ≡ next_of old
     pub limit : limit_of new ≡ limit_of old

@@ -29,7 +29,7 @@ pub struct Logged<J: Journal> {
 
 impl<J: Journal> Logged<J> {
     ghost use Rattle.tsdb_memory.specs.Closing.{IsClosed};
-    ghost use Rattle.tsdb_frames.specs.Frames.{is_aside_in_doubt};
+    ghost use Rattle.tsdb_frames.specs.Frames.{is_in_doubt};
     ghost use Rattle.tsdb_memory.specs.Appends.{HasEnded};
     ghost use Rattle.tsdb_memory.specs.Logged.{HasLog, log_of, memory_of, room_of};
 
@@ -53,12 +53,12 @@ impl<J: Journal> Logged<J> {
         &self.memory
     }
 
-    /// The files that a record in doubt names: they are on their way out, and may be listed after a stop.
+    /// The files that a record in doubt names: they are on their way out, and may be listed after a stop. There are
+    /// none where no gate is in doubt.
     pub fn doubted(&self) -> (Option<FileNumber>, Option<FileNumber>)
         ensures named { (items : List LogRecord) (item : LogRecord) → HasLog self.now items (Some item)
             → two_numbers result ≡ names item }
-        ensures none { (items : List LogRecord) → HasLog self.now items None
-            → is_aside_in_doubt (log_of self.now) ≡ false → two_numbers result ≡ [] }
+        ensures none { is_in_doubt (log_of self.now) ≡ false → two_numbers result ≡ [] }
     {
         if self.frames.doubt() {
             self.doubted

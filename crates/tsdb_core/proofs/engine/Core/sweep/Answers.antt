@@ -7,8 +7,7 @@ pub returns-clause-swept : goal.returns-clause-swept
 returns-clause-swept g c = is_swept c.args.self.now c.sweep.new.self
     (c.doubted-first.result.0 ∷ c.doubted-first.result.1 ∷ []) c.sweep.result
     (doubt_told c.args.self.now c.doubted-first.result.0 c.doubted-first.result.1 c.doubted-first.ensures.named)
-    (λ aside outside state seen is. none_told c.args.self.now c.doubted-first.result.0 c.doubted-first.result.1
-    (λ items has. c.doubted-first.ensures.none items has aside) outside state seen is)
+    (none_told c.args.self.now c.doubted-first.result.0 c.doubted-first.result.1 c.doubted-first.ensures.none)
     c.sweep.ensures.count c.sweep.ensures.swept c.sweep.ensures.failed
 
 pub returns-clause-world : goal.returns-clause-world
@@ -16,6 +15,5 @@ returns-clause-world g c = swept_keeps c.args.self.now (record c.args.self.now {
     (is_swept c.args.self.now c.sweep.new.self
     (c.doubted-first.result.0 ∷ c.doubted-first.result.1 ∷ []) c.sweep.result
     (doubt_told c.args.self.now c.doubted-first.result.0 c.doubted-first.result.1 c.doubted-first.ensures.named)
-    (λ aside outside state seen is. none_told c.args.self.now c.doubted-first.result.0 c.doubted-first.result.1
-    (λ items has. c.doubted-first.ensures.none items has aside) outside state seen is)
+    (none_told c.args.self.now c.doubted-first.result.0 c.doubted-first.result.1 c.doubted-first.ensures.none)
     c.sweep.ensures.count c.sweep.ensures.swept c.sweep.ensures.failed)
